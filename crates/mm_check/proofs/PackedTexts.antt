@@ -12,7 +12,7 @@ use Rattle.mm_frame.specs.Sentence.{Sentence, SomeSentence, IsLabelled}
 use Rattle.mm_frame.specs.Form.{AllFormed}
 use Rattle.mm_frame.specs.Rules.{AllMeant}
 use Rattle.mm_frame.proofs.ReadLaws.{label_named}
-use Rattle.mm_proof.specs.Tree.{Trees, none, tree, spelling, Fit}
+use Rattle.mm_proof.specs.Tree.{Trees, none, tree, spelling, TreesFit}
 use Rattle.mm_proof.specs.Moves.{Move, Makes}
 use Rattle.mm_proof.specs.OneTree.{MakeTree, MakeSameTree}
 use Rattle.mm_proof.specs.Tokens.{closing_token, IsCompressed}
@@ -35,7 +35,7 @@ use Rattle.mm_check.proofs.Unproved.{all_meant}
 
 -- ---- labels
 
-fit_labelled : (before : List Sentence) (trees : Trees) → Fit before trees → AllByRecursion (λ label. SomeSentence before (IsLabelled label)) (spelling trees)
+fit_labelled : (before : List Sentence) (trees : Trees) → TreesFit before trees → AllByRecursion (λ label. SomeSentence before (IsLabelled label)) (spelling trees)
 fit_labelled before none fit = tt
 fit_labelled before (tree label below right) fit =
     all_append (λ x. SomeSentence before (IsLabelled x)) (spelling below) (label ∷ spelling right) (fit_labelled before below fit.1)
@@ -67,7 +67,7 @@ none_closing (label ∷ listed) all (suc i, less, is) = none_closing listed all.
 listed_proper : (before : List Sentence) (s : Sentence) (trees : Trees) (text : List ℕ) → AllFormed before → (p : IsPackedText before s trees text)
     → AllByRecursion IsProper p.listed
 listed_proper before s trees text formed p =
-    let fit : Fit before trees = (made_word before p.packed.moves trees p.packed.shared.kept p.packed.shared.made).1 in
+    let fit : TreesFit before trees = (made_word before p.packed.moves trees p.packed.shared.kept p.packed.shared.made).1 in
     uses_among IsProper (spelling trees) p.packed.says.labels p.listed p.packed.uses
     (all_weaker (λ label. SomeSentence before (IsLabelled label)) IsProper (λ label h. proper_label before label formed h) (spelling trees) (fit_labelled before trees fit))
 

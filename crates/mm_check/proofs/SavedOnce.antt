@@ -25,7 +25,7 @@ use Rattle.mm_frame.specs.Form.{AllFormed}
 use Rattle.mm_frame.specs.Rules.{AllMeant}
 use Rattle.mm_frame.specs.Numbers.{labelled_sentences}
 use Rattle.mm_frame.proofs.Meant.{allmeant_front, one_label}
-use Rattle.mm_proof.specs.Tree.{Trees, none, tree, spelling, Fit}
+use Rattle.mm_proof.specs.Tree.{Trees, none, tree, spelling, TreesFit}
 use Rattle.mm_proof.specs.Moves.{Move, Makes}
 use Rattle.mm_proof.specs.Tokens.{SayMoves}
 use Rattle.mm_proof.specs.OneTree.{MakeTree}
@@ -94,7 +94,7 @@ anew_of profile f files before s after file text p =
     let meant : AllMeant front = meant_before profile before s after p.obeyed in
     let old : IsProvedWithin Fits front (sentence_of s) (proof_of s) =
     ((p.obeyed before after s refl).proved p.complete).1 in
-    let fit : Fit front (tree p.root p.below none) =
+    let fit : TreesFit front (tree p.root p.below none) =
     derive_fits Fits front (tree p.root p.below none) ((sentence_of s).symbols ∷ []) (tree_derives Fits front (sentence_of s) (proof_of s) p.moves p.root p.below meant old p.told p.made) in
     let formed : AllFormed front =
     formed_sentences before (all_front HasForm before (s ∷ after)

@@ -10,7 +10,7 @@ use Rattle.mm_frame.specs.Sentence.{Sentence}
 use Rattle.mm_frame.specs.Form.{AllFormed}
 use Rattle.mm_frame.specs.Rules.{AllMeant}
 use Rattle.mm_frame.proofs.ReadLaws.{label_named}
-use Rattle.mm_proof.specs.Tree.{Trees, none, tree, spelling, Fit, DeriveAll}
+use Rattle.mm_proof.specs.Tree.{Trees, none, tree, spelling, TreesFit, DeriveAll}
 use Rattle.mm_proof.specs.Moves.{Move, Makes}
 use Rattle.mm_proof.specs.Tokens.{SayMoves, IsNormal, opening_token, closing_token}
 use Rattle.mm_proof.specs.OneTree.{MakeTree}
@@ -46,13 +46,13 @@ pub record ReadsAsProof (before : List Sentence) (s : Sentence) (root : List ℕ
   pub strict : IsStrict before s tokens
   pub proves : (Fits : List (List ℕ) → Type 0) → DeriveAll Fits before (tree root below none) (s.symbols ∷ []) → IsProofBy Fits before s tokens root below
 
-spelled_labels : (before : List Sentence) (trees : Trees) → AllFormed before → Fit before trees
+spelled_labels : (before : List Sentence) (trees : Trees) → AllFormed before → TreesFit before trees
     → (label : List ℕ) → Contains (spelling trees) label → IsLabel label
 spelled_labels before trees formed fit label c =
     let f = label_fits before trees label fit c in
     label_named before label formed (stands_known before label f.0 f.1)
 
-normal_reads : (before : List Sentence) (s : Sentence) (root : List ℕ) (below : Trees) (text : List ℕ) → AllMeant before → AllFormed before → Fit before (tree root below none)
+normal_reads : (before : List Sentence) (s : Sentence) (root : List ℕ) (below : Trees) (text : List ℕ) → AllMeant before → AllFormed before → TreesFit before (tree root below none)
     → LaidOut (spelling (tree root below none)) text → ReadsAsProof before s root below text
 normal_reads before s root below text meant formed fit laid =
     let tokens : List (List ℕ) = spelling (tree root below none) in
@@ -70,7 +70,7 @@ normal_reads before s root below text meant formed fit laid =
       proves = λ Fits derived. spelled_proves Fits before s root below meant apart derived;
     }
 
-packed_reads : (before : List Sentence) (s : Sentence) (root : List ℕ) (below : Trees) (text : List ℕ) → AllMeant before → AllFormed before → Fit before (tree root below none)
+packed_reads : (before : List Sentence) (s : Sentence) (root : List ℕ) (below : Trees) (text : List ℕ) → AllMeant before → AllFormed before → TreesFit before (tree root below none)
     → IsPackedText before s (tree root below none) text → ReadsAsProof before s root below text
 packed_reads before s root below text meant formed fit p =
     let trees : Trees = tree root below none in
@@ -93,7 +93,7 @@ packed_reads before s root below text meant formed fit p =
           apart derived;
     }
 
-pub text_reads : (f : Form) (before : List Sentence) (s : Sentence) (root : List ℕ) (below : Trees) (text : List ℕ) → AllMeant before → AllFormed before → Fit before (tree root below none)
+pub text_reads : (f : Form) (before : List Sentence) (s : Sentence) (root : List ℕ) (below : Trees) (text : List ℕ) → AllMeant before → AllFormed before → TreesFit before (tree root below none)
     → IsTextIn f before s (tree root below none) text → ReadsAsProof before s root below text
 text_reads form.Normal before s root below text meant formed fit laid = normal_reads before s root below text meant formed fit laid.1
 text_reads form.Packed before s root below text meant formed fit laid = packed_reads before s root below text meant formed fit laid

@@ -28,7 +28,7 @@ use Rattle.mm_check.specs.declared.ask.AskFault.{AskFault}
 use Rattle.mm_check.specs.declared.ask.AskFault.TheVariants as ask
 use Rattle.mm_check.specs.Verdict.{sentences}
 use Rattle.mm_check.specs.Rests.{IsAskFault}
-use Rattle.mm_check.specs.Shown.{IsShown}
+use Rattle.mm_check.specs.Shown.{ShowsProof}
 use Rattle.mm_check.specs.Forms.{most_labels, HasProofTree, IsNormalText, IsPackedText, IsNormalOf, IsPackedOf, IsNormalFault}
 use Rattle.mm_check.specs.Mirror.Theorems.{IsProofOf, SayStepsOf, AreProvedSteps, AreStepsOf, IsListingOf}
 use Rattle.mm_check.proofs.Asked.{map-take}
@@ -77,7 +77,7 @@ of_theorem ss statements label id steps P same r holds =
 -- the listing
 pub shown_of : (ss : List Sentence) (statements : List PlainStatement) (label : List ℕ) (id : ℕ) (steps : List (Move ℕ)) (text : List ℕ)
     → ss ≡ sentences statements → AreStepsOf statements label id steps → OfMoves ss id steps (λ place s moves. IsListingOf (take place ss) moves text)
-    → IsShown statements label text
+    → ShowsProof statements label text
 shown_of ss statements label id steps text same r holds =
     let listed = of_theorem ss statements label id steps (λ before s moves. IsListingOf before moves text) same r holds in
     record {

@@ -25,7 +25,7 @@ use Rattle.mm_check.specs.declared.command.Command.{Command}
 use Rattle.mm_check.specs.declared.command.Command.TheVariants.{Check, Axioms, Show, Normal}
 use Rattle.mm_check.specs.declared.command.Command.TheVariants.{Packed, Same, All}
 use Rattle.mm_check.specs.Rests.{IsAskFault, IsReport}
-use Rattle.mm_check.specs.Shown.{IsShown}
+use Rattle.mm_check.specs.Shown.{ShowsProof}
 use Rattle.mm_check.specs.declared.form.Form.{Form}
 use Rattle.mm_check.specs.declared.form.Form.TheVariants as form
 use Rattle.mm_check.specs.Forms.{IsNormalOf, IsPackedOf, IsNormalFault}
@@ -213,7 +213,7 @@ IsAxiomsReply label statements text status =
 abbrev pub IsShowReply : List ℕ → List PlainStatement → List ℕ → ℕ → Type 0
 IsShowReply label statements text status =
     ((fault : AskFault) × IsAskFault statements label fault × IsAskReply fault label text status)
-    ⊎ (IsShown statements label text × (status ≡ 0))
+    ⊎ (ShowsProof statements label text × (status ≡ 0))
 
 -- the reply to the question for the normal proof of the theorem with a label
 abbrev pub IsNormalReply : List ℕ → List PlainStatement → List ℕ → ℕ → Type 0

@@ -50,7 +50,7 @@ Stands statements label s =
     (place : ℕ) × (slice_get statements place ≡ Some s) × IsLabelled label (sentence_of s)
 
 -- the text is that of the listing of the proof of the theorem with the label, which is complete
-pub record IsShown (statements : List PlainStatement) (label : List ℕ)
+pub record ShowsProof (statements : List PlainStatement) (label : List ℕ)
     (text : List ℕ) : Type 0 where
   pub place : ℕ
   pub s : PlainStatement

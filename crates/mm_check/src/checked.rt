@@ -79,7 +79,7 @@ impl<'a> Checked<'a> {
     ghost use Rattle.mm_check.specs.Verdict.{is_proof, sentences};
     ghost use Rattle.mm_check.specs.Rests.{IsNamed, IsAskFault, IsReport};
     ghost use Rattle.mm_proof.specs.Steps.{AreSteps};
-    ghost use Rattle.mm_check.specs.Shown.{IsShown};
+    ghost use Rattle.mm_check.specs.Shown.{ShowsProof};
     ghost use Rattle.mm_check.specs.Compared.{IsCompared, IsSameFault};
     ghost use Rattle.mm_check.specs.Forms.{IsNormalOf, IsNormalFault, IsPackedOf};
     ghost use Rattle.mm_check.specs.Mirror.Theorems.{AreProvedSteps, AreStepsOf};
@@ -244,7 +244,7 @@ impl<'a> Checked<'a> {
         // The text is that of the listing of its proof, among the statements of the files.
         ensures shown { IfOk result (λ text. (statements : List PlainStatement)
             → Reads self.now.files statements None
-            → IsShown statements label.now text.items) }
+            → ShowsProof statements label.now text.items) }
         ensures fault { IfErr result (λ fault. (statements : List PlainStatement)
             → Reads self.now.files statements None → IsAskFault statements label.now fault) }
     {

@@ -14,7 +14,7 @@ use Rattle.mm_proof.specs.Tree.{Trees, none, tree, spelling, beside, roots, MayS
 use Rattle.mm_proof.specs.Moves.{Move, name, again, mark, MakesOne, Makes}
 use Rattle.mm_proof.specs.OneTree.{MakeTree}
 use Rattle.mm_proof.specs.Steps.{IsNumberedMove, AreNumberedMoves, AreSteps, IsProofNumber}
-use Rattle.mm_proof.specs.Spelled.{IsLabelNumber}
+use Rattle.mm_proof.specs.Spelled.{IsNumberOfLabel}
 use Rattle.mm_proof.specs.Plain.{move_in, moves_in}
 use Rattle.mm_proof.specs.Mirror.CodeSteps.{MayBeUsed}
 use Rattle.mm_proof.specs.Mirror.CodeRun.{MayBeMade}
@@ -108,7 +108,7 @@ pub record NextMake {X : Type 0} (held : Holding X) (st : List Sentence) (moves 
   pub label : List ℕ
   pub rest : Trees
   pub below : Trees
-  pub named : IsLabelNumber st id label
+  pub named : IsNumberOfLabel st id label
   pub used : MayBeUsed st m.place label id
   pub stands : MayStandOver (take m.place st) label below
   pub was : h.row ≡ beside rest below
@@ -120,7 +120,7 @@ next_make {X} held st moves m i stack shelf d x id h less is e =
     let n = subst (λ y. Next held st moves m i stack shelf y h) e (next held st moves m i stack shelf d x h less is) in
     let by = n.numbered in
     let one = subst (λ y. MakesOne (take m.place st) y h.row h.kept n.row' n.kept') by.4 n.one in
-    let named : IsLabelNumber st id by.1 = record { s = by.0; there = by.2; named = by.3 } in
+    let named : IsNumberOfLabel st id by.1 = record { s = by.0; there = by.2; named = by.3 } in
     record {
       label = by.1;
       rest = one.0;
@@ -139,7 +139,7 @@ pub make_within : {X : Type 0} (held : Holding X) (st : List Sentence) (moves : 
 make_within held st moves m i stack shelf id width h n wide = omega (arith, h.deep, ap roots n.was, roots-beside n.rest n.below, wide)
 
 pub at_make : {X : Type 0} (old new : Holding X) (st : List Sentence) (moves : List NumberedMove) (m : MakeTreeAt st (moves_in moves)) (i : ℕ) (stack shelf : List X) (item : X) (id width base : ℕ) (h : At old st moves m i stack shelf)
-    → (n : NextMake old st moves m i stack shelf id h) → roots n.below ≡ width → base ≡ length stack - width → MakesItem old new (IsLabelNumber st id) (drop base stack) item
+    → (n : NextMake old st moves m i stack shelf id h) → roots n.below ≡ width → base ≡ length stack - width → MakesItem old new (IsNumberOfLabel st id) (drop base stack) item
     → At new st moves m (i + 1) (take base stack ++ item ∷ []) shelf
 at_make {X} old new st moves m i stack shelf item id width base h n wide at makes =
     let within = make_within old st moves m i stack shelf id width h n wide in

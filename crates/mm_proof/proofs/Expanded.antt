@@ -6,7 +6,7 @@ use Rattle.std.proofs.lemmas.List.{map-append}
 use Rattle.mm_text.proofs.Lists.{all_push, all_at}
 use Rattle.mm_frame.specs.Sentence.{Sentence}
 use Rattle.mm_frame.specs.Rules.{AllMeant}
-use Rattle.mm_proof.specs.Tree.{Trees, none, tree, spelling, beside, roots, Fit}
+use Rattle.mm_proof.specs.Tree.{Trees, none, tree, spelling, beside, roots, TreesFit}
 use Rattle.mm_proof.specs.Moves.{Move, name, again, mark, MakesOne, Makes}
 use Rattle.mm_proof.specs.Expansion.{ExpandsOne, Expands, IsWord}
 use Rattle.mm_proof.proofs.Making.{roots-beside, spelling-beside, makes_join, makes_split, makes_once, fit_makes}
@@ -29,40 +29,40 @@ names_keep before (label ∷ labels) a b k l m = names_keep before labels m.0 b 
 
 -- ---- fit rows
 
-pub fit_beside : (before : List Sentence) (a b : Trees) → Fit before a → Fit before b → Fit before (beside a b)
+pub fit_beside : (before : List Sentence) (a b : Trees) → TreesFit before a → TreesFit before b → TreesFit before (beside a b)
 fit_beside before none b f g = g
 fit_beside before (tree label below right) b f g = (f.0, f.1, fit_beside before right b f.2 g)
 
-pub fit_apart : (before : List Sentence) (a b : Trees) → Fit before (beside a b) → Fit before a × Fit before b
+pub fit_apart : (before : List Sentence) (a b : Trees) → TreesFit before (beside a b) → TreesFit before a × TreesFit before b
 fit_apart before none b f = (tt, f)
 fit_apart before (tree label below right) b f = let h = fit_apart before right b f.2 in ((f.0, f.1, h.0), h.1)
 
 -- a tree that fits by itself
 abbrev pub IsFitTree : List Sentence → Trees → Type 0
-IsFitTree before t = (label : List ℕ) × (below : Trees) × (t ≡ tree label below none) × Fit before t
+IsFitTree before t = (label : List ℕ) × (below : Trees) × (t ≡ tree label below none) × TreesFit before t
 
 -- ---- what moves make has their word
 
 -- a row that fits, kept trees that do, and their words
 pub record HasWords (before : List Sentence) (moves : List (Move (List ℕ))) (a b : Trees) (k l : List Trees) : Type 0 where
   pub expands : Expands before moves (spelling a) (map spelling k) (spelling b) (map spelling l)
-  pub fit : Fit before b
+  pub fit : TreesFit before b
 
-pub made_words : (before : List Sentence) (moves : List (Move (List ℕ))) (a b : Trees) (k l : List Trees) → Fit before a → AllByRecursion (IsFitTree before) k → Makes before moves a k b l
+pub made_words : (before : List Sentence) (moves : List (Move (List ℕ))) (a b : Trees) (k l : List Trees) → TreesFit before a → AllByRecursion (IsFitTree before) k → Makes before moves a k b l
     → HasWords before moves a b k l
 made_words before [] a b k l f g m =
-    record { expands = (ap spelling m.0, ap (λ (x : List Trees). map spelling x) m.1); fit = subst (Fit before) (sym m.0) f }
+    record { expands = (ap spelling m.0, ap (λ (x : List Trees). map spelling x) m.1); fit = subst (TreesFit before) (sym m.0) f }
 made_words before (name label ∷ moves) a b k l f g m =
     let step = m.2 in
-    let parts = fit_apart before step.0 step.1 (subst (Fit before) step.2 f) in
-    let next : Fit before m.0 = subst (Fit before) (sym step.4) (fit_beside before step.0 (tree label step.1 none) parts.0 (step.3, parts.1, tt)) in
+    let parts = fit_apart before step.0 step.1 (subst (TreesFit before) step.2 f) in
+    let next : TreesFit before m.0 = subst (TreesFit before) (sym step.4) (fit_beside before step.0 (tree label step.1 none) parts.0 (step.3, parts.1, tt)) in
     let word : spelling m.0 ≡ spelling a ++ label ∷ [] = names_spell before (label ∷ []) a m.0 k m.1 (m.0, m.1, step, (refl, refl)) in
     let rest = made_words before moves m.0 b m.1 l next (subst (AllByRecursion (IsFitTree before)) (sym step.5) g) m.3 in
     record { expands = (spelling m.0, map spelling m.1, (word, ap (λ (x : List Trees). map spelling x) step.5), rest.expands); fit = rest.fit }
 made_words before (again tag ∷ moves) a b k l f g m =
     let step = m.2 in
     let one = all_at (IsFitTree before) k tag step.0 g step.1 in
-    let next : Fit before m.0 = subst (Fit before) (sym step.2) (fit_beside before a step.0 f one.3) in
+    let next : TreesFit before m.0 = subst (TreesFit before) (sym step.2) (fit_beside before a step.0 f one.3) in
     let there : slice_get (map spelling k) tag ≡ Some (spelling step.0) = slice_get-map spelling k tag ∙ ap (λ o. option_map spelling o) step.1 in
     let rest = made_words before moves m.0 b m.1 l next (subst (AllByRecursion (IsFitTree before)) (sym step.3) g) m.3 in
     record {
@@ -72,9 +72,9 @@ made_words before (again tag ∷ moves) a b k l f g m =
 made_words before (mark ∷ moves) a b k l f g m =
     let step = m.2 in
     let t : Trees = tree step.1 step.2 none in
-    let parts = fit_apart before step.0 t (subst (Fit before) step.3 f) in
+    let parts = fit_apart before step.0 t (subst (TreesFit before) step.3 f) in
     let words : map spelling m.1 ≡ map spelling k ++ spelling t ∷ [] = ap (λ (x : List Trees). map spelling x) step.5 ∙ map-append spelling k (t ∷ []) in
-    let next : Fit before m.0 = subst (Fit before) (sym step.4) f in
+    let next : TreesFit before m.0 = subst (TreesFit before) (sym step.4) f in
     let kept : AllByRecursion (IsFitTree before) m.1 =
     subst (AllByRecursion (IsFitTree before)) (sym step.5) (all_push (IsFitTree before) k t g (step.1, step.2, refl, parts.1)) in
     let rest = made_words before moves m.0 b m.1 l next kept m.3 in
@@ -84,7 +84,7 @@ made_words before (mark ∷ moves) a b k l f g m =
     }
 
 -- moves that make a row have its spelling as their word
-pub made_word : (before : List Sentence) (moves : List (Move (List ℕ))) (row : Trees) (kept : List Trees) → Makes before moves none [] row kept → IsWord before moves (spelling row) × Fit before row
+pub made_word : (before : List Sentence) (moves : List (Move (List ℕ))) (row : Trees) (kept : List Trees) → Makes before moves none [] row kept → IsWord before moves (spelling row) × TreesFit before row
 made_word before moves row kept m =
     let w = made_words before moves none row [] kept tt tt m in
     ((map spelling kept, w.expands), w.fit)
@@ -107,7 +107,7 @@ no_roots none e = refl
 no_roots (tree label below right) e = absurd (omega arith)
 
 -- one tree's spelling has no other tree's as a proper ending
-no_front : (before : List Sentence) (g : List (List ℕ)) (t u : Trees) → AllMeant before → Fit before t → Fit before u → roots t ≡ roots u → spelling t ≡ g ++ spelling u → g ≡ []
+no_front : (before : List Sentence) (g : List (List ℕ)) (t u : Trees) → AllMeant before → TreesFit before t → TreesFit before u → roots t ≡ roots u → spelling t ≡ g ++ spelling u → g ≡ []
 no_front before g t u all f h width e =
     let whole : Makes before (map name g ++ map name (spelling u)) none [] t [] =
     subst (λ l. Makes before l none [] t []) (ap (map name) e ∙ map-append name g (spelling u)) (fit_makes before t none [] f) in
@@ -118,7 +118,7 @@ no_front before g t u all f h width e =
     sym (names_spell before g none s.0 [] s.1 s.2) ∙ ap spelling bare
 
 -- so an ending of labels spells one tree
-one_ending : (before : List Sentence) (a c : List (List ℕ)) (t u : Trees) → AllMeant before → Fit before t → Fit before u → roots t ≡ roots u → a ++ spelling t ≡ c ++ spelling u → spelling t ≡ spelling u
+one_ending : (before : List Sentence) (a c : List (List ℕ)) (t u : Trees) → AllMeant before → TreesFit before t → TreesFit before u → roots t ≡ roots u → a ++ spelling t ≡ c ++ spelling u → spelling t ≡ spelling u
 one_ending before a c t u all f h width e = elim (splits a (spelling t) c (spelling u) e) [
   | inl p ↦ p.2 ∙ ap (λ l. l ++ spelling u) (no_front before p.0 t u all f h width p.2)
   | inr p ↦ sym (p.2 ∙ ap (λ l. l ++ spelling t) (no_front before p.0 u t all h f (sym width) p.2))
@@ -153,7 +153,7 @@ Spelled before labels row = Makes before (map name labels) none [] row []
 spelled_once : (before : List Sentence) (labels : List (List ℕ)) (a b : Trees) → AllMeant before → Spelled before labels a → Spelled before labels b → a ≡ b
 spelled_once before labels a b all p q = (makes_once before (map name labels) none a b [] [] [] all p q).0
 
-spelled_more : (before : List Sentence) (labels : List (List ℕ)) (row t : Trees) → Spelled before labels row → Fit before t → Spelled before (labels ++ spelling t) (beside row t)
+spelled_more : (before : List Sentence) (labels : List (List ℕ)) (row t : Trees) → Spelled before labels row → TreesFit before t → Spelled before (labels ++ spelling t) (beside row t)
 spelled_more before labels row t p f =
     subst (λ l. Makes before l none [] (beside row t) []) (sym (map-append name labels (spelling t)))
     (makes_join before (map name labels) (map name (spelling t)) none row (beside row t) [] [] [] p (fit_makes before t row [] f))
@@ -235,7 +235,7 @@ word_makes before (move ∷ moves) labels labels' words words' row last kept all
     (rest.0, (front.0, next.kept', next.made, rest.1))
 
 -- moves whose word trees that fit spell make these trees
-pub made_of_word : (before : List Sentence) (moves : List (Move (List ℕ))) (trees : Trees) → AllMeant before → Fit before trees → IsWord before moves (spelling trees)
+pub made_of_word : (before : List Sentence) (moves : List (Move (List ℕ))) (trees : Trees) → AllMeant before → TreesFit before trees → IsWord before moves (spelling trees)
     → (kept : List Trees) × Makes before moves none [] trees kept
 made_of_word before moves trees all fit w =
     word_makes before moves [] (spelling trees) [] w.0 none trees [] all w.1 refl tt (refl, refl) (fit_makes before trees none [] fit)

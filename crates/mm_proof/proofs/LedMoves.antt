@@ -3,7 +3,7 @@ use Rattle.std.proofs.Common.{◌≡◌, ℕ, zero, suc, ◌+◌, List, [], ◌�
 use Rattle.std.proofs.Common.{◌⊎◌, inl, inr, ⊎_elim, refl, sym, ap, subst, ◌∙◌, arith}
 use Rattle.std.proofs.lemmas.Option.{same_Some, none-some, slice_get-get_or}
 use Rattle.mm_frame.specs.Sentence.{Sentence}
-use Rattle.mm_proof.specs.Tree.{Trees, none, tree, beside, MayStandOver, Fit}
+use Rattle.mm_proof.specs.Tree.{Trees, none, tree, beside, MayStandOver, TreesFit}
 use Rattle.mm_proof.specs.Moves.{Move, name, again, mark, MakesOne, Makes}
 use Rattle.mm_proof.specs.BigSubtrees.{IsBig}
 use Rattle.mm_proof.specs.Visits.{Visit, makes, repeats, keeps, visit, visits}
@@ -163,7 +163,7 @@ leads_again before whole t row kept done v has c m =
     }
 
 pub leads_to : (before : List Sentence) (whole : List Visit) (trees row : Trees) (kept : List Trees)
-    (steps done v : List Visit) → Fit before trees → Covers trees steps → Marked whole steps v
+    (steps done v : List Visit) → TreesFit before trees → Covers trees steps → Marked whole steps v
     → Tidy done v → HasKept done kept → Leads before row kept (beside row trees) v
 leads_to before whole none row kept steps done v fit covers m c has =
     let e : v ≡ [] = subst (λ s. Marked whole s v) covers m in
@@ -298,7 +298,7 @@ pub record SharedMoves (before : List Sentence) (trees : Trees) (steps : List Vi
   pub once : Once kept
   pub shared : ShareAll before trees moves
 
-pub shared_moves : (before : List Sentence) (trees : Trees) (steps : List Visit) → Fit before trees
+pub shared_moves : (before : List Sentence) (trees : Trees) (steps : List Visit) → TreesFit before trees
     → Covers trees steps → Careful [] steps → SharedMoves before trees steps
 shared_moves before trees steps fit covers careful =
     let marks = some_marks steps steps (covers_no_keeps trees steps covers) in
@@ -346,7 +346,7 @@ shared_moves before trees steps fit covers careful =
               in_contains l.moves (again tag) (subst (λ k. In l.moves (again k)) at g.1);
         }
 
-pub some_shared : (before : List Sentence) (trees : Trees) → Fit before trees
+pub some_shared : (before : List Sentence) (trees : Trees) → TreesFit before trees
     → (moves : List (Move (List ℕ))) × ShareAll before trees moves
 some_shared before trees fit =
     let cover = some_cover trees [] in

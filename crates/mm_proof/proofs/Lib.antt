@@ -1,4 +1,3 @@
-pub mod Places
 pub mod Meaning
 pub mod Frames
 pub mod OneStep

@@ -5,7 +5,7 @@ use Rattle.std.proofs.lemmas.List.{length-map, map-append}
 use Rattle.mm_frame.specs.Sentence.{Sentence}
 use Rattle.mm_frame.specs.Rules.{AllMeant}
 use Rattle.mm_proof.specs.Substitution.{instance_of}
-use Rattle.mm_proof.specs.Tree.{Trees, none, tree, spelling, beside, roots, MayStandOver, Fit, DeriveAll}
+use Rattle.mm_proof.specs.Tree.{Trees, none, tree, spelling, beside, roots, MayStandOver, TreesFit, DeriveAll}
 use Rattle.mm_proof.specs.Moves.{Move, name, again, mark, MakesOne, Makes}
 use Rattle.mm_proof.proofs.Meaning.{one_label, one_labelled}
 use Rattle.mm_proof.proofs.OneStep.{hypothesis_or_assertion, one_frame}
@@ -110,7 +110,7 @@ makes_once before (move ∷ moves) a b c k l m all r q =
 -- ---- trees that fit are made by the labels of their spelling
 
 -- on any row, keeping nothing
-pub fit_makes : (before : List Sentence) (trees row : Trees) (kept : List Trees) → Fit before trees
+pub fit_makes : (before : List Sentence) (trees row : Trees) (kept : List Trees) → TreesFit before trees
     → Makes before (map name (spelling trees)) row kept (beside row trees) kept
 fit_makes before none row kept fit = (beside-none row, refl)
 fit_makes before (tree label below right) row kept fit =
@@ -124,7 +124,7 @@ fit_makes before (tree label below right) row kept fit =
     (beside row (tree label below none), kept, one, others))
 
 -- trees that fit and have one spelling are equal
-pub one_fit_holds : (before : List Sentence) (t u : Trees) → AllMeant before → Fit before t → Fit before u → spelling t ≡ spelling u → t ≡ u
+pub one_fit_holds : (before : List Sentence) (t u : Trees) → AllMeant before → TreesFit before t → TreesFit before u → spelling t ≡ spelling u → t ≡ u
 one_fit_holds before t u all f g same =
     (makes_once before (map name (spelling u)) none t u [] [] [] all
     (subst (λ l. Makes before (map name l) none [] t []) same (fit_makes before t none [] f)) (fit_makes before u none [] g)).0
@@ -135,12 +135,12 @@ pub roots_derive : (Fits : List (List ℕ) → Type 0) (before : List Sentence) 
 roots_derive Fits before none es d = ap length (sym d)
 roots_derive Fits before (tree label below right) es d = ap suc (roots_derive Fits before right d.1 d.5) ∙ ap length (sym d.2)
 
-pub derive_fits : (Fits : List (List ℕ) → Type 0) (before : List Sentence) (trees : Trees) (es : List (List (List ℕ))) → DeriveAll Fits before trees es → Fit before trees
+pub derive_fits : (Fits : List (List ℕ) → Type 0) (before : List Sentence) (trees : Trees) (es : List (List (List ℕ))) → DeriveAll Fits before trees es → TreesFit before trees
 derive_fits Fits before none es d = tt
 derive_fits Fits before (tree label below right) es d = ⊎_elim
     (λ leaf. (
       inl (leaf.0, (leaf.1.0, leaf.1.1, leaf.1.2, leaf.1.3, (leaf.1.4.0, leaf.1.4.1))),
-      subst (Fit before) (sym leaf.0) tt,
+      subst (TreesFit before) (sym leaf.0) tt,
       derive_fits Fits before right d.1 d.5,
     ))
     (λ n. (

@@ -16,7 +16,7 @@ use Rattle.mm_proof.specs.Tree.{Trees, none, tree}
 use Rattle.mm_proof.specs.Moves.{Move, name, again, mark}
 use Rattle.mm_proof.specs.Tokens.{Says}
 use Rattle.mm_proof.specs.Visits.{Visit, makes, repeats, keeps, visit, visits}
-use Rattle.mm_proof.specs.Spelled.{IsLabelNumber}
+use Rattle.mm_proof.specs.Spelled.{IsNumberOfLabel}
 use Rattle.mm_proof.specs.Mirror.Subtrees.{AreOnce, IsTreeOf, IsSubtreeOf}
 use Rattle.mm_proof.specs.Mirror.CodeSharing.{Adds, IsStepOf, IsEncoded, AreEncoded}
 use Rattle.mm_proof.proofs.Members.{In, Once, once_places}
@@ -125,10 +125,10 @@ not_tagged st rows numbers kept end t label below z is once stays has =
 
 -- ---- what a code says
 
-label_said : (st : List Sentence) (numbers : List ℕ) (labels : List (List ℕ)) (n place : ℕ) (label : List ℕ) → AllZip (IsLabelNumber st) numbers labels → IsLabelNumber st n label → slice_get numbers place ≡ Some n
+label_said : (st : List Sentence) (numbers : List ℕ) (labels : List (List ℕ)) (n place : ℕ) (label : List ℕ) → AllZip (IsNumberOfLabel st) numbers labels → IsNumberOfLabel st n label → slice_get numbers place ≡ Some n
     → Says labels (Number (place + 1)) (name label)
 label_said st numbers labels n place label z is there =
-    let at = zip_left (IsLabelNumber st) numbers labels place n z there in
+    let at = zip_left (IsNumberOfLabel st) numbers labels place n z there in
     let same : at.0 ≡ label = one_label_of st n at.0 label at.2 is in
     (place, refl, inl (label, at.1 ∙ ap Some same, refl))
 
@@ -141,7 +141,7 @@ tag_said labels many tag e = (many + tag, refl, inr (tag, ap (λ k. k + tag) e, 
 pub record Whole (st : List Sentence) (rows : List Row) (numbers : List ℕ) (labels : List (List ℕ)) (repeated : List Subtree) (steps : List Visit) (end : List Trees) : Type 0 where
   pub meant : AllMeant st
   pub rows_once : AreOnce rows
-  pub labelled : AllZip (IsLabelNumber st) numbers labels
+  pub labelled : AllZip (IsNumberOfLabel st) numbers labels
   pub repeats_are : (t : Subtree) (label : List ℕ) (below : Trees) → IsTreeOf st rows t label below → Contains repeated t ↔ In steps (repeats (tree label below none))
   pub end_once : Once end
 
@@ -236,5 +236,5 @@ codes_said st before rows numbers labels repeated whole last end a (Repeat t ∷
     let i : IsEncoded numbers repeated tagged (Repeat t) e.0 e.1 = e.4 in
     let later : SaidLater st before rows labels e.1 kept last end here.0 e.2 = λ moves' row' l' tags'.
     codes_said st before rows numbers labels repeated whole last end a steps v here.0 e.1 kept e.2 tagged' moves' row' z.1 here.1 l' tags' e.5 in
-    repeated_one st before rows (length numbers) labels tagged e.1 kept last end here.0 w t o.0 o.1 i.0 e.0 e.2 codes moves row a.meant a.rows_once (sym (AllZip-long (IsLabelNumber st) numbers labels a.labelled)) o.2 a.end_once
+    repeated_one st before rows (length numbers) labels tagged e.1 kept last end here.0 w t o.0 o.1 i.0 e.0 e.2 codes moves row a.meant a.rows_once (sym (AllZip-long (IsNumberOfLabel st) numbers labels a.labelled)) o.2 a.end_once
     here.2 i.1 i.2 e.3 i.3 l tags later

@@ -16,12 +16,12 @@ use Rattle.mm_proof.specs.declared.subtrees.Subtree.{Subtree}
 use Rattle.mm_proof.specs.declared.subtrees.Row.{Row}
 use Rattle.mm_proof.specs.declared.sharing.SharedStep.{SharedStep}
 use Rattle.mm_proof.specs.declared.sharing.SharedStep.TheVariants.{Make, Repeat}
-use Rattle.mm_proof.specs.Tree.{Trees, none, tree, Fit}
+use Rattle.mm_proof.specs.Tree.{Trees, none, tree, TreesFit}
 use Rattle.mm_proof.specs.Moves.{Move}
 use Rattle.mm_proof.specs.OneTree.{MakeTree}
 use Rattle.mm_proof.specs.Visits.{Visit, makes, repeats}
 use Rattle.mm_proof.specs.Sharing.{AreFirstUses}
-use Rattle.mm_proof.specs.Spelled.{IsLabelNumber, AreLabelsOf}
+use Rattle.mm_proof.specs.Spelled.{IsNumberOfLabel, AreLabelsOf}
 use Rattle.mm_proof.specs.Packing.{ArePacked}
 use Rattle.mm_proof.specs.Mirror.Subtrees.{AreOnce, IsTreeOf}
 use Rattle.mm_proof.specs.Plain.{ids_in}
@@ -41,7 +41,7 @@ use Rattle.mm_proof.proofs.PackedCodes.{Whole, codes_said}
 
 -- the numbers of the hypotheses are those of their labels
 own_labels : (st : List Sentence) (numbers : List ℕ) (hypotheses : List Sentence) (labels : List (List ℕ)) → map (slice_get (labelled_sentences st)) numbers ≡ map Some hypotheses
-    → map (λ (h : Sentence). h.label) hypotheses ≡ map Some labels → AllZip (IsLabelNumber st) numbers labels
+    → map (λ (h : Sentence). h.label) hypotheses ≡ map Some labels → AllZip (IsNumberOfLabel st) numbers labels
 own_labels st [] [] [] p q = tt
 own_labels st [] [] (l ∷ labels) p q = absurd (let e : [] ≡ Some l ∷ map Some labels = q in cc)
 own_labels st [] (h ∷ hypotheses) labels p q = absurd (let e : [] ≡ Some h ∷ map Some hypotheses = p in cc)
@@ -56,10 +56,10 @@ own_labels st (n ∷ numbers) (h ∷ hypotheses) (l ∷ labels) p q =
     heads x y xs ys e = (cc, cc)
 
 -- different labels have different numbers
-numbers_once : (st : List Sentence) (numbers : List ℕ) (labels : List (List ℕ)) → AllZip (IsLabelNumber st) numbers labels → Once labels → Once numbers
+numbers_once : (st : List Sentence) (numbers : List ℕ) (labels : List (List ℕ)) → AllZip (IsNumberOfLabel st) numbers labels → Once labels → Once numbers
 numbers_once st numbers labels z once = places_once numbers (λ i j n p q.
-    let a = zip_left (IsLabelNumber st) numbers labels i n z p in
-    let b = zip_left (IsLabelNumber st) numbers labels j n z q in
+    let a = zip_left (IsNumberOfLabel st) numbers labels i n z p in
+    let b = zip_left (IsNumberOfLabel st) numbers labels j n z q in
     once_places labels i j b.0 once (a.1 ∙ ap Some (one_label_of st n a.0 b.0 a.2 b.2)) b.1)
 
 -- numbers that are different are all listed
@@ -73,24 +73,24 @@ first_all seen (n ∷ numbers) listed once fresh (inr u) =
 -- the labels of listed numbers are the listed labels
 record Named (st : List Sentence) (listed : List ℕ) (seen word : List (List ℕ)) : Type 0 where
   labels : List (List ℕ)
-  are : AllZip (IsLabelNumber st) listed labels
+  are : AllZip (IsNumberOfLabel st) listed labels
   first : AreFirstUses seen word labels
 
-seen_number : (st : List Sentence) (seen : List ℕ) (names : List (List ℕ)) (n : ℕ) (label : List ℕ) → AllZip (IsLabelNumber st) seen names → IsLabelNumber st n label → Contains seen n → Contains names label
+seen_number : (st : List Sentence) (seen : List ℕ) (names : List (List ℕ)) (n : ℕ) (label : List ℕ) → AllZip (IsNumberOfLabel st) seen names → IsNumberOfLabel st n label → Contains seen n → Contains names label
 seen_number st seen names n label z is has =
     let at = in_get seen n (contains_in seen n has) in
-    let beside = zip_left (IsLabelNumber st) seen names at.0 n z at.1 in
+    let beside = zip_left (IsNumberOfLabel st) seen names at.0 n z at.1 in
     in_contains names label (get_in names at.0 label (beside.1 ∙ ap Some (one_label_of st n beside.0 label beside.2 is)))
 
-seen_label : (st : List Sentence) (seen : List ℕ) (names : List (List ℕ)) (n : ℕ) (label : List ℕ) → AllMeant st → AllZip (IsLabelNumber st) seen names → IsLabelNumber st n label → Contains names label → Contains seen n
+seen_label : (st : List Sentence) (seen : List ℕ) (names : List (List ℕ)) (n : ℕ) (label : List ℕ) → AllMeant st → AllZip (IsNumberOfLabel st) seen names → IsNumberOfLabel st n label → Contains names label → Contains seen n
 seen_label st seen names n label all z is has =
     let at = in_get names label (contains_in names label has) in
-    let beside = zip_right (IsLabelNumber st) seen names at.0 label z at.1 in
+    let beside = zip_right (IsNumberOfLabel st) seen names at.0 label z at.1 in
     in_contains seen n (get_in seen at.0 n (beside.1 ∙ ap Some (one_number_of st beside.0 n label all beside.2 is)))
 
-named_uses : (st : List Sentence) (seen numbers listed : List ℕ) (names word : List (List ℕ)) → AllMeant st → AllZip (IsLabelNumber st) seen names → AllZip (IsLabelNumber st) numbers word
+named_uses : (st : List Sentence) (seen numbers listed : List ℕ) (names word : List (List ℕ)) → AllMeant st → AllZip (IsNumberOfLabel st) seen names → AllZip (IsNumberOfLabel st) numbers word
     → AreFirstNumbers seen numbers listed → Named st listed names word
-named_uses st seen [] listed names [] all z y u = record { labels = []; are = subst (λ l. AllZip (IsLabelNumber st) l []) (sym u) tt; first = refl }
+named_uses st seen [] listed names [] all z y u = record { labels = []; are = subst (λ l. AllZip (IsNumberOfLabel st) l []) (sym u) tt; first = refl }
 named_uses st seen [] listed names (l ∷ word) all z y u = absurd y
 named_uses st seen (n ∷ numbers) listed names [] all z y u = absurd y
 named_uses st seen (n ∷ numbers) listed names (l ∷ word) all z y (inl u) =
@@ -100,23 +100,23 @@ named_uses st seen (n ∷ numbers) listed names (l ∷ word) all z y (inr u) =
     let r = named_uses st (n ∷ seen) numbers u.1 (l ∷ names) word all (y.0, z) y.1 u.3 in
     record {
       labels = l ∷ r.labels;
-      are = subst (λ x. AllZip (IsLabelNumber st) x (l ∷ r.labels)) (sym u.2) (y.0, r.are);
+      are = subst (λ x. AllZip (IsNumberOfLabel st) x (l ∷ r.labels)) (sym u.2) (y.0, r.are);
       first = inr (λ has. u.0 (seen_label st seen names n l all z y.0 has), r.labels, refl, r.first);
     }
 
 -- the labels by which steps make trees
-step_labels : (st : List Sentence) (rows : List Row) (steps : List SharedStep) (v : List Visit) → AllZip (IsStepOf st rows) steps v → AllZip (IsLabelNumber st) (labels_made steps) (labels_in v)
+step_labels : (st : List Sentence) (rows : List Row) (steps : List SharedStep) (v : List Visit) → AllZip (IsStepOf st rows) steps v → AllZip (IsNumberOfLabel st) (labels_made steps) (labels_in v)
 step_labels st rows [] [] z = tt
 step_labels st rows [] (x ∷ v) z = absurd z
 step_labels st rows (s ∷ steps) [] z = absurd z
 step_labels st rows (Make t ∷ steps) (x ∷ v) z =
     let o : (label : List ℕ) × (below : Trees) × IsTreeOf st rows t label below × (x ≡ makes (tree label below none)) = z.0 in
-    subst (λ y. AllZip (IsLabelNumber st) (t.label ∷ labels_made steps) (labels_in (y ∷ v))) (sym o.3) (o.2.named, step_labels st rows steps v z.1)
+    subst (λ y. AllZip (IsNumberOfLabel st) (t.label ∷ labels_made steps) (labels_in (y ∷ v))) (sym o.3) (o.2.named, step_labels st rows steps v z.1)
 step_labels st rows (Repeat t ∷ steps) (x ∷ v) z =
     let o : (label : List ℕ) × (below : Trees) × IsTreeOf st rows t label below × (x ≡ repeats (tree label below none)) = z.0 in
-    subst (λ y. AllZip (IsLabelNumber st) (labels_made steps) (labels_in (y ∷ v))) (sym o.3) (step_labels st rows steps v z.1)
+    subst (λ y. AllZip (IsNumberOfLabel st) (labels_made steps) (labels_in (y ∷ v))) (sym o.3) (step_labels st rows steps v z.1)
 
-labels_of_ids : (st : List Sentence) (ids : List LabelId) (labels : List (List ℕ)) → AllZip (IsLabelNumber st) (ids_in ids) labels → AreLabelsOf st ids labels
+labels_of_ids : (st : List Sentence) (ids : List LabelId) (labels : List (List ℕ)) → AllZip (IsNumberOfLabel st) (ids_in ids) labels → AreLabelsOf st ids labels
 labels_of_ids st [] [] z = tt
 labels_of_ids st [] (l ∷ labels) z = absurd z
 labels_of_ids st (id ∷ ids) [] z = absurd z
@@ -150,7 +150,7 @@ repeats_of st rows steps v repeated all once z each t label below is = (
 -- ---- the fully shared proof
 
 pub packed_steps : (st : List Sentence) (place : ℕ) (s : Sentence) (rows : List Row) (label : List ℕ) (below : Trees) (steps : List SharedStep) (hypotheses : List ℕ) (ids : List LabelId) (codes : List Code)
-    → AllMeant st → AllFormed (take place st) → AreOnce rows → Fit (take place st) (tree label below none) → slice_get st place ≡ Some s
+    → AllMeant st → AllFormed (take place st) → AreOnce rows → TreesFit (take place st) (tree label below none) → slice_get st place ≡ Some s
     → AreHypotheses (record { statements = st; place = place }) hypotheses
     → AreSharedSteps st rows (tree label below none) steps → AreStepsPacked hypotheses steps (ids_in ids) codes
     → ArePacked st place s (tree label below none) ids codes
@@ -169,7 +169,7 @@ packed_steps st place s rows label below steps hypotheses ids codes all formed o
     let whole : Whole st rows (hypotheses ++ ids_in ids) (named.0 ++ uses.labels) packed.repeated shared.visits moves.kept = record {
       meant = all;
       rows_once = once;
-      labelled = zip_append (IsLabelNumber st) hypotheses named.0 (ids_in ids) uses.labels numbers uses.are;
+      labelled = zip_append (IsNumberOfLabel st) hypotheses named.0 (ids_in ids) uses.labels numbers uses.are;
       repeats_are = repeats_of st rows steps shared.visits packed.repeated all once shared.said packed.each;
       end_once = moves.once;
     } in (

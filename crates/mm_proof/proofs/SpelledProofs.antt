@@ -12,7 +12,7 @@ use Rattle.mm_frame.specs.Active.{IsActive}
 use Rattle.mm_frame.specs.Rules.{AllMeant}
 use Rattle.mm_frame.proofs.Meant.{one_label}
 use Rattle.mm_proof.specs.declared.fault.ProofRule.TheVariants.{P1, P2, P3, P4, P5, P6, P7, P8, P9, P10, P11, P12, P13, P14, P15, L1}
-use Rattle.mm_proof.specs.Tree.{Trees, none, tree, spelling, MayStandOver, Fit, DeriveAll}
+use Rattle.mm_proof.specs.Tree.{Trees, none, tree, spelling, MayStandOver, TreesFit, DeriveAll}
 use Rattle.mm_proof.specs.Moves.{name}
 use Rattle.mm_proof.specs.Tokens.{opening_token, closing_token, IsNormal, IsCompressed, AreLabels, AreLetters}
 use Rattle.mm_proof.specs.Proof.{BreaksWhole, IsWhole, IsProvedWithin}
@@ -31,7 +31,7 @@ no_member x (i, less, e) = let h : i < 0 = less in absurd (omega (arith, h))
 -- ---- labels of trees that fit
 
 -- each label may stand over some trees
-pub label_fits : (before : List Sentence) (trees : Trees) (label : List ℕ) → Fit before trees → Contains (spelling trees) label → (below : Trees) × MayStandOver before label below
+pub label_fits : (before : List Sentence) (trees : Trees) (label : List ℕ) → TreesFit before trees → Contains (spelling trees) label → (below : Trees) × MayStandOver before label below
 label_fits before none label fit c = absurd (no_member label c)
 label_fits before (tree own below right) label fit c =
     go (label_fits before below label fit.1) (label_fits before right label fit.2) (Contains-append_cases (spelling below) (own ∷ spelling right) label c)
@@ -100,7 +100,7 @@ pub spelled_proves : (Fits : List (List ℕ) → Type 0) (before : List Sentence
 spelled_proves Fits before s label below meant apart derived =
     let trees : Trees = tree label below none in
     let tokens : List (List ℕ) = spelling trees in
-    let fit : Fit before trees = derive_fits Fits before trees (s.symbols ∷ []) derived in
+    let fit : TreesFit before trees = derive_fits Fits before trees (s.symbols ∷ []) derived in
     let normal : IsNormal tokens = λ e. apart (contained tokens 0 opening_token e) in
     let whole : IsWhole before tokens = whole_of before tokens tokens meant (λ broken. normal broken.0) (λ others are. labels_once tokens others tokens are (inl (normal, refl)))
     (λ l used. label_fits before trees l fit used) (λ text rule are. absurd (normal_or_compressed tokens are.0 are.1 normal are.2)) in (
@@ -136,7 +136,7 @@ pub packed_proves : (Fits : List (List ℕ) → Type 0) (before : List Sentence)
 packed_proves Fits before s label below listed codes letters pieces meant p coded joined apart derived =
     let trees : Trees = tree label below none in
     let tokens : List (List ℕ) = in_parentheses listed ++ pieces in
-    let fit : Fit before trees = derive_fits Fits before trees (s.symbols ∷ []) derived in
+    let fit : TreesFit before trees = derive_fits Fits before trees (s.symbols ∷ []) derived in
     let parts : IsCompressed tokens listed pieces = record {
       whole = ap (λ (l : List (List ℕ)). opening_token ∷ l) (append_assoc listed (closing_token ∷ []) pieces);
       first = λ c. apart (packed_listed before s trees listed codes closing_token p c);

@@ -8,18 +8,18 @@ use Rattle.mm_frame.proofs.Labelled.{numbered_from_get}
 use Rattle.mm_proof.specs.declared.subtrees.Subtree.{Subtree}
 use Rattle.mm_proof.specs.declared.subtrees.Row.{Row}
 use Rattle.mm_proof.specs.Tree.{Trees, none, tree, beside, roots}
-use Rattle.mm_proof.specs.Spelled.{IsLabelNumber}
+use Rattle.mm_proof.specs.Spelled.{IsNumberOfLabel}
 use Rattle.mm_proof.specs.Mirror.Subtrees.{AreOnce, IsNumberOfRow, KeepNumbers, StandsFor, IsTreeOf, AreTreesOf}
 use Rattle.mm_proof.proofs.Meaning.{one_label}
 
 -- ---- labels
 
-pub one_label_of : (st : List Sentence) (id : ℕ) (l m : List ℕ) → IsLabelNumber st id l → IsLabelNumber st id m → l ≡ m
+pub one_label_of : (st : List Sentence) (id : ℕ) (l m : List ℕ) → IsNumberOfLabel st id l → IsNumberOfLabel st id m → l ≡ m
 one_label_of st id l m a b =
     let same : a.s ≡ b.s = same_Some a.s b.s (sym a.there ∙ b.there) in
     same_Some l m (sym a.named ∙ ap (λ (s : Sentence). s.label) same ∙ b.named)
 
-pub one_number_of : (st : List Sentence) (i j : ℕ) (label : List ℕ) → AllMeant st → IsLabelNumber st i label → IsLabelNumber st j label → i ≡ j
+pub one_number_of : (st : List Sentence) (i j : ℕ) (label : List ℕ) → AllMeant st → IsNumberOfLabel st i label → IsNumberOfLabel st j label → i ≡ j
 one_number_of st i j label all a b =
     let p = numbered_from_get st i a.s a.there in
     let q = numbered_from_get st j b.s b.there in
@@ -40,7 +40,7 @@ stands_once st rows none (tree m y s) n a b = absurd (let next = b.1.next in ome
 stands_once st rows (tree l x r) none n a b = absurd (let next = a.1.next in omega arith)
 stands_once st rows (tree l x r) (tree m y s) n a b =
     let same : a.0 ≡ b.0 = one_row_at rows n a.0 b.0 a.1 b.1 in
-    let label : l ≡ m = one_label_of st b.0.first.label l m (subst (λ (k : Row). IsLabelNumber st k.first.label l) same a.2) b.2 in
+    let label : l ≡ m = one_label_of st b.0.first.label l m (subst (λ (k : Row). IsNumberOfLabel st k.first.label l) same a.2) b.2 in
     let below : x ≡ y = stands_once st rows x y b.0.first.below (subst (λ (k : Row). StandsFor st rows k.first.below x) same a.3) b.3 in
     let right : r ≡ s = stands_once st rows r s b.0.right (subst (λ (k : Row). StandsFor st rows k.right r) same a.4) b.4 in
     ap (λ z. tree z x r) label ∙ ap (λ z. tree m z r) below ∙ ap (λ z. tree m y z) right

@@ -9,7 +9,7 @@ use Rattle.mm_frame.specs.Sentence.{Sentence}
 use Rattle.mm_proof.specs.declared.subtrees.Subtree.{Subtree}
 use Rattle.mm_proof.specs.declared.subtrees.Row.{Row}
 use Rattle.mm_proof.specs.Tree.{Trees, none, tree, beside, roots}
-use Rattle.mm_proof.specs.Spelled.{IsLabelNumber}
+use Rattle.mm_proof.specs.Spelled.{IsNumberOfLabel}
 use Rattle.mm_proof.specs.Mirror.Builders.{IsKept}
 use Rattle.mm_proof.specs.Mirror.Subtrees.{AreOnce, KeepNumbers, IsNumberOfRow, IsTreeOf, AreTreesOf, StandsFor, IsSubtreeOf, AreSubtreesOf}
 use Rattle.mm_proof.proofs.Making.{roots-beside}
@@ -52,7 +52,7 @@ shelf_later st old new (t ∷ shelf) (u ∷ kept) keep z = (trees_later st old n
 
 -- a step by a label
 pub subtrees_make : (st : List Sentence) (first old new : List Row) (stack items shelf : List Subtree) (t : Subtree) (rest below : Trees) (kept : List Trees) (label : List ℕ)
-    → ((row : Trees) → AreTreesOf st old items row → StandsFor st new t.below row) → KeepNumbers old new → (AreOnce old → AreOnce new) → IsLabelNumber st t.label label → roots below ≡ length items
+    → ((row : Trees) → AreTreesOf st old items row → StandsFor st new t.below row) → KeepNumbers old new → (AreOnce old → AreOnce new) → IsNumberOfLabel st t.label label → roots below ≡ length items
     → AreSubtreesOf first old st (stack ++ items) (beside rest below) shelf kept → AreSubtreesOf first new st (stack ++ t ∷ []) (beside rest (tree label below none)) shelf kept
 subtrees_make st first old new stack items shelf t rest below kept label number keep once named many h =
     let parts = trees_split st old stack items rest below many h.stands in

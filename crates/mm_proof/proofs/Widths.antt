@@ -11,7 +11,7 @@ use Rattle.mm_proof.specs.Moves.{name}
 use Rattle.mm_proof.specs.Steps.{IsNumberedMove}
 use Rattle.mm_proof.specs.Mirror.CodeSteps.{MayBeUsed}
 use Rattle.mm_proof.specs.Mirror.CodeApply.{IsEarlierScheme}
-use Rattle.mm_proof.specs.Spelled.{IsLabelNumber}
+use Rattle.mm_proof.specs.Spelled.{IsNumberOfLabel}
 use Rattle.mm_text.proofs.Lists.{get_take}
 use Rattle.mm_proof.proofs.Named.{as_many}
 use Rattle.mm_proof.proofs.OneStep.{hypothesis_or_assertion, one_names}
@@ -47,7 +47,7 @@ width_assertion st place id label below scheme all u is stands =
         p.4 ∙ ap length (one_names (take place st) label p.0 is.at p.1 a p.2 hs (allmeant_front st place all) p.3 names) ∙ many
 
 -- the same label may be used
-pub same_use : (st : List Sentence) (place id : ℕ) (used label : List ℕ) (s : Sentence) → MayBeUsed st place used id → IsLabelNumber st id label → MayBeUsed st place label id
+pub same_use : (st : List Sentence) (place id : ℕ) (used label : List ℕ) (s : Sentence) → MayBeUsed st place used id → IsNumberOfLabel st id label → MayBeUsed st place label id
 same_use st place id used label s u n =
     let same : n.s ≡ u.s = same_Some n.s u.s (sym n.there ∙ numbered_get st id u.at u.s u.numbered) in
     record { at = u.at; s = u.s; numbered = u.numbered; named = ap (λ (t : Sentence). t.label) (sym same) ∙ n.named; before = u.before; kind = u.kind }

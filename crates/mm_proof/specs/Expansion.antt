@@ -3,7 +3,7 @@
 -- proved rests on it: laws say how they are tied to it.
 use Rattle.std.specs.Prelude.{◌≡◌, ℕ, List, [], ◌∷◌, ◌++◌, slice_get, Some}
 use Rattle.mm_frame.specs.Sentence.{Sentence}
-use Rattle.mm_proof.specs.Tree.{Trees, none, tree, spelling, Fit}
+use Rattle.mm_proof.specs.Tree.{Trees, none, tree, spelling, TreesFit}
 use Rattle.mm_proof.specs.Moves.{Move, name, again, mark}
 
 -- The move makes the second labels and kept words out of the first. A label goes to the labels'
@@ -19,7 +19,7 @@ ExpandsOne before (again tag) labels words labels' words' =
     × (words' ≡ words)
 ExpandsOne before mark labels words labels' words' =
     (front : List (List ℕ)) × (label : List ℕ) × (below : Trees)
-    × Fit before (tree label below none)
+    × TreesFit before (tree label below none)
     × (labels ≡ front ++ spelling (tree label below none))
     × (labels' ≡ labels) × (words' ≡ words ++ spelling (tree label below none) ∷ [])
 

@@ -8,7 +8,7 @@ use Rattle.mm_frame.specs.Rules.{AllMeant}
 use Rattle.mm_frame.specs.Form.{AllFormed}
 use Rattle.mm_proof.specs.declared.fault.ProofRule.{ProofRule}
 use Rattle.mm_proof.specs.declared.fault.ProofRule.TheVariants.{P6, P7, L1}
-use Rattle.mm_proof.specs.Tree.{Trees, none, tree, spelling, Fit, DeriveAll, AnyExpression}
+use Rattle.mm_proof.specs.Tree.{Trees, none, tree, spelling, TreesFit, DeriveAll, AnyExpression}
 use Rattle.mm_proof.specs.Moves.{Move, again, mark, is_step, steps_in, Makes}
 use Rattle.mm_proof.specs.Tokens.{IsNormal}
 use Rattle.mm_proof.specs.Expansion.{Expands, IsWord}
@@ -17,7 +17,7 @@ use Rattle.mm_proof.specs.Proof.{Passed, IsMovesFault}
 
 -- Trees that fit are told by their spelling: no other trees that fit have it.
 abbrev pub OneFit : Type 0
-OneFit = (before : List Sentence) (t u : Trees) → AllMeant before → Fit before t → Fit before u
+OneFit = (before : List Sentence) (t u : Trees) → AllMeant before → TreesFit before t → TreesFit before u
     → spelling t ≡ spelling u → t ≡ u
 
 -- Trees that derive expressions fit, and so are told by their spelling; and they derive the same.
@@ -69,8 +69,8 @@ abbrev pub MadeByWord : Type 0
 MadeByWord =
     (before : List Sentence) (moves : List (Move (List ℕ))) (trees : Trees)
     → ((kept : List Trees) → Makes before moves none [] trees kept
-    → Fit before trees × Expands before moves [] [] (spelling trees) (map spelling kept))
-    × (AllMeant before → Fit before trees → IsWord before moves (spelling trees)
+    → TreesFit before trees × Expands before moves [] [] (spelling trees) (map spelling kept))
+    × (AllMeant before → TreesFit before trees → IsWord before moves (spelling trees)
     → (kept : List Trees) × Makes before moves none [] trees kept
     × ((others : Trees) (more : List Trees) → Makes before moves none [] others more
     → (others ≡ trees) × (more ≡ kept)))

@@ -1,7 +1,7 @@
 -- When a `$p` is proved, and the first fault of a proof (the Metamath book, sections 4.1.4, 4.3 and
 -- 4.4.3, appendix B).
 use Rattle.std.specs.Prelude.{◌≡◌, ◌≢◌, ℕ, ◌+◌, ◌<◌, ◌≤◌, List, [], ◌∷◌, ◌++◌, take, drop, length}
-use Rattle.std.specs.Prelude.{slice_get, Contains, Option, Some, ◌⊎◌}
+use Rattle.std.specs.Prelude.{slice_get, Contains, Some, ◌⊎◌}
 use Rattle.std.specs.List.{AllZip}
 use Rattle.mm_text.specs.declared.statement.Kind.TheVariants.{Floating, Essential}
 use Rattle.mm_code.specs.declared.code.CodeRule.TheVariants as code
@@ -12,7 +12,7 @@ use Rattle.mm_frame.specs.Frame.{IsMandatory, IsMandatoryPair}
 use Rattle.mm_proof.specs.declared.fault.ProofRule.{ProofRule}
 use Rattle.mm_proof.specs.declared.fault.ProofRule.TheVariants.{P1, P2, P3, P4, P5, P6, P7, P8, P9}
 use Rattle.mm_proof.specs.declared.fault.ProofRule.TheVariants.{P10, P11, P12, P13, P14, P15, L1}
-use Rattle.mm_proof.specs.Substitution.{Expression, IsOn, instance_of}
+use Rattle.mm_proof.specs.Substitution.{Expression, Substitution, IsOn, instance_of}
 use Rattle.mm_proof.specs.Tree.{Trees, none, tree, Names, ShareNoVariable, AreDistinct, DeriveAll}
 use Rattle.mm_proof.specs.Tree.{AnyExpression}
 use Rattle.mm_proof.specs.Moves.{Move, name, again, mark, steps_in, Makes}
@@ -98,7 +98,7 @@ pub record MeetsHypotheses (before : List Sentence) (stack : List Expression)
   pub entries : List Expression
   pub split : stack ≡ rest ++ entries
   pub paired : length entries ≡ length hypotheses
-  pub σ : List ℕ → Option (List (List ℕ))
+  pub σ : Substitution
   pub on : IsOn (IsMandatory (take place before) assertion) σ
   pub replaced : (i : ℕ) (h : Sentence) (entry : List (List ℕ)) (code x : List ℕ)
       → slice_get hypotheses i ≡ Some h → slice_get entries i ≡ Some entry

@@ -4,7 +4,7 @@ use Rattle.mm_code.specs.declared.code.Code.{Code}
 use Rattle.mm_frame.specs.Sentence.{Sentence}
 use Rattle.mm_frame.specs.Rules.{AllMeant}
 use Rattle.mm_frame.specs.Form.{AllFormed}
-use Rattle.mm_proof.specs.Tree.{Trees, none, tree, Fit}
+use Rattle.mm_proof.specs.Tree.{Trees, none, tree, TreesFit}
 use Rattle.mm_proof.specs.BigSubtrees.{children, IsSubtree, AreBigSubtrees}
 use Rattle.mm_proof.specs.Visits.{visits, trees_made}
 use Rattle.mm_proof.specs.Sharing.{steps_of, PairMakes, IsPacked}
@@ -22,7 +22,7 @@ OnePacked =
 abbrev pub SomePacked : Type 0
 SomePacked =
     (before : List Sentence) (s : Sentence) (label : List ℕ) (below : Trees) → AllFormed before
-    → Fit before (tree label below none)
+    → TreesFit before (tree label below none)
     → (listed : List (List ℕ)) × (codes : List Code)
     × IsPacked before s (tree label below none) listed codes
 

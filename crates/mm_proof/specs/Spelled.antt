@@ -10,14 +10,14 @@ use Rattle.mm_proof.specs.Moves.{Move}
 use Rattle.mm_proof.specs.OneTree.{MakeTree}
 
 -- the number is that of a statement with this label
-pub record IsLabelNumber (statements : List Sentence) (id : ℕ) (label : List ℕ) : Type 0 where
+pub record IsNumberOfLabel (statements : List Sentence) (id : ℕ) (label : List ℕ) : Type 0 where
   pub s : Sentence
   pub there : slice_get (labelled_sentences statements) id ≡ Some s
   pub named : IsLabelled label s
 
 -- these are the numbers of the labels, one by one
 abbrev pub AreLabelsOf : List Sentence → List LabelId → List (List ℕ) → Type 0
-AreLabelsOf statements ids labels = AllZip (λ id label. IsLabelNumber statements id.0 label) ids labels
+AreLabelsOf statements ids labels = AllZip (λ id label. IsNumberOfLabel statements id.0 label) ids labels
 
 -- of the spelling of the tree that the moves make this holds
 abbrev pub OfSpelling : List Sentence → List (Move (List ℕ)) → (List (List ℕ) → Type 0) → Type 0

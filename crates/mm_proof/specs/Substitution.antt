@@ -15,9 +15,9 @@ abbrev pub Substitution : Type 0
 Substitution = List ℕ → Option (List (List ℕ))
 
 -- it replaces these symbols and no others
-abbrev pub IsOn : (List ℕ → Type 0) → (List ℕ → Option (List (List ℕ))) → Type 0
+abbrev pub IsOn : (List ℕ → Type 0) → Substitution → Type 0
 IsOn P σ = (x : List ℕ) → IsSome (σ x) ↔ P x
 
 -- the expression with each variable replaced, all at once
-abbrev pub instance_of : (List ℕ → Option (List (List ℕ))) → List (List ℕ) → List (List ℕ)
+abbrev pub instance_of : Substitution → List (List ℕ) → List (List ℕ)
 instance_of σ expression = flat_map (λ x. unwrap_or (σ x) (x ∷ [])) expression

@@ -1,11 +1,11 @@
 -- Proof trees, what they derive and how they are spelled (the Metamath book, sections 4.1.4 and
 -- 4.3).
 use Rattle.std.specs.Prelude.{◌≡◌, ℕ, suc, List, [], ◌∷◌, ◌++◌, length, map, take, slice_get}
-use Rattle.std.specs.Prelude.{Contains, Option, Some, ◌⊎◌}
+use Rattle.std.specs.Prelude.{Contains, Some, ◌⊎◌}
 use Rattle.mm_frame.specs.Sentence.{Sentence, IsHypothesis, IsAssertion, IsLabelled}
 use Rattle.mm_frame.specs.Active.{SomeActive, IsVariable}
 use Rattle.mm_frame.specs.Frame.{IsMandatory, AreMandatory, IsDistinct, IsMandatoryPair}
-use Rattle.mm_proof.specs.Substitution.{IsOn, instance_of}
+use Rattle.mm_proof.specs.Substitution.{Substitution, IsOn, instance_of}
 
 -- Trees side by side. A tree is a label with the trees below it; a tree with none below is a leaf,
 -- or an assertion that has no hypotheses: its label tells.
@@ -46,10 +46,10 @@ MayStandOver before label below =
     × (roots below ≡ length hypotheses))
 
 -- the trees fit after the statements before: each label may stand over the trees below it
-abbrev pub Fit : List Sentence → Trees → Type 0
-Fit before none = Unit {0}
-Fit before (tree label below right) =
-    MayStandOver before label below × Fit before below × Fit before right
+abbrev pub TreesFit : List Sentence → Trees → Type 0
+TreesFit before none = Unit {0}
+TreesFit before (tree label below right) =
+    MayStandOver before label below × TreesFit before below × TreesFit before right
 
 -- no variable stands in both expressions
 abbrev pub ShareNoVariable : List Sentence → List (List ℕ) → List (List ℕ) → Type 0
@@ -63,7 +63,7 @@ AreDistinct before e f =
 
 -- What replaces the members of each mandatory pair of the assertion at a place shares no variable,
 -- and its variables are active pairs after all the statements.
-abbrev pub KeepsApart : List Sentence → ℕ → Sentence → (List ℕ → Option (List (List ℕ))) → Type 0
+abbrev pub KeepsApart : List Sentence → ℕ → Sentence → Substitution → Type 0
 KeepsApart before place assertion σ =
     (x y : List ℕ) (e f : List (List ℕ)) → IsMandatoryPair (take place before) assertion x y
     → σ x ≡ Some e → σ y ≡ Some f
@@ -82,7 +82,7 @@ DeriveAll Fits before (tree label below right) expressions =
     × (((below ≡ none)
     × SomeActive before (λ h. IsLabelled label h × IsHypothesis h.kind × (e ≡ h.symbols)))
     ⊎ ((place : ℕ) × (assertion : Sentence) × (hypotheses : List Sentence)
-    × (σ : List ℕ → Option (List (List ℕ)))
+    × (σ : Substitution)
     × Names before label place assertion hypotheses
     × IsOn (IsMandatory (take place before) assertion) σ
     × DeriveAll Fits before below (map (λ h. instance_of σ h.symbols) hypotheses)

@@ -26,7 +26,7 @@ pub(crate) trait Builder {
     ghost use Rattle.std.specs.declared.alloc.AllocError.{AllocError};
     ghost use Rattle.mm_frame.specs.Sentence.{Sentence};
     ghost use Rattle.mm_proof.specs.Tree.{Trees};
-    ghost use Rattle.mm_proof.specs.Spelled.{IsLabelNumber};
+    ghost use Rattle.mm_proof.specs.Spelled.{IsNumberOfLabel};
     ghost use Rattle.mm_proof.specs.Mirror.Builders.{MakesItem, RepeatsItem, IsOnShelf};
     ghost use Rattle.mm_proof.specs.Mirror.Builders.{IsFull, IsTooLong};
 
@@ -51,7 +51,7 @@ pub(crate) trait Builder {
     fn make(&mut self, id: LabelId, below: &[Self::Item]) -> Result<Self::Item, Self::Fault>
         ensures made { IfOk result (λ item. (first : Self) (statements : List Sentence)
             → MakesItem (holds first self.old statements) (holds first self.new statements)
-            (IsLabelNumber statements id.0) below.now item) }
+            (IsNumberOfLabel statements id.0) below.now item) }
         ensures long { IfErr result (λ fault. is_long fault
             → (first : Self) (statements : List Sentence)
             → IsFull (holds first self.old statements) (most first)) };

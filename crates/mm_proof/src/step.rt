@@ -1,12 +1,13 @@
 //! One step of a proof by an assertion (the Metamath book, section 4.1.4 and appendix B).
 
 ghost use Rattle.std.specs.Prelude.{◌≡◌, ◌↔◌, ◌+◌, ◌<◌, ◌^◌, ℕ, List, length, drop};
-ghost use Rattle.std.specs.Prelude.{slice_get, Bool, Option, Some};
+ghost use Rattle.std.specs.Prelude.{slice_get, Bool, Some};
 ghost use Rattle.std.specs.Prelude.{IsTrue, MatchBool, MatchOption};
 ghost use Rattle.std.specs.List.{AllByRecursion};
 ghost use Rattle.mm_frame.specs.Sentence.{Sentence};
 ghost use Rattle.mm_frame.specs.FramePlace.{IsTypingOf, HaveTypings};
 ghost use Rattle.mm_frame.specs.Pieces.{variables_of, HavePatterns};
+ghost use Rattle.mm_proof.specs.Substitution.{Substitution};
 ghost use Rattle.mm_proof.specs.Stores.{numbers_in};
 ghost use Rattle.mm_proof.specs.Plain.{label_ids};
 ghost use Rattle.mm_proof.specs.Mirror.CodeVerify.{AreHypothesesOf, AreVariablesOf, EachIsSome};
@@ -86,7 +87,7 @@ pub(crate) fn are_equal<S: Store>(
     requires fits { length (S.stack store.now) < 2 ^ 64 }
     requires floating { IsTrue floating → EachIsSome (variables_of scheme.now.hypotheses.now) }
     requires below { AllByRecursion (AreBelow book.now.statements) (drop base (S.stack store.now)) }
-    ensures { (σ : List ℕ → Option (List (List ℕ)))
+    ensures { (σ : Substitution)
         → Replaces book.now.statements σ (variables_of scheme.now.hypotheses.now)
         (drop base (S.stack store.now))
         → (hs : List Sentence)

@@ -9,7 +9,7 @@ use Rattle.mm_text.specs.Files.{PlainFile}
 use Rattle.mm_tool.specs.Words.{AsksHelp, AsksRun, AsksSame}
 use Rattle.mm_tool.specs.Folder.{KnownFile, MayHold}
 use Rattle.mm_tool.specs.Ending.{IsProofRead, IsSameReplyOver, IsSameCommand, StopsSame}
-use Rattle.mm_tool.specs.Ending.{BreaksOff, Ends, EndsUnread, AnswersWords, IsReplyOver, Stops, StopsRun, TakesWhole}
+use Rattle.mm_tool.specs.Ending.{BreaksOff, Ends, EndsWithoutWords, AnswersWords, IsReplyOver, Stops, StopsRun, TakesWhole}
 use Rattle.mm_tool.specs.Answer.{Outcome, outcome_of, quiet}
 use Rattle.mm_tool.specs.declared.answer.Answer.{Answer}
 use Rattle.mm_tool.specs.Ending.{TellsLine, TellsNotes, error_line, stop_status, unread_stop}
@@ -194,7 +194,7 @@ pub ends_unread : {O E : Type 0} (said : E → Option (List ℕ)) (may_fail : Ty
     (out : Counted O) (err err' : Counted E)
     → number ≡ number_of status → status ≡ stop_status stop → stop ≡ unread_stop fault → (fault ≡ argument.NotText → may_fail)
     → TellsLine said (error_line stop) err err'
-    → EndsUnread said may_fail number out out err err'
+    → EndsWithoutWords said may_fail number out out err err'
 ends_unread said may_fail status number stop fault out err err' same is reason cause told = record {
   stop = stop;
   fault = fault;

@@ -12,6 +12,7 @@ use Rattle.mm_proof.specs.declared.call.Call.TheVariants as calls
 use Rattle.mm_proof.specs.Stores.{numbers_in}
 use Rattle.mm_proof.specs.Plain.{label_ids}
 use Rattle.mm_proof.specs.Mirror.CodeSteps.{MayBeUsed}
+use Rattle.mm_proof.specs.Substitution.{Substitution}
 use Rattle.mm_proof.specs.Tree.{AreDistinct}
 use Rattle.mm_proof.specs.Mirror.CodeVerify.{names_at, all_names_at, value_of, IsRightCode, IsEqual}
 use Rattle.mm_proof.specs.Mirror.CodeVerify.{EachEntry, pairs_in}
@@ -32,7 +33,7 @@ pub record IsAppliedAssertion (statements : List Sentence) (place id at : ℕ) (
 pub record IsMatched (statements : List Sentence) (place : ℕ) (hs : List Sentence)
     (variables : List (Option ℕ)) (entries : List (List ℕ)) (pairs : List (ℕ × ℕ)) : Type 0 where
   pub codes : EachEntry hs (all_names_at statements entries) IsRightCode
-  pub equal : (σ : List ℕ → Option (List (List ℕ))) → Replaces statements σ variables entries
+  pub equal : (σ : Substitution) → Replaces statements σ variables entries
       → EachEntry hs (all_names_at statements entries) (IsEqual σ)
   pub apart : EachPairValues (value_of variables entries) pairs
       (λ e f. AreDistinct (take place statements) (names_at statements e) (names_at statements f))

@@ -4,7 +4,7 @@ use Rattle.std.specs.Prelude.{slice_get, slice_index_or, Option, Some, None}
 use Rattle.std.specs.Prelude.{true, option_map, is_some, unwrap_or, if◌then◌else◌, ◌⊎◌}
 use Rattle.std.specs.List.{flat_map, AllByRecursion, AllZip}
 use Rattle.mm_text.specs.declared.statement.Kind.TheVariants.{Floating, Essential}
-use Rattle.mm_proof.specs.Substitution.{instance_of}
+use Rattle.mm_proof.specs.Substitution.{Substitution, instance_of}
 use Rattle.mm_frame.specs.declared.distinct.DistinctPair.{DistinctPair}
 use Rattle.mm_frame.specs.Pieces.{is_of}
 use Rattle.mm_frame.specs.Sentence.{Sentence, Types}
@@ -86,15 +86,15 @@ abbrev pub IsWrongCode : Sentence → List (List ℕ) → Type 0
 IsWrongCode h entry = (h.kind ≡ Floating) × (slice_get entry 0 ≢ slice_get h.symbols 0)
 
 -- the entry is the `$e` with each variable replaced
-abbrev pub IsEqual : (List ℕ → Option (List (List ℕ))) → Sentence → List (List ℕ) → Type 0
+abbrev pub IsEqual : Substitution → Sentence → List (List ℕ) → Type 0
 IsEqual σ h entry = h.kind ≡ Essential → entry ≡ instance_of σ h.symbols
 
 -- it isn't
-abbrev pub IsUnequal : (List ℕ → Option (List (List ℕ))) → Sentence → List (List ℕ) → Type 0
+abbrev pub IsUnequal : Substitution → Sentence → List (List ℕ) → Type 0
 IsUnequal σ h entry = (h.kind ≡ Essential) × (entry ≢ instance_of σ h.symbols)
 
 -- what replaces symbols by names is what does by numbers
-abbrev pub Replaces : List Sentence → (List ℕ → Option (List (List ℕ))) → List (Option ℕ)
+abbrev pub Replaces : List Sentence → Substitution → List (Option ℕ)
     → List (List ℕ) → Type 0
 Replaces statements σ variables entries =
     (n : ℕ) → n < length (symbols_of statements)

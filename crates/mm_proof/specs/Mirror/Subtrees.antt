@@ -3,7 +3,7 @@ use Rattle.std.specs.Prelude.{◌≡◌, ℕ, ◌+◌, List, [], ◌∷◌, slic
 use Rattle.std.specs.List.{AllZip}
 use Rattle.mm_frame.specs.Sentence.{Sentence}
 use Rattle.mm_proof.specs.Tree.{Trees, none, tree}
-use Rattle.mm_proof.specs.Spelled.{IsLabelNumber}
+use Rattle.mm_proof.specs.Spelled.{IsNumberOfLabel}
 use Rattle.mm_proof.specs.declared.subtrees.Subtree.{Subtree}
 use Rattle.mm_proof.specs.declared.subtrees.Row.{Row}
 
@@ -27,13 +27,13 @@ KeepNumbers old new = (place : ℕ) (row : Row) → slice_get old place ≡ Some
 abbrev pub StandsFor : List Sentence → List Row → ℕ → Trees → Type 0
 StandsFor statements rows number none = number ≡ 0
 StandsFor statements rows number (tree label below right) =
-    (row : Row) × IsNumberOfRow rows number row × IsLabelNumber statements row.first.label label
+    (row : Row) × IsNumberOfRow rows number row × IsNumberOfLabel statements row.first.label label
     × StandsFor statements rows row.first.below below × StandsFor statements rows row.right right
 
 -- the subtree is the tree with this label and these trees below
 pub record IsTreeOf (statements : List Sentence) (rows : List Row) (t : Subtree) (label : List ℕ)
     (below : Trees) : Type 0 where
-  pub named : IsLabelNumber statements t.label label
+  pub named : IsNumberOfLabel statements t.label label
   pub stands : StandsFor statements rows t.below below
 
 -- the subtrees are these trees side by side

@@ -3,7 +3,7 @@ use Rattle.std.specs.Vec.{vec_len}
 use Rattle.std.proofs.lemmas.List.{take_all, length-drop}
 use Rattle.std.proofs.lemmas.Option.{slice_get_read, same_Some}
 use Rattle.mm_proof.specs.Tree.{tree, none}
-use Rattle.mm_proof.specs.Spelled.{IsLabelNumber}
+use Rattle.mm_proof.specs.Spelled.{IsNumberOfLabel}
 use Rattle.mm_proof.specs.Mirror.Builders.{MakesItem, IsBuilt}
 use Rattle.mm_proof.proofs.Building.{At, handed, next_make, make_within, at_make, make_long, repeat_within, next_repeat, at_repeat, repeat_long, next_keep, at_keep, only_item}
 use Rattle.mm_proof.proofs.builder.build_moves.Goals as goal
@@ -87,7 +87,7 @@ loop-one-preserved g c = elim c.match-one.branch [
       let n = next_make _ _ c.args.moves.now m _ _ _ _ _ w.in-Name.id.0 h c.loop-one-test.true w.in-Name.is refl in
       let long : vec_len c.loop-one.stack ≡ length c.loop-one.stack.items = search rules in
       at_make _ _ st _ m _ _ _ _ _ _ (w.len.result - w.width.result) h n (w.width.ensures m.place n.label n.below n.used n.stands) (let l = w.len.ensures in omega arith)
-      (subst (λ xs. MakesItem (g.B.Builder.holds c.args.builder.now c.loop-one.builder st) (g.B.Builder.holds c.args.builder.now w.make.new.self st) (IsLabelNumber st w.in-Name.id.0) xs w.in_ok-item-in-Name.item)
+      (subst (λ xs. MakesItem (g.B.Builder.holds c.args.builder.now c.loop-one.builder st) (g.B.Builder.holds c.args.builder.now w.make.new.self st) (IsNumberOfLabel st w.in-Name.id.0) xs w.in_ok-item-in-Name.item)
       (take_all (length w.deref.result.now - (w.len.result - w.width.result)) (drop (w.len.result - w.width.result) w.deref.result.now) (let l = length-drop (w.len.result - w.width.result) w.deref.result.now in omega arith)
       ∙ ap (drop (w.len.result - w.width.result)) w.deref.ensures.value)
       (w.in_ok-item-in-Name.ensures.made c.args.builder.now st)))

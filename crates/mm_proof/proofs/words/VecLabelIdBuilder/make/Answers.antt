@@ -4,13 +4,13 @@ use Rattle.std.proofs.lemmas.Slice.Zip.{AllZip-long}
 use Rattle.mm_text.proofs.Lists.{zip_push}
 use Rattle.mm_frame.specs.declared.number.LabelId.{LabelId}
 use Rattle.mm_proof.specs.Tree.{tree, none, spelling, beside}
-use Rattle.mm_proof.specs.Spelled.{IsLabelNumber, AreLabelsOf}
+use Rattle.mm_proof.specs.Spelled.{IsNumberOfLabel, AreLabelsOf}
 use Rattle.mm_proof.proofs.WordSteps.{spelling_over, parts_make}
 use Rattle.mm_proof.proofs.words.VecLabelIdBuilder.make.Goals as goal
 
 pub returns-clause-made : goal.returns-clause-made
 returns-clause-made c first st stack shelf rest below kept steps label named many h =
-    let R = λ (i : LabelId) (l : List ℕ). IsLabelNumber st i.0 l in
+    let R = λ (i : LabelId) (l : List ℕ). IsNumberOfLabel st i.0 l in
     let old = c.args.self.now.items in
     let long = AllZip-long R old (spelling (beside rest below)) h.labels_are in
     let same : vec_len c.args.self.now ≡ length old = search rules in

@@ -5,7 +5,7 @@ use Rattle.std.proofs.lemmas.Slice.Zip.{AllZip-long}
 use Rattle.mm_text.proofs.Lists.{zip_append}
 use Rattle.mm_frame.specs.declared.number.LabelId.{LabelId}
 use Rattle.mm_proof.specs.Tree.{tree, none, spelling, beside}
-use Rattle.mm_proof.specs.Spelled.{IsLabelNumber, AreLabelsOf}
+use Rattle.mm_proof.specs.Spelled.{IsNumberOfLabel, AreLabelsOf}
 use Rattle.mm_proof.proofs.Making.{spelling-beside}
 use Rattle.mm_proof.proofs.WordSteps.{kept_part, part_order, zip_part, parts_repeat}
 use Rattle.mm_proof.proofs.words.VecLabelIdBuilder.repeat.Goals as goal
@@ -19,13 +19,13 @@ pub extend_from_within-requires-clause-in_bounds : goal.extend_from_within-requi
 extend_from_within-requires-clause-in_bounds c =
     let k = c.requires.2 in
     let order = (part_order _ c.args.item _ (kept_part k.stack k.shelf c.args.item k.row k.kept k.label k.below k.has k.holds.parts)).1 in
-    let whole = AllZip-long (λ (i : LabelId) (l : List ℕ). IsLabelNumber c.requires.1 i.0 l) c.args.self.now.items (spelling k.row) k.holds.labels_are in
+    let whole = AllZip-long (λ (i : LabelId) (l : List ℕ). IsNumberOfLabel c.requires.1 i.0 l) c.args.self.now.items (spelling k.row) k.holds.labels_are in
     let long : vec_len c.args.self.now ≡ length c.args.self.now.items = search rules in
     omega arith
 
 pub returns-clause-made : goal.returns-clause-made
 returns-clause-made c first st stack shelf row kept steps label below has h =
-    let R = λ (i : LabelId) (l : List ℕ). IsLabelNumber st i.0 l in
+    let R = λ (i : LabelId) (l : List ℕ). IsNumberOfLabel st i.0 l in
     let t = tree label below none in
     let old = c.args.self.now.items in
     let long = AllZip-long R old (spelling row) h.labels_are in
