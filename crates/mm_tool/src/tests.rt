@@ -7,7 +7,7 @@ mod folder;
 use crate::pages::Page;
 use crate::serve::{run_over, serve, start};
 use crate::texts::Texts;
-use failing::{FailingFolder, Wordless, failing_writer};
+use failing::{FailingFolder, Failure, Wordless, failing_writer};
 use folder::{Entry, Shelf};
 use mm_check::{Command, Status};
 use mm_proof::Profile;
@@ -223,9 +223,15 @@ const STEPS: &[u8] = b"1 tze term 0\n2 tze term 0\n3 tpl term ( 0 + 0 )\n";
 
 /// Whether the program stops at the call of standard output that fails, and has written what comes
 /// before it.
-fn stops_writing(alloc: Global, words: &[&str], reply: &[u8], fails_at: usize) -> bool {
+fn stops_writing(
+    alloc: Global,
+    words: &[&str],
+    reply: &[u8],
+    fails_at: usize,
+    failure: Failure,
+) -> bool {
     let entries = ENTRIES;
-    let mut out = failing_writer(alloc, fails_at);
+    let mut out = failing_writer(alloc, fails_at, failure);
     let mut err = Counted::new(Vec::new(alloc));
     let status = serve(
         alloc,
@@ -243,20 +249,19 @@ fn stops_writing(alloc: Global, words: &[&str], reply: &[u8], fails_at: usize) -
         && err.into_inner().as_slice() == b"mm: cannot write\n".as_slice()
 }
 
+/// Whether the program stops at each call of standard output, where that one fails.
+fn stops_at_each_write(alloc: Global, failure: Failure) -> bool {
+    let show = ["mm", "show", "th", "first.mm"];
+    let help = ["mm", "help"];
+    (1..=STEPS.len()).all(|at| stops_writing(alloc, &show, STEPS, at, failure))
+        && (1..=5).all(|at| stops_writing(alloc, &help, b"help\n", at, failure))
+}
+
 // Standard output takes one byte a call.
 #[test]
 fn stops_at_a_failed_write(rt: HostRuntime) {
-    for (words, reply) in [
-        (["mm", "show", "th", "first.mm"].as_slice(), STEPS),
-        (["mm", "help"].as_slice(), b"help\n".as_slice()),
-    ] {
-        for fails_at in 1..=reply.len() {
-            assert!(rt;
-                stops_writing(rt.alloc(), words, reply, fails_at),
-                "at {fails_at}"
-            );
-        }
-    }
+    assert!(rt; stops_at_each_write(rt.alloc(), Failure::Error));
+    assert!(rt; stops_at_each_write(rt.alloc(), Failure::Zero));
 }
 
 const UNREAD: &[u8] = b"mm: cannot read none.mm\n";
@@ -271,7 +276,7 @@ mm: first.mm was taken for the label, and - for a file: the label comes first
 fn stops_telling(alloc: Global, words: &[&str], line: &[u8], fails_at: usize) -> bool {
     let entries = ENTRIES;
     let mut out = Counted::new(Vec::new(alloc));
-    let mut err = failing_writer(alloc, fails_at);
+    let mut err = failing_writer(alloc, fails_at, Failure::Error);
     let status = serve(
         alloc,
         Seed::known(),

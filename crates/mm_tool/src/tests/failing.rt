@@ -11,6 +11,13 @@ use std::cell::Cell;
 use std::io;
 use std::io::{ErrorKind, Read, Write};
 
+/// How a call of a writer fails: by an error, or by taking nothing.
+#[derive(Clone, Copy, PartialEq, Eq)]
+pub(crate) enum Failure {
+    Error,
+    Zero,
+}
+
 /// Takes one byte a call, but fails at one of its calls alone, the first of which is number 1. It
 /// takes what is written after that, and so shows who goes on.
 #[derive(Drop)]
@@ -18,13 +25,17 @@ pub(crate) struct FailingWriter {
     pub(crate) taken: Vec<u8>,
     pub(crate) calls: usize,
     fails_at: usize,
+    failure: Failure,
 }
 
 impl Write for FailingWriter {
     fn write(&mut self, buf: &[u8]) -> io::Result<usize> {
         self.calls = self.calls.saturating_add(1);
         if self.calls == self.fails_at {
-            return Err(io::Error::from(ErrorKind::BrokenPipe));
+            return match self.failure {
+                Failure::Error => Err(io::Error::from(ErrorKind::BrokenPipe)),
+                Failure::Zero => Ok(0),
+            };
         }
         match buf.first() {
             Some(byte) => {
@@ -41,13 +52,18 @@ impl Write for FailingWriter {
 }
 
 /// A writer that fails at a call, none of whose calls has failed yet.
-pub(crate) fn failing_writer(alloc: Global, fails_at: usize) -> Counted<FailingWriter>
+pub(crate) fn failing_writer(
+    alloc: Global,
+    fails_at: usize,
+    failure: Failure,
+) -> Counted<FailingWriter>
     ensures { faults_of result ≡ 0 }
 {
     Counted::new(FailingWriter {
         taken: Vec::new(alloc),
         calls: 0,
         fails_at,
+        failure,
     })
 }
 
