@@ -71,9 +71,10 @@ Replies of check, on standard output:
       Nothing is at fault, but the proofs of these statements hold a `?`. What stands before it is
       checked. Status 3.
   no FILE LINE LABEL RULE STEP
-      The first statement at fault: where it stands; its label, or - where it has none; the code of
-      the rule that it breaks, which `mm explain RULE` explains; and the step of its proof, from 1,
-      or 0 where no step is at fault. Status 1.
+      The first statement at fault: the file and the line on which it begins, or for a code X or S
+      those of the token at fault; its label, or - where it has none; the code of the rule that it
+      breaks, which `mm explain RULE` explains; and the step of its proof, from 1, or 0 where no
+      step is at fault. Status 1.
   limit FILE LINE LABEL L1 STEP
       A step of a proof made an expression of more than 1,048,576 symbols, with --strict of
       more than 16,777,216. Status 4.
