@@ -4,7 +4,7 @@ use Rattle.mm_text.proofs.Lists.{one_there}
 use Rattle.mm_frame.specs.Numbers.{symbols_of}
 use Rattle.mm_frame.specs.Laws.{OneNumber, OneLabelNumber, OneFrame}
 use Rattle.mm_frame.proofs.Numbered.{symbols_unique, symbols_grow, number_from_declared, declared_from_number}
-use Rattle.mm_frame.proofs.Labelled.{numbered_at, numbered_unique, numbered_grow}
+use Rattle.mm_frame.proofs.Labelled.{numbered_at, numbered_get, numbered_from_get, numbered_unique, numbered_grow}
 use Rattle.mm_frame.proofs.Those.{mandatory_unique}
 
 pub one_number_holds : OneNumber
@@ -21,6 +21,7 @@ one_label_number_holds st more p s = (
   (λ m n one other. sym one.number ∙ other.number),
   (λ q n t one other. numbered_unique st n p q s t one other),
   (λ n one. numbered_grow st more n p s one),
+  (λ n. ((λ there. numbered_from_get st n s there), (λ (q, is). numbered_get st n q s is))),
 )
 
 pub one_frame_holds : OneFrame

@@ -5,7 +5,7 @@ use Rattle.mm_text.specs.declared.statement.Kind.TheVariants.{Opening, Closing}
 use Rattle.mm_frame.specs.Sentence.{Sentence}
 use Rattle.mm_frame.specs.Active.{IsConstant, IsVariable, IsOpen, IsActive, open_marks, close_marks}
 use Rattle.mm_frame.specs.Frame.{AreMandatory}
-use Rattle.mm_frame.specs.Numbers.{IsNumberOf, IsNumbered}
+use Rattle.mm_frame.specs.Numbers.{labelled_sentences, IsNumberOf, IsNumbered}
 
 -- Exactly the declared symbols have numbers; a symbol has one number, and a number one symbol; and
 -- it stays so.
@@ -17,8 +17,8 @@ OneNumber =
     × ((y : List ℕ) (n : ℕ) → IsNumberOf statements x n → IsNumberOf statements y n → x ≡ y)
     × ((n : ℕ) → IsNumberOf statements x n → IsNumberOf (statements ++ more) x n)
 
--- A labelled statement has a number, and one only; a number is that of one statement; and it stays
--- so.
+-- A labelled statement has a number, and one only; a number is that of one statement; it stays so;
+-- and the number is the statement's place among the labelled ones.
 abbrev pub OneLabelNumber : Type 0
 OneLabelNumber =
     (statements more : List Sentence) (p : ℕ) (s : Sentence)
@@ -28,6 +28,8 @@ OneLabelNumber =
     × ((q n : ℕ) (t : Sentence) → IsNumbered statements n p s → IsNumbered statements n q t
     → (p ≡ q) × (s ≡ t))
     × ((n : ℕ) → IsNumbered statements n p s → IsNumbered (statements ++ more) n p s)
+    × ((n : ℕ) → (slice_get (labelled_sentences statements) n ≡ Some s)
+    ↔ ((q : ℕ) × IsNumbered statements n q s))
 
 -- the innermost open block
 pub record IsInnermostOpen (statements : List Sentence) (place : ℕ) : Type 0 where

@@ -14,7 +14,8 @@ pub fn one_number()
 /// A label's number is its own, and stays.
 ///
 /// Exactly the labelled statements have numbers. None has two, and no number is that of two
-/// statements. A number stays what it is as statements are added.
+/// statements. A number stays what it is as statements are added. The number is the statement's
+/// place among the labelled ones.
 pub fn one_label_number()
     ensures { OneLabelNumber }
 {}
