@@ -181,7 +181,11 @@ impl<'a> Book<'a> {
         requires { symbol.0 < length (symbols_of self.now.statements) }
         ensures { IsNumberOf self.now.statements result.now symbol.0 }
     {
-        self.tables.symbols.name(symbol.0).unwrap_or(&[])
+        match self.tables.symbols.name(symbol.0) {
+            Some(name) => name,
+            // Each number below the count of symbols has a name.
+            None => unreachable!(),
+        }
     }
 
     /// Whether a symbol is a variable.
