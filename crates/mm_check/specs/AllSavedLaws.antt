@@ -76,7 +76,8 @@ IsLabelInFile statements number label =
     (s : PlainStatement) × Contains (theorems_of number statements) s
     × IsLabelled label (sentence_of s)
 
--- Saving each of them, one after the other in any order, gives these bytes.
+-- Saving each of them, one after the other in any order in which each is answered, gives these
+-- bytes.
 abbrev pub SavingInTurnIsSavingAll : Type 0
 SavingInTurnIsSavingAll =
     (profile : Profile) (form : Form) (files : List PlainFile) (statements : List PlainStatement)

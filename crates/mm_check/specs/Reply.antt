@@ -173,7 +173,8 @@ text_status L1 = 4
 text_status F3 = 4
 text_status rule = 1
 
--- the text and the status where a question about a label has no answer
+-- the text and the status where a question about a label has no answer, or a file with this name in
+-- the place of the label isn't written anew
 abbrev pub IsAskReply : AskFault → List ℕ → List ℕ → ℕ → Type 0
 IsAskReply ask.A1 label text status =
     (text ≡ line_with (codes "ask") (codes "A1" ∷ label ∷ [])) × (status ≡ 1)

@@ -1,4 +1,4 @@
-//! Why a question about a theorem has no answer.
+//! Why a question about a theorem has no answer, or a file isn't written anew.
 
 ghost use Rattle.std.specs.Prelude.{◌≡◌};
 ghost use Rattle.mm_check.specs.declared.ask.AskFault.TheVariants.{Memory};
@@ -8,7 +8,8 @@ use mm_proof::ProofFault;
 use std::alloc::{AllocError, AllocFailed};
 use thiserror::Error;
 
-/// Why a question about a theorem has no answer. They are judged in this order.
+/// Why a question about a theorem has no answer, or a file isn't written anew. They are judged in
+/// this order.
 #[derive(Clone, Copy, PartialEq, Eq, Debug, Error)]
 pub enum AskFault {
     /// No statement has the label.
@@ -23,7 +24,8 @@ pub enum AskFault {
     /// The normal proof of the `$p` has over 16,777,216 labels.
     #[error("the normal proof has too many labels")]
     L2,
-    /// With the proof written anew in its file, the files would have over 1,073,741,824 bytes.
+    /// With the proof, or all proofs, written anew in their file, the files would have over
+    /// 1,073,741,824 bytes.
     #[error("the files would have too many bytes")]
     F3,
     /// A proof's text that is handed in breaks this rule, at this step.

@@ -30,14 +30,15 @@ pub enum Command<'a> {
     Axioms { label: &'a [u8] },
     /// How the theorem with this label is proved, step by step.
     Show { label: &'a [u8] },
-    /// The normal proof of the theorem with this label; of its whole file the bytes, with this proof
-    /// in place of its own, if `whole`.
+    /// The normal proof of the theorem with this label; of its whole file the bytes, with this
+    /// proof in place of its own, if `whole`.
     Normal { label: &'a [u8], whole: bool },
     /// The fully shared proof of the theorem with this label, or its whole file with this proof.
     Packed { label: &'a [u8], whole: bool },
     /// Whether this text is the same proof as that of the theorem with this label.
     Same { label: &'a [u8], text: &'a [u8] },
-    /// The bytes of the handed file with this number, with each complete proof in this form.
+    /// The bytes of the handed file with this number, which is that of one of them, with each
+    /// complete proof in this form.
     All { form: Form, file: usize },
 }
 

@@ -20,9 +20,9 @@ pub fn some_verdict()
     ensures { SomeVerdict }
 {}
 
-/// Files that are accepted under one profile are accepted under the other, with the same numbers of
-/// statements and of proofs, or refused by a rule that is the other's own: under the strict profile
-/// `P15`, the form of a proof; under the lenient one `L1`, the length of an expression.
+/// Files that get yes under one profile get yes under the other, with the same numbers of
+/// statements and of proofs, or are refused by a rule that is the other's own: under the strict
+/// profile `P15`, the form of a proof; under the lenient one `L1`, the length of an expression.
 pub fn between_profiles()
     ensures { BetweenProfiles }
 {}
@@ -41,15 +41,15 @@ pub fn alike_files_have_one_reply()
     ensures { AlikeFilesHaveOneReply }
 {}
 
-/// Two proofs of a statement are the same, in that they make one tree, exactly if the texts of their
-/// packed proofs are equal. This holds in files in which nothing is at fault.
+/// Two proofs of a statement are the same, in that they make one tree, exactly if the texts of
+/// their packed proofs are equal. This holds in files in which nothing is at fault.
 pub fn packed_texts_tell()
     ensures { PackedTextsTell }
 {}
 
 /// Saving changes nothing that is answered: with the new bytes in place of the old, the files have
-/// the same verdict, each complete proof has the same tree, and each theorem rests on the same axioms
-/// and unproved theorems.
+/// the same verdict, each complete proof has the same tree, and each theorem rests on the same
+/// axioms and unproved theorems.
 pub fn saving_changes_no_answer()
     ensures { SavingChangesNoAnswer }
 {}
@@ -65,8 +65,8 @@ pub fn one_saved()
     ensures { OneSaved }
 {}
 
-/// Where a theorem can be saved, no fault is told of it but F3, exactly if the files would have too
-/// many bytes, and want of memory.
+/// Where the new bytes of a theorem's file are defined, no fault is told of it but want of memory,
+/// and F3 only if the files would have too many bytes.
 pub fn one_save_answer()
     ensures { OneSaveAnswer }
 {}
@@ -100,7 +100,8 @@ pub fn saving_all_again_changes_nothing()
 {}
 
 /// Saving the complete theorems of a file one after the other, in any order, each over the files
-/// with the bytes before in their place, gives the bytes that saving all of them at once gives.
+/// with the bytes before in their place, gives the bytes that saving all of them at once gives,
+/// where each of these savings is answered.
 pub fn saving_in_turn_is_saving_all()
     ensures { SavingInTurnIsSavingAll }
 {}

@@ -14,15 +14,15 @@ use crate::verdict::check;
 use mm_text::{File, Seed};
 use std::alloc::Global;
 
-/// The number of the file in which the `$p` with a label stands, and the bytes of that file with the
-/// proof of the `$p` written in a form, in lines: they stand after a line feed, in place of the bytes
-/// between its `$=` and its `$.`. All other bytes are kept.
+/// The number of the file in which the `$p` with a label stands, and the bytes of that file with
+/// the proof of the `$p` written in a form, in lines: they stand after a line feed, in place of the
+/// bytes between its `$=` and its `$.`. All other bytes are kept.
 ///
 /// # Errors
 ///
-/// `Check` where the files aren't accepted. Else `Ask`, with what `Checked::normal` or
-/// `Checked::packed` answers, and with `F3` where that would be no refusal and the files would have
-/// over 1,073,741,824 bytes in all.
+/// `Check`, with what `check` answers, where it doesn't accept the files. Else `Ask`, with what
+/// `Checked::normal` or `Checked::packed` answers, and with `F3` where that would be no refusal and
+/// the files would have over 1,073,741,824 bytes in all.
 pub fn saved<'a>(
     alloc: Global,
     seed: Seed,
@@ -54,10 +54,11 @@ pub fn saved<'a>(
 ///
 /// # Errors
 ///
-/// `Check` where the files aren't accepted. Else, with `Form::Normal`, `TooLong` with the label of the
-/// first theorem of the file, in database order, whose normal proof has over 16,777,216 labels; else
-/// `Ask(F3)` where the files would have over 1,073,741,824 bytes in all. `Ask(Memory)` where a growth
-/// was refused.
+/// `Check`, with what `check` answers, where it doesn't accept the files. Else, with
+/// `Form::Normal`, `TooLong` with the label of the first theorem of the file, in database order,
+/// whose normal proof has over 16,777,216 labels; else `Ask(F3)` where the files would have over
+/// 1,073,741,824 bytes in all. `Ask(Memory)` where a growth was refused after the files were
+/// checked.
 pub fn saved_all<'a>(
     alloc: Global,
     seed: Seed,

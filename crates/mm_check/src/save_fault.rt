@@ -18,8 +18,8 @@ pub enum SaveFault<'a> {
     /// The question about the theorem has no answer.
     #[error("{0}")]
     Ask(AskFault),
-    /// Of a whole file that is saved: the normal proof of the `$p` with this label, which is the
-    /// first one, has over 16,777,216 labels.
+    /// Where all proofs of a file are saved: the normal proof of the theorem with this label has
+    /// over 16,777,216 labels. It is the first such theorem of the file, in database order.
     #[error("a normal proof has too many labels")]
     TooLong { label: &'a [u8] },
 }

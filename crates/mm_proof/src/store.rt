@@ -13,8 +13,7 @@ pub trait Store {
     ghost use Rattle.std.specs.Prelude.{◌^◌, take, drop, slice_get, OnOk, OnErr, Some};
     ghost use Rattle.std.specs.Prelude.{IfOk, MatchBool};
     ghost use Rattle.std.specs.List.{AllByRecursion};
-    ghost use Rattle.mm_proof.specs.Stores.{numbers_in};
-    ghost use Rattle.mm_proof.specs.Mirror.CodeVerify.{all_said_by, IsWithinPlaces};
+    ghost use Rattle.mm_proof.specs.Stores.{numbers_in, all_said_by, IsWithinPlaces};
 
     /// The expressions on the stack, the topmost one last.
     ghost stack: { Self → List (List ℕ) };

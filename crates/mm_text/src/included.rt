@@ -53,13 +53,12 @@ fn unmet(alloc: Global, met: &[bool]) -> Result<Vec<usize>, AllocError>
     (0..met.len()).filter(|number| !met[*number]).collect(alloc)
 }
 
-/// The numbers of the handed files that nothing includes, in rising order; nothing where the files
-/// can't be taken as a whole.
+/// The numbers of the handed files that nothing includes up to the first fault of the rules X1 to
+/// X5, X7 and X9, in rising order; nothing where the files can't be taken as a whole.
 ///
-/// A file is included where its name stands between a `$[` and a `$]` in a file that is read, and
-/// before the first fault of the rules X1 to X5, X7 and X9. The first file is the top file, which
-/// is read in any case. Memory is wanted for what the reader keeps, a flag for each file, and the
-/// list.
+/// A file is included where its name stands between a `$[` and a `$]` in a file that is read.
+/// Faults of statements and proofs are passed over. The first file is the top file, which is read
+/// in any case. Memory is wanted for what the reader keeps, a flag for each file, and the list.
 pub fn left_out(alloc: Global, seed: Seed, files: &[File]) -> Result<Vec<usize>, AllocError>
     ensures whole { ((rule : LoadRule) → ¬ (BreaksLoad (map plain_file files.now) rule))
         → IfOk result (λ numbers. numbers.items ≡ left_out (map plain_file files.now)) }

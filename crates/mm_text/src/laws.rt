@@ -59,7 +59,7 @@ pub fn files_are_put_in_once()
 {}
 
 /// The definition of the items puts in so many files as there are beside the top file. That more
-/// could be put in would change nothing, so no file that is named is left out.
+/// could be put in would change nothing, so this bound keeps no file out.
 pub fn inclusions_end()
     ensures { InclusionsEnd }
 {}
@@ -106,8 +106,8 @@ pub fn proofs_stand_in_spans()
     ensures { ProofsStandInSpans }
 {}
 
-/// In one file proofs stand in the order of their statements, apart from each other: the proof of a
-/// later `$p` stands behind that of an earlier one.
+/// In one file proofs stand in the order of their statements, without overlap: the proof of a later
+/// `$p` stands behind that of an earlier one.
 pub fn proof_spans_follow()
     ensures { ProofSpansFollow }
 {}

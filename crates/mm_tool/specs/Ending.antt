@@ -257,7 +257,8 @@ abbrev pub TellsNotes : {E : Type 0} → (E → Option (List ℕ)) → List ℕ 
 TellsNotes contents [] old new = IsUntouched old new
 TellsNotes contents (byte ∷ bytes) old new = TellsLine contents (byte ∷ bytes) old new
 
--- The words were answered, with this status, and standard error was told the notes.
+-- The words were answered, with this status, and standard error was told the notes, or a beginning
+-- of them where it failed.
 pub record EndsAnswered {O E : Type 0} (contents : O → Option (List ℕ)) (said : E → Option (List ℕ))
     (holds : List ℕ → KnownFile) (texts : Texts) (max : ℕ)
     (words : List Text) (status : ℕ) (out out' : Counted O) (err err' : Counted E) : Type 0 where

@@ -242,7 +242,8 @@ abbrev pub number_among : List Text → (name : Text) → Option ℕ
 number_among names name = position (λ other. bytes_eq other name) names
 
 -- They ask, by the command of the form and `--all`, for the file with this number among those with
--- these names, with each proof in that form: the first one whose name is the word before them.
+-- these names, with each proof in that form: the first one whose name is the word in the place of
+-- the label.
 abbrev pub AsksAll : List Text → Form → (number : ℕ) → List Text → Type 0
 AsksAll words form number names =
     (rows : List Row) × Commands words (name_of_form form) rows
@@ -268,8 +269,8 @@ AsksSame words label proof names =
     × (unwrap_or (first_of (codes "PROOF") rows) [] ≡ proof)
     × (unwrap_or (all_of (codes "FILES") rows) [] ≡ names)
 
--- They ask to run this command over the files with these names. A command that has the bytes of a
--- further file is no words' own.
+-- They ask to run this command over the files with these names. No words alone ask to compare a
+-- text: it stands in a further file, which `AsksSame` names.
 abbrev pub AsksRun : List Text → Command → List Text → Type 0
 AsksRun words (Check profile) names = AsksCheck words profile names
 AsksRun words (Axioms label) names = AsksQuestion (codes "axioms") words label.now names
