@@ -141,22 +141,42 @@ close_grows t v s bytes tables adds left is unlabelled bare more some room meant
     let e = essentials_closing (statements_of t) v.essentials.items left.gone s before is left.inactive left.last_active in
     block_grows t v s Closing bytes tables adds is unlabelled bare (rw is refl) (λ k. absurd (cc)) (λ k. absurd (cc)) (λ k. more) e some room meant formed
 
--- the active `$e` after a `$}`
-pub closing_left : (t w : Tables) (s : Sentence) (bytes at : ℕ) (after : List ℕ) → AreTables t → AddsBlock t w Closing bytes → w.essentials.items ≡ t.essentials.items → s.kind ≡ Closing
+-- the places of the `$e` that were active lie before the place after a `$}`
+pub closing_ready : (t u w : Tables) (start bytes at : ℕ) → AreTables t → SameLists t u
+    → Entered u w Closing None start bytes
     → close_marks (statements_of t) < open_marks (statements_of t) → at ≡ length w.log.items
-    → ((statements : List Sentence) → HaveScopes statements w.scopes → length statements ≤ NEVER → at ≡ length statements
-    → ((i p : ℕ) → slice_get w.essentials.items i ≡ Some p → p < at) → AreForgotten statements w.essentials.items after)
+    → (at ≡ length w.scopes.blocks.items)
+    × ((i p : ℕ) → slice_get w.essentials.items i ≡ Some p → p < at)
+closing_ready t u w start bytes at tables same e more ends =
+    let st = statements_of t in
+    let s = said_of Closing None [] in
+    let size = length-sentences t.symbols.names t.labels.names t.flat.items t.log.items in
+    let longer = length_pushed st s in
+    let log : length w.log.items ≡ suc (length t.log.items) =
+    ap length e.log ∙ length_pushed u.log.items _ ∙ ap (λ ys. suc (length ys)) same.log in
+    let scopes = e.scopes st s (same_scopes t u st same tables.scopes) refl (λ k. more) in
+    let kept = e.essentials ∙ same.essentials in (
+      omega (arith, scopes.held),
+      λ i p there.
+          let (d, place, kind, active) = tables.essentials.only i p
+          (subst (λ ys. slice_get ys i ≡ Some p) kept there) in
+          let lt = slice_get_within st p d place in
+          omega arith,
+    )
+
+-- the active `$e` after a `$}`
+pub closing_left : (t w : Tables) (s : Sentence) (bytes : ℕ) (after : List ℕ) → AreTables t
+    → AddsBlock t w Closing bytes → w.essentials.items ≡ t.essentials.items → s.kind ≡ Closing
+    → close_marks (statements_of t) < open_marks (statements_of t)
+    → ((statements : List Sentence) → HaveScopes statements w.scopes → length statements ≤ NEVER
+    → AreForgotten statements w.essentials.items after)
     → AreForgotten (statements_of t ++ s ∷ []) t.essentials.items after
-closing_left t w s bytes at after tables adds same is more ends forget =
+closing_left t w s bytes after tables adds same is more forget =
     let st = statements_of t in
     let size = length-sentences t.symbols.names t.labels.names t.flat.items t.log.items in
     let longer = length_pushed st s in
-    let log : length w.log.items ≡ suc (length t.log.items) = ap length adds.log ∙ length_pushed t.log.items _ in
     let counted = tables.counted in
     let few = tables.small in
     let small : length (st ++ s ∷ []) ≤ NEVER = omega arith in
-    let all : at ≡ length (st ++ s ∷ []) = omega arith in
-    let within : (i p : ℕ) → slice_get w.essentials.items i ≡ Some p → p < at = λ i p there.
-    let (e, place, kind, active) = tables.essentials.only i p (subst (λ ys. slice_get ys i ≡ Some p) same there) in
-    let lt = slice_get_within st p e place in omega arith in
-    subst (λ ys. AreForgotten (st ++ s ∷ []) ys after) same (forget (st ++ s ∷ []) (adds.scopes st s tables.scopes is (λ k. more)) small all within)
+    subst (λ ys. AreForgotten (st ++ s ∷ []) ys after) same
+    (forget (st ++ s ∷ []) (adds.scopes st s tables.scopes is (λ k. more)) small)

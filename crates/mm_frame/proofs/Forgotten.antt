@@ -43,9 +43,11 @@ pub forgotten_last : (st : List Sentence) (before after : List ℕ) → AreDropp
 forgotten_last st before after dropped last = record { gone = dropped.gone; parted = dropped.parted; inactive = dropped.inactive; last_active = last }
 
 -- what is left lies within what was there
-pub left_within : (st : List Sentence) (before after : List ℕ) (n : ℕ) → AreDropped st before after → ((i p : ℕ) → slice_get before i ≡ Some p → p < n)
+pub left_within : (before after gone : List ℕ) (n : ℕ) → before ≡ after ++ gone
+    → ((i p : ℕ) → slice_get before i ≡ Some p → p < n)
     → (i p : ℕ) → slice_get after i ≡ Some p → p < n
-left_within st before after n dropped within i p there = within i p (subst (λ ys. slice_get ys i ≡ Some p) (sym dropped.parted) (get_kept after dropped.gone i p there))
+left_within before after gone n parted within i p there =
+    within i p (subst (λ ys. slice_get ys i ≡ Some p) (sym parted) (get_kept after gone i p there))
 
 pub popped_size : (mid after : List ℕ) (popped : Option ℕ) → mid ≡ after ++ option_to_list popped → IsSome popped → length mid ≡ suc (length after)
 popped_size mid after None parted some = absurd (cc some)

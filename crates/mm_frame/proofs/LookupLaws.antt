@@ -143,18 +143,20 @@ constant_says st x info r meant k is = by info.variable r (has_constant st x inf
     by (Some p) true h e = absurd (cc)
     by (Some p) false h e = ((λ t. absurd (cc t)), (λ c. absurd (h c)))
 
--- a known variable's `$v`, or `$f`, stands among the statements
-pub variable_says : (st : List Sentence) (x : List ℕ) (info : SymbolInfo) (p : ℕ) (r : Bool) → AllMeant st → IsKnown st x info → info.variable ≡ Some p → (p < length st → IsTrue r ↔ IsActive st p)
+-- whether the latest `$v`, or `$f`, of a known variable is active says whether any is
+pub variable_says : (st : List Sentence) (x : List ℕ) (info : SymbolInfo) (p : ℕ) (r : Bool)
+    → AllMeant st → IsKnown st x info → info.variable ≡ Some p → (IsTrue r ↔ IsActive st p)
     → IsTrue r ↔ SomeActive st (Declares Variables x)
 variable_says st x info p r meant k is h =
     let latest : IsLatest (Declares Variables x) st p = rw is at k.known.variable in
-    both_ways (h (place_within st p latest.statement latest.there)) (turned (latest_variable st x p meant latest))
+    both_ways h (turned (latest_variable st x p meant latest))
 
-pub typed_says : (st : List Sentence) (x : List ℕ) (info : SymbolInfo) (p : ℕ) (r : Bool) → AllMeant st → IsKnown st x info → info.floating ≡ Some p → (p < length st → IsTrue r ↔ IsActive st p)
+pub typed_says : (st : List Sentence) (x : List ℕ) (info : SymbolInfo) (p : ℕ) (r : Bool)
+    → AllMeant st → IsKnown st x info → info.floating ≡ Some p → (IsTrue r ↔ IsActive st p)
     → IsTrue r ↔ IsTyped st x
 typed_says st x info p r meant k is h =
     let latest : IsLatest (GivesType x) st p = rw is at k.known.floating in
-    both_ways (h (place_within st p latest.statement latest.there)) (turned (latest_typed st x p meant latest))
+    both_ways h (turned (latest_typed st x p meant latest))
 
 -- the latest `$f` of a known variable
 pub known_latest : (st : List Sentence) (x : List ℕ) (info : SymbolInfo) (p : ℕ) → IsKnown st x info → info.floating ≡ Some p → IsLatest (GivesType x) st p

@@ -1,5 +1,5 @@
 -- The mandatory distinct pairs of an assertion, as they are found among its mandatory variables.
-use Rattle.std.proofs.Common.{◌≡◌, ◌↔◌, ℕ, zero, suc, ◌+◌, ◌<◌, ◌≤◌, inl, inr, Bool, true, false, IsTrue, length, take, get_or, List, [], ◌∷◌, ◌++◌, map, Contains, Option, Some, None, refl, sym, ap, ◌∙◌, subst, arith}
+use Rattle.std.proofs.Common.{◌≡◌, ◌↔◌, ℕ, zero, suc, ◌+◌, ◌<◌, inl, inr, Bool, true, false, IsTrue, length, take, get_or, List, [], ◌∷◌, ◌++◌, map, Contains, Option, Some, None, refl, sym, ap, ◌∙◌, subst, arith}
 use Rattle.std.specs.List.{slice_get}
 use Rattle.std.specs.Option.{MatchOption, option_map}
 use Rattle.std.proofs.lemmas.Option.{slice_get_within, slice_get-get_or, slice_get-map, slice_get_read, get_or_from_slice_get}
@@ -327,7 +327,9 @@ pairs_from_found st s more places variables n pairs meant last stated are vars s
 
 -- what the test whether two variables are distinct tells
 abbrev pub TellsDistinct : List Sentence → ℕ → Sym → Sym → Bool → Type 0
-TellsDistinct st n a b r = (x y : List ℕ) → IsNumberOf st x a.0 → IsNumberOf st y b.0 → n ≤ length st → IsTrue r ↔ IsDistinct (take n st) x y
+TellsDistinct st n a b r =
+    (x y : List ℕ) → IsNumberOf st x a.0 → IsNumberOf st y b.0
+    → IsTrue r ↔ IsDistinct (take n st) x y
 
 pub pairs_step : (st : List Sentence) (places : List ℕ) (variables others : List Sym) (b : Sym) (i n : ℕ) (d : Sym) (r : Bool) (pairs : List (Sym × Sym)) → AreVariables st places variables → others ≡ take (length others) variables
     → slice_get variables (length others) ≡ Some b → i < length others → n ≡ length st → TellsDistinct st n (get_or others i d) b r → AreFound st variables (length others) i pairs
@@ -338,7 +340,7 @@ pairs_step st places variables others b i n d r pairs are same at_b lt all tells
     let a_is = are.only i a at_a in
     let b_is = are.only (length others) b at_b in
     let whole : take n st ≡ st = ap (λ m. take m st) all ∙ take-length st in
-    let tell = tells a_is.variable b_is.variable a_is.number b_is.number (omega arith) in (
+    let tell = tells a_is.variable b_is.variable a_is.number b_is.number in (
       (λ is. found_more st places variables (length others) i a b pairs are at_a at_b lt
           (a_is.variable, b_is.variable, a_is.number, b_is.number, subst (λ ys. IsDistinct ys a_is.variable b_is.variable) whole (tell.0 is)) found),
       (λ is. found_passed st variables (length others) i a b pairs at_a at_b (λ (x, y, at_x, at_y, distinct).

@@ -39,13 +39,6 @@ no_end never st blocks ends stack p b there none a =
     let within = scope_block_within never st blocks ends stack a p b there in
     let (c, end) = get_within ends b within in cc
 
--- each statement has a block
-pub no_block : (never : ℕ) (st : List Sentence) (blocks ends stack : List ℕ) (p q : ℕ)
-    → slice_get blocks p ≡ None
-    → AreScopes never st blocks ends stack → p < q → q ≤ length st → ⊥
-no_block never st blocks ends stack p q none a lt le =
-    let (b, there) = get_within blocks p (let e = a.held in omega (arith, e)) in cc
-
 not_opening : (kind : Kind) → ¬ (kind ≡ Opening) → is_opening kind ≡ false
 not_opening Opening apart = absurd (apart refl)
 not_opening Constants apart = refl

@@ -131,15 +131,20 @@ paired_push st members i j a b pairs less at_j at_i fresh are = record {
         again u v (lt, inr (is, early)) e f = omega arith
 
 -- the test says that two symbols are distinct already
-pub is_old : (st : List Sentence) (a b n : ℕ) (r : Bool) → n ≡ length st → ((x y : List ℕ) → IsNumberOf st x a → IsNumberOf st y b → n ≤ length st → (IsTrue r ↔ IsDistinct (take n st) x y)) → r ≡ true → IsOld st a b
+pub is_old : (st : List Sentence) (a b n : ℕ) (r : Bool) → n ≡ length st
+    → ((x y : List ℕ) → IsNumberOf st x a → IsNumberOf st y b
+    → (IsTrue r ↔ IsDistinct (take n st) x y)) → r ≡ true → IsOld st a b
 is_old st a b n r all says holds x y at_x at_y =
     let whole : take n st ≡ st = ap (λ m. take m st) all ∙ take-length st in
-    subst (λ ys. IsDistinct ys x y) whole ((says x y at_x at_y (omega arith)).0 holds)
+    subst (λ ys. IsDistinct ys x y) whole ((says x y at_x at_y).0 holds)
 
-pub is_fresh : (st : List Sentence) (a b n : ℕ) (r : Bool) → n ≡ length st → ((x y : List ℕ) → IsNumberOf st x a → IsNumberOf st y b → n ≤ length st → (IsTrue r ↔ IsDistinct (take n st) x y)) → r ≡ false → IsFresh st a b
+pub is_fresh : (st : List Sentence) (a b n : ℕ) (r : Bool) → n ≡ length st
+    → ((x y : List ℕ) → IsNumberOf st x a → IsNumberOf st y b
+    → (IsTrue r ↔ IsDistinct (take n st) x y)) → r ≡ false → IsFresh st a b
 is_fresh st a b n r all says fails x y at_x at_y distinct =
     let whole : take n st ≡ st = ap (λ m. take m st) all ∙ take-length st in
-    let holds : r ≡ true = (says x y at_x at_y (omega arith)).1 (subst (λ ys. IsDistinct ys x y) (sym whole) distinct) in
+    let holds : r ≡ true = (says x y at_x at_y).1
+    (subst (λ ys. IsDistinct ys x y) (sym whole) distinct) in
     absurd (cc)
 
 -- the name of a member with one of some numbers, and the number of a symbol

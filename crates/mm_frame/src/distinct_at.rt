@@ -16,9 +16,10 @@ use crate::wide::{WideDistinct, are_among};
 impl<'a> Tables<'a> {
     // Whether the latest `$d` before a place that states a pair is active there.
     fn is_stated(&self, pair: (u32, u32), at: usize) -> bool
-        requires { AreTables self.now }
-        ensures { at ≤ length (statements_of self.now) → (IsTrue result
-            ↔ HasSpan (statements_of self.now) self.now.distinct.stated.pairs pair at) }
+        requires tables { AreTables self.now }
+        requires within { at ≤ length (statements_of self.now) }
+        ensures { IsTrue result
+            ↔ HasSpan (statements_of self.now) self.now.distinct.stated.pairs pair at }
     {
         match self.distinct.latest(pair, at) {
             Some(place) => self.scopes.is_active(place, at),
@@ -30,8 +31,8 @@ impl<'a> Tables<'a> {
     fn holds(&self, wide: &WideDistinct, a: Sym, b: Sym, at: usize) -> bool
         requires tables { AreTables self.now }
         requires sorted { IsNonDecreasing wide.now.members.items }
-        ensures { at ≤ length (statements_of self.now) → (IsTrue result
-            ↔ HoldsPair (statements_of self.now) at a.0 b.0 wide.now) }
+        requires within { at ≤ length (statements_of self.now) }
+        ensures { IsTrue result ↔ HoldsPair (statements_of self.now) at a.0 b.0 wide.now }
     {
         if wide.place >= at {
             return false;
@@ -45,9 +46,10 @@ impl<'a> Tables<'a> {
     // Whether some `$d` of many variables is active at a place and holds two symbols. There is
     // hardly ever one.
     fn is_held(&self, a: Sym, b: Sym, at: usize) -> bool
-        requires { AreTables self.now }
-        ensures { at ≤ length (statements_of self.now) → (IsTrue result
-            ↔ IsHeld (statements_of self.now) self.now.distinct.stated.wide at a.0 b.0) }
+        requires tables { AreTables self.now }
+        requires within { at ≤ length (statements_of self.now) }
+        ensures { IsTrue result
+            ↔ IsHeld (statements_of self.now) self.now.distinct.stated.wide at a.0 b.0 }
     {
         let wide = self.distinct.wide();
         let mut left = wide.len();
@@ -70,9 +72,10 @@ impl<'a> Tables<'a> {
 
     /// Whether two symbols are a distinct pair after the statements before a place.
     pub(crate) fn is_distinct(&self, a: Sym, b: Sym, at: usize) -> bool
-        requires { AreTables self.now }
+        requires tables { AreTables self.now }
+        requires within { at ≤ length (statements_of self.now) }
         ensures { (x y : List ℕ) → IsNumberOf (statements_of self.now) x a.0
-            → IsNumberOf (statements_of self.now) y b.0 → at ≤ length (statements_of self.now)
+            → IsNumberOf (statements_of self.now) y b.0
             → (IsTrue result ↔ IsDistinct (take at (statements_of self.now)) x y) }
     {
         if a.0 == b.0 {

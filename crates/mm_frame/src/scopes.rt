@@ -44,9 +44,11 @@ impl Scopes {
 
     /// Whether the statement at a place is active after the statements before another.
     pub(crate) fn is_active(&self, place: usize, at: usize) -> bool
-        requires { (statements : List Sentence) × HaveScopes statements self.now }
+        requires scopes { (statements : List Sentence) × HaveScopes statements self.now }
+        requires place { place < at }
+        requires within { at ≤ length self.now.blocks.items }
         ensures { (statements : List Sentence) → HaveScopes statements self.now
-            → length statements ≤ NEVER → place < at → at ≤ length statements
+            → length statements ≤ NEVER
             → (IsTrue result ↔ IsActive (take at statements) place) }
     {
         match at_place(&self.blocks, place) {
@@ -55,16 +57,18 @@ impl Scopes {
                 // Each block has an entry for its end.
                 None => unreachable!(),
             },
-            None => false,
+            // Each statement has a block.
+            None => unreachable!(),
         }
     }
 
     /// How many blocks are open.
     pub(crate) fn depth(&self) -> usize
+        requires { (statements : List Sentence) × HaveScopes statements self.now }
         ensures { (statements : List Sentence) → HaveScopes statements self.now
             → result ≡ open_marks statements - close_marks statements }
     {
-        self.open.len().saturating_sub(1)
+        self.open.len() - 1
     }
 
     /// Whether a block is open.

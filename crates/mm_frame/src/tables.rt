@@ -219,9 +219,9 @@ impl<'a> Tables<'a> {
 
     /// Whether the statement at a place is active now.
     pub(crate) fn is_active_now(&self, place: usize) -> bool
-        requires { AreTables self.now }
-        ensures { place < length (statements_of self.now)
-            → (IsTrue result ↔ IsActive (statements_of self.now) place) }
+        requires tables { AreTables self.now }
+        requires place { place < length (statements_of self.now) }
+        ensures { IsTrue result ↔ IsActive (statements_of self.now) place }
     {
         self.scopes.is_active(place, self.log.len())
     }

@@ -198,10 +198,12 @@ impl<'a> Tables<'a> {
 
 // Whether the last of some places is active, if there is one.
 fn is_last_active(places: &[usize], scopes: &Scopes, at: usize) -> bool
-    requires { (statements : List Sentence) × HaveScopes statements scopes.now }
+    requires scopes { (statements : List Sentence) × HaveScopes statements scopes.now }
+    requires all { at ≡ length scopes.now.blocks.items }
+    requires within { (i p : ℕ) → slice_get places.now i ≡ Some p → p < at }
     ensures { (statements : List Sentence) (k p : ℕ) → HaveScopes statements scopes.now
-        → length statements ≤ NEVER → at ≡ length statements → length places.now ≡ suc k
-        → slice_get places.now k ≡ Some p → p < at → (IsTrue result ↔ IsActive statements p) }
+        → length statements ≤ NEVER → length places.now ≡ suc k
+        → slice_get places.now k ≡ Some p → (IsTrue result ↔ IsActive statements p) }
 {
     match places.last() {
         Some(place) => scopes.is_active(*place, at),
@@ -211,10 +213,11 @@ fn is_last_active(places: &[usize], scopes: &Scopes, at: usize) -> bool
 
 // Drops the places at the end of their list that aren't active.
 fn forget_inactive(places: &mut Vec<usize>, scopes: &Scopes, at: usize)
-    requires { (statements : List Sentence) × HaveScopes statements scopes.now }
+    requires scopes { (statements : List Sentence) × HaveScopes statements scopes.now }
+    requires all { at ≡ length scopes.now.blocks.items }
+    requires within { (i p : ℕ) → slice_get places.old.items i ≡ Some p → p < at }
     ensures { (statements : List Sentence) → HaveScopes statements scopes.now
-        → length statements ≤ NEVER → at ≡ length statements
-        → ((i p : ℕ) → slice_get places.old.items i ≡ Some p → p < at)
+        → length statements ≤ NEVER
         → AreForgotten statements places.old.items places.new.items }
 {
     for _ in 0..places.len() {

@@ -29,3 +29,9 @@ returns c places variables are same at_b first =
     let all : c.loop-other.other-index ≡ length others = omega (arith, c.loop-other.auto.other-index-end) in
     found_next st variables (length others) c.loop-other.pairs.items
     (subst (λ (n : ℕ). AreFound st variables (length others) n c.loop-other.pairs.items) all (c.loop-other.invariant places variables are same at_b first))
+
+pub is_distinct-requires-clause-within : goal.is_distinct-requires-clause-within
+is_distinct-requires-clause-within c =
+    let t = c.args.tables.now in
+    let size = length-sentences t.symbols.names t.labels.names t.flat.items t.log.items in
+    omega (arith, size)

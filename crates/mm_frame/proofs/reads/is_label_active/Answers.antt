@@ -11,4 +11,4 @@ returns-then-place-at c place s numbered =
     let st = statements_of t in
     let small : length st ≤ NEVER = omega (arith, c.requires.tables.counted, c.requires.tables.small, length-sentences t.symbols.names t.labels.names t.flat.items t.log.items) in
     subst (λ p. IsTrue c.is_active.result ↔ IsActive (take c.args.at st) p) (c.label_place-place.ensures place s numbered)
-    (c.is_active.ensures st c.requires.tables.scopes small c.if-place-at.true c.requires.within)
+    (c.is_active.ensures st c.requires.tables.scopes small)

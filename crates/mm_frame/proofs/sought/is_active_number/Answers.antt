@@ -1,7 +1,10 @@
 use Rattle.std.proofs.Common.{refl, inl}
+use Rattle.mm_text.specs.declared.statement.Kind.TheVariants.{Variables}
+use Rattle.mm_frame.specs.Sentence.{Declares}
 use Rattle.mm_frame.specs.Active.{IsActiveSymbol}
+use Rattle.mm_frame.specs.Mirror.Latest.{IsLatest}
 use Rattle.mm_frame.specs.Mirror.Layout.{statements_of}
-use Rattle.mm_frame.proofs.LookupLaws.{variable_says, has_constant, active_symbol}
+use Rattle.mm_frame.proofs.LookupLaws.{variable_says, has_constant, active_symbol, place_within}
 use Rattle.mm_frame.proofs.SoughtLaws.{of_number, no_number, number_info, active_variable}
 use Rattle.mm_frame.proofs.sought.is_active_number.Goals as goal
 
@@ -27,3 +30,15 @@ returns-in-None c =
     let t = c.args.tables.now in
     let st = statements_of t in
     no_number st c.args.symbol.0 (λ y. IsActiveSymbol st y) _ (rw c.in-None.is at (number_info st t.symbols.names t.infos.items c.args.symbol.0 c.info.result c.requires.infos c.info.ensures)) refl
+
+pub is_active_now-requires-clause-place : goal.is_active_now-requires-clause-place
+is_active_now-requires-clause-place c =
+    let t = c.args.tables.now in
+    let st = statements_of t in
+    let (x, is, known) = rw c.in-Some.is at
+    (number_info st t.symbols.names t.infos.items c.args.symbol.0 c.info.result c.requires.infos
+    c.info.ensures) in
+    let place = c.in-Some-variable.place in
+    let latest : IsLatest (Declares Variables x) st place = rw c.in-Some-variable.is at
+    known.known.variable in
+    place_within st place latest.statement latest.there

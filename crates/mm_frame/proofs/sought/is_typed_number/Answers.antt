@@ -1,7 +1,7 @@
 use Rattle.std.proofs.Common.{refl}
 use Rattle.mm_frame.specs.Active.{IsTyped}
 use Rattle.mm_frame.specs.Mirror.Layout.{statements_of, GivesType}
-use Rattle.mm_frame.proofs.LookupLaws.{typed_says, some_of_active}
+use Rattle.mm_frame.proofs.LookupLaws.{typed_says, some_of_active, known_latest, place_within}
 use Rattle.mm_frame.proofs.SoughtLaws.{of_number, no_number, number_info}
 use Rattle.mm_frame.proofs.sought.is_typed_number.Goals as goal
 
@@ -26,3 +26,14 @@ returns-in-None c =
     let t = c.args.tables.now in
     let st = statements_of t in
     no_number st c.args.variable.0 (λ y. IsTyped st y) _ (rw c.in-None.is at (number_info st t.symbols.names t.infos.items c.args.variable.0 c.info.result c.requires.infos c.info.ensures)) refl
+
+pub is_active_now-requires-clause-place : goal.is_active_now-requires-clause-place
+is_active_now-requires-clause-place c =
+    let t = c.args.tables.now in
+    let st = statements_of t in
+    let (x, is, known) = rw c.in-Some.is at
+    (number_info st t.symbols.names t.infos.items c.args.variable.0 c.info.result c.requires.infos
+    c.info.ensures) in
+    let place = c.in-Some-floating.place in
+    let latest = known_latest st x c.in-Some.info place known c.in-Some-floating.is in
+    place_within st place latest.statement latest.there

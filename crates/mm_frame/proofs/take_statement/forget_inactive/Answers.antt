@@ -1,31 +1,38 @@
 use Rattle.std.proofs.Common.{arith}
+use Rattle.std.specs.Option.{option_to_list}
 use Rattle.mm_frame.proofs.Forgotten.{dropped_none, dropped_more, forgotten_all, forgotten_last, left_within, popped_size}
 use Rattle.mm_frame.proofs.take_statement.forget_inactive.Goals as goal
 
 pub loop-init : goal.loop-init
-loop-init c = record { sized = omega arith; dropped = λ st have small size within. dropped_none st _ }
+loop-init c = record {
+  sized = omega arith;
+  within = c.requires.within;
+  dropped = λ st have small. dropped_none st _;
+}
 
 pub returns-then-is_last_active : goal.returns-then-is_last_active
-returns-then-is_last_active c st have small size within =
-    let dropped = c.loop.invariant.dropped st have small size within in
-    forgotten_last st _ _ dropped (λ k p len there.
-    (c.is_last_active.ensures st k p have small size (rw c.deref.ensures.value len) (rw c.deref.ensures.value there)
-    (left_within st _ _ c.args.at dropped within k p there)).0 c.if-is_last_active.true)
+returns-then-is_last_active c st have small =
+    forgotten_last st _ _ (c.loop.invariant.dropped st have small) (λ k p len there.
+    (c.is_last_active.ensures st k p have small (rw c.deref.ensures.value len)
+    (rw c.deref.ensures.value there)).0 c.if-is_last_active.true)
 
 pub loop-preserved : goal.loop-preserved
 loop-preserved c =
-    let shorter = popped_size c.loop.places.items c.pop.new.self.items c.pop.result c.pop.ensures.items
-    (c.pop.ensures.variant.1 (let len = c.loop.invariant.sized in omega arith)) in
+    let shorter = popped_size c.loop.places.items c.pop.new.self.items c.pop.result
+    c.pop.ensures.items (c.pop.ensures.variant.1 (let len = c.loop.invariant.sized in omega arith))
+    in
     record {
       sized = omega arith;
-      dropped = λ st have small size within.
-          let dropped = c.loop.invariant.dropped st have small size within in
-          dropped_more st _ _ c.pop.new.self.items c.pop.result dropped c.pop.ensures.items (λ k p len there active.
-          let now = (c.is_last_active.ensures st k p have small size (rw c.deref.ensures.value len) (rw c.deref.ensures.value there)
-          (left_within st _ _ c.args.at dropped within k p there)).1 active in
+      within = left_within c.loop.places.items c.pop.new.self.items (option_to_list c.pop.result)
+          c.args.at c.pop.ensures.items c.loop.invariant.within;
+      dropped = λ st have small.
+          dropped_more st _ _ c.pop.new.self.items c.pop.result
+          (c.loop.invariant.dropped st have small) c.pop.ensures.items (λ k p len there active.
+          let now = (c.is_last_active.ensures st k p have small (rw c.deref.ensures.value len)
+          (rw c.deref.ensures.value there)).1 active in
           absurd (cc (now, c.if-is_last_active.false)));
     }
 
 pub returns : goal.returns
-returns c st have small size within =
-    forgotten_all st _ _ (c.loop.invariant.dropped st have small size within) (omega arith)
+returns c st have small =
+    forgotten_all st _ _ (c.loop.invariant.dropped st have small) (omega arith)

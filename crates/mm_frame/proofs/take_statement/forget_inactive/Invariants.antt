@@ -9,6 +9,8 @@ use Rattle.mm_frame.proofs.take_statement.forget_inactive.Given as goal
 abbrev pub invariant-loop : goal.invariant-loop
 invariant-loop l = record {
   sized : length l.places.items + l.counter ≡ length l.initial.places.items;
-  dropped : (statements : List Sentence) → HaveScopes statements l.scopes → length statements ≤ NEVER → l.at ≡ length statements
-      → ((i p : ℕ) → slice_get l.initial.places.items i ≡ Some p → p < l.at) → AreDropped statements l.initial.places.items l.places.items;
+  within : (i p : ℕ) → slice_get l.places.items i ≡ Some p → p < l.at;
+  dropped : (statements : List Sentence) → HaveScopes statements l.scopes
+      → length statements ≤ NEVER
+      → AreDropped statements l.initial.places.items l.places.items;
 }

@@ -9,6 +9,27 @@ use Rattle.mm_frame.proofs.Entries.{length-sentences}
 use Rattle.mm_frame.proofs.WideDistinct.{positive, wide_at, active_next}
 use Rattle.mm_frame.proofs.tables.Tables.active_wide.Goals as goal
 
+pub is_active-requires-clause-place : goal.is_active-requires-clause-place
+is_active-requires-clause-place c =
+    let t = c.args.self.now in
+    let st = statements_of t in
+    let wide = t.distinct.stated.wide in
+    let w = c.index-wide-left.result in
+    let n = c.loop.left in
+    let within = c.loop.invariant.within in
+    let there : slice_get wide (n - 1) ≡ Some w = wide_at wide _ n w c.wide-wide.ensures
+    (positive n c.if-left-eq0.false) (omega arith) c.index-wide-left.is in
+    let is = c.requires.stated.wide.each (n - 1) w there in
+    let lt = slice_get_within st w.place is.d is.there in
+    let size = length-sentences t.symbols.names t.labels.names t.flat.items t.log.items in
+    omega arith
+
+pub is_active-requires-clause-within : goal.is_active-requires-clause-within
+is_active-requires-clause-within c =
+    let t = c.args.self.now in
+    let size = length-sentences t.symbols.names t.labels.names t.flat.items t.log.items in
+    omega (arith, size, c.requires.scopes.held)
+
 pub loop-preserved : goal.loop-preserved
 loop-preserved c =
     let t = c.args.self.now in
@@ -21,13 +42,11 @@ loop-preserved c =
     let there : slice_get wide (n - 1) ≡ Some w = wide_at wide _ n w c.wide-wide.ensures
     some (omega arith) c.index-wide-left.is in
     let older = c.requires.stated.wide.older (n - 1) w there in
-    let is = c.requires.stated.wide.each (n - 1) w there in
-    let lt = slice_get_within st w.place is.d is.there in
     let size = length-sentences t.symbols.names t.labels.names t.flat.items t.log.items in
     let all : c.len-at.result ≡ length st = c.len-at.ensures ∙ t.log.ok.0 ∙ sym size in
     let whole : take c.len-at.result st ≡ st = ap (λ m. take m st) all ∙ take-length st in
     let small : length st ≤ NEVER = omega (arith, c.requires.counted, c.requires.small, size) in
-    let tell = c.is_active.ensures st c.requires.scopes small (omega arith) (omega arith) in
+    let tell = c.is_active.ensures st c.requires.scopes small in
     let no : ¬ (IsActive st w.place) =
     λ active. absurd (let yes = tell.1 (subst (λ ys. IsActive ys w.place) (sym whole) active) in
     let not = c.if-is_active.false in cc) in

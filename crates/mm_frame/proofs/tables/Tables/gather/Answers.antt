@@ -38,3 +38,9 @@ returns c =
     let end : c.loop-j.j ≡ c.args.i = omega (arith, c.loop-j.auto.j-end) in
     let t = c.args.self.now in
     paired_row (statements_of t) c.args.members.now c.args.i c.loop-j.pairs.items (subst (λ n. ArePaired (statements_of t) c.args.members.now c.args.i n c.loop-j.pairs.items) end c.loop-j.invariant)
+
+pub is_distinct-requires-clause-within : goal.is_distinct-requires-clause-within
+is_distinct-requires-clause-within c =
+    let t = c.args.self.now in
+    let size = length-sentences t.symbols.names t.labels.names t.flat.items t.log.items in
+    omega (arith, size)

@@ -5,7 +5,7 @@ use Rattle.mm_frame.proofs.Entries.{length-sentences}
 use Rattle.mm_frame.proofs.tables.Tables.holds.Goals as goal
 
 pub returns : goal.returns
-returns c le =
+returns c =
     let t = c.args.self.now in
     let st = statements_of t in
     let tables = c.requires.tables in
@@ -16,7 +16,7 @@ returns c le =
       tables.small,
       length-sentences t.symbols.names t.labels.names t.flat.items t.log.items,
     ) in
-    let active = c.is_active.ensures st tables.scopes small before le in
+    let active = c.is_active.ensures st tables.scopes small in
     let (in_a, in_b) = rw c.deref.ensures.value at (c.are_among.ensures.0 c.if-not-are_among.false)
     in (
       (λ is. (before, in_a, in_b, active.0 is)),

@@ -1,4 +1,4 @@
-use Rattle.std.proofs.Common.{◌≡◌, ◌-◌, ◌<◌, ◌≤◌, length, Some, subst, sym, arith}
+use Rattle.std.proofs.Common.{◌≡◌, ◌-◌, ◌<◌, Some, subst, sym, arith}
 use Rattle.std.specs.List.{slice_get}
 use Rattle.mm_frame.specs.Mirror.Layout.{statements_of}
 use Rattle.mm_frame.specs.Mirror.Wide.{HoldsPair, NoneFrom}
@@ -14,17 +14,17 @@ holds-requires-clause-sorted c =
     let within = c.loop.invariant.within in
     let there : slice_get wide (n - 1) ≡ Some w = wide_at wide _ n w c.wide-wide.ensures
     (positive n c.if-left-eq0.false) (omega arith) c.index-wide-left.is in
-    (c.requires.stated.wide.each (n - 1) w there).sorted
+    (c.requires.tables.stated.wide.each (n - 1) w there).sorted
 
 pub returns-then-holds : goal.returns-then-holds
-returns-then-holds c le =
+returns-then-holds c =
     let wide = c.args.self.now.distinct.stated.wide in
     let w = c.index-wide-left.result in
     let n = c.loop.left in
     let within = c.loop.invariant.within in
     let there : slice_get wide (n - 1) ≡ Some w = wide_at wide _ n w c.wide-wide.ensures
     (positive n c.if-left-eq0.false) (omega arith) c.index-wide-left.is in
-    ((λ yes. (n - 1, w, there, (c.holds.ensures le).0 c.if-holds.true)), (λ held. cc))
+    ((λ yes. (n - 1, w, there, c.holds.ensures.0 c.if-holds.true)), (λ held. cc))
 
 pub loop-preserved : goal.loop-preserved
 loop-preserved c =
@@ -37,22 +37,22 @@ loop-preserved c =
     let some : 0 < n = positive n c.if-left-eq0.false in
     let there : slice_get wide (n - 1) ≡ Some w = wide_at wide _ n w c.wide-wide.ensures
     some (omega arith) c.index-wide-left.is in
-    let older = c.requires.stated.wide.older (n - 1) w there in
+    let wides = c.requires.tables.stated.wide in
+    let older = wides.older (n - 1) w there in
     let P = HoldsPair st c.args.at c.args.a.0 c.args.b.0 in
-    let no : c.args.at ≤ length st → ¬ (P w) =
-    λ le holds. absurd (let yes = (c.holds.ensures le).1 holds in let not = c.if-holds.false in cc)
+    let no : ¬ (P w) =
+    λ holds. absurd (let yes = c.holds.ensures.1 holds in let not = c.if-holds.false in cc)
     in
     elim c.if-last-at.branch [
       | then-last-at x ↦ record {
         within = let is = x.left-is in omega arith;
-        none = λ le. subst (NoneFrom P wide) (sym x.left-is)
+        none = subst (NoneFrom P wide) (sym x.left-is)
             (held_next st t.symbols.names wide c.args.at c.args.a.0 c.args.b.0 n w
-            c.requires.stated.wide le some there (no le) (c.loop.invariant.none le)
-            x.if-last-at.true);
+            wides c.requires.within some there no c.loop.invariant.none x.if-last-at.true);
       }
       | else-last-at x ↦ record {
         within = let is = x.left-is in omega arith;
-        none = λ le. subst (NoneFrom P wide) (sym x.left-is)
-            (none_next P wide n w some there (no le) (c.loop.invariant.none le));
+        none = subst (NoneFrom P wide) (sym x.left-is)
+            (none_next P wide n w some there no c.loop.invariant.none);
       }
     ]

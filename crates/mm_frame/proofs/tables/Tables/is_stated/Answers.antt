@@ -6,23 +6,24 @@ use Rattle.mm_frame.proofs.DistinctAt.{latest_has, none_has}
 use Rattle.mm_frame.proofs.tables.Tables.is_stated.Goals as goal
 
 pub returns-in-Some : goal.returns-in-Some
-returns-in-Some c le =
+returns-in-Some c =
     let t = c.args.self.now in
     let st = statements_of t in
+    let tables = c.requires.tables in
     let (before, tell) =
     latest_has st t.symbols.names t.distinct.stated c.args.pair c.args.at c.in-Some.place
-    c.requires.stated le c.in-Some.ensures in
+    tables.stated c.requires.within c.in-Some.ensures in
     let small : length st ≤ NEVER = omega (
       arith,
-      c.requires.counted,
-      c.requires.small,
+      tables.counted,
+      tables.small,
       length-sentences t.symbols.names t.labels.names t.flat.items t.log.items,
     ) in
-    let active = c.is_active.ensures st c.requires.scopes small before le in
+    let active = c.is_active.ensures st tables.scopes small in
     ((λ is. tell.0 (active.0 is)), (λ has. active.1 (tell.1 has)))
 
 pub returns-in-None : goal.returns-in-None
-returns-in-None c le =
+returns-in-None c =
     let t = c.args.self.now in
     let none = none_has (statements_of t) t.distinct.stated.pairs c.args.pair c.args.at
     c.in-None.ensures in
