@@ -1,0 +1,1 @@
+$( A constant, $( in a comment.

@@ -1,0 +1,3 @@
+$c 0 term $.
+
+tze $a term 1 $.

@@ -1,0 +1,6 @@
+$c + ( ) term $.
+$v t r $.
+tt $f term t $.
+tr $f term r $.
+plus $a term ( t + r ) $.
+th $p term ( t + t ) $= ( plus ) AZCB $.
