@@ -1,8 +1,8 @@
 #!/bin/sh
 # Writes crates/mm_tool/src/rules.rt and code_lines.rt, the texts of `mm explain`, from
-# docs/RULES.md: a rule that is built has a paragraph there that begins with its code in bold, with
-# its usual cause and its remedy, or a row in the table of the files. Each section with rules is a
-# chapter. `scripts/rules.sh --check` compares them.
+# docs/RULES.md: each rule has a paragraph there that begins with its code in bold, with its usual
+# cause and its remedy, or a row in the table of the files. Each section with rules is a chapter.
+# `scripts/rules.sh --check` compares them.
 set -eu
 top=$(CDPATH='' cd -- "$(dirname -- "$0")/.." && pwd)
 source=$top/docs/RULES.md
@@ -62,7 +62,6 @@ made() {
         if (code ~ /^[MP]/ || code == "L1") { return "Place: the statement'"'"'s first token.\n" }
         return ""
     }
-    /^## Planned/ || /^## Until/ { finish(); exit }
     /^\| F[0-9] \|/ {
         finish()
         split($0, cells, / *\| */)
