@@ -1,8 +1,9 @@
 #!/bin/sh
 # usage: scripts/statuses.sh [PROGRAM]
 # Drives the built program, through the launcher or by the absolute path given: each status that it
-# can end with, with the bytes of standard output and of standard error, and each text that it
-# prints. No contract reaches `main` nor says what the texts are, so this is what tests them.
+# can end with, with the bytes of standard output and of standard error, each text that it prints,
+# and the commands of the documents. No contract reaches `main` nor says what the texts are, so this
+# is what tests them.
 set -eu
 top=$(CDPATH='' cd -- "$(dirname -- "$0")/.." && pwd)
 mm=${1-$top/mm}
@@ -485,6 +486,59 @@ if [ -w /dev/full ]; then
     mute 0 'yes 7 statements 1 proofs' check first.mm empty.mm
     full 4 'mm: cannot write\n' check first.mm empty.mm
 fi
+
+# Each command of README.md as it is typed at the top of the repository, in the order of the
+# document: in a folder that has the program and copies of the examples. One that wants the network,
+# metamath-exe or its databases is left out. What a comment says of what is printed is compared.
+mkdir top
+ln -s "$mm" top/mm
+cp -r "$top/examples" top/examples
+awk '
+    /^```/ { is_command = !is_command; next }
+    !is_command || /^(apt-get|metamath) / || /metamath\/databases/ { next }
+    !is_loop { count++ }
+    { print >(sprintf("command%02d", count)) }
+    /^for / { is_loop = 1 }
+    /^done/ { is_loop = 0 }' "$top/README.md"
+for command in command??; do
+    if [ ! -e "$command" ]; then
+        echo 'statuses.sh: README.md has no command' >&2
+        failures=$((failures + 1))
+        break
+    fi
+    printed=$(sed -n 's/.*# prints: //p' "$command")
+    case $printed in
+    'no '*) wanted=1 ;;
+    *) wanted=0 ;;
+    esac
+    status=0
+    (cd top && sh "../$command") >got.out 2>got.err </dev/null || status=$?
+    if [ "$status" != "$wanted" ] || [ -s got.err ] ||
+        { [ -n "$printed" ] && [ "$(cat got.out)" != "$printed" ]; }; then
+        echo "statuses.sh: README.md: $(cat "$command"): status $status, wanted $wanted" >&2
+        cat got.out got.err >&2
+        failures=$((failures + 1))
+    fi
+done
+
+# The commands in the text of the documents, which end in several ways: the program understands
+# them, and reads the files that they name.
+(cd "$top" && grep -oh -e '`\./mm [^`]*`' -e '`(cd [^`]*`' \
+    README.md docs/LANGUAGE.md docs/FORMATS.md) | tr -d '`' | sort -u >commands.txt
+if [ ! -s commands.txt ]; then
+    echo 'statuses.sh: the documents have no command' >&2
+    failures=$((failures + 1))
+fi
+while IFS= read -r command; do
+    status=0
+    (cd top && sh -c "$command") >got.out 2>got.err </dev/null || status=$?
+    if [ "$status" = 2 ] || [ "$status" -gt 4 ] ||
+        { grep -q 'cannot read' got.err && ! grep -q 'was taken for the label' got.err; }; then
+        echo "statuses.sh: the documents: $command: status $status" >&2
+        cat got.out got.err >&2
+        failures=$((failures + 1))
+    fi
+done <commands.txt
 
 if [ "$failures" != 0 ]; then
     echo "statuses.sh: $failures failed" >&2
