@@ -42,10 +42,11 @@ const TEXT: &[RuleText<'static>] = &[
     RuleText {
         code: "X1",
         text: "X1: a token, in a comment too, holds a byte outside 0x21 to 0x7E. Place: that
-token. Here it holds the two bytes 0xC3 and 0xA9.
+token. In the example it holds the two bytes 0xC3 and 0xA9.
 Usual cause: an accented letter, a typographic quote or a dash was typed or
 pasted.
-Remedy: write the token with ASCII characters alone, in a comment too.
+Remedy: write the token with ASCII characters alone, in a comment too; `LC_ALL=C
+grep -n '[^ -~]'` finds such bytes, and tabs.
 
 This file breaks it:
     $c é $.
@@ -134,7 +135,8 @@ The reply:
 Usual cause: the included file wasn't handed in, or was handed in under another
 name, as with a folder before it.
 Remedy: hand the file in under the very name that stands in `$[ $]`, from the
-folder in which it lies: no path is resolved.
+folder in which that file lies, or write the name there under which it is handed
+in: no path is resolved.
 
 This file breaks it:
     $[
@@ -164,7 +166,8 @@ The reply:
         text: "X9: a token outside comments and inclusions holds `$` and is no keyword. Place:
 that token.
 Usual cause: a keyword is misspelled or touches a word, as in `b$.`.
-Remedy: write white space before and after each keyword.
+Remedy: write white space before and after each keyword; in a text for `mm
+same`, write the proof alone, without a `$`.
 
 This file breaks it:
     $c a $.
@@ -278,8 +281,8 @@ The reply:
     },
     RuleText {
         code: "S7",
-        text: "S7: the top file ends and a block is open. Place: the innermost open `${`, here
-the one in line 2. It may stand in an included file.
+        text: "S7: the top file ends and a block is open. Place: the innermost open `${`, in
+the example the one in line 2. It may stand in an included file.
 Usual cause: the `$}` of the block is missing.
 Remedy: write the `$}` where the block ends.
 
@@ -369,7 +372,8 @@ The reply:
         code: "M5",
         text: "M5: the label equals an earlier label, also one in a closed block.
 Place: the statement's first token.
-Usual cause: a statement was copied, and its label wasn't changed.
+Usual cause: a statement was copied, and its label wasn't changed, or its own
+label was overwritten.
 Remedy: give the statement a label that no other has in the whole database.
 
 This file breaks it:
@@ -629,7 +633,7 @@ The reply:
         text: "P15: under the strict profile, the list of a compressed proof names a mandatory
 hypothesis, or a label twice; or a `Z` doesn't stand directly after a number of
 a listed label that is an assertion's. Step 0; it is judged over the whole
-proof, after P5. Here the list names `one` twice.
+proof, after P5. In the example the list names `one` twice.
 Place: the statement's first token.
 Usual cause: the program that wrote the proof tags hypotheses, or lists a label
 that has a number already.
@@ -647,11 +651,11 @@ The reply to `mm check --strict f.mm`:
     RuleText {
         code: "P6",
         text: "P6: a number in the letters exceeds m + n + t, with m mandatory hypotheses, n
-listed labels and t tags so far. Here m and t are 0, n is 1, and the number is
-2.
+listed labels and t tags so far. In the example m and t are 0, n is 1, and the
+number is 2.
 Place: the statement's first token.
-Usual cause: a label is missing in the list, or hypotheses of the theorem were
-removed after the proof was made.
+Usual cause: a label is missing in the list, or a `Z` in the letters, or
+hypotheses of the theorem were removed after the proof was made.
 Remedy: restore the labels and hypotheses that the letters number, or replace
 the proof.
 
@@ -682,10 +686,11 @@ The reply:
     RuleText {
         code: "P8",
         text: "P8: the step's assertion has more mandatory hypotheses than the stack holds
-entries. Here `two` has one, `fx`.
+entries. In the example `two` has one, `fx`.
 Place: the statement's first token.
-Usual cause: a step before this one is missing or too many, or two steps are
-swapped.
+Usual cause: a step, or in a compressed proof a letter or a listed label, is
+missing, too many or swapped, perhaps many steps before; or the theorem has
+fewer hypotheses than when it was proved.
 Remedy: write the steps for all mandatory hypotheses of the assertion, in their
 order, before the step.
 
@@ -700,12 +705,15 @@ The reply:
     RuleText {
         code: "P9",
         text: "P9: the entry that the step takes for a `$f` doesn't begin with the type code of
-that `$f`. Here `a` is asked for, and the entry is `b`.
+that `$f`. In the example `a` is asked for, and the entry is `b`.
 Place: the statement's first token.
-Usual cause: there is a step too many or too few before this one, perhaps many
-steps before, or two steps are swapped.
+Usual cause: a step, or in a compressed proof a letter or a listed label, is
+missing, too many or swapped, perhaps many steps before; or the theorem has
+other hypotheses or variables than when it was proved, as where a `$}` before it
+is missing.
 Remedy: compare the steps before this one with the mandatory hypotheses of the
-assertion that it names, in their order.
+assertion that it names, in their order; with a `?` in place of this proof `mm
+show` answers again, and lists the steps of theorems that use that assertion.
 
 This file breaks it:
     $c a b $. $v x $. fx $f a x $. one $a b $. two $a a x x $.
@@ -718,13 +726,13 @@ The reply:
     RuleText {
         code: "P10",
         text: "P10: the entry that the step takes for an `$e` isn't that `$e` with its
-variables replaced. Here the entry of `fx` replaces `x` by `b`, so that `h`
-becomes `|- b`, and its entry is `|- b b`.
+variables replaced. In the example the entry of `fx` replaces `x` by `b`, so
+that `h` becomes `|- b`, and its entry is `|- b b`.
 Place: the statement's first token.
 Usual cause: the hypothesis that the assertion wants isn't what the proof gives:
-a wrong theorem or a wrong replacement of a variable stands in the proof, or,
-perhaps many steps before, a step is missing, too many or swapped, or a letter
-is wrong.
+a wrong theorem or a wrong replacement of a variable stands in the proof; a
+step, a letter or a listed label is missing, too many or swapped, perhaps many
+steps before; or a `$e` was changed, of the theorem or of the assertion.
 Remedy: compare what the proof gives with the hypothesis, symbol by symbol, and
 change the step that proves it or the step that replaces the variable.
 
@@ -741,7 +749,7 @@ The reply:
     RuleText {
         code: "P11",
         text: "P11: the step replaces two variables that its assertion keeps distinct by
-expressions that share a variable. Here both are `x`.
+expressions that share a variable. In the example both are `x`.
 Place: the statement's first token.
 Usual cause: the proof puts a variable into two places of which the assertion's
 `$d` says that they have none in common.
@@ -761,11 +769,13 @@ The reply:
         code: "P12",
         text: "P12: the step replaces two variables that its assertion keeps distinct, and a
 variable of the one replacement and a variable of the other aren't an active
-distinct pair where the `$p` stands. Here the pair is `y`, `x`, and the `$d` of
-line 2 is no longer active.
+distinct pair where the `$p` stands. In the example the pair is `y`, `x`, and
+the `$d` of line 2 is no longer active.
 Place: the statement's first token.
-Usual cause: a `$d x y $.` is missing.
-Remedy: add a `$d` with the two variables before the theorem, in its block.
+Usual cause: a `$d x y $.` is missing, or several are.
+Remedy: add a `$d` before the theorem, in its block, for each two variables, of
+which one is put for the one variable that is kept distinct and one for the
+other: the reply is the same until the last pair is there.
 
 This file breaks it:
     $c a |- $. $v x y $. fx $f a x $. fy $f a y $.
@@ -779,9 +789,9 @@ The reply:
     RuleText {
         code: "L1",
         text: "L1: a step pushes an expression of more than 1,048,576 symbols, its type code
-counted; under the strict profile, of more than 16,777,216. Here step 1 pushes 2
-symbols, and each further step twice as many as the one before: step 20 pushes
-1,048,576.
+counted; under the strict profile, of more than 16,777,216. In the example step
+1 pushes 2 symbols, and each further step twice as many as the one before: step
+20 pushes 1,048,576.
 Place: the statement's first token.
 Usual cause: each of many steps repeats the expression of the step before.
 Remedy: prove the theorem by lemmas with shorter expressions.
@@ -884,8 +894,9 @@ The reply to `mm show p f.mm`:
     RuleText {
         code: "L2",
         text: "L2: the normal proof of the asked `$p` has more than 16,777,216 labels. It is
-judged after A1 to A3, for `mm normal` alone. Here each use of `cat` but the
-first takes the expression before it twice, so that there are 33,554,431 labels.
+judged after A1 to A3, for `mm normal` alone. In the example each use of `cat`
+but the first takes the expression before it twice, so that there are 33,554,431
+labels.
 Usual cause: the compressed proof shares parts that the normal one has to
 repeat.
 Remedy: ask for the packed proof, by `mm packed`.
