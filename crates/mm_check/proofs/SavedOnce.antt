@@ -452,7 +452,7 @@ again_saved profile f files label before s after file text named p put =
     }
 
 pub saving_again : SavingAgainChangesNothing
-saving_again profile f files statements same label number again bytes others accepted sv fits reads sw =
+saving_again profile f files statements same label number bytes accepted sv fits reads =
     let before : List PlainStatement = take sv.place statements in
     let after : List PlainStatement = drop (suc sv.place) statements in
     let r = put_and_read profile f files statements label number bytes accepted sv fits in
@@ -464,7 +464,10 @@ saving_again profile f files statements same label number again bytes others acc
     (with_span sv.file.bytes sv.s.span (10 ∷ sv.text)) bytes r.changed (sym sv.home) (sym sv.whole)
     (again_saved profile f files label before sv.s after sv.file sv.text sv.proof.named r.to_put
     r.put) in
-    let read : same ≡ su = (same_reading anew same su None None reads r.accepted.reads).0 in
-    let once = one_saved profile f anew su label number again bytes others r.accepted own
-    (subst (λ (ss : List PlainStatement). IsSaved f anew ss label again others) read sw) in
-    (sym once.0, sym once.1)
+    let read : same ≡ su = (same_reading anew same su None None reads r.accepted.reads).0 in (
+      subst (λ (ss : List PlainStatement). IsSaved f anew ss label number bytes) (sym read) own,
+      λ again others sw.
+          let once = one_saved profile f anew su label number again bytes others r.accepted own
+          (subst (λ (ss : List PlainStatement). IsSaved f anew ss label again others) read sw) in
+          (sym once.0, sym once.1),
+    )

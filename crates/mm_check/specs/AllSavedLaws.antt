@@ -48,15 +48,17 @@ OneAllSaved =
     → IsAllSaved form files statements number bytes
     → IsAllSaved form files statements number others → bytes ≡ others
 
--- Saving again gives equal bytes.
+-- Saved again, the file is as it is: its bytes are what is saved of it, and nothing else is.
 abbrev pub SavingAllAgainChangesNothing : Type 0
 SavingAllAgainChangesNothing =
     (profile : Profile) (form : Form) (files : List PlainFile)
-    (statements same : List PlainStatement) (number : ℕ) (bytes others : List ℕ)
+    (statements same : List PlainStatement) (number : ℕ) (bytes : List ℕ)
     → AreAccepted profile files statements
     → IsAllSaved form files statements number bytes → FitsSaved files number bytes
     → Reads (with_bytes files number bytes) same None
-    → IsAllSaved form (with_bytes files number bytes) same number others → others ≡ bytes
+    → IsAllSaved form (with_bytes files number bytes) same number bytes
+    × ((others : List ℕ)
+    → IsAllSaved form (with_bytes files number bytes) same number others → others ≡ bytes)
 
 -- The bytes of the file after the theorems with these labels were saved one after the other, each
 -- over the files with the bytes before in their place.

@@ -70,13 +70,15 @@ OneSaveAnswer =
     → IsSaveFault form files statements label fault
     → (fault ≡ Memory) ⊎ ((fault ≡ F3) × (most_bytes < total_with files number bytes))
 
--- Saving again gives equal bytes.
+-- Saved again, the file is as it is: its bytes are what is saved of it, and nothing else is.
 abbrev pub SavingAgainChangesNothing : Type 0
 SavingAgainChangesNothing =
     (profile : Profile) (form : Form) (files : List PlainFile)
-    (statements same : List PlainStatement) (label : List ℕ) (number again : ℕ)
-    (bytes others : List ℕ) → AreAccepted profile files statements
+    (statements same : List PlainStatement) (label : List ℕ) (number : ℕ) (bytes : List ℕ)
+    → AreAccepted profile files statements
     → IsSaved form files statements label number bytes → FitsSaved files number bytes
     → Reads (with_bytes files number bytes) same None
+    → IsSaved form (with_bytes files number bytes) same label number bytes
+    × ((again : ℕ) (others : List ℕ)
     → IsSaved form (with_bytes files number bytes) same label again others
-    → (again ≡ number) × (others ≡ bytes)
+    → (again ≡ number) × (others ≡ bytes))

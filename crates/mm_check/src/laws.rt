@@ -71,7 +71,7 @@ pub fn one_save_answer()
     ensures { OneSaveAnswer }
 {}
 
-/// Saving a theorem again in the same form gives equal bytes.
+/// A theorem that was saved is saved again in the same form, as the same bytes and no others.
 pub fn saving_again_changes_nothing()
     ensures { SavingAgainChangesNothing }
 {}
@@ -94,7 +94,8 @@ pub fn one_all_saved()
     ensures { OneAllSaved }
 {}
 
-/// Saving all proofs of a file again in the same form gives equal bytes.
+/// A file all of whose proofs were saved is saved again in the same form, as the same bytes and no
+/// others.
 pub fn saving_all_again_changes_nothing()
     ensures { SavingAllAgainChangesNothing }
 {}
