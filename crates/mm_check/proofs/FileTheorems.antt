@@ -1,7 +1,7 @@
 -- The theorems of a file: the `$p` with complete proofs that stand there.
 use Rattle.std.proofs.Common.{◌≡◌, ℕ, List, [], ◌∷◌, ◌++◌, Bool, true, false, not, ◌&&◌, ◌==◌}
 use Rattle.std.proofs.Common.{eq-eqb, cond, refl, ap, ◌∙◌, append-nil}
-use Rattle.std.specs.List.{AllZip}
+use Rattle.std.specs.List.{AllZip, AllByRecursion}
 use Rattle.std.proofs.lemmas.Bool.{and_parts, eqb-true}
 use Rattle.std.proofs.lemmas.List.Elements.{filter-append}
 use Rattle.mm_text.specs.Statement.{PlainStatement, is_provable}
@@ -73,6 +73,20 @@ theorems_zip number R S alike step (s ∷ after) (t ∷ later) zip =
     both true false same is rest = absurd cc
     both false true same is rest = absurd cc
     both false false same is rest = rest
+
+-- what is said of each statement that is a theorem is said of each theorem
+pub each_theorem : (number : ℕ) (P : PlainStatement → Type 0) (statements : List PlainStatement)
+    → AllByRecursion (λ s. is_theorem_of number s ≡ true → P s) statements
+    → AllByRecursion P (theorems_of number statements)
+each_theorem number P [] each = tt
+each_theorem number P (s ∷ statements) (own, each) =
+    by (is_theorem_of number s) refl (each_theorem number P statements each)
+  where
+    by : (b : Bool) → is_theorem_of number s ≡ b → AllByRecursion P (theorems_of number statements)
+        → AllByRecursion P (cond b (s ∷ theorems_of number statements)
+        (theorems_of number statements))
+    by true is rest = (own is, rest)
+    by false is rest = rest
 
 -- where one is no theorem, those up to it are those before it
 pub theorems_passed : (number : ℕ) (before : List PlainStatement) (s : PlainStatement)

@@ -22,6 +22,7 @@ pub mod Theorems
 pub mod Texts
 pub mod Comparing
 pub mod PackedTexts
+pub mod PackedSizes
 pub mod Saving
 pub mod ReplacedSpans
 pub mod WrittenTheorems
@@ -40,6 +41,7 @@ pub mod AllSavedFiles
 pub mod AllSavedOnce
 pub mod AllSavedStrict
 pub mod AllSavedAgain
+pub mod AllSavedAnswers
 pub mod Listings
 pub mod Reports
 pub mod AlikeVerdicts

@@ -362,7 +362,7 @@ numbered_so statements place s label there named = (
 unproved_not : (s t : PlainStatement) → t ≡ s → is_proof s ≡ true → is_unproved t ≡ true → ⊥
 unproved_not s t same complete open_one = let none_left = proof_not_unproved s complete in let some : is_unproved s ≡ true = ap is_unproved (sym same) ∙ open_one in cc
 
-not_over : (n : ℕ) → n ≤ most_labels → most_labels < n → ⊥
+pub not_over : (n : ℕ) → n ≤ most_labels → most_labels < n → ⊥
 not_over n h k = omega (arith, h, k)
 
 pub one_save_answer : OneSaveAnswer

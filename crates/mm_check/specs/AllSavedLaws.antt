@@ -1,9 +1,9 @@
 -- Laws of a file in which each complete proof is written anew: it is what saving one theorem after
 -- the other gives, in whichever order, and it changes nothing that is answered.
 use Rattle.std.specs.Prelude.{◌≡◌, ℕ, ◌<◌, ◌↔◌, List, [], ◌∷◌, take, length, slice_get, Contains}
-use Rattle.std.specs.Prelude.{Some, None}
+use Rattle.std.specs.Prelude.{Some, None, ◌⊎◌}
 use Rattle.mm_text.specs.Statement.{PlainStatement}
-use Rattle.mm_text.specs.Files.{PlainFile}
+use Rattle.mm_text.specs.Files.{PlainFile, most_bytes}
 use Rattle.mm_text.specs.Replaced.{with_bytes}
 use Rattle.mm_text.specs.Reading.{Reads}
 use Rattle.mm_frame.specs.Sentence.{sentence_of, IsLabelled}
@@ -11,12 +11,14 @@ use Rattle.mm_proof.specs.declared.profile.Profile.{Profile}
 use Rattle.mm_proof.specs.declared.profile.Profile.TheVariants.{Lenient, Strict}
 use Rattle.mm_proof.specs.Strict.{HasFormOf}
 use Rattle.mm_check.specs.declared.form.Form.{Form}
-use Rattle.mm_check.specs.declared.form.Form.TheVariants.{Packed}
+use Rattle.mm_check.specs.declared.form.Form.TheVariants.{Normal, Packed}
+use Rattle.mm_check.specs.declared.ask.AskFault.{AskFault}
+use Rattle.mm_check.specs.declared.ask.AskFault.TheVariants.{F3, Memory}
 use Rattle.mm_check.specs.Verdict.{AreAccepted, sentences, proof_of, unproved_of}
 use Rattle.mm_check.specs.Compared.{IsTheorem}
-use Rattle.mm_check.specs.Saved.{IsSaved, FitsSaved}
+use Rattle.mm_check.specs.Saved.{IsSaved, FitsSaved, total_with}
 use Rattle.mm_check.specs.SavedLaws.{SayTheSame}
-use Rattle.mm_check.specs.AllSaved.{IsAllSaved, theorems_of}
+use Rattle.mm_check.specs.AllSaved.{IsAllSaved, IsFirstTooLong, IsAllSaveFault, theorems_of}
 
 -- With the new bytes in place of the old, the verdict, each tree and each report are as they were.
 abbrev pub SavingAllChangesNoAnswer : Type 0
@@ -47,6 +49,36 @@ OneAllSaved =
     (number : ℕ) (bytes others : List ℕ) → AreAccepted profile files statements
     → IsAllSaved form files statements number bytes
     → IsAllSaved form files statements number others → bytes ≡ others
+
+-- Where all proofs of a file are to be saved, one of these is due, and no two: its new bytes; or,
+-- in normal form, the label of its first theorem whose normal proof has more labels than may be
+-- written. That the bytes are one is the law above.
+pub record HasOneAnswer (files : List PlainFile) (statements : List PlainStatement)
+    (number : ℕ) : Type 0 where
+  -- In packed form its bytes are due.
+  pub packed : (bytes : List ℕ) × IsAllSaved Packed files statements number bytes
+  -- In normal form its bytes are due, or the label is.
+  pub normal : ((bytes : List ℕ) × IsAllSaved Normal files statements number bytes)
+      ⊎ ((label : List ℕ) × IsFirstTooLong statements number label)
+  -- They never both are.
+  pub never_both : (bytes label : List ℕ) → IsAllSaved Normal files statements number bytes
+      → ¬ (IsFirstTooLong statements number label)
+  -- The label is one.
+  pub one_label : (label other : List ℕ) → IsFirstTooLong statements number label
+      → IsFirstTooLong statements number other → label ≡ other
+  -- Where its bytes are due, there is no other fault than want of memory, or that the files would
+  -- have too many bytes, and that only if they would.
+  pub one_fault : (form : Form) (bytes : List ℕ) (fault : AskFault)
+      → IsAllSaved form files statements number bytes
+      → IsAllSaveFault form files statements number fault
+      → (fault ≡ Memory) ⊎ ((fault ≡ F3) × (most_bytes < total_with files number bytes))
+
+-- So it is for each file that was handed in, where the files are accepted.
+abbrev pub OneSaveAllAnswer : Type 0
+OneSaveAllAnswer =
+    (profile : Profile) (files : List PlainFile) (statements : List PlainStatement) (number : ℕ)
+    → AreAccepted profile files statements → number < length files
+    → HasOneAnswer files statements number
 
 -- Saved again, the file is as it is: its bytes are what is saved of it, and nothing else is.
 abbrev pub SavingAllAgainChangesNothing : Type 0

@@ -2,7 +2,8 @@
 
 ghost use Rattle.mm_check.specs.Alike.{AlikeFilesHaveOneReply};
 ghost use Rattle.mm_check.specs.AllSavedLaws.{SavingAllChangesNoAnswer, AllSavedProofsAreStrict};
-ghost use Rattle.mm_check.specs.AllSavedLaws.{OneAllSaved, SavingAllAgainChangesNothing};
+ghost use Rattle.mm_check.specs.AllSavedLaws.{OneAllSaved, OneSaveAllAnswer};
+ghost use Rattle.mm_check.specs.AllSavedLaws.{SavingAllAgainChangesNothing};
 ghost use Rattle.mm_check.specs.AllSavedLaws.{SavingInTurnIsSavingAll, PackedFilesAreStrict};
 ghost use Rattle.mm_check.specs.FormLaws.{PackedTextsTell};
 ghost use Rattle.mm_check.specs.Laws.{OneVerdict, SomeVerdict, BetweenProfiles, OneReport};
@@ -92,6 +93,14 @@ pub fn all_saved_proofs_are_strict()
 /// What is saved of all proofs of a file in a form is one: its bytes.
 pub fn one_all_saved()
     ensures { OneAllSaved }
+{}
+
+/// Where all proofs of a file that was handed in are to be saved in a form, one answer is due: the
+/// bytes; or, in normal form, the label of the first theorem whose normal proof is too long; and
+/// never both. Where bytes are due, no fault is told but F3, exactly if the files would have too many
+/// bytes, and want of memory.
+pub fn one_save_all_answer()
+    ensures { OneSaveAllAnswer }
 {}
 
 /// A file all of whose proofs were saved is saved again in the same form, as the same bytes and no

@@ -138,7 +138,7 @@ frame_typings st labels named log hs pairs pieces id place s info part are frame
     typings_part st hs part info.hypotheses.start info.hypotheses.end (is within.ordered within.within) have
 
 -- those of a list are no more
-those_few : {X : Type 0} (P : ℕ → X → Type 0) (place : ℕ) (xs those : List X) → AreThose P place xs those → length those ≤ length xs
+pub those_few : {X : Type 0} (P : ℕ → X → Type 0) (place : ℕ) (xs those : List X) → AreThose P place xs those → length those ≤ length xs
 those_few P place [] those are = omega (arith, ap length are)
 those_few P place (x ∷ xs) those (inl (is, others, same, are)) = let few = those_few P (place + 1) xs others are in omega (arith, ap length same)
 those_few P place (x ∷ xs) those (inr (isnt, are)) = let few = those_few P (place + 1) xs those are in omega arith

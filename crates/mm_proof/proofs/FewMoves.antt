@@ -73,7 +73,7 @@ labels_some before tokens labels formed whole are =
     label_some before tokens labels (get_or labels k []) formed whole are
     (Contains-get_or labels k [] within))
 
-said_moves : (before : List Sentence) (s : Sentence) (tokens : List (List ℕ))
+pub said_moves : (before : List Sentence) (s : Sentence) (tokens : List (List ℕ))
     (moves : List (Move (List ℕ))) → AllFormed before → IsWhole before tokens
     → SayMoves before s tokens moves → length moves ≤ sum_by length tokens
 said_moves before s tokens moves formed whole (inl n) =
