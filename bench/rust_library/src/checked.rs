@@ -1,8 +1,10 @@
 // What is kept of a database in which nothing is at fault: the counts that `check` replies.
 use crate::mm_check::progress::Progress;
+use crate::mm_proof::Profile;
 use crate::mm_text::File;
 
 pub struct Checked<'a> {
+    pub profile: Profile,
     pub files: &'a [File<'a>],
     pub statements: usize,
     pub proofs: usize,
@@ -10,8 +12,13 @@ pub struct Checked<'a> {
 }
 
 impl<'a> Checked<'a> {
-    pub fn new(files: &'a [File<'a>], progress: Progress<'a>) -> Checked<'a> {
+    pub fn new(
+        profile: Profile,
+        files: &'a [File<'a>],
+        progress: Progress<'a>,
+    ) -> Checked<'a> {
         Checked {
+            profile,
             files,
             statements: progress.count,
             proofs: progress.proofs,

@@ -97,6 +97,15 @@ impl<'a, T> IntoIterator for &'a Vec<T> {
     }
 }
 
+/// The kit's `collect`, which is handed an allocator, and tells where it refused memory.
+pub trait CollectIn: Iterator + Sized {
+    fn collect_in(self, _: Global) -> Result<Vec<Self::Item>, AllocError> {
+        Ok(Vec(self.collect()))
+    }
+}
+
+impl<I: Iterator> CollectIn for I {}
+
 pub fn filled<T: Copy>(element: T, count: usize) -> Vec<T> {
     Vec(vec![element; count])
 }
