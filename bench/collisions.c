@@ -4,7 +4,12 @@
  * KIND is symbols, labels or files. Prints so many names, one on each line. Symbols and labels have 16
  * bytes, files 32. The front of a name counts up. It gives a state of the hash, and so the one value
  * of the next eight bytes that leads to the chosen hash; a name is printed if these bytes may stand in
- * it. The hash is that of the kit's FoldHasher, as mm_frame's and mm_text's names use it. */
+ * it. The hash is that of the kit's FoldHasher, as mm_frame's and mm_text's names use it.
+ *
+ * mm_frame hashes a name of 16 bytes by two writes of eight. mm_text hashes the name of a file by one
+ * write, and of 16 bytes that is one product of both halves, of which neither can then be chosen; a
+ * half that makes a factor 0 isn't UTF-8. So the name of a file has 32 bytes: the first 16 give the
+ * state by such a product, and of the others the first eight are chosen, which meet it by a xor. */
 #include <stdint.h>
 #include <stdio.h>
 #include <stdlib.h>
