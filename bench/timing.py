@@ -148,12 +148,14 @@ def install(*packages):
 def program(given=None):
     """The program to be measured: the one given, or the one that the launcher builds.
 
-    It is called directly, since the launcher looks for changed sources at each call. What the
+    The launcher builds it anew for a check where sources have changed, and not for the version. Then
+    it is called directly, since the launcher looks for changed sources at each check. What the
     launcher sets for it, large pages, is set for every program that is measured.
     """
     os.environ["GLIBC_TUNABLES"] = "glibc.malloc.hugetlb=1"
+    words = [given, "--version"] if given else [LAUNCHER, "check", TOP / "examples/first.mm"]
     try:
-        subprocess.run([given or LAUNCHER, "--version"], stdout=subprocess.DEVNULL, check=True)
+        subprocess.run(words, stdout=subprocess.DEVNULL, check=True)
     except (OSError, subprocess.CalledProcessError) as error:
         fail(f"there is no program to measure: {error}")
     return str(given or BUILT)
