@@ -4,7 +4,7 @@ use crate::calls::frame::taking::name_of;
 use mm_frame::{Book, Found, Frame, LabelId, Sym};
 
 /// More than the symbols, and the labels, of the databases that are compared.
-const MANY: u32 = 8;
+const MANY: u32 = 16;
 
 fn are_symbols_alike(a: &Book, b: &Book) -> bool {
     for number in 0..MANY {
