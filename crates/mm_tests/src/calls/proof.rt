@@ -557,12 +557,15 @@ fn expect_conclusion<S: Store + Drop>(rt: &impl Abort, mut store: S) -> Result<(
     store.push(&[Sym(1)])?;
     store.push(&[Sym(2), Sym(3), Sym(4)])?;
     let Some(first) = ShortPiece::of(Piece::Symbol(Sym(5))) else {
+        // The number of the symbol is below 2,147,483,648.
         unreachable!()
     };
     let Some(value) = ShortPiece::of(Piece::Value(0)) else {
+        // The place is below 2,147,483,648.
         unreachable!()
     };
     let Some(last) = ShortPiece::of(Piece::Symbol(Sym(6))) else {
+        // The number of the symbol is below 2,147,483,648.
         unreachable!()
     };
     assert!(rt; !store.conclude(1, &[first, value, last], 3)?);
