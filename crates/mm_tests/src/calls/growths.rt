@@ -21,6 +21,10 @@ const FILES: [File<'static>; 1] = [File {
 /// Another proof of its theorem.
 const PROOF: &[u8] = b"( tze tpl weq a2 wim a1 mp ) ABCZADZAADZAEZJJKFLIAAGHH";
 
+/// More bytes than the longest reply has: a writer that asks for memory would be told as a failed
+/// device.
+const ROOM: usize = 4096;
+
 /// A test passes where this holds.
 fn expect(holds: bool, what: &'static str) -> Result<(), Fail> {
     if holds { Ok(()) } else { Err(Fail::from(what)) }
@@ -75,7 +79,7 @@ fn reply_or_memory(alloc: Global, command: &Command) -> Result<Option<(Vec<u8>, 
     if !asks_handed(command, &FILES) {
         return Err(Fail::from("a file that is not handed in"));
     }
-    let mut out = Counted::new(Vec::new(alloc));
+    let mut out = Counted::new(Vec::with_capacity(alloc, ROOM)?);
     let answer = run(alloc, Seed::known(), command, &FILES, &mut out);
     let text = out.into_inner();
     match answer {
