@@ -18,6 +18,9 @@ const FILES: [File<'static>; 1] = [File {
     bytes: DEMO_COMPRESSED,
 }];
 
+/// How many statements it has.
+const STATEMENTS: usize = 19;
+
 /// Another proof of its theorem.
 const PROOF: &[u8] = b"( tze tpl weq a2 wim a1 mp ) ABCZADZAADZAEZJJKFLIAAGHH";
 
@@ -40,13 +43,13 @@ fn answers_memory_again<'a>(statements: &mut Statements<'a>, into: &mut Statemen
     true
 }
 
-/// Whether the statements are read to their end, or up to want of memory, which is then the answer
-/// for good.
+/// Whether all the statements are read, or those up to want of memory, which is then the answer for
+/// good.
 fn reads_on<'a>(statements: &mut Statements<'a>, into: &mut Statement<'a>) -> Result<bool, Fail> {
-    for _ in 0..30 {
+    for count in 0..30 {
         match statements.read(into) {
             Ok(true) => {}
-            Ok(false) => return Ok(true),
+            Ok(false) => return Ok(count == STATEMENTS),
             Err(TextFault::Memory) => return Ok(answers_memory_again(statements, into)),
             Err(_) => return Err(Fail::from("a fault of the text")),
         }
