@@ -33,6 +33,12 @@ fn expect(holds: bool, what: &'static str) -> Result<(), Fail> {
     if holds { Ok(()) } else { Err(Fail::from(what)) }
 }
 
+/// What a call answers that is asked once more. One growth alone is refused, so memory isn't
+/// wanting again.
+pub(crate) fn once_more<T, E: Drop>(answer: Result<T, E>) -> Result<T, Fail> {
+    Ok(answer.ok().ok_or("refused after want of memory")?)
+}
+
 /// Whether five more calls answer want of memory.
 fn answers_memory_again<'a>(statements: &mut Statements<'a>, into: &mut Statement<'a>) -> bool {
     for _ in 0..5 {
@@ -162,10 +168,10 @@ fn answer_of(alloc: Global, checked: &Checked, command: &Command) -> Result<Vec<
 }
 
 /// What the call answers, asked once more where memory was wanting the first time.
-fn ask_on(alloc: Global, checked: &Checked, command: &Command) -> Result<Vec<u8>, AskFault> {
+fn ask_on(alloc: Global, checked: &Checked, command: &Command) -> Result<Vec<u8>, Fail> {
     match answer_of(alloc, checked, command) {
-        Err(AskFault::Memory) => answer_of(alloc, checked, command),
-        answer => answer,
+        Err(AskFault::Memory) => once_more(answer_of(alloc, checked, command)),
+        answer => Ok(answer?),
     }
 }
 
@@ -184,10 +190,7 @@ fn answers_alike(alloc: Global, checked: &Checked, asked: &[Command]) -> Result<
 fn checked_on<'a>(alloc: Global, files: &'a [File<'a>]) -> Result<Checked<'a>, Fail> {
     match check(alloc, Seed::known(), files) {
         Ok(checked) => Ok(checked),
-        Err(CheckFault::Memory) => match check(alloc, Seed::known(), files) {
-            Ok(checked) => Ok(checked),
-            Err(_) => Err(Fail::from("refused after want of memory")),
-        },
+        Err(CheckFault::Memory) => once_more(check(alloc, Seed::known(), files)),
         Err(_) => Err(Fail::from("refused")),
     }
 }

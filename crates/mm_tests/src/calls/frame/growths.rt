@@ -5,6 +5,7 @@ ghost use Rattle.mm_text.specs.Statement.{plain_statement, HasForm};
 use crate::calls::frame::alike::{are_books_alike, find_alike};
 use crate::calls::frame::databases::DEMO;
 use crate::calls::frame::taking::{empty_book, read, reader, take};
+use crate::calls::growths::once_more;
 use mm_frame::{Book, RuleFault, Taken};
 use mm_text::{Statement, Statements};
 use std::alloc::Global;
@@ -23,7 +24,7 @@ fn take_on<'a>(book: &mut Book<'a>, statement: &Statement<'a>) -> Result<Taken, 
 {
     match take(book, statement)? {
         Ok(taken) => Ok(taken),
-        Err(RuleFault::Memory) => Ok(take(book, statement)??),
+        Err(RuleFault::Memory) => once_more(take(book, statement)?),
         Err(_) => Err(Fail::from("a rule")),
     }
 }
