@@ -1,6 +1,8 @@
 //! Refused growths: of both stores. After one both lists are as before.
 
-ghost use Rattle.std.specs.Prelude.{◌≡◌, ◌<◌, [], length};
+ghost use Rattle.std.specs.Prelude.{◌≡◌, ◌<◌, ◌-◌, ◌++◌, ◌∷◌, [], ℕ, List, length};
+ghost use Rattle.std.specs.Prelude.{slice_get, IsTrue, OnOk, Some};
+ghost use Rattle.mm_proof.specs.Stores.{numbers_in};
 
 use mm_frame::Sym;
 use mm_proof::{Flat, Rows, Store};
@@ -11,40 +13,67 @@ const FIRST: &[Sym] = &[Sym(1), Sym(2)];
 const SECOND: &[Sym] = &[Sym(3)];
 
 /// A test goes on where this holds.
-fn expect(holds: bool, what: &'static str) -> Result<(), Fail> {
+fn expect(holds: bool, what: &'static str) -> Result<(), Fail>
+    ensures { OnOk result (IsTrue holds) }
+{
     if holds { Ok(()) } else { Err(Fail::from(what)) }
 }
 
 /// Pushes an expression, once more where memory is wanting; the stack is then as long as before.
-fn push_on<S: Store>(store: &mut S, expression: &[Sym]) -> Result<(), Fail> {
+fn push_on<S: Store>(store: &mut S, expression: &[Sym]) -> Result<(), Fail>
+    ensures pushed { OnOk result
+        (S.stack store.new ≡ S.stack store.old ++ numbers_in expression.now ∷ []) }
+    ensures kept { S.kept store.new ≡ S.kept store.old }
+{
     let before = store.len();
     if store.push(expression).is_ok() {
         return Ok(());
     }
     expect(store.len() == before, "a refused push leaves an entry")?;
-    Ok(store.push(expression)?)
+    expect(store.push(expression).is_ok(), "a push is refused twice")
 }
 
-/// Keeps the last entry, once more where memory is wanting.
-fn keep_on<S: Store>(store: &mut S) -> Result<(), Fail> {
-    if store.len() == 0 {
-        return Err(Fail::from("nothing to keep"));
-    }
+/// Keeps the last entry, once more where memory is wanting; the stack is then as long as before.
+fn keep_on<S: Store>(store: &mut S) -> Result<(), Fail>
+    requires { 0 < length (S.stack store.old) }
+    ensures kept { OnOk result ((e : List ℕ)
+        → slice_get (S.stack store.old) (length (S.stack store.old) - 1) ≡ Some e
+        → S.kept store.new ≡ S.kept store.old ++ e ∷ []) }
+    ensures stack { S.stack store.new ≡ S.stack store.old }
+{
+    let before = store.len();
     if store.keep().is_ok() {
         return Ok(());
     }
-    if store.len() == 0 {
-        return Err(Fail::from("a refused keep takes an entry"));
+    expect(store.len() == before, "a refused keep changes the stack")?;
+    expect(store.keep().is_ok(), "a keep is refused twice")
+}
+
+/// Pushes a copy of a kept entry, once more where memory is wanting; the stack is then as long as
+/// before.
+fn copy_on<S: Store>(store: &mut S, place: usize) -> Result<(), Fail>
+    requires { place < length (S.kept store.old) }
+    ensures kept { S.kept store.new ≡ S.kept store.old }
+{
+    let before = store.len();
+    if store.push_copy(place).is_ok() {
+        return Ok(());
     }
-    Ok(store.keep()?)
+    expect(store.len() == before, "a refused copy leaves an entry")?;
+    expect(store.push_copy(place).is_ok(), "a copy is refused twice")
 }
 
-/// Whether the stack has the two entries that were pushed.
-fn holds_both<S: Store>(store: &S) -> bool {
-    store.len() == 2 && store.at(0) == FIRST && store.at(1) == SECOND
+/// Whether the stack has the two entries that were pushed, and then their copies.
+fn holds_all<S: Store>(store: &S) -> bool {
+    store.len() == 4
+        && store.at(0) == FIRST
+        && store.at(1) == SECOND
+        && store.at(2) == FIRST
+        && store.at(3) == SECOND
 }
 
-/// Pushes, keeps and pushes again; the stack is as if no growth had been refused.
+/// Pushes and keeps two entries, and pushes a copy of each; the stack is as if no growth had been
+/// refused.
 fn go_on<S: Store + Drop>(mut store: S) -> Result<(), Fail>
     requires stack { S.stack store ≡ [] }
     requires kept { S.kept store ≡ [] }
@@ -52,7 +81,10 @@ fn go_on<S: Store + Drop>(mut store: S) -> Result<(), Fail>
     push_on(&mut store, FIRST)?;
     keep_on(&mut store)?;
     push_on(&mut store, SECOND)?;
-    expect(holds_both(&store), "another stack")
+    keep_on(&mut store)?;
+    copy_on(&mut store, 0)?;
+    copy_on(&mut store, 1)?;
+    expect(holds_all(&store), "another stack")
 }
 
 #[test]
