@@ -9,6 +9,18 @@ use mm_code::{
 use std::alloc::Global;
 use std::test::Fail;
 
+/// Some codes.
+pub(crate) const CODES: [Code; 5] = [
+    Code::Number(1),
+    Code::Tag,
+    Code::Number(20),
+    Code::Number(21),
+    Code::Number(4_294_967_295),
+];
+
+/// Their letters.
+pub(crate) const LETTERS: &[u8] = b"AZTUAXUXXWWXVUXVXO";
+
 /// Whether the tokens read as these codes.
 fn reads_as(alloc: Global, tokens: &[&[u8]], codes: &[Code]) -> Result<bool, Fail> {
     Ok(read_codes(alloc, tokens)?.as_slice() == codes)
@@ -76,16 +88,9 @@ fn list_is_filled_anew(rt: HostRuntime) -> Result<(), Fail> {
 
 #[test]
 fn written_codes_read_back(rt: HostRuntime) -> Result<(), Fail> {
-    let codes = [
-        Code::Number(1),
-        Code::Tag,
-        Code::Number(20),
-        Code::Number(21),
-        Code::Number(4_294_967_295),
-    ];
-    let text = write_codes(rt.alloc(), &codes)?;
-    assert!(rt; text.as_slice() == b"AZTUAXUXXWWXVUXVXO".as_slice());
-    assert!(rt; reads_as(rt.alloc(), &[text.as_slice()], &codes)?);
+    let text = write_codes(rt.alloc(), &CODES)?;
+    assert!(rt; text.as_slice() == LETTERS);
+    assert!(rt; reads_as(rt.alloc(), &[text.as_slice()], &CODES)?);
     Ok(())
 }
 

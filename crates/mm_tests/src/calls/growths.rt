@@ -1,14 +1,24 @@
-//! Refused growths: of a reader of statements, of `run`, and of questions.
+//! Refused growths: of a device's bytes, of letters, of a reader of statements, of `run`, of
+//! questions, and of saved files.
 //!
 //! The tests whose names begin with `growths` meet want of memory wherever it comes, look at what it
 //! leaves, and go on. With ample memory they are runs of happy paths. `scripts/failing` runs each of
 //! them with each of its requests for memory refused, one alone, in turn.
 
-use crate::databases::DEMO_COMPRESSED;
+use crate::calls::code::{CODES, LETTERS};
+use crate::calls::load::{HOLLOW, failing_reader};
+use crate::databases::{DEMO, DEMO_COMPRESSED};
 use crate::tests::{CHECK, asks_handed};
-use mm_check::{AskFault, CheckFault, Checked, Command, Form, RunFault, Status, check, run};
+use mm_check::{
+    AskFault, CheckFault, Checked, Command, Form, RunFault, SaveFault, Status, check, run, saved,
+    saved_all,
+};
+use mm_code::write_codes;
 use mm_proof::Profile;
-use mm_text::{Counted, File, Seed, Statement, Statements, TextFault};
+use mm_text::{
+    Counted, File, HollowBytes, LoadFault, Seed, Statement, Statements, TextFault, read_all,
+    read_hollow,
+};
 use std::alloc::Global;
 use std::test::Fail;
 
@@ -37,6 +47,60 @@ fn expect(holds: bool, what: &'static str) -> Result<(), Fail> {
 /// wanting again.
 pub(crate) fn once_more<T, E: Drop>(answer: Result<T, E>) -> Result<T, Fail> {
     Ok(answer.ok().ok_or("refused after want of memory")?)
+}
+
+/// The bytes of the database, which come one by one: read once more where memory was wanting the
+/// first time.
+fn read_on(alloc: Global) -> Result<Vec<u8>, Fail> {
+    let text = DEMO_COMPRESSED;
+    match read_all(alloc, &mut failing_reader(text, 0), text.len()) {
+        Err(LoadFault::Memory) => {
+            once_more(read_all(alloc, &mut failing_reader(text, 0), text.len()))
+        }
+        answer => Ok(answer?),
+    }
+}
+
+#[test]
+fn growths_of_read_all(rt: HostRuntime) -> Result<(), Fail> {
+    expect(
+        read_on(rt.alloc())?.as_slice() == DEMO_COMPRESSED,
+        "other bytes",
+    )
+}
+
+/// The bytes of a text, which come one by one, without what its comments say: read once more where
+/// memory was wanting the first time.
+fn read_hollow_on(alloc: Global, text: &'static [u8]) -> Result<HollowBytes, Fail> {
+    match read_hollow(alloc, &mut failing_reader(text, 0), text.len()) {
+        Err(LoadFault::Memory) => {
+            once_more(read_hollow(alloc, &mut failing_reader(text, 0), text.len()))
+        }
+        answer => Ok(answer?),
+    }
+}
+
+#[test]
+fn growths_of_read_hollow(rt: HostRuntime) -> Result<(), Fail> {
+    for (text, hollow) in HOLLOW {
+        let read = read_hollow_on(rt.alloc(), text)?;
+        let is_same = read.bytes.as_slice() == hollow && read.count == text.len();
+        expect(is_same, "other hollow bytes")?;
+    }
+    Ok(())
+}
+
+/// The letters of the codes, written once more where memory was wanting the first time.
+fn write_on(alloc: Global) -> Result<Vec<u8>, Fail> {
+    match write_codes(alloc, &CODES) {
+        Ok(text) => Ok(text),
+        Err(_) => once_more(write_codes(alloc, &CODES)),
+    }
+}
+
+#[test]
+fn growths_of_written_codes(rt: HostRuntime) -> Result<(), Fail> {
+    expect(write_on(rt.alloc())?.as_slice() == LETTERS, "other letters")
 }
 
 /// Whether five more calls answer want of memory.
@@ -210,4 +274,43 @@ fn growths_of_calls(rt: HostRuntime) -> Result<(), Fail> {
     let answer = answers_alike(rt.alloc(), &checked, &asked);
     drop(checked);
     expect(answer?, "another answer after want of memory")
+}
+
+/// The file with the theorem's proof in a form, asked for once more where memory was wanting the
+/// first time.
+fn saved_on(alloc: Global, form: Form) -> Result<(usize, Vec<u8>), Fail> {
+    match saved(alloc, Seed::known(), &FILES, b"th1", form) {
+        Err(SaveFault::Ask(AskFault::Memory) | SaveFault::Check(CheckFault::Memory)) => {
+            once_more(saved(alloc, Seed::known(), &FILES, b"th1", form))
+        }
+        answer => Ok(answer?),
+    }
+}
+
+/// The first file with each proof in a form, asked for once more where memory was wanting the first
+/// time.
+fn saved_all_on(alloc: Global, form: Form) -> Result<Vec<u8>, Fail> {
+    match saved_all(alloc, Seed::known(), &FILES, 0, form) {
+        Err(SaveFault::Ask(AskFault::Memory) | SaveFault::Check(CheckFault::Memory)) => {
+            once_more(saved_all(alloc, Seed::known(), &FILES, 0, form))
+        }
+        answer => Ok(answer?),
+    }
+}
+
+/// The database is saved in a form as these bytes: the proof of its theorem, and all of them.
+fn expect_saved(alloc: Global, form: Form, bytes: &[u8]) -> Result<(), Fail> {
+    let (number, new) = saved_on(alloc, form)?;
+    expect(
+        number == 0 && new.as_slice() == bytes,
+        "another file with the proof",
+    )?;
+    let new = saved_all_on(alloc, form)?;
+    expect(new.as_slice() == bytes, "another file with all proofs")
+}
+
+#[test]
+fn growths_of_saved(rt: HostRuntime) -> Result<(), Fail> {
+    expect_saved(rt.alloc(), Form::Normal, DEMO)?;
+    expect_saved(rt.alloc(), Form::Packed, DEMO_COMPRESSED)
 }

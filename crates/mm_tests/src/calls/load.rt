@@ -12,9 +12,10 @@ use std::test::Fail;
 
 const TEXT: &[u8] = b"abc";
 
-/// Gives `TEXT` byte by byte, but fails at one of its calls, the first of which is number 1.
+/// Gives a text byte by byte, but fails at one of its calls, the first of which is number 1.
 #[derive(Drop)]
-struct FailingReader {
+pub(crate) struct FailingReader {
+    text: &'static [u8],
     calls: usize,
     fails_at: usize,
 }
@@ -25,7 +26,7 @@ impl Read for FailingReader {
         if self.calls == self.fails_at {
             return Err(io::Error::from(ErrorKind::Interrupted));
         }
-        match (TEXT.get(self.calls.saturating_sub(1)), buf.first_mut()) {
+        match (self.text.get(self.calls.saturating_sub(1)), buf.first_mut()) {
             (Some(byte), Some(place)) => {
                 *place = *byte;
                 Ok(1)
@@ -55,16 +56,20 @@ fn refuses_more_than_the_limit(rt: HostRuntime) {
     assert!(rt; answer.err() == Some(LoadFault::TooLong) && faults == 0);
 }
 
-/// A reader that fails at a call, none of whose calls has failed yet.
-fn failing_reader(fails_at: usize) -> Counted<FailingReader>
+/// A reader of a text that fails at a call, or at none where that is 0; none has failed yet.
+pub(crate) fn failing_reader(text: &'static [u8], fails_at: usize) -> Counted<FailingReader>
     ensures { faults_of result ≡ 0 }
 {
-    Counted::new(FailingReader { calls: 0, fails_at })
+    Counted::new(FailingReader {
+        text,
+        calls: 0,
+        fails_at,
+    })
 }
 
 /// Whether the reading stops at the call that fails, and counts it alone.
 fn stops_reading(alloc: Global, fails_at: usize) -> bool {
-    let mut reader = failing_reader(fails_at);
+    let mut reader = failing_reader(TEXT, fails_at);
     let answer = read_all(alloc, &mut reader, 3).err();
     answer == Some(LoadFault::Device)
         && reader.faults() == 1
@@ -81,7 +86,7 @@ fn stops_at_a_failed_read(rt: HostRuntime) {
 
 #[test]
 fn reads_before_a_failed_call(rt: HostRuntime) -> Result<(), Fail> {
-    let mut reader = failing_reader(5);
+    let mut reader = failing_reader(TEXT, 5);
     let bytes = read_all(rt.alloc(), &mut reader, 3)?;
     assert!(rt; bytes.as_slice() == TEXT && reader.faults() == 0);
     Ok(())
@@ -119,7 +124,7 @@ fn writes_all(rt: HostRuntime) -> Result<(), Fail> {
 
 #[test]
 fn counts_failed_reads(rt: HostRuntime) -> Result<(), Fail> {
-    let mut reader = failing_reader(2);
+    let mut reader = failing_reader(TEXT, 2);
     let mut piece = [0; 2];
     assert!(rt; reader.read(&mut piece)? == 1);
     assert!(rt; reader.faults() == 0 && piece == [b'a', 0]);
@@ -160,7 +165,7 @@ fn counts_writes_of_nothing(rt: HostRuntime) -> Result<(), Fail> {
 
 /// Bytes, and what `read_hollow` gives of them: a comment with its line feeds, one with a `$`, one
 /// that is never closed, one with a `$)` in a word, and one with a byte that may not stand there.
-const HOLLOW: [(&[u8], &[u8]); 5] = [
+pub(crate) const HOLLOW: [(&[u8], &[u8]); 5] = [
     (
         b"$c a $. $( says a\n lot\n $) $v x $.",
         b"$c a $. $( \n\n$) $v x $.",

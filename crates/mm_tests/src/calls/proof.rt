@@ -167,10 +167,10 @@ fn texts_of<'a>(alloc: Global, tokens: &[Token<'a>]) -> Result<Vec<&'a [u8]>, Al
 fn read_next<'a>(statements: &mut Statements<'a>, into: &mut Statement<'a>) -> Result<(), Fail>
     ensures { OnOk result (HasForm (plain_statement into.new)) }
 {
-    match statements.read(into) {
-        Ok(true) => Ok(()),
-        Ok(false) => Err(Fail::from("no `$p`")),
-        Err(_) => Err(Fail::from("the text")),
+    if statements.read(into)? {
+        Ok(())
+    } else {
+        Err(Fail::from("no `$p`"))
     }
 }
 
@@ -215,10 +215,7 @@ fn tokens_of<'a>(alloc: Global, statement: &Statement<'a>) -> Result<Vec<&'a [u8
 
 /// A reader of a database.
 fn reader<'a>(alloc: Global, files: &'a [File<'a>]) -> Result<Statements<'a>, Fail> {
-    match Statements::new(alloc, Seed::known(), files) {
-        Ok(statements) => Ok(statements),
-        Err(_) => Err(Fail::from("the files")),
-    }
+    Ok(Statements::new(alloc, Seed::known(), files)?)
 }
 
 /// Takes the next statements up to the first `$p`, and that too: its number, and its proof.

@@ -15,7 +15,7 @@ use mm_code::Code;
 use mm_frame::{Book, LabelId};
 use mm_proof::{ExpandFault, Flat, Packed, Parsed, Profile, Steps, compress, expand, same, verify};
 use mm_text::File;
-use std::alloc::Global;
+use std::alloc::{AllocError, Global};
 use std::process::Abort;
 use std::test::Fail;
 
@@ -34,7 +34,12 @@ fn judge_steps(alloc: Global, book: &Book, id: LabelId, steps: &Steps) -> Result
 }
 
 /// The steps of a proof that is accepted.
-fn accepted_steps(alloc: Global, book: &Book, id: LabelId, tokens: &[&[u8]]) -> Result<Steps, Fail>
+pub(crate) fn accepted_steps(
+    alloc: Global,
+    book: &Book,
+    id: LabelId,
+    tokens: &[&[u8]],
+) -> Result<Steps, Fail>
     requires proof { (place : ℕ) × (s : Sentence)
         × IsProofNumber book.now.statements id.0 place s }
     requires room { sum_by length (texts tokens.now) ≤ most_bytes }
@@ -213,7 +218,7 @@ fn packed_of(alloc: Global, theorem: &Theorem) -> Result<Packed, Fail>
 }
 
 /// The numbers of a compressed proof, with 0 for each tag.
-fn numbers(alloc: Global, codes: &[Code]) -> Result<Vec<u32>, Fail> {
+fn numbers(alloc: Global, codes: &[Code]) -> Result<Vec<u32>, AllocError> {
     let mut numbers = Vec::new(alloc);
     for code in codes {
         match code {
@@ -225,7 +230,7 @@ fn numbers(alloc: Global, codes: &[Code]) -> Result<Vec<u32>, Fail> {
 }
 
 /// Whether the compressed proof has these labels and numbers.
-fn is_packed(
+pub(crate) fn is_packed(
     alloc: Global,
     book: &Book,
     packed: &Packed,
@@ -235,6 +240,14 @@ fn is_packed(
     let found = numbers(alloc, &packed.codes)?;
     Ok(are_labels(book, &packed.labels, labels) && found.as_slice() == codes)
 }
+
+/// The labels of the fully shared proof of `t = t`.
+pub(crate) const LABELS: [&[u8]; 7] = [b"tze", b"tpl", b"weq", b"a2", b"wim", b"a1", b"mp"];
+
+/// Its numbers, with 0 for each tag.
+pub(crate) const NUMBERS: [u32; 25] = [
+    1, 2, 3, 0, 1, 4, 0, 1, 1, 4, 0, 1, 5, 0, 10, 10, 11, 6, 12, 9, 1, 1, 7, 8, 8,
+];
 
 /// Whether the fully shared proof of the first `$p` of a database has these labels and numbers.
 fn packs(alloc: Global, bytes: &[u8], labels: &[&[u8]], codes: &[u32]) -> Result<bool, Fail> {
@@ -295,10 +308,6 @@ fn fully_shared(rt: HostRuntime) -> Result<(), Fail> {
         tt weq wim tt a2 tt tze tpl tt tt a1 mp mp $.",
         ],
     )?;
-    let listed: [&[u8]; 7] = [b"tze", b"tpl", b"weq", b"a2", b"wim", b"a1", b"mp"];
-    let shared = [
-        1, 2, 3, 0, 1, 4, 0, 1, 1, 4, 0, 1, 5, 0, 10, 10, 11, 6, 12, 9, 1, 1, 7, 8, 8,
-    ];
-    assert!(rt; packs(alloc, &normal, &listed, &shared)?);
+    assert!(rt; packs(alloc, &normal, &LABELS, &NUMBERS)?);
     Ok(())
 }

@@ -1,11 +1,25 @@
-//! Refused growths: of both stores. After one both lists are as before.
+//! Refused growths: of both stores, where after one both lists are as before, and of fully shared
+//! proofs.
 
-ghost use Rattle.std.specs.Prelude.{◌≡◌, ◌<◌, ◌-◌, ◌++◌, ◌∷◌, [], ℕ, List, length};
-ghost use Rattle.std.specs.Prelude.{slice_get, IsTrue, OnOk, Some};
+ghost use Rattle.std.specs.Prelude.{◌≡◌, ◌<◌, ◌≤◌, ◌-◌, ◌++◌, ◌∷◌, [], ℕ, List, length, take};
+ghost use Rattle.std.specs.Prelude.{slice_get, false, IsTrue, OnOk, Some};
+ghost use Rattle.std.specs.List.{sum_by};
+ghost use Rattle.mm_text.specs.Files.{most_bytes};
+ghost use Rattle.mm_frame.specs.Sentence.{Sentence};
+ghost use Rattle.mm_proof.specs.OneTree.{MakeOneTree};
+ghost use Rattle.mm_proof.specs.Steps.{AreSteps, IsProofNumber};
 ghost use Rattle.mm_proof.specs.Stores.{numbers_in};
+ghost use Rattle.mm_proof.specs.Verified.{OfMoves};
+ghost use Rattle.mm_code.specs.Layout.{texts};
 
-use mm_frame::Sym;
-use mm_proof::{Flat, Rows, Store};
+use crate::calls::growths::once_more;
+use crate::calls::proof::forms::{LABELS, NUMBERS, accepted_steps, is_packed};
+use crate::calls::proof::{Theorem, first_theorem};
+use crate::databases::DEMO;
+use mm_frame::{Book, LabelId, Sym};
+use mm_proof::{Flat, Packed, Rows, Steps, Store, compress};
+use mm_text::File;
+use std::alloc::Global;
 use std::test::Fail;
 
 const FIRST: &[Sym] = &[Sym(1), Sym(2)];
@@ -91,4 +105,41 @@ fn go_on<S: Store + Drop>(mut store: S) -> Result<(), Fail>
 fn growths_of_stores(rt: HostRuntime) -> Result<(), Fail> {
     go_on(Flat::new(rt.alloc()))?;
     go_on(Rows::new(rt.alloc()))
+}
+
+/// The fully shared proof of a whole proof's tree, asked for once more where memory was wanting the
+/// first time.
+fn compress_on(alloc: Global, book: &Book, id: LabelId, steps: &Steps) -> Result<Packed, Fail>
+    requires steps { AreSteps book.now.statements id.0 steps.now.moves }
+    requires whole { steps.now.front ≡ false }
+    requires makes { OfMoves book.now.statements id.0 steps.now.moves
+        (λ place s moves. MakeOneTree (take place book.now.statements) moves) }
+{
+    match compress(alloc, book, id, steps) {
+        Ok(packed) => Ok(packed),
+        Err(_) => once_more(compress(alloc, book, id, steps)),
+    }
+}
+
+/// Whether the theorem's fully shared proof is that of `t = t`.
+fn packs_on(alloc: Global, theorem: &Theorem) -> Result<bool, Fail>
+    requires proof { (place : ℕ) × (s : Sentence)
+        × IsProofNumber theorem.now.book.statements theorem.now.id.0 place s }
+    requires room { sum_by length (texts theorem.now.tokens.items) ≤ most_bytes }
+{
+    let steps = accepted_steps(alloc, &theorem.book, theorem.id, &theorem.tokens)?;
+    let packed = compress_on(alloc, &theorem.book, theorem.id, &steps)?;
+    is_packed(alloc, &theorem.book, &packed, &LABELS, &NUMBERS)
+}
+
+#[test]
+fn growths_of_compress(rt: HostRuntime) -> Result<(), Fail> {
+    let files = [File {
+        name: b"demo0.mm",
+        bytes: DEMO,
+    }];
+    let theorem = first_theorem(rt.alloc(), &files)?;
+    let answer = packs_on(rt.alloc(), &theorem);
+    drop(theorem);
+    expect(answer?, "another proof")
 }
