@@ -145,8 +145,8 @@ fn codes_of(
     ensures spelled { IfOk result (λ codes. All HasSpelling codes.items) }
     ensures exact { IfOk result (λ codes. All IsExact codes.items) }
 {
-    let mut codes = Vec::new(alloc);
-    let mut kept = SubtreeSet::new(alloc, seed);
+    let mut codes = Vec::with_capacity(alloc, steps.len())?;
+    let mut kept = SubtreeSet::with_room(alloc, seed, repeated.len())?;
     for one in steps {
         encode(&mut codes, &mut kept, labels, repeated, *one)?;
     }
@@ -201,7 +201,7 @@ pub fn compress(
     ensures spelled { IfOk result (λ packed. All HasSpelling packed.codes.items) }
     ensures exact { IfOk result (λ packed. All IsExact packed.codes.items) }
 {
-    let mut shared = SharedSteps::new(alloc, book.seed());
+    let mut shared = SharedSteps::with_room(alloc, book.seed(), steps.moves.len())?;
     build(alloc, &mut shared, book, id, steps)?;
     let own = book.frame(id);
     pack(alloc, book.seed(), own.hypotheses(), &shared.steps)

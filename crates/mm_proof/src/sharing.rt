@@ -1,6 +1,6 @@
 //! The steps of a fully shared proof, by the numbers of its subtrees.
 
-ghost use Rattle.std.specs.Prelude.{◌≡◌, [], OnOk};
+ghost use Rattle.std.specs.Prelude.{◌≡◌, [], OnOk, IfOk};
 ghost use Rattle.mm_proof.specs.Mirror.CodeSharing.{Shares, IsRepeat};
 
 use crate::builder::Builder;
@@ -64,17 +64,21 @@ pub(crate) struct SharedSteps {
 }
 
 impl SharedSteps {
-    /// No steps, whose trees' hashes begin from the seed. It takes no memory.
-    pub(crate) fn new(alloc: Global, seed: Seed) -> SharedSteps
-        ensures table { result.table ≡ [] }
-        ensures made { result.made ≡ [] }
-        ensures steps { result.steps.items ≡ [] }
+    /// No steps, whose trees' hashes begin from the seed, with room for so many.
+    pub(crate) fn with_room(
+        alloc: Global,
+        seed: Seed,
+        count: usize,
+    ) -> Result<SharedSteps, AllocError>
+        ensures table { IfOk result (λ shared. shared.table ≡ []) }
+        ensures made { IfOk result (λ shared. shared.made ≡ []) }
+        ensures steps { IfOk result (λ shared. shared.steps.items ≡ []) }
     {
-        SharedSteps {
-            table: Subtrees::new(alloc, seed),
-            made: SubtreeSet::new(alloc, seed),
-            steps: Vec::new(alloc),
-        }
+        Ok(SharedSteps {
+            table: Subtrees::with_room(alloc, seed, count)?,
+            made: SubtreeSet::with_room(alloc, seed, count)?,
+            steps: Vec::with_capacity(alloc, count)?,
+        })
     }
 }
 

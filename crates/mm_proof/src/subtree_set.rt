@@ -1,7 +1,7 @@
 //! Lists of subtrees without repetition, with the place of each.
 
 ghost use Rattle.std.specs.Prelude.{◌≡◌, ◌≤◌, ◌↔◌, [], length, slice_get, Some, Contains};
-ghost use Rattle.std.specs.Prelude.{OnOk, IsTrue};
+ghost use Rattle.std.specs.Prelude.{OnOk, IfOk, IsTrue};
 ghost use Rattle.mm_proof.specs.Mirror.CodeSharing.{Adds};
 
 use crate::subtrees::Subtree;
@@ -33,6 +33,19 @@ impl SubtreeSet {
         SubtreeSet {
             set: IndexSet::with_hasher(alloc, seed),
         }
+    }
+
+    /// No subtrees, whose hashes begin from the seed, with room for so many.
+    pub(crate) fn with_room(
+        alloc: Global,
+        seed: Seed,
+        count: usize,
+    ) -> Result<SubtreeSet, AllocError>
+        ensures { IfOk result (λ trees. trees ≡ []) }
+    {
+        Ok(SubtreeSet {
+            set: IndexSet::with_capacity_and_hasher(alloc, count, seed)?,
+        })
     }
 
     /// How many there are.

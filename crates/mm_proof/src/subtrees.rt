@@ -47,13 +47,13 @@ impl Model for Subtrees {
 }
 
 impl Subtrees {
-    /// No rows, whose hashes begin from the seed. It takes no memory.
-    pub(crate) fn new(alloc: Global, seed: Seed) -> Subtrees
-        ensures { result ≡ [] }
+    /// No rows, whose hashes begin from the seed, with room for so many.
+    pub(crate) fn with_room(alloc: Global, seed: Seed, count: usize) -> Result<Subtrees, AllocError>
+        ensures { IfOk result (λ table. table ≡ []) }
     {
-        Subtrees {
-            rows: IndexSet::with_hasher(alloc, seed),
-        }
+        Ok(Subtrees {
+            rows: IndexSet::with_capacity_and_hasher(alloc, count, seed)?,
+        })
     }
 
     // The number of a row.

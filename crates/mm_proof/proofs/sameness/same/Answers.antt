@@ -4,7 +4,7 @@ use Rattle.mm_proof.proofs.SameTrees.{same_trees_made}
 use Rattle.mm_proof.proofs.sameness.same.Goals as goal
 
 pub build-requires-clause-nothing : goal.build-requires-clause-nothing
-build-requires-clause-nothing c = no_rows _ c.args.book.now.statements c.new-table.ensures
+build-requires-clause-nothing c = no_rows _ c.args.book.now.statements c.in_ok-table.ensures
 
 pub build-requires-2-clause-nothing : goal.build-requires-2-clause-nothing
 build-requires-2-clause-nothing c =
