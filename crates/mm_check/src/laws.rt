@@ -97,8 +97,8 @@ pub fn one_all_saved()
 
 /// Where all proofs of a file that was handed in are to be saved in a form, one answer is due: the
 /// bytes; or, in normal form, the label of the first theorem whose normal proof is too long; and
-/// never both. Where bytes are due, no fault is told but F3, exactly if the files would have too many
-/// bytes, and want of memory.
+/// never both. Where bytes are due, no fault is told but F3, exactly if the files would have too
+/// many bytes, and want of memory.
 pub fn one_save_all_answer()
     ensures { OneSaveAllAnswer }
 {}

@@ -16,8 +16,8 @@ pub enum Piece {
     Value(u32),
 }
 
-// A symbol is stored as its number, and a place p as `u32::MAX - p`. Both numbers are below this, so
-// that the two are apart.
+// A symbol is stored as its number, and a place p as `u32::MAX - p`. Both numbers are below this,
+// so that the two are apart.
 const NUMBERS: u32 = 2_147_483_648;
 
 /// A piece as it is stored, in half of the bytes: the pieces of most assertions aren't in the

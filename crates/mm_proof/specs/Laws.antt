@@ -17,7 +17,9 @@ use Rattle.mm_proof.specs.Proof.{Passed, IsMovesFault}
 
 -- Trees that fit are told by their spelling: no other trees that fit have it.
 abbrev pub OneFit : Type 0
-OneFit = (before : List Sentence) (t u : Trees) → AllMeant before → TreesFit before t → TreesFit before u
+OneFit =
+    (before : List Sentence) (t u : Trees)
+    → AllMeant before → TreesFit before t → TreesFit before u
     → spelling t ≡ spelling u → t ≡ u
 
 -- Trees that derive expressions fit, and so are told by their spelling; and they derive the same.

@@ -17,7 +17,8 @@ pub record IsNumberOfLabel (statements : List Sentence) (id : ℕ) (label : List
 
 -- these are the numbers of the labels, one by one
 abbrev pub AreLabelsOf : List Sentence → List LabelId → List (List ℕ) → Type 0
-AreLabelsOf statements ids labels = AllZip (λ id label. IsNumberOfLabel statements id.0 label) ids labels
+AreLabelsOf statements ids labels =
+    AllZip (λ id label. IsNumberOfLabel statements id.0 label) ids labels
 
 -- of the spelling of the tree that the moves make this holds
 abbrev pub OfSpelling : List Sentence → List (Move (List ℕ)) → (List (List ℕ) → Type 0) → Type 0

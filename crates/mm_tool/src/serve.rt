@@ -5,7 +5,8 @@ ghost use Rattle.std.specs.Prelude.{IfOk, IfErr, IfSome, OnOk, OnErr};
 ghost use Rattle.mm_text.specs.Device.{faults_of, inner_of};
 ghost use Rattle.mm_text.specs.Files.{plain_file};
 ghost use Rattle.mm_check.specs.Status.{number_of};
-ghost use Rattle.mm_tool.specs.Ending.{BreaksOff, Ends, EndsWithoutWords, AnswersWords, IsReplyOver};
+ghost use Rattle.mm_tool.specs.Ending.{BreaksOff, Ends, EndsWithoutWords, AnswersWords};
+ghost use Rattle.mm_tool.specs.Ending.{IsReplyOver};
 ghost use Rattle.mm_tool.specs.Answer.{outcome_of, quiet};
 ghost use Rattle.mm_tool.specs.Ending.{Stops, TellsNotes};
 ghost use Rattle.mm_tool.specs.Ending.{AsksNamed, IsSameReplyOver, StopsSame};
@@ -321,7 +322,8 @@ pub(crate) fn start<A: Arguments, F: Folder, O: Write, E: Write>(
     ensures ends { ((words : _) × IfSome (A.words arguments.now) (λ all. words ≡ all)
         × Ends O.contents E.contents (F.holds folder.now) (F.may_fail folder.now) texts.now
         BYTE_LIMIT words result out.old out.new err.old err.new)
-        ⊎ EndsWithoutWords E.contents (A.may_fail arguments.now) result out.old out.new err.old err.new }
+        ⊎ EndsWithoutWords E.contents (A.may_fail arguments.now) result
+        out.old out.new err.old err.new }
 {
     let words = match arguments.words(alloc) {
         Ok(words) => words,
