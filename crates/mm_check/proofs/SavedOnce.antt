@@ -447,7 +447,7 @@ again_saved profile f files label before s after file text named p put =
       file = record file { bytes = bytes };
       handed = handed_anew files s.first.file file bytes p.handed;
       whole = sym (put_again s file.bytes (10 ∷ text)
-          (proofs_stand_in_spans_holds files before s after file p.reads
+          (proofs_stand_in_spans_holds files before s after None file p.reads
           (provable_proof s p.complete) p.handed));
     }
 

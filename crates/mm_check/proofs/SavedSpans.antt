@@ -107,7 +107,7 @@ spans_rise files statements number file reads there =
     follow before between after s t split is other =
         let home : s.first.file ≡ number = theorem_home number s is in
         let there : t.first.file ≡ number = theorem_home number t other in
-        proof_spans_follow_holds files before between after s t
+        proof_spans_follow_holds files before between after s t None
         (subst (λ (ss : List PlainStatement). Reads files ss None) split reads)
         (provable_proof s (theorem_complete number s is))
         (provable_proof t (theorem_complete number t other)) (home ∙ sym there)
@@ -115,7 +115,7 @@ spans_rise files statements number file reads there =
     within : EachTheorem number (EndsWithin (length file.bytes)) statements
     within before after s split is =
         ends_within s file.bytes
-        (proofs_stand_in_spans_holds files before s after file
+        (proofs_stand_in_spans_holds files before s after None file
         (subst (λ (ss : List PlainStatement). Reads files ss None) split reads)
         (provable_proof s (theorem_complete number s is))
         (ap (slice_get files) (theorem_home number s is) ∙ there))

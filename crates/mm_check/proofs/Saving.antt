@@ -117,7 +117,9 @@ holds_span files statements place s number span reads there complete home same =
     let parted : statements ≡ take place statements ++ s ∷ drop (suc place) statements = split_at statements place s there in
     let (file, handed) = home_file files statements place s reads there in
     let stands : IsProofSpan s file.bytes =
-    proofs_stand_in_spans_holds files (take place statements) s (drop (suc place) statements) file (subst (λ (ss : List PlainStatement). Reads files ss None) parted reads) (provable_proof s complete) handed in
+    proofs_stand_in_spans_holds files (take place statements) s (drop (suc place) statements) None
+    file (subst (λ (ss : List PlainStatement). Reads files ss None) parted reads)
+    (provable_proof s complete) handed in
     let (start, stop) = within_bytes s file.bytes stands in
     (file, ap (slice_get files) home ∙ handed, subst (λ (p : ℕ × ℕ). p.0 ≤ length file.bytes) (sym same) start, subst (λ (p : ℕ × ℕ). p.1 ≤ length file.bytes) (sym same) stop)
 

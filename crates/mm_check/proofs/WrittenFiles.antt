@@ -104,7 +104,7 @@ span_stands profile files told number form file old new s w next is =
     let complete = theorem_complete number s is in
     let home = theorem_home number s is in
     let stands : IsProofSpan s w.own.bytes =
-    proofs_stand_in_spans_holds files w.taken s new.statements w.own
+    proofs_stand_in_spans_holds files w.taken s new.statements None w.own
     (next_read profile files told number form file old new s w next) (provable_proof s complete)
     (ap (slice_get files) home ∙ w.handed) in
     let (start, stop) = within_bytes s w.own.bytes stands in
@@ -119,7 +119,8 @@ follows files number at taken rest s holds provable home (inr (before, t, betwee
     let parted : Holds files (before ++ t ∷ between) s rest =
     subst (λ (ss : List PlainStatement). Holds files ss s rest) parts holds in
     let after : t.span.1 ≤ s.span.0 =
-    proof_spans_follow_holds files before between rest t s parted kind provable (same ∙ sym home) in
+    proof_spans_follow_holds files before between rest t s None parted kind provable
+    (same ∙ sym home) in
     omega (arith, after, ends)
 
 pub span_follows : (profile : Profile) (files : List PlainFile) (told : List Sentence) (number : ℕ)

@@ -7,8 +7,9 @@ use Rattle.mm_text.specs.Token.{PlainToken}
 use Rattle.mm_text.specs.Statement.{PlainStatement, EndsInProof, IsTail, SpellsAll}
 use Rattle.mm_text.specs.Items.{plain_tokens, items}
 use Rattle.mm_text.specs.Replaced.{ProofSpansFollow}
+use Rattle.mm_text.proofs.ItemFronts.{plain_tokens-append}
 use Rattle.mm_text.proofs.RisingTokens.{tokens_in_order}
-use Rattle.mm_text.proofs.ReplacedReading.{Parts, parts_of, spells_append}
+use Rattle.mm_text.proofs.ReplacedReading.{Parts, parts_of, spells_append, reads_front}
 use Rattle.mm_text.proofs.StatementHomes.{ends_home}
 
 -- an element in one part of a list, and one in a later part
@@ -31,12 +32,14 @@ ends_of tokens before s after p is =
     subst (λ (kind : Kind). IsTail s kind p.here.tail) is p.here.ends
 
 pub proof_spans_follow_holds : ProofSpansFollow
-proof_spans_follow_holds files before between after s t reads p q home =
-    let tokens : List PlainToken = plain_tokens (items files) in
+proof_spans_follow_holds files before between after s t ending reads p q home =
     let all : List PlainStatement = (before ++ s ∷ between) ++ t ∷ after in
-    let finished : tokens ≡ reads.finished = reads.whole ∙ append-nil reads.finished in
+    let f = reads_front (items files) all ending reads in
+    let tokens : List PlainToken = plain_tokens f.front in
+    let finished : tokens ≡ f.viable.finished =
+    f.viable.whole ∙ append-nil f.viable.finished in
     let a = parts_of tokens (before ++ s ∷ between) t after
-    (subst (λ (l : List PlainToken). SpellsAll l all) (sym finished) reads.spelled) in
+    (subst (λ (l : List PlainToken). SpellsAll l all) (sym finished) f.viable.spelled) in
     let b = parts_of a.front before s between a.earlier in
     let rest : List PlainToken = a.own ++ a.back in
     let split : tokens ≡ (b.front ++ (b.own ++ b.back)) ++ rest =
@@ -62,13 +65,19 @@ proof_spans_follow_holds files before between after s t reads p q home =
     let behind : List PlainToken = t.proof ++ l.stop ∷ [] in
     let other : a.own ≡ later ++ l.equals ∷ behind =
     a.here.whole ∙ ap (λ (x : List PlainToken). later ++ x) l.tokens in
-    let parted : tokens
-    ≡ (b.front ++ stated) ++ k.stop ∷ ((b.back ++ later) ++ l.equals ∷ (behind ++ a.back)) =
-    split ∙ (λ i. (b.front ++ (own i ++ b.back)) ++ (other i ++ a.back))
-    ∙ two_within b.front stated k.stop b.back later l.equals behind a.back in
-    let one = ends_home files all before (between ++ t ∷ after) reads s first k in
-    let two = ends_home files all (before ++ s ∷ between) after reads t a l in
+    let last : List PlainToken = a.back ++ plain_tokens f.rest in
+    let parted : plain_tokens (items files)
+    ≡ (b.front ++ stated) ++ k.stop ∷ ((b.back ++ later) ++ l.equals ∷ (behind ++ last)) =
+    ap plain_tokens f.cut ∙ plain_tokens-append f.front f.rest
+    ∙ ap (λ (x : List PlainToken). x ++ plain_tokens f.rest) split
+    ∙ append_assoc (b.front ++ (b.own ++ b.back)) rest (plain_tokens f.rest)
+    ∙ ap (λ (x : List PlainToken). (b.front ++ (b.own ++ b.back)) ++ x)
+    (append_assoc a.own a.back (plain_tokens f.rest))
+    ∙ (λ i. (b.front ++ (own i ++ b.back)) ++ (other i ++ last))
+    ∙ two_within b.front stated k.stop b.back later l.equals behind last in
+    let one = ends_home files all before (between ++ t ∷ after) f s first k in
+    let two = ends_home files all (before ++ s ∷ between) after f t a l in
     let less : k.stop.at < l.equals.at =
-    tokens_in_order files (b.front ++ stated) (b.back ++ later) (behind ++ a.back) k.stop l.equals
+    tokens_in_order files (b.front ++ stated) (b.back ++ later) (behind ++ last) k.stop l.equals
     parted (one.1 ∙ home ∙ sym two.0) in
     omega (arith, ap (λ (x : ℕ × ℕ). x.1) k.span, ap (λ (x : ℕ × ℕ). x.0) l.span)

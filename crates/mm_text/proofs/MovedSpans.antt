@@ -14,7 +14,7 @@ use Rattle.mm_text.specs.Alike.{token_on, statement_on}
 use Rattle.mm_text.specs.Replaced.{IsMoved}
 use Rattle.mm_text.proofs.AlikeFronts.{statement_alike}
 use Rattle.mm_text.proofs.ReplacedPieces.{further, further_here, further_elsewhere}
-use Rattle.mm_text.proofs.ReplacedReading.{Parts, spells_append, spelled_once}
+use Rattle.mm_text.proofs.ReplacedReading.{Parts, spells_append, spelled_once, without_rest}
 use Rattle.mm_text.proofs.StatementHomes.{ends_home}
 use Rattle.mm_text.proofs.Lists.{append_split, cons_parts, nil_split, same_length}
 
@@ -128,7 +128,8 @@ module _ (number end other_end : ℕ) where
         subst (λ (kind : Kind). IsTail s kind p.here.tail) is p.here.ends in
         let l : EndsInProof t b.tail = subst (λ (kind : Kind). IsTail t kind b.tail) other b.ends in
         let (equals, stop) = signs_alike was now p.own others s t e same p.here b k l is other in
-        let (one, two) = ends_home files statements before after v s p k in
+        let (one, two) =
+        ends_home files statements before after (without_rest (items files) statements v) s p k in
         moved_by_signs s t p.here.tail b.tail k l (ap (λ (x : PlainStatement). x.first) same) equals
         stop one two
 

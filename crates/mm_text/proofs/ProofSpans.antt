@@ -5,14 +5,14 @@ use Rattle.std.proofs.lemmas.List.{map-append}
 use Rattle.std.proofs.lemmas.Option.{same_Some}
 use Rattle.mm_text.specs.Token.{PlainToken, tokens_from}
 use Rattle.mm_text.specs.Files.{PlainFile}
+use Rattle.mm_text.specs.Statement.{PlainStatement}
 use Rattle.mm_text.specs.Items.{Shown, Clear, without_comments, items}
 use Rattle.mm_text.specs.Replaced.{ProofsStandInSpans}
 use Rattle.mm_text.proofs.CutTokens.{IsSpaced, ReplacedBetween, replaced_between}
 use Rattle.mm_text.proofs.CutShown.{clear_shown}
-use Rattle.mm_text.proofs.FollowedItems.{run_stands}
-use Rattle.mm_text.proofs.ReplacedReading.{proof_at}
+use Rattle.mm_text.proofs.ReplacedReading.{reads_front, proof_at}
 use Rattle.mm_text.proofs.ReplacedProofs.{home}
-use Rattle.mm_text.proofs.ReplacedFiles.{equals_home}
+use Rattle.mm_text.proofs.StatementHomes.{front_run_stands, ends_home}
 
 -- a text that may stand between tokens
 one_feed : IsSpaced (10 ∷ [])
@@ -33,10 +33,15 @@ apart number bytes passed tokens equals proof stop rest clear whole =
     (one.before, two.after, replaced_between number bytes (10 ∷ []) one.before equals two.before stop two.after all one_feed)
 
 pub proofs_stand_in_spans_holds : ProofsStandInSpans
-proofs_stand_in_spans_holds files before s after file reads p there =
-    let a = proof_at (items files) before s after reads p in
-    let st = run_stands files a.front a.back a.ends.equals (s.proof ++ a.ends.stop ∷ []) a.whole in
-    let number : st.number ≡ s.first.file = sym (home files a.ends.equals (s.proof ++ a.ends.stop ∷ []) st) ∙ equals_home files before s after reads p in
+proofs_stand_in_spans_holds files before s after ending file reads p there =
+    let all : List PlainStatement = before ++ s ∷ after in
+    let f = reads_front (items files) all ending reads in
+    let a = proof_at f.front before s after f.viable p in
+    let behind : List PlainToken = s.proof ++ a.ends.stop ∷ [] in
+    let st = front_run_stands files all f a.front a.back a.ends.equals behind a.whole in
+    let number : st.number ≡ s.first.file =
+    sym (home files a.ends.equals behind st)
+    ∙ (ends_home files all before after f s a.parts a.ends).0 in
     let same_file : st.place.file ≡ file = same_Some st.place.file file (sym st.place.there ∙ ap (slice_get files) number ∙ there) in
     let r = st.place.reached in
     let (earlier, later, b) = apart st.number st.place.file.bytes st.passed r.tokens a.ends.equals s.proof a.ends.stop st.rest r.clear st.place.whole in

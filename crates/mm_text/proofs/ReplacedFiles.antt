@@ -3,7 +3,6 @@ use Rattle.std.proofs.Common.{◌≡◌, ℕ, ◌+◌, List, ◌∷◌, ◌++◌
 use Rattle.std.proofs.Common.{subst, Option, Some, None}
 use Rattle.std.specs.Prelude.{slice_get, slice_set}
 use Rattle.std.proofs.lemmas.Option.{same_Some}
-use Rattle.mm_text.specs.declared.statement.Kind.TheVariants.{Provable}
 use Rattle.mm_text.specs.Token.{tokens_from}
 use Rattle.mm_text.specs.Files.{PlainFile}
 use Rattle.mm_text.specs.Statement.{PlainStatement}
@@ -13,7 +12,7 @@ use Rattle.mm_text.specs.Alike.{token_on}
 use Rattle.mm_text.specs.Replaced.{IsProofText, with_span, with_bytes, ReplacedProofsAreRead}
 use Rattle.mm_text.proofs.TokenLaws.{BeginsWithSpace}
 use Rattle.mm_text.proofs.ReplacedPieces.{further, IsProofText as Spaced}
-use Rattle.mm_text.proofs.ReplacedReading.{proof_at}
+use Rattle.mm_text.proofs.ReplacedReading.{without_rest, proof_at}
 use Rattle.mm_text.proofs.ReplacedProofs.{replaced_proofs_are_read}
 use Rattle.mm_text.proofs.StatementHomes.{ends_home}
 use Rattle.mm_text.proofs.MovedSpans.{moved_behind}
@@ -24,18 +23,14 @@ spaced text t = record {
   tokens = t.tokens;
 }
 
--- the `$=` is of the file of the first token
-pub equals_home : (files : List PlainFile) (before : List PlainStatement) (s : PlainStatement) (after : List PlainStatement) (reads : Reads files (before ++ s ∷ after) None) (p : s.kind ≡ Provable)
-    → (proof_at (items files) before s after reads p).ends.equals.file ≡ s.first.file
-equals_home files before s after reads p =
-    let a = proof_at (items files) before s after reads p in
-    (ends_home files (before ++ s ∷ after) before after reads s a.parts a.ends).0
-
 pub replaced_proofs_are_read_holds : ReplacedProofsAreRead
 replaced_proofs_are_read_holds files before s after file text reads p there is_text =
     let a = proof_at (items files) before s after reads p in
     let r = replaced_proofs_are_read files before s after text reads a (spaced text is_text) in
-    let number : r.number ≡ s.first.file = sym r.own_home ∙ equals_home files before s after reads p in
+    let all : List PlainStatement = before ++ s ∷ after in
+    let f = without_rest (items files) all reads in
+    let number : r.number ≡ s.first.file =
+    sym r.own_home ∙ (ends_home files all before after f s a.parts a.ends).0 in
     let same_file : r.file ≡ file = same_Some r.file file (sym r.there ∙ ap (slice_get files) number ∙ there) in
     let changed : slice_set files r.number (record r.file { bytes = take s.span.0 r.file.bytes ++ (text ++ drop s.span.1 r.file.bytes) }) ≡ with_bytes files s.first.file (with_span file.bytes s.span text) =
     (λ i. slice_set files (number i) (record (same_file i) { bytes = take s.span.0 (same_file i).bytes ++ (text ++ drop s.span.1 (same_file i).bytes) }))
@@ -52,6 +47,6 @@ replaced_proofs_are_read_holds files before s after file text reads p there is_t
       reads = subst (λ (o : PlainStatement). Reads (with_bytes files s.first.file (with_span file.bytes s.span text)) (before ++ o ∷ r.later) None) own
           (subst (λ (fs : List PlainFile). Reads fs (before ++ r.own ∷ r.later) None) changed r.reads);
       same = r.same;
-      moved = moved_behind s.first.file s.span.1 end files (before ++ s ∷ after) reads before s
-          after a.parts r.rest r.later alike r.spelled;
+      moved = moved_behind s.first.file s.span.1 end files all reads before s after a.parts r.rest
+          r.later alike r.spelled;
     }

@@ -1,6 +1,6 @@
 -- The reading of items in which a statement has another proof.
 use Rattle.std.proofs.Common.{◌≡◌, ℕ, ◌+◌, List, [], ◌∷◌, ◌++◌, length, map, refl, sym, ap, ◌∙◌}
-use Rattle.std.proofs.Common.{subst, codes, None, inr, append_assoc, append-nil}
+use Rattle.std.proofs.Common.{subst, codes, Option, Some, None, inl, append_assoc, append-nil}
 use Rattle.std.specs.List.{AllZip}
 use Rattle.std.proofs.lemmas.List.{map-append, append_cancel_left, append_cancel_right}
 use Rattle.mm_text.specs.declared.statement.Kind.{Kind}
@@ -9,11 +9,12 @@ use Rattle.mm_text.specs.Token.{PlainToken}
 use Rattle.mm_text.specs.Files.{PlainFile}
 use Rattle.mm_text.specs.Statement.{PlainStatement, AreSymbols, IsHead, FitsCount, IsTail, EndsInProof, Spells, SpellsAll}
 use Rattle.mm_text.specs.Items.{Item, Plain, Wrong, Inclusion, End, plain_tokens, HoldNoFault, items}
-use Rattle.mm_text.specs.Reading.{Viable, Reads}
+use Rattle.mm_text.specs.Blocks.{AreBalanced}
+use Rattle.mm_text.specs.Reading.{PlainFault, Viable, IsBeginning, ReadsAs, Reads}
 use Rattle.mm_text.specs.Alike.{statement_on, token_on, item_on}
 use Rattle.mm_text.specs.Mirror.Reader.{Between, InProof, PlainScope, outermost, PlainReading, with_statement, scope_after_statement, reading_of}
 use Rattle.mm_text.proofs.ItemFronts.{plain_tokens-append, clean_behind}
-use Rattle.mm_text.proofs.PartTokens.{IsPartProof}
+use Rattle.mm_text.proofs.PartTokens.{IsPartProof, beginning_of_part}
 use Rattle.mm_text.proofs.StepLaws.{read_more, read_whole}
 use Rattle.mm_text.proofs.ReaderRuns.{runs_parts}
 use Rattle.mm_text.proofs.StatementRuns.{spelled_run, whole_run, proof_stop}
@@ -102,6 +103,83 @@ token_at (Plain u ∷ its) (b ∷ before) t after e =
 token_at (Wrong rule u ∷ its) before t after e = further (Wrong rule u) its before t after refl refl (token_at its before t after e)
 token_at (Inclusion u ∷ its) before t after e = further (Inclusion u) its before t after refl refl (token_at its before t after e)
 token_at (End file ∷ its) before t after e = further (End file) its before t after refl refl (token_at its before t after e)
+
+-- ---- fronts of a viable front
+
+clean_front : (a b : List Item) → HoldNoFault (a ++ b) → HoldNoFault a
+clean_front [] b h = tt
+clean_front (Plain t ∷ a) b h = clean_front a b h
+clean_front (Wrong rule t ∷ a) b h = h
+clean_front (Inclusion t ∷ a) b h = clean_front a b h
+clean_front (End file ∷ a) b h = clean_front a b h
+
+-- a front of viable items whose tokens are statements and a beginning of one is viable
+viable_front : (its front rest : List Item) (all before : List PlainStatement)
+    (begun finished left : List PlainToken) → Viable its all begun
+    → its ≡ front ++ rest → plain_tokens front ≡ finished ++ left → SpellsAll finished before
+    → IsBeginning left → AreBalanced before → Viable front before left
+viable_front its front rest all before begun finished left v cut told said begins paired = record {
+  clean = clean_front front rest (subst HoldNoFault cut v.clean);
+  finished = finished;
+  whole = told;
+  spelled = said;
+  begun = begins;
+  balanced = paired;
+  included = λ pre post t e. v.included pre (post ++ rest) t (longer pre post (Inclusion t) e);
+  ended = λ pre post file e. v.ended pre (post ++ rest) file (longer pre post (End file) e);
+  top_ended = λ pre post e. v.top_ended pre (post ++ rest) (longer pre post (End 0) e);
+}
+  where
+    longer : (pre post : List Item) (item : Item) → front ≡ pre ++ item ∷ post
+        → its ≡ pre ++ item ∷ (post ++ rest)
+    longer pre post item e =
+        cut ∙ ap (λ (l : List Item). l ++ rest) e ∙ append_assoc pre (item ∷ post) rest
+
+-- a front of the items that reads as these statements, with none begun after them
+pub record WholeFront (its : List Item) (statements : List PlainStatement) : Type 0 where
+  pub front : List Item
+  pub rest : List Item
+  pub cut : its ≡ front ++ rest
+  pub viable : Viable front statements []
+
+-- all of the items
+abbrev pub without_rest : (its : List Item) (statements : List PlainStatement)
+    → Viable its statements [] → WholeFront its statements
+without_rest its statements v = record {
+  front = its;
+  rest = [];
+  cut = sym (append-nil its);
+  viable = v;
+}
+
+-- those up to what is begun
+finished_front : (its : List Item) (statements : List PlainStatement)
+    (unfinished : List PlainToken) → Viable its statements unfinished → WholeFront its statements
+finished_front its statements [] v = without_rest its statements v
+finished_front its statements (t ∷ unfinished) v =
+    let p = token_at its v.finished t unfinished v.whole in
+    record {
+      front = p.front;
+      rest = Plain t ∷ p.back;
+      cut = p.whole;
+      viable = viable_front its p.front (Plain t ∷ p.back) statements statements (t ∷ unfinished)
+          v.finished [] v p.whole (p.first ∙ sym (append-nil v.finished)) v.spelled (inl refl)
+          v.balanced;
+    }
+
+-- the statements of a reading are those of a front of its items
+pub reads_front : (its : List Item) (statements : List PlainStatement)
+    (ending : Option PlainFault) → ReadsAs its statements ending → WholeFront its statements
+reads_front its statements None v = without_rest its statements v
+reads_front its statements (Some fault) (front, item, rest, unfinished, cut, v, _) =
+    let f = finished_front front statements unfinished v in
+    record {
+      front = f.front;
+      rest = f.rest ++ item ∷ rest;
+      cut = cut ∙ ap (λ (l : List Item). l ++ item ∷ rest) f.cut
+          ∙ append_assoc f.front f.rest (item ∷ rest);
+      viable = f.viable;
+    }
 
 -- ---- an unfinished proof
 
@@ -221,13 +299,6 @@ proof_reading scope y (t ∷ proof) stop rest h sign =
     ∙ proof_reading scope more proof stop rest h.1 sign
     ∙ ap (λ (l : List PlainToken). with_statement (record y { proof = l; span = (y.span.0, stop.at) }) (reading_of (scope_after_statement scope) Between rest)) (append_assoc y.proof (t ∷ []) proof)
 
-clean_front : (a b : List Item) → HoldNoFault (a ++ b) → HoldNoFault a
-clean_front [] b h = tt
-clean_front (Plain t ∷ a) b h = clean_front a b h
-clean_front (Wrong rule t ∷ a) b h = h
-clean_front (Inclusion t ∷ a) b h = clean_front a b h
-clean_front (End file ∷ a) b h = clean_front a b h
-
 statements_read : (before : List PlainStatement) (r : PlainReading) → with_statements before r ≡ record { statements = before ++ r.statements; ending = r.ending }
 statements_read [] r = refl
 statements_read (s ∷ before) r = ap (with_statement s) (statements_read before r)
@@ -249,32 +320,15 @@ module _ (its : List Item) (before : List PlainStatement) (s : PlainStatement) (
   begun_here = begun a.parts.own s a.parts.here a.ends [] a.kind tt
 
   -- the items up to the `$=` are a viable front
-  front_viable : Viable until before (stated ++ a.ends.equals ∷ [])
-  front_viable = record {
-    clean = clean_front until (map Plain (s.proof ++ a.ends.stop ∷ []) ++ a.back) (subst HoldNoFault cut v.clean);
-    finished = a.parts.front;
-    whole = plain_tokens-append a.front (Plain a.ends.equals ∷ []) ∙ ap (λ (l : List PlainToken). l ++ a.ends.equals ∷ []) a.done ∙ append_assoc a.parts.front stated (a.ends.equals ∷ []);
-    spelled = a.parts.earlier;
-    begun = inr (inr (inr (record {
-      body = stated;
-      symbols = s.symbols;
-      equals = a.ends.equals;
-      proof = [];
-      whole = refl;
-      stated = record { head = a.parts.here.head; whole = refl; begins = subst (λ (x : Kind). IsHead x a.parts.here.head) a.kind a.parts.here.begins; long = tt; spelled = a.parts.here.symbols; room = λ e. absurd cc };
-      some = subst (λ (x : Kind). FitsCount x (length s.symbols)) a.kind a.parts.here.count;
-      sign = a.ends.sign;
-      steps = tt;
-    })));
-    balanced = balanced_front before (s ∷ after) v.balanced;
-    included = λ pre post t e. v.included pre (post ++ (map Plain (s.proof ++ a.ends.stop ∷ []) ++ a.back)) t (longer pre post (Inclusion t) e);
-    ended = λ pre post file e. v.ended pre (post ++ (map Plain (s.proof ++ a.ends.stop ∷ []) ++ a.back)) file (longer pre post (End file) e);
-    top_ended = λ pre post e. v.top_ended pre (post ++ (map Plain (s.proof ++ a.ends.stop ∷ []) ++ a.back)) (longer pre post (End 0) e);
-  }
-    where
-      longer : (pre post : List Item) (item : Item) → until ≡ pre ++ item ∷ post → its ≡ pre ++ item ∷ (post ++ (map Plain (s.proof ++ a.ends.stop ∷ []) ++ a.back))
-      longer pre post item e =
-          cut ∙ ap (λ (l : List Item). l ++ (map Plain (s.proof ++ a.ends.stop ∷ []) ++ a.back)) e ∙ append_assoc pre (item ∷ post) (map Plain (s.proof ++ a.ends.stop ∷ []) ++ a.back)
+  until_viable : Viable until before (stated ++ a.ends.equals ∷ [])
+  until_viable =
+      viable_front its until (map Plain (s.proof ++ a.ends.stop ∷ []) ++ a.back)
+      (before ++ s ∷ after) before [] a.parts.front (stated ++ a.ends.equals ∷ []) v cut
+      (plain_tokens-append a.front (Plain a.ends.equals ∷ [])
+      ∙ ap (λ (l : List PlainToken). l ++ a.ends.equals ∷ []) a.done
+      ∙ append_assoc a.parts.front stated (a.ends.equals ∷ [])) a.parts.earlier
+      (beginning_of_part (InProof proving) (stated ++ a.ends.equals ∷ []) begun_here)
+      (balanced_front before (s ∷ after) v.balanced)
 
   -- what is read with any proof in place of the own, and any items after it
   any_proof : (proof : List PlainToken) (stop : PlainToken) (rest : List Item) → AreSymbols proof → stop.text ≡ codes "$."
@@ -282,7 +336,8 @@ module _ (its : List Item) (before : List PlainStatement) (s : PlainStatement) (
       ≡ with_statements before (with_statement (record s { proof = proof; span = (a.ends.equals.at + 2, stop.at) }) (reading_of (scope_after_statement (scope_of before)) Between rest))
   any_proof proof stop rest h sign =
       ap (reading_of outermost Between) (sym (append_assoc a.front (Plain a.ends.equals ∷ []) (map Plain (proof ++ stop ∷ []) ++ rest)))
-      ∙ front_reading until (map Plain (proof ++ stop ∷ []) ++ rest) before (stated ++ a.ends.equals ∷ []) (InProof proving) front_viable begun_here
+      ∙ front_reading until (map Plain (proof ++ stop ∷ []) ++ rest) before
+      (stated ++ a.ends.equals ∷ []) (InProof proving) until_viable begun_here
       ∙ ap (with_statements before) (proof_reading (scope_of before) proving proof stop rest h sign)
 
   -- the old proof, and other items after it

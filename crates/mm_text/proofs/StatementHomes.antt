@@ -15,7 +15,7 @@ use Rattle.mm_text.proofs.Beginnings.{beginnings_begin_statements}
 use Rattle.mm_text.proofs.CutTokens.{AllFrom, all_from}
 use Rattle.mm_text.proofs.CutShown.{clear_shown}
 use Rattle.mm_text.proofs.FollowedItems.{StandsInFile, run_stands}
-use Rattle.mm_text.proofs.ReplacedReading.{Parts, token_at, next_token}
+use Rattle.mm_text.proofs.ReplacedReading.{Parts, WholeFront, token_at, next_token}
 use Rattle.mm_text.proofs.ReplacedProofs.{home, home_in}
 
 some_more : (t : PlainToken) (tokens : List PlainToken) → t ∷ tokens ≢ []
@@ -58,23 +58,42 @@ run_home files t tokens before after u s e =
     let one = clear_shown None (tokens_from s.number 0 s.place.file.bytes) (r.tokens ++ t ∷ before) u (map Clear after ++ s.rest) shown in
     home_in s.number 0 one.before u one.after (subst (AllFrom s.number 0) one.whole (all_from s.number 0 s.place.file.bytes))
 
+-- a run of tokens in a front stands in one file
+pub front_run_stands : (files : List PlainFile) (statements : List PlainStatement)
+    (f : WholeFront (items files) statements) (before after : List Item) (t : PlainToken)
+    (tokens : List PlainToken) → f.front ≡ before ++ (map Plain (t ∷ tokens) ++ after)
+    → StandsInFile files t tokens
+front_run_stands files statements f before after t tokens e =
+    run_stands files before (after ++ f.rest) t tokens
+    (f.cut ∙ ap (λ (l : List Item). l ++ f.rest) e
+    ∙ append_assoc before (map Plain (t ∷ tokens) ++ after) f.rest
+    ∙ ap (λ (l : List Item). before ++ l) (append_assoc (map Plain (t ∷ tokens)) after f.rest))
+
 -- each token of a statement after its first is of the file of the first
-pub one_home : (files : List PlainFile) (statements before after : List PlainStatement) (v : Viable (items files) statements []) (s : PlainStatement) (p : Parts (plain_tokens (items files)) before s after)
-    → (others earlier later : List PlainToken) (u : PlainToken) → p.own ≡ s.first ∷ others → others ≡ earlier ++ u ∷ later → u.file ≡ s.first.file
-one_home files statements before after v s p others earlier later u own there =
-    let told : plain_tokens (items files) ≡ p.front ++ s.first ∷ (others ++ p.back) = p.whole ∙ ap (λ (l : List PlainToken). p.front ++ (l ++ p.back)) own in
-    let t = token_at (items files) p.front s.first (others ++ p.back) told in
-    let (more, split) = statement_follows (items files) statements before v p.front p.own s p.earlier p.here (s.first ∷ []) others (t.front ++ Plain s.first ∷ []) t.back p.back own (some_more s.first [])
-    (t.whole ∙ sym (append_assoc t.front (Plain s.first ∷ []) t.back)) (plain_tokens-append t.front (Plain s.first ∷ []) ∙ ap (λ (l : List PlainToken). l ++ s.first ∷ []) t.first) t.last in
-    let stands = run_stands files t.front more s.first others (t.whole ∙ ap (λ (l : List Item). t.front ++ Plain s.first ∷ l) split) in
+pub one_home : (files : List PlainFile) (statements before after : List PlainStatement)
+    (f : WholeFront (items files) statements) (s : PlainStatement)
+    (p : Parts (plain_tokens f.front) before s after)
+    (others earlier later : List PlainToken) (u : PlainToken) → p.own ≡ s.first ∷ others
+    → others ≡ earlier ++ u ∷ later → u.file ≡ s.first.file
+one_home files statements before after f s p others earlier later u own there =
+    let told : plain_tokens f.front ≡ p.front ++ s.first ∷ (others ++ p.back) =
+    p.whole ∙ ap (λ (l : List PlainToken). p.front ++ (l ++ p.back)) own in
+    let t = token_at f.front p.front s.first (others ++ p.back) told in
+    let (more, split) = statement_follows f.front statements before f.viable p.front p.own s
+    p.earlier p.here (s.first ∷ []) others (t.front ++ Plain s.first ∷ []) t.back p.back own
+    (some_more s.first []) (t.whole ∙ sym (append_assoc t.front (Plain s.first ∷ []) t.back))
+    (plain_tokens-append t.front (Plain s.first ∷ [])
+    ∙ ap (λ (l : List PlainToken). l ++ s.first ∷ []) t.first) t.last in
+    let stands = front_run_stands files statements f t.front more s.first others
+    (t.whole ∙ ap (λ (l : List Item). t.front ++ Plain s.first ∷ l) split) in
     run_home files s.first others earlier later u stands there ∙ sym (home files s.first others stands)
 
 -- the `$=` and the `$.` of a `$p` are
 pub ends_home : (files : List PlainFile) (statements before after : List PlainStatement)
-    (v : Viable (items files) statements []) (s : PlainStatement)
-    (p : Parts (plain_tokens (items files)) before s after) (k : EndsInProof s p.here.tail)
+    (f : WholeFront (items files) statements) (s : PlainStatement)
+    (p : Parts (plain_tokens f.front) before s after) (k : EndsInProof s p.here.tail)
     → (k.equals.file ≡ s.first.file) × (k.stop.file ≡ s.first.file)
-ends_home files statements before after v s p k =
+ends_home files statements before after f s p k =
     let h = p.here in
     let stated : List PlainToken = h.first.0 ++ s.symbols in
     let others : List PlainToken = stated ++ k.equals ∷ (s.proof ++ k.stop ∷ []) in
@@ -83,8 +102,8 @@ ends_home files statements before after v s p k =
     ∙ ap (λ (l : List PlainToken). s.first ∷ (stated ++ l)) k.tokens in
     let split : others ≡ (stated ++ k.equals ∷ s.proof) ++ k.stop ∷ [] =
     sym (append_assoc stated (k.equals ∷ s.proof) (k.stop ∷ [])) in (
-      one_home files statements before after v s p others stated (s.proof ++ k.stop ∷ []) k.equals
+      one_home files statements before after f s p others stated (s.proof ++ k.stop ∷ []) k.equals
           own refl,
-      one_home files statements before after v s p others (stated ++ k.equals ∷ s.proof) [] k.stop
+      one_home files statements before after f s p others (stated ++ k.equals ∷ s.proof) [] k.stop
           own split,
     )

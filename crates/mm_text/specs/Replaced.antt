@@ -1,13 +1,13 @@
 -- Files in which other bytes stand between the `$=` and the `$.` of one statement (the Metamath book,
 -- sections 4.1.1 and 4.2.6).
 use Rattle.std.specs.Prelude.{◌≡◌, ◌≢◌, ℕ, ◌+◌, ◌≤◌, List, [], ◌∷◌, ◌++◌, map, take, drop, length}
-use Rattle.std.specs.Prelude.{true, Some, None, slice_get, slice_set}
+use Rattle.std.specs.Prelude.{true, Option, Some, None, slice_get, slice_set}
 use Rattle.std.specs.List.{AllByRecursion, AllZip, list_all}
 use Rattle.mm_text.specs.declared.statement.Kind.TheVariants.{Provable}
 use Rattle.mm_text.specs.Token.{PlainToken, is_space, is_printable, tokens_from, HoldsNoDollar}
 use Rattle.mm_text.specs.Statement.{PlainStatement}
 use Rattle.mm_text.specs.Files.{PlainFile}
-use Rattle.mm_text.specs.Reading.{Reads}
+use Rattle.mm_text.specs.Reading.{PlainFault, Reads}
 use Rattle.mm_text.specs.Alike.{statement_on}
 
 -- a token that a proof may have
@@ -78,20 +78,22 @@ pub record IsProofSpan (s : PlainStatement) (bytes : List ℕ) : Type 0 where
   pub start : s.span.0 ≡ length front
   pub stop : s.span.1 ≡ length front + length within
 
--- in files without a fault the span of each `$p` stands in the file of its first token
+-- in the reading of files, also one that a fault ends, the span of each `$p` stands in the file of
+-- its first token
 abbrev pub ProofsStandInSpans : Type 0
 ProofsStandInSpans =
     (files : List PlainFile) (before : List PlainStatement) (s : PlainStatement)
-    (after : List PlainStatement) (file : PlainFile)
-    → Reads files (before ++ s ∷ after) None → s.kind ≡ Provable
+    (after : List PlainStatement) (ending : Option PlainFault) (file : PlainFile)
+    → Reads files (before ++ s ∷ after) ending → s.kind ≡ Provable
     → slice_get files s.first.file ≡ Some file → IsProofSpan s file.bytes
 
--- in files without a fault the proof of a later `$p` stands behind that of an earlier one of the
--- same file
+-- in the reading of files, also one that a fault ends, the proof of a later `$p` stands behind that
+-- of an earlier one of the same file
 abbrev pub ProofSpansFollow : Type 0
 ProofSpansFollow =
     (files : List PlainFile) (before between after : List PlainStatement) (s t : PlainStatement)
-    → Reads files (before ++ s ∷ between ++ t ∷ after) None → s.kind ≡ Provable
+    (ending : Option PlainFault)
+    → Reads files (before ++ s ∷ between ++ t ∷ after) ending → s.kind ≡ Provable
     → t.kind ≡ Provable → s.first.file ≡ t.first.file → s.span.1 ≤ t.span.0
 
 -- files without a fault in which the proof of a statement is replaced are read so

@@ -100,14 +100,15 @@ pub fn alike_files_leave_out_the_same()
     ensures { AlikeFilesLeaveOutTheSame }
 {}
 
-/// The bytes of a proof stand in the file of its statement's first token, where the statement's span
-/// says.
+/// In the reading of files, also one that a fault ends, the bytes of a proof stand in the file of
+/// its statement's first token, where the statement's span says.
 pub fn proofs_stand_in_spans()
     ensures { ProofsStandInSpans }
 {}
 
-/// In one file proofs stand in the order of their statements, without overlap: the proof of a later
-/// `$p` stands behind that of an earlier one.
+/// In the reading of files, also one that a fault ends, the proofs of one file stand in the order
+/// of their statements, without overlap: the proof of a later `$p` stands behind that of an earlier
+/// one.
 pub fn proof_spans_follow()
     ensures { ProofSpansFollow }
 {}
