@@ -48,7 +48,9 @@ if ! $is_check; then
 fi
 failures=0
 for crate in "$@"; do
-    if (cd "crates/$crate" && rt fmt) 2>&1 | grep 'cannot be applied'; then
+    if ! (cd "crates/$crate" && rt fmt) >"$room/log" 2>&1 ||
+        grep -q 'cannot be applied' "$room/log"; then
+        cat "$room/log" >&2
         failures=1
     fi
 done

@@ -489,7 +489,7 @@ fi
 
 # Each command of README.md as it is typed at the top of the repository, in the order of the
 # document: in a folder that has the program and copies of the examples. One that wants the network,
-# metamath-exe or its databases is left out. What a comment says of what is printed is compared.
+# metamath-exe or its databases is left out. What stands behind `# prints: ` is compared.
 mkdir top
 ln -s "$mm" top/mm
 cp -r "$top/examples" top/examples
