@@ -12,8 +12,7 @@ crate=$top/crates/mm_tool/src
 made() {
     awk -v name="$1" '
     function quoted(text) {
-        gsub(/\\/, "\\\\", text)
-        gsub(/"/, "\\\"", text)
+        gsub(/[\\"]/, "\\\\&", text)
         return text
     }
     function finish() {
