@@ -36,7 +36,7 @@ shown_token (Broken rule t) = t
 abbrev pub AtHome : ℕ → Shown → Type 0
 AtHome file s = (shown_token s).file ≡ file
 
--- and so is the begin of an open comment
+-- and so is the beginning of an open comment
 abbrev pub BegunAtHome : ℕ → Option PlainToken → Type 0
 BegunAtHome file None = Unit {0}
 BegunAtHome file (Some begin) = begin.file ≡ file

@@ -21,7 +21,7 @@ run [] = []
 run (b ∷ bytes) = cond (is_space b) [] (b ∷ run bytes)
 
 -- The tokens of bytes, each with a number in place of its place: the number goes on at each byte. At
--- the begin a token may go on that began before.
+-- the beginning a token may go on that began before.
 abbrev ahead : ℕ → (ℕ → ℕ → ℕ) → Bool → ℕ → List ℕ → List PlainToken
 ahead file step inside n [] = []
 ahead file step inside n (b ∷ bytes) =

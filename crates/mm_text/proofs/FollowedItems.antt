@@ -144,7 +144,7 @@ module _ (files : List PlainFile) (number : ℕ) (file : PlainFile) (there : sli
           subst (λ (l : List Piece). FollowIn files None (l ++ tail)) (sym (closing-close number begin name t rest e))
           (inner Outside None (whole ∙ sym (append_assoc passed (Clear t ∷ []) rest)) (reaches_on number passed (Closing begin name) Outside t (Named name ∷ []) r (λ more. closing-close number begin name t more e)) tt)
 
--- the pieces of a file from its begin, and others after them
+-- the pieces of a file from its beginning, and others after them
 file_follows : (files : List PlainFile) (number : ℕ) (file : PlainFile) (tail : List Piece) → slice_get files number ≡ Some file → FollowIn files None tail → FollowIn files None (pieces_of number file ++ tail)
 file_follows files number file tail there after =
     pieces_follow files number file there tail after Outside [] (without_comments None (tokens_from number 0 file.bytes)) None refl (record { tokens = []; clear = refl; front = []; before = λ more. refl }) tt

@@ -202,7 +202,7 @@ leaves_to n m q over naming e same =
     ∙ left_outside (record n { place = q; «open» = m.«open» }) over naming
     ∙ leaves n m.«open».items q e
 
--- ---- the begin of the top file
+-- ---- the beginning of the top file
 
 abbrev pub no_file : File
 no_file = record { name = record { ref_ptr = (0, 0); now = [] }; bytes = record { ref_ptr = (0, 0); now = [] } }

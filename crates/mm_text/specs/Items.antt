@@ -95,7 +95,7 @@ pieces file (Closing begin name) (Clear t ∷ rest) =
     if spells t.text (codes "$]") then Named name ∷ pieces file Outside rest
     else Met (Wrong X5 t) ∷ []
 
--- the pieces of a file from its begin
+-- the pieces of a file from its beginning
 abbrev pub pieces_of : ℕ → PlainFile → List Piece
 pieces_of number file =
     pieces number Outside (without_comments None (tokens_from number 0 file.bytes))

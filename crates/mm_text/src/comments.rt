@@ -23,7 +23,7 @@ pub struct Place<'a> {
     pub file: usize,
     pub at: usize,
     /// A place up to which all bytes may stand in a file. It is found for many tokens at once, so
-    /// that none is looked through for other bytes, and comments are skipped.
+    /// that no token has to be looked through for illegal bytes, and comments are skipped.
     pub legal: usize,
 }
 
@@ -55,7 +55,7 @@ pub struct Wrong<'a> {
 }
 
 impl<'a> Place<'a> {
-    /// The begin of a file.
+    /// The beginning of a file.
     pub fn begin(bytes: &'a [u8], file: usize) -> Place<'a>
         requires { length bytes.now ≤ most_bytes }
         ensures place { IsPlace result }

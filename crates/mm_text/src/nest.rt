@@ -107,7 +107,7 @@ pub struct Nest<'a> {
     /// For each file, whether it was named before. The top file counts as named.
     pub named: Vec<bool>,
     /// The files that wait for the end of one that they include, the innermost last. There is room
-    /// for all of them from the begin on, so that no inclusion wants memory.
+    /// for all of them from the beginning, so that no inclusion asks for memory.
     pub open: Vec<Place<'a>>,
     pub place: Place<'a>,
     /// The `$[` of the inclusion that was begun.
@@ -117,7 +117,7 @@ pub struct Nest<'a> {
 }
 
 impl<'a> Nest<'a> {
-    /// The begin of the top file.
+    /// The beginning of the top file.
     pub fn begin(
         alloc: Global,
         files: &'a [File<'a>],

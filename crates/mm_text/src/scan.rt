@@ -98,7 +98,7 @@ pub fn token_end(bytes: &[u8], start: usize) -> (usize, bool)
     }
 }
 
-/// The begin of the run of bytes that aren't white space and end with the one at a place, no
+/// The beginning of the run of bytes that aren't white space and end with the one at a place, no
 /// further back than `low`.
 pub fn token_start(bytes: &[u8], low: usize, at: usize) -> usize
     requires from { low ≤ at }

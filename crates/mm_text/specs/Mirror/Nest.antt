@@ -1,5 +1,6 @@
 -- How the code goes through the files: the one that is read, and those that wait for the end of one
--- that they include. This file mirrors the code, and is cited by private contracts alone.
+-- that they include. This file mirrors the code, and is cited by private contracts, and by the
+-- model and invariant of `Cursor`.
 use Rattle.std.specs.Prelude.{◌≡◌, ℕ, ◌+◌, ◌<◌, ◌≤◌, ◌++◌, List, [], ◌∷◌, Bool, false, not, length}
 use Rattle.std.specs.Prelude.{map, count_by, if◌then◌else◌, Option, Some, None, IfSome, Result, Ok}
 use Rattle.std.specs.Prelude.{Err, vec_len, vec_capacity}
