@@ -7,7 +7,7 @@ use Rattle.mm_proof.specs.declared.profile.Profile.{Profile}
 use Rattle.mm_check.specs.Reply.{IsReply}
 
 -- files with the same names that show the same have the same reply to `check`, in each profile, as
--- long as neither are more bytes than can be taken
+-- long as neither has more bytes than files may have
 abbrev pub AlikeFilesHaveOneReply : Type 0
 AlikeFilesHaveOneReply =
     (profile : Profile) (files others : List PlainFile) → AllZip AreAlike files others

@@ -37,7 +37,7 @@ pub enum Command<'a> {
     Packed { label: &'a [u8], whole: bool },
     /// Whether this text is the same proof as that of the theorem with this label.
     Same { label: &'a [u8], text: &'a [u8] },
-    /// The bytes of the handed file with this number, which is that of one of them, with each
+    /// The bytes of the handed file with this number, which is below the count of files, with each
     /// complete proof in this form.
     All { form: Form, file: usize },
 }

@@ -36,8 +36,8 @@ pub fn one_report()
 
 /// What comments say changes no reply (the Metamath book, section 4.1.2): files with the same names
 /// that show the same outside comments (the same tokens on the same lines, and the same fault of a
-/// comment, if there is one) have the same reply to `check`, as long as neither are more bytes than
-/// can be taken.
+/// comment, if there is one) have the same reply to `check`, as long as neither has more bytes than
+/// files may have.
 pub fn alike_files_have_one_reply()
     ensures { AlikeFilesHaveOneReply }
 {}
@@ -97,8 +97,8 @@ pub fn one_all_saved()
 
 /// Where all proofs of a file that was handed in are to be saved in a form, one answer is due: the
 /// bytes; or, in normal form, the label of the first theorem whose normal proof is too long; and
-/// never both. Where bytes are due, no fault is told but F3, exactly if the files would have too
-/// many bytes, and want of memory.
+/// never both. Where bytes are due, no fault is told but want of memory, and F3 only if the files
+/// would have too many bytes.
 pub fn one_save_all_answer()
     ensures { OneSaveAllAnswer }
 {}

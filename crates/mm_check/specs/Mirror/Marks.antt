@@ -1,5 +1,5 @@
 -- Marks of what a theorem rests on, by number, and what is known of what is kept. This file mirrors
--- the code, and is cited by private contracts alone.
+-- the code, and is cited by private contracts, and by the invariant of `Checked`.
 use Rattle.std.specs.Prelude.{◌≡◌, ℕ, ◌<◌, List, length, slice_index_or, Contains, Bool, true}
 use Rattle.std.specs.Prelude.{false}
 use Rattle.std.specs.List.{AllByRecursion}

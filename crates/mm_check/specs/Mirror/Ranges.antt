@@ -1,6 +1,6 @@
 -- Lists of numbers as ranges of one list, which holds them in any order, each once or more; said of
 -- each list: its numbers, each once, in rising order. This file mirrors the code, and is cited by
--- private contracts alone.
+-- the model and invariant of `Kept` alone.
 use Rattle.std.specs.Prelude.{◌≡◌, ℕ, ◌≤◌, List, map, slice_get, slice_range, Some}
 use Rattle.mm_frame.specs.declared.number.LabelId.{LabelId}
 use Rattle.mm_proof.specs.Plain.{ids_in}

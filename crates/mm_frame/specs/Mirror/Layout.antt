@@ -1,5 +1,5 @@
 -- How a book's lists hold its statements. This file mirrors the code, and is cited by private
--- contracts alone.
+-- contracts, and by the model and invariant of `Book`.
 use Rattle.std.specs.Prelude.{◌≡◌, ℕ, ◌+◌, ◌<◌, ◌≤◌, List, [], length, map, take, slice_get}
 use Rattle.std.specs.Prelude.{slice_range, Option, Some, None, Contains, unwrap_or, ◌⊎◌}
 use Rattle.mm_text.specs.declared.statement.Kind.TheVariants.{Variables, Essential, Distinct}

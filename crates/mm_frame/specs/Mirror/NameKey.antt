@@ -1,4 +1,5 @@
--- What the key of a name is. This file mirrors the code, and is cited by private contracts alone.
+-- What the key of a name is. This file mirrors the code, and is cited by private contracts, and by
+-- the invariant and the hash of `Name`.
 use Rattle.std.specs.Prelude.{◌≡◌, ℕ, ◌<◌, ◌-◌, if◌then◌else◌, nat_lt}
 use Rattle.std.specs.Prelude.{List, [], ◌∷◌, ◌++◌, length, take, drop, get_or}
 use Rattle.std.specs.Int.{Width, w16, w32, w64, from_le_bytes}

@@ -1,5 +1,5 @@
--- What is seen of a table of names. This file mirrors the code, and is cited by private contracts
--- alone.
+-- What is seen of a table of names. This file mirrors the code, and is cited by private contracts,
+-- and by the model and invariant of `Names`.
 use Rattle.std.specs.Prelude.{◌≡◌, ℕ}
 use Rattle.std.specs.Prelude.{List, [], ◌∷◌, length, slice_get, Contains, Option}
 use Rattle.std.specs.Prelude.{Some, MatchOption}

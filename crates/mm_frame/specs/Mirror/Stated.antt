@@ -1,5 +1,5 @@
 -- The pairs that `$d` state, and how they are linked. This file mirrors the code, and is cited by
--- private contracts alone.
+-- private contracts, and by the model and invariant of `Pairs`.
 use Rattle.std.specs.Prelude.{◌≡◌, ◌≢◌, ℕ, ◌+◌, ◌*◌, ◌<◌, ◌≤◌, List, length, slice_get, take}
 use Rattle.std.specs.Prelude.{slice_index_or, Option, Some, None, Bool, ◌==◌, ◌&&◌}
 use Rattle.std.specs.Prelude.{if◌then◌else◌, nat_lt}

@@ -1,5 +1,5 @@
 -- Steps that make trees and share all that can be shared, without the marks, as the code makes them
--- before it packs them. This file mirrors the code, and is cited by private contracts alone.
+-- before it packs them. This file mirrors the code, and is cited by mirrors alone.
 use Rattle.std.specs.Prelude.{◌≡◌, List, [], ◌∷◌, ◌++◌, ◌⊎◌}
 use Rattle.mm_proof.specs.Tree.{Trees, none, tree}
 use Rattle.mm_proof.specs.BigSubtrees.{IsBig}

@@ -125,8 +125,9 @@ fn all_proofs_of_a_file_are_saved(rt: HostRuntime) -> Result<(), Fail> {
     Ok(())
 }
 
-/// Files that have as many bytes in all as there may be. The first one has these bytes; nothing of
-/// the others is read, of which each has those of the filler, and a longer part of it as its name.
+/// Files that have as many bytes in all as there may be. The first one has these bytes. Of the
+/// others nothing is read: each has the bytes of the filler, but for the last, which has what is
+/// left of them; the name of each is a longer part of the filler than that of the one before.
 fn full_files<'a>(
     alloc: Global,
     first: &'a [u8],
