@@ -45,8 +45,8 @@ const TEXT: &[RuleText<'static>] = &[
 token. In the example it holds the two bytes 0xC3 and 0xA9.
 Usual cause: an accented letter, a typographic quote or a dash was typed or
 pasted.
-Remedy: write the token with ASCII characters alone, in a comment too; `LC_ALL=C
-grep -n '[^ -~]'` finds such bytes, and tabs.
+Remedy: write the token with ASCII characters alone, in a comment too; such
+bytes are found by `LC_ALL=C grep -anP '[^\\t\\r\\f -~]' FILE`.
 
 This file breaks it:
     $c é $.
@@ -135,8 +135,8 @@ The reply:
 Usual cause: the included file wasn't handed in, or was handed in under another
 name, as with a folder before it.
 Remedy: hand the file in under the very name that stands in `$[ $]`, from the
-folder in which that file lies, or write the name there under which it is handed
-in: no path is resolved.
+folder in which that file lies, or write in `$[ $]` the name under which it is
+handed in: no path is resolved.
 
 This file breaks it:
     $[
@@ -372,8 +372,8 @@ The reply:
         code: "M5",
         text: "M5: the label equals an earlier label, also one in a closed block.
 Place: the statement's first token.
-Usual cause: a statement was copied, and its label wasn't changed, or its own
-label was overwritten.
+Usual cause: a statement was copied, and its label wasn't changed, or another
+label was written over the statement's own.
 Remedy: give the statement a label that no other has in the whole database.
 
 This file breaks it:
@@ -773,9 +773,9 @@ distinct pair where the `$p` stands. In the example the pair is `y`, `x`, and
 the `$d` of line 2 is no longer active.
 Place: the statement's first token.
 Usual cause: a `$d x y $.` is missing, or several are.
-Remedy: add a `$d` before the theorem, in its block, for each two variables, of
-which one is put for the one variable that is kept distinct and one for the
-other: the reply is the same until the last pair is there.
+Remedy: add a `$d` before the theorem, in its block, for each variable of the
+one replacement with each variable of the other: the step stays at fault until
+the last pair is there.
 
 This file breaks it:
     $c a |- $. $v x y $. fx $f a x $. fy $f a y $.
