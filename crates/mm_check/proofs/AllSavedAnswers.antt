@@ -99,7 +99,7 @@ own_tree profile files statements s accepted there complete =
           (derive_fits Fits (sentences before) trees ((sentence_of s).symbols ∷ [])
           p.proves.derived)
           p.whole p.said p.proves.made few
-          (proof_fits files statements place s accepted.readable accepted.reads at);
+          (proof_fits files statements None place s accepted.readable accepted.reads at);
     }
 
 -- each theorem of a file has one

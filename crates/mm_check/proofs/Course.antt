@@ -14,7 +14,8 @@ use Rattle.mm_check.specs.Conclusion.{Conclusion, ProofUses, labels_in}
 use Rattle.mm_check.specs.Verdict.{Verdict, HasFault, Obeys, HasVerdict, AreAccepted, CanBeRead, sentences, labels_of, unproved_of, is_unproved, proofs_of, refusal_of}
 use Rattle.mm_check.specs.Answer.{verdict_of_fault, verdict_of_conclusion, verdict_where_incomplete, labels_at, IsVerdict, KeepsLabels, KeepsCounts, KeepsUses, IsKeptOf}
 use Rattle.mm_check.specs.Rests.{IsNumberWhere, AreInOrder, AreUses}
-use Rattle.mm_check.specs.Mirror.Judged.{IsUnderWay, IsAtEnd, Knows, Takes, RefusesAfter, RefusesEnd, TakesNext}
+use Rattle.mm_check.specs.Mirror.Judged.{IsUnderWay, IsAtEnd, GoesOn, Knows, Takes}
+use Rattle.mm_check.specs.Mirror.Judged.{RefusesAfter, RefusesEnd, TakesNext}
 use Rattle.mm_check.specs.Mirror.Marks.{IsKeptWell}
 use Rattle.mm_check.proofs.Unproved.{one_more, no_statement}
 use Rattle.mm_check.proofs.Asked.{backward}
@@ -23,31 +24,49 @@ use Rattle.mm_check.proofs.Numbers.{names_at, numbers_within}
 
 -- ## What holds on the way
 
-pub starts : (profile : Profile) (files : List PlainFile) (p : Progress) (left : Remaining) → IsUnread files left → CanBeRead files → Knows [] p → IsUnderWay profile files p left
-starts profile files p left unread readable known =
-    record { earlier = []; readable = readable; reads = unread.reads; obeyed = no_statement profile; known = known }
+pub starts : (profile : Profile) (files : List PlainFile) (p : Progress) (left : Remaining)
+    → IsUnread files left → CanBeRead files → Knows [] p
+    → (way : IsUnderWay profile files p left) × (way.earlier ≡ [])
+starts profile files p left unread readable known = (
+  record {
+    earlier = [];
+    readable = readable;
+    reads = unread.reads;
+    obeyed = no_statement profile;
+    known = known;
+  },
+  refl,
+)
 
 -- the statement taken goes over from those that are left to those so far
-pub goes_on : (profile : Profile) (files : List PlainFile) (s : PlainStatement) (p q : Progress) (old new : Remaining) → IsUnderWay profile files p old
-    → TakesNext old true s new → HasForm s → Takes profile p s q → IsUnderWay profile files q new
-goes_on profile files s p q old new way taken formed takes =
-    let plain : List PlainStatement = way.earlier in
-    let moved : plain ++ old.statements ≡ (plain ++ s ∷ []) ++ new.statements =
-    ap (λ (ss : List PlainStatement). plain ++ ss) taken.0 ∙ sym (append_assoc plain (s ∷ []) new.statements) in
-    let ending : old.ending ≡ new.ending = sym (ap (λ (r : Remaining). r.ending) taken.1) in
-    let Readable : List PlainStatement → Option PlainFault → Type 0 = λ ss e. Reads files ss e in
-    let obeys : Obeys profile (sentences plain) s = subst (λ (b : List Sentence). Obeys profile b s) way.known.book takes.obeys in
-    record {
-      earlier = plain ++ s ∷ [];
-      readable = way.readable;
-      reads = subst (λ (e : Option PlainFault). Readable ((plain ++ s ∷ []) ++ new.statements) e) ending
-          (subst (λ (ss : List PlainStatement). Readable ss old.ending) moved way.reads);
-      obeyed = one_more profile plain s way.obeyed obeys;
-      known = knows_more profile plain s p q formed way.known takes;
-    }
+pub goes_on : (profile : Profile) (files : List PlainFile) (s : PlainStatement) (p q : Progress)
+    (old new : Remaining) → TakesNext old true s new → HasForm s → Takes profile p s q
+    → GoesOn profile files p old true s q new
+goes_on profile files s p q old new taken formed takes = (
+  taken.0,
+  λ way.
+      let plain : List PlainStatement = way.earlier in
+      let moved : plain ++ old.statements ≡ (plain ++ s ∷ []) ++ new.statements =
+      ap (λ (ss : List PlainStatement). plain ++ ss) taken.0
+      ∙ sym (append_assoc plain (s ∷ []) new.statements) in
+      let ending : old.ending ≡ new.ending = sym (ap (λ (r : Remaining). r.ending) taken.1) in
+      let obeys : Obeys profile (sentences plain) s =
+      subst (λ (b : List Sentence). Obeys profile b s) way.known.book takes.obeys in (
+        record {
+          earlier = plain ++ s ∷ [];
+          readable = way.readable;
+          reads = subst (λ (e : Option PlainFault). Reads files ((plain ++ s ∷ []) ++ new.statements) e)
+              ending
+              (subst (λ (ss : List PlainStatement). Reads files ss old.ending) moved way.reads);
+          obeyed = one_more profile plain s way.obeyed obeys;
+          known = knows_more profile plain s p q formed way.known takes;
+        },
+        refl,
+      ),
+)
 
 -- the reading where no statement is left
-none_left : (profile : Profile) (files : List PlainFile) (p : Progress) (left : Remaining) (way : IsUnderWay profile files p left) → left.statements ≡ []
+pub none_left : (profile : Profile) (files : List PlainFile) (p : Progress) (left : Remaining) (way : IsUnderWay profile files p left) → left.statements ≡ []
     → Reads files way.earlier left.ending
 none_left profile files p left way none =
     subst (λ (ss : List PlainStatement). Reads files ss left.ending)
@@ -200,11 +219,21 @@ kept_well profile files p left way none ending = record {
 }
 
 -- where nothing is left, the progress is at its end
-pub at_end : (profile : Profile) (files : List PlainFile) (p : Progress) (old new : Remaining) (s : PlainStatement) → IsUnderWay profile files p old → TakesNext old false s new
-    → IsAtEnd profile files p new
-at_end profile files p old new s way taken =
-    subst (λ (left : Remaining). IsAtEnd profile files p left) (sym taken.2) (record {
-      way = record { earlier = way.earlier; readable = way.readable; reads = way.reads; obeyed = way.obeyed; known = way.known };
-      none = taken.0;
-      ending = taken.1;
-    })
+pub at_end : (profile : Profile) (files : List PlainFile) (p : Progress) (old new : Remaining)
+    (s : PlainStatement) → TakesNext old false s new → GoesOn profile files p old false s p new
+at_end profile files p old new s taken = λ way.
+    subst (λ (left : Remaining).
+    (end : IsAtEnd profile files p left) × (end.way.earlier ≡ way.earlier)) (sym taken.2) (
+      record {
+        way = record {
+          earlier = way.earlier;
+          readable = way.readable;
+          reads = way.reads;
+          obeyed = way.obeyed;
+          known = way.known;
+        };
+        none = taken.0;
+        ending = taken.1;
+      },
+      refl,
+    )

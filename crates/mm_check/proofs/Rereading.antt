@@ -128,10 +128,18 @@ bytes_within [] place s e = absurd cc
 bytes_within (t ∷ statements) zero s e = let same : t ≡ s = cc in omega (arith, ap bytes_in same, sum_by-cons bytes_in t statements)
 bytes_within (t ∷ statements) (suc place) s e = omega (arith, bytes_within statements place s e, sum_by-cons bytes_in t statements)
 
-pub proof_fits : (files : List PlainFile) (statements : List PlainStatement) (place : ℕ) (s : PlainStatement) → CanBeRead files → Reads files statements None
-    → slice_get statements place ≡ Some s → sum_by length (proof_of s) ≤ most_bytes
-proof_fits files statements place s readable reads there =
-    omega (arith, texts_bytes s.proof, bytes_within statements place s there, readings_fit files statements None reads, within_limit files readable)
+pub proof_fits : (files : List PlainFile) (statements : List PlainStatement)
+    (ending : Option PlainFault) (place : ℕ) (s : PlainStatement) → CanBeRead files
+    → Reads files statements ending → slice_get statements place ≡ Some s
+    → sum_by length (proof_of s) ≤ most_bytes
+proof_fits files statements ending place s readable reads there =
+    omega (
+      arith,
+      texts_bytes s.proof,
+      bytes_within statements place s there,
+      readings_fit files statements ending reads,
+      within_limit files readable,
+    )
 
 -- ---- what is shown
 
@@ -158,7 +166,7 @@ shown_proof c statements label id t of all named stands =
 -- and there is room for them
 pub shown_room : (c : Conclusion) (statements : List PlainStatement) (label : List ℕ) (t : PlainStatement) → AreOf c statements → Stands statements label t
     → sum_by length (proof_of t) ≤ most_bytes
-shown_room c statements label t of (place, there, named) = proof_fits c.files statements place t of.accepted.readable of.accepted.reads there
+shown_room c statements label t of (place, there, named) = proof_fits c.files statements None place t of.accepted.readable of.accepted.reads there
 
 -- the steps that its tokens say are those of the theorem
 pub theorem_steps : (c : Conclusion) (statements : List PlainStatement) (label : List ℕ) (id : ℕ) (t : PlainStatement) (steps : List (Move ℕ)) → AreOf c statements → AllMeant c.sentences

@@ -12,7 +12,7 @@ use Rattle.mm_frame.specs.Rules.{AllMeant}
 use Rattle.mm_frame.specs.Sentence.{Sentence, SomeSentence, sentence_of, IsLabelled}
 use Rattle.mm_frame.specs.Numbers.{IsNumbered}
 use Rattle.mm_frame.proofs.Meant.{one_label}
-use Rattle.mm_proof.specs.declared.profile.Profile.{Profile}
+use Rattle.mm_proof.specs.declared.profile.Profile.TheVariants.{Lenient}
 use Rattle.mm_proof.specs.Tokens.{SayMoves}
 use Rattle.mm_proof.specs.Packing.{OfTree}
 use Rattle.mm_proof.specs.ReadSteps.{ReadSteps}
@@ -20,6 +20,7 @@ use Rattle.mm_proof.specs.Steps.{IsProofNumber}
 use Rattle.mm_proof.specs.Tree.{spelling}
 use Rattle.mm_check.specs.declared.form.Form.{Form}
 use Rattle.mm_check.specs.declared.form.Form.TheVariants as form
+use Rattle.mm_check.specs.declared.ask.AskFault.{AskFault}
 use Rattle.mm_check.specs.declared.ask.AskFault.TheVariants as ask
 use Rattle.mm_check.specs.Verdict.{sentences, proof_of}
 use Rattle.mm_check.specs.Forms.{most_labels}
@@ -27,8 +28,9 @@ use Rattle.mm_check.specs.Rests.{IsAt}
 use Rattle.mm_check.specs.Saved.{IsTextIn}
 use Rattle.mm_check.specs.AllSaved.{IsReplacement}
 use Rattle.mm_check.specs.Mirror.Theorems.{IsProofOf, SayStepsOf, AreProvedSteps, AreStepsOf}
-use Rattle.mm_check.specs.Mirror.Rewriting.{IsTextOf, IsTextFault}
-use Rattle.mm_check.specs.Mirror.AllSaving.{IsTheoremAmong, HasTooLongProof, replacement}
+use Rattle.mm_check.specs.Mirror.Rewriting.{IsTextOf, IsTextFault, IsTooLong}
+use Rattle.mm_check.specs.Mirror.AllSaving.{IsTheoremAmong, IsTheoremFault, HasTooLongProof}
+use Rattle.mm_check.specs.Mirror.AllSaving.{replacement}
 use Rattle.mm_check.proofs.Asked.{map-take, hypothesis_other}
 use Rattle.mm_check.proofs.Rereading.{said_there, proof_stands}
 use Rattle.mm_check.proofs.Theorems.{of_theorem, tree_made, has_tree}
@@ -74,10 +76,9 @@ found_so told label (found.Hypothesis id active) all (p, t, at, both) (q, u, num
 found_so told label (found.Assertion id) all under finds other = other id refl
 
 -- the theorem is one under its label
-pub theorem_under : (profile : Profile) (told : List Sentence) (s : PlainStatement)
-    (label : List ℕ) → IsTheoremAmong profile told s → IsLabelled label (sentence_of s)
+pub theorem_under : (told : List Sentence) (s : PlainStatement) (label : List ℕ) → IsTheoremAmong told s → IsLabelled label (sentence_of s)
     → IsProofUnder told label
-theorem_under profile told s label t named = (
+theorem_under told s label t named = (
   t.place,
   sentence_of s,
   subst (λ (ss : List Sentence). slice_get ss t.place ≡ Some (sentence_of s)) (sym t.same)
@@ -86,12 +87,11 @@ theorem_under profile told s label t named = (
 )
 
 -- its number among what the statements say
-pub number_among : (profile : Profile) (told : List Sentence) (s : PlainStatement)
-    (label : List ℕ) (id : ℕ) (t : IsTheoremAmong profile told s) → IsLabelled label (sentence_of s)
+pub number_among : (told : List Sentence) (s : PlainStatement) (label : List ℕ) (id : ℕ) (t : IsTheoremAmong told s) → IsLabelled label (sentence_of s)
     → ((place : ℕ) (u : Sentence) → slice_get told place ≡ Some u → IsLabelled label u
     → IsProofNumber told id place u)
     → IsProofNumber told id t.place (sentence_of s)
-number_among profile told s label id t named numbers =
+number_among told s label id t named numbers =
     numbers t.place (sentence_of s)
     (subst (λ (ss : List Sentence). slice_get ss t.place ≡ Some (sentence_of s)) (sym t.same)
     (said_there t.statements t.place s t.there))
@@ -99,27 +99,27 @@ number_among profile told s label id t named numbers =
 
 -- ---- its proof
 
-pub proof_among : (profile : Profile) (told : List Sentence) (s : PlainStatement) (id : ℕ)
-    (tokens : List (List ℕ)) (t : IsTheoremAmong profile told s)
+pub proof_among : (told : List Sentence) (s : PlainStatement) (id : ℕ)
+    (tokens : List (List ℕ)) (t : IsTheoremAmong told s)
     → IsProofNumber told id t.place (sentence_of s) → tokens ≡ proof_of s
-    → IsProofOf profile told id tokens
-proof_among profile told s id tokens t number texts =
+    → IsProofOf Lenient told id tokens
+proof_among told s id tokens t number texts =
     let at : IsAt t.statements id t.place s = record {
       there = t.there;
       numbered =
           subst (λ (ss : List Sentence). IsNumbered ss id t.place (sentence_of s)) t.same
           number.numbered;
     } in
-    subst (λ (ts : List (List ℕ)). IsProofOf profile told id ts) (sym texts)
-    (subst (λ (ss : List Sentence). IsProofOf profile ss id (proof_of s)) (sym t.same)
-    (proof_stands profile t.statements id t.place s t.obeyed at t.complete))
+    subst (λ (ts : List (List ℕ)). IsProofOf Lenient told id ts) (sym texts)
+    (subst (λ (ss : List Sentence). IsProofOf Lenient ss id (proof_of s)) (sym t.same)
+    (proof_stands Lenient t.statements id t.place s t.obeyed at t.complete))
 
-steps_among : (profile : Profile) (told : List Sentence) (s : PlainStatement) (label : List ℕ)
-    (id : ℕ) (steps : ReadSteps) (t : IsTheoremAmong profile told s)
+steps_among : (told : List Sentence) (s : PlainStatement) (label : List ℕ)
+    (id : ℕ) (steps : ReadSteps) (t : IsTheoremAmong told s)
     → IsLabelled label (sentence_of s) → IsProofNumber told id t.place (sentence_of s)
     → SayStepsOf told id (proof_of s) steps.moves
     → (r : AreStepsOf t.statements label id steps.moves) × (r.place ≡ t.place) × (r.s ≡ s)
-steps_among profile told s label id steps t named number said =
+steps_among told s label id steps t named number said =
     let own : IsProofNumber (sentences t.statements) id t.place (sentence_of s) =
     subst (λ (ss : List Sentence). IsProofNumber ss id t.place (sentence_of s)) t.same number in
     let here : SayStepsOf (sentences t.statements) id (proof_of s) steps.moves =
@@ -165,15 +165,15 @@ replaced_so form told statements label id steps text same r proved laid =
     }
 
 -- written in a form
-pub theorem_replaced : (profile : Profile) (form : Form) (told : List Sentence)
+pub theorem_replaced : (form : Form) (told : List Sentence)
     (s : PlainStatement) (label : List ℕ) (id : ℕ) (steps : ReadSteps) (text : List ℕ)
-    (t : IsTheoremAmong profile told s) → IsLabelled label (sentence_of s)
+    (t : IsTheoremAmong told s) → IsLabelled label (sentence_of s)
     → IsProofNumber told id t.place (sentence_of s)
     → SayStepsOf told id (proof_of s) steps.moves → AreProvedSteps told id steps
     → IsTextOf form told id steps.moves text
     → IsReplacement form t.statements s (replacement s text)
-theorem_replaced profile form told s label id steps text t named number said proved laid =
-    let (r, place, same) = steps_among profile told s label id steps t named number said in
+theorem_replaced form told s label id steps text t named number said proved laid =
+    let (r, place, same) = steps_among told s label id steps t named number said in
     subst (λ (u : PlainStatement). IsReplacement form t.statements u (replacement u text)) same
     (replaced_so form told t.statements label id steps text t.same r proved laid)
 
@@ -181,10 +181,8 @@ theorem_replaced profile form told s label id steps text t named number said pro
 long_so : (told : List Sentence) (statements : List PlainStatement) (label : List ℕ) (id : ℕ)
     (steps : ReadSteps) → told ≡ sentences statements
     → (r : AreStepsOf statements label id steps.moves) → AreProvedSteps told id steps
-    → IsTextFault form.Normal told id steps.moves ask.L2
-    → HasTooLongProof statements r.s label
-long_so told statements label id steps same r proved (inl memory) = absurd cc
-long_so told statements label id steps same r proved (inr (is, long)) =
+    → IsTooLong told id steps.moves → HasTooLongProof statements r.s label
+long_so told statements label id steps same r proved long =
     let made = tree_made told statements label id steps same r proved in
     let over =
     of_theorem told statements label id steps.moves
@@ -192,20 +190,32 @@ long_so told statements label id steps same r proved (inr (is, long)) =
     long in
     (r.place, made.0, made.1, has_tree statements label id steps.moves r made.0 made.1 made.2, over made.0 made.1 made.2)
 
-pub theorem_long : (profile : Profile) (f : Form) (told : List Sentence) (s : PlainStatement)
-    (label : List ℕ) (id : ℕ) (steps : ReadSteps) (t : IsTheoremAmong profile told s)
-    → IsLabelled label (sentence_of s) → IsProofNumber told id t.place (sentence_of s)
-    → SayStepsOf told id (proof_of s) steps.moves → AreProvedSteps told id steps
-    → f ≡ form.Normal → IsTextFault f told id steps.moves ask.L2
+theorem_long : (told : List Sentence) (s : PlainStatement) (label : List ℕ) (id : ℕ)
+    (steps : ReadSteps) (t : IsTheoremAmong told s) → IsLabelled label (sentence_of s)
+    → IsProofNumber told id t.place (sentence_of s) → SayStepsOf told id (proof_of s) steps.moves
+    → AreProvedSteps told id steps → IsTooLong told id steps.moves
     → HasTooLongProof t.statements s label
-theorem_long profile f told s label id steps t named number said proved normal fault =
-    let (r, place, same) = steps_among profile told s label id steps t named number said in
+theorem_long told s label id steps t named number said proved long =
+    let (r, place, same) = steps_among told s label id steps t named number said in
     subst (λ (u : PlainStatement). HasTooLongProof t.statements u label) same
-    (long_so told t.statements label id steps t.same r proved
-    (subst (λ (g : Form). IsTextFault g told id steps.moves ask.L2) normal fault))
+    (long_so told t.statements label id steps t.same r proved long)
 
--- only a normal proof is
-pub long_is_normal : (f : Form) (told : List Sentence) (id : ℕ) (steps : ReadSteps)
-    → IsTextFault f told id steps.moves ask.L2 → f ≡ form.Normal
-long_is_normal form.Normal told id steps fault = refl
-long_is_normal form.Packed told id steps fault = absurd cc
+-- why it isn't written
+memory_wanting : (f : Form) (told : List Sentence) (s : PlainStatement) (why : AskFault)
+    → why ≡ ask.Memory → IsTheoremFault f told s why
+memory_wanting f told s why memory = subst (IsTheoremFault f told s) (sym memory) refl
+
+pub theorem_fault : (f : Form) (told : List Sentence) (s : PlainStatement) (id : ℕ)
+    (steps : ReadSteps) (why : AskFault)
+    → ((t : IsTheoremAmong told s) → IsProofNumber told id t.place (sentence_of s))
+    → SayStepsOf told id (proof_of s) steps.moves → AreProvedSteps told id steps
+    → IsTextFault f told id steps.moves why → IsTheoremFault f told s why
+theorem_fault form.Packed told s id steps why number said proved memory =
+    memory_wanting form.Packed told s why memory
+theorem_fault form.Normal told s id steps why number said proved (inl memory) =
+    memory_wanting form.Normal told s why memory
+theorem_fault form.Normal told s id steps why number said proved (inr (is, long)) =
+    subst (IsTheoremFault form.Normal told s) (sym is) (λ label named. (
+      refl,
+      λ t. theorem_long told s label id steps t named (number t) said proved long,
+    ))

@@ -13,8 +13,6 @@ use crate::progress::Progress;
 use crate::report::{Report, axioms_among, marked_among, reach};
 use crate::reread::{proof_of, reread};
 use crate::rewrite::put_in;
-use crate::save_all::all_written;
-use crate::save_fault::SaveFault;
 use crate::shown::listing_text;
 use crate::theorem::{Theorem, theorem_of};
 use mm_frame::{Book, Found, LabelId, LabelKind};
@@ -86,9 +84,6 @@ impl<'a> Checked<'a> {
     ghost use Rattle.mm_check.specs.Answer.{IsKeptOf};
     ghost use Rattle.mm_check.specs.Saved.{IsSaved, FitsSaved, IsSaveFault};
     ghost use Rattle.mm_check.specs.Mirror.Rewriting.{IsHomeOf};
-    ghost use Rattle.mm_check.specs.Verdict.{AreAccepted};
-    ghost use Rattle.mm_check.specs.AllSaved.{IsAllSaved};
-    ghost use Rattle.mm_check.specs.Mirror.AllSaving.{IsWritingFault};
 
     /// What the progress over the files has come to in the profile, once nothing is left.
     pub(crate) fn new(
@@ -330,22 +325,5 @@ impl<'a> Checked<'a> {
         let text = proof_text(alloc, &self.book, &theorem, form)?;
         let bytes = put_in(alloc, self.files, theorem.file, theorem.span, &text)?;
         Ok((theorem.file, bytes))
-    }
-    /// The bytes of the file with a number, with each complete proof written in a form.
-    pub(crate) fn saved_all(
-        &self,
-        alloc: Global,
-        number: usize,
-        form: Form,
-    ) -> Result<Vec<u8>, SaveFault<'a>>
-        requires { number < length self.now.files }
-        ensures saved { IfOk result (λ new. (statements : List PlainStatement)
-            × AreAccepted self.now.profile self.now.files statements
-            × IsAllSaved form self.now.files statements number new.items
-            × FitsSaved self.now.files number new.items) }
-        ensures fault { IfErr result
-            (IsWritingFault self.now.profile form self.now.files number) }
-    {
-        all_written(alloc, self.profile, &self.book, self.files, number, form)
     }
 }

@@ -45,7 +45,8 @@ pub use laws::{
 pub use mm_frame::LabelId;
 pub use report::Report;
 pub use rule::Rule;
-pub use save::{saved, saved_all};
+pub use save::saved;
+pub use save_all::saved_all;
 pub use save_fault::SaveFault;
 pub use status::Status;
 pub use verdict::{check, check_with};

@@ -27,6 +27,7 @@ use crate::form::Form;
 use crate::reply::{name_of, push_label, push_labels, status_of, text_of};
 use crate::report::Report;
 use crate::rule::Rule;
+use crate::save_all::saved_all;
 use crate::save_fault::SaveFault;
 use crate::status::Status;
 use crate::verdict::{check, check_with};
@@ -430,57 +431,6 @@ pub(crate) fn question_reply(
     reply
 }
 
-/// The reply of a database in which nothing is at fault to the question for the bytes of the file with
-/// a number, with each complete proof in a form.
-fn all_saved_answer(
-    alloc: Global,
-    files: &[File],
-    checked: &Checked,
-    form: Form,
-    number: usize,
-) -> Result<Reply, AllocError>
-    requires there { number < length files.now }
-    requires files { checked.now.files ≡ map plain_file files.now }
-    ensures { IfOk result (λ reply. (statements : List PlainStatement)
-        × AreAccepted checked.now.profile (map plain_file files.now) statements
-        × IsAllSavedReply form (map plain_file files.now) number statements reply.text.items
-        (number_of reply.status)) }
-{
-    match checked.saved_all(alloc, number, form) {
-        Ok(text) => Ok(Reply {
-            text,
-            status: Status::Done,
-        }),
-        Err(SaveFault::TooLong { label }) => ask_reply(alloc, label, AskFault::L2),
-        Err(SaveFault::Ask(fault)) => ask_reply(alloc, name_of(files, number), fault),
-        // The files are accepted.
-        Err(SaveFault::Check(_)) => unreachable!(),
-    }
-}
-
-/// The reply to the question for the file with a number, with each complete proof in a form, where
-/// this is the answer of `check`.
-fn all_saved_or_verdict(
-    alloc: Global,
-    files: &[File],
-    answer: &Result<Checked, CheckFault>,
-    form: Form,
-    number: usize,
-) -> Result<Reply, AllocError>
-    requires there { number < length files.now }
-    requires verdict { IsVerdict Lenient (map plain_file files.now) answer.now }
-    requires files { IfOk answer.now (KeepsFiles (map plain_file files.now)) }
-    requires profile { IfOk answer.now (λ checked. checked.profile ≡ Lenient) }
-    ensures { IfOk result (λ reply. IsQuestionReply (map plain_file files.now)
-        (IsAllSavedReply form (map plain_file files.now) number) reply.text.items
-        (number_of reply.status)) }
-{
-    match answer {
-        Ok(checked) => all_saved_answer(alloc, files, checked, form, number),
-        Err(_) => verdict_reply(alloc, files, answer),
-    }
-}
-
 /// The reply to the question for the file with a number, with each complete proof in a form.
 pub(crate) fn all_saved_reply(
     alloc: Global,
@@ -494,8 +444,13 @@ pub(crate) fn all_saved_reply(
         (IsAllSavedReply form (map plain_file files.now) number) reply.text.items
         (number_of reply.status)) }
 {
-    let answer = check(alloc, seed, files);
-    let reply = all_saved_or_verdict(alloc, files, &answer, form, number);
-    drop(answer);
-    reply
+    match saved_all(alloc, seed, files, number, form) {
+        Ok(text) => Ok(Reply {
+            text,
+            status: Status::Done,
+        }),
+        Err(SaveFault::TooLong { label }) => ask_reply(alloc, label, AskFault::L2),
+        Err(SaveFault::Ask(fault)) => ask_reply(alloc, name_of(files, number), fault),
+        Err(SaveFault::Check(fault)) => verdict_reply(alloc, files, &Err(fault)),
+    }
 }

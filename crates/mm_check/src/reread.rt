@@ -26,11 +26,7 @@ fn has_label(statement: &Statement, label: &[u8]) -> bool
 }
 
 /// A reader of files that can be read.
-pub(crate) fn reader<'a>(
-    alloc: Global,
-    seed: Seed,
-    files: &'a [File<'a>],
-) -> Result<Statements<'a>, AskFault>
+fn reader<'a>(alloc: Global, seed: Seed, files: &'a [File<'a>]) -> Result<Statements<'a>, AskFault>
     requires { CanBeRead (map plain_file files.now) }
     ensures unread { IfOk result (IsUnread (map plain_file files.now)) }
     ensures memory { IfErr result (λ fault. fault ≡ Memory) }
@@ -44,10 +40,7 @@ pub(crate) fn reader<'a>(
 }
 
 /// Reads the next statement of a text without a fault; `false` where there is none.
-pub(crate) fn next<'a>(
-    statements: &mut Statements<'a>,
-    into: &mut Statement<'a>,
-) -> Result<bool, AskFault>
+fn next<'a>(statements: &mut Statements<'a>, into: &mut Statement<'a>) -> Result<bool, AskFault>
     requires { statements.old.ending ≡ None }
     ensures taken { IfOk result (λ more.
         TakesNext statements.old more (plain_statement into.new) statements.new) }

@@ -1,12 +1,11 @@
-//! A file with the proof of one theorem written anew, or with all of its proofs.
+//! A file with the proof of one theorem written anew.
 
-ghost use Rattle.std.specs.Prelude.{◌≡◌, ◌<◌, List, map, length, IfOk, IfErr};
+ghost use Rattle.std.specs.Prelude.{◌≡◌, List, map, IfOk, IfErr};
 ghost use Rattle.mm_text.specs.Statement.{PlainStatement};
 ghost use Rattle.mm_text.specs.Files.{plain_file};
 ghost use Rattle.mm_proof.specs.declared.profile.Profile.TheVariants.{Lenient};
 ghost use Rattle.mm_check.specs.Verdict.{AreAccepted};
 ghost use Rattle.mm_check.specs.Saved.{IsSaved, FitsSaved, IsSavingFault};
-ghost use Rattle.mm_check.specs.AllSaved.{IsAllSaved, IsSavingAllFault};
 
 use crate::form::Form;
 use crate::save_fault::SaveFault;
@@ -46,38 +45,4 @@ pub fn saved<'a>(
         Ok(new) => Ok(new),
         Err(fault) => Err(SaveFault::Ask(fault)),
     }
-}
-
-/// The bytes of the handed file with a number, with each complete proof written anew in a form, as
-/// `saved` writes that of one theorem. All other bytes are kept, incomplete proofs among them. No
-/// proof is kept by `check`, so the files are read again, once.
-///
-/// # Errors
-///
-/// `Check`, with what `check` answers, where it doesn't accept the files. Else, with
-/// `Form::Normal`, `TooLong` with the label of the first theorem of the file, in database order,
-/// whose normal proof has over 16,777,216 labels; else `Ask(F3)` where the files would have over
-/// 1,073,741,824 bytes in all. `Ask(Memory)` where a growth was refused after the files were
-/// checked.
-pub fn saved_all<'a>(
-    alloc: Global,
-    seed: Seed,
-    files: &'a [File<'a>],
-    number: usize,
-    form: Form,
-) -> Result<Vec<u8>, SaveFault<'a>>
-    requires { number < length files.now }
-    ensures saved { IfOk result (λ new. (statements : List PlainStatement)
-        × AreAccepted Lenient (map plain_file files.now) statements
-        × IsAllSaved form (map plain_file files.now) statements number new.items
-        × FitsSaved (map plain_file files.now) number new.items) }
-    ensures fault { IfErr result (IsSavingAllFault form (map plain_file files.now) number) }
-{
-    let checked = match check(alloc, seed, files) {
-        Ok(checked) => checked,
-        Err(fault) => return Err(SaveFault::Check(fault)),
-    };
-    let answer = checked.saved_all(alloc, number, form);
-    drop(checked);
-    answer
 }

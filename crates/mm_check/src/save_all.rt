@@ -1,40 +1,50 @@
 //! A file with each complete proof written anew.
 
-ghost use Rattle.std.specs.Prelude.{◌≡◌, ◌<◌, ◌≤◌, ◌++◌, ◌⊎◌, [], ◌∷◌, List, ℕ, map, drop, length};
-ghost use Rattle.std.specs.Prelude.{slice_get, slice_range, OnOk, IfOk, IfErr, IfSome, Some};
+ghost use Rattle.std.specs.Prelude.{◌≡◌, ◌<◌, ◌≤◌, ◌↔◌, [], List, map, length};
+ghost use Rattle.std.specs.Prelude.{ℕ, slice_get, OnOk, IfOk, IfErr, IsTrue, true, Some, None, ◌⊎◌};
 ghost use Rattle.std.specs.List.{list_any};
 ghost use Rattle.mm_text.specs.declared.statement.Kind.TheVariants.{Provable};
 ghost use Rattle.mm_text.specs.Statement.{PlainStatement, plain_statement, HasForm};
 ghost use Rattle.mm_text.specs.Files.{most_bytes, plain_file, total_bytes};
+ghost use Rattle.mm_text.specs.Remaining.{IsUnread};
 ghost use Rattle.mm_frame.specs.Sentence.{Sentence, SomeSentence, sentence_in, IsLabelled};
+ghost use Rattle.mm_proof.specs.declared.profile.Profile.TheVariants.{Lenient};
 ghost use Rattle.mm_proof.specs.Steps.{IsProofNumber};
 ghost use Rattle.mm_proof.specs.Tokens.{is_unknown};
-ghost use Rattle.mm_check.specs.declared.ask.AskFault.TheVariants.{F3, Memory};
-ghost use Rattle.mm_check.specs.Verdict.{AreAccepted, proof_of};
+ghost use Rattle.mm_check.specs.declared.fault.CheckFault.TheVariants.{Memory};
+ghost use Rattle.mm_check.specs.Verdict.{AreAccepted, CanBeRead, proof_of};
 ghost use Rattle.mm_check.specs.Saved.{FitsSaved};
-ghost use Rattle.mm_check.specs.AllSaved.{IsAllSaved, IsReplacement};
+ghost use Rattle.mm_check.specs.AllSaved.{IsAllSaved, IsReplacement, IsSavingAllFault};
 ghost use Rattle.mm_check.specs.AllSaved.{is_theorem_of};
+ghost use Rattle.mm_check.specs.Mirror.Judged.{IsUnderWay, TellsVerdict};
 ghost use Rattle.mm_check.specs.Mirror.AllSaving.{IsTheoremAmong, IsTheoremFault, replacement};
-ghost use Rattle.mm_check.specs.Mirror.AllSaving.{IsUpTo, PutsAfter, IsMostFor, AreReadAgain};
-ghost use Rattle.mm_check.specs.Mirror.AllSaving.{IsWrittenSoFar, IsAllWritten, StopsWriting};
-ghost use Rattle.mm_check.specs.Mirror.AllSaving.{IsWritingFault};
+ghost use Rattle.mm_check.specs.Mirror.AllSaving.{PutsAfter, PutsText, IsMostFor};
+ghost use Rattle.mm_check.specs.Mirror.AllSaving.{PutsProof, KeepsLabel, IsWrittenSoFar};
+ghost use Rattle.mm_check.specs.Mirror.AllSaving.{IsAllWritten, IsWhole, IsFinishFault};
 
 use crate::ask::AskFault;
+use crate::fault::CheckFault;
 use crate::form::Form;
 use crate::forms::proof_text;
-use crate::reread::{next, read_proof, reader};
+use crate::progress::Progress;
+use crate::reread::read_proof;
 use crate::rewrite::most_for;
 use crate::save_fault::SaveFault;
 use crate::text::has_question;
 use crate::theorem::theorem_of;
+use crate::verdict::{beginning, judge_next, load};
 use mm_frame::{Book, Found, LabelId};
 use mm_proof::Profile;
 use mm_text::{File, Kind, Seed, Statement, Statements};
 use std::alloc::{AllocError, Global};
 
-/// A file that is written anew, up to a place in its bytes.
+/// A file that is written anew on the way through its database, up to a place in its bytes.
 #[derive(Drop)]
 struct NewFile<'a> {
+    /// Its number among the handed files.
+    number: usize,
+    /// The form in which its proofs are written.
+    form: Form,
     /// The bytes of the file as it is.
     source: &'a [u8],
     /// How many of them were taken.
@@ -43,6 +53,9 @@ struct NewFile<'a> {
     bytes: Vec<u8>,
     /// How many bytes there may be.
     most: usize,
+    /// The label of the first theorem whose normal proof is too long, if there is one. No proof is
+    /// put from there on.
+    too_long: Option<&'a [u8]>,
 }
 
 /// Puts bytes after others, unless those are more than `most` already.
@@ -61,65 +74,25 @@ fn new_file<'a>(
     alloc: Global,
     files: &'a [File<'a>],
     number: usize,
+    form: Form,
 ) -> Result<NewFile<'a>, AllocError>
     requires there { number < length files.now }
     requires within { total_bytes (map plain_file files.now) ≤ most_bytes }
-    ensures source { IfOk result (λ file. IfSome (slice_get (map plain_file files.now) number)
-        (λ own. file.source.now ≡ own.bytes)) }
-    ensures limit { IfOk result (λ file.
-        IsMostFor (map plain_file files.now) number file.most) }
-    ensures begin { IfOk result (λ file. file.taken ≡ 0) }
-    ensures empty { IfOk result (λ file. file.bytes.items ≡ []) }
+    ensures begun { IfOk result (λ file. IsWrittenSoFar (map plain_file files.now) [] file) }
+    ensures number { IfOk result (λ file. file.number ≡ number) }
+    ensures form { IfOk result (λ file. file.form ≡ form) }
 {
     let source = files[number].bytes;
     let room = source.len().saturating_add(source.len() / 8);
     Ok(NewFile {
+        number,
+        form,
         source,
         taken: 0,
         bytes: Vec::with_capacity(alloc, room)?,
         most: most_for(files, number),
+        too_long: None,
     })
-}
-
-impl<'a> NewFile<'a> {
-    /// Takes the bytes up to a span, and puts a line feed and a text in place of the span.
-    fn put(&mut self, span: (u32, u32), text: &[u8]) -> Result<(), AllocError>
-        requires after { self.old.taken ≤ span.0 }
-        requires order { span.0 ≤ span.1 }
-        requires within { span.1 ≤ length self.old.source.now }
-        ensures put { OnOk result (PutsAfter self.old.most
-            (slice_range self.old.source.now self.old.taken span.0 ++ 10 ∷ text.now)
-            self.old.bytes.items self.new.bytes.items) }
-        ensures taken { OnOk result (self.new.taken ≡ span.1) }
-        ensures source { OnOk result (self.new.source.now ≡ self.old.source.now) }
-        ensures most { OnOk result (self.new.most ≡ self.old.most) }
-    {
-        let kept = &self.source[self.taken..span.0 as usize];
-        append(self.most, &mut self.bytes, kept)?;
-        append(self.most, &mut self.bytes, b"\n")?;
-        append(self.most, &mut self.bytes, text)?;
-        self.taken = span.1 as usize;
-        Ok(())
-    }
-
-    /// The whole file: what wasn't taken is kept.
-    fn finish(self) -> Result<Vec<u8>, AskFault>
-        requires { self.taken ≤ length self.source.now }
-        ensures whole { IfOk result (λ new. (whole : List ℕ)
-            → IsUpTo self.entry.most whole self.entry.bytes.items
-            → new.items ≡ whole ++ drop self.entry.taken self.entry.source.now) }
-        ensures fits { IfOk result (λ new. length new.items ≤ self.entry.most) }
-        ensures fault { IfErr result (λ fault. (fault ≡ Memory) ⊎ ((fault ≡ F3)
-            × ((whole : List ℕ) → IsUpTo self.entry.most whole self.entry.bytes.items
-            → self.entry.most < length (whole ++ drop self.entry.taken self.entry.source.now)))) }
-    {
-        let mut bytes = self.bytes;
-        append(self.most, &mut bytes, &self.source[self.taken..])?;
-        if bytes.len() > self.most {
-            return Err(AskFault::F3);
-        }
-        Ok(bytes)
-    }
 }
 
 /// Whether some token of a statement's proof holds a `?`.
@@ -165,98 +138,198 @@ fn number_of(book: &Book, label: &[u8]) -> LabelId
     }
 }
 
-/// The text of the proof of a `$p` in a form, whose tokens are these.
+/// The text of the proof of a theorem in a form, whose tokens are these.
 fn text_of<'a>(
     alloc: Global,
-    profile: Profile,
+    form: Form,
     book: &Book<'a>,
     statement: &Statement<'a>,
     tokens: &[&'a [u8]],
-    form: Form,
-) -> Result<Vec<u8>, SaveFault<'a>>
-    requires theorem { IsTheoremAmong profile book.now.statements (plain_statement statement.now) }
+) -> Result<Vec<u8>, AskFault>
+    requires theorem { IsTheoremAmong book.now.statements (plain_statement statement.now) }
     requires tokens { map (λ t. t.now) tokens.now ≡ proof_of (plain_statement statement.now) }
     requires formed { HasForm (plain_statement statement.now) }
     ensures text { IfOk result (λ text.
-        (theorem : IsTheoremAmong profile book.now.statements (plain_statement statement.now))
+        (theorem : IsTheoremAmong book.now.statements (plain_statement statement.now))
         → IsReplacement form theorem.statements (plain_statement statement.now)
         (replacement (plain_statement statement.now) text.items)) }
-    ensures fault { IfErr result (IsTheoremFault profile form book.now.statements
+    ensures fault { IfErr result (IsTheoremFault form book.now.statements
         (plain_statement statement.now)) }
 {
-    let label = label_of(statement);
-    let id = number_of(book, label);
-    let theorem = theorem_of(alloc, profile, book, id, statement, tokens)?;
-    match proof_text(alloc, book, &theorem, form) {
-        Ok(text) => Ok(text),
-        Err(AskFault::L2) => Err(SaveFault::TooLong { label }),
-        Err(fault) => Err(SaveFault::Ask(fault)),
+    let id = number_of(book, label_of(statement));
+    let theorem = theorem_of(alloc, Profile::Lenient, book, id, statement, tokens)?;
+    proof_text(alloc, book, &theorem, form)
+}
+
+impl<'a> NewFile<'a> {
+    /// Whether a statement is a theorem of the file whose proof is to be put.
+    fn wants(&self, statement: &Statement) -> bool
+        ensures { IsTrue result ↔ ((self.now.too_long ≡ None)
+            × (is_theorem_of self.now.number (plain_statement statement.now) ≡ true)) }
+    {
+        self.too_long.is_none() && is_theorem(statement, self.number)
+    }
+
+    /// Takes the bytes up to a span, and puts a line feed and a text in place of the span.
+    fn put(&mut self, span: (u32, u32), text: &[u8]) -> Result<(), AllocError>
+        requires after { self.old.taken ≤ span.0 }
+        requires order { span.0 ≤ span.1 }
+        requires within { span.1 ≤ length self.old.source.now }
+        ensures { OnOk result (PutsText self.old span text.now self.new) }
+    {
+        let kept = &self.source[self.taken..span.0 as usize];
+        append(self.most, &mut self.bytes, kept)?;
+        append(self.most, &mut self.bytes, b"\n")?;
+        append(self.most, &mut self.bytes, text)?;
+        self.taken = span.1 as usize;
+        Ok(())
+    }
+
+    /// Puts the proof of a theorem of a book in place of the one that it has; or keeps the theorem's
+    /// label, where its normal proof is too long. What the list of tokens held is lost.
+    fn write(
+        &mut self,
+        alloc: Global,
+        book: &Book<'a>,
+        statement: &Statement<'a>,
+        tokens: &mut Vec<&'a [u8]>,
+    ) -> Result<(), CheckFault<'a>>
+        requires theorem { IsTheoremAmong book.now.statements (plain_statement statement.now) }
+        requires formed { HasForm (plain_statement statement.now) }
+        requires after { self.old.taken ≤ statement.now.span.0 }
+        requires order { statement.now.span.0 ≤ statement.now.span.1 }
+        requires within { statement.now.span.1 ≤ length self.old.source.now }
+        ensures written { OnOk result (PutsProof book.now.statements self.old
+            (plain_statement statement.now) self.new ⊎ KeepsLabel book.now.statements self.old
+            (plain_statement statement.now) self.new) }
+        ensures memory { IfErr result (λ fault. fault ≡ Memory) }
+    {
+        read_proof(tokens, statement)?;
+        match text_of(alloc, self.form, book, statement, tokens) {
+            Ok(text) => self.put(statement.span, &text)?,
+            Err(AskFault::L2) => self.too_long = Some(label_of(statement)),
+            Err(AskFault::Memory) => return Err(CheckFault::Memory),
+            // The theorem's proof is complete and accepted.
+            Err(_) => unreachable!(),
+        }
+        Ok(())
+    }
+
+    /// The whole file, once all statements were judged: what wasn't taken is kept.
+    fn finish(self) -> Result<Vec<u8>, AskFault>
+        requires { self.taken ≤ length self.source.now }
+        ensures whole { IfOk result (λ new. IsWhole self.entry new.items) }
+        ensures fits { IfOk result (λ new. length new.items ≤ self.entry.most) }
+        ensures fault { IfErr result (IsFinishFault self.entry) }
+    {
+        let mut bytes = self.bytes;
+        append(self.most, &mut bytes, &self.source[self.taken..])?;
+        if bytes.len() > self.most {
+            return Err(AskFault::F3);
+        }
+        Ok(bytes)
     }
 }
 
-/// Reads the statements that are left, and writes anew each complete proof of the file with a number
+/// Reads the statements that are left and judges each, and writes anew each complete proof of a file
 /// as it is met.
-fn write_proofs<'a>(
+fn write_rest<'a>(
     alloc: Global,
-    profile: Profile,
-    book: &Book<'a>,
-    number: usize,
-    form: Form,
+    files: &[File<'a>],
     statements: &mut Statements<'a>,
+    progress: &mut Progress<'a>,
     file: &mut NewFile<'a>,
-) -> Result<(), SaveFault<'a>>
-    requires { IsWrittenSoFar profile statements.old.files book.now.statements number form file.old
-        statements.old }
-    ensures done { OnOk result (IsAllWritten profile statements.old.files book.now.statements number
-        form file.new statements.new) }
-    ensures fault { IfErr result (StopsWriting profile form statements.old.files number) }
+) -> Result<(), CheckFault<'a>>
+    requires { (way : IsUnderWay Lenient (map plain_file files.now) progress.old statements.old)
+        × IsWrittenSoFar (map plain_file files.now) way.earlier file.old }
+    ensures written { OnOk result (IsAllWritten (map plain_file files.now) file.new) }
+    ensures number { OnOk result (file.new.number ≡ file.old.number) }
+    ensures form { OnOk result (file.new.form ≡ file.old.form) }
+    ensures refused { IfErr result (TellsVerdict Lenient (map plain_file files.now)) }
 {
     let mut statement = Statement::empty(alloc);
     let mut tokens = Vec::new(alloc);
-    while next(statements, &mut statement)? {
-        if is_theorem(&statement, number) {
-            read_proof(&mut tokens, &statement)?;
-            let text = text_of(alloc, profile, book, &statement, &tokens, form)?;
-            file.put(statement.span, &text)?;
+    while judge_next(
+        Profile::Lenient,
+        files,
+        statements,
+        progress,
+        &mut statement,
+    )? {
+        if file.wants(&statement) {
+            file.write(alloc, progress.prover.book(), &statement, &mut tokens)?;
         }
     }
     Ok(())
 }
 
-/// The bytes of the file with a number, with each complete proof in a form.
-pub(crate) fn all_written<'a>(
+/// The file with a number, once all statements that a new reader has are judged.
+fn written<'a>(
     alloc: Global,
-    profile: Profile,
-    book: &Book<'a>,
+    seed: Seed,
     files: &'a [File<'a>],
     number: usize,
     form: Form,
-) -> Result<Vec<u8>, SaveFault<'a>>
+    statements: &mut Statements<'a>,
+) -> Result<NewFile<'a>, CheckFault<'a>>
     requires there { number < length files.now }
-    requires read { AreReadAgain profile (map plain_file files.now) book.now.statements }
-    ensures saved { IfOk result (λ new. (statements : List PlainStatement)
-        × AreAccepted profile (map plain_file files.now) statements
-        × IsAllSaved form (map plain_file files.now) statements number new.items
-        × FitsSaved (map plain_file files.now) number new.items) }
-    ensures fault { IfErr result (IsWritingFault profile form (map plain_file files.now) number) }
+    requires unread { IsUnread (map plain_file files.now) statements.old }
+    requires readable { CanBeRead (map plain_file files.now) }
+    ensures written { IfOk result (IsAllWritten (map plain_file files.now)) }
+    ensures number { IfOk result (λ file. file.number ≡ number) }
+    ensures form { IfOk result (λ file. file.form ≡ form) }
+    ensures refused { IfErr result (TellsVerdict Lenient (map plain_file files.now)) }
 {
-    let mut file = new_file(alloc, files, number)?;
-    let mut statements = reader(alloc, book.seed(), files)?;
-    let outcome = write_proofs(
-        alloc,
-        profile,
-        book,
-        number,
-        form,
-        &mut statements,
-        &mut file,
-    );
-    drop(statements);
+    let mut file = new_file(alloc, files, number, form)?;
+    let mut progress = beginning(alloc, seed)?;
+    let outcome = write_rest(alloc, files, statements, &mut progress, &mut file);
+    drop(progress);
     match outcome {
-        Ok(()) => Ok(file.finish()?),
+        Ok(()) => Ok(file),
         Err(fault) => {
             drop(file);
             Err(fault)
         }
+    }
+}
+
+/// The bytes of the handed file with a number, with each complete proof written anew in a form, as
+/// `saved` writes that of one theorem. All other bytes are kept, incomplete proofs among them. The
+/// files are read once, and each proof is written as soon as it is judged.
+///
+/// # Errors
+///
+/// `Check`, with what `check` answers, where it doesn't accept the files, and with `Memory` where a
+/// growth was refused before all statements were judged. Else, with `Form::Normal`, `TooLong` with
+/// the label of the first theorem of the file, in database order, whose normal proof has over
+/// 16,777,216 labels; else `Ask(F3)` where the files would have over 1,073,741,824 bytes in all.
+/// `Ask(Memory)` where a growth was refused at the end.
+pub fn saved_all<'a>(
+    alloc: Global,
+    seed: Seed,
+    files: &'a [File<'a>],
+    number: usize,
+    form: Form,
+) -> Result<Vec<u8>, SaveFault<'a>>
+    requires { number < length files.now }
+    ensures saved { IfOk result (λ new. (statements : List PlainStatement)
+        × AreAccepted Lenient (map plain_file files.now) statements
+        × IsAllSaved form (map plain_file files.now) statements number new.items
+        × FitsSaved (map plain_file files.now) number new.items) }
+    ensures fault { IfErr result (IsSavingAllFault form (map plain_file files.now) number) }
+{
+    let mut statements = match load(alloc, seed, files) {
+        Ok(statements) => statements,
+        Err(fault) => return Err(SaveFault::Check(fault)),
+    };
+    let outcome = written(alloc, seed, files, number, form, &mut statements);
+    drop(statements);
+    let file = match outcome {
+        Ok(file) => file,
+        Err(fault) => return Err(SaveFault::Check(fault)),
+    };
+    match file.too_long {
+        Some(label) => Err(SaveFault::TooLong { label }),
+        None => Ok(file.finish()?),
     }
 }

@@ -13,7 +13,7 @@ ghost use Rattle.mm_check.specs.Answer.{IsYes, IsOverLimit, IsWantOfMemory, IsVe
 ghost use Rattle.mm_check.specs.Answer.{IsOnlyVerdict, KeepsLabels, KeepsCounts, KeepsUses};
 ghost use Rattle.mm_check.specs.Answer.{KeepsFiles, NamesFile, plain_refusal};
 ghost use Rattle.mm_check.specs.Mirror.Judged.{TakesNext, RefusesEnd, RefusesLoad, Knows};
-ghost use Rattle.mm_check.specs.Mirror.Judged.{IsUnderWay, IsAtEnd, TellsVerdict};
+ghost use Rattle.mm_check.specs.Mirror.Judged.{IsUnderWay, IsAtEnd, GoesOn, TellsVerdict};
 
 use crate::checked::Checked;
 use crate::fault::{CheckFault, Refusal};
@@ -29,7 +29,7 @@ use mm_text::{File, Seed, Statement, Statements, TextFault, TextRule, Token};
 use std::alloc::Global;
 
 /// A reader of the files, or why they can't be taken as a whole.
-fn load<'a>(
+pub(crate) fn load<'a>(
     alloc: Global,
     seed: Seed,
     files: &'a [File<'a>],
@@ -107,7 +107,7 @@ fn next<'a>(
 }
 
 /// The progress before any statement.
-fn beginning<'a>(alloc: Global, seed: Seed) -> Result<Progress<'a>, CheckFault<'a>>
+pub(crate) fn beginning<'a>(alloc: Global, seed: Seed) -> Result<Progress<'a>, CheckFault<'a>>
     ensures ok { IfOk result (Knows []) }
     ensures fault { IsOkUnless result CheckFault.Memory }
 {
@@ -137,6 +137,28 @@ fn make_room<'a>(files: &[File<'a>], progress: &mut Progress<'a>)
     }
 }
 
+/// Reads the next statement and judges it; `false` where there is none.
+pub(crate) fn judge_next<'a>(
+    profile: Profile,
+    files: &[File<'a>],
+    statements: &mut Statements<'a>,
+    progress: &mut Progress<'a>,
+    into: &mut Statement<'a>,
+) -> Result<bool, CheckFault<'a>>
+    requires { IsUnderWay profile (map plain_file files.now) progress.old statements.old }
+    ensures judged { IfOk result (λ more. GoesOn profile (map plain_file files.now) progress.old
+        statements.old more (plain_statement into.new) progress.new statements.new) }
+    ensures formed { result ≡ Ok true → HasForm (plain_statement into.new) }
+    ensures refused { IfErr result (TellsVerdict profile (map plain_file files.now)) }
+{
+    if !next(files, statements, into)? {
+        return Ok(false);
+    }
+    make_room(files, progress);
+    judge(profile, files, progress, into)?;
+    Ok(true)
+}
+
 /// Reads the statements that are left, one after the other, and judges each, up to the first fault.
 fn judge_rest<'a>(
     alloc: Global,
@@ -151,10 +173,7 @@ fn judge_rest<'a>(
     ensures refused { IfErr result (TellsVerdict profile (map plain_file files.now)) }
 {
     let mut statement = Statement::empty(alloc);
-    while next(files, statements, &mut statement)? {
-        make_room(files, progress);
-        judge(profile, files, progress, &statement)?;
-    }
+    while judge_next(profile, files, statements, progress, &mut statement)? {}
     Ok(())
 }
 

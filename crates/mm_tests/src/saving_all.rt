@@ -377,7 +377,7 @@ pub(crate) const KEPT: [Asked; 7] = [
 ];
 
 /// Files that are not written anew.
-pub(crate) const NOT_SAVED: [Asked; 4] = [
+pub(crate) const NOT_SAVED: [Asked; 6] = [
     Asked {
         name: "the second theorem's expansion has millions of labels, and so has the third's",
         command: All {
@@ -397,6 +397,45 @@ pub(crate) const NOT_SAVED: [Asked; 4] = [
         )],
         reply: &[Text(b"ask L2 two\n")],
         status: 4,
+    },
+    Asked {
+        name: "a wrong proof behind one whose expansion has millions of labels comes first",
+        command: All {
+            form: Normal,
+            file: 0,
+        },
+        files: &[(
+            b"cat.mm",
+            &[
+                Text(CAT),
+                Text(b"one $p e $= "),
+                Text(TWENTY_FOUR),
+                Text(b" $.\ntwo $p e $= nil nil $.\n"),
+            ],
+        )],
+        reply: &[Text(b"no cat.mm 8 two P13 3\n")],
+        status: 1,
+    },
+    Asked {
+        name: "so does a statement of another file that the file's end cuts",
+        command: All {
+            form: Normal,
+            file: 1,
+        },
+        files: &[
+            (b"top.mm", &[Text(b"$[ cat.mm $]\nlast $p e\n")]),
+            (
+                b"cat.mm",
+                &[
+                    Text(CAT),
+                    Text(b"one $p e $= "),
+                    Text(TWENTY_FOUR),
+                    Text(b" $.\n"),
+                ],
+            ),
+        ],
+        reply: &[Text(b"no top.mm 2 last X8 0\n")],
+        status: 1,
     },
     Asked {
         name: "a refused database is not saved whole",

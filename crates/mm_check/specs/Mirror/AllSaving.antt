@@ -1,35 +1,32 @@
 -- What the code knows on its way to a file in which each complete proof is written anew. This file
 -- mirrors the code, and is cited by private contracts alone.
-use Rattle.std.specs.Prelude.{◌≡◌, ℕ, ◌<◌, ◌≤◌, ◌↔◌, List, [], ◌∷◌, ◌++◌, take, length, slice_get}
-use Rattle.std.specs.Prelude.{true, Some, None, ◌⊎◌, sum_by}
+use Rattle.std.specs.Prelude.{◌≡◌, ℕ, ◌<◌, ◌≤◌, ◌↔◌, List, [], ◌∷◌, ◌++◌, take, drop, length, slice_get}
+use Rattle.std.specs.Prelude.{slice_range, true, Option, Some, None, option_map, ◌⊎◌, sum_by}
 use Rattle.std.specs.List.{AllZip}
 use Rattle.mm_text.specs.declared.statement.Kind.TheVariants.{Provable}
 use Rattle.mm_text.specs.Statement.{PlainStatement}
 use Rattle.mm_text.specs.Files.{PlainFile, most_bytes}
-use Rattle.mm_text.specs.Remaining.{Remaining}
-use Rattle.mm_frame.specs.Sentence.{Sentence}
-use Rattle.mm_proof.specs.declared.profile.Profile.{Profile}
+use Rattle.mm_frame.specs.Sentence.{Sentence, sentence_of, IsLabelled}
+use Rattle.mm_proof.specs.declared.profile.Profile.TheVariants.{Lenient}
 use Rattle.mm_proof.specs.Tree.{Trees, none, tree, spelling}
 use Rattle.mm_check.specs.declared.form.Form.{Form}
 use Rattle.mm_check.specs.declared.form.Form.TheVariants.{Normal}
-use Rattle.mm_check.specs.declared.ask.AskFault.TheVariants.{Memory}
-use Rattle.mm_check.specs.declared.save_fault.SaveFault.{SaveFault}
-use Rattle.mm_check.specs.declared.save_fault.SaveFault.TheVariants.{Check, Ask, TooLong}
+use Rattle.mm_check.specs.declared.ask.AskFault.{AskFault}
+use Rattle.mm_check.specs.declared.ask.AskFault.TheVariants.{F3, L2, Memory}
 use Rattle.mm_check.specs.declared.save_all.NewFile.{NewFile}
 use Rattle.mm_check.specs.Verdict.{AllObey, AreAccepted, is_proof, proof_of, sentences}
 use Rattle.mm_check.specs.Forms.{HasProofTree, most_labels}
 use Rattle.mm_check.specs.Saved.{total_with}
 use Rattle.mm_check.specs.AllSaved.{Replacement, IsReplacement, with_replaced, theorems_of}
-use Rattle.mm_check.specs.AllSaved.{IsFirstTooLong, IsAllSaveFault}
+use Rattle.mm_check.specs.AllSaved.{IsFirstTooLong}
 
 -- ---- one theorem
 
 -- the statement is a `$p` with a complete proof among statements that obey the rules and say this
-pub record IsTheoremAmong (profile : Profile) (told : List Sentence)
-    (s : PlainStatement) : Type 0 where
+pub record IsTheoremAmong (told : List Sentence) (s : PlainStatement) : Type 0 where
   pub statements : List PlainStatement
   pub same : told ≡ sentences statements
-  pub obeyed : AllObey profile statements
+  pub obeyed : AllObey Lenient statements
   pub place : ℕ
   pub there : slice_get statements place ≡ Some s
   pub complete : is_proof s ≡ true
@@ -46,14 +43,17 @@ HasTooLongProof statements s label =
     × HasProofTree statements label place s root below
     × (most_labels < length (spelling (tree root below none)))
 
--- why its proof isn't written in this form
-abbrev pub IsTheoremFault : Profile → Form → List Sentence → PlainStatement → SaveFault → Type 0
-IsTheoremFault profile form told s (Check fault) = ⊥
-IsTheoremFault profile form told s (Ask fault) = fault ≡ Memory
-IsTheoremFault profile form told s (TooLong label) =
+-- the form is the normal one, and the proof has more labels than may be written
+abbrev pub IsTooLongAmong : Form → List Sentence → PlainStatement → (label : List ℕ) → Type 0
+IsTooLongAmong form told s label =
     (form ≡ Normal)
-    × ((theorem : IsTheoremAmong profile told s)
-    → HasTooLongProof theorem.statements s label.now)
+    × ((theorem : IsTheoremAmong told s) → HasTooLongProof theorem.statements s label)
+
+-- why its proof isn't written in this form
+abbrev pub IsTheoremFault : Form → List Sentence → PlainStatement → AskFault → Type 0
+IsTheoremFault form told s L2 =
+    (label : List ℕ) → IsLabelled label (sentence_of s) → IsTooLongAmong form told s label
+IsTheoremFault form told s fault = fault ≡ Memory
 
 -- ---- the bytes of a file
 
@@ -79,6 +79,51 @@ AreSpansWithin start stop [] = start ≤ stop
 AreSpansWithin start stop (new ∷ news) =
     (start ≤ new.span.0) × (new.span.0 ≤ new.span.1) × AreSpansWithin new.span.1 stop news
 
+-- it is the same file, whose proofs are written in the same form
+pub record IsSameFile (old new : NewFile) : Type 0 where
+  pub number : new.number ≡ old.number
+  pub form : new.form ≡ old.form
+  pub source : new.source.now ≡ old.source.now
+  pub most : new.most ≡ old.most
+
+-- the bytes up to a span were taken, and then a line feed and a text put in place of the span
+pub record PutsText (old : NewFile) (span : ℕ × ℕ) (text : List ℕ) (new : NewFile) : Type 0 where
+  pub same : IsSameFile old new
+  pub long : new.too_long ≡ old.too_long
+  pub taken : new.taken ≡ span.1
+  pub put : PutsAfter old.most (slice_range old.source.now old.taken span.0 ++ 10 ∷ text)
+      old.bytes.items new.bytes.items
+
+-- a theorem's proof was put in place of the one that it had
+pub record PutsProof (told : List Sentence) (old : NewFile) (s : PlainStatement)
+    (new : NewFile) : Type 0 where
+  pub text : List ℕ
+  pub puts : PutsText old s.span text new
+  pub anew : (theorem : IsTheoremAmong told s)
+      → IsReplacement old.form theorem.statements s (replacement s text)
+
+-- the theorem's label was kept, since its normal proof is too long
+pub record KeepsLabel (told : List Sentence) (old : NewFile) (s : PlainStatement)
+    (new : NewFile) : Type 0 where
+  pub label : List ℕ
+  pub kept : option_map (λ l. l.now) new.too_long ≡ Some label
+  pub same : IsSameFile old new
+  pub taken : new.taken ≡ old.taken
+  pub long : IsTooLongAmong old.form told s label
+
+-- these are the bytes of the new file with what wasn't taken of the old one
+abbrev pub IsWhole : NewFile → (bytes : List ℕ) → Type 0
+IsWhole file bytes =
+    (so_far : List ℕ) → IsUpTo file.most so_far file.bytes.items
+    → bytes ≡ so_far ++ drop file.taken file.source.now
+
+-- memory was wanting, or these bytes are more than there may be
+abbrev pub IsFinishFault : NewFile → AskFault → Type 0
+IsFinishFault file fault =
+    (fault ≡ Memory)
+    ⊎ ((fault ≡ F3) × ((so_far : List ℕ) → IsUpTo file.most so_far file.bytes.items
+    → file.most < length (so_far ++ drop file.taken file.source.now)))
+
 -- ---- the statements so far
 
 -- the place is where the proof of the last `$p` of the file so far whose proof is replaced ends; the
@@ -90,56 +135,34 @@ IsLastEnd number taken at =
     × (taken ≡ before ++ s ∷ between) × (s.kind ≡ Provable) × (s.first.file ≡ number)
     × (at ≡ s.span.1))
 
--- accepted statements of the files, which say this
-pub record AreReadAgain (profile : Profile) (files : List PlainFile)
-    (told : List Sentence) : Type 0 where
-  pub statements : List PlainStatement
-  pub accepted : AreAccepted profile files statements
-  pub same : told ≡ sentences statements
-
--- Some of the statements were taken, and the others are left. In the new file stand the bytes of the
--- old one up to the last span, with the proofs of the theorems so far replaced.
-pub record IsWrittenSoFar (profile : Profile) (files : List PlainFile) (told : List Sentence)
-    (number : ℕ) (form : Form) (file : NewFile) (left : Remaining) : Type 0 where
-  pub all : AreReadAgain profile files told
-  pub taken : List PlainStatement
-  pub split : all.statements ≡ taken ++ left.statements
-  pub ending : left.ending ≡ None
-  pub own : PlainFile
-  pub handed : slice_get files number ≡ Some own
-  pub source : file.source.now ≡ own.bytes
-  pub limit : IsMostFor files number file.most
+-- in the new file stand the bytes of the old one up to the last span, with the proofs of the
+-- theorems so far replaced
+pub record AreReplacedSoFar (taken : List PlainStatement) (file : NewFile) : Type 0 where
   pub replaced : List Replacement
-  pub each : AllZip (IsReplacement form all.statements) (theorems_of number taken) replaced
+  pub each : AllZip (IsReplacement file.form taken) (theorems_of file.number taken) replaced
   pub spans : AreSpansWithin 0 file.taken replaced
-  pub within : file.taken ≤ length own.bytes
-  pub last : IsLastEnd number taken file.taken
-  pub put : IsUpTo file.most (with_replaced (take file.taken own.bytes) replaced) file.bytes.items
+  pub put : IsUpTo file.most (with_replaced (take file.taken file.source.now) replaced)
+      file.bytes.items
 
--- nothing is left
-pub record IsAllWritten (profile : Profile) (files : List PlainFile) (told : List Sentence)
-    (number : ℕ) (form : Form) (file : NewFile) (left : Remaining) : Type 0 where
-  pub way : IsWrittenSoFar profile files told number form file left
-  pub none : left.statements ≡ []
+-- what is known of the new file after these statements: where a label is kept, it is that of the
+-- first theorem whose normal proof is too long
+abbrev pub IsSoFar : List PlainStatement → NewFile → Option (List ℕ) → Type 0
+IsSoFar taken file None = AreReplacedSoFar taken file
+IsSoFar taken file (Some label) = (file.form ≡ Normal) × IsFirstTooLong taken file.number label
 
--- the first theorem of the accepted files whose normal proof is too long has this label
-abbrev pub TellsTooLong : Profile → Form → List PlainFile → (number : ℕ) → (label : List ℕ) → Type 0
-TellsTooLong profile form files number label =
-    (form ≡ Normal) × (statements : List PlainStatement) × AreAccepted profile files statements
-    × IsFirstTooLong statements number label
+-- The new file is that of one of the files, after these statements of them.
+pub record IsWrittenSoFar (files : List PlainFile) (taken : List PlainStatement)
+    (file : NewFile) : Type 0 where
+  pub own : PlainFile
+  pub handed : slice_get files file.number ≡ Some own
+  pub source : file.source.now ≡ own.bytes
+  pub limit : IsMostFor files file.number file.most
+  pub within : file.taken ≤ length file.source.now
+  pub last : IsLastEnd file.number taken file.taken
+  pub so_far : IsSoFar taken file (option_map (λ l. l.now) file.too_long)
 
--- why a theorem's proof wasn't written: memory was wanting, or a normal proof is too long
-abbrev pub StopsWriting : Profile → Form → List PlainFile → (number : ℕ) → SaveFault → Type 0
-StopsWriting profile form files number (Check fault) = ⊥
-StopsWriting profile form files number (Ask fault) = fault ≡ Memory
-StopsWriting profile form files number (TooLong label) =
-    TellsTooLong profile form files number label.now
-
--- why the file wasn't written
-abbrev pub IsWritingFault : Profile → Form → List PlainFile → (number : ℕ) → SaveFault → Type 0
-IsWritingFault profile form files number (Check fault) = ⊥
-IsWritingFault profile form files number (Ask fault) =
-    (statements : List PlainStatement) × AreAccepted profile files statements
-    × IsAllSaveFault form files statements number fault
-IsWritingFault profile form files number (TooLong label) =
-    TellsTooLong profile form files number label.now
+-- the new file, after all statements of the files, which are accepted
+abbrev pub IsAllWritten : List PlainFile → NewFile → Type 0
+IsAllWritten files file =
+    (statements : List PlainStatement) × AreAccepted Lenient files statements
+    × IsWrittenSoFar files statements file

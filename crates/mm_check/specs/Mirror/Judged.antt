@@ -178,6 +178,18 @@ pub record IsAtEnd (profile : Profile) (files : List PlainFile) (p : Progress)
   pub none : left.statements ≡ []
   pub ending : left.ending ≡ None
 
+-- The next statement goes over from those that are left to those so far; or none is left, and those
+-- so far are all of them.
+abbrev pub GoesOn : Profile → List PlainFile → (old : Progress) → Remaining → (more : Bool)
+    → PlainStatement → (new : Progress) → Remaining → Type 0
+GoesOn profile files old left true s new rest =
+    (left.statements ≡ s ∷ rest.statements)
+    × ((way : IsUnderWay profile files old left)
+    → (on : IsUnderWay profile files new rest) × (on.earlier ≡ way.earlier ++ s ∷ []))
+GoesOn profile files old left false s new rest =
+    (way : IsUnderWay profile files old left)
+    → (end : IsAtEnd profile files new rest) × (end.way.earlier ≡ way.earlier)
+
 -- The verdict that the fault tells holds of the files; want of memory tells none.
 abbrev pub TellsVerdict : Profile → List PlainFile → CheckFault → Type 0
 TellsVerdict profile files fault =

@@ -1,11 +1,20 @@
 -- The three parts come one after the other.
-use Rattle.std.proofs.Common.{List, ℕ, [], ◌∷◌, slice_range}
+use Rattle.std.proofs.Common.{List, ℕ, [], ◌∷◌, slice_range, refl}
 use Rattle.mm_check.proofs.ReplacedSpans.{put_twice}
 use Rattle.mm_check.proofs.save_all.NewFile.put.Goals as goal
 
-pub returns-clause-put : goal.returns-clause-put
-returns-clause-put c =
+pub returns : goal.returns
+returns c =
     let most : ℕ = c.args.self.now.most in
-    let kept : List ℕ = slice_range c.args.self.now.source.now c.args.self.now.taken c.args.span.0 in
-    put_twice most kept (10 ∷ c.args.text.now) c.args.self.now.bytes.items c.append.new.bytes.items c.append-3.new.bytes.items c.in_ok-append.ensures
-    (put_twice most (10 ∷ []) c.args.text.now c.append.new.bytes.items c.append-2.new.bytes.items c.append-3.new.bytes.items c.in_ok-append-2.ensures c.in_ok-append-3.ensures)
+    let kept : List ℕ =
+    slice_range c.args.self.now.source.now c.args.self.now.taken c.args.span.0 in
+    record {
+      same = record { number = refl; form = refl; source = refl; most = refl };
+      long = refl;
+      taken = refl;
+      put = put_twice most kept (10 ∷ c.args.text.now) c.args.self.now.bytes.items
+          c.append.new.bytes.items c.append-3.new.bytes.items c.in_ok-append.ensures
+          (put_twice most (10 ∷ []) c.args.text.now c.append.new.bytes.items
+          c.append-2.new.bytes.items c.append-3.new.bytes.items c.in_ok-append-2.ensures
+          c.in_ok-append-3.ensures);
+    }
