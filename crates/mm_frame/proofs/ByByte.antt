@@ -64,9 +64,8 @@ newly_told names name new = elim (with_name_cases names name) [
 ]
 
 one_byte : (name : List ℕ) → length name ≡ 1 → name ≡ get_or name 0 0 ∷ []
-one_byte [] one = absurd (omega arith)
 one_byte (b ∷ []) one = refl
-one_byte (b ∷ c ∷ name) one = absurd (omega arith)
+one_byte name one = absurd (omega arith)
 
 -- the table stays right when a name of another length is added
 pub by_byte_of_longer : (names : List (List ℕ)) (by_byte : List (Option ℕ)) (name : List ℕ) → length name ≢ 1 → AreByByte names by_byte → AreByByte (with_name names name) by_byte

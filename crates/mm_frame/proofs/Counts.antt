@@ -6,8 +6,7 @@ use Rattle.std.proofs.lemmas.List.Sums.{sum_by-append}
 use Rattle.std.proofs.lemmas.Bool.{cases_lt}
 use Rattle.mm_frame.specs.Sentence.{Sentence}
 use Rattle.mm_frame.specs.Active.{open_marks, close_marks}
-use Rattle.mm_text.specs.Blocks.{is_closing}
-use Rattle.mm_text.specs.Blocks.{is_opening}
+use Rattle.mm_text.specs.Blocks.{is_closing, is_opening}
 use Rattle.mm_frame.specs.Mirror.Scopes.{IsUnclosed}
 
 pub count_append : {X : Type 0} (p : X → Bool) (xs ys : List X) → count_by p (xs ++ ys) ≡ count_by p xs + count_by p ys
@@ -21,13 +20,9 @@ closings-append xs ys = count_append (λ s. is_closing s.kind) xs ys
 
 -- a front of what lies past a place of a front lies so in the whole list
 front_of_front : {X : Type 0} (n x p : ℕ) (xs : List X) → (m : ℕ) × (take n (drop x (take p xs)) ≡ take m (drop x xs))
-front_of_front zero x p xs = (0, refl)
-front_of_front (suc n) zero zero xs = (0, refl)
-front_of_front (suc n) (suc x) zero xs = (0, refl)
-front_of_front (suc n) zero (suc p) [] = (0, refl)
-front_of_front (suc n) (suc x) (suc p) [] = (0, refl)
 front_of_front (suc n) zero (suc p) (y ∷ xs) = let (m, e) = front_of_front n zero p xs in (suc m, ap (λ ys. y ∷ ys) e)
 front_of_front (suc n) (suc x) (suc p) (y ∷ xs) = front_of_front (suc n) x p xs
+front_of_front n x p xs = (0, refl)
 
 pub unclosed_front : (xs : List Sentence) (p x : ℕ) → IsUnclosed xs x → IsUnclosed (take p xs) x
 unclosed_front xs p x open_still n =

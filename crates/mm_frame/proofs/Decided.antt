@@ -71,14 +71,7 @@ kinds = Constants ∷ Variables ∷ Distinct ∷ Floating ∷ Essential ∷ Axio
 
 at_number : (k : Kind) → slice_get kinds (number_of k) ≡ Some k
 at_number Constants = refl
-at_number Variables = refl
-at_number Distinct = refl
-at_number Floating = refl
-at_number Essential = refl
-at_number Axiom = refl
-at_number Provable = refl
-at_number Opening = refl
-at_number Closing = refl
+at_number k = refl
 
 pub kind_dec : (k l : Kind) → Dec (k ≡ l)
 kind_dec k l = dec_as (λ e. same_Some k l (sym (at_number k) ∙ ap (slice_get kinds) e ∙ at_number l)) (ap number_of) (ℕ_discrete (number_of k) (number_of l))

@@ -145,9 +145,6 @@ pub record AreNew (st : List Sentence) (e : Sentence) (symbols : List (List ℕ)
   pub each : (a b : ℕ) (x y : List ℕ) → slice_get symbols a ≡ Some x → slice_get symbols b ≡ Some y → a < b → Contains e.symbols x → Contains e.symbols y
       → ((i : ℕ) × (span : Stated) × (slice_get new i ≡ Some span) × (span.pair ≡ (a, b))) ⊎ IsDistinct st x y
 
-stays_distinct : (e : Sentence) → e.kind ≡ Distinct → ¬ (e.kind ≡ Closing)
-stays_distinct e kind closes = absurd (cc)
-
 -- what was stated, where a statement is added, and symbols whose numbers the `$d` before it don't
 -- hold
 pub record AreKept (st : List Sentence) (e : Sentence) (symbols : List (List ℕ))
@@ -303,7 +300,7 @@ stated_push st e symbols stated new all are kind news =
         (λ n. take n (st ++ e ∷ [])) next ∙ all_taken st e in
         subst (λ n. IsActive (take (n + 1) (st ++ e ∷ [])) p) last
         (subst (λ ys. IsActive ys p) (sym pushed)
-        (active_stays st e p (stays_distinct e kind)
+        (active_stays st e p (λ closes. cc)
         (subst (λ ys. IsActive ys p) whole active)))
 
     old_new : (i k : ℕ) (older newer : Stated) → slice_get stated.pairs i ≡ Some older

@@ -65,11 +65,9 @@ noted_past places variables n none = noted_nowhere places variables n (λ q at. 
 
 -- an element stays where another place was written
 get_set_other : {X : Type 0} (xs : List X) (i j : ℕ) (x : X) → ¬ (j ≡ i) → slice_get (set xs i x) j ≡ slice_get xs j
-get_set_other [] i j x apart = refl
 get_set_other (y ∷ xs) zero zero x apart = absurd (apart refl)
-get_set_other (y ∷ xs) zero (suc j) x apart = refl
-get_set_other (y ∷ xs) (suc i) zero x apart = refl
 get_set_other (y ∷ xs) (suc i) (suc j) x apart = get_set_other xs i j x (λ same. apart (ap suc same))
+get_set_other xs i j x apart = refl
 
 pub noted_longer : (old new : List ℕ) (variables : List (Option ℕ)) → IsLonger old new → AreNoted old variables → AreNoted new variables
 noted_longer old new variables (more, is) noted n place first =

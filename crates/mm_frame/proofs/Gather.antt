@@ -1,9 +1,8 @@
 -- Gathering the places of the mandatory hypotheses.
 use Rattle.std.proofs.Common.{eqb, ◌≡◌, ◌↔◌, ℕ, zero, suc, ◌+◌, ◌<◌, inl, inr, length, take, get_or, List, [], ◌∷◌, ◌++◌, map, Contains, Option, Some, None, refl, sym, ap, ◌∙◌, subst, append_assoc, append-nil, arith}
-use Rattle.std.specs.List.{slice_get, cons_option}
+use Rattle.std.specs.List.{slice_get, cons_option, dedup}
 use Rattle.std.specs.Option.{option_and_then}
 use Rattle.std.proofs.lemmas.Option.{slice_get_within, slice_get-get_or, get_or_from_slice_get}
-use Rattle.std.specs.List.{dedup}
 use Rattle.std.specs.List.Sorted.{IsPermutation, IsSorted, IsStrictlyIncreasing}
 use Rattle.std.specs.Ordering.{nat_cmp}
 use Rattle.std.proofs.lemmas.List.Kept.{AllPairs-from_increasing, Contains-dedup_nat, Contains-from_dedup}
@@ -66,8 +65,6 @@ floatings_have infos (x ∷ xs) (suc j) p n there says =
 
 -- the symbol with one of some numbers
 numbers_at : (st : List Sentence) (ns : List Sym) (symbols : List (List ℕ)) (j : ℕ) (n : Sym) → AreNumbers st (map (λ n. n.0) ns) symbols → slice_get ns j ≡ Some n → (x : List ℕ) × (slice_get symbols j ≡ Some x) × (slice_get (symbols_of st) n.0 ≡ Some x)
-numbers_at st [] symbols j n are there = absurd (cc)
-numbers_at st (m ∷ ns) [] j n are there = absurd (cc)
 numbers_at st (m ∷ ns) (x ∷ symbols) zero n are there =
     let same : m ≡ n = cc in
     let here : slice_get (symbols_of st) m.0 ≡ Some x = cc in
@@ -75,6 +72,7 @@ numbers_at st (m ∷ ns) (x ∷ symbols) zero n are there =
 numbers_at st (m ∷ ns) (x ∷ symbols) (suc j) n are there =
     let rest : AreNumbers st (map (λ n. n.0) ns) symbols = cc in
     numbers_at st ns symbols j n rest there
+numbers_at st ns symbols j n are there = absurd cc
 
 symbol_number : (st : List Sentence) (ns : List Sym) (symbols : List (List ℕ)) (j : ℕ) (x : List ℕ) → AreNumbers st (map (λ n. n.0) ns) symbols → slice_get symbols j ≡ Some x → (n : Sym) × (slice_get ns j ≡ Some n) × (slice_get (symbols_of st) n.0 ≡ Some x)
 symbol_number st [] [] j x are there = absurd (cc)

@@ -139,9 +139,8 @@ constant_says st x info r meant k is = by info.variable r (has_constant st x inf
   where
     by : (o : Option ℕ) (r : Bool) → MatchOption o (IsConstant st x) (λ p. ¬ (IsConstant st x)) → is_some o ≡ not r → IsTrue r ↔ IsConstant st x
     by None true h e = ((λ t. h), (λ c. search rules))
-    by None false h e = absurd (cc)
-    by (Some p) true h e = absurd (cc)
     by (Some p) false h e = ((λ t. absurd (cc t)), (λ c. absurd (h c)))
+    by o r h e = absurd cc
 
 -- whether the latest `$v`, or `$f`, of a known variable is active says whether any is
 pub variable_says : (st : List Sentence) (x : List ℕ) (info : SymbolInfo) (p : ℕ) (r : Bool)

@@ -72,8 +72,6 @@ label_new st labels named log s l are meant has = elim (with_name_cases labels l
 
 pub numbers_within : (names : List (List ℕ)) (numbers : List Sym) (xs : List (List ℕ)) → map (slice_get names) (map (λ n. n.0) numbers) ≡ map (λ x. Some x) xs
     → (i : ℕ) (n : Sym) → slice_get numbers i ≡ Some n → n.0 < length names
-numbers_within names [] xs are i n there = absurd (cc)
-numbers_within names (m ∷ numbers) [] are i n there = absurd (cc)
 numbers_within names (m ∷ numbers) (x ∷ xs) are zero n there =
     let here : slice_get names m.0 ≡ Some x = cc in
     let same : m ≡ n = cc in
@@ -81,6 +79,7 @@ numbers_within names (m ∷ numbers) (x ∷ xs) are zero n there =
 numbers_within names (m ∷ numbers) (x ∷ xs) are (suc i) n there =
     let rest : map (slice_get names) (map (λ n. n.0) numbers) ≡ map (λ x. Some x) xs = cc in
     numbers_within names numbers xs rest i n there
+numbers_within names numbers xs are i n there = absurd cc
 
 -- the lists before a label is written: those of a book, but for what is known of symbols and for the active `$e`, and with more of frames
 pub record Before (t u : Tables) (a : List Hypothesis) (b : List DistinctPair) (c : List Piece) : Type 0 where
@@ -98,19 +97,11 @@ pub record Before (t u : Tables) (a : List Hypothesis) (b : List DistinctPair) (
 
 -- lists that are the same are so
 pub before_same : (t u : Tables) → SameLists t u → Before t u [] [] []
-before_same t u same = record {
-  symbols = same.symbols;
-  labels = same.labels;
-  named = same.named;
-  log = same.log;
-  flat = same.flat;
-  scopes = same.scopes;
-  hypotheses = same.hypotheses ∙ sym (append-nil t.hypotheses.items);
-  pairs = same.pairs ∙ sym (append-nil t.pairs.items);
-  pieces = same.pieces ∙ sym (append-nil t.pieces.items);
-  stated = same.stated;
-  bytes = same.bytes;
-}
+before_same t u same = search (
+  same.hypotheses ∙ sym (append-nil t.hypotheses.items),
+  same.pairs ∙ sym (append-nil t.pairs.items),
+  same.pieces ∙ sym (append-nil t.pieces.items),
+)
 
 -- what the new statement is, as the lists say it
 pub record IsWritten (t : Tables) (s : Sentence) (kind : Kind) (l : List ℕ) (numbers : List Sym) : Type 0 where

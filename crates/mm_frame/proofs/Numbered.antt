@@ -141,13 +141,7 @@ symbols_grow st more i x there = subst (λ xs. slice_get xs i ≡ Some x) (sym (
 in_declared : (kind : Kind) (symbols : List (List ℕ)) (x : List ℕ) → At (declared_in kind symbols) x → ((kind ≡ Constants) ⊎ (kind ≡ Variables)) × At symbols x
 in_declared Constants symbols x at = (inl refl, at)
 in_declared Variables symbols x at = (inr refl, at)
-in_declared Distinct symbols x (i, there) = absurd (cc)
-in_declared Floating symbols x (i, there) = absurd (cc)
-in_declared Essential symbols x (i, there) = absurd (cc)
-in_declared Axiom symbols x (i, there) = absurd (cc)
-in_declared Provable symbols x (i, there) = absurd (cc)
-in_declared Opening symbols x (i, there) = absurd (cc)
-in_declared Closing symbols x (i, there) = absurd (cc)
+in_declared kind symbols x (i, there) = absurd (cc)
 
 append_right : {X : Type 0} (xs ys : List X) (x : X) → At ys x → At (xs ++ ys) x
 append_right [] ys x at = at
@@ -211,11 +205,11 @@ numbers_grow st more (n ∷ numbers) (x ∷ symbols) are =
     cc
 
 -- the same numbers are those of the same symbols, and the same symbols have the same numbers
-same_somes : {X : Type 0} (xs ys : List X) → map (λ x. Some x) xs ≡ map (λ x. Some x) ys → xs ≡ ys
+pub same_somes : {X : Type 0} (xs ys : List X) → map (λ x. Some x) xs ≡ map (λ x. Some x) ys
+    → xs ≡ ys
 same_somes [] [] e = refl
-same_somes [] (y ∷ ys) e = absurd (cc)
-same_somes (x ∷ xs) [] e = absurd (cc)
 same_somes (x ∷ xs) (y ∷ ys) e =
     let rest : map (λ x. Some x) xs ≡ map (λ x. Some x) ys = cc in
     let more = same_somes xs ys rest in
     cc
+same_somes xs ys e = absurd cc

@@ -7,8 +7,7 @@ use Rattle.std.proofs.lemmas.List.{drop-append-le, drop-drop, take-append-le}
 use Rattle.mm_text.specs.declared.statement.Kind.TheVariants.{Opening, Closing}
 use Rattle.mm_frame.specs.Sentence.{Sentence}
 use Rattle.mm_frame.specs.Active.{open_marks, close_marks, IsOpen, Holds, IsActive}
-use Rattle.mm_text.specs.Blocks.{is_closing}
-use Rattle.mm_text.specs.Blocks.{is_opening}
+use Rattle.mm_text.specs.Blocks.{is_closing, is_opening}
 use Rattle.mm_frame.specs.Mirror.Scopes.{IsUnclosed}
 use Rattle.mm_frame.specs.Laws.{IsInnermostOpen, OpenBlocks, ActiveStatements}
 use Rattle.mm_text.proofs.Lists.{get_kept, get_pushed, get_in_front, pushed_cases, get_dropped}

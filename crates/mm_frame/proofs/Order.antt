@@ -21,21 +21,16 @@ above n (rule ∷ rules) zero d rising lt = rising.0
 above n (rule ∷ rules) (suc i) d rising lt = let e = above (rank rule) rules i d rising.1 (omega arith) in let f = rising.0 in omega arith
 
 rises : (n : ℕ) (rules : List MeaningRule) (i j : ℕ) (d : MeaningRule) → AreRising n rules → i < j → j < length rules → rank (get_or rules i d) < rank (get_or rules j d)
-rises n [] i j d rising lt within = absurd (omega arith)
-rises n (rule ∷ rules) i zero d rising lt within = absurd (omega arith)
 rises n (rule ∷ rules) zero (suc j) d rising lt within = above (rank rule) rules j d rising.1 (omega arith)
 rises n (rule ∷ rules) (suc i) (suc j) d rising lt within = rises (rank rule) rules i j d rising.1 (omega arith) (omega arith)
+rises n rules i j d rising lt within = absurd (omega arith)
 
 rules_rise : (kind : Kind) → AreRising 0 (rules_of kind)
-rules_rise Constants = (omega arith, (omega arith, (omega arith, (omega arith, (omega arith, tt)))))
 rules_rise Variables = (omega arith, (omega arith, (omega arith, (omega arith, tt))))
-rules_rise Distinct = (omega arith, (omega arith, (omega arith, (omega arith, (omega arith, tt)))))
 rules_rise Floating = (omega arith, (omega arith, (omega arith, (omega arith, (omega arith, (omega arith, (omega arith, tt)))))))
-rules_rise Essential = (omega arith, (omega arith, (omega arith, (omega arith, (omega arith, tt)))))
-rules_rise Axiom = (omega arith, (omega arith, (omega arith, (omega arith, (omega arith, tt)))))
-rules_rise Provable = (omega arith, (omega arith, (omega arith, (omega arith, (omega arith, tt)))))
 rules_rise Opening = (omega arith, (omega arith, tt))
 rules_rise Closing = (omega arith, (omega arith, tt))
+rules_rise kind = (omega arith, (omega arith, (omega arith, (omega arith, (omega arith, tt)))))
 
 -- the rule is asked of a statement of the kind
 abbrev IsAsked : MeaningRule → Kind → Type 0
@@ -48,24 +43,12 @@ of_kind rule one kind same asked = subst (λ k. IsAsked rule k) (sym same) asked
 asked_m5 : (kind : Kind) → IsAsked M5 kind
 asked_m5 Constants = (3, omega arith, refl)
 asked_m5 Variables = (2, omega arith, refl)
-asked_m5 Distinct = (0, omega arith, refl)
-asked_m5 Floating = (0, omega arith, refl)
-asked_m5 Essential = (0, omega arith, refl)
-asked_m5 Axiom = (0, omega arith, refl)
-asked_m5 Provable = (0, omega arith, refl)
-asked_m5 Opening = (0, omega arith, refl)
-asked_m5 Closing = (0, omega arith, refl)
+asked_m5 kind = (0, omega arith, refl)
 
 asked_m6 : (kind : Kind) → IsAsked M6 kind
 asked_m6 Constants = (4, omega arith, refl)
 asked_m6 Variables = (3, omega arith, refl)
-asked_m6 Distinct = (1, omega arith, refl)
-asked_m6 Floating = (1, omega arith, refl)
-asked_m6 Essential = (1, omega arith, refl)
-asked_m6 Axiom = (1, omega arith, refl)
-asked_m6 Provable = (1, omega arith, refl)
-asked_m6 Opening = (1, omega arith, refl)
-asked_m6 Closing = (1, omega arith, refl)
+asked_m6 kind = (1, omega arith, refl)
 
 -- a rule that is asked of each kind of statement that states an expression
 asked_stated : (rule : MeaningRule) (kind : Kind) → IsAsked rule Essential → IsAsked rule Axiom → IsAsked rule Provable → IsStated kind → IsAsked rule kind

@@ -22,15 +22,12 @@ use Rattle.mm_frame.proofs.Entries.{sentence_at, entry_at}
 
 -- the second of two
 pub two_parts : (symbols : List (List ℕ)) → length symbols ≡ 2 → (a : List ℕ) × (b : List ℕ) × (symbols ≡ a ∷ b ∷ [])
-two_parts [] size = absurd (omega arith)
-two_parts (a ∷ []) size = absurd (omega arith)
 two_parts (a ∷ b ∷ []) size = (a, b, refl)
-two_parts (a ∷ b ∷ c ∷ symbols) size = absurd (omega arith)
+two_parts symbols size = absurd (omega arith)
 
 second_number : (st : List Sentence) (ns : List Sym) (code x : List ℕ) → AreNumbers st (map (λ n. n.0) ns) (code ∷ x ∷ []) → (n : Sym) × (slice_get ns 1 ≡ Some n) × IsNumberOf st x n.0
-second_number st [] code x are = absurd (cc)
-second_number st (a ∷ []) code x are = absurd (cc)
 second_number st (a ∷ b ∷ ns) code x are = (b, refl, cc)
+second_number st ns code x are = absurd cc
 
 -- the second number of a `$f` is that of its variable
 pub variable_says : (st : List Sentence) (place : ℕ) (f : Sentence) (ns : List Sym) → AllFormed st → slice_get st place ≡ Some f → f.kind ≡ Floating → AreNumbers st (map (λ n. n.0) ns) f.symbols

@@ -31,14 +31,13 @@ use Rattle.mm_frame.proofs.Patterns.{pattern_longer}
 
 told_agree : {Y : Type 0} (f : LabelId × Option (Sym × Sym) → Y) (old new : List Hypothesis) → AreSameButPatterns old new → map (λ h. f (told h)) new ≡ map (λ h. f (told h)) old
 told_agree f [] [] same = refl
-told_agree f [] (y ∷ ys) same = absurd (cc)
-told_agree f (x ∷ xs) [] same = absurd (cc)
 told_agree f (x ∷ xs) (y ∷ ys) same =
     let first : told y ≡ told x = cc in
     let rest : map told ys ≡ map told xs = cc in
     let head = ap f first in
     let tail = told_agree f xs ys rest in
     cc (head, tail)
+told_agree f old new same = absurd cc
 
 pub ids_same : (old new : List Hypothesis) → AreSameButPatterns old new → map (λ h. h.id.0) new ≡ map (λ h. h.id.0) old
 ids_same old new same = told_agree (λ p. p.0.0) old new same
@@ -210,8 +209,7 @@ essential_step t log flat places numbers old hs new pieces pieces' i place h par
     (subst (λ ps. HaveFirstPatterns st old (set hs i (record h { pattern = part })) ps (i + 1)) (sym more) (first_step st old hs pieces c i h part have at has))
 
 is_typed : (o : Option (Sym × Sym)) → is_none o ≡ false → ¬ (o ≡ None)
-is_typed None is untyped = absurd (cc)
-is_typed (Some typing) is untyped = absurd (cc)
+is_typed o is untyped = absurd cc
 
 -- a `$f` gets none
 pub typed_step : (st : List Sentence) (old hs new : List Hypothesis) (pieces : List Piece) (i : ℕ) (h : Hypothesis) → HaveFirstPatterns st old hs pieces i → slice_get hs i ≡ Some h → is_none h.typing ≡ false

@@ -41,21 +41,7 @@ same_tables t u a s =
 -- the same lists, where what is stated was touched and is the same still
 pub same_but : (t u : Tables) (d : PairTable) → SameLists t u → d.stated ≡ u.distinct.stated
     → SameLists t (record u { distinct = d })
-same_but t u d same stated = record {
-  symbols = same.symbols;
-  infos = same.infos;
-  labels = same.labels;
-  named = same.named;
-  log = same.log;
-  flat = same.flat;
-  scopes = same.scopes;
-  essentials = same.essentials;
-  hypotheses = same.hypotheses;
-  pairs = same.pairs;
-  pieces = same.pieces;
-  stated = stated ∙ same.stated;
-  bytes = same.bytes;
-}
+same_but t u d same stated = search (stated ∙ same.stated)
 
 -- what holds either way
 pub on_err : {T E P : Type 0} (r : Result T E) → P → OnErr r P

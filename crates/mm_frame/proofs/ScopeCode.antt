@@ -41,14 +41,7 @@ no_end never st blocks ends stack p b there none a =
 
 not_opening : (kind : Kind) → ¬ (kind ≡ Opening) → is_opening kind ≡ false
 not_opening Opening apart = absurd (apart refl)
-not_opening Constants apart = refl
-not_opening Variables apart = refl
-not_opening Distinct apart = refl
-not_opening Floating apart = refl
-not_opening Essential apart = refl
-not_opening Axiom apart = refl
-not_opening Provable apart = refl
-not_opening Closing apart = refl
+not_opening kind apart = refl
 
 -- after a statement that opens and closes no block
 pub stayed : (never : ℕ) (st : List Sentence) (e : Sentence) (blocks ends stack : List ℕ) (top : ℕ) → ((k : ℕ) → length stack ≡ suc k → slice_get stack k ≡ Some top)

@@ -8,8 +8,7 @@ use Rattle.std.proofs.Math.Seq.{take-append_seam}
 use Rattle.mm_text.specs.declared.statement.Kind.TheVariants.{Opening, Closing}
 use Rattle.mm_frame.specs.Sentence.{Sentence}
 use Rattle.mm_frame.specs.Active.{open_marks, close_marks, IsOpen}
-use Rattle.mm_text.specs.Blocks.{is_closing}
-use Rattle.mm_text.specs.Blocks.{is_opening}
+use Rattle.mm_text.specs.Blocks.{is_closing, is_opening}
 use Rattle.mm_frame.specs.Mirror.Scopes.{IsUnclosed, IsBegun, IsEnd, IsOnStack, DirectlyHolds, AreScopes}
 use Rattle.mm_text.proofs.Lists.{get_kept, get_pushed, pushed_cases, get_before, get_set_cases}
 use Rattle.mm_frame.proofs.Counts.{openings-append, closings-append, unclosed_pushed, unclosed_before, unclosed_all, unclosed_new}
@@ -154,9 +153,6 @@ ended_grown never xs e blocks ends stack a b x c begins ends_at =
 held_grown : (xs : List Sentence) (e : Sentence) (blocks : List ℕ) (b : ℕ) → length blocks ≡ length xs → length (blocks ++ b ∷ []) ≡ length (xs ++ e ∷ [])
 held_grown xs e blocks b size = length_pushed blocks b ∙ ap suc size ∙ sym (length_pushed xs e)
 
-apart_kinds : (b : Bool) → b ≡ false → b ≡ true → ⊥
-apart_kinds b is_not is = cc
-
 pub scopes_ordinary : (never : ℕ) (xs : List Sentence) (e : Sentence) (blocks ends stack : List ℕ) (k top : ℕ) → AreScopes never xs blocks ends stack
     → length stack ≡ suc k → slice_get stack k ≡ Some top → is_opening e.kind ≡ false → is_closing e.kind ≡ false
     → AreScopes never (xs ++ e ∷ []) (blocks ++ top ∷ []) ends stack
@@ -171,7 +167,8 @@ scopes_ordinary never xs e blocks ends stack k top a size last not_opening not_c
     on_stack_grown xs e a.starts a.starts stack stack k b h (within b h.start h.there) same balance (slice_get_within stack k b there) in
     let earlier : (outer : ℕ) → IsOpen (xs ++ e ∷ []) outer → IsOpen xs outer = λ outer still. elim (cases_lt outer (length xs)) [
       | inl lt ↦ open_before xs e outer still lt
-      | inr ge ↦ absurd (apart_kinds (is_opening e.kind) not_opening (ap is_opening (opened_last xs e outer still (λ lt. omega arith)).1))
+      | inr ge ↦
+          absurd (let opens = ap is_opening (opened_last xs e outer still (λ lt. omega arith)).1 in cc)
     ] in
     let holder = grown k top last in
     record {

@@ -150,8 +150,6 @@ is_fresh st a b n r all says fails x y at_x at_y distinct =
 -- the name of a member with one of some numbers, and the number of a symbol
 pub member_name : (names : List (List ℕ)) (members : List Sym) (symbols : List (List ℕ)) (u : ℕ) (a : Sym) → map (slice_get names) (map (λ n. n.0) members) ≡ map Some symbols → slice_get members u ≡ Some a
     → (x : List ℕ) × (slice_get symbols u ≡ Some x) × (slice_get names a.0 ≡ Some x)
-member_name names [] symbols u a are there = absurd (cc)
-member_name names (m ∷ members) [] u a are there = absurd (cc)
 member_name names (m ∷ members) (x ∷ symbols) zero a are there =
     let same : m ≡ a = cc in
     let here : slice_get names m.0 ≡ Some x = cc in
@@ -159,6 +157,7 @@ member_name names (m ∷ members) (x ∷ symbols) zero a are there =
 member_name names (m ∷ members) (x ∷ symbols) (suc u) a are there =
     let rest : map (slice_get names) (map (λ n. n.0) members) ≡ map Some symbols = cc in
     member_name names members symbols u a rest there
+member_name names members symbols u a are there = absurd cc
 
 pub name_member : (names : List (List ℕ)) (members : List Sym) (symbols : List (List ℕ)) (u : ℕ)
     (x : List ℕ) → map (slice_get names) (map (λ n. n.0) members) ≡ map Some symbols

@@ -114,15 +114,7 @@ separated t v s members bytes tables room enough are stated new =
 -- there is room whatever is stated
 pub has_room : (u : Tables) (d : PairTable) (n : ℕ) → HaveRoom u n
     → HaveRoom (record u { distinct = d }) n
-has_room u d n room = record {
-  log = room.log;
-  flat = room.flat;
-  essentials = room.essentials;
-  named = room.named;
-  labels = room.labels;
-  scopes = room.scopes;
-  few = room.few;
-}
+has_room u d n room = search room
 
 -- the lists once room is made, something is stated and the members are written
 pub separated_after : (t u v : Tables) (d : PairTable) (members : List Sym) (bytes : ℕ)

@@ -14,14 +14,7 @@ use Rattle.mm_frame.proofs.Actives.{holds_kept, holds_back}
 
 pub not_closing : (kind : Kind) → ¬ (kind ≡ Closing) → is_closing kind ≡ false
 not_closing Closing apart = absurd (apart refl)
-not_closing Constants apart = refl
-not_closing Variables apart = refl
-not_closing Distinct apart = refl
-not_closing Floating apart = refl
-not_closing Essential apart = refl
-not_closing Axiom apart = refl
-not_closing Provable apart = refl
-not_closing Opening apart = refl
+not_closing kind apart = refl
 
 -- the block that holds a statement holds it too where more statements are known
 holds_more : (st more : List Sentence) (p outer : ℕ) → p < length st → Holds st outer p → Holds (st ++ more) outer p

@@ -4,8 +4,7 @@ use Rattle.mm_text.specs.declared.statement.Kind.{Kind}
 use Rattle.mm_text.specs.declared.statement.Kind.TheVariants.{Constants, Variables, Distinct, Floating, Essential, Axiom, Provable, Opening, Closing}
 use Rattle.mm_frame.specs.Sentence.{Sentence}
 use Rattle.mm_frame.specs.Active.{open_marks, close_marks, IsOpen}
-use Rattle.mm_text.specs.Blocks.{is_closing}
-use Rattle.mm_text.specs.Blocks.{is_opening}
+use Rattle.mm_text.specs.Blocks.{is_closing, is_opening}
 use Rattle.mm_frame.proofs.Counts.{openings-append, closings-append}
 use Rattle.mm_frame.proofs.ScopeLaws.{openings_one, closings_one}
 
@@ -15,13 +14,7 @@ pub block_cases : (kind : Kind) → ((kind ≡ Opening) × (is_opening kind ≡ 
     ⊎ (¬ (kind ≡ Opening) × ¬ (kind ≡ Closing) × (is_opening kind ≡ false) × (is_closing kind ≡ false))
 block_cases Opening = inl (refl, refl, refl)
 block_cases Closing = inr (inl (refl, refl, refl))
-block_cases Constants = inr (inr ((λ e. absurd (cc)), (λ e. absurd (cc)), refl, refl))
-block_cases Variables = inr (inr ((λ e. absurd (cc)), (λ e. absurd (cc)), refl, refl))
-block_cases Distinct = inr (inr ((λ e. absurd (cc)), (λ e. absurd (cc)), refl, refl))
-block_cases Floating = inr (inr ((λ e. absurd (cc)), (λ e. absurd (cc)), refl, refl))
-block_cases Essential = inr (inr ((λ e. absurd (cc)), (λ e. absurd (cc)), refl, refl))
-block_cases Axiom = inr (inr ((λ e. absurd (cc)), (λ e. absurd (cc)), refl, refl))
-block_cases Provable = inr (inr ((λ e. absurd (cc)), (λ e. absurd (cc)), refl, refl))
+block_cases kind = inr (inr ((λ e. absurd (cc)), (λ e. absurd (cc)), refl, refl))
 
 -- no front has more `$}` than `${` and so many
 abbrev FrontsWithin : List Sentence → ℕ → Type 0

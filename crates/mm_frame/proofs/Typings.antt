@@ -51,10 +51,8 @@ typings_push st hs new have is i hypothesis there = elim (pushed_cases hs new i 
 
 -- the numbers of the two symbols of a `$f`
 two_numbers : (st : List Sentence) (ns : List Sym) (code x : List ℕ) → AreNumbers st (map (λ n. n.0) ns) (code ∷ x ∷ []) → (a : Sym) × (b : Sym) × (ns ≡ a ∷ b ∷ []) × IsNumberOf st code a.0 × IsNumberOf st x b.0
-two_numbers st [] code x are = absurd (cc)
-two_numbers st (a ∷ []) code x are = absurd (cc)
 two_numbers st (a ∷ b ∷ []) code x are = (a, b, refl, cc, cc)
-two_numbers st (a ∷ b ∷ c ∷ ns) code x are = absurd (cc)
+two_numbers st ns code x are = absurd cc
 
 pub typing_says : (st : List Sentence) (place : ℕ) (f : Sentence) (ns : List Sym) → AllFormed st → slice_get st place ≡ Some f → f.kind ≡ Floating → AreNumbers st (map (λ n. n.0) ns) f.symbols
     → (a : Sym) × (b : Sym) × (ns ≡ a ∷ b ∷ []) × IsTypingOf st (Some (a, b)) f

@@ -42,11 +42,7 @@ named_said Floating label (l, is, good) = (l.text, ap (option_map (λ (t : Plain
 named_said Essential label (l, is, good) = (l.text, ap (option_map (λ (t : PlainToken). t.text)) is, good)
 named_said Axiom label (l, is, good) = (l.text, ap (option_map (λ (t : PlainToken). t.text)) is, good)
 named_said Provable label (l, is, good) = (l.text, ap (option_map (λ (t : PlainToken). t.text)) is, good)
-named_said Constants label none = ap (option_map (λ (t : PlainToken). t.text)) none
-named_said Variables label none = ap (option_map (λ (t : PlainToken). t.text)) none
-named_said Distinct label none = ap (option_map (λ (t : PlainToken). t.text)) none
-named_said Opening label none = ap (option_map (λ (t : PlainToken). t.text)) none
-named_said Closing label none = ap (option_map (λ (t : PlainToken). t.text)) none
+named_said kind label none = ap (option_map (λ (t : PlainToken). t.text)) none
 
 -- what a statement of good form says is formed
 pub formed_said : (p : PlainStatement) → HasForm p → IsFormedSentence (sentence_of p)
@@ -62,10 +58,7 @@ unlabelled_use Floating label (l, is, good) used none = absurd (cc)
 unlabelled_use Essential label (l, is, good) used none = absurd (cc)
 unlabelled_use Axiom label (l, is, good) used none = absurd (cc)
 unlabelled_use Provable label (l, is, good) used none = absurd (cc)
-unlabelled_use Constants label has used none = absurd (elim used [ inl a ↦ (cc) | inr b ↦ elim b [ inl c ↦ (cc) | inr d ↦ elim d [ inl e ↦ (cc) | inr f ↦ elim f [ inl g ↦ (cc) | inr h ↦ (cc) ] ] ] ])
-unlabelled_use Variables label has used none = absurd (elim used [ inl a ↦ (cc) | inr b ↦ elim b [ inl c ↦ (cc) | inr d ↦ elim d [ inl e ↦ (cc) | inr f ↦ elim f [ inl g ↦ (cc) | inr h ↦ (cc) ] ] ] ])
-unlabelled_use Opening label has used none = absurd (elim used [ inl a ↦ (cc) | inr b ↦ elim b [ inl c ↦ (cc) | inr d ↦ elim d [ inl e ↦ (cc) | inr f ↦ elim f [ inl g ↦ (cc) | inr h ↦ (cc) ] ] ] ])
-unlabelled_use Closing label has used none = absurd (elim used [ inl a ↦ (cc) | inr b ↦ elim b [ inl c ↦ (cc) | inr d ↦ elim d [ inl e ↦ (cc) | inr f ↦ elim f [ inl g ↦ (cc) | inr h ↦ (cc) ] ] ] ])
+unlabelled_use kind label has used none = absurd (elim used [ inl a ↦ (cc) | inr b ↦ elim b [ inl c ↦ (cc) | inr d ↦ elim d [ inl e ↦ (cc) | inr f ↦ elim f [ inl g ↦ (cc) | inr h ↦ (cc) ] ] ] ])
 
 -- the label that a statement says
 label_said : (s : Statement) (label : Token) → s.label ≡ Some label → (sentence_in s).label ≡ Some label.text.now

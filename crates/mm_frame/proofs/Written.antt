@@ -17,14 +17,13 @@ added_part xs more =
 -- the names of the numbers of symbols are the symbols
 pub names_numbered : (names : List (List ℕ)) (numbers : List Sym) (xs : List (List ℕ)) → map (slice_get names) (map (λ n. n.0) numbers) ≡ map Some xs → names_by names numbers ≡ xs
 names_numbered names [] [] are = refl
-names_numbered names [] (x ∷ xs) are = absurd (cc)
-names_numbered names (n ∷ numbers) [] are = absurd (cc)
 names_numbered names (n ∷ numbers) (x ∷ xs) are =
     let here : slice_get names n.0 ≡ Some x = cc in
     let rest : map (slice_get names) (map (λ n. n.0) numbers) ≡ map Some xs = cc in
     let head : unwrap_or (slice_get names n.0) [] ≡ x = ap (λ o. unwrap_or o []) here in
     let tail = names_numbered names numbers xs rest in
     cc (head, tail)
+names_numbered names numbers xs are = absurd cc
 
 -- a sentence of the same kind, label and symbols is the same
 pub same_sentence : (s : Sentence) (kind : Kind) (l : Option (List ℕ)) (xs : List (List ℕ)) → kind ≡ s.kind → l ≡ s.label → xs ≡ s.symbols → ◌≡◌ {A = Sentence} (record { kind = kind; label = l; symbols = xs }) s

@@ -1,7 +1,10 @@
 use Rattle.std.proofs.Common.{◌≡◌, refl, sym, ap, ◌∙◌, subst, inr, Some, length, map, [], ◌∷◌, ◌++◌}
 use Rattle.mm_frame.specs.declared.distinct.DistinctPair.{DistinctPair}
 use Rattle.mm_frame.specs.declared.number.Sym.{Sym}
-use Rattle.mm_frame.specs.Sentence.{IsStated, IsAssertion}
+use Rattle.mm_frame.specs.declared.tables.Tables.{Tables}
+use Rattle.mm_frame.specs.Sentence.{Sentence, IsStated, IsAssertion}
+use Rattle.mm_frame.specs.Numbers.{AreNumbers}
+use Rattle.mm_frame.specs.Rules.{IsMeant}
 use Rattle.mm_frame.specs.Mirror.Layout.{IsFrameInfo, statements_of}
 use Rattle.mm_frame.specs.Mirror.Gathered.{ArePlaces, AreThoseAt}
 use Rattle.mm_frame.specs.Pieces.{variables_of, HavePlaces}
@@ -15,6 +18,7 @@ use Rattle.mm_frame.proofs.FrameLaws.{at_place}
 use Rattle.mm_frame.proofs.Patterned.{typings_same, variables_same, few_hypotheses}
 use Rattle.mm_frame.proofs.Placed.{pairs_among, pairs_named}
 use Rattle.mm_frame.proofs.tables.Tables.assert.Goals as goal
+use Rattle.mm_frame.proofs.tables.Tables.assert.Goals.{After-note, After-deref-8}
 
 pub returns-in_err-reserve-clause-err : goal.returns-in_err-reserve-clause-err
 returns-in_err-reserve-clause-err c = on_err c.from_residual-in_err-reserve.result (same_tables _ _ c.requires.tables c.reserve.ensures.same)
@@ -22,133 +26,96 @@ returns-in_err-reserve-clause-err c = on_err c.from_residual-in_err-reserve.resu
 pub returns-in_err-reserve_numbered-clause-err : goal.returns-in_err-reserve_numbered-clause-err
 returns-in_err-reserve_numbered-clause-err c =
     let same = c.reserve.ensures.same in
-    on_err c.from_residual-in_err-reserve_numbered.result (same_tables _ _ c.requires.tables (record {
-      symbols = same.symbols;
-      infos = same.infos;
-      labels = same.labels;
-      named = same.named;
-      log = same.log;
-      flat = same.flat;
-      scopes = same.scopes;
-      essentials = same.essentials;
-      hypotheses = c.reserve_numbered.ensures.items ∙ same.hypotheses;
-      pairs = same.pairs;
-      pieces = same.pieces;
-      stated = same.stated;
-      bytes = same.bytes;
-    }))
+    on_err c.from_residual-in_err-reserve_numbered.result (same_tables _ _ c.requires.tables
+    (search (c.reserve_numbered.ensures.items ∙ same.hypotheses)))
 
 pub returns-in_err-reserve_numbered-2-clause-err : goal.returns-in_err-reserve_numbered-2-clause-err
 returns-in_err-reserve_numbered-2-clause-err c =
     let same = c.reserve.ensures.same in
-    on_err c.from_residual-in_err-reserve_numbered-2.result (same_tables _ _ c.requires.tables (record {
-      symbols = same.symbols;
-      infos = same.infos;
-      labels = same.labels;
-      named = same.named;
-      log = same.log;
-      flat = same.flat;
-      scopes = same.scopes;
-      essentials = same.essentials;
-      hypotheses = c.reserve_numbered.ensures.items ∙ same.hypotheses;
-      pairs = c.reserve_numbered-2.ensures.items ∙ same.pairs;
-      pieces = same.pieces;
-      stated = same.stated;
-      bytes = same.bytes;
-    }))
+    on_err c.from_residual-in_err-reserve_numbered-2.result (same_tables _ _ c.requires.tables
+    (search (
+      c.reserve_numbered.ensures.items ∙ same.hypotheses,
+      c.reserve_numbered-2.ensures.items ∙ same.pairs,
+    )))
 
 pub returns-in_err-conclusion-clause-err : goal.returns-in_err-conclusion-clause-err
 returns-in_err-conclusion-clause-err c =
     let same = c.reserve.ensures.same in
-    on_err c.from_residual-in_err-conclusion.result (same_tables _ _ c.requires.tables (record {
-      symbols = same.symbols;
-      infos = same.infos;
-      labels = same.labels;
-      named = same.named;
-      log = same.log;
-      flat = same.flat;
-      scopes = same.scopes;
-      essentials = same.essentials;
-      hypotheses = c.reserve_numbered.ensures.items ∙ same.hypotheses;
-      pairs = c.reserve_numbered-2.ensures.items ∙ same.pairs;
-      pieces = c.in_err-conclusion.ensures.err ∙ same.pieces;
-      stated = same.stated;
-      bytes = same.bytes;
-    }))
+    on_err c.from_residual-in_err-conclusion.result (same_tables _ _ c.requires.tables
+    (search (
+      c.reserve_numbered.ensures.items ∙ same.hypotheses,
+      c.reserve_numbered-2.ensures.items ∙ same.pairs,
+      c.in_err-conclusion.ensures.err ∙ same.pieces,
+    )))
 
 pub name-id-requires-clause-labels : goal.name-id-requires-clause-labels
 name-id-requires-clause-labels c = rw c.reserve.ensures.same.labels (few_labels c.args.self.now c.args.bytes c.requires.tables c.requires.room)
 
-pub find_places-requires-clause-few : goal.find_places-requires-clause-few
-find_places-requires-clause-few c =
-    let t = c.args.self.now in
-    let st = statements_of t in
-    let (s, kind, numbered, meant) = c.requires.meant in
+-- the mandatory hypotheses that are found, of an assertion with the numbers
+abbrev found : (c : After-note) (s : Sentence) → s.kind ≡ c.args.kind
+    → AreNumbers (statements_of c.args.self.now) (map (λ n. n.0) c.args.numbers.now) s.symbols
+    → IsMeant (statements_of c.args.self.now) s
+    → AreMandatoryOf c.args.self.now c.args.self.now.log.items c.args.self.now.flat.items
+    c.find_mandatory.new.places.items c.find_hypotheses.new.hypotheses.items
+found c s kind numbered meant =
+    let st = statements_of c.args.self.now in
     let stated : IsStated s.kind = inr (subst IsAssertion (sym kind) c.requires.kind) in
     let places = c.in_ok-find_mandatory.ensures s meant stated numbered in
     let first : ArePlaces st s c.deref.result.now = rw c.deref.ensures.value places in
-    let at = c.find_mandatory.new.places.items in
-    let bare = c.find_hypotheses.new.hypotheses.items in
-    let those : AreThoseAt st at bare = subst (λ ps. AreThoseAt st ps bare) c.deref.ensures.value (c.in_ok-find_hypotheses.ensures s first) in
-    let of : AreMandatoryOf t t.log.items t.flat.items at bare = record {
+    record {
       tables = c.requires.tables;
       log_is = refl;
       flat_is = refl;
       assertion = s;
       are_places = places;
-      those = those;
-    } in
-    rw c.deref-4.ensures.value (few_hypotheses t _ _ _ bare of)
+      those = subst (λ ps. AreThoseAt st ps c.find_hypotheses.new.hypotheses.items)
+          c.deref.ensures.value (c.in_ok-find_hypotheses.ensures s first);
+    }
 
-pub find_places-requires-clause-noted : goal.find_places-requires-clause-noted
-find_places-requires-clause-noted c =
-    let bare = c.find_hypotheses.new.hypotheses.items in
-    let noted_bare : AreNoted c.note.new.self.places.items (variables_of bare) = subst (λ hs. AreNoted c.note.new.self.places.items (variables_of hs)) c.deref-2.ensures.value c.in_ok-note.ensures in
-    rw c.deref-4.ensures.value noted_bare
+-- they are read from the lists as room was made in them
+read : (c : After-deref-8) → AreMandatoryOf c.args.self.now c.args.self.now.log.items
+    c.args.self.now.flat.items c.find_mandatory.new.places.items
+    c.find_hypotheses.new.hypotheses.items
+    → AreMandatoryOf c.args.self.now c.deref-7.result.now c.deref-8.result.now
+    c.deref-6.result.now c.find_hypotheses.new.hypotheses.items
+read c of = record {
+  tables = c.requires.tables;
+  log_is = sym c.reserve.ensures.same.log ∙ sym c.deref-7.ensures.value;
+  flat_is = sym c.reserve.ensures.same.flat ∙ sym c.deref-8.ensures.value;
+  assertion = of.assertion;
+  are_places = rw c.deref-6.ensures.value of.are_places;
+  those = rw c.deref-6.ensures.value of.those;
+}
+
+pub find_places-requires-clause-few : goal.find_places-requires-clause-few
+find_places-requires-clause-few c =
+    let (s, kind, numbered, meant) = c.requires.meant in
+    let here = goal.at.find_places-requires-clause-few c in
+    rw c.deref-4.ensures.value
+    (few_hypotheses c.args.self.now _ _ _ _ (found here.After-note s kind numbered meant))
 
 pub find_places-requires-clause-among : goal.find_places-requires-clause-among
 find_places-requires-clause-among c =
-    let t = c.args.self.now in
-    let st = statements_of t in
+    let st = statements_of c.args.self.now in
     let (s, kind, numbered, meant) = c.requires.meant in
     let stated : IsStated s.kind = inr (subst IsAssertion (sym kind) c.requires.kind) in
-    let places = c.in_ok-find_mandatory.ensures s meant stated numbered in
-    let first : ArePlaces st s c.deref.result.now = rw c.deref.ensures.value places in
-    let at = c.find_mandatory.new.places.items in
-    let bare = c.find_hypotheses.new.hypotheses.items in
-    let those : AreThoseAt st at bare = subst (λ ps. AreThoseAt st ps bare) c.deref.ensures.value (c.in_ok-find_hypotheses.ensures s first) in
-    let second : ArePlaces st s c.deref-3.result.now = rw c.deref-3.ensures.value places in
-    let found = c.in_ok-find_pairs.ensures s [] meant stated second in
-    rw (c.deref-4.ensures.value, c.deref-5.ensures.value) (pairs_among st s at bare c.find_pairs.new.pairs.items c.requires.tables.sound meant stated places those found)
+    let here = goal.at.find_places-requires-clause-among c in
+    let of = found here.After-note s kind numbered meant in
+    let second : ArePlaces st s c.deref-3.result.now = rw c.deref-3.ensures.value of.are_places in
+    rw (c.deref-4.ensures.value, c.deref-5.ensures.value)
+    (pairs_among st s _ _ _ c.requires.tables.sound meant stated of.are_places of.those
+    (c.in_ok-find_pairs.ensures s [] meant stated second))
 
 pub add_patterns-requires-clause-mandatory : goal.add_patterns-requires-clause-mandatory
 add_patterns-requires-clause-mandatory c =
-    let t = c.args.self.now in
-    let st = statements_of t in
     let (s, kind, numbered, meant) = c.requires.meant in
-    let stated : IsStated s.kind = inr (subst IsAssertion (sym kind) c.requires.kind) in
-    let places = c.in_ok-find_mandatory.ensures s meant stated numbered in
-    let first : ArePlaces st s c.deref.result.now = rw c.deref.ensures.value places in
-    let at = c.find_mandatory.new.places.items in
-    let bare = c.find_hypotheses.new.hypotheses.items in
-    let those : AreThoseAt st at bare = subst (λ ps. AreThoseAt st ps bare) c.deref.ensures.value (c.in_ok-find_hypotheses.ensures s first) in
-    let same = c.reserve.ensures.same in (
-      t,
-      record {
-        tables = c.requires.tables;
-        log_is = sym same.log ∙ sym c.deref-7.ensures.value;
-        flat_is = sym same.flat ∙ sym c.deref-8.ensures.value;
-        assertion = s;
-        are_places = rw c.deref-6.ensures.value places;
-        those = rw c.deref-6.ensures.value those;
-      },
-    )
+    let here = goal.at.add_patterns-requires-clause-mandatory c in
+    (c.args.self.now, read c (found here.After-note s kind numbered meant))
 
 pub add_patterns-requires-clause-noted : goal.add_patterns-requires-clause-noted
 add_patterns-requires-clause-noted c =
-    let bare = c.find_hypotheses.new.hypotheses.items in
-    let noted_bare : AreNoted c.note.new.self.places.items (variables_of bare) = subst (λ hs. AreNoted c.note.new.self.places.items (variables_of hs)) c.deref-2.ensures.value c.in_ok-note.ensures in
-    noted_bare
+    subst (λ hs. AreNoted c.note.new.self.places.items (variables_of hs)) c.deref-2.ensures.value
+    c.in_ok-note.ensures
 
 pub returns-clause-ok : goal.returns-clause-ok
 returns-clause-ok c =
@@ -170,53 +137,36 @@ returns-clause-ok c =
       assertion_taken t c.args.kind c.name-id.result c.requires.tables c.requires.kind (c.name-id.ensures.id ∙ ap length same.labels),
       λ s kind label numbered meant formed.
           let stated : IsStated s.kind = inr (subst IsAssertion (sym kind) c.requires.kind) in
-          let places = c.in_ok-find_mandatory.ensures s meant stated numbered in
-          let first : ArePlaces st s c.deref.result.now = rw c.deref.ensures.value places in
-          let second : ArePlaces st s c.deref-3.result.now = rw c.deref-3.ensures.value places in
-          let third : ArePlaces st s c.deref-6.result.now = rw c.deref-6.ensures.value places in
-          let at = c.find_mandatory.new.places.items in
-          let those : AreThoseAt st at bare = subst (λ ps. AreThoseAt st ps bare) c.deref.ensures.value (c.in_ok-find_hypotheses.ensures s first) in
-          let of : AreMandatoryOf t c.deref-7.result.now c.deref-8.result.now c.deref-6.result.now bare = record {
-            tables = c.requires.tables;
-            log_is = sym same.log ∙ sym c.deref-7.ensures.value;
-            flat_is = sym same.flat ∙ sym c.deref-8.ensures.value;
-            assertion = s;
-            are_places = third;
-            those = rw c.deref-6.ensures.value those;
-          } in
-          let patterned = c.in_ok-conclusion.ensures.patterned t of in
+          let here = goal.at.returns-clause-ok c in
+          let of = found here.After-note s kind numbered meant in
+          let second : ArePlaces st s c.deref-3.result.now =
+          rw c.deref-3.ensures.value of.are_places in
+          let patterned = c.in_ok-conclusion.ensures.patterned t (read here.After-deref-8 of) in
           let patterns : ArePatterned st numbers bare hs (t.pieces.items ++ more) conclusion = subst (λ ps. ArePatterned st numbers bare hs ps conclusion) new_pieces patterned in
-          let found = c.in_ok-find_pairs.ensures s [] meant stated second in
+          let of_pairs = c.in_ok-find_pairs.ensures s [] meant stated second in
           let variables : map (λ (pair : DistinctPair). pair.variables) pairs ≡ c.find_pairs.new.pairs.items = c.in_ok-find_places.ensures.variables ∙ c.deref-5.ensures.value in
           let are_pairs : ArePairs (at_place (st ++ s ∷ []) (length st)) (map (λ pair. (pair.variables.0.0, pair.variables.1.0)) pairs) =
-          pairs_named (at_place (st ++ s ∷ []) (length st)) c.find_pairs.new.pairs.items pairs variables found in
+          pairs_named (at_place (st ++ s ∷ []) (length st)) c.find_pairs.new.pairs.items pairs variables of_pairs in
           let placed_first : HavePlaces (variables_of bare) pairs = subst (λ ks. HavePlaces (variables_of ks) pairs) c.deref-4.ensures.value c.in_ok-find_places.ensures.places in
           let placed : HavePlaces (variables_of hs) pairs = subst (λ vs. HavePlaces vs pairs) (sym (variables_same bare hs patterns.same)) placed_first in
           let new = entry_of c.args.kind (Some c.name-id.result) (length t.flat.items) (length (t.flat.items ++ c.args.numbers.now)) in
           let framed_at : IsFrameInfo (st ++ s ∷ []) (t.hypotheses.items ++ hs) (t.pairs.items ++ pairs) (t.pieces.items ++ more)
           (label_info (length t.log.items) new (c.add_part-hypotheses.result, c.add_part-pairs.result, conclusion)) =
           rw (c.add_part-hypotheses.ensures.part, c.add_part-pairs.ensures.part, old_hypotheses, old_pairs, c.deref-9.ensures.value, c.deref-10.ensures.value)
-          (framed t s new at numbers bare hs pairs more conclusion c.requires.tables places those are_pairs placed numbered patterns) in
-          asserted t _ c.name-id.new.self s c.args.kind c.args.label.now c.args.numbers.now (c.add_part-hypotheses.result, c.add_part-pairs.result, conclusion) c.name-id.result hs pairs more c.args.bytes
+          (framed t s new c.find_mandatory.new.places.items numbers bare hs pairs more conclusion c.requires.tables of.are_places of.those are_pairs placed numbered patterns) in
+          let before : Tables = record c.reserve.new.self {
+            hypotheses = c.add_part-hypotheses.new.list;
+            pairs = c.add_part-pairs.new.list;
+            pieces = c.add_patterns.new.pieces;
+          } in
+          asserted t before c.name-id.new.self s c.args.kind c.args.label.now c.args.numbers.now (c.add_part-hypotheses.result, c.add_part-pairs.result, conclusion) c.name-id.result hs pairs more c.args.bytes
           c.requires.tables c.requires.kind
-          (record {
-            symbols = b.symbols;
-            labels = b.labels;
-            named = b.named;
-            log = b.log;
-            flat = b.flat;
-            scopes = b.scopes;
-            hypotheses = new_hypotheses;
-            pairs = new_pairs;
-            pieces = new_pieces;
-            stated = b.stated;
-            bytes = b.bytes;
-          })
+          (search (new_hypotheses, new_pairs, new_pieces))
           same.infos same.essentials
           c.name-id.ensures.named
           c.name-id.ensures.id
           (record { kinds = kind; label = label; numbered = numbered; meant = meant; formed = formed })
           framed_at
-          (typings_same st bare hs patterns.same those.typed)
+          (typings_same st bare hs patterns.same of.those.typed)
           c.requires.enough c.requires.room,
     )

@@ -38,19 +38,6 @@ returns-clause-ok c = (
       (c.enter.ensures.essentials ∙ c.reserve.ensures.same.essentials) is c.requires.closes
       c.forget_inactive.ensures in
       close_grows c.args.self.now _ s c.args.bytes c.requires.tables
-      (record {
-        symbols = adds.symbols;
-        infos = adds.infos;
-        labels = adds.labels;
-        named = adds.named;
-        log = adds.log;
-        flat = adds.flat;
-        scopes = adds.scopes;
-        hypotheses = adds.hypotheses;
-        pairs = adds.pairs;
-        pieces = adds.pieces;
-        stated = adds.stated;
-        counted = adds.counted;
-      })
+      (search adds)
       left is unlabelled bare c.requires.closes c.requires.some c.requires.room meant formed,
 )

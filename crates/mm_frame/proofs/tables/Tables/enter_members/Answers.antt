@@ -4,9 +4,6 @@ use Rattle.mm_text.specs.declared.statement.Kind.TheVariants.{Distinct, Closing}
 use Rattle.mm_frame.specs.Mirror.Grows.{entry_of}
 use Rattle.mm_frame.proofs.tables.Tables.enter_members.Goals as goal
 
-distinct_closes : ¬ (Distinct ≡ Closing)
-distinct_closes e = absurd (cc)
-
 pub returns-clause-entered : goal.returns-clause-entered
 returns-clause-entered c =
     let t = c.args.self.now in
@@ -27,7 +24,7 @@ returns-clause-entered c =
           ∙ ap (λ xs. t.log.items ++ entry_of Distinct None (length t.flat.items) (length xs) ∷ [])
           flat;
       flat = e.flat ∙ flat;
-      scopes = λ st s held is. e.scopes st s held is (λ closes. absurd (distinct_closes closes));
+      scopes = λ st s held is. e.scopes st s held is (λ closes. absurd cc);
       essentials = e.essentials;
       hypotheses = e.hypotheses;
       pairs = e.pairs;

@@ -40,19 +40,7 @@ returns-clause-ok c =
                 let is_second : w.in-Some.variable ≡ two.second = cc in
                 let place : w.len.result ≡ length t.log.items = let size = ap length same.log in omega arith in
                 typed t c.match-at.self c.name-id.new.self s two.code two.variable two.second info c.args.label.now c.args.numbers.now _ c.name-id.result c.args.bytes c.requires.tables
-                (subst (λ u. Before t u [] [] []) (sym w.self-is) (record {
-                  symbols = b.symbols;
-                  labels = b.labels;
-                  named = b.named;
-                  log = b.log;
-                  flat = b.flat;
-                  scopes = b.scopes;
-                  hypotheses = b.hypotheses;
-                  pairs = b.pairs;
-                  pieces = b.pieces;
-                  stated = b.stated;
-                  bytes = b.bytes;
-                }))
+                (subst (λ u. Before t u [] [] []) (sym w.self-is) (search b))
                 two.symbols_are two.named there
                 (rw w.self-is (noted c.reserve.new.self.infos.items t.infos.items w.note_floating.new.infos.items w.in-Some.variable two.second info w.len.result (length t.log.items)
                 same.infos is_second place there w.note_floating.ensures))

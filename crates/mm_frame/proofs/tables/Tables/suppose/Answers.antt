@@ -18,20 +18,9 @@ returns-clause-ok c =
     let b = before_same t c.reserve.new.self same in (
       ap Hypothesis (next_number t c.name-id.result c.requires.tables (c.name-id.ensures.id ∙ ap length same.labels)),
       λ s kind label numbered meant formed.
-          supposed t _ c.name-id.new.self s c.args.label.now c.args.numbers.now _ c.name-id.result c.args.bytes c.requires.tables
-          (record {
-            symbols = b.symbols;
-            labels = b.labels;
-            named = b.named;
-            log = b.log;
-            flat = b.flat;
-            scopes = b.scopes;
-            hypotheses = b.hypotheses;
-            pairs = b.pairs;
-            pieces = b.pieces;
-            stated = b.stated;
-            bytes = b.bytes;
-          })
+          supposed t (record c.reserve.new.self { essentials = c.put.new.list })
+          c.name-id.new.self s c.args.label.now c.args.numbers.now _ c.name-id.result c.args.bytes
+          c.requires.tables (search b)
           same.infos
           (c.put.ensures ∙ ap (λ ys. ys ++ c.len.result ∷ []) same.essentials ∙ ap (λ n. t.essentials.items ++ n ∷ []) place)
           c.name-id.ensures.named c.name-id.ensures.id
