@@ -177,9 +177,8 @@ stops_P12 limit one st place id at ids hs stack base vs pairs all c paired typed
 
 pub typed_count : (st : List Sentence) (vs : List (Option ℕ)) (hs : List Sentence) → AreVariablesOf st vs hs → length vs ≡ length hs
 typed_count st [] [] all = refl
-typed_count st [] (h ∷ hs) all = absurd all
-typed_count st (v ∷ vs) [] all = absurd all
 typed_count st (v ∷ vs) (h ∷ hs) all = ap suc (typed_count st vs hs all.1)
+typed_count st vs hs all = absurd all
 
 -- what is made, by names
 made_named : OneNumber → (st : List Sentence) (hs : List Sentence) (vs : List (Option ℕ)) (es : List (List ℕ)) (pattern : List ℕ) (symbols : List (List ℕ)) → AreVariablesOf st vs hs
@@ -281,9 +280,8 @@ entries_drop st before (suc n) [] all = tt
 entries_drop st before (suc n) (e ∷ entries) all = entries_drop st before n entries all.1
 
 pub entries_take : (st before : List Sentence) (n : ℕ) (entries : List (List ℕ)) → AreStackEntries st before entries → AreStackEntries st before (take n entries)
-entries_take st before zero entries all = tt
-entries_take st before (suc n) [] all = tt
 entries_take st before (suc n) (e ∷ entries) all = (all.0, entries_take st before n entries all.1)
+entries_take st before n entries all = tt
 
 pub entries_below : (st before : List Sentence) (entries : List (List ℕ)) → AreStackEntries st before entries → AllByRecursion (AreBelow st) entries
 entries_below st before [] all = tt

@@ -1,67 +1,28 @@
 -- A proof within the smaller limit is one within the greater, so that under the strict profile
 -- nothing but its form is at fault.
-use Rattle.std.proofs.Common.{◌≡◌, ℕ, ◌≤◌, List, [], ◌∷◌, length, map, inl, inr, arith}
+use Rattle.std.proofs.Common.{◌≡◌, ℕ, ◌≤◌, List, length, inl, inr, arith}
 use Rattle.mm_frame.specs.Sentence.{Sentence}
 use Rattle.mm_frame.specs.Rules.{AllMeant}
 use Rattle.mm_proof.specs.declared.fault.ProofRule.{ProofRule}
 use Rattle.mm_proof.specs.declared.fault.ProofRule.TheVariants.{P15}
 use Rattle.mm_proof.specs.declared.profile.Profile.TheVariants.{Strict, Lenient}
-use Rattle.mm_proof.specs.Substitution.{instance_of}
-use Rattle.mm_proof.specs.Tree.{Trees, none, tree, DeriveAll}
 use Rattle.mm_proof.specs.Proof.{IsWithin, IsProvedWithin}
 use Rattle.mm_proof.specs.Profiles.{limit_of}
 use Rattle.mm_proof.specs.UnderProfile.{IsProvedUnder, IsFaultUnder}
+use Rattle.mm_proof.proofs.Limits.{prove_looser}
 use Rattle.mm_proof.proofs.UnderAnswers.{proved_none}
-
--- what trees derive where expressions fit they derive where more of them do
-derive_looser : (Fits More : List (List ℕ) → Type 0) → ((e : List (List ℕ)) → Fits e → More e)
-    → (before : List Sentence) (trees : Trees) (es : List (List (List ℕ)))
-    → DeriveAll Fits before trees es → DeriveAll More before trees es
-derive_looser Fits More more before none es d = d
-derive_looser Fits More more before (tree label below right) es d = (
-  d.0,
-  d.1,
-  d.2,
-  more d.0 d.3,
-  elim (d.4) [
-    | inl leaf ↦ inl leaf
-    | inr n ↦
-        let hypotheses : List (List (List ℕ)) =
-        map (λ (h : Sentence). instance_of n.3 h.symbols) n.2 in
-        inr (
-          n.0,
-          n.1,
-          n.2,
-          n.3,
-          n.4,
-          n.5,
-          derive_looser Fits More more before below hypotheses n.6,
-          n.7,
-          n.8,
-        )
-  ],
-  derive_looser Fits More more before right d.1 d.5,
-)
 
 -- a proof in the lenient profile is one within the limit of the strict one
 pub within_strict : (before : List Sentence) (s : Sentence) (tokens : List (List ℕ))
     → IsProvedUnder Lenient before s tokens
     → IsProvedWithin (IsWithin (limit_of Strict)) before s tokens
-within_strict before s tokens p =
-    let q = p.1.proves in
-    record {
-      whole = p.1.whole;
-      moves = p.1.moves;
-      said = p.1.said;
-      proves = record {
-        label = q.label;
-        below = q.below;
-        kept = q.kept;
-        made = q.made;
-        derived = derive_looser (IsWithin (limit_of Lenient)) (IsWithin (limit_of Strict))
-            wider before (tree q.label q.below none) (s.symbols ∷ []) q.derived;
-      };
-    }
+within_strict before s tokens p = record {
+  whole = p.1.whole;
+  moves = p.1.moves;
+  said = p.1.said;
+  proves = prove_looser (IsWithin (limit_of Lenient)) (IsWithin (limit_of Strict)) wider before s
+      p.1.moves p.1.proves;
+}
   where
     wider : (e : List (List ℕ)) → length e ≤ 1048576 → length e ≤ 16777216
     wider e less = omega (arith, less)

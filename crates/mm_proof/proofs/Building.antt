@@ -190,9 +190,8 @@ repeat_within {X} held st moves m i stack shelf d x tag h less is e =
     omega (arith, slice_get_within h.kept tag one.0 one.1, AllZip-long (λ (x : X) (t : Trees). roots t ≡ 1) shelf h.kept h.ones)
 
 one_tree : (t : Trees) → roots t ≡ 1 → (label : List ℕ) × (below : Trees) × (t ≡ tree label below none)
-one_tree none one = absurd (omega arith)
 one_tree (tree l x none) one = (l, x, refl)
-one_tree (tree l x (tree m y r)) one = absurd (omega arith)
+one_tree t one = absurd (omega arith)
 
 pub next_repeat : {X : Type 0} (held : Holding X) (st : List Sentence) (moves : List NumberedMove) (m : MakeTreeAt st (moves_in moves)) (i : ℕ) (stack shelf : List X) (item : X) (d x : NumberedMove) (tag : ℕ) (h : At held st moves m i stack shelf)
     → i < length moves → get_or moves i d ≡ x → move_in x ≡ again tag → slice_get shelf tag ≡ Some item → NextRepeat held st moves m i stack shelf item h
@@ -291,6 +290,5 @@ only_item {X} held st moves m i stack shelf all most h =
     )
   where
     one_item : (s : List X) → length s ≡ 1 → (item : X) × (s ≡ item ∷ [])
-    one_item [] e = absurd (omega arith)
     one_item (x ∷ []) e = (x, refl)
-    one_item (x ∷ y ∷ s) e = absurd (omega arith)
+    one_item s e = absurd (omega arith)

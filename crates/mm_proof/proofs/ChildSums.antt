@@ -40,12 +40,11 @@ code_steps labels Tag move p = ap is_step (sym p)
 pub said_steps : (labels : List (List ℕ)) (codes : List Code) (moves : List (Move (List ℕ)))
     → AllZip (Says labels) codes moves → steps_of codes ≡ steps_in moves
 said_steps labels [] [] p = refl
-said_steps labels [] (move ∷ moves) p = absurd p
-said_steps labels (code ∷ codes) [] p = absurd p
 said_steps labels (code ∷ codes) (move ∷ moves) p =
     codes_more code codes ∙ ap (λ b. cond b 1 0 + steps_of codes) (code_steps labels code move p.0)
     ∙ ap (λ n. cond (is_step move) 1 0 + n) (said_steps labels codes moves p.1)
     ∙ sym (steps_more move moves)
+said_steps labels codes moves p = absurd p
 
 -- each step adds a tree, and takes the children of what it makes
 pub steps_children : (before : List Sentence) (moves : List (Move (List ℕ))) (row : Trees)
@@ -183,12 +182,11 @@ made_subtrees before (mark ∷ moves) row kept row' kept' m u h = made_subtrees 
 
 -- a small tree has no children
 pub small_children : (t : Trees) → nodes t < 2 → children t ≡ 0
-small_children none small = refl
-small_children (tree label none right) small = refl
 small_children (tree label (tree l b r) right) small =
     let a = length-append (spelling b ++ l ∷ spelling r) (label ∷ spelling right) in
     let c = length-append (spelling b) (l ∷ spelling r) in
     absurd (omega arith)
+small_children t small = refl
 
 -- each big tree of the list once
 abbrev pub BigOnce : List Trees → Type 0

@@ -14,7 +14,7 @@ use Rattle.mm_code.specs.declared.code.CodeRule.TheVariants as code
 use Rattle.mm_code.specs.declared.code.CodeFault.{CodeFault}
 use Rattle.mm_code.specs.declared.code.CodeFault.TheVariants as code_fault
 use Rattle.mm_text.specs.declared.token.Token.{Token}
-use Rattle.mm_text.proofs.Lists.{zip_push, zip_append, split_at}
+use Rattle.mm_text.proofs.Lists.{zip_push, zip_append, split_at, get_from_take}
 use Rattle.mm_frame.specs.Sentence.{Sentence, IsLabelled, IsHypothesis}
 use Rattle.mm_frame.specs.Active.{IsActive}
 use Rattle.mm_frame.specs.Rules.{AllMeant}
@@ -33,7 +33,6 @@ use Rattle.mm_proof.specs.Plain.{move_in, moves_in, token_texts}
 use Rattle.mm_proof.specs.Mirror.CodeSteps.{AreFor, NumberSays, IsReading, MayAllBeUsed, code_move, code_moves, move_by, fault_behind}
 use Rattle.mm_code.specs.Layout.{texts}
 use Rattle.mm_proof.specs.Answer.{OnRule}
-use Rattle.mm_text.proofs.Lists.{get_from_take}
 use Rattle.mm_proof.proofs.Frames.{those_hold}
 use Rattle.mm_proof.proofs.Ending.{may_be_used}
 use Rattle.mm_proof.proofs.TokenFacts.{HasLabels, labels_pass}
@@ -50,8 +49,6 @@ codes_more ids codes i d moves m less all here =
 -- each code that letters say is a number from 1 on, or a tag
 spelled_said : (pieces : List (List ℕ)) (spelled : List Code) → AllZip letter.SaysCode pieces spelled → AllByRecursion HasSpelling (map letter.code_for spelled)
 spelled_said [] [] all = tt
-spelled_said [] (c ∷ spelled) all = absurd all
-spelled_said (p ∷ pieces) [] all = absurd all
 spelled_said (p ∷ pieces) (Tag ∷ spelled) all = (tt, spelled_said pieces spelled all.1)
 spelled_said (p ∷ pieces) (Number n ∷ spelled) all =
     let s = all.0 in
@@ -59,6 +56,7 @@ spelled_said (p ∷ pieces) (Number n ∷ spelled) all =
     let some : 1 ≤ n = omega (arith, s.value, last) in
     let held : 1 ≤ min n letter.largest = omega arith in
     (held, spelled_said pieces spelled all.1)
+spelled_said pieces spelled all = absurd all
 
 pub letters_spelled : (text : List ℕ) (codes : List Code) → Letters text codes → All HasSpelling codes
 letters_spelled text codes l =
@@ -133,8 +131,6 @@ hypotheses_labels : (statements : List Sentence) (place : ℕ) (ids : List ℕ) 
     → ((i : ℕ) (h : Sentence) → slice_get hypotheses i ≡ Some h → (label : List ℕ) × IsLabelled label h × IsUsable (take place statements) label)
     → HypothesisLabels statements place ids hypotheses
 hypotheses_labels statements place [] [] numbered each = record { labels = []; are = refl; stand = tt }
-hypotheses_labels statements place [] (h ∷ hypotheses) numbered each = absurd cc
-hypotheses_labels statements place (id ∷ ids) [] numbered each = absurd cc
 hypotheses_labels statements place (id ∷ ids) (h ∷ hypotheses) numbered each =
     let first = each 0 h refl in
     let there : slice_get (labelled_sentences statements) id ≡ Some h = cc in
@@ -147,6 +143,7 @@ hypotheses_labels statements place (id ∷ ids) (h ∷ hypotheses) numbered each
       are = cc;
       stand = (record { s = h; there = there; named = first.1; usable = first.2 }, rest.stand);
     }
+hypotheses_labels statements place ids hypotheses numbered each = absurd cc
 
 -- a mandatory hypothesis has a label, which may be used
 mandatory_usable : (statements : List Sentence) (place : ℕ) (assertion : Sentence) (hypotheses : List Sentence) → AllFormed statements

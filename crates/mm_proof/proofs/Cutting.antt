@@ -1,5 +1,5 @@
 -- Steps that share all, one step more: what a tree that was made before is made of takes one step for each child.
-use Rattle.std.proofs.Common.{◌≡◌, ℕ, List, [], ◌∷◌, ◌++◌, length, ◌⊎◌, inl, inr, ⊎_elim, refl, sym, ap, subst, ◌∙◌, append_assoc, arith}
+use Rattle.std.proofs.Common.{◌≡◌, ℕ, List, [], ◌∷◌, ◌++◌, length, inl, inr, ⊎_elim, refl, sym, ap, subst, ◌∙◌, append_assoc, arith}
 use Rattle.std.proofs.lemmas.List.{length-append}
 use Rattle.mm_proof.specs.Tree.{Trees, none, tree, spelling, beside, roots}
 use Rattle.mm_proof.specs.BigSubtrees.{IsBig, IsSubtree}
@@ -50,7 +50,7 @@ all_made (tree label below right) made v closed p c =
     let is : after made p.0 ≡ t ∷ after made a.0 = ap (after made) a.1 ∙ after-append made a.0 (makes t ∷ []) in
     let of_new : (u : Trees) → IsSubtree t u → In (t ∷ after made a.0) u = λ u h. ⊎_elim
     (λ e. inl (sym e))
-    (λ k. ⊎_elim (λ b. inr (all.subtrees u b)) (λ z. absurd z) k) (either t u h) in
+    (λ k. ⊎_elim (λ b. inr (all.subtrees u b)) (λ z. absurd z) k) h in
     record {
       closed = subst Closed (sym is) (λ w u h s. ⊎_elim
           (λ e. of_new u (subst (λ x. IsSubtree x u) (sym e) s))
@@ -65,16 +65,8 @@ all_made (tree label below right) made v closed p c =
           (λ e. after_has (after made p.0) p.1 u (here.subtrees u (inl e)))
           (λ k. ⊎_elim
           (λ b. after_has (after made p.0) p.1 u (here.subtrees u (inr (inl b))))
-          (λ r. rest.subtrees u r) k) (three label below right u h));
+          (λ r. rest.subtrees u r) k) h);
     }
-  where
-    either : (t u : Trees) → IsSubtree (tree label below none) u → (u ≡ tree label below none) ⊎ (IsSubtree below u ⊎ IsSubtree none u)
-    either t u (inl e) = inl e
-    either t u (inr h) = inr h
-
-    three : (label : List ℕ) (below right u : Trees) → IsSubtree (tree label below right) u → (u ≡ tree label below none) ⊎ (IsSubtree below u ⊎ IsSubtree right u)
-    three label below right u (inl e) = inl e
-    three label below right u (inr h) = inr h
 
 -- ---- where all big subtrees were made, one step covers each tree
 
@@ -99,7 +91,7 @@ each_one (tree label below right) made v has p c =
       long = ap length is;
       same = λ u big h. ⊎_elim
           (λ e. absurd (small (subst IsBig (sym e) big)))
-          (λ k. k) (step_in u (subst (λ x. In (after made x) u) is h));
+          (λ k. k) (subst (λ x. In (after made x) u) is h);
     }) p.4 in
     let rest = each_one right (after made p.0) p.1 (λ u s big. after_has made p.0 u (has u (inr (inr s)) big)) p.3 parts.1 in
     let l = here.long in
@@ -115,9 +107,6 @@ each_one (tree label below right) made v has p c =
     no_child : (b : Trees) → ((l : List ℕ) (x r : Trees) → b ≡ tree l x r → ⊥) → b ≡ none
     no_child none other = refl
     no_child (tree l x r) other = absurd (other l x r refl)
-
-    step_in : (u : Trees) → In (after made (makes (tree label below none) ∷ [])) u → (tree label below none ≡ u) ⊎ In made u
-    step_in u h = h
 
 -- ---- the steps so far
 

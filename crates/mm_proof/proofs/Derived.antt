@@ -11,12 +11,11 @@ use Rattle.mm_proof.specs.Tree.{Trees, none, tree, beside, DeriveAll}
 pub zip_once : {A B : Type 0} (R S : A → B → Type 0) (xs : List A) (ys zs : List B) → ((x : A) (y z : B) → R x y → S x z → y ≡ z)
     → AllZip R xs ys → AllZip S xs zs → ys ≡ zs
 zip_once R S [] [] [] one r s = refl
-zip_once R S [] [] (z ∷ zs) one r s = absurd s
 zip_once R S [] (y ∷ ys) zs one r s = absurd r
 zip_once R S (x ∷ xs) [] zs one r s = absurd r
-zip_once R S (x ∷ xs) (y ∷ ys) [] one r s = absurd s
 zip_once R S (x ∷ xs) (y ∷ ys) (z ∷ zs) one r s =
     ap (λ w. w ∷ ys) (one x y z r.0 s.0) ∙ ap (λ l. z ∷ l) (zip_once R S xs ys zs one r.1 s.1)
+zip_once R S xs ys zs one r s = absurd s
 
 -- ---- rows
 

@@ -3,7 +3,7 @@ use Rattle.std.proofs.Common.{◌≡◌, ℕ, ◌+◌, ◌<◌, List, [], ◌∷
 use Rattle.std.specs.List.{AllByRecursion}
 use Rattle.std.proofs.lemmas.Option.{same_Some}
 use Rattle.std.proofs.lemmas.List.{length-map}
-use Rattle.mm_text.proofs.Lists.{all_weaker}
+use Rattle.mm_text.proofs.Lists.{all_weaker, get_from_take}
 use Rattle.mm_frame.specs.Sentence.{Sentence, IsHypothesis, IsAssertion, IsLabelled}
 use Rattle.mm_frame.specs.Active.{IsActive}
 use Rattle.mm_frame.specs.Rules.{AllMeant}
@@ -16,7 +16,7 @@ use Rattle.mm_proof.specs.declared.fault.ProofFault.{ProofFault}
 use Rattle.mm_proof.specs.declared.fault.ProofFault.TheVariants.{Rule, Memory}
 use Rattle.mm_proof.specs.Answer.{OnRule}
 use Rattle.mm_proof.specs.Tree.{tree, none}
-use Rattle.mm_proof.specs.Moves.{Move, name, again, mark}
+use Rattle.mm_proof.specs.Moves.{Move, name}
 use Rattle.mm_proof.specs.Proof.{IsWithin, Passed, Prove, BreaksEnd, IsMoveFault, IsMovesFault}
 use Rattle.mm_proof.specs.Profiles.{limit_of}
 use Rattle.mm_proof.specs.ReadSteps.{ReadSteps}
@@ -27,7 +27,6 @@ use Rattle.mm_proof.specs.declared.moves.NumberedMove.{NumberedMove}
 use Rattle.mm_proof.specs.Mirror.CodeVerify.{IsSymbol, AreStackEntries, AreBelow, names_at, all_names_at}
 use Rattle.mm_proof.specs.Verified.{ProvesUsingNumbers, ProvesUsing, OfMoves}
 use Rattle.mm_proof.specs.Mirror.CodeRun.{HasRun, MayBeMade, AreNamedNumbers, AreNamed, EndsWrong}
-use Rattle.mm_text.proofs.Lists.{get_from_take}
 use Rattle.mm_proof.proofs.Meaning.{one_label}
 use Rattle.mm_proof.proofs.Named.{named_is, below_is, named_once}
 use Rattle.mm_proof.proofs.Numbered.{one_place, one_move}
@@ -79,8 +78,7 @@ may_be_used st place id s label all there is (inr b) =
 move_made : (st : List Sentence) (place : ℕ) (x : Move ℕ) (move : Move (List ℕ)) → AllMeant st → IsNumberedMove st x move → IsUsableMove (take place st) move → MayBeMade st place x
 move_made st place (name id) move all n u =
     (n.1, may_be_used st place id n.0 n.1 all n.2 n.3 (subst (IsUsableMove (take place st)) n.4 u))
-move_made st place (again tag) move all n u = tt
-move_made st place mark move all n u = tt
+move_made st place x move all n u = tt
 
 all_made : (st : List Sentence) (place : ℕ) (xs : List (Move ℕ)) (names : List (Move (List ℕ))) → AllMeant st → AreNumberedMoves st xs names
     → AllByRecursion (IsUsableMove (take place st)) names → AllByRecursion (MayBeMade st place) xs
@@ -165,9 +163,8 @@ on_rule_from Memory P f = tt
 -- ---- one entry
 
 pub only_entry : {X : Type 0} (xs : List X) (x : X) → length xs ≡ 1 → slice_get xs 0 ≡ Some x → xs ≡ x ∷ []
-only_entry [] x l e = absurd (omega arith)
 only_entry (y ∷ []) x l e = ap (λ z. z ∷ []) (same_Some y x e)
-only_entry (y ∷ z ∷ xs) x l e = absurd (omega arith)
+only_entry xs x l e = absurd (omega arith)
 
 pub same_fault : {X : Type 0} (a b : ProofRule) (m n : ℕ) → ◌≡◌ {A = Result X ProofFault} (Err (Rule a m)) (Err (Rule b n)) → (b ≡ a) × (n ≡ m)
 same_fault {X} a b m n e =

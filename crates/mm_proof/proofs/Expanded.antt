@@ -3,7 +3,7 @@ use Rattle.std.proofs.Common.{◌≡◌, ℕ, zero, suc, ◌+◌, List, [], ◌�
 use Rattle.std.specs.List.{AllByRecursion}
 use Rattle.std.proofs.lemmas.Option.{same_Some, none-some, slice_get-map}
 use Rattle.std.proofs.lemmas.List.{map-append}
-use Rattle.mm_text.proofs.Lists.{all_push, all_at}
+use Rattle.mm_text.proofs.Lists.{all_push, all_at, cons_parts}
 use Rattle.mm_frame.specs.Sentence.{Sentence}
 use Rattle.mm_frame.specs.Rules.{AllMeant}
 use Rattle.mm_proof.specs.Tree.{Trees, none, tree, spelling, beside, roots, TreesFit}
@@ -96,11 +96,8 @@ splits : {X : Type 0} (a b c d : List X) → a ++ b ≡ c ++ d → ((g : List X)
 splits [] b c d e = inl (c, refl, e)
 splits (x ∷ a) b [] d e = inr (x ∷ a, refl, sym e)
 splits (x ∷ a) b (y ∷ c) d e =
-    let h = heads x y (a ++ b) (c ++ d) e in
+    let h = cons_parts x y (a ++ b) (c ++ d) e in
     ⊎_elim (λ p. inl (p.0, ap (λ z. z ∷ c) (sym h.0) ∙ ap (λ l. x ∷ l) p.1, p.2)) (λ p. inr (p.0, ap (λ z. z ∷ a) h.0 ∙ ap (λ l. y ∷ l) p.1, p.2)) (splits a b c d h.1)
-  where
-    heads : {X : Type 0} (x y : X) (xs ys : List X) → x ∷ xs ≡ y ∷ ys → (x ≡ y) × (xs ≡ ys)
-    heads x y xs ys e = (cc, cc)
 
 no_roots : (t : Trees) → roots t ≡ 0 → t ≡ none
 no_roots none e = refl

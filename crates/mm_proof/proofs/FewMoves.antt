@@ -34,13 +34,12 @@ piece_letters piece Tag s = omega (arith, ap length s)
 -- as many codes as letters at most
 pieces_letters : (pieces : List (List ℕ)) (codes : List Code) → AllZip letter.SaysCode pieces codes → length codes ≤ sum_by length pieces
 pieces_letters [] [] z = omega arith
-pieces_letters [] (code ∷ codes) z = absurd z
-pieces_letters (piece ∷ pieces) [] z = absurd z
 pieces_letters (piece ∷ pieces) (code ∷ codes) z =
     let first = piece_letters piece code z.0 in
     let others = pieces_letters pieces codes z.1 in
     let all = sum_by-append length (piece ∷ []) pieces in
     omega (arith, first, others, all)
+pieces_letters pieces codes z = absurd z
 
 codes_letters : (text : List ℕ) (codes : List Code) → letter.Letters text codes → length codes ≤ length text
 codes_letters text codes l =

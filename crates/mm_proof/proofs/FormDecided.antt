@@ -10,7 +10,7 @@ use Rattle.mm_frame.specs.Frame.{AreMandatory, IsMandatoryAt}
 use Rattle.mm_frame.specs.Form.{AllFormed}
 use Rattle.mm_text.specs.declared.statement.Kind.TheVariants.{Axiom, Provable}
 use Rattle.mm_text.proofs.Lists.{split_at, get_before, get_parted}
-use Rattle.mm_frame.proofs.Decided.{dec_both, dec_as, dec_some, kind_dec, contains_dec, dec_not}
+use Rattle.mm_frame.proofs.Decided.{dec_both, dec_as, dec_some, kind_dec, contains_dec, dec_not, dec_or}
 use Rattle.mm_frame.proofs.Those.{those_unique}
 use Rattle.mm_proof.specs.declared.fault.ProofRule.{ProofRule}
 use Rattle.mm_proof.specs.declared.fault.ProofRule.TheVariants.{P15}
@@ -104,12 +104,7 @@ ByAssertion before mark = ⊥
 
 assertion_dec : (before : List Sentence) (label : List ℕ) → Dec (OfAssertion before label)
 assertion_dec before label = dec_some (λ i a. IsLabelled label a × IsAssertion a.kind)
-    (λ i a. dec_both (first_symbol_dec a.label (Some label)) (either_dec (kind_dec a.kind Axiom) (kind_dec a.kind Provable))) before
-  where
-    either_dec : {A B : Type 0} → Dec A → Dec B → Dec (A ⊎ B)
-    either_dec (yes a) b = yes (inl a)
-    either_dec (no a) (yes b) = yes (inr b)
-    either_dec (no a) (no b) = no (λ h. ⊎_elim a b h)
+    (λ i a. dec_both (first_symbol_dec a.label (Some label)) (dec_or (kind_dec a.kind Axiom) (kind_dec a.kind Provable))) before
 
 by_dec : (before : List Sentence) (move : Move (List ℕ)) → Dec (ByAssertion before move)
 by_dec before (name label) = assertion_dec before label
@@ -137,8 +132,7 @@ loose_dec before moves = dec_some (λ k m. (m ≡ mark) × ¬ (After before move
 after_front : (before : List Sentence) (front : List (Move (List ℕ))) (b : ℕ) (m : Move (List ℕ)) → slice_get front b ≡ Some m → length front ≡ b + 1 → ByAssertion before m
     → (earlier : List (Move (List ℕ))) × (label : List ℕ) × (front ≡ earlier ++ name label ∷ []) × OfAssertion before label
 after_front before front b (name label) at long by = let last = last_of front b (name label) long at in (last.0, label, last.1, by)
-after_front before front b (again tag) at long by = absurd by
-after_front before front b mark at long by = absurd by
+after_front before front b m at long by = absurd by
 
 marks_from : (before : List Sentence) (moves : List (Move (List ℕ))) → ¬ (Loose before moves) → MarkAssertions before moves
 marks_from before moves tight front after parts = go (after_dec before moves (length front))

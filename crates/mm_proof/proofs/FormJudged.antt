@@ -25,6 +25,7 @@ use Rattle.mm_proof.proofs.Meaning.{one_label, one_labelled}
 use Rattle.mm_proof.proofs.Numbered.{one_place}
 use Rattle.mm_proof.proofs.SaidMoves.{moves_once}
 use Rattle.mm_proof.proofs.OneStep.{not_both_kinds}
+use Rattle.mm_proof.proofs.UsedNumbers.{named_by}
 
 -- ---- labels and their numbers
 
@@ -45,12 +46,11 @@ label_once st place id k l m n =
 hypothesis_number : (st : List Sentence) (ids : List ℕ) (hs : List Sentence) (i : ℕ) (h : Sentence) → map (slice_get (labelled_sentences st)) ids ≡ map Some hs → slice_get hs i ≡ Some h
     → (id : ℕ) × (slice_get ids i ≡ Some id) × (slice_get (labelled_sentences st) id ≡ Some h)
 hypothesis_number st [] [] i h e at = absurd (none-some h at)
-hypothesis_number st [] (g ∷ hs) i h e at = absurd cc
-hypothesis_number st (id ∷ ids) [] i h e at = absurd cc
 hypothesis_number st (id ∷ ids) (g ∷ hs) zero h e at =
     let there : slice_get (labelled_sentences st) id ≡ Some g = cc in (id, refl, there ∙ at)
 hypothesis_number st (id ∷ ids) (g ∷ hs) (suc i) h e at =
     let others : map (slice_get (labelled_sentences st)) ids ≡ map Some hs = cc in hypothesis_number st ids hs i h others at
+hypothesis_number st ids hs i h e at = absurd cc
 
 number_hypothesis : (st : List Sentence) (ids : List ℕ) (hs : List Sentence) (i id : ℕ) → map (slice_get (labelled_sentences st)) ids ≡ map Some hs → slice_get ids i ≡ Some id
     → (h : Sentence) × (slice_get hs i ≡ Some h) × (slice_get (labelled_sentences st) id ≡ Some h)
@@ -121,21 +121,6 @@ marks_mark st (name id) n = absurd (let e = n.4 in cc)
 marks_mark st (again tag) n = absurd (let e : mark ≡ again tag = n in cc)
 marks_mark st mark n = refl
 
--- a step by a label
-record ByLabel (st : List Sentence) (x : Move ℕ) (label : List ℕ) : Type 0 where
-  id : ℕ
-  s : Sentence
-  is : x ≡ name id
-  there : slice_get (labelled_sentences st) id ≡ Some s
-  named : IsLabelled label s
-
-by_label : (st : List Sentence) (x : Move ℕ) (label : List ℕ) → IsNumberedMove st x (name label) → ByLabel st x label
-by_label st (name id) label n =
-    let same : label ≡ n.1 = (let e = n.4 in cc) in
-    record { id = id; s = n.0; is = refl; there = n.2; named = subst (λ (l : List ℕ). IsLabelled l n.0) (sym same) n.3 }
-by_label st (again tag) label n = absurd (let e : name label ≡ again tag = n in cc)
-by_label st mark label n = absurd (let e : name label ≡ mark = n in cc)
-
 pub last_of : {X : Type 0} (xs : List X) (b : ℕ) (x : X) → length xs ≡ b + 1 → slice_get xs b ≡ Some x → (earlier : List X) × (xs ≡ earlier ++ x ∷ [])
 last_of [] b x long e = absurd (none-some x e)
 last_of (y ∷ []) zero x long e = ([], ap (λ z. z ∷ []) (same_Some y x e))
@@ -183,11 +168,11 @@ loose_marks st place steps moves all numbered (k, at, none) strict =
     let held : slice_get (take k moves) (length m.0) ≡ Some (name m.1) = ap (λ l. slice_get l (length m.0)) m.2 ∙ get_parted m.0 [] (name m.1) in
     let moved = get_from_take moves k (length m.0) (name m.1) held in
     let x = zip_right (IsNumberedMove st) steps moves (length m.0) (name m.1) numbered moved.1 in
-    let b = by_label st x.0 m.1 x.2 in
-    let p = numbered_from_get st b.id b.s b.there in
+    let b = named_by st x.0 m.1 x.2 in
+    let p = numbered_from_get st b.0 b.1 b.3 in
     let a = get_from_take st place m.3.0 m.3.1 m.3.2 in
-    let same : m.3.1 ≡ b.s = one_labelled st m.3.0 p.0 m.3.1 b.s m.1 all a.1 p.1.there m.3.3.0 b.named in
-    none (length m.0, b.id, long, x.1 ∙ ap Some b.is, (p.0, b.s, p.1, subst (λ (c : Sentence). IsAssertion c.kind) same m.3.3.1))
+    let same : m.3.1 ≡ b.1 = one_labelled st m.3.0 p.0 m.3.1 b.1 m.1 all a.1 p.1.there m.3.3.0 b.4 in
+    none (length m.0, b.0, long, x.1 ∙ ap Some b.2, (p.0, b.1, p.1, subst (λ (c : Sentence). IsAssertion c.kind) same m.3.3.1))
 
 -- ---- the form
 

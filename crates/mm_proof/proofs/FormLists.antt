@@ -114,13 +114,11 @@ old_seen seen hids ids same (j, id, at, o) = (j, id, at, ⊎_elim (λ h. inl ((s
 
 pub move_name : (m : NumberedMove) (id : ℕ) → move_in m ≡ name id → (x : LabelId) × (m ≡ code.Name x)
 move_name (code.Name x) id e = (x, refl)
-move_name (code.Again tag) id e = absurd cc
-move_name code.Mark id e = absurd cc
+move_name m id e = absurd cc
 
 pub move_mark : (m : NumberedMove) → move_in m ≡ mark → m ≡ code.Mark
-move_mark (code.Name x) e = absurd cc
-move_mark (code.Again tag) e = absurd cc
 move_mark code.Mark e = refl
+move_mark m e = absurd cc
 
 -- one mark more
 marks_more : (st : List Sentence) (moves : List NumberedMove) (i : ℕ) (d : NumberedMove) → i < length moves

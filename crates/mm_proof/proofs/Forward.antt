@@ -2,7 +2,7 @@
 use Rattle.std.proofs.Common.{◌≡◌, ℕ, suc, List, [], ◌∷◌, ◌++◌, length, take, drop, map, slice_get, Some, None, inl, inr, ⊎_elim, refl, sym, ap, subst, ◌∙◌, option_map, arith}
 use Rattle.std.proofs.lemmas.Option.{same_Some, none-some, slice_get-map}
 use Rattle.std.proofs.lemmas.List.{length-map}
-use Rattle.mm_text.proofs.Lists.{zip_push, zip_right}
+use Rattle.mm_text.proofs.Lists.{zip_push, zip_right, get_beside}
 use Rattle.mm_frame.specs.Sentence.{Sentence}
 use Rattle.mm_frame.specs.Frame.{IsMandatoryAt}
 use Rattle.mm_frame.specs.Rules.{AllMeant}
@@ -11,7 +11,6 @@ use Rattle.mm_proof.specs.Substitution.{instance_of}
 use Rattle.mm_proof.specs.Tree.{Trees, none, tree, beside, MayStandOver, DeriveAll}
 use Rattle.mm_proof.specs.Moves.{Move, name, again, mark, Makes}
 use Rattle.mm_proof.specs.Proof.{Prove, Passed}
-use Rattle.mm_text.proofs.Lists.{get_beside}
 use Rattle.mm_proof.proofs.Meaning.{code_is_constant}
 use Rattle.mm_proof.proofs.Frames.{those_hold}
 use Rattle.mm_proof.proofs.OneStep.{Applies, StepTo}
@@ -23,10 +22,9 @@ use Rattle.mm_proof.proofs.Derived.{derive_beside, derive_halves, single_derives
 
 same_by_places : {X : Type 0} (xs ys : List X) → length xs ≡ length ys → ((i : ℕ) (x y : X) → slice_get xs i ≡ Some x → slice_get ys i ≡ Some y → x ≡ y) → xs ≡ ys
 same_by_places [] [] l h = refl
-same_by_places [] (y ∷ ys) l h = absurd (omega arith)
-same_by_places (x ∷ xs) [] l h = absurd (omega arith)
 same_by_places (x ∷ xs) (y ∷ ys) l h =
     ap (λ z. z ∷ xs) (h 0 x y refl refl) ∙ ap (λ zs. y ∷ zs) (same_by_places xs ys (omega arith) (λ i a b p q. h (suc i) a b p q))
+same_by_places xs ys l h = absurd (omega arith)
 
 front_is : (entry : List (List ℕ)) (code : List ℕ) → slice_get entry 0 ≡ Some code → entry ≡ code ∷ drop 1 entry
 front_is [] code e = absurd (none-some code e)

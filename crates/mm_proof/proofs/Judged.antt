@@ -10,10 +10,10 @@ use Rattle.mm_frame.specs.Sentence.{Sentence, IsHypothesis, IsAssertion, IsLabel
 use Rattle.mm_frame.specs.Active.{IsActive}
 use Rattle.mm_frame.specs.Frame.{IsMandatoryAt, AreMandatory, IsMandatoryPair}
 use Rattle.mm_frame.specs.Rules.{AllMeant}
-use Rattle.mm_frame.proofs.Decided.{dec_both, dec_as, dec_some, kind_dec, symbol_dec, dec_not}
+use Rattle.mm_frame.proofs.Decided.{dec_both, dec_as, dec_some, kind_dec, symbol_dec, dec_not, unless_not}
 use Rattle.mm_frame.proofs.Decided.{mandatory_at_dec, expression_dec}
 use Rattle.mm_proof.specs.declared.fault.ProofRule.{ProofRule}
-use Rattle.mm_proof.specs.declared.fault.ProofRule.TheVariants.{P1, P2, P3, P4, P5, P6, P7, P8, P9, P10, P11, P12, P13, P14, P15, L1}
+use Rattle.mm_proof.specs.declared.fault.ProofRule.TheVariants.{P1, P6, P7, P8, P9, P10, P11, P12, P13, P14, L1}
 use Rattle.mm_proof.specs.Substitution.{instance_of}
 use Rattle.mm_proof.specs.Tree.{Names, ShareNoVariable, AreDistinct}
 use Rattle.mm_proof.specs.Moves.{Move, name, again, mark, steps_in}
@@ -31,21 +31,7 @@ use Rattle.mm_proof.proofs.Verdicts.{ranked, at_rank}
 
 rank_below : (rule : ProofRule) → proof_rank rule < 17
 rank_below P1 = omega arith
-rank_below P2 = omega arith
-rank_below P3 = omega arith
-rank_below P4 = omega arith
-rank_below P5 = omega arith
-rank_below P15 = omega arith
-rank_below P6 = omega arith
-rank_below P7 = omega arith
-rank_below P8 = omega arith
-rank_below P9 = omega arith
-rank_below P10 = omega arith
-rank_below P11 = omega arith
-rank_below P12 = omega arith
-rank_below P13 = omega arith
-rank_below P14 = omega arith
-rank_below L1 = omega arith
+rank_below rule = omega arith
 
 pub record First (Broken : ProofRule → Type 0) : Type 0 where
   pub rule : ProofRule
@@ -167,19 +153,15 @@ step_of Fits before stack label m none = inr (record {
   meets = m;
   kept = refl;
   typed = λ i h entry there at floating.
-      unless (first_symbol_dec (slice_get entry 0) (slice_get h.symbols 0)) (λ differ. none P9 (m, (i, h, entry, there, at, (floating, differ))));
+      unless_not (first_symbol_dec (slice_get entry 0) (slice_get h.symbols 0)) (λ differ. none P9 (m, (i, h, entry, there, at, (floating, differ))));
   equal = λ i h entry there at essential.
-      unless (expression_dec entry (instance_of m.σ h.symbols)) (λ differ. none P10 (m, (i, h, entry, there, at, (essential, differ))));
+      unless_not (expression_dec entry (instance_of m.σ h.symbols)) (λ differ. none P10 (m, (i, h, entry, there, at, (essential, differ))));
   apart = λ x y e f pair at_x at_y. (
-    unless (share_dec before e f) (λ share. none P11 (m, x, y, e, f, pair, at_x, at_y, share)),
-    unless (apart_dec before e f) (λ near. none P12 (m, x, y, e, f, pair, at_x, at_y, near)),
+    unless_not (share_dec before e f) (λ share. none P11 (m, x, y, e, f, pair, at_x, at_y, share)),
+    unless_not (apart_dec before e f) (λ near. none P12 (m, x, y, e, f, pair, at_x, at_y, near)),
   );
   made = refl;
 })
-  where
-    unless : {P : Type 0} → Dec P → ¬ (¬ P) → P
-    unless (yes p) h = p
-    unless (no n) h = absurd (h n)
 
 -- what a step does: it goes on within the limit, or it breaks a rule first
 abbrev Outcome : (List (List ℕ) → Type 0) → List Sentence → List (List (List ℕ)) → List ℕ → Type 0

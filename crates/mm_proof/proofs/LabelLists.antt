@@ -4,11 +4,10 @@ use Rattle.mm_text.specs.declared.token.Token.{Token}
 use Rattle.mm_frame.specs.Sentence.{Sentence}
 use Rattle.std.proofs.lemmas.List.{map_more, take-map, map-append, take_all, length-map}
 use Rattle.std.proofs.lemmas.List.Elements.{Contains-push, Contains-push_cases, Contains-append_left}
-use Rattle.mm_text.proofs.Lists.{zip_push}
+use Rattle.mm_text.proofs.Lists.{zip_push, get_take}
 use Rattle.mm_frame.specs.declared.number.LabelId.{LabelId}
 use Rattle.mm_proof.specs.Plain.{ids_in, token_texts}
 use Rattle.mm_proof.specs.Mirror.CodeSteps.{AreFor, IsIdle, IsUnknown, MayBeUsed}
-use Rattle.mm_text.proofs.Lists.{get_take}
 
 -- one of the labels is idle, or all may be used
 abbrev pub IdleOr : List Sentence → ℕ → Bool → List ℕ → List (List ℕ) → Type 0

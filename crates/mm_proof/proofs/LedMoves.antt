@@ -196,28 +196,21 @@ leads_to before whole (tree label below right) row kept steps done v fit covers 
 
 -- ---- what is said of tidy visits, by places
 
+not_twice : (x : Visit) (v done : List Visit) (t : Trees) (j : ℕ) → Tidy done (x ∷ v) → IsBig t
+    → x ≡ makes t → slice_get v j ≡ Some (makes t) → ⊥
+not_twice x v done t j c big e q =
+    let d : Tidy done (makes t ∷ v) = subst (λ y. Tidy done (y ∷ v)) e c in
+    not_made_again v (makes t ∷ done) t d.1 (inl refl) big
+    (visit_made v t (get_in v j (makes t) q))
+
 tidy_make_once : (v done : List Visit) (i j : ℕ) (t : Trees) → Tidy done v → IsBig t
     → slice_get v i ≡ Some (makes t) → slice_get v j ≡ Some (makes t) → i ≡ j
 tidy_make_once [] done i j t c big p q = absurd (none-some (makes t) p)
 tidy_make_once (x ∷ v) done zero zero t c big p q = refl
 tidy_make_once (x ∷ v) done zero (suc j) t c big p q = absurd
     (not_twice x v done t j c big (same_Some x (makes t) p) q)
-  where
-    not_twice : (x : Visit) (v done : List Visit) (t : Trees) (j : ℕ) → Tidy done (x ∷ v) → IsBig t
-        → x ≡ makes t → slice_get v j ≡ Some (makes t) → ⊥
-    not_twice x v done t j c big e q =
-        let d : Tidy done (makes t ∷ v) = subst (λ y. Tidy done (y ∷ v)) e c in
-        not_made_again v (makes t ∷ done) t d.1 (inl refl) big
-        (visit_made v t (get_in v j (makes t) q))
 tidy_make_once (x ∷ v) done (suc i) zero t c big p q = absurd
     (not_twice x v done t i c big (same_Some x (makes t) q) p)
-  where
-    not_twice : (x : Visit) (v done : List Visit) (t : Trees) (j : ℕ) → Tidy done (x ∷ v) → IsBig t
-        → x ≡ makes t → slice_get v j ≡ Some (makes t) → ⊥
-    not_twice x v done t j c big e q =
-        let d : Tidy done (makes t ∷ v) = subst (λ y. Tidy done (y ∷ v)) e c in
-        not_made_again v (makes t ∷ done) t d.1 (inl refl) big
-        (visit_made v t (get_in v j (makes t) q))
 tidy_make_once (makes u ∷ v) done (suc i) (suc j) t c big p q = ap suc
     (tidy_make_once v (makes u ∷ done) i j t c.1 big p q)
 tidy_make_once (repeats u ∷ v) done (suc i) (suc j) t c big p q = ap suc
@@ -236,12 +229,9 @@ just_later : (x : Visit) (v done : List Visit) (i : ℕ) (t : Trees) → JustMad
 just_later x v done i t h = (
   h.0,
   ⊎_elim
-      (λ a. inr (0, (let e = a.0 in omega arith), ap Some (first a.1 a.2)))
+      (λ a. inr (0, (let e = a.0 in omega arith), (let e = a.2 in ap Some cc)))
       (λ a. inr (suc a.0, (let e = a.1 in omega arith), a.2)) h.1,
 )
-  where
-    first : (rest : List Visit) → x ∷ done ≡ makes t ∷ rest → x ≡ makes t
-    first rest e = cc
 
 tidy_just : (v done : List Visit) (i : ℕ) (t : Trees) → Tidy done v → slice_get v i ≡ Some (keeps t)
     → JustMade done v i t

@@ -17,15 +17,11 @@ coded codes = Ok codes
 abbrev refused : CodeRule → Result (List Code) CodeRule
 refused rule = Err rule
 
-not_both_answers : (codes : List Code) (rule : CodeRule) → coded codes ≡ refused rule → ⊥
-not_both_answers codes rule e = cc
-
-same_rule : (a b : CodeRule) → refused a ≡ refused b → a ≡ b
-same_rule a b e = cc
-
 -- letters that say codes break no rule
 pub coded_not_broken : (text : List ℕ) (codes : List Code) (rule : CodeRule) → Letters text codes → ¬ (Breaks rule text)
-coded_not_broken text codes rule letters broken = not_both_answers codes rule (sym (is_read_again text codes letters) ∙ breaks_read rule text broken)
+coded_not_broken text codes rule letters broken =
+    let e : coded codes ≡ refused rule =
+    sym (is_read_again text codes letters) ∙ breaks_read rule text broken in cc
 
 -- letters say codes or break a rule
 pub coded_or_broken : (text : List ℕ) → ((codes : List Code) × Letters text codes) ⊎ ((rule : CodeRule) × Breaks rule text)
@@ -43,7 +39,8 @@ rule_dec P5 P5 = yes refl
 
 -- letters break one rule at most
 pub one_rule : (text : List ℕ) (a b : CodeRule) → Breaks a text → Breaks b text → a ≡ b
-one_rule text a b p q = same_rule a b (sym (breaks_read a text p) ∙ breaks_read b text q)
+one_rule text a b p q =
+    let e : refused a ≡ refused b = sym (breaks_read a text p) ∙ breaks_read b text q in cc
 
 pub breaks_dec : (rule : CodeRule) (text : List ℕ) → Dec (Breaks rule text)
 breaks_dec rule text = go (coded_or_broken text)
@@ -64,9 +61,8 @@ held_from_one Tag piece says = tt
 
 all_from_one : (pieces : List (List ℕ)) (codes : List Code) → AllZip SaysCode pieces codes → AllByRecursion HasSpelling (map code_for codes)
 all_from_one [] [] each = tt
-all_from_one [] (code ∷ codes) each = absurd each
-all_from_one (piece ∷ pieces) [] each = absurd each
 all_from_one (piece ∷ pieces) (code ∷ codes) each = (held_from_one code piece each.0, all_from_one pieces codes each.1)
+all_from_one pieces codes each = absurd each
 
 pub from_one : (text : List ℕ) (codes : List Code) → Letters text codes → AllByRecursion HasSpelling codes
 from_one text codes letters = subst (AllByRecursion HasSpelling) (sym letters.are_codes) (all_from_one letters.spells.pieces letters.spelled letters.spells.each)

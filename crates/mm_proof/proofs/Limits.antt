@@ -28,21 +28,32 @@ DeriveOne Fits before label below e =
     × KeepsApart before place assertion σ
     × (e ≡ instance_of σ assertion.symbols))
 
--- what trees derive within the limit they derive
-pub derive_any : (Fits : List (List ℕ) → Type 0) (before : List Sentence) (trees : Trees) (es : List (List (List ℕ))) → DeriveAll Fits before trees es → DeriveAll AnyExpression before trees es
-derive_any Fits before none es d = d
-derive_any Fits before (tree label below right) es d =
-    let one : DeriveOne AnyExpression before label below d.0 = ⊎_elim (λ leaf. inl leaf)
-    (λ n. inr (n.0, n.1, n.2, n.3, n.4, n.5, derive_any Fits before below (map (λ (h : Sentence). instance_of n.3 h.symbols) n.2) n.6, n.7, n.8)) d.4 in
-    (d.0, d.1, d.2, tt, one, derive_any Fits before right d.1 d.5)
+-- what trees derive where expressions fit they derive where more of them do
+derive_looser : (Fits More : List (List ℕ) → Type 0) → ((e : List (List ℕ)) → Fits e → More e)
+    → (before : List Sentence) (trees : Trees) (es : List (List (List ℕ)))
+    → DeriveAll Fits before trees es → DeriveAll More before trees es
+derive_looser Fits More more before none es d = d
+derive_looser Fits More more before (tree label below right) es d =
+    let one : DeriveOne More before label below d.0 = ⊎_elim (λ leaf. inl leaf)
+    (λ n. let under = derive_looser Fits More more before below _ n.6 in
+    inr (n.0, n.1, n.2, n.3, n.4, n.5, under, n.7, n.8)) d.4 in
+    (d.0, d.1, d.2, more d.0 d.3, one, derive_looser Fits More more before right d.1 d.5)
 
-prove_any : (Fits : List (List ℕ) → Type 0) (before : List Sentence) (s : Sentence) (moves : List (Move (List ℕ))) → Prove Fits before s moves → Prove AnyExpression before s moves
-prove_any Fits before s moves p = record {
+-- and they derive them without a limit
+pub derive_any : (Fits : List (List ℕ) → Type 0) (before : List Sentence) (trees : Trees) (es : List (List (List ℕ))) → DeriveAll Fits before trees es → DeriveAll AnyExpression before trees es
+derive_any Fits before trees es d =
+    derive_looser Fits AnyExpression (λ e fits. tt) before trees es d
+
+pub prove_looser : (Fits More : List (List ℕ) → Type 0) → ((e : List (List ℕ)) → Fits e → More e)
+    → (before : List Sentence) (s : Sentence) (moves : List (Move (List ℕ)))
+    → Prove Fits before s moves → Prove More before s moves
+prove_looser Fits More more before s moves p = record {
   label = p.label;
   below = p.below;
   kept = p.kept;
   made = p.made;
-  derived = derive_any Fits before (tree p.label p.below none) (s.symbols ∷ []) p.derived;
+  derived = derive_looser Fits More more before (tree p.label p.below none) (s.symbols ∷ [])
+      p.derived;
 }
 
 -- ---- the first step over the limit
@@ -99,7 +110,7 @@ prove_or_over Fits each before s moves all p =
 -- ---- the law
 
 within_proved : (limit : ℕ) (before : List Sentence) (s : Sentence) (tokens : List (List ℕ)) → IsProvedWithin (IsWithin limit) before s tokens → IsProved before s tokens
-within_proved limit before s tokens p = record { whole = p.whole; moves = p.moves; said = p.said; proves = prove_any (IsWithin limit) before s p.moves p.proves }
+within_proved limit before s tokens p = record { whole = p.whole; moves = p.moves; said = p.said; proves = prove_looser (IsWithin limit) AnyExpression (λ e fits. tt) before s p.moves p.proves }
 
 proved_or_over : (limit : ℕ) (before : List Sentence) (s : Sentence) (tokens : List (List ℕ)) → AllMeant before → IsProved before s tokens
     → IsProvedWithin (IsWithin limit) before s tokens ⊎ ((step : ℕ) × IsFault (IsWithin limit) before s tokens L1 step)

@@ -6,7 +6,7 @@ use Rattle.std.proofs.lemmas.List.{take-append-le, take_at, length-append}
 use Rattle.mm_text.proofs.Lists.{split_at, get_kept, get_pushed, pushed_cases}
 use Rattle.mm_frame.specs.Sentence.{Sentence}
 use Rattle.mm_proof.specs.Tree.{none, tree, beside, roots, DeriveAll}
-use Rattle.mm_proof.specs.Moves.{Move, name, again, mark, is_step, steps_in, Makes}
+use Rattle.mm_proof.specs.Moves.{Move, name, mark, is_step, steps_in, Makes}
 use Rattle.mm_proof.specs.Proof.{Passed}
 use Rattle.mm_proof.specs.Listing.{ListedStep, StandsAfter, MakeLast, IsListed, AreListed}
 use Rattle.mm_proof.proofs.Derived.{derive_halves, single_derives}
@@ -32,9 +32,8 @@ old_or_new xs x y i e = elim (pushed_cases xs x i y e) [
 
 -- one step is one
 one_step : {X : Type 0} (move : Move X) → is_step move ≡ true → steps_in (move ∷ []) ≡ 1
-one_step (name label) is = refl
-one_step (again tag) is = refl
 one_step mark is = absurd (false≢true is)
+one_step move is = refl
 
 -- a step is counted among the moves, and not among those before it
 step_before : (moves : List (Move (List ℕ))) (i : ℕ) (move : Move (List ℕ)) → slice_get moves i ≡ Some move → is_step move ≡ true

@@ -39,15 +39,10 @@ if_ok_map (Ok x) P Q f h = f x h
 if_ok_map (Err e) P Q f h = tt
 
 pub if_ok_at : {X : Type 0} (r : Result X ProofFault) (P : X → Type 0) (x : X) → r ≡ Ok x → IfOk r P → P x
-if_ok_at (Ok y) P x is h = subst P (same y x is) h
-  where
-    same : {Y : Type 0} (y x : Y) → ◌≡◌ {A = Result Y ProofFault} (Ok y) (Ok x) → y ≡ x
-    same y x e = cc
+if_ok_at (Ok y) P x is h = let same : y ≡ x = cc in subst P same h
 if_ok_at (Err e) P x is h = absurd cc
 
 pub if_rule_at : {X : Type 0} (r : Result X ProofFault) (P : ProofRule → ℕ → Type 0) (rule : ProofRule) (step : ℕ) → r ≡ Err (Rule rule step) → IfErr r (λ e. OnRule e P) → P rule step
 if_rule_at (Ok x) P rule step is h = absurd cc
-if_rule_at {X} (Err e) P rule step is h = subst (λ f. OnRule f P) (same e (Rule rule step) is) h
-  where
-    same : (e f : ProofFault) → ◌≡◌ {A = Result X ProofFault} (Err e) (Err f) → e ≡ f
-    same e f is = cc
+if_rule_at (Err e) P rule step is h =
+    let same : e ≡ Rule rule step = cc in subst (λ f. OnRule f P) same h

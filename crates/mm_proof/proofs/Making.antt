@@ -35,12 +35,11 @@ same_trees l m a b c d e = (cc, cc, cc)
 -- a row parts in one way only into a front and an end of known width
 one_row_split : (a b c d : Trees) → beside a b ≡ beside c d → roots a ≡ roots c → (a ≡ c) × (b ≡ d)
 one_row_split none b none d e n = (refl, e)
-one_row_split none b (tree label below right) d e n = absurd (omega arith)
-one_row_split (tree label below right) b none d e n = absurd (omega arith)
 one_row_split (tree l a r) b (tree m c s) d e n =
     let h = same_trees l m a (beside r b) c (beside s d) e in
     let k = one_row_split r b s d h.2 (omega arith) in
     (ap (λ x. tree x a r) h.0 ∙ ap (λ x. tree m x r) h.1 ∙ ap (λ x. tree m c x) k.0, k.1)
+one_row_split a b c d e n = absurd (omega arith)
 
 pub one_row_end : (a b c d : Trees) → beside a b ≡ beside c d → roots b ≡ roots d → (a ≡ c) × (b ≡ d)
 one_row_end a b c d e n = one_row_split a b c d e (omega (arith, roots-beside a b, roots-beside c d, ap roots e))

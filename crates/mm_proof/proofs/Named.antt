@@ -21,23 +21,21 @@ name_is st n x there = get_or_from_slice_get (symbols_of st) n x [] there
 
 pub named_is : (st : List Sentence) (ns : List ℕ) (xs : List (List ℕ)) → AreNumbers st ns xs → names_at st ns ≡ xs
 named_is st [] [] are = refl
-named_is st [] (x ∷ xs) are = absurd cc
-named_is st (n ∷ ns) [] are = absurd cc
 named_is st (n ∷ ns) (x ∷ xs) are =
     let here : slice_get (symbols_of st) n ≡ Some x = cc in
     let rest : AreNumbers st ns xs = cc in
     let first = name_is st n x here in
     let others = named_is st ns xs rest in
     cc
+named_is st ns xs are = absurd cc
 
 pub below_is : (st : List Sentence) (ns : List ℕ) (xs : List (List ℕ)) → AreNumbers st ns xs → AreBelow st ns
 below_is st [] [] are = tt
-below_is st [] (x ∷ xs) are = absurd cc
-below_is st (n ∷ ns) [] are = absurd cc
 below_is st (n ∷ ns) (x ∷ xs) are =
     let here : slice_get (symbols_of st) n ≡ Some x = cc in
     let rest : AreNumbers st ns xs = cc in
     (slice_get_within (symbols_of st) n x here, below_is st ns xs rest)
+below_is st ns xs are = absurd cc
 
 pub number_of_name : (st : List Sentence) (n : ℕ) → n < length (symbols_of st) → IsNumberOf st (name_at st n) n
 number_of_name st n below = slice_get-get_or (symbols_of st) n [] below
@@ -49,14 +47,13 @@ one_name one st m n bm bn same =
 
 pub named_once : OneNumber → (st : List Sentence) (ms ns : List ℕ) → AreBelow st ms → AreBelow st ns → names_at st ms ≡ names_at st ns → ms ≡ ns
 named_once one st [] [] bm bn same = refl
-named_once one st [] (n ∷ ns) bm bn same = absurd cc
-named_once one st (m ∷ ms) [] bm bn same = absurd cc
 named_once one st (m ∷ ms) (n ∷ ns) bm bn same =
     let first : name_at st m ≡ name_at st n = cc in
     let rest : names_at st ms ≡ names_at st ns = cc in
     let head = one_name one st m n bm.0 bn.0 first in
     let tail = named_once one st ms ns bm.1 bn.1 rest in
     cc
+named_once one st ms ns bm bn same = absurd cc
 
 -- ---- type codes
 
@@ -116,8 +113,6 @@ typing_variable st (Some typing) h (code, x, types, first, second) = (code, x, t
 -- the variables of hypotheses are those of their typings
 pub typed_variables : (st : List Sentence) (xs : List Hypothesis) (hs : List Sentence) → HaveTypings st xs → AreHypothesesOf st (label_ids xs) hs → AreVariablesOf st (variables_of xs) hs
 typed_variables st [] [] have are = tt
-typed_variables st [] (h ∷ hs) have are = absurd cc
-typed_variables st (x ∷ xs) [] have are = absurd cc
 typed_variables st (x ∷ xs) (h ∷ hs) have are =
     let there : slice_get (labelled_sentences st) x.id.0 ≡ Some h = cc in
     let rest : AreHypothesesOf st (label_ids xs) hs = cc in
@@ -125,6 +120,7 @@ typed_variables st (x ∷ xs) (h ∷ hs) have are =
       typing_variable st x.typing h (subst (IsTypingOf st x.typing) (same_Some g h (sym at ∙ there)) is),
       typed_variables st xs hs (λ i y y_there. have (suc i) y y_there) rest,
     )
+typed_variables st xs hs have are = absurd cc
 
 -- the entry at a place, by names
 pub entry_at : (st : List Sentence) (stack : List (List ℕ)) (base i : ℕ) (e : List ℕ) → slice_get stack (base + i) ≡ Some e → slice_get (all_names_at st (drop base stack)) i ≡ Some (names_at st e)
@@ -155,18 +151,16 @@ each_more hs entries P n h e at_h at_e here = each_next hs entries P n h at_h (�
 
 pub as_many : (st : List Sentence) (ids : List Hypothesis) (hs : List Sentence) → AreHypothesesOf st (label_ids ids) hs → length hs ≡ length ids
 as_many st [] [] are = refl
-as_many st [] (h ∷ hs) are = absurd cc
-as_many st (id ∷ ids) [] are = absurd cc
 as_many st (id ∷ ids) (h ∷ hs) are = let rest : AreHypothesesOf st (label_ids ids) hs = cc in ap suc (as_many st ids hs rest)
+as_many st ids hs are = absurd cc
 
 -- the variable at a place is that of the hypothesis there
 pub variable_typed : (st : List Sentence) (vs : List (Option ℕ)) (hs : List Sentence) (i : ℕ) (h : Sentence) → AreVariablesOf st vs hs → slice_get hs i ≡ Some h
     → IsVariableOf st (get_or vs i None) h
 variable_typed st [] [] i h all at = absurd (none-some h at)
-variable_typed st [] (g ∷ hs) i h all at = absurd all
-variable_typed st (v ∷ vs) [] i h all at = absurd all
 variable_typed st (v ∷ vs) (g ∷ hs) zero h all at = subst (IsVariableOf st v) (same_Some g h at) all.0
 variable_typed st (v ∷ vs) (g ∷ hs) (suc i) h all at = variable_typed st vs hs i h all.1 at
+variable_typed st vs hs i h all at = absurd all
 
 -- a hypothesis with a typing has a variable
 pub typing_some : (hs : List Hypothesis) (k : ℕ) (d : Hypothesis) → k < length hs → is_some (get_or hs k d).typing ≡ true → is_some (get_or (variables_of hs) k None) ≡ true

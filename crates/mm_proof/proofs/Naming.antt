@@ -59,12 +59,10 @@ assertion_kind st place id r used kind is =
     (m.at, m.s, m.numbered, ⊎_elim (λ e. inl (told ∙ ap kind_behind e)) (λ e. inr (told ∙ ap kind_behind e)) is)
 
 only_assertions : (r : LabelKind) → IsAssertion (kind_behind r) → (r ≡ label_kinds.Axiom → ⊥) → (r ≡ label_kinds.Proof → ⊥) → ⊥
-only_assertions label_kinds.Floating (inl e) a p = absurd cc
-only_assertions label_kinds.Floating (inr e) a p = absurd cc
-only_assertions label_kinds.Essential (inl e) a p = absurd cc
-only_assertions label_kinds.Essential (inr e) a p = absurd cc
 only_assertions label_kinds.Axiom k a p = a refl
 only_assertions label_kinds.Proof k a p = p refl
+only_assertions r (inl e) a p = absurd cc
+only_assertions r (inr e) a p = absurd cc
 
 pub no_assertion : (st : List Sentence) (id : ℕ) (r : LabelKind) → ((s : Sentence) → slice_get (labelled_sentences st) id ≡ Some s → s.kind ≡ kind_behind r)
     → (r ≡ label_kinds.Axiom → ⊥) → (r ≡ label_kinds.Proof → ⊥) → IsAssertionNumber st id → ⊥

@@ -11,7 +11,7 @@ use Rattle.mm_frame.proofs.Those.{those_unique}
 use Rattle.mm_frame.proofs.Meant.{allmeant_front, meant_at}
 use Rattle.mm_frame.proofs.Needed.{mandatory_typed}
 use Rattle.mm_proof.specs.declared.fault.ProofRule.{ProofRule}
-use Rattle.mm_proof.specs.declared.fault.ProofRule.TheVariants.{P1, P2, P3, P4, P5, P6, P7, P8, P9, P10, P11, P12, P13, P14, P15, L1}
+use Rattle.mm_proof.specs.declared.fault.ProofRule.TheVariants.{P8, P9, P10, P11, P12, L1}
 use Rattle.mm_proof.specs.Substitution.{IsOn, instance_of}
 use Rattle.mm_proof.specs.Tree.{Names, KeepsApart}
 use Rattle.mm_proof.specs.Proof.{MeetsHypotheses, BreaksStep}
@@ -233,16 +233,7 @@ step_breaks_none Fits L1 before stack label rest e all within step (inr b) =
     let s = same_meets before stack label rest e b.0 all step in
     let same : e ≡ instance_of b.0.σ b.0.assertion.symbols = s.0.made ∙ same_substituted s.0.meets.σ b.0.σ s.0.meets.assertion.symbols s.1.replacement ∙ ap (λ (a : Sentence). instance_of b.0.σ a.symbols) s.1.assertion in
     b.1 (subst (λ l. Fits l) same (within refl))
-step_breaks_none Fits P1 before stack label rest e all within step b = b
-step_breaks_none Fits P2 before stack label rest e all within step b = b
-step_breaks_none Fits P3 before stack label rest e all within step b = b
-step_breaks_none Fits P4 before stack label rest e all within step b = b
-step_breaks_none Fits P5 before stack label rest e all within step b = b
-step_breaks_none Fits P6 before stack label rest e all within step b = b
-step_breaks_none Fits P7 before stack label rest e all within step b = b
-step_breaks_none Fits P13 before stack label rest e all within step b = b
-step_breaks_none Fits P14 before stack label rest e all within step b = b
-step_breaks_none Fits P15 before stack label rest e all within step b = b
+step_breaks_none Fits rule before stack label rest e all within step b = b
 
 -- a step that makes an expression over the limit breaks the limit
 pub step_breaks_limit : (Fits : List (List ℕ) → Type 0) (before : List Sentence) (stack : List (List (List ℕ))) (label : List ℕ) (rest : List (List (List ℕ))) (e : List (List ℕ))

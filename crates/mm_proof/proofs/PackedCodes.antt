@@ -36,54 +36,30 @@ record First (before : List Sentence) (moves : List (Move (List ℕ))) (move : M
 
 led_makes : (before : List Sentence) (moves : List (Move (List ℕ))) (row : Trees) (kept : List Trees) (last : Trees) (end : List Trees) (label : List ℕ) (below : Trees) (v : List Visit)
     → Led before moves row kept last end (makes (tree label below none) ∷ v) → First before moves (name label) kept last end v
-led_makes before [] row kept last end label below v l = absurd (let e : [] ≡ makes (tree label below none) ∷ v = l.1 in cc)
 led_makes before (name m ∷ moves) row kept last end label below v l =
     let s = l.0 in
     let h = cons_parts (makes (tree m s.2.1 none)) (makes (tree label below none)) (visits before moves s.0 s.1 last end s.3) v l.1 in
     let same : m ≡ label = (let e : makes (tree m s.2.1 none) ≡ makes (tree label below none) = h.0 in cc) in
     record { others = moves; parts = ap (λ x. name x ∷ moves) same; row = s.0; led = subst (λ k. Led before moves s.0 k last end v) s.2.5 (s.3, h.1) }
-led_makes before (again tag ∷ moves) row kept last end label below v l =
-    let s = l.0 in
-    let h = cons_parts (repeats s.2.0) (makes (tree label below none)) (visits before moves s.0 s.1 last end s.3) v l.1 in
-    absurd (let e : repeats s.2.0 ≡ makes (tree label below none) = h.0 in cc)
-led_makes before (mark ∷ moves) row kept last end label below v l =
-    let s = l.0 in
-    let h = cons_parts (keeps (tree s.2.1 s.2.2 none)) (makes (tree label below none)) (visits before moves s.0 s.1 last end s.3) v l.1 in
-    absurd (let e : keeps (tree s.2.1 s.2.2 none) ≡ makes (tree label below none) = h.0 in cc)
+led_makes before moves row kept last end label below v l = absurd (let e = l.1 in cc)
 
 led_keeps : (before : List Sentence) (moves : List (Move (List ℕ))) (row : Trees) (kept : List Trees) (last : Trees) (end : List Trees) (t : Trees) (v : List Visit)
     → Led before moves row kept last end (keeps t ∷ v) → First before moves mark (kept ++ t ∷ []) last end v
-led_keeps before [] row kept last end t v l = absurd (let e : [] ≡ keeps t ∷ v = l.1 in cc)
-led_keeps before (name m ∷ moves) row kept last end t v l =
-    let s = l.0 in
-    let h = cons_parts (makes (tree m s.2.1 none)) (keeps t) (visits before moves s.0 s.1 last end s.3) v l.1 in
-    absurd (let e : makes (tree m s.2.1 none) ≡ keeps t = h.0 in cc)
-led_keeps before (again tag ∷ moves) row kept last end t v l =
-    let s = l.0 in
-    let h = cons_parts (repeats s.2.0) (keeps t) (visits before moves s.0 s.1 last end s.3) v l.1 in
-    absurd (let e : repeats s.2.0 ≡ keeps t = h.0 in cc)
 led_keeps before (mark ∷ moves) row kept last end t v l =
     let s = l.0 in
     let h = cons_parts (keeps (tree s.2.1 s.2.2 none)) (keeps t) (visits before moves s.0 s.1 last end s.3) v l.1 in
     let same : tree s.2.1 s.2.2 none ≡ t = (let e : keeps (tree s.2.1 s.2.2 none) ≡ keeps t = h.0 in cc) in
     record { others = moves; parts = refl; row = s.0; led = subst (λ k. Led before moves s.0 k last end v) (s.2.5 ∙ ap (λ x. kept ++ x ∷ []) same) (s.3, h.1) }
+led_keeps before moves row kept last end t v l = absurd (let e = l.1 in cc)
 
 led_repeats : (before : List Sentence) (moves : List (Move (List ℕ))) (row : Trees) (kept : List Trees) (last : Trees) (end : List Trees) (t : Trees) (v : List Visit)
     → Led before moves row kept last end (repeats t ∷ v) → (tag : ℕ) × (slice_get kept tag ≡ Some t) × First before moves (again tag) kept last end v
-led_repeats before [] row kept last end t v l = absurd (let e : [] ≡ repeats t ∷ v = l.1 in cc)
-led_repeats before (name m ∷ moves) row kept last end t v l =
-    let s = l.0 in
-    let h = cons_parts (makes (tree m s.2.1 none)) (repeats t) (visits before moves s.0 s.1 last end s.3) v l.1 in
-    absurd (let e : makes (tree m s.2.1 none) ≡ repeats t = h.0 in cc)
 led_repeats before (again tag ∷ moves) row kept last end t v l =
     let s = l.0 in
     let h = cons_parts (repeats s.2.0) (repeats t) (visits before moves s.0 s.1 last end s.3) v l.1 in
     let same : s.2.0 ≡ t = (let e : repeats s.2.0 ≡ repeats t = h.0 in cc) in
     (tag, s.2.1 ∙ ap Some same, record { others = moves; parts = refl; row = s.0; led = subst (λ k. Led before moves s.0 k last end v) s.2.3 (s.3, h.1) })
-led_repeats before (mark ∷ moves) row kept last end t v l =
-    let s = l.0 in
-    let h = cons_parts (keeps (tree s.2.1 s.2.2 none)) (repeats t) (visits before moves s.0 s.1 last end s.3) v l.1 in
-    absurd (let e : keeps (tree s.2.1 s.2.2 none) ≡ repeats t = h.0 in cc)
+led_repeats before moves row kept last end t v l = absurd (let e = l.1 in cc)
 
 led_none : (before : List Sentence) (moves : List (Move (List ℕ))) (row : Trees) (kept : List Trees) (last : Trees) (end : List Trees) → Led before moves row kept last end [] → moves ≡ []
 led_none before [] row kept last end l = refl
@@ -210,8 +186,6 @@ pub codes_said : (st before : List Sentence) (rows : List Row) (numbers : List �
 codes_said st before rows numbers labels repeated whole last end a [] [] w tagged kept codes tagged' moves row z m l tags e =
     let none_left : moves ≡ [] = led_none before moves row kept last end (subst (λ x. Led before moves row kept last end x) m l) in
     subst (λ x. AllZip (Says labels) x moves) (sym e.0) (subst (λ x. AllZip (Says labels) [] x) (sym none_left) tt)
-codes_said st before rows numbers labels repeated whole last end a [] (x ∷ v) w tagged kept codes tagged' moves row z m l tags e = absurd z
-codes_said st before rows numbers labels repeated whole last end a (s ∷ steps) [] w tagged kept codes tagged' moves row z m l tags e = absurd z
 codes_said st before rows numbers labels repeated whole last end a (Make t ∷ steps) (x ∷ v) w tagged kept codes tagged' moves row z m l tags e =
     let o : (label : List ℕ) × (below : Trees) × IsTreeOf st rows t label below × (x ≡ makes (tree label below none)) = z.0 in
     let tr : Trees = tree o.0 o.1 none in
@@ -238,3 +212,5 @@ codes_said st before rows numbers labels repeated whole last end a (Repeat t ∷
     codes_said st before rows numbers labels repeated whole last end a steps v here.0 e.1 kept e.2 tagged' moves' row' z.1 here.1 l' tags' e.5 in
     repeated_one st before rows (length numbers) labels tagged e.1 kept last end here.0 w t o.0 o.1 i.0 e.0 e.2 codes moves row a.meant a.rows_once (sym (AllZip-long (IsNumberOfLabel st) numbers labels a.labelled)) o.2 a.end_once
     here.2 i.1 i.2 e.3 i.3 l tags later
+codes_said st before rows numbers labels repeated whole last end a steps v w tagged kept codes
+    tagged' moves row z m l tags e = absurd z

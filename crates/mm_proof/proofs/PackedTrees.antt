@@ -2,7 +2,7 @@
 use Rattle.std.proofs.Common.{◌≡◌, ℕ, List, [], ◌∷◌, ◌++◌, map, take, slice_get, Contains, Some, ◌↔◌, inl, inr, ⊎_elim, refl, sym, ap, subst, ◌∙◌}
 use Rattle.std.specs.List.{AllZip}
 use Rattle.std.proofs.lemmas.Option.{same_Some}
-use Rattle.mm_text.proofs.Lists.{zip_left, zip_right, zip_append}
+use Rattle.mm_text.proofs.Lists.{zip_left, zip_right, zip_append, cons_parts, get_from_take}
 use Rattle.mm_code.specs.declared.code.Code.{Code}
 use Rattle.mm_frame.specs.declared.number.LabelId.{LabelId}
 use Rattle.mm_frame.specs.Sentence.{Sentence}
@@ -26,7 +26,6 @@ use Rattle.mm_proof.specs.Packing.{ArePacked}
 use Rattle.mm_proof.specs.Mirror.Subtrees.{AreOnce, IsTreeOf}
 use Rattle.mm_proof.specs.Plain.{ids_in}
 use Rattle.mm_proof.specs.Mirror.CodeSharing.{IsStepOf, AreSharedSteps, labels_made, AreFirstNumbers, AreEncoded, AreStepsPacked}
-use Rattle.mm_text.proofs.Lists.{get_from_take}
 use Rattle.mm_proof.proofs.Expanded.{made_word}
 use Rattle.mm_proof.proofs.Numbered.{one_place}
 use Rattle.mm_proof.proofs.Members.{In, in_get, get_in, contains_in, in_contains, Once, once_places, places_once}
@@ -43,17 +42,11 @@ use Rattle.mm_proof.proofs.PackedCodes.{Whole, codes_said}
 own_labels : (st : List Sentence) (numbers : List ℕ) (hypotheses : List Sentence) (labels : List (List ℕ)) → map (slice_get (labelled_sentences st)) numbers ≡ map Some hypotheses
     → map (λ (h : Sentence). h.label) hypotheses ≡ map Some labels → AllZip (IsNumberOfLabel st) numbers labels
 own_labels st [] [] [] p q = tt
-own_labels st [] [] (l ∷ labels) p q = absurd (let e : [] ≡ Some l ∷ map Some labels = q in cc)
-own_labels st [] (h ∷ hypotheses) labels p q = absurd (let e : [] ≡ Some h ∷ map Some hypotheses = p in cc)
-own_labels st (n ∷ numbers) [] labels p q = absurd (let e : slice_get (labelled_sentences st) n ∷ map (slice_get (labelled_sentences st)) numbers ≡ [] = p in cc)
-own_labels st (n ∷ numbers) (h ∷ hypotheses) [] p q = absurd (let e : h.label ∷ map (λ (h : Sentence). h.label) hypotheses ≡ [] = q in cc)
 own_labels st (n ∷ numbers) (h ∷ hypotheses) (l ∷ labels) p q =
-    let a = heads (slice_get (labelled_sentences st) n) (Some h) (map (slice_get (labelled_sentences st)) numbers) (map Some hypotheses) p in
-    let b = heads h.label (Some l) (map (λ (h : Sentence). h.label) hypotheses) (map Some labels) q in
+    let a = cons_parts (slice_get (labelled_sentences st) n) (Some h) (map (slice_get (labelled_sentences st)) numbers) (map Some hypotheses) p in
+    let b = cons_parts h.label (Some l) (map (λ (h : Sentence). h.label) hypotheses) (map Some labels) q in
     (record { s = h; there = a.0; named = b.0 }, own_labels st numbers hypotheses labels a.1 b.1)
-  where
-    heads : {X : Type 0} (x y : X) (xs ys : List X) → x ∷ xs ≡ y ∷ ys → (x ≡ y) × (xs ≡ ys)
-    heads x y xs ys e = (cc, cc)
+own_labels st numbers hypotheses labels p q = absurd cc
 
 -- different labels have different numbers
 numbers_once : (st : List Sentence) (numbers : List ℕ) (labels : List (List ℕ)) → AllZip (IsNumberOfLabel st) numbers labels → Once labels → Once numbers
@@ -91,8 +84,6 @@ seen_label st seen names n label all z is has =
 named_uses : (st : List Sentence) (seen numbers listed : List ℕ) (names word : List (List ℕ)) → AllMeant st → AllZip (IsNumberOfLabel st) seen names → AllZip (IsNumberOfLabel st) numbers word
     → AreFirstNumbers seen numbers listed → Named st listed names word
 named_uses st seen [] listed names [] all z y u = record { labels = []; are = subst (λ l. AllZip (IsNumberOfLabel st) l []) (sym u) tt; first = refl }
-named_uses st seen [] listed names (l ∷ word) all z y u = absurd y
-named_uses st seen (n ∷ numbers) listed names [] all z y u = absurd y
 named_uses st seen (n ∷ numbers) listed names (l ∷ word) all z y (inl u) =
     let r = named_uses st seen numbers listed names word all z y.1 u.1 in
     record { labels = r.labels; are = r.are; first = inl (seen_number st seen names n l z y.0 u.0, r.first) }
@@ -103,24 +94,23 @@ named_uses st seen (n ∷ numbers) listed names (l ∷ word) all z y (inr u) =
       are = subst (λ x. AllZip (IsNumberOfLabel st) x (l ∷ r.labels)) (sym u.2) (y.0, r.are);
       first = inr (λ has. u.0 (seen_label st seen names n l all z y.0 has), r.labels, refl, r.first);
     }
+named_uses st seen numbers listed names word all z y u = absurd y
 
 -- the labels by which steps make trees
 step_labels : (st : List Sentence) (rows : List Row) (steps : List SharedStep) (v : List Visit) → AllZip (IsStepOf st rows) steps v → AllZip (IsNumberOfLabel st) (labels_made steps) (labels_in v)
 step_labels st rows [] [] z = tt
-step_labels st rows [] (x ∷ v) z = absurd z
-step_labels st rows (s ∷ steps) [] z = absurd z
 step_labels st rows (Make t ∷ steps) (x ∷ v) z =
     let o : (label : List ℕ) × (below : Trees) × IsTreeOf st rows t label below × (x ≡ makes (tree label below none)) = z.0 in
     subst (λ y. AllZip (IsNumberOfLabel st) (t.label ∷ labels_made steps) (labels_in (y ∷ v))) (sym o.3) (o.2.named, step_labels st rows steps v z.1)
 step_labels st rows (Repeat t ∷ steps) (x ∷ v) z =
     let o : (label : List ℕ) × (below : Trees) × IsTreeOf st rows t label below × (x ≡ repeats (tree label below none)) = z.0 in
     subst (λ y. AllZip (IsNumberOfLabel st) (labels_made steps) (labels_in (y ∷ v))) (sym o.3) (step_labels st rows steps v z.1)
+step_labels st rows steps v z = absurd z
 
 labels_of_ids : (st : List Sentence) (ids : List LabelId) (labels : List (List ℕ)) → AllZip (IsNumberOfLabel st) (ids_in ids) labels → AreLabelsOf st ids labels
 labels_of_ids st [] [] z = tt
-labels_of_ids st [] (l ∷ labels) z = absurd z
-labels_of_ids st (id ∷ ids) [] z = absurd z
 labels_of_ids st (id ∷ ids) (l ∷ labels) z = (z.0, labels_of_ids st ids labels z.1)
+labels_of_ids st ids labels z = absurd z
 
 -- ---- the trees that are repeated
 

@@ -42,12 +42,6 @@ adds_only old new x y (inr p) h = Contains-push_cases old x y (subst (λ l. Cont
 abbrev pub AreRepeated : List Subtree → List SharedStep → Type 0
 AreRepeated trees steps = (t : Subtree) → Contains trees t ↔ Contains steps (Repeat t)
 
-same_repeated : (t u : Subtree) → Repeat t ≡ Repeat u → t ≡ u
-same_repeated t u e = cc
-
-made_or_repeated : (t u : Subtree) → Make t ≡ Repeat u → ⊥
-made_or_repeated t u e = cc
-
 pub repeated_repeat : (trees trees' : List Subtree) (steps : List SharedStep) (t : Subtree) → Adds trees t trees' → AreRepeated trees steps → AreRepeated trees' (steps ++ Repeat t ∷ [])
 repeated_repeat trees trees' steps t adds are u = (
   λ h. ⊎_elim
@@ -56,14 +50,16 @@ repeated_repeat trees trees' steps t adds are u = (
       (adds_only trees trees' t u adds h),
   λ h. ⊎_elim
       (λ old. adds_old trees trees' t u adds ((are u).1 old))
-      (λ e. subst (λ x. Contains trees' x) (same_repeated t u e) (adds_new trees trees' t adds))
+      (λ e. let same : t ≡ u = (let f : Repeat t ≡ Repeat u = e in cc) in
+      subst (λ x. Contains trees' x) same (adds_new trees trees' t adds))
       (Contains-push_cases steps (Repeat t) (Repeat u) h),
 )
 
 pub repeated_make : (trees : List Subtree) (steps : List SharedStep) (t : Subtree) → AreRepeated trees steps → AreRepeated trees (steps ++ Make t ∷ [])
 repeated_make trees steps t are u = (
   λ h. Contains-append_left steps (Make t ∷ []) (Repeat u) ((are u).0 h),
-  λ h. ⊎_elim (λ old. (are u).1 old) (λ e. absurd (made_or_repeated t u e)) (Contains-push_cases steps (Make t) (Repeat u) h),
+  λ h. ⊎_elim (λ old. (are u).1 old) (λ e. let f : Make t ≡ Repeat u = e in absurd cc)
+      (Contains-push_cases steps (Make t) (Repeat u) h),
 )
 
 -- ---- first uses
@@ -169,14 +165,11 @@ number_known seen (m ∷ numbers) listed n (inr u) (inr h) = moved (number_known
     moved (inr k) = inr (subst (λ l. In l n) (sym u.2) (inr k))
 
 -- the label of a tree that is made is among those
-made_label : (t u : Subtree) → Make t ≡ Make u → t.label ≡ u.label
-made_label t u e = cc
-
 made_labelled : (steps : List SharedStep) (t : Subtree) → In steps (Make t) → In (labels_made steps) t.label
 made_labelled [] t h = absurd h
-made_labelled (Make u ∷ steps) t (inl e) = inl (made_label u t e)
+made_labelled (Make u ∷ steps) t (inl e) = inl (let f : Make u ≡ Make t = e in cc)
 made_labelled (Make u ∷ steps) t (inr h) = inr (made_labelled steps t h)
-made_labelled (Repeat u ∷ steps) t (inl e) = absurd (made_or_repeated t u (sym e))
+made_labelled (Repeat u ∷ steps) t (inl e) = absurd (let f : Repeat u ≡ Make t = e in cc)
 made_labelled (Repeat u ∷ steps) t (inr h) = made_labelled steps t h
 
 -- so it was known or is listed
@@ -221,23 +214,23 @@ encoded_next labels repeated steps i d codes codes' kept kept' less few are is =
 abbrev pub AreTaggedSo : (repeated kept : List Subtree) → List SharedStep → Type 0
 AreTaggedSo repeated kept steps = (t : Subtree) → Contains steps (Make t) → Contains repeated t → Contains kept t
 
-same_made : (t u : Subtree) → Make t ≡ Make u → t ≡ u
-same_made t u e = cc
-
 -- one step more
 tagged_one : (labels : List ℕ) (repeated kept : List Subtree) (steps : List SharedStep) (one : SharedStep) (codes : List Code) (kept' : List Subtree)
     → AreTaggedSo repeated kept steps → IsEncoded labels repeated kept one codes kept' → AreTaggedSo repeated kept' (steps ++ one ∷ [])
 tagged_one labels repeated kept steps (Repeat u) codes kept' are is t h among =
     subst (λ k. Contains k t) (sym is.3)
-    (⊎_elim (λ old. are t old among) (λ e. absurd (made_or_repeated t u (sym e))) (Contains-push_cases steps (Repeat u) (Make t) h))
+    (⊎_elim (λ old. are t old among) (λ e. let f : Repeat u ≡ Make t = e in absurd cc)
+    (Contains-push_cases steps (Repeat u) (Make t) h))
 tagged_one labels repeated kept steps (Make u) codes kept' are is t h among = ⊎_elim
     (λ p. ⊎_elim
     (λ old. adds_old kept kept' u t p.2 (are t old among))
-    (λ e. subst (λ x. Contains kept' x) (same_made u t e) (adds_new kept kept' u p.2))
+    (λ e. let same : u ≡ t = (let f : Make u ≡ Make t = e in cc) in
+    subst (λ x. Contains kept' x) same (adds_new kept kept' u p.2))
     (Contains-push_cases steps (Make u) (Make t) h))
     (λ p. ⊎_elim
     (λ old. subst (λ k. Contains k t) (sym p.2) (are t old among))
-    (λ e. absurd (p.0 (subst (λ x. Contains repeated x) (sym (same_made u t e)) among)))
+    (λ e. let same : t ≡ u = (let f : Make u ≡ Make t = e in cc) in
+    absurd (p.0 (subst (λ x. Contains repeated x) same among)))
     (Contains-push_cases steps (Make u) (Make t) h))
     is.2
 

@@ -17,7 +17,8 @@ use Rattle.mm_proof.specs.SharingLaws.{OnePacked, ToldByPacked}
 use Rattle.mm_proof.proofs.Meaning.{one_label}
 use Rattle.mm_proof.proofs.Derived.{zip_once}
 use Rattle.mm_proof.proofs.Making.{makes_once}
-use Rattle.mm_proof.proofs.SaidMoves.{says_once, same_somes, labelled_at}
+use Rattle.mm_frame.proofs.Numbered.{same_somes}
+use Rattle.mm_proof.proofs.SaidMoves.{says_once, labelled_at}
 use Rattle.mm_proof.proofs.Replacements.{those_order}
 use Rattle.mm_proof.proofs.Members.{In, in_contains, in_apart, Once, once_places, places_once}
 use Rattle.mm_proof.proofs.SharedOnce.{shared_once}
@@ -94,59 +95,39 @@ one_code : (labels : List (List ℕ)) (move : Move (List ℕ)) (c d : Code) → 
     → Says labels c move → Says labels d move → c ≡ d
 one_code labels move Tag Tag once p q = refl
 one_code labels move Tag (Number n) once p q = absurd (⊎_elim
-    (λ a. mark_or_name a.0 (sym p ∙ a.2))
-    (λ a. mark_or_again a.0 (sym p ∙ a.2)) q.2)
-  where
-    mark_or_name : (label : List ℕ) → mark ≡ name label → ⊥
-    mark_or_name label e = cc
-
-    mark_or_again : (tag : ℕ) → ◌≡◌ {A = Move (List ℕ)} mark (again tag) → ⊥
-    mark_or_again tag e = cc
+    (λ a. let f : mark ≡ name a.0 = sym p ∙ a.2 in cc)
+    (λ a. let f : ◌≡◌ {A = Move (List ℕ)} mark (again a.0) = sym p ∙ a.2 in cc) q.2)
 one_code labels move (Number n) Tag once p q = absurd (⊎_elim
-    (λ a. mark_or_name a.0 (sym q ∙ a.2))
-    (λ a. mark_or_again a.0 (sym q ∙ a.2)) p.2)
-  where
-    mark_or_name : (label : List ℕ) → mark ≡ name label → ⊥
-    mark_or_name label e = cc
-
-    mark_or_again : (tag : ℕ) → ◌≡◌ {A = Move (List ℕ)} mark (again tag) → ⊥
-    mark_or_again tag e = cc
+    (λ a. let f : mark ≡ name a.0 = sym q ∙ a.2 in cc)
+    (λ a. let f : ◌≡◌ {A = Move (List ℕ)} mark (again a.0) = sym q ∙ a.2 in cc) p.2)
 one_code labels move (Number n) (Number k) once p q = ap Number
     (omega (arith, p.1, q.1, place p.2 q.2))
   where
-    same_name : (l m : List ℕ) → name l ≡ name m → l ≡ m
-    same_name l m e = cc
-
-    same_again : (a b : ℕ) → ◌≡◌ {A = Move (List ℕ)} (again a) (again b) → a ≡ b
-    same_again a b e = cc
-
-    name_or_again : (l : List ℕ) (b : ℕ) → name l ≡ again b → ⊥
-    name_or_again l b e = cc
-
     place : ((label : List ℕ) × (slice_get labels p.0 ≡ Some label) × (move ≡ name label))
         ⊎ ((tag : ℕ) × (p.0 ≡ length labels + tag) × (move ≡ again tag))
         → ((label : List ℕ) × (slice_get labels q.0 ≡ Some label) × (move ≡ name label))
         ⊎ ((tag : ℕ) × (q.0 ≡ length labels + tag) × (move ≡ again tag))
         → p.0 ≡ q.0
     place (inl a) (inl b) =
-        let same : a.0 ≡ b.0 = same_name a.0 b.0 (sym a.2 ∙ b.2) in
+        let same : a.0 ≡ b.0 = (let f : name a.0 ≡ name b.0 = sym a.2 ∙ b.2 in cc) in
         once_places labels p.0 q.0 b.0 once (a.1 ∙ ap Some same) b.1
-    place (inl a) (inr b) = absurd (name_or_again a.0 b.0 (sym a.2 ∙ b.2))
-    place (inr a) (inl b) = absurd (name_or_again b.0 a.0 (sym b.2 ∙ a.2))
-    place (inr a) (inr b) = let same : a.0 ≡ b.0 = same_again a.0 b.0 (sym a.2 ∙ b.2) in a.1
-        ∙ ap (λ t. length labels + t) same ∙ sym b.1
+    place (inl a) (inr b) = absurd (let f : name a.0 ≡ again b.0 = sym a.2 ∙ b.2 in cc)
+    place (inr a) (inl b) = absurd (let f : name b.0 ≡ again a.0 = sym b.2 ∙ a.2 in cc)
+    place (inr a) (inr b) =
+        let f : ◌≡◌ {A = Move (List ℕ)} (again a.0) (again b.0) = sym a.2 ∙ b.2 in
+        let same : a.0 ≡ b.0 = cc in
+        a.1 ∙ ap (λ t. length labels + t) same ∙ sym b.1
 
 pub codes_once : (labels : List (List ℕ)) (codes codes' : List Code) (moves : List (Move (List ℕ)))
     → Once labels → AllZip (Says labels) codes moves → AllZip (Says labels) codes' moves
     → codes ≡ codes'
 codes_once labels [] [] [] once p q = refl
-codes_once labels [] (d ∷ codes') [] once p q = absurd q
 codes_once labels (c ∷ codes) codes' [] once p q = absurd p
 codes_once labels [] codes' (move ∷ moves) once p q = absurd p
-codes_once labels (c ∷ codes) [] (move ∷ moves) once p q = absurd q
 codes_once labels (c ∷ codes) (d ∷ codes') (move ∷ moves) once p q =
     ap (λ x. x ∷ codes) (one_code labels move c d once p.0 q.0)
     ∙ ap (λ x. d ∷ x) (codes_once labels codes codes' moves once p.1 q.1)
+codes_once labels codes codes' moves once p q = absurd q
 
 -- ---- the laws
 

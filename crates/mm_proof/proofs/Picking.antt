@@ -32,8 +32,7 @@ same_number a b e = cc
 
 no_name : (m : NumberedMove) → ((id : LabelId) → m ≡ code.Name id → ⊥) → (n : ℕ) → move_in m ≡ name n → ⊥
 no_name (code.Name id) not n e = not id refl
-no_name (code.Again tag) not n e = absurd cc
-no_name code.Mark not n e = absurd cc
+no_name m not n e = absurd cc
 
 -- ---- one move more
 

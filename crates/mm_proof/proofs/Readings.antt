@@ -2,7 +2,7 @@
 use Rattle.std.proofs.Common.{◌≡◌, ℕ, ◌+◌, ◌<◌, List, [], ◌∷◌, length, map, take, slice_get, Some, ◌⊎◌, inl, inr, ⊎_elim, refl, sym, ap, subst, ◌∙◌, arith}
 use Rattle.std.specs.List.{AllZip, AllByRecursion}
 use Rattle.std.proofs.lemmas.Slice.Zip.{AllZip-long}
-use Rattle.mm_text.proofs.Lists.{zip_left}
+use Rattle.mm_text.proofs.Lists.{zip_left, get_take}
 use Rattle.mm_code.specs.declared.code.Code.{Code}
 use Rattle.mm_code.specs.declared.code.Code.TheVariants.{Number, Tag}
 use Rattle.mm_frame.specs.Sentence.{Sentence, IsLabelled}
@@ -16,7 +16,6 @@ use Rattle.mm_proof.specs.Tokens.{IsNormal, Says}
 use Rattle.mm_proof.specs.Proof.{proof_rank, BreaksWhole, IsWhole}
 use Rattle.mm_proof.specs.Steps.{IsNumberedMove, AreNumberedMoves, IsUsable, IsUsableMove}
 use Rattle.mm_proof.specs.Mirror.CodeSteps.{AreFor, MayBeUsed, NumberSays, IsReading}
-use Rattle.mm_text.proofs.Lists.{get_take}
 use Rattle.mm_proof.proofs.TokenFacts.{labels_pass, normal_labels}
 
 -- ---- labels and their numbers
@@ -41,9 +40,8 @@ used_stands statements place id label m =
 pub for_stands : (statements : List Sentence) (place : ℕ) (ids : List ℕ) (labels : List (List ℕ)) → AreFor statements place ids labels
     → AllZip (Stands statements place) ids labels
 for_stands statements place [] [] all = all
-for_stands statements place [] (l ∷ labels) all = absurd all
-for_stands statements place (id ∷ ids) [] all = absurd all
 for_stands statements place (id ∷ ids) (l ∷ labels) all = (used_stands statements place id l all.0, for_stands statements place ids labels all.1)
+for_stands statements place ids labels all = absurd all
 
 -- ---- moves by numbers and by names
 
@@ -81,22 +79,20 @@ number_named statements place ids labels all n codes s steps here rest = go here
 pub codes_named : (statements : List Sentence) (place : ℕ) (ids : List ℕ) (labels : List (List ℕ)) → AllZip (Stands statements place) ids labels
     → (codes : List Code) (steps : List (Move ℕ)) → AllZip (NumberSays ids) codes steps → Named statements place (Says labels) codes steps
 codes_named statements place ids labels all [] [] each = record { moves = []; each = tt; numbered = tt; usable = tt }
-codes_named statements place ids labels all [] (s ∷ steps) each = absurd each
-codes_named statements place ids labels all (c ∷ codes) [] each = absurd each
 codes_named statements place ids labels all (Tag ∷ codes) (s ∷ steps) each =
     one_named statements place (Says labels) Tag codes s steps mark refl (subst (λ m. IsNumberedMove statements m mark) (sym each.0) refl) tt
     (codes_named statements place ids labels all codes steps each.1)
 codes_named statements place ids labels all (Number n ∷ codes) (s ∷ steps) each =
     number_named statements place ids labels all n codes s steps each.0 (codes_named statements place ids labels all codes steps each.1)
+codes_named statements place ids labels all codes steps each = absurd each
 
 names_named : (statements : List Sentence) (place : ℕ) (ids : List ℕ) (labels : List (List ℕ)) → AllZip (Stands statements place) ids labels
     → AreNumberedMoves statements (map name ids) (map name labels) × AllByRecursion (IsUsableMove (take place statements)) (map name labels)
 names_named statements place [] [] all = (tt, tt)
-names_named statements place [] (l ∷ labels) all = absurd all
-names_named statements place (id ∷ ids) [] all = absurd all
 names_named statements place (id ∷ ids) (l ∷ labels) all =
     let rest = names_named statements place ids labels all.1 in
     ((named_label statements place id l all.0, rest.0), (all.0.usable, rest.1))
+names_named statements place ids labels all = absurd all
 
 -- ---- a proof that breaks no rule over the whole of it
 

@@ -36,8 +36,6 @@ IsTypedOnce hypotheses = (i j : ℕ) (f g : Sentence) (code code' x : List ℕ) 
 
 replaced_found : (hypotheses : List Sentence) (entries : List (List (List ℕ))) (x : List ℕ) → IsSome (replaced_by hypotheses entries x)
     → (i : ℕ) × (f : Sentence) × (code : List ℕ) × (slice_get hypotheses i ≡ Some f) × Types code x f
-replaced_found [] entries x some = absurd cc
-replaced_found (h ∷ hypotheses) [] x some = absurd cc
 replaced_found (h ∷ hypotheses) (entry ∷ entries) x some = go (types_dec x h) some (replaced_found hypotheses entries x)
   where
     go : (d : Dec ((code : List ℕ) × Types code x h)) → IsSome (first_of d (Some (drop 1 entry)) (replaced_by hypotheses entries x))
@@ -45,6 +43,7 @@ replaced_found (h ∷ hypotheses) (entry ∷ entries) x some = go (types_dec x h
         → (i : ℕ) × (f : Sentence) × (code : List ℕ) × (slice_get (h ∷ hypotheses) i ≡ Some f) × Types code x f
     go (yes t) s later = (0, h, t.0, refl, t.1)
     go (no n) s later = let l = later s in (suc l.0, l.1, l.2, l.3, l.4)
+replaced_found hypotheses entries x some = absurd cc
 
 typed_once_later : (h : Sentence) (hypotheses : List Sentence) → IsTypedOnce (h ∷ hypotheses) → IsTypedOnce hypotheses
 typed_once_later h hypotheses once i j f g code code' x p q t u = let e : suc i ≡ suc j = once (suc i) (suc j) f g code code' x p q t u in omega arith

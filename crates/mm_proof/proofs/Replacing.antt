@@ -42,21 +42,18 @@ variable_not st (Some m) h n is none = go (eqb m n) refl
 -- what replaces a symbol
 pub value_named : OneNumber → (st : List Sentence) (vs : List (Option ℕ)) (hs : List Sentence) (es : List (List ℕ)) (n : ℕ) → AreVariablesOf st vs hs → n < length (symbols_of st)
     → replaced_by hs (all_names_at st es) (name_at st n) ≡ option_map (names_at st) (value_of vs es n)
-value_named one st [] [] es n are below = refl
 value_named one st [] (h ∷ hs) es n are below = absurd are
 value_named one st (v ∷ vs) [] es n are below = absurd are
-value_named one st (v ∷ vs) (h ∷ hs) [] n are below = refl
 value_named one st (v ∷ vs) (h ∷ hs) (e ∷ es) n are below = go (types_dec (name_at st n) h) (value_named one st vs hs es n are.1 below)
   where
     go : (d : Dec ((code : List ℕ) × Types code (name_at st n) h)) → replaced_by hs (all_names_at st es) (name_at st n) ≡ option_map (names_at st) (value_of vs es n)
         → first_of d (Some (drop 1 (names_at st e))) (replaced_by hs (all_names_at st es) (name_at st n)) ≡ option_map (names_at st) (cond (is_of n v) (Some (drop 1 e)) (value_of vs es n))
     go (yes t) later = rw (variable_is one st v h n are.0 below t) (ap Some (drop-map (name_at st) 1 e))
     go (no none) later = rw (variable_not st v h n are.0 none) later
+value_named one st vs hs es n are below = refl
 
 -- what replaces a symbol has symbols
 value_below : (st : List Sentence) (vs : List (Option ℕ)) (es : List (List ℕ)) (n : ℕ) (v : List ℕ) → AllByRecursion (AreBelow st) es → value_of vs es n ≡ Some v → AreBelow st v
-value_below st [] es n v all is = absurd cc
-value_below st (x ∷ vs) [] n v all is = absurd cc
 value_below st (x ∷ vs) (e ∷ es) n v all is = go (is_of n x) is (value_below st vs es n v all.1)
   where
     tail : (l : List ℕ) → AreBelow st l → AreBelow st (drop 1 l)
@@ -66,6 +63,7 @@ value_below st (x ∷ vs) (e ∷ es) n v all is = go (is_of n x) is (value_below
     go : (b : Bool) → cond b (Some (drop 1 e)) (value_of vs es n) ≡ Some v → (value_of vs es n ≡ Some v → AreBelow st v) → AreBelow st v
     go true s later = subst (AreBelow st) (same_Some (drop 1 e) v s) (tail e all.0)
     go false s later = later s
+value_below st vs es n v all is = absurd cc
 
 below_append : (st : List Sentence) (a b : List ℕ) → AreBelow st a → AreBelow st b → AreBelow st (a ++ b)
 below_append st [] b x y = y

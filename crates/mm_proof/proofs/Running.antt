@@ -44,11 +44,10 @@ same_kind st mark move n = sym (ap (λ (m : Move (List ℕ)). is_step m) n)
 -- numbered moves have as many steps as those by names
 pub same_steps : (st : List Sentence) (xs : List (Move ℕ)) (moves : List (Move (List ℕ))) → AreNumberedMoves st xs moves → steps_in xs ≡ steps_in moves
 same_steps st [] [] z = refl
-same_steps st [] (m ∷ moves) z = absurd z
-same_steps st (x ∷ xs) [] z = absurd z
 same_steps st (x ∷ xs) (m ∷ moves) z =
     steps_in-append (x ∷ []) xs ∙ ap (λ b. 0 + cond b 1 0 + steps_in xs) (same_kind st x m z.0)
     ∙ ap (λ n. steps_in (m ∷ []) + n) (same_steps st xs moves z.1) ∙ sym (steps_in-append (m ∷ []) moves)
+same_steps st xs moves z = absurd z
 
 -- ---- one move more
 
@@ -168,10 +167,8 @@ mark_first limit st place stack kept rule is empty move n = rw (is, n, empty) (f
 -- a fault that is handed on is the one of the call
 pub refused : {X : Type 0} (r : Result X ProofFault) (e f : ProofFault) → IsErrAnd r (λ x. x ≡ e) → r ≡ Err f → e ≡ f
 refused {X} r e f from is =
-    let p = err_from_is_err_and r from in sym p.2 ∙ same_err p.0 f (sym p.1 ∙ is)
-  where
-    same_err : (a b : ProofFault) → ◌≡◌ {A = Result X ProofFault} (Err a) (Err b) → a ≡ b
-    same_err a b e = cc
+    let p = err_from_is_err_and r from in
+    let same : ◌≡◌ {A = Result X ProofFault} (Err p.0) (Err f) = sym p.1 ∙ is in sym p.2 ∙ cc
 
 -- ---- the loop
 

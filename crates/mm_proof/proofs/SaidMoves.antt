@@ -20,6 +20,7 @@ use Rattle.mm_frame.proofs.Decided.{dec_both, dec_as, dec_some, kind_dec, symbol
 use Rattle.mm_frame.proofs.Decided.{mandatory_at_dec, sentence_dec, label_dec, dec_not, dec_or}
 use Rattle.mm_frame.proofs.Decided.{active_dec}
 use Rattle.mm_frame.proofs.Those.{those_unique}
+use Rattle.mm_frame.proofs.Numbered.{same_somes}
 use Rattle.mm_proof.specs.declared.fault.ProofRule.{ProofRule}
 use Rattle.mm_proof.specs.declared.fault.ProofRule.TheVariants.{P1, P2, P3, P4, P5}
 use Rattle.mm_proof.specs.Moves.{Move, name, again, mark}
@@ -166,17 +167,6 @@ says_once labels (Number number) a b p q =
     go e (inr x) (inl y) = absurd (omega (arith, slice_get_within labels q.0 y.0 y.1, x.1))
     go e (inr x) (inr y) = x.2 ∙ ap again (omega (arith, x.1, y.1)) ∙ sym y.2
 
-pub same_somes : (xs ys : List (List ℕ)) → map Some xs ≡ map Some ys → xs ≡ ys
-same_somes [] [] e = refl
-same_somes [] (y ∷ ys) e = absurd (let p : [] ≡ Some y ∷ map Some ys = e in cc)
-same_somes (x ∷ xs) [] e = absurd (let p : Some x ∷ map Some xs ≡ [] = e in cc)
-same_somes (x ∷ xs) (y ∷ ys) e =
-    let h = two (Some x) (Some y) (map Some xs) (map Some ys) e in
-    ap (λ z. z ∷ xs) (same_Some x y h.0) ∙ ap (λ l. y ∷ l) (same_somes xs ys h.1)
-  where
-    two : (a b : Option (List ℕ)) (c d : List (Option (List ℕ))) → a ∷ c ≡ b ∷ d → (a ≡ b) × (c ≡ d)
-    two a b c d e = (cc, cc)
-
 pub moves_once : (before : List Sentence) (s : Sentence) (tokens : List (List ℕ)) (a b : List (Move (List ℕ))) → SayMoves before s tokens a → SayMoves before s tokens b → a ≡ b
 moves_once before s tokens a b (inl p) (inl q) = p.1 ∙ sym q.1
 moves_once before s tokens a b (inl p) (inr q) = absurd (normal_or_compressed tokens q.listed q.letters p.0 q.parts)
@@ -308,8 +298,6 @@ usable_names before (label ∷ labels) each =
 usable_codes : (before : List Sentence) (labels : List (List ℕ)) (codes : List Code) (moves : List (Move (List ℕ))) → ((i : ℕ) (label : List ℕ) → slice_get labels i ≡ Some label → IsUsable before label)
     → AllZip (Says labels) codes moves → AllByRecursion (IsUsableMove before) moves
 usable_codes before labels [] [] each z = tt
-usable_codes before labels [] (m ∷ moves) each z = absurd z
-usable_codes before labels (c ∷ codes) [] each z = absurd z
 usable_codes before labels (c ∷ codes) (m ∷ moves) each z = (one c m z.0, usable_codes before labels codes moves each z.1)
   where
     one : (c : Code) (m : Move (List ℕ)) → Says labels c m → IsUsableMove before m
@@ -317,6 +305,7 @@ usable_codes before labels (c ∷ codes) (m ∷ moves) each z = (one c m z.0, us
     one (Number number) m says = ⊎_elim
         (λ l. subst (IsUsableMove before) (sym l.2) (each says.0 l.0 l.1))
         (λ t. subst (IsUsableMove before) (sym t.2) tt) says.2
+usable_codes before labels codes moves each z = absurd z
 
 pub contained : (xs : List (List ℕ)) (i : ℕ) (x : List ℕ) → slice_get xs i ≡ Some x → Contains xs x
 contained xs i x e = (i, slice_get_within xs i x e, get_or_from_slice_get xs i x x e)

@@ -138,13 +138,12 @@ entry_symbols st before (e ∷ es) (suc i) all = entry_symbols st before es i al
 
 -- what replaces a symbol has symbols
 pub value_symbols : (st before : List Sentence) (vs : List (Option ℕ)) (es : List (List ℕ)) (n : ℕ) (v : List ℕ) → AreStackEntries st before es → value_of vs es n ≡ Some v → AreDeclaredSymbols st before v
-value_symbols st before [] es n v all is = absurd cc
-value_symbols st before (x ∷ vs) [] n v all is = absurd cc
 value_symbols st before (x ∷ vs) (e ∷ es) n v all is = go (is_of n x) is (value_symbols st before vs es n v all.1)
   where
     go : (b : Bool) → cond b (Some (drop 1 e)) (value_of vs es n) ≡ Some v → (value_of vs es n ≡ Some v → AreDeclaredSymbols st before v) → AreDeclaredSymbols st before v
     go true s later = subst (AreDeclaredSymbols st before) (same_Some (drop 1 e) v s) (rest_symbols st before e all.0)
     go false s later = later s
+value_symbols st before vs es n v all is = absurd cc
 
 -- the one pair of values is so or not
 pub values_told : (σ : ℕ → Option (List ℕ)) (x y : ℕ) (e f : List ℕ) (P : List ℕ → List ℕ → Type 0) (r : Bool) → σ x ≡ Some e → σ y ≡ Some f

@@ -13,7 +13,7 @@ use Rattle.mm_proof.specs.Sharing.{MakeOnce, KeepMade, ShareAll}
 use Rattle.mm_proof.proofs.Members.{In, in_get, get_in, contains_in, in_apart, Once, once_places}
 use Rattle.mm_proof.proofs.Covers.{strip, Covers, covers_made, Careful, one_cover}
 use Rattle.mm_proof.proofs.Tidy.{Tidy, tidy_careful, Marked, marked_once, tidy_marked, trees_kept}
-use Rattle.mm_proof.proofs.Tidy.{same_repeated, same_kept, visit_kept, tidy_once, bare_front}
+use Rattle.mm_proof.proofs.Tidy.{visit_kept, tidy_once, bare_front}
 
 -- ---- what is kept
 
@@ -60,23 +60,15 @@ again_visit : (before : List Sentence) (moves : List (Move (List ℕ))) (row : T
 again_visit before [] row kept row' kept' m tag h = absurd h
 again_visit before (move ∷ moves) row kept row' kept' m tag (inr h) =
     let g = again_visit before moves m.0 m.1 row' kept' m.3 tag h in (g.0, g.1, inr g.2)
-again_visit before (name label ∷ moves) row kept row' kept' m tag (inl e) = absurd
-    (other label tag e)
-  where
-    other : (label : List ℕ) (tag : ℕ) → name label ≡ again tag → ⊥
-    other label tag e = cc
+again_visit before (name label ∷ moves) row kept row' kept' m tag (inl e) =
+    absurd (let f : name label ≡ again tag = e in cc)
 again_visit before (again k ∷ moves) row kept row' kept' m tag (inl e) =
-    let same : k ≡ tag = tags k tag e in
+    let same : k ≡ tag = (let f : ◌≡◌ {A = Move (List ℕ)} (again k) (again tag) = e in cc) in
     let there : slice_get m.1 tag ≡ Some m.2.0 = subst (λ l. slice_get l tag ≡ Some m.2.0)
     (sym m.2.3) (subst (λ x. slice_get kept x ≡ Some m.2.0) same m.2.1) in
     (m.2.0, kept_stays before moves m.0 m.1 row' kept' m.3 tag m.2.0 there, inl refl)
-  where
-    tags : (k tag : ℕ) → ◌≡◌ {A = Move (List ℕ)} (again k) (again tag) → k ≡ tag
-    tags k tag e = cc
-again_visit before (mark ∷ moves) row kept row' kept' m tag (inl e) = absurd (other tag e)
-  where
-    other : (tag : ℕ) → ◌≡◌ {A = Move (List ℕ)} mark (again tag) → ⊥
-    other tag e = cc
+again_visit before (mark ∷ moves) row kept row' kept' m tag (inl e) =
+    absurd (let f : ◌≡◌ {A = Move (List ℕ)} mark (again tag) = e in cc)
 
 -- ---- what is said by places, said one visit after the other
 
@@ -153,9 +145,6 @@ tidy_of before (mark ∷ moves) row kept row' kept' m done are once marked =
 
 -- ---- the moves are told by what they do
 
-same_label : (l m : List ℕ) (a b : Trees) → makes (tree l a none) ≡ makes (tree m b none) → l ≡ m
-same_label l m a b e = cc
-
 pub moves_once : (before : List Sentence) (moves moves' : List (Move (List ℕ))) (row row₂ : Trees)
     (kept kept₂ : List Trees) (row' row₂' : Trees) (kept' kept₂' : List Trees)
     (m : Makes before moves row kept row' kept') (n : Makes before moves' row₂ kept₂ row₂' kept₂')
@@ -163,20 +152,18 @@ pub moves_once : (before : List Sentence) (moves moves' : List (Move (List ℕ))
     → visits before moves row kept row' kept' m ≡ visits before moves' row₂ kept₂ row₂' kept₂' n
     → moves ≡ moves'
 moves_once before [] [] row row₂ kept kept₂ row' row₂' kept' kept₂' m n k l once same = refl
-moves_once before [] (b ∷ moves') row row₂ kept kept₂ row' row₂' kept' kept₂' m n k l once
-    same = absurd cc
-moves_once before (a ∷ moves) [] row row₂ kept kept₂ row' row₂' kept' kept₂' m n k l once
-    same = absurd cc
 moves_once before (name x ∷ moves)
     (name y ∷ moves') row row₂ kept kept₂ row' row₂' kept' kept₂' m n k l once same =
     let h = cons_parts _ _ _ _ same in
-    ap (λ z. name z ∷ moves) (same_label x y m.2.1 n.2.1 h.0)
+    let label : x ≡ y =
+    (let f : makes (tree x m.2.1 none) ≡ makes (tree y n.2.1 none) = h.0 in cc) in
+    ap (λ z. name z ∷ moves) label
     ∙ ap (λ z. name y ∷ z) (moves_once before moves moves' m.0 n.0 m.1 n.1 row' row₂' kept' kept₂'
     m.3 n.3 (m.2.5 ∙ k ∙ sym n.2.5) l once h.1)
 moves_once before (again x ∷ moves)
     (again y ∷ moves') row row₂ kept kept₂ row' row₂' kept' kept₂' m n k l once same =
     let h = cons_parts _ _ _ _ same in
-    let u : m.2.0 ≡ n.2.0 = same_repeated m.2.0 n.2.0 h.0 in
+    let u : m.2.0 ≡ n.2.0 = (let f : repeats m.2.0 ≡ repeats n.2.0 = h.0 in cc) in
     let at_x : slice_get kept₂' x ≡ Some n.2.0 =
     subst (λ q. slice_get q x ≡ Some n.2.0) l
     (kept_stays before moves m.0 m.1 row' kept' m.3 x n.2.0
@@ -191,29 +178,14 @@ moves_once before (again x ∷ moves)
 moves_once before (mark ∷ moves)
     (mark ∷ moves') row row₂ kept kept₂ row' row₂' kept' kept₂' m n k l once same =
     let h = cons_parts _ _ _ _ same in
-    let t : tree m.2.1 m.2.2 none ≡ tree n.2.1 n.2.2 none = same_kept _ _ h.0 in
+    let t : tree m.2.1 m.2.2 none ≡ tree n.2.1 n.2.2 none =
+    (let f : keeps (tree m.2.1 m.2.2 none) ≡ keeps (tree n.2.1 n.2.2 none) = h.0 in cc) in
     ap (λ z. mark ∷ z)
     (moves_once before moves moves' m.0 n.0 m.1 n.1 row' row₂' kept' kept₂' m.3 n.3
     (m.2.5 ∙ ap (λ q. q ++ tree m.2.1 m.2.2 none ∷ []) k ∙ ap (λ z. kept₂ ++ z ∷ []) t
     ∙ sym n.2.5) l once h.1)
-moves_once before (name x ∷ moves)
-    (again y ∷ moves') row row₂ kept kept₂ row' row₂' kept' kept₂' m n k l once same = let h = cons_parts
-    _ _ _ _ same in absurd (let e = h.0 in cc)
-moves_once before (name x ∷ moves)
-    (mark ∷ moves') row row₂ kept kept₂ row' row₂' kept' kept₂' m n k l once same = let h = cons_parts _
-    _ _ _ same in absurd (let e = h.0 in cc)
-moves_once before (again x ∷ moves)
-    (name y ∷ moves') row row₂ kept kept₂ row' row₂' kept' kept₂' m n k l once same = let h = cons_parts
-    _ _ _ _ same in absurd (let e = h.0 in cc)
-moves_once before (again x ∷ moves)
-    (mark ∷ moves') row row₂ kept kept₂ row' row₂' kept' kept₂' m n k l once same = let h = cons_parts _
-    _ _ _ same in absurd (let e = h.0 in cc)
-moves_once before (mark ∷ moves)
-    (name y ∷ moves') row row₂ kept kept₂ row' row₂' kept' kept₂' m n k l once same = let h = cons_parts
-    _ _ _ _ same in absurd (let e = h.0 in cc)
-moves_once before (mark ∷ moves)
-    (again y ∷ moves') row row₂ kept kept₂ row' row₂' kept' kept₂' m n k l once same = let h = cons_parts
-    _ _ _ _ same in absurd (let e = h.0 in cc)
+moves_once before moves moves' row row₂ kept kept₂ row' row₂' kept' kept₂' m n k l once same =
+    absurd cc
 
 -- ---- moves that share all
 

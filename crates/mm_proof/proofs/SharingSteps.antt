@@ -45,9 +45,8 @@ step_later st old new (step.Repeat t) v keep h = (h.0, h.1, tree_later st old ne
 
 all_later : (st : List Sentence) (old new : List Row) (xs : List SharedStep) (vs : List Visit) → KeepNumbers old new → AllZip (IsStepOf st old) xs vs → AllZip (IsStepOf st new) xs vs
 all_later st old new [] [] keep z = tt
-all_later st old new [] (v ∷ vs) keep z = absurd z
-all_later st old new (x ∷ xs) [] keep z = absurd z
 all_later st old new (x ∷ xs) (v ∷ vs) keep z = (step_later st old new x v keep z.0, all_later st old new xs vs keep z.1)
+all_later st old new xs vs keep z = absurd z
 
 pub steps_later : (st : List Sentence) (old new : List Row) (steps : List SharedStep) (keys : List Subtree) (row : Trees) (kept : List Trees) → KeepNumbers old new → SharingSteps st old steps keys row kept
     → SharingSteps st new steps keys row kept
@@ -99,9 +98,6 @@ steps_make st rows t count steps steps' keys keys' rest below kept label all onc
       only = only;
     }
 
-    same_tree : (l m : List ℕ) (b c : Trees) → tree l b none ≡ tree m c none → (l ≡ m) × (b ≡ c)
-    same_tree l m b c e = (cc, cc)
-
     go : Shares t count steps keys steps' keys' → SharingSteps st rows steps' keys' (beside rest tr) kept
     go (inl leaf) =
         let bare : below ≡ none = leaf_below st rows t.below below is.stands leaf.0 in
@@ -134,7 +130,8 @@ steps_make st rows t count steps steps' keys keys' rest below kept label all onc
         made_one fresh steps' keys' new.2
         (λ l b is' k. ⊎_elim
         (λ e.
-        let q = same_tree label l below b e in
+        let q : (label ≡ l) × (below ≡ b) =
+        (let f : tree label below none ≡ tree l b none = e in (cc, cc)) in
         (t, subst (λ x. Contains x t) (sym new.3) (Contains-push keys t), subst (λ y. IsTreeOf st rows t l y) q.1 (subst (λ y. IsTreeOf st rows t y below) q.0 is)))
         (λ old. let q = h.known l b is' old in (q.0, subst (λ x. Contains x q.0) (sym new.3) (Contains-append_left keys (t ∷ []) q.0 q.1), q.2))
         (after_more h.v tr (tree l b none) k))
@@ -188,12 +185,6 @@ steps_end st rows steps keys row kept h = record { visits = h.v; said = h.are; c
 
 -- ---- what is repeated was made before
 
-same_repeat : (t u : Subtree) → step.Repeat u ≡ step.Repeat t → u ≡ t
-same_repeat t u e = cc
-
-made_or_repeat : (t u : Subtree) → step.Make u ≡ step.Repeat t → ⊥
-made_or_repeat t u e = cc
-
 -- it is one of those that were made, or a step before makes it
 made_before : (st : List Sentence) (rows : List Row) (made : List Trees) (steps : List SharedStep) (v : List Visit) (i : ℕ) (t : Subtree) (label : List ℕ) (below : Trees)
     → AllMeant st → AreOnce rows → AllZip (IsStepOf st rows) steps v → Careful made v → slice_get steps i ≡ Some (step.Repeat t) → IsTreeOf st rows t label below
@@ -201,19 +192,17 @@ made_before : (st : List Sentence) (rows : List Row) (made : List Trees) (steps 
 made_before st rows made [] v i t label below all once z careful there is = absurd (none-some (step.Repeat t) there)
 made_before st rows made (x ∷ steps) [] i t label below all once z careful there is = absurd z
 made_before st rows made (step.Make u ∷ steps) (w ∷ v) zero t label below all once z careful there is =
-    absurd (made_or_repeat t u (same_Some (step.Make u) (step.Repeat t) there))
+    absurd (let e = same_Some (step.Make u) (step.Repeat t) there in cc)
 made_before st rows made (step.Make u ∷ steps) (w ∷ v) (suc i) t label below all once z careful there is =
     let o : (l : List ℕ) × (b : Trees) × IsTreeOf st rows u l b × (w ≡ makes (tree l b none)) = z.0 in
     let later = subst (λ x. Careful made (x ∷ v)) o.3 careful in
     moved o.0 o.1 o.2 (made_before st rows (tree o.0 o.1 none ∷ made) steps v i t label below all once z.1 later.1 there is)
   where
-    same_tree : (l m : List ℕ) (b c : Trees) → tree l b none ≡ tree m c none → (l ≡ m) × (b ≡ c)
-    same_tree l m b c e = (cc, cc)
-
     moved : (l : List ℕ) (b : Trees) → IsTreeOf st rows u l b → In (tree l b none ∷ made) (tree label below none) ⊎ In (take i steps) (step.Make t)
         → In made (tree label below none) ⊎ In (step.Make u ∷ take i steps) (step.Make t)
     moved l b its (inl (inl e)) =
-        let same = same_tree l label b below e in
+        let same : (l ≡ label) × (b ≡ below) =
+        (let f : tree l b none ≡ tree label below none = e in (cc, cc)) in
         let there = subst (λ x. IsTreeOf st rows u label x) same.1 (subst (λ x. IsTreeOf st rows u x b) same.0 its) in
         inr (inl (ap step.Make (subtree_once st rows u t label below all once there is)))
     moved l b its (inl (inr h)) = inl h
@@ -221,7 +210,8 @@ made_before st rows made (step.Make u ∷ steps) (w ∷ v) (suc i) t label below
 made_before st rows made (step.Repeat u ∷ steps) (w ∷ v) zero t label below all once z careful there is =
     let o : (l : List ℕ) × (b : Trees) × IsTreeOf st rows u l b × (w ≡ repeats (tree l b none)) = z.0 in
     let now = subst (λ x. Careful made (x ∷ v)) o.3 careful in
-    let its = subst (λ x. IsTreeOf st rows x o.0 o.1) (same_repeat t u (same_Some (step.Repeat u) (step.Repeat t) there)) o.2 in
+    let one : u ≡ t = (let e = same_Some (step.Repeat u) (step.Repeat t) there in cc) in
+    let its = subst (λ x. IsTreeOf st rows x o.0 o.1) one o.2 in
     let same = tree_once st rows t o.0 label o.1 below its is in
     inl (subst (λ x. In made (tree label x none)) same.1 (subst (λ x. In made (tree x o.1 none)) same.0 now.0.1))
 made_before st rows made (step.Repeat u ∷ steps) (w ∷ v) (suc i) t label below all once z careful there is =

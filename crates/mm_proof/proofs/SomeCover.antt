@@ -3,7 +3,7 @@ use Rattle.std.proofs.Common.{◌≡◌, ℕ, ◌≤◌, List, [], ◌∷◌, �
 use Rattle.std.proofs.Common.{ap, subst, ◌∙◌, arith}
 use Rattle.std.proofs.lemmas.Bool.{cases_lt}
 use Rattle.std.proofs.lemmas.List.{length-append}
-use Rattle.mm_frame.proofs.Decided.{symbol_dec}
+use Rattle.mm_frame.proofs.Decided.{symbol_dec, dec_as, dec_both, dec_or}
 use Rattle.mm_proof.specs.Tree.{Trees, none, tree, spelling}
 use Rattle.mm_proof.specs.BigSubtrees.{nodes, IsBig, IsSubtree}
 use Rattle.mm_proof.specs.Visits.{Visit, makes, repeats, keeps, trees_made}
@@ -17,64 +17,29 @@ trees_dec : (t u : Trees) → Dec (t ≡ u)
 trees_dec none none = yes refl
 trees_dec none (tree m c s) = no (λ e. cc)
 trees_dec (tree l b r) none = no (λ e. cc)
-trees_dec (tree l b r) (tree m c s) = go (symbol_dec l m) (trees_dec b c) (trees_dec r s)
-  where
-    parts : tree l b r ≡ tree m c s → (l ≡ m) × (b ≡ c) × (r ≡ s)
-    parts e = (cc, cc, cc)
-
-    go : Dec (l ≡ m) → Dec (b ≡ c) → Dec (r ≡ s) → Dec (tree l b r ≡ tree m c s)
-    go (no n) y z = no (λ e. n (parts e).0)
-    go (yes x) (no n) z = no (λ e. n (parts e).1)
-    go (yes x) (yes y) (no n) = no (λ e. n (parts e).2)
-    go (yes x) (yes y) (yes z) = yes
-        (ap (λ k. tree k b r) x ∙ ap (λ k. tree m k r) y ∙ ap (λ k. tree m c k) z)
+trees_dec (tree l b r) (tree m c s) = dec_as
+    (λ e. ap (λ k. tree k b r) e.0 ∙ ap (λ k. tree m k r) e.1.0 ∙ ap (λ k. tree m c k) e.1.1)
+    (λ e. (cc, (cc, cc)))
+    (dec_both (symbol_dec l m) (dec_both (trees_dec b c) (trees_dec r s)))
 
 in_dec : (ts : List Trees) (t : Trees) → Dec (In ts t)
 in_dec [] t = no (λ h. h)
-in_dec (u ∷ ts) t = go (trees_dec u t) (in_dec ts t)
-  where
-    go : Dec (u ≡ t) → Dec (In ts t) → Dec (In (u ∷ ts) t)
-    go (yes e) d = yes (inl e)
-    go (no n) (yes h) = yes (inr h)
-    go (no n) (no m) = no (λ h. ⊎_elim n m h)
+in_dec (u ∷ ts) t = dec_or (trees_dec u t) (in_dec ts t)
+
+repeat_dec : (x : Visit) (t : Trees) → Dec (x ≡ repeats t)
+repeat_dec (makes u) t = no (λ e. cc)
+repeat_dec (keeps u) t = no (λ e. cc)
+repeat_dec (repeats u) t = dec_as (λ e. ap (λ x. repeats x) e) (λ e. cc) (trees_dec u t)
 
 repeats_dec : (v : List Visit) (t : Trees) → Dec (In v (repeats t))
 repeats_dec [] t = no (λ h. h)
-repeats_dec (makes u ∷ v) t = go (repeats_dec v t)
-  where
-    other : makes u ≡ repeats t → ⊥
-    other e = cc
-
-    go : Dec (In v (repeats t)) → Dec (In (makes u ∷ v) (repeats t))
-    go (yes h) = yes (inr h)
-    go (no m) = no (λ h. ⊎_elim other m h)
-repeats_dec (keeps u ∷ v) t = go (repeats_dec v t)
-  where
-    other : keeps u ≡ repeats t → ⊥
-    other e = cc
-
-    go : Dec (In v (repeats t)) → Dec (In (keeps u ∷ v) (repeats t))
-    go (yes h) = yes (inr h)
-    go (no m) = no (λ h. ⊎_elim other m h)
-repeats_dec (repeats u ∷ v) t = go (trees_dec u t) (repeats_dec v t)
-  where
-    same : repeats u ≡ repeats t → u ≡ t
-    same e = cc
-
-    go : Dec (u ≡ t) → Dec (In v (repeats t)) → Dec (In (repeats u ∷ v) (repeats t))
-    go (yes e) d = yes (inl (ap (λ x. repeats x) e))
-    go (no n) (yes h) = yes (inr h)
-    go (no n) (no m) = no (λ h. ⊎_elim (λ e. n (same e)) m h)
+repeats_dec (x ∷ v) t = dec_or (repeat_dec x t) (repeats_dec v t)
 
 -- big, and made before
 again_dec : (made : List Trees) (t : Trees) → Dec (IsBig t × In made t)
 again_dec made t = ⊎_elim
     (λ small. no (λ h. let big = h.0 in absurd (omega arith)))
-    (λ big. go big (in_dec made t)) (cases_lt (nodes t) 2)
-  where
-    go : IsBig t → Dec (In made t) → Dec (IsBig t × In made t)
-    go big (yes h) = yes (big, h)
-    go big (no n) = no (λ h. n h.1)
+    (λ big. dec_both (yes big) (in_dec made t)) (cases_lt (nodes t) 2)
 
 -- ---- subtrees have no more nodes
 
@@ -203,36 +168,18 @@ some_marks whole (keeps t ∷ steps) p = absurd p
 pub marked_kept : (whole steps v : List Visit) (t : Trees) → Marked whole steps v → In v (keeps t)
     → In whole (repeats t)
 marked_kept whole [] v t m h = absurd (subst (λ l. In l (keeps t)) m h)
-marked_kept whole (makes u ∷ steps) v t m h = ⊎_elim
-    (λ a. first (λ k. marked_kept whole steps m.0 t m.1 k) a.0 (subst (λ l. In l (keeps t)) a.1 h))
-    (λ a. second (λ k. marked_kept whole steps m.0 t m.1 k) (subst (λ l. In l (keeps t)) a.1 h)) m.2
-  where
-    other : makes u ≡ keeps t → ⊥
-    other e = cc
-
-    same : keeps u ≡ keeps t → u ≡ t
-    same e = cc
-
-    first : (In m.0 (keeps t) → In whole (repeats t)) → In whole (repeats u)
-        → In (makes u ∷ keeps u ∷ m.0) (keeps t) → In whole (repeats t)
-    first rest has (inl e) = absurd (other e)
-    first rest has (inr (inl e)) = subst (λ x. In whole (repeats x)) (same e) has
-    first rest has (inr (inr k)) = rest k
-
-    second : (In m.0 (keeps t) → In whole (repeats t)) → In (makes u ∷ m.0) (keeps t)
-        → In whole (repeats t)
-    second rest (inl e) = absurd (other e)
-    second rest (inr k) = rest k
-marked_kept whole (repeats u ∷ steps) v t m h = go (λ k. marked_kept whole steps m.0 t m.1 k)
-    (subst (λ l. In l (keeps t)) m.2 h)
-  where
-    other : repeats u ≡ keeps t → ⊥
-    other e = cc
-
-    go : (In m.0 (keeps t) → In whole (repeats t)) → In (repeats u ∷ m.0) (keeps t)
-        → In whole (repeats t)
-    go rest (inl e) = absurd (other e)
-    go rest (inr k) = rest k
+marked_kept whole (makes u ∷ steps) v t m h =
+    let later : In m.0 (keeps t) → In whole (repeats t) =
+    λ k. marked_kept whole steps m.0 t m.1 k in
+    let none : makes u ≡ keeps t → In whole (repeats t) = λ e. absurd cc in
+    let mark : In whole (repeats u) → keeps u ≡ keeps t → In whole (repeats t) = λ has e.
+    let same : u ≡ t = cc in subst (λ x. In whole (repeats x)) same has in
+    ⊎_elim
+    (λ a. ⊎_elim none (λ k. ⊎_elim (mark a.0) later k) (subst (λ l. In l (keeps t)) a.1 h))
+    (λ a. ⊎_elim none later (subst (λ l. In l (keeps t)) a.1 h)) m.2
+marked_kept whole (repeats u ∷ steps) v t m h = ⊎_elim
+    (λ e. let f : repeats u ≡ keeps t = e in absurd cc)
+    (λ k. marked_kept whole steps m.0 t m.1 k) (subst (λ l. In l (keeps t)) m.2 h)
 marked_kept whole (keeps u ∷ steps) v t m h = absurd m
 
 -- what the steps repeat the visits repeat
@@ -291,20 +238,15 @@ marked_tidy whole (makes t ∷ steps) v done big parts kept c m =
           (without a.0) c.1 m.1,
     )) m.2
   where
-    same : (u : Trees) → makes t ≡ makes u → t ≡ u
-    same u e = cc
-
-    other : (u : Trees) → keeps t ≡ makes u → ⊥
-    other u e = cc
-
     with_mark : KeptNeeded whole (keeps t ∷ makes t ∷ done)
-    with_mark u (inl e) needed = absurd (other u e)
-    with_mark u (inr (inl e)) needed = inl (ap (λ x. keeps x) (same u e))
+    with_mark u (inl e) needed = absurd (let f : keeps t ≡ makes u = e in cc)
+    with_mark u (inr (inl e)) needed = inl (let f : makes t ≡ makes u = e in cc)
     with_mark u (inr (inr h)) needed = inr (inr (kept u h needed))
 
     without : ¬ (In whole (repeats t)) → KeptNeeded whole (makes t ∷ done)
-    without n u (inl e) needed = absurd
-        (n (subst (λ x. In whole (repeats x)) (sym (same u e)) needed))
+    without n u (inl e) needed =
+        let same : u ≡ t = (let f : makes t ≡ makes u = e in cc) in
+        absurd (n (subst (λ x. In whole (repeats x)) same needed))
     without n u (inr h) needed = inr (kept u h needed)
 marked_tidy whole (repeats t ∷ steps) v done big parts kept c m =
     subst (Tidy done) (sym m.2) (
@@ -312,11 +254,8 @@ marked_tidy whole (repeats t ∷ steps) v done big parts kept c m =
       marked_tidy whole steps m.0 (repeats t ∷ done) big (λ u h. parts u (inr h)) later c.1 m.1,
     )
   where
-    other : (u : Trees) → repeats t ≡ makes u → ⊥
-    other u e = cc
-
     later : KeptNeeded whole (repeats t ∷ done)
-    later u (inl e) needed = absurd (other u e)
+    later u (inl e) needed = absurd (let f : repeats t ≡ makes u = e in cc)
     later u (inr h) needed = inr (kept u h needed)
 marked_tidy whole (keeps t ∷ steps) v done big parts kept c m = absurd m
 

@@ -11,10 +11,10 @@ use Rattle.mm_frame.specs.Sentence.{Sentence, SomeSentence, IsLabelled, IsHypoth
 use Rattle.mm_frame.specs.Active.{IsActive}
 use Rattle.mm_frame.specs.Rules.{AllMeant}
 use Rattle.mm_frame.proofs.Meant.{one_label}
-use Rattle.mm_proof.specs.declared.fault.ProofRule.TheVariants.{P1, P2, P3, P4, P5, P6, P7, P8, P9, P10, P11, P12, P13, P14, P15, L1}
+use Rattle.mm_proof.specs.declared.fault.ProofRule.TheVariants.{P1, P2, P3, P4, P5}
 use Rattle.mm_proof.specs.Tree.{Trees, none, tree, spelling, MayStandOver, TreesFit, DeriveAll}
 use Rattle.mm_proof.specs.Moves.{name}
-use Rattle.mm_proof.specs.Tokens.{opening_token, closing_token, IsNormal, IsCompressed, AreLabels, AreLetters}
+use Rattle.mm_proof.specs.Tokens.{opening_token, closing_token, IsNormal, SaysCompressed, AreLabels, AreLetters}
 use Rattle.mm_proof.specs.Proof.{BreaksWhole, IsWhole, IsProvedWithin}
 use Rattle.mm_proof.specs.Sharing.{AreFirstUses, IsPacked}
 use Rattle.mm_proof.proofs.Making.{derive_fits, fit_makes}
@@ -75,17 +75,7 @@ whole_of before tokens labels meant ends only fits letters P3 (others, are, labe
     let f = fits label here in closed (stands_active before label f.0 meant f.1 place h there named kind)
 whole_of before tokens labels meant ends only fits letters P4 (text, are, broken) = letters text code.P4 are broken
 whole_of before tokens labels meant ends only fits letters P5 (text, are, broken) = letters text code.P5 are broken
-whole_of before tokens labels meant ends only fits letters P15 broken = broken
-whole_of before tokens labels meant ends only fits letters P6 broken = broken
-whole_of before tokens labels meant ends only fits letters P7 broken = broken
-whole_of before tokens labels meant ends only fits letters P8 broken = broken
-whole_of before tokens labels meant ends only fits letters P9 broken = broken
-whole_of before tokens labels meant ends only fits letters P10 broken = broken
-whole_of before tokens labels meant ends only fits letters P11 broken = broken
-whole_of before tokens labels meant ends only fits letters P12 broken = broken
-whole_of before tokens labels meant ends only fits letters P13 broken = broken
-whole_of before tokens labels meant ends only fits letters P14 broken = broken
-whole_of before tokens labels meant ends only fits letters L1 broken = broken
+whole_of before tokens labels meant ends only fits letters rule broken = broken
 
 -- a proof of the statement that spells this tree
 abbrev pub IsProofBy : (List (List ℕ) → Type 0) → List Sentence → Sentence → List (List ℕ) → (label : List ℕ) → Trees → Type 0
@@ -129,6 +119,29 @@ first_used seen (own ∷ word) listed label (inr (new, others, e, uses)) c =
 pub packed_listed : (before : List Sentence) (s : Sentence) (trees : Trees) (listed : List (List ℕ)) (codes : List Code) (label : List ℕ) → IsPacked before s trees listed codes → Contains listed label → Contains (spelling trees) label
 packed_listed before s trees listed codes label p c = first_used p.says.labels (spelling trees) listed label p.uses c
 
+-- the tokens of a packed proof say its moves
+abbrev pub packed_says : (before : List Sentence) (s : Sentence) (trees : Trees)
+    (listed : List (List ℕ)) (codes : List Code) (letters : List ℕ) (pieces : List (List ℕ))
+    → (p : IsPacked before s trees listed codes) → Letters letters codes
+    → flat_map (λ piece. piece) pieces ≡ letters → ¬ (Contains (spelling trees) closing_token)
+    → SaysCompressed before s (in_parentheses listed ++ pieces) p.moves
+packed_says before s trees listed codes letters pieces p coded joined apart = record {
+  listed = listed;
+  letters = pieces;
+  parts = record {
+    whole = ap (λ (l : List (List ℕ)). opening_token ∷ l)
+        (append_assoc listed (closing_token ∷ []) pieces);
+    first = λ c. apart (packed_listed before s trees listed codes closing_token p c);
+  };
+  codes = codes;
+  coded = subst (λ (text : List ℕ). Letters text codes) (sym joined) coded;
+  hypotheses = p.says.hypotheses;
+  mandatory = p.says.mandatory;
+  labels = p.says.labels;
+  labelled = p.says.labelled;
+  each = p.says.each;
+}
+
 pub packed_proves : (Fits : List (List ℕ) → Type 0) (before : List Sentence) (s : Sentence) (label : List ℕ) (below : Trees) (listed : List (List ℕ)) (codes : List Code) (letters : List ℕ) (pieces : List (List ℕ)) → AllMeant before
     → IsPacked before s (tree label below none) listed codes → Letters letters codes → flat_map (λ piece. piece) pieces ≡ letters
     → ¬ (Contains (spelling (tree label below none)) closing_token) → DeriveAll Fits before (tree label below none) (s.symbols ∷ [])
@@ -137,32 +150,17 @@ packed_proves Fits before s label below listed codes letters pieces meant p code
     let trees : Trees = tree label below none in
     let tokens : List (List ℕ) = in_parentheses listed ++ pieces in
     let fit : TreesFit before trees = derive_fits Fits before trees (s.symbols ∷ []) derived in
-    let parts : IsCompressed tokens listed pieces = record {
-      whole = ap (λ (l : List (List ℕ)). opening_token ∷ l) (append_assoc listed (closing_token ∷ []) pieces);
-      first = λ c. apart (packed_listed before s trees listed codes closing_token p c);
-    } in
-    let read : Letters (flat_map (λ piece. piece) pieces) codes = subst (λ (text : List ℕ). Letters text codes) (sym joined) coded in
+    let says = packed_says before s trees listed codes letters pieces p coded joined apart in
     let closes : Contains (drop 1 tokens) closing_token =
     Contains-append_left (listed ++ closing_token ∷ []) pieces closing_token (Contains-append_right listed (closing_token ∷ []) closing_token (contains_first closing_token [])) in
     let broken_not : (text : List ℕ) (rule : CodeRule) → AreLetters tokens text → ¬ (LettersBreak rule text) = λ text rule are broken.
-    let same : text ≡ flat_map (λ piece. piece) pieces = letters_once tokens text (flat_map (λ piece. piece) pieces) are (listed, pieces, parts, refl) in
-    coded_not_broken (flat_map (λ piece. piece) pieces) codes rule read (subst (LettersBreak rule) same broken) in (
+    let same : text ≡ flat_map (λ piece. piece) pieces = letters_once tokens text (flat_map (λ piece. piece) pieces) are (listed, pieces, says.parts, refl) in
+    coded_not_broken (flat_map (λ piece. piece) pieces) codes rule says.coded (subst (LettersBreak rule) same broken) in (
       record {
-        whole = whole_of before tokens listed meant (λ broken. broken.1 closes) (λ others are. labels_once tokens others listed are (inr (pieces, parts)))
+        whole = whole_of before tokens listed meant (λ broken. broken.1 closes) (λ others are. labels_once tokens others listed are (inr (pieces, says.parts)))
             (λ l used. label_fits before trees l fit (packed_listed before s trees listed codes l p used)) broken_not;
         moves = p.moves;
-        said = inr (record {
-          listed = listed;
-          letters = pieces;
-          parts = parts;
-          codes = codes;
-          coded = read;
-          hypotheses = p.says.hypotheses;
-          mandatory = p.says.mandatory;
-          labels = p.says.labels;
-          labelled = p.says.labelled;
-          each = p.says.each;
-        });
+        said = inr says;
         proves = record { label = label; below = below; kept = p.shared.kept; made = p.shared.made; derived = derived };
       },
       refl,

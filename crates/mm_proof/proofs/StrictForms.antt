@@ -1,7 +1,6 @@
 -- A normal proof has the strict form, and so has the packed proof of a tree.
 use Rattle.std.proofs.Common.{◌≡◌, ℕ, zero, suc, ◌≤◌, List, [], ◌∷◌, ◌++◌, length, map, slice_get}
 use Rattle.std.proofs.Common.{Contains, Some, inl, inr, refl, sym, ap, subst, ◌∙◌, arith}
-use Rattle.std.proofs.Common.{append_assoc}
 use Rattle.std.specs.List.{flat_map}
 use Rattle.std.proofs.lemmas.Option.{same_Some, none-some}
 use Rattle.mm_code.specs.declared.code.Code.{Code}
@@ -13,7 +12,7 @@ use Rattle.mm_proof.specs.Tree.{Trees, none, tree, spelling, MayStandOver}
 use Rattle.mm_proof.specs.BigSubtrees.{IsBig}
 use Rattle.mm_proof.specs.Moves.{Move, name, again, mark, Makes}
 use Rattle.mm_proof.specs.Visits.{makes, repeats, keeps, visits}
-use Rattle.mm_proof.specs.Tokens.{opening_token, closing_token, IsNormal, IsCompressed}
+use Rattle.mm_proof.specs.Tokens.{closing_token, IsNormal}
 use Rattle.mm_proof.specs.Tokens.{SaysCompressed}
 use Rattle.mm_proof.specs.Sharing.{ShareAll, IsPacked}
 use Rattle.mm_proof.specs.Strict.{IsStrictList, MarkAssertions, IsStrict}
@@ -21,9 +20,8 @@ use Rattle.mm_text.proofs.Lists.{get_before, get_parted}
 use Rattle.mm_proof.proofs.Members.{In, contains_in, once_places}
 use Rattle.mm_proof.proofs.SaidMoves.{compressed_once, moves_once}
 use Rattle.mm_proof.proofs.PairOnce.{uses_apart}
-use Rattle.mm_proof.proofs.SpelledProofs.{packed_listed}
+use Rattle.mm_proof.proofs.SpelledProofs.{packed_says}
 use Rattle.mm_proof.proofs.FormJudged.{last_of, strict_normal}
-use Rattle.mm_proof.proofs.UsedNumbers.{name_not_mark}
 
 -- a normal proof has no list and no marks
 pub normal_is_strict : (before : List Sentence) (s : Sentence) (tokens : List (List ℕ))
@@ -62,9 +60,6 @@ packed_list before s trees listed codes p =
 
 -- ---- the marks
 
-not_again : (tag : ℕ) → ◌≡◌ {A = Move (List ℕ)} (again tag) mark → ⊥
-not_again tag e = cc
-
 -- a mark keeps a tree
 kept_there : (before : List Sentence) (moves : List (Move (List ℕ))) (row : Trees)
     (kept : List Trees) (row' : Trees) (kept' : List Trees)
@@ -72,9 +67,9 @@ kept_there : (before : List Sentence) (moves : List (Move (List ℕ))) (row : Tr
     → (t : Trees) × (slice_get (visits before moves row kept row' kept' made) i ≡ Some (keeps t))
 kept_there before [] row kept row' kept' made i at = absurd (none-some mark at)
 kept_there before (name label ∷ moves) row kept row' kept' made zero at =
-    absurd (name_not_mark label (same_Some (name label) mark at))
+    absurd (let e = same_Some {A = Move (List ℕ)} (name label) mark at in cc)
 kept_there before (again tag ∷ moves) row kept row' kept' made zero at =
-    absurd (not_again tag (same_Some (again tag) mark at))
+    absurd (let e = same_Some {A = Move (List ℕ)} (again tag) mark at in cc)
 kept_there before (mark ∷ moves) row kept row' kept' made zero at =
     (tree made.2.1 made.2.2 none, refl)
 kept_there before (move ∷ moves) row kept row' kept' made (suc i) at =
@@ -161,23 +156,6 @@ pub packed_is_strict : (before : List Sentence) (s : Sentence) (trees : Trees)
     → flat_map (λ piece. piece) pieces ≡ letters → ¬ (Contains (spelling trees) closing_token)
     → IsStrict before s (in_parentheses listed ++ pieces)
 packed_is_strict before s trees listed codes letters pieces p coded joined apart =
-    let tokens : List (List ℕ) = in_parentheses listed ++ pieces in
-    let parts : IsCompressed tokens listed pieces = record {
-      whole = ap (λ (l : List (List ℕ)). opening_token ∷ l)
-          (append_assoc listed (closing_token ∷ []) pieces);
-      first = λ c. apart (packed_listed before s trees listed codes closing_token p c);
-    } in
-    let says : SaysCompressed before s tokens p.moves = record {
-      listed = listed;
-      letters = pieces;
-      parts = parts;
-      codes = codes;
-      coded = subst (λ (text : List ℕ). Letters text codes) (sym joined) coded;
-      hypotheses = p.says.hypotheses;
-      mandatory = p.says.mandatory;
-      labels = p.says.labels;
-      labelled = p.says.labelled;
-      each = p.says.each;
-    } in
-    strict_from before s tokens p.moves says (packed_list before s trees listed codes p)
-    (shared_marks before trees p.moves p.shared)
+    strict_from before s (in_parentheses listed ++ pieces) p.moves
+    (packed_says before s trees listed codes letters pieces p coded joined apart)
+    (packed_list before s trees listed codes p) (shared_marks before trees p.moves p.shared)

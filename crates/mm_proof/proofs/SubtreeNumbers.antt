@@ -95,20 +95,17 @@ tree_later st old new t l x keep a = record { named = a.named; stands = stands_l
 
 pub trees_later : (st : List Sentence) (old new : List Row) (ts : List Subtree) (row : Trees) → KeepNumbers old new → AreTreesOf st old ts row → AreTreesOf st new ts row
 trees_later st old new [] none keep a = tt
-trees_later st old new [] (tree l x r) keep a = absurd a
-trees_later st old new (t ∷ ts) none keep a = absurd a
 trees_later st old new (t ∷ ts) (tree l x r) keep a = (tree_later st old new t l x keep a.0, trees_later st old new ts r keep a.1)
+trees_later st old new ts row keep a = absurd a
 
 -- ---- trees side by side
 
 pub trees_join : (st : List Sentence) (rows : List Row) (ts us : List Subtree) (a b : Trees) → AreTreesOf st rows ts a → AreTreesOf st rows us b → AreTreesOf st rows (ts ++ us) (beside a b)
 trees_join st rows [] us none b p q = q
-trees_join st rows [] us (tree l x r) b p q = absurd p
-trees_join st rows (t ∷ ts) us none b p q = absurd p
 trees_join st rows (t ∷ ts) us (tree l x r) b p q = (p.0, trees_join st rows ts us r b p.1 q)
+trees_join st rows ts us a b p q = absurd p
 
 pub trees_count : (st : List Sentence) (rows : List Row) (ts : List Subtree) (row : Trees) → AreTreesOf st rows ts row → length ts ≡ roots row
 trees_count st rows [] none a = refl
-trees_count st rows [] (tree l x r) a = absurd a
-trees_count st rows (t ∷ ts) none a = absurd a
 trees_count st rows (t ∷ ts) (tree l x r) a = ap suc (trees_count st rows ts r a.1)
+trees_count st rows ts row a = absurd a

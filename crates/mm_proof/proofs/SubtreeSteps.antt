@@ -46,9 +46,8 @@ trees_split st rows (t ∷ ts) us (tree l x r) b many p = let h = trees_split st
 
 shelf_later : (st : List Sentence) (old new : List Row) (shelf : List Subtree) (kept : List Trees) → KeepNumbers old new → AllZip (IsSubtreeOf st old) shelf kept → AllZip (IsSubtreeOf st new) shelf kept
 shelf_later st old new [] [] keep z = tt
-shelf_later st old new [] (u ∷ kept) keep z = absurd z
-shelf_later st old new (t ∷ shelf) [] keep z = absurd z
 shelf_later st old new (t ∷ shelf) (u ∷ kept) keep z = (trees_later st old new (t ∷ []) u keep z.0, shelf_later st old new shelf kept keep z.1)
+shelf_later st old new shelf kept keep z = absurd z
 
 -- a step by a label
 pub subtrees_make : (st : List Sentence) (first old new : List Row) (stack items shelf : List Subtree) (t : Subtree) (rest below : Trees) (kept : List Trees) (label : List ℕ)

@@ -17,35 +17,6 @@ Tidy done (repeats t ∷ v) = In done (keeps t) × Tidy (repeats t ∷ done) v
 Tidy done (keeps t ∷ v) = IsBig t × ((rest : List Visit) × (done ≡ makes t ∷ rest))
     × Tidy (keeps t ∷ done) v
 
--- ---- constructors are told apart
-
-same_made : (t u : Trees) → makes t ≡ makes u → t ≡ u
-same_made t u e = cc
-
-pub same_repeated : (t u : Trees) → repeats t ≡ repeats u → t ≡ u
-same_repeated t u e = cc
-
-pub same_kept : (t u : Trees) → keeps t ≡ keeps u → t ≡ u
-same_kept t u e = cc
-
-made_no_keep : (t u : Trees) → makes t ≡ keeps u → ⊥
-made_no_keep t u e = cc
-
-made_no_repeat : (t u : Trees) → makes t ≡ repeats u → ⊥
-made_no_repeat t u e = cc
-
-repeat_no_keep : (t u : Trees) → repeats t ≡ keeps u → ⊥
-repeat_no_keep t u e = cc
-
-repeat_no_make : (t u : Trees) → repeats t ≡ makes u → ⊥
-repeat_no_make t u e = cc
-
-keep_no_make : (t u : Trees) → keeps t ≡ makes u → ⊥
-keep_no_make t u e = cc
-
-keep_no_repeat : (t u : Trees) → keeps t ≡ repeats u → ⊥
-keep_no_repeat t u e = cc
-
 -- ---- what the visits that are done say
 
 -- what is kept is big, and was made
@@ -56,35 +27,29 @@ KeepsMade done = (t : Trees) → In done (keeps t) → IsBig t × In done (makes
 abbrev pub RepeatsKept : List Visit → Type 0
 RepeatsKept done = (t : Trees) → In done (repeats t) → In done (keeps t)
 
-keeps_after_make : (done : List Visit) (u : Trees) → KeepsMade done → KeepsMade (makes u ∷ done)
-keeps_after_make done u k t (inl e) = absurd (made_no_keep u t e)
-keeps_after_make done u k t (inr h) = let g = k t h in (g.0, inr g.1)
-
-keeps_after_repeat : (done : List Visit) (u : Trees) → KeepsMade done → KeepsMade (repeats u ∷ done)
-keeps_after_repeat done u k t (inl e) = absurd (repeat_no_keep u t e)
-keeps_after_repeat done u k t (inr h) = let g = k t h in (g.0, inr g.1)
+-- a visit that keeps nothing leaves that so
+keeps_after : (x : Visit) (done : List Visit) → ((t : Trees) → x ≡ keeps t → ⊥) → KeepsMade done
+    → KeepsMade (x ∷ done)
+keeps_after x done other k t (inl e) = absurd (other t e)
+keeps_after x done other k t (inr h) = let g = k t h in (g.0, inr g.1)
 
 keeps_after_keep : (done rest : List Visit) (u : Trees) → IsBig u → done ≡ makes u ∷ rest
     → KeepsMade done → KeepsMade (keeps u ∷ done)
 keeps_after_keep done rest u big e k t (inl s) =
-    let same : u ≡ t = same_kept u t s in
+    let same : u ≡ t = (let f : keeps u ≡ keeps t = s in cc) in
     (subst IsBig same big, inr (subst (λ d. In d (makes t)) (sym e) (inl (ap (λ x. makes x) same))))
 keeps_after_keep done rest u big e k t (inr h) = let g = k t h in (g.0, inr g.1)
 
-repeats_after_make : (done : List Visit) (u : Trees) → RepeatsKept done
-    → RepeatsKept (makes u ∷ done)
-repeats_after_make done u k t (inl e) = absurd (made_no_repeat u t e)
-repeats_after_make done u k t (inr h) = inr (k t h)
-
-repeats_after_keep : (done : List Visit) (u : Trees) → RepeatsKept done
-    → RepeatsKept (keeps u ∷ done)
-repeats_after_keep done u k t (inl e) = absurd (keep_no_repeat u t e)
-repeats_after_keep done u k t (inr h) = inr (k t h)
+-- and so does one that repeats nothing
+repeats_after : (x : Visit) (done : List Visit) → ((t : Trees) → x ≡ repeats t → ⊥)
+    → RepeatsKept done → RepeatsKept (x ∷ done)
+repeats_after x done other k t (inl e) = absurd (other t e)
+repeats_after x done other k t (inr h) = inr (k t h)
 
 repeats_after_repeat : (done : List Visit) (u : Trees) → In done (keeps u) → RepeatsKept done
     → RepeatsKept (repeats u ∷ done)
 repeats_after_repeat done u here k t (inl e) = inr
-    (subst (λ x. In done (keeps x)) (same_repeated u t e) here)
+    (subst (λ x. In done (keeps x)) (let f : repeats u ≡ repeats t = e in cc) here)
 repeats_after_repeat done u here k t (inr h) = inr (k t h)
 
 -- ---- the trees made, and the visits that make them
@@ -98,11 +63,11 @@ made_visit (keeps u ∷ v) t h = inr (made_visit v t h)
 
 pub visit_made : (v : List Visit) (t : Trees) → In v (makes t) → In (trees_made v) t
 visit_made [] t h = absurd h
-visit_made (makes u ∷ v) t (inl e) = inl (same_made u t e)
+visit_made (makes u ∷ v) t (inl e) = inl (let f : makes u ≡ makes t = e in cc)
 visit_made (makes u ∷ v) t (inr h) = inr (visit_made v t h)
-visit_made (repeats u ∷ v) t (inl e) = absurd (repeat_no_make u t e)
+visit_made (repeats u ∷ v) t (inl e) = absurd (let f : repeats u ≡ makes t = e in cc)
 visit_made (repeats u ∷ v) t (inr h) = visit_made v t h
-visit_made (keeps u ∷ v) t (inl e) = absurd (keep_no_make u t e)
+visit_made (keeps u ∷ v) t (inl e) = absurd (let f : keeps u ≡ makes t = e in cc)
 visit_made (keeps u ∷ v) t (inr h) = visit_made v t h
 
 -- tidy visits are careful steps
@@ -111,13 +76,13 @@ pub tidy_careful : (v done : List Visit) → KeepsMade done → Tidy done v
 tidy_careful [] done k c = tt
 tidy_careful (makes t ∷ v) done k c = (
   λ h. c.0 h.0 (made_visit done t h.1),
-  tidy_careful v (makes t ∷ done) (keeps_after_make done t k) c.1,
+  tidy_careful v (makes t ∷ done) (keeps_after (makes t) done (λ u e. cc) k) c.1,
 )
 tidy_careful (repeats t ∷ v) done k c =
     let g = k t c.0 in (
       (g.0, visit_made done t g.1),
       tidy_careful v (repeats t ∷ done)
-          (keeps_after_repeat done t k) c.1,
+          (keeps_after (repeats t) done (λ u e. cc) k) c.1,
     )
 tidy_careful (keeps t ∷ v) done k c =
     tidy_careful v (keeps t ∷ done) (keeps_after_keep done c.1.0 t c.0 c.1.1 k) c.2
@@ -137,36 +102,36 @@ next_keeps x done v rest t c e =
 pub not_kept : (v done : List Visit) (t : Trees) → Tidy done v → In done (makes t) → IsNotNext v t
     → In v (keeps t) → ⊥
 not_kept [] done t c made next h = h
-not_kept (makes u ∷ v) done t c made next (inl e) = made_no_keep u t e
+not_kept (makes u ∷ v) done t c made next (inl e) = (let f : makes u ≡ keeps t = e in cc)
 not_kept (makes u ∷ v) done t c made next (inr h) =
     not_kept v (makes u ∷ done) t c.1 (inr made)
     (λ rest e.
     let n = next_keeps (makes u) done v rest t c.1 e in
-    let same : u ≡ t = same_made u t n.1 in
+    let same : u ≡ t = (let f : makes u ≡ makes t = n.1 in cc) in
     c.0 (subst IsBig (sym same) n.0) (subst (λ x. In done (makes x)) (sym same) made)) h
-not_kept (repeats u ∷ v) done t c made next (inl e) = repeat_no_keep u t e
+not_kept (repeats u ∷ v) done t c made next (inl e) = (let f : repeats u ≡ keeps t = e in cc)
 not_kept (repeats u ∷ v) done t c made next (inr h) =
     not_kept v (repeats u ∷ done) t c.1 (inr made)
-    (λ rest e. repeat_no_make u t (next_keeps (repeats u) done v rest t c.1 e).1) h
+    (λ rest e. let f = (next_keeps (repeats u) done v rest t c.1 e).1 in cc) h
 not_kept (keeps u ∷ v) done t c made next (inl e) = next v (ap (λ x. x ∷ v) e)
 not_kept (keeps u ∷ v) done t c made next (inr h) =
     not_kept v (keeps u ∷ done) t c.2 (inr made)
-    (λ rest e. keep_no_make u t (next_keeps (keeps u) done v rest t c.2 e).1) h
+    (λ rest e. let f = (next_keeps (keeps u) done v rest t c.2 e).1 in cc) h
 
 -- what is repeated is kept before
 repeated_kept : (v done : List Visit) (t : Trees) → Tidy done v → In v (repeats t)
     → In done (keeps t) ⊎ In v (keeps t)
 repeated_kept [] done t c h = absurd h
-repeated_kept (makes u ∷ v) done t c (inl e) = absurd (made_no_repeat u t e)
+repeated_kept (makes u ∷ v) done t c (inl e) = absurd (let f : makes u ≡ repeats t = e in cc)
 repeated_kept (makes u ∷ v) done t c (inr h) = ⊎_elim
-    (λ a. ⊎_elim (λ e. absurd (made_no_keep u t e)) (λ k. inl k) a)
+    (λ a. ⊎_elim (λ e. absurd (let f : makes u ≡ keeps t = e in cc)) (λ k. inl k) a)
     (λ b. inr (inr b)) (repeated_kept v (makes u ∷ done) t c.1 h)
 repeated_kept (repeats u ∷ v) done t c (inl e) = inl
-    (subst (λ x. In done (keeps x)) (same_repeated u t e) c.0)
+    (subst (λ x. In done (keeps x)) (let f : repeats u ≡ repeats t = e in cc) c.0)
 repeated_kept (repeats u ∷ v) done t c (inr h) = ⊎_elim
-    (λ a. ⊎_elim (λ e. absurd (repeat_no_keep u t e)) (λ k. inl k) a)
+    (λ a. ⊎_elim (λ e. absurd (let f : repeats u ≡ keeps t = e in cc)) (λ k. inl k) a)
     (λ b. inr (inr b)) (repeated_kept v (repeats u ∷ done) t c.1 h)
-repeated_kept (keeps u ∷ v) done t c (inl e) = absurd (keep_no_repeat u t e)
+repeated_kept (keeps u ∷ v) done t c (inl e) = absurd (let f : keeps u ≡ repeats t = e in cc)
 repeated_kept (keeps u ∷ v) done t c (inr h) = ⊎_elim
     (λ a. ⊎_elim (λ e. inr (inl e)) (λ k. inl k) a)
     (λ b. inr (inr b)) (repeated_kept v (keeps u ∷ done) t c.2 h)
@@ -211,12 +176,11 @@ first_kept : (v : List Visit) → ((t : Trees) × (rest : List Visit) × (v ≡ 
     ⊎ (((t : Trees) → IsNotNext v t) × (unmark v ≡ v))
 first_kept [] = inr (λ t rest e. cc, refl)
 first_kept (makes u ∷ v) = inr (
-  λ t rest e. made_no_keep u t
-      (cons_parts (makes u) (keeps t) v rest e).0,
+  λ t rest e. (let f : makes u ≡ keeps t = (cons_parts (makes u) (keeps t) v rest e).0 in cc),
   refl,
 )
 first_kept (repeats u ∷ v) = inr
-    (λ t rest e. repeat_no_keep u t (cons_parts (repeats u) (keeps t) v rest e).0, refl)
+    (λ t rest e. let f = (cons_parts (repeats u) (keeps t) v rest e).0 in cc, refl)
 first_kept (keeps u ∷ v) = inl (u, v, refl)
 
 -- a mark follows only what is made
@@ -238,15 +202,15 @@ pub tidy_marked : (whole v done : List Visit) → KeepsMade done → RepeatsKept
 tidy_marked whole [] done k r c parts refer = refl
 tidy_marked whole (makes t ∷ v) done k r c parts refer =
     let rest : Marked whole (strip v) (unmark v) = tidy_marked whole v (makes t ∷ done)
-    (keeps_after_make done t k) (repeats_after_make done t r) c.1
+    (keeps_after (makes t) done (λ u e. cc) k) (repeats_after (makes t) done (λ u e. cc) r) c.1
     (λ u h. ⊎_elim
     (λ a. inl (inr a))
-    (λ b. ⊎_elim (λ e. absurd (made_no_repeat t u e)) (λ l. inr l) b) (parts u h))
+    (λ b. ⊎_elim (λ e. let f : makes t ≡ repeats u = e in absurd cc) (λ l. inr l) b) (parts u h))
     (λ u h. refer u (inr h)) in
     ⊎_elim
     (λ f.
     let n = next_keeps (makes t) done v f.1 f.0 c.1 f.2 in
-    let same : t ≡ f.0 = same_made t f.0 n.1 in
+    let same : t ≡ f.0 = (let f : makes t ≡ makes f.0 = n.1 in cc) in
     let again : v ≡ keeps t ∷ unmark v = kept_first v f.1 t f.0 f.2 same in (
       unmark v,
       rest,
@@ -263,9 +227,10 @@ tidy_marked whole (makes t ∷ v) done k r c parts refer =
         λ whole_has. ⊎_elim
             (λ d. let g = k t (r t d) in c.0 g.0 g.1)
             (λ l. ⊎_elim
-            (λ e. made_no_repeat t t e)
+            (λ e. (let f : makes t ≡ repeats t = e in cc))
             (λ here. ⊎_elim
-            (λ d. ⊎_elim (λ e. made_no_keep t t e) (λ d. let g = k t d in c.0 g.0 g.1) d)
+            (λ d. ⊎_elim (λ e. let f : makes t ≡ keeps t = e in cc)
+            (λ d. let g = k t d in c.0 g.0 g.1) d)
             (λ h. not_kept v (makes t ∷ done) t c.1 (inl refl) (b.0 t) h)
             (repeated_kept v (makes t ∷ done) t c.1 here)) l) (parts t whole_has),
         ap (λ x. makes t ∷ x) (sym b.1),
@@ -273,8 +238,8 @@ tidy_marked whole (makes t ∷ v) done k r c parts refer =
     )) (first_kept v)
 tidy_marked whole (repeats t ∷ v) done k r c parts refer = (
   v,
-  subst (Marked whole (strip v)) (bare_after (repeats t) done v c.1 (λ u e. repeat_no_make t u e))
-      (tidy_marked whole v (repeats t ∷ done) (keeps_after_repeat done t k)
+  subst (Marked whole (strip v)) (bare_after (repeats t) done v c.1 (λ u e. cc))
+      (tidy_marked whole v (repeats t ∷ done) (keeps_after (repeats t) done (λ u e. cc) k)
       (repeats_after_repeat done t c.0 r) c.1
       (λ u h. ⊎_elim
       (λ a. inl (inr a))
@@ -283,12 +248,12 @@ tidy_marked whole (repeats t ∷ v) done k r c parts refer = (
   refl,
 )
 tidy_marked whole (keeps t ∷ v) done k r c parts refer =
-    subst (Marked whole (strip v)) (bare_after (keeps t) done v c.2 (λ u e. keep_no_make t u e))
+    subst (Marked whole (strip v)) (bare_after (keeps t) done v c.2 (λ u e. cc))
     (tidy_marked whole v (keeps t ∷ done) (keeps_after_keep done c.1.0 t c.0 c.1.1 k)
-    (repeats_after_keep done t r) c.2
+    (repeats_after (keeps t) done (λ u e. cc) r) c.2
     (λ u h. ⊎_elim
     (λ a. inl (inr a))
-    (λ b. ⊎_elim (λ e. absurd (keep_no_repeat t u e)) (λ l. inr l) b) (parts u h))
+    (λ b. ⊎_elim (λ e. let f : keeps t ≡ repeats u = e in absurd cc) (λ l. inr l) b) (parts u h))
     (λ u h. refer u (inr h)))
 
 -- ---- what is kept is kept once
@@ -308,11 +273,11 @@ kept_visit (keeps u ∷ v) t (inr h) = inr (kept_visit v t h)
 
 pub visit_kept : (v : List Visit) (t : Trees) → In v (keeps t) → In (trees_kept v) t
 visit_kept [] t h = absurd h
-visit_kept (makes u ∷ v) t (inl e) = absurd (made_no_keep u t e)
+visit_kept (makes u ∷ v) t (inl e) = absurd (let f : makes u ≡ keeps t = e in cc)
 visit_kept (makes u ∷ v) t (inr h) = visit_kept v t h
-visit_kept (repeats u ∷ v) t (inl e) = absurd (repeat_no_keep u t e)
+visit_kept (repeats u ∷ v) t (inl e) = absurd (let f : repeats u ≡ keeps t = e in cc)
 visit_kept (repeats u ∷ v) t (inr h) = visit_kept v t h
-visit_kept (keeps u ∷ v) t (inl e) = inl (same_kept u t e)
+visit_kept (keeps u ∷ v) t (inl e) = inl (let f : keeps u ≡ keeps t = e in cc)
 visit_kept (keeps u ∷ v) t (inr h) = inr (visit_kept v t h)
 
 pub tidy_once : (v done : List Visit) → Tidy done v → Once (trees_kept v)
@@ -321,13 +286,11 @@ tidy_once (makes t ∷ v) done c = tidy_once v (makes t ∷ done) c.1
 tidy_once (repeats t ∷ v) done c = tidy_once v (repeats t ∷ done) c.1
 tidy_once (keeps t ∷ v) done c = (
   λ h. not_kept v (keeps t ∷ done) t c.2 (inr (subst (λ d. In d (makes t)) (sym c.1.1) (inl refl)))
-      (λ rest e. keep_no_make t t (next_keeps (keeps t) done v rest t c.2 e).1) (kept_visit v t h),
+      (λ rest e. let f = (next_keeps (keeps t) done v rest t c.2 e).1 in cc) (kept_visit v t h),
   tidy_once v (keeps t ∷ done) c.2,
 )
 
 -- no mark comes first
 pub bare_front : (v : List Visit) → Tidy [] v → unmark v ≡ v
-bare_front [] c = refl
-bare_front (makes t ∷ v) c = refl
-bare_front (repeats t ∷ v) c = refl
 bare_front (keeps t ∷ v) c = absurd (let e : [] ≡ makes t ∷ c.1.0 = c.1.1 in cc)
+bare_front v c = refl

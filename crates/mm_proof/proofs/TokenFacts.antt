@@ -37,11 +37,10 @@ text_at f (t ∷ tokens) (suc i) d less = text_at f tokens i d (omega arith)
 pub for_known : (statements : List Sentence) (place : ℕ) (ids : List ℕ) (labels : List (List ℕ)) (label : List ℕ) → AreFor statements place ids labels
     → Contains labels label → (id : ℕ) × MayBeUsed statements place label id
 for_known statements place [] [] label all has = absurd (let l : has.0 < 0 = has.1 in omega arith)
-for_known statements place [] (l ∷ labels) label all has = absurd all
-for_known statements place (id ∷ ids) [] label all has = absurd all
 for_known statements place (id ∷ ids) (l ∷ labels) label all (zero, within, is) = (id, subst (λ k. MayBeUsed statements place k id) is all.0)
 for_known statements place (id ∷ ids) (l ∷ labels) label all (suc k, within, is) =
     for_known statements place ids labels label all.1 (k, (let w : suc k < suc (length labels) = within in omega arith), is)
+for_known statements place ids labels label all has = absurd all
 
 -- no hypothesis with such a label is idle
 used_not_idle : (statements : List Sentence) (place : ℕ) (label : List ℕ) (id : ℕ) → AllMeant statements → MayBeUsed statements place label id

@@ -3,16 +3,15 @@ use Rattle.std.proofs.Common.{◌≡◌, ℕ, ◌<◌, List, [], length, take, s
 use Rattle.std.specs.List.{AllByRecursion}
 use Rattle.std.proofs.lemmas.Option.{same_Some}
 use Rattle.std.proofs.lemmas.List.{take-take}
-use Rattle.mm_text.proofs.Lists.{zip_left, zip_right, all_at}
+use Rattle.mm_text.proofs.Lists.{zip_left, zip_right, all_at, get_take, get_from_take}
 use Rattle.mm_frame.specs.Sentence.{Sentence, IsAssertion, IsLabelled}
 use Rattle.mm_frame.specs.Rules.{AllMeant}
 use Rattle.mm_frame.specs.Numbers.{labelled_sentences, IsNumbered, IsAssertionNumber}
 use Rattle.mm_frame.proofs.Labelled.{numbered_from_get, numbered_get}
 use Rattle.mm_proof.specs.Tree.{Trees, none}
-use Rattle.mm_proof.specs.Moves.{Move, name, again, mark, Makes}
+use Rattle.mm_proof.specs.Moves.{Move, name, Makes}
 use Rattle.mm_proof.specs.Steps.{IsNumberedMove, AreNumberedMoves, IsUsable, IsUsableMove}
 use Rattle.mm_proof.specs.Used.{IsUsedNumber}
-use Rattle.mm_text.proofs.Lists.{get_take, get_from_take}
 use Rattle.mm_proof.proofs.Meaning.{one_label}
 use Rattle.mm_proof.proofs.OneStep.{hypothesis_or_assertion}
 use Rattle.mm_proof.proofs.Uses.{labels_of_moves}
@@ -41,21 +40,13 @@ numbered_whole statements id place end s n =
 
 -- ---- the moves
 
-same_name : (a b : List ℕ) → name a ≡ name b → a ≡ b
-same_name a b e = cc
-
-name_or : (label : List ℕ) (tag : ℕ) → name label ≡ again tag → ⊥
-name_or label tag e = absurd cc
-
-pub name_not_mark : (label : List ℕ) → name label ≡ mark → ⊥
-name_not_mark label e = absurd cc
-
 -- a numbered step by a label has the label's number
-named_by : (statements : List Sentence) (x : Move ℕ) (label : List ℕ) → IsNumberedMove statements x (name label)
+pub named_by : (statements : List Sentence) (x : Move ℕ) (label : List ℕ) → IsNumberedMove statements x (name label)
     → (id : ℕ) × (t : Sentence) × (x ≡ name id) × (slice_get (labelled_sentences statements) id ≡ Some t) × IsLabelled label t
-named_by statements (name id) label n = (id, n.0, refl, n.2, subst (λ l. IsLabelled l n.0) (sym (same_name label n.1 n.4)) n.3)
-named_by statements (again tag) label n = absurd (name_or label tag n)
-named_by statements mark label n = absurd (name_not_mark label n)
+named_by statements (name id) label n =
+    let same : n.1 ≡ label = (let f : name label ≡ name n.1 = n.4 in cc) in
+    (id, n.0, refl, n.2, subst (λ l. IsLabelled l n.0) same n.3)
+named_by statements move label n = absurd cc
 
 -- The assertions of the tree that moves make after the statements before a place are the assertions among the moves.
 pub used_numbers : (statements : List Sentence) (place : ℕ) (xs : List (Move ℕ)) (moves : List (Move (List ℕ))) (row : Trees) (kept : List Trees) → AllMeant statements

@@ -15,9 +15,8 @@ use Rattle.mm_frame.specs.Pieces.{IsNowhere, IsFirstAt, IsPieceOf, ArePieces}
 use Rattle.mm_proof.specs.Mirror.CodeVerify.{value_of, replaced_in}
 
 pub value_nowhere : (n : ℕ) (variables : List (Option ℕ)) (entries : List (List ℕ)) → IsNowhere n variables → value_of variables entries n ≡ None
-value_nowhere n [] entries h = refl
-value_nowhere n (v ∷ variables) [] h = refl
 value_nowhere n (v ∷ variables) (e ∷ entries) h = rw (h 0) (value_nowhere n variables entries (λ k. h (suc k)))
+value_nowhere n variables entries h = refl
 
 pub value_first : (n : ℕ) (variables : List (Option ℕ)) (entries : List (List ℕ)) (place : ℕ) (e : List ℕ) → IsFirstAt n variables place → slice_get entries place ≡ Some e
     → value_of variables entries n ≡ Some (drop 1 e)
@@ -127,11 +126,10 @@ piece_says vs es n (Value place) size is =
 
 pub pattern_says : (vs : List (Option ℕ)) (es : List (List ℕ)) (ns : List ℕ) (pieces : List Piece) → length vs ≡ length es → ArePieces vs ns pieces → all_said_by es pieces ≡ replaced_in (value_of vs es) ns
 pattern_says vs es [] [] size are = refl
-pattern_says vs es [] (p ∷ pieces) size are = absurd are
-pattern_says vs es (n ∷ ns) [] size are = absurd are
 pattern_says vs es (n ∷ ns) (p ∷ pieces) size are =
     ap (λ l. l ++ all_said_by es pieces) (piece_says vs es n p size are.0)
     ∙ ap (λ l. unwrap_or (value_of vs es n) (n ∷ []) ++ l) (pattern_says vs es ns pieces size are.1)
+pattern_says vs es ns pieces size are = absurd are
 
 piece_within : (vs : List (Option ℕ)) (n count : ℕ) (p : Piece) → length vs ≡ count → IsPieceOf vs n p → IsWithinPlaces count p
 piece_within vs n count (Symbol symbol) size is = tt
@@ -140,9 +138,8 @@ piece_within vs n count (Value place) size is = let within = is.within in omega 
 -- a pattern names no place behind the hypotheses
 pub pattern_within : (vs : List (Option ℕ)) (count : ℕ) (ns : List ℕ) (pieces : List Piece) → length vs ≡ count → ArePieces vs ns pieces → AllByRecursion (IsWithinPlaces count) pieces
 pattern_within vs count [] [] size are = tt
-pattern_within vs count [] (p ∷ pieces) size are = absurd are
-pattern_within vs count (n ∷ ns) [] size are = absurd are
 pattern_within vs count (n ∷ ns) (p ∷ pieces) size are = (piece_within vs n count p size are.0, pattern_within vs count ns pieces size are.1)
+pattern_within vs count ns pieces size are = absurd are
 
 -- the piece at a place is within
 pub within_at : (P : Piece → Type 0) (pieces : List Piece) (i : ℕ) (d : Piece) → AllByRecursion P pieces → i < length pieces → P (get_or pieces i d)

@@ -23,21 +23,7 @@ ranked = P1 ∷ P1 ∷ P2 ∷ P3 ∷ P4 ∷ P5 ∷ P15 ∷ P6 ∷ P7 ∷ P8 ∷ 
 
 pub at_rank : (rule : ProofRule) → slice_get ranked (proof_rank rule) ≡ Some rule
 at_rank P1 = refl
-at_rank P2 = refl
-at_rank P3 = refl
-at_rank P4 = refl
-at_rank P5 = refl
-at_rank P15 = refl
-at_rank P6 = refl
-at_rank P7 = refl
-at_rank P8 = refl
-at_rank P9 = refl
-at_rank P10 = refl
-at_rank P11 = refl
-at_rank P12 = refl
-at_rank P13 = refl
-at_rank P14 = refl
-at_rank L1 = refl
+at_rank rule = refl
 
 -- two rules that are the first broken are one
 pub first_once : (Broken : ProofRule → Type 0) (r q : ProofRule) → Broken r → Broken q → ((other : ProofRule) → proof_rank other < proof_rank r → ¬ (Broken other))

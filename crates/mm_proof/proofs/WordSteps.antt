@@ -18,9 +18,8 @@ use Rattle.mm_proof.proofs.Making.{roots-beside, spelling-beside}
 
 parts_count : (start : ℕ) (parts : List Part) (row : Trees) → AreParts start parts row → length parts ≡ roots row
 parts_count start [] none a = refl
-parts_count start [] (tree l x r) a = absurd a
-parts_count start (p ∷ parts) none a = absurd a
 parts_count start (p ∷ parts) (tree l x r) a = ap suc (parts_count p.end parts r a.2)
+parts_count start parts row a = absurd a
 
 -- the place behind a tree and those to its right
 behind : (l : List ℕ) (x r : Trees) → length (spelling (tree l x r)) ≡ length (spelling x) + 1 + length (spelling r)
@@ -28,10 +27,9 @@ behind l x r = let n = length-append (spelling x) (l ∷ spelling r) in omega ar
 
 parts_join : (start : ℕ) (parts more : List Part) (a b : Trees) → AreParts start parts a → AreParts (start + length (spelling a)) more b → AreParts start (parts ++ more) (beside a b)
 parts_join start [] more none b p q = subst (λ (n : ℕ). AreParts n more b) (omega arith) q
-parts_join start [] more (tree l x r) b p q = absurd p
-parts_join start (t ∷ parts) more none b p q = absurd p
 parts_join start (t ∷ parts) more (tree l x r) b p q =
     (p.0, p.1, parts_join t.end parts more r b p.2 (subst (λ (n : ℕ). AreParts n more b) (let n = behind l x r in let e = p.1 in omega arith) q))
+parts_join start parts more a b p q = absurd p
 
 parts_split : (start : ℕ) (parts more : List Part) (a b : Trees) → roots b ≡ length more → AreParts start (parts ++ more) (beside a b) → AreParts start parts a × AreParts (start + length (spelling a)) more b
 parts_split start [] more none b many p = (tt, subst (λ (n : ℕ). AreParts n more b) (omega arith) p)
@@ -54,9 +52,8 @@ part_later word more part t p = record {
 
 parts_later : (word more : List (List ℕ)) (shelf : List Part) (kept : List Trees) → AllZip (IsPartOf word) shelf kept → AllZip (IsPartOf (word ++ more)) shelf kept
 parts_later word more [] [] z = tt
-parts_later word more [] (t ∷ kept) z = absurd z
-parts_later word more (p ∷ shelf) [] z = absurd z
 parts_later word more (p ∷ shelf) (t ∷ kept) z = (part_later word more p t z.0, parts_later word more shelf kept z.1)
+parts_later word more shelf kept z = absurd z
 
 pub kept_part : (stack shelf : List Part) (item : Part) (row : Trees) (kept : List Trees) (label : List ℕ) (below : Trees) → IsKept shelf kept item label below → ArePartsOf stack row shelf kept
     → IsPartOf (spelling row) item (tree label below none)

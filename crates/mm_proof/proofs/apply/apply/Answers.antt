@@ -10,9 +10,11 @@ use Rattle.mm_proof.specs.declared.fault.ProofRule.TheVariants.{P8, P9}
 use Rattle.mm_proof.specs.Plain.{label_ids}
 use Rattle.mm_proof.specs.Mirror.CodeVerify.{AreBelow, AreStackEntries}
 use Rattle.mm_proof.specs.Mirror.CodeRun.{StopsAt}
+use Rattle.mm_proof.specs.Mirror.CodeApply.{IsReady, IsEarlierScheme}
 use Rattle.mm_proof.proofs.Named.{as_many}
 use Rattle.mm_proof.proofs.Patterned.{its_within}
 use Rattle.mm_proof.proofs.Applying.{stops_P8, stops_P9, called_of, ready_of, entries_drop, entries_below}
+use Rattle.mm_proof.proofs.apply.apply.Given as given
 use Rattle.mm_proof.proofs.apply.apply.Goals as goal
 
 drop_below : (st before : List Sentence) (base : ℕ) (stack : List (List ℕ)) → AreStackEntries st before stack → AllByRecursion (AreBelow st) (drop base stack)
@@ -66,49 +68,44 @@ returns-in-Some-rule_broken-clause-fault g c rule step is =
       λ id of.
           let st = c.args.book.now.statements in
           let stack = g.S.Store.stack c.args.store.now in
-          let base = c.len-count.result - length c.args.scheme.now.hypotheses.now in
           let hs = of.hypotheses.hypotheses in
           let called = called_of st c.args.own.now.place id c.args.scheme.now of in
-          let codes = c.in-Some.ensures.codes st of.typed (drop_below st _ base stack c.requires.entries) hs called.known in
-          subst (λ (r : ProofRule). StopsAt c.args.limit st c.args.own.now.place id stack r) same (c.in-Some-rule_broken.ensures c.args.limit id of.at hs called of.pairs codes),
+          subst (λ (r : ProofRule). StopsAt c.args.limit st c.args.own.now.place id stack r) same
+          (c.in-Some-rule_broken.ensures c.args.limit id of.at hs called of.pairs
+          (c.in-Some.ensures.codes st of.typed (drop_below st _ _ stack c.requires.entries) hs
+          called.known)),
     )
 
 -- only the limit is left to judge
+ready : (g : given.Over) (c : goal.After-conclude g) (id : ℕ)
+    (of : IsEarlierScheme c.args.book.now.statements c.args.own.now.place id c.args.scheme.now)
+    → IsReady c.args.book.now.statements c.args.own.now.place id of.at
+    (variables_of c.args.scheme.now.hypotheses.now)
+    (drop (c.len-count.result - length c.args.scheme.now.hypotheses.now)
+    (g.S.Store.stack c.args.store.now)) c.args.scheme.now.conclusion.now
+ready g c id of =
+    let st = c.args.book.now.statements in
+    let called = called_of st c.args.own.now.place id c.args.scheme.now of in
+    ready_of st c.args.own.now.place id c.args.scheme.now _ of
+    (c.in-None.ensures c.args.limit id of.at of.hypotheses.hypotheses called of.pairs
+    (c.in-Some.ensures.codes st of.typed (drop_below st _ _ _ c.requires.entries)
+    of.hypotheses.hypotheses called.known))
+
 pub returns-in-None-clause-carried : goal.returns-in-None-clause-carried
 returns-in-None-clause-carried g c = IfOk-weaker c.conclude.result _ _ (λ u carried id of.
-    let st = c.args.book.now.statements in
-    let stack = g.S.Store.stack c.args.store.now in
-    let base = c.len-count.result - length c.args.scheme.now.hypotheses.now in
-    let hs = of.hypotheses.hypotheses in
-    let called = called_of st c.args.own.now.place id c.args.scheme.now of in
-    let codes = c.in-Some.ensures.codes st of.typed (drop_below st _ base stack c.requires.entries) hs called.known in
-    let matched = c.in-None.ensures c.args.limit id of.at hs called of.pairs codes in
-    carried st c.args.own.now.place id of.at c.requires.sound (ready_of st c.args.own.now.place id c.args.scheme.now (drop base stack) of matched)) c.conclude.ensures.carried
+    carried c.args.book.now.statements c.args.own.now.place id of.at c.requires.sound
+    (ready g c id of)) c.conclude.ensures.carried
 
 pub returns-in-None-clause-entries : goal.returns-in-None-clause-entries
 returns-in-None-clause-entries g c = IfOk-weaker c.conclude.result _ _ (λ u entries.
-    let id = c.requires.scheme.0 in
-    let of = c.requires.scheme.1 in
-    let st = c.args.book.now.statements in
-    let stack = g.S.Store.stack c.args.store.now in
-    let base = c.len-count.result - length c.args.scheme.now.hypotheses.now in
-    let hs = of.hypotheses.hypotheses in
-    let called = called_of st c.args.own.now.place id c.args.scheme.now of in
-    let codes = c.in-Some.ensures.codes st of.typed (drop_below st _ base stack c.requires.entries) hs called.known in
-    let matched = c.in-None.ensures c.args.limit id of.at hs called of.pairs codes in
-    entries st c.args.own.now.place id of.at c.requires.sound (ready_of st c.args.own.now.place id c.args.scheme.now (drop base stack) of matched) c.requires.entries) c.conclude.ensures.entries
+    let (id, of) = c.requires.scheme in
+    entries c.args.book.now.statements c.args.own.now.place id of.at c.requires.sound
+    (ready g c id of) c.requires.entries) c.conclude.ensures.entries
 
 pub returns-in-None-clause-fault : goal.returns-in-None-clause-fault
 returns-in-None-clause-fault g c rule step is =
     let told = c.conclude.ensures.fault rule step is in (
       told.0,
-      λ id of.
-          let st = c.args.book.now.statements in
-          let stack = g.S.Store.stack c.args.store.now in
-          let base = c.len-count.result - length c.args.scheme.now.hypotheses.now in
-          let hs = of.hypotheses.hypotheses in
-          let called = called_of st c.args.own.now.place id c.args.scheme.now of in
-          let codes = c.in-Some.ensures.codes st of.typed (drop_below st _ base stack c.requires.entries) hs called.known in
-          let matched = c.in-None.ensures c.args.limit id of.at hs called of.pairs codes in
-          told.1 st c.args.own.now.place id of.at c.requires.sound (ready_of st c.args.own.now.place id c.args.scheme.now (drop base stack) of matched),
+      λ id of. told.1 c.args.book.now.statements c.args.own.now.place id of.at c.requires.sound
+          (ready g c id of),
     )
