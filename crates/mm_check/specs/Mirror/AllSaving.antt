@@ -127,7 +127,7 @@ IsFinishFault file fault =
 -- ---- the statements so far
 
 -- the place is where the proof of the last `$p` of the file so far whose proof is replaced ends; the
--- file's begin, where there is none
+-- file's beginning, where there is none
 abbrev pub IsLastEnd : (number : ℕ) → List PlainStatement → (at : ℕ) → Type 0
 IsLastEnd number taken at =
     (at ≡ 0)
