@@ -17,6 +17,7 @@ ghost use Rattle.mm_frame.specs.Taken.{TakenAs};
 ghost use Rattle.mm_proof.specs.Steps.{IsProofNumber};
 ghost use Rattle.mm_code.specs.Layout.{texts};
 
+use crate::databases::{HEAD, LIMIT};
 use mm_frame::{Book, Found, LabelId, Piece, ShortPiece, Sym, Taken};
 use mm_proof::{
     Flat, Line, Name, Parsed, Profile, ProofFault, ProofRule, Rows, Steps, Store, Used,
@@ -32,41 +33,6 @@ use std::test::Fail;
 
 /// The most bytes of the tokens that a book takes.
 const ROOM: u64 = 1_073_741_824;
-
-/// Terms, sums and equations, with modus ponens: 18 statements.
-const HEAD: &[u8] = b"\
-$c 0 + = -> ( ) term wff |- $.
-$v t r s P Q $.
-tt $f term t $.
-tr $f term r $.
-ts $f term s $.
-wp $f wff P $.
-wq $f wff Q $.
-tze $a term 0 $.
-tpl $a term ( t + r ) $.
-weq $a wff t = r $.
-wim $a wff ( P -> Q ) $.
-a1 $a |- ( t = r -> ( t = s -> r = s ) ) $.
-a2 $a |- ( t + 0 ) = t $.
-${
-  min $e |- P $.
-  maj $e |- ( P -> Q ) $.
-  mp $a |- Q $.
-$}
-";
-
-/// An axiom that doubles an expression.
-const LIMIT: &[u8] = b"\
-$c e f | $.
-$v x $.
-fx $f e x $.
-one $a e | $.
-odd $a e x x | $.
-${
-h $e e x $.
-end $a f $.
-$}
-";
 
 /// Strings, and the joining of two of them, with a proof of 100 joinings: its word has 2^101 - 1
 /// labels.

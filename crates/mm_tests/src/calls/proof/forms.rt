@@ -9,7 +9,8 @@ ghost use Rattle.mm_proof.specs.Steps.{AreSteps, IsProofNumber};
 ghost use Rattle.mm_proof.specs.Verified.{OfMoves};
 ghost use Rattle.mm_code.specs.Layout.{texts};
 
-use crate::calls::proof::{HEAD, JOINED, SHARED, Theorem, first_theorem, joined};
+use crate::calls::proof::{JOINED, SHARED, Theorem, first_theorem, joined};
+use crate::databases::HEAD;
 use crate::doublings::TWENTY_FOUR;
 use mm_code::Code;
 use mm_frame::{Book, LabelId};

@@ -7,7 +7,8 @@ ghost use Rattle.mm_frame.specs.Sentence.{Sentence};
 ghost use Rattle.mm_proof.specs.Steps.{IsProofNumber};
 ghost use Rattle.mm_code.specs.Layout.{texts};
 
-use crate::calls::proof::{HEAD, Theorem, first_theorem, joined};
+use crate::calls::proof::{Theorem, first_theorem, joined};
+use crate::databases::HEAD;
 use mm_proof::{Flat, Parsed, Profile, ProofFault, ProofRule, Steps, Used, verify};
 use mm_text::File;
 use std::alloc::Global;

@@ -6,7 +6,8 @@ ghost use Rattle.mm_frame.specs.Sentence.{Sentence, sentence_in};
 ghost use Rattle.mm_frame.specs.Taken.{TakenAs};
 ghost use Rattle.mm_proof.specs.Steps.{IsProofNumber};
 
-use crate::calls::proof::{HEAD, ROOM, bytes_of, joined, read_next, reader, theorem_number};
+use crate::calls::proof::{ROOM, bytes_of, joined, read_next, reader, theorem_number};
+use crate::databases::HEAD;
 use mm_frame::{LabelId, Taken};
 use mm_proof::{Profile, ProofFault, ProofRule, Proved, Prover};
 use mm_text::{File, Kind, Seed, Statement, Statements};
