@@ -327,6 +327,11 @@ fn limits_of_the_strict_profile(rt: HostRuntime) -> Result<(), Fail> {
 }
 
 #[test]
+fn over_the_limit_of_the_strict_profile(rt: HostRuntime) -> Result<(), Fail> {
+    compare_under(&rt, rt.alloc(), Profile::Strict, &profiles::OVER_THE_LIMIT)
+}
+
+#[test]
 fn fronts_under_the_strict_profile(rt: HostRuntime) -> Result<(), Fail> {
     compare_under(&rt, rt.alloc(), Profile::Strict, &profiles::FRONTS)
 }
