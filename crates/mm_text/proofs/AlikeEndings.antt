@@ -1,19 +1,20 @@
 -- Readings that show the same end alike.
-use Rattle.std.proofs.Common.{◌≡◌, ◌≢◌, ℕ, ◌+◌, ◌≤◌, length, map, take, count_by, List, [], ◌∷◌, ◌++◌, Bool, refl, sym, ap, subst, ◌∙◌, cond, inl, inr}
+use Rattle.std.proofs.Common.{◌≡◌, ◌≢◌, ℕ, ◌+◌, length, map, take, count_by, List, [], ◌∷◌, ◌++◌, Bool, refl, sym, ap, subst, ◌∙◌, cond, inl, inr}
 use Rattle.std.specs.Prelude.{option_map}
 use Rattle.std.specs.List.{take-map}
-use Rattle.std.proofs.lemmas.List.Sums.{sum_by-cons}
+use Rattle.std.proofs.lemmas.List.Sums.{sum-map}
+use Rattle.std.specs.List.{sum}
 use Rattle.mm_text.specs.declared.fault.TextRule.{TextRule}
 use Rattle.mm_text.specs.declared.fault.TextRule.TheVariants.{X6, X8, S1, S2, S3, S4, S5, S6, S7}
 use Rattle.mm_text.specs.declared.statement.Kind.{Kind}
 use Rattle.mm_text.specs.Token.{PlainToken, IsLabel, HoldsNoDollar}
 use Rattle.mm_text.specs.Items.{Item, Plain, Wrong, Inclusion, End}
 use Rattle.mm_text.specs.Statement.{PlainStatement, IsKeyword, FitsCount, label_in}
-use Rattle.mm_text.specs.Blocks.{is_opening, is_closing, openings, closings, AreBalanced, AreClosed, IsInnermost}
+use Rattle.mm_text.specs.Blocks.{is_opening, is_closing, AreBalanced, AreClosed, IsInnermost}
 use Rattle.mm_text.specs.Reading.{PlainFault, Meets, MeetsX6, EndsInX8, EndsInS7, EndsAt, fault_at}
 use Rattle.mm_text.specs.Alike.{token_on, faulty_on, item_on, statement_on, fault_on}
 use Rattle.mm_text.proofs.AlikeBeginnings.{text_alike, label_alike, nothing_alike, lone_alike, body_alike, proof_alike}
-use Rattle.mm_text.proofs.Lists.{append_split, cons_split, nil_split, same_length}
+use Rattle.mm_text.proofs.Lists.{append_split, cons_split, mapped_zip, same_length, zip_mapped}
 
 -- ---- blocks
 
@@ -25,14 +26,12 @@ module _ (h k : ℕ → ℕ → ℕ) where
   -- both have as many statements of some kinds
   pub count_alike : (p : Kind → Bool) (statements same : List PlainStatement) → map (statement_on h) statements ≡ map (statement_on k) same
       → count_by (λ (s : PlainStatement). p s.kind) statements ≡ count_by (λ (s : PlainStatement). p s.kind) same
-  count_alike p [] same e = ap (count_by (λ (s : PlainStatement). p s.kind)) (sym (nil_split (statement_on h) (statement_on k) same e))
-  count_alike p (s ∷ statements) same e =
-      let (r, rest, whole, first, later) = cons_split (statement_on h) (statement_on k) s statements same e in
-      sum_by-cons (λ (x : PlainStatement). cond (p x.kind) 1 0) s statements
-      ∙ ap (λ (x : Kind). cond (p x) 1 0 + count_by (λ (y : PlainStatement). p y.kind) statements) (kind_alike s r first)
-      ∙ ap (λ (n : ℕ). cond (p r.kind) 1 0 + n) (count_alike p statements rest later)
-      ∙ sym (sum_by-cons (λ (x : PlainStatement). cond (p x.kind) 1 0) r rest)
-      ∙ ap (count_by (λ (x : PlainStatement). p x.kind)) (sym whole)
+  count_alike p statements same e =
+      let count : PlainStatement → ℕ = λ s. cond (p s.kind) 1 0 in
+      sym (sum-map count statements)
+      ∙ ap sum (zip_mapped count count statements same (mapped_zip (statement_on h) (statement_on k)
+      (λ s r. count s ≡ count r) (λ s r e. ap count e) statements same e))
+      ∙ sum-map count same
 
   -- both close each block that they open
   pub closed_alike : (statements same : List PlainStatement) → map (statement_on h) statements ≡ map (statement_on k) same → AreClosed statements → AreClosed same
@@ -43,8 +42,7 @@ module _ (h k : ℕ → ℕ → ℕ) where
   balanced_alike statements same e b n =
       let fronts : map (statement_on h) (take n statements) ≡ map (statement_on k) (take n same) =
       sym (take-map (statement_on h) n statements) ∙ ap (take n) e ∙ take-map (statement_on k) n same in
-      subst (λ (x : ℕ). x ≤ openings (take n same)) (count_alike is_closing (take n statements) (take n same) fronts)
-      (subst (λ (x : ℕ). closings (take n statements) ≤ x) (count_alike is_opening (take n statements) (take n same) fronts) (b n))
+      rw (← count_alike is_closing _ _ fronts, ← count_alike is_opening _ _ fronts) (b n)
 
   -- the innermost open blocks are alike
   pub innermost_alike : (statements same before : List PlainStatement) (opening : PlainStatement) → map (statement_on h) statements ≡ map (statement_on k) same → IsInnermost statements before opening

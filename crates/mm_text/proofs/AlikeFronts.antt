@@ -2,9 +2,9 @@
 use Rattle.std.proofs.Common.{◌≡◌, ℕ, ◌+◌, map, List, [], ◌∷◌, ◌++◌, refl, sym, ap, subst, ◌∙◌}
 use Rattle.std.specs.Prelude.{option_map}
 use Rattle.mm_text.specs.declared.statement.Kind.{Kind}
-use Rattle.mm_text.specs.declared.statement.Kind.TheVariants.{Constants, Variables, Distinct, Floating, Essential, Axiom, Provable, Opening, Closing}
+use Rattle.mm_text.specs.declared.statement.Kind.TheVariants.{Provable, Opening, Closing}
 use Rattle.mm_text.specs.Token.{PlainToken}
-use Rattle.mm_text.specs.Statement.{PlainStatement, AreSymbols, FitsCount, label_in, EndsAtOnce, EndsInProof, IsTail, Spells, SpellsAll}
+use Rattle.mm_text.specs.Statement.{PlainStatement, AreSymbols, FitsCount, label_in, IsTail, Spells, SpellsAll}
 use Rattle.mm_text.specs.Items.{Item, Plain, Wrong, Inclusion, End, plain_tokens, HoldNoFault}
 use Rattle.mm_text.specs.Reading.{AreOutside, Viable}
 use Rattle.mm_text.specs.Alike.{token_on, item_on, statement_on}
@@ -21,27 +21,8 @@ record TailAlike (h k : ℕ → ℕ → ℕ) (s : PlainStatement) (kind : Kind) 
   pub same : map (token_on h) s.proof ≡ map (token_on k) proof
   pub ends : (o : PlainStatement) → o.proof ≡ proof → o.span ≡ span → IsTail o kind others
 
--- what corresponds to a `$.` alone
-record OnceAlike (h k : ℕ → ℕ → ℕ) (s : PlainStatement) (others : List PlainToken) : Type 0 where
-  pub same : map (token_on h) s.proof ≡ []
-  pub ends : (o : PlainStatement) → o.proof ≡ [] → o.span ≡ (0, 0) → EndsAtOnce o others
-
-once_alike : (h k : ℕ → ℕ → ℕ) (s : PlainStatement) (tail others : List PlainToken) → map (token_on h) tail ≡ map (token_on k) others → EndsAtOnce s tail → OnceAlike h k s others
-once_alike h k s tail others e b =
-    let (u, whole, same) = one_split (token_on h) (token_on k) b.stop others (ap (map (token_on h)) (sym b.tokens) ∙ e) in
-    record {
-      same = ap (map (token_on h)) b.proof;
-      ends = λ o p q. record {
-        stop = u;
-        tokens = whole;
-        end = sym (text_alike h k b.stop u same) ∙ b.end;
-        proof = p;
-        span = q;
-      };
-    }
-
-proof_alike : (h k : ℕ → ℕ → ℕ) (s : PlainStatement) (tail others : List PlainToken) → map (token_on h) tail ≡ map (token_on k) others → EndsInProof s tail → TailAlike h k s Provable others
-proof_alike h k s tail others e b =
+tail_alike : (h k : ℕ → ℕ → ℕ) (s : PlainStatement) (kind : Kind) (tail others : List PlainToken) → map (token_on h) tail ≡ map (token_on k) others → IsTail s kind tail → TailAlike h k s kind others
+tail_alike h k s Provable tail others e b =
     let (q, qs, whole, sign, more) = cons_split (token_on h) (token_on k) b.equals (s.proof ++ b.stop ∷ []) others (ap (map (token_on h)) (sym b.tokens) ∙ e) in
     let (steps, end, split, proofs, last) = append_split (token_on h) (token_on k) s.proof (b.stop ∷ []) qs more in
     let (u, all, same) = one_split (token_on h) (token_on k) b.stop end last in
@@ -59,17 +40,22 @@ proof_alike h k s tail others e b =
         span = r;
       };
     }
-
-tail_alike : (h k : ℕ → ℕ → ℕ) (s : PlainStatement) (kind : Kind) (tail others : List PlainToken) → map (token_on h) tail ≡ map (token_on k) others → IsTail s kind tail → TailAlike h k s kind others
-tail_alike h k s Constants tail others e b = let a = once_alike h k s tail others e b in record { proof = []; span = (0, 0); same = a.same; ends = a.ends }
-tail_alike h k s Variables tail others e b = let a = once_alike h k s tail others e b in record { proof = []; span = (0, 0); same = a.same; ends = a.ends }
-tail_alike h k s Distinct tail others e b = let a = once_alike h k s tail others e b in record { proof = []; span = (0, 0); same = a.same; ends = a.ends }
-tail_alike h k s Floating tail others e b = let a = once_alike h k s tail others e b in record { proof = []; span = (0, 0); same = a.same; ends = a.ends }
-tail_alike h k s Essential tail others e b = let a = once_alike h k s tail others e b in record { proof = []; span = (0, 0); same = a.same; ends = a.ends }
-tail_alike h k s Axiom tail others e b = let a = once_alike h k s tail others e b in record { proof = []; span = (0, 0); same = a.same; ends = a.ends }
-tail_alike h k s Provable tail others e b = proof_alike h k s tail others e b
 tail_alike h k s Opening tail others e b = record { proof = []; span = (0, 0); same = ap (map (token_on h)) b.1; ends = λ o p q. (nil_split (token_on h) (token_on k) others (ap (map (token_on h)) (sym b.0) ∙ e), p, q) }
 tail_alike h k s Closing tail others e b = record { proof = []; span = (0, 0); same = ap (map (token_on h)) b.1; ends = λ o p q. (nil_split (token_on h) (token_on k) others (ap (map (token_on h)) (sym b.0) ∙ e), p, q) }
+tail_alike h k s _ tail others e b =
+    let (u, whole, same) = one_split (token_on h) (token_on k) b.stop others (ap (map (token_on h)) (sym b.tokens) ∙ e) in
+    record {
+      proof = [];
+      span = (0, 0);
+      same = ap (map (token_on h)) b.proof;
+      ends = λ o p q. record {
+        stop = u;
+        tokens = whole;
+        end = sym (text_alike h k b.stop u same) ∙ b.end;
+        proof = p;
+        span = q;
+      };
+    }
 
 -- ---- statements
 
@@ -112,24 +98,18 @@ statements_alike h k tokens others (s ∷ statements) e b =
 
 -- an item that is alike to an inclusion is one
 inclusion_alike : (h k : ℕ → ℕ → ℕ) (t : PlainToken) (item : Item) → item_on h (Inclusion t) ≡ item_on k item → (u : PlainToken) × (item ≡ Inclusion u)
-inclusion_alike h k t (Plain u) e = absurd cc
-inclusion_alike h k t (Wrong rule u) e = absurd cc
 inclusion_alike h k t (Inclusion u) e = (u, refl)
-inclusion_alike h k t (End file) e = absurd cc
+inclusion_alike h k t _ e = absurd cc
 
 -- an item that is alike to the end of a file is that
 end_alike : (h k : ℕ → ℕ → ℕ) (file : ℕ) (item : Item) → item_on h (End file) ≡ item_on k item → item ≡ End file
-end_alike h k file (Plain u) e = absurd cc
-end_alike h k file (Wrong rule u) e = absurd cc
-end_alike h k file (Inclusion u) e = absurd cc
 end_alike h k file (End other) e = cc
+end_alike h k file _ e = absurd cc
 
 plain_tokens_on : (h : ℕ → ℕ → ℕ) (its : List Item) → plain_tokens (map (item_on h) its) ≡ map (token_on h) (plain_tokens its)
 plain_tokens_on h [] = refl
 plain_tokens_on h (Plain t ∷ its) = ap (λ (x : List PlainToken). token_on h t ∷ x) (plain_tokens_on h its)
-plain_tokens_on h (Wrong rule t ∷ its) = plain_tokens_on h its
-plain_tokens_on h (Inclusion t ∷ its) = plain_tokens_on h its
-plain_tokens_on h (End file ∷ its) = plain_tokens_on h its
+plain_tokens_on h (_ ∷ its) = plain_tokens_on h its
 
 -- the tokens in items that are alike are alike
 pub plain_tokens_alike : (h k : ℕ → ℕ → ℕ) (its others : List Item) → map (item_on h) its ≡ map (item_on k) others → map (token_on h) (plain_tokens its) ≡ map (token_on k) (plain_tokens others)
@@ -137,21 +117,13 @@ plain_tokens_alike h k its others e = sym (plain_tokens_on h its) ∙ ap plain_t
 
 clean_on : (h : ℕ → ℕ → ℕ) (its : List Item) → HoldNoFault its → HoldNoFault (map (item_on h) its)
 clean_on h [] c = tt
-clean_on h (Plain t ∷ its) c = clean_on h its c
 clean_on h (Wrong rule t ∷ its) c = absurd c
-clean_on h (Inclusion t ∷ its) c = clean_on h its c
-clean_on h (End file ∷ its) c = clean_on h its c
+clean_on h (_ ∷ its) c = clean_on h its c
 
 clean_off : (h : ℕ → ℕ → ℕ) (its : List Item) → HoldNoFault (map (item_on h) its) → HoldNoFault its
 clean_off h [] c = tt
-clean_off h (Plain t ∷ its) c = clean_off h its c
 clean_off h (Wrong rule t ∷ its) c = absurd c
-clean_off h (Inclusion t ∷ its) c = clean_off h its c
-clean_off h (End file ∷ its) c = clean_off h its c
-
--- the one hold no fault as the others do
-pub clean_alike : (h k : ℕ → ℕ → ℕ) (its others : List Item) → map (item_on h) its ≡ map (item_on k) others → HoldNoFault its → HoldNoFault others
-clean_alike h k its others e c = clean_off k others (subst HoldNoFault e (clean_on h its c))
+clean_off h (_ ∷ its) c = clean_off h its c
 
 -- the one are whole statements with no block open, as the others are
 pub outside_alike : (h k : ℕ → ℕ → ℕ) (tokens others : List PlainToken) → map (token_on h) tokens ≡ map (token_on k) others → AreOutside tokens → AreOutside others
@@ -189,7 +161,7 @@ viable_alike h k front other statements unfinished e v =
       same,
       begun,
       record {
-        clean = clean_alike h k front other e v.clean;
+        clean = clean_off k other (subst HoldNoFault e (clean_on h front v.clean));
         finished = finished;
         whole = whole;
         spelled = spelled;

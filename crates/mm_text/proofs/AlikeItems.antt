@@ -1,63 +1,40 @@
 -- Files that show the same have the same items, but for the places of their tokens.
-use Rattle.std.proofs.Common.{◌≡◌, ℕ, zero, suc, ◌+◌, List, [], ◌∷◌, ◌++◌, length, map, replicate, Bool, true, false, cond, not, refl, sym, ap, ◌∙◌, subst, codes, Option, Some, None}
+use Rattle.std.proofs.Common.{◌≡◌, ℕ, zero, suc, ◌+◌, List, [], ◌∷◌, length, map, replicate, Bool, true, false, cond, not, refl, sym, ap, ◌∙◌, codes, Option, Some, None}
 use Rattle.std.specs.Prelude.{nat_lt, slice_get, slice_index_or, slice_set, unwrap_or, option_map}
-use Rattle.std.specs.List.{AllZip, AllByRecursion, list_all, prefix_len}
-use Rattle.std.proofs.lemmas.Bool.{cond_both}
+use Rattle.std.specs.List.{AllZip, AllByRecursion, prefix_len}
 use Rattle.std.proofs.lemmas.Slice.Zip.{AllZip-long}
 use Rattle.mm_text.specs.declared.fault.TextRule.{TextRule}
 use Rattle.mm_text.specs.declared.fault.TextRule.TheVariants.{X5, X7}
-use Rattle.mm_text.specs.Token.{PlainToken, is_printable, tokens_from}
+use Rattle.mm_text.specs.Token.{PlainToken, tokens_from}
 use Rattle.mm_text.specs.Files.{PlainFile}
-use Rattle.mm_text.specs.Items.{Item, Plain, Wrong, Inclusion, End, Shown, Clear, Broken, without_comments, spells, holds_dollar, holds_mark, Spot, Outside, Naming, Closing, Piece, Met, Named, broken_outside, pieces, pieces_of, file_number, with_inclusions, put_before, put_in, items}
+use Rattle.mm_text.specs.Items.{Item, Plain, Wrong, Inclusion, Shown, Clear, Broken, without_comments, spells, holds_dollar, Spot, Outside, Naming, Closing, Piece, Met, Named, broken_outside, pieces, pieces_of, file_number, with_inclusions, put_before, put_in, items}
 use Rattle.mm_text.specs.LineNumbers.{feeds_before, feeds_in}
 use Rattle.mm_text.specs.Alike.{token_on, faulty_on, shown_on, item_on, shows, AreAlike}
 use Rattle.mm_text.proofs.PlaceLaws.{StandsIn, tokens_in_place}
-use Rattle.mm_text.proofs.Lists.{mapped_zip, zip_append, zip_mapped, zip_weaker}
+use Rattle.mm_text.proofs.Lists.{all_weaker, both_choices, mapped_zip, zip_append, zip_left, zip_length}
+use Rattle.mm_text.proofs.Lists.{zip_mapped, zip_weaker}
+use Rattle.std.proofs.Common.{arith, inl, inr}
+use Rattle.std.proofs.lemmas.Option.{slice_get_cases, slice_get_past}
+use Rattle.mm_text.proofs.ItemTokens.{ShownIs, shown_all}
+use Rattle.mm_text.proofs.InclusionLaws.{is_wrong, named_related, spliced_met, spliced_name}
+use Rattle.mm_text.proofs.InclusionLaws.{spliced_nil}
 use Rattle.mm_text.proofs.AlikeBeginnings.{text_alike}
 use Rattle.mm_text.proofs.AlikeEndings.{faulty_alike}
 
--- ---- choices
-
--- two choices by one test
-both_choices : {A B : Type 0} (R : A → B → Type 0) (b c : Bool) (x y : A) (u v : B) → b ≡ c → R x u → R y v → R (cond b x y) (cond c u v)
-both_choices R true true x y u v e h k = h
-both_choices R false false x y u v e h k = k
-both_choices R true false x y u v e h k = absurd cc
-both_choices R false true x y u v e h k = absurd cc
-
 -- ---- tokens of a file have its number
 
--- the token that is shown, or is at fault
-abbrev shown_token : Shown → PlainToken
-shown_token (Clear t) = t
-shown_token (Broken rule t) = t
-
--- it is of the file with this number
+-- what is shown is of the file with this number
 abbrev pub AtHome : ℕ → Shown → Type 0
-AtHome file s = (shown_token s).file ≡ file
-
--- and so is the beginning of an open comment
-abbrev pub BegunAtHome : ℕ → Option PlainToken → Type 0
-BegunAtHome file None = Unit {0}
-BegunAtHome file (Some begin) = begin.file ≡ file
+AtHome file s = ShownIs (λ t. t.file ≡ file) s
 
 -- what a file shows is of that file
-pub shown_at_home : (file : ℕ) (bytes : List ℕ) (begin : Option PlainToken) (tokens : List PlainToken) → BegunAtHome file begin → AllByRecursion (StandsIn file bytes) tokens → AllByRecursion (AtHome file) (without_comments begin tokens)
-unfolding without_comments
-shown_at_home file bytes None [] b h = tt
-shown_at_home file bytes (Some begin) [] b h = (b, tt)
-shown_at_home file bytes None (t ∷ tokens) b h =
-    let inside = shown_at_home file bytes (Some t) tokens h.0.home h.1 in
-    let outside = shown_at_home file bytes None tokens tt h.1 in
-    cond_both (not (list_all is_printable t.text)) _ _ (AllByRecursion (AtHome file)) (λ _. (h.0.home, tt))
-    (λ _. cond_both (spells t.text (codes "$(")) _ _ (AllByRecursion (AtHome file)) (λ _. inside)
-    (λ _. cond_both (spells t.text (codes "$)")) _ _ (AllByRecursion (AtHome file)) (λ _. (h.0.home, tt)) (λ _. (h.0.home, outside))))
-shown_at_home file bytes (Some begin) (t ∷ tokens) b h =
-    let inside = shown_at_home file bytes (Some begin) tokens b h.1 in
-    let outside = shown_at_home file bytes None tokens tt h.1 in
-    cond_both (not (list_all is_printable t.text)) _ _ (AllByRecursion (AtHome file)) (λ _. (h.0.home, tt))
-    (λ _. cond_both (spells t.text (codes "$)")) _ _ (AllByRecursion (AtHome file)) (λ _. outside)
-    (λ _. cond_both (holds_mark t.text) _ _ (AllByRecursion (AtHome file)) (λ _. (h.0.home, tt)) (λ _. inside)))
+pub shown_at_home : (file : ℕ) (bytes : List ℕ)
+    → AllByRecursion (AtHome file) (without_comments None (tokens_from file 0 bytes))
+shown_at_home file bytes =
+    let Home : PlainToken → Type 0 = λ t. t.file ≡ file in
+    let tokens = tokens_from file 0 bytes in
+    let home = all_weaker (StandsIn file bytes) Home (λ t h. h.home) tokens in
+    shown_all Home None tokens tt (home (tokens_in_place file bytes))
 
 -- places of one file's tokens are replaced in the same way by what agrees on that file
 one_on : (h k : ℕ → ℕ → ℕ) (file : ℕ) → ((at : ℕ) → h file at ≡ k file at) → (s : Shown) → AtHome file s → shown_on h s ≡ shown_on k s
@@ -79,91 +56,39 @@ shown_of_file files n f there =
     each_on (feeds_in files) (λ file at. feeds_before f.bytes at) n
     (λ at. ap (λ (o : Option PlainFile). feeds_before (unwrap_or (option_map (λ g. g.bytes) o) []) at) there)
     (without_comments None (tokens_from n 0 f.bytes))
-    (shown_at_home n f.bytes None (tokens_from n 0 f.bytes) tt (tokens_in_place n f.bytes))
+    (shown_at_home n f.bytes)
 
 -- ---- two readings of tokens that correspond
 
 -- pieces correspond
 abbrev pub SamePiece : (ℕ → ℕ → ℕ) → (ℕ → ℕ → ℕ) → Piece → Piece → Type 0
 SamePiece h k (Met a) (Met b) = item_on h a ≡ item_on k b
-SamePiece h k (Met a) (Named m) = ⊥
-SamePiece h k (Named n) (Met b) = ⊥
 SamePiece h k (Named n) (Named m) = token_on h n ≡ token_on k m
+SamePiece h k _ _ = ⊥
 
 -- what files show corresponds
 abbrev pub SameShown : (ℕ → ℕ → ℕ) → (ℕ → ℕ → ℕ) → Shown → Shown → Type 0
 SameShown h k (Clear t) (Clear u) = token_on h t ≡ token_on k u
-SameShown h k (Clear t) (Broken rule u) = ⊥
-SameShown h k (Broken rule t) (Clear u) = ⊥
 SameShown h k (Broken rule t) (Broken law u) = (rule ≡ law) × (faulty_on h t ≡ faulty_on k u)
+SameShown h k _ _ = ⊥
 
 -- spots correspond
 abbrev pub SameSpot : (ℕ → ℕ → ℕ) → (ℕ → ℕ → ℕ) → Spot → Spot → Type 0
 SameSpot h k Outside Outside = Unit {0}
 SameSpot h k (Naming t) (Naming u) = token_on h t ≡ token_on k u
 SameSpot h k (Closing t name) (Closing u other) = (token_on h t ≡ token_on k u) × (token_on h name ≡ token_on k other)
-SameSpot h k Outside (Naming u) = ⊥
-SameSpot h k Outside (Closing u other) = ⊥
-SameSpot h k (Naming t) Outside = ⊥
-SameSpot h k (Naming t) (Closing u other) = ⊥
-SameSpot h k (Closing t name) Outside = ⊥
-SameSpot h k (Closing t name) (Naming u) = ⊥
-
--- a token is shown
-abbrev is_clear : Shown → Bool
-is_clear (Clear t) = true
-is_clear (Broken rule t) = false
-
--- the rule of what is at fault
-abbrev shown_rule : Shown → TextRule
-shown_rule (Clear t) = X5
-shown_rule (Broken rule t) = rule
+SameSpot h k _ _ = ⊥
 
 -- what is one with lines for places corresponds
 pub shown_same : (h k : ℕ → ℕ → ℕ) (x y : Shown) → shown_on h x ≡ shown_on k y → SameShown h k x y
-shown_same h k (Clear t) (Clear u) e = ap shown_token e
-shown_same h k (Broken rule t) (Broken law u) e = (ap shown_rule e, ap shown_token e)
-shown_same h k (Clear t) (Broken rule u) e = let no : true ≡ false = ap is_clear e in absurd cc
-shown_same h k (Broken rule t) (Clear u) e = let no : false ≡ true = ap is_clear e in absurd cc
-
--- a rule, where there is one
-abbrev some_rule : Option TextRule → TextRule
-some_rule None = X5
-some_rule (Some rule) = rule
-
--- an item is a fault
-abbrev pub is_wrong : Item → Bool
-is_wrong (Plain t) = false
-is_wrong (Wrong rule t) = true
-is_wrong (Inclusion t) = false
-is_wrong (End file) = false
+shown_same h k (Clear t) (Clear u) e = cc
+shown_same h k (Broken rule t) (Broken law u) e = (cc, cc)
+shown_same h k _ _ e = absurd cc
 
 -- lines for places make no fault of an item, and none undone
 wrong_on : (h : ℕ → ℕ → ℕ) (a : Item) → is_wrong (item_on h a) ≡ is_wrong a
 wrong_on h (Plain t) = refl
-wrong_on h (Wrong rule t) = refl
-wrong_on h (Inclusion t) = refl
-wrong_on h (End file) = refl
-
-module _ (files : List PlainFile) (named : List Bool) (next : ℕ → List Piece → List Item) where
-  -- nothing is left
-  pub spliced_nil : with_inclusions files named next [] ≡ []
-  unfolding with_inclusions
-  spliced_nil = refl
-
-  -- an item, after which nothing follows if it is a fault
-  pub spliced_met : (a : Item) (rest : List Piece) → with_inclusions files named next (Met a ∷ rest) ≡ cond (is_wrong a) (a ∷ []) (a ∷ with_inclusions files named next rest)
-  unfolding with_inclusions
-  spliced_met (Plain t) rest = refl
-  spliced_met (Wrong rule t) rest = refl
-  spliced_met (Inclusion t) rest = refl
-  spliced_met (End file) rest = refl
-
-  -- the name of a file
-  pub spliced_name : (name : PlainToken) (rest : List Piece) → with_inclusions files named next (Named name ∷ rest)
-      ≡ elim (file_number files name.text) [ None ↦ Wrong X7 name ∷ [] | Some n ↦ cond (slice_index_or named n true) (with_inclusions files named next rest) (next n rest) ]
-  unfolding with_inclusions
-  spliced_name name rest = refl
+wrong_on h _ = refl
 
 module _ (h k : ℕ → ℕ → ℕ) where
   -- a fault at one corresponds to a fault at the other
@@ -174,9 +99,9 @@ module _ (h k : ℕ → ℕ → ℕ) where
   outside_same : (t u : PlainToken) → token_on h t ≡ token_on k u → (ps qs : List Piece) → AllZip (SamePiece h k) ps qs → (o p : Option TextRule) → o ≡ p
       → AllZip (SamePiece h k) (elim o [ Some rule ↦ Met (Wrong rule t) ∷ [] | None ↦ Met (Plain t) ∷ ps ]) (elim p [ Some rule ↦ Met (Wrong rule u) ∷ [] | None ↦ Met (Plain u) ∷ qs ])
   outside_same t u e ps qs s None None i = (ap (λ (x : PlainToken). Plain x) e, s)
-  outside_same t u e ps qs s (Some rule) (Some law) i = (λ j. Wrong (some_rule (i j)) (faulty_alike h k t u e j), tt)
-  outside_same t u e ps qs s None (Some law) i = absurd cc
-  outside_same t u e ps qs s (Some rule) None i = absurd cc
+  outside_same t u e ps qs s (Some rule) (Some law) i =
+      let same : rule ≡ law = cc in (λ j. Wrong (same j) (faulty_alike h k t u e j), tt)
+  outside_same t u e ps qs s _ _ i = absurd cc
 
   -- what corresponds has pieces that correspond
   pub pieces_same : (file : ℕ) (s r : Spot) (a b : List Shown) → SameSpot h k s r → AllZip (SameShown h k) a b → AllZip (SamePiece h k) (pieces file s a) (pieces file r b)
@@ -184,9 +109,7 @@ module _ (h k : ℕ → ℕ → ℕ) where
   pieces_same file Outside Outside [] [] w z = (refl, tt)
   pieces_same file (Naming t) (Naming u) [] [] w z = wrong_piece X5 t u w
   pieces_same file (Closing t name) (Closing u other) [] [] w z = wrong_piece X5 t u w.0
-  pieces_same file Outside Outside (Broken rule t ∷ a) (Broken law u ∷ b) w z = (λ i. Wrong (z.0.0 i) (z.0.1 i), tt)
-  pieces_same file (Naming x) (Naming y) (Broken rule t ∷ a) (Broken law u ∷ b) w z = (λ i. Wrong (z.0.0 i) (z.0.1 i), tt)
-  pieces_same file (Closing x name) (Closing y other) (Broken rule t ∷ a) (Broken law u ∷ b) w z = (λ i. Wrong (z.0.0 i) (z.0.1 i), tt)
+  pieces_same file s r (Broken rule t ∷ a) (Broken law u ∷ b) w z = (λ i. Wrong (z.0.0 i) (z.0.1 i), tt)
   pieces_same file Outside Outside (Clear t ∷ a) (Clear u ∷ b) w z =
       let text = text_alike h k t u z.0 in
       let naming = pieces_same file (Naming t) (Naming u) a b z.0 z.1 in
@@ -203,29 +126,21 @@ module _ (h k : ℕ → ℕ → ℕ) where
       let outside = pieces_same file Outside Outside a b tt z.1 in
       both_choices (AllZip (SamePiece h k)) (spells t.text (codes "$]")) (spells u.text (codes "$]")) _ _ _ _ (ap (λ l. spells l (codes "$]")) text)
       (w.1, outside) (wrong_piece X5 t u z.0)
-  pieces_same file Outside (Naming u) a b w z = absurd w
-  pieces_same file Outside (Closing u other) a b w z = absurd w
-  pieces_same file (Naming t) Outside a b w z = absurd w
-  pieces_same file (Naming t) (Closing u other) a b w z = absurd w
-  pieces_same file (Closing t name) Outside a b w z = absurd w
-  pieces_same file (Closing t name) (Naming u) a b w z = absurd w
   pieces_same file s r [] (x ∷ b) w z = absurd z
   pieces_same file s r (x ∷ a) [] w z = absurd z
   pieces_same file s r (Clear t ∷ a) (Broken rule u ∷ b) w z = absurd z.0
   pieces_same file s r (Broken rule t ∷ a) (Clear u ∷ b) w z = absurd z.0
+  pieces_same file s r a b w z = absurd w
 
   -- the pieces of a file of whose places both tell the same
   pub pieces_agree : (number : ℕ) (file : PlainFile)
       → ((at : ℕ) → h number at ≡ k number at)
       → AllZip (SamePiece h k) (pieces_of number file) (pieces_of number file)
   pieces_agree number file agree =
-      let tokens : List PlainToken = tokens_from number 0 file.bytes in
-      let shown : List Shown = without_comments None tokens in
-      let stand = tokens_in_place number file.bytes in
-      let home = shown_at_home number file.bytes None tokens tt stand in
+      let shown : List Shown = without_comments None (tokens_from number 0 file.bytes) in
       pieces_same number Outside Outside shown shown tt
       (mapped_zip (shown_on h) (shown_on k) (SameShown h k) (shown_same h k) shown shown
-      (each_on h k number agree shown home))
+      (each_on h k number agree shown (shown_at_home number file.bytes)))
 
   -- ---- putting in
 
@@ -233,32 +148,9 @@ module _ (h k : ℕ → ℕ → ℕ) where
   wrong_same : (a b : Item) → item_on h a ≡ item_on k b → is_wrong a ≡ is_wrong b
   wrong_same a b e = sym (wrong_on h a) ∙ ap is_wrong e ∙ wrong_on k b
 
-  -- items correspond
-  abbrev SameItem : Item → Item → Type 0
+  -- the items are the same, but that two functions of places tell of them in place of their places
+  abbrev pub SameItem : Item → Item → Type 0
   SameItem a b = item_on h a ≡ item_on k b
-
-  -- after the name of a file
-  found_same : (named : List Bool) (next on : ℕ → List Piece → List Item) (t u : PlainToken)
-      → token_on h t ≡ token_on k u → (ps qs : List Piece) (its others : List Item)
-      → AllZip SameItem its others
-      → ((n : ℕ) → slice_index_or named n true ≡ false → AllZip SameItem (next n ps) (on n qs))
-      → (o p : Option ℕ) → o ≡ p
-      → AllZip SameItem (elim o [ None ↦ Wrong X7 t ∷ [] | Some n ↦ cond (slice_index_or named n true) its (next n ps) ])
-      (elim p [ None ↦ Wrong X7 u ∷ [] | Some n ↦ cond (slice_index_or named n true) others (on n qs) ])
-  found_same named next on t u e ps qs its others inner goes None None i =
-      (ap (λ (x : PlainToken). Wrong X7 x) (faulty_alike h k t u e), tt)
-  found_same named next on t u e ps qs its others inner goes (Some n) (Some m) i =
-      let same : n ≡ m = cc in
-      subst (λ x. AllZip SameItem (cond (slice_index_or named n true) its (next n ps))
-      (cond (slice_index_or named x true) others (on x qs))) same
-      (tested (slice_index_or named n true) refl)
-    where
-      tested : (b : Bool) → slice_index_or named n true ≡ b
-          → AllZip SameItem (cond b its (next n ps)) (cond b others (on n qs))
-      tested true known = inner
-      tested false unknown = goes n unknown
-  found_same named next on t u e ps qs its others inner goes None (Some m) i = absurd cc
-  found_same named next on t u e ps qs its others inner goes (Some n) None i = absurd cc
 
   module _ (files others : List PlainFile) (numbers : (text : List ℕ) → file_number files text ≡ file_number others text) where
     -- pieces that correspond have items that do, if what goes on at a file that isn't named yet does
@@ -268,8 +160,6 @@ module _ (h k : ℕ → ℕ → ℕ) where
         → (ps qs : List Piece) → AllZip (SamePiece h k) ps qs
         → AllZip SameItem (with_inclusions files named next ps) (with_inclusions others named on qs)
     spliced_same named next on goes [] [] z = rw (spliced_nil files named next) (rw (spliced_nil others named on) tt)
-    spliced_same named next on goes [] (q ∷ qs) z = absurd z
-    spliced_same named next on goes (p ∷ ps) [] z = absurd z
     spliced_same named next on goes (Met a ∷ ps) (Met b ∷ qs) z =
         let inner = spliced_same named next on goes ps qs z.1 in
         rw (spliced_met files named next a ps) (rw (spliced_met others named on b qs)
@@ -277,11 +167,12 @@ module _ (h k : ℕ → ℕ → ℕ) where
     spliced_same named next on goes (Named t ∷ ps) (Named u ∷ qs) z =
         let inner = spliced_same named next on goes ps qs z.1 in
         rw (spliced_name files named next t ps) (rw (spliced_name others named on u qs)
-        (found_same named next on t u z.0 ps qs _ _ inner (λ n e. goes n ps qs e z.1)
-        (file_number files t.text) (file_number others u.text)
+        (named_related (AllZip SameItem) named t u _ _ (λ n. next n ps) (λ n. on n qs)
+        (ap (λ (x : PlainToken). Wrong X7 x) (faulty_alike h k t u z.0), tt) inner
+        (λ n e. goes n ps qs e z.1) (file_number files t.text) (file_number others u.text)
         (numbers t.text ∙ ap (file_number others) (text_alike h k t u z.0))))
-    spliced_same named next on goes (Met a ∷ ps) (Named u ∷ qs) z = absurd z.0
-    spliced_same named next on goes (Named t ∷ ps) (Met b ∷ qs) z = absurd z.0
+    spliced_same named next on goes (p ∷ ps) (q ∷ qs) z = absurd z.0
+    spliced_same named next on goes ps qs z = absurd z
 
     -- the same with files put in
     put_in_same : ((n : ℕ) (ps qs : List Piece) → AllZip (SamePiece h k) ps qs → AllZip (SamePiece h k) (put_before files n ps) (put_before others n qs))
@@ -294,21 +185,6 @@ module _ (h k : ℕ → ℕ → ℕ) where
 
 -- ---- files that show the same
 
--- both are there, or neither
-abbrev BothOrNone : Option PlainFile → Option PlainFile → Type 0
-BothOrNone None None = Unit {0}
-BothOrNone None (Some g) = ⊥
-BothOrNone (Some f) None = ⊥
-BothOrNone (Some f) (Some g) = AreAlike f g
-
--- files with one number are alike
-slices_alike : (files others : List PlainFile) → AllZip AreAlike files others → (n : ℕ) → BothOrNone (slice_get files n) (slice_get others n)
-slices_alike [] [] z n = tt
-slices_alike [] (g ∷ others) z n = absurd z
-slices_alike (f ∷ files) [] z n = absurd z
-slices_alike (f ∷ files) (g ∷ others) z zero = z.0
-slices_alike (f ∷ files) (g ∷ others) z (suc n) = slices_alike files others z.1 n
-
 -- files with the same names, place by place
 abbrev pub SameNames : List PlainFile → List PlainFile → Type 0
 SameNames files others = AllZip (λ f g. f.name ≡ g.name) files others
@@ -318,10 +194,9 @@ first_place : (text : List ℕ) (files others : List PlainFile) → SameNames fi
     → prefix_len (λ f. not (spells text f.name)) files
     ≡ prefix_len (λ f. not (spells text f.name)) others
 first_place text [] [] z = refl
-first_place text [] (g ∷ others) z = absurd z
-first_place text (f ∷ files) [] z = absurd z
 first_place text (f ∷ files) (g ∷ others) z =
     λ i. cond (not (spells text (z.0 i))) (1 + first_place text files others z.1 i) 0
+first_place text files others z = absurd z
 
 -- as many files
 pub as_long : (files others : List PlainFile) → SameNames files others
@@ -336,45 +211,39 @@ same_number files others z text =
     let long = as_long files others z in
     λ i. cond (nat_lt (place i) (long i)) (Some (place i)) None
 
--- files that show the same have the same names
-names_alike : (files others : List PlainFile) → AllZip AreAlike files others
-    → SameNames files others
-names_alike files others z =
-    zip_weaker AreAlike (λ f g. f.name ≡ g.name) (λ f g alike. alike.0) files others z
-
 -- the pieces of files with one number correspond
 file_pieces_same : (files others : List PlainFile) (n : ℕ) (f g : PlainFile) → slice_get files n ≡ Some f → slice_get others n ≡ Some g → AreAlike f g
     → AllZip (SamePiece (feeds_in files) (feeds_in others)) (pieces_of n f) (pieces_of n g)
 file_pieces_same files others n f g here there alike =
-    let a = without_comments None (tokens_from n 0 f.bytes) in
-    let b = without_comments None (tokens_from n 0 g.bytes) in
     let h = feeds_in files in
     let k = feeds_in others in
-    pieces_same h k n Outside Outside a b tt
-    (mapped_zip (shown_on h) (shown_on k) (SameShown h k) (shown_same h k) a b (shown_of_file files n f here ∙ alike.1 n ∙ sym (shown_of_file others n g there)))
+    pieces_same h k n Outside Outside _ _ tt
+    (mapped_zip (shown_on h) (shown_on k) (SameShown h k) (shown_same h k) _ _ (shown_of_file files n f here ∙ alike.1 n ∙ sym (shown_of_file others n g there)))
 
 -- the same with the pieces after them
 put_before_same : (files others : List PlainFile) → AllZip AreAlike files others → (n : ℕ) (ps qs : List Piece) → AllZip (SamePiece (feeds_in files) (feeds_in others)) ps qs
     → AllZip (SamePiece (feeds_in files) (feeds_in others)) (put_before files n ps) (put_before others n qs)
-put_before_same files others z n ps qs w = go (slice_get files n) (slice_get others n) refl refl (slices_alike files others z n)
-  where
-    go : (o p : Option PlainFile) → slice_get files n ≡ o → slice_get others n ≡ p → BothOrNone o p
-        → AllZip (SamePiece (feeds_in files) (feeds_in others)) (elim o [ None ↦ ps | Some file ↦ pieces_of n file ++ ps ]) (elim p [ None ↦ qs | Some file ↦ pieces_of n file ++ qs ])
-    go None None here there both = w
-    go (Some f) (Some g) here there both = zip_append (SamePiece (feeds_in files) (feeds_in others)) (pieces_of n f) (pieces_of n g) ps qs (file_pieces_same files others n f g here there both) w
-    go None (Some g) here there both = absurd both
-    go (Some f) None here there both = absurd both
+put_before_same files others z n ps qs w = elim (slice_get_cases files n).1 [
+  | inl (f, lt, here, read) ↦
+      let (g, there, alike) = zip_left AreAlike files others n f z here in
+      let same = file_pieces_same files others n f g here there alike in
+      rw (here, there, put_before) (zip_append _ (pieces_of n f) (pieces_of n g) ps qs same w)
+  | inr (past, here) ↦
+      let there = slice_get_past others n (omega (arith, zip_length AreAlike files others z)) in
+      rw (here, there, put_before) w
+]
 
 -- files that show the same have the same items, where each place is replaced by the line feeds before it
 pub alike_items : (files others : List PlainFile) → AllZip AreAlike files others → map (item_on (feeds_in files)) (items files) ≡ map (item_on (feeds_in others)) (items others)
 alike_items [] [] z = refl
-alike_items [] (g ∷ others) z = absurd z
-alike_items (f ∷ files) [] z = absurd z
 alike_items (f ∷ files) (g ∷ others) z =
     let h = feeds_in (f ∷ files) in
     let k = feeds_in (g ∷ others) in
     let named = true ∷ replicate (length files) false in
+    let names : SameNames (f ∷ files) (g ∷ others) =
+    zip_weaker AreAlike _ (λ f g alike. alike.0) (f ∷ files) (g ∷ others) z in
     zip_mapped (item_on h) (item_on k) (items (f ∷ files)) (put_in (g ∷ others) (length files) named (pieces_of 0 g))
-    (put_in_same h k (f ∷ files) (g ∷ others) (same_number (f ∷ files) (g ∷ others) (names_alike (f ∷ files) (g ∷ others) z)) (put_before_same (f ∷ files) (g ∷ others) z) (length files) named (pieces_of 0 f) (pieces_of 0 g)
+    (put_in_same h k (f ∷ files) (g ∷ others) (same_number (f ∷ files) (g ∷ others) names) (put_before_same (f ∷ files) (g ∷ others) z) (length files) named (pieces_of 0 f) (pieces_of 0 g)
     (file_pieces_same (f ∷ files) (g ∷ others) 0 f g refl refl z.0))
     ∙ ap (λ (n : ℕ). map (item_on k) (put_in (g ∷ others) n (true ∷ replicate n false) (pieces_of 0 g))) (sym (AllZip-long AreAlike files others z.1))
+alike_items files others z = absurd z

@@ -1,21 +1,20 @@
 -- The items of files of which one has other tokens in place of some: up to them the same, then
 -- those, and then the same but for places.
-use Rattle.std.proofs.Common.{◌≡◌, ◌≢◌, ℕ, zero, suc, List, [], ◌∷◌, ◌++◌, map, Bool, true, false, cond, refl, sym, ap, ◌∙◌, subst, Option, Some, None, ◌⊎◌, inl, inr, append_assoc}
+use Rattle.std.proofs.Common.{◌≡◌, ◌≢◌, ℕ, zero, suc, List, [], ◌∷◌, ◌++◌, map, Bool, true, false, cond, refl, sym, ap, ◌∙◌, Some, ◌⊎◌, inl, inr, append_assoc}
 use Rattle.std.specs.Prelude.{slice_get, slice_index_or, slice_set}
 use Rattle.std.specs.List.{AllZip}
+use Rattle.std.proofs.lemmas.List.{get_or-set_other}
 use Rattle.std.proofs.Math.Decide.{ℕ_discrete}
-use Rattle.mm_text.specs.declared.fault.TextRule.TheVariants.{X7}
+use Rattle.std.proofs.lemmas.Option.{slice_get_cases}
 use Rattle.mm_text.specs.Token.{PlainToken}
 use Rattle.mm_text.specs.Files.{PlainFile}
-use Rattle.mm_text.specs.Items.{Item, Plain, Wrong, Piece, Met, Named, pieces_of, file_number, with_inclusions, put_before, put_in}
-use Rattle.mm_text.specs.Alike.{item_on}
-use Rattle.mm_text.proofs.AlikeItems.{is_wrong, spliced_nil, spliced_met, spliced_name, SamePiece, spliced_same}
+use Rattle.mm_text.specs.Items.{Item, Plain, Piece, Met, Named, pieces_of, file_number, with_inclusions, put_before, put_in}
+use Rattle.mm_text.proofs.AlikeItems.{SameItem}
+use Rattle.mm_text.proofs.AlikeItems.{SamePiece, spliced_same}
+use Rattle.mm_text.proofs.InclusionLaws.{is_wrong, named_related, spliced_nil, spliced_met}
+use Rattle.mm_text.proofs.InclusionLaws.{spliced_name}
 use Rattle.mm_text.proofs.ReplacedPieces.{met}
 use Rattle.mm_text.proofs.Lists.{zip_append}
-
--- the items are the same, but that two functions of places tell of them in place of their places
-abbrev pub SameItem : (ℕ → ℕ → ℕ) → (ℕ → ℕ → ℕ) → Item → Item → Type 0
-SameItem h j a b = item_on h a ≡ item_on j b
 
 module _ (h j : ℕ → ℕ → ℕ) (p q : List PlainToken) where
   -- up to some tokens the items are the same, after them they are but for places
@@ -44,47 +43,14 @@ module _ (h j : ℕ → ℕ → ℕ) (p q : List PlainToken) where
     same = a.same;
   })
 
-  -- the name of a file before, which is put in if it wasn't named yet
-  after_name : (named : List Bool) (t : PlainToken) (its others : List Item)
-      (next on : ℕ → List Item) → SameOrAlter its others
-      → ((n : ℕ) → slice_index_or named n true ≡ false → SameOrAlter (next n) (on n))
-      → (o r : Option ℕ) → o ≡ r
-      → SameOrAlter (elim o [
-        | None ↦ Wrong X7 t ∷ []
-        | Some n ↦ cond (slice_index_or named n true) its (next n)
-      ])
-      (elim r [
-        | None ↦ Wrong X7 t ∷ []
-        | Some n ↦ cond (slice_index_or named n true) others (on n)
-      ])
-  after_name named t its others next on inner goes None None i = inl refl
-  after_name named t its others next on inner goes (Some n) (Some m) i =
-      let both : n ≡ m = cc in
-      subst (λ x. SameOrAlter (cond (slice_index_or named n true) its (next n))
-      (cond (slice_index_or named x true) others (on x))) both
-      (tested (slice_index_or named n true) refl)
-    where
-      tested : (b : Bool) → slice_index_or named n true ≡ b
-          → SameOrAlter (cond b its (next n)) (cond b others (on n))
-      tested true e = inner
-      tested false e = goes n e
-  after_name named t its others next on inner goes None (Some m) i = absurd cc
-  after_name named t its others next on inner goes (Some n) None i = absurd cc
-
 -- a file that is named stays so
 pub still_named : (named : List Bool) (n k : ℕ) → slice_index_or named k true ≡ true → slice_index_or (slice_set named n true) k true ≡ true
-still_named [] n k h = h
 still_named (b ∷ named) zero zero h = refl
-still_named (b ∷ named) zero (suc k) h = h
-still_named (b ∷ named) (suc n) zero h = h
 still_named (b ∷ named) (suc n) (suc k) h = still_named named n k h
+still_named named n k h = h
 
 still_unnamed : (named : List Bool) (n k : ℕ) → n ≢ k → slice_index_or named k true ≡ false → slice_index_or (slice_set named n true) k true ≡ false
-still_unnamed [] n k other h = h
-still_unnamed (b ∷ named) zero zero other h = absurd (other refl)
-still_unnamed (b ∷ named) zero (suc k) other h = h
-still_unnamed (b ∷ named) (suc n) zero other h = h
-still_unnamed (b ∷ named) (suc n) (suc k) other h = still_unnamed named n k (λ e. other (ap suc e)) h
+still_unnamed named n k other h = get_or-set_other named n k true true (λ e. other (sym e)) ∙ h
 
 pub now_named : (named : List Bool) (k : ℕ) → slice_index_or (slice_set named k true) k true ≡ true
 now_named [] k = refl
@@ -129,21 +95,15 @@ module _ (h j : ℕ → ℕ → ℕ) (files others : List PlainFile) (k : ℕ) (
   -- the same file is put in
   put_same : (n : ℕ) (rest : List Piece) → n ≢ k
       → put_before others n rest ≡ put_before files n rest
-  put_same n rest other =
-      ap (λ (o : Option PlainFile). elim o [ None ↦ rest | Some file ↦ pieces_of n file ++ rest ])
-      (elsewhere n other)
+  put_same n rest other = rw (elsewhere n other, put_before) refl
 
   put_zip : (n : ℕ) (ps qs : List Piece) → n ≢ k → R ps qs
       → R (put_before files n ps) (put_before files n qs)
-  put_zip n ps qs other z = go (slice_get files n)
-    where
-      go : (o : Option PlainFile)
-          → R (elim o [ None ↦ ps | Some file ↦ pieces_of n file ++ ps ])
-          (elim o [ None ↦ qs | Some file ↦ pieces_of n file ++ qs ])
-      go None = z
-      go (Some file) =
-          zip_append (SamePiece h j) (pieces_of n file) (pieces_of n file) ps qs
-          (still n file other) z
+  put_zip n ps qs other z = elim (slice_get_cases files n).1 [
+    | inl (file, lt, e, read) ↦
+        rw (e, put_before) (zip_append (SamePiece h j) _ _ ps qs (still n file other) z)
+    | inr (past, e) ↦ rw (e, put_before) z
+  ]
 
   -- ---- after the tokens
 
@@ -159,7 +119,7 @@ module _ (h j : ℕ → ℕ → ℕ) (files others : List PlainFile) (k : ℕ) (
       (λ n x y e w. let other = named_apart named n k e known in
       put_in_after left (slice_set named n true) (still_named named n k known)
       (put_before files n x) (put_before others n y)
-      (subst (R (put_before files n x)) (sym (put_same n y other)) (put_zip n x y other w))) ps qs z
+      (rw (put_same n y other) (put_zip n x y other w))) ps qs z
 
   -- ---- in the file
 
@@ -187,19 +147,17 @@ module _ (h j : ℕ → ℕ → ℕ) (files others : List PlainFile) (k : ℕ) (
         let ps : List Piece = a ++ (met p ++ b) in
         let qs : List Piece = a ++ (met q ++ c) in
         rw (spliced_name files named next t ps) (rw (spliced_name others named on t qs)
-        (after_name h j p q named t _ _ (λ n. next n ps) (λ n. on n qs) (spliced_within a b c z)
-        (λ n e. goes n a b c e z) (file_number files t.text) (file_number others t.text)
+        (named_related Differ named t t _ _ (λ n. next n ps) (λ n. on n qs) (inl refl)
+        (spliced_within a b c z) (λ n e. goes n a b c e z) (file_number files t.text) _
         (numbers t.text)))
 
   put_longer : (n : ℕ) (a : List Piece)
       → (longer : List Piece) × ((ps : List Piece) → put_before files n (a ++ ps) ≡ longer ++ ps)
-  put_longer n a = go (slice_get files n)
-    where
-      go : (o : Option PlainFile)
-          → (longer : List Piece) × ((ps : List Piece)
-          → elim o [ None ↦ a ++ ps | Some file ↦ pieces_of n file ++ (a ++ ps) ] ≡ longer ++ ps)
-      go None = (a, λ ps. refl)
-      go (Some file) = (pieces_of n file ++ a, λ ps. sym (append_assoc (pieces_of n file) a ps))
+  put_longer n a = elim (slice_get_cases files n).1 [
+    | inl (file, lt, e, read) ↦
+        (pieces_of n file ++ a, λ ps. rw (e, put_before) (simp append_assoc))
+    | inr (past, e) ↦ (a, λ ps. rw (e, put_before) refl)
+  ]
 
   pub put_in_within : (left : ℕ) (named : List Bool) → slice_index_or named k true ≡ true
       → (a b c : List Piece) → R b c
@@ -217,13 +175,9 @@ module _ (h j : ℕ → ℕ → ℕ) (files others : List PlainFile) (k : ℕ) (
       let here = longer.1 (met p ++ y) in
       let there = put_same n (x ++ (met q ++ w)) (named_apart named n k e known)
       ∙ longer.1 (met q ++ w) in
-      let inner =
-      put_in_within left (slice_set named n true) (still_named named n k known) longer.0 y w v in
-      subst (λ (l : List Piece). Differ (put_in files left (slice_set named n true) l)
-      (new_next left named n (x ++ (met q ++ w)))) (sym here)
-      (subst (λ (l : List Piece). Differ
-      (put_in files left (slice_set named n true) (longer.0 ++ (met p ++ y)))
-      (put_in others left (slice_set named n true) l)) (sym there) inner)) a b c z
+      rw (here, there)
+      (put_in_within left (slice_set named n true) (still_named named n k known) longer.0 y w v))
+      a b c z
 
   -- ---- before the file
 
@@ -238,23 +192,15 @@ module _ (h j : ℕ → ℕ → ℕ) (files others : List PlainFile) (k : ℕ) (
         (after_item h j p q item _ _ (spliced_before ps z.1) (is_wrong item)))
     spliced_before (Named t ∷ ps) z =
         rw (spliced_name files named next t ps) (rw (spliced_name others named on t ps)
-        (after_name h j p q named t _ _ (λ n. next n ps) (λ n. on n ps) (spliced_before ps z.1)
-        (λ n e. goes n ps e z.1) (file_number files t.text) (file_number others t.text)
+        (named_related Differ named t t _ _ (λ n. next n ps) (λ n. on n ps) (inl refl)
+        (spliced_before ps z.1) (λ n e. goes n ps e z.1) (file_number files t.text) _
         (numbers t.text)))
 
   put_here : (rest : List Piece) → put_before files k rest ≡ before ++ (met p ++ (after ++ rest))
-  put_here rest =
-      ap (λ (o : Option PlainFile). elim o [ None ↦ rest | Some file ↦ pieces_of k file ++ rest ])
-      here
-      ∙ ap (λ (l : List Piece). l ++ rest) old ∙ append_assoc before (met p ++ after) rest
-      ∙ ap (λ (l : List Piece). before ++ l) (append_assoc (met p) after rest)
+  put_here rest = rw (here, put_before) (rw old (simp append_assoc))
 
   put_there : (rest : List Piece) → put_before others k rest ≡ before ++ (met q ++ (behind ++ rest))
-  put_there rest =
-      ap (λ (o : Option PlainFile). elim o [ None ↦ rest | Some file ↦ pieces_of k file ++ rest ])
-      there
-      ∙ ap (λ (l : List Piece). l ++ rest) new ∙ append_assoc before (met q ++ behind) rest
-      ∙ ap (λ (l : List Piece). before ++ l) (append_assoc (met q) behind rest)
+  put_there rest = rw (there, put_before) (rw new (simp append_assoc))
 
   pub put_in_before : (left : ℕ) (named : List Bool) → slice_index_or named k true ≡ false
       → (ps : List Piece) → R ps ps
@@ -274,17 +220,11 @@ module _ (h j : ℕ → ℕ → ℕ) (files others : List PlainFile) (k : ℕ) (
           → (n : ℕ) (x : List Piece) → R x x → Dec (n ≡ k)
           → Differ (old_next left named n x) (new_next left named n x)
       at_file inner n x w (yes e) =
-          let pieces : List Piece = before ++ (met p ++ (after ++ x)) in
           let both : R (after ++ x) (behind ++ x) =
           zip_append (SamePiece h j) after behind x x same w in
-          subst (λ m. Differ (old_next left named m x) (new_next left named m x)) (sym e)
-          (subst (λ (l : List Piece). Differ (put_in files left own l) (new_next left named k x))
-          (sym (put_here x))
-          (subst (λ (l : List Piece). Differ (put_in files left own pieces)
-          (put_in others left own l)) (sym (put_there x))
-          (put_in_within left own (now_named named k) before (after ++ x) (behind ++ x) both)))
+          rw (e, put_here x, put_there x)
+          (put_in_within left own (now_named named k) before (after ++ x) (behind ++ x) both)
       at_file inner n x w (no other) =
-          subst (λ (l : List Piece). Differ (old_next left named n x)
-          (put_in others left (slice_set named n true) l)) (sym (put_same n x other))
+          rw (put_same n x other)
           (inner (slice_set named n true) (still_unnamed named n k other known)
           (put_before files n x) (put_zip n x x other w))

@@ -1,15 +1,15 @@
 -- The beginnings of statements are the fronts of whole statements.
-use Rattle.std.proofs.Common.{◌≡◌, ◌≢◌, ℕ, ◌+◌, ◌≤◌, length, List, [], ◌∷◌, ◌++◌, refl, sym, ap, subst, ◌∙◌, None, codes, ◌⊎◌, inl, inr, arith, append_assoc}
+use Rattle.std.proofs.Common.{◌≡◌, ◌≢◌, ℕ, ◌+◌, ◌≤◌, length, List, [], ◌∷◌, ◌++◌, refl, sym, ap, subst, ◌∙◌, codes, ◌⊎◌, inl, inr, arith, append_assoc}
 use Rattle.std.proofs.lemmas.List.{append-nil, length-append}
 use Rattle.mm_text.specs.declared.statement.Kind.{Kind}
-use Rattle.mm_text.specs.declared.statement.Kind.TheVariants.{Constants, Variables, Distinct, Floating, Essential, Axiom, Provable, Opening, Closing}
+use Rattle.mm_text.specs.declared.statement.Kind.TheVariants.{Constants, Distinct, Floating, Essential, Axiom, Provable, Opening, Closing}
 use Rattle.mm_text.specs.Token.{PlainToken, HoldsNoDollar}
-use Rattle.mm_text.specs.Statement.{PlainStatement, IsHead, HasBody, IsBareHead, IsLabelledHead, AreSymbols, FitsCount, label_in, Spells, IsTail, EndsAtOnce}
+use Rattle.mm_text.specs.Statement.{PlainStatement, IsHead, HasBody, IsLabelledHead, AreSymbols, FitsCount, label_in, Spells, IsTail, EndsAtOnce}
 use Rattle.mm_text.specs.Reading.{IsBeginning, IsBody, IsInProof, IsLone}
 use Rattle.mm_text.specs.Laws.{BeginsStatement, BeginningsBeginStatements}
 use Rattle.mm_text.proofs.PartTokens.{started}
 use Rattle.mm_text.proofs.StatementRuns.{tail_cases, kind_cases, room_of, IsBlockSign, opening_sign, closing_sign_of}
-use Rattle.mm_text.proofs.Lists.{all_append, all_front, cons_parts}
+use Rattle.mm_text.proofs.Lists.{all_append, all_front, cons_parts, nil_append}
 
 -- ---- a beginning is finished by more tokens
 
@@ -23,10 +23,6 @@ equals_sign = record { text = codes "$="; file = 0; at = 0 }
 abbrev full_stop : PlainToken
 full_stop = record { text = codes "$."; file = 0; at = 0 }
 
-cons_some : (t : PlainToken) (a b : List PlainToken) → a ++ t ∷ b ≢ []
-cons_some t [] b e = absurd cc
-cons_some t (u ∷ a) b e = absurd cc
-
 finished_with : (tokens : List PlainToken) (kind : Kind) (symbols : List PlainToken) (b : IsBody tokens kind symbols) (extra : List PlainToken) (last : PlainToken) (tail : List PlainToken) (span : ℕ × ℕ)
     → AreSymbols extra → FitsCount kind (length (symbols ++ extra))
     → ((first : PlainToken) → IsTail (record { kind = kind; first = first; label = label_in b.head; symbols = symbols ++ extra; proof = []; span = span }) kind (last ∷ tail)) → BeginsStatement tokens
@@ -34,7 +30,7 @@ finished_with tokens kind symbols b extra last tail span h count ends =
     let st = started kind b.head b.begins in
     record {
       more = extra ++ last ∷ tail;
-      some = cons_some last extra tail;
+      some = λ e. nil_append extra last tail (sym e);
       statement = record { kind = kind; first = st.first; label = label_in b.head; symbols = symbols ++ extra; proof = []; span = span };
       spelled = record {
         head = b.head;
@@ -66,17 +62,14 @@ floating_begins tokens (t ∷ u ∷ []) b = stopped tokens Floating (t ∷ u ∷
 floating_begins tokens (t ∷ u ∷ v ∷ symbols) b = let le = b.room refl in absurd (omega arith)
 
 body_begins : (tokens : List PlainToken) (kind : Kind) (symbols : List PlainToken) (b : IsBody tokens kind symbols) → HasBody kind → BeginsStatement tokens
-body_begins tokens Constants symbols b h = stopped tokens Constants symbols b (symbol ∷ []) (refl, tt) (some_more symbols) (λ s k. k)
-body_begins tokens Variables symbols b h = stopped tokens Variables symbols b (symbol ∷ []) (refl, tt) (some_more symbols) (λ s k. k)
 body_begins tokens Floating symbols b h = floating_begins tokens symbols b
-body_begins tokens Axiom symbols b h = stopped tokens Axiom symbols b (symbol ∷ []) (refl, tt) (some_more symbols) (λ s k. k)
 body_begins tokens Provable symbols b h =
     finished_with tokens Provable symbols b (symbol ∷ []) equals_sign (full_stop ∷ []) (2, 0) (refl, tt) (some_more symbols)
     (λ first. record { equals = equals_sign; stop = full_stop; tokens = refl; sign = refl; end = refl; proof = tt; span = refl })
 body_begins tokens Distinct symbols b h = stopped tokens Distinct symbols b (symbol ∷ symbol ∷ []) (refl, (refl, tt)) (omega (arith, length-append symbols (symbol ∷ symbol ∷ []))) (λ s k. k)
-body_begins tokens Essential symbols b h = stopped tokens Essential symbols b (symbol ∷ []) (refl, tt) (some_more symbols) (λ s k. k)
 body_begins tokens Opening symbols b h = absurd h
 body_begins tokens Closing symbols b h = absurd h
+body_begins tokens kind symbols b h = stopped tokens kind symbols b (symbol ∷ []) (refl, tt) (some_more symbols) (λ s k. k)
 
 proof_begins : (tokens : List PlainToken) → IsInProof tokens → BeginsStatement tokens
 proof_begins tokens p =
@@ -84,7 +77,7 @@ proof_begins tokens p =
     let st = started Provable b.head b.begins in
     record {
       more = full_stop ∷ [];
-      some = cons_some full_stop [] [];
+      some = λ e. cc;
       statement = record { kind = Provable; first = st.first; label = label_in b.head; symbols = p.symbols; proof = p.proof; span = (p.equals.at + 2, 0) };
       spelled = record {
         head = b.head;
@@ -99,47 +92,47 @@ proof_begins tokens p =
       };
     }
 
+-- the head of a statement, with no symbols yet, is an unfinished statement
+head_body : (kind : Kind) (head tokens : List PlainToken) → HasBody kind → IsHead kind head
+    → tokens ≡ head → IsBody tokens kind []
+head_body kind head tokens long h e = record {
+  head = head;
+  whole = e ∙ sym (append-nil head);
+  begins = h;
+  long = long;
+  spelled = tt;
+  room = λ _. omega arith;
+}
+
+-- tokens begin a statement where they do with one more
+begins_before : (tokens : List PlainToken) (t : PlainToken) → BeginsStatement (tokens ++ t ∷ [])
+    → BeginsStatement tokens
+begins_before tokens t b = record {
+  more = t ∷ b.more;
+  some = λ e. cc;
+  statement = b.statement;
+  spelled = rw (append_assoc tokens (t ∷ []) b.more) at b.spelled;
+}
+
 -- `$c x $.`
 nothing_begins : (tokens : List PlainToken) → tokens ≡ [] → BeginsStatement tokens
 nothing_begins tokens e =
     let keyword : PlainToken = record { text = codes "$c"; file = 0; at = 0 } in
-    record {
-      more = keyword ∷ symbol ∷ full_stop ∷ [];
-      some = cons_some keyword [] (symbol ∷ full_stop ∷ []);
-      statement = record { kind = Constants; first = keyword; label = None; symbols = symbol ∷ []; proof = []; span = (0, 0) };
-      spelled = record {
-        head = keyword ∷ [];
-        tail = full_stop ∷ [];
-        whole = ap (λ (x : List PlainToken). x ++ keyword ∷ symbol ∷ full_stop ∷ []) e;
-        begins = record { keyword = keyword; tokens = refl; sign = refl };
-        first = ([], refl);
-        label = refl;
-        symbols = (refl, tt);
-        count = omega arith;
-        ends = record { stop = full_stop; tokens = refl; end = refl; proof = refl; span = refl };
-      };
-    }
+    let head : IsHead Constants (keyword ∷ []) =
+    record { keyword = keyword; tokens = refl; sign = refl } in
+    let whole = ap (λ (x : List PlainToken). x ++ keyword ∷ []) e in
+    begins_before tokens keyword
+    (body_begins _ Constants [] (head_body Constants (keyword ∷ []) _ tt head whole) tt)
 
 -- a label, and `$a x $.`
 lone_begins : (tokens : List PlainToken) → IsLone tokens → BeginsStatement tokens
 lone_begins tokens l =
     let keyword : PlainToken = record { text = codes "$a"; file = 0; at = 0 } in
-    record {
-      more = keyword ∷ symbol ∷ full_stop ∷ [];
-      some = cons_some keyword [] (symbol ∷ full_stop ∷ []);
-      statement = record { kind = Axiom; first = l.label; label = label_in (l.label ∷ keyword ∷ []); symbols = symbol ∷ []; proof = []; span = (0, 0) };
-      spelled = record {
-        head = l.label ∷ keyword ∷ [];
-        tail = full_stop ∷ [];
-        whole = ap (λ (x : List PlainToken). x ++ keyword ∷ symbol ∷ full_stop ∷ []) l.whole;
-        begins = record { label = l.label; keyword = keyword; tokens = refl; named = l.named; sign = refl };
-        first = (keyword ∷ [], refl);
-        label = refl;
-        symbols = (refl, tt);
-        count = omega arith;
-        ends = record { stop = full_stop; tokens = refl; end = refl; proof = refl; span = refl };
-      };
-    }
+    let head : IsHead Axiom (l.label ∷ keyword ∷ []) =
+    record { label = l.label; keyword = keyword; tokens = refl; named = l.named; sign = refl } in
+    let whole = ap (λ (x : List PlainToken). x ++ keyword ∷ []) l.whole in
+    begins_before tokens keyword
+    (body_begins _ Axiom [] (head_body Axiom (l.label ∷ keyword ∷ []) _ tt head whole) tt)
 
 begins_statement : (tokens : List PlainToken) → IsBeginning tokens → BeginsStatement tokens
 begins_statement tokens (inl e) = nothing_begins tokens e
@@ -178,14 +171,8 @@ nil_parts (t ∷ a) b e = absurd cc
 
 -- a whole head of a statement with symbols
 head_begins : (kind : Kind) (head tokens : List PlainToken) → HasBody kind → IsHead kind head → tokens ≡ head → IsBeginning tokens
-head_begins kind head tokens long h e = inr (inr (inl (kind, [], record { head = head; whole = e ∙ sym (append-nil head); begins = h; long = long; spelled = tt; room = λ _. omega arith })))
-
-bare_front : (kind : Kind) (head tokens mid : List PlainToken) → HasBody kind → IsHead kind head → IsBareHead kind head → head ≡ tokens ++ mid → IsBeginning tokens
-bare_front kind head [] mid long h b e = inl refl
-bare_front kind head (t ∷ tokens) mid long h b e =
-    let parts = cons_parts t b.keyword (tokens ++ mid) [] (sym e ∙ b.tokens) in
-    let none = nil_parts tokens mid parts.1 in
-    head_begins kind head (t ∷ tokens) long h ((λ i. parts.0 i ∷ none.0 i) ∙ sym b.tokens)
+head_begins kind head tokens long h e =
+    inr (inr (inl (kind, [], head_body kind head tokens long h e)))
 
 labelled_front : (kind : Kind) (head tokens mid : List PlainToken) → HasBody kind → IsHead kind head → IsLabelledHead kind head → head ≡ tokens ++ mid → IsBeginning tokens
 labelled_front kind head [] mid long h b e = inl refl
@@ -198,15 +185,17 @@ labelled_front kind head (t ∷ u ∷ tokens) mid long h b e =
     head_begins kind head (t ∷ u ∷ tokens) long h ((λ i. first.0 i ∷ second.0 i ∷ none.0 i) ∙ sym b.tokens)
 
 head_front : (kind : Kind) (head tokens mid : List PlainToken) → HasBody kind → IsHead kind head → head ≡ tokens ++ mid → IsBeginning tokens
-head_front Constants head tokens mid long h e = bare_front Constants head tokens mid long h h e
-head_front Variables head tokens mid long h e = bare_front Variables head tokens mid long h h e
-head_front Distinct head tokens mid long h e = bare_front Distinct head tokens mid long h h e
+head_front kind head [] mid long h e = inl refl
 head_front Floating head tokens mid long h e = labelled_front Floating head tokens mid long h h e
 head_front Essential head tokens mid long h e = labelled_front Essential head tokens mid long h h e
 head_front Axiom head tokens mid long h e = labelled_front Axiom head tokens mid long h h e
 head_front Provable head tokens mid long h e = labelled_front Provable head tokens mid long h h e
 head_front Opening head tokens mid long h e = absurd long
 head_front Closing head tokens mid long h e = absurd long
+head_front kind head (t ∷ tokens) mid long h e =
+    let parts = cons_parts t h.keyword (tokens ++ mid) [] (sym e ∙ h.tokens) in
+    let none = nil_parts tokens mid parts.1 in
+    head_begins kind head (t ∷ tokens) long h ((λ i. parts.0 i ∷ none.0 i) ∙ sym h.tokens)
 
 -- up to some of the symbols
 symbols_front : (tokens more : List PlainToken) (s : PlainStatement) (h : Spells (tokens ++ more) s) → HasBody s.kind → Inside tokens more (h.head ++ s.symbols) h.tail → IsBeginning tokens

@@ -1,12 +1,12 @@
 -- Blocks: what a reader keeps of them, against the statements that were read.
-use Rattle.std.proofs.Common.{◌≡◌, ℕ, zero, suc, ◌+◌, ◌-◌, ◌<◌, ◌≤◌, length, take, drop, List, [], ◌∷◌, ◌++◌, true, false, refl, sym, ap, subst, ◌∙◌, arith, append_assoc, ◌⊎◌, inl, inr}
-use Rattle.std.proofs.lemmas.List.{append-nil, length-append, take-append-le}
+use Rattle.std.proofs.Common.{◌≡◌, ℕ, zero, suc, ◌+◌, ◌-◌, ◌<◌, ◌≤◌, length, take, drop, List, [], ◌∷◌, ◌++◌, true, false, refl, sym, ap, subst, ◌∙◌, arith, append_assoc, inl, inr}
+use Rattle.std.proofs.lemmas.List.{append-nil, length-append, take-append-le, take_all, take_at}
 use Rattle.std.proofs.Math.Seq.{take-append-add, take-length, take-nil}
 use Rattle.std.proofs.lemmas.List.Sums.{sum_by-append}
-use Rattle.std.proofs.lemmas.Bool.{false≢true, false_from_ne_true, true_from_ne_false}
+use Rattle.std.proofs.lemmas.Bool.{cases_lt, false≢true, false_from_ne_true, true_from_ne_false}
 use Rattle.mm_text.specs.declared.scope.OpenBlock.{OpenBlock}
 use Rattle.mm_text.specs.declared.statement.Kind.{Kind}
-use Rattle.mm_text.specs.declared.statement.Kind.TheVariants.{Constants, Variables, Distinct, Floating, Essential, Axiom, Provable, Opening, Closing}
+use Rattle.mm_text.specs.declared.statement.Kind.TheVariants.{Opening, Closing}
 use Rattle.mm_text.specs.Statement.{PlainStatement, HasBody}
 use Rattle.mm_text.specs.Blocks.{is_opening, is_closing, openings, closings, AreBalanced, AreClosed, IsInnermost}
 use Rattle.mm_text.specs.Mirror.Reader.{PlainScope, outermost, scope_after_statement, scope_after_opening, scope_after_closing, has_none}
@@ -30,37 +30,23 @@ balanced_keeps a h n = omega (arith, h n)
 pub keeps_balanced : (a : List PlainStatement) → KeepsBlocks 0 a → AreBalanced a
 keeps_balanced a h n = omega (arith, h n)
 
-keeps_more : (d e : ℕ) (a : List PlainStatement) → d ≤ e → KeepsBlocks d a → KeepsBlocks e a
-keeps_more d e a le h n = omega (arith, h n)
-
--- how a number stands to a list's length
-past_or_within : (n : ℕ) (a : List PlainStatement) → (n ≤ length a) ⊎ ((m : ℕ) × (n ≡ length a + m))
-past_or_within zero a = inl (omega arith)
-past_or_within (suc n) [] = inr (suc n, omega arith)
-past_or_within (suc n) (s ∷ a) =
-    elim (past_or_within n a) [
-      | inl le ↦ inl (omega arith)
-      | inr past ↦ inr (past.0, omega (arith, past.1))
-    ]
-
 keeps_append : (d e : ℕ) (a b : List PlainStatement) → KeepsBlocks d a → KeepsBlocks e b → d + openings a ≡ closings a + e → KeepsBlocks d (a ++ b)
 keeps_append d e a b h k same n =
-    elim (past_or_within n a) [
-      | inl within ↦ subst (λ (x : List PlainStatement). closings x ≤ d + openings x) (sym (take-append-le n a b within)) (h n)
+    elim (cases_lt n (length a)) [
+      | inl within ↦ rw (take-append-le n a b (omega arith)) (h n)
       | inr past ↦
-          let cut : take n (a ++ b) ≡ a ++ take past.0 b = ap (λ (x : ℕ). take x (a ++ b)) past.1 ∙ take-append-add a b past.0 in
-          subst (λ (x : List PlainStatement). closings x ≤ d + openings x) (sym cut) (omega (arith, closings-append a (take past.0 b), openings-append a (take past.0 b), k past.0, same))
+          let m : ℕ = n - length a in
+          let whole : n ≡ length a + m = omega arith in
+          rw (whole, take-append-add a b m)
+          (omega (arith, closings-append a (take m b), openings-append a (take m b), k m, same))
     ]
 
 -- a front of statements that keep the blocks does
 pub keeps_front : (d : ℕ) (a b : List PlainStatement) → KeepsBlocks d (a ++ b) → KeepsBlocks d a
 keeps_front d a b h n =
-    elim (past_or_within n a) [
-      | inl within ↦ subst (λ (x : List PlainStatement). closings x ≤ d + openings x) (take-append-le n a b within) (h n)
-      | inr past ↦
-          let all : take (length a) (a ++ b) ≡ a = take-append-le (length a) a b (omega arith) ∙ take-length a in
-          let same : take n a ≡ a = ap (λ (x : ℕ). take x a) past.1 ∙ ap (λ (x : List PlainStatement). take (length a + past.0) x) (sym (append-nil a)) ∙ take-append-add a [] past.0 ∙ ap (λ (x : List PlainStatement). a ++ x) (take-nil past.0) ∙ append-nil a in
-          subst (λ (x : List PlainStatement). closings x ≤ d + openings x) (all ∙ sym same) (h (length a))
+    elim (cases_lt n (length a)) [
+      | inl within ↦ rw (take-append-le n a b (omega arith)) at (h n)
+      | inr past ↦ rw (take_all n a past) (rw (take_at a b (length a) refl) at (h (length a)))
     ]
 
 -- ---- one statement
@@ -79,29 +65,22 @@ no_sign _ h = (refl, refl)
 body_count : (s : PlainStatement) → HasBody s.kind → (openings (s ∷ []) ≡ 0) × (closings (s ∷ []) ≡ 0)
 body_count s long = let none = no_sign s.kind long in (rw none.0 refl, rw none.1 refl)
 
-one_front : (s : PlainStatement) (n : ℕ) → (take n (s ∷ []) ≡ []) ⊎ (take n (s ∷ []) ≡ s ∷ [])
-one_front s zero = inl refl
-one_front s (suc n) = inr (ap (λ (x : List PlainStatement). s ∷ x) (take-nil n))
-
 -- one statement keeps the blocks where it does in all
 keeps_one : (d : ℕ) (s : PlainStatement) → closings (s ∷ []) ≤ d + openings (s ∷ []) → KeepsBlocks d (s ∷ [])
-keeps_one d s h n =
-    elim (one_front s n) [
-      | inl none ↦ subst (λ (x : List PlainStatement). closings x ≤ d + openings x) (sym none) (omega arith)
-      | inr all ↦ subst (λ (x : List PlainStatement). closings x ≤ d + openings x) (sym all) h
-    ]
+keeps_one d s h zero = omega arith
+keeps_one d s h (suc n) = rw (take-nil n) h
 
 -- ---- balanced statements
 
 pub balanced_nothing : AreBalanced []
-balanced_nothing n = subst (λ (x : List PlainStatement). closings x ≤ openings x) (sym (take-nil n)) (omega arith)
+balanced_nothing n = rw (take-nil n) (omega arith)
 
 pub balanced_front : (a b : List PlainStatement) → AreBalanced (a ++ b) → AreBalanced a
 balanced_front a b h = keeps_balanced a (keeps_front 0 a b (balanced_keeps (a ++ b) h))
 
 -- in all there are at most as many `$}` as `${`
 pub balanced_whole : (a : List PlainStatement) → AreBalanced a → closings a ≤ openings a
-balanced_whole a h = subst (λ (x : List PlainStatement). closings x ≤ openings x) (take-length a) (h (length a))
+balanced_whole a h = rw (take-length a) at (h (length a))
 
 balanced_append : (a b : List PlainStatement) → AreBalanced a → AreClosed a → AreBalanced b → AreBalanced (a ++ b)
 balanced_append a b h scope_after_closing k = keeps_balanced (a ++ b) (keeps_append 0 0 a b (balanced_keeps a h) (balanced_keeps b k) (omega (arith, scope_after_closing)))
@@ -179,14 +158,17 @@ open_opening statements s blocks count h k same = (
   h,
 )
 
-open_closing : (statements : List PlainStatement) (s : PlainStatement) (block : OpenBlock) (blocks : List OpenBlock) → AreOpen statements (block ∷ blocks) → s.kind ≡ Closing → AreOpen (statements ++ s ∷ []) blocks
-open_closing statements s block blocks h k =
+open_closing : (statements : List PlainStatement) (s : PlainStatement) (blocks : List OpenBlock)
+    → AreOpen statements blocks → s.kind ≡ Closing → AreBalanced (statements ++ s ∷ [])
+    → AreOpen (statements ++ s ∷ []) (drop 1 blocks)
+open_closing statements s [] h k b = absurd (closing_unbalanced statements s h.1 k b)
+open_closing statements s (block ∷ blocks) h k b =
     let inner = h.2 in
     let o = opening_count h.1 inner.opened in
     let c = closing_count s k in
     let after : List PlainStatement = inner.within ++ s ∷ [] in
     let kept : KeepsBlocks 1 after =
-    keeps_append 1 1 inner.within (s ∷ []) (keeps_more 0 1 inner.within (omega arith) (balanced_keeps inner.within inner.balanced)) (keeps_one 1 s (omega (arith, c.0, c.1))) (omega (arith, inner.closed)) in
+    keeps_append 1 1 inner.within (s ∷ []) (λ n. omega (arith, inner.balanced n)) (keeps_one 1 s (omega (arith, c.0, c.1))) (omega (arith, inner.closed)) in
     let segment : List PlainStatement = (h.1 ∷ []) ++ after in
     let balanced : AreBalanced segment = keeps_balanced segment (keeps_append 0 1 (h.1 ∷ []) after (keeps_one 0 h.1 (omega (arith, o.0, o.1))) kept (omega (arith, o.0, o.1))) in
     let scope_after_closing : AreClosed segment =
@@ -199,18 +181,6 @@ open_balanced : (statements : List PlainStatement) (blocks : List OpenBlock) →
 open_balanced statements [] h e = h.1
 open_balanced statements (block ∷ blocks) h e = absurd (false≢true e)
 
--- a block that is open isn't closed
-pub innermost_unclosed : (statements before : List PlainStatement) (opening : PlainStatement) → AreBalanced statements → IsInnermost statements before opening → ¬ (AreClosed statements)
-innermost_unclosed statements before opening h inner scope_after_closing =
-    let o = opening_count opening inner.opened in
-    let le = balanced_whole before (balanced_front before (opening ∷ inner.within) (subst AreBalanced inner.whole h)) in
-    let all : AreClosed (before ++ opening ∷ inner.within) = subst AreClosed inner.whole scope_after_closing in
-    omega (arith, openings-append before (opening ∷ inner.within), closings-append before (opening ∷ inner.within), openings-append (opening ∷ []) inner.within, closings-append (opening ∷ []) inner.within, o.0, o.1, le, inner.closed, all)
-
-open_unclosed : (statements : List PlainStatement) (blocks : List OpenBlock) → AreBalanced statements → AreOpen statements blocks → has_none blocks ≡ false → ¬ (AreClosed statements)
-open_unclosed statements [] b h e = absurd (false≢true (sym e))
-open_unclosed statements (block ∷ blocks) b h e = innermost_unclosed statements h.0 h.1 b h.2
-
 -- a `${` within closed blocks isn't closed there
 closed_within : (mid within other : List PlainStatement) (opening : PlainStatement) → opening.kind ≡ Opening → AreClosed within → AreBalanced other → AreClosed other → other ≡ mid ++ opening ∷ within → ⊥
 closed_within mid within other opening k c b scope_after_closing e =
@@ -218,6 +188,15 @@ closed_within mid within other opening k c b scope_after_closing e =
     let le = balanced_whole mid (balanced_front mid (opening ∷ within) (subst AreBalanced e b)) in
     let all : AreClosed (mid ++ opening ∷ within) = subst AreClosed e scope_after_closing in
     omega (arith, openings-append mid (opening ∷ within), closings-append mid (opening ∷ within), openings-append (opening ∷ []) within, closings-append (opening ∷ []) within, o.0, o.1, le, c, all)
+
+-- a block that is open isn't closed
+pub innermost_unclosed : (statements before : List PlainStatement) (opening : PlainStatement) → AreBalanced statements → IsInnermost statements before opening → ¬ (AreClosed statements)
+innermost_unclosed statements before opening h i closed =
+    closed_within before i.within statements opening i.opened i.closed h closed i.whole
+
+open_unclosed : (statements : List PlainStatement) (blocks : List OpenBlock) → AreBalanced statements → AreOpen statements blocks → has_none blocks ≡ false → ¬ (AreClosed statements)
+open_unclosed statements [] b h e = absurd (false≢true (sym e))
+open_unclosed statements (block ∷ blocks) b h e = innermost_unclosed statements h.0 h.1 b h.2
 
 -- there is one innermost block
 pub one_innermost : (statements a b : List PlainStatement) (x y : PlainStatement) → IsInnermost statements a x → IsInnermost statements b y → (a ≡ b) × (x ≡ y)
@@ -250,7 +229,6 @@ after-append scope (s ∷ a) b = after-append (after_kind scope s s.kind) a b
 
 kind_count : (scope : PlainScope) (s : PlainStatement) (kind : Kind) → (after_kind scope s kind).count ≡ scope.count + 1
 kind_count scope s Opening = refl
-kind_count scope s Closing = refl
 kind_count scope s _ = refl
 
 after_count : (scope : PlainScope) (statements : List PlainStatement) → (scope_after scope statements).count ≡ scope.count + length statements
@@ -278,18 +256,8 @@ scope_body statements s long = scope_more statements s ∙ body_kind (scope_of s
 open_step : (before : List PlainStatement) (s : PlainStatement) (scope : PlainScope) (kind : Kind) → s.kind ≡ kind → AreOpen before scope.blocks → scope.count ≡ length before → AreBalanced (before ++ s ∷ [])
     → AreOpen (before ++ s ∷ []) (after_kind scope s kind).blocks
 open_step before s scope Opening k h same b = open_opening before s scope.blocks scope.count h k same
-open_step before s scope Closing k h same b = go scope.blocks h
-  where
-    go : (blocks : List OpenBlock) → AreOpen before blocks → AreOpen (before ++ s ∷ []) (drop 1 blocks)
-    go [] h = absurd (closing_unbalanced before s h.1 k b)
-    go (block ∷ blocks) h = open_closing before s block blocks h k
-open_step before s scope Constants k h same b = open_body before s scope.blocks h (subst HasBody (sym k) tt)
-open_step before s scope Variables k h same b = open_body before s scope.blocks h (subst HasBody (sym k) tt)
-open_step before s scope Distinct k h same b = open_body before s scope.blocks h (subst HasBody (sym k) tt)
-open_step before s scope Floating k h same b = open_body before s scope.blocks h (subst HasBody (sym k) tt)
-open_step before s scope Essential k h same b = open_body before s scope.blocks h (subst HasBody (sym k) tt)
-open_step before s scope Axiom k h same b = open_body before s scope.blocks h (subst HasBody (sym k) tt)
-open_step before s scope Provable k h same b = open_body before s scope.blocks h (subst HasBody (sym k) tt)
+open_step before s scope Closing k h same b = open_closing before s scope.blocks h k b
+open_step before s scope _ k h same b = open_body before s scope.blocks h (subst HasBody (sym k) tt)
 
 open_after : (before statements : List PlainStatement) (scope : PlainScope) → AreOpen before scope.blocks → scope.count ≡ length before → AreBalanced (before ++ statements)
     → AreOpen (before ++ statements) (scope_after scope statements).blocks

@@ -1,9 +1,9 @@
 -- How a comment is skipped: bytes that hold no `$` and may stand in a file are passed over, up to a token's begin.
-use Rattle.std.proofs.Common.{◌≡◌, ℕ, ⊎_elim, zero, append-nil, ◌+◌, ◌-◌, ◌<◌, ◌≤◌, ◌==◌, ◌&&◌, ◌||◌, List, [], ◌∷◌, ◌++◌, length, get_or, drop, take, Bool, true, false, not, cond, refl, sym, ap, ◌∙◌, subst, suc, arith, Some, None, ◌⊎◌, inl, inr}
+use Rattle.std.proofs.Common.{◌≡◌, ℕ, ⊎_elim, append-nil, ◌+◌, ◌-◌, ◌<◌, ◌≤◌, ◌==◌, ◌&&◌, ◌||◌, List, [], ◌∷◌, ◌++◌, length, get_or, drop, take, Bool, true, false, not, refl, sym, ap, ◌∙◌, subst, arith, Some, None, ◌⊎◌, inl, inr}
 use Rattle.std.specs.Prelude.{slice_range, codes}
 use Rattle.std.specs.List.{list_any, list_all, AllByRecursion}
 use Rattle.std.proofs.lemmas.List.{drop_more, drop-drop, take-append-drop, get_or-drop, get_or-take, length-drop, length-take-le}
-use Rattle.std.proofs.lemmas.Bool.{or_parts, or_right, both_ways}
+use Rattle.std.proofs.lemmas.Bool.{cases_Bool, cases_lt, cond_both, or_parts, or_right, both_ways}
 use Rattle.std.proofs.str.Laws.{order}
 use Rattle.std.proofs.lemmas.List.Folds.{list_all_at}
 use Rattle.mm_text.specs.declared.fault.TextRule.TheVariants.{X1, X2, X3, X4}
@@ -25,8 +25,7 @@ holds_mark-step text at some within =
     let before : drop (at - 1) text ≡ get_or text (at - 1) 0 ∷ drop at text =
     drop_more text (at - 1) 0 (omega arith) ∙ ap (λ n. get_or text (at - 1) 0 ∷ drop n text) (omega arith) in
     let here : drop at text ≡ get_or text at 0 ∷ drop (at + 1) text = drop_more text at 0 within in
-    ap holds_mark (before ∙ ap (λ l. get_or text (at - 1) 0 ∷ l) here)
-    ∙ ap (λ l. (get_or text (at - 1) 0 == 36 && (get_or text at 0 == 40 || get_or text at 0 == 41)) || holds_mark l) (sym here)
+    rw (before, here) refl
 
 pub holds_mark-short : (text : List ℕ) → length text ≤ 1 → holds_mark text ≡ false
 holds_mark-short [] short = refl
@@ -45,9 +44,7 @@ AreQuiet bytes = AllByRecursion (λ b. is_quiet b ≡ true) bytes
 -- a byte of a token that isn't a `$`
 pub quiet_ink : (printable space dollar : Bool) → ((printable || space) && not dollar) ≡ true → space ≡ false → (printable ≡ true) × (dollar ≡ false)
 quiet_ink true false false q s = (refl, refl)
-quiet_ink true false true q s = (refl, absurd cc)
-quiet_ink false false dollar q s = absurd cc
-quiet_ink printable true dollar q s = absurd cc
+quiet_ink _ _ _ q s = absurd cc
 
 -- a byte onto the front of a quiet token
 quiet_more : (file at other place b : ℕ) (text : List ℕ) → is_quiet b ≡ true → is_space b ≡ false → IsQuiet (record { text = text; file = other; at = place }) → IsQuiet (record { text = b ∷ text; file = file; at = at })
@@ -70,17 +67,17 @@ quiet_byte file at b tokens rest q ink far h = subst (λ l. QuietFront (with_byt
     go : (quiet : List PlainToken) → AllByRecursion IsQuiet quiet → QuietFront (with_byte file at b (quiet ++ rest)) rest
     go [] each = record { quiet = record { text = b ∷ []; file = file; at = at } ∷ []; each = (quiet_one file at b q ink, tt); whole = with_byte_apart file at b rest far }
     go (t ∷ ts) each =
-        elim (t.at == at + 1) as (λ joined. QuietFront (cond joined (record { text = b ∷ t.text; file = file; at = at } ∷ ts ++ rest) (record { text = b ∷ []; file = file; at = at } ∷ t ∷ ts ++ rest)) rest) [
-          | true ↦ record { quiet = record { text = b ∷ t.text; file = file; at = at } ∷ ts; each = (quiet_more file at t.file t.at b t.text q ink each.0, each.1); whole = refl }
-          | false ↦ record { quiet = record { text = b ∷ []; file = file; at = at } ∷ t ∷ ts; each = (quiet_one file at b q ink, each); whole = refl }
-        ]
+        cond_both (t.at == at + 1) _ _ (λ l. QuietFront l rest)
+        (λ _. record { quiet = record { text = b ∷ t.text; file = file; at = at } ∷ ts; each = (quiet_more file at t.file t.at b t.text q ink each.0, each.1); whole = refl })
+        (λ _. record { quiet = record { text = b ∷ []; file = file; at = at } ∷ t ∷ ts; each = (quiet_one file at b q ink, each); whole = refl })
 
 -- after white space, or at the end, tokens begin one place later
 space_begins : (file at : ℕ) (rest : List ℕ) → BeginsWithSpace rest → BeginFrom (at + 1) (tokens_from file at rest)
 space_begins file at [] h = rw tokens_from-nil tt
 space_begins file at (b ∷ rest) h = rw (tokens_from-space file at b rest h) (tokens_from_begin file (at + 1) rest)
 
-begin_far : (at n : ℕ) (tokens : List PlainToken) → n ≤ at → BeginFrom at tokens → BeginFrom n tokens
+pub begin_far : (at n : ℕ) (tokens : List PlainToken) → n ≤ at → BeginFrom at tokens
+    → BeginFrom n tokens
 begin_far at n [] h k = tt
 begin_far at n (t ∷ tokens) h k = omega arith
 
@@ -88,14 +85,14 @@ quiet_front : (file at : ℕ) (front rest : List ℕ) → AreQuiet front → Beg
 quiet_front file at [] rest q after = record { quiet = []; each = tt; whole = ap (λ n. tokens_from file n rest) (omega arith) }
 quiet_front file at (b ∷ front) rest q after =
     let inner = quiet_front file (at + 1) front rest q.1 after in
-    let further : at + 1 + length front ≡ at + length (b ∷ front) = omega arith in
-    subst (λ n. QuietFront (tokens_from file at (b ∷ front ++ rest)) (tokens_from file n rest)) further (go inner (is_space b) refl)
-  where
-    go : QuietFront (tokens_from file (at + 1) (front ++ rest)) (tokens_from file (at + 1 + length front) rest) → (space : Bool) → is_space b ≡ space → QuietFront (tokens_from file at (b ∷ front ++ rest)) (tokens_from file (at + 1 + length front) rest)
-    go inner true e = subst (λ l. QuietFront l (tokens_from file (at + 1 + length front) rest)) (sym (tokens_from-space file at b (front ++ rest) e)) inner
-    go inner false e =
-        subst (λ l. QuietFront l (tokens_from file (at + 1 + length front) rest)) (sym (tokens_from-byte file at b (front ++ rest) e))
-        (quiet_byte file at b _ _ q.0 e (begin_far (at + 1 + length front + 1) (at + 2) _ (omega arith) (space_begins file (at + 1 + length front) rest after)) inner)
+    let further : at + length (b ∷ front) ≡ at + 1 + length front = omega arith in
+    let begins = space_begins file (at + 1 + length front) rest after in
+    rw further (elim (cases_Bool (is_space b)) [
+      | inl e ↦ rw (tokens_from-space file at b (front ++ rest) e) inner
+      | inr e ↦
+          rw (tokens_from-byte file at b (front ++ rest) e)
+          (quiet_byte file at b _ _ q.0 e (begin_far _ (at + 2) _ (omega arith) begins) inner)
+    ])
 
 -- ---- tokens in a comment
 
@@ -155,24 +152,24 @@ passed_space begin bytes file at n within quiet space =
     ap (λ m. front ++ drop m bytes) (omega arith) ∙ ap (λ l. front ++ l) (sym (drop-drop n at bytes)) ∙ take-append-drop n (drop at bytes) in
     let each : AreQuiet front = all_places (λ b. is_quiet b ≡ true) front 0 (λ k lt. ap is_quiet (get_or-take n (drop at bytes) k 0 (omega arith) ∙ get_or-drop at bytes k 0) ∙ quiet (at + k) (omega arith) (omega arith)) in
     let after : BeginsWithSpace (drop (at + n) bytes) = space_from_place (drop (at + n) bytes) (λ lt. ap is_space (get_or-drop (at + n) bytes 0 0 ∙ ap (λ m. get_or bytes m 0) (omega arith)) ∙ space) in
-    ap (λ l. without_comments (Some begin) (tokens_from file at l)) (sym split)
-    ∙ front_passed begin file at front (drop (at + n) bytes) each after
-    ∙ ap (λ m. without_comments (Some begin) (tokens_from file m (drop (at + n) bytes))) (omega arith)
-    ∙ ap (without_comments (Some begin)) (tokens_from-step bytes file (at + n) (omega arith) space)
+    rw (← split, front_passed begin file at front (drop (at + n) bytes) each after, long)
+    (ap (without_comments (Some begin)) (tokens_from-step bytes file (at + n) (omega arith) space))
 
 -- in a comment quiet bytes are passed over, up to a place after white space
 pub passed_to : (begin : PlainToken) (bytes : List ℕ) (file at start : ℕ) → at ≤ start → start ≤ length bytes → ((k : ℕ) → at ≤ k → k < start → is_quiet (get_or bytes k 0) ≡ true)
     → (start ≡ at) ⊎ ((k : ℕ) → k + 1 ≡ start → is_space (get_or bytes k 0) ≡ true)
     → without_comments (Some begin) (tokens_from file at (drop at bytes)) ≡ without_comments (Some begin) (tokens_from file start (drop start bytes))
 passed_to begin bytes file at start from within quiet (inl same) = ap (λ n. without_comments (Some begin) (tokens_from file n (drop n bytes))) (sym same)
-passed_to begin bytes file at start from within quiet (inr space) = go (start - at) (omega arith)
-  where
-    go : (n : ℕ) → at + n ≡ start → without_comments (Some begin) (tokens_from file at (drop at bytes)) ≡ without_comments (Some begin) (tokens_from file start (drop start bytes))
-    go zero e = ap (λ n. without_comments (Some begin) (tokens_from file n (drop n bytes))) (omega arith)
-    go (suc n) e =
-        let last : at + n + 1 ≡ start = omega arith in
-        passed_space begin bytes file at n (omega arith) (λ k low high. quiet k low (omega arith)) (space (at + n) last)
-        ∙ ap (λ m. without_comments (Some begin) (tokens_from file m (drop m bytes))) last
+passed_to begin bytes file at start from within quiet (inr space) =
+    elim (cases_lt at start) [
+      | inl less ↦
+          let n : ℕ = start - at - 1 in
+          let last : at + n + 1 ≡ start = omega arith in
+          passed_space begin bytes file at n (omega arith)
+          (λ k low high. quiet k low (omega arith)) (space (at + n) last)
+          ∙ ap (λ m. without_comments (Some begin) (tokens_from file m (drop m bytes))) last
+      | inr end ↦ let same : at ≡ start = omega arith in rw same refl
+    ]
 
 -- and up to the file's end, where the comment is open
 pub passed_all : (begin : PlainToken) (bytes : List ℕ) (file at : ℕ) → at ≤ length bytes → ((k : ℕ) → at ≤ k → k < length bytes → is_quiet (get_or bytes k 0) ≡ true)
@@ -180,10 +177,8 @@ pub passed_all : (begin : PlainToken) (bytes : List ℕ) (file at : ℕ) → at 
 passed_all begin bytes file at within quiet =
     let front = drop at bytes in
     let each : AreQuiet front = all_places (λ b. is_quiet b ≡ true) front 0 (λ k lt. ap is_quiet (get_or-drop at bytes k 0) ∙ quiet (at + k) (omega arith) (omega (arith, length-drop at bytes))) in
-    ap (λ l. without_comments (Some begin) (tokens_from file at l)) (sym (append-nil front))
-    ∙ front_passed begin file at front [] each tt
-    ∙ ap (without_comments (Some begin)) (tokens_from-nil file (at + length front))
-    ∙ in_comment-end begin
+    rw (← append-nil front, front_passed begin file at front [] each tt, tokens_from-nil)
+    (in_comment-end begin)
 
 -- what holds from one place up to another, and there
 pub below_more_from : (P : ℕ → Type 0) (low i : ℕ) → ((k : ℕ) → low ≤ k → k < i → P k) → P i → (k : ℕ) → low ≤ k → k < i + 1 → P k
@@ -221,11 +216,8 @@ space_legal b space = or_right (is_printable b) (is_space b) space
 -- ---- the bytes of a token
 
 legal_ink : (b : ℕ) → is_space b ≡ false → is_printable b ≡ is_legal b
-legal_ink b ink = sym (or_false (is_printable b)) ∙ ap (λ s. is_printable b || s) (sym ink)
-  where
-    or_false : (p : Bool) → (p || false) ≡ p
-    or_false true = refl
-    or_false false = refl
+legal_ink b ink =
+    rw ink (elim (is_printable b) as (λ p. p ≡ (p || false)) [ true ↦ refl | false ↦ refl ])
 
 pub slice_byte : (bytes : List ℕ) (start stop k : ℕ) → start + k < stop → get_or (slice_range bytes start stop) k 0 ≡ get_or bytes (start + k) 0
 slice_byte bytes start stop k lt = get_or-take (stop - start) (drop start bytes) k 0 (omega arith) ∙ get_or-drop start bytes k 0
@@ -324,11 +316,8 @@ mark_bytes bytes second at mark =
     let back : at + 1 + 1 ≡ at + 2 = omega arith in
     let low : at < length bytes = omega (arith, mark.within) in
     let high : at + 1 < length bytes = omega (arith, mark.within) in
-    drop_more bytes at 0 low
-    ∙ ap (λ b. b ∷ drop (at + 1) bytes) mark.dollar
-    ∙ ap (λ l. 36 ∷ l) (drop_more bytes (at + 1) 0 high)
-    ∙ ap (λ b. 36 ∷ b ∷ drop (at + 1 + 1) bytes) mark.other
-    ∙ ap (λ n. 36 ∷ second ∷ drop n bytes) back
+    let first = drop_more bytes at 0 low in
+    rw (first, mark.dollar, drop_more bytes (at + 1) 0 high, mark.other, back) refl
 
 -- it is a token
 mark_token : (bytes : List ℕ) (file second at : ℕ) → IsMarkAt bytes second at → is_space second ≡ false
@@ -340,7 +329,6 @@ mark_token bytes file second at mark ink =
     ap is_space (get_or-drop (at + 2) bytes 0 0 ∙ ap (λ n. get_or bytes n 0) (omega arith)) ∙ mark.right) in
     ap (tokens_from file at) (mark_bytes bytes second at mark)
     ∙ tokens_from-run file at 36 (second ∷ []) rest (refl, (ink, tt)) space
-    ∙ ap (λ n. record { text = 36 ∷ second ∷ []; file = file; at = at } ∷ tokens_from file n rest) (omega arith)
 
 -- a `$)` closes the comment that it is met in
 pub closed_at : (begin : PlainToken) (p : Place) (at legal : ℕ)

@@ -1,9 +1,9 @@
 -- What the reader computes of items is a reading of them.
-use Rattle.std.proofs.Common.{◌≡◌, ◌≢◌, ℕ, ◌+◌, ◌==◌, List, [], ◌∷◌, ◌++◌, Bool, true, false, refl, sym, ap, subst, ◌∙◌, Option, Some, None, append_assoc, ◌⊎◌, inl, inr}
+use Rattle.std.proofs.Common.{◌≡◌, ◌≢◌, ℕ, ◌+◌, ◌==◌, List, [], ◌∷◌, ◌++◌, refl, sym, ap, subst, ◌∙◌, Option, Some, None, append_assoc, ◌⊎◌, inl, inr}
 use Rattle.std.specs.List.{AllByRecursion}
 use Rattle.std.proofs.Math.Path.{transport}
 use Rattle.std.proofs.lemmas.List.{append-nil}
-use Rattle.std.proofs.lemmas.Bool.{cond-true, cond-false, eqb-true, eqb-false}
+use Rattle.std.proofs.lemmas.Bool.{cases_Bool, cond-true, cond-false, eqb-true, eqb-false}
 use Rattle.mm_text.specs.declared.scope.OpenBlock.{OpenBlock}
 use Rattle.mm_text.specs.declared.fault.TextRule.{TextRule}
 use Rattle.mm_text.specs.declared.fault.TextRule.TheVariants.{X6, X8, S6, S7}
@@ -37,9 +37,7 @@ ComesToStop (End file ∷ rest) = Unit {0}
 abbrev pub AreSettled : List Item → Type 0
 AreSettled [] = Unit {0}
 AreSettled (Plain t ∷ rest) = ComesToStop rest × AreSettled rest
-AreSettled (Wrong rule t ∷ rest) = AreSettled rest
-AreSettled (Inclusion t ∷ rest) = AreSettled rest
-AreSettled (End file ∷ rest) = AreSettled rest
+AreSettled (_ ∷ rest) = AreSettled rest
 
 -- ---- a viable front with one item more
 
@@ -65,15 +63,15 @@ extended pre item statements more unfinished left finished v f whole spelled bar
   balanced = balanced;
   included = λ before after token cut. elim (last_cut pre item before (Inclusion token) after cut) [
     | inl h ↦ v.included before h.0 token h.1
-    | inr h ↦ subst (λ (x : List Item). AreOutside (plain_tokens x)) (sym h.0) (f.included token h.1)
+    | inr h ↦ rw h.0 (f.included token h.1)
   ];
   ended = λ before after file cut. elim (last_cut pre item before (End file) after cut) [
     | inl h ↦ v.ended before h.0 file h.1
-    | inr h ↦ subst (λ (x : List Item). (earlier : List PlainStatement) × SpellsAll (plain_tokens x) earlier) (sym h.0) (f.ended file h.1)
+    | inr h ↦ rw h.0 (f.ended file h.1)
   ];
   top_ended = λ before after cut. elim (last_cut pre item before (End 0) after cut) [
     | inl h ↦ v.top_ended before h.0 h.1
-    | inr h ↦ subst (λ (x : List Item). AreOutside (plain_tokens x)) (sym h.0) (f.top_ended h.1)
+    | inr h ↦ rw h.0 (f.top_ended h.1)
   ];
 }
 
@@ -145,26 +143,6 @@ GoesOn rest =
 
 -- ---- tokens
 
-token_wrong : (pre rest : List Item) (statements : List PlainStatement) (unfinished : List PlainToken) (part : Part) (rule : TextRule) (t : PlainToken) → Course pre statements unfinished part
-    → ReadsOn (pre ++ Wrong rule t ∷ rest) statements (reading_of (scope_of statements) part (Wrong rule t ∷ rest))
-token_wrong pre rest statements unfinished part rule t c =
-    same_reading _ statements _ _ (read_wrong (scope_of statements) part rule t rest ∙ ap (λ (f : PlainFault). only_ending (Some f)) (fault_is rule t part statements unfinished c.described))
-    (fault_here pre (Wrong rule t) rest statements unfinished (fault_at rule t statements unfinished) c.viable refl)
-
--- a token that breaks a rule
-token_faulty : (pre rest : List Item) (statements : List PlainStatement) (unfinished : List PlainToken) (part : Part) (t : PlainToken) (rule : TextRule) → Course pre statements unfinished part → step part t ≡ Faulty rule
-    → StepsTo unfinished t (Faulty rule) → ReadsOn (pre ++ Plain t ∷ rest) statements (reading_of (scope_of statements) part (Plain t ∷ rest))
-token_faulty pre rest statements unfinished part t rule c e so =
-    same_reading _ statements _ _ (read_faulty (scope_of statements) part t rest rule e ∙ ap (λ (f : PlainFault). only_ending (Some f)) (fault_is rule t part statements unfinished c.described))
-    (fault_here pre (Plain t) rest statements unfinished (fault_at rule t statements unfinished) c.viable (rule, so statements, refl))
-
-token_more : (pre rest : List Item) (statements : List PlainStatement) (unfinished : List PlainToken) (part : Part) (t : PlainToken) (next : Part) → GoesOn rest → ComesToStop rest → Course pre statements unfinished part → step part t ≡ More next
-    → StepsTo unfinished t (More next) → ReadsOn (pre ++ Plain t ∷ rest) statements (reading_of (scope_of statements) part (Plain t ∷ rest))
-token_more pre rest statements unfinished part t next inner stops c e so =
-    same_reading _ statements _ _ (read_more (scope_of statements) part t rest next e)
-    (item_before pre (Plain t) rest statements (reading_of (scope_of statements) next rest)
-    (inner (pre ++ Plain t ∷ []) statements (unfinished ++ t ∷ []) next (record { viable = within pre t statements unfinished next c.viable so; described = so }) (inr stops)))
-
 -- a token that ends a statement, with what the scope is after it
 token_ends : (pre rest : List Item) (statements : List PlainStatement) (unfinished : List PlainToken) (part : Part) (t : PlainToken) (s : PlainStatement) (scope : PlainScope) → GoesOn rest → Course pre statements unfinished part
     → reading_of (scope_of statements) part (Plain t ∷ rest) ≡ with_statement s (reading_of scope Between rest) → scope_of (statements ++ s ∷ []) ≡ scope → Spells (unfinished ++ t ∷ []) s → AreBalanced (statements ++ s ∷ [])
@@ -175,48 +153,35 @@ token_ends pre rest statements unfinished part t s scope inner c e is h b =
     (item_before pre (Plain t) rest (statements ++ s ∷ []) (reading_of (scope_of (statements ++ s ∷ [])) Between rest)
     (inner (pre ++ Plain t ∷ []) (statements ++ s ∷ []) [] Between (record { viable = finishing pre t statements unfinished s c.viable h b; described = refl }) (inl refl))))
 
-token_whole : (pre rest : List Item) (statements : List PlainStatement) (unfinished : List PlainToken) (part : Part) (t : PlainToken) (s : PlainStatement) → GoesOn rest → Course pre statements unfinished part → step part t ≡ Whole s
-    → StepsTo unfinished t (Whole s) → ReadsOn (pre ++ Plain t ∷ rest) statements (reading_of (scope_of statements) part (Plain t ∷ rest))
-token_whole pre rest statements unfinished part t s inner c e so =
+-- what each step of the reader comes to
+token_next : (pre rest : List Item) (statements : List PlainStatement) (unfinished : List PlainToken) (part : Part) (t : PlainToken) → GoesOn rest → ComesToStop rest → Course pre statements unfinished part
+    → (st : Step) → step part t ≡ st → StepsTo unfinished t st → ReadsOn (pre ++ Plain t ∷ rest) statements (reading_of (scope_of statements) part (Plain t ∷ rest))
+token_next pre rest statements unfinished part t inner stops c (More next) e so =
+    same_reading _ statements _ _ (read_more (scope_of statements) part t rest next e)
+    (item_before pre (Plain t) rest statements (reading_of (scope_of statements) next rest)
+    (inner (pre ++ Plain t ∷ []) statements (unfinished ++ t ∷ []) next (record { viable = within pre t statements unfinished next c.viable so; described = so }) (inr stops)))
+token_next pre rest statements unfinished part t inner stops c (Whole s) e so =
     token_ends pre rest statements unfinished part t s (scope_after_statement (scope_of statements)) inner c (read_whole (scope_of statements) part t rest s e) (scope_body statements s so.1) so.0 (balanced_body statements s c.viable.balanced so.1)
-
-token_opened : (pre rest : List Item) (statements : List PlainStatement) (unfinished : List PlainToken) (part : Part) (t : PlainToken) → GoesOn rest → Course pre statements unfinished part → step part t ≡ Opened
-    → StepsTo unfinished t Opened → ReadsOn (pre ++ Plain t ∷ rest) statements (reading_of (scope_of statements) part (Plain t ∷ rest))
-token_opened pre rest statements unfinished part t inner c e so =
+token_next pre rest statements unfinished part t inner stops c Opened e so =
     let s : PlainStatement = bare_statement Opening t None in
     token_ends pre rest statements unfinished part t s (scope_after_opening (scope_of statements) t) inner c (read_opened (scope_of statements) part t rest e) (scope_more statements s)
     (spells_sign Opening unfinished t so.0 so.1 refl (record { keyword = t; tokens = refl; sign = so.1 }) refl (refl, refl, refl)) (balanced_opening statements s c.viable.balanced refl)
-
-token_closed : (pre rest : List Item) (statements : List PlainStatement) (unfinished : List PlainToken) (part : Part) (t : PlainToken) → GoesOn rest → Course pre statements unfinished part → step part t ≡ Closed
-    → StepsTo unfinished t Closed → ReadsOn (pre ++ Plain t ∷ rest) statements (reading_of (scope_of statements) part (Plain t ∷ rest))
-token_closed pre rest statements unfinished part t inner c e so = go (has_none (scope_of statements).blocks) refl
-  where
-    s : PlainStatement
-    s = bare_statement Closing t None
-
-    go : (none : Bool) → has_none (scope_of statements).blocks ≡ none → ReadsOn (pre ++ Plain t ∷ rest) statements (reading_of (scope_of statements) part (Plain t ∷ rest))
-    go true none =
-        same_reading _ statements _ _ (read_closing (scope_of statements) part t rest e ∙ cond-true (has_none (scope_of statements).blocks) _ _ none ∙ ap (λ (f : PlainFault). only_ending (Some f)) (fault_is S6 t part statements unfinished c.described))
-        (fault_here pre (Plain t) rest statements unfinished (fault_at S6 t statements unfinished) c.viable (S6, (so.0, so.1, scope_closed statements c.viable.balanced none), refl))
-    go false some =
-        token_ends pre rest statements unfinished part t s (scope_after_closing (scope_of statements)) inner c (read_closing (scope_of statements) part t rest e ∙ cond-false (has_none (scope_of statements).blocks) _ _ some) (scope_more statements s)
-        (spells_sign Closing unfinished t so.0 so.1 refl (record { keyword = t; tokens = refl; sign = so.1 }) refl (refl, refl, refl)) (balanced_closing statements s c.viable.balanced refl (scope_unclosed statements c.viable.balanced some))
-
-token_next : (pre rest : List Item) (statements : List PlainStatement) (unfinished : List PlainToken) (part : Part) (t : PlainToken) → GoesOn rest → ComesToStop rest → Course pre statements unfinished part
-    → (st : Step) → step part t ≡ st → StepsTo unfinished t st → ReadsOn (pre ++ Plain t ∷ rest) statements (reading_of (scope_of statements) part (Plain t ∷ rest))
-token_next pre rest statements unfinished part t inner stops c (More next) e so = token_more pre rest statements unfinished part t next inner stops c e so
-token_next pre rest statements unfinished part t inner stops c (Whole s) e so = token_whole pre rest statements unfinished part t s inner c e so
-token_next pre rest statements unfinished part t inner stops c Opened e so = token_opened pre rest statements unfinished part t inner c e so
-token_next pre rest statements unfinished part t inner stops c Closed e so = token_closed pre rest statements unfinished part t inner c e so
-token_next pre rest statements unfinished part t inner stops c (Faulty rule) e so = token_faulty pre rest statements unfinished part t rule c e so
+token_next pre rest statements unfinished part t inner stops c Closed e so =
+    let s : PlainStatement = bare_statement Closing t None in
+    let b = c.viable.balanced in
+    elim (cases_Bool (has_none (scope_of statements).blocks)) [
+      | inl none ↦
+          same_reading _ statements _ _ (read_closing (scope_of statements) part t rest e ∙ cond-true _ _ _ none ∙ ap (λ (f : PlainFault). only_ending (Some f)) (fault_is S6 t part statements unfinished c.described))
+          (fault_here pre (Plain t) rest statements unfinished (fault_at S6 t statements unfinished) c.viable (S6, (so.0, so.1, scope_closed statements b none), refl))
+      | inr some ↦
+          token_ends pre rest statements unfinished part t s (scope_after_closing (scope_of statements)) inner c (read_closing (scope_of statements) part t rest e ∙ cond-false _ _ _ some) (scope_more statements s)
+          (spells_sign Closing unfinished t so.0 so.1 refl (record { keyword = t; tokens = refl; sign = so.1 }) refl (refl, refl, refl)) (balanced_closing statements s b refl (scope_unclosed statements b some))
+    ]
+token_next pre rest statements unfinished part t inner stops c (Faulty rule) e so =
+    same_reading _ statements _ _ (read_faulty (scope_of statements) part t rest rule e ∙ ap (λ (f : PlainFault). only_ending (Some f)) (fault_is rule t part statements unfinished c.described))
+    (fault_here pre (Plain t) rest statements unfinished (fault_at rule t statements unfinished) c.viable (rule, so statements, refl))
 
 -- ---- inclusions
-
-no_first : (part : Part) (first : PlainToken) → part_first part ≡ Some first → (part_first part ≡ None) → ⊥
-no_first part first e f = absurd cc
-
-nil_cons : (first : PlainToken) (others tokens : List PlainToken) → tokens ≡ first ∷ others → tokens ≢ []
-nil_cons first others tokens e f = absurd cc
 
 -- a file is included in a statement or in a block
 inclusion_faulty : (pre rest : List Item) (statements : List PlainStatement) (unfinished : List PlainToken) (part : Part) (t : PlainToken) → Course pre statements unfinished part
@@ -241,18 +206,20 @@ inclusion_next : (pre rest : List Item) (statements : List PlainStatement) (unfi
     → ReadsOn (pre ++ Inclusion t ∷ rest) statements (reading_of (scope_of statements) part (Inclusion t ∷ rest))
 inclusion_next pre rest statements unfinished part t inner c =
     elim (first_of_part part unfinished c.described) [
-      | inl none ↦ go none.0 none.1 (has_none (scope_of statements).blocks) refl
-      | inr some ↦ inclusion_faulty pre rest statements unfinished part t c (rw (inclusion_fault, some.2) refl) (inl (nil_cons some.0 some.1 unfinished some.3))
+      | inl (is, none) ↦ elim (cases_Bool (has_none (scope_of statements).blocks)) [
+        | inl closed ↦
+            inclusion_passed pre rest statements unfinished part t inner c is none
+            (rw (is, inclusion_fault, closed) refl)
+            (scope_closed statements c.viable.balanced closed)
+        | inr some ↦
+            inclusion_faulty pre rest statements unfinished part t c
+            (rw (is, inclusion_fault, some) refl)
+            (inr (scope_unclosed statements c.viable.balanced some))
+      ]
+      | inr (first, others, some, is) ↦
+          inclusion_faulty pre rest statements unfinished part t c
+          (rw (inclusion_fault, some) refl) (inl (λ none. cc))
     ]
-  where
-    go : part ≡ Between → unfinished ≡ [] → (b : Bool) → has_none (scope_of statements).blocks ≡ b → ReadsOn (pre ++ Inclusion t ∷ rest) statements (reading_of (scope_of statements) part (Inclusion t ∷ rest))
-    go between_now none true scope_after_closing =
-        inclusion_passed pre rest statements unfinished part t inner c between_now none
-        (ap (λ (x : Part). inclusion_fault (scope_of statements) x t) between_now ∙ cond-true (has_none (scope_of statements).blocks) _ _ scope_after_closing) (scope_closed statements c.viable.balanced scope_after_closing)
-    go between_now none false some_open =
-        inclusion_faulty pre rest statements unfinished part t c
-        (ap (λ (x : Part). inclusion_fault (scope_of statements) x t) between_now ∙ cond-false (has_none (scope_of statements).blocks) _ _ some_open ∙ ap (λ (x : Part). Some (fault_in (scope_of statements) x X6 t)) (sym between_now))
-        (inr (scope_unclosed statements c.viable.balanced some_open))
 
 -- ---- ends of files
 
@@ -283,21 +250,25 @@ end_passed pre rest statements unfinished part file inner c between_now none e s
       clean = tt;
       included = λ token is. absurd cc;
       ended = λ other is. (statements, subst (λ (x : List PlainToken). SpellsAll x statements) (sym (nothing_left pre statements unfinished c.viable none)) c.viable.spelled);
-      top_ended = λ is. outside pre statements unfinished c.viable none (scope_after_closing (end_number file 0 is));
+      top_ended = λ is.
+          let top : file ≡ 0 = cc in
+          outside pre statements unfinished c.viable none (scope_after_closing top);
     } in
     same_reading _ statements _ _
     (read_end (scope_of statements) part file rest ∙ ap (λ (f : Option PlainFault). unless f (reading_of (scope_of statements) part rest)) (ap (λ (x : Part). end_fault (scope_of statements) x file) between_now ∙ e))
     (item_before pre (End file) rest statements (reading_of (scope_of statements) part rest)
     (inner (pre ++ End file ∷ []) statements [] part (record { viable = between pre (End file) statements unfinished c.viable none refl follows; described = subst (λ (x : Part). Describes x []) (sym between_now) refl }) (inl (ap part_first between_now))))
-  where
-    end_number : (a b : ℕ) → End a ≡ End b → a ≡ b
-    end_number a b e = cc
 
 end_next : (pre rest : List Item) (statements : List PlainStatement) (unfinished : List PlainToken) (part : Part) (file : ℕ) → GoesOn rest → Course pre statements unfinished part
     → ReadsOn (pre ++ End file ∷ rest) statements (reading_of (scope_of statements) part (End file ∷ rest))
 end_next pre rest statements unfinished part file inner c =
     elim (first_of_part part unfinished c.described) [
-      | inl none ↦ go none.0 none.1 (file == 0) refl
+      | inl (is, none) ↦ elim (cases_Bool (file == 0)) [
+        | inl first ↦ top is none (eqb-true file 0 first) (scope_of statements).blocks refl
+        | inr other ↦
+            end_passed pre rest statements unfinished part file inner c is none
+            (cond-false (file == 0) _ _ other) (λ e. absurd (eqb-false file 0 other e))
+      ]
       | inr some ↦ end_unfinished pre rest statements unfinished some.1 part file some.0 c some.2 some.3
     ]
   where
@@ -305,11 +276,6 @@ end_next pre rest statements unfinished part file inner c =
     top between_now none first [] is =
         end_passed pre rest statements unfinished part file inner c between_now none (ap (end_fault (scope_of statements) Between) first ∙ ap block_fault is) (λ _. scope_closed statements c.viable.balanced (ap has_none is))
     top between_now none first (block ∷ blocks) is = end_in_block pre rest statements unfinished part file block blocks c between_now none first is
-
-    go : part ≡ Between → unfinished ≡ [] → (b : Bool) → (file == 0) ≡ b → ReadsOn (pre ++ End file ∷ rest) statements (reading_of (scope_of statements) part (End file ∷ rest))
-    go between_now none true first = top between_now none (eqb-true file 0 first) (scope_of statements).blocks refl
-    go between_now none false other =
-        end_passed pre rest statements unfinished part file inner c between_now none (cond-false (file == 0) _ _ other) (λ e. absurd (eqb-false file 0 other e))
 
 -- ---- all items
 
@@ -319,7 +285,7 @@ nothing_next pre statements unfinished part c none =
       | inl is ↦
           same_reading _ statements _ _ (read_nothing (scope_of statements) part ∙ ap (λ (x : Part). only_ending (unfinished_fault (scope_of statements) x)) is.0)
           (transport (λ i. Viable (sym (append-nil pre) i) (sym (append-nil statements) i) (is.1 i)) c.viable)
-      | inr some ↦ absurd (no_first part some.0 some.2 none)
+      | inr (first, others, some, is) ↦ absurd cc
     ]
 
 -- what the reader computes of items after a viable front is a reading of all
@@ -328,7 +294,9 @@ reads_on [] signed settled pre statements unfinished part c (inl none) = nothing
 reads_on [] signed settled pre statements unfinished part c (inr stops) = absurd stops
 reads_on (Plain t ∷ rest) signed settled pre statements unfinished part c stops =
     token_next pre rest statements unfinished part t (reads_on rest signed.1 settled.1) settled.0 c (step part t) refl (step_right part unfinished t signed.0 c.described)
-reads_on (Wrong rule t ∷ rest) signed settled pre statements unfinished part c stops = token_wrong pre rest statements unfinished part rule t c
+reads_on (Wrong rule t ∷ rest) signed settled pre statements unfinished part c stops =
+    same_reading _ statements _ _ (read_wrong (scope_of statements) part rule t rest ∙ ap (λ (f : PlainFault). only_ending (Some f)) (fault_is rule t part statements unfinished c.described))
+    (fault_here pre (Wrong rule t) rest statements unfinished (fault_at rule t statements unfinished) c.viable refl)
 reads_on (Inclusion t ∷ rest) signed settled pre statements unfinished part c stops = inclusion_next pre rest statements unfinished part t (reads_on rest signed settled) c
 reads_on (End file ∷ rest) signed settled pre statements unfinished part c stops = end_next pre rest statements unfinished part file (reads_on rest signed settled) c
 

@@ -1,10 +1,8 @@
 -- What is shown of tokens, from a token on that is shown.
 use Rattle.std.proofs.Common.{◌≡◌, List, [], ◌∷◌, ◌++◌, map, Bool, true, false, refl, sym, ap, ◌∙◌, subst, codes, Option, Some, None, append_assoc}
 use Rattle.std.specs.List.{list_all}
-use Rattle.mm_text.specs.declared.fault.TextRule.{TextRule}
-use Rattle.mm_text.specs.declared.fault.TextRule.TheVariants.{X1, X2, X3, X4}
 use Rattle.mm_text.specs.Token.{PlainToken, is_printable}
-use Rattle.mm_text.specs.Items.{Shown, Clear, Broken, without_comments, spells, holds_mark}
+use Rattle.mm_text.specs.Items.{Shown, Clear, without_comments, spells, holds_mark}
 use Rattle.mm_text.proofs.CommentLaws.{in_comment-illegal, in_comment-close, in_comment-mark, in_comment-more, in_comment-end, outside-end, outside-illegal, outside-begin, outside-close, outside-clear}
 
 -- The token is shown after so much, and is the last of these tokens before others; whatever tokens
@@ -15,15 +13,6 @@ pub record ShownAt (begin : Option PlainToken) (tokens : List PlainToken) (passe
   pub whole : tokens ≡ before ++ t ∷ after
   pub later : rest ≡ without_comments None after
   pub others : (more : List PlainToken) → without_comments begin (before ++ t ∷ more) ≡ passed ++ Clear t ∷ without_comments None more
-
-not_broken : (rule : TextRule) (t u : PlainToken) (more rest : List Shown) → Broken rule t ∷ more ≡ Clear u ∷ rest → ⊥
-not_broken rule t u more rest e = cc
-
-not_nothing : (u : PlainToken) (rest : List Shown) → [] ≡ Clear u ∷ rest → ⊥
-not_nothing u rest e = cc
-
-clear_parts : (t u : PlainToken) (more rest : List Shown) → Clear t ∷ more ≡ Clear u ∷ rest → (t ≡ u) × (more ≡ rest)
-clear_parts t u more rest e = (cc, cc)
 
 -- one token more before
 skipped : (begin next : Option PlainToken) (u : PlainToken) (tokens : List PlainToken) (passed : List Shown) (t : PlainToken) (rest : List Shown)
@@ -37,27 +26,30 @@ skipped begin next u tokens passed t rest step s = record {
 }
 
 first_shown : (begin : Option PlainToken) (tokens : List PlainToken) (t : PlainToken) (rest : List Shown) → without_comments begin tokens ≡ Clear t ∷ rest → ShownAt begin tokens [] t rest
-first_shown None [] t rest e = absurd (not_nothing t rest (sym outside-end ∙ e))
-first_shown (Some begin) [] t rest e = absurd (not_broken X2 begin t [] rest (sym (in_comment-end begin) ∙ e))
+first_shown None [] t rest e = let no = sym outside-end ∙ e in absurd cc
+first_shown (Some begin) [] t rest e = let no = sym (in_comment-end begin) ∙ e in absurd cc
 first_shown None (u ∷ tokens) t rest e = go (λ b. first_shown b tokens t rest) (list_all is_printable u.text) refl (spells u.text (codes "$(")) refl (spells u.text (codes "$)")) refl
   where
     go : ((b : Option PlainToken) → without_comments b tokens ≡ Clear t ∷ rest → ShownAt b tokens [] t rest)
         → (p : Bool) → list_all is_printable u.text ≡ p → (o : Bool) → spells u.text (codes "$(") ≡ o → (c : Bool) → spells u.text (codes "$)") ≡ c → ShownAt None (u ∷ tokens) [] t rest
-    go inner false p o oe c ce = absurd (not_broken X1 u t [] rest (sym (outside-illegal u tokens p) ∙ e))
+    go inner false p o oe c ce = let no = sym (outside-illegal u tokens p) ∙ e in absurd cc
     go inner true p true oe c ce =
         skipped None (Some u) u tokens [] t rest (λ more. outside-begin u more p oe) (inner (Some u) (sym (outside-begin u tokens p oe) ∙ e))
-    go inner true p false oe true ce = absurd (not_broken X4 u t [] rest (sym (outside-close u tokens p oe ce) ∙ e))
+    go inner true p false oe true ce =
+        let no = sym (outside-close u tokens p oe ce) ∙ e in absurd cc
     go inner true p false oe false ce =
-        let (same, more) = clear_parts u t (without_comments None tokens) rest (sym (outside-clear u tokens p oe ce) ∙ e) in
-        subst (λ (v : PlainToken). ShownAt None (u ∷ tokens) [] v rest) same (record { before = []; after = tokens; whole = refl; later = sym more; others = λ others. outside-clear u others p oe ce })
+        let told = sym (outside-clear u tokens p oe ce) ∙ e in
+        let same : u ≡ t = cc in
+        subst (λ (v : PlainToken). ShownAt None (u ∷ tokens) [] v rest) same (record { before = []; after = tokens; whole = refl; later = cc; others = λ others. outside-clear u others p oe ce })
 first_shown (Some begin) (u ∷ tokens) t rest e = go (λ b. first_shown b tokens t rest) (list_all is_printable u.text) refl (spells u.text (codes "$)")) refl (holds_mark u.text) refl
   where
     go : ((b : Option PlainToken) → without_comments b tokens ≡ Clear t ∷ rest → ShownAt b tokens [] t rest)
         → (p : Bool) → list_all is_printable u.text ≡ p → (c : Bool) → spells u.text (codes "$)") ≡ c → (m : Bool) → holds_mark u.text ≡ m → ShownAt (Some begin) (u ∷ tokens) [] t rest
-    go inner false p c ce m me = absurd (not_broken X1 u t [] rest (sym (in_comment-illegal begin u tokens p) ∙ e))
+    go inner false p c ce m me = let no = sym (in_comment-illegal begin u tokens p) ∙ e in absurd cc
     go inner true p true ce m me =
         skipped (Some begin) None u tokens [] t rest (λ more. in_comment-close begin u more p ce) (inner None (sym (in_comment-close begin u tokens p ce) ∙ e))
-    go inner true p false ce true me = absurd (not_broken X3 u t [] rest (sym (in_comment-mark begin u tokens p ce me) ∙ e))
+    go inner true p false ce true me =
+        let no = sym (in_comment-mark begin u tokens p ce me) ∙ e in absurd cc
     go inner true p false ce false me =
         skipped (Some begin) (Some begin) u tokens [] t rest (λ more. in_comment-more begin u more p ce me) (inner (Some begin) (sym (in_comment-more begin u tokens p ce me) ∙ e))
 

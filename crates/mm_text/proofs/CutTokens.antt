@@ -1,10 +1,12 @@
 -- Tokens of bytes that are cut apart, put behind others, or in place of others.
-use Rattle.std.proofs.Common.{◌≡◌, ℕ, ◌+◌, ◌-◌, ◌≤◌, ◌==◌, List, [], ◌∷◌, ◌++◌, length, map, Bool, true, false, cond, refl, sym, ap, ◌∙◌, subst, arith, eq-eqb, add-zero}
+use Rattle.std.proofs.Common.{◌≡◌, ℕ, ◌+◌, ◌-◌, ◌≤◌, ◌==◌, List, [], ◌∷◌, ◌++◌, length, map, true, refl, sym, ap, ◌∙◌, subst, arith, eq-eqb, add-zero, inl, inr}
 use Rattle.std.proofs.lemmas.List.{append_assoc, append-nil, length-append}
-use Rattle.std.proofs.lemmas.Bool.{ne_eqb}
+use Rattle.std.proofs.lemmas.Bool.{cases_Bool, cases_eq, cond_both, ne_eqb}
 use Rattle.mm_text.specs.Token.{PlainToken, is_space, with_byte, tokens_from}
 use Rattle.mm_text.specs.Alike.{token_on}
-use Rattle.mm_text.proofs.TokenLaws.{tokens_from-space, tokens_from-byte, tokens_from-nil, tokens_from-run, tokens_from_begin, BeginFrom, AreInk, BeginsWithSpace, with_byte_apart}
+use Rattle.mm_text.proofs.Lists.{both_choices, choice_mapped, cons_parts, nil_append}
+use Rattle.mm_text.proofs.CommentLaws.{begin_far}
+use Rattle.mm_text.proofs.TokenLaws.{tokens_from-space, tokens_from-nil, tokens_from-run, tokens_from_begin, BeginFrom, AreInk, BeginsWithSpace, with_byte_apart}
 
 -- ---- a cut at white space
 
@@ -12,42 +14,21 @@ use Rattle.mm_text.proofs.TokenLaws.{tokens_from-space, tokens_from-byte, tokens
 byte_before : (file at b : ℕ) (tokens others : List PlainToken) → BeginFrom (at + 2) others → with_byte file at b (tokens ++ others) ≡ with_byte file at b tokens ++ others
 byte_before file at b [] others h = with_byte_apart file at b others h
 byte_before file at b (t ∷ tokens) others h =
-    elim (t.at == at + 1) as (λ joined. cond joined (record { text = b ∷ t.text; file = file; at = at } ∷ tokens ++ others) (record { text = b ∷ []; file = file; at = at } ∷ t ∷ tokens ++ others)
-    ≡ cond joined (record { text = b ∷ t.text; file = file; at = at } ∷ tokens) (record { text = b ∷ []; file = file; at = at } ∷ t ∷ tokens) ++ others) [
-      | true ↦ refl
-      | false ↦ refl
-    ]
-
-later_begin : (m n : ℕ) (tokens : List PlainToken) → m ≤ n → BeginFrom n tokens → BeginFrom m tokens
-later_begin m n [] less h = tt
-later_begin m n (t ∷ tokens) less h = omega arith
+    choice_mapped (λ l. l) (λ l. l ++ others) (t.at == at + 1) _ _ _ _ refl refl
 
 -- tokens on both sides of a byte of white space
 pub tokens_cut : (file at : ℕ) (bytes : List ℕ) (b : ℕ) (rest : List ℕ) → is_space b ≡ true
     → tokens_from file at (bytes ++ b ∷ rest) ≡ tokens_from file at bytes ++ tokens_from file (at + length bytes + 1) rest
-tokens_cut file at [] b rest space =
-    tokens_from-space file at b rest space
-    ∙ ap (λ n. tokens_from file (n + 1) rest) (sym (add-zero at))
-    ∙ ap (λ (l : List PlainToken). l ++ tokens_from file (at + 0 + 1) rest) (sym (tokens_from-nil file at))
-tokens_cut file at (c ∷ bytes) b rest space = go (tokens_cut file (at + 1) bytes b rest space) (is_space c) refl
-  where
-    far : at + 1 + length bytes + 1 ≡ at + length (c ∷ bytes) + 1
-    far = omega arith
-
-    go : tokens_from file (at + 1) (bytes ++ b ∷ rest) ≡ tokens_from file (at + 1) bytes ++ tokens_from file (at + 1 + length bytes + 1) rest
-        → (s : Bool) → is_space c ≡ s → tokens_from file at (c ∷ bytes ++ b ∷ rest) ≡ tokens_from file at (c ∷ bytes) ++ tokens_from file (at + length (c ∷ bytes) + 1) rest
-    go inner true e =
-        tokens_from-space file at c (bytes ++ b ∷ rest) e ∙ inner
-        ∙ ap (λ n. tokens_from file (at + 1) bytes ++ tokens_from file n rest) far
-        ∙ ap (λ (l : List PlainToken). l ++ tokens_from file (at + length (c ∷ bytes) + 1) rest) (sym (tokens_from-space file at c bytes e))
-    go inner false e =
-        let later : BeginFrom (at + 2) (tokens_from file (at + 1 + length bytes + 1) rest) =
-        later_begin (at + 2) (at + 1 + length bytes + 1) _ (omega arith) (tokens_from_begin file (at + 1 + length bytes + 1) rest) in
-        tokens_from-byte file at c (bytes ++ b ∷ rest) e
-        ∙ ap (with_byte file at c) inner
-        ∙ byte_before file at c (tokens_from file (at + 1) bytes) (tokens_from file (at + 1 + length bytes + 1) rest) later
-        ∙ ap (λ n. with_byte file at c (tokens_from file (at + 1) bytes) ++ tokens_from file n rest) far
-        ∙ ap (λ (l : List PlainToken). l ++ tokens_from file (at + length (c ∷ bytes) + 1) rest) (sym (tokens_from-byte file at c bytes e))
+unfolding tokens_from
+tokens_cut file at [] b rest space = rw (space, add-zero at) refl
+tokens_cut file at (c ∷ bytes) b rest space =
+    let far : at + length (c ∷ bytes) + 1 ≡ at + 1 + length bytes + 1 = omega arith in
+    let behind = tokens_from file (at + 1 + length bytes + 1) rest in
+    let begins = tokens_from_begin file (at + 1 + length bytes + 1) rest in
+    let inner = tokens_cut file (at + 1) bytes b rest space in
+    rw far (choice_mapped (λ l. l) (λ l. l ++ behind) (is_space c) _ _ _ _ inner
+    (ap (with_byte file at c) inner
+    ∙ byte_before file at c _ behind (begin_far _ (at + 2) _ (omega arith) begins)))
 
 -- ---- the same bytes further on
 
@@ -64,20 +45,16 @@ with_byte_from : (file at b : ℕ) (tokens : List PlainToken) → AllFrom file (
 with_byte_from file at b [] h = (refl, omega arith, tt)
 with_byte_from file at b (t ∷ tokens) h =
     let rest = all_earlier file at tokens h.2 in
-    elim (t.at == at + 1) as (λ joined. AllFrom file at (cond joined (record { text = b ∷ t.text; file = file; at = at } ∷ tokens) (record { text = b ∷ []; file = file; at = at } ∷ t ∷ tokens))) [
-      | true ↦ (refl, omega arith, rest)
-      | false ↦ (refl, omega arith, (h.0, omega arith, rest))
-    ]
+    cond_both (t.at == at + 1) _ _ (AllFrom file at)
+    (λ _. (refl, omega arith, rest)) (λ _. (refl, omega arith, (h.0, omega arith, rest)))
 
 pub all_from : (file at : ℕ) (bytes : List ℕ) → AllFrom file at (tokens_from file at bytes)
 unfolding tokens_from
 all_from file at [] = tt
 all_from file at (b ∷ bytes) =
     let rest = all_from file (at + 1) bytes in
-    elim (is_space b) as (λ space. AllFrom file at (cond space (tokens_from file (at + 1) bytes) (with_byte file at b (tokens_from file (at + 1) bytes)))) [
-      | true ↦ all_earlier file at _ rest
-      | false ↦ with_byte_from file at b (tokens_from file (at + 1) bytes) rest
-    ]
+    cond_both (is_space b) _ _ (AllFrom file at) (λ _. all_earlier file at _ rest)
+    (λ _. with_byte_from file at b (tokens_from file (at + 1) bytes) rest)
 
 -- places of a file from one on become those from another on
 abbrev pub Moves : (ℕ → ℕ → ℕ) → ℕ → ℕ → ℕ → Type 0
@@ -90,11 +67,10 @@ moves_on line file at to moves i = ap (line file) (omega arith) ∙ moves (i + 1
 next_moves : (line : ℕ → ℕ → ℕ) (file at to : ℕ) (t : PlainToken) → Moves line file at to → t.file ≡ file → at + 1 ≤ t.at → (line t.file t.at == to + 1) ≡ (t.at == at + 1)
 next_moves line file at to t moves home from =
     let there : line t.file t.at ≡ to + (t.at - at) = ap (λ n. line n t.at) home ∙ ap (line file) (omega arith) ∙ moves (t.at - at) in
-    go (t.at == at + 1) refl there
-  where
-    go : (b : Bool) → (t.at == at + 1) ≡ b → line t.file t.at ≡ to + (t.at - at) → (line t.file t.at == to + 1) ≡ b
-    go true e there = let same : t.at ≡ at + 1 = grind arith in eq-eqb _ _ (omega arith)
-    go false e there = ne_eqb _ _ (λ same. let next : t.at ≡ at + 1 = omega arith in let yes : (t.at == at + 1) ≡ true = eq-eqb _ _ next in cc)
+    elim (cases_eq t.at (at + 1)) [
+      | inl next ↦ eq-eqb _ _ (omega arith) ∙ sym (eq-eqb _ _ next)
+      | inr other ↦ ne_eqb _ _ (λ same. other (omega arith)) ∙ sym (ne_eqb _ _ other)
+    ]
 
 with_byte_moved : (line : ℕ → ℕ → ℕ) (file at to b : ℕ) (tokens : List PlainToken) → Moves line file at to → AllFrom file (at + 1) tokens
     → with_byte file to b (map (token_on line) tokens) ≡ map (token_on line) (with_byte file at b tokens)
@@ -104,24 +80,19 @@ with_byte_moved line file at to b [] moves h =
 with_byte_moved line file at to b (t ∷ tokens) moves h =
     let here : to ≡ line file at = sym (ap (line file) (sym (add-zero at)) ∙ moves 0 ∙ add-zero to) in
     let same = next_moves line file at to t moves h.0 h.1 in
-    ap (λ (c : Bool). cond c (record { text = b ∷ t.text; file = file; at = to } ∷ map (token_on line) tokens) (record { text = b ∷ []; file = file; at = to } ∷ token_on line t ∷ map (token_on line) tokens)) same
-    ∙ (elim (t.at == at + 1) as (λ c. cond c (record { text = b ∷ t.text; file = file; at = to } ∷ map (token_on line) tokens) (record { text = b ∷ []; file = file; at = to } ∷ token_on line t ∷ map (token_on line) tokens)
-    ≡ map (token_on line) (cond c (record { text = b ∷ t.text; file = file; at = at } ∷ tokens) (record { text = b ∷ []; file = file; at = at } ∷ t ∷ tokens))) [
-      | true ↦ ap (λ (n : ℕ). record { text = b ∷ t.text; file = file; at = n } ∷ map (token_on line) tokens) here
-      | false ↦ ap (λ (n : ℕ). record { text = b ∷ []; file = file; at = n } ∷ token_on line t ∷ map (token_on line) tokens) here
-    ])
+    both_choices (λ l m. l ≡ map (token_on line) m) _ (t.at == at + 1) _ _ _ _ same
+    (ap (λ (n : ℕ). record { text = b ∷ t.text; file = file; at = n } ∷ map (token_on line) tokens) here)
+    (ap (λ (n : ℕ). record { text = b ∷ []; file = file; at = n } ∷ map (token_on line) (t ∷ tokens)) here)
 
 -- the tokens of bytes that stand elsewhere
 pub tokens_moved : (line : ℕ → ℕ → ℕ) (file at to : ℕ) (bytes : List ℕ) → Moves line file at to → tokens_from file to bytes ≡ map (token_on line) (tokens_from file at bytes)
-tokens_moved line file at to [] moves = tokens_from-nil file to ∙ ap (map (token_on line)) (sym (tokens_from-nil file at))
-tokens_moved line file at to (b ∷ bytes) moves = go (tokens_moved line file (at + 1) (to + 1) bytes (moves_on line file at to moves)) (is_space b) refl
-  where
-    go : tokens_from file (to + 1) bytes ≡ map (token_on line) (tokens_from file (at + 1) bytes) → (s : Bool) → is_space b ≡ s → tokens_from file to (b ∷ bytes) ≡ map (token_on line) (tokens_from file at (b ∷ bytes))
-    go rest true e = tokens_from-space file to b bytes e ∙ rest ∙ ap (map (token_on line)) (sym (tokens_from-space file at b bytes e))
-    go rest false e =
-        tokens_from-byte file to b bytes e ∙ ap (with_byte file to b) rest
-        ∙ with_byte_moved line file at to b (tokens_from file (at + 1) bytes) moves (all_from file (at + 1) bytes)
-        ∙ ap (map (token_on line)) (sym (tokens_from-byte file at b bytes e))
+unfolding tokens_from
+tokens_moved line file at to [] moves = refl
+tokens_moved line file at to (b ∷ bytes) moves =
+    let rest = tokens_moved line file (at + 1) (to + 1) bytes (moves_on line file at to moves) in
+    choice_mapped (λ l. l) (map (token_on line)) (is_space b) _ _ _ _ rest
+    (ap (with_byte file to b) rest
+    ∙ with_byte_moved line file at to b (tokens_from file (at + 1) bytes) moves (all_from file (at + 1) bytes))
 
 -- ---- a token among the others
 
@@ -137,73 +108,54 @@ pub record StandsAt (file at : ℕ) (bytes : List ℕ) (before : List PlainToken
   pub later : after ≡ tokens_from file (t.at + length t.text) rest
   pub others : (more : List ℕ) → BeginsWithSpace more → tokens_from file at (front ++ (t.text ++ more)) ≡ before ++ t ∷ tokens_from file (t.at + length t.text) more
 
--- the parts of bytes: nothing; white space first; or a longest run of other bytes first
-data Begin (bytes : List ℕ) : Type 0 where
-  Nothing : bytes ≡ [] → Begin bytes
-  Space : (b : ℕ) (rest : List ℕ) → bytes ≡ b ∷ rest → is_space b ≡ true → Begin bytes
-  Ink : (b : ℕ) (run rest : List ℕ) → bytes ≡ b ∷ run ++ rest → AreInk (b ∷ run) → BeginsWithSpace rest → Begin bytes
-
-begin_with : (b : ℕ) (bytes : List ℕ) → is_space b ≡ false → Begin bytes → Begin (b ∷ bytes)
-begin_with b bytes ink (Nothing e) = Ink b [] [] (ap (λ (l : List ℕ). b ∷ l) e) (ink, tt) tt
-begin_with b bytes ink (Space c rest e space) = Ink b [] bytes refl (ink, tt) (subst BeginsWithSpace (sym e) space)
-begin_with b bytes ink (Ink c run rest e inks spaced) = Ink b (c ∷ run) rest (ap (λ (l : List ℕ). b ∷ l) e) (ink, inks) spaced
-
-begin_of : (bytes : List ℕ) → Begin bytes
-begin_of [] = Nothing refl
-begin_of (b ∷ bytes) = go (begin_of bytes) (is_space b) refl
-  where
-    go : Begin bytes → (s : Bool) → is_space b ≡ s → Begin (b ∷ bytes)
-    go inner true e = Space b bytes refl e
-    go inner false e = begin_with b bytes e inner
-
--- the parts of what is one list of tokens
-one_cons : (t u : PlainToken) (ts us : List PlainToken) → t ∷ ts ≡ u ∷ us → (t ≡ u) × (ts ≡ us)
-one_cons t u ts us e = (cc, cc)
-
-no_cons : (t : PlainToken) (ts : List PlainToken) → [] ≡ t ∷ ts → ⊥
-no_cons t ts e = cc
-
--- a run of bytes is the first token
-ink_first : (file at : ℕ) (bytes : List ℕ) (b : ℕ) (run rest : List ℕ) (t : PlainToken) (after : List PlainToken) → bytes ≡ b ∷ run ++ rest → AreInk (b ∷ run) → BeginsWithSpace rest
-    → tokens_from file at bytes ≡ t ∷ after → StandsAt file at bytes [] t after
-ink_first file at bytes b run rest t after e ink spaced is =
-    let token : PlainToken = record { text = b ∷ run; file = file; at = at } in
-    let known : (more : List ℕ) → BeginsWithSpace more → tokens_from file at (b ∷ run ++ more) ≡ token ∷ tokens_from file (at + length (b ∷ run)) more = λ more h. tokens_from-run file at b run more ink h in
-    let (same, later) = one_cons t token after (tokens_from file (at + length (b ∷ run)) rest) (sym is ∙ ap (tokens_from file at) e ∙ known rest spaced) in
-    subst (λ (u : PlainToken). StandsAt file at bytes [] u after) (sym same) (record {
-      front = [];
-      rest = rest;
-      whole = e;
-      place = sym (add-zero at);
-      spaced = spaced;
-      alone = known;
-      later = later;
-      others = known;
-    })
+-- bytes are a longest run of other bytes than white space, which may be none, and what is left
+longest_run : (bytes : List ℕ)
+    → (run : List ℕ) × (rest : List ℕ) × (bytes ≡ run ++ rest) × AreInk run × BeginsWithSpace rest
+longest_run [] = ([], [], refl, tt, tt)
+longest_run (b ∷ bytes) =
+    let (run, rest, whole, ink, spaced) = longest_run bytes in
+    elim (cases_Bool (is_space b)) [
+      | inl e ↦ ([], b ∷ bytes, refl, tt, e)
+      | inr e ↦ (b ∷ run, rest, ap (λ (l : List ℕ). b ∷ l) whole, (e, ink), spaced)
+    ]
 
 first_stands : (file at : ℕ) (bytes : List ℕ) (t : PlainToken) (after : List PlainToken) → tokens_from file at bytes ≡ t ∷ after → StandsAt file at bytes [] t after
-first_stands file at [] t after is = absurd (no_cons t after (sym (tokens_from-nil file at) ∙ is))
-first_stands file at (b ∷ bytes) t after is = go (first_stands file (at + 1) bytes t after) (is_space b) refl
-  where
-    inky : Begin bytes → is_space b ≡ false → StandsAt file at (b ∷ bytes) [] t after
-    inky (Nothing e) ink = ink_first file at (b ∷ bytes) b [] [] t after (ap (λ (l : List ℕ). b ∷ l) e) (ink, tt) tt is
-    inky (Space c rest e space) ink = ink_first file at (b ∷ bytes) b [] bytes t after refl (ink, tt) (subst BeginsWithSpace (sym e) space) is
-    inky (Ink c run rest e inks spaced) ink = ink_first file at (b ∷ bytes) b (c ∷ run) rest t after (ap (λ (l : List ℕ). b ∷ l) e) (ink, inks) spaced is
-
-    go : (tokens_from file (at + 1) bytes ≡ t ∷ after → StandsAt file (at + 1) bytes [] t after) → (s : Bool) → is_space b ≡ s → StandsAt file at (b ∷ bytes) [] t after
-    go inner true e =
-        let s = inner (sym (tokens_from-space file at b bytes e) ∙ is) in
-        record {
-          front = b ∷ s.front;
-          rest = s.rest;
-          whole = ap (λ (l : List ℕ). b ∷ l) s.whole;
-          place = omega (arith, s.place);
-          spaced = s.spaced;
-          alone = s.alone;
-          later = s.later;
-          others = λ more h. tokens_from-space file at b (s.front ++ (t.text ++ more)) e ∙ s.others more h;
-        }
-    go inner false e = inky (begin_of bytes) e
+first_stands file at [] t after is = let no = sym (tokens_from-nil file at) ∙ is in absurd cc
+first_stands file at (b ∷ bytes) t after is = elim (cases_Bool (is_space b)) [
+  | inl e ↦
+      let behind = sym (tokens_from-space file at b bytes e) ∙ is in
+      let s = first_stands file (at + 1) bytes t after behind in
+      record {
+        front = b ∷ s.front;
+        rest = s.rest;
+        whole = ap (λ (l : List ℕ). b ∷ l) s.whole;
+        place = omega (arith, s.place);
+        spaced = s.spaced;
+        alone = s.alone;
+        later = s.later;
+        others = λ more h. tokens_from-space file at b (s.front ++ (t.text ++ more)) e ∙ s.others more h;
+      }
+  | inr e ↦
+      let (run, rest, split, ink, spaced) = longest_run bytes in
+      let whole = ap (λ (l : List ℕ). b ∷ l) split in
+      let token : PlainToken = record { text = b ∷ run; file = file; at = at } in
+      let end : ℕ = at + length (b ∷ run) in
+      let known : (more : List ℕ) → BeginsWithSpace more
+      → tokens_from file at (b ∷ run ++ more) ≡ token ∷ tokens_from file end more =
+      λ more h. tokens_from-run file at b run more (e, ink) h in
+      let parts =
+      cons_parts t token after _ (sym is ∙ ap (tokens_from file at) whole ∙ known rest spaced) in
+      subst (λ (u : PlainToken). StandsAt file at (b ∷ bytes) [] u after) (sym parts.0) (record {
+        front = [];
+        rest = rest;
+        whole = whole;
+        place = sym (add-zero at);
+        spaced = spaced;
+        alone = known;
+        later = parts.1;
+        others = known;
+      })
+]
 
 -- each token of bytes stands somewhere among them
 pub stands_at : (file at : ℕ) (bytes : List ℕ) (before : List PlainToken) (t : PlainToken) (after : List PlainToken) → tokens_from file at bytes ≡ before ++ t ∷ after → StandsAt file at bytes before t after
@@ -213,9 +165,9 @@ stands_at file at bytes (u ∷ before) t after is =
     let from : ℕ = u.at + length u.text in
     let s = stands_at file from f.rest before t after (sym f.later) in
     let regroup : (more : List ℕ) → (f.front ++ (u.text ++ s.front)) ++ (t.text ++ more) ≡ f.front ++ (u.text ++ (s.front ++ (t.text ++ more))) = λ more.
-    append_assoc f.front (u.text ++ s.front) (t.text ++ more) ∙ ap (λ (l : List ℕ). f.front ++ l) (append_assoc u.text s.front (t.text ++ more)) in
+    simp append_assoc in
     let long : length (f.front ++ (u.text ++ s.front)) ≡ length f.front + (length u.text + length s.front) =
-    length-append f.front (u.text ++ s.front) ∙ ap (λ n. length f.front + n) (length-append u.text s.front) in
+    simp length-append in
     record {
       front = f.front ++ (u.text ++ s.front);
       rest = s.rest;
@@ -261,11 +213,6 @@ spaced_first file at bytes rest s =
     ∙ ap (λ (n : ℕ). tokens_from file at s.inner ++ tokens_from file n rest) (omega (arith, long))
     ∙ ap (λ (l : List PlainToken). l ++ tokens_from file (at + length bytes) rest) (sym alone)
 
--- from a token on
-behind_of : (file at : ℕ) (bytes : List ℕ) (before : List PlainToken) (t : PlainToken) (after : List PlainToken) → tokens_from file at bytes ≡ before ++ t ∷ after
-    → (s : StandsAt file at bytes before t after) → tokens_from file t.at (t.text ++ s.rest) ≡ t ∷ after
-behind_of file at bytes before t after is s = s.alone s.rest s.spaced ∙ ap (λ (l : List PlainToken). t ∷ l) (sym s.later)
-
 -- the bytes of a file with others between two of its tokens
 pub record ReplacedBetween (file : ℕ) (bytes text : List ℕ) (before : List PlainToken) (first : PlainToken) (last : PlainToken) (after : List PlainToken) : Type 0 where
   pub front : List ℕ
@@ -287,7 +234,8 @@ replaced_between file bytes text before first between last after is spaced =
     let front : List ℕ = f.front ++ first.text in
     let back : List ℕ = last.text ++ l.rest in
     let start : from ≡ length front = omega (arith, f.place, length-append f.front first.text) in
-    let behind : tokens_from file last.at back ≡ last ∷ after = behind_of file from f.rest between last after (sym f.later) l in
+    let behind : tokens_from file last.at back ≡ last ∷ after =
+    l.alone l.rest l.spaced ∙ ap (λ (x : List PlainToken). last ∷ x) (sym l.later) in
     record {
       front = front;
       within = l.front;
@@ -305,9 +253,5 @@ replaced_between file bytes text before first between last after is spaced =
     }
   where
     spaced_front : (text back : List ℕ) → IsSpaced text → BeginsWithSpace (text ++ back)
-    spaced_front [] back s = absurd (empty s.inner s.last s.whole)
-      where
-        empty : (inner : List ℕ) (last : ℕ) → [] ≡ inner ++ last ∷ [] → ⊥
-        empty [] last e = cc
-        empty (b ∷ inner) last e = cc
+    spaced_front [] back s = absurd (nil_append s.inner s.last [] s.whole)
     spaced_front (b ∷ text) back s = s.begins

@@ -1,19 +1,12 @@
 -- Whether a token holds a `$`, by its bytes' places in the file.
-use Rattle.std.proofs.Common.{◌≡◌, ℕ, ◌+◌, ◌-◌, ◌<◌, ◌≤◌, ◌==◌, List, [], ◌∷◌, length, get_or}
-use Rattle.std.proofs.Common.{drop, Bool, true, false, ◌||◌, suc, refl, ap, ◌∙◌, arith}
+use Rattle.std.proofs.Common.{◌≡◌, ℕ, ◌+◌, ◌-◌, ◌<◌, ◌≤◌, ◌==◌, List, length, get_or}
+use Rattle.std.proofs.Common.{drop, true, false, ap, ◌∙◌, arith}
 use Rattle.std.specs.Prelude.{slice_range}
-use Rattle.std.specs.List.{list_any}
 use Rattle.std.proofs.lemmas.List.{length-drop, length-take-le}
-use Rattle.std.proofs.lemmas.List.Folds.{list_any_at}
+use Rattle.std.proofs.lemmas.List.Folds.{list_any_at, list_any_none}
+use Rattle.std.proofs.lemmas.List.Elements.{All-from_get_or}
 use Rattle.mm_text.specs.Items.{holds_dollar}
 use Rattle.mm_text.proofs.CommentLaws.{slice_byte}
-
-none_from_places : (p : ℕ → Bool) (xs : List ℕ)
-    → ((k : ℕ) → k < length xs → p (get_or xs k 0) ≡ false) → list_any p xs ≡ false
-none_from_places p [] h = refl
-none_from_places p (x ∷ xs) h =
-    ap (λ b. b || list_any p xs) (h 0 (omega arith))
-    ∙ none_from_places p xs (λ k lt. h (suc k) (omega arith))
 
 slice_length : (bytes : List ℕ) (start stop : ℕ) → start ≤ stop → stop ≤ length bytes
     → length (slice_range bytes start stop) ≡ stop - start
@@ -27,10 +20,9 @@ pub lacks_dollar : (bytes : List ℕ) (start stop : ℕ) → start ≤ stop → 
 lacks_dollar bytes start stop from within other =
     let text = slice_range bytes start stop in
     let long : length text ≡ stop - start = slice_length bytes start stop from within in
-    none_from_places (λ b. b == 36) text
-    (λ k lt.
+    list_any_none (λ b. b == 36) text (All-from_get_or (λ b. (b == 36) ≡ false) text 0 (λ k lt.
     ap (λ b. b == 36) (slice_byte bytes start stop k (omega arith))
-    ∙ other (start + k) (omega arith) (omega arith))
+    ∙ other (start + k) (omega arith) (omega arith)))
 
 -- a token one of whose bytes is a `$`
 pub has_dollar : (bytes : List ℕ) (start at stop : ℕ) → start ≤ at → at < stop

@@ -1,8 +1,10 @@
 -- A byte of what a comment says may be left out: the file shows the same.
 use Rattle.std.proofs.Common.{◌≡◌, ℕ, suc, ◌+◌, ◌≤◌, ◌==◌, ◌&&◌, ◌||◌, ◌≢◌, List, [], ◌∷◌, ◌++◌, length, map, take, Bool, true, false, not, cond, refl, sym, ap, ◌∙◌, subst, arith, codes, Option, Some, None, count_by, append_assoc, add-zero}
+use Rattle.std.proofs.Common.{inl, inr}
 use Rattle.std.specs.Prelude.{option_map}
 use Rattle.std.specs.List.{list_all}
-use Rattle.std.proofs.lemmas.Bool.{ne_eqb, both_ways, and_parts}
+use Rattle.std.proofs.lemmas.Bool.{cases_Bool, cond_both, ne_eqb, both_ways, and_parts}
+use Rattle.mm_text.proofs.Lists.{both_choices, choice_mapped}
 use Rattle.std.proofs.lemmas.List.Sums.{sum_by-cons}
 use Rattle.mm_text.specs.Token.{PlainToken, is_space, is_printable, with_byte, tokens_from}
 use Rattle.mm_text.specs.Items.{Shown, Clear, without_comments, spells, holds_mark}
@@ -43,13 +45,8 @@ ahead_begins file inside at [] = tt
 ahead_begins file inside at (b ∷ bytes) =
     let apart = begin_earlier at _ (ahead_begins file false (at + 1) bytes) in
     let more = begin_earlier at _ (ahead_begins file true (at + 1) bytes) in
-    elim (is_space b) as (λ s. BeginFrom at (cond s (ahead file by_place false (at + 1) bytes) (cond inside (ahead file by_place true (at + 1) bytes) (record { text = b ∷ run bytes; file = file; at = at } ∷ ahead file by_place true (at + 1) bytes)))) [
-      | true ↦ apart
-      | false ↦ elim inside as (λ p. BeginFrom at (cond p (ahead file by_place true (at + 1) bytes) (record { text = b ∷ run bytes; file = file; at = at } ∷ ahead file by_place true (at + 1) bytes))) [
-        | true ↦ more
-        | false ↦ omega arith
-      ]
-    ]
+    cond_both (is_space b) _ _ (BeginFrom at) (λ _. apart)
+    (λ _. cond_both inside _ _ (BeginFrom at) (λ _. more) (λ _. omega arith))
 
 -- a byte before the rest of what is told
 extended : (file at b : ℕ) (bytes : List ℕ) → with_byte file at b (ahead file by_place false (at + 1) bytes) ≡ record { text = b ∷ run bytes; file = file; at = at } ∷ ahead file by_place true (at + 1) bytes
@@ -58,9 +55,9 @@ extended file at b (c ∷ bytes) =
     let later = ahead file by_place false (at + 1 + 1) bytes in
     let more = ahead file by_place true (at + 1 + 1) bytes in
     let far : BeginFrom (at + 2) later = subst (λ n. BeginFrom n later) (omega arith) (ahead_begins file false (at + 1 + 1) bytes) in
-    elim (is_space c) as (λ s. with_byte file at b (cond s later (record { text = c ∷ run bytes; file = file; at = at + 1 } ∷ more)) ≡ record { text = b ∷ cond s [] (c ∷ run bytes); file = file; at = at } ∷ cond s later more) [
-      | true ↦ with_byte_apart file at b later far
-      | false ↦ with_byte_joined file at b (c ∷ run bytes) more
+    elim (cases_Bool (is_space c)) [
+      | inl e ↦ rw e (with_byte_apart file at b later far)
+      | inr e ↦ rw e (with_byte_joined file at b (c ∷ run bytes) more)
     ]
 
 -- the tokens of a file are told so
@@ -69,10 +66,8 @@ unfolding tokens_from
 tokens_ahead file at [] = refl
 tokens_ahead file at (b ∷ bytes) =
     let rest = tokens_ahead file (at + 1) bytes in
-    elim (is_space b) as (λ s. cond s (tokens_from file (at + 1) bytes) (with_byte file at b (tokens_from file (at + 1) bytes)) ≡ cond s (ahead file by_place false (at + 1) bytes) (record { text = b ∷ run bytes; file = file; at = at } ∷ ahead file by_place true (at + 1) bytes)) [
-      | true ↦ rest
-      | false ↦ ap (with_byte file at b) rest ∙ extended file at b bytes
-    ]
+    choice_mapped (λ l. l) (λ l. l) (is_space b) _ _ _ _ rest
+    (ap (with_byte file at b) rest ∙ extended file at b bytes)
 
 -- places are line numbers in the other telling
 lines_ahead : (file : ℕ) (line : ℕ → ℕ → ℕ) (inside : Bool) (at n : ℕ) (bytes : List ℕ) → ((i : ℕ) → line file (at + i) ≡ n + count_by (λ b. b == 10) (take i bytes))
@@ -83,15 +78,9 @@ lines_ahead file line inside at n (b ∷ bytes) h =
     let rest : (s : Bool) → map (token_on line) (ahead file by_place s (at + 1) bytes) ≡ ahead file by_line s (n + cond (b == 10) 1 0) bytes = λ s.
     lines_ahead file line s (at + 1) (n + cond (b == 10) 1 0) bytes (λ i.
     ap (line file) (omega arith) ∙ h (suc i) ∙ omega (arith, sum_by-cons (λ x. cond (x == 10) 1 0) b (take i bytes))) in
-    elim (is_space b) as (λ p. map (token_on line) (cond p (ahead file by_place false (at + 1) bytes) (cond inside (ahead file by_place true (at + 1) bytes) (record { text = b ∷ run bytes; file = file; at = at } ∷ ahead file by_place true (at + 1) bytes)))
-    ≡ cond p (ahead file by_line false (n + cond (b == 10) 1 0) bytes) (cond inside (ahead file by_line true (n + cond (b == 10) 1 0) bytes) (record { text = b ∷ run bytes; file = file; at = n } ∷ ahead file by_line true (n + cond (b == 10) 1 0) bytes))) [
-      | true ↦ rest false
-      | false ↦ elim inside as (λ p. map (token_on line) (cond p (ahead file by_place true (at + 1) bytes) (record { text = b ∷ run bytes; file = file; at = at } ∷ ahead file by_place true (at + 1) bytes))
-          ≡ cond p (ahead file by_line true (n + cond (b == 10) 1 0) bytes) (record { text = b ∷ run bytes; file = file; at = n } ∷ ahead file by_line true (n + cond (b == 10) 1 0) bytes)) [
-            | true ↦ rest true
-            | false ↦ λ i. record { text = b ∷ run bytes; file = file; at = here i } ∷ rest true i
-          ]
-    ]
+    choice_mapped (map (token_on line)) (λ l. l) (is_space b) _ _ _ _ (rest false)
+    (choice_mapped (map (token_on line)) (λ l. l) inside _ _ _ _ (rest true)
+    (λ i. record { text = b ∷ run bytes; file = file; at = here i } ∷ rest true i))
 
 -- ---- what is shown of tokens that carry their lines
 
@@ -102,15 +91,6 @@ strip shown = map (shown_on (λ file at. at)) shown
 -- what is shown of tokens, where a comment is open or none is
 abbrev pub seen : Option PlainToken → List PlainToken → List Shown
 seen begin tokens = strip (without_comments begin tokens)
-
--- two choices by one test
-choice_mapped : {A B C : Type 0} (f : A → C) (g : B → C) (c : Bool) (x y : A) (u v : B) → f x ≡ g u → f y ≡ g v → f (cond c x y) ≡ g (cond c u v)
-choice_mapped f g true x y u v h k = h
-choice_mapped f g false x y u v h k = k
-
--- two choices by tests that come out the same
-choices_mapped : {A B C : Type 0} (f : A → C) (g : B → C) (c d : Bool) (x y : A) (u v : B) → c ≡ d → f x ≡ g u → f y ≡ g v → f (cond c x y) ≡ g (cond d u v)
-choices_mapped f g c d x y u v e h k = choice_mapped f g c x y u v h k ∙ ap (λ p. g (cond p u v)) e
 
 -- lines may be put in before comments are left out
 pub lines_seen : (line : ℕ → ℕ → ℕ) (begin : Option PlainToken) (tokens : List PlainToken) → map (shown_on line) (without_comments begin tokens) ≡ seen (option_map (token_on line) begin) (map (token_on line) tokens)
@@ -174,11 +154,14 @@ ends_apart inside (b ∷ bytes) none boundary =
 -- what comes behind such bytes belongs to no run in them
 run_apart : (front one other : List ℕ) → EndsApart true front → run (front ++ one) ≡ run (front ++ other)
 run_apart [] one other ends = absurd cc
-run_apart (b ∷ front) one other ends =
-    (elim (is_space b) as (λ s. EndsApart (not s) front → cond s [] (b ∷ run (front ++ one)) ≡ cond s [] (b ∷ run (front ++ other))) [
-      | true ↦ λ h. refl
-      | false ↦ λ h. ap (λ l. b ∷ l) (run_apart front one other h)
-    ]) ends
+run_apart (b ∷ front) one other ends = elim (cases_Bool (is_space b)) [
+  | inl e ↦ rw e refl
+  | inr e ↦ rw e (ap (λ l. b ∷ l) (run_apart front one other (rw e at ends)))
+]
+
+-- white space is skipped
+space_told : (file : ℕ) (begin : Option PlainToken) (inside : Bool) (n b : ℕ) (rest : List ℕ) → is_space b ≡ true → told file begin inside n (b ∷ rest) ≡ told file begin false (by_line n b) rest
+space_told file begin inside n b rest e = rw e refl
 
 -- such bytes before what shows the same
 front_told : (file : ℕ) (one other : List ℕ) → ((begin : Option PlainToken) (n : ℕ) → told file begin false n one ≡ told file begin false n other)
@@ -186,24 +169,20 @@ front_told : (file : ℕ) (one other : List ℕ) → ((begin : Option PlainToken
 front_told file one other same inside n [] ends begin =
     ap (λ s. told file begin s n one) ends ∙ same begin n ∙ ap (λ s. told file begin s n other) (sym ends)
 front_told file one other same inside n (b ∷ front) ends begin =
-    (elim (is_space b) as (λ s. EndsApart (not s) front → seen begin (cond s (ahead file by_line false (by_line n b) (front ++ one)) (cond inside (ahead file by_line true (by_line n b) (front ++ one)) (record { text = b ∷ run (front ++ one); file = file; at = n } ∷ ahead file by_line true (by_line n b) (front ++ one))))
-    ≡ seen begin (cond s (ahead file by_line false (by_line n b) (front ++ other)) (cond inside (ahead file by_line true (by_line n b) (front ++ other)) (record { text = b ∷ run (front ++ other); file = file; at = n } ∷ ahead file by_line true (by_line n b) (front ++ other))))) [
-      | true ↦ λ h. front_told file one other same false (by_line n b) front h begin
-      | false ↦ λ h. elim inside as (λ p. seen begin (cond p (ahead file by_line true (by_line n b) (front ++ one)) (record { text = b ∷ run (front ++ one); file = file; at = n } ∷ ahead file by_line true (by_line n b) (front ++ one)))
-          ≡ seen begin (cond p (ahead file by_line true (by_line n b) (front ++ other)) (record { text = b ∷ run (front ++ other); file = file; at = n } ∷ ahead file by_line true (by_line n b) (front ++ other)))) [
-            | true ↦ front_told file one other same true (by_line n b) front h begin
-            | false ↦
-                token_seen (record { text = b ∷ run (front ++ one); file = file; at = n }) _ _ (front_told file one other same true (by_line n b) front h) begin
-                ∙ ap (λ (l : List ℕ). seen begin (record { text = b ∷ l; file = file; at = n } ∷ ahead file by_line true (by_line n b) (front ++ other))) (run_apart front one other h)
-          ]
-    ]) ends
+    elim (cases_Bool (is_space b)) [
+      | inl e ↦
+          space_told file begin inside n b (front ++ one) e
+          ∙ front_told file one other same false (by_line n b) front (rw e at ends) begin
+          ∙ sym (space_told file begin inside n b (front ++ other) e)
+      | inr e ↦
+          let h : EndsApart true front = rw e at ends in
+          let rest = front_told file one other same true (by_line n b) front h in
+          rw e (choice_mapped (seen begin) (seen begin) inside _ _ _ _ (rest begin)
+          (token_seen (record { text = b ∷ run (front ++ one); file = file; at = n }) _ _ rest begin
+          ∙ ap (λ (l : List ℕ). seen begin (record { text = b ∷ l; file = file; at = n } ∷ ahead file by_line true (by_line n b) (front ++ other))) (run_apart front one other h)))
+    ]
 
 -- ---- single bytes
-
--- white space is skipped
-space_told : (file : ℕ) (begin : Option PlainToken) (inside : Bool) (n b : ℕ) (rest : List ℕ) → is_space b ≡ true → told file begin inside n (b ∷ rest) ≡ told file begin false (by_line n b) rest
-space_told file begin inside n b rest e =
-    ap (λ s. seen begin (cond s (ahead file by_line false (by_line n b) rest) (cond inside (ahead file by_line true (by_line n b) rest) (record { text = b ∷ run rest; file = file; at = n } ∷ ahead file by_line true (by_line n b) rest)))) e
 
 -- a byte of a token isn't a line feed
 ink_line : (n b : ℕ) → is_space b ≡ false → by_line n b ≡ n
@@ -213,33 +192,28 @@ ink_line n b e =
 
 -- a token begins
 ink_ahead : (file n b : ℕ) (rest : List ℕ) → is_space b ≡ false → ahead file by_line false n (b ∷ rest) ≡ record { text = b ∷ run rest; file = file; at = n } ∷ ahead file by_line true n rest
-ink_ahead file n b rest e =
-    ap (λ s. cond s (ahead file by_line false (by_line n b) rest) (record { text = b ∷ run rest; file = file; at = n } ∷ ahead file by_line true (by_line n b) rest)) e
-    ∙ ap (λ m. record { text = b ∷ run rest; file = file; at = n } ∷ ahead file by_line true m rest) (ink_line n b e)
+ink_ahead file n b rest e = rw (e, ink_line n b e) refl
 
 -- a token goes on
 ink_inside : (file n b : ℕ) (rest : List ℕ) → is_space b ≡ false → ahead file by_line true n (b ∷ rest) ≡ ahead file by_line true n rest
-ink_inside file n b rest e =
-    ap (λ s. cond s (ahead file by_line false (by_line n b) rest) (ahead file by_line true (by_line n b) rest)) e
-    ∙ ap (λ m. ahead file by_line true m rest) (ink_line n b e)
+ink_inside file n b rest e = rw (e, ink_line n b e) refl
 
 -- another byte belongs to a run
 run_ink : (b : ℕ) (rest : List ℕ) → is_space b ≡ false → run (b ∷ rest) ≡ b ∷ run rest
-run_ink b rest e = ap (λ s. cond s [] (b ∷ run rest)) e
+run_ink b rest e = rw e refl
 
 -- white space ends one
 run_space : (b : ℕ) (rest : List ℕ) → is_space b ≡ true → run (b ∷ rest) ≡ []
-run_space b rest e = ap (λ s. cond s [] (b ∷ run rest)) e
+run_space b rest e = rw e refl
 
 -- white space may be replaced by its line feed
 fed : (file : ℕ) (begin : Option PlainToken) (n b : ℕ) (rest : List ℕ) → is_space b ≡ true → told file begin false n (feeds (b ∷ []) ++ rest) ≡ told file begin false n (b ∷ rest)
-fed file begin n b rest space = go (b == 10) refl
-  where
-    go : (p : Bool) → (b == 10) ≡ p → told file begin false n (cond p (b ∷ []) [] ++ rest) ≡ told file begin false n (b ∷ rest)
-    go true e = refl
-    go false e =
-        ap (λ m. told file begin false m rest) (sym (ap (λ s. n + cond s 1 0) e ∙ add-zero n))
-        ∙ sym (space_told file begin false n b rest space)
+fed file begin n b rest space =
+    let Fed : List ℕ → Type 0 =
+    λ l. told file begin false n (l ++ rest) ≡ told file begin false n (b ∷ rest) in
+    cond_both (b == 10) _ _ Fed (λ e. refl) (λ e.
+    ap (λ m. told file begin false m rest) (sym (ap (λ s. n + cond s 1 0) e ∙ add-zero n))
+    ∙ sym (space_told file begin false n b rest space))
 
 -- ---- a comment's tokens
 
@@ -254,9 +228,10 @@ like_seen : (begin : PlainToken) (file n : ℕ) (text other : List ℕ) (tokens 
     → seen (Some begin) (record { text = text; file = file; at = n } ∷ tokens) ≡ seen (Some begin) (record { text = other; file = file; at = n } ∷ tokens)
 unfolding without_comments
 like_seen begin file n text other tokens like =
-    choices_mapped strip strip (not (list_all is_printable text)) (not (list_all is_printable other)) _ _ _ _ (ap not like.printable) refl
-    (choices_mapped strip strip (spells text (codes "$)")) (spells other (codes "$)")) _ _ _ _ like.closes refl
-    (choices_mapped strip strip (holds_mark text) (holds_mark other) _ _ _ _ like.mark refl refl))
+    let Same : List Shown → List Shown → Type 0 = λ l m. strip l ≡ strip m in
+    both_choices Same (not (list_all is_printable text)) _ _ _ _ _ (ap not like.printable) refl
+    (both_choices Same (spells text (codes "$)")) _ _ _ _ _ like.closes refl
+    (both_choices Same (holds_mark text) _ _ _ _ _ like.mark refl refl))
 
 -- a comment's text is no `$)` where its first byte isn't a `$`
 spells_closing : (b : ℕ) (text : List ℕ) → (b == 36) ≡ false → spells (b ∷ text) (codes "$)") ≡ false
@@ -302,10 +277,7 @@ dollar_like b text q e left right =
 
 -- two bytes begin a token
 two_ahead : (file n a b : ℕ) (rest : List ℕ) → is_space a ≡ false → is_space b ≡ false → ahead file by_line false n (a ∷ b ∷ rest) ≡ record { text = a ∷ b ∷ run rest; file = file; at = n } ∷ ahead file by_line true n rest
-two_ahead file n a b rest e f =
-    ink_ahead file n a (b ∷ rest) e
-    ∙ ap (λ (l : List ℕ). record { text = a ∷ l; file = file; at = n } ∷ ahead file by_line true n (b ∷ rest)) (run_ink b rest f)
-    ∙ ap (λ (l : List PlainToken). record { text = a ∷ b ∷ run rest; file = file; at = n } ∷ l) (ink_inside file n b rest f)
+two_ahead file n a b rest e f = rw (e, f, ink_line n a e, ink_line n b f) refl
 
 -- a token before white space is passed over in a comment
 passed : (begin : PlainToken) (file n b : ℕ) (text rest : List ℕ) → list_all is_printable text ≡ true → spells text (codes "$)") ≡ false → holds_mark text ≡ false → is_space b ≡ true
@@ -328,38 +300,31 @@ byte_told : (file : ℕ) (begin : PlainToken) (n last b : ℕ) (rest : List ℕ)
 byte_told file begin n last b rest true t e f q r = refl
 byte_told file begin n last b rest false true e f q r =
     let parts = quiet_ink (is_printable last) (is_space last) (last == 36) q e in
-    ap (seen (Some begin)) (ink_ahead file n last (b ∷ rest) e)
-    ∙ ap (λ (l : List ℕ). seen (Some begin) (record { text = last ∷ l; file = file; at = n } ∷ ahead file by_line true n (b ∷ rest))) (run_space b rest f)
-    ∙ passed begin file n b (last ∷ []) rest (printable_more last [] parts.0) (spells_closing last [] parts.1) refl f
+    rw (ink_ahead file n last (b ∷ rest) e, run_space b rest f)
+    (passed begin file n b (last ∷ []) rest (printable_more last [] parts.0) (spells_closing last [] parts.1) refl f)
 byte_told file begin n last b rest false false e f q r =
     let parts = quiet_ink (is_printable b) (is_space b) (b == 36) r f in
-    ap (seen (Some begin)) (two_ahead file n last b rest e f)
-    ∙ like_seen begin file n (last ∷ b ∷ run rest) (b ∷ run rest) (ahead file by_line true n rest) (more_like last b (run rest) q e (spells_closing b (run rest) parts.1))
-    ∙ ap (seen (Some begin)) (sym (ink_ahead file n b rest f))
+    rw (two_ahead file n last b rest e f, ink_ahead file n b rest f)
+    (like_seen begin file n (last ∷ b ∷ run rest) (b ∷ run rest) (ahead file by_line true n rest) (more_like last b (run rest) q e (spells_closing b (run rest) parts.1)))
 
 -- and so with a `$` between them
 dollar_told : (file : ℕ) (begin : PlainToken) (n last b : ℕ) (rest : List ℕ) (s t : Bool) → is_space last ≡ s → is_space b ≡ t → is_quiet last ≡ true → is_quiet b ≡ true → b ≢ 40 → b ≢ 41
     → told file (Some begin) false n (cond s [] (last ∷ []) ++ (36 ∷ b ∷ rest)) ≡ told file (Some begin) false n (b ∷ rest)
 dollar_told file begin n last b rest true true e f q r left right =
-    ap (seen (Some begin)) (ink_ahead file n 36 (b ∷ rest) refl)
-    ∙ ap (λ (l : List ℕ). seen (Some begin) (record { text = 36 ∷ l; file = file; at = n } ∷ ahead file by_line true n (b ∷ rest))) (run_space b rest f)
-    ∙ passed begin file n b (36 ∷ []) rest refl refl refl f
+    rw (ink_ahead file n 36 (b ∷ rest) refl, run_space b rest f)
+    (passed begin file n b (36 ∷ []) rest refl refl refl f)
 dollar_told file begin n last b rest true false e f q r left right =
-    ap (seen (Some begin)) (two_ahead file n 36 b rest refl f)
-    ∙ like_seen begin file n (36 ∷ b ∷ run rest) (b ∷ run rest) (ahead file by_line true n rest) (dollar_like b (run rest) r f left right)
-    ∙ ap (seen (Some begin)) (sym (ink_ahead file n b rest f))
+    rw (two_ahead file n 36 b rest refl f, ink_ahead file n b rest f)
+    (like_seen begin file n (36 ∷ b ∷ run rest) (b ∷ run rest) (ahead file by_line true n rest) (dollar_like b (run rest) r f left right))
 dollar_told file begin n last b rest false true e f q r left right =
     let parts = quiet_ink (is_printable last) (is_space last) (last == 36) q e in
-    ap (seen (Some begin)) (two_ahead file n last 36 (b ∷ rest) e refl)
-    ∙ ap (λ (l : List ℕ). seen (Some begin) (record { text = last ∷ 36 ∷ l; file = file; at = n } ∷ ahead file by_line true n (b ∷ rest))) (run_space b rest f)
-    ∙ passed begin file n b (last ∷ 36 ∷ []) rest (printable_more last (36 ∷ []) parts.0) (spells_closing last (36 ∷ []) parts.1) (mark_behind last 36 [] parts.1) f
+    rw (two_ahead file n last 36 (b ∷ rest) e refl, run_space b rest f)
+    (passed begin file n b (last ∷ 36 ∷ []) rest (printable_more last (36 ∷ []) parts.0) (spells_closing last (36 ∷ []) parts.1) (mark_behind last 36 [] parts.1) f)
 dollar_told file begin n last b rest false false e f q r left right =
-    ap (seen (Some begin)) (two_ahead file n last 36 (b ∷ rest) e refl)
-    ∙ ap (λ (l : List ℕ). seen (Some begin) (record { text = last ∷ 36 ∷ l; file = file; at = n } ∷ ahead file by_line true n (b ∷ rest))) (run_ink b rest f)
-    ∙ ap (λ (l : List PlainToken). seen (Some begin) (record { text = last ∷ 36 ∷ b ∷ run rest; file = file; at = n } ∷ l)) (ink_inside file n b rest f)
-    ∙ like_seen begin file n (last ∷ 36 ∷ b ∷ run rest) (36 ∷ b ∷ run rest) (ahead file by_line true n rest) (more_like last 36 (b ∷ run rest) q e (spells_dollar b (run rest) (ne_eqb b 41 right)))
+    rw (two_ahead file n last 36 (b ∷ rest) e refl, run_ink b rest f, ink_inside file n b rest f)
+    (like_seen begin file n (last ∷ 36 ∷ b ∷ run rest) (36 ∷ b ∷ run rest) (ahead file by_line true n rest) (more_like last 36 (b ∷ run rest) q e (spells_dollar b (run rest) (ne_eqb b 41 right)))
     ∙ like_seen begin file n (36 ∷ b ∷ run rest) (b ∷ run rest) (ahead file by_line true n rest) (dollar_like b (run rest) r f left right)
-    ∙ ap (seen (Some begin)) (sym (ink_ahead file n b rest f))
+    ∙ ap (seen (Some begin)) (sym (ink_ahead file n b rest f)))
 
 -- ---- behind a `$(`
 
@@ -376,9 +341,7 @@ spaces_told file begin one other same inside n (b ∷ spaces) some each =
 
 -- a `$(` before white space is a token
 mark_ahead : (file n b : ℕ) (rest : List ℕ) → is_space b ≡ true → ahead file by_line false n (36 ∷ 40 ∷ b ∷ rest) ≡ record { text = 36 ∷ 40 ∷ []; file = file; at = n } ∷ ahead file by_line true n (b ∷ rest)
-mark_ahead file n b rest e =
-    two_ahead file n 36 40 (b ∷ rest) refl refl
-    ∙ ap (λ (l : List ℕ). record { text = 36 ∷ 40 ∷ l; file = file; at = n } ∷ ahead file by_line true n (b ∷ rest)) (run_space b rest e)
+mark_ahead file n b rest e = two_ahead file n 36 40 (b ∷ rest) refl refl ∙ rw e refl
 
 -- it opens a comment, or is a fault in one
 mark_told : (file : ℕ) (one other : List ℕ) → ((begin : PlainToken) (n : ℕ) → told file (Some begin) false n one ≡ told file (Some begin) false n other)
@@ -405,9 +368,8 @@ opened file bytes one other comment same = whole one ∙ middle ∙ sym (whole o
   where
     whole : (behind : List ℕ) → shows file (bytes ++ behind) ≡ told file None false 0 (comment.front ++ (36 ∷ 40 ∷ comment.behind ++ behind))
     whole behind =
-        ap (λ l. shows file (l ++ behind)) comment.whole
-        ∙ ap (shows file) (append_assoc (comment.front ++ codes "$(") comment.behind behind ∙ append_assoc comment.front (codes "$(") (comment.behind ++ behind))
-        ∙ shows_told file (comment.front ++ (36 ∷ 40 ∷ comment.behind ++ behind))
+        rw comment.whole (simp append_assoc
+        (shows_told file (comment.front ++ (36 ∷ 40 ∷ comment.behind ++ behind))))
 
     middle : told file None false 0 (comment.front ++ (36 ∷ 40 ∷ comment.behind ++ one)) ≡ told file None false 0 (comment.front ++ (36 ∷ 40 ∷ comment.behind ++ other))
     middle =

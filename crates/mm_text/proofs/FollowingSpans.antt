@@ -13,16 +13,10 @@ use Rattle.mm_text.proofs.ReplacedReading.{Parts, parts_of, spells_append, reads
 use Rattle.mm_text.proofs.StatementHomes.{ends_home}
 
 -- an element in one part of a list, and one in a later part
-two_within : {A : Type 0} (f p : List A) (x : A) (b q : List A) (y : A) (r c : List A)
-    → (f ++ ((p ++ x ∷ []) ++ b)) ++ ((q ++ y ∷ r) ++ c)
-    ≡ (f ++ p) ++ x ∷ ((b ++ q) ++ y ∷ (r ++ c))
-two_within {A} f p x b q y r c =
-    let rest : List A = (q ++ y ∷ r) ++ c in
-    ap (λ (l : List A). (f ++ l) ++ rest) (append_assoc p (x ∷ []) b)
-    ∙ ap (λ (l : List A). l ++ rest) (sym (append_assoc f p (x ∷ b)))
-    ∙ append_assoc (f ++ p) (x ∷ b) rest
-    ∙ ap (λ (l : List A). (f ++ p) ++ x ∷ l)
-    (ap (λ (l : List A). b ++ l) (append_assoc q (y ∷ r) c) ∙ sym (append_assoc b q (y ∷ (r ++ c))))
+two_within : {A : Type 0} (f p : List A) (x : A) (b q : List A) (y : A) (r c d : List A)
+    → ((f ++ ((p ++ x ∷ []) ++ b)) ++ ((q ++ y ∷ r) ++ c)) ++ d
+    ≡ (f ++ p) ++ x ∷ ((b ++ q) ++ y ∷ (r ++ (c ++ d)))
+two_within f p x b q y r c d = simp append_assoc
 
 -- the `$=` and the `$.` of a `$p` that tokens spell
 pub ends_of : (tokens : List PlainToken) (before : List PlainStatement) (s : PlainStatement)
@@ -70,11 +64,8 @@ proof_spans_follow_holds files before between after s t ending reads p q home =
     ≡ (b.front ++ stated) ++ k.stop ∷ ((b.back ++ later) ++ l.equals ∷ (behind ++ last)) =
     ap plain_tokens f.cut ∙ plain_tokens-append f.front f.rest
     ∙ ap (λ (x : List PlainToken). x ++ plain_tokens f.rest) split
-    ∙ append_assoc (b.front ++ (b.own ++ b.back)) rest (plain_tokens f.rest)
-    ∙ ap (λ (x : List PlainToken). (b.front ++ (b.own ++ b.back)) ++ x)
-    (append_assoc a.own a.back (plain_tokens f.rest))
-    ∙ (λ i. (b.front ++ (own i ++ b.back)) ++ (other i ++ last))
-    ∙ two_within b.front stated k.stop b.back later l.equals behind last in
+    ∙ (λ i. ((b.front ++ (own i ++ b.back)) ++ (other i ++ a.back)) ++ plain_tokens f.rest)
+    ∙ two_within b.front stated k.stop b.back later l.equals behind a.back (plain_tokens f.rest) in
     let one = ends_home files all before (between ++ t ∷ after) f s first k in
     let two = ends_home files all (before ++ s ∷ between) after f t a l in
     let less : k.stop.at < l.equals.at =

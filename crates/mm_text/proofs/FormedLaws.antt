@@ -1,13 +1,13 @@
 -- The statements that are read are formed by the grammar, stand in the files, and hold no more bytes than they do.
-use Rattle.std.proofs.Common.{◌≡◌, ◌≤◌, length, List, [], ◌∷◌, refl, ap, ◌∙◌, Option, Some, None, false, arith}
+use Rattle.std.proofs.Common.{◌≡◌, ◌≤◌, length, List, [], ◌∷◌, ap, ◌∙◌, Option, Some, None, arith}
 use Rattle.std.specs.Prelude.{sum_by}
 use Rattle.std.specs.List.{AllByRecursion}
 use Rattle.std.proofs.lemmas.Bool.{cond-true, cond-false}
 use Rattle.std.proofs.lemmas.List.Sums.{sum_by-cons}
 use Rattle.mm_text.specs.declared.statement.Kind.{Kind}
-use Rattle.mm_text.specs.declared.statement.Kind.TheVariants.{Constants, Variables, Distinct, Floating, Essential, Axiom, Provable, Opening, Closing}
+use Rattle.mm_text.specs.declared.statement.Kind.TheVariants.{Floating, Essential, Axiom, Provable}
 use Rattle.mm_text.specs.Token.{PlainToken, is_label, IsLabel}
-use Rattle.mm_text.specs.Statement.{PlainStatement, IsHead, IsBareHead, IsLabelledHead, label_in, keyword_of, Spells, HasLabel, HasForm, bytes_in}
+use Rattle.mm_text.specs.Statement.{PlainStatement, IsHead, IsLabelledHead, label_in, Spells, HasLabel, HasForm, bytes_in}
 use Rattle.mm_text.specs.Files.{PlainFile, total_bytes}
 use Rattle.mm_text.specs.Items.{items}
 use Rattle.mm_text.specs.Reading.{PlainFault, Reads, IsSliceOf, IsInPlace}
@@ -16,22 +16,15 @@ use Rattle.mm_text.proofs.StatementTokens.{all_of_statement, reading_front, each
 use Rattle.mm_text.proofs.ItemTokens.{items_in_place, items_some}
 use Rattle.mm_text.proofs.TokenWeights.{tokens_fit}
 
-bare_label : (kind : Kind) (head : List PlainToken) (label : Option PlainToken) → is_label (keyword_of kind) ≡ false → IsBareHead kind head → label ≡ label_in head → label ≡ None
-bare_label kind head label none h e = e ∙ ap label_in h.tokens ∙ cond-false (is_label h.keyword.text) _ _ (ap is_label h.sign ∙ none)
-
 labelled_label : (kind : Kind) (head : List PlainToken) (label : Option PlainToken) → IsLabelledHead kind head → label ≡ label_in head → (l : PlainToken) × (label ≡ Some l) × IsLabel l.text
 labelled_label kind head label h e = (h.label, e ∙ ap label_in h.tokens ∙ cond-true (is_label h.label.text) _ _ h.named, h.named)
 
 head_label : (kind : Kind) (head : List PlainToken) (label : Option PlainToken) → IsHead kind head → label ≡ label_in head → HasLabel kind label
-head_label Constants head label h e = bare_label Constants head label refl h e
-head_label Variables head label h e = bare_label Variables head label refl h e
-head_label Distinct head label h e = bare_label Distinct head label refl h e
-head_label Opening head label h e = bare_label Opening head label refl h e
-head_label Closing head label h e = bare_label Closing head label refl h e
 head_label Floating head label h e = labelled_label Floating head label h e
 head_label Essential head label h e = labelled_label Essential head label h e
 head_label Axiom head label h e = labelled_label Axiom head label h e
 head_label Provable head label h e = labelled_label Provable head label h e
+head_label kind head label h e = e ∙ ap label_in h.tokens ∙ cond-false (is_label h.keyword.text) _ _ (ap is_label h.sign)
 
 -- a token holds a byte
 abbrev HoldsByte : PlainToken → Type 0

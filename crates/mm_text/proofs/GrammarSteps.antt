@@ -1,12 +1,12 @@
 -- What a token makes of an unfinished statement is what the grammar says.
-use Rattle.std.proofs.Common.{◌≡◌, ◌≢◌, ℕ, ◌+◌, length, List, [], ◌∷◌, ◌++◌, Bool, true, false, cond, refl, sym, ap, subst, ◌∙◌, codes, Some, None, arith, append_assoc, inl, inr}
-use Rattle.std.proofs.lemmas.List.{length-append}
+use Rattle.std.proofs.Common.{◌≡◌, ◌≢◌, ℕ, ◌+◌, length, List, [], ◌∷◌, ◌++◌, Bool, true, false, cond, refl, sym, ap, subst, ◌∙◌, codes, Option, Some, None, arith, append_assoc, inl, inr}
+use Rattle.std.proofs.lemmas.List.{append-nil, length-append}
 use Rattle.std.proofs.lemmas.Bool.{both_ways, cond_both, eqb-true, eqb-false, leb-true, le-leb, eq-eqb}
 use Rattle.mm_text.specs.Items.{spells}
 use Rattle.mm_text.specs.declared.statement.Kind.{Kind}
 use Rattle.mm_text.specs.declared.statement.Kind.TheVariants.{Constants, Variables, Distinct, Floating, Essential, Axiom, Provable, Opening, Closing}
 use Rattle.mm_text.specs.Token.{PlainToken, IsLabel, is_label, HoldsNoDollar}
-use Rattle.mm_text.specs.Statement.{PlainStatement, IsHead, HasBody, AreSymbols, FitsCount, keyword_of, Spells, IsTail, EndsAtOnce}
+use Rattle.mm_text.specs.Statement.{PlainStatement, IsHead, HasBody, AreSymbols, FitsCount, keyword_of, label_in, Spells, IsTail, EndsAtOnce}
 use Rattle.mm_text.specs.Reading.{closes_symbols, Meets}
 use Rattle.mm_text.specs.Mirror.Reader.{Part, Between, Labelled, InBody, InProof, Step, More, Whole, Opened, Closed, Faulty, step, at_start, after_label, in_body, in_proof, is_keyword, bare_statement, has_count, is_full}
 use Rattle.mm_text.specs.Statement.{is_provable}
@@ -17,26 +17,18 @@ use Rattle.mm_text.proofs.PartTokens.{IsPartBody, IsPartProof, Describes, body_o
 -- ---- kinds
 
 pub has_count-true : (kind : Kind) (n : ℕ) → has_count kind n ≡ true → FitsCount kind n
-has_count-true Constants n e = leb-true 1 n e
-has_count-true Variables n e = leb-true 1 n e
 has_count-true Distinct n e = leb-true 2 n e
 has_count-true Floating n e = eqb-true n 2 e
-has_count-true Essential n e = leb-true 1 n e
-has_count-true Axiom n e = leb-true 1 n e
-has_count-true Provable n e = leb-true 1 n e
 has_count-true Opening n e = eqb-true n 0 e
 has_count-true Closing n e = eqb-true n 0 e
+has_count-true _ n e = leb-true 1 n e
 
 pub has_count_from : (kind : Kind) (n : ℕ) → FitsCount kind n → has_count kind n ≡ true
-has_count_from Constants n h = le-leb 1 n h
-has_count_from Variables n h = le-leb 1 n h
 has_count_from Distinct n h = le-leb 2 n h
 has_count_from Floating n h = eq-eqb n 2 h
-has_count_from Essential n h = le-leb 1 n h
-has_count_from Axiom n h = le-leb 1 n h
-has_count_from Provable n h = le-leb 1 n h
 has_count_from Opening n h = eq-eqb n 0 h
 has_count_from Closing n h = eq-eqb n 0 h
+has_count_from _ n h = le-leb 1 n h
 
 pub is_provable-true : (kind : Kind) → is_provable kind ≡ true → kind ≡ Provable
 is_provable-true Provable e = refl
@@ -56,15 +48,10 @@ is_full-false _ n e f = absurd cc
 
 -- what ends the symbols of a statement with no proof ends the statement
 pub tail_at_once : (s : PlainStatement) (kind : Kind) (tail : List PlainToken) → is_provable kind ≡ false → HasBody kind → EndsAtOnce s tail → IsTail s kind tail
-tail_at_once s Constants tail e h k = k
-tail_at_once s Variables tail e h k = k
-tail_at_once s Distinct tail e h k = k
-tail_at_once s Floating tail e h k = k
-tail_at_once s Essential tail e h k = k
-tail_at_once s Axiom tail e h k = k
 tail_at_once s Provable tail e h k = absurd cc
 tail_at_once s Opening tail e h k = absurd h
 tail_at_once s Closing tail e h k = absurd h
+tail_at_once s _ tail e h k = k
 
 -- ---- one token
 
@@ -76,32 +63,18 @@ StepsTo tokens t Opened = (tokens ≡ []) × (t.text ≡ codes "${")
 StepsTo tokens t Closed = (tokens ≡ []) × (t.text ≡ codes "$}")
 StepsTo tokens t (Faulty rule) = (statements : List PlainStatement) → Meets statements tokens t rule
 
-begun_bare : (kind : Kind) (tokens : List PlainToken) (t : PlainToken) → tokens ≡ [] → IsHead kind (t ∷ []) → HasBody kind → is_label t.text ≡ false
-    → IsPartBody (bare_statement kind t None) (tokens ++ t ∷ [])
-begun_bare kind tokens t d h long e = record {
-  head = t ∷ [];
-  others = [];
-  whole = ap (λ (x : List PlainToken). x ++ t ∷ []) d;
+-- a whole head
+begun : (kind : Kind) (first : PlainToken) (others all : List PlainToken)
+    (label : Option PlainToken) → all ≡ first ∷ others → IsHead kind (first ∷ others) → HasBody kind
+    → label ≡ label_in (first ∷ others) → IsPartBody (bare_statement kind first label) all
+begun kind first others all label d h long e = record {
+  head = first ∷ others;
+  others = others;
+  whole = d ∙ sym (append-nil (first ∷ others));
   begins = h;
   long = long;
   first = refl;
-  label = rw e refl;
-  spelled = tt;
-  room = λ _. omega arith;
-  proof = refl;
-  span = refl;
-}
-
-begun_labelled : (kind : Kind) (label : PlainToken) (tokens : List PlainToken) (t : PlainToken) → tokens ≡ label ∷ [] → IsHead kind (label ∷ t ∷ []) → HasBody kind → IsLabel label.text
-    → IsPartBody (bare_statement kind label (Some label)) (tokens ++ t ∷ [])
-begun_labelled kind label tokens t d h long e = record {
-  head = label ∷ t ∷ [];
-  others = t ∷ [];
-  whole = ap (λ (x : List PlainToken). x ++ t ∷ []) d;
-  begins = h;
-  long = long;
-  first = refl;
-  label = rw e refl;
+  label = e;
   spelled = tt;
   room = λ _. omega arith;
   proof = refl;
@@ -110,7 +83,8 @@ begun_labelled kind label tokens t d h long e = record {
 
 -- `$c`, `$v` and `$d`
 bare_right : (kind : Kind) (tokens : List PlainToken) (t : PlainToken) → tokens ≡ [] → t.text ≡ keyword_of kind → HasBody kind → IsHead kind (t ∷ []) → is_label (keyword_of kind) ≡ false → StepsTo tokens t (More (InBody (bare_statement kind t None)))
-bare_right kind tokens t d e long h none = begun_bare kind tokens t d h long (ap is_label e ∙ none)
+bare_right kind tokens t d e long h none =
+    begun kind t [] _ None (ap (λ (x : List PlainToken). x ++ t ∷ []) d) h long (rw (e, none) refl)
 
 at_start_right : (tokens : List PlainToken) (t : PlainToken) → tokens ≡ [] → StepsTo tokens t (at_start t)
 at_start_right tokens t d =
@@ -131,7 +105,9 @@ at_start_right tokens t d =
     (λ none statements. (d, is_keyword-false t.text nk, λ l. both_ways _ none l))))))))
 
 labelled_right : (kind : Kind) (label : PlainToken) (tokens : List PlainToken) (t : PlainToken) → tokens ≡ label ∷ [] → IsLabel label.text → HasBody kind → IsHead kind (label ∷ t ∷ []) → StepsTo tokens t (More (InBody (bare_statement kind label (Some label))))
-labelled_right kind label tokens t d l long h = begun_labelled kind label tokens t d h long l
+labelled_right kind label tokens t d l long h =
+    let whole = ap (λ (x : List PlainToken). x ++ t ∷ []) d in
+    begun kind label (t ∷ []) _ (Some label) whole h long (rw l refl)
 
 after_label_right : (label : PlainToken) (tokens : List PlainToken) (t : PlainToken) → tokens ≡ label ∷ [] → IsLabel label.text → StepsTo tokens t (after_label label t)
 after_label_right label tokens t d l =
@@ -144,9 +120,6 @@ after_label_right label tokens t d l =
     (λ na. cond_both (spells t.text (codes "$p")) _ _ (StepsTo tokens t)
     (λ p. labelled_right Provable label tokens t d l tt (record { label = label; keyword = t; tokens = refl; named = l; sign = same_text-true t.text (codes "$p") p }))
     (λ np statements. (record { label = label; whole = d; named = l }, same_text-false t.text (codes "$f") nf, same_text-false t.text (codes "$e") ne, same_text-false t.text (codes "$a") na, same_text-false t.text (codes "$p") np)))))
-
-push_whole : (tokens head symbols : List PlainToken) (t : PlainToken) → tokens ≡ head ++ symbols → tokens ++ t ∷ [] ≡ head ++ (symbols ++ t ∷ [])
-push_whole tokens head symbols t e = ap (λ (x : List PlainToken). x ++ t ∷ []) e ∙ append_assoc head symbols (t ∷ [])
 
 -- the `$=`
 body_equals : (s : PlainStatement) (tokens : List PlainToken) (t : PlainToken) → IsPartBody s tokens → s.kind ≡ Provable → t.text ≡ codes "$=" → FitsCount s.kind (length s.symbols)
@@ -187,7 +160,7 @@ body_symbol : (s : PlainStatement) (tokens : List PlainToken) (t : PlainToken) �
 body_symbol s tokens t d h f = record {
   head = d.head;
   others = d.others;
-  whole = push_whole tokens d.head s.symbols t d.whole;
+  whole = ap (λ x. x ++ t ∷ []) d.whole ∙ append_assoc d.head s.symbols (t ∷ []);
   begins = d.begins;
   long = d.long;
   first = d.first;

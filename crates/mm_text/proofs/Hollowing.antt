@@ -1,8 +1,10 @@
 -- What is kept of a file as its bytes come.
-use Rattle.std.proofs.Common.{◌≡◌, ◌≢◌, ℕ, ◌+◌, ◌≤◌, ◌==◌, ◌&&◌, List, [], ◌∷◌, ◌++◌, length, true, not, refl, sym, ap, subst, ◌∙◌, append_assoc, append-nil, arith, length-append, take-add, zero, suc, take, drop, ◌-◌, ◌<◌, get_or, codes, Bool, ap₂, inl, inr, Result, Ok, Err, OnOk}
+use Rattle.std.proofs.Common.{◌≡◌, ◌≢◌, ℕ, ◌+◌, ◌≤◌, ◌==◌, ◌&&◌, List, [], ◌∷◌, ◌++◌, length, true, not, refl, sym, ap, subst, ◌∙◌, append_assoc, append-nil, arith, length-append, take-add, zero, suc, take, drop, ◌-◌, ◌<◌, get_or, codes, inl, inr, Result, Ok, Err, OnOk}
+use Rattle.std.proofs.Common.{add-zero}
 use Rattle.std.specs.List.{list_all}
 use Rattle.std.proofs.lemmas.List.{take_more, get_or-drop, length-drop, drop-drop}
-use Rattle.std.proofs.lemmas.Bool.{and_parts, cases_eq, cases_Bool, ne_eqb, leb-true}
+use Rattle.std.proofs.lemmas.List.Folds.{list_all-append}
+use Rattle.std.proofs.lemmas.Bool.{and_from, and_parts, cases_eq, cond_both, eqb-true, ne_eqb, leb-true}
 use Rattle.mm_text.proofs.LegalLaws.{shown_legal}
 use Rattle.mm_text.specs.declared.hollow.State.TheVariants.{Inside, Marked}
 use Rattle.mm_text.specs.declared.hollow.State.{State}
@@ -21,18 +23,11 @@ kept_as_it_is bytes others more same file rest =
 pub same_again : (bytes others more : List ℕ) → ShowSame bytes others → ShowSame others more → ShowSame bytes more
 same_again bytes others more one other file rest = one file rest ∙ other file rest
 
--- what is true of each of two parts
-all_both : (p : ℕ → Bool) (one other : List ℕ) → list_all p one ≡ true → list_all p other ≡ true → list_all p (one ++ other) ≡ true
-all_both p [] other all more = more
-all_both p (b ∷ one) other all more =
-    let parts = and_parts _ _ all in ap₂ (λ x y. x && y) parts.0 (all_both p one other parts.1 more)
-
 -- a line feed is white space
 feed_space : (b : ℕ) → list_all is_space (feeds (b ∷ [])) ≡ true
-feed_space b = elim (cases_eq b 10) [
-  | inl feed ↦ rw feed refl
-  | inr other ↦ rw (ne_eqb b 10 other) refl
-]
+feed_space b =
+    cond_both (b == 10) _ _ (λ l. list_all is_space l ≡ true)
+    (λ e. rw (eqb-true b 10 e) refl) (λ _. refl)
 
 -- a comment stays open behind a line feed of it
 pub still_open : (kept : List ℕ) (b : ℕ) → IsOpen kept → IsOpen (kept ++ feeds (b ∷ []))
@@ -42,15 +37,14 @@ still_open kept b «open» = record {
   whole = ap (λ l. l ++ feeds (b ∷ [])) «open».whole ∙ append_assoc («open».front ++ codes "$(") «open».behind (feeds (b ∷ []));
   boundary = «open».boundary;
   some = omega (arith, «open».some, length-append «open».behind (feeds (b ∷ [])));
-  spaces = all_both is_space «open».behind (feeds (b ∷ [])) «open».spaces (feed_space b);
+  spaces =
+      list_all-append is_space «open».behind (feeds (b ∷ []))
+      ∙ and_from _ _ «open».spaces (feed_space b);
 }
 
 -- a byte of a word is one byte at most
 ink_few : (b : ℕ) → length (ink b) ≤ 1
-ink_few b = elim (cases_Bool (is_space b)) [
-  | inl space ↦ rw space (omega arith)
-  | inr word ↦ rw word (omega arith)
-]
+ink_few b = cond_both (is_space b) _ _ (λ l. length l ≤ 1) (λ _. omega arith) (λ _. omega arith)
 
 -- a line feed, or the byte of a word, is one byte at most
 few : (kept : List ℕ) (b : ℕ) → length (kept ++ feeds (b ∷ []) ++ ink b) ≤ length kept + 1
@@ -69,25 +63,6 @@ left_out bytes kept last b quiet hollow = record {
   short = omega (arith, few kept b, hollow.short, length-append bytes (b ∷ []), length-append kept (ink last));
 }
 
--- so is a byte behind a `$`, with that
-pub mark_left_out : (bytes kept : List ℕ) (last b : ℕ) → is_quiet b ≡ true → b ≢ 40 → b ≢ 41 → IsHollow bytes kept (Marked last) → IsHollow (bytes ++ b ∷ []) (kept ++ feeds (b ∷ [])) (Inside b)
-mark_left_out bytes kept last b quiet one other hollow =
-    let whole : kept ++ (ink last ++ 36 ∷ []) ++ b ∷ [] ≡ kept ++ ink last ++ 36 ∷ b ∷ [] =
-    ap (λ l. l ++ b ∷ []) (sym (append_assoc kept (ink last) (36 ∷ []))) ∙ append_assoc (kept ++ ink last) (36 ∷ []) (b ∷ []) in record {
-      same = same_again _ _ _ (kept_as_it_is bytes (kept ++ (ink last ++ 36 ∷ [])) (b ∷ []) hollow.same)
-          (subst (λ l. ShowSame l (kept ++ feeds (b ∷ []) ++ ink b)) (sym whole) (dollar_dropped kept last b hollow.at.0 hollow.at.1 quiet one other));
-      at = (still_open kept b hollow.at.0, quiet);
-      short = omega (arith, few kept b, hollow.short, length-append bytes (b ∷ []), length-append kept (ink last ++ 36 ∷ []));
-    }
-
--- a `$` of a comment is held back
-pub held_back : (bytes kept : List ℕ) (last : ℕ) → IsHollow bytes kept (Inside last) → IsHollow (bytes ++ 36 ∷ []) kept (Marked last)
-held_back bytes kept last hollow = record {
-  same = subst (λ l. ShowSame (bytes ++ 36 ∷ []) l) (append_assoc kept (ink last) (36 ∷ [])) (kept_as_it_is bytes (kept ++ ink last) (36 ∷ []) hollow.same);
-  at = hollow.at;
-  short = omega (arith, hollow.short, length-append bytes (36 ∷ []), length-append (kept ++ ink last) (36 ∷ []), ap length (append_assoc kept (ink last) (36 ∷ [])));
-}
-
 -- what is told of a success, by what else is told of it
 pub both_told : {A E : Type 0} (r : Result A E) (P Q R : Type 0) → (P → Q → R) → OnOk r P → OnOk r Q → OnOk r R
 both_told (Ok x) P Q R each p q = each p q
@@ -96,35 +71,42 @@ both_told (Err e) P Q R each p q = tt
 -- a byte of a comment was left out, as the code says it
 pub left_out_so : (bytes kept next : List ℕ) (state after : State) (last b : ℕ) → is_quiet b ≡ true → state ≡ Inside last → next ≡ kept ++ feeds (b ∷ []) → after ≡ Inside b → IsHollow bytes kept state → IsHollow (bytes ++ b ∷ []) next after
 left_out_so bytes kept next state after last b quiet is what where_to hollow =
-    subst (λ s. IsHollow (bytes ++ b ∷ []) next s) (sym where_to)
-    (subst (λ l. IsHollow (bytes ++ b ∷ []) l (Inside b)) (sym what) (left_out bytes kept last b quiet (subst (λ s. IsHollow bytes kept s) is hollow)))
+    rw (where_to, what) (left_out bytes kept last b quiet (rw is at hollow))
 
 -- so was one behind a `$`
 pub mark_left_out_so : (bytes kept next : List ℕ) (state after : State) (last b : ℕ) → is_quiet b ≡ true → b ≢ 40 → b ≢ 41 → state ≡ Marked last → next ≡ kept ++ feeds (b ∷ []) → after ≡ Inside b → IsHollow bytes kept state → IsHollow (bytes ++ b ∷ []) next after
 mark_left_out_so bytes kept next state after last b quiet one other is what where_to hollow =
-    subst (λ s. IsHollow (bytes ++ b ∷ []) next s) (sym where_to)
-    (subst (λ l. IsHollow (bytes ++ b ∷ []) l (Inside b)) (sym what) (mark_left_out bytes kept last b quiet one other (subst (λ s. IsHollow bytes kept s) is hollow)))
-
--- nothing is held back before and after
-without_held : (bytes kept : List ℕ) (state : State) → held state ≡ [] → ShowSame bytes (kept ++ held state) → ShowSame bytes kept
-without_held bytes kept state none same = subst (λ l. ShowSame bytes l) (ap (λ l. kept ++ l) none ∙ append-nil kept) same
-
-with_held : (bytes kept : List ℕ) (state : State) → held state ≡ [] → ShowSame bytes kept → ShowSame bytes (kept ++ held state)
-with_held bytes kept state none same = subst (λ l. ShowSame bytes l) (sym (ap (λ l. kept ++ l) none ∙ append-nil kept)) same
+    let h = rw is at hollow in
+    let whole : kept ++ (ink last ++ 36 ∷ []) ++ b ∷ [] ≡ kept ++ ink last ++ 36 ∷ b ∷ [] =
+    simp append_assoc in
+    rw (where_to, what) (record {
+      same = same_again _ _ _ (kept_as_it_is bytes (kept ++ (ink last ++ 36 ∷ [])) (b ∷ []) h.same)
+          (rw whole (dollar_dropped kept last b h.at.0 h.at.1 quiet one other));
+      at = (still_open kept b h.at.0, quiet);
+      short = omega (arith, few kept b, h.short, length-append bytes (b ∷ []), length-append kept (ink last ++ 36 ∷ []));
+    })
 
 -- bytes were kept as they are
 pub kept_so : (bytes kept next more : List ℕ) (state after : State) → held state ≡ [] → held after ≡ [] → next ≡ kept ++ more → (IsAt kept state → IsAt (kept ++ more) after) → IsHollow bytes kept state → IsHollow (bytes ++ more) next after
 kept_so bytes kept next more state after none none_then is where_to hollow =
-    subst (λ l. IsHollow (bytes ++ more) l after) (sym is) (record {
-      same = with_held (bytes ++ more) (kept ++ more) after none_then (kept_as_it_is bytes kept more (without_held bytes kept state none hollow.same));
+    let before = ap (λ l. kept ++ l) none ∙ append-nil kept in
+    let behind = ap (λ l. kept ++ more ++ l) none_then ∙ append-nil (kept ++ more) in
+    rw is (record {
+      same = rw behind (kept_as_it_is bytes kept more (rw before at hollow.same));
       at = where_to hollow.at;
-      short = omega (arith, hollow.short, length-append bytes more, length-append kept more, ap length (ap (λ l. kept ++ l) none ∙ append-nil kept), ap length (ap (λ l. kept ++ more ++ l) none_then ∙ append-nil (kept ++ more)));
+      short = omega (arith, hollow.short, length-append bytes more, length-append kept more, ap length before, ap length behind);
     })
 
 -- a `$` was held back, as the code says it
 pub held_back_so : (bytes kept : List ℕ) (state : State) (last b : ℕ) → b ≡ 36 → state ≡ Inside last → IsHollow bytes kept state → IsHollow (bytes ++ b ∷ []) kept (Marked last)
 held_back_so bytes kept state last b mark is hollow =
-    subst (λ d. IsHollow (bytes ++ d ∷ []) kept (Marked last)) (sym mark) (held_back bytes kept last (subst (λ s. IsHollow bytes kept s) is hollow))
+    let h = rw is at hollow in
+    let whole = append_assoc kept (ink last) (36 ∷ []) in
+    rw mark (record {
+      same = rw whole at (kept_as_it_is bytes (kept ++ ink last) (36 ∷ []) h.same);
+      at = h.at;
+      short = omega (arith, h.short, length-append bytes (36 ∷ []), length-append (kept ++ ink last) (36 ∷ []), ap length whole);
+    })
 
 -- a printable byte or a space, and no `$`, is neither white space that is kept nor at fault
 spoken_feeds : (b : ℕ) → is_spoken b ≡ true → feeds (b ∷ []) ≡ []
@@ -156,24 +138,12 @@ run_left_out bytes kept piece at last (suc n) within all hollow =
     subst (λ l. IsHollow l kept (Inside b)) (append_assoc bytes (take n (drop at piece)) (b ∷ []) ∙ ap (λ l. bytes ++ l) more)
     (subst (λ l. IsHollow (bytes ++ take n (drop at piece) ++ b ∷ []) l (Inside b)) same_kept one)
 
--- so are the bytes of a piece up to a place, as the code says it
-pub run_left_out_so : (bytes kept piece : List ℕ) (state : State) (at last end before : ℕ) → state ≡ Inside last → at ≤ end → end ≤ length piece → ((k : ℕ) → at ≤ k → k < end → is_spoken (get_or piece k 0) ≡ true) → before ≡ last_before piece at last (end - at) → IsHollow bytes kept state
-    → IsHollow (bytes ++ take (end - at) (drop at piece)) kept (Inside before)
-run_left_out_so bytes kept piece state at last end before is order within all there hollow =
-    let whole : at + (end - at) ≡ end = omega (arith, order) in
-    subst (λ b. IsHollow (bytes ++ take (end - at) (drop at piece)) kept (Inside b)) (sym there)
-    (run_left_out bytes kept piece at last (end - at) (omega (arith, whole, within)) (λ k low high. all k low (omega (arith, high, whole))) (subst (λ s. IsHollow bytes kept s) is hollow))
-
-one_more : (end : ℕ) → end + (end + 1 - end) ≡ end + 1
-one_more end = omega arith
-
 -- one byte of a piece
 pub one_of : (piece : List ℕ) (at : ℕ) → at < length piece → take (at + 1 - at) (drop at piece) ≡ get_or piece at 0 ∷ []
 one_of piece at within =
     let one : at + 1 - at ≡ 1 = omega arith in
-    let first : at + 0 ≡ at = omega arith in
-    ap (λ m. take m (drop at piece)) one ∙ take_more (drop at piece) 0 0 (omega (arith, within, length-drop at piece))
-    ∙ ap (λ d. d ∷ []) (get_or-drop at piece 0 0 ∙ ap (λ k. get_or piece k 0) first)
+    let more = take_more (drop at piece) 0 0 (omega (arith, within, length-drop at piece)) in
+    rw (one, more, get_or-drop at piece 0 0, add-zero at) refl
 
 -- a part of a piece, and the part behind it
 two_parts : (bytes piece : List ℕ) (start at n : ℕ) → start ≤ at → bytes ++ take (at - start) (drop start piece) ++ take n (drop at piece) ≡ bytes ++ take (at + n - start) (drop start piece)
@@ -181,9 +151,8 @@ two_parts bytes piece start at n order =
     let k = at - start in
     let there : start + k ≡ at = omega (arith, order) in
     let whole : k + n ≡ at + n - start = omega (arith, order) in
-    append_assoc bytes (take k (drop start piece)) (take n (drop at piece))
-    ∙ ap (λ l. bytes ++ l) (sym (ap (λ m. take m (drop start piece)) (sym whole) ∙ take-add k n (drop start piece)
-    ∙ ap (λ l. take k (drop start piece) ++ take n l) (drop-drop k start piece ∙ ap (λ m. drop m piece) there)))
+    rw (← whole, take-add k n (drop start piece), drop-drop k start piece, there)
+    (append_assoc bytes (take k (drop start piece)) (take n (drop at piece)))
 
 -- the end of a part of lines that are left out
 pub lines_end : (bytes kept next piece : List ℕ) (state after : State) (start at end last : ℕ) → start ≤ at → at ≤ end → end ≤ length piece → ((k : ℕ) → at ≤ k → k < end → is_spoken (get_or piece k 0) ≡ true)
@@ -192,14 +161,10 @@ pub lines_end : (bytes kept next piece : List ℕ) (state after : State) (start 
 lines_end bytes kept next piece state after start at end last from order within all is same where_to hollow =
     let whole : at + (end - at) ≡ end = omega (arith, order) in
     let front = bytes ++ take (at - start) (drop start piece) in
-    let run = run_left_out_so front kept piece state at last end (last_before piece at last (end - at)) is order within all refl hollow in
-    subst (λ s. IsHollow (bytes ++ take (end - start) (drop start piece)) next s) (sym where_to)
-    (subst (λ l. IsHollow (bytes ++ take (end - start) (drop start piece)) l (Inside (last_before piece at last (end - at)))) (sym same)
-    (subst (λ l. IsHollow l kept (Inside (last_before piece at last (end - at)))) (two_parts bytes piece start at (end - at) from ∙ ap (λ m. bytes ++ take (m - start) (drop start piece)) whole) run))
-
--- a line feed that ends a line
-feed_quiet : is_quiet 10 ≡ true
-feed_quiet = refl
+    let run = run_left_out front kept piece at last (end - at) (omega (arith, whole, within))
+    (λ k low high. all k low (omega (arith, high, whole))) (rw is at hollow) in
+    rw (where_to, same)
+    (subst (λ l. IsHollow l kept (Inside (last_before piece at last (end - at)))) (two_parts bytes piece start at (end - at) from ∙ ap (λ m. bytes ++ take (m - start) (drop start piece)) whole) run)
 
 -- one more line that is left out
 pub lines_more : (bytes kept next piece : List ℕ) (state after : State) (start at end last : ℕ) → start ≤ at → at ≤ end → end < length piece → ((k : ℕ) → at ≤ k → k < end → is_spoken (get_or piece k 0) ≡ true)
@@ -208,14 +173,13 @@ pub lines_more : (bytes kept next piece : List ℕ) (state after : State) (start
 lines_more bytes kept next piece state after start at end last from order within all feed is what where_to hollow =
     let b = last_before piece at last (end - at) in
     let line = lines_end bytes kept kept piece state (Inside b) start at end last from order (omega (arith, within)) all is refl refl hollow in
-    let one = left_out (bytes ++ take (end - start) (drop start piece)) kept b 10 feed_quiet line in
+    let one = left_out (bytes ++ take (end - start) (drop start piece)) kept b 10 refl line in
+    let next_place : end + (end + 1 - end) ≡ end + 1 = omega arith in
     let whole = ap (λ d. bytes ++ take (end - start) (drop start piece) ++ d ∷ []) (sym feed)
     ∙ ap (λ l. bytes ++ take (end - start) (drop start piece) ++ l) (sym (one_of piece end within))
     ∙ two_parts bytes piece start end (end + 1 - end) (omega (arith, from, order))
-    ∙ ap (λ m. bytes ++ take (m - start) (drop start piece)) (one_more end) in
-    subst (λ s. IsHollow (bytes ++ take (end + 1 - start) (drop start piece)) next s) (sym where_to)
-    (subst (λ l. IsHollow (bytes ++ take (end + 1 - start) (drop start piece)) l (Inside 10)) (sym what)
-    (subst (λ l. IsHollow l (kept ++ feeds (10 ∷ [])) (Inside 10)) whole one))
+    ∙ ap (λ m. bytes ++ take (m - start) (drop start piece)) next_place in
+    rw (where_to, what) (subst (λ l. IsHollow l (kept ++ feeds (10 ∷ [])) (Inside 10)) whole one)
 
 -- no byte of a piece
 pub none_of : (bytes piece : List ℕ) (at end : ℕ) → end ≡ at → bytes ++ take (end - at) (drop at piece) ≡ bytes

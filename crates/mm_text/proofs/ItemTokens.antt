@@ -1,10 +1,11 @@
 -- What holds of all tokens among the items of files.
-use Rattle.std.proofs.Common.{◌≡◌, ℕ, zero, suc, ◌+◌, ◌-◌, ◌==◌, ◌&&◌, ◌≤◌, length, take, drop, List, [], ◌∷◌, ◌++◌, replicate, Bool, true, false, cond, not, refl, ap, ◌∙◌, codes, Option, Some, None, ◌⊎◌, inl, inr, arith}
-use Rattle.std.specs.Prelude.{slice_get, slice_index_or, slice_set}
+use Rattle.std.proofs.Common.{◌≡◌, ℕ, zero, suc, ◌+◌, ◌-◌, ◌==◌, ◌&&◌, ◌≤◌, length, take, drop, List, [], ◌∷◌, replicate, Bool, true, false, cond, not, refl, ap, ◌∙◌, codes, Option, Some, None, ◌⊎◌, inl, inr, arith}
+use Rattle.std.specs.Prelude.{slice_get, slice_set}
 use Rattle.std.specs.List.{AllByRecursion, list_any, list_all}
 use Rattle.std.proofs.lemmas.Bool.{cond_both}
+use Rattle.std.proofs.lemmas.Option.{slice_get_cases}
 use Rattle.mm_text.specs.declared.fault.TextRule.{TextRule}
-use Rattle.mm_text.specs.declared.fault.TextRule.TheVariants.{X4, X7, X9}
+use Rattle.mm_text.specs.declared.fault.TextRule.TheVariants.{X4, X9}
 use Rattle.mm_text.specs.Token.{PlainToken, HoldsNoDollar, is_printable, is_space, with_byte, tokens_from}
 use Rattle.mm_text.specs.Statement.{IsKeyword, keywords}
 use Rattle.mm_text.specs.Files.{PlainFile}
@@ -13,6 +14,7 @@ use Rattle.mm_text.specs.Reading.{IsSliceOf}
 use Rattle.mm_text.proofs.TextFacts.{IsSigned, is_keyword-true}
 use Rattle.mm_text.proofs.PlaceLaws.{StandsIn, tokens_in_place}
 use Rattle.mm_text.proofs.Lists.{all_append, all_weaker}
+use Rattle.mm_text.proofs.InclusionLaws.{named_related}
 
 -- ---- tokens of one file
 
@@ -34,17 +36,17 @@ tokens_some file at (b ∷ bytes) =
 -- ---- tokens that are shown
 
 -- the token that is shown, of a fault too, is so
-abbrev ShownIs : (PlainToken → Type 0) → Shown → Type 0
+abbrev pub ShownIs : (PlainToken → Type 0) → Shown → Type 0
 ShownIs P (Clear t) = P t
 ShownIs P (Broken rule t) = P t
 
 -- the `$(` of an open comment is so
-abbrev BegunIs : (PlainToken → Type 0) → Option PlainToken → Type 0
+abbrev pub BegunIs : (PlainToken → Type 0) → Option PlainToken → Type 0
 BegunIs P None = Unit {0}
 BegunIs P (Some begin) = P begin
 
 -- what holds of tokens holds of those that are shown of them
-shown_all : (P : PlainToken → Type 0) (begin : Option PlainToken) (tokens : List PlainToken)
+pub shown_all : (P : PlainToken → Type 0) (begin : Option PlainToken) (tokens : List PlainToken)
     → BegunIs P begin → AllByRecursion P tokens
     → AllByRecursion (ShownIs P) (without_comments begin tokens)
 unfolding without_comments
@@ -91,10 +93,9 @@ unbroken_signed : (text : List ℕ) → broken_outside text ≡ None → IsKeywo
 unbroken_signed text ok = go (spells text (codes "$]")) (holds_dollar text) (list_any (spells text) keywords) ok refl refl
   where
     go : (a b c : Bool) → cond a (Some X4) (cond (b && not c) (Some X9) None) ≡ None → holds_dollar text ≡ b → list_any (spells text) keywords ≡ c → IsKeyword text ⊎ HoldsNoDollar text
-    go true b c e f g = absurd cc
     go false true true e f g = inl (is_keyword-true text g)
-    go false true false e f g = absurd cc
     go false false c e f g = inr f
+    go _ _ _ e f g = absurd cc
 
 -- what holds of the tokens that are shown holds of those among the pieces
 pieces_all : (P : PlainToken → Type 0) (file : ℕ) (spot : Spot) (shown : List Shown)
@@ -104,9 +105,7 @@ unfolding pieces
 pieces_all P file Outside [] s h = (tt, tt)
 pieces_all P file (Naming begin) [] s h = (s, tt)
 pieces_all P file (Closing begin name) [] s h = (s.0, tt)
-pieces_all P file Outside (Broken rule t ∷ rest) s h = (h.0, tt)
-pieces_all P file (Naming begin) (Broken rule t ∷ rest) s h = (h.0, tt)
-pieces_all P file (Closing begin name) (Broken rule t ∷ rest) s h = (h.0, tt)
+pieces_all P file spot (Broken rule t ∷ rest) s h = (h.0, tt)
 pieces_all P file Outside (Clear t ∷ rest) s h =
     let naming = pieces_all P file (Naming t) rest h.0 h.1 in
     let outside = pieces_all P file Outside rest tt h.1 in
@@ -138,12 +137,11 @@ AllFiles P files =
 put_before_all : (P : PlainToken → Type 0) (files : List PlainFile) (n : ℕ) (rest : List Piece)
     → AllFiles P files → AllByRecursion (PieceIs P) rest
     → AllByRecursion (PieceIs P) (put_before files n rest)
-put_before_all P files n rest all h = go (slice_get files n) refl
-  where
-    go : (o : Option PlainFile) → slice_get files n ≡ o
-        → AllByRecursion (PieceIs P) (elim o [ None ↦ rest | Some file ↦ pieces_of n file ++ rest ])
-    go None e = h
-    go (Some f) e = all_append (PieceIs P) (pieces_of n f) rest (all n f e) h
+put_before_all P files n rest all h = elim (slice_get_cases files n).1 [
+  | inl (f, lt, e, read) ↦
+      rw (e, put_before) (all_append (PieceIs P) (pieces_of n f) rest (all n f e) h)
+  | inr (past, e) ↦ rw (e, put_before) h
+]
 
 spliced_all : (P : PlainToken → Type 0) (files : List PlainFile) (named : List Bool)
     (next : ℕ → List Piece → List Item)
@@ -153,22 +151,13 @@ spliced_all : (P : PlainToken → Type 0) (files : List PlainFile) (named : List
     → AllByRecursion (ItemIs P) (with_inclusions files named next ps)
 unfolding with_inclusions
 spliced_all P files named next goes [] h = tt
-spliced_all P files named next goes (Met (Plain t) ∷ rest) h =
-    (h.0, spliced_all P files named next goes rest h.1)
 spliced_all P files named next goes (Met (Wrong rule t) ∷ rest) h = (h.0, tt)
-spliced_all P files named next goes (Met (Inclusion t) ∷ rest) h =
+spliced_all P files named next goes (Met _ ∷ rest) h =
     (h.0, spliced_all P files named next goes rest h.1)
-spliced_all P files named next goes (Met (End n) ∷ rest) h =
-    (tt, spliced_all P files named next goes rest h.1)
 spliced_all P files named next goes (Named name ∷ rest) h =
-    go (file_number files name.text) (spliced_all P files named next goes rest h.1)
-  where
-    go : (o : Option ℕ) → AllByRecursion (ItemIs P) (with_inclusions files named next rest)
-        → AllByRecursion (ItemIs P) (elim o [ None ↦ Wrong X7 name ∷ [] | Some n ↦ cond (slice_index_or named n true) (with_inclusions files named next rest) (next n rest) ])
-    go None inner = (h.0, tt)
-    go (Some n) inner =
-        cond_both (slice_index_or named n true) _ _ (AllByRecursion (ItemIs P))
-        (λ _. inner) (λ _. goes n rest h.1)
+    let inner = spliced_all P files named next goes rest h.1 in
+    named_related (λ its _. AllByRecursion (ItemIs P) its) named name name _ [] (λ n. next n rest)
+    (λ _. []) (h.0, tt) inner (λ n e. goes n rest h.1) (file_number files name.text) _ refl
 
 put_in_all : (P : PlainToken → Type 0) (files : List PlainFile) (left : ℕ) (named : List Bool)
     (ps : List Piece) → AllFiles P files → AllByRecursion (PieceIs P) ps
@@ -201,9 +190,7 @@ plain_all : (P : PlainToken → Type 0) (its : List Item) → AllByRecursion (It
     → AllByRecursion (λ t. P t × IsSigned t) (plain_tokens its)
 plain_all P [] h = tt
 plain_all P (Plain t ∷ its) h = (h.0, plain_all P its h.1)
-plain_all P (Wrong rule t ∷ its) h = plain_all P its h.1
-plain_all P (Inclusion t ∷ its) h = plain_all P its h.1
-plain_all P (End n ∷ its) h = plain_all P its h.1
+plain_all P (_ ∷ its) h = plain_all P its h.1
 
 -- ---- what holds of them
 

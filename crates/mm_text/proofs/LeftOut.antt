@@ -1,19 +1,20 @@
 -- The files that nothing includes, by the flags of those that were met.
 use Rattle.std.proofs.Common.{◌≡◌, ℕ, zero, suc, ◌+◌, ◌<◌, ◌≤◌, ◌==◌, ◌||◌, List, [], ◌∷◌}
 use Rattle.std.proofs.Common.{length, replicate, map, filter, Bool, true, false, not, cond, refl}
-use Rattle.std.proofs.Common.{sym, ap, ◌∙◌, subst, codes, Option, Some, None, arith, eqb-true}
+use Rattle.std.proofs.Common.{sym, ap, ◌∙◌, subst, codes, Option, Some, None, arith, inl, inr}
 use Rattle.std.proofs.Common.{get_or-set_same, get_or-set_other, length-set}
 use Rattle.std.specs.Prelude.{nat_lt, slice_index_or, slice_set}
 use Rattle.std.specs.List.{AllByRecursion, list_any, range_with_len}
-use Rattle.std.proofs.lemmas.Bool.{cond_both, both_ways, eq-eqb, lt-ltb, ltb-true}
+use Rattle.std.proofs.lemmas.Bool.{cases_eq, cases_lt, cond_both, eq-eqb, le-ltb, lt-ltb, ne_eqb}
+use Rattle.std.proofs.lemmas.Bool.{or_left}
 use Rattle.std.proofs.lemmas.List.{length-replicate}
 use Rattle.std.proofs.lemmas.Option.{slice_get_within}
 use Rattle.std.proofs.lemmas.Slice.Zip.{AllZip-long}
 use Rattle.mm_text.specs.declared.fault.TextRule.{TextRule}
 use Rattle.mm_text.specs.Token.{tokens_from}
 use Rattle.mm_text.specs.Files.{PlainFile}
-use Rattle.mm_text.specs.Items.{Item, Plain, Wrong, Inclusion, End, Shown, Clear, Broken, spells}
-use Rattle.mm_text.specs.Items.{without_comments, Outside, Piece, Met, Named, broken_outside}
+use Rattle.mm_text.specs.Items.{Item, Plain, Wrong, End, Shown, Clear, Broken, spells}
+use Rattle.mm_text.specs.Items.{Outside, Piece, Met, Named, broken_outside}
 use Rattle.mm_text.specs.Items.{pieces, pieces_of, put_in, items}
 use Rattle.mm_text.specs.LineNumbers.{feeds_in}
 use Rattle.mm_text.specs.Alike.{item_on, AreAlike}
@@ -26,7 +27,7 @@ use Rattle.mm_text.proofs.Weights.{weigh, each_once, items_weight}
 use Rattle.mm_text.proofs.TokenWeights.{weight_of, file_weight, no_fault_weight}
 use Rattle.mm_text.proofs.OnceLaws.{no_tokens}
 use Rattle.mm_text.proofs.ItemTokens.{ItemIs, all_items}
-use Rattle.mm_text.proofs.InclusionLaws.{put_in-plain, put_in-wrong, put_in-inclusion, put_in-end}
+use Rattle.mm_text.proofs.InclusionLaws.{is_wrong, put_in-met}
 use Rattle.mm_text.proofs.AlikeItems.{AtHome, shown_at_home, alike_items}
 
 -- ---- each item is of a handed file
@@ -41,11 +42,10 @@ not_past count n lt =
     omega arith
 
 within : (count n : ℕ) → past count n ≤ 0 → n < count
-within count n = go (nat_lt n count) refl
-  where
-    go : (b : Bool) → nat_lt n count ≡ b → cond b 0 1 ≤ 0 → n < count
-    go true e h = ltb-true n count e
-    go false e h = absurd (omega arith)
+within count n h = elim (cases_lt n count) [
+  | inl lt ↦ lt
+  | inr ge ↦ let no : past count n ≡ 1 = rw (le-ltb n count ge) refl in absurd (omega arith)
+]
 
 -- in files from a number on, of which none is past the count, no end is
 none_past : (count k : ℕ) (files : List PlainFile) → k + length files ≤ count
@@ -65,10 +65,9 @@ none_past-items : (count : ℕ) (its : List Item) → AllByRecursion (ItemIs (λ
     → weigh (weight_of (λ t. 0) (past count)) its ≤ 0 → AreOfFiles count its
 none_past-items count [] h w = tt
 none_past-items count (Plain t ∷ its) h w = (h.0.0, none_past-items count its h.1 (omega arith))
-none_past-items count (Wrong rule t ∷ its) h w = (h.0, none_past-items count its h.1 (omega arith))
-none_past-items count (Inclusion t ∷ its) h w = (h.0, none_past-items count its h.1 (omega arith))
 none_past-items count (End n ∷ its) h w =
     (within count n (omega arith), none_past-items count its h.1 (omega arith))
+none_past-items count (_ ∷ its) h w = (h.0, none_past-items count its h.1 (omega arith))
 
 -- each item is of one of the files
 pub items_of_files : (files : List PlainFile) → AreOfFiles (length files) (items files)
@@ -91,23 +90,15 @@ items_of_files files =
 -- a flag, once one was set
 flag-set : (met : List Bool) (k n : ℕ) → k < length met
     → slice_index_or (slice_set met k true) n false ≡ ((k == n) || slice_index_or met n false)
-flag-set met k n lt = go (k == n) refl
-  where
-    go : (b : Bool) → (k == n) ≡ b
-        → slice_index_or (slice_set met k true) n false ≡ (b || slice_index_or met n false)
-    go true e =
-        ap (λ m. slice_index_or (slice_set met k true) m false) (sym (eqb-true k n e))
-        ∙ get_or-set_same met k true false lt
-    go false e =
-        get_or-set_other met k n true false
-        (λ same. both_ways (k == n) e (eq-eqb k n (sym same)))
+flag-set met k n lt = elim (cases_eq k n) [
+  | inl same ↦ rw (eq-eqb k n same, ← same) (get_or-set_same met k true false lt)
+  | inr other ↦ rw (ne_eqb k n other) (get_or-set_other met k n true false (λ e. other (sym e)))
+]
 
 -- one of three holds, in another order
 regrouped : (a b c : Bool) → (b || (a || c)) ≡ ((a || b) || c)
 regrouped true true c = refl
-regrouped true false c = refl
-regrouped false true c = refl
-regrouped false false c = refl
+regrouped _ _ c = refl
 
 -- a file is met in the end if an item is of it, or if it was met before
 flag-met_with : (met : List Bool) (its : List Item) (n : ℕ) → AreOfFiles (length met) its
@@ -179,34 +170,26 @@ pieces_start n (Clear t ∷ rest) h =
     go None = h.0
     go (Some rule) = h.0
 
-first_met : (n : ℕ) (item : Item) (its rest : List Item) → its ≡ item ∷ rest → file_of item ≡ n
-    → list_any (λ i. file_of i == n) its ≡ true
-first_met n item its rest e h =
-    ap (list_any (λ i. file_of i == n)) e
-    ∙ ap (λ m. (m == n) || list_any (λ i. file_of i == n) rest) h
-    ∙ ap (λ b. b || list_any (λ i. file_of i == n) rest) (eq-eqb n n refl)
+first_met : (n : ℕ) (item : Item) (rest : List Item) → file_of item ≡ n
+    → list_any (λ i. file_of i == n) (item ∷ rest) ≡ true
+first_met n item rest h = or_left _ _ (eq-eqb (file_of item) n h)
 
 put_in_start : (files : List PlainFile) (left : ℕ) (named : List Bool) (n : ℕ) (ps : List Piece)
     → StartsIn n ps → list_any (λ i. file_of i == n) (put_in files left named ps) ≡ true
 put_in_start files left named n [] h = absurd h
-put_in_start files left named n (Met (Plain t) ∷ rest) h =
-    first_met n (Plain t) _ _ (put_in-plain files left named t rest) h
-put_in_start files left named n (Met (Wrong rule t) ∷ rest) h =
-    first_met n (Wrong rule t) _ _ (put_in-wrong files left named rule t rest) h
-put_in_start files left named n (Met (Inclusion t) ∷ rest) h =
-    first_met n (Inclusion t) _ _ (put_in-inclusion files left named t rest) h
-put_in_start files left named n (Met (End file) ∷ rest) h =
-    first_met n (End file) _ _ (put_in-end files left named file rest) h
+put_in_start files left named n (Met item ∷ rest) h =
+    rw (put_in-met files left named item rest)
+    (cond_both (is_wrong item) _ _ (λ its. list_any (λ i. file_of i == n) its ≡ true)
+    (λ _. first_met n item [] h) (λ _. first_met n item _ h))
 put_in_start files left named n (Named name ∷ rest) h = absurd h
 
 -- the first item is of the top file
 pub top_file_is_never_left_out : TopFileIsNeverLeftOut
 top_file_is_never_left_out top others =
-    let tokens = tokens_from 0 0 top.bytes in
-    let home = shown_at_home 0 top.bytes None tokens tt (tokens_in_place 0 top.bytes) in
+    let start = pieces_start 0 _ (shown_at_home 0 top.bytes) in
     ap not
     (put_in_start (top ∷ others) (length others) (true ∷ replicate (length others) false) 0
-    (pieces_of 0 top) (pieces_start 0 (without_comments None tokens) home))
+    (pieces_of 0 top) start)
 
 -- of one file, or none, nothing is left out
 pub left_out-few : (files : List PlainFile) → length files ≤ 1 → left_out files ≡ []
@@ -223,9 +206,7 @@ any_on : (line : ℕ → ℕ → ℕ) (n : ℕ) (its : List Item)
     ≡ list_any (λ i. file_of i == n) its
 any_on line n [] = refl
 any_on line n (Plain t ∷ its) = ap (λ b. (t.file == n) || b) (any_on line n its)
-any_on line n (Wrong rule t ∷ its) = ap (λ b. (t.file == n) || b) (any_on line n its)
-any_on line n (Inclusion t ∷ its) = ap (λ b. (t.file == n) || b) (any_on line n its)
-any_on line n (End file ∷ its) = ap (λ b. (file == n) || b) (any_on line n its)
+any_on line n (item ∷ its) = ap (λ b. (file_of item == n) || b) (any_on line n its)
 
 pub alike_files_leave_out_the_same : AlikeFilesLeaveOutTheSame
 alike_files_leave_out_the_same files others alike =

@@ -1,6 +1,7 @@
 mod Pieces
 pub mod Lists
 pub mod Results
+pub mod StepByStep
 pub mod TokenLaws
 pub mod CutTokens
 pub mod Lanes

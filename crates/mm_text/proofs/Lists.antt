@@ -1,15 +1,30 @@
--- General lemmas on lists, and on pairs of lists. None of them names anything of this crate, and
--- those that the crates above need too stand here.
+-- General lemmas on lists, on pairs of lists, and on choices. None of them names anything of this
+-- crate, and those that the crates above need too stand here.
 use Rattle.std.proofs.Common.{◌≡◌, ℕ, zero, suc, ◌+◌, ◌<◌, List, [], ◌∷◌, ◌++◌, map, length, take}
 use Rattle.std.proofs.Common.{drop, set, get_or, refl, ap, sym, subst, ◌∙◌, ◌⊎◌, inl, inr, Some, arith}
-use Rattle.std.proofs.Common.{Bool, true, filter, Contains}
+use Rattle.std.proofs.Common.{Bool, true, false, cond, filter, Contains, zero-add, suc-add}
 use Rattle.std.specs.List.{AllByRecursion, AllZip, slice_get, list_any}
 use Rattle.std.proofs.lemmas.List.{length-map, get_or-map, length-take, length-append}
 use Rattle.std.proofs.lemmas.List.{take_at, drop_at}
-use Rattle.std.proofs.lemmas.List.Elements.{All-filter, All-from_recursion, recursion_from_All}
+use Rattle.std.proofs.lemmas.List.Elements.{All-filter, All-from_recursion, All-from_get_or}
+use Rattle.std.proofs.lemmas.List.Elements.{recursion_from_All}
+use Rattle.std.proofs.lemmas.Slice.Zip.{AllZip-long}
 use Rattle.std.proofs.lemmas.List.Folds.{list_any_at}
 use Rattle.std.proofs.lemmas.Option.{same_Some, none-some, slice_get_within, slice_get_read}
 use Rattle.std.proofs.lemmas.Option.{get_or_from_slice_get}
+
+-- ---- choices
+
+-- two choices by one test
+pub both_choices : {A B : Type 0} (R : A → B → Type 0) (b c : Bool) (x y : A) (u v : B) → b ≡ c
+    → R x u → R y v → R (cond b x y) (cond c u v)
+both_choices R true true x y u v e h k = h
+both_choices R false false x y u v e h k = k
+both_choices R _ _ x y u v e h k = absurd cc
+
+pub choice_mapped : {A B C : Type 0} (f : A → C) (g : B → C) (c : Bool) (x y : A) (u v : B)
+    → f x ≡ g u → f y ≡ g v → f (cond c x y) ≡ g (cond c u v)
+choice_mapped f g c x y u v h k = both_choices (λ a b. f a ≡ g b) c c x y u v refl h k
 
 -- ---- lists from their parts
 
@@ -20,22 +35,6 @@ cons_parts x y xs ys e = (cc, cc)
 pub nil_append : {A : Type 0} (front : List A) (x : A) (rest : List A) → [] ≡ front ++ x ∷ rest → ⊥
 nil_append [] x rest e = absurd cc
 nil_append (y ∷ front) x rest e = absurd cc
-
--- where an element stands in a list with one more at its end
-pub last_cut : {A : Type 0} (pre : List A) (x : A) (before : List A) (y : A) (after : List A)
-    → pre ++ x ∷ [] ≡ before ++ y ∷ after
-    → ((mid : List A) × (pre ≡ before ++ y ∷ mid)) ⊎ ((before ≡ pre) × (x ≡ y))
-last_cut [] x [] y after e = inr (refl, (cons_parts x y [] after e).0)
-last_cut [] x (b ∷ before) y after e =
-    absurd (nil_append before y after (cons_parts x b [] (before ++ y ∷ after) e).1)
-last_cut (p ∷ pre) x [] y after e =
-    inl (pre, ap (λ z. z ∷ pre) (cons_parts p y (pre ++ x ∷ []) after e).0)
-last_cut (p ∷ pre) x (b ∷ before) y after e =
-    let parts = cons_parts p b (pre ++ x ∷ []) (before ++ y ∷ after) e in
-    elim (last_cut pre x before y after parts.1) [
-      | inl h ↦ inl (h.0, (λ i. parts.0 i ∷ h.1 i))
-      | inr h ↦ inr ((λ i. sym parts.0 i ∷ h.0 i), h.1)
-    ]
 
 -- how two cuts of a list stand to each other
 pub two_cuts : {A : Type 0} (a : List A) (x : A) (b c : List A) (y : A) (d : List A)
@@ -56,6 +55,16 @@ two_cuts (z ∷ a) x b (w ∷ c) y d e =
       | inr (inl h) ↦ inr (inl (h.0, (λ i. sym parts.0 i ∷ h.1 i), h.2))
       | inr (inr h) ↦ inr (inr (h.0, (λ i. parts.0 i ∷ h.1 i), h.2))
     ]
+
+-- where an element stands in a list with one more at its end
+pub last_cut : {A : Type 0} (pre : List A) (x : A) (before : List A) (y : A) (after : List A)
+    → pre ++ x ∷ [] ≡ before ++ y ∷ after
+    → ((mid : List A) × (pre ≡ before ++ y ∷ mid)) ⊎ ((before ≡ pre) × (x ≡ y))
+last_cut pre x before y after e = elim (two_cuts pre x [] before y after e) [
+  | inl same ↦ inr (sym same.0, same.1)
+  | inr (inl past) ↦ absurd (nil_append past.0 y after past.2)
+  | inr (inr within) ↦ inl (within.0, within.1)
+]
 
 -- a list in two parts, the first of them in two
 pub three_parts : {A : Type 0} (all front a b tail : List A) → all ≡ front ++ tail → front ≡ a ++ b
@@ -95,49 +104,20 @@ get_before [] ys i x lt there = absurd (omega arith)
 get_before (z ∷ xs) ys zero x lt there = there
 get_before (z ∷ xs) ys (suc i) x lt there = get_before xs ys i x (omega arith) there
 
--- the one element more
-pub get_pushed : {A : Type 0} (xs : List A) (y : A) → slice_get (xs ++ y ∷ []) (length xs) ≡ Some y
-get_pushed [] y = refl
-get_pushed (z ∷ xs) y = get_pushed xs y
-
 -- the element between two parts
 pub get_parted : {A : Type 0} (xs ys : List A) (x : A)
     → slice_get (xs ++ x ∷ ys) (length xs) ≡ Some x
 get_parted [] ys x = refl
 get_parted (z ∷ xs) ys x = get_parted xs ys x
 
+-- the one element more
+pub get_pushed : {A : Type 0} (xs : List A) (y : A) → slice_get (xs ++ y ∷ []) (length xs) ≡ Some y
+get_pushed xs y = get_parted xs [] y
+
 -- one element stands at a place
 pub one_there : {A : Type 0} (xs : List A) (i : ℕ) (x y : A) → slice_get xs i ≡ Some x
     → slice_get xs i ≡ Some y → x ≡ y
 one_there xs i x y at_x at_y = same_Some x y (sym at_x ∙ at_y)
-
--- an element of a list and one more is of the list, or is the one more
-pub pushed_cases : {A : Type 0} (xs : List A) (y : A) (i : ℕ) (x : A)
-    → slice_get (xs ++ y ∷ []) i ≡ Some x → (slice_get xs i ≡ Some x) ⊎ ((i ≡ length xs) × (y ≡ x))
-pushed_cases [] y zero x there = inr (refl, cc)
-pushed_cases [] y (suc i) x there = absurd (cc)
-pushed_cases (z ∷ xs) y zero x there = inl there
-pushed_cases (z ∷ xs) y (suc i) x there =
-    elim (pushed_cases xs y i x there) [
-      | inl before ↦ inl before
-      | inr (last, same) ↦ inr (ap suc last, same)
-    ]
-
--- an element of a front is one of the list
-pub get_from_front : {A : Type 0} (xs : List A) (n i : ℕ) (x : A) → slice_get (take n xs) i ≡ Some x
-    → slice_get xs i ≡ Some x
-get_from_front xs zero i x there = absurd (cc)
-get_from_front [] (suc n) i x there = there
-get_from_front (z ∷ xs) (suc n) zero x there = there
-get_from_front (z ∷ xs) (suc n) (suc i) x there = get_from_front xs n i x there
-
--- and an element of the list within the front is one of it
-pub get_in_front : {A : Type 0} (xs : List A) (n i : ℕ) (x : A) → i < n → slice_get xs i ≡ Some x
-    → slice_get (take n xs) i ≡ Some x
-get_in_front xs zero i x lt there = absurd (omega arith)
-get_in_front [] (suc n) i x lt there = there
-get_in_front (z ∷ xs) (suc n) zero x lt there = there
-get_in_front (z ∷ xs) (suc n) (suc i) x lt there = get_in_front xs n i x (omega arith) there
 
 -- an element after one was written
 pub get_set_same : {A : Type 0} (xs : List A) (i : ℕ) (y : A) → i < length xs
@@ -177,13 +157,9 @@ split_at (y ∷ xs) (suc i) x e = ap (λ l. y ∷ l) (split_at xs i x e)
 -- an element of what lies past a place, in the whole list
 pub get_dropped : {A : Type 0} (n : ℕ) (xs : List A) (k : ℕ) (x : A)
     → slice_get (drop n xs) k ≡ Some x → slice_get xs (n + k) ≡ Some x
-get_dropped zero xs k x there =
-    let e : k ≡ 0 + k = omega arith in
-    subst (λ j. slice_get xs j ≡ Some x) e there
+get_dropped zero xs k x there = rw zero-add there
 get_dropped (suc n) [] k x there = absurd (cc)
-get_dropped (suc n) (y ∷ xs) k x there =
-    let e : suc (n + k) ≡ suc n + k = omega arith in
-    subst (λ j. slice_get (y ∷ xs) j ≡ Some x) e (get_dropped n xs k x there)
+get_dropped (suc n) (y ∷ xs) k x there = rw suc-add (get_dropped n xs k x there)
 
 -- in a front stands what stands in the list
 pub get_take : {A : Type 0} (xs : List A) (n i : ℕ) → i < n
@@ -201,13 +177,19 @@ get_from_take xs n i x e =
     let lt : i < n = omega (arith, length-take n xs) in
     (lt, sym (get_take xs n i lt) ∙ e)
 
+pub get_from_front : {A : Type 0} (xs : List A) (n i : ℕ) (x : A) → slice_get (take n xs) i ≡ Some x
+    → slice_get xs i ≡ Some x
+get_from_front xs n i x there = (get_from_take xs n i x there).1
+
+-- and an element of the list within the front is one of it
+pub get_in_front : {A : Type 0} (xs : List A) (n i : ℕ) (x : A) → i < n → slice_get xs i ≡ Some x
+    → slice_get (take n xs) i ≡ Some x
+get_in_front xs n i x lt there = get_take xs n i lt ∙ there
+
 -- two lists of one length: where the one has an element, so has the other
 pub get_beside : {A B : Type 0} (xs : List A) (ys : List B) (i : ℕ) (x : A) → length ys ≡ length xs
     → slice_get xs i ≡ Some x → (y : B) × (slice_get ys i ≡ Some y)
-get_beside [] ys i x l e = absurd (none-some x e)
-get_beside (x' ∷ xs) [] i x l e = absurd (omega arith)
-get_beside (x' ∷ xs) (y ∷ ys) zero x l e = (y, refl)
-get_beside (x' ∷ xs) (y ∷ ys) (suc i) x l e = get_beside xs ys i x (omega arith) e
+get_beside xs ys i x l e = get_within ys i (omega (arith, slice_get_within xs i x e))
 
 -- a list parts in one way only into a front and an end of known length
 pub one_parting : {A : Type 0} (a b c d : List A) → a ++ b ≡ c ++ d → length b ≡ length d
@@ -233,12 +215,8 @@ contains_from_at xs x (i, there) =
 -- an element of what is appended
 pub get_after : {A : Type 0} (xs ys : List A) (i : ℕ) (x : A) → slice_get ys i ≡ Some x
     → slice_get (xs ++ ys) (length xs + i) ≡ Some x
-get_after [] ys i x there =
-    let e : i ≡ 0 + i = omega arith in
-    subst (λ n. slice_get ys n ≡ Some x) e there
-get_after (z ∷ xs) ys i x there =
-    let e : suc (length xs + i) ≡ length (z ∷ xs) + i = omega arith in
-    subst (λ n. slice_get (z ∷ xs ++ ys) n ≡ Some x) e (get_after xs ys i x there)
+get_after [] ys i x there = rw zero-add there
+get_after (z ∷ xs) ys i x there = rw suc-add (get_after xs ys i x there)
 
 -- an element of a list and what is appended is of the one or of the other
 pub append_cases : {A : Type 0} (xs ys : List A) (i : ℕ) (x : A) → slice_get (xs ++ ys) i ≡ Some x
@@ -248,6 +226,15 @@ append_cases (z ∷ xs) ys zero x there = inl there
 append_cases (z ∷ xs) ys (suc i) x there = elim (append_cases xs ys i x there) [
   | inl before ↦ inl before
   | inr (j, is, at) ↦ inr (j, omega arith, at)
+]
+
+-- an element of a list and one more is of the list, or is the one more
+pub pushed_cases : {A : Type 0} (xs : List A) (y : A) (i : ℕ) (x : A)
+    → slice_get (xs ++ y ∷ []) i ≡ Some x → (slice_get xs i ≡ Some x) ⊎ ((i ≡ length xs) × (y ≡ x))
+pushed_cases xs y i x there = elim (append_cases xs (y ∷ []) i x there) [
+  | inl before ↦ inl before
+  | inr (zero, is, at) ↦ inr (omega arith, cc)
+  | inr (suc j, is, at) ↦ absurd cc
 ]
 
 -- ---- lists of which all are so
@@ -278,15 +265,12 @@ all_back P (x ∷ a) b all = all_back P a b all.1
 -- of one more
 pub all_push : {A : Type 0} (P : A → Type 0) (xs : List A) (x : A) → AllByRecursion P xs → P x
     → AllByRecursion P (xs ++ x ∷ [])
-all_push P [] x a p = (p, tt)
-all_push P (y ∷ xs) x a p = (a.0, all_push P xs x a.1 p)
+all_push P xs x a p = all_append P xs (x ∷ []) a (p, tt)
 
 -- of each where it is said of the element at each place
 pub all_places : {A : Type 0} (P : A → Type 0) (xs : List A) (d : A)
     → ((k : ℕ) → k < length xs → P (get_or xs k d)) → AllByRecursion P xs
-all_places P [] d h = tt
-all_places P (x ∷ xs) d h =
-    (h 0 (omega arith), all_places P xs d (λ k within. h (suc k) (omega arith)))
+all_places P xs d h = recursion_from_All P xs (All-from_get_or P xs d h)
 
 -- of each where it is said of what stands at each place
 pub all_there : {A : Type 0} (P : A → Type 0) (xs : List A)
@@ -350,17 +334,6 @@ pub same_length : {A B C : Type 0} (f : A → C) (g : B → C) (xs : List A) (ys
     → map f xs ≡ map g ys → length xs ≡ length ys
 same_length f g xs ys is = sym (length-map xs f) ∙ ap length is ∙ length-map ys g
 
--- what is said of each of the one is said of each of the other
-pub each_alike : {A B C : Type 0} (f : A → C) (g : B → C) (P : A → Type 0) (Q : B → Type 0)
-    → ((a : A) (b : B) → f a ≡ g b → P a → Q b) → (xs : List A) (ys : List B) → map f xs ≡ map g ys
-    → AllByRecursion P xs → AllByRecursion Q ys
-each_alike f g P Q step [] [] is all = tt
-each_alike f g P Q step [] (y ∷ ys) is all = absurd cc
-each_alike f g P Q step (x ∷ xs) [] is all = absurd cc
-each_alike f g P Q step (x ∷ xs) (y ∷ ys) is all =
-    let parts = cons_parts (f x) (g y) (map f xs) (map g ys) is in
-    (step x y parts.0 all.0, each_alike f g P Q step xs ys parts.1 all.1)
-
 -- what corresponds to one element
 pub one_split : {A B C : Type 0} (f : A → C) (g : B → C) (a : A) (ys : List B)
     → map f (a ∷ []) ≡ map g ys → (b : B) × (ys ≡ b ∷ []) × (f a ≡ g b)
@@ -370,78 +343,60 @@ one_split f g a ys e =
 
 -- ---- two lists, place by place
 
--- the first of a list, or another where it has none
-abbrev first_or : {A : Type 0} → A → List A → A
-first_or a [] = a
-first_or a (x ∷ xs) = x
-
--- the rest of a list
-abbrev all_but_first : {A : Type 0} → List A → List A
-all_but_first [] = []
-all_but_first (x ∷ xs) = xs
-
 -- lists whose elements correspond map to one
 pub zip_mapped : {A B C : Type 0} (f : A → C) (g : B → C) (xs : List A) (ys : List B)
     → AllZip (λ x y. f x ≡ g y) xs ys → map f xs ≡ map g ys
 zip_mapped f g [] [] h = refl
-zip_mapped f g [] (y ∷ ys) h = absurd h
-zip_mapped f g (x ∷ xs) [] h = absurd h
 zip_mapped f g (x ∷ xs) (y ∷ ys) h = λ i. h.0 i ∷ zip_mapped f g xs ys h.1 i
+zip_mapped f g xs ys h = absurd h
 
 -- and the other way round
 pub mapped_zip : {A B C : Type 0} (f : A → C) (g : B → C) (R : A → B → Type 0)
     → ((x : A) (y : B) → f x ≡ g y → R x y) → (xs : List A) (ys : List B) → map f xs ≡ map g ys
     → AllZip R xs ys
 mapped_zip f g R step [] [] is = tt
-mapped_zip f g R step [] (y ∷ ys) is = absurd cc
-mapped_zip f g R step (x ∷ xs) [] is = absurd cc
 mapped_zip f g R step (x ∷ xs) (y ∷ ys) is =
-    (step x y (ap (first_or (f x)) is), mapped_zip f g R step xs ys (ap all_but_first is))
+    let parts = cons_parts (f x) (g y) (map f xs) (map g ys) is in
+    (step x y parts.0, mapped_zip f g R step xs ys parts.1)
+mapped_zip f g R step xs ys is = absurd cc
 
 -- lists that correspond do so where less is said
 pub zip_weaker : {A B : Type 0} (R S : A → B → Type 0) → ((x : A) (y : B) → R x y → S x y)
     → (xs : List A) (ys : List B) → AllZip R xs ys → AllZip S xs ys
 zip_weaker R S f [] [] z = tt
-zip_weaker R S f [] (y ∷ ys) z = absurd z
-zip_weaker R S f (x ∷ xs) [] z = absurd z
 zip_weaker R S f (x ∷ xs) (y ∷ ys) z = (f x y z.0, zip_weaker R S f xs ys z.1)
+zip_weaker R S f xs ys z = absurd z
 
 -- lists that correspond, after lists that do
 pub zip_append : {A B : Type 0} (R : A → B → Type 0) (xs : List A) (ys : List B)
     (us : List A) (vs : List B)
     → AllZip R xs ys → AllZip R us vs → AllZip R (xs ++ us) (ys ++ vs)
 zip_append R [] [] us vs h k = k
-zip_append R [] (y ∷ ys) us vs h k = absurd h
-zip_append R (x ∷ xs) [] us vs h k = absurd h
 zip_append R (x ∷ xs) (y ∷ ys) us vs h k = (h.0, zip_append R xs ys us vs h.1 k)
+zip_append R xs ys us vs h k = absurd h
 
 -- lists that correspond, and one more of each
 pub zip_push : {A B : Type 0} (R : A → B → Type 0) (xs : List A) (ys : List B) (x : A) (y : B)
     → AllZip R xs ys → R x y → AllZip R (xs ++ x ∷ []) (ys ++ y ∷ [])
-zip_push R [] [] x y r h = (h, tt)
-zip_push R [] (b ∷ ys) x y r h = absurd r
-zip_push R (a ∷ xs) [] x y r h = absurd r
-zip_push R (a ∷ xs) (b ∷ ys) x y r h = (r.0, zip_push R xs ys x y r.1 h)
+zip_push R xs ys x y r h = zip_append R xs ys (x ∷ []) (y ∷ []) r (h, tt)
 
 -- what stands in the second list at a place has one beside it in the first
 pub zip_right : {A B : Type 0} (R : A → B → Type 0) (xs : List A) (ys : List B) (i : ℕ) (y : B)
     → AllZip R xs ys → slice_get ys i ≡ Some y
     → (x : A) × (slice_get xs i ≡ Some x) × R x y
 zip_right R [] [] i y r e = absurd (none-some y e)
-zip_right R [] (b ∷ ys) i y r e = absurd r
-zip_right R (a ∷ xs) [] i y r e = absurd r
 zip_right R (a ∷ xs) (b ∷ ys) zero y r e = (a, refl, subst (R a) (same_Some b y e) r.0)
 zip_right R (a ∷ xs) (b ∷ ys) (suc i) y r e = zip_right R xs ys i y r.1 e
+zip_right R xs ys i y r e = absurd r
 
 -- and the other way round
 pub zip_left : {A B : Type 0} (R : A → B → Type 0) (xs : List A) (ys : List B) (i : ℕ) (x : A)
     → AllZip R xs ys → slice_get xs i ≡ Some x
     → (y : B) × (slice_get ys i ≡ Some y) × R x y
 zip_left R [] [] i x r e = absurd (none-some x e)
-zip_left R [] (b ∷ ys) i x r e = absurd r
-zip_left R (a ∷ xs) [] i x r e = absurd r
 zip_left R (a ∷ xs) (b ∷ ys) zero x r e = (b, refl, subst (λ z. R z b) (same_Some a x e) r.0)
 zip_left R (a ∷ xs) (b ∷ ys) (suc i) x r e = zip_left R xs ys i x r.1 e
+zip_left R xs ys i x r e = absurd r
 
 -- a front of the first list has one of the second beside it
 pub zip_front : {A B : Type 0} (R : A → B → Type 0) (xs : List A) (x : A) (ys : List B)
@@ -458,60 +413,51 @@ zip_front R (a ∷ xs) x (b ∷ ys) r =
 -- fronts of lists that correspond do so too
 pub zip_take : {A B : Type 0} (R : A → B → Type 0) (xs : List A) (ys : List B) (i : ℕ)
     → AllZip R xs ys → AllZip R (take i xs) (take i ys)
-zip_take R [] [] zero z = tt
+zip_take R xs ys zero z = tt
 zip_take R [] [] (suc i) z = tt
-zip_take R [] (y ∷ ys) i z = absurd z
-zip_take R (x ∷ xs) [] i z = absurd z
-zip_take R (x ∷ xs) (y ∷ ys) zero z = tt
 zip_take R (x ∷ xs) (y ∷ ys) (suc i) z = (z.0, zip_take R xs ys i z.1)
+zip_take R xs ys (suc i) z = absurd z
 
 -- and so do what is left of them
 pub zip_drop : {A B : Type 0} (R : A → B → Type 0) (xs : List A) (ys : List B) (n : ℕ)
     → AllZip R xs ys → AllZip R (drop n xs) (drop n ys)
 zip_drop R xs ys zero z = z
 zip_drop R [] [] (suc n) z = tt
-zip_drop R [] (y ∷ ys) (suc n) z = absurd z
-zip_drop R (x ∷ xs) [] (suc n) z = absurd z
 zip_drop R (x ∷ xs) (y ∷ ys) (suc n) z = zip_drop R xs ys n z.1
+zip_drop R xs ys (suc n) z = absurd z
 
 -- lists that correspond are as long
 pub zip_length : {A B : Type 0} (R : A → B → Type 0) (xs : List A) (ys : List B) → AllZip R xs ys
     → length xs ≡ length ys
-zip_length R [] [] zip = refl
-zip_length R [] (y ∷ ys) zip = absurd zip
-zip_length R (x ∷ xs) [] zip = absurd zip
-zip_length R (x ∷ xs) (y ∷ ys) zip = ap suc (zip_length R xs ys zip.1)
+zip_length R xs ys zip = sym (AllZip-long R xs ys zip)
 
 -- what is said of each of the second is said of each of the first
 pub zip_each : {A B : Type 0} (R : A → B → Type 0) (P : A → Type 0) (Q : B → Type 0)
     → ((x : A) (y : B) → R x y → Q y → P x) → (xs : List A) (ys : List B) → AllZip R xs ys
     → AllByRecursion Q ys → AllByRecursion P xs
 zip_each R P Q step [] [] zip all = tt
-zip_each R P Q step [] (y ∷ ys) zip all = absurd zip
-zip_each R P Q step (x ∷ xs) [] zip all = absurd zip
 zip_each R P Q step (x ∷ xs) (y ∷ ys) zip all =
     (step x y zip.0 all.0, zip_each R P Q step xs ys zip.1 all.1)
+zip_each R P Q step xs ys zip all = absurd zip
 
 -- lists that correspond in two ways
 pub zip_both : {A B : Type 0} (R S : A → B → Type 0) (xs : List A) (ys : List B) → AllZip R xs ys
     → AllZip S xs ys → AllZip (λ x y. R x y × S x y) xs ys
 zip_both R S [] [] one other = tt
-zip_both R S [] (y ∷ ys) one other = absurd one
-zip_both R S (x ∷ xs) [] one other = absurd one
 zip_both R S (x ∷ xs) (y ∷ ys) one other =
     ((one.0, other.0), zip_both R S xs ys one.1 other.1)
+zip_both R S xs ys one other = absurd one
 
 -- and a list that corresponds to one that corresponds to another
 pub zip_on : {A B C : Type 0} (R : A → B → Type 0) (S : B → C → Type 0) (T : A → C → Type 0)
     → ((x : A) (y : B) (z : C) → R x y → S y z → T x z)
     → (xs : List A) (ys : List B) (zs : List C) → AllZip R xs ys → AllZip S ys zs → AllZip T xs zs
 zip_on R S T step [] [] [] one other = tt
-zip_on R S T step [] [] (z ∷ zs) one other = absurd other
 zip_on R S T step [] (y ∷ ys) zs one other = absurd one
 zip_on R S T step (x ∷ xs) [] zs one other = absurd one
-zip_on R S T step (x ∷ xs) (y ∷ ys) [] one other = absurd other
 zip_on R S T step (x ∷ xs) (y ∷ ys) (z ∷ zs) one other =
     (step x y z one.0 other.0, zip_on R S T step xs ys zs one.1 other.1)
+zip_on R S T step xs ys zs one other = absurd other
 
 -- what stands beside an element, beside those before it, and beside those after it
 pub record ZipParts {A B : Type 0} (R : A → B → Type 0) (xs : List A) (before : List B) (y : B)
@@ -527,6 +473,7 @@ pub record ZipParts {A B : Type 0} (R : A → B → Type 0) (xs : List A) (befor
 pub zip_parts : {A B : Type 0} (R : A → B → Type 0) (xs : List A) (before : List B) (y : B)
     (after : List B) → AllZip R xs (before ++ y ∷ after) → ZipParts R xs before y after
 zip_parts R [] [] y after zip = absurd zip
+zip_parts R [] (b ∷ before) y after zip = absurd zip
 zip_parts R (x ∷ xs) [] y after zip = record {
   front = [];
   x = x;
@@ -536,7 +483,6 @@ zip_parts R (x ∷ xs) [] y after zip = record {
   here = zip.0;
   later = zip.1;
 }
-zip_parts R [] (b ∷ before) y after zip = absurd zip
 zip_parts {A} R (x ∷ xs) (b ∷ before) y after zip =
     let rest = zip_parts R xs before y after zip.1 in
     record {

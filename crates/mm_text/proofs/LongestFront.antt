@@ -53,8 +53,5 @@ pub faults_end_longest_fronts : FaultsEndLongestFronts
 faults_end_longest_fronts files front item rest statements unfinished fault cut v e longer after more left other l =
     elim (longer_front longer after front item rest (sym other ∙ cut)) [
       | inl le ↦ le
-      | inr goes_on ↦ absurd (not_viable front item goes_on.0 statements more unfinished left fault v e (viable_as goes_on.0 goes_on.1))
+      | inr goes_on ↦ absurd (not_viable front item goes_on.0 statements more unfinished left fault v e (rw goes_on.1 at l))
     ]
-  where
-    viable_as : (mid : List Item) → longer ≡ front ++ item ∷ mid → Viable (front ++ item ∷ mid) more left
-    viable_as mid p = rw (← p) l

@@ -1,11 +1,12 @@
 -- The tokens of a file are its longest runs of bytes that aren't white space.
-use Rattle.std.proofs.Common.{◌≡◌, ℕ, zero, suc, ◌+◌, ◌-◌, ◌<◌, ◌≤◌, ◌==◌, true, false, length, get_or, take, drop, List, [], ◌∷◌, refl, ap, subst, ◌∙◌, arith, ◌⊎◌, inl, inr, Contains}
+use Rattle.std.proofs.Common.{◌≡◌, ℕ, zero, suc, ◌+◌, ◌-◌, ◌<◌, ◌==◌, true, false, length, get_or, take, drop, List, [], ◌∷◌, refl, ap, ◌∙◌, arith, ◌⊎◌, inl, inr, Contains}
 use Rattle.std.specs.List.{AllByRecursion}
 use Rattle.std.proofs.lemmas.Bool.{cond_both, eqb-true, eqb-false, both_ways, cases_Bool, cases_order}
 use Rattle.mm_text.specs.Token.{PlainToken, is_space, with_byte, tokens_from, IsToken}
 use Rattle.mm_text.specs.Laws.{IsRunOf, TokensAreLongestRuns}
 use Rattle.mm_text.proofs.PlaceLaws.{StandsIn, tokens_in_place}
 use Rattle.mm_text.proofs.Lists.{all_weaker}
+use Rattle.std.proofs.lemmas.List.Elements.{All-from_recursion, All-get_or}
 
 -- ---- one more byte in front
 
@@ -14,18 +15,13 @@ shifted : (b : ℕ) (bytes : List ℕ) (start stop : ℕ) → (start ≡ 0 → i
 shifted b bytes start stop front h = record {
   some = omega (arith, h.some);
   within = omega (arith, h.within);
-  run = inside;
-  left = before;
+  run = elim [
+    | zero ↦ λ l g. absurd (omega arith)
+    | suc k ↦ λ l g. h.run k (omega arith) (omega arith)
+  ];
+  left = elim [ zero ↦ λ e. front (omega arith) | suc k ↦ λ e. h.left k (omega arith) ];
   right = λ lt. h.right (omega arith);
 }
-  where
-    inside : (k : ℕ) → suc start ≤ k → k < suc stop → is_space (get_or (b ∷ bytes) k 0) ≡ false
-    inside zero l g = absurd (omega arith)
-    inside (suc k) l g = h.run k (omega arith) (omega arith)
-
-    before : (k : ℕ) → k + 1 ≡ suc start → is_space (get_or (b ∷ bytes) k 0) ≡ true
-    before zero e = front (omega arith)
-    before (suc k) e = h.left k (omega arith)
 
 unshifted : (b : ℕ) (bytes : List ℕ) (start stop : ℕ) → IsToken (b ∷ bytes) (suc start) (suc stop) → IsToken bytes start stop
 unshifted b bytes start stop h = record {
@@ -41,20 +37,7 @@ longer : (b : ℕ) (bytes : List ℕ) (stop : ℕ) → is_space b ≡ false → 
 longer b bytes stop dark h = record {
   some = omega arith;
   within = omega (arith, h.within);
-  run = inside;
-  left = λ k e. absurd (omega arith);
-  right = λ lt. h.right (omega arith);
-}
-  where
-    inside : (k : ℕ) → 0 ≤ k → k < suc stop → is_space (get_or (b ∷ bytes) k 0) ≡ false
-    inside zero l g = dark
-    inside (suc k) l g = h.run k (omega arith) (omega arith)
-
-shorter : (b : ℕ) (bytes : List ℕ) (stop : ℕ) → IsToken (b ∷ bytes) 0 (suc (suc stop)) → IsToken bytes 0 (suc stop)
-shorter b bytes stop h = record {
-  some = omega arith;
-  within = omega (arith, h.within);
-  run = λ k l g. h.run (suc k) (omega arith) (omega arith);
+  run = elim [ zero ↦ λ l g. dark | suc k ↦ λ l g. h.run k (omega arith) (omega arith) ];
   left = λ k e. absurd (omega arith);
   right = λ lt. h.right (omega arith);
 }
@@ -64,14 +47,10 @@ alone : (b : ℕ) (bytes : List ℕ) → is_space b ≡ false → (0 < length by
 alone b bytes dark next = record {
   some = omega arith;
   within = omega arith;
-  run = inside;
+  run = elim [ zero ↦ λ l g. dark | suc k ↦ λ l g. absurd (omega arith) ];
   left = λ k e. absurd (omega arith);
   right = λ lt. next (omega arith);
 }
-  where
-    inside : (k : ℕ) → 0 ≤ k → k < 1 → is_space (get_or (b ∷ bytes) k 0) ≡ false
-    inside zero l g = dark
-    inside (suc k) l g = absurd (omega arith)
 
 -- a run begins where a byte isn't white space
 first_run : (b : ℕ) (bytes : List ℕ) → is_space b ≡ false → (stop : ℕ) × IsToken (b ∷ bytes) 0 stop
@@ -160,54 +139,57 @@ runs_behind_space at b bytes tokens light h = record {
     every (suc start) zero r = absurd (omega (arith, r.some))
     every (suc start) (suc stop) r = held_so (Covers (at + 1) start stop) (Covers at (suc start) (suc stop)) (covers_behind at start stop) tokens (h.every start stop (unshifted b bytes start stop r))
 
+-- a first token before others, each of which begins behind the byte after its first one
+runs_begin : (at b : ℕ) (bytes : List ℕ) (t : PlainToken) (tokens : List PlainToken) → t.at ≡ at
+    → IsToken (b ∷ bytes) 0 (length t.text) → AllByRecursion (λ u. at + 1 < u.at) tokens
+    → AllByRecursion (HasRun (at + 1) bytes) tokens
+    → ((start stop : ℕ) → 0 < start → IsToken bytes start stop
+    → Held (Covers (at + 1) start stop) tokens)
+    → Rising tokens → AreRuns at (b ∷ bytes) (t ∷ tokens)
+runs_begin at b bytes t tokens here own far runs held rising = record {
+  each = (
+    record { start = 0; stop = length t.text; place = omega arith; end = omega arith; run = own },
+    all_both (HasRun (at + 1) bytes) (λ u. at + 1 < u.at) (HasRun at (b ∷ bytes))
+        (λ u r lt. run_behind at b bytes u (λ e. absurd (omega arith)) r) tokens runs far,
+  );
+  every = every;
+  rising = (all_weaker (λ u. at + 1 < u.at) (λ u. t.at < u.at) (λ u lt. omega arith) tokens far, rising);
+}
+  where
+    every : (start stop : ℕ) → IsToken (b ∷ bytes) start stop
+        → Held (Covers at start stop) (t ∷ tokens)
+    every zero stop r =
+        let same = one_stop (b ∷ bytes) 0 (length t.text) stop own r in
+        inl (omega arith, omega arith)
+    every (suc zero) stop r =
+        absurd (both_ways _ (own.run 0 (omega arith) own.some) (r.left 0 (omega arith)))
+    every (suc (suc start)) zero r = absurd (omega (arith, r.some))
+    every (suc (suc start)) (suc stop) r =
+        let later = held (suc start) stop (omega arith) (unshifted b bytes (suc start) stop r) in
+        inr (held_so (Covers (at + 1) (suc start) stop) (Covers at (suc (suc start)) (suc stop))
+        (covers_behind at (suc start) stop) tokens later)
+
 -- a byte that the first token takes in
 runs_taken_in : (file at b : ℕ) (bytes : List ℕ) (t : PlainToken) (tokens : List PlainToken) → is_space b ≡ false → t.at ≡ at + 1 → AreRuns (at + 1) bytes (t ∷ tokens)
     → AreRuns at (b ∷ bytes) (record { text = b ∷ t.text; file = file; at = at } ∷ tokens)
-runs_taken_in file at b bytes t tokens dark next h = record {
-  each = (
-    record { start = 0; stop = suc first.stop; place = omega arith; end = omega arith; run = longer b bytes first.stop dark own },
-    all_both (HasRun (at + 1) bytes) (λ u. t.at < u.at) (HasRun at (b ∷ bytes)) (λ u r lt. run_behind at b bytes u (λ e. absurd (omega arith)) r) tokens h.each.1 h.rising.0,
-  );
-  every = every;
-  rising = (all_weaker (λ u. t.at < u.at) (λ u. at < u.at) (λ u lt. omega arith) tokens h.rising.0, h.rising.1);
-}
-  where
-    first : HasRun (at + 1) bytes t
-    first = h.each.0
-
-    at_front : first.start ≡ 0
-    at_front = omega (arith, first.place)
-
-    own : IsToken bytes 0 first.stop
-    own = subst (λ (s : ℕ). IsToken bytes s first.stop) at_front first.run
-
-    long : length t.text ≡ first.stop
-    long = omega (arith, first.end)
-
-    every : (start stop : ℕ) → IsToken (b ∷ bytes) start stop → Held (Covers at start stop) (record { text = b ∷ t.text; file = file; at = at } ∷ tokens)
-    every zero zero r = absurd (omega (arith, r.some))
-    every zero (suc zero) r = absurd (both_ways _ (own.run 0 (omega arith) own.some) (r.right (omega (arith, own.some, own.within))))
-    every zero (suc (suc stop)) r = let same = one_stop bytes 0 first.stop (suc stop) own (shorter b bytes stop r) in inl (omega arith, omega (arith, long))
-    every (suc zero) stop r = absurd (both_ways _ dark (r.left 0 (omega arith)))
-    every (suc (suc start)) zero r = absurd (omega (arith, r.some))
-    every (suc (suc start)) (suc stop) r =
-        let behind = λ (u : PlainToken) (c : Covers (at + 1) (suc start) stop u). covers_behind at (suc start) stop u c in
-        elim (h.every (suc start) stop (unshifted b bytes (suc start) stop r)) [
-          | inl c ↦ absurd (omega (arith, c.0))
-          | inr held ↦ inr (held_so (Covers (at + 1) (suc start) stop) (Covers at (suc (suc start)) (suc stop)) behind tokens held)
-        ]
+runs_taken_in file at b bytes t tokens dark next h =
+    let first = h.each.0 in
+    let front : first.start ≡ 0 = omega (arith, first.place) in
+    let long : first.stop ≡ length t.text = omega (arith, first.end) in
+    let own : IsToken bytes 0 (length t.text) = rw (front, long) at first.run in
+    runs_begin at b bytes _ tokens refl (longer b bytes (length t.text) dark own)
+    (all_weaker (λ u. t.at < u.at) (λ u. at + 1 < u.at) (λ u lt. omega arith) tokens h.rising.0)
+    h.each.1 (λ start stop some r. elim (h.every start stop r) [
+      | inl c ↦ absurd (omega (arith, c.0))
+      | inr held ↦ held
+    ]) h.rising.1
 
 -- a byte that is a token of its own
 runs_apart : (file at b : ℕ) (bytes : List ℕ) (tokens : List PlainToken) → is_space b ≡ false → AllByRecursion (λ u. at + 1 < u.at) tokens → AreRuns (at + 1) bytes tokens
     → AreRuns at (b ∷ bytes) (record { text = b ∷ []; file = file; at = at } ∷ tokens)
-runs_apart file at b bytes tokens dark far h = record {
-  each = (
-    record { start = 0; stop = 1; place = omega arith; end = refl; run = alone b bytes dark (next bytes none) },
-    all_both (HasRun (at + 1) bytes) (λ u. at + 1 < u.at) (HasRun at (b ∷ bytes)) (λ u r lt. run_behind at b bytes u (λ e. absurd (omega arith)) r) tokens h.each far,
-  );
-  every = every;
-  rising = (all_weaker (λ u. at + 1 < u.at) (λ u. at < u.at) (λ u lt. omega arith) tokens far, h.rising);
-}
+runs_apart file at b bytes tokens dark far h =
+    runs_begin at b bytes _ tokens refl (alone b bytes dark (next bytes none)) far h.each
+    (λ start stop some r. h.every start stop r) h.rising
   where
     none : (stop : ℕ) → IsToken bytes 0 stop → ⊥
     none stop r = held_all (Covers (at + 1) 0 stop) (λ u. at + 1 < u.at) (λ u c lt. omega (arith, c.0)) tokens (h.every 0 stop r) far
@@ -220,13 +202,6 @@ runs_apart file at b bytes tokens dark far h = record {
           | inr d ↦ let r = first_run c more d in absurd (n r.0 r.1)
         ]
 
-    every : (start stop : ℕ) → IsToken (b ∷ bytes) start stop → Held (Covers at start stop) (record { text = b ∷ []; file = file; at = at } ∷ tokens)
-    every zero zero r = absurd (omega (arith, r.some))
-    every zero (suc zero) r = inl (omega arith, refl)
-    every zero (suc (suc stop)) r = absurd (none (suc stop) (shorter b bytes stop r))
-    every (suc start) zero r = absurd (omega (arith, r.some))
-    every (suc start) (suc stop) r = inr (held_so (Covers (at + 1) start stop) (Covers at (suc start) (suc stop)) (covers_behind at start stop) tokens (h.every start stop (unshifted b bytes start stop r)))
-
 runs_with_byte : (file at b : ℕ) (bytes : List ℕ) (tokens : List PlainToken) → is_space b ≡ false → AreRuns (at + 1) bytes tokens → AreRuns at (b ∷ bytes) (with_byte file at b tokens)
 runs_with_byte file at b bytes [] dark h = runs_apart file at b bytes [] dark tt h
 runs_with_byte file at b bytes (t ∷ tokens) dark h =
@@ -235,12 +210,10 @@ runs_with_byte file at b bytes (t ∷ tokens) dark h =
     (λ ne. let off = eqb-false t.at (at + 1) ne in let far : at + 1 < t.at = omega (arith, h.each.0.place) in
     runs_apart file at b bytes (t ∷ tokens) dark (far, all_weaker (λ u. t.at < u.at) (λ u. at + 1 < u.at) (λ u lt. omega arith) tokens h.rising.0) h)
 
-none_of_nothing : (start stop : ℕ) → IsToken [] start stop → ⊥
-none_of_nothing start stop r = omega (arith, r.some, r.within)
-
 tokens_are_runs : (file at : ℕ) (bytes : List ℕ) → AreRuns at bytes (tokens_from file at bytes)
 unfolding tokens_from
-tokens_are_runs file at [] = record { each = tt; every = none_of_nothing; rising = tt }
+tokens_are_runs file at [] =
+    record { each = tt; every = λ start stop r. omega (arith, r.some, r.within); rising = tt }
 tokens_are_runs file at (b ∷ bytes) =
     let inner = tokens_are_runs file (at + 1) bytes in
     cond_both (is_space b) _ _ (AreRuns at (b ∷ bytes))
@@ -258,7 +231,7 @@ run_of file bytes t s h =
     record {
       home = s.home;
       text = ap (λ (n : ℕ). take n (drop t.at bytes)) long ∙ s.text;
-      run = subst (λ (x : ℕ). IsToken bytes x (t.at + length t.text)) starts (subst (IsToken bytes h.start) stops h.run);
+      run = rw (starts, stops) at h.run;
     }
 
 found : (start stop : ℕ) (tokens : List PlainToken) → Held (Covers 0 start stop) tokens → (t : PlainToken) × Contains tokens t × (t.at ≡ start) × (t.at + length t.text ≡ stop)
@@ -266,16 +239,12 @@ found start stop [] h = absurd h
 found start stop (t ∷ tokens) (inl h) = let place = h.0 in let end = h.1 in (t, (0, omega arith, refl), omega arith, omega arith)
 found start stop (t ∷ tokens) (inr h) = let f = found start stop tokens h in (f.0, (suc f.1.0, omega (arith, f.1.1), f.1.2), f.2, f.3)
 
-above : (n : ℕ) (tokens : List PlainToken) (j : ℕ) (d : PlainToken) → AllByRecursion (λ u. n < u.at) tokens → j < length tokens → n < (get_or tokens j d).at
-above n [] j d h lt = absurd (omega arith)
-above n (t ∷ tokens) zero d h lt = h.0
-above n (t ∷ tokens) (suc j) d h lt = above n tokens j d h.1 (omega arith)
-
 pairs : (tokens : List PlainToken) → Rising tokens → (i j : ℕ) (d : PlainToken) → i < j → j < length tokens → (get_or tokens i d).at < (get_or tokens j d).at
-pairs [] h i j d l g = absurd (omega arith)
-pairs (t ∷ tokens) h i zero d l g = absurd (omega arith)
-pairs (t ∷ tokens) h zero (suc j) d l g = above t.at tokens j d h.0 (omega arith)
+pairs (t ∷ tokens) h zero (suc j) d l g =
+    All-get_or (λ u. t.at < u.at) tokens j d (omega arith)
+    (All-from_recursion (λ u. t.at < u.at) tokens h.0)
 pairs (t ∷ tokens) h (suc i) (suc j) d l g = pairs tokens h.1 i j d (omega arith) (omega arith)
+pairs tokens h i j d l g = absurd (omega arith)
 
 -- the tokens of each file are its longest runs
 pub longest_runs : TokensAreLongestRuns

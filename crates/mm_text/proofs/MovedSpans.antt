@@ -24,11 +24,10 @@ use Rattle.mm_text.proofs.Lists.{append_split, cons_parts, nil_split, same_lengt
 behind_alike : {A C : Type 0} (f g : A → C) (a b c d : List A) → length a ≡ length c
     → map f (a ++ b) ≡ map g (c ++ d) → map f b ≡ map g d
 behind_alike f g [] b [] d long e = e
-behind_alike f g [] b (y ∷ c) d long e = absurd (omega arith)
-behind_alike f g (x ∷ a) b [] d long e = absurd (omega arith)
 behind_alike f g (x ∷ a) b (y ∷ c) d long e =
     behind_alike f g a b c d (omega arith)
     (cons_parts (f x) (g y) (map f (a ++ b)) (map g (c ++ d)) e).1
+behind_alike f g _ b _ d long e = absurd (omega arith)
 
 -- before its symbols a `$p` has two tokens
 head_long : (tokens : List PlainToken) (s : PlainStatement) (h : Spells tokens s)
@@ -117,51 +116,49 @@ module _ (number end other_end : ℕ) where
     abbrev tokens : List PlainToken
     tokens = plain_tokens (items files)
 
-    statement_moved : (before : List PlainStatement) (s : PlainStatement)
-        (after : List PlainStatement) (p : Parts tokens before s after) (others : List PlainToken)
-        (t : PlainStatement) → Spells others t
-        → map (token_on was) p.own ≡ map (token_on now) others
-        → statement_on was s ≡ statement_on now t → MovesSo s t
-    statement_moved before s after p others t b e same is =
-        let other : t.kind ≡ Provable = ap (λ (x : PlainStatement). x.kind) (sym same) ∙ is in
-        let k : EndsInProof s p.here.tail =
-        subst (λ (kind : Kind). IsTail s kind p.here.tail) is p.here.ends in
-        let l : EndsInProof t b.tail = subst (λ (kind : Kind). IsTail t kind b.tail) other b.ends in
-        let (equals, stop) = signs_alike was now p.own others s t e same p.here b k l is other in
-        let (one, two) =
-        ends_home files statements before after (without_rest (items files) statements v) s p k in
-        moved_by_signs s t p.here.tail b.tail k l (ap (λ (x : PlainStatement). x.first) same) equals
-        stop one two
+    -- the parts at the next statement
+    abbrev next_parts : (before : List PlainStatement) (s u : PlainStatement)
+        (after : List PlainStatement) → Parts tokens before s (u ∷ after)
+        → Parts tokens (before ++ s ∷ []) u after
+    next_parts before s u after p = record {
+      front = p.front ++ p.own;
+      own = p.later.0;
+      back = p.later.1;
+      whole = p.whole ∙ sym (append_assoc p.front p.own p.back)
+          ∙ ap (λ (l : List PlainToken). (p.front ++ p.own) ++ l) p.later.2;
+      earlier = spells_append p.front p.own before (s ∷ []) p.earlier
+          (p.own, [], sym (append-nil p.own), p.here, refl);
+      here = p.later.3;
+      later = p.later.4;
+    }
 
-    statements_moved : (before after : List PlainStatement) (front back others : List PlainToken)
-        → tokens ≡ front ++ back → SpellsAll front before → SpellsAll back after
-        → map (token_on was) back ≡ map (token_on now) others
+    statements_moved : (before : List PlainStatement) (s : PlainStatement)
+        (after : List PlainStatement) (p : Parts tokens before s after) (others : List PlainToken)
+        → map (token_on was) p.back ≡ map (token_on now) others
         → (later : List PlainStatement) × SpellsAll others later × AllZip MovesSo after later
-    statements_moved before [] front back others whole h k e =
-        let nothing = ap (map (token_on was)) (sym k) ∙ e in
+    statements_moved before s [] p others e =
+        let nothing = ap (map (token_on was)) (sym p.later) ∙ e in
         ([], nil_split (token_on was) (token_on now) others nothing, tt)
-    statements_moved before (s ∷ after) front back others whole h k e =
+    statements_moved before s (u ∷ after) p others e =
+        let q = next_parts before s u after p in
         let (mine, rest, split, fronts, rests) =
-        append_split (token_on was) (token_on now) k.0 k.1 others
-        (ap (map (token_on was)) (sym k.2) ∙ e) in
-        let (t, spelled, same) = statement_alike was now k.0 mine s fronts k.3 in
-        let told : tokens ≡ front ++ (k.0 ++ k.1) =
-        whole ∙ ap (λ (l : List PlainToken). front ++ l) k.2 in
-        let p : Parts tokens before s after = record {
-          front = front;
-          own = k.0;
-          back = k.1;
-          whole = told;
-          earlier = h;
-          here = k.3;
-          later = k.4;
-        } in
-        let passed : SpellsAll (front ++ k.0) (before ++ s ∷ []) =
-        spells_append front k.0 before (s ∷ []) h (k.0, [], sym (append-nil k.0), k.3, refl) in
-        let (later, all, moved) =
-        statements_moved (before ++ s ∷ []) after (front ++ k.0) k.1 rest
-        (told ∙ sym (append_assoc front k.0 k.1)) passed k.4 rests in
-        let own : MovesSo s t = statement_moved before s after p mine t spelled fronts same in
+        append_split (token_on was) (token_on now) q.own q.back others
+        (ap (map (token_on was)) (sym p.later.2) ∙ e) in
+        let (t, spelled, same) = statement_alike was now q.own mine u fronts q.here in
+        let (later, all, moved) = statements_moved (before ++ s ∷ []) u after q rest rests in
+        let own : MovesSo u t = λ is.
+        let other : t.kind ≡ Provable = ap (λ (x : PlainStatement). x.kind) (sym same) ∙ is in
+        let k : EndsInProof u q.here.tail =
+        subst (λ (kind : Kind). IsTail u kind q.here.tail) is q.here.ends in
+        let l : EndsInProof t spelled.tail =
+        subst (λ (kind : Kind). IsTail t kind spelled.tail) other spelled.ends in
+        let (equals, stop) =
+        signs_alike was now q.own mine u t fronts same q.here spelled k l is other in
+        let (one, two) =
+        ends_home files statements (before ++ s ∷ []) after
+        (without_rest (items files) statements v) u q k in
+        moved_by_signs u t q.here.tail spelled.tail k l (ap (λ (x : PlainStatement). x.first) same)
+        equals stop one two in
         (t ∷ later, (mine, rest, split, spelled, all), (own, moved))
 
     -- the statements behind one, and those that the tokens spell that correspond to theirs
@@ -170,12 +167,5 @@ module _ (number end other_end : ℕ) where
         (later : List PlainStatement) → map (token_on was) p.back ≡ map (token_on now) others
         → SpellsAll others later → AllZip MovesSo after later
     moved_behind before s after p others later e spelled =
-        let whole = p.whole ∙ sym (append_assoc p.front p.own p.back) in
-        let passed : SpellsAll (p.front ++ p.own) (before ++ s ∷ []) =
-        spells_append p.front p.own before (s ∷ []) p.earlier
-        (p.own, [], sym (append-nil p.own), p.here, refl) in
-        let (found, all, moved) =
-        statements_moved (before ++ s ∷ []) after (p.front ++ p.own) p.back others whole passed
-        p.later e in
-        subst (λ (x : List PlainStatement). AllZip MovesSo after x)
-        (spelled_once others found later all spelled) moved
+        let (found, all, moved) = statements_moved before s after p others e in
+        rw (spelled_once others found later all spelled) at moved

@@ -3,8 +3,9 @@ use Rattle.std.proofs.Common.{◌≡◌, ◌≢◌, ℕ, zero, suc, ◌+◌, ◌
 use Rattle.std.specs.Prelude.{slice_get, position}
 use Rattle.std.specs.List.{list_any, position_or_len}
 use Rattle.std.specs.Cmp.Lexicographic.{bytes_decides}
-use Rattle.std.proofs.lemmas.Bool.{false≢true, both_ways}
-use Rattle.std.proofs.lemmas.List.{get_or_default, get_or-take, length-take-le, length-map, map-append}
+use Rattle.std.proofs.lemmas.Bool.{both_ways}
+use Rattle.std.proofs.lemmas.List.{get_or_default, get_or-take, length-take-le, length-map}
+use Rattle.std.proofs.lemmas.List.{map-append, get_or-map}
 use Rattle.std.proofs.Math.Seq.{take-suc}
 use Rattle.std.proofs.str.Laws.{order}
 use Rattle.std.proofs.lemmas.Option.{slice_get_within}
@@ -70,9 +71,7 @@ position-names g p ks =
     ∙ ap (λ n. cond (nat_lt (position_or_len p (map g ks)) n) (Some (position_or_len p (map g ks))) None) (sym (length-map ks g))
 
 file_name : (files : List File) (n : ℕ) (d : File) → n < length files → (get_or files n d).name.now ≡ get_or (map (λ f. f.name.now) files) n []
-file_name [] n d lt = absurd (omega arith)
-file_name (f ∷ files) zero d lt = refl
-file_name (f ∷ files) (suc n) d lt = file_name files n d (omega arith)
+file_name files n d lt = sym (get_or-map (λ f. f.name.now) files n d [] lt)
 
 module _ {K : Type 0} (g : K → List ℕ) (ks : List K) (files : List File) (n : ℕ) (d : File) where
   -- whether a file's name is among the keys, where those are the names before it
@@ -110,14 +109,6 @@ module _ {K : Type 0} (g : K → List ℕ) (ks : List K) (files : List File) (n 
       → list_any (λ k. spells (get_or files n d).name.now (g k)) ks ≡ false → AreApart (map (λ f. f.name.now) files) (n + 1)
   apart_with lt kept apart none =
       apart_more (map (λ f. f.name.now) files) n (omega (arith, length-map files (λ f. f.name.now))) apart (sym (among_names lt kept) ∙ none)
-
-pub not_true : (b c : Bool) → c ≡ not b → c ≡ true → b ≡ false
-not_true true c e f = absurd (false≢true (sym e ∙ f))
-not_true false c e f = refl
-
-pub not_false : (b c : Bool) → c ≡ not b → c ≡ false → b ≡ true
-not_false true c e f = refl
-not_false false c e f = absurd (false≢true (sym f ∙ e))
 
 -- the names of the files as they are handed in
 pub plain_names : (files : List File) → map (λ f. f.name) (map plain_file files) ≡ map (λ f. f.name.now) files

@@ -1,7 +1,8 @@
 -- The items that are left, as a file's pieces are taken, a file is gone into and a file ends.
 use Rattle.std.proofs.Common.{◌≡◌, ℕ, zero, suc, ◌+◌, ◌-◌, ◌<◌, ◌≤◌, List, [], ◌∷◌, ◌++◌, length, map, Bool, true, false, not, cond, refl, sym, ap, ◌∙◌, Option, Some, None, count_by, get_or, drop, replicate, append-nil, arith}
 use Rattle.std.specs.Prelude.{slice_index_or, slice_set, slice_get, sum_by, if◌then◌else◌}
-use Rattle.std.specs.Option.{is_some}
+use Rattle.std.specs.Option.{is_some, option_map}
+use Rattle.std.proofs.lemmas.Option.{slice_get-map, slice_get-get_or}
 use Rattle.std.proofs.lemmas.List.Sums.{sum_by-set, sum_by_from}
 use Rattle.std.proofs.lemmas.List.Quantifiers.{position-Some}
 use Rattle.std.proofs.lemmas.List.{length-map}
@@ -25,17 +26,19 @@ use Rattle.mm_text.proofs.NameLaws.{position-names}
 use Rattle.mm_text.proofs.CommentLaws.{no_dollar-spells}
 use Rattle.mm_text.proofs.InclusionLaws.{pieces-class, put_in-plain, put_in-wrong, put_in-inclusion, put_in-end, put_in-nil, put_in-unknown, put_in-again, put_in-first, waiting-push}
 
--- before the top file's end
-pub left_on : (n : Nest) → n.is_over ≡ false → items_left n ≡ put_into n (pieces_left n)
-left_on n over = ap (λ b. if b then [] else put_into n (pieces_left n)) over
+-- before the top file's end, outside inclusions or after a `$[`
+pub left_at : (n : Nest) (o : Option Token) (file : ℕ) → n.is_over ≡ false → n.naming ≡ o
+    → n.place.file ≡ file → items_left n
+    ≡ put_into n (pieces file (spot_of o) (shown_at n.place) ++ waiting n.«open».items)
+left_at n o file over naming home =
+    ap (λ b. if b then [] else put_into n (pieces_left n)) over ∙ (λ i. put_into n
+    (pieces (home i) (spot_of (naming i)) (shown_at n.place) ++ waiting n.«open».items))
 
--- outside inclusions
-pub left_outside : (n : Nest) → n.is_over ≡ false → n.naming ≡ None → items_left n ≡ put_into n (pieces n.place.file Outside (shown_at n.place) ++ waiting n.«open».items)
-left_outside n over naming = left_on n over ∙ ap (λ o. put_into n (pieces n.place.file (spot_of o) (shown_at n.place) ++ waiting n.«open».items)) naming
-
--- after a `$[`
-pub left_naming : (n : Nest) (begin : Token) → n.is_over ≡ false → n.naming ≡ Some begin → items_left n ≡ put_into n (pieces n.place.file (Naming (plain_token begin)) (shown_at n.place) ++ waiting n.«open».items)
-left_naming n begin over naming = left_on n over ∙ ap (λ o. put_into n (pieces n.place.file (spot_of o) (shown_at n.place) ++ waiting n.«open».items)) naming
+left_pieces : (n : Nest) (o : Option Token) (ps : List Piece) → n.is_over ≡ false → n.naming ≡ o
+    → pieces n.place.file (spot_of o) (shown_at n.place) ≡ ps
+    → items_left n ≡ put_into n (ps ++ waiting n.«open».items)
+left_pieces n o ps over naming e =
+    left_at n o n.place.file over naming refl ∙ ap (λ l. put_into n (l ++ waiting n.«open».items)) e
 
 same_file : (p q : Place) → IsSameFile p q → q.file ≡ p.file
 same_file p q e = ap (λ (r : Place). r.file) e
@@ -52,11 +55,10 @@ pub takes_token : (n : Nest) (q : Place) (t : PlainToken) (kind : Class) → n.i
     → pieces n.place.file Outside (shown_at n.place) ≡ pieces_with t kind (pieces n.place.file Outside (shown_at q))
     → items_left n ≡ items_with t kind (items_left (record n { place = q }))
 takes_token n q t kind over naming same e =
-    left_outside n over naming
-    ∙ ap (λ l. put_into n (l ++ waiting n.«open».items)) e
+    left_pieces n None _ over naming e
     ∙ put_in-with (map plain_file n.files.now) (count_by not n.named.items) n.named.items t kind (pieces n.place.file Outside (shown_at q)) (waiting n.«open».items)
-    ∙ ap (λ f. items_with t kind (put_into n (pieces f Outside (shown_at q) ++ waiting n.«open».items))) (sym (same_file n.place q same))
-    ∙ ap (items_with t kind) (sym (left_outside (record n { place = q }) over naming))
+    ∙ ap (items_with t kind) (sym (left_at (record n { place = q }) None n.place.file over naming
+    (same_file n.place q same)))
 
 -- what is taken at once is a word, or nothing
 pub takes_word : (n : Nest) (q : Place) (found : Option Token) → n.is_over ≡ false
@@ -83,16 +85,14 @@ pub takes_inclusion : (n : Nest) (q : Place) (begin : Token) → n.is_over ≡ f
     → pieces n.place.file Outside (shown_at n.place) ≡ Met (Inclusion (plain_token begin)) ∷ pieces n.place.file (Naming (plain_token begin)) (shown_at q)
     → items_left n ≡ Inclusion (plain_token begin) ∷ items_left (record n { place = q; naming = Some begin })
 takes_inclusion n q begin over naming same e =
-    left_outside n over naming
-    ∙ ap (λ l. put_into n (l ++ waiting n.«open».items)) e
+    left_pieces n None _ over naming e
     ∙ put_in-inclusion (map plain_file n.files.now) (count_by not n.named.items) n.named.items (plain_token begin) _
-    ∙ ap (λ f. Inclusion (plain_token begin) ∷ put_into n (pieces f (Naming (plain_token begin)) (shown_at q) ++ waiting n.«open».items)) (sym (same_file n.place q same))
-    ∙ ap (λ l. Inclusion (plain_token begin) ∷ l) (sym (left_naming (record n { place = q; naming = Some begin }) begin over refl))
+    ∙ ap (λ l. Inclusion (plain_token begin) ∷ l) (sym (left_at (record n { place = q; naming = Some begin })
+    (Some begin) n.place.file over refl (same_file n.place q same)))
 
 pub takes_end : (n : Nest) (file : ℕ) → n.is_over ≡ false → n.naming ≡ None → pieces n.place.file Outside (shown_at n.place) ≡ Met (End file) ∷ [] → items_left n ≡ End file ∷ items_after n
 takes_end n file over naming e =
-    left_outside n over naming
-    ∙ ap (λ l. put_into n (l ++ waiting n.«open».items)) e
+    left_pieces n None _ over naming e
     ∙ put_in-end (map plain_file n.files.now) (count_by not n.named.items) n.named.items file (waiting n.«open».items)
 
 -- ---- an inclusion is finished
@@ -100,8 +100,7 @@ takes_end n file over naming e =
 pub includes_wrong : (n : Nest) (begin : Token) (w : Wrong) → n.is_over ≡ false → n.naming ≡ Some begin
     → pieces n.place.file (Naming (plain_token begin)) (shown_at n.place) ≡ Met (wrong_item w) ∷ [] → items_left n ≡ wrong_item w ∷ []
 includes_wrong n begin w over naming e =
-    left_naming n begin over naming
-    ∙ ap (λ l. put_into n (l ++ waiting n.«open».items)) e
+    left_pieces n (Some begin) _ over naming e
     ∙ put_in-wrong (map plain_file n.files.now) (count_by not n.named.items) n.named.items w.rule (plain_token w.token) (waiting n.«open».items)
 
 -- the name was read
@@ -109,8 +108,7 @@ pub includes_name : (n : Nest) (q : Place) (begin : Token) (name : PlainToken) �
     → pieces n.place.file (Naming (plain_token begin)) (shown_at n.place) ≡ Named name ∷ pieces n.place.file Outside (shown_at q)
     → items_left n ≡ put_into n (Named name ∷ pieces q.file Outside (shown_at q) ++ waiting n.«open».items)
 includes_name n q begin name over naming same e =
-    left_naming n begin over naming
-    ∙ ap (λ l. put_into n (l ++ waiting n.«open».items)) e
+    left_pieces n (Some begin) _ over naming e
     ∙ ap (λ f. put_into n (Named name ∷ pieces f Outside (shown_at q) ++ waiting n.«open».items)) (sym (same_file n.place q same))
 
 -- no file has it
@@ -122,7 +120,7 @@ pub includes_again : (n : Nest) (q : Place) (name : PlainToken) (number : ℕ) �
     → file_number (map plain_file n.files.now) name.text ≡ Some number → slice_index_or n.named.items number true ≡ true
     → items_left (record n { place = q; naming = None }) ≡ put_into n (Named name ∷ pieces q.file Outside (shown_at q) ++ waiting n.«open».items)
 includes_again n q name number over e again =
-    left_outside (record n { place = q; naming = None }) over refl
+    left_at (record n { place = q; naming = None }) None q.file over refl refl
     ∙ sym (put_in-again (map plain_file n.files.now) (count_by not n.named.items) n.named.items name _ number e again)
 
 -- ---- numbers
@@ -144,9 +142,8 @@ file_within (f ∷ files) (suc n) d lt =
     omega (arith, file_within files n d (omega arith), sum_by_from (λ (g : PlainFile). length g.bytes) (0 + length f.bytes.now) (map plain_file files))
 
 pub file_there : (files : List File) (n : ℕ) (d : File) → n < length files → slice_get (map plain_file files) n ≡ Some (plain_file (get_or files n d))
-file_there [] n d lt = absurd (omega arith)
-file_there (f ∷ files) zero d lt = refl
-file_there (f ∷ files) (suc n) d lt = file_there files n d (omega arith)
+file_there files n d lt =
+    slice_get-map plain_file files n ∙ ap (option_map plain_file) (slice_get-get_or files n d lt)
 
 -- what isn't named already has its place
 pub in_range : (named : List Bool) (n : ℕ) → slice_index_or named n true ≡ false → n < length named
@@ -177,9 +174,8 @@ enters n q begin name number d lt nest e first bytes file at =
     let before : put_before files number rest ≡ pieces_of number (plain_file (get_or n.files.now number d)) ++ rest =
     ap (λ o. elim o [ None ↦ rest | Some f ↦ pieces_of number f ++ rest ]) (file_there n.files.now number d lt) in
     let fresh : pieces begin.file Outside (shown_at begin) ≡ pieces_of number (plain_file (get_or n.files.now number d)) =
-    ap (λ f. pieces f Outside (without_comments None (tokens_from f begin.at (drop begin.at begin.bytes.now)))) file
-    ∙ ap (λ k. pieces number Outside (without_comments None (tokens_from number k (drop k begin.bytes.now)))) at
-    ∙ ap (λ bs. pieces number Outside (without_comments None (tokens_from number 0 bs))) bytes in
+    λ i. pieces (file i) Outside
+    (without_comments None (tokens_from (file i) (at i) (drop (at i) (bytes i)))) in
     ap (λ l. put_in files (count_by not named) named (pieces begin.file Outside (shown_at begin) ++ l)) (waiting-push n.«open».items q)
     ∙ ap (λ l. put_in files (count_by not named) named (l ++ rest)) fresh
     ∙ ap (put_in files (count_by not named) named) (sym before)
@@ -187,9 +183,6 @@ enters n q begin name number d lt nest e first bytes file at =
     ∙ ap (λ k. put_in files k n.named.items (Named name ∷ rest)) (sym counted)
 
 -- ---- a file ends
-
-pub leaves : (n : Nest) (places : List Place) (q : Place) → n.«open».items ≡ places ++ q ∷ [] → put_into n (pieces q.file Outside (shown_at q) ++ waiting places) ≡ items_after n
-leaves n places q e = ap (put_into n) (sym (waiting-push places q) ∙ ap waiting (sym e))
 
 pub leaves_last : (n : Nest) → n.«open».items ≡ [] → items_after n ≡ []
 leaves_last n e = ap (λ l. put_into n (waiting l)) e ∙ put_in-nil (map plain_file n.files.now) (count_by not n.named.items) n.named.items
@@ -199,8 +192,8 @@ pub leaves_to : (n m : Nest) (q : Place) → n.is_over ≡ false → n.naming �
     → m ≡ record n { place = q; «open» = m.«open» } → items_left m ≡ items_after n
 leaves_to n m q over naming e same =
     ap items_left same
-    ∙ left_outside (record n { place = q; «open» = m.«open» }) over naming
-    ∙ leaves n m.«open».items q e
+    ∙ left_at (record n { place = q; «open» = m.«open» }) None q.file over naming refl
+    ∙ ap (put_into n) (sym (waiting-push m.«open».items q) ∙ ap waiting (sym e))
 
 -- ---- the beginning of the top file
 
@@ -227,13 +220,12 @@ pub begins : (files : List File) (d : File) (named : List Bool) (p : Place) (pla
 begins [] d named p places some e bytes file at none = absurd (omega arith)
 begins (f ∷ files) d named p places some e bytes file at none =
     let all = map plain_file (f ∷ files) in
-    let first : slice_set named 0 true ≡ true ∷ replicate (length files) false = ap (λ l. slice_set l 0 true) e in
-    let fresh : pieces p.file Outside (shown_at p) ≡ pieces_of 0 (plain_file f) =
-    ap (λ n. pieces n Outside (without_comments None (tokens_from n p.at (drop p.at p.bytes.now)))) file
-    ∙ ap (λ k. pieces 0 Outside (without_comments None (tokens_from 0 k (drop k p.bytes.now)))) at
-    ∙ ap (λ bs. pieces 0 Outside (without_comments None (tokens_from 0 0 bs))) bytes in
-    ap (λ l. put_in all (count_by not l) l (pieces p.file Outside (shown_at p) ++ waiting places)) first
-    ∙ ap (λ k. put_in all k (true ∷ replicate (length files) false) (pieces p.file Outside (shown_at p) ++ waiting places)) (count_top (length files))
-    ∙ ap (λ l. put_in all (length files) (true ∷ replicate (length files) false) (pieces p.file Outside (shown_at p) ++ waiting l)) none
-    ∙ ap (put_in all (length files) (true ∷ replicate (length files) false)) (append-nil (pieces p.file Outside (shown_at p)) ∙ fresh)
-    ∙ ap (λ n. put_in all n (true ∷ replicate n false) (pieces_of 0 (plain_file f))) (sym (length-map files plain_file))
+    let others : ℕ = length (map plain_file files) in
+    let first : slice_set named 0 true ≡ true ∷ replicate others false =
+    ap (λ l. slice_set l 0 true) e
+    ∙ ap (λ n. true ∷ replicate n false) (sym (length-map files plain_file)) in
+    let count = ap (count_by not) first ∙ count_top others in
+    (λ i. put_in all (count i) (first i) (pieces (file i) Outside
+    (without_comments None (tokens_from (file i) (at i) (drop (at i) (bytes i))))
+    ++ waiting (none i)))
+    ∙ ap (put_in all others (true ∷ replicate others false)) (append-nil (pieces_of 0 (plain_file f)))

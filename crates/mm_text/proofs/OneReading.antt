@@ -1,5 +1,5 @@
 -- A reading of items is what the reader computes, so there is one reading.
-use Rattle.std.proofs.Common.{◌≡◌, ◌≢◌, ℕ, ◌==◌, length, List, [], ◌∷◌, ◌++◌, true, false, cond, refl, sym, ap, subst, ◌∙◌, codes, Option, Some, None, append_assoc, ◌⊎◌, inl, inr, lit<}
+use Rattle.std.proofs.Common.{◌≡◌, ◌≢◌, ℕ, ◌==◌, length, List, [], ◌∷◌, ◌++◌, true, false, cond, refl, sym, ap, subst, ◌∙◌, codes, Option, Some, None, append_assoc, ◌⊎◌, inl, inr}
 use Rattle.std.proofs.lemmas.List.{append-nil}
 use Rattle.std.proofs.lemmas.Bool.{cond-true, cond-false, cond_both, false_from_ne_true, false≢true, eq-eqb, eqb-true}
 use Rattle.mm_text.specs.Items.{spells}
@@ -8,21 +8,21 @@ use Rattle.mm_text.specs.declared.fault.TextRule.{TextRule}
 use Rattle.mm_text.specs.declared.fault.TextRule.TheVariants.{X6, X8, S1, S2, S3, S4, S5, S6, S7}
 use Rattle.mm_text.specs.declared.statement.Kind.{Kind}
 use Rattle.mm_text.specs.declared.statement.Kind.TheVariants.{Floating, Opening, Closing}
-use Rattle.mm_text.specs.Token.{PlainToken, is_label, HoldsNoDollar}
-use Rattle.mm_text.specs.Statement.{PlainStatement, HasBody, SpellsAll, IsKeyword, FitsCount}
+use Rattle.mm_text.specs.Token.{PlainToken, HoldsNoDollar}
+use Rattle.mm_text.specs.Statement.{PlainStatement, SpellsAll, IsKeyword, FitsCount}
 use Rattle.mm_text.specs.Items.{Item, Plain, Wrong, Inclusion, End, plain_tokens, HoldNoFault}
 use Rattle.mm_text.specs.Blocks.{AreBalanced, AreClosed, IsInnermost}
 use Rattle.mm_text.specs.Reading.{PlainFault, closes_symbols, IsBody, IsInProof, IsBeginning, AreOutside, Viable, Meets, MeetsS1, MeetsS2, MeetsS3, MeetsS6, fault_at, EndsInX8, EndsInS7, EndsAt, ReadsAs}
-use Rattle.mm_text.specs.Mirror.Reader.{Part, Between, Labelled, InBody, InProof, Step, More, Whole, Opened, Closed, Faulty, step, at_start, after_label, in_body, in_proof, bare_statement, is_keyword, has_count, is_full, PlainScope, outermost, scope_after_statement, scope_after_opening, scope_after_closing, has_none, fault_in, block_fault, end_fault, inclusion_fault, unless, PlainReading, only_ending, with_statement, reading_of}
+use Rattle.mm_text.specs.Mirror.Reader.{Part, Between, Labelled, InBody, InProof, Step, More, Whole, Opened, Closed, Faulty, step, bare_statement, is_keyword, is_full, PlainScope, outermost, scope_after_statement, scope_after_opening, scope_after_closing, has_none, fault_in, block_fault, end_fault, inclusion_fault, unless, PlainReading, only_ending, with_statement, reading_of}
 use Rattle.mm_text.specs.Statement.{is_provable}
 use Rattle.mm_text.proofs.TextFacts.{same_text-ne, is_keyword-ne, is_keyword_from, symbol-is_keyword}
 use Rattle.mm_text.proofs.ItemFronts.{plain_tokens-append, clean_behind}
 use Rattle.mm_text.proofs.PartTokens.{Describes, part_of_body, part_of_proof, part_of_beginning, first_of_part}
 use Rattle.mm_text.proofs.GrammarSteps.{closing_sign}
 use Rattle.mm_text.proofs.StepLaws.{read_nothing, read_end, read_inclusion, read_wrong, read_more, read_whole, read_opened, read_closing, read_faulty}
-use Rattle.mm_text.proofs.ReaderRuns.{Runs, run, run-nil, run-more, run-whole, run-opened, run-closed, run-faulty, with_first, with_all, with_all-runs, run_on, runs_parts, fails_not, front_of_run}
+use Rattle.mm_text.proofs.ReaderRuns.{Runs, run, run-nil, run_step, with_first, with_all, with_all-runs, run_on, runs_parts, front_of_run}
 use Rattle.mm_text.proofs.StatementRuns.{closing_short, spelled_run, whole_run}
-use Rattle.mm_text.proofs.StepLaws.{step_closes}
+use Rattle.mm_text.proofs.StepLaws.{step_closes, step_no_label, IsLongPart, Leads, step_leads}
 use Rattle.mm_text.proofs.BlockFacts.{AreOpen, scope_after, scope_of, scope_body, scope_more, scope_open, closed_scope, unclosed_scope, one_innermost, innermost_unclosed, balanced_front, closing_unbalanced}
 use Rattle.mm_text.proofs.ComputedReadings.{fault_is}
 use Rattle.mm_text.proofs.Lists.{cons_parts}
@@ -40,40 +40,21 @@ unfolding step
 breaks_S1 tokens t m = record {
   part = Between;
   described = m.0;
-  faulty = cond-false (spells t.text (codes "$c")) _ _ (same_text-ne t.text (codes "$c") m.2)
-      ∙ cond-false (spells t.text (codes "$v")) _ _ (same_text-ne t.text (codes "$v") m.3)
-      ∙ cond-false (spells t.text (codes "$d")) _ _ (same_text-ne t.text (codes "$d") m.4)
-      ∙ cond-false (spells t.text (codes "${")) _ _ (same_text-ne t.text (codes "${") m.5)
-      ∙ cond-false (spells t.text (codes "$}")) _ _ (same_text-ne t.text (codes "$}") m.6)
-      ∙ cond-true (is_keyword t.text) _ _ (is_keyword_from t.text m.1);
+  faulty = let ne = same_text-ne t.text in
+      rw (is_keyword_from t.text m.1) (simp (ne _ m.2, ne _ m.3, ne _ m.4, ne _ m.5, ne _ m.6));
 }
-
-other_than : (text key : List ℕ) → ¬ (IsKeyword text) → IsKeyword key → spells text key ≡ false
-other_than text key none k = same_text-ne text key (λ e. none (subst IsKeyword (sym e) k))
 
 breaks_S2 : (tokens : List PlainToken) (t : PlainToken) → MeetsS2 tokens t → Breaks tokens t S2
-unfolding step
-breaks_S2 tokens t m = record {
-  part = Between;
-  described = m.0;
-  faulty = cond-false (spells t.text (codes "$c")) _ _ (other_than t.text (codes "$c") m.1 (0, lit< tt, refl))
-      ∙ cond-false (spells t.text (codes "$v")) _ _ (other_than t.text (codes "$v") m.1 (1, lit< tt, refl))
-      ∙ cond-false (spells t.text (codes "$d")) _ _ (other_than t.text (codes "$d") m.1 (4, lit< tt, refl))
-      ∙ cond-false (spells t.text (codes "${")) _ _ (other_than t.text (codes "${") m.1 (13, lit< tt, refl))
-      ∙ cond-false (spells t.text (codes "$}")) _ _ (other_than t.text (codes "$}") m.1 (14, lit< tt, refl))
-      ∙ cond-false (is_keyword t.text) _ _ (is_keyword-ne t.text m.1)
-      ∙ cond-false (is_label t.text) _ _ (false_from_ne_true _ m.2);
-}
+breaks_S2 tokens t m =
+    let faulty = step_no_label t (is_keyword-ne t.text m.1) (false_from_ne_true _ m.2) in
+    record { part = Between; described = m.0; faulty = faulty }
 
 breaks_S3 : (tokens : List PlainToken) (t : PlainToken) → MeetsS3 tokens t → Breaks tokens t S3
 unfolding step
 breaks_S3 tokens t m = record {
   part = Labelled m.0.label;
   described = (m.0.whole, m.0.named);
-  faulty = cond-false (spells t.text (codes "$f")) _ _ (same_text-ne t.text (codes "$f") m.1)
-      ∙ cond-false (spells t.text (codes "$e")) _ _ (same_text-ne t.text (codes "$e") m.2)
-      ∙ cond-false (spells t.text (codes "$a")) _ _ (same_text-ne t.text (codes "$a") m.3)
-      ∙ cond-false (spells t.text (codes "$p")) _ _ (same_text-ne t.text (codes "$p") m.4);
+  faulty = let ne = same_text-ne t.text in simp (ne _ m.1, ne _ m.2, ne _ m.3, ne _ m.4);
 }
 
 body_other : (s : PlainStatement) (t : PlainToken) → IsKeyword t.text → t.text ≢ closes_symbols s.kind → step (InBody s) t ≡ Faulty S4
@@ -173,14 +154,11 @@ inclusion_ends statements tokens t rest fault begins b why e =
           ∙ ap (λ (f : PlainFault). only_ending (Some f)) (fault_is X6 t found.0 statements tokens found.1 ∙ sym e);
     }
 
-none_first : (first : PlainToken) (others tokens : List PlainToken) → tokens ≡ [] → tokens ≡ first ∷ others → ⊥
-none_first first others tokens e f = absurd cc
-
 end_X8 : (statements : List PlainStatement) (tokens : List PlainToken) (file : ℕ) (rest : List Item) (fault : PlainFault) → IsBeginning tokens → EndsInX8 statements tokens fault → EndsThere statements tokens (End file) rest fault
 end_X8 statements tokens file rest fault begins e =
     let found = part_of_beginning tokens begins in
     elim (first_of_part found.0 tokens found.1) [
-      | inl none ↦ absurd (none_first e.0 e.1 tokens none.1 e.2)
+      | inl none ↦ absurd (cc (none.1, e.2))
       | inr some ↦
           let unfinished : end_fault (scope_of statements) found.0 file ≡ Some (fault_in (scope_of statements) found.0 X8 some.0) = rw (end_fault, some.2) refl in
           let same : some.0 ≡ e.0 = (cons_parts some.0 e.0 some.1 e.1 (sym some.3 ∙ e.2)).0 in
@@ -228,59 +206,6 @@ with_more : (statements : List PlainStatement) (s : PlainStatement) (reading : P
 with_more [] s reading = refl
 with_more (first ∷ statements) s reading = ap (with_statement first) (with_more statements s reading)
 
--- ---- parts of statements with symbols
-
-abbrev pub IsLongPart : Part → Type 0
-IsLongPart Between = Unit {0}
-IsLongPart (Labelled label) = Unit {0}
-IsLongPart (InBody s) = HasBody s.kind
-IsLongPart (InProof s) = HasBody s.kind
-
-abbrev IsLongStep : Step → Type 0
-IsLongStep (More next) = IsLongPart next
-IsLongStep (Whole s) = HasBody s.kind
-IsLongStep Opened = Unit {0}
-IsLongStep Closed = Unit {0}
-IsLongStep (Faulty rule) = Unit {0}
-
-start_long : (t : PlainToken) → IsLongStep (at_start t)
-start_long t =
-    cond_both (spells t.text (codes "$c")) _ _ IsLongStep (λ _. tt)
-    (λ _. cond_both (spells t.text (codes "$v")) _ _ IsLongStep (λ _. tt)
-    (λ _. cond_both (spells t.text (codes "$d")) _ _ IsLongStep (λ _. tt)
-    (λ _. cond_both (spells t.text (codes "${")) _ _ IsLongStep (λ _. tt)
-    (λ _. cond_both (spells t.text (codes "$}")) _ _ IsLongStep (λ _. tt)
-    (λ _. cond_both (is_keyword t.text) _ _ IsLongStep (λ _. tt)
-    (λ _. cond_both (is_label t.text) _ _ IsLongStep (λ _. tt) (λ _. tt)))))))
-
-label_long : (label t : PlainToken) → IsLongStep (after_label label t)
-label_long label t =
-    cond_both (spells t.text (codes "$f")) _ _ IsLongStep (λ _. tt)
-    (λ _. cond_both (spells t.text (codes "$e")) _ _ IsLongStep (λ _. tt)
-    (λ _. cond_both (spells t.text (codes "$a")) _ _ IsLongStep (λ _. tt)
-    (λ _. cond_both (spells t.text (codes "$p")) _ _ IsLongStep (λ _. tt) (λ _. tt))))
-
-body_long : (s : PlainStatement) (t : PlainToken) → HasBody s.kind → IsLongStep (in_body s t)
-body_long s t h =
-    cond_both (is_keyword t.text) _ _ IsLongStep
-    (λ _. cond_both (spells t.text (cond (is_provable s.kind) (codes "$=") (codes "$."))) _ _ IsLongStep
-    (λ _. cond_both (has_count s.kind (length s.symbols)) _ _ IsLongStep
-    (λ _. cond_both (is_provable s.kind) _ _ IsLongStep (λ _. h) (λ _. h)) (λ _. tt)) (λ _. tt))
-    (λ _. cond_both (is_full s.kind (length s.symbols)) _ _ IsLongStep (λ _. tt) (λ _. h))
-
-proof_long : (s : PlainStatement) (t : PlainToken) → HasBody s.kind → IsLongStep (in_proof s t)
-proof_long s t h =
-    cond_both (is_keyword t.text) _ _ IsLongStep
-    (λ _. cond_both (spells t.text (codes "$.")) _ _ IsLongStep (λ _. h) (λ _. tt))
-    (λ _. h)
-
-step_long : (part : Part) (t : PlainToken) → IsLongPart part → IsLongStep (step part t)
-unfolding step
-step_long Between t h = start_long t
-step_long (Labelled label) t h = label_long label t
-step_long (InBody s) t h = body_long s t h
-step_long (InProof s) t h = proof_long s t h
-
 -- The reader read a front of a viable front: these statements, and a part of one.
 record IsUnderWay (whole : List Item) (all : List PlainStatement) (last : Part) (pre : List Item) (statements : List PlainStatement) (part : Part) (front : List Item) : Type 0 where
   cut : whole ≡ pre ++ front
@@ -289,17 +214,14 @@ record IsUnderWay (whole : List Item) (all : List PlainStatement) (last : Part) 
   long : IsLongPart part
 
 -- what is read of the front of a viable front
-record IsSoFar (statements all : List PlainStatement) (part last : Part) (front : List Item) : Type 0 where
-  others : List PlainStatement
-  more : all ≡ statements ++ others
-  rest : run part (plain_tokens front) ≡ Runs others last
-
-so_far : (whole pre front : List Item) (all statements : List PlainStatement) (last part : Part) → IsUnderWay whole all last pre statements part front → IsSoFar statements all part last front
+so_far : (whole pre front : List Item) (all statements : List PlainStatement) (last part : Part)
+    → IsUnderWay whole all last pre statements part front
+    → (others : List PlainStatement) × (all ≡ statements ++ others)
+    × (run part (plain_tokens front) ≡ Runs others last)
 so_far whole pre front all statements last part w =
-    let whole_tokens : plain_tokens whole ≡ plain_tokens pre ++ plain_tokens front = ap plain_tokens w.cut ∙ plain_tokens-append pre front in
-    let on : run Between (plain_tokens whole) ≡ with_all statements (run part (plain_tokens front)) = ap (run Between) whole_tokens ∙ run_on (plain_tokens pre) (plain_tokens front) statements part w.done in
-    let found = front_of_run statements (run part (plain_tokens front)) all last (sym on ∙ w.ends) in
-    record { others = found.0; more = found.1; rest = found.2 }
+    front_of_run statements (run part (plain_tokens front)) all last
+    (sym (run_on (plain_tokens pre) (plain_tokens front) statements part w.done)
+    ∙ ap (run Between) (sym (ap plain_tokens w.cut ∙ plain_tokens-append pre front)) ∙ w.ends)
 
 -- one item on
 moved : (whole pre front : List Item) (item : Item) (all statements more after : List PlainStatement) (last part next : Part) → IsUnderWay whole all last pre statements part (item ∷ front)
@@ -335,7 +257,7 @@ GoesAlong whole all last front rest =
 so_far_balanced : (whole pre front : List Item) (all statements : List PlainStatement) (last part : Part) → AllowsAll whole all → IsUnderWay whole all last pre statements part front → AreBalanced statements
 so_far_balanced whole pre front all statements last part v w =
     let far = so_far whole pre front all statements last part w in
-    balanced_front statements far.others (subst AreBalanced far.more v.balanced)
+    balanced_front statements far.0 (subst AreBalanced far.1 v.balanced)
 
 -- a token that ends a statement
 along_statement : (whole pre front rest : List Item) (all statements : List PlainStatement) (last part : Part) (t : PlainToken) (s : PlainStatement) (scope : PlainScope) → GoesAlong whole all last front rest
@@ -357,7 +279,7 @@ along_closing whole pre front rest all statements last part t v inner w e =
     s = bare_statement Closing t None
 
     after : IsUnderWay whole all last (pre ++ Plain t ∷ []) (statements ++ s ∷ []) Between front
-    after = moved whole pre front (Plain t) all statements (s ∷ []) (statements ++ s ∷ []) last part Between w (run-closed part t [] e ∙ ap (with_first s) (run-nil Between)) refl tt
+    after = moved whole pre front (Plain t) all statements (s ∷ []) (statements ++ s ∷ []) last part Between w (run_step part t [] _ e ∙ ap (with_first s) (run-nil Between)) refl tt
 
     some_open : has_none (scope_of statements).blocks ≡ false
     some_open =
@@ -365,23 +287,25 @@ along_closing whole pre front rest all statements last part t v inner w e =
         (λ c. closing_unbalanced statements s c refl (so_far_balanced whole (pre ++ Plain t ∷ []) front all (statements ++ s ∷ []) last Between v after))
 
 along_token : (whole pre front rest : List Item) (all statements : List PlainStatement) (last part : Part) (t : PlainToken) → AllowsAll whole all → GoesAlong whole all last front rest → IsUnderWay whole all last pre statements part (Plain t ∷ front)
-    → (st : Step) → step part t ≡ st → IsLongStep st → with_statements statements (reading_of (scope_of statements) part (Plain t ∷ front ++ rest)) ≡ with_statements all (reading_of (scope_of all) last rest)
+    → (st : Step) → step part t ≡ st → Leads part st → with_statements statements (reading_of (scope_of statements) part (Plain t ∷ front ++ rest)) ≡ with_statements all (reading_of (scope_of all) last rest)
 along_token whole pre front rest all statements last part t v inner w (More next) e long =
     ap (with_statements statements) (read_more (scope_of statements) part t (front ++ rest) next e)
-    ∙ inner (pre ++ Plain t ∷ []) statements next (moved whole pre front (Plain t) all statements [] statements last part next w (run-more part next t [] e ∙ run-nil next) (append-nil statements) long)
+    ∙ inner (pre ++ Plain t ∷ []) statements next (moved whole pre front (Plain t) all statements []
+    statements last part next w (run_step part t [] _ e ∙ run-nil next) (append-nil statements)
+    (long.1 w.long))
 along_token whole pre front rest all statements last part t v inner w (Whole s) e long =
     along_statement whole pre front rest all statements last part t s (scope_after_statement (scope_of statements)) inner
-    (moved whole pre front (Plain t) all statements (s ∷ []) (statements ++ s ∷ []) last part Between w (run-whole part s t [] e ∙ ap (with_first s) (run-nil Between)) refl tt)
-    (scope_body statements s long) (read_whole (scope_of statements) part t (front ++ rest) s e)
+    (moved whole pre front (Plain t) all statements (s ∷ []) (statements ++ s ∷ []) last part Between w (run_step part t [] _ e ∙ ap (with_first s) (run-nil Between)) refl tt)
+    (scope_body statements s (long w.long)) (read_whole (scope_of statements) part t (front ++ rest) s e)
 along_token whole pre front rest all statements last part t v inner w Opened e long =
     let s : PlainStatement = bare_statement Opening t None in
     along_statement whole pre front rest all statements last part t s (scope_after_opening (scope_of statements) t) inner
-    (moved whole pre front (Plain t) all statements (s ∷ []) (statements ++ s ∷ []) last part Between w (run-opened part t [] e ∙ ap (with_first s) (run-nil Between)) refl tt)
+    (moved whole pre front (Plain t) all statements (s ∷ []) (statements ++ s ∷ []) last part Between w (run_step part t [] _ e ∙ ap (with_first s) (run-nil Between)) refl tt)
     (scope_more statements s) (read_opened (scope_of statements) part t (front ++ rest) e)
 along_token whole pre front rest all statements last part t v inner w Closed e long = along_closing whole pre front rest all statements last part t v inner w e
 along_token whole pre front rest all statements last part t v inner w (Faulty rule) e long =
     let far = so_far whole pre (Plain t ∷ front) all statements last part w in
-    absurd (fails_not far.others last (sym (run-faulty part rule t (plain_tokens front) e) ∙ far.rest))
+    absurd (cc (run_step part t (plain_tokens front) _ e, far.2))
 
 -- an item between statements at which there is no fault
 along_between : (whole pre front rest : List Item) (item : Item) (all statements : List PlainStatement) (last part : Part) → GoesAlong whole all last front rest → IsUnderWay whole all last pre statements part (item ∷ front) → plain_tokens (item ∷ []) ≡ []
@@ -425,7 +349,7 @@ goes_along whole all last [] rest v pre statements part w =
     let same = runs_parts statements all part last (sym w.done ∙ ap (λ (x : List Item). run Between (plain_tokens x)) (sym (w.cut ∙ append-nil pre)) ∙ w.ends) in
     λ i. with_statements (same.0 i) (reading_of (scope_of (same.0 i)) (same.1 i) rest)
 goes_along whole all last (Plain t ∷ front) rest v pre statements part w =
-    along_token whole pre front rest all statements last part t v (goes_along whole all last front rest v) w (step part t) refl (step_long part t w.long)
+    along_token whole pre front rest all statements last part t v (goes_along whole all last front rest v) w (step part t) refl (step_leads part t)
 goes_along whole all last (Wrong rule t ∷ front) rest v pre statements part w = absurd (clean_behind pre rule t front (subst HoldNoFault w.cut v.clean))
 goes_along whole all last (Inclusion t ∷ front) rest v pre statements part w = along_inclusion whole pre front rest all statements last part t v (goes_along whole all last front rest v) w
 goes_along whole all last (End file ∷ front) rest v pre statements part w = along_end whole pre front rest all statements last part file v (goes_along whole all last front rest v) w

@@ -1,7 +1,7 @@
 -- What a reader has of an unfinished statement, against its tokens.
 use Rattle.std.proofs.Common.{◌≡◌, ◌+◌, ◌≤◌, length, List, [], ◌∷◌, ◌++◌, refl, sym, ap, subst, ◌∙◌, codes, append_assoc, Some, ◌⊎◌, inl, inr}
 use Rattle.mm_text.specs.declared.statement.Kind.{Kind}
-use Rattle.mm_text.specs.declared.statement.Kind.TheVariants.{Constants, Variables, Distinct, Floating, Essential, Axiom, Provable, Opening, Closing}
+use Rattle.mm_text.specs.declared.statement.Kind.TheVariants.{Floating, Essential, Axiom, Provable}
 use Rattle.mm_text.specs.Token.{PlainToken, IsLabel}
 use Rattle.mm_text.specs.Statement.{PlainStatement, IsHead, HasBody, AreSymbols, label_in}
 use Rattle.mm_text.specs.Reading.{IsBeginning, IsBody, IsInProof}
@@ -69,15 +69,11 @@ pub record IsStarted (kind : Kind) (head : List PlainToken) : Type 0 where
   pub is : head ≡ first ∷ others
 
 pub started : (kind : Kind) (head : List PlainToken) → IsHead kind head → IsStarted kind head
-started Constants head h = record { first = h.keyword; others = []; is = h.tokens }
-started Variables head h = record { first = h.keyword; others = []; is = h.tokens }
-started Distinct head h = record { first = h.keyword; others = []; is = h.tokens }
-started Opening head h = record { first = h.keyword; others = []; is = h.tokens }
-started Closing head h = record { first = h.keyword; others = []; is = h.tokens }
 started Floating head h = record { first = h.label; others = h.keyword ∷ []; is = h.tokens }
 started Essential head h = record { first = h.label; others = h.keyword ∷ []; is = h.tokens }
 started Axiom head h = record { first = h.label; others = h.keyword ∷ []; is = h.tokens }
 started Provable head h = record { first = h.label; others = h.keyword ∷ []; is = h.tokens }
+started _ head h = record { first = h.keyword; others = []; is = h.tokens }
 
 -- a body is what the reader has in one
 pub part_of_body : (tokens : List PlainToken) (kind : Kind) (symbols : List PlainToken) → IsBody tokens kind symbols

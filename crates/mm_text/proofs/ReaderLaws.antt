@@ -1,6 +1,5 @@
 -- What holds of a reader of files: what it computes is their one reading, and what is left is part of it.
-use Rattle.std.proofs.Common.{◌≡◌, ◌≢◌, ◌≤◌, ◌<◌, length, List, [], ◌∷◌, Bool, true, false, refl, sym, ap, subst, ◌∙◌, Result, Ok, Err, arith}
-use Rattle.std.proofs.lemmas.Bool.{false≢true}
+use Rattle.std.proofs.Common.{◌≡◌, ◌≢◌, ◌≤◌, ◌<◌, length, List, [], ◌∷◌, Bool, true, refl, sym, ap, subst, Result, Ok, Err, arith}
 use Rattle.mm_text.specs.declared.fault.LoadRule.{LoadRule}
 use Rattle.mm_text.specs.declared.fault.LoadRule.TheVariants.{F1, F2, F3}
 use Rattle.mm_text.specs.declared.fault.TextFault.{TextFault}
@@ -44,15 +43,6 @@ each_has_one_reading files = record {
 
 -- ---- the state of a reader
 
-ok_parts : (a b : Bool) → ◌≡◌ {A = Result Bool TextFault} (Ok a) (Ok b) → a ≡ b
-ok_parts a b e = cc
-
-ok_err : (a : Bool) (fault : TextFault) → ◌≡◌ {A = Result Bool TextFault} (Ok a) (Err fault) → ⊥
-ok_err a fault e = cc
-
-err_parts : (a b : TextFault) → ◌≡◌ {A = Result Bool TextFault} (Err a) (Err b) → a ≡ b
-err_parts a b e = cc
-
 -- what holds of what is left to give in a state
 pub record IsKept (files : List PlainFile) (state : State) (scope : PlainScope) (its : List Item) : Type 0 where
   pub formed_in_place : AreFormedInPlace files (remaining_in state files (reading_of scope Between its)).statements
@@ -61,23 +51,19 @@ pub record IsKept (files : List PlainFile) (state : State) (scope : PlainScope) 
 nothing_formed : (files : List PlainFile) → AreFormedInPlace files []
 nothing_formed files = record { formed = tt; in_place = tt }
 
-without_first : (files : List PlainFile) (s : PlainStatement) (statements : List PlainStatement) → AreFormedInPlace files (s ∷ statements) → AreFormedInPlace files statements
-without_first files s statements h = record { formed = h.formed.1; in_place = h.in_place.1 }
-
 -- a statement was read
 pub kept_on : (files : List PlainFile) (state : State) (scope later : PlainScope) (old new : List Item) (r : Result Bool TextFault) (into : PlainStatement)
     → AnswersIn state scope old r into later new → r ≡ Ok true → IsKept files state scope old → IsKept files state later new
 kept_on files Reading scope later old new r into h e k =
     let given : GivesStatement scope old (Ok true) into later new = subst (λ (x : Result Bool TextFault). GivesStatement scope old x into later new) e h in
     let statements : (reading_of scope Between old).statements ≡ into ∷ (reading_of later Between new).statements = ap (λ (x : PlainReading). x.statements) given.0 in
-    let formed = k.formed_in_place in
-    let few = k.few in
+    let all = subst (AreFormedInPlace files) statements k.formed_in_place in
     record {
-      formed_in_place = without_first files into (reading_of later Between new).statements (subst (AreFormedInPlace files) statements formed);
-      few = omega (arith, few, ap (length {A = PlainStatement}) statements, given.1);
+      formed_in_place = record { formed = all.formed.1; in_place = all.in_place.1 };
+      few = omega (arith, k.few, ap (length {A = PlainStatement}) statements, given.1);
     }
-kept_on files Ended scope later old new r into h e k = absurd (false≢true (sym (ok_parts true false (sym e ∙ h))))
-kept_on files (Failed fault) scope later old new r into h e k = absurd (ok_err true fault (sym e ∙ h))
+kept_on files Ended scope later old new r into h e k = absurd cc
+kept_on files (Failed fault) scope later old new r into h e k = absurd cc
 
 -- nothing is left after the end
 pub kept_ended : (files : List PlainFile) (scope : PlainScope) (its : List Item) → IsKept files Ended scope its
@@ -86,8 +72,7 @@ kept_ended files scope its = record { formed_in_place = nothing_formed files; fe
 -- nor after a fault
 pub kept_failed : (files : List PlainFile) (fault : TextFault) (scope : PlainScope) (its : List Item) → IsKept files (Failed fault) scope its
 kept_failed files (Fault rule file at statement label) scope its = record { formed_in_place = nothing_formed files; few = tt }
-kept_failed files Memory scope its = record { formed_in_place = nothing_formed files; few = tt }
-kept_failed files (Load rule) scope its = record { formed_in_place = nothing_formed files; few = tt }
+kept_failed files _ scope its = record { formed_in_place = nothing_formed files; few = tt }
 
 no_load : (reading : PlainReading) (fault : TextFault) → AnswersFault reading fault → IsAnswerable (Failed fault)
 no_load reading (Fault rule file at statement label) h = tt
@@ -98,8 +83,9 @@ no_load reading (Load rule) h = h
 pub fault_answerable : (state : State) (scope later : PlainScope) (old new : List Item) (r : Result Bool TextFault) (into : PlainStatement) (fault : TextFault) → AnswersIn state scope old r into later new → r ≡ Err fault
     → IsAnswerable state → IsAnswerable (Failed fault)
 fault_answerable Reading scope later old new r into fault h e i = no_load (reading_of scope Between old) fault (subst (λ (x : Result Bool TextFault). GivesStatement scope old x into later new) e h)
-fault_answerable Ended scope later old new r into fault h e i = absurd (ok_err false fault (sym h ∙ e))
-fault_answerable (Failed other) scope later old new r into fault h e i = subst (λ (x : TextFault). IsAnswerable (Failed x)) (err_parts other fault (sym h ∙ e)) i
+fault_answerable Ended scope later old new r into fault h e i = absurd cc
+fault_answerable (Failed other) scope later old new r into fault h e i =
+    let same : other ≡ fault = cc in subst (λ (x : TextFault). IsAnswerable (Failed x)) same i
 
 -- a reader of files from the start
 pub kept_from_start : (files : List PlainFile) (scope : PlainScope) (its : List Item)
@@ -117,8 +103,7 @@ kept_from_start files scope its is first le =
 pub unread_from_start : (files : List PlainFile) (scope : PlainScope) (its : List Item) → its ≡ items files → scope ≡ outermost → IsUnread files (remaining_in Reading files (reading_of scope Between its))
 unread_from_start files scope its is first =
     let same : reading_of scope Between its ≡ files_reading files = λ i. reading_of (first i) Between (is i) in
-    subst (λ (x : PlainReading). IsUnread files (remaining_in Reading files x)) (sym same)
-    (record {
+    rw same (record {
       same = refl;
       reads = reading_reads files;
       balanced = readings_are_balanced files _ _ (reading_reads files);

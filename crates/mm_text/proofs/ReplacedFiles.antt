@@ -1,52 +1,73 @@
 -- The law of replaced proofs, by the file in which the statement stands.
-use Rattle.std.proofs.Common.{◌≡◌, ℕ, ◌+◌, List, ◌∷◌, ◌++◌, length, map, take, drop, sym, ap, ◌∙◌}
-use Rattle.std.proofs.Common.{subst, Option, Some, None}
+use Rattle.std.proofs.Common.{[]}
+use Rattle.std.proofs.Common.{◌≡◌, ℕ, ◌+◌, List, ◌∷◌, ◌++◌, length, map, sym, ap, ◌∙◌}
+use Rattle.std.proofs.Common.{subst, None}
 use Rattle.std.specs.Prelude.{slice_get, slice_set}
 use Rattle.std.proofs.lemmas.Option.{same_Some}
 use Rattle.mm_text.specs.Token.{tokens_from}
 use Rattle.mm_text.specs.Files.{PlainFile}
 use Rattle.mm_text.specs.Statement.{PlainStatement}
-use Rattle.mm_text.specs.Items.{items}
+use Rattle.mm_text.specs.Items.{items, plain_tokens}
 use Rattle.mm_text.specs.Reading.{Reads}
-use Rattle.mm_text.specs.Alike.{token_on}
-use Rattle.mm_text.specs.Replaced.{IsProofText, with_span, with_bytes, ReplacedProofsAreRead}
-use Rattle.mm_text.proofs.TokenLaws.{BeginsWithSpace}
-use Rattle.mm_text.proofs.ReplacedPieces.{further, IsProofText as Spaced}
-use Rattle.mm_text.proofs.ReplacedReading.{without_rest, proof_at}
-use Rattle.mm_text.proofs.ReplacedProofs.{replaced_proofs_are_read}
+use Rattle.mm_text.specs.Alike.{token_on, item_on}
+use Rattle.mm_text.specs.Replaced.{with_span, with_bytes, ReplacedProofsAreRead}
+use Rattle.mm_text.proofs.ReplacedPieces.{further}
+use Rattle.mm_text.proofs.AlikeFronts.{plain_tokens_alike}
+use Rattle.mm_text.proofs.AlikeItems.{SameItem}
+use Rattle.mm_text.proofs.Lists.{zip_mapped, zip_weaker}
+use Rattle.mm_text.proofs.ReplacedReading.{nowhere, without_rest, proof_at, read_so}
+use Rattle.mm_text.proofs.ReplacedProofs.{home, same_nowhere, stands, start, put, symbols, last}
+use Rattle.mm_text.proofs.ReplacedProofs.{others, one, other, altered}
 use Rattle.mm_text.proofs.StatementHomes.{ends_home}
 use Rattle.mm_text.proofs.MovedSpans.{moved_behind}
 
-spaced : (text : List ℕ) → IsProofText text → Spaced text
-spaced text t = record {
-  spaced = record { inner = t.inner; last = t.last; whole = t.ends; begins = subst BeginsWithSpace (sym t.begins) t.first_space; ends = t.last_space };
-  tokens = t.tokens;
-}
-
 pub replaced_proofs_are_read_holds : ReplacedProofsAreRead
 replaced_proofs_are_read_holds files before s after file text reads p there is_text =
-    let a = proof_at (items files) before s after reads p in
-    let r = replaced_proofs_are_read files before s after text reads a (spaced text is_text) in
     let all : List PlainStatement = before ++ s ∷ after in
+    let a = proof_at (items files) before s after reads p in
+    let st = stands files before s after text is_text a in
     let f = without_rest (items files) all reads in
-    let number : r.number ≡ s.first.file =
-    sym r.own_home ∙ (ends_home files all before after f s a.parts a.ends).0 in
-    let same_file : r.file ≡ file = same_Some r.file file (sym r.there ∙ ap (slice_get files) number ∙ there) in
-    let changed : slice_set files r.number (record r.file { bytes = take s.span.0 r.file.bytes ++ (text ++ drop s.span.1 r.file.bytes) }) ≡ with_bytes files s.first.file (with_span file.bytes s.span text) =
-    (λ i. slice_set files (number i) (record (same_file i) { bytes = take s.span.0 (same_file i).bytes ++ (text ++ drop s.span.1 (same_file i).bytes) }))
-    ∙ sym (ap (λ (o : Option PlainFile). elim o [ None ↦ files | Some f ↦ slice_set files s.first.file (record f { bytes = with_span file.bytes s.span text }) ]) there) in
-    let own : r.own ≡ record s { proof = tokens_from s.first.file s.span.0 text; span = (s.span.0, s.span.0 + length text) } =
-    r.is ∙ ap (λ (n : ℕ). record s { proof = tokens_from n s.span.0 text; span = (s.span.0, s.span.0 + length text) }) number in
-    let end : ℕ = s.span.0 + length text in
-    let alike : map (token_on (further s.first.file end)) a.parts.back
-    ≡ map (token_on (further s.first.file s.span.1)) r.rest =
-    subst (λ (n : ℕ). map (token_on (further n end)) a.parts.back
-    ≡ map (token_on (further n s.span.1)) r.rest) number r.alike in
+    let number : st.number ≡ s.first.file =
+    sym (home files a.ends.equals (s.proof ++ a.ends.stop ∷ []) st)
+    ∙ (ends_home files all before after f s a.parts a.ends).0 in
+    let same_file : st.place.file ≡ file =
+    same_Some st.place.file file (sym st.place.there ∙ ap (slice_get files) number ∙ there) in
+    let two : start files before s after text is_text a ≡ a.ends.equals.at + 2 =
+    ap (λ (l : List ℕ). a.ends.equals.at + length l) a.ends.sign in
+    let begin : a.ends.equals.at + 2 ≡ s.span.0 = ap (λ (x : ℕ × ℕ). x.0) (sym a.ends.span) in
+    let end : a.ends.stop.at ≡ s.span.1 = ap (λ (x : ℕ × ℕ). x.1) (sym a.ends.span) in
+    let from : start files before s after text is_text a ≡ s.span.0 = two ∙ begin in
+    let (rest, same, e) = altered files before s after text is_text a in
+    let h : ℕ → ℕ → ℕ = one files before s after text is_text a in
+    let j : ℕ → ℕ → ℕ = other files before s after text is_text a in
+    let (later, read, spelled, placed) =
+    read_so (items files) before s after reads a (others files before s after text is_text a)
+    (put files before s after text is_text a) (last files before s after text is_text a) rest
+    (symbols files before s after text is_text a) a.ends.end
+    (zip_weaker (SameItem h j) (SameItem nowhere nowhere) (same_nowhere h j) a.back rest same) e in
+    let changed : others files before s after text is_text a
+    ≡ with_bytes files s.first.file (with_span file.bytes s.span text) =
+    (λ i. slice_set files (number i) (record (same_file i) {
+      bytes = with_span (same_file i).bytes (from i, end i) text;
+    }))
+    ∙ rw (there, with_bytes) in
+    let alike : map (token_on h) a.parts.back ≡ map (token_on j) (plain_tokens rest) =
+    ap (map (token_on h)) (sym a.left) ∙ plain_tokens_alike h j a.back rest
+    (zip_mapped (item_on h) (item_on j) a.back rest same) in
     record {
-      later = r.later;
-      reads = subst (λ (o : PlainStatement). Reads (with_bytes files s.first.file (with_span file.bytes s.span text)) (before ++ o ∷ r.later) None) own
-          (subst (λ (fs : List PlainFile). Reads fs (before ++ r.own ∷ r.later) None) changed r.reads);
-      same = r.same;
-      moved = moved_behind s.first.file s.span.1 end files all reads before s after a.parts r.rest
-          r.later alike r.spelled;
+      later = later;
+      reads = subst (λ (x : List PlainFile × PlainStatement). Reads x.0 (before ++ x.1 ∷ later) None)
+          (λ i. (
+            changed i,
+            record s {
+              proof = tokens_from (number i) (from i) text;
+              span = (begin i, from i + length text);
+            },
+          )) read;
+      same = placed;
+      moved = moved_behind s.first.file s.span.1 (s.span.0 + length text) files all reads before s
+          after a.parts (plain_tokens rest) later
+          (subst (λ (x : ℕ × ℕ × ℕ). map (token_on (further x.0 (x.1 + length text))) a.parts.back
+          ≡ map (token_on (further x.0 x.2)) (plain_tokens rest))
+          (λ i. (number i, from i, end i)) alike) spelled;
     }

@@ -3,13 +3,15 @@ use Rattle.std.proofs.Common.{◌≡◌, ◌≢◌, ℕ, zero, suc, ◌+◌, Lis
 use Rattle.std.proofs.Common.{Bool, true, false, refl, sym, ap, ◌∙◌, subst, codes, Some, arith}
 use Rattle.std.specs.Prelude.{slice_get, slice_index_or, slice_set}
 use Rattle.std.specs.List.{AllZip}
-use Rattle.std.proofs.lemmas.Option.{same_Some}
+use Rattle.std.proofs.lemmas.Option.{same_Some, slice_get_within}
+use Rattle.mm_text.proofs.Lists.{get_set_same}
 use Rattle.mm_text.specs.Token.{PlainToken, tokens_from}
 use Rattle.mm_text.specs.Files.{PlainFile}
 use Rattle.mm_text.specs.Items.{Item, Piece, pieces_of, put_in, items}
 use Rattle.mm_text.proofs.AlikeItems.{SamePiece, pieces_agree, SameNames, as_long, same_number}
 use Rattle.mm_text.proofs.FollowedItems.{StandsInFile}
-use Rattle.mm_text.proofs.ReplacedPieces.{further, further_elsewhere, met, IsProofText, with_span}
+use Rattle.mm_text.specs.Replaced.{IsProofText, with_span}
+use Rattle.mm_text.proofs.ReplacedPieces.{further, further_elsewhere, met}
 use Rattle.mm_text.proofs.ReplacedPieces.{replaced_pieces}
 use Rattle.mm_text.proofs.AlteredItems.{SameOrAlter, put_in_within, put_in_before}
 
@@ -29,9 +31,7 @@ same_names (h ∷ files) zero f g there e = (ap (λ (x : PlainFile). x.name) (sa
 same_names (h ∷ files) (suc k) f g there e = (refl, same_names files k f g there e)
 
 pub set_there : (files : List PlainFile) (k : ℕ) (f g : PlainFile) → slice_get files k ≡ Some f → slice_get (with_file files k g) k ≡ Some g
-set_there [] k f g there = absurd cc
-set_there (h ∷ files) zero f g there = refl
-set_there (h ∷ files) (suc k) f g there = set_there files k f g there
+set_there files k f g there = get_set_same files k g (slice_get_within files k f there)
 
 set_elsewhere : (files : List PlainFile) (k : ℕ) (g : PlainFile) (n : ℕ) → n ≢ k → slice_get (with_file files k g) n ≡ slice_get files n
 set_elsewhere [] k g n other = refl
@@ -125,7 +125,7 @@ pub replaced_items : (text : List ℕ) (equals : PlainToken) (proof : List Plain
     (stop : PlainToken) → IsProofText text → stop.text ≡ codes "$." → (files : List PlainFile)
     (s : StandsInFile files equals (proof ++ stop ∷ []))
     → let start : ℕ = equals.at + length equals.text in
-    let bytes : List ℕ = with_span s.place.file.bytes start stop.at text in
+    let bytes : List ℕ = with_span s.place.file.bytes (start, stop.at) text in
     SameOrAlter (further s.number (start + length text)) (further s.number stop.at)
     (equals ∷ (proof ++ stop ∷ [])) (replacing s.number text equals stop) (items files)
     (items (with_file files s.number (record s.place.file { bytes = bytes })))
@@ -135,7 +135,7 @@ replaced_items text equals proof stop is_text sign files s =
     let h : ℕ → ℕ → ℕ = further s.number end in
     let j : ℕ → ℕ → ℕ = further s.number stop.at in
     let r = replaced_pieces files text equals proof stop is_text sign s in
-    let bytes : List ℕ = with_span s.place.file.bytes start stop.at text in
+    let bytes : List ℕ = with_span s.place.file.bytes (start, stop.at) text in
     let g : PlainFile = record s.place.file { bytes = bytes } in
     replaced_at text equals proof stop h j files s.number s.place.file g s.place.there (record {
       before = r.before;

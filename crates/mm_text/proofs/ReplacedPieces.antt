@@ -1,15 +1,17 @@
 -- The pieces of a file in which other bytes stand between the `$=` and the `$.` of a statement.
 use Rattle.std.proofs.Common.{◌≡◌, ◌≢◌, ℕ, ◌+◌, ◌-◌, ◌≤◌, ◌==◌, Bool, cond, eq-eqb, List, [], ◌∷◌}
-use Rattle.std.proofs.Common.{◌++◌, length, map, take, drop, true, false, refl, sym, ap, ◌∙◌, subst}
+use Rattle.std.proofs.Common.{◌++◌, length, map, take, drop, refl, sym, ap, ◌∙◌, subst}
 use Rattle.std.proofs.Common.{codes, None, append_assoc, arith}
 use Rattle.std.specs.List.{AllZip, AllByRecursion, list_all}
 use Rattle.std.proofs.lemmas.Bool.{ne_eqb}
 use Rattle.std.proofs.lemmas.List.{map-append, length-append}
 use Rattle.std.proofs.Math.Seq.{take-append_seam, drop-append_seam}
-use Rattle.mm_text.specs.Token.{PlainToken, is_printable, tokens_from, HoldsNoDollar}
+use Rattle.mm_text.specs.Token.{PlainToken, is_printable, tokens_from}
 use Rattle.mm_text.specs.Files.{PlainFile}
 use Rattle.mm_text.specs.Items.{Plain, Shown, Clear, without_comments, spells, Outside, Piece, Met, broken_outside, pieces, pieces_of}
 use Rattle.mm_text.specs.Alike.{token_on, shown_on}
+use Rattle.mm_text.specs.Replaced.{IsProofToken, IsProofText, with_span}
+use Rattle.mm_text.proofs.TokenLaws.{BeginsWithSpace}
 use Rattle.mm_text.proofs.CommentLaws.{outside-clear, no_dollar-spells}
 use Rattle.mm_text.proofs.InclusionLaws.{pieces-plain}
 use Rattle.mm_text.proofs.AlikeItems.{SamePiece, SameShown, shown_same, pieces_same}
@@ -18,7 +20,7 @@ use Rattle.mm_text.proofs.CutTokens.{IsSpaced, Moves, replaced_between}
 use Rattle.mm_text.proofs.OnceLaws.{Rises, rises_earlier, tokens_rise}
 use Rattle.mm_text.proofs.FollowedItems.{IsPlainIn, AllPlainIn, StandsInFile}
 use Rattle.mm_text.proofs.CutShown.{clear_shown}
-use Rattle.mm_text.proofs.Lists.{mapped_zip}
+use Rattle.mm_text.proofs.Lists.{all_push, all_weaker, mapped_zip}
 
 -- places of the file with this number so much further on, and those of other files as they are
 abbrev pub further : ℕ → ℕ → ℕ → ℕ → ℕ
@@ -31,18 +33,15 @@ pub further_elsewhere : (number by file at : ℕ) → file ≢ number → furthe
 further_elsewhere number by file at other =
     ap (λ (b : Bool). cond b (at + by) at) (ne_eqb file number other)
 
--- a token that a proof may have
-abbrev pub IsProofToken : PlainToken → Type 0
-IsProofToken t = (list_all is_printable t.text ≡ true) × HoldsNoDollar t.text
-
--- a text that may stand between a `$=` and a `$.`: white space at both ends, and tokens of a proof
-pub record IsProofText (text : List ℕ) : Type 0 where
-  pub spaced : IsSpaced text
-  pub tokens : (file at : ℕ) → AllByRecursion IsProofToken (tokens_from file at text)
-
--- the bytes with others in place of those from one place up to another
-abbrev pub with_span : List ℕ → ℕ → ℕ → List ℕ → List ℕ
-with_span bytes start stop text = take start bytes ++ (text ++ drop stop bytes)
+-- a text that may stand between a `$=` and a `$.` has white space at both ends
+spaced : (text : List ℕ) → IsProofText text → IsSpaced text
+spaced text t = record {
+  inner = t.inner;
+  last = t.last;
+  whole = t.ends;
+  begins = subst BeginsWithSpace (sym t.begins) t.first_space;
+  ends = t.last_space;
+}
 
 -- ---- tokens of a proof
 
@@ -52,15 +51,10 @@ all_clear (t ∷ tokens) more h =
     outside-clear t (tokens ++ more) h.0.0 (no_dollar-spells t.text 40 h.0.1) (no_dollar-spells t.text 41 h.0.1)
     ∙ ap (λ (l : List Shown). Clear t ∷ l) (all_clear tokens more h.1)
 
-broken_none : (text : List ℕ) → spells text (codes "$]") ≡ false → HoldsNoDollar text → broken_outside text ≡ None
-broken_none text e h = simp (e, h)
-
-plain_word : (number : ℕ) (t : PlainToken) → HoldsNoDollar t.text → IsPlainIn number t
-plain_word number t h more = pieces-plain number t more (no_dollar-spells t.text 91 h) (broken_none t.text (no_dollar-spells t.text 93 h) h)
-
-all_plain : (number : ℕ) (tokens : List PlainToken) → AllByRecursion IsProofToken tokens → AllPlainIn number tokens
-all_plain number [] h = tt
-all_plain number (t ∷ tokens) h = (plain_word number t h.0.1, all_plain number tokens h.1)
+plain_word : (number : ℕ) (t : PlainToken) → IsProofToken t → IsPlainIn number t
+plain_word number t h more =
+    pieces-plain number t more (no_dollar-spells t.text 91 h.1)
+    (simp (no_dollar-spells t.text 93 h.1, h.1))
 
 -- ---- the `$.`
 
@@ -81,10 +75,6 @@ met tokens = map (λ t. Met (Plain t)) tokens
 pieces_met : (number : ℕ) (tokens : List PlainToken) (rest : List Shown) → AllPlainIn number tokens → pieces number Outside (map Clear tokens ++ rest) ≡ met tokens ++ pieces number Outside rest
 pieces_met number [] rest h = refl
 pieces_met number (t ∷ tokens) rest h = h.0 (map Clear tokens ++ rest) ∙ ap (λ (l : List Piece). Met (Plain t) ∷ l) (pieces_met number tokens rest h.1)
-
-plain_append : (number : ℕ) (tokens others : List PlainToken) → AllPlainIn number tokens → AllPlainIn number others → AllPlainIn number (tokens ++ others)
-plain_append number [] others h k = k
-plain_append number (t ∷ tokens) others h k = (h.0, plain_append number tokens others h.1 k)
 
 -- ---- tokens that stand elsewhere
 
@@ -134,7 +124,7 @@ pub record ReplacedPieces (number : ℕ) (file : PlainFile) (text : List ℕ) (e
   pub others : List Piece
   pub old : pieces_of number file ≡ before ++ (met (equals ∷ (proof ++ stop ∷ [])) ++ after)
   pub new : let start : ℕ = equals.at + length equals.text in
-      pieces_of number (record file { bytes = with_span file.bytes start stop.at text })
+      pieces_of number (record file { bytes = with_span file.bytes (start, stop.at) text })
       ≡ before ++ (met (equals ∷ (tokens_from number start text ++ record stop { at = start + length text } ∷ [])) ++ others)
   pub same : let end : ℕ = equals.at + length equals.text + length text in
       AllZip (SamePiece (further number end) (further number stop.at)) after others
@@ -152,7 +142,8 @@ replaced_pieces files text equals proof stop is_text sign s =
     sym one.later ∙ ap (λ (l : List Shown). l ++ s.rest) (map-append Clear proof (stop ∷ [])) ∙ append_assoc (map Clear proof) (Clear stop ∷ []) s.rest in
     let two = clear_shown None one.after proof stop s.rest split in
     let all : tokens_from number 0 file.bytes ≡ one.before ++ equals ∷ (two.before ++ stop ∷ two.after) = one.whole ∙ ap (λ (l : List PlainToken). one.before ++ equals ∷ l) two.whole in
-    let b = replaced_between number file.bytes text one.before equals two.before stop two.after all is_text.spaced in
+    let b = replaced_between number file.bytes text one.before equals two.before stop two.after all
+    (spaced text is_text) in
     let start : ℕ = equals.at + length equals.text in
     let line : ℕ → ℕ → ℕ = λ f n. start + length text + (n - stop.at) in
     let moves : Moves line number stop.at (length b.front + length text) =
@@ -160,7 +151,8 @@ replaced_pieces files text equals proof stop is_text sign s =
     let put : List PlainToken = tokens_from number (length b.front) text in
     let moved : PlainToken = token_on line stop in
     let later : List PlainToken = map (token_on line) two.after in
-    let bytes : with_span file.bytes start stop.at text ≡ b.front ++ (text ++ b.back) = cut file.bytes b.front b.within b.back text start stop.at b.whole b.start b.stop in
+    let bytes : with_span file.bytes (start, stop.at) text ≡ b.front ++ (text ++ b.back) =
+    cut file.bytes b.front b.within b.back text start stop.at b.whole b.start b.stop in
     let told : without_comments None (tokens_from number 0 (b.front ++ (text ++ b.back))) ≡ map Clear r.tokens ++ (map Clear (equals ∷ (put ++ moved ∷ [])) ++ without_comments None later) =
     ap (without_comments None) (b.tokens line moves)
     ∙ one.others (put ++ moved ∷ later)
@@ -169,10 +161,15 @@ replaced_pieces files text equals proof stop is_text sign s =
     ∙ sym (ap (λ (l : List Shown). l ++ without_comments None later) (map-append Clear put (moved ∷ [])) ∙ append_assoc (map Clear put) (Clear moved ∷ []) (without_comments None later))) in
     let reach : (more : List Shown) → pieces number Outside (map Clear r.tokens ++ more) ≡ r.front ++ pieces number Outside more = λ more.
     ap (λ (l : List Shown). pieces number Outside (l ++ more)) (sym r.clear) ∙ r.before more in
-    let plain : AllPlainIn number (equals ∷ (put ++ moved ∷ [])) =
-    (s.plain.0, plain_append number put (moved ∷ []) (all_plain number put (is_text.tokens number (length b.front))) (plain_stop number moved sign, tt)) in
+    let plain : AllPlainIn number (equals ∷ (put ++ moved ∷ [])) = (
+      s.plain.0,
+      all_push (IsPlainIn number) put moved (all_weaker IsProofToken (IsPlainIn number)
+          (plain_word number) put (is_text.tokens number (length b.front))) (plain_stop number moved sign),
+    ) in
     let place : line stop.file stop.at ≡ start + length text = omega arith in
-    let found : pieces_of number (record file { bytes = with_span file.bytes start stop.at text }) ≡ r.front ++ (met (equals ∷ (put ++ moved ∷ [])) ++ pieces number Outside (without_comments None later)) =
+    let found : pieces_of number (record file { bytes = with_span file.bytes (start, stop.at) text })
+    ≡ r.front ++ (met (equals ∷ (put ++ moved ∷ []))
+    ++ pieces number Outside (without_comments None later)) =
     ap (λ (l : List ℕ). pieces number Outside (without_comments None (tokens_from number 0 l))) bytes
     ∙ ap (pieces number Outside) told ∙ reach (map Clear (equals ∷ (put ++ moved ∷ [])) ++ without_comments None later)
     ∙ ap (λ (l : List Piece). r.front ++ l) (pieces_met number (equals ∷ (put ++ moved ∷ [])) (without_comments None later) plain) in
@@ -198,7 +195,7 @@ replaced_pieces files text equals proof stop is_text sign s =
     }
   where
     cut : (bytes front within back text : List ℕ) (start stop : ℕ) → bytes ≡ front ++ (within ++ back) → start ≡ length front → stop ≡ length front + length within
-        → with_span bytes start stop text ≡ front ++ (text ++ back)
+        → with_span bytes (start, stop) text ≡ front ++ (text ++ back)
     cut bytes front within back text start stop e a b =
         let first : take start bytes ≡ front =
         ap (λ (n : ℕ). take n bytes) a ∙ ap (take (length front)) e ∙ take-append_seam front (within ++ back) in

@@ -1,29 +1,34 @@
 -- The reading of items in which a statement has another proof.
-use Rattle.std.proofs.Common.{◌≡◌, ℕ, ◌+◌, List, [], ◌∷◌, ◌++◌, length, map, refl, sym, ap, ◌∙◌}
+use Rattle.std.proofs.Common.{◌≢◌}
+use Rattle.std.proofs.Common.{◌≡◌, ℕ, ◌+◌, List, [], ◌∷◌, ◌++◌, map, refl, sym, ap, ◌∙◌}
 use Rattle.std.proofs.Common.{subst, codes, Option, Some, None, inl, append_assoc, append-nil}
 use Rattle.std.specs.List.{AllZip}
 use Rattle.std.proofs.lemmas.List.{map-append, append_cancel_left, append_cancel_right}
 use Rattle.mm_text.specs.declared.statement.Kind.{Kind}
 use Rattle.mm_text.specs.declared.statement.Kind.TheVariants.{Provable}
+use Rattle.mm_text.specs.declared.class.Keyword.TheVariants as keyword
 use Rattle.mm_text.specs.Token.{PlainToken}
 use Rattle.mm_text.specs.Files.{PlainFile}
-use Rattle.mm_text.specs.Statement.{PlainStatement, AreSymbols, IsHead, FitsCount, IsTail, EndsInProof, Spells, SpellsAll}
+use Rattle.mm_text.specs.Statement.{PlainStatement, AreSymbols, IsTail, EndsInProof, Spells, SpellsAll}
 use Rattle.mm_text.specs.Items.{Item, Plain, Wrong, Inclusion, End, plain_tokens, HoldNoFault, items}
 use Rattle.mm_text.specs.Blocks.{AreBalanced}
 use Rattle.mm_text.specs.Reading.{PlainFault, Viable, IsBeginning, ReadsAs, Reads}
 use Rattle.mm_text.specs.Alike.{statement_on, token_on, item_on}
-use Rattle.mm_text.specs.Mirror.Reader.{Between, InProof, PlainScope, outermost, PlainReading, with_statement, scope_after_statement, reading_of}
+use Rattle.mm_text.specs.Mirror.Reader.{Part, Between, InProof, PlainScope, outermost, PlainReading}
+use Rattle.mm_text.specs.Mirror.Reader.{with_statement, scope_after_statement, reading_of}
 use Rattle.mm_text.proofs.ItemFronts.{plain_tokens-append, clean_behind}
-use Rattle.mm_text.proofs.PartTokens.{IsPartProof, beginning_of_part}
+use Rattle.mm_text.proofs.Beginnings.{beginnings_begin_statements}
+use Rattle.mm_text.proofs.PartTokens.{Describes, IsPartProof, beginning_of_part}
+use Rattle.mm_text.proofs.PartTokens.{part_of_beginning}
 use Rattle.mm_text.proofs.StepLaws.{read_more, read_whole}
 use Rattle.mm_text.proofs.ReaderRuns.{runs_parts}
-use Rattle.mm_text.proofs.StatementRuns.{spelled_run, whole_run, proof_stop}
-use Rattle.mm_text.proofs.StepLaws.{step_proof_token}
+use Rattle.mm_text.proofs.StatementRuns.{spelled_run, whole_run, begun}
+use Rattle.mm_text.proofs.StepLaws.{step_proof_token, step_ends_proof}
 use Rattle.mm_text.proofs.BlockFacts.{scope_of, balanced_front}
 use Rattle.mm_text.proofs.OneReading.{with_statements, front_reading, reads_reading}
 use Rattle.mm_text.proofs.ReaderLaws.{files_reading, reading_reads}
 use Rattle.mm_text.proofs.AlikeFronts.{viable_alike, statements_alike, plain_tokens_alike}
-use Rattle.mm_text.proofs.AlteredItems.{SameItem}
+use Rattle.mm_text.proofs.AlikeItems.{SameItem}
 use Rattle.mm_text.proofs.Lists.{cons_parts, nil_append, nil_split, zip_mapped}
 
 -- no place matters
@@ -82,36 +87,23 @@ pub record TokenAt (its : List Item) (before : List PlainToken) (t : PlainToken)
   pub first : plain_tokens front ≡ before
   pub last : plain_tokens back ≡ after
 
-further : (item : Item) (its : List Item) (before : List PlainToken) (t : PlainToken) (after : List PlainToken) → plain_tokens (item ∷ []) ≡ [] → plain_tokens (item ∷ its) ≡ plain_tokens its → TokenAt its before t after → TokenAt (item ∷ its) before t after
-further item its before t after none same p = record {
-  front = item ∷ p.front;
-  back = p.back;
-  whole = ap (λ (l : List Item). item ∷ l) p.whole;
-  first = plain_tokens-append (item ∷ []) p.front ∙ ap (λ (l : List PlainToken). l ++ plain_tokens p.front) none ∙ p.first;
-  last = p.last;
-}
-
 pub token_at : (its : List Item) (before : List PlainToken) (t : PlainToken) (after : List PlainToken) → plain_tokens its ≡ before ++ t ∷ after → TokenAt its before t after
 token_at [] before t after e = absurd (nil_append before t after e)
 token_at (Plain u ∷ its) [] t after e =
-    let (same, rest) = cons_parts u t (plain_tokens its) after e in
-    record { front = []; back = its; whole = ap (λ (x : PlainToken). Plain x ∷ its) same; first = refl; last = rest }
+    record { front = []; back = its; whole = cc; first = refl; last = cc }
 token_at (Plain u ∷ its) (b ∷ before) t after e =
-    let (same, rest) = cons_parts u b (plain_tokens its) (before ++ t ∷ after) e in
-    let p = token_at its before t after rest in
-    record { front = Plain u ∷ p.front; back = p.back; whole = ap (λ (l : List Item). Plain u ∷ l) p.whole; first = ap (λ (l : List PlainToken). u ∷ l) p.first ∙ ap (λ (x : PlainToken). x ∷ before) same; last = p.last }
-token_at (Wrong rule u ∷ its) before t after e = further (Wrong rule u) its before t after refl refl (token_at its before t after e)
-token_at (Inclusion u ∷ its) before t after e = further (Inclusion u) its before t after refl refl (token_at its before t after e)
-token_at (End file ∷ its) before t after e = further (End file) its before t after refl refl (token_at its before t after e)
+    let p = token_at its before t after cc in
+    record { front = Plain u ∷ p.front; back = p.back; whole = ap (λ (l : List Item). Plain u ∷ l) p.whole; first = cc (p.first); last = p.last }
+token_at (item ∷ its) before t after e =
+    let p = token_at its before t after e in
+    record { front = item ∷ p.front; back = p.back; whole = ap (λ (l : List Item). item ∷ l) p.whole; first = p.first; last = p.last }
 
 -- ---- fronts of a viable front
 
 clean_front : (a b : List Item) → HoldNoFault (a ++ b) → HoldNoFault a
 clean_front [] b h = tt
-clean_front (Plain t ∷ a) b h = clean_front a b h
 clean_front (Wrong rule t ∷ a) b h = h
-clean_front (Inclusion t ∷ a) b h = clean_front a b h
-clean_front (End file ∷ a) b h = clean_front a b h
+clean_front (item ∷ a) b h = clean_front a b h
 
 -- a front of viable items whose tokens are statements and a beginning of one is viable
 viable_front : (its front rest : List Item) (all before : List PlainStatement)
@@ -181,70 +173,68 @@ reads_front its statements (Some fault) (front, item, rest, unfinished, cut, v, 
       viable = f.viable;
     }
 
--- ---- an unfinished proof
+-- ---- the tokens of a statement
 
--- the tokens of a `$p` up to a part of its proof
-begun : (own : List PlainToken) (s : PlainStatement) (h : Spells own s) (k : EndsInProof s h.tail) (part : List PlainToken) → s.kind ≡ Provable → AreSymbols part
-    → IsPartProof (record s { proof = part; span = (k.equals.at + 2, 0) }) ((h.head ++ s.symbols) ++ k.equals ∷ part)
-begun own s h k part p steps = record {
-  kind = p;
-  head = h.head;
-  others = h.first.0;
-  equals = k.equals;
-  whole = refl;
-  begins = subst (λ (x : Kind). IsHead x h.head) p h.begins;
-  first = h.first.1;
-  label = h.label;
-  spelled = h.symbols;
-  some = subst (λ (x : Kind). FitsCount x (length s.symbols)) p h.count;
-  sign = k.sign;
-  steps = steps;
-  span = refl;
-}
+some_end : (tokens : List PlainToken) (t : PlainToken) → tokens ++ t ∷ [] ≢ []
+some_end [] t e = cc
+some_end (u ∷ tokens) t e = cc
 
-apart : (x : PlainStatement) → Between ≡ InProof x → ⊥
-apart x e = cc
-
--- are no whole statements
-not_whole : (front unfinished tokens : List PlainToken) (before earlier : List PlainStatement) (x : PlainStatement) → SpellsAll front before → IsPartProof x unfinished → tokens ≡ front ++ unfinished → ¬ (SpellsAll tokens earlier)
-not_whole front unfinished tokens before earlier x h d e all =
-    apart x (runs_parts earlier before Between (InProof x) (sym (whole_run tokens earlier all) ∙ spelled_run tokens front unfinished before (InProof x) e h d)).1
+-- a beginning of a statement after statements is no whole statement
+unfinished_not_whole : (front unfinished tokens : List PlainToken) (before earlier : List PlainStatement) → SpellsAll front before → IsBeginning unfinished → unfinished ≢ [] → tokens ≡ front ++ unfinished → ¬ (SpellsAll tokens earlier)
+unfinished_not_whole front unfinished tokens before earlier h b some e all =
+    let (part, described) = part_of_beginning unfinished b in
+    let same : Between ≡ part = (runs_parts earlier before Between part (sym (whole_run tokens earlier all) ∙ spelled_run tokens front unfinished before part e h described)).1 in
+    some (subst (λ (p : Part). Describes p unfinished) (sym same) described)
 
 -- so a token comes next, and nothing else
-pub next_token : (its : List Item) (statements : List PlainStatement) (v : Viable its statements []) (front back : List Item) (t : PlainToken) (rest : List PlainToken) → its ≡ front ++ back
+next_token : (its : List Item) (statements : List PlainStatement) (v : Viable its statements []) (front back : List Item) (t : PlainToken) (rest : List PlainToken) → its ≡ front ++ back
     → ((earlier : List PlainStatement) → ¬ (SpellsAll (plain_tokens front) earlier)) → plain_tokens back ≡ t ∷ rest → (more : List Item) × (back ≡ Plain t ∷ more) × (plain_tokens more ≡ rest)
 next_token its statements v front [] t rest e never is = absurd (nil_append [] t rest is)
-next_token its statements v front (Plain u ∷ back) t rest e never is =
-    let (same, others) = cons_parts u t (plain_tokens back) rest is in
-    (back, ap (λ (x : PlainToken). Plain x ∷ back) same, others)
+next_token its statements v front (Plain u ∷ back) t rest e never is = (back, cc, cc)
 next_token its statements v front (Wrong rule u ∷ back) t rest e never is = absurd (clean_behind front rule u back (subst HoldNoFault e v.clean))
 next_token its statements v front (Inclusion u ∷ back) t rest e never is =
-    let out = v.included front back u e in
-    absurd (never out.statements out.spelled)
+    absurd (never _ (v.included front back u e).spelled)
 next_token its statements v front (End file ∷ back) t rest e never is =
-    let ended = v.ended front back file e in
-    absurd (never ended.0 ended.1)
+    absurd (never _ (v.ended front back file e).1)
 
-module _ (its : List Item) (statements before : List PlainStatement) (v : Viable its statements []) (front own : List PlainToken) (s : PlainStatement) (earlier : SpellsAll front before) (h : Spells own s) (p : s.kind ≡ Provable)
-    (k : EndsInProof s h.tail) where
-  -- the rest of the proof and its `$.` follow
-  proof_follows : (part rest : List PlainToken) (past back : List Item) (after : List PlainToken) → AreSymbols part → AreSymbols rest → its ≡ past ++ back
-      → plain_tokens past ≡ front ++ ((h.head ++ s.symbols) ++ k.equals ∷ part) → plain_tokens back ≡ rest ++ k.stop ∷ after
-      → (more : List Item) × (back ≡ map Plain (rest ++ k.stop ∷ []) ++ more) × (plain_tokens more ≡ after)
-  proof_follows part [] past back after x y e done left =
-      next_token its statements v past back k.stop after e (λ all. not_whole front ((h.head ++ s.symbols) ++ k.equals ∷ part) (plain_tokens past) before all _ earlier (begun own s h k part p x) done) left
-  proof_follows part (t ∷ rest) past back after x y e done left =
-      let (more, one, others) = next_token its statements v past back t (rest ++ k.stop ∷ after) e
-      (λ all. not_whole front ((h.head ++ s.symbols) ++ k.equals ∷ part) (plain_tokens past) before all _ earlier (begun own s h k part p x) done) left in
-      let further_on : plain_tokens (past ++ Plain t ∷ []) ≡ front ++ ((h.head ++ s.symbols) ++ k.equals ∷ (part ++ t ∷ [])) =
-      plain_tokens-append past (Plain t ∷ []) ∙ ap (λ (l : List PlainToken). l ++ t ∷ []) done ∙ append_assoc front ((h.head ++ s.symbols) ++ k.equals ∷ part) (t ∷ [])
-      ∙ ap (λ (l : List PlainToken). front ++ l) (append_assoc (h.head ++ s.symbols) (k.equals ∷ part) (t ∷ [])) in
-      let (last, split, none) = proof_follows (part ++ t ∷ []) rest (past ++ Plain t ∷ []) more after (symbols_more part t x (y.0, tt)) y.1 (e ∙ ap (λ (l : List Item). past ++ l) one ∙ sym (append_assoc past (Plain t ∷ []) more)) further_on others in
-      (last, one ∙ ap (λ (l : List Item). Plain t ∷ l) split, none)
-    where
-      symbols_more : (part : List PlainToken) (t : PlainToken) → AreSymbols part → AreSymbols (t ∷ []) → AreSymbols (part ++ t ∷ [])
-      symbols_more [] t x y = y
-      symbols_more (u ∷ part) t x y = (x.0, symbols_more part t x.1 y)
+-- the tokens of a statement follow each other
+statement_follows : (its : List Item) (statements before : List PlainStatement) (v : Viable its statements []) (front own : List PlainToken) (s : PlainStatement) → SpellsAll front before → Spells own s
+    → (begun rest : List PlainToken) (past back : List Item) (after : List PlainToken) → own ≡ begun ++ rest → begun ≢ [] → its ≡ past ++ back → plain_tokens past ≡ front ++ begun → plain_tokens back ≡ rest ++ after
+    → (more : List Item) × (back ≡ map Plain rest ++ more) × (plain_tokens more ≡ after)
+statement_follows its statements before v front own s earlier h begun [] past back after whole some
+    e done left = (back, refl, left)
+statement_follows its statements before v front own s earlier h begun (t ∷ rest) past back after whole some e done left =
+    let spelled = subst (λ (l : List PlainToken). Spells l s) whole h in
+    let beginning : IsBeginning begun = (beginnings_begin_statements begun).1
+    (record { more = t ∷ rest; some = λ none. cc; statement = s; spelled = spelled }) in
+    let (more, one, others) = next_token its statements v past back t (rest ++ after) e (λ all. unfinished_not_whole front begun (plain_tokens past) before all earlier beginning some done) left in
+    let (last, split, none) = statement_follows its statements before v front own s earlier h
+    (begun ++ t ∷ []) rest (past ++ Plain t ∷ []) more after
+    (whole ∙ sym (append_assoc begun (t ∷ []) rest)) (some_end begun t)
+    (e ∙ ap (λ (l : List Item). past ++ l) one ∙ sym (append_assoc past (Plain t ∷ []) more))
+    (plain_tokens-append past (Plain t ∷ []) ∙ ap (λ (l : List PlainToken). l ++ t ∷ []) done ∙ append_assoc front begun (t ∷ [])) others in
+    (last, one ∙ ap (λ (l : List Item). Plain t ∷ l) split, none)
+
+-- so they stand together among the items
+pub own_stands : (its : List Item) (statements before : List PlainStatement) (s : PlainStatement)
+    (after : List PlainStatement) → Viable its statements []
+    → (p : Parts (plain_tokens its) before s after)
+    → (front : List Item) × (back : List Item) × (its ≡ front ++ (map Plain p.own ++ back))
+    × (plain_tokens front ≡ p.front) × (plain_tokens back ≡ p.back)
+own_stands its statements before s after v p =
+    let others : List PlainToken = (p.here.first.0 ++ s.symbols) ++ p.here.tail in
+    let own : p.own ≡ s.first ∷ others =
+    p.here.whole ∙ ap (λ (l : List PlainToken). (l ++ s.symbols) ++ p.here.tail) p.here.first.1 in
+    let t = token_at its p.front s.first (others ++ p.back)
+    (p.whole ∙ ap (λ (l : List PlainToken). p.front ++ (l ++ p.back)) own) in
+    let (more, split, left) = statement_follows its statements before v p.front p.own s p.earlier
+    p.here (s.first ∷ []) others (t.front ++ Plain s.first ∷ []) t.back p.back own (λ none. cc)
+    (t.whole ∙ sym (append_assoc t.front (Plain s.first ∷ []) t.back))
+    (plain_tokens-append t.front (Plain s.first ∷ [])
+    ∙ ap (λ (l : List PlainToken). l ++ s.first ∷ []) t.first) t.last in
+    let whole = t.whole ∙ ap (λ (l : List Item). t.front ++ Plain s.first ∷ l) split
+    ∙ ap (λ (l : List PlainToken). t.front ++ (map Plain l ++ more)) (sym own) in
+    (t.front, more, whole, t.first, left)
 
 -- ---- where the proof stands
 
@@ -264,34 +254,39 @@ proof_at its before s after v p =
     let parts = parts_of (plain_tokens its) before s after (subst (λ (l : List PlainToken). SpellsAll l (before ++ s ∷ after)) (sym (v.whole ∙ append-nil v.finished)) v.spelled) in
     let h = parts.here in
     let k : EndsInProof s h.tail = subst (λ (x : Kind). IsTail s x h.tail) p h.ends in
-    let told : plain_tokens its ≡ (parts.front ++ (h.head ++ s.symbols)) ++ k.equals ∷ (s.proof ++ k.stop ∷ parts.back) =
-    parts.whole
-    ∙ ap (λ (l : List PlainToken). parts.front ++ (l ++ parts.back)) (h.whole ∙ ap (λ (l : List PlainToken). (h.head ++ s.symbols) ++ l) k.tokens)
-    ∙ ap (λ (l : List PlainToken). parts.front ++ l) (append_assoc (h.head ++ s.symbols) (k.equals ∷ s.proof ++ k.stop ∷ []) parts.back
-    ∙ ap (λ (l : List PlainToken). (h.head ++ s.symbols) ++ k.equals ∷ l) (append_assoc s.proof (k.stop ∷ []) parts.back))
-    ∙ sym (append_assoc parts.front (h.head ++ s.symbols) (k.equals ∷ (s.proof ++ k.stop ∷ parts.back))) in
-    let t = token_at its (parts.front ++ (h.head ++ s.symbols)) k.equals (s.proof ++ k.stop ∷ parts.back) told in
-    let past : plain_tokens (t.front ++ Plain k.equals ∷ []) ≡ parts.front ++ ((h.head ++ s.symbols) ++ k.equals ∷ []) =
-    plain_tokens-append t.front (Plain k.equals ∷ []) ∙ ap (λ (l : List PlainToken). l ++ k.equals ∷ []) t.first ∙ append_assoc parts.front (h.head ++ s.symbols) (k.equals ∷ []) in
-    let (more, split, left) = proof_follows its (before ++ s ∷ after) before v parts.front parts.own s parts.earlier h p k [] s.proof (t.front ++ Plain k.equals ∷ []) t.back parts.back tt k.proof
-    (t.whole ∙ sym (append_assoc t.front (Plain k.equals ∷ []) t.back)) past t.last in
+    let stated : List PlainToken = h.head ++ s.symbols in
+    let end : List PlainToken = k.equals ∷ (s.proof ++ k.stop ∷ []) in
+    let own : parts.own ≡ stated ++ end =
+    h.whole ∙ ap (λ (l : List PlainToken). stated ++ l) k.tokens in
+    let (front, back, whole, first, left) =
+    own_stands its (before ++ s ∷ after) before s after v parts in
     record {
       parts = parts;
       kind = p;
       ends = k;
-      front = t.front;
-      back = more;
-      whole = t.whole ∙ ap (λ (l : List Item). t.front ++ Plain k.equals ∷ l) split;
-      done = t.first;
+      front = front ++ map Plain stated;
+      back = back;
+      whole = whole
+          ∙ ap (λ (l : List Item). front ++ (l ++ back))
+          (ap (map Plain) own ∙ map-append Plain stated end)
+          ∙ ap (λ (l : List Item). front ++ l)
+          (append_assoc (map Plain stated) (map Plain end) back)
+          ∙ sym (append_assoc front (map Plain stated) (map Plain end ++ back));
+      done = plain_tokens-append front (map Plain stated) ∙ (λ i. first i ++ all_plain stated i);
       left = left;
     }
+  where
+    all_plain : (tokens : List PlainToken) → plain_tokens (map Plain tokens) ≡ tokens
+    all_plain [] = refl
+    all_plain (t ∷ tokens) = ap (λ (l : List PlainToken). t ∷ l) (all_plain tokens)
 
 -- ---- the reader goes through a proof
 
 proof_reading : (scope : PlainScope) (y : PlainStatement) (proof : List PlainToken) (stop : PlainToken) (rest : List Item) → AreSymbols proof → stop.text ≡ codes "$."
     → reading_of scope (InProof y) (map Plain (proof ++ stop ∷ []) ++ rest) ≡ with_statement (record y { proof = y.proof ++ proof; span = (y.span.0, stop.at) }) (reading_of (scope_after_statement scope) Between rest)
 proof_reading scope y [] stop rest h sign =
-    read_whole scope (InProof y) stop rest (record y { span = (y.span.0, stop.at) }) (proof_stop y stop sign)
+    read_whole scope (InProof y) stop rest (record y { span = (y.span.0, stop.at) })
+    (step_ends_proof y stop keyword.Stop sign refl)
     ∙ ap (λ (l : List PlainToken). with_statement (record y { proof = l; span = (y.span.0, stop.at) }) (reading_of (scope_after_statement scope) Between rest)) (sym (append-nil y.proof))
 proof_reading scope y (t ∷ proof) stop rest h sign =
     let more : PlainStatement = record y { proof = y.proof ++ t ∷ [] } in
@@ -394,12 +389,10 @@ module _ (its : List Item) (before : List PlainStatement) (s : PlainStatement) (
       let tokens : plain_tokens mixed ≡ a.parts.front ++ (a.parts.own ++ plain_tokens rest) =
       rest_tokens rest ∙ append_assoc a.parts.front a.parts.own (plain_tokens rest) in
       let mine : SpellsAll (plain_tokens mixed) (before ++ s ∷ others) =
-      subst (λ (l : List PlainToken). SpellsAll l (before ++ s ∷ others)) (sym tokens)
-      (spells_append a.parts.front (a.parts.own ++ plain_tokens rest) before (s ∷ others)
+      rw tokens (spells_append a.parts.front (a.parts.own ++ plain_tokens rest) before (s ∷ others)
       a.parts.earlier (a.parts.own, plain_tokens rest, refl, a.parts.here, told)) in
       let theirs : SpellsAll (plain_tokens mixed) same =
-      subst (λ (l : List PlainToken). SpellsAll l same) (sym (v.whole ∙ append-nil v.finished))
-      v.spelled in
+      rw (v.whole ∙ append-nil v.finished) v.spelled in
       let once : t ∷ r.statements ≡ s ∷ others =
       append_cancel_left before (t ∷ r.statements) (s ∷ others)
       (list ∙ sym (spelled_once (plain_tokens mixed) (before ++ s ∷ others) same mine theirs)) in
@@ -443,7 +436,5 @@ module _ (its : List Item) (before : List PlainStatement) (s : PlainStatement) (
       let found : files_reading others ≡ record { statements = before ++ o ∷ later; ending = None } =
       ap (reading_of outermost Between) e ∙ any_proof proof stop rest h sign ∙ ap (λ (r : PlainReading). with_statements before (with_statement o r)) read
       ∙ statements_read before (with_statement o (record { statements = later; ending = None })) in
-      let reads =
-      subst (λ (r : PlainReading). Reads others r.statements r.ending) found
-      (reading_reads others) in
+      let reads = rw found at (reading_reads others) in
       (later, reads, told, same)

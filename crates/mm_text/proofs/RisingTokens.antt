@@ -1,22 +1,20 @@
 -- Among the items of files the tokens of each file come in the order of their places.
-use Rattle.std.proofs.Common.{◌≡◌, ◌≢◌, ℕ, zero, suc, ◌+◌, ◌<◌, ◌≤◌, List, [], ◌∷◌, ◌++◌, length}
-use Rattle.std.proofs.Common.{replicate, Bool, true, false, cond, not, refl, sym, ap, ◌∙◌, subst}
-use Rattle.std.proofs.Common.{codes, Option, Some, None, ◌⊎◌, inl, inr, append_assoc, append-nil}
+use Rattle.std.proofs.Common.{◌≡◌, ◌≢◌, ℕ, ◌+◌, ◌<◌, ◌≤◌, List, [], ◌∷◌, ◌++◌, length}
+use Rattle.std.proofs.Common.{replicate, Bool, true, false, refl, sym, ap, ◌∙◌, subst}
+use Rattle.std.proofs.Common.{Option, None, ◌⊎◌, inl, inr, append_assoc, append-nil}
 use Rattle.std.proofs.Common.{arith}
-use Rattle.std.specs.Prelude.{slice_get, slice_index_or, slice_set}
-use Rattle.std.specs.List.{AllByRecursion, list_all}
+use Rattle.std.specs.Prelude.{slice_index_or, slice_set}
+use Rattle.std.specs.List.{AllByRecursion}
 use Rattle.std.proofs.Math.Decide.{ℕ_discrete}
-use Rattle.std.proofs.lemmas.Bool.{cond_both}
-use Rattle.mm_text.specs.declared.fault.TextRule.{TextRule}
-use Rattle.mm_text.specs.declared.fault.TextRule.TheVariants.{X7}
-use Rattle.mm_text.specs.Token.{PlainToken, is_printable, tokens_from}
+use Rattle.mm_text.specs.Token.{PlainToken, tokens_from}
 use Rattle.mm_text.specs.Files.{PlainFile}
-use Rattle.mm_text.specs.Items.{Item, Plain, Wrong, Inclusion, End, Shown, Clear, Broken}
-use Rattle.mm_text.specs.Items.{without_comments, spells, holds_dollar, holds_mark, Spot, Outside}
-use Rattle.mm_text.specs.Items.{Naming, Closing, Piece, Met, Named, broken_outside, pieces}
-use Rattle.mm_text.specs.Items.{pieces_of, file_number, with_inclusions, put_before, put_in}
+use Rattle.mm_text.specs.Items.{Item, Plain, Shown, Clear, Broken}
+use Rattle.mm_text.specs.Items.{without_comments, Spot, Outside}
+use Rattle.mm_text.specs.Items.{Piece, Met, Named, pieces}
+use Rattle.mm_text.specs.Items.{pieces_of, put_before, put_in}
 use Rattle.mm_text.specs.Items.{plain_tokens, items}
 use Rattle.mm_text.proofs.OnceLaws.{Rises, rises_earlier, tokens_rise}
+use Rattle.mm_text.proofs.StepByStep.{shown_by, pieces_by, put_before_by, put_in_by}
 use Rattle.mm_text.proofs.AlteredItems.{still_named, now_named}
 
 -- ---- in one file
@@ -36,63 +34,27 @@ piece_tokens (Named name ∷ ps) = piece_tokens ps
 -- leaving out comments changes no order
 shown_rise : (file n : ℕ) (begin : Option PlainToken) (tokens : List PlainToken)
     → Rises file n tokens → Rises file n (clear_tokens (without_comments begin tokens))
-unfolding without_comments
-shown_rise file n None [] r = tt
-shown_rise file n (Some begin) [] r = tt
-shown_rise file n None (t ∷ tokens) r =
-    let So : List Shown → Type 0 = λ shown. Rises file n (clear_tokens shown) in
-    let outside = shown_rise file (t.at + 1) None tokens r.2 in
-    let inside =
-    rises_earlier file n (t.at + 1) _ (omega (arith, r.0))
-    (shown_rise file (t.at + 1) (Some t) tokens r.2) in
-    cond_both (not (list_all is_printable t.text)) _ _ So (λ _. tt)
-    (λ _. cond_both (spells t.text (codes "$(")) _ _ So (λ _. inside)
-    (λ _. cond_both (spells t.text (codes "$)")) _ _ So (λ _. tt) (λ _. (r.0, r.1, outside))))
-shown_rise file n (Some begin) (t ∷ tokens) r =
-    let So : List Shown → Type 0 = λ shown. Rises file n (clear_tokens shown) in
-    let later : Rises file n tokens =
-    rises_earlier file n (t.at + 1) tokens (omega (arith, r.0)) r.2 in
-    let outside = shown_rise file n None tokens later in
-    let inside = shown_rise file n (Some begin) tokens later in
-    cond_both (not (list_all is_printable t.text)) _ _ So (λ _. tt)
-    (λ _. cond_both (spells t.text (codes "$)")) _ _ So (λ _. outside)
-    (λ _. cond_both (holds_mark t.text) _ _ So (λ _. tt) (λ _. inside)))
+shown_rise file n begin tokens r =
+    shown_by (λ ts shown. (m : ℕ) → Rises file m ts → Rises file m (clear_tokens shown))
+    (λ m e. tt) (λ ts rule t m e. tt)
+    (λ t ts shown inner m e. inner m (rises_earlier file m (t.at + 1) ts (omega (arith, e.0)) e.2))
+    (λ t ts shown inner m e. (e.0, e.1, inner (t.at + 1) e.2)) begin tokens n r
 
 -- and the pieces have the tokens in their order
 pieces_rise : (file n : ℕ) (spot : Spot) (shown : List Shown) → Rises file n (clear_tokens shown)
     → Rises file n (piece_tokens (pieces file spot shown))
-unfolding pieces
-pieces_rise file n Outside [] r = tt
-pieces_rise file n (Naming begin) [] r = tt
-pieces_rise file n (Closing begin name) [] r = tt
-pieces_rise file n Outside (Broken rule t ∷ rest) r = tt
-pieces_rise file n (Naming begin) (Broken rule t ∷ rest) r = tt
-pieces_rise file n (Closing begin name) (Broken rule t ∷ rest) r = tt
-pieces_rise file n Outside (Clear t ∷ rest) r =
-    let outside = pieces_rise file (t.at + 1) Outside rest r.2 in
-    let naming =
-    rises_earlier file n (t.at + 1) _ (omega (arith, r.0))
-    (pieces_rise file (t.at + 1) (Naming t) rest r.2) in
-    cond_both (spells t.text (codes "$[")) _ _ (λ ps. Rises file n (piece_tokens ps))
-    (λ _. naming) (λ _. go outside (broken_outside t.text))
+pieces_rise file n spot shown r =
+    pieces_by file So (λ m e. tt) (λ rest rule t m e. tt)
+    (λ t rest ps inner m e. (e.0, e.1, inner (t.at + 1) e.2)) passed passed (λ t name. passed t)
+    spot shown n r
   where
-    go : Rises file (t.at + 1) (piece_tokens (pieces file Outside rest)) → (o : Option TextRule)
-        → Rises file n (piece_tokens (elim o [
-          | Some rule ↦ Met (Wrong rule t) ∷ []
-          | None ↦ Met (Plain t) ∷ pieces file Outside rest
-        ]))
-    go inner None = (r.0, r.1, inner)
-    go inner (Some rule) = tt
-pieces_rise file n (Naming begin) (Clear t ∷ rest) r =
-    let later = rises_earlier file n (t.at + 1) (clear_tokens rest) (omega (arith, r.0)) r.2 in
-    let closing = pieces_rise file n (Closing begin t) rest later in
-    cond_both (holds_dollar t.text) _ _ (λ ps. Rises file n (piece_tokens ps))
-    (λ _. tt) (λ _. closing)
-pieces_rise file n (Closing begin name) (Clear t ∷ rest) r =
-    let later = rises_earlier file n (t.at + 1) (clear_tokens rest) (omega (arith, r.0)) r.2 in
-    let outside = pieces_rise file n Outside rest later in
-    cond_both (spells t.text (codes "$]")) _ _ (λ ps. Rises file n (piece_tokens ps))
-    (λ _. outside) (λ _. tt)
+    So : List Shown → List Piece → Type 0
+    So rest ps = (m : ℕ) → Rises file m (clear_tokens rest) → Rises file m (piece_tokens ps)
+
+    passed : (t : PlainToken) (rest : List Shown) (ps : List Piece) → So rest ps
+        → So (Clear t ∷ rest) ps
+    passed t rest ps inner m e =
+        inner m (rises_earlier file m (t.at + 1) (clear_tokens rest) (omega (arith, e.0)) e.2)
 
 file_rises : (number : ℕ) (file : PlainFile) → Rises number 0 (piece_tokens (pieces_of number file))
 file_rises number file =
@@ -147,43 +109,13 @@ module _ (k : ℕ) where
   IsFresh n named ps =
       slice_index_or named k true ≡ false → (n ≡ 0) × AreElsewhere (piece_tokens ps)
 
-  module _ (files : List PlainFile) (named : List Bool) (next : ℕ → List Piece → List Item)
-      (goes : (n m : ℕ) (ps : List Piece) → slice_index_or named m true ≡ false
-      → RiseIn n (piece_tokens ps) → IsFresh n named ps → RiseIn n (plain_tokens (next m ps))) where
-    spliced_rise : (n : ℕ) (ps : List Piece) → RiseIn n (piece_tokens ps) → IsFresh n named ps
-        → RiseIn n (plain_tokens (with_inclusions files named next ps))
-    unfolding with_inclusions
-    spliced_rise n [] r fresh = tt
-    spliced_rise n (Met (Plain t) ∷ ps) (inl (home, from, r)) fresh =
-        inl (home, from, spliced_rise (t.at + 1) ps r (λ new. absurd ((fresh new).1.0 home)))
-    spliced_rise n (Met (Plain t) ∷ ps) (inr (other, r)) fresh =
-        inr (other, spliced_rise n ps r (λ new. ((fresh new).0, (fresh new).1.1)))
-    spliced_rise n (Met (Wrong rule t) ∷ ps) r fresh = tt
-    spliced_rise n (Met (Inclusion t) ∷ ps) r fresh = spliced_rise n ps r fresh
-    spliced_rise n (Met (End file) ∷ ps) r fresh = spliced_rise n ps r fresh
-    spliced_rise n (Named name ∷ ps) r fresh =
-        go (spliced_rise n ps r fresh) (file_number files name.text)
-      where
-        known : RiseIn n (plain_tokens (with_inclusions files named next ps)) → (m : ℕ) (b : Bool)
-            → slice_index_or named m true ≡ b
-            → RiseIn n (plain_tokens (cond b (with_inclusions files named next ps) (next m ps)))
-        known inner m true e = inner
-        known inner m false e = goes n m ps e r fresh
-
-        go : RiseIn n (plain_tokens (with_inclusions files named next ps)) → (o : Option ℕ)
-            → RiseIn n (plain_tokens (elim o [
-              | None ↦ Wrong X7 name ∷ []
-              | Some m ↦ cond (slice_index_or named m true) (with_inclusions files named next ps)
-                  (next m ps)
-            ]))
-        go inner None = tt
-        go inner (Some m) = known inner m (slice_index_or named m true) refl
-
   -- a file is put in
   put_before_rise : (files : List PlainFile) (named : List Bool) (n m : ℕ) (ps : List Piece)
       → slice_index_or named m true ≡ false → RiseIn n (piece_tokens ps) → IsFresh n named ps
       → RiseIn n (piece_tokens (put_before files m ps))
-  put_before_rise files named n m ps new r fresh = go (slice_get files m)
+  put_before_rise files named n m ps new r fresh =
+      put_before_by (λ qs. RiseIn n (piece_tokens qs)) files m ps r (λ file _.
+      rw (piece_tokens-append (pieces_of m file) ps) (longer file (ℕ_discrete m k)))
     where
       longer : (file : PlainFile) → Dec (m ≡ k)
           → RiseIn n (piece_tokens (pieces_of m file) ++ piece_tokens ps)
@@ -197,13 +129,6 @@ module _ (k : ℕ) where
           other_rise m 0 n (piece_tokens (pieces_of m file)) (piece_tokens ps) other
           (file_rises m file) r
 
-      go : (o : Option PlainFile)
-          → RiseIn n (piece_tokens (elim o [ None ↦ ps | Some file ↦ pieces_of m file ++ ps ]))
-      go None = r
-      go (Some file) =
-          subst (RiseIn n) (sym (piece_tokens-append (pieces_of m file) ps))
-          (longer file (ℕ_discrete m k))
-
   put_before_fresh : (files : List PlainFile) (named : List Bool) (n m : ℕ) (ps : List Piece)
       → IsFresh n named ps → IsFresh n (slice_set named m true) (put_before files m ps)
   put_before_fresh files named n m ps fresh new = at_file (ℕ_discrete m k)
@@ -212,14 +137,6 @@ module _ (k : ℕ) where
       by_name false e = e
       by_name true e = let no : false ≡ true = sym new ∙ still_named named m k e in absurd cc
 
-      longer : m ≢ k → AreElsewhere (piece_tokens ps) → (o : Option PlainFile)
-          → AreElsewhere (piece_tokens (elim o [ None ↦ ps | Some file ↦ pieces_of m file ++ ps ]))
-      longer other none None = none
-      longer other none (Some file) =
-          subst AreElsewhere (sym (piece_tokens-append (pieces_of m file) ps))
-          (other_elsewhere m 0 (piece_tokens (pieces_of m file)) (piece_tokens ps) other
-          (file_rises m file) none)
-
       at_file : Dec (m ≡ k) → (n ≡ 0) × AreElsewhere (piece_tokens (put_before files m ps))
       at_file (yes e) =
           let no : false ≡ true =
@@ -227,21 +144,35 @@ module _ (k : ℕ) where
           ∙ now_named named k in
           absurd cc
       at_file (no other) =
-          let (start, none) = fresh (by_name (slice_index_or named k true) refl) in
-          (start, longer other none (slice_get files m))
+          let (start, none) = fresh (by_name (slice_index_or named k true) refl) in (
+            start,
+            put_before_by (λ qs. AreElsewhere (piece_tokens qs)) files m ps none (λ file _.
+                rw (piece_tokens-append (pieces_of m file) ps) (other_elsewhere m 0 _
+                (piece_tokens ps) other (file_rises m file) none)),
+          )
 
   put_in_rise : (files : List PlainFile) (left : ℕ) (named : List Bool) (n : ℕ) (ps : List Piece)
       → RiseIn n (piece_tokens ps) → IsFresh n named ps
       → RiseIn n (plain_tokens (put_in files left named ps))
-  unfolding put_in
-  put_in_rise files zero named n ps r fresh =
-      spliced_rise files named (λ m after. []) (λ i m qs new s f. tt) n ps r fresh
-  put_in_rise files (suc left) named n ps r fresh =
-      spliced_rise files named
-      (λ m after. put_in files left (slice_set named m true) (put_before files m after))
-      (λ i m qs new s f. put_in_rise files left (slice_set named m true) i (put_before files m qs)
-      (put_before_rise files named i m qs new s f) (put_before_fresh files named i m qs f))
-      n ps r fresh
+  put_in_rise files left named n ps =
+      put_in_by files (λ _ flags qs its.
+      (i : ℕ) → RiseIn i (piece_tokens qs) → IsFresh i flags qs → RiseIn i (plain_tokens its))
+      (λ _ flags i r fresh. tt) (λ _ flags p qs rule t i r fresh. tt) own
+      (λ _ flags t qs its inner. inner) (λ _ flags file qs its inner. inner)
+      (λ _ flags name qs its inner. inner) (λ flags name m qs new i r fresh. tt)
+      (λ _ flags name m qs its new inner i r fresh. inner i
+      (put_before_rise files flags i m qs new r fresh) (put_before_fresh files flags i m qs fresh))
+      left named ps n
+    where
+      own : (_ : ℕ) (flags : List Bool) (t : PlainToken) (qs : List Piece) (its : List Item)
+          → ((i : ℕ) → RiseIn i (piece_tokens qs) → IsFresh i flags qs
+          → RiseIn i (plain_tokens its))
+          → (i : ℕ) → RiseIn i (t ∷ piece_tokens qs) → IsFresh i flags (Met (Plain t) ∷ qs)
+          → RiseIn i (t ∷ plain_tokens its)
+      own _ flags t qs its inner i (inl (home, from, r)) fresh =
+          inl (home, from, inner (t.at + 1) r (λ new. absurd ((fresh new).1.0 home)))
+      own _ flags t qs its inner i (inr (other, r)) fresh =
+          inr (other, inner i r (λ new. ((fresh new).0, (fresh new).1.1)))
 
   items_rise : (files : List PlainFile) → RiseIn 0 (plain_tokens (items files))
   items_rise [] = tt

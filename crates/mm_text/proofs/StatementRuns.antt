@@ -1,87 +1,44 @@
 -- Tokens that spell statements, or begin one, lead the reader to those statements.
 use Rattle.std.proofs.Common.{◌≡◌, ℕ, ◌+◌, ◌<◌, ◌≤◌, length, List, [], ◌∷◌, ◌++◌, true, false, cond, refl, sym, ap, subst, ◌∙◌, codes, Option, Some, None, arith, append_assoc, ◌⊎◌, inl, inr}
-use Rattle.std.proofs.lemmas.List.{append-nil, length-append}
+use Rattle.std.proofs.lemmas.List.{append-nil, length-append, nil_from_length}
 use Rattle.std.proofs.lemmas.Bool.{cond-true, cond-false, ne_eqb, false_from_ne_true}
 use Rattle.mm_text.specs.Items.{spells}
 use Rattle.mm_text.specs.declared.fault.TextRule.TheVariants.{S5}
 use Rattle.mm_text.specs.declared.statement.Kind.{Kind}
 use Rattle.mm_text.specs.declared.statement.Kind.TheVariants.{Constants, Variables, Distinct, Floating, Essential, Axiom, Provable, Opening, Closing}
-use Rattle.mm_text.specs.Token.{PlainToken, IsLabel, is_label}
+use Rattle.mm_text.specs.declared.class.Keyword.{Keyword}
+use Rattle.mm_text.specs.declared.class.Keyword.TheVariants as keyword
+use Rattle.mm_text.specs.Mirror.Class.{keyword_bytes}
+use Rattle.mm_text.specs.Mirror.Steps.{is_block_sign, bare_kind, labelled_kind, ends_symbols}
+use Rattle.mm_text.specs.Token.{PlainToken, is_label}
 use Rattle.mm_text.specs.Statement.{PlainStatement, IsHead, HasBody, IsBareHead, IsLabelledHead, AreSymbols, FitsCount, label_in, keyword_of, Spells, SpellsAll, IsTail, EndsAtOnce, EndsInProof}
 use Rattle.mm_text.specs.Reading.{closes_symbols}
-use Rattle.mm_text.specs.Mirror.Reader.{Part, Between, Labelled, InBody, InProof, More, Whole, Faulty, step, is_keyword, bare_statement, has_count, is_full}
+use Rattle.mm_text.specs.Mirror.Reader.{Part, Between, Labelled, InBody, InProof, More, Whole, Faulty, step, bare_statement, is_full}
 use Rattle.mm_text.specs.Statement.{is_provable}
-use Rattle.mm_text.proofs.TextFacts.{same_text_from, label-is_keyword, label_ne}
 use Rattle.mm_text.proofs.PartTokens.{IsPartBody, IsPartProof, Describes}
-use Rattle.mm_text.proofs.GrammarSteps.{has_count_from, has_count-true, closing_sign}
-use Rattle.mm_text.proofs.ReaderRuns.{Runs, with_first, with_all, with_all-runs, run, run-nil, run-more, run-whole, run-opened, run-closed}
+use Rattle.mm_text.proofs.GrammarSteps.{has_count_from, has_count-true}
+use Rattle.mm_text.proofs.ReaderRuns.{Runs, with_first, with_all, with_all-runs, run, run-nil, run_step}
 use Rattle.mm_text.proofs.Lists.{cons_parts}
-use Rattle.mm_text.proofs.StepLaws.{step_opens, step_closes, step_symbol, step_proof_token}
+use Rattle.mm_text.proofs.StepLaws.{step_opens, step_closes, start_by, start_keyword, step_label}
+use Rattle.mm_text.proofs.StepLaws.{labelled_by, label_keyword, step_too_few, step_whole}
+use Rattle.mm_text.proofs.StepLaws.{step_to_proof}
+use Rattle.mm_text.proofs.StepLaws.{step_symbol, step_proof_token, step_ends_proof}
 
--- ---- single steps
+-- ---- the keyword that closes symbols
 
-start_constants : (t : PlainToken) → t.text ≡ codes "$c" → step Between t ≡ More (InBody (bare_statement Constants t None))
-unfolding step
-start_constants t e = rw e refl
+abbrev closer : Kind → Keyword
+closer Provable = keyword.Equals
+closer kind = keyword.Stop
 
-start_variables : (t : PlainToken) → t.text ≡ codes "$v" → step Between t ≡ More (InBody (bare_statement Variables t None))
-unfolding step
-start_variables t e = rw e refl
-
-start_distinct : (t : PlainToken) → t.text ≡ codes "$d" → step Between t ≡ More (InBody (bare_statement Distinct t None))
-unfolding step
-start_distinct t e = rw e refl
-
-start_label : (t : PlainToken) → IsLabel t.text → step Between t ≡ More (Labelled t)
-unfolding step
-start_label t h =
-    cond-false (spells t.text (codes "$c")) _ _ (label_ne t.text (codes "$c") h refl)
-    ∙ cond-false (spells t.text (codes "$v")) _ _ (label_ne t.text (codes "$v") h refl)
-    ∙ cond-false (spells t.text (codes "$d")) _ _ (label_ne t.text (codes "$d") h refl)
-    ∙ cond-false (spells t.text (codes "${")) _ _ (label_ne t.text (codes "${") h refl)
-    ∙ cond-false (spells t.text (codes "$}")) _ _ (label_ne t.text (codes "$}") h refl)
-    ∙ cond-false (is_keyword t.text) _ _ (label-is_keyword t.text h)
-    ∙ cond-true (is_label t.text) _ _ h
-
-label_floating : (label t : PlainToken) → t.text ≡ codes "$f" → step (Labelled label) t ≡ More (InBody (bare_statement Floating label (Some label)))
-unfolding step
-label_floating label t e = rw e refl
-
-label_essential : (label t : PlainToken) → t.text ≡ codes "$e" → step (Labelled label) t ≡ More (InBody (bare_statement Essential label (Some label)))
-unfolding step
-label_essential label t e = rw e refl
-
-label_axiom : (label t : PlainToken) → t.text ≡ codes "$a" → step (Labelled label) t ≡ More (InBody (bare_statement Axiom label (Some label)))
-unfolding step
-label_axiom label t e = rw e refl
-
-label_provable : (label t : PlainToken) → t.text ≡ codes "$p" → step (Labelled label) t ≡ More (InBody (bare_statement Provable label (Some label)))
-unfolding step
-label_provable label t e = rw e refl
-
-closing_is_keyword : (kind : Kind) → is_keyword (cond (is_provable kind) (codes "$=") (codes "$.")) ≡ true
-closing_is_keyword Provable = refl
-closing_is_keyword _ = refl
-
--- a keyword that closes the symbols, up to their count
-closing_step : (s : PlainStatement) (t : PlainToken) (sign : t.text ≡ closes_symbols s.kind)
-    → step (InBody s) t ≡ cond (has_count s.kind (length s.symbols)) (cond (is_provable s.kind) (More (InProof (record s { span = (t.at + 2, 0) }))) (Whole s)) (Faulty S5)
-unfolding step
-closing_step s t sign =
-    let e : t.text ≡ cond (is_provable s.kind) (codes "$=") (codes "$.") = sign ∙ sym (closing_sign s.kind) in
-    cond-true (is_keyword t.text) _ _ (ap is_keyword e ∙ closing_is_keyword s.kind)
-    ∙ cond-true (spells t.text (cond (is_provable s.kind) (codes "$=") (codes "$."))) _ _ (same_text_from t.text (cond (is_provable s.kind) (codes "$=") (codes "$.")) e)
-
-pub closing_counted : (s : PlainStatement) (t : PlainToken) → t.text ≡ closes_symbols s.kind → FitsCount s.kind (length s.symbols)
-    → step (InBody s) t ≡ cond (is_provable s.kind) (More (InProof (record s { span = (t.at + 2, 0) }))) (Whole s)
-closing_counted s t sign c = closing_step s t sign ∙ cond-true (has_count s.kind (length s.symbols)) _ _ (has_count_from s.kind (length s.symbols) c)
+closer_is : (kind : Kind) → (closes_symbols kind ≡ keyword_bytes (closer kind))
+    × (ends_symbols kind (closer kind) ≡ true)
+closer_is Provable = (refl, refl)
+closer_is _ = (refl, refl)
 
 pub closing_short : (s : PlainStatement) (t : PlainToken) → t.text ≡ closes_symbols s.kind → ¬ (FitsCount s.kind (length s.symbols)) → step (InBody s) t ≡ Faulty S5
-closing_short s t sign c = closing_step s t sign ∙ cond-false (has_count s.kind (length s.symbols)) _ _ (false_from_ne_true _ (λ e. c (has_count-true s.kind (length s.symbols) e)))
-
-pub proof_stop : (s : PlainStatement) (t : PlainToken) → t.text ≡ codes "$." → step (InProof s) t ≡ Whole (record s { span = (s.span.0, t.at) })
-unfolding step
-proof_stop s t e = rw e refl
+closing_short s t sign c =
+    let is = closer_is s.kind in
+    step_too_few s t (closer s.kind) (sign ∙ is.0) is.1 (false_from_ne_true _ (λ e. c (has_count-true s.kind (length s.symbols) e)))
 
 -- ---- symbols and proofs
 
@@ -94,7 +51,8 @@ symbols_run : (s : PlainStatement) (symbols : List PlainToken) (rest : List Plai
 symbols_run s [] rest h room = ap (λ (x : List PlainToken). run (InBody (record s { symbols = x })) rest) (sym (append-nil s.symbols))
 symbols_run s (t ∷ symbols) rest h room =
     let more : PlainStatement = record s { symbols = s.symbols ++ t ∷ [] } in
-    run-more (InBody s) (InBody more) t (symbols ++ rest) (step_symbol s t h.0 (not_full s.kind (length s.symbols) (λ k. let le = room k in omega arith)))
+    run_step (InBody s) t (symbols ++ rest) (More (InBody more))
+    (step_symbol s t h.0 (not_full s.kind (length s.symbols) (λ k. let le = room k in omega arith)))
     ∙ symbols_run more symbols rest h.1 (λ k. let le = room k in omega (arith, length-append s.symbols (t ∷ [])))
     ∙ ap (λ (x : List PlainToken). run (InBody (record s { symbols = x })) rest) (append_assoc s.symbols (t ∷ []) symbols)
 
@@ -103,7 +61,7 @@ proof_run : (s : PlainStatement) (proof : List PlainToken) (rest : List PlainTok
 proof_run s [] rest h = ap (λ (x : List PlainToken). run (InProof (record s { proof = x })) rest) (sym (append-nil s.proof))
 proof_run s (t ∷ proof) rest h =
     let more : PlainStatement = record s { proof = s.proof ++ t ∷ [] } in
-    run-more (InProof s) (InProof more) t (proof ++ rest) (step_proof_token s t h.0)
+    run_step (InProof s) t (proof ++ rest) (More (InProof more)) (step_proof_token s t h.0)
     ∙ proof_run more proof rest h.1
     ∙ ap (λ (x : List PlainToken). run (InProof (record s { proof = x })) rest) (append_assoc s.proof (t ∷ []) proof)
 
@@ -113,38 +71,45 @@ proof_run s (t ∷ proof) rest h =
 abbrev fresh : Kind → PlainToken → Option PlainToken → Part
 fresh kind first label = InBody (bare_statement kind first label)
 
-bare_run : (kind : Kind) (head : List PlainToken) (first : PlainToken) (others : List PlainToken) (label : Option PlainToken) (rest : List PlainToken)
-    → ((t : PlainToken) → t.text ≡ keyword_of kind → step Between t ≡ More (fresh kind t None)) → is_label (keyword_of kind) ≡ false
-    → IsBareHead kind head → head ≡ first ∷ others → label ≡ label_in head → run Between (head ++ rest) ≡ run (fresh kind first label) rest
-bare_run kind head first others label rest starts no_label h f l =
+bare_run : (kind : Kind) (k : Keyword) → keyword_of kind ≡ keyword_bytes k → is_block_sign k ≡ false
+    → bare_kind k ≡ Some kind → is_label (keyword_of kind) ≡ false → (head : List PlainToken)
+    (first : PlainToken) (others : List PlainToken) (label : Option PlainToken)
+    (rest : List PlainToken) → IsBareHead kind head → head ≡ first ∷ others → label ≡ label_in head
+    → run Between (head ++ rest) ≡ run (fresh kind first label) rest
+bare_run kind k same block begins no_label head first others label rest h f l =
     let parts = cons_parts h.keyword first [] others (sym h.tokens ∙ f) in
     let none : None ≡ label = sym (l ∙ ap label_in h.tokens ∙ cond-false (is_label h.keyword.text) _ _ (ap is_label h.sign ∙ no_label)) in
     ap (λ (x : List PlainToken). run Between (x ++ rest)) h.tokens
-    ∙ run-more Between (fresh kind h.keyword None) h.keyword rest (starts h.keyword h.sign)
+    ∙ run_step Between h.keyword rest _ (start_keyword h.keyword k (h.sign ∙ same) block
+    ∙ ap (start_by h.keyword) begins)
     ∙ (λ i. run (fresh kind (parts.0 i) (none i)) rest)
 
-labelled_run : (kind : Kind) (head : List PlainToken) (first : PlainToken) (others : List PlainToken) (label : Option PlainToken) (rest : List PlainToken)
-    → ((l t : PlainToken) → t.text ≡ keyword_of kind → step (Labelled l) t ≡ More (fresh kind l (Some l)))
-    → IsLabelledHead kind head → head ≡ first ∷ others → label ≡ label_in head → run Between (head ++ rest) ≡ run (fresh kind first label) rest
-labelled_run kind head first others label rest goes h f l =
+labelled_run : (kind : Kind) (k : Keyword) → keyword_of kind ≡ keyword_bytes k
+    → labelled_kind k ≡ Some kind → (head : List PlainToken) (first : PlainToken)
+    (others : List PlainToken) (label : Option PlainToken) (rest : List PlainToken)
+    → IsLabelledHead kind head → head ≡ first ∷ others → label ≡ label_in head
+    → run Between (head ++ rest) ≡ run (fresh kind first label) rest
+labelled_run kind k same begins head first others label rest h f l =
     let parts = cons_parts h.label first (h.keyword ∷ []) others (sym h.tokens ∙ f) in
     let some : Some h.label ≡ label = sym (l ∙ ap label_in h.tokens ∙ cond-true (is_label h.label.text) _ _ h.named) in
     ap (λ (x : List PlainToken). run Between (x ++ rest)) h.tokens
-    ∙ run-more Between (Labelled h.label) h.label (h.keyword ∷ rest) (start_label h.label h.named)
-    ∙ run-more (Labelled h.label) (fresh kind h.label (Some h.label)) h.keyword rest (goes h.label h.keyword h.sign)
+    ∙ run_step Between h.label (h.keyword ∷ rest) _ (step_label h.label h.named)
+    ∙ run_step (Labelled h.label) h.keyword rest _
+    (label_keyword h.label h.keyword k (h.sign ∙ same) ∙ ap (labelled_by h.label) begins)
     ∙ (λ i. run (fresh kind (parts.0 i) (some i)) rest)
 
-head_run : (kind : Kind) (head : List PlainToken) (first : PlainToken) (others : List PlainToken) (label : Option PlainToken) (rest : List PlainToken)
-    → HasBody kind → IsHead kind head → head ≡ first ∷ others → label ≡ label_in head → run Between (head ++ rest) ≡ run (fresh kind first label) rest
-head_run Constants head first others label rest long h f l = bare_run Constants head first others label rest start_constants refl h f l
-head_run Variables head first others label rest long h f l = bare_run Variables head first others label rest start_variables refl h f l
-head_run Distinct head first others label rest long h f l = bare_run Distinct head first others label rest start_distinct refl h f l
-head_run Floating head first others label rest long h f l = labelled_run Floating head first others label rest label_floating h f l
-head_run Essential head first others label rest long h f l = labelled_run Essential head first others label rest label_essential h f l
-head_run Axiom head first others label rest long h f l = labelled_run Axiom head first others label rest label_axiom h f l
-head_run Provable head first others label rest long h f l = labelled_run Provable head first others label rest label_provable h f l
-head_run Opening head first others label rest long h f l = absurd long
-head_run Closing head first others label rest long h f l = absurd long
+head_run : (kind : Kind) → HasBody kind → (head : List PlainToken) (first : PlainToken)
+    (others : List PlainToken) (label : Option PlainToken) (rest : List PlainToken)
+    → IsHead kind head → head ≡ first ∷ others → label ≡ label_in head
+    → run Between (head ++ rest) ≡ run (fresh kind first label) rest
+head_run Constants _ = bare_run Constants keyword.Constants refl refl refl refl
+head_run Variables _ = bare_run Variables keyword.Variables refl refl refl refl
+head_run Distinct _ = bare_run Distinct keyword.Distinct refl refl refl refl
+head_run Floating _ = labelled_run Floating keyword.Floating refl refl
+head_run Essential _ = labelled_run Essential keyword.Essential refl refl
+head_run Axiom _ = labelled_run Axiom keyword.Axiom refl refl
+head_run Provable _ = labelled_run Provable keyword.Provable refl refl
+head_run _ long = absurd long
 
 -- ---- unfinished statements
 
@@ -152,7 +117,7 @@ body_run : (s : PlainStatement) (tokens : List PlainToken) (rest : List PlainTok
 body_run s tokens rest d =
     ap (λ (x : List PlainToken). run Between (x ++ rest)) d.whole
     ∙ ap (run Between) (append_assoc d.head s.symbols rest)
-    ∙ head_run s.kind d.head s.first d.others s.label (s.symbols ++ rest) d.long d.begins d.first d.label
+    ∙ head_run s.kind d.long d.head s.first d.others s.label (s.symbols ++ rest) d.begins d.first d.label
     ∙ symbols_run (bare_statement s.kind s.first s.label) s.symbols rest d.spelled (λ k. let le = d.room k in omega arith)
     ∙ (λ i. run (InBody (record s { proof = sym d.proof i; span = sym d.span i })) rest)
 
@@ -167,13 +132,10 @@ before_equals s tokens d = record {
   first = d.first;
   label = d.label;
   spelled = d.spelled;
-  room = λ k. absurd (provable_floating (sym d.kind ∙ k));
+  room = λ k. absurd (cc (d.kind, k));
   proof = refl;
   span = refl;
 }
-  where
-    provable_floating : Provable ≡ Floating → ⊥
-    provable_floating e = cc
 
 proving_run : (s : PlainStatement) (tokens : List PlainToken) (rest : List PlainToken) → IsPartProof s tokens → run Between (tokens ++ rest) ≡ run (InProof s) rest
 proving_run s tokens rest d =
@@ -182,30 +144,27 @@ proving_run s tokens rest d =
     ap (λ (x : List PlainToken). run Between (x ++ rest)) d.whole
     ∙ ap (run Between) (append_assoc (d.head ++ s.symbols) (d.equals ∷ s.proof) rest)
     ∙ body_run stated (d.head ++ s.symbols) (d.equals ∷ s.proof ++ rest) (before_equals s tokens d)
-    ∙ run-more (InBody stated) (InProof proving) d.equals (s.proof ++ rest)
-    (closing_counted stated d.equals (d.sign ∙ ap closes_symbols (sym d.kind)) (subst (λ (k : Kind). FitsCount k (length s.symbols)) (sym d.kind) d.some) ∙ cond-true (is_provable s.kind) _ _ (ap is_provable d.kind))
+    ∙ run_step (InBody stated) d.equals (s.proof ++ rest) (More (InProof proving))
+    (step_to_proof stated d.equals keyword.Equals d.sign
+    (ap (λ (k : Kind). ends_symbols k keyword.Equals) d.kind)
+    (has_count_from s.kind (length s.symbols) (subst (λ (k : Kind). FitsCount k (length s.symbols)) (sym d.kind) d.some)) (ap is_provable d.kind))
     ∙ proof_run proving s.proof rest d.steps
     ∙ (λ i. run (InProof (record s { span = sym d.span i })) rest)
 
 -- the reader has what the tokens are
 pub part_run : (part : Part) (tokens : List PlainToken) (rest : List PlainToken) → Describes part tokens → run Between (tokens ++ rest) ≡ run part rest
 part_run Between tokens rest d = ap (λ (x : List PlainToken). run Between (x ++ rest)) d
-part_run (Labelled label) tokens rest d = ap (λ (x : List PlainToken). run Between (x ++ rest)) d.0 ∙ run-more Between (Labelled label) label rest (start_label label d.1)
+part_run (Labelled label) tokens rest d = ap (λ (x : List PlainToken). run Between (x ++ rest)) d.0 ∙ run_step Between label rest _ (step_label label d.1)
 part_run (InBody s) tokens rest d = body_run s tokens rest d
 part_run (InProof s) tokens rest d = proving_run s tokens rest d
 
 -- ---- whole statements
 
 pub tail_cases : (s : PlainStatement) (kind : Kind) (tail : List PlainToken) → HasBody kind → IsTail s kind tail → ((is_provable kind ≡ false) × (closes_symbols kind ≡ codes "$.") × EndsAtOnce s tail) ⊎ ((kind ≡ Provable) × EndsInProof s tail)
-tail_cases s Constants tail h k = inl (refl, refl, k)
-tail_cases s Variables tail h k = inl (refl, refl, k)
-tail_cases s Distinct tail h k = inl (refl, refl, k)
-tail_cases s Floating tail h k = inl (refl, refl, k)
-tail_cases s Essential tail h k = inl (refl, refl, k)
-tail_cases s Axiom tail h k = inl (refl, refl, k)
 tail_cases s Provable tail h k = inr (refl, k)
 tail_cases s Opening tail h k = absurd h
 tail_cases s Closing tail h k = absurd h
+tail_cases s _ tail h k = inl (refl, refl, k)
 
 -- a statement has symbols, or is a `${` or a `$}`
 pub kind_cases : (kind : Kind) → HasBody kind ⊎ (kind ≡ Opening) ⊎ (kind ≡ Closing)
@@ -217,39 +176,46 @@ pub room_of : (kind : Kind) (n : ℕ) → FitsCount kind n → kind ≡ Floating
 room_of Floating n c k = omega arith
 room_of _ n c k = absurd cc
 
-at_once_run : (tokens : List PlainToken) (s : PlainStatement) (rest : List PlainToken) (h : Spells tokens s) → HasBody s.kind → is_provable s.kind ≡ false → closes_symbols s.kind ≡ codes "$." → EndsAtOnce s h.tail
+at_once_run : (tokens : List PlainToken) (s : PlainStatement) (rest : List PlainToken) (h : Spells tokens s) → HasBody s.kind → is_provable s.kind ≡ false → EndsAtOnce s h.tail
     → run Between (tokens ++ rest) ≡ with_first s (run Between rest)
-at_once_run tokens s rest h long np sign k =
+at_once_run tokens s rest h long np k =
     let body : IsPartBody s (h.head ++ s.symbols) = record { head = h.head; others = h.first.0; whole = refl; begins = h.begins; long = long; first = h.first.1; label = h.label; spelled = h.symbols; room = room_of s.kind (length s.symbols) h.count; proof = k.proof; span = k.span } in
     ap (λ (x : List PlainToken). run Between (x ++ rest)) (h.whole ∙ ap (λ (x : List PlainToken). (h.head ++ s.symbols) ++ x) k.tokens)
     ∙ ap (run Between) (append_assoc (h.head ++ s.symbols) (k.stop ∷ []) rest)
     ∙ body_run s (h.head ++ s.symbols) (k.stop ∷ rest) body
-    ∙ run-whole (InBody s) s k.stop rest (closing_counted s k.stop (k.end ∙ sym sign) h.count ∙ cond-false (is_provable s.kind) _ _ np)
+    ∙ run_step (InBody s) k.stop rest (Whole s) (step_whole s k.stop keyword.Stop k.end
+    (ap (λ b. spells (codes "$.") (cond b (codes "$=") (codes "$."))) np)
+    (has_count_from s.kind (length s.symbols) h.count) np)
+
+-- the tokens of a `$p` up to a part of its proof
+pub begun : (own : List PlainToken) (s : PlainStatement) (h : Spells own s)
+    (k : EndsInProof s h.tail) (part : List PlainToken) → s.kind ≡ Provable → AreSymbols part
+    → IsPartProof (record s { proof = part; span = (k.equals.at + 2, 0) }) ((h.head ++ s.symbols) ++ k.equals ∷ part)
+begun own s h k part p steps = record {
+  kind = p;
+  head = h.head;
+  others = h.first.0;
+  equals = k.equals;
+  whole = refl;
+  begins = subst (λ (x : Kind). IsHead x h.head) p h.begins;
+  first = h.first.1;
+  label = h.label;
+  spelled = h.symbols;
+  some = subst (λ (x : Kind). FitsCount x (length s.symbols)) p h.count;
+  sign = k.sign;
+  steps = steps;
+  span = refl;
+}
 
 in_proof_run : (tokens : List PlainToken) (s : PlainStatement) (rest : List PlainToken) (h : Spells tokens s) → s.kind ≡ Provable → EndsInProof s h.tail
     → run Between (tokens ++ rest) ≡ with_first s (run Between rest)
 in_proof_run tokens s rest h p k =
     let begun_proof : PlainStatement = record s { span = (k.equals.at + 2, 0) } in
     let front : List PlainToken = (h.head ++ s.symbols) ++ k.equals ∷ s.proof in
-    let proving : IsPartProof begun_proof front = record {
-      kind = p;
-      head = h.head;
-      others = h.first.0;
-      equals = k.equals;
-      whole = refl;
-      begins = subst (λ (x : Kind). IsHead x h.head) p h.begins;
-      first = h.first.1;
-      label = h.label;
-      spelled = h.symbols;
-      some = subst (λ (x : Kind). FitsCount x (length s.symbols)) p h.count;
-      sign = k.sign;
-      steps = k.proof;
-      span = refl;
-    } in
     ap (λ (x : List PlainToken). run Between (x ++ rest)) (h.whole ∙ ap (λ (x : List PlainToken). (h.head ++ s.symbols) ++ x) k.tokens ∙ sym (append_assoc (h.head ++ s.symbols) (k.equals ∷ s.proof) (k.stop ∷ [])))
     ∙ ap (run Between) (append_assoc front (k.stop ∷ []) rest)
-    ∙ proving_run begun_proof front (k.stop ∷ rest) proving
-    ∙ run-whole (InProof begun_proof) (record s { span = (k.equals.at + 2, k.stop.at) }) k.stop rest (proof_stop begun_proof k.stop k.end)
+    ∙ proving_run begun_proof front (k.stop ∷ rest) (begun tokens s h k s.proof p k.proof)
+    ∙ run_step (InProof begun_proof) k.stop rest _ (step_ends_proof begun_proof k.stop keyword.Stop k.end refl)
     ∙ (λ i. with_first (record s { span = sym k.span i }) (run Between rest))
 
 -- the parts of a `${` or a `$}`
@@ -259,14 +225,18 @@ pub record IsBlockSign (tokens : List PlainToken) (s : PlainStatement) (kind : K
   pub text : sign.text ≡ keyword_of kind
   pub same : s ≡ bare_statement kind sign None
 
-no_symbols : (symbols : List PlainToken) → length symbols ≡ 0 → symbols ≡ []
-no_symbols [] e = refl
-no_symbols (t ∷ symbols) e = absurd (omega arith)
-
-pub block_sign : (tokens : List PlainToken) (s : PlainStatement) (kind : Kind) (h : Spells tokens s) → s.kind ≡ kind → IsBareHead kind h.head → is_label (keyword_of kind) ≡ false → length s.symbols ≡ 0
-    → h.tail ≡ [] → s.proof ≡ [] → s.span ≡ (0, 0) → IsBlockSign tokens s kind
-block_sign tokens s kind h k b no_label none tail proof span =
-    let symbols = no_symbols s.symbols none in
+-- of a kind whose head is a keyword and which has no symbols
+block_sign : (tokens : List PlainToken) (s : PlainStatement) (kind : Kind) → (h : Spells tokens s)
+    → s.kind ≡ kind → is_label (keyword_of kind) ≡ false
+    → (IsHead kind h.head → IsBareHead kind h.head)
+    → (FitsCount kind (length s.symbols) → length s.symbols ≡ 0)
+    → (IsTail s kind h.tail → (h.tail ≡ []) × (s.proof ≡ []) × (s.span ≡ (0, 0)))
+    → IsBlockSign tokens s kind
+block_sign tokens s kind h k no_label bare none ended =
+    let b = bare (subst (λ (x : Kind). IsHead x h.head) k h.begins) in
+    let (tail, proof, span) = ended (subst (λ (x : Kind). IsTail s x h.tail) k h.ends) in
+    let count = subst (λ (x : Kind). FitsCount x (length s.symbols)) k h.count in
+    let symbols = nil_from_length s.symbols (none count) in
     let first = (cons_parts b.keyword s.first [] h.first.0 (sym b.tokens ∙ h.first.1)).0 in
     let label : s.label ≡ None = h.label ∙ ap label_in b.tokens ∙ cond-false (is_label b.keyword.text) _ _ (ap is_label b.sign ∙ no_label) in
     record {
@@ -277,28 +247,24 @@ block_sign tokens s kind h k b no_label none tail proof span =
     }
 
 pub opening_sign : (tokens : List PlainToken) (s : PlainStatement) (h : Spells tokens s) → s.kind ≡ Opening → IsBlockSign tokens s Opening
-opening_sign tokens s h k =
-    let ends : IsTail s Opening h.tail = subst (λ (x : Kind). IsTail s x h.tail) k h.ends in
-    block_sign tokens s Opening h k (subst (λ (x : Kind). IsHead x h.head) k h.begins) refl (subst (λ (x : Kind). FitsCount x (length s.symbols)) k h.count) ends.0 ends.1 ends.2
+opening_sign tokens s h k = block_sign tokens s Opening h k refl (λ b. b) (λ n. n) (λ e. e)
 
 pub closing_sign_of : (tokens : List PlainToken) (s : PlainStatement) (h : Spells tokens s) → s.kind ≡ Closing → IsBlockSign tokens s Closing
-closing_sign_of tokens s h k =
-    let ends : IsTail s Closing h.tail = subst (λ (x : Kind). IsTail s x h.tail) k h.ends in
-    block_sign tokens s Closing h k (subst (λ (x : Kind). IsHead x h.head) k h.begins) refl (subst (λ (x : Kind). FitsCount x (length s.symbols)) k h.count) ends.0 ends.1 ends.2
+closing_sign_of tokens s h k = block_sign tokens s Closing h k refl (λ b. b) (λ n. n) (λ e. e)
 
 pub statement_run : (tokens : List PlainToken) (s : PlainStatement) (rest : List PlainToken) → Spells tokens s → run Between (tokens ++ rest) ≡ with_first s (run Between rest)
 statement_run tokens s rest h =
     elim (kind_cases s.kind) [
       | inl long ↦ elim (tail_cases s s.kind h.tail long h.ends) [
-        | inl k ↦ at_once_run tokens s rest h long k.0 k.1 k.2
+        | inl k ↦ at_once_run tokens s rest h long k.0 k.2
         | inr k ↦ in_proof_run tokens s rest h k.0 k.1
       ]
       | inr (inl k) ↦
           let b = opening_sign tokens s h k in
-          ap (λ (x : List PlainToken). run Between (x ++ rest)) b.alone ∙ run-opened Between b.sign rest (step_opens b.sign b.text) ∙ ap (λ (x : PlainStatement). with_first x (run Between rest)) (sym b.same)
+          ap (λ (x : List PlainToken). run Between (x ++ rest)) b.alone ∙ run_step Between b.sign rest _ (step_opens b.sign b.text) ∙ ap (λ (x : PlainStatement). with_first x (run Between rest)) (sym b.same)
       | inr (inr k) ↦
           let b = closing_sign_of tokens s h k in
-          ap (λ (x : List PlainToken). run Between (x ++ rest)) b.alone ∙ run-closed Between b.sign rest (step_closes b.sign b.text) ∙ ap (λ (x : PlainStatement). with_first x (run Between rest)) (sym b.same)
+          ap (λ (x : List PlainToken). run Between (x ++ rest)) b.alone ∙ run_step Between b.sign rest _ (step_closes b.sign b.text) ∙ ap (λ (x : PlainStatement). with_first x (run Between rest)) (sym b.same)
     ]
 
 pub statements_run : (tokens : List PlainToken) (statements : List PlainStatement) (rest : List PlainToken) → SpellsAll tokens statements → run Between (tokens ++ rest) ≡ with_all statements (run Between rest)

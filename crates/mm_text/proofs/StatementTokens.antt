@@ -5,35 +5,24 @@ use Rattle.std.specs.List.{AllByRecursion}
 use Rattle.std.proofs.lemmas.Bool.{cond_both}
 use Rattle.std.proofs.lemmas.List.Sums.{sum_by-append, sum_by-cons}
 use Rattle.mm_text.specs.declared.statement.Kind.{Kind}
-use Rattle.mm_text.specs.declared.statement.Kind.TheVariants.{Constants, Variables, Distinct, Floating, Essential, Axiom, Provable, Opening, Closing}
+use Rattle.mm_text.specs.declared.statement.Kind.TheVariants.{Provable, Opening, Closing}
 use Rattle.mm_text.specs.Token.{PlainToken, is_label}
 use Rattle.mm_text.specs.Statement.{PlainStatement, label_in, Spells, SpellsAll, IsTail, bytes_in}
 use Rattle.mm_text.specs.Items.{Item, plain_tokens}
 use Rattle.mm_text.specs.Reading.{PlainFault, ReadsAs}
 use Rattle.mm_text.proofs.ItemFronts.{plain_tokens-append}
-
-all_left : (P : PlainToken → Type 0) (a b : List PlainToken) → AllByRecursion P (a ++ b) → AllByRecursion P a
-all_left P [] b h = tt
-all_left P (t ∷ a) b h = (h.0, all_left P a b h.1)
-
-all_right : (P : PlainToken → Type 0) (a b : List PlainToken) → AllByRecursion P (a ++ b) → AllByRecursion P b
-all_right P [] b h = h
-all_right P (t ∷ a) b h = all_right P a b h.1
+use Rattle.mm_text.proofs.Lists.{all_front, all_back}
 
 if_label : (P : PlainToken → Type 0) (tokens : List PlainToken) → AllByRecursion P tokens → IfSome (label_in tokens) P
 if_label P [] h = tt
 if_label P (t ∷ tokens) h = cond_both (is_label t.text) _ _ (λ (o : Option PlainToken). IfSome o P) (λ _. h.0) (λ _. tt)
 
 proof_of_tail : (P : PlainToken → Type 0) (s : PlainStatement) (kind : Kind) (tail : List PlainToken) → IsTail s kind tail → AllByRecursion P tail → AllByRecursion P s.proof
-proof_of_tail P s Constants tail k h = subst (AllByRecursion P) (sym k.proof) tt
-proof_of_tail P s Variables tail k h = subst (AllByRecursion P) (sym k.proof) tt
-proof_of_tail P s Distinct tail k h = subst (AllByRecursion P) (sym k.proof) tt
-proof_of_tail P s Floating tail k h = subst (AllByRecursion P) (sym k.proof) tt
-proof_of_tail P s Essential tail k h = subst (AllByRecursion P) (sym k.proof) tt
-proof_of_tail P s Axiom tail k h = subst (AllByRecursion P) (sym k.proof) tt
-proof_of_tail P s Provable tail k h = all_left P s.proof (k.stop ∷ []) (subst (AllByRecursion P) k.tokens h).1
+proof_of_tail P s Provable tail k h =
+    all_front P s.proof (k.stop ∷ []) (subst (AllByRecursion P) k.tokens h).1
 proof_of_tail P s Opening tail k h = subst (AllByRecursion P) (sym k.1) tt
 proof_of_tail P s Closing tail k h = subst (AllByRecursion P) (sym k.1) tt
+proof_of_tail P s _ tail k h = subst (AllByRecursion P) (sym k.proof) tt
 
 -- each token of a statement is so
 pub record AreAll (P : PlainToken → Type 0) (s : PlainStatement) : Type 0 where
@@ -45,13 +34,13 @@ pub record AreAll (P : PlainToken → Type 0) (s : PlainStatement) : Type 0 wher
 pub all_of_statement : (P : PlainToken → Type 0) (tokens : List PlainToken) (s : PlainStatement) → Spells tokens s → AllByRecursion P tokens → AreAll P s
 all_of_statement P tokens s h all =
     let parts = subst (AllByRecursion P) h.whole all in
-    let front = all_left P (h.head ++ s.symbols) h.tail parts in
-    let head = all_left P h.head s.symbols front in
+    let front = all_front P (h.head ++ s.symbols) h.tail parts in
+    let head = all_front P h.head s.symbols front in
     record {
       first = (subst (AllByRecursion P) h.first.1 head).0;
       label = subst (λ (o : Option PlainToken). IfSome o P) (sym h.label) (if_label P h.head head);
-      symbols = all_right P h.head s.symbols front;
-      proof = proof_of_tail P s s.kind h.tail h.ends (all_right P (h.head ++ s.symbols) h.tail parts);
+      symbols = all_back P h.head s.symbols front;
+      proof = proof_of_tail P s s.kind h.tail h.ends (all_back P (h.head ++ s.symbols) h.tail parts);
     }
 
 -- what follows for each of the statements
@@ -60,7 +49,7 @@ pub each_statement : (P : PlainToken → Type 0) (Q : PlainStatement → Type 0)
 each_statement P Q f tokens [] h all = tt
 each_statement P Q f tokens (s ∷ statements) h all =
     let parts = subst (AllByRecursion P) h.2 all in
-    (f h.0 s h.3 (all_left P h.0 h.1 parts), each_statement P Q f h.1 statements h.4 (all_right P h.0 h.1 parts))
+    (f h.0 s h.3 (all_front P h.0 h.1 parts), each_statement P Q f h.1 statements h.4 (all_back P h.0 h.1 parts))
 
 -- the tokens of a reading's statements are a front of the items' tokens
 pub record SpellsFront (its : List Item) (statements : List PlainStatement) : Type 0 where
@@ -80,7 +69,8 @@ reading_front its statements (Some fault) r = record {
 
 pub each_read : (P : PlainToken → Type 0) (Q : PlainStatement → Type 0) → ((tokens : List PlainToken) (s : PlainStatement) → Spells tokens s → AllByRecursion P tokens → Q s)
     → (its : List Item) (statements : List PlainStatement) → SpellsFront its statements → AllByRecursion P (plain_tokens its) → AllByRecursion Q statements
-each_read P Q f its statements front all = each_statement P Q f front.finished statements front.spelled (all_left P front.finished front.rest (subst (AllByRecursion P) front.whole all))
+each_read P Q f its statements front all = each_statement P Q f front.finished statements
+    front.spelled (all_front P front.finished front.rest (subst (AllByRecursion P) front.whole all))
 
 -- ---- bytes
 
@@ -91,29 +81,20 @@ text_bytes tokens = sum_by (λ t. length t.text) tokens
 pub bytes-append : (a b : List PlainToken) → text_bytes (a ++ b) ≡ text_bytes a + text_bytes b
 bytes-append a b = sum_by-append _ a b
 
-no_bytes : (tokens : List PlainToken) → tokens ≡ [] → text_bytes tokens ≡ 0
-no_bytes tokens e = ap text_bytes e
-
 tail_bytes : (s : PlainStatement) (kind : Kind) (tail : List PlainToken) → IsTail s kind tail → text_bytes s.proof ≤ text_bytes tail
-tail_bytes s Constants tail k = omega (arith, no_bytes s.proof k.proof)
-tail_bytes s Variables tail k = omega (arith, no_bytes s.proof k.proof)
-tail_bytes s Distinct tail k = omega (arith, no_bytes s.proof k.proof)
-tail_bytes s Floating tail k = omega (arith, no_bytes s.proof k.proof)
-tail_bytes s Essential tail k = omega (arith, no_bytes s.proof k.proof)
-tail_bytes s Axiom tail k = omega (arith, no_bytes s.proof k.proof)
 tail_bytes s Provable tail k = omega (arith, ap text_bytes k.tokens, bytes-append (k.equals ∷ []) (s.proof ++ k.stop ∷ []), bytes-append s.proof (k.stop ∷ []))
-tail_bytes s Opening tail k = omega (arith, no_bytes s.proof k.1)
-tail_bytes s Closing tail k = omega (arith, no_bytes s.proof k.1)
-
-first_bytes : (t : PlainToken) (others : List PlainToken) → length t.text ≤ text_bytes (t ∷ others)
-first_bytes t others = omega (arith, sum_by-cons (λ (u : PlainToken). length u.text) t others)
+tail_bytes s Opening tail k = omega (arith, ap text_bytes k.1)
+tail_bytes s Closing tail k = omega (arith, ap text_bytes k.1)
+tail_bytes s _ tail k = omega (arith, ap text_bytes k.proof)
 
 -- the tokens that a statement counts are among those that spell it
 pub statement_bytes : (tokens : List PlainToken) (s : PlainStatement) → Spells tokens s → bytes_in s ≤ text_bytes tokens
 statement_bytes tokens s h =
-    let head : length s.first.text ≤ text_bytes h.head = subst (λ (x : List PlainToken). length s.first.text ≤ text_bytes x) (sym h.first.1) (first_bytes s.first h.first.0) in
+    let head : text_bytes h.head ≡ text_bytes (s.first ∷ h.first.0) = ap text_bytes h.first.1 in
+    let first = sum_by-cons (λ (u : PlainToken). length u.text) s.first h.first.0 in
     let tail = tail_bytes s s.kind h.tail h.ends in
-    omega (arith, ap text_bytes h.whole, bytes-append (h.head ++ s.symbols) h.tail, bytes-append h.head s.symbols, head, tail)
+    let stated = bytes-append h.head s.symbols in
+    omega (arith, ap text_bytes h.whole, bytes-append (h.head ++ s.symbols) h.tail)
 
 pub statements_bytes : (tokens : List PlainToken) (statements : List PlainStatement) → SpellsAll tokens statements → sum_by bytes_in statements ≤ text_bytes tokens
 statements_bytes tokens [] h = omega arith

@@ -1,8 +1,6 @@
 -- The plain reader, one token at a time.
-use Rattle.std.proofs.Common.{◌≡◌, ℕ, ◌+◌, ◌==◌, List, [], ◌∷◌, ◌++◌, length, true, false, cond, if◌then◌else◌, Option, Some, None, refl, sym, ap, ◌∙◌, codes}
-use Rattle.std.specs.List.{list_any}
-use Rattle.std.specs.Cmp.Lexicographic.{bytes_decides}
-use Rattle.std.proofs.lemmas.Bool.{false≢true}
+use Rattle.std.proofs.Common.{◌≡◌, ℕ, ◌+◌, List, [], ◌∷◌, ◌++◌, length, true, false, cond, if◌then◌else◌, Option, Some, None, refl, sym, ap, ◌∙◌, codes}
+use Rattle.std.proofs.lemmas.Bool.{cond_both, false≢true}
 use Rattle.mm_text.specs.Items.{spells}
 use Rattle.mm_text.specs.declared.fault.TextRule.{TextRule}
 use Rattle.mm_text.specs.declared.fault.TextRule.TheVariants.{S1, S2, S3, S4, S5, S6}
@@ -10,14 +8,14 @@ use Rattle.mm_text.specs.declared.statement.Kind.{Kind}
 use Rattle.mm_text.specs.declared.statement.Kind.TheVariants.{Opening, Closing}
 use Rattle.mm_text.specs.declared.class.Keyword.{Keyword}
 use Rattle.mm_text.specs.declared.class.Keyword.TheVariants as keyword
-use Rattle.mm_text.specs.Token.{PlainToken, HoldsNoDollar, is_label}
-use Rattle.mm_text.specs.Statement.{PlainStatement}
+use Rattle.mm_text.specs.Token.{PlainToken, HoldsNoDollar, IsLabel, is_label}
+use Rattle.mm_text.specs.Statement.{PlainStatement, HasBody}
 use Rattle.mm_text.specs.Items.{Item, Plain, Wrong, Inclusion, End}
 use Rattle.mm_text.specs.Mirror.Class.{keyword_bytes}
 use Rattle.mm_text.specs.Mirror.Reader.{is_keyword, bare_statement, Part, Between, Labelled, InBody, InProof, Step, More, Whole, Opened, Closed, Faulty, has_count, is_full, step, PlainScope, scope_after_statement, scope_after_opening, scope_after_closing, has_none, fault_in, unfinished_fault, end_fault, inclusion_fault, unless, PlainReading, only_ending, with_statement, reading_of}
 use Rattle.mm_text.specs.Statement.{is_provable}
 use Rattle.mm_text.specs.Mirror.Steps.{is_block_sign, bare_kind, labelled_kind, ends_symbols}
-use Rattle.mm_text.proofs.TextFacts.{symbol-is_keyword}
+use Rattle.mm_text.proofs.TextFacts.{other_sign, symbol-is_keyword, label-is_keyword}
 
 -- ---- the reading of items, by the first
 
@@ -42,65 +40,35 @@ abbrev pub read_closed : PlainScope → Part → PlainToken → List Item → Pl
 read_closed scope part t items =
     if has_none scope.blocks then only_ending (Some (fault_in scope part S6 t)) else with_statement (bare_statement Closing t None) (reading_of (scope_after_closing scope) Between items)
 
-read_by : PlainScope → Part → PlainToken → List Item → Step → PlainReading
-read_by scope part t items s = elim s [
-  | More next ↦ reading_of scope next items
-  | Whole s ↦ with_statement s (reading_of (scope_after_statement scope) Between items)
-  | Opened ↦ with_statement (bare_statement Opening t None) (reading_of (scope_after_opening scope t) Between items)
-  | Closed ↦ read_closed scope part t items
-  | Faulty rule ↦ only_ending (Some (fault_in scope part rule t))
-]
-
-read_plain : (scope : PlainScope) (part : Part) (t : PlainToken) (items : List Item) → reading_of scope part (Plain t ∷ items) ≡ read_by scope part t items (step part t)
-unfolding reading_of read_by
-read_plain scope part t items = refl
-
 pub read_more : (scope : PlainScope) (part : Part) (t : PlainToken) (items : List Item) (next : Part) → step part t ≡ More next → reading_of scope part (Plain t ∷ items) ≡ reading_of scope next items
-unfolding read_by
-read_more scope part t items next e = read_plain scope part t items ∙ ap (read_by scope part t items) e
+unfolding reading_of
+read_more scope part t items next e = rw (e, reading_of) refl
 
 pub read_whole : (scope : PlainScope) (part : Part) (t : PlainToken) (items : List Item) (s : PlainStatement) → step part t ≡ Whole s → reading_of scope part (Plain t ∷ items) ≡ with_statement s (reading_of (scope_after_statement scope) Between items)
-unfolding read_by
-read_whole scope part t items s e = read_plain scope part t items ∙ ap (read_by scope part t items) e
+unfolding reading_of
+read_whole scope part t items s e = rw (e, reading_of) refl
 
 pub read_opened : (scope : PlainScope) (part : Part) (t : PlainToken) (items : List Item) → step part t ≡ Opened → reading_of scope part (Plain t ∷ items) ≡ with_statement (bare_statement Opening t None) (reading_of (scope_after_opening scope t) Between items)
-unfolding read_by
-read_opened scope part t items e = read_plain scope part t items ∙ ap (read_by scope part t items) e
+unfolding reading_of
+read_opened scope part t items e = rw (e, reading_of) refl
 
 pub read_closing : (scope : PlainScope) (part : Part) (t : PlainToken) (items : List Item) → step part t ≡ Closed → reading_of scope part (Plain t ∷ items) ≡ read_closed scope part t items
-unfolding read_by
-read_closing scope part t items e = read_plain scope part t items ∙ ap (read_by scope part t items) e
+unfolding reading_of
+read_closing scope part t items e = rw (e, reading_of) refl
 
 pub read_faulty : (scope : PlainScope) (part : Part) (t : PlainToken) (items : List Item) (rule : TextRule) → step part t ≡ Faulty rule → reading_of scope part (Plain t ∷ items) ≡ only_ending (Some (fault_in scope part rule t))
-unfolding read_by
-read_faulty scope part t items rule e = read_plain scope part t items ∙ ap (read_by scope part t items) e
+unfolding reading_of
+read_faulty scope part t items rule e = rw (e, reading_of) refl
 
 -- ---- words and keywords
 
--- a text with no `$` is no text that holds one
-other_text : (text sign : List ℕ) → HoldsNoDollar text → list_any (λ b. b == 36) sign ≡ true → spells text sign ≡ false
-other_text text sign word dollar =
-    elim (spells text sign) as (λ same. spells text sign ≡ same → same ≡ false) [
-      | true ↦ λ e. absurd (false≢true (sym word ∙ ap (list_any (λ b. b == 36)) ((bytes_decides text sign).0 e) ∙ dollar))
-      | false ↦ λ e. refl
-    ] refl
-
 pub keyword_is_one : (k : Keyword) → is_keyword (keyword_bytes k) ≡ true
 keyword_is_one keyword.Constants = refl
-keyword_is_one keyword.Variables = refl
-keyword_is_one keyword.Distinct = refl
-keyword_is_one keyword.Floating = refl
-keyword_is_one keyword.Essential = refl
-keyword_is_one keyword.Axiom = refl
-keyword_is_one keyword.Provable = refl
-keyword_is_one keyword.Stop = refl
-keyword_is_one keyword.Equals = refl
-keyword_is_one keyword.Opening = refl
-keyword_is_one keyword.Closing = refl
+keyword_is_one _ = refl
 
 -- ---- the first token of a statement
 
-start_by : PlainToken → Option Kind → Step
+abbrev pub start_by : PlainToken → Option Kind → Step
 start_by t None = Faulty S1
 start_by t (Some kind) = More (InBody (bare_statement kind t None))
 
@@ -112,81 +80,50 @@ pub step_closes : (t : PlainToken) → t.text ≡ codes "$}" → step Between t 
 unfolding step
 step_closes t e = rw e refl
 
-start_keyword : (t : PlainToken) (k : Keyword) → t.text ≡ keyword_bytes k → is_block_sign k ≡ false → step Between t ≡ start_by t (bare_kind k)
-unfolding step start_by
-start_keyword t keyword.Constants e b = rw e refl
-start_keyword t keyword.Variables e b = rw e refl
-start_keyword t keyword.Distinct e b = rw e refl
-start_keyword t keyword.Floating e b = rw e refl
-start_keyword t keyword.Essential e b = rw e refl
-start_keyword t keyword.Axiom e b = rw e refl
-start_keyword t keyword.Provable e b = rw e refl
-start_keyword t keyword.Stop e b = rw e refl
-start_keyword t keyword.Equals e b = rw e refl
+pub start_keyword : (t : PlainToken) (k : Keyword) → t.text ≡ keyword_bytes k
+    → is_block_sign k ≡ false → step Between t ≡ start_by t (bare_kind k)
+unfolding step
 start_keyword t keyword.Opening e b = absurd (false≢true (sym b))
 start_keyword t keyword.Closing e b = absurd (false≢true (sym b))
+start_keyword t _ e b = rw e refl
 
-pub step_begins : (t : PlainToken) (k : Keyword) (kind : Kind) → t.text ≡ keyword_bytes k → is_block_sign k ≡ false → bare_kind k ≡ Some kind → step Between t ≡ More (InBody (bare_statement kind t None))
-unfolding start_by
-step_begins t k kind e b begins = start_keyword t k e b ∙ ap (start_by t) begins
-
-pub step_begins_none : (t : PlainToken) (k : Keyword) → t.text ≡ keyword_bytes k → is_block_sign k ≡ false → bare_kind k ≡ None → step Between t ≡ Faulty S1
-unfolding start_by
-step_begins_none t k e b begins = start_keyword t k e b ∙ ap (start_by t) begins
-
-start_word : (t : PlainToken) → HoldsNoDollar t.text → step Between t ≡ cond (is_label t.text) (More (Labelled t)) (Faulty S2)
+start_other : (t : PlainToken) → is_keyword t.text ≡ false
+    → step Between t ≡ cond (is_label t.text) (More (Labelled t)) (Faulty S2)
 unfolding step
-start_word t word =
-    let constants = other_text t.text (codes "$c") word refl in
-    let variables = other_text t.text (codes "$v") word refl in
-    let distinct = other_text t.text (codes "$d") word refl in
-    let opening = other_text t.text (codes "${") word refl in
-    let closing = other_text t.text (codes "$}") word refl in
-    let none = symbol-is_keyword t.text word in
-    rw none (simp (constants, variables, distinct, opening, closing))
+start_other t none =
+    let ne = other_sign t.text in
+    rw none (simp (ne (codes "$c") none refl, ne (codes "$v") none refl, ne (codes "$d") none refl)
+    (simp (ne (codes "${") none refl, ne (codes "$}") none refl)))
 
-pub step_label : (t : PlainToken) → HoldsNoDollar t.text → is_label t.text ≡ true → step Between t ≡ More (Labelled t)
-step_label t word named = start_word t word ∙ ap (λ b. cond b (More (Labelled t)) (Faulty S2)) named
+pub step_label : (t : PlainToken) → IsLabel t.text → step Between t ≡ More (Labelled t)
+step_label t named =
+    start_other t (label-is_keyword t.text named)
+    ∙ ap (λ b. cond b (More (Labelled t)) (Faulty S2)) named
 
-pub step_no_label : (t : PlainToken) → HoldsNoDollar t.text → is_label t.text ≡ false → step Between t ≡ Faulty S2
-step_no_label t word named = start_word t word ∙ ap (λ b. cond b (More (Labelled t)) (Faulty S2)) named
+pub step_no_label : (t : PlainToken) → is_keyword t.text ≡ false → is_label t.text ≡ false
+    → step Between t ≡ Faulty S2
+step_no_label t none named =
+    start_other t none ∙ ap (λ b. cond b (More (Labelled t)) (Faulty S2)) named
 
 -- ---- the token after a label
 
-labelled_by : PlainToken → Option Kind → Step
+abbrev pub labelled_by : PlainToken → Option Kind → Step
 labelled_by label None = Faulty S3
 labelled_by label (Some kind) = More (InBody (bare_statement kind label (Some label)))
 
-label_keyword : (label t : PlainToken) (k : Keyword) → t.text ≡ keyword_bytes k → step (Labelled label) t ≡ labelled_by label (labelled_kind k)
-unfolding step labelled_by
+pub label_keyword : (label t : PlainToken) (k : Keyword) → t.text ≡ keyword_bytes k
+    → step (Labelled label) t ≡ labelled_by label (labelled_kind k)
+unfolding step
 label_keyword label t keyword.Constants e = rw e refl
-label_keyword label t keyword.Variables e = rw e refl
-label_keyword label t keyword.Distinct e = rw e refl
-label_keyword label t keyword.Floating e = rw e refl
-label_keyword label t keyword.Essential e = rw e refl
-label_keyword label t keyword.Axiom e = rw e refl
-label_keyword label t keyword.Provable e = rw e refl
-label_keyword label t keyword.Stop e = rw e refl
-label_keyword label t keyword.Equals e = rw e refl
-label_keyword label t keyword.Opening e = rw e refl
-label_keyword label t keyword.Closing e = rw e refl
-
-pub step_after_label : (label t : PlainToken) (k : Keyword) (kind : Kind) → t.text ≡ keyword_bytes k → labelled_kind k ≡ Some kind → step (Labelled label) t ≡ More (InBody (bare_statement kind label (Some label)))
-unfolding labelled_by
-step_after_label label t k kind e begins = label_keyword label t k e ∙ ap (labelled_by label) begins
-
-pub step_after_label_none : (label t : PlainToken) (k : Keyword) → t.text ≡ keyword_bytes k → labelled_kind k ≡ None → step (Labelled label) t ≡ Faulty S3
-unfolding labelled_by
-step_after_label_none label t k e begins = label_keyword label t k e ∙ ap (labelled_by label) begins
+label_keyword label t _ e = rw e refl
 
 pub step_label_word : (label t : PlainToken) → HoldsNoDollar t.text → step (Labelled label) t ≡ Faulty S3
 unfolding step
 step_label_word label t word =
-    let floating = other_text t.text (codes "$f") word refl in
-    let essential = other_text t.text (codes "$e") word refl in
-    let axiom_sign = other_text t.text (codes "$a") word refl in
-    let provable = other_text t.text (codes "$p") word refl in
-    simp (floating, essential, axiom_sign, provable)
+    let none = symbol-is_keyword t.text word in
+    let ne = other_sign t.text in
+    simp (ne (codes "$f") none refl, ne (codes "$e") none refl)
+    (simp (ne (codes "$a") none refl, ne (codes "$p") none refl))
 
 -- ---- the token after symbols
 
@@ -235,3 +172,51 @@ step_in_proof s t k e stop = proof_keyword s t k e ∙ simp stop
 pub step_proof_token : (s : PlainStatement) (t : PlainToken) → HoldsNoDollar t.text → step (InProof s) t ≡ More (InProof (record s { proof = s.proof ++ t ∷ [] }))
 unfolding step
 step_proof_token s t word = let none = symbol-is_keyword t.text word in simp none
+
+-- ---- what a token leaves
+
+abbrev pub IsUnfinished : Part → Type 0
+IsUnfinished Between = ⊥
+IsUnfinished part = Unit {0}
+
+-- a part of a statement that may have symbols, or of none
+abbrev pub IsLongPart : Part → Type 0
+IsLongPart (InBody s) = HasBody s.kind
+IsLongPart (InProof s) = HasBody s.kind
+IsLongPart part = Unit {0}
+
+-- a statement is left unfinished, or ends, and may have symbols still
+abbrev pub Leads : Part → Step → Type 0
+Leads part (More next) = IsUnfinished next × (IsLongPart part → IsLongPart next)
+Leads part (Whole s) = IsLongPart part → HasBody s.kind
+Leads part other = Unit {0}
+
+pub step_leads : (part : Part) (t : PlainToken) → Leads part (step part t)
+unfolding step
+step_leads Between t =
+    let So : Step → Type 0 = Leads Between in
+    cond_both (spells t.text (codes "$c")) _ _ So (λ _. (tt, λ _. tt))
+    (λ _. cond_both (spells t.text (codes "$v")) _ _ So (λ _. (tt, λ _. tt))
+    (λ _. cond_both (spells t.text (codes "$d")) _ _ So (λ _. (tt, λ _. tt))
+    (λ _. cond_both (spells t.text (codes "${")) _ _ So (λ _. tt)
+    (λ _. cond_both (spells t.text (codes "$}")) _ _ So (λ _. tt)
+    (λ _. cond_both (is_keyword t.text) _ _ So (λ _. tt)
+    (λ _. cond_both (is_label t.text) _ _ So (λ _. (tt, λ _. tt)) (λ _. tt)))))))
+step_leads (Labelled label) t =
+    let So : Step → Type 0 = Leads (Labelled label) in
+    cond_both (spells t.text (codes "$f")) _ _ So (λ _. (tt, λ _. tt))
+    (λ _. cond_both (spells t.text (codes "$e")) _ _ So (λ _. (tt, λ _. tt))
+    (λ _. cond_both (spells t.text (codes "$a")) _ _ So (λ _. (tt, λ _. tt))
+    (λ _. cond_both (spells t.text (codes "$p")) _ _ So (λ _. (tt, λ _. tt)) (λ _. tt))))
+step_leads (InBody s) t =
+    let So : Step → Type 0 = Leads (InBody s) in
+    cond_both (is_keyword t.text) _ _ So
+    (λ _. cond_both (spells t.text (cond (is_provable s.kind) (codes "$=") (codes "$."))) _ _ So
+    (λ _. cond_both (has_count s.kind (length s.symbols)) _ _ So
+    (λ _. cond_both (is_provable s.kind) _ _ So (λ _. (tt, λ h. h)) (λ _ h. h)) (λ _. tt))
+    (λ _. tt))
+    (λ _. cond_both (is_full s.kind (length s.symbols)) _ _ So (λ _. tt) (λ _. (tt, λ h. h)))
+step_leads (InProof s) t =
+    let So : Step → Type 0 = Leads (InProof s) in
+    cond_both (is_keyword t.text) _ _ So
+    (λ _. cond_both (spells t.text (codes "$.")) _ _ So (λ _ h. h) (λ _. tt)) (λ _. (tt, λ h. h))

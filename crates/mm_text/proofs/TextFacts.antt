@@ -1,8 +1,10 @@
 -- Texts of tokens: keywords, labels, and texts that hold no `$`.
-use Rattle.std.proofs.Common.{◌≡◌, ◌≢◌, ℕ, zero, suc, ◌<◌, ◌≤◌, ◌==◌, length, get_or, List, [], ◌∷◌, Bool, true, false, refl, sym, ap, ◌∙◌, Contains, arith, ◌⊎◌, inl, inr}
+use Rattle.std.proofs.Common.{◌≡◌, ◌≢◌, ℕ, ◌≤◌, ◌==◌, length, List, [], ◌∷◌, Bool, true, false, refl, sym, ap, ◌∙◌, arith, ◌⊎◌, inl, inr}
 use Rattle.std.specs.List.{list_any, list_all}
 use Rattle.std.specs.Cmp.Lexicographic.{bytes_decides}
-use Rattle.std.proofs.lemmas.Bool.{or_parts, or_cases, or_left, or_right, and_parts, false≢true, both_ways, false_from_ne_true, eqb-true}
+use Rattle.std.proofs.lemmas.Bool.{or_parts, and_parts, false≢true, both_ways, false_from_ne_true, eqb-true}
+use Rattle.std.proofs.lemmas.List.{get_or_default}
+use Rattle.std.proofs.lemmas.List.Folds.{Any-from_list_any, list_any_at}
 use Rattle.mm_text.specs.Items.{spells}
 use Rattle.mm_text.specs.Token.{PlainToken, IsLabel, is_label_byte, HoldsNoDollar}
 use Rattle.mm_text.specs.Statement.{keywords, IsKeyword}
@@ -20,26 +22,16 @@ same_text-ne a b ne = false_from_ne_true _ (λ e. ne (same_text-true a b e))
 pub same_text-false : (a b : List ℕ) → spells a b ≡ false → a ≢ b
 same_text-false a b e same = both_ways _ e (same_text_from a b same)
 
--- ---- lists of texts
-
-any-Contains : (text : List ℕ) (xs : List (List ℕ)) → list_any (spells text) xs ≡ true → Contains xs text
-any-Contains text [] e = absurd (false≢true e)
-any-Contains text (x ∷ xs) e =
-    elim (or_cases (spells text x) (list_any (spells text) xs) e) [
-      | inl here ↦ (zero, omega arith, sym (same_text-true text x here))
-      | inr there ↦ let c = any-Contains text xs there in (suc c.0, omega (arith, c.1), c.2)
-    ]
-
-Contains-any : (text : List ℕ) (xs : List (List ℕ)) (k : ℕ) → k < length xs → get_or xs k text ≡ text → list_any (spells text) xs ≡ true
-Contains-any text [] k lt e = absurd (omega arith)
-Contains-any text (x ∷ xs) zero lt e = or_left _ _ (same_text_from text x (sym e))
-Contains-any text (x ∷ xs) (suc k) lt e = or_right (spells text x) (list_any (spells text) xs) (Contains-any text xs k (omega arith) e)
+-- ---- keywords
 
 pub is_keyword-true : (text : List ℕ) → is_keyword text ≡ true → IsKeyword text
-is_keyword-true text e = any-Contains text keywords e
+is_keyword-true text e =
+    let (k, d, lt, same, there) = Any-from_list_any (spells text) keywords e in
+    (k, lt, get_or_default keywords k text d lt ∙ same ∙ sym (same_text-true text _ there))
 
 pub is_keyword_from : (text : List ℕ) → IsKeyword text → is_keyword text ≡ true
-is_keyword_from text h = Contains-any text keywords h.0 h.1 h.2
+is_keyword_from text (k, lt, e) =
+    list_any_at (spells text) keywords k text lt (same_text_from text _ (sym e))
 
 pub is_keyword-false : (text : List ℕ) → is_keyword text ≡ false → ¬ (IsKeyword text)
 is_keyword-false text e h = both_ways _ e (is_keyword_from text h)
@@ -91,9 +83,10 @@ symbol-is_keyword text h = no_keyword text (no_dollar-begins text h)
 pub label-is_keyword : (text : List ℕ) → IsLabel text → is_keyword text ≡ false
 label-is_keyword text h = no_keyword text (label-begins text h)
 
--- nor is it one by itself
-pub label_ne : (text key : List ℕ) → IsLabel text → is_keyword key ≡ true → spells text key ≡ false
-label_ne text key h k = same_text-ne text key (λ e. both_ways _ (label-is_keyword text h) (ap is_keyword e ∙ k))
+-- and what is no keyword is none of them
+pub other_sign : (text key : List ℕ) → is_keyword text ≡ false → is_keyword key ≡ true
+    → spells text key ≡ false
+other_sign text key none k = same_text-ne text key (λ e. both_ways _ none (ap is_keyword e ∙ k))
 
 -- a token is a keyword or holds no `$`
 abbrev pub IsSigned : PlainToken → Type 0

@@ -1,11 +1,12 @@
 -- How the tokens of a file come from its bytes: white space is skipped, and a run of other bytes is one token.
-use Rattle.std.proofs.Common.{◌≡◌, ℕ, ◌+◌, ◌-◌, ◌<◌, ◌≤◌, ◌==◌, ⊎_elim, List, [], ◌∷◌, ◌++◌, length, get_or, drop, cond, true, false, refl, sym, ap, ◌∙◌, subst, arith, eq-eqb, add-zero}
+use Rattle.std.proofs.Common.{◌≡◌, ℕ, ◌+◌, ◌-◌, ◌<◌, ◌≤◌, ◌==◌, ⊎_elim, List, [], ◌∷◌, ◌++◌, length, get_or, drop, true, false, refl, sym, ap, ◌∙◌, subst, arith, eq-eqb, add-zero}
 use Rattle.std.specs.Prelude.{slice_range}
 use Rattle.std.specs.List.{AllByRecursion}
 use Rattle.std.proofs.lemmas.List.{drop_more, drop_all, drop-drop, take-append-drop, get_or-drop, get_or-take, length-drop, length-take-le}
 use Rattle.std.proofs.lemmas.Bool.{ne_eqb, both_ways}
 use Rattle.std.proofs.str.Laws.{order}
 use Rattle.mm_text.specs.Token.{PlainToken, is_space, with_byte, tokens_from}
+use Rattle.mm_text.proofs.StepByStep.{tokens_by}
 use Rattle.mm_text.proofs.Lists.{all_places}
 
 -- a space in front is skipped
@@ -32,22 +33,11 @@ pub begin_earlier : (at : ℕ) (tokens : List PlainToken) → BeginFrom (at + 1)
 begin_earlier at [] h = tt
 begin_earlier at (t ∷ tokens) h = omega arith
 
-with_byte_begins : (file at b : ℕ) (tokens : List PlainToken) → BeginFrom at (with_byte file at b tokens)
-with_byte_begins file at b [] = omega arith
-with_byte_begins file at b (t ∷ tokens) =
-    elim (t.at == at + 1) as (λ joined. BeginFrom at (cond joined (record { text = b ∷ t.text; file = file; at = at } ∷ tokens) (record { text = b ∷ []; file = file; at = at } ∷ t ∷ tokens))) [
-      | true ↦ omega arith
-      | false ↦ omega arith
-    ]
-
 pub tokens_from_begin : (file at : ℕ) (bytes : List ℕ) → BeginFrom at (tokens_from file at bytes)
-unfolding tokens_from
-tokens_from_begin file at [] = tt
-tokens_from_begin file at (b ∷ bytes) =
-    elim (is_space b) as (λ space. BeginFrom at (cond space (tokens_from file (at + 1) bytes) (with_byte file at b (tokens_from file (at + 1) bytes)))) [
-      | true ↦ begin_earlier at _ (tokens_from_begin file (at + 1) bytes)
-      | false ↦ with_byte_begins file at b (tokens_from file (at + 1) bytes)
-    ]
+tokens_from_begin file at bytes =
+    tokens_by file (λ n _ tokens. BeginFrom n tokens) (λ n. tt)
+    (λ n b bs tokens inner. begin_earlier n tokens inner) (λ n b bs tokens inner. omega arith)
+    (λ n b bs t tokens e inner. omega arith) at bytes
 
 -- bytes none of which is white space
 abbrev pub AreInk : List ℕ → Type 0

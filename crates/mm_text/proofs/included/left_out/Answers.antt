@@ -1,9 +1,9 @@
-use Rattle.std.proofs.Common.{◌≡◌, ℕ, ◌≤◌, List, false, map, length, replicate, ap, sym, subst}
-use Rattle.std.proofs.Common.{◌∙◌, IfOk, arith}
+use Rattle.std.proofs.Common.{◌≡◌, ◌≤◌, false, map, length, replicate, ap, sym}
+use Rattle.std.proofs.Common.{◌∙◌, arith}
 use Rattle.std.proofs.lemmas.List.{length-map, length-replicate, with_items_is}
 use Rattle.mm_text.specs.Files.{plain_file}
 use Rattle.mm_text.specs.Items.{items}
-use Rattle.mm_text.specs.Mirror.Included.{AreOfFiles, met_with, unmet}
+use Rattle.mm_text.specs.Mirror.Included.{met_with, unmet}
 use Rattle.mm_text.proofs.LeftOut.{items_of_files, unmet_is_left_out, length-met_with}
 use Rattle.mm_text.proofs.LeftOut.{left_out-few}
 use Rattle.mm_text.proofs.included.left_out.Goals as goal
@@ -22,8 +22,7 @@ meet_items-requires c =
     ap length c.deref_mut.ensures.value
     ∙ ap length (c.in_ok-met.ensures.items_if_clones_equal (λ y h. h))
     ∙ length-replicate _ _ ∙ sym (length-map c.args.files.now plain_file) in
-    subst (AreOfFiles (length met)) (sym c.in-Ok.ensures.0)
-    (subst (λ count. AreOfFiles count (items files)) (sym many) (items_of_files files))
+    rw (c.in-Ok.ensures.0, many) (items_of_files files)
 
 pub returns-clause-whole : goal.returns-clause-whole
 returns-clause-whole c =
@@ -38,5 +37,4 @@ returns-clause-whole c =
     c.deref.ensures.value ∙ with_items_is c.in_ok-met.met c.meet_items.new.met long
     ∙ c.meet_items.ensures ∙ (λ i. met_with (fresh i) (c.in-Ok.ensures.0 i)) in
     λ whole.
-    subst (λ (l : List ℕ). IfOk c.unmet.result (λ numbers. numbers.items ≡ l))
-    (ap unmet made ∙ unmet_is_left_out files) c.unmet.ensures
+    rw (ap unmet made ∙ unmet_is_left_out files) at c.unmet.ensures

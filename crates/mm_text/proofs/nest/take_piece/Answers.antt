@@ -9,43 +9,38 @@ use Rattle.mm_text.proofs.nest.take_piece.Goals as goal
 
 pub returns-then-is_inclusion-clause-takes : goal.returns-then-is_inclusion-clause-takes
 returns-then-is_inclusion-clause-takes c =
-    let p = c.args.place.now in
     let h = rw c.in-Ok-Some.field-0-is at c.in-Ok-Some.ensures.takes in (
-      ap (pieces p.file Outside) h.0 ∙ pieces-inclusion p.file (plain_token c.in-Ok-Some.token) _ (sym c.is_inclusion.ensures ∙ c.if-is_inclusion.true),
+      ap (pieces _ Outside) h.0 ∙ pieces-inclusion _ (plain_token c.in-Ok-Some.token) _ (sym c.is_inclusion.ensures ∙ c.if-is_inclusion.true),
       h.1.at,
     )
 
 pub returns-in-Err-clause-takes : goal.returns-in-Err-clause-takes
-returns-in-Err-clause-takes c =
-    let p = c.args.place.now in (
-      ap (pieces p.file Outside) c.in-Err.ensures.takes.0 ∙ pieces-broken p.file Outside _ _ [],
-      tt,
-      c.in-Err.ensures.takes.1,
-    )
+returns-in-Err-clause-takes c = (
+  ap (pieces _ Outside) c.in-Err.ensures.takes.0 ∙ pieces-broken _ Outside _ _ [],
+  tt,
+  c.in-Err.ensures.takes.1,
+)
 
 pub returns-in-Ok-None-clause-takes : goal.returns-in-Ok-None-clause-takes
 returns-in-Ok-None-clause-takes c =
-    let p = c.args.place.now in
     let h = rw c.in-Ok-None.field-0-is at c.in-Ok-None.ensures.takes in
-    ap (pieces p.file Outside) h ∙ pieces-end p.file ∙ ap (λ n. Met (End n) ∷ []) (sym (ap (λ (q : Place). q.file) c.in-Ok-None.ensures.same))
+    ap (pieces _ Outside) h ∙ pieces-end _ ∙ ap (λ n. Met (End n) ∷ []) (sym (ap (λ (q : Place). q.file) c.in-Ok-None.ensures.same))
 
 -- a token without `$` is a word
 pub returns-then-not-has_dollar-clause-takes : goal.returns-then-not-has_dollar-clause-takes
 returns-then-not-has_dollar-clause-takes c =
-    let p = c.args.place.now in
     let t = plain_token c.in-Ok-Some.token in
     let h = rw c.in-Ok-Some.field-0-is at c.in-Ok-Some.ensures.takes in
     let lacks : holds_dollar t.text ≡ false = sym h.1.dollar ∙ c.if-not-has_dollar.true in (
-      ap (pieces p.file Outside) h.0 ∙ pieces-class p.file t _ class.Word (no_dollar-spells t.text 91 lacks) lacks,
+      ap (pieces _ Outside) h.0 ∙ pieces-class _ t _ class.Word (no_dollar-spells t.text 91 lacks) lacks,
       lacks,
       h.1.at,
     )
 
 pub returns-else-is_inclusion-clause-takes : goal.returns-else-is_inclusion-clause-takes
 returns-else-is_inclusion-clause-takes c =
-    let p = c.args.place.now in
     let h = rw c.in-Ok-Some.field-0-is at c.in-Ok-Some.ensures.takes in (
-      ap (pieces p.file Outside) h.0 ∙ pieces-class p.file (plain_token c.in-Ok-Some.token) _ _ (sym c.is_inclusion.ensures ∙ c.if-is_inclusion.false) c.class_of_dollar.ensures,
+      ap (pieces _ Outside) h.0 ∙ pieces-class _ (plain_token c.in-Ok-Some.token) _ _ (sym c.is_inclusion.ensures ∙ c.if-is_inclusion.false) c.class_of_dollar.ensures,
       class_tells (plain_token c.in-Ok-Some.token) c.class_of_dollar.result c.class_of_dollar.ensures,
       h.1.at,
     )

@@ -1,10 +1,10 @@
-use Rattle.std.proofs.Common.{None, refl, ap, ◌∙◌, subst}
+use Rattle.std.proofs.Common.{None, refl, ap, ◌∙◌}
 use Rattle.mm_text.specs.Token.{plain_token}
 use Rattle.mm_text.specs.Mirror.Class.{keyword_bytes}
 use Rattle.mm_text.specs.Mirror.Next.{items_with}
 use Rattle.mm_text.specs.Mirror.Reader.{Between}
-use Rattle.mm_text.specs.Mirror.Steps.{plain_scope, Closes}
-use Rattle.mm_text.proofs.PartLaws.{is_keyword_first, answers_wrong, gives_opening, closes_block, answers_closing}
+use Rattle.mm_text.specs.Mirror.Steps.{plain_scope}
+use Rattle.mm_text.proofs.PartLaws.{answers_wrong, gives_opening, closes_block, answers_closing}
 use Rattle.mm_text.proofs.parts.from_first.Goals as goal
 
 pub returns-in-Wrong : goal.returns-in-Wrong
@@ -15,19 +15,19 @@ returns-in-Wrong c =
 pub returns-in-Opening : goal.returns-in-Opening
 returns-in-Opening c =
     let t = plain_token c.args.first in
-    let first = is_keyword_first t c.args.cursor.now c.args.class _ c.requires.class c.in-Keyword.is in
-    gives_opening (plain_scope c.args.scope.now) _ _ c.args.cursor.now t _ _ first.0 (first.1 ∙ ap keyword_bytes c.in-Opening.is) c.begin.ensures c.enter.ensures
+    gives_opening (plain_scope c.args.scope.now) _ _ c.args.cursor.now t _ _ (ap (λ k. items_with t k c.args.cursor.now) c.in-Keyword.is)
+    ((rw c.in-Keyword.is at c.requires.class) ∙ ap keyword_bytes c.in-Opening.is) c.begin.ensures c.enter.ensures
 
 pub returns-else-not-leave : goal.returns-else-not-leave
 returns-else-not-leave c =
     let t = plain_token c.args.first in
-    let first = is_keyword_first t c.args.cursor.now c.args.class _ c.requires.class c.in-Keyword.is in
-    closes_block (plain_scope c.args.scope.now) _ _ c.args.cursor.now t _ first.0 (first.1 ∙ ap keyword_bytes c.in-Closing.is) c.begin-in-Closing.ensures
-    (subst (λ closed. Closes (plain_scope c.args.scope.now) closed (plain_scope c.leave.new.self)) c.if-not-leave.false c.leave.ensures)
+    closes_block (plain_scope c.args.scope.now) _ _ c.args.cursor.now t _ (ap (λ k. items_with t k c.args.cursor.now) c.in-Keyword.is)
+    ((rw c.in-Keyword.is at c.requires.class) ∙ ap keyword_bytes c.in-Closing.is) c.begin-in-Closing.ensures
+    (rw c.if-not-leave.false at c.leave.ensures)
 
 pub returns-then-not-leave : goal.returns-then-not-leave
 returns-then-not-leave c =
     let t = plain_token c.args.first in
-    let first = is_keyword_first t c.args.cursor.now c.args.class _ c.requires.class c.in-Keyword.is in
-    answers_closing (plain_scope c.args.scope.now) _ _ c.args.cursor.now t _ first.0 (first.1 ∙ ap keyword_bytes c.in-Closing.is)
-    (subst (λ closed. Closes (plain_scope c.args.scope.now) closed (plain_scope c.leave.new.self)) c.if-not-leave.true c.leave.ensures) c.fault-then-not-leave.ensures
+    answers_closing (plain_scope c.args.scope.now) _ _ c.args.cursor.now t _ (ap (λ k. items_with t k c.args.cursor.now) c.in-Keyword.is)
+    ((rw c.in-Keyword.is at c.requires.class) ∙ ap keyword_bytes c.in-Closing.is)
+    (rw c.if-not-leave.true at c.leave.ensures) c.fault-then-not-leave.ensures

@@ -1,10 +1,9 @@
 use Rattle.std.proofs.Common.{refl, sym, ap, ◌∙◌, length, arith}
-use Rattle.std.proofs.lemmas.Result.{err_from_is_err_and}
 use Rattle.mm_text.specs.Token.{plain_token}
 use Rattle.mm_text.specs.Statement.{plain_statement}
 use Rattle.mm_text.specs.Mirror.Reader.{InBody, reading_of}
 use Rattle.mm_text.specs.Mirror.Steps.{plain_scope}
-use Rattle.mm_text.proofs.PartLaws.{answers_same, answers_refused, same_more, reads_err}
+use Rattle.mm_text.proofs.PartLaws.{answers_refused, same_more, reads_err}
 use Rattle.mm_text.proofs.parts.words_of_body.Goals as goal
 
 pub loop-word-init : goal.loop-word-init
@@ -26,10 +25,9 @@ loop-word-preserved c =
 
 pub returns-in_err-add_symbol-clause-reads : goal.returns-in_err-add_symbol-clause-reads
 returns-in_err-add_symbol-clause-reads c =
-    let p = err_from_is_err_and c.from_residual.result c.from_residual.ensures.1 in
-    reads_err _ _ _ _ p.0 p.1 p.2
-    (answers_same _ _ _ c.loop-word.invariant.0
-    (answers_refused (plain_scope c.args.scope.now) (InBody (plain_statement c.loop-word.into)) (InBody (plain_statement c.add_symbol.new.into)) c.loop-word.cursor c.word.new.self (plain_token c.in-Some.word) _ tt c.in-Some.ensures.first c.in_err-add_symbol.ensures))
+    reads_err _ _ _ _ _ c.from_residual.ensures.1 c.loop-word.invariant.0
+    (answers_refused _ (InBody (plain_statement c.loop-word.into)) _ _ _ _ _ tt
+    c.in-Some.ensures.first c.in_err-add_symbol.ensures)
 
 pub returns-in_err-add_symbol-clause-fewer : goal.returns-in_err-add_symbol-clause-fewer
 returns-in_err-add_symbol-clause-fewer c = let count = ap length c.in-Some.ensures.first in omega arith

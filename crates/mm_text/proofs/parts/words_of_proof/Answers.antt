@@ -1,10 +1,9 @@
 use Rattle.std.proofs.Common.{refl, sym, ap, ◌∙◌, length, arith}
-use Rattle.std.proofs.lemmas.Result.{err_from_is_err_and}
 use Rattle.mm_text.specs.Token.{plain_token}
 use Rattle.mm_text.specs.Statement.{plain_statement}
 use Rattle.mm_text.specs.Mirror.Reader.{InProof, reading_of}
 use Rattle.mm_text.specs.Mirror.Steps.{plain_scope}
-use Rattle.mm_text.proofs.PartLaws.{answers_same, answers_refused, same_more, reads_err}
+use Rattle.mm_text.proofs.PartLaws.{answers_refused, same_more, reads_err}
 use Rattle.mm_text.proofs.parts.words_of_proof.Goals as goal
 
 pub loop-word-init : goal.loop-word-init
@@ -23,10 +22,9 @@ loop-word-preserved c =
 
 pub returns-in_err-add_to_proof-clause-reads : goal.returns-in_err-add_to_proof-clause-reads
 returns-in_err-add_to_proof-clause-reads c =
-    let p = err_from_is_err_and c.from_residual.result c.from_residual.ensures.1 in
-    reads_err _ _ _ _ p.0 p.1 p.2
-    (answers_same _ _ _ c.loop-word.invariant.0
-    (answers_refused (plain_scope c.args.scope.now) (InProof (plain_statement c.loop-word.into)) (InProof (plain_statement c.add_to_proof.new.into)) c.loop-word.cursor c.word.new.self (plain_token c.in-Some.word) _ tt c.in-Some.ensures.first c.in_err-add_to_proof.ensures))
+    reads_err _ _ _ _ _ c.from_residual.ensures.1 c.loop-word.invariant.0
+    (answers_refused _ (InProof (plain_statement c.loop-word.into)) _ _ _ _ _ tt
+    c.in-Some.ensures.first c.in_err-add_to_proof.ensures)
 
 pub returns-in_err-add_to_proof-clause-fewer : goal.returns-in_err-add_to_proof-clause-fewer
 returns-in_err-add_to_proof-clause-fewer c = let count = ap length c.in-Some.ensures.first in omega arith

@@ -1,7 +1,8 @@
 use Rattle.std.proofs.Common.{map, sym, ◌∙◌, refl, arith}
+use Rattle.std.proofs.lemmas.Bool.{not-true, not-false}
 use Rattle.std.proofs.lemmas.List.{take_all, length-map}
 use Rattle.mm_text.specs.declared.names.Name.{Name}
-use Rattle.mm_text.proofs.NameLaws.{kept_more, apart_with, twins_found, not_true, not_false, no_twins, plain_names}
+use Rattle.mm_text.proofs.NameLaws.{kept_more, apart_with, twins_found, no_twins, plain_names}
 use Rattle.mm_text.proofs.names.Names.of.Goals as goal
 
 pub loop-file-preserved : goal.loop-file-preserved
@@ -9,7 +10,7 @@ loop-file-preserved c =
     let files = c.args.files.now in
     let keys = c.loop-file.numbers.keys in
     let n = c.loop-file.file-index in
-    let none = not_true _ _ c.in_ok-is_new.ensures.added c.if-not-is_new.false in
+    let none = not-true _ (sym c.in_ok-is_new.ensures.added ∙ c.if-not-is_new.false) in
     record {
       kept = kept_more (λ (k : Name). k.0.now) keys files n _ c.loop-file-test.true c.loop-file.invariant.kept _ refl _ _ c.in_ok-is_new.ensures.keys none;
       apart = apart_with (λ (k : Name). k.0.now) keys files n _ c.loop-file-test.true c.loop-file.invariant.kept c.loop-file.invariant.apart none;
@@ -17,7 +18,7 @@ loop-file-preserved c =
 
 pub returns-then-not-is_new : goal.returns-then-not-is_new
 returns-then-not-is_new c =
-    let some = not_false _ _ c.in_ok-is_new.ensures.added c.if-not-is_new.true in
+    let some = not-false _ (sym c.in_ok-is_new.ensures.added ∙ c.if-not-is_new.true) in
     (refl, twins_found (λ (k : Name). k.0.now) c.loop-file.numbers.keys c.args.files.now c.loop-file.file-index _ c.loop-file-test.true c.loop-file.invariant.kept some)
 
 pub returns : goal.returns

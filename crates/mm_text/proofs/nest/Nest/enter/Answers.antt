@@ -3,7 +3,7 @@ use Rattle.std.specs.Vec.{with_item}
 use Rattle.mm_text.specs.Items.{Outside, pieces}
 use Rattle.mm_text.specs.Mirror.Place.{shown_at}
 use Rattle.mm_text.specs.Mirror.Nest.{put_into, waiting}
-use Rattle.mm_text.proofs.NestLaws.{enters, left_outside, file_within, no_file}
+use Rattle.mm_text.proofs.NestLaws.{enters, left_at, file_within, no_file}
 use Rattle.mm_text.proofs.nest.Nest.enter.Goals as goal
 
 pub begin-begin-requires : goal.begin-begin-requires
@@ -16,7 +16,7 @@ returns-clause-enters c =
     let m = record n { named = with_item n.named c.args.number true; «open» = c.push.new.self; place = begin; naming = None } in
     record {
       left = λ name e.
-          left_outside m c.requires.over refl
+          left_at m None begin.file c.requires.over refl refl
           ∙ ap (λ l. put_into m (pieces begin.file Outside (shown_at begin) ++ waiting l)) c.in-Ok.ensures.items
           ∙ enters n c.args.place begin name c.args.number no_file c.requires.known c.requires.nest e c.requires.first
           c.begin-begin.ensures.bytes c.begin-begin.ensures.file c.begin-begin.ensures.at;
