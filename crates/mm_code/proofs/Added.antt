@@ -23,20 +23,12 @@ rest_ends room = refl
 
 pub fitting_added : (old new token : List ℕ) (room : ℕ) → new ≡ (old ++ 32 ∷ []) ++ token → length token < room → (more : List (List ℕ)) → new ++ rest_of (room - length token - 1) more ≡ old ++ rest_of room (token ∷ more)
 fitting_added old new token room is lt more =
-    let rest = rest_of (room - length token - 1) more in
-    ap (λ (t : List ℕ). t ++ rest) (is ∙ append_assoc old (32 ∷ []) token) ∙ append_assoc old (32 ∷ token) rest ∙ ap (λ (t : List ℕ). old ++ t) (sym (rest_fits room token more lt))
-
-pub breaking_added : (old between new token : List ℕ) (room : ℕ) → between ≡ old ++ 10 ∷ [] → new ≡ between ++ (indent ++ token) → room ≤ length token
-    → (more : List (List ℕ)) → new ++ rest_of (room_after (length token)) more ≡ old ++ rest_of room (token ∷ more)
-breaking_added old between new token room was is le more =
-    let rest = rest_of (room_after (length token)) more in
-    ap (λ (t : List ℕ). t ++ rest) (is ∙ ap (λ (t : List ℕ). t ++ (indent ++ token)) was ∙ append_assoc old (10 ∷ []) (indent ++ token)) ∙ append_assoc old ((10 ∷ indent) ++ token) rest
-    ∙ ap (λ (t : List ℕ). old ++ t) (sym (rest_breaks room token more le))
+    rw (is, rest_fits room token more lt) (simp append_assoc)
 
 pub begun_adds : {E : Type 0} (result : Result ℕ E) (old between new token : List ℕ) (room : ℕ) → between ≡ old ++ 10 ∷ [] → OnOk result (new ≡ between ++ (indent ++ token))
     → IfOk result (λ left. left ≡ room_after (length token)) → room ≤ length token → IfOk result (λ left. (more : List (List ℕ)) → new ++ rest_of left more ≡ old ++ rest_of room (token ∷ more))
 begun_adds (Ok left) old between new token room was is after le = λ more.
-    ap (λ (r : ℕ). new ++ rest_of r more) after ∙ breaking_added old between new token room was is le more
+    rw (after, is, was, rest_breaks room token more le) (simp append_assoc)
 begun_adds (Err fault) old between new token room was is after le = tt
 
 -- ---- a line with one more token
@@ -78,35 +70,26 @@ laid-nil = record { lines = []; in_order = refl; each = tt; greedy = tt; printed
 -- The open line holds some tokens, and its room is what it lacks of 79 bytes.
 pub laid_out_from : (more line : List (List ℕ)) (room : ℕ) → IsLine line → room ≡ 79 - width line → LaidOut (line ++ more) (token_line line ++ rest_of room more)
 laid_out_from [] line room is left =
-    let Q : List ℕ → Type 0 = λ t. LaidOut (line ++ []) t in
-    let same : (token_line line ++ 10 ∷ []) ++ [] ≡ token_line line ++ rest_of room [] = append-nil (token_line line ++ 10 ∷ []) ∙ ap (λ (t : List ℕ). token_line line ++ t) (sym (rest_ends room)) in
-    subst Q same (laid-cons line [] [] is tt laid-nil)
+    rw (rest_ends room, ← append-nil (token_line line ++ 10 ∷ []))
+    (laid-cons line [] [] is tt laid-nil)
 laid_out_from (token ∷ more) line room is left =
+    let some = line_length line is in
+    let wider = width-push line token some in
     elim (cases_lt (length token) room) [
       | inl fits ↦
           let grown = line ++ token ∷ [] in
-          let some = line_length line is in
-          let wider = width-push line token some in
           let is_line : IsLine grown = inr (omega (arith, length-append line (token ∷ [])), omega (arith, wider)) in
           let rest = rest_of (room - length token - 1) more in
           let laid = laid_out_from more grown (room - length token - 1) is_line (omega (arith, wider)) in
-          let tokens_same : grown ++ more ≡ line ++ token ∷ more = append_assoc line (token ∷ []) more in
           let text_same : token_line grown ++ rest ≡ token_line line ++ rest_of room (token ∷ more) =
           ap (λ (t : List ℕ). t ++ rest) (token_line-push line token some) ∙ append_assoc (token_line line) (32 ∷ token) rest
           ∙ ap (λ (t : List ℕ). token_line line ++ t) (sym (rest_fits room token more fits)) in
-          let P : List (List ℕ) → Type 0 = λ ts. LaidOut ts (token_line grown ++ rest) in
-          let Q : List ℕ → Type 0 = λ t. LaidOut (line ++ token ∷ more) t in
-          subst Q text_same (subst P tokens_same laid)
+          subst (LaidOut (line ++ token ∷ more)) text_same (rw (append_assoc line) at laid)
       | inr breaks ↦
-          let some = line_length line is in
-          let wider = width-push line token some in
-          let rest = rest_of (room_after (length token)) more in
           let laid = laid_out_from more (token ∷ []) (room_after (length token)) (inl refl) (omega arith) in
           let full : IsFull line (token ∷ more) = omega (arith, wider) in
-          let text_same : (token_line line ++ 10 ∷ []) ++ (token_line (token ∷ []) ++ rest) ≡ token_line line ++ rest_of room (token ∷ more) =
-          append_assoc (token_line line) (10 ∷ []) (token_line (token ∷ []) ++ rest) ∙ ap (λ (t : List ℕ). token_line line ++ t) (sym (rest_breaks room token more breaks)) in
-          let Q : List ℕ → Type 0 = λ t. LaidOut (line ++ token ∷ more) t in
-          subst Q text_same (laid-cons line (token ∷ more) (token_line (token ∷ []) ++ rest) is full laid)
+          rw (rest_breaks room token more breaks)
+          (rw (append_assoc (token_line line)) at (laid-cons line (token ∷ more) _ is full laid))
     ]
 
 -- the lines that a first token begins

@@ -1,207 +1,192 @@
 -- Which rule the reading answers, and that it is the rule that the letters break.
-use Rattle.std.proofs.Common.{◌≡◌, ℕ, suc, ◌<◌, ◌≤◌, ◌⊎◌, inl, inr, Bool, true, false, ◌&&◌, List, [], ◌∷◌, ◌++◌, Err, All, refl, sym, ap, subst, ◌∙◌, arith}
+use Rattle.std.proofs.Common.{◌≡◌, ℕ, suc, ◌<◌, ◌⊎◌, inl, inr, Bool, true, false, cond, List}
+use Rattle.std.proofs.Common.{[], ◌∷◌, ◌++◌, Result, Ok, Err, IsErr, All, refl, sym, ap, ◌∙◌, arith}
 use Rattle.std.specs.Prelude.{Any}
+use Rattle.std.specs.Bool.{Decides}
 use Rattle.std.specs.List.{list_all}
 use Rattle.std.specs.Char.{is_ascii_uppercase}
 use Rattle.std.proofs.lemmas.Bool.{cases_eq, cases_Bool, le-leb, leb-true, and_parts, and_from, false_from_ne_true}
-use Rattle.std.proofs.lemmas.List.Elements.{All-cons, All-nil, All-head, All-tail}
-use Rattle.mm_code.specs.declared.code.Code.TheVariants.{Number, Tag}
+use Rattle.std.proofs.lemmas.Bool.Decides.{Decides-by_and, not_from_Decides}
+use Rattle.mm_code.specs.declared.code.Code.{Code}
 use Rattle.mm_code.specs.declared.code.CodeRule.{CodeRule}
 use Rattle.mm_code.specs.declared.code.CodeRule.TheVariants.{P4, P5}
 use Rattle.mm_code.specs.Letters.{IsLetter, IsLeadingLetter, IsEndOrTag, IsCut, LettersBreak}
-use Rattle.mm_code.specs.Mirror.Reading.{with_front, reading, rule_behind, leading_after, number_after}
-use Rattle.mm_code.proofs.Steps.{read_below, read_above, read_last, read_leading, read_tag, read_cut_by_tag, read_end, read_cut_by_end}
-use Rattle.mm_code.proofs.ByteKinds.{below, last, leading, tag, above, kind, with_front-err}
+use Rattle.mm_code.specs.Mirror.Reading.{with_front, reading, rule_behind, leading_after}
+use Rattle.mm_code.proofs.Steps.{read_leading, read_cut_by_tag, read_end, read_cut_by_end}
+use Rattle.mm_code.proofs.ByteKinds.{not_letter, ends, leading, cut_off, step, with_front-err}
+
+-- ---- the tests of the code
+
+letter_decides : (byte : ℕ) → Decides (is_ascii_uppercase byte) (IsLetter byte)
+letter_decides byte = (
+  λ e. let p = and_parts _ _ e in (leb-true _ _ p.0, leb-true _ _ p.1),
+  λ is. and_from _ _ (le-leb _ _ is.0) (le-leb _ _ is.1),
+)
+
+abbrev are_letters : List ℕ → Bool
+are_letters text = list_all is_ascii_uppercase text
+
+letters_decide : (text : List ℕ) → Decides (are_letters text) (All IsLetter text)
+letters_decide =
+    Decides-by_and is_ascii_uppercase IsLetter are_letters letter_decides refl (λ _ _. refl)
 
 abbrev HasOther : List ℕ → Type 0
 HasOther text = Any (λ byte. ¬ (IsLetter byte)) text
 
-other-here : (byte : ℕ) (text : List ℕ) → ¬ (IsLetter byte) → HasOther (byte ∷ text)
-other-here byte text other = (0, byte, omega arith, refl, other)
-
-other-later : (byte : ℕ) (text : List ℕ) → HasOther text → HasOther (byte ∷ text)
-other-later byte text other = (suc other.0, other.1, omega (arith, other.2), other.3, other.4)
-
--- ---- the tests of the code
-
-letter-test : (byte : ℕ) → IsLetter byte → is_ascii_uppercase byte ≡ true
-letter-test byte is = and_from _ _ (le-leb _ _ is.0) (le-leb _ _ is.1)
-
-letter-tested : (byte : ℕ) → is_ascii_uppercase byte ≡ true → IsLetter byte
-letter-tested byte e = let p = and_parts _ _ e in (leb-true _ _ p.0, leb-true _ _ p.1)
-
-letters-tested : (text : List ℕ) → list_all is_ascii_uppercase text ≡ true → All IsLetter text
-letters-tested [] e = All-nil IsLetter
-letters-tested (byte ∷ text) e =
-    let p = and_parts _ _ e in
-    All-cons IsLetter byte text (letter-tested byte p.0) (letters-tested text p.1)
-
-letters-test : (text : List ℕ) → All IsLetter text → list_all is_ascii_uppercase text ≡ true
-letters-test [] all = refl
-letters-test (byte ∷ text) all = and_from _ _ (letter-test byte (All-head IsLetter byte text all)) (letters-test text (All-tail IsLetter byte text all))
-
-other-tested : (text : List ℕ) → list_all is_ascii_uppercase text ≡ false → HasOther text
+other-tested : (text : List ℕ) → are_letters text ≡ false → HasOther text
 other-tested [] e = absurd cc
 other-tested (byte ∷ text) e =
     elim (cases_Bool (is_ascii_uppercase byte)) [
-      | inl is_one ↦
-          let rest : list_all is_ascii_uppercase text ≡ false = ap (λ (b : Bool). b && list_all is_ascii_uppercase text) (sym is_one) ∙ e in
-          other-later byte text (other-tested text rest)
-      | inr is_none ↦ other-here byte text (λ is. absurd (cc (is_none, letter-test byte is)))
+      | inl is ↦
+          let (k, x, lt, there, not) = other-tested text (rw is at e) in
+          (suc k, x, omega (arith, lt), there, not)
+      | inr fails ↦ (0, byte, omega arith, refl, not_from_Decides _ (letter_decides byte) fails)
     ]
 
-other-test : (text : List ℕ) → HasOther text → list_all is_ascii_uppercase text ≡ false
-other-test text other =
-    let P : ℕ → Type 0 = IsLetter in
-    false_from_ne_true _ (λ e. other.4 (subst P other.3 (letters-tested text e other.0 other.1 other.2)))
+other-test : (text : List ℕ) → HasOther text → are_letters text ≡ false
+other-test text (k, x, lt, there, not) =
+    false_from_ne_true _ (λ e. not (rw there at ((letters_decide text).0 e k x lt)))
 
--- ---- a byte that is no letter
+-- ---- the rule, by the test of all bytes
 
-letter-kind : (byte : ℕ) → 65 ≤ byte → byte ≤ 90 → is_ascii_uppercase byte ≡ true
-letter-kind byte low high = letter-test byte (low, high)
-
--- the test of the rest, behind a byte that is a letter
-rest-test : (byte : ℕ) (text : List ℕ) (answer : Bool) → 65 ≤ byte → byte ≤ 90 → list_all is_ascii_uppercase (byte ∷ text) ≡ answer → list_all is_ascii_uppercase text ≡ answer
-rest-test byte text answer low high e = ap (λ (b : Bool). b && list_all is_ascii_uppercase text) (sym (letter-kind byte low high)) ∙ e
-
-rule_behind-other : (text : List ℕ) → list_all is_ascii_uppercase text ≡ false → rule_behind text ≡ P4
+rule_behind-is : (text : List ℕ) (all : Bool) → are_letters text ≡ all
+    → rule_behind text ≡ cond all P5 P4
 unfolding rule_behind
-rule_behind-other text e = rw e refl
+rule_behind-is text all e = rw e refl
 
-rule_behind-letters : (text : List ℕ) → list_all is_ascii_uppercase text ≡ true → rule_behind text ≡ P5
+rule_behind-cons : (byte : ℕ) (text : List ℕ) → IsLetter byte
+    → rule_behind (byte ∷ text) ≡ rule_behind text
 unfolding rule_behind
-rule_behind-letters text e = rw e refl
+rule_behind-cons byte text is = rw ((letter_decides byte).1 is) refl
 
-reads_other : (value : ℕ) (text : List ℕ) → list_all is_ascii_uppercase text ≡ false → reading value text ≡ Err P4
-reads_other value [] e = absurd cc
-reads_other value (byte ∷ text) e =
-    elim (kind byte) [
-      | below low ↦ read_below value byte text low
-      | above high ↦ read_above value byte text high
-      | last low high ↦
-          read_last value byte text low high ∙ ap (with_front (Number (number_after value byte) ∷ [])) (reads_other 0 text (rest-test byte text false low (omega arith) e))
-      | leading low high ↦
-          read_leading value byte text low high ∙ reads_other (leading_after value byte) text (rest-test byte text false (omega arith) (omega arith) e)
-      | tag is ↦
-          let rest = rest-test byte text false (omega arith) (omega arith) e in
-          elim (cases_eq value 0) [
-            | inl none ↦ read_tag value byte text is none ∙ ap (with_front (Tag ∷ [])) (reads_other 0 text rest)
-            | inr some ↦ let positive : 0 < value = omega arith in read_cut_by_tag value byte text is positive ∙ ap Err (rule_behind-other text rest)
-          ]
-    ]
+-- what the reading answers says whether all bytes are letters
+abbrev Tells : Result (List Code) CodeRule → List ℕ → Type 0
+Tells (Ok codes) text = are_letters text ≡ true
+Tells (Err rule) text = rule ≡ rule_behind text
 
--- P5 is answered where all bytes are letters
-reads_letters : (value : ℕ) (text : List ℕ) → reading value text ≡ Err P5 → list_all is_ascii_uppercase text ≡ true
-reads_letters value text e =
-    elim (cases_Bool (list_all is_ascii_uppercase text)) [
-      | inl are ↦ are
-      | inr are_not ↦ absurd (cc (reads_other value text are_not, e))
-    ]
+tells-letter : (byte : ℕ) (text : List ℕ) (read : Result (List Code) CodeRule) → IsLetter byte
+    → Tells read text → Tells read (byte ∷ text)
+tells-letter byte text (Ok codes) is tells = and_from _ _ ((letter_decides byte).1 is) tells
+tells-letter byte text (Err rule) is tells = tells ∙ sym (rule_behind-cons byte text is)
 
--- P4 is answered where a byte is no letter
-reads_P4 : (value : ℕ) (text : List ℕ) → reading value text ≡ Err P4 → HasOther text
-reads_P4 value [] e =
+tells-front : (front : List Code) (text : List ℕ) (read : Result (List Code) CodeRule)
+    → Tells read text → Tells (with_front front read) text
+tells-front front text (Ok codes) tells = tells
+tells-front front text (Err rule) tells = tells
+
+reads : (value : ℕ) (text : List ℕ) → Tells (reading value text) text
+reads value [] =
     elim (cases_eq value 0) [
-      | inl none ↦ absurd (cc (read_end value none, e))
-      | inr some ↦ let positive : 0 < value = omega arith in absurd (cc (read_cut_by_end value positive, e))
+      | inl none ↦ rw (read_end value none) refl
+      | inr some ↦ rw (read_cut_by_end value (omega arith)) (sym (rule_behind-is [] true refl))
     ]
-reads_P4 value (byte ∷ text) e =
-    elim (kind byte) [
-      | below low ↦ other-here byte text (λ is. absurd (omega (arith, is.0)))
-      | above high ↦ other-here byte text (λ is. absurd (omega (arith, is.1)))
-      | last low high ↦ other-later byte text (reads_P4 0 text (with_front-err (Number (number_after value byte) ∷ []) P4 (reading 0 text) (sym (read_last value byte text low high) ∙ e)))
-      | leading low high ↦ other-later byte text (reads_P4 (leading_after value byte) text (sym (read_leading value byte text low high) ∙ e))
-      | tag is ↦ elim (cases_eq value 0) [
-        | inl none ↦ other-later byte text (reads_P4 0 text (with_front-err (Tag ∷ []) P4 (reading 0 text) (sym (read_tag value byte text is none) ∙ e)))
-        | inr some ↦
-            let positive : 0 < value = omega arith in
-            let rule : rule_behind text ≡ P4 = cc (read_cut_by_tag value byte text is positive, e) in
-            elim (cases_Bool (list_all is_ascii_uppercase text)) [
-              | inl are ↦ absurd (cc (rule_behind-letters text are, rule))
-              | inr are_not ↦ other-later byte text (other-tested text are_not)
-            ]
-      ]
+reads value (byte ∷ text) =
+    elim (step value byte text) [
+      | not_letter not e ↦
+          let no_letter = false_from_ne_true _ (λ is. not ((letter_decides byte).0 is)) in
+          rw e (sym (rule_behind-is (byte ∷ text) false (rw no_letter refl)))
+      | ends code is means e ↦
+          let tells = tells-letter byte text _ is (reads 0 text) in
+          rw e (tells-front (code ∷ []) (byte ∷ text) _ tells)
+      | leading from e ↦
+          rw e (tells-letter byte text _ (omega arith, omega arith) (reads _ text))
+      | cut_off tagged some e ↦
+          rw e (sym (rule_behind-cons byte text (omega arith, omega arith)))
     ]
 
 -- ---- leading digits that are cut off
 
 cut-later : (byte : ℕ) (text : List ℕ) → IsCut text → IsCut (byte ∷ text)
-cut-later byte text cut = record {
-  before = byte ∷ cut.before;
-  digit = cut.digit;
-  after = cut.after;
-  whole = ap (λ (t : List ℕ). byte ∷ t) cut.whole;
-  is_leading = cut.is_leading;
-  stops = cut.stops;
+cut-later byte text later = record {
+  before = byte ∷ later.before;
+  digit = later.digit;
+  after = later.after;
+  whole = ap (λ (t : List ℕ). byte ∷ t) later.whole;
+  is_leading = later.is_leading;
+  stops = later.stops;
 }
 
-later-cut : (byte : ℕ) (text : List ℕ) {Q : Type 0} → IsCut text ⊎ ((0 < 0) × IsEndOrTag text) → IsCut (byte ∷ text) ⊎ Q
-later-cut byte text (inl cut) = inl (cut-later byte text cut)
-later-cut byte text (inr none) = absurd (omega (arith, none.0))
+-- leading digits of this value, before the text, or some in it are cut off
+abbrev IsCutFrom : ℕ → List ℕ → Type 0
+IsCutFrom value text = IsCut text ⊎ ((0 < value) × IsEndOrTag text)
 
-here-cut : (byte value : ℕ) (text : List ℕ) {Q : Type 0} → IsLeadingLetter byte → IsCut text ⊎ ((0 < value) × IsEndOrTag text) → IsCut (byte ∷ text) ⊎ Q
-here-cut byte value text is (inl cut) = inl (cut-later byte text cut)
-here-cut byte value text is (inr ends) = inl (record { before = []; digit = byte; after = text; whole = refl; is_leading = is; stops = ends.1 })
+cut_inside : (text : List ℕ) → IsCutFrom 0 text → IsCut text
+cut_inside text (inl inside) = inside
+cut_inside text (inr none) = absurd (omega (arith, none.0))
 
--- P5 is answered where leading digits are cut off, those before the text or some in it
-reads_cut : (value : ℕ) (text : List ℕ) → reading value text ≡ Err P5 → IsCut text ⊎ ((0 < value) × IsEndOrTag text)
+cut-here : (byte value : ℕ) (text : List ℕ) → IsLeadingLetter byte → IsCutFrom value text
+    → IsCut (byte ∷ text)
+cut-here byte value text is (inl later) = cut-later byte text later
+cut-here byte value text is (inr stops) = record {
+  before = [];
+  digit = byte;
+  after = text;
+  whole = refl;
+  is_leading = is;
+  stops = stops.1;
+}
+
+-- P5 is answered where leading digits are cut off
+reads_cut : (value : ℕ) (text : List ℕ) → reading value text ≡ Err P5 → IsCutFrom value text
 reads_cut value [] e =
     elim (cases_eq value 0) [
       | inl none ↦ absurd (cc (read_end value none, e))
       | inr some ↦ inr (omega arith, tt)
     ]
 reads_cut value (byte ∷ text) e =
-    elim (kind byte) [
-      | below low ↦ absurd (cc (read_below value byte text low, e))
-      | above high ↦ absurd (cc (read_above value byte text high, e))
-      | last low high ↦ later-cut byte text (reads_cut 0 text (with_front-err (Number (number_after value byte) ∷ []) P5 (reading 0 text) (sym (read_last value byte text low high) ∙ e)))
-      | leading low high ↦ here-cut byte (leading_after value byte) text (low, omega arith) (reads_cut (leading_after value byte) text (sym (read_leading value byte text low high) ∙ e))
-      | tag is ↦ elim (cases_eq value 0) [
-        | inl none ↦ later-cut byte text (reads_cut 0 text (with_front-err (Tag ∷ []) P5 (reading 0 text) (sym (read_tag value byte text is none) ∙ e)))
-        | inr some ↦ inr (omega arith, is)
-      ]
+    elim (step value byte text) [
+      | not_letter not is ↦ absurd (cc (is, e))
+      | ends code letter means is ↦
+          let rest = with_front-err (code ∷ []) P5 (reading 0 text) (sym is ∙ e) in
+          inl (cut-later byte text (cut_inside text (reads_cut 0 text rest)))
+      | leading from is ↦ inl (cut-here byte _ text from (reads_cut _ text (sym is ∙ e)))
+      | cut_off tagged some is ↦ inr (some, tagged)
     ]
 
--- leading digits of some value that are cut off
-cut_there : (value : ℕ) (after : List ℕ) → 0 < value → IsEndOrTag after → list_all is_ascii_uppercase after ≡ true → reading value after ≡ Err P5
-cut_there value [] positive stops e = read_cut_by_end value positive
-cut_there value (byte ∷ text) positive stops e =
-    read_cut_by_tag value byte text stops positive ∙ ap Err (rule_behind-letters text (rest-test byte text true (omega (arith, stops)) (omega (arith, stops)) e))
+fails-front : (front : List Code) (read : Result (List Code) CodeRule) → IsErr read
+    → IsErr (with_front front read)
+fails-front front (Ok codes) fails = absurd cc
+fails-front front (Err rule) fails = refl
 
-cut_read : (before : List ℕ) (value digit : ℕ) (after : List ℕ) → IsLeadingLetter digit → IsEndOrTag after → list_all is_ascii_uppercase (before ++ digit ∷ after) ≡ true
-    → reading value (before ++ digit ∷ after) ≡ Err P5
-cut_read [] value digit after is stops e =
-    read_leading value digit after is.0 (omega (arith, is.1))
-    ∙ cut_there (leading_after value digit) after (omega (arith, is.0)) stops (rest-test digit after true (omega (arith, is.0)) (omega (arith, is.1)) e)
-cut_read (byte ∷ before) value digit after is stops e =
-    let text = before ++ digit ∷ after in
-    let parts = and_parts (is_ascii_uppercase byte) (list_all is_ascii_uppercase text) e in
-    let letter = letter-tested byte parts.0 in
-    let rest = parts.1 in
-    elim (kind byte) [
-      | below low ↦ absurd (omega (arith, letter.0))
-      | above high ↦ absurd (omega (arith, letter.1))
-      | last low high ↦ read_last value byte text low high ∙ ap (with_front (Number (number_after value byte) ∷ [])) (cut_read before 0 digit after is stops rest)
-      | leading low high ↦ read_leading value byte text low high ∙ cut_read before (leading_after value byte) digit after is stops rest
-      | tag tagged ↦ elim (cases_eq value 0) [
-        | inl none ↦ read_tag value byte text tagged none ∙ ap (with_front (Tag ∷ [])) (cut_read before 0 digit after is stops rest)
-        | inr some ↦ let positive : 0 < value = omega arith in read_cut_by_tag value byte text tagged positive ∙ ap Err (rule_behind-letters text rest)
-      ]
+-- leading digits that are cut off are not read
+cut_fails : (before : List ℕ) (value digit : ℕ) (after : List ℕ) → IsLeadingLetter digit
+    → IsEndOrTag after → IsErr (reading value (before ++ digit ∷ after))
+cut_fails [] value digit [] is stops =
+    rw (read_leading value digit [] is.0 (omega (arith, is.1)))
+    (rw (read_cut_by_end (leading_after value digit) (omega (arith, is.0))) refl)
+cut_fails [] value digit (byte ∷ after) is stops =
+    rw (read_leading value digit (byte ∷ after) is.0 (omega (arith, is.1)))
+    (rw (read_cut_by_tag (leading_after value digit) byte after stops (omega (arith, is.0))) refl)
+cut_fails (byte ∷ before) value digit after is stops =
+    elim (step value byte (before ++ digit ∷ after)) [
+      | not_letter not e ↦ rw e refl
+      | ends code letter means e ↦
+          rw e (fails-front (code ∷ []) _ (cut_fails before 0 digit after is stops))
+      | leading from e ↦ rw e (cut_fails before _ digit after is stops)
+      | cut_off tagged some e ↦ rw e refl
     ]
 
 -- ---- the rules, both ways
 
-pub breaks_read : (rule : CodeRule) (text : List ℕ) → LettersBreak rule text → reading 0 text ≡ Err rule
-breaks_read P4 text broken = reads_other 0 text (other-test text broken)
-breaks_read P5 text broken =
-    let cut = broken.1 in
-    let letters = letters-test text broken.0 in
-    ap (reading 0) cut.whole ∙ cut_read cut.before 0 cut.digit cut.after cut.is_leading cut.stops (ap (list_all is_ascii_uppercase) (sym cut.whole) ∙ letters)
+answered : (text : List ℕ) (read : Result (List Code) CodeRule) (all : Bool)
+    → are_letters text ≡ all → Tells read text → (all ≡ true → IsErr read)
+    → read ≡ Err (cond all P5 P4)
+answered text (Ok codes) all e tells fails = absurd (cc (fails (sym e ∙ tells)))
+answered text (Err rule) all e tells fails = ap Err (tells ∙ rule_behind-is text all e)
 
-cut_inside : (text : List ℕ) → IsCut text ⊎ ((0 < 0) × IsEndOrTag text) → IsCut text
-cut_inside text (inl cut) = cut
-cut_inside text (inr none) = absurd (omega (arith, none.0))
+pub breaks_read : (rule : CodeRule) (text : List ℕ) → LettersBreak rule text → reading 0 text ≡ Err rule
+breaks_read P4 text broken =
+    answered text (reading 0 text) false (other-test text broken) (reads 0 text) (λ is. absurd cc)
+breaks_read P5 text (all, inside) =
+    answered text (reading 0 text) true ((letters_decide text).1 all) (reads 0 text)
+    (λ is. rw inside.whole (cut_fails inside.before 0 _ _ inside.is_leading inside.stops))
 
 pub read_breaks : (rule : CodeRule) (text : List ℕ) → reading 0 text ≡ Err rule → LettersBreak rule text
-read_breaks P4 text e = reads_P4 0 text e
-read_breaks P5 text e = (letters-tested text (reads_letters 0 text e), cut_inside text (reads_cut 0 text e))
+read_breaks rule text e = go rule e (are_letters text) refl (rw e at (reads 0 text))
+  where
+    go : (rule : CodeRule) → reading 0 text ≡ Err rule → (all : Bool) → are_letters text ≡ all
+        → Tells (Err rule) text → LettersBreak rule text
+    go P4 e true all told = absurd (cc (told, rule_behind-is text true all))
+    go P4 e false all told = other-tested text all
+    go P5 e true all told = ((letters_decide text).0 all, cut_inside text (reads_cut 0 text e))
+    go P5 e false all told = absurd (cc (told, rule_behind-is text false all))

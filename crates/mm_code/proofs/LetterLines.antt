@@ -1,10 +1,9 @@
 -- The lines of letters, and the whole layouts.
-use Rattle.std.proofs.Common.{◌≡◌, ℕ, ◌<◌, ◌≤◌, ◌⊎◌, inl, inr, min, List, [], ◌∷◌, ◌++◌, length, take, drop, refl, sym, ap, subst, ◌∙◌, append_assoc, arith}
-use denote.Ref.{Bor}
+use Rattle.std.proofs.Common.{◌≡◌, ℕ, ◌<◌, ◌≤◌, ◌⊎◌, inl, inr, min, List, [], ◌∷◌, ◌++◌, length, take, drop, refl, sym, ap, ◌∙◌, append_assoc, arith}
 use Rattle.std.specs.List.{flat_map}
 use Rattle.std.proofs.lemmas.Bool.{cases_lt}
 use Rattle.std.proofs.lemmas.List.{length-append, append-nil, length-take, length-drop, take-append-drop, nil_from_length}
-use Rattle.mm_code.specs.Layout.{indent, LaidOut, AreLetterLines, LettersLaidOut, in_parentheses, CompressedLaidOut, texts}
+use Rattle.mm_code.specs.Layout.{indent, LaidOut, AreLetterLines, LettersLaidOut, in_parentheses, CompressedLaidOut}
 use Rattle.mm_code.specs.Mirror.Lines.{rest_of, room_after, AppendsLetters}
 use Rattle.mm_code.proofs.Added.{rest_ends, laid_out_begun}
 
@@ -26,15 +25,23 @@ lines-cons line (next ∷ lines) low high (inl full) each = (full, each)
 lines-cons line (next ∷ lines) low high (inr none) each =
     absurd (omega (arith, (some_letters next lines each).0, length-append next (flat_map (λ l. l) lines), ap length none))
 
--- one more line before those of some letters
-pub letters_laid-cons : (line letters block : List ℕ) → 1 ≤ length line → length line ≤ 73 → (length line ≡ 73) ⊎ (letters ≡ []) → LettersLaidOut letters block
-    → LettersLaidOut (line ++ letters) (((indent ++ line) ++ 10 ∷ []) ++ block)
-letters_laid-cons line letters block low high whole laid =
-    let P : List ℕ → Type 0 = λ ls. (length line ≡ 73) ⊎ (ls ≡ []) in
+-- the letters of a first line, of at most 73, before those behind it
+pub letters_laid-begun : (letters block : List ℕ) (n : ℕ) → 0 < length letters
+    → n ≡ min (length letters) 73 → LettersLaidOut (drop n letters) block
+    → LettersLaidOut letters (((indent ++ take n letters) ++ 10 ∷ []) ++ block)
+letters_laid-begun letters block n some is laid =
+    let line = take n letters in
+    let len : length line ≡ n = omega (arith, length-take n letters) in
+    let after = length-drop n letters in
+    let whole : (length line ≡ 73) ⊎ (flat_map (λ l. l) laid.lines ≡ []) =
+    elim (cases_lt (length letters) 73) [
+      | inl lt ↦ inr (laid.in_order ∙ nil_from_length (drop n letters) (omega (arith, after)))
+      | inr le ↦ inl (omega arith)
+    ] in
     record {
       lines = line ∷ laid.lines;
-      in_order = ap (λ (t : List ℕ). line ++ t) laid.in_order;
-      each = lines-cons line laid.lines low high (subst P (sym laid.in_order) whole) laid.each;
+      in_order = ap (λ (t : List ℕ). line ++ t) laid.in_order ∙ take-append-drop n letters;
+      each = lines-cons line laid.lines (omega arith) (omega arith) whole laid.each;
       printed = ap (λ (t : List ℕ). ((indent ++ line) ++ 10 ∷ []) ++ t) laid.printed;
     }
 
@@ -43,24 +50,13 @@ pub line_taken : (first now next rest line after letters : List ℕ) (n : ℕ) �
     → ((block : List ℕ) → LettersLaidOut rest block → AppendsLetters first (now ++ block) letters)
     → (block : List ℕ) → LettersLaidOut after block → AppendsLetters first (next ++ block) letters
 line_taken first now next rest line after letters n some is front back text so_far block laid =
-    let len : length line ≡ n = omega (arith, ap length front, length-take n rest) in
-    let parts : line ++ after ≡ rest = ap (λ (t : List ℕ). t ++ after) front ∙ ap (λ (t : List ℕ). take n rest ++ t) back ∙ take-append-drop n rest in
-    let whole : (length line ≡ 73) ⊎ (after ≡ []) = elim (cases_lt (length rest) 73) [
-      | inl lt ↦ inr (nil_from_length after (omega (arith, ap length back, length-drop n rest)))
-      | inr le ↦ inl (omega arith)
-    ] in
-    let taken = letters_laid-cons line after block (omega arith) (omega arith) whole laid in
-    let P : List ℕ → Type 0 = λ ls. LettersLaidOut ls (((indent ++ line) ++ 10 ∷ []) ++ block) in
-    let Q : List ℕ → Type 0 = λ t. AppendsLetters first t letters in
-    let same : now ++ (((indent ++ line) ++ 10 ∷ []) ++ block) ≡ next ++ block = sym (append_assoc now ((indent ++ line) ++ 10 ∷ []) block) ∙ ap (λ (t : List ℕ). t ++ block) (sym text) in
-    subst Q same (so_far (((indent ++ line) ++ 10 ∷ []) ++ block) (subst P parts taken))
+    rw (text, front, append_assoc)
+    (so_far _ (letters_laid-begun rest block n some is (rw back at laid)))
 
 -- no letters are left
 pub letters_done : (first now rest letters : List ℕ) → length rest ≡ 0 → ((block : List ℕ) → LettersLaidOut rest block → AppendsLetters first (now ++ block) letters) → AppendsLetters first now letters
 letters_done first now rest letters none so_far =
-    let P : List ℕ → Type 0 = λ ls. LettersLaidOut ls [] in
-    let Q : List ℕ → Type 0 = λ t. AppendsLetters first t letters in
-    subst Q (append-nil now) (so_far [] (subst P (sym (nil_from_length rest none)) letters_laid-nil))
+    rw append-nil at (so_far [] (rw (nil_from_length rest none) letters_laid-nil))
 
 -- ---- whole layouts
 
@@ -68,17 +64,9 @@ letters_done first now rest letters none so_far =
 pub tokens_laid_out : (empty begun added text token : List ℕ) (room left : ℕ) (tokens : List (List ℕ)) → empty ≡ [] → begun ≡ empty ++ (indent ++ token) → room ≡ room_after (length token)
     → ((more : List (List ℕ)) → added ++ rest_of left more ≡ begun ++ rest_of room (tokens ++ more)) → text ≡ added ++ 10 ∷ [] → LaidOut (token ∷ tokens) text
 tokens_laid_out empty begun added text token room left tokens none first after others is =
-    let Q : List ℕ → Type 0 = λ t. LaidOut (token ∷ tokens) t in
-    let begins : begun ≡ indent ++ token = first ∙ ap (λ (t : List ℕ). t ++ (indent ++ token)) none in
-    let same : (indent ++ token) ++ rest_of (room_after (length token)) tokens ≡ text =
-    ap (λ (t : List ℕ). t ++ rest_of (room_after (length token)) tokens) (sym begins) ∙ ap (λ (r : ℕ). begun ++ rest_of r tokens) (sym after)
-    ∙ ap (λ (ts : List (List ℕ)). begun ++ rest_of room ts) (sym (append-nil tokens)) ∙ sym (others []) ∙ ap (λ (t : List ℕ). added ++ t) (rest_ends left) ∙ sym is in
-    subst Q same (laid_out_begun token tokens)
-
-pub labels_laid_out : (labels others : List (Bor (List ℕ))) (first : Bor (List ℕ)) (text : List ℕ) → labels ≡ first ∷ others → LaidOut (first.now ∷ texts others) text → LaidOut (texts labels) text
-labels_laid_out labels others first text is laid =
-    let P : List (Bor (List ℕ)) → Type 0 = λ ls. LaidOut (texts ls) text in
-    subst P (sym is) laid
+    let ends : added ++ 10 ∷ [] ≡ begun ++ rest_of room tokens =
+    rw (← rest_ends left, others [], append-nil) refl in
+    rw (is, ends, first, none, after) (laid_out_begun token tokens)
 
 -- labels, and one more token behind them
 pub list_closed : (begun added text token : List ℕ) (room left last : ℕ) (labels : List (List ℕ)) → ((more : List (List ℕ)) → added ++ rest_of left more ≡ begun ++ rest_of room (labels ++ more))

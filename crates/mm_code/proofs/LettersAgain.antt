@@ -31,10 +31,9 @@ piece_again piece Tag rest says = ap (λ (t : List ℕ). reading 0 (t ++ rest)) 
 
 pieces_again : (pieces : List (List ℕ)) (codes : List Code) → AllZip SaysCode pieces codes → reading 0 (flat_map (λ piece. piece) pieces) ≡ Ok (map code_for codes)
 pieces_again [] [] each = read_end 0 refl
-pieces_again [] (code ∷ codes) each = absurd each
-pieces_again (piece ∷ pieces) [] each = absurd each
 pieces_again (piece ∷ pieces) (code ∷ codes) each =
     piece_again piece code (flat_map (λ p. p) pieces) each.0 ∙ ap (with_front (code_for code ∷ [])) (pieces_again pieces codes each.1)
+pieces_again pieces codes each = absurd each
 
 pub is_read_again : (text : List ℕ) (codes : List Code) → Letters text codes → reading 0 text ≡ Ok codes
 is_read_again text codes letters =

@@ -12,19 +12,22 @@ data Fronts {A : Type 0} (a c b d : List A) : Type 0 where
   longer : (x : A) (more : List A) → b ≡ a ++ x ∷ more → c ≡ (x ∷ more) ++ d → Fronts a c b d
   shorter : (x : A) (more : List A) → a ≡ b ++ x ∷ more → d ≡ (x ∷ more) ++ c → Fronts a c b d
 
-fronts-cons : {A : Type 0} (x y : A) (a c b d : List A) → x ≡ y → Fronts a c b d → Fronts (x ∷ a) c (y ∷ b) d
-fronts-cons x y a c b d e (same p q) = same (cc) q
-fronts-cons x y a c b d e (longer z more p q) = longer z more (cc) q
-fronts-cons x y a c b d e (shorter z more p q) = shorter z more (cc) q
-
 fronts : {A : Type 0} (a c b d : List A) → a ++ c ≡ b ++ d → Fronts a c b d
 fronts [] c [] d e = same refl e
 fronts [] c (y ∷ b) d e = longer y b refl e
 fronts (x ∷ a) c [] d e = shorter x a refl (sym e)
 fronts (x ∷ a) c (y ∷ b) d e =
     let head : x ≡ y = cc in
-    let tail : a ++ c ≡ b ++ d = cc in
-    fronts-cons x y a c b d head (fronts a c b d tail)
+    elim (fronts a c b d (cc)) [
+      | same first rest ↦ same (cc) rest
+      | longer z more whole rest ↦ longer z more (cc) rest
+      | shorter z more whole rest ↦ shorter z more (cc) rest
+    ]
+
+no_items : {A : Type 0} (line : List A) (lines : List (List A)) → 0 < length line
+    → [] ≡ flat_map (λ l. l) (line ∷ lines) → ⊥
+no_items line lines some e =
+    omega (arith, length-append line (flat_map (λ l. l) lines), ap length e)
 
 -- ---- lines of tokens
 
@@ -43,23 +46,18 @@ narrow line (inr more) lt = more.1
 -- a line that is full before a token does not go on with it
 not_longer : (line following other rest more : List (List ℕ)) (token : List ℕ) → IsLine line → IsFull line following → IsLine other → other ≡ line ++ token ∷ more → following ≡ (token ∷ more) ++ rest → ⊥
 not_longer line following other rest more token is full is_other whole next =
-    let Full : List (List ℕ) → Type 0 = IsFull line in
-    let wide : 79 < width (line ++ token ∷ []) = subst Full next full in
+    let wide : 79 < width (line ++ token ∷ []) = rw next at full in
     let some = line_length line is in
-    let same : (line ++ token ∷ []) ++ more ≡ other = append_assoc line (token ∷ []) more ∙ sym whole in
-    let count : length other ≡ length line + suc (length more) = ap length whole ∙ length-append line (token ∷ more) in
-    let slim : width other ≤ 79 = narrow other is_other (omega arith) in
-    let grows : length (join_with_byte 32 (line ++ token ∷ [])) ≤ length (join_with_byte 32 ((line ++ token ∷ []) ++ more)) = join-grows (line ++ token ∷ []) more in
-    let equal : length (join_with_byte 32 ((line ++ token ∷ []) ++ more)) ≡ length (join_with_byte 32 other) = ap (λ (ts : List (List ℕ)). length (join_with_byte 32 ts)) same in
-    absurd (omega arith)
-
-no_tokens : (line : List (List ℕ)) (lines : List (List (List ℕ))) → IsLine line → [] ≡ flat_map (λ l. l) (line ∷ lines) → ⊥
-no_tokens line lines is e = absurd (omega (arith, line_length line is, length-append line (flat_map (λ l. l) lines), ap length e))
+    let count = ap length whole ∙ length-append line (token ∷ more) in
+    let slim : width ((line ++ token ∷ []) ++ more) ≤ 79 =
+    subst (λ (ts : List (List ℕ)). width ts ≤ 79)
+    (whole ∙ sym (append_assoc line (token ∷ []) more)) (narrow other is_other (omega arith)) in
+    omega (arith, join-grows (line ++ token ∷ []) more)
 
 one_lines : (a b : List (List (List ℕ))) → AllByRecursion IsLine a → AllByRecursion IsLine b → IsGreedy a → IsGreedy b → flat_map (λ l. l) a ≡ flat_map (λ l. l) b → a ≡ b
 one_lines [] [] p q g h e = refl
-one_lines [] (y ∷ b) p q g h e = absurd (no_tokens y b q.0 e)
-one_lines (x ∷ a) [] p q g h e = absurd (no_tokens x a p.0 (sym e))
+one_lines [] (y ∷ b) p q g h e = absurd (no_items y b (line_length y q.0) e)
+one_lines (x ∷ a) [] p q g h e = absurd (no_items x a (line_length x p.0) (sym e))
 one_lines (x ∷ a) (y ∷ b) p q g h e =
     elim (fronts x (flat_map (λ l. l) a) y (flat_map (λ l. l) b) e) [
       | same first others ↦ let rest : a ≡ b = one_lines a b p.1 q.1 g.1 h.1 others in cc
@@ -85,13 +83,10 @@ no_more_letters x a y d more letter each short whole next =
     let some : length (flat_map (λ l. l) a) ≡ suc (length more) + length d = ap length next ∙ length-append (letter ∷ more) d in
     absurd (omega (arith, whole_line x a each (omega arith)))
 
-no_letters : (line : List ℕ) (lines : List (List ℕ)) → AreLetterLines (line ∷ lines) → [] ≡ flat_map (λ l. l) (line ∷ lines) → ⊥
-no_letters line lines each e = absurd (omega (arith, (some_letters line lines each).0, length-append line (flat_map (λ l. l) lines), ap length e))
-
 one_letter_lines : (a b : List (List ℕ)) → AreLetterLines a → AreLetterLines b → flat_map (λ l. l) a ≡ flat_map (λ l. l) b → a ≡ b
 one_letter_lines [] [] p q e = refl
-one_letter_lines [] (y ∷ b) p q e = absurd (no_letters y b q e)
-one_letter_lines (x ∷ a) [] p q e = absurd (no_letters x a p (sym e))
+one_letter_lines [] (y ∷ b) p q e = absurd (no_items y b (some_letters y b q).0 e)
+one_letter_lines (x ∷ a) [] p q e = absurd (no_items x a (some_letters x a p).0 (sym e))
 one_letter_lines (x ∷ a) (y ∷ b) p q e =
     elim (fronts x (flat_map (λ l. l) a) y (flat_map (λ l. l) b) e) [
       | same first others ↦ let rest : a ≡ b = one_letter_lines a b (other_letters x a p) (other_letters y b q) others in cc

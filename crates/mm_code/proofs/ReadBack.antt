@@ -1,25 +1,24 @@
 -- What is laid out is found again: the words of the text are its tokens.
-use Rattle.std.proofs.Common.{◌≡◌, ℕ, ◌<◌, true, false, List, [], ◌∷◌, ◌++◌, length, refl, sym, ap, subst, ◌∙◌, append_assoc, arith}
-use Rattle.std.specs.List.{flat_map, join_with_byte, AllByRecursion, onto_first}
+use Rattle.std.proofs.Common.{◌≡◌, ℕ, ◌<◌, true, false, List, [], ◌∷◌, ◌++◌, length, refl, sym, ap, ◌∙◌, append_assoc, arith}
+use Rattle.std.specs.List.{flat_map, join_with_byte, AllByRecursion}
 use Rattle.std.proofs.lemmas.List.{append-nil}
 use Rattle.mm_text.specs.Token.{is_space}
+use Rattle.mm_text.proofs.TokenLaws.{tokens_from-run}
 use Rattle.mm_text.proofs.Lists.{all_append, all_back, all_front}
 use Rattle.mm_code.specs.Layout.{indent, token_line, IsLine, LaidOut, AreLetterLines, in_parentheses, CompressedLaidOut}
-use Rattle.mm_code.specs.Words.{tokens_in, LacksWhiteSpace, IsOneToken}
-use Rattle.mm_code.proofs.TextTokens.{tokens_in-nil, tokens_in-space, tokens_in-end, tokens_in-on}
+use Rattle.mm_code.specs.Words.{texts_of, tokens_in, LacksWhiteSpace, IsOneToken}
+use Rattle.mm_code.proofs.TextTokens.{texts_in, tokens_in-nil, tokens_in-space}
 use Rattle.mm_code.proofs.Added.{line_length}
 use Rattle.mm_code.proofs.LetterLines.{some_letters, other_letters}
 
--- a word before white space is found
-tokens_in-word : (byte : ℕ) (word : List ℕ) (space : ℕ) (bytes : List ℕ) → LacksWhiteSpace (byte ∷ word) → is_space space ≡ true → tokens_in ((byte ∷ word) ++ space ∷ bytes) ≡ (byte ∷ word) ∷ tokens_in bytes
-tokens_in-word byte [] space bytes dark white =
-    tokens_in-end byte space bytes dark.0 white ∙ ap (λ (ws : List (List ℕ)). (byte ∷ []) ∷ ws) (tokens_in-space space bytes white)
-tokens_in-word byte (next ∷ word) space bytes dark white =
-    tokens_in-on byte next (word ++ space ∷ bytes) dark.0 dark.1.0 ∙ ap (onto_first byte) (tokens_in-word next word space bytes dark.1 white)
-
+-- a token before white space is found
 tokens_in-token : (token : List ℕ) (space : ℕ) (bytes : List ℕ) → IsOneToken token → is_space space ≡ true → tokens_in (token ++ space ∷ bytes) ≡ token ∷ tokens_in bytes
 tokens_in-token [] space bytes is white = absurd (omega (arith, is.0))
-tokens_in-token (byte ∷ token) space bytes is white = tokens_in-word byte token space bytes is.1 white
+tokens_in-token (byte ∷ token) space bytes is white =
+    sym (texts_in 0 0 (byte ∷ token ++ space ∷ bytes))
+    ∙ ap texts_of (tokens_from-run 0 0 byte token (space ∷ bytes) is.1 white)
+    ∙ ap (λ ts. (byte ∷ token) ∷ ts)
+    (texts_in 0 _ (space ∷ bytes) ∙ tokens_in-space space bytes white)
 
 tokens_in-indent : (bytes : List ℕ) → tokens_in (indent ++ bytes) ≡ tokens_in bytes
 tokens_in-indent bytes =
@@ -51,8 +50,8 @@ tokens_in-lines (line ∷ lines) bytes each are =
 
 tokens_in-laid_out : (tokens : List (List ℕ)) (text bytes : List ℕ) → AllByRecursion IsOneToken tokens → LaidOut tokens text → tokens_in (text ++ bytes) ≡ tokens ++ tokens_in bytes
 tokens_in-laid_out tokens text bytes are laid =
-    let P : List (List ℕ) → Type 0 = AllByRecursion IsOneToken in
-    ap (λ (t : List ℕ). tokens_in (t ++ bytes)) laid.printed ∙ tokens_in-lines laid.lines bytes laid.each (subst P (sym laid.in_order) are) ∙ ap (λ (ts : List (List ℕ)). ts ++ tokens_in bytes) laid.in_order
+    let lines = tokens_in-lines laid.lines bytes laid.each (rw laid.in_order are) in
+    rw (laid.printed, lines, laid.in_order) refl
 
 pub normal_read_back : (labels : List (List ℕ)) (text : List ℕ) → AllByRecursion IsOneToken labels → LaidOut labels text → tokens_in text ≡ labels
 normal_read_back labels text are laid =
@@ -76,6 +75,7 @@ pub compressed_read_back : (labels : List (List ℕ)) (letters text : List ℕ) 
     → (pieces : List (List ℕ)) × (tokens_in text ≡ in_parentheses labels ++ pieces) × (flat_map (λ piece. piece) pieces ≡ letters)
 compressed_read_back labels letters text are dark laid =
     let block = laid.letters_laid_out in
-    let P : List ℕ → Type 0 = LacksWhiteSpace in
-    let found : tokens_in laid.block ≡ block.lines = ap tokens_in block.printed ∙ tokens_in-letters block.lines block.each (subst P (sym block.in_order) dark) in
-    (block.lines, ap tokens_in laid.whole ∙ tokens_in-laid_out (in_parentheses labels) laid.list laid.block (tokens_in-parentheses labels are) laid.list_laid_out ∙ ap (λ (ws : List (List ℕ)). in_parentheses labels ++ ws) found, block.in_order)
+    let found = tokens_in-letters block.lines block.each (rw block.in_order dark) in
+    let listed = tokens_in-laid_out (in_parentheses labels) laid.list laid.block
+    (tokens_in-parentheses labels are) laid.list_laid_out in
+    (block.lines, rw (laid.whole, listed, block.printed, found), block.in_order)

@@ -1,7 +1,7 @@
 -- One step of `reading`, for each kind of byte.
-use Rattle.std.proofs.Common.{◌≡◌, ℕ, ◌+◌, ◌-◌, ◌<◌, ◌≤◌, Bool, true, false, cond, ◌&&◌, List, [], ◌∷◌, ◌++◌, length, get_or, set, take, drop, subst, Bor, Result, Ok, Err, refl, sym, ap, ◌∙◌, append_assoc, arith}
+use Rattle.std.proofs.Common.{◌≡◌, ℕ, ◌+◌, ◌-◌, ◌<◌, ◌≤◌, Bool, true, false, cond, ◌&&◌, List, [], ◌∷◌, ◌++◌, length, get_or, set, take, drop, Bor, Result, Ok, Err, refl, sym, ap, append_assoc, arith}
 use Rattle.std.proofs.lemmas.Bool.{lt-ltb, le-ltb, eq-eqb, ne_eqb}
-use Rattle.std.proofs.lemmas.List.{take_more_set, take-set, take_rest, at_drop_more, at_drop_all, append-nil}
+use Rattle.std.proofs.lemmas.List.{take_more_set, take-set, take_rest, drop_more}
 use Rattle.std.proofs.lemmas.List.Folds.{list_all-append}
 use Rattle.std.specs.List.{list_all, flat_map}
 use Rattle.std.specs.Char.{is_ascii_uppercase}
@@ -53,85 +53,43 @@ pub read_cut_by_end : (value : ℕ) → 0 < value → reading value [] ≡ Err P
 unfolding reading
 read_cut_by_end value h = rw (ne_eqb value 0 (λ e. omega arith)) refl
 
--- The same behind codes that are read already, as `put_any` meets them. `grind` takes these by their names.
-pub front_below : (codes : List Code) (value byte : ℕ) (bytes : List ℕ) → byte < 65 → with_front codes (reading value (byte ∷ bytes)) ≡ Err P4
-front_below codes value byte bytes h = rw (read_below value byte bytes h) refl
-
-pub front_above : (codes : List Code) (value byte : ℕ) (bytes : List ℕ) → 90 < byte → with_front codes (reading value (byte ∷ bytes)) ≡ Err P4
-front_above codes value byte bytes h = rw (read_above value byte bytes h) refl
-
-pub front_cut : (codes : List Code) (value byte : ℕ) (bytes : List ℕ) → byte ≡ 90 → 0 < value → with_front codes (reading value (byte ∷ bytes)) ≡ Err (rule_behind bytes)
-front_cut codes value byte bytes is h = rw (read_cut_by_tag value byte bytes is h) refl
-
-pub front_tag : (codes : List Code) (value byte : ℕ) (bytes : List ℕ) → byte ≡ 90 → value ≡ 0 → with_front codes (reading value (byte ∷ bytes)) ≡ with_front (codes ++ Tag ∷ []) (reading 0 bytes)
-front_tag codes value byte bytes is h = rw (read_tag value byte bytes is h) (with_front-with_front codes (Tag ∷ []) (reading 0 bytes))
-
-pub front_last : (codes : List Code) (value byte : ℕ) (bytes : List ℕ) → 65 ≤ byte → byte < 85
-    → with_front codes (reading value (byte ∷ bytes)) ≡ with_front (codes ++ Number (number_after value byte) ∷ []) (reading 0 bytes)
-front_last codes value byte bytes low high =
-    rw (read_last value byte bytes low high) (with_front-with_front codes (Number (number_after value byte) ∷ []) (reading 0 bytes))
-
-pub front_leading : (codes : List Code) (value byte : ℕ) (bytes : List ℕ) → 85 ≤ byte → byte < 90
-    → with_front codes (reading value (byte ∷ bytes)) ≡ with_front codes (reading (leading_after value byte) bytes)
-front_leading codes value byte bytes low high = ap (with_front codes) (read_leading value byte bytes low high)
-
-pub ruleset reading_steps = (front_below, front_above, front_cut, front_tag, front_last, front_leading)
+-- `grind` takes these by their names.
+pub ruleset reading_steps = (read_below, read_above, read_cut_by_tag, read_leading)
 
 -- The same where the codes so far fill slots up to a place, and a code is put there.
 pub put_last : (slots : List Code) (place next value byte number : ℕ) (rest : List ℕ) → place < length slots → next ≡ place + 1 → 65 ≤ byte → byte < 85 → number ≡ number_after value byte
     → with_front (take next (set slots place (Number number))) (reading 0 rest) ≡ with_front (take place slots) (reading value (byte ∷ rest))
 put_last slots place next value byte number rest lt on low high is =
-    ap (λ (n : ℕ). with_front (take n (set slots place (Number number))) (reading 0 rest)) on
-    ∙ ap (λ (codes : List Code). with_front codes (reading 0 rest)) (take_more_set slots place (Number number) lt ∙ ap (λ (n : ℕ). take place slots ++ Number n ∷ []) is)
-    ∙ sym (front_last (take place slots) value byte rest low high)
+    rw (on, take_more_set slots place (Number number) lt, is, read_last value byte rest low high)
+    (sym (with_front-with_front (take place slots) (Number _ ∷ []) (reading 0 rest)))
 
 pub put_tag : (slots : List Code) (place value byte : ℕ) (rest : List ℕ) → place < length slots → byte ≡ 90 → value ≡ 0
     → with_front (take (place + 1) (set slots place Tag)) (reading 0 rest) ≡ with_front (take place slots) (reading value (byte ∷ rest))
 put_tag slots place value byte rest lt is none =
-    ap (λ (codes : List Code). with_front codes (reading 0 rest)) (take_more_set slots place Tag lt) ∙ sym (front_tag (take place slots) value byte rest is none)
+    rw (take_more_set slots place Tag lt, read_tag value byte rest is none)
+    (sym (with_front-with_front (take place slots) (Tag ∷ []) (reading 0 rest)))
 
 -- A leading digit leaves the codes before the place, whatever is put there.
 pub put_leading : (slots : List Code) (place next value byte longer : ℕ) (code : Code) (rest : List ℕ) → next ≡ place → 85 ≤ byte → byte < 90 → longer ≡ leading_after value byte
     → with_front (take next (set slots place code)) (reading longer rest) ≡ with_front (take place slots) (reading value (byte ∷ rest))
 put_leading slots place next value byte longer code rest on low high is =
-    ap (λ (n : ℕ). with_front (take n (set slots place code)) (reading longer rest)) on
-    ∙ ap (λ (codes : List Code). with_front codes (reading longer rest)) (take-set slots place code)
-    ∙ ap (λ (v : ℕ). with_front (take place slots) (reading v rest)) is
-    ∙ sym (front_leading (take place slots) value byte rest low high)
+    rw (on, take-set slots place code, is, read_leading value byte rest low high)
 
 -- ---- a fault, with more bytes
 
-chosen : (a b : Bool) → cond (a && b) P5 P4 ≡ cond a (cond b P5 P4) P4
-chosen true b = refl
-chosen false b = refl
-
-pub rule_behind-append : (bytes rest : List ℕ) → rule_behind (bytes ++ rest) ≡ cond (list_all is_ascii_uppercase bytes) (rule_behind rest) P4
+cut_cases : (all : Bool) (rest : List ℕ) (read : Result (List Code) CodeRule)
+    → read ≡ Err (cond (all && list_all is_ascii_uppercase rest) P5 P4)
+    → FaultOf (Rule (cond all P5 P4)) rest read
 unfolding rule_behind
-rule_behind-append bytes rest = rw (list_all-append is_ascii_uppercase bytes rest) (chosen (list_all is_ascii_uppercase bytes) (list_all is_ascii_uppercase rest))
-
-cut_cases : (b : Bool) (rest : List ℕ) (read : Result (List Code) CodeRule) → read ≡ Err (cond b (rule_behind rest) P4) → FaultOf (Rule (cond b P5 P4)) rest read
 cut_cases true rest read e = e
 cut_cases false rest read e = e
 
 -- the fault of a cut number, once more bytes are looked at
 pub cut_goes_on : (bytes rest : List ℕ) (rule : CodeRule) (read : Result (List Code) CodeRule) → rule ≡ rule_behind bytes → read ≡ Err (rule_behind (bytes ++ rest)) → FaultOf (Rule rule) rest read
 unfolding rule_behind
-cut_goes_on bytes rest rule read is h =
-    let known : read ≡ Err (cond (list_all is_ascii_uppercase bytes) (rule_behind rest) P4) = h ∙ ap Err (rule_behind-append bytes rest) in
-    let P : CodeRule → Type 0 = λ r. FaultOf (Rule r) rest read in
-    subst P (sym is) (cut_cases (list_all is_ascii_uppercase bytes) rest read known)
+cut_goes_on bytes rest rule read is h = rw is (cut_cases _ rest read (rw list_all-append at h))
 
 -- ---- the end of the letters
-
-pub ends_at_cut : (codes : List Code) (value : ℕ) (tokens : List (Bor (List ℕ))) (i : ℕ) (read : Result (List Code) CodeRule) → length tokens ≤ i → 0 < value
-    → with_front codes (reading value (flat_map (λ token. token.now) (drop i tokens))) ≡ read → read ≡ Err P5
-ends_at_cut codes value tokens i read le h so_far =
-    sym so_far ∙ at_drop_all (λ rest. with_front codes (reading value (flat_map (λ token. token.now) rest))) tokens i le ∙ ap (with_front codes) (read_cut_by_end value h)
-
-pub ends_whole : (codes : List Code) (value : ℕ) (tokens : List (Bor (List ℕ))) (i : ℕ) (read : Result (List Code) CodeRule) → length tokens ≤ i → value ≡ 0
-    → with_front codes (reading value (flat_map (λ token. token.now) (drop i tokens))) ≡ read → read ≡ Ok codes
-ends_whole codes value tokens i read le h so_far =
-    sym so_far ∙ at_drop_all (λ rest. with_front codes (reading value (flat_map (λ token. token.now) rest))) tokens i le ∙ ap (with_front codes) (read_end value h) ∙ ap Ok (append-nil codes)
 
 -- a fault with nothing behind it is the answer
 pub fault_answers : (fault : CodeFault) (read : Result (List Code) CodeRule) → FaultOf fault [] read → Answers (Err fault) read
@@ -146,8 +104,6 @@ pub fault_ends : (fault found : CodeFault) (codes : List Code) (value : ℕ) (to
     → ((r : Result (List Code) CodeRule) → FaultOf fault (flat_map (λ token. token.now) (take (length tokens - (i + 1)) (drop (i + 1) tokens))) r → FaultOf found [] r)
     → with_front codes (reading value (flat_map (λ token. token.now) (drop i tokens))) ≡ read → Answers (Err found) read
 fault_ends fault found codes value tokens i d read lt here behind so_far =
-    let step = at_drop_more (λ rest. with_front codes (reading value (flat_map (λ token. token.now) rest))) tokens i d lt in
-    let P : Result (List Code) CodeRule → Type 0 = λ r. FaultOf found [] r in
-    let total = with_front codes (reading value ((get_or tokens i d).now ++ flat_map (λ token. token.now) (drop (i + 1) tokens))) in
-    let Q : List (Bor (List ℕ)) → Type 0 = λ rest. FaultOf fault (flat_map (λ token. token.now) rest) total in
-    fault_answers found read (subst P (sym step ∙ so_far) (behind total (subst Q (sym (take_rest tokens (i + 1))) (here (flat_map (λ token. token.now) (drop (i + 1) tokens))))))
+    let after = flat_map (λ token. token.now) (drop (i + 1) tokens) in
+    fault_answers found read
+    (rw (← so_far, drop_more tokens i d lt) (behind _ (rw take_rest (here after))))

@@ -1,5 +1,5 @@
 -- Each number from 1 on has exactly one spelling, and each list of codes one text.
-use Rattle.std.proofs.Common.{◌≡◌, ℕ, zero, suc, ◌+◌, ◌-◌, ◌*◌, ◌/◌, ◌%◌, ◌<◌, ◌≤◌, inl, inr, min, List, [], ◌∷◌, ◌++◌, map, reverse, All, refl, sym, ap, subst, ◌∙◌, arith}
+use Rattle.std.proofs.Common.{◌≡◌, ℕ, zero, suc, ◌+◌, ◌-◌, ◌*◌, ◌/◌, ◌%◌, ◌<◌, ◌≤◌, inl, inr, min, List, [], ◌∷◌, ◌++◌, map, reverse, All, refl, sym, ap, ◌∙◌, arith}
 use Rattle.std.specs.List.{flat_map, AllByRecursion, AllZip}
 use Rattle.std.proofs.lemmas.List.{reverse-reverse, same_from_push}
 use Rattle.std.proofs.lemmas.List.Elements.{All-head, All-tail}
@@ -14,46 +14,42 @@ use Rattle.mm_code.proofs.LettersAgain.{is_read_again}
 
 -- ---- leading digits, from the last one on
 
-worth : List ℕ → ℕ
-worth [] = 0
-worth (d ∷ digits) = 5 * worth digits + d
-
-leading_value-reverse : (digits : List ℕ) → leading_value (reverse digits) ≡ worth digits
-unfolding worth
-leading_value-reverse [] = refl
-leading_value-reverse (d ∷ digits) =
-    ap leading_value (reverse_onto digits d []) ∙ leading_value-push (reverse digits) d ∙ ap (λ (v : ℕ). 5 * v + d) (leading_value-reverse digits)
+leading_value-reverse : (d : ℕ) (digits : List ℕ)
+    → leading_value (reverse (d ∷ digits)) ≡ 5 * leading_value (reverse digits) + d
+leading_value-reverse d digits =
+    ap leading_value (reverse_onto digits d []) ∙ leading_value-push (reverse digits) d
 
 leading-reverse : (digits : List ℕ) → AllByRecursion IsLeadingDigit digits → AllByRecursion IsLeadingDigit (reverse digits)
 leading-reverse [] ok = tt
 leading-reverse (d ∷ digits) ok =
-    let P : List ℕ → Type 0 = AllByRecursion IsLeadingDigit in
-    subst P (sym (reverse_onto digits d [])) (all_push IsLeadingDigit (reverse digits) d (leading-reverse digits ok.1) ok.0)
+    rw (reverse_onto digits d []) (all_push IsLeadingDigit _ d (leading-reverse digits ok.1) ok.0)
 
-one_worth : (a b : List ℕ) → AllByRecursion IsLeadingDigit a → AllByRecursion IsLeadingDigit b → worth a ≡ worth b → a ≡ b
-unfolding worth
+one_worth : (a b : List ℕ) → AllByRecursion IsLeadingDigit a → AllByRecursion IsLeadingDigit b
+    → leading_value (reverse a) ≡ leading_value (reverse b) → a ≡ b
 one_worth [] [] p q e = refl
-one_worth [] (y ∷ b) p q e = absurd (omega (arith, q.0.0, e))
-one_worth (x ∷ a) [] p q e = absurd (omega (arith, p.0.0, e))
+one_worth [] (y ∷ b) p q e = absurd (omega (arith, q.0.0, leading_value-reverse y b, e))
+one_worth (x ∷ a) [] p q e = absurd (omega (arith, p.0.0, leading_value-reverse x a, e))
 one_worth (x ∷ a) (y ∷ b) p q e =
-    let digit : x ≡ y = omega (arith, p.0.0, p.0.1, q.0.0, q.0.1, e) in
-    let others : worth a ≡ worth b = omega (arith, p.0.0, p.0.1, q.0.0, q.0.1, e) in
-    let same : a ≡ b = one_worth a b p.1 q.1 others in
+    let x_last = leading_value-reverse x a in
+    let y_last = leading_value-reverse y b in
+    let digit : x ≡ y = omega (arith, p.0, q.0) in
+    let same : a ≡ b = one_worth a b p.1 q.1 (omega (arith, p.0, q.0)) in
     cc
 
 pub one_leading : (a b : List ℕ) → AllByRecursion IsLeadingDigit a → AllByRecursion IsLeadingDigit b → leading_value a ≡ leading_value b → a ≡ b
 one_leading a b p q e =
-    let va : leading_value a ≡ worth (reverse a) = ap leading_value (sym (reverse-reverse a)) ∙ leading_value-reverse (reverse a) in
-    let vb : leading_value b ≡ worth (reverse b) = ap leading_value (sym (reverse-reverse b)) ∙ leading_value-reverse (reverse b) in
-    let same : reverse a ≡ reverse b = one_worth (reverse a) (reverse b) (leading-reverse a p) (leading-reverse b q) (sym va ∙ e ∙ vb) in
+    let same : reverse a ≡ reverse b =
+    one_worth (reverse a) (reverse b) (leading-reverse a p) (leading-reverse b q)
+    (rw (reverse-reverse a, reverse-reverse b) e) in
     sym (reverse-reverse a) ∙ ap reverse same ∙ reverse-reverse b
 
 pub one_spelling_only : (a b : List ℕ) (number : ℕ) → IsSpelling a number → IsSpelling b number → a ≡ b
 one_spelling_only a b number p q =
-    let last : p.last ≡ q.last = omega (arith, p.is_last.0, p.is_last.1, q.is_last.0, q.is_last.1, p.value, q.value) in
-    let value : leading_value p.leading ≡ leading_value q.leading = omega (arith, p.is_last.0, p.is_last.1, q.is_last.0, q.is_last.1, p.value, q.value) in
+    let last : p.last ≡ q.last = omega (arith, p.is_last, q.is_last, p.value, q.value) in
+    let value : leading_value p.leading ≡ leading_value q.leading =
+    omega (arith, p.is_last, q.is_last, p.value, q.value) in
     let leading = one_leading p.leading q.leading p.are_leading q.are_leading value in
-    p.letters ∙ ap (λ (ds : List ℕ). map leading_letter ds ++ last_letter p.last ∷ []) leading ∙ ap (λ (d : ℕ). map leading_letter q.leading ++ last_letter d ∷ []) last ∙ sym q.letters
+    cc (p.letters, q.letters)
 
 -- ---- some spelling
 
@@ -62,11 +58,16 @@ pub record HasLeading (value : ℕ) : Type 0 where
   pub ok : AllByRecursion IsLeadingDigit digits
   pub is : leading_value digits ≡ value
 
-pub grown-leading : (value : ℕ) (digits : List ℕ) → AllByRecursion IsLeadingDigit digits → AllByRecursion IsLeadingDigit (digits ++ ((value - 1) % 5 + 1) ∷ [])
-grown-leading value digits ok = all_push IsLeadingDigit digits ((value - 1) % 5 + 1) ok (omega arith, omega arith)
-
-pub grown-value : (value : ℕ) (digits : List ℕ) → leading_value digits ≡ (value - 1) / 5 → 0 < value → leading_value (digits ++ ((value - 1) % 5 + 1) ∷ []) ≡ value
-grown-value value digits is positive = omega (arith, leading_value-push digits ((value - 1) % 5 + 1), is)
+-- one more digit
+abbrev pub leading-push : (value rest : ℕ) → HasLeading rest → rest ≡ (value - 1) / 5 → 0 < value
+    → HasLeading value
+leading-push value rest had is positive =
+    let digit = (value - 1) % 5 + 1 in
+    record {
+      digits = had.digits ++ digit ∷ [];
+      ok = all_push IsLeadingDigit had.digits digit had.ok (omega arith, omega arith);
+      is = omega (arith, leading_value-push had.digits digit, had.is);
+    }
 
 some_leading : (bound value : ℕ) → value ≤ bound → HasLeading value
 some_leading zero value le = record { digits = []; ok = tt; is = omega arith }
@@ -75,7 +76,7 @@ some_leading (suc bound) value le =
       | inl none ↦ record { digits = []; ok = tt; is = omega arith }
       | inr some ↦
           let had = some_leading bound ((value - 1) / 5) (omega arith) in
-          record { digits = had.digits ++ ((value - 1) % 5 + 1) ∷ []; ok = grown-leading value had.digits had.ok; is = grown-value value had.digits had.is (omega arith) }
+          leading-push value ((value - 1) / 5) had refl (omega arith)
     ]
 
 pub spelling-of : (number rest : ℕ) (had : HasLeading rest) → rest ≡ (number - 1) / 20 → 1 ≤ number → IsSpelling (map leading_letter had.digits ++ last_letter ((number - 1) % 20 + 1) ∷ []) number
@@ -95,14 +96,12 @@ some_spelling number positive = (_, spelling-of number ((number - 1) / 20) (some
 
 one_map : (a b : List ℕ) → map leading_letter a ≡ map leading_letter b → a ≡ b
 one_map [] [] e = refl
-one_map [] (y ∷ b) e = absurd cc
-one_map (x ∷ a) [] e = absurd cc
 one_map (x ∷ a) (y ∷ b) e =
     let head : leading_letter x ≡ leading_letter y = cc in
     let digit : x ≡ y = omega (arith, head) in
-    let tail : map leading_letter a ≡ map leading_letter b = cc in
-    let same : a ≡ b = one_map a b tail in
+    let same : a ≡ b = one_map a b (cc) in
     cc
+one_map a b e = cc
 
 pub one_number : (text : List ℕ) (m n : ℕ) → IsSpelling text m → IsSpelling text n → m ≡ n
 one_number text m n p q =
@@ -118,13 +117,11 @@ one_piece a b Tag p q = p ∙ sym q
 
 one_pieces : (a b : List (List ℕ)) (codes : List Code) → AllZip SaysCode a codes → AllZip SaysCode b codes → flat_map (λ piece. piece) a ≡ flat_map (λ piece. piece) b
 one_pieces [] [] [] p q = refl
-one_pieces [] [] (code ∷ codes) p q = absurd p
-one_pieces [] (y ∷ b) [] p q = absurd q
-one_pieces [] (y ∷ b) (code ∷ codes) p q = absurd p
-one_pieces (x ∷ a) b [] p q = absurd p
-one_pieces (x ∷ a) [] (code ∷ codes) p q = absurd q
 one_pieces (x ∷ a) (y ∷ b) (code ∷ codes) p q =
     ap (λ (t : List ℕ). t ++ flat_map (λ piece. piece) a) (one_piece x y code p.0 q.0) ∙ ap (λ (t : List ℕ). y ++ t) (one_pieces a b codes p.1 q.1)
+one_pieces [] b (code ∷ codes) p q = absurd p
+one_pieces a b [] p q = absurd (assumption (p, q))
+one_pieces a [] codes p q = absurd q
 
 pub one_text_only : (a b : List ℕ) (codes : List Code) → SpellsCodes a codes → SpellsCodes b codes → a ≡ b
 one_text_only a b codes p q = p.joined ∙ one_pieces p.pieces q.pieces codes p.each q.each ∙ sym q.joined
@@ -152,23 +149,18 @@ exact_code : (code spelled : Code) → IsExact code → code ≡ code_for spelle
 exact_code (Number n) (Number m) exact e =
     let number : n ≡ min m largest = cc in
     ap Number (omega (arith, number, exact))
-exact_code (Number n) Tag exact e = e
-exact_code Tag (Number m) exact e = absurd cc
 exact_code Tag Tag exact e = refl
+exact_code code spelled exact e = cc
 
 exact_codes : (codes spelled : List Code) → All IsExact codes → codes ≡ map code_for spelled → codes ≡ spelled
 exact_codes [] [] exact e = refl
-exact_codes [] (s ∷ spelled) exact e = absurd cc
-exact_codes (c ∷ codes) [] exact e = absurd cc
 exact_codes (c ∷ codes) (s ∷ spelled) exact e =
-    let head : c ≡ code_for s = cc in
-    let tail : codes ≡ map code_for spelled = cc in
-    let first = exact_code c s (All-head IsExact c codes exact) head in
-    let others = exact_codes codes spelled (All-tail IsExact c codes exact) tail in
+    let first : c ≡ s = exact_code c s (All-head IsExact c codes exact) (cc) in
+    let others = exact_codes codes spelled (All-tail IsExact c codes exact) (cc) in
     cc
+exact_codes codes spelled exact e = cc
 
 -- codes below the largest number are what their letters spell
 pub exact_spelled : (text : List ℕ) (codes : List Code) → All IsExact codes → Letters text codes → SpellsCodes text codes
 exact_spelled text codes exact letters =
-    let P : List Code → Type 0 = SpellsCodes text in
-    subst P (sym (exact_codes codes letters.spelled exact letters.are_codes)) letters.spells
+    rw (exact_codes codes letters.spelled exact letters.are_codes) letters.spells

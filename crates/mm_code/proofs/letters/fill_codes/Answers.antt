@@ -1,6 +1,8 @@
 -- The reading on lists gives each clause.
 use Rattle.mm_code.specs.Letters.{joined_tokens}
-use Rattle.mm_code.proofs.ReadAnswers.{ok_found, letters_answered, broken_answered, rule_broken}
+use Rattle.mm_code.proofs.Faults.{breaks_read}
+use Rattle.mm_code.proofs.LettersAgain.{is_read_again}
+use Rattle.mm_code.proofs.ReadAnswers.{ok_found, rule_broken}
 use Rattle.mm_code.proofs.letters.fill_codes.Goals as goal
 
 pub returns : goal.returns
@@ -10,7 +12,7 @@ returns c =
     let given = c.read_tokens.ensures in
     record {
       read = ok_found text _ codes given;
-      whole = λ said letters. letters_answered text _ codes said given letters;
+      whole = λ said letters. rw (is_read_again text said letters) at given;
       rule = λ rule is. rule_broken text _ codes rule given is;
-      broken = λ rule broken. broken_answered text _ codes rule given broken;
+      broken = λ rule broken. rw (breaks_read rule text broken) at given;
     }

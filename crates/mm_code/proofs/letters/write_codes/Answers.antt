@@ -1,5 +1,6 @@
 use Rattle.std.proofs.Common.{arith}
-use Rattle.mm_code.proofs.LettersWritten.{code-written, code_for-more, all_spelled, all_letters, only_text}
+use Rattle.mm_code.proofs.LettersWritten.{code-written, code_for-more, all_spelled, all_letters}
+use Rattle.mm_code.proofs.Unique.{exact_spelled, one_text_only}
 use Rattle.mm_code.proofs.letters.write_codes.Goals as goal
 
 pub loop-code-preserved : goal.loop-code-preserved
@@ -12,4 +13,8 @@ pub returns-clause-letters : goal.returns-clause-letters
 returns-clause-letters c = all_letters c.loop-code.text.items c.args.codes.now c.loop-code.code-index (omega arith) c.loop-code.invariant.spelled c.loop-code.invariant.are_codes
 
 pub returns-clause-only : goal.returns-clause-only
-returns-clause-only c = only_text c.loop-code.text.items c.args.codes.now (all_spelled c.loop-code.text.items c.args.codes.now c.loop-code.code-index (omega arith) c.loop-code.invariant.spelled)
+returns-clause-only c exact other letters =
+    let text = c.loop-code.text.items in
+    let codes = c.args.codes.now in
+    one_text_only other text codes (exact_spelled other codes exact letters)
+    (all_spelled text codes c.loop-code.code-index (omega arith) c.loop-code.invariant.spelled)
