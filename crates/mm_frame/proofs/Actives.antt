@@ -7,15 +7,12 @@ use Rattle.mm_frame.specs.Sentence.{Sentence}
 use Rattle.mm_frame.specs.Active.{IsOpen, Holds, IsActive}
 use Rattle.mm_frame.specs.Mirror.Scopes.{IsUnclosed, AreScopes}
 use Rattle.mm_text.proofs.Lists.{get_from_front, get_in_front}
-use Rattle.mm_frame.proofs.Counts.{unclosed_front, unclosed_outer}
-
--- a front's front
-pub fronts : {X : Type 0} (xs : List X) (n m : ℕ) → n ≤ m → take n (take m xs) ≡ take n xs
-fronts xs n m le = take-take n m xs le
+use Rattle.mm_frame.proofs.Counts.{unclosed_front, unclosed_outer, open_in}
 
 -- a block is open after a front, if it is after a longer one
 pub unclosed_shorter : (xs : List Sentence) (n m x : ℕ) → n ≤ m → IsUnclosed (take m xs) x → IsUnclosed (take n xs) x
-unclosed_shorter xs n m x le still = subst (λ ys. IsUnclosed ys x) (fronts xs n m le) (unclosed_front (take m xs) n x still)
+unclosed_shorter xs n m x le still =
+    subst (λ ys. IsUnclosed ys x) (take-take n m xs le) (unclosed_front (take m xs) n x still)
 
 -- a block is open after the front that ends with its `$}` or earlier
 unclosed_until : (never : ℕ) (st : List Sentence) (blocks ends stack : List ℕ) → (a : AreScopes never st blocks ends stack) → (b x c q : ℕ) → slice_get a.starts b ≡ Some x → slice_get ends b ≡ Some c
@@ -43,13 +40,10 @@ until_unclosed never st blocks ends stack a b x c q begins ends_at le room still
 
 -- what a block holds in a front, where the front holds the statement
 pub holds_kept : (st : List Sentence) (q p outer : ℕ) → p < q → Holds (take q st) outer p → Holds st outer p
-holds_kept st q p outer lt (before, still) = (before, subst (λ ys. IsOpen ys outer) (fronts st (suc p) q (omega arith)) still)
+holds_kept st q p outer lt (before, still) = (before, rw (take-take (suc p) q st (omega arith)) at still)
 
 pub holds_back : (st : List Sentence) (q p outer : ℕ) → p < q → Holds st outer p → Holds (take q st) outer p
-holds_back st q p outer lt (before, still) = (before, subst (λ ys. IsOpen ys outer) (sym (fronts st (suc p) q (omega arith))) still)
-
-within_front : (st : List Sentence) (q p : ℕ) → p < q → q ≤ length st → p < length (take q st)
-within_front st q p lt le = let e = length-take-le q st le in omega arith
+holds_back st q p outer lt (before, still) = (before, rw (take-take (suc p) q st (omega arith)) still)
 
 -- the statement is active, while the block that directly holds it is open
 active_while : (never : ℕ) (st : List Sentence) (blocks ends stack : List ℕ) → AreScopes never st blocks ends stack → (p q b c : ℕ) → slice_get blocks p ≡ Some b → slice_get ends b ≡ Some c
@@ -58,20 +52,17 @@ active_while never st blocks ends stack a p q b c holder ends_at lt le until =
     let h = a.holders p b holder in
     let x = h.start in
     let still = unclosed_until never st blocks ends stack a b x c q h.there ends_at le until in
-    let before = h.before in
     record {
-      within = within_front st q p lt le;
+      within = let e = length-take-le q st le in omega arith;
       kept = λ outer holds.
           let held = holds_kept st q p outer lt holds in
           let near = h.nearest outer held in
-          let opened = held.1 in record {
-            opening = opened.opening;
-            there = get_in_front st q outer opened.opening (omega arith) (get_from_front st (suc p) outer opened.opening opened.there);
-            opened = opened.opened;
-            unclosed = unclosed_outer (take q st) x (suc outer) near
-                (subst (λ ys. IsUnclosed ys (suc outer)) (sym (fronts st x q (omega arith))) (unclosed_shorter st x (suc p) (suc outer) (omega arith) opened.unclosed))
-                still;
-          };
+          let opened = held.1 in
+          let there = get_from_front st (suc p) outer opened.opening opened.there in
+          open_in opened (get_in_front st q outer opened.opening (omega arith) there)
+          (unclosed_outer (take q st) x (suc outer) near
+          (subst (λ ys. IsUnclosed ys (suc outer)) (sym (take-take x q st (omega arith))) (unclosed_shorter st x (suc p) (suc outer) (omega arith) opened.unclosed))
+          still);
     }
 
 while_active : (never : ℕ) (st : List Sentence) (blocks ends stack : List ℕ) → AreScopes never st blocks ends stack → length st ≤ never → (p q b c : ℕ) → slice_get blocks p ≡ Some b → slice_get ends b ≡ Some c

@@ -8,10 +8,10 @@ use Rattle.mm_frame.specs.declared.tables.Entry.{Entry}
 use Rattle.mm_frame.specs.declared.tables.Tables.{Tables}
 use Rattle.mm_frame.specs.Sentence.{Sentence}
 use Rattle.mm_frame.specs.Rules.{IsMeant}
-use Rattle.mm_frame.specs.Form.{IsFormedSentence, IsSound}
+use Rattle.mm_frame.specs.Form.{IsFormedSentence}
 use Rattle.mm_frame.specs.Mirror.ScopesOf.{HaveScopes}
 use Rattle.mm_frame.specs.FramePlace.{HaveTypings}
-use Rattle.mm_frame.specs.Mirror.Layout.{AreTables, AreInfos, AreLabelInfos, AreEntries, AreEssentials, AreFrames, AreStated, IsPartWithin, sentence_by, statements_of}
+use Rattle.mm_frame.specs.Mirror.Layout.{AreTables, AreInfos, AreLabelInfos, AreEssentials, AreFrames, AreStated, IsPartWithin, sentence_by, statements_of}
 use Rattle.mm_frame.specs.Mirror.Grows.{Grows}
 use Rattle.mm_frame.proofs.Meant.{allmeant_push, allformed_push}
 use Rattle.mm_frame.proofs.Entries.{sentences_push, entries_push}
@@ -43,22 +43,28 @@ assembled t v s new a b c bytes tables meant formed app grown counted enough roo
     let pushed = sentences_push t.symbols.names t.labels.names t.flat.items t.log.items a b c new tables.entries in
     let st : statements_of v ≡ statements_of t ++ s ∷ [] =
     rw (app.symbols, app.labels, app.flat, app.log) (pushed ∙ ap (λ (x : Sentence). statements_of t ++ x ∷ []) app.said) in
-    let sound : IsSound (statements_of v) = rw st (allmeant_push (statements_of t) s tables.sound.0 meant, allformed_push (statements_of t) s tables.sound.1 formed) in
-    let n : AreEntries v.symbols.names v.labels.names v.flat.items v.log.items = rw (app.symbols, app.labels, app.flat, app.log)
-    (entries_push t.symbols.names t.labels.names t.flat.items t.log.items a b c new tables.entries app.within app.numbers app.label) in
-    let i : AreInfos (statements_of v) v.symbols.names v.infos.items = rw st grown.infos in
-    let l : AreLabelInfos (statements_of v) v.labels.names v.named.items v.log.items = rw st grown.labels in
-    let h : HaveScopes (statements_of v) v.scopes = rw st grown.scopes in
-    let e : AreEssentials (statements_of v) v.essentials.items = rw st grown.essentials in
-    let f : AreFrames (statements_of v) v.hypotheses.items v.pairs.items v.pieces.items v.named.items = rw st grown.frames in
-    let y : HaveTypings (statements_of v) v.hypotheses.items = rw st grown.typed in
-    let d : AreStated (statements_of v) v.symbols.names v.distinct.stated = rw st grown.stated in
     let logs = length-append t.log.items (new ∷ []) in
     let flats = length-append t.flat.items c in
-    let before = tables.counted in
     let sum : length v.log.items + length v.flat.items ≤ v.bytes = rw (app.log, app.flat, counted, logs, flats) (omega arith) in
     record {
-      tables = record { sound = sound; counted = sum; small = rw counted room; infos = i; labels = l; entries = n; scopes = h; essentials = e; frames = f; typed = y; stated = d };
+      tables = record {
+        sound = rw st (
+          allmeant_push (statements_of t) s tables.sound.0 meant,
+          allformed_push (statements_of t) s tables.sound.1 formed,
+        );
+        counted = sum;
+        small = rw counted room;
+        infos = rw st grown.infos;
+        labels = rw st grown.labels;
+        entries = rw (app.symbols, app.labels, app.flat, app.log)
+            (entries_push t.symbols.names t.labels.names t.flat.items t.log.items a b c new
+            tables.entries app.within app.numbers app.label);
+        scopes = rw st grown.scopes;
+        essentials = rw st grown.essentials;
+        frames = rw st grown.frames;
+        typed = rw st grown.typed;
+        stated = rw st grown.stated;
+      };
       statements = st;
       counted = counted;
     }

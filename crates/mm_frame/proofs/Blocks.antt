@@ -1,7 +1,6 @@
 -- A book's lists after a `${` or a `$}`.
-use Rattle.std.proofs.Common.{◌≡◌, ℕ, suc, ◌+◌, ◌-◌, ◌<◌, ◌≤◌, length, List, [], ◌∷◌, ◌++◌, Option, Some, None, Result, Ok, Err, refl, sym, ap, ◌∙◌, subst, append-nil, arith}
+use Rattle.std.proofs.Common.{◌≡◌, ℕ, suc, ◌+◌, ◌-◌, ◌<◌, ◌≤◌, length, List, [], ◌∷◌, ◌++◌, Option, Some, None, refl, sym, ap, ◌∙◌, subst, append-nil, arith}
 use Rattle.std.specs.List.{slice_get, slice_range}
-use Rattle.std.specs.Result.{OnErr}
 use Rattle.mm_text.specs.declared.statement.Kind.{Kind}
 use Rattle.mm_text.specs.declared.statement.Kind.TheVariants.{Opening, Closing, Floating, Distinct}
 use Rattle.mm_text.specs.Files.{most_bytes}
@@ -13,19 +12,16 @@ use Rattle.mm_frame.specs.Rules.{IsMeant}
 use Rattle.mm_frame.specs.Form.{IsFormedSentence}
 use Rattle.mm_frame.specs.Numbers.{symbols_of, declared_by}
 use Rattle.mm_frame.specs.Mirror.ScopesOf.{HaveScopes}
-use Rattle.mm_frame.specs.Mirror.Layout.{AreTables, AreInfos, AreLabelInfos, AreEssentials, AreFrames, AreStated, sentence_by, names_by, statements_of}
-use Rattle.mm_frame.specs.FramePlace.{HaveTypings}
+use Rattle.mm_frame.specs.Mirror.Layout.{AreTables, AreEssentials, sentence_by, names_by, statements_of}
 use Rattle.mm_frame.specs.Mirror.Forgotten.{AreForgotten}
-use Rattle.mm_frame.specs.Mirror.Grows.{Grows, IsSame, SameLists, Entered, entry_of}
+use Rattle.mm_frame.specs.Mirror.Grows.{Grows, SameLists, Entered, entry_of}
 use Rattle.std.proofs.lemmas.Option.{slice_get_within}
-use Rattle.mm_frame.specs.declared.scopes.TheConstants.{NEVER}
 use Rattle.mm_frame.proofs.Entries.{length-sentences}
 use Rattle.mm_frame.proofs.ScopeLaws.{length_pushed}
 use Rattle.mm_frame.proofs.Infos.{infos_other}
 use Rattle.mm_frame.proofs.Labels.{labels_none, essentials_other, essentials_closing}
 use Rattle.mm_frame.proofs.FrameLaws.{placed, frames_other, stated_other}
 use Rattle.mm_frame.proofs.Typings.{typings_grow}
-use Rattle.mm_frame.proofs.SameTables.{same_tables}
 use Rattle.mm_frame.proofs.Assembled.{assembled}
 
 -- one statement with no label and no symbols was written, but the active `$e` are another matter
@@ -44,11 +40,6 @@ pub record AddsBlock (t v : Tables) (kind : Kind) (bytes : ℕ) : Type 0 where
   pub pieces : v.pieces.items ≡ t.pieces.items
   pub stated : v.distinct.stated ≡ t.distinct.stated
   pub counted : v.bytes ≡ t.bytes + bytes
-
--- where room can't be made
-pub same_on_err : {X Y : Type 0} (r : Result X Y) (t u : Tables) → AreTables t → SameLists t u → OnErr r (IsSame t u)
-same_on_err (Ok x) t u tables same = tt
-same_on_err (Err y) t u tables same = same_tables t u tables same
 
 -- the scopes of the same lists
 pub same_scopes : (t u : Tables) (st : List Sentence) → SameLists t u → HaveScopes st t.scopes → HaveScopes st u.scopes
@@ -103,15 +94,8 @@ block_grows t v s kind bytes tables adds is unlabelled bare none no_float no_dis
     let ps : v.pairs.items ≡ t.pairs.items ++ [] = adds.pairs ∙ sym (append-nil t.pairs.items) in
     let qs : v.pieces.items ≡ t.pieces.items ++ [] = adds.pieces ∙ sym (append-nil t.pieces.items) in
     let flat_size : length (t.flat.items ++ []) ≡ n = ap length (append-nil t.flat.items) in
-    let i : AreInfos (st ++ s ∷ []) v.symbols.names v.infos.items = rw (adds.symbols, adds.infos) (infos_other st t.symbols.names t.infos.items s tables.infos none no_float) in
-    let l : AreLabelInfos (st ++ s ∷ []) v.labels.names v.named.items v.log.items = rw (adds.labels, adds.named, adds.log)
-    (labels_none st t.labels.names t.named.items t.log.items s new tables.labels unlabelled refl size) in
-    let f : AreFrames (st ++ s ∷ []) v.hypotheses.items v.pairs.items v.pieces.items v.named.items = rw (hs, ps, qs, adds.named)
-    (frames_other st s t.hypotheses.items [] t.pairs.items [] t.pieces.items [] t.named.items (placed st t.labels.names t.named.items t.log.items tables.labels) tables.frames) in
-    let y : HaveTypings (st ++ s ∷ []) v.hypotheses.items = rw adds.hypotheses (typings_grow st (s ∷ []) t.hypotheses.items tables.typed) in
-    let all : t.symbols.names ++ [] ≡ symbols_of (st ++ s ∷ []) = sym a ∙ i.all in
-    let d : AreStated (st ++ s ∷ []) v.symbols.names v.distinct.stated = rw (a, adds.stated)
-    (stated_other st s t.symbols.names [] t.distinct.stated tables.sound.0 tables.infos.all all tables.stated no_distinct) in
+    let all : t.symbols.names ++ [] ≡ symbols_of (st ++ s ∷ []) = append-nil t.symbols.names
+    ∙ (infos_other st t.symbols.names t.infos.items s tables.infos none no_float).all in
     assembled t v s new [] [] [] bytes tables meant formed
     (record {
       symbols = a;
@@ -123,7 +107,20 @@ block_grows t v s kind bytes tables adds is unlabelled bare none no_float no_dis
       numbers = λ i n there. absurd (cc);
       label = λ id there. absurd (cc);
     })
-    (record { infos = i; labels = l; scopes = adds.scopes st s tables.scopes is more; essentials = essentials; frames = f; typed = y; stated = d })
+    (record {
+      infos = rw (adds.symbols, adds.infos)
+          (infos_other st t.symbols.names t.infos.items s tables.infos none no_float);
+      labels = rw (adds.labels, adds.named, adds.log) (labels_none st t.labels.names t.named.items
+          t.log.items s new tables.labels unlabelled refl size);
+      scopes = adds.scopes st s tables.scopes is more;
+      essentials = essentials;
+      frames = rw (hs, ps, qs, adds.named) (frames_other st s t.hypotheses.items [] t.pairs.items []
+          t.pieces.items [] t.named.items (placed st t.labels.names t.named.items t.log.items
+          tables.labels) tables.frames);
+      typed = rw adds.hypotheses (typings_grow st (s ∷ []) t.hypotheses.items tables.typed);
+      stated = rw (a, adds.stated) (stated_other st s t.symbols.names [] t.distinct.stated
+          tables.sound.0 tables.infos.all all tables.stated no_distinct);
+    })
     adds.counted (omega arith) room
 
 pub open_grows : (t v : Tables) (s : Sentence) (bytes : ℕ) → AreTables t → AddsBlock t v Opening bytes → v.essentials.items ≡ t.essentials.items → s.kind ≡ Opening → s.label ≡ None → s.symbols ≡ []
@@ -163,20 +160,3 @@ closing_ready t u w start bytes at tables same e more ends =
           let lt = slice_get_within st p d place in
           omega arith,
     )
-
--- the active `$e` after a `$}`
-pub closing_left : (t w : Tables) (s : Sentence) (bytes : ℕ) (after : List ℕ) → AreTables t
-    → AddsBlock t w Closing bytes → w.essentials.items ≡ t.essentials.items → s.kind ≡ Closing
-    → close_marks (statements_of t) < open_marks (statements_of t)
-    → ((statements : List Sentence) → HaveScopes statements w.scopes → length statements ≤ NEVER
-    → AreForgotten statements w.essentials.items after)
-    → AreForgotten (statements_of t ++ s ∷ []) t.essentials.items after
-closing_left t w s bytes after tables adds same is more forget =
-    let st = statements_of t in
-    let size = length-sentences t.symbols.names t.labels.names t.flat.items t.log.items in
-    let longer = length_pushed st s in
-    let counted = tables.counted in
-    let few = tables.small in
-    let small : length (st ++ s ∷ []) ≤ NEVER = omega arith in
-    subst (λ ys. AreForgotten (st ++ s ∷ []) ys after) same
-    (forget (st ++ s ∷ []) (adds.scopes st s tables.scopes is (λ k. more)) small)

@@ -1,13 +1,15 @@
 -- How many blocks the parts of a list of statements open and close, and which blocks stay open as statements are appended.
 use Rattle.std.proofs.Common.{◌≡◌, ℕ, zero, suc, ◌+◌, ◌-◌, ◌≤◌, ◌⊎◌, inl, inr, Bool, cond, length, take, drop, count_by, List, [], ◌∷◌, ◌++◌, refl, sym, ap, ◌∙◌, subst, drop_of_length-le, arith}
+use Rattle.std.proofs.Common.{Some}
 use Rattle.std.proofs.lemmas.List.{drop-append-le, take-take, drop-drop, drop-take}
-use Rattle.std.proofs.Math.Seq.{take-append_seam, take-add, take-length}
+use Rattle.std.proofs.Math.Seq.{take-append_seam, take-add, take-length, take-nil}
 use Rattle.std.proofs.lemmas.List.Sums.{sum_by-append}
 use Rattle.std.proofs.lemmas.Bool.{cases_lt}
 use Rattle.mm_frame.specs.Sentence.{Sentence}
-use Rattle.mm_frame.specs.Active.{open_marks, close_marks}
+use Rattle.mm_frame.specs.Active.{open_marks, close_marks, IsOpen}
 use Rattle.mm_text.specs.Blocks.{is_closing, is_opening}
 use Rattle.mm_frame.specs.Mirror.Scopes.{IsUnclosed}
+use Rattle.std.specs.List.{slice_get}
 
 pub count_append : {X : Type 0} (p : X → Bool) (xs ys : List X) → count_by p (xs ++ ys) ≡ count_by p xs + count_by p ys
 count_append p xs ys = sum_by-append (λ x. cond (p x) 1 0) xs ys
@@ -55,28 +57,16 @@ unclosed_before xs ys x open_still = subst (λ zs. IsUnclosed zs x) (take-append
 -- all that lies past the place where an open block begins has no more `$}` than `${`
 pub unclosed_all : (xs : List Sentence) (x : ℕ) → IsUnclosed xs x → close_marks (drop x xs) ≤ open_marks (drop x xs)
 unclosed_all xs x open_still =
-    let e : take (length (drop x xs)) (drop x xs) ≡ drop x xs = take-length (drop x xs) in
-    let P : List Sentence → Type 0 = λ ys. close_marks ys ≤ open_marks ys in
-    subst P e (open_still (length (drop x xs)))
-
--- past the end there is nothing
-past_end : {X : Type 0} (xs : List X) (x n : ℕ) → length xs ≤ x → take n (drop x xs) ≡ []
-past_end xs x n le = ap (take n) (drop_of_length-le xs le) ∙ nothing n
-  where
-    nothing : {X : Type 0} (n : ℕ) → take {A = X} n [] ≡ []
-    nothing zero = refl
-    nothing (suc n) = refl
+    subst (λ (ys : List Sentence). close_marks ys ≤ open_marks ys) (take-length (drop x xs))
+    (open_still (length (drop x xs)))
 
 -- what begins at the end is open
 pub unclosed_new : (xs : List Sentence) (x : ℕ) → length xs ≤ x → IsUnclosed xs x
 unclosed_new xs x le n =
-    let P : List Sentence → Type 0 = λ ys. close_marks ys ≤ open_marks ys in
-    subst P (sym (past_end xs x n le)) (omega arith)
+    let none = ap (take n) (drop_of_length-le xs le) ∙ take-nil n in
+    subst (λ (ys : List Sentence). close_marks ys ≤ open_marks ys) (sym none) (omega arith)
 
--- the fronts past a place: those up to a further place, and those that go past it
-front_within : {X : Type 0} (xs : List X) (y d n : ℕ) → n ≤ d → take n (drop y xs) ≡ take n (drop y (take (y + d) xs))
-front_within xs y d n le = sym (ap (take n) (drop-take y d xs) ∙ take-take n d (drop y xs) le)
-
+-- the fronts past a place that go past a further place
 front_past : {X : Type 0} (xs : List X) (y d m : ℕ) → take (d + m) (drop y xs) ≡ take d (drop y (take (y + d) xs)) ++ take m (drop (y + d) xs)
 front_past xs y d m =
     take-add d m (drop y xs) ∙ ap (λ ys. ys ++ take m (drop d (drop y xs))) (sym (drop-take y d xs) ∙ sym (whole))
@@ -97,11 +87,20 @@ unclosed_outer xs x y le outer inner n =
       | inl lt ↦
           let m = n - d in
           let f : d + m ≡ n = omega arith in
-          let a = outer' d in
           let b = inner' m in
           let o = openings-append (take d (drop y (take (y + d) xs))) (take m (drop (y + d) xs)) in
           let c = closings-append (take d (drop y (take (y + d) xs))) (take m (drop (y + d) xs)) in
           let h : P (take d (drop y (take (y + d) xs)) ++ take m (drop (y + d) xs)) = omega arith in
           subst (λ k. P (take k (drop y xs))) f (subst P (sym (front_past xs y d m)) h)
-      | inr ge ↦ subst P (sym (front_within xs y d n ge)) (outer' n)
+      | inr ge ↦ subst P (ap (take n) (drop-take y d xs) ∙ take-take n d (drop y xs) ge) (outer' n)
     ]
+
+-- a block that is open is so in another list that has its `${` and doesn't close it
+pub open_in : {xs ys : List Sentence} {p q : ℕ} → (still : IsOpen xs p)
+    → slice_get ys q ≡ Some still.opening → IsUnclosed ys (suc q) → IsOpen ys q
+open_in still there unclosed = record {
+  opening = still.opening;
+  there = there;
+  opened = still.opened;
+  unclosed = unclosed;
+}

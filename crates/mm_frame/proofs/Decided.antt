@@ -1,16 +1,21 @@
 -- What can be decided of statements: kinds, what lists hold, what is open and active, mandatory hypotheses and active pairs.
-use Rattle.std.proofs.Common.{◌≡◌, ◌≢◌, ℕ, zero, suc, ◌<◌, ◌≤◌, ◌⊎◌, List, [], ◌∷◌, length, take, drop, get_or, Contains, Option, Some, None, inl, inr, refl, sym, ap, subst, ◌∙◌, arith}
+use Rattle.std.proofs.Common.{◌≡◌, ℕ, zero, suc, ◌<◌, ◌≤◌, ◌⊎◌, List, [], ◌∷◌, length, take, drop, Contains, Option, Some, None, inl, inr, refl, sym, ap, subst, ◌∙◌, arith}
+use Rattle.std.proofs.Common.{true, rules}
 use Rattle.std.specs.List.{slice_get}
 use Rattle.std.proofs.lemmas.Option.{same_Some, none-some}
-use Rattle.std.proofs.lemmas.Bool.{cases_lt}
+use Rattle.std.proofs.lemmas.Bool.{cases_lt, cases_Bool, false≢true}
 use Rattle.std.proofs.lemmas.List.{take_all}
 use Rattle.std.proofs.Math.Decide.{ℕ_discrete}
+use Rattle.std.proofs.Math.Decide.{dec_le}
 use mathlib.Core.List.{List-discrete}
 use Rattle.mm_text.specs.declared.statement.Kind.{Kind}
-use Rattle.mm_text.specs.declared.statement.Kind.TheVariants.{Constants, Variables, Distinct, Floating, Essential, Axiom, Provable, Opening, Closing}
+use Rattle.mm_text.specs.declared.statement.Kind.TheVariants.{Constants, Variables, Distinct, Floating, Essential, Opening}
 use Rattle.mm_frame.specs.Sentence.{Sentence, SomeSentence, IsLabelled, Declares, Types}
 use Rattle.mm_frame.specs.Active.{open_marks, close_marks, IsOpen, IsActive, SomeActive, IsConstant, IsVariable, IsTyped}
 use Rattle.mm_frame.specs.Frame.{IsMandatory, IsMandatoryAt, IsDistinct}
+use denote.Enum.Bare.{same_true, sameb}
+use Rattle.mm_text.specs.contracts.statement.Kind.{the_type}
+use Rattle.mm_text.proofs.Lists.{at_from_contains, contains_from_at}
 
 -- ---- of parts
 
@@ -50,31 +55,17 @@ dec_some {X} P each (y ∷ xs) = go (each 0 y) (dec_some (λ k x. P (suc k) x) (
     go (no p) (yes b) = yes (suc b.0, b.1, b.2, b.3)
     go (no p) (no b) = no (λ h. b (later h.0 h.1 h.2 h.3 p))
 
-pub dec_le : (a b : ℕ) → Dec (a ≤ b)
-dec_le a b = elim (cases_lt b a) [ inl less ↦ no (λ h. absurd (omega arith)) | inr more ↦ yes more ]
-
 -- ---- kinds and lists
 
-abbrev number_of : Kind → ℕ
-number_of Constants = 0
-number_of Variables = 1
-number_of Distinct = 2
-number_of Floating = 3
-number_of Essential = 4
-number_of Axiom = 5
-number_of Provable = 6
-number_of Opening = 7
-number_of Closing = 8
-
-abbrev kinds : List Kind
-kinds = Constants ∷ Variables ∷ Distinct ∷ Floating ∷ Essential ∷ Axiom ∷ Provable ∷ Opening ∷ Closing ∷ []
-
-at_number : (k : Kind) → slice_get kinds (number_of k) ≡ Some k
-at_number Constants = refl
-at_number k = refl
+same_kind : (k : Kind) → sameb the_type k k ≡ true
+same_kind Constants = refl
+same_kind k = refl
 
 pub kind_dec : (k l : Kind) → Dec (k ≡ l)
-kind_dec k l = dec_as (λ e. same_Some k l (sym (at_number k) ∙ ap (slice_get kinds) e ∙ at_number l)) (ap number_of) (ℕ_discrete (number_of k) (number_of l))
+kind_dec k l = elim (cases_Bool (sameb the_type k l)) [
+  | inl is ↦ yes (same_true the_type (search rules) k l is)
+  | inr is_not ↦ no (λ e. false≢true (sym is_not ∙ ap (sameb the_type k) (sym e) ∙ same_kind k))
+]
 
 pub symbol_dec : (x y : List ℕ) → Dec (x ≡ y)
 symbol_dec x y = List-discrete ℕ_discrete x y
@@ -83,17 +74,9 @@ pub expression_dec : (x y : List (List ℕ)) → Dec (x ≡ y)
 expression_dec x y = List-discrete (List-discrete ℕ_discrete) x y
 
 pub contains_dec : (xs : List (List ℕ)) (x : List ℕ) → Dec (Contains xs x)
-contains_dec [] x = no (λ h. absurd (let less : h.0 < 0 = h.1 in omega arith))
-contains_dec (y ∷ xs) x = go (symbol_dec y x) (contains_dec xs x)
-  where
-    later : (k : ℕ) → k < length (y ∷ xs) → get_or (y ∷ xs) k x ≡ x → y ≢ x → Contains xs x
-    later zero less e n = absurd (n e)
-    later (suc k) less e n = (k, omega arith, e)
-
-    go : Dec (y ≡ x) → Dec (Contains xs x) → Dec (Contains (y ∷ xs) x)
-    go (yes e) b = yes (0, omega arith, e)
-    go (no n) (yes b) = yes (suc b.0, let less : b.0 < length xs = b.1 in omega arith, b.2)
-    go (no n) (no b) = no (λ h. b (later h.0 h.1 h.2 n))
+contains_dec xs x = dec_as (λ (k, y, there, is). contains_from_at xs x (k, there ∙ ap Some is))
+    (λ c. let (k, at) = at_from_contains xs x c in (k, x, at, refl))
+    (dec_some (λ k y. y ≡ x) (λ k y. symbol_dec y x) xs)
 
 -- ---- blocks
 
@@ -108,9 +91,6 @@ unclosed_all d h n = elim (cases_lt n (suc (length d))) [
 pub open_dec : (before : List Sentence) (place : ℕ) → Dec (IsOpen before place)
 open_dec before place = go (slice_get before place) refl
   where
-    d : List Sentence
-    d = drop (suc place) before
-
     go : (o : Option Sentence) → slice_get before place ≡ o → Dec (IsOpen before place)
     go None e = no (λ o. none-some o.opening (sym e ∙ o.there))
     go (Some s) e = dec_as
@@ -169,13 +149,12 @@ typing_so_dec h P each = go (kind_dec h.kind Floating) h.symbols refl
   where
     go : Dec (h.kind ≡ Floating) → (symbols : List (List ℕ)) → h.symbols ≡ symbols → Dec ((code : List ℕ) × (x : List ℕ) × Types code x h × P x)
     go (no n) symbols e = no (λ t. n t.2.0)
-    go (yes k) [] e = no (λ t. let p : [] ≡ t.0 ∷ t.1 ∷ [] = sym e ∙ t.2.1 in absurd cc)
-    go (yes k) (a ∷ []) e = no (λ t. let p : a ∷ [] ≡ t.0 ∷ t.1 ∷ [] = sym e ∙ t.2.1 in absurd cc)
-    go (yes k) (a ∷ b ∷ c ∷ more) e = no (λ t. let p : a ∷ b ∷ c ∷ more ≡ t.0 ∷ t.1 ∷ [] = sym e ∙ t.2.1 in absurd cc)
     go (yes k) (a ∷ b ∷ []) e = elim (each b) [
       | yes s ↦ yes (a, b, (k, e), s)
       | no n ↦ no (λ t. n (subst P (sym (two_heads a b t.0 t.1 (sym e ∙ t.2.1))) t.3))
     ]
+    go (yes k) symbols e =
+        no (λ t. let p : symbols ≡ t.0 ∷ t.1 ∷ [] = sym e ∙ t.2.1 in absurd cc)
 
 pub mandatory_at_dec : (before : List Sentence) (s : Sentence) (place : ℕ) (h : Sentence) → Dec (IsMandatoryAt before s place h)
 mandatory_at_dec before s place h = dec_both (active_dec before place)

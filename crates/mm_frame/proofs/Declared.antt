@@ -1,9 +1,8 @@
 -- A book's lists once a `$c` or `$v` was taken in.
 use Rattle.std.proofs.Common.{◌≡◌, ℕ, ◌+◌, ◌<◌, ◌≤◌, ◌⊎◌, inl, inr, length, List, [], ◌∷◌, ◌++◌, Contains, Some, None, refl, sym, ap, ◌∙◌, subst, append-nil, length-append, arith}
-use Rattle.std.specs.List.{slice_get, slice_range, AllByRecursion, sum_by}
+use Rattle.std.specs.List.{slice_get, slice_range}
 use Rattle.std.specs.Option.{unwrap_or, option_map}
 use Rattle.std.proofs.lemmas.Bool.{cases_lt}
-use Rattle.std.proofs.lemmas.List.Sums.{sum_by-cons}
 use Rattle.std.proofs.lemmas.List.{length-map}
 use Rattle.std.proofs.lemmas.Option.{slice_get_within}
 use Rattle.indexmap.proofs.IndexTableLemmas.Probe.{pigeonhole}
@@ -14,13 +13,13 @@ use Rattle.mm_frame.specs.declared.number.Sym.{Sym}
 use Rattle.mm_frame.specs.declared.tables.Entry.{Entry}
 use Rattle.mm_frame.specs.declared.tables.Tables.{Tables}
 use Rattle.mm_text.specs.Token.{PlainToken}
-use Rattle.mm_text.specs.Statement.{PlainStatement, HasForm, HasLabel, FitsCount, bytes_in}
+use Rattle.mm_text.specs.Statement.{PlainStatement, HasForm, HasLabel, bytes_in}
 use Rattle.mm_frame.specs.Sentence.{Sentence, sentence_of}
 use Rattle.mm_frame.specs.Active.{IsConstant, IsVariable}
 use Rattle.mm_frame.specs.Numbers.{symbols_of}
 use Rattle.mm_frame.specs.Database.{Database}
 use Rattle.mm_frame.specs.Rules.{IsMeant}
-use Rattle.mm_frame.specs.Form.{IsFormedSentence, HasItsLabel}
+use Rattle.mm_frame.specs.Form.{IsFormedSentence}
 use Rattle.mm_frame.specs.Mirror.ScopesOf.{HaveScopes}
 use Rattle.mm_frame.specs.Mirror.Layout.{AreTables, AreInfos, names_by, statements_of}
 use Rattle.mm_frame.specs.Mirror.Declaring.{IsDeclaration, TakesSymbols}
@@ -35,6 +34,7 @@ use Rattle.mm_frame.proofs.NameLists.{get_unmapped}
 use Rattle.mm_frame.proofs.Numbered.{declared_from_number, symbols_unique}
 use Rattle.mm_frame.proofs.Labels.{labels_none, essentials_other}
 use Rattle.mm_frame.proofs.FrameLaws.{placed, frames_other, stated_other}
+use Rattle.mm_frame.proofs.Uses.{bytes_enough, formed_said}
 
 -- such a kind is no other
 not_kind : (kind other : Kind) → IsDeclaration kind → ¬ (other ≡ Constants) → ¬ (other ≡ Variables) → ¬ (kind ≡ other)
@@ -157,17 +157,6 @@ names_few t tables = pigeonhole (length t.symbols.names) (length t.flat.items) (
       | inr ge ↦ (0, λ lt. absurd (omega arith))
     ]
 
--- each symbol has a byte
-symbols_small : (tokens : List PlainToken) → AllByRecursion (λ t. 1 ≤ length t.text) tokens → length tokens ≤ sum_by (λ (t : PlainToken). length t.text) tokens
-symbols_small [] all = omega arith
-symbols_small (t ∷ tokens) (one, all) =
-    let rest = symbols_small tokens all in
-    let sum = sum_by-cons (λ (t : PlainToken). length t.text) t tokens in
-    omega arith
-
-pub bytes_enough : (p : PlainStatement) → HasForm p → 1 + length p.symbols ≤ bytes_in p
-bytes_enough p form = let small = symbols_small p.symbols form.symbols in let first = form.first in omega arith
-
 -- a `$c` or `$v` has no label
 declares_unlabelled : (p : PlainStatement) → HasForm p → IsDeclaration p.kind → (sentence_of p).label ≡ None
 declares_unlabelled p form which = ap (option_map (λ (t : PlainToken). t.text)) none
@@ -175,32 +164,15 @@ declares_unlabelled p form which = ap (option_map (λ (t : PlainToken). t.text))
     none : p.label ≡ None
     none = elim which [ inl c ↦ subst (λ (k : Kind). HasLabel k p.label) c form.label | inr v ↦ subst (λ (k : Kind). HasLabel k p.label) v form.label ]
 
-declares_formed : (p : PlainStatement) → HasForm p → IsDeclaration p.kind → IsFormedSentence (sentence_of p)
-declares_formed p form which = record {
-  count = subst (FitsCount p.kind) (sym (length-map p.symbols (λ (t : PlainToken). t.text))) form.count;
-  label = elim which [
-    | inl c ↦ subst (λ (k : Kind). HasItsLabel k (sentence_of p).label) (sym c) none
-    | inr v ↦ subst (λ (k : Kind). HasItsLabel k (sentence_of p).label) (sym v) none
-  ];
-}
-  where
-    none : (sentence_of p).label ≡ None
-    none = declares_unlabelled p form which
-
--- all symbols of the statement will have numbers
-pub names_fit : (t : Tables) (p : PlainStatement) (bytes : ℕ) → AreTables t → HasForm p → bytes ≡ bytes_in p → t.bytes + bytes ≤ most_bytes → length t.symbols.names + length p.symbols < 4294967296
-names_fit t p bytes tables form is room =
-    let few = names_few t tables in
-    let counted = tables.counted in
-    let enough = bytes_enough p form in
-    omega arith
-
--- there are fewer symbols than numbers for their places
-pub symbols_fit : (t : Tables) (p : PlainStatement) (bytes : ℕ) → AreTables t → HasForm p → bytes ≡ bytes_in p → t.bytes + bytes ≤ most_bytes → length t.log.items + length t.flat.items + length p.symbols < 4294967296
+-- all symbols of the statement will have numbers, and there are fewer than numbers for their places
+pub symbols_fit : (t : Tables) (p : PlainStatement) (bytes : ℕ) → AreTables t → HasForm p
+    → bytes ≡ bytes_in p → t.bytes + bytes ≤ most_bytes
+    → (length t.symbols.names + length p.symbols < 4294967296)
+    × (length t.log.items + length t.flat.items + length p.symbols < 4294967296)
 symbols_fit t p bytes tables form is room =
-    let counted = tables.counted in
+    let few = names_few t tables in
     let enough = bytes_enough p form in
-    omega arith
+    (omega arith, omega arith)
 
 -- room is made, the symbols are taken in, and the entry is written
 pub declares : (t m d v : Tables) (p : PlainStatement) (start bytes : ℕ) → AreTables t → SameLists t m → IsMeant (statements_of t) (sentence_of p) → HasForm p → IsDeclaration p.kind
@@ -208,9 +180,8 @@ pub declares : (t m d v : Tables) (p : PlainStatement) (start bytes : ℕ) → A
 declares t m d v p start bytes tables lists meant form which is room taken begins entered =
     let same = same_tables t m tables lists in
     let st : statements_of t ≡ statements_of m = sym (ap (λ (d : Database). d.statements) same.same) in
-    let count = lists.bytes in
     let size = length-map p.symbols (λ (t : PlainToken). t.text) in
     let enough = bytes_enough p form in
     grows_from t m v (sentence_of p) bytes same
-    (declared m d v (sentence_of p) bytes same.tables (subst (λ (xs : List Sentence). IsMeant xs (sentence_of p)) st meant) (declares_formed p form which) which (declares_unlabelled p form which) taken
+    (declared m d v (sentence_of p) bytes same.tables (subst (λ (xs : List Sentence). IsMeant xs (sentence_of p)) st meant) (formed_said p form) which (declares_unlabelled p form which) taken
     (subst (λ (n : ℕ). Entered d v p.kind None n bytes) begins entered) (omega arith) (omega arith))

@@ -1,5 +1,5 @@
 -- Taking the symbols of a `$c` or `$v` in, one after the other.
-use Rattle.std.proofs.Common.{◌≡◌, ℕ, suc, ◌+◌, ◌<◌, ◌≤◌, inl, inr, length, take, List, [], ◌∷◌, ◌++◌, Contains, Option, Some, None, refl, sym, ap, ◌∙◌, subst, append-nil, arith}
+use Rattle.std.proofs.Common.{◌≡◌, ℕ, suc, ◌+◌, ◌<◌, ◌≤◌, inl, inr, length, take, List, [], ◌∷◌, ◌++◌, Option, Some, None, refl, sym, ap, ◌∙◌, subst, append-nil, arith}
 use Rattle.std.specs.List.{slice_get}
 use Rattle.std.specs.Option.{unwrap_or}
 use Rattle.std.proofs.lemmas.List.{append_assoc}
@@ -10,14 +10,14 @@ use Rattle.mm_frame.specs.declared.number.Sym.{Sym}
 use Rattle.mm_frame.specs.declared.tables.SymbolInfo.{SymbolInfo}
 use Rattle.mm_frame.specs.declared.tables.Tables.{Tables}
 use Rattle.mm_frame.specs.Sentence.{Sentence}
-use Rattle.mm_frame.specs.Rules.{AllMeant}
 use Rattle.mm_frame.specs.Mirror.Layout.{AreTables, AreInfos, names_by, statements_of}
 use Rattle.mm_frame.specs.Mirror.Declaring.{IsDeclaration, latest_by, AreNoted, IsNoted, IsAdded, ChangesSymbols, TakesSymbol, TakesSymbols}
 use Rattle.mm_text.proofs.Lists.{get_pushed, get_within, pushed_cases, take_next}
 use Rattle.mm_frame.proofs.NameLists.{map_snoc}
 use Rattle.mm_frame.proofs.ScopeLaws.{length_pushed}
 use Rattle.mm_frame.proofs.Entries.{length-sentences, names_same}
-use Rattle.mm_frame.proofs.Infos.{of_kind, infos_begin, infos_known, infos_known_constant, infos_fresh_variable, infos_fresh_constant}
+use Rattle.mm_frame.proofs.Infos.{of_kind, infos_begin, infos_known, infos_known_constant}
+use Rattle.mm_frame.proofs.Infos.{infos_fresh, latest_declared}
 
 -- what is known of all symbols, once one more is taken in that has a number already
 infos_noted : (st : List Sentence) (kind : Kind) (symbols xs : List (List ℕ)) (infos new : List SymbolInfo) (x : List ℕ) (n : ℕ) → IsDeclaration kind → slice_get symbols n ≡ Some x
@@ -33,25 +33,8 @@ infos_noted st kind symbols xs infos new x n which there = elim which [ inl c �
     variable : Step Variables
     variable are noted =
         let lt = slice_get_within symbols n x there in
-        let informed = are.informed in
         let (info, at) = get_within infos n (omega arith) in
         subst (λ (is : List SymbolInfo). AreInfos (st ++ of_kind Variables (xs ++ x ∷ []) ∷ []) symbols is) (sym (noted info at)) (infos_known st symbols xs infos x n info are there at)
-
--- and once one more is taken in that is new
-infos_added : (st : List Sentence) (kind : Kind) (symbols xs : List (List ℕ)) (infos : List SymbolInfo) (x : List ℕ) → AllMeant st → IsDeclaration kind → ¬ (Contains symbols x)
-    → AreInfos (st ++ of_kind kind xs ∷ []) symbols infos
-    → AreInfos (st ++ of_kind kind (xs ++ x ∷ []) ∷ []) (symbols ++ x ∷ []) (infos ++ record { variable = latest_by kind (length st); floating = None } ∷ [])
-infos_added st kind symbols xs infos x meant which fresh = elim which [ inl c ↦ subst Step (sym c) constant | inr v ↦ subst Step (sym v) variable ]
-  where
-    Step : Kind → Type 0
-    Step k = AreInfos (st ++ of_kind k xs ∷ []) symbols infos
-        → AreInfos (st ++ of_kind k (xs ++ x ∷ []) ∷ []) (symbols ++ x ∷ []) (infos ++ record { variable = latest_by k (length st); floating = None } ∷ [])
-
-    constant : Step Constants
-    constant are = infos_fresh_constant st symbols xs infos x meant are fresh
-
-    variable : Step Variables
-    variable are = infos_fresh_variable st symbols xs infos x meant are fresh
 
 -- the names of numbers, with one more
 names_pushed : (names : List (List ℕ)) (numbers : List Sym) (n : Sym) (x : List ℕ) → slice_get names n.0 ≡ Some x → names_by names (numbers ++ n ∷ []) ≡ names_by names numbers ++ x ∷ []
@@ -116,7 +99,8 @@ taken_more old now new kind xs x variable tables which is taken one = elim one.k
         let size = length_pushed now.symbols.names x in
         let next = added.next in
         let there : slice_get (now.symbols.names ++ x ∷ []) one.number.0 ≡ Some x = subst (λ k. slice_get (now.symbols.names ++ x ∷ []) k ≡ Some x) (sym next) (get_pushed now.symbols.names x) in
-        let infos = infos_added st kind now.symbols.names xs now.infos.items x tables.sound.0 which added.fresh taken.infos in
+        let infos = infos_fresh st kind now.symbols.names xs now.infos.items x _ tables.sound.0 which
+        taken.infos added.fresh (latest_declared st kind _ xs _ x which taken.infos added.fresh) in
         let news : now.infos.items ++ record { variable = latest_by kind (length st); floating = None } ∷ [] ≡ new.infos.items =
         sym (added.infos ∙ ap (λ v. now.infos.items ++ record { variable = v; floating = None } ∷ []) latest) in
         record {

@@ -8,23 +8,18 @@ use Rattle.mm_frame.specs.Mirror.Scopes.{IsUnclosed, AreScopes}
 use Rattle.mm_text.proofs.Lists.{get_within}
 
 -- the open blocks are one more than the `${` that no `$}` has closed
-pub scope_sum : (never : ℕ) (st : List Sentence) (blocks ends stack : List ℕ) → AreScopes never st blocks ends stack → open_marks st + 1 ≡ close_marks st + length stack
-scope_sum never st blocks ends stack a =
-    let h = a.on_stack 0 0 a.bottom in
-    let first = a.outermost in
-    let same : h.start ≡ 0 = let there = h.there in cc in
-    subst (λ x. open_marks (drop x st) + 1 ≡ close_marks (drop x st) + length stack) same h.above
-
 pub scope_depth : (never : ℕ) (st : List Sentence) (blocks ends stack : List ℕ) → AreScopes never st blocks ends stack → (length stack ≡ suc (open_marks st - close_marks st)) × (close_marks st ≤ open_marks st)
 scope_depth never st blocks ends stack a =
-    let sum = scope_sum never st blocks ends stack a in
+    let h = a.on_stack 0 0 a.bottom in
+    let same : h.start ≡ 0 = let there = h.there in cc in
+    let sum : open_marks st + 1 ≡ close_marks st + length stack =
+    subst (λ x. open_marks (drop x st) + 1 ≡ close_marks (drop x st) + length stack) same h.above in
     let lt = slice_get_within stack 0 0 a.bottom in
     (omega arith, omega arith)
 
 -- some block is open exactly if more than the whole database stands on the stack
 pub scope_some_open : (never : ℕ) (st : List Sentence) (blocks ends stack : List ℕ) → AreScopes never st blocks ends stack → ((p : ℕ) × IsOpen st p) ↔ (2 ≤ length stack)
 scope_some_open never st blocks ends stack a =
-    let first = a.outermost in
     let bottom = a.bottom in (
       (λ (p, still).
           let (k, b, on, begins) = a.complete p still in
@@ -38,8 +33,6 @@ scope_some_open never st blocks ends stack a =
   where
     above : (never : ℕ) (st : List Sentence) (blocks ends stack : List ℕ) → (a : AreScopes never st blocks ends stack) → (p k b : ℕ) → slice_get stack k ≡ Some b → slice_get a.starts b ≡ Some (suc p) → 2 ≤ length stack
     above never st blocks ends stack a p zero b on begins =
-        let first = a.outermost in
-        let bottom = a.bottom in
         let same : b ≡ 0 = cc in
         absurd (let at = subst (λ m. slice_get a.starts m ≡ Some (suc p)) same begins in cc)
     above never st blocks ends stack a p (suc k) b on begins = let lt = slice_get_within stack (suc k) b on in omega arith
@@ -49,18 +42,3 @@ scope_some_open never st blocks ends stack a =
     opened never st blocks ends stack a (suc b) x positive there still =
         let begun = a.begun b x there in
         (begun.place, record { opening = begun.opening; there = begun.there; opened = begun.opened; unclosed = subst (λ y. IsUnclosed st y) begun.next still })
-
--- the numbers of the blocks lie below how many there are
-pub scope_block_within : (never : ℕ) (st : List Sentence) (blocks ends stack : List ℕ) → AreScopes never st blocks ends stack → (p b : ℕ) → slice_get blocks p ≡ Some b → b < length ends
-scope_block_within never st blocks ends stack a p b holder =
-    let h = a.holders p b holder in
-    let lt = slice_get_within a.starts b h.start h.there in
-    let sized = a.sized in
-    omega arith
-
-pub scope_stack_within : (never : ℕ) (st : List Sentence) (blocks ends stack : List ℕ) → AreScopes never st blocks ends stack → (k b : ℕ) → slice_get stack k ≡ Some b → b < length ends
-scope_stack_within never st blocks ends stack a k b on =
-    let h = a.on_stack k b on in
-    let lt = slice_get_within a.starts b h.start h.there in
-    let sized = a.sized in
-    omega arith

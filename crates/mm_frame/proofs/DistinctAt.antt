@@ -1,11 +1,11 @@
 -- The distinct pairs at a place, by the pairs that `$d` state.
-use Rattle.std.proofs.Common.{◌≡◌, ◌↔◌, ℕ, zero, suc, ◌+◌, ◌<◌, ◌≤◌, ◌⊎◌, inl, inr, length, take, List, [], ◌∷◌, ◌++◌, Contains, Some, None, sym, ap, ◌∙◌, subst, arith}
+use Rattle.std.proofs.Common.{◌≡◌, ◌↔◌, ℕ, suc, ◌+◌, ◌<◌, ◌≤◌, ◌⊎◌, inl, inr, length, take, List, [], ◌∷◌, ◌++◌, Contains, Some, None, sym, ap, ◌∙◌, subst, arith}
 use Rattle.std.specs.List.{slice_get}
 use Rattle.std.proofs.lemmas.Option.{slice_get_within}
 use Rattle.std.proofs.lemmas.Bool.{cases_order}
 use Rattle.std.proofs.lemmas.List.{take-append-le, append-nil}
 use Rattle.std.proofs.Math.Seq.{take-length}
-use Rattle.mm_text.specs.declared.statement.Kind.TheVariants.{Distinct, Closing}
+use Rattle.mm_text.specs.declared.statement.Kind.TheVariants.{Distinct}
 use Rattle.mm_frame.specs.Sentence.{Sentence}
 use Rattle.mm_frame.specs.Active.{IsActive}
 use Rattle.mm_frame.specs.Frame.{IsDistinct}
@@ -13,11 +13,12 @@ use Rattle.mm_frame.specs.Numbers.{symbols_of}
 use Rattle.mm_frame.specs.Mirror.Stated.{Stated, AllStated, HasSpan, IsLatestStated}
 use Rattle.mm_frame.specs.Mirror.Wide.{AreWide, IsHeld}
 use Rattle.mm_frame.specs.Mirror.Layout.{AreStated, IsStatedThere, AreCovered}
-use Rattle.mm_text.proofs.Lists.{get_kept, get_pushed, pushed_cases, get_before, get_from_front, get_in_front, get_after, append_cases}
-use Rattle.mm_frame.proofs.ScopeLaws.{all_taken}
+use Rattle.mm_text.proofs.Lists.{get_kept, get_pushed, pushed_cases, get_before, get_in_front, get_after, append_cases}
+use Rattle.mm_text.proofs.Lists.{get_from_take}
 use Rattle.mm_frame.proofs.WideDistinct.{active_shorter, wide_grow}
 use Rattle.mm_frame.proofs.Stays.{active_last, active_stays, active_nest}
 use Rattle.mm_frame.proofs.Numbered.{symbols_unique}
+use Rattle.mm_frame.proofs.ScopeLaws.{taken_at}
 
 -- what is active where an active statement stands is active
 active_then : (st : List Sentence) (s p q : ℕ) → s ≤ p → p < q → IsActive (take (p + 1) st) s
@@ -38,9 +39,8 @@ pub distinct_stated : (st : List Sentence) (symbols : List (List ℕ)) (stated :
     → IsDistinct (take q st) x y → HasSpan st stated.pairs (a, b) q ⊎ IsHeld st stated.wide q a b
 distinct_stated st symbols stated a b q x y are at_a at_b lt
     (apart, (p, d, there, active, (kind, in_x, in_y))) =
-    let within = slice_get_within (take q st) p d there in
-    let p_before : p < q = front_lt st q p within in
-    elim (are.each p a b d x y (get_from_front st q p d there) kind at_a at_b lt in_x in_y) [
+    let (p_before, at_d) = get_from_take st q p d there in
+    elim (are.each p a b d x y at_d kind at_a at_b lt in_x in_y) [
       | inl (i, span, at, pair, le, at_p) ↦
           inl (record {
             i = i;
@@ -63,12 +63,6 @@ distinct_stated st symbols stated a b q x y are at_a at_b lt
             ),
           )
     ]
-  where
-    front_lt : (st : List Sentence) (q p : ℕ) → p < length (take q st) → p < q
-    front_lt st zero p lt = absurd (omega arith)
-    front_lt [] (suc q) p lt = absurd (omega arith)
-    front_lt (s ∷ st) (suc q) zero lt = omega arith
-    front_lt (s ∷ st) (suc q) (suc p) lt = let h = front_lt st q p (omega arith) in omega arith
 
 -- an active `$d` states active pairs
 pub span_distinct : (st : List Sentence) (symbols : List (List ℕ)) (stated : AllStated) (a b q : ℕ)
@@ -133,7 +127,6 @@ pub none_has : (st : List Sentence) (spans : List Stated) (pair : ℕ × ℕ) (q
     → IsLatestStated spans pair q None → ¬ (HasSpan st spans pair q)
 none_has st spans pair q none has =
     let h = none has.i has.span has.there has.same in
-    let g = has.early in
     omega arith
 
 -- the new spans of a `$d`: pairs of its members that weren't distinct
@@ -224,8 +217,6 @@ stated_push st e symbols stated new all are kind news =
     let kept = stated_more st e symbols stated are in
     let spans = stated.pairs in
     let whole : take (length st) st ≡ st = take-length st in
-    let next : length st + 1 ≡ suc (length st) = omega arith in
-    let pushed : take (length st + 1) (st ++ e ∷ []) ≡ st ++ e ∷ [] = ap (λ n. take n (st ++ e ∷ [])) next ∙ all_taken st e in
     record {
       only = λ i span there. elim (append_cases spans new i span there) [
         | inl before ↦ kept.only i span before
@@ -251,19 +242,19 @@ stated_push st e symbols stated new all are kind news =
                     get_after spans new j span at,
                     pair,
                     omega arith,
-                    subst (λ n. IsActive (take (n + 1) (st ++ e ∷ [])) span.place) (sym last) (subst (λ ys. IsActive ys span.place) (sym pushed) (subst (IsActive (st ++ e ∷ [])) (sym here) (active_last st e))),
+                    subst (λ ys. IsActive ys span.place) (sym (taken_at st e place last))
+                        (subst (IsActive (st ++ e ∷ [])) (sym here) (active_last st e)),
                   )
               | inr distinct ↦ elim (distinct_stated st symbols stated a b (length st) x y are at_a
                   at_b lt (subst (λ ys. IsDistinct ys x y) (sym whole) distinct)) [
                     | inl has ↦
-                        let early = has.early in
                         inl (
                           has.i,
                           has.span,
                           get_kept spans new has.i has.span has.there,
                           has.same,
                           omega arith,
-                          still place has.span.place (sym last) has.active,
+                          still place has.span.place last has.active,
                         )
                     | inr (i, w, at, (early, in_a, in_b, active)) ↦
                         inr (
@@ -273,7 +264,7 @@ stated_push st e symbols stated new all are kind news =
                           in_a,
                           in_b,
                           omega arith,
-                          still place w.place (sym last) active,
+                          still place w.place last active,
                         )
                   ]
             ]
@@ -291,17 +282,10 @@ stated_push st e symbols stated new all are kind news =
     }
   where
     -- what was active stays so at the `$d`
-    still : (place p : ℕ) → length st ≡ place → IsActive (take (length st) st) p
+    still : (place p : ℕ) → place ≡ length st → IsActive (take (length st) st) p
         → IsActive (take (place + 1) (st ++ e ∷ [])) p
-    still place p last active =
-        let whole : take (length st) st ≡ st = take-length st in
-        let next : length st + 1 ≡ suc (length st) = omega arith in
-        let pushed : take (length st + 1) (st ++ e ∷ []) ≡ st ++ e ∷ [] = ap
-        (λ n. take n (st ++ e ∷ [])) next ∙ all_taken st e in
-        subst (λ n. IsActive (take (n + 1) (st ++ e ∷ [])) p) last
-        (subst (λ ys. IsActive ys p) (sym pushed)
-        (active_stays st e p (λ closes. cc)
-        (subst (λ ys. IsActive ys p) whole active)))
+    still place p last active = subst (λ ys. IsActive ys p) (sym (taken_at st e place last))
+        (active_stays st e p (λ closes. cc) (subst (λ ys. IsActive ys p) (take-length st) active))
 
     old_new : (i k : ℕ) (older newer : Stated) → slice_get stated.pairs i ≡ Some older
         → slice_get new k ≡ Some newer → older.pair ≡ newer.pair → (older.place < newer.place)

@@ -2,8 +2,7 @@
 use Rattle.std.proofs.Common.{◌≡◌, ℕ, List, [], refl, arith}
 use Rattle.mm_frame.specs.declared.tables.Tables.{Tables}
 use Rattle.mm_frame.specs.Mirror.ScopesOf.{HaveScopes}
-use Rattle.mm_frame.specs.FramePlace.{HaveTypings}
-use Rattle.mm_frame.specs.Mirror.Layout.{AreTables, AreInfos, AreLabelInfos, AreEntries, AreEssentials, AreStated, statements_of, database_of}
+use Rattle.mm_frame.specs.Mirror.Layout.{AreTables, AreLabelInfos, AreEntries, AreStated, statements_of, database_of}
 use Rattle.mm_frame.proofs.Meant.{allmeant_none, allformed_none}
 use Rattle.mm_frame.proofs.Entries.{sentences_none}
 use Rattle.mm_frame.proofs.Infos.{infos_none}
@@ -34,26 +33,19 @@ pub empty_tables : (t : Tables) → t.symbols.names ≡ [] → t.infos.items ≡
     → t.distinct.stated ≡ record { pairs = []; wide = [] } → t.bytes ≡ 0 → AreTables t
     × (database_of t ≡ record { statements = []; bytes = 0 })
 empty_tables t e1 e2 e3 e4 e5 e6 scopes e7 hs e8 e9 =
-    let none : statements_of t ≡ [] = rw (e1, e3, e6, e5) sentences_none in
-    let i : AreInfos (statements_of t) t.symbols.names t.infos.items = rw (none, e1, e2) infos_none in
-    let l : AreLabelInfos (statements_of t) t.labels.names t.named.items t.log.items = rw (none, e3, e4, e5) labels_empty in
-    let n : AreEntries t.symbols.names t.labels.names t.flat.items t.log.items = rw (e1, e3, e5, e6) entries_empty in
-    let h : HaveScopes (statements_of t) t.scopes = rw none scopes in
-    let s : AreEssentials (statements_of t) t.essentials.items = rw (none, e7) essentials_none in
-    let y : HaveTypings (statements_of t) t.hypotheses.items = rw hs (typings_none (statements_of t)) in
-    let d : AreStated (statements_of t) t.symbols.names t.distinct.stated = rw (none, e8) (stated_empty t.symbols.names) in (
+    let none : statements_of t ≡ [] = rw (e1, e3, e6, e5) sentences_none in (
       record {
         sound = rw none (allmeant_none, allformed_none);
         counted = rw (e5, e6) (omega arith);
         small = omega (arith, e9);
-        infos = i;
-        labels = l;
-        entries = n;
-        scopes = h;
-        essentials = s;
+        infos = rw (none, e1, e2) infos_none;
+        labels = rw (none, e3, e4, e5) labels_empty;
+        entries = rw (e1, e3, e5, e6) entries_empty;
+        scopes = rw none scopes;
+        essentials = rw (none, e7) essentials_none;
         frames = λ id info x there at kind. absurd (let bad = rw e4 at there in cc);
-        typed = y;
-        stated = d;
+        typed = rw hs (typings_none (statements_of t));
+        stated = rw (none, e8) (stated_empty t.symbols.names);
       },
       rw (none, e9) refl,
     )

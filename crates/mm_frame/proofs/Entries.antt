@@ -1,22 +1,25 @@
 -- A book's lists say the same statements as more is appended to them.
-use Rattle.std.proofs.Common.{◌≡◌, ℕ, zero, suc, ◌+◌, ◌-◌, ◌<◌, ◌≤◌, inl, inr, length, take, drop, List, [], ◌∷◌, ◌++◌, map, Option, Some, None, refl, ap, ◌∙◌, subst, length-append, arith}
+use Rattle.std.proofs.Common.{◌≡◌, ℕ, suc, ◌+◌, ◌-◌, ◌<◌, ◌≤◌, inl, inr, length, take, drop, List, [], ◌∷◌, ◌++◌, map, Option, Some, None, refl, ap, ◌∙◌, subst, length-append, arith}
+use Rattle.std.proofs.Common.{sym}
 use Rattle.std.specs.List.{slice_get, slice_range}
 use Rattle.std.specs.Option.{unwrap_or, option_map}
 use Rattle.std.proofs.lemmas.Option.{slice_get_within, slice_get-map}
 use Rattle.std.proofs.lemmas.List.{drop-append-le, take-append-le, length-drop, map-append, length-map}
-use Rattle.mm_text.specs.declared.statement.Kind.{Kind}
 use Rattle.mm_frame.specs.declared.number.LabelId.{LabelId}
 use Rattle.mm_frame.specs.declared.number.Sym.{Sym}
 use Rattle.mm_frame.specs.declared.tables.Entry.{Entry}
 use Rattle.mm_frame.specs.Sentence.{Sentence}
 use Rattle.mm_frame.specs.Mirror.Layout.{names_by, label_by, sentence_by, sentences_by, IsPartWithin, AreEntries}
+use Rattle.mm_frame.specs.Mirror.Layout.{AreTables, statements_of}
 use Rattle.mm_text.proofs.Lists.{pushed_cases, get_from_front, get_within, get_dropped, append_cases}
+use Rattle.mm_text.proofs.Lists.{get_kept}
+use Rattle.mm_frame.proofs.Written.{same_sentence}
+use Rattle.mm_frame.specs.declared.tables.Tables.{Tables}
+use Rattle.mm_frame.specs.declared.scopes.TheConstants.{NEVER}
 
 -- what is read before the end stays
 pub get_left : {X : Type 0} (xs ys : List X) (i : ℕ) → i < length xs → slice_get (xs ++ ys) i ≡ slice_get xs i
-get_left [] ys i lt = absurd (omega arith)
-get_left (z ∷ xs) ys zero lt = refl
-get_left (z ∷ xs) ys (suc i) lt = get_left xs ys i (omega arith)
+get_left xs ys i lt = let (x, at) = get_within xs i lt in get_kept xs ys i x at ∙ sym at
 
 pub slice_left : {X : Type 0} (xs ys : List X) (i j : ℕ) → i ≤ j → j ≤ length xs → slice_range (xs ++ ys) i j ≡ slice_range xs i j
 slice_left xs ys i j ordered within =
@@ -45,18 +48,13 @@ label_same : (labels more : List (List ℕ)) (label : Option LabelId) → ((id :
 label_same labels more None within = refl
 label_same labels more (Some id) within = get_left labels more id.0 (within id refl)
 
-same_parts : (kind : Kind) (l m : Option (List ℕ)) (xs ys : List (List ℕ)) → l ≡ m → xs ≡ ys → ◌≡◌ {A = Sentence} (record { kind = kind; label = l; symbols = xs }) (record { kind = kind; label = m; symbols = ys })
-same_parts kind l m xs ys e f =
-    ap (λ (o : Option (List ℕ)). let s : Sentence = record { kind = kind; label = o; symbols = xs } in s) e
-    ∙ ap (λ (zs : List (List ℕ)). let s : Sentence = record { kind = kind; label = m; symbols = zs } in s) f
-
 -- what an entry says stays
 pub sentence_same : (symbols labels : List (List ℕ)) (flat : List Sym) (log : List Entry) (a b : List (List ℕ)) (c : List Sym) (place : ℕ) (e : Entry) → AreEntries symbols labels flat log
     → slice_get log place ≡ Some e → sentence_by (symbols ++ a) (labels ++ b) (flat ++ c) e ≡ sentence_by symbols labels flat e
 sentence_same symbols labels flat log a b c place e entries there =
     let within = entries.within place e there in
     let part = slice_left flat c e.symbols.start e.symbols.end within.ordered within.within in
-    same_parts e.kind _ _ _ _
+    same_sentence (sentence_by symbols labels flat e) e.kind _ _ refl
     (label_same labels b e.label (λ id is. entries.named place e id there is))
     (ap (names_by (symbols ++ a)) part
     ∙ names_same symbols a (slice_range flat e.symbols.start e.symbols.end)
@@ -78,6 +76,13 @@ sentences_none = refl
 pub length-sentences : (symbols labels : List (List ℕ)) (flat : List Sym) (log : List Entry) → length (sentences_by symbols labels flat log) ≡ length log
 unfolding sentences_by
 length-sentences symbols labels flat log = length-map log (sentence_by symbols labels flat)
+
+-- a book holds as many statements as entries, and fewer than the place that is none
+pub all_statements : (t : Tables) → length (statements_of t) ≡ length t.log.items
+all_statements t = length-sentences t.symbols.names t.labels.names t.flat.items t.log.items
+
+pub few_statements : (t : Tables) → AreTables t → length (statements_of t) ≤ NEVER
+few_statements t tables = omega (arith, tables.counted, tables.small, all_statements t)
 
 -- the statement at a place is what its entry says
 pub sentence_at : (symbols labels : List (List ℕ)) (flat : List Sym) (log : List Entry) (place : ℕ) (e : Entry) → slice_get log place ≡ Some e

@@ -1,40 +1,39 @@
 -- Places of variables' `$f` among hypotheses, noted by the variables' numbers.
 use Rattle.std.proofs.Common.{◌≡◌, ℕ, zero, suc, ◌+◌, ◌<◌, ◌⊎◌, inl, inr, length, get_or, take, set, List, [], ◌∷◌, ◌++◌, Bool, true, false, Option, option_map, Some, None, refl, sym, ap, ◌∙◌, subst, length-append, arith}
-use Rattle.std.specs.List.{slice_get}
+use Rattle.std.specs.List.{slice_get, position_or_len}
 use Rattle.std.specs.Option.{MatchOption, is_some}
 use Rattle.std.proofs.lemmas.Bool.{false≢true, cases_lt}
 use Rattle.std.proofs.lemmas.Bool.Decides.{Decides-eqb}
-use Rattle.std.proofs.lemmas.List.{map_more, get_or_append_left, get_or_push}
+use Rattle.std.proofs.lemmas.List.{map_more, get_or_append_left, get_or_push, get_or_past}
 use Rattle.std.proofs.lemmas.Option.{same_Some}
 use Rattle.mm_frame.specs.declared.number.Sym.{Sym}
 use Rattle.mm_frame.specs.declared.hypothesis.Hypothesis.{Hypothesis}
 use Rattle.mm_frame.specs.Pieces.{variables_of, is_of, IsNowhere, IsFirstAt}
 use Rattle.mm_frame.specs.Mirror.Patterned.{IsLonger, AreNoted}
 use Rattle.mm_text.proofs.Lists.{get_kept, get_set_same}
+use Rattle.std.proofs.lemmas.List.Sums.{passes_at_first, fails_before_first}
 
 -- ---- the first place
 
-first_behind : (n place : ℕ) (v : Option ℕ) (variables : List (Option ℕ)) → is_of n v ≡ false → IsFirstAt n variables place → IsFirstAt n (v ∷ variables) (suc place)
-first_behind n place v variables none first = record {
-  within = let lt = first.within in omega arith;
-  is = first.is;
-  first = before;
-}
-  where
-    before : (k : ℕ) → k < suc place → is_of n (get_or (v ∷ variables) k None) ≡ false
-    before zero lt = none
-    before (suc k) lt = first.first k (omega arith)
-
 -- where the symbol's `$f` is, or before it, is the first place
 first_before : (n k : ℕ) (variables : List (Option ℕ)) → is_of n (get_or variables k None) ≡ true → (place : ℕ) × IsFirstAt n variables place
-first_before n k [] is = absurd (false≢true is)
-first_before n k (v ∷ variables) is = by (is_of n v) refl k is (λ j at. first_before n j variables at)
-  where
-    by : (b : Bool) → is_of n v ≡ b → (k : ℕ) → is_of n (get_or (v ∷ variables) k None) ≡ true → ((j : ℕ) → is_of n (get_or variables j None) ≡ true → (place : ℕ) × IsFirstAt n variables place)
-        → (place : ℕ) × IsFirstAt n (v ∷ variables) place
-    by true here k is rest = (0, record { within = omega arith; is = here; first = λ j lt. absurd (omega arith) })
-    by false none zero is rest = absurd (false≢true (sym none ∙ is))
-    by false none (suc k) is rest = let (place, first) = rest k is in (suc place, first_behind n place v variables none first)
+first_before n k variables is = elim (cases_lt k (length variables)) [
+  | inl inside ↦ elim (cases_lt (position_or_len (is_of n) variables) (length variables)) [
+    | inl within ↦ (
+      position_or_len (is_of n) variables,
+      record {
+        within = within;
+        is = passes_at_first (is_of n) variables None within;
+        first = λ j lt. fails_before_first (is_of n) variables j None lt;
+      },
+    )
+    | inr past ↦
+        let none = fails_before_first (is_of n) variables k None (omega arith) in
+        absurd (false≢true (sym none ∙ is))
+  ]
+  | inr outside ↦
+      absurd (false≢true (sym (ap (is_of n) (get_or_past variables k None outside)) ∙ is))
+]
 
 -- what stands at the noted place is the `$f`: so this is the first one
 pub noted_at : (places : List ℕ) (variables : List (Option ℕ)) (n place : ℕ) → slice_get places n ≡ Some place → is_of n (get_or variables place None) ≡ true → AreNoted places variables → IsFirstAt n variables place
@@ -84,7 +83,6 @@ first_pushed n place variables v first = elim (cases_lt place (length variables)
         first = λ k lt. ap (is_of n) (sym (kept k (omega arith))) ∙ first.first k lt;
       })
   | inr from ↦
-      let within = first.within in
       let last : place ≡ length variables = omega (arith, length-append variables (v ∷ [])) in
       inr (last, ap (is_of n) (sym (get_or_push variables v None place (sym last))) ∙ first.is)
 ]

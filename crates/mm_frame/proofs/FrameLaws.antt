@@ -1,6 +1,6 @@
 -- Frames stay what they are as statements are added.
-use Rattle.std.proofs.Common.{◌≡◌, ℕ, ◌<◌, inl, inr, length, take, List, [], ◌∷◌, ◌++◌, map, Contains, Some, sym, ap, ◌∙◌, subst, arith}
-use Rattle.std.specs.List.{slice_get, slice_range}
+use Rattle.std.proofs.Common.{◌≡◌, ℕ, ◌<◌, inl, inr, length, take, List, [], ◌∷◌, ◌++◌, Contains, Some, sym, ap, ◌∙◌, subst, arith}
+use Rattle.std.specs.List.{slice_get}
 use Rattle.std.proofs.lemmas.Option.{slice_get_within}
 use Rattle.std.proofs.lemmas.List.{take-append-le}
 use Rattle.mm_text.specs.declared.statement.Kind.TheVariants.{Distinct}
@@ -16,7 +16,6 @@ use Rattle.mm_frame.specs.Numbers.{symbols_of}
 use Rattle.mm_frame.specs.FramePlace.{FramePlace, AreHypotheses, ArePairs}
 use Rattle.mm_frame.specs.Mirror.Layout.{IsPartWithin, IsFrameInfo, AreFrames, AreLabelInfos, AreStated}
 use Rattle.mm_frame.specs.Mirror.Stated.{AllStated}
-use Rattle.mm_frame.specs.Pieces.{variables_of, AreItsPieces, HavePatterns, HavePlaces}
 use Rattle.mm_text.proofs.Lists.{get_kept, get_pushed, pushed_cases, get_before}
 use Rattle.mm_frame.proofs.Numbered.{symbols_grow, symbols_unique, number_from_declared}
 use Rattle.mm_frame.proofs.Labelled.{labels_grow}
@@ -64,26 +63,23 @@ frame_grow st more hs a pairs b pieces c info is =
     let h = is.hypotheses_in in
     let p = is.pairs_in in
     let q = is.conclusion_in in
-    let kept : slice_range (hs ++ a) info.hypotheses.start info.hypotheses.end ≡ slice_range hs info.hypotheses.start info.hypotheses.end = slice_left hs a info.hypotheses.start info.hypotheses.end h.ordered h.within in
+    let all_h = slice_left hs a info.hypotheses.start info.hypotheses.end h.ordered h.within in
+    let all_p = slice_left pairs b info.pairs.start info.pairs.end p.ordered p.within in
+    let all_q = slice_left pieces c info.conclusion.start info.conclusion.end q.ordered q.within in
     let (s, there, says) = is.concluded in
     record {
       hypotheses_in = part_grow hs a info.hypotheses h;
       pairs_in = part_grow pairs b info.pairs p;
       conclusion_in = part_grow pieces c info.conclusion q;
-      are_hypotheses = hypotheses_grow st more info.place _
-          (subst (λ (ids : List Hypothesis). AreHypotheses (at_place st info.place) (map (λ h. h.id.0) ids)) (sym (slice_left hs a info.hypotheses.start info.hypotheses.end h.ordered h.within)) is.are_hypotheses);
-      are_pairs = pairs_grow st more info.place _
-          (subst (λ (ps : List DistinctPair). ArePairs (at_place st info.place) (map (λ pair. (pair.variables.0.0, pair.variables.1.0)) ps)) (sym (slice_left pairs b info.pairs.start info.pairs.end p.ordered p.within)) is.are_pairs);
-      placed = subst (λ (ids : List Hypothesis). HavePlaces (variables_of ids) (slice_range (pairs ++ b) info.pairs.start info.pairs.end)) (sym kept)
-          (subst (HavePlaces (variables_of (slice_range hs info.hypotheses.start info.hypotheses.end))) (sym (slice_left pairs b info.pairs.start info.pairs.end p.ordered p.within)) is.placed);
+      are_hypotheses = hypotheses_grow st more info.place _ (rw all_h is.are_hypotheses);
+      are_pairs = pairs_grow st more info.place _ (rw all_p is.are_pairs);
+      placed = rw (all_h, all_p) is.placed;
       concluded = (
         s,
         get_kept st more info.place s there,
-        subst (λ (ids : List Hypothesis). AreItsPieces (st ++ more) (variables_of ids) s (slice_range (pieces ++ c) info.conclusion.start info.conclusion.end)) (sym kept)
-            (subst (AreItsPieces (st ++ more) (variables_of (slice_range hs info.hypotheses.start info.hypotheses.end)) s) (sym (slice_left pieces c info.conclusion.start info.conclusion.end q.ordered q.within))
-            (its_pieces_grow st more _ s _ says)),
+        rw (all_h, all_q) (its_pieces_grow st more _ s _ says),
       );
-      patterned = subst (λ (ids : List Hypothesis). HavePatterns (st ++ more) (variables_of ids) (pieces ++ c) ids) (sym kept) (patterns_grow st more _ pieces c _ is.patterned);
+      patterned = rw all_h (patterns_grow st more _ pieces c _ is.patterned);
     }
 
 -- each label's statement is one of the statements

@@ -1,5 +1,5 @@
 -- Gathering the places of the mandatory hypotheses.
-use Rattle.std.proofs.Common.{eqb, ◌≡◌, ◌↔◌, ℕ, zero, suc, ◌+◌, ◌<◌, inl, inr, length, take, get_or, List, [], ◌∷◌, ◌++◌, map, Contains, Option, Some, None, refl, sym, ap, ◌∙◌, subst, append_assoc, append-nil, arith}
+use Rattle.std.proofs.Common.{eqb, ◌≡◌, ◌↔◌, ℕ, zero, suc, ◌+◌, ◌<◌, inl, inr, length, take, get_or, List, [], ◌∷◌, ◌++◌, map, Contains, Option, Some, None, refl, sym, ap, ◌∙◌, subst, append_assoc, arith}
 use Rattle.std.specs.List.{slice_get, cons_option, dedup}
 use Rattle.std.specs.Option.{option_and_then}
 use Rattle.std.proofs.lemmas.Option.{slice_get_within, slice_get-get_or, get_or_from_slice_get}
@@ -9,7 +9,6 @@ use Rattle.std.proofs.lemmas.List.Kept.{AllPairs-from_increasing, Contains-dedup
 use Rattle.std.proofs.lemmas.List.Sorted.{IsPermutation-sym, Contains-permutation}
 use Rattle.std.proofs.lemmas.Map.Keys.{IsStrictlyIncreasing-dedup}
 use Rattle.std.proofs.lemmas.List.{take_more}
-use Rattle.std.proofs.lemmas.Bool.{cases_order}
 use Rattle.std.proofs.lemmas.List.Elements.{filter_map-append}
 use Rattle.mm_frame.specs.declared.number.Sym.{Sym}
 use Rattle.mm_frame.specs.declared.tables.SymbolInfo.{SymbolInfo}
@@ -18,25 +17,22 @@ use Rattle.mm_frame.specs.Numbers.{symbols_of, AreNumbers}
 use Rattle.mm_frame.specs.Mirror.Latest.{IsLatest}
 use Rattle.mm_frame.specs.Mirror.Layout.{AreInfos, AreEssentials, GivesType, IsLatestIn}
 use Rattle.mm_frame.specs.Mirror.Gathered.{floating_of, floatings, IsIn, StandsIn, AreGathered, AreRisingPlaces}
-use Rattle.mm_text.proofs.Lists.{get_kept, get_pushed, pushed_cases, get_within}
+use Rattle.mm_text.proofs.Lists.{get_kept, get_pushed, pushed_cases, get_within, get_after}
 use Rattle.mm_text.proofs.Lists.{at_from_contains, contains_from_at, append_cases}
+use Rattle.mm_frame.proofs.NameLists.{member_name, name_member}
 
 -- one symbol more, with a `$f` or without
-pub floatings_some : (infos : List SymbolInfo) (xs : List Sym) (i : ℕ) (d : Sym) (p : ℕ) (old now : List ℕ) → i < length xs → floating_of infos (get_or xs i d) ≡ Some p → now ≡ old ++ floatings infos (take i xs)
-    → now ++ p ∷ [] ≡ old ++ floatings infos (take (i + 1) xs)
-floatings_some infos xs i d p old now lt is so_far =
-    let more : floatings infos (take (i + 1) xs) ≡ floatings infos (take i xs) ++ floatings infos (get_or xs i d ∷ []) =
-    ap (floatings infos) (take_more xs i d lt) ∙ filter_map-append (floating_of infos) (take i xs) (get_or xs i d ∷ []) in
-    let one : floatings infos (get_or xs i d ∷ []) ≡ p ∷ [] = ap (λ o. cons_option o []) is in
-    ap (λ ys. ys ++ p ∷ []) so_far ∙ (rw append_assoc) ∙ ap (λ ys. old ++ ys) (sym (more ∙ ap (λ ys. floatings infos (take i xs) ++ ys) one))
-
-pub floatings_none : (infos : List SymbolInfo) (xs : List Sym) (i : ℕ) (d : Sym) (old now : List ℕ) → i < length xs → floating_of infos (get_or xs i d) ≡ None → now ≡ old ++ floatings infos (take i xs)
-    → now ≡ old ++ floatings infos (take (i + 1) xs)
-floatings_none infos xs i d old now lt is so_far =
-    let more : floatings infos (take (i + 1) xs) ≡ floatings infos (take i xs) ++ floatings infos (get_or xs i d ∷ []) =
-    ap (floatings infos) (take_more xs i d lt) ∙ filter_map-append (floating_of infos) (take i xs) (get_or xs i d ∷ []) in
-    let one : floatings infos (get_or xs i d ∷ []) ≡ [] = ap (λ o. cons_option o []) is in
-    so_far ∙ ap (λ ys. old ++ ys) (sym (more ∙ ap (λ ys. floatings infos (take i xs) ++ ys) one ∙ append-nil (floatings infos (take i xs))))
+pub floatings_more : (infos : List SymbolInfo) (xs : List Sym) (i : ℕ) (d : Sym) (o : Option ℕ)
+    (old now : List ℕ) → i < length xs → floating_of infos (get_or xs i d) ≡ o
+    → now ≡ old ++ floatings infos (take i xs)
+    → now ++ cons_option o [] ≡ old ++ floatings infos (take (i + 1) xs)
+floatings_more infos xs i d o old now lt is so_far =
+    let x = get_or xs i d in
+    let more = ap (floatings infos) (take_more xs i d lt)
+    ∙ filter_map-append (floating_of infos) (take i xs) (x ∷ []) in
+    let one = ap (λ o. cons_option o []) is in
+    ap (λ ys. ys ++ cons_option o []) so_far ∙ (rw append_assoc)
+    ∙ ap (λ ys. old ++ ys) (sym (more ∙ ap (λ ys. floatings infos (take i xs) ++ ys) one))
 
 -- what the places of latest `$f` are
 floatings_at : (infos : List SymbolInfo) (xs : List Sym) (i p : ℕ) → slice_get (floatings infos xs) i ≡ Some p → (j : ℕ) × (n : Sym) × (slice_get xs j ≡ Some n) × (floating_of infos n ≡ Some p)
@@ -63,46 +59,22 @@ floatings_have infos (x ∷ xs) (suc j) p n there says =
     after None i at = (i, at)
     after (Some q) i at = (suc i, at)
 
--- the symbol with one of some numbers
-numbers_at : (st : List Sentence) (ns : List Sym) (symbols : List (List ℕ)) (j : ℕ) (n : Sym) → AreNumbers st (map (λ n. n.0) ns) symbols → slice_get ns j ≡ Some n → (x : List ℕ) × (slice_get symbols j ≡ Some x) × (slice_get (symbols_of st) n.0 ≡ Some x)
-numbers_at st (m ∷ ns) (x ∷ symbols) zero n are there =
-    let same : m ≡ n = cc in
-    let here : slice_get (symbols_of st) m.0 ≡ Some x = cc in
-    (x, refl, subst (λ (k : Sym). slice_get (symbols_of st) k.0 ≡ Some x) same here)
-numbers_at st (m ∷ ns) (x ∷ symbols) (suc j) n are there =
-    let rest : AreNumbers st (map (λ n. n.0) ns) symbols = cc in
-    numbers_at st ns symbols j n rest there
-numbers_at st ns symbols j n are there = absurd cc
-
-symbol_number : (st : List Sentence) (ns : List Sym) (symbols : List (List ℕ)) (j : ℕ) (x : List ℕ) → AreNumbers st (map (λ n. n.0) ns) symbols → slice_get symbols j ≡ Some x → (n : Sym) × (slice_get ns j ≡ Some n) × (slice_get (symbols_of st) n.0 ≡ Some x)
-symbol_number st [] [] j x are there = absurd (cc)
-symbol_number st [] (y ∷ symbols) j x are there = absurd (cc)
-symbol_number st (m ∷ ns) [] j x are there = absurd (cc)
-symbol_number st (m ∷ ns) (y ∷ symbols) zero x are there =
-    let same : y ≡ x = cc in
-    let here : slice_get (symbols_of st) m.0 ≡ Some y = cc in
-    (m, refl, here ∙ ap (λ z. Some z) same)
-symbol_number st (m ∷ ns) (y ∷ symbols) (suc j) x are there =
-    let rest : AreNumbers st (map (λ n. n.0) ns) symbols = cc in
-    symbol_number st ns symbols j x rest there
-
 -- a symbol's info
 pub info_of : (st : List Sentence) (names : List (List ℕ)) (infos : List SymbolInfo) (n : ℕ) (x : List ℕ) → AreInfos st names infos → slice_get (symbols_of st) n ≡ Some x
     → (info : SymbolInfo) × (slice_get infos n ≡ Some info) × IsLatestIn (GivesType x) st info.floating
 info_of st names infos n x are at =
     let at_names : slice_get names n ≡ Some x = subst (λ ys. slice_get ys n ≡ Some x) (sym are.all) at in
     let lt = slice_get_within names n x at_names in
-    let size = are.informed in
     let (info, there) = get_within infos n (omega arith) in
     (info, there, (are.each n x info at_names there).floating)
 
 -- the latest one is one
-one_latest : (P : Sentence → Type 0) (st : List Sentence) (p q : ℕ) → IsLatest P st p → IsLatest P st q → p ≡ q
-one_latest P st p q first second = elim (cases_order p q) [
-  | inl same ↦ same
-  | inr (inl lt) ↦ absurd (first.last q second.statement lt second.there second.holds)
-  | inr (inr gt) ↦ absurd (second.last p first.statement gt first.there first.holds)
-]
+pub one_latest : (P : Sentence → Type 0) (st : List Sentence) (p q : ℕ) → IsLatest P st p
+    → IsLatest P st q → p ≡ q
+one_latest P st p q first second =
+    let no : ¬ (p < q) = λ lt. first.last q second.statement lt second.there second.holds in
+    let none : ¬ (q < p) = λ gt. second.last p first.statement gt first.there first.holds in
+    omega arith
 
 floating_latest : (P : Sentence → Type 0) (st : List Sentence) (o : Option ℕ) (p : ℕ) → IsLatestIn P st o → IsLatest P st p → o ≡ Some p
 floating_latest P st None p none latest = absurd (none (p, latest.statement, latest.there, latest.holds))
@@ -117,13 +89,13 @@ pub floatings_tell : (st : List Sentence) (names : List (List ℕ)) (infos : Lis
 floatings_tell st names infos ns symbols p are numbers = (
   (λ (i, there).
       let (j, n, at_n, says) = floatings_at infos ns i p there in
-      let (x, at_x, number) = numbers_at st ns symbols j n numbers at_n in
+      let (x, at_x, number) = member_name (symbols_of st) ns symbols j n numbers at_n in
       let (info, at_info, latest) = info_of st names infos n.0 x are number in
       let floats : info.floating ≡ Some p = sym (ap (option_and_then (λ info. info.floating)) at_info) ∙ says in
       (x, contains_from_at symbols x (j, at_x), latest_floating (GivesType x) st info.floating p latest floats)),
   (λ (x, in_it, latest).
       let (j, at_x) = at_from_contains symbols x in_it in
-      let (n, at_n, number) = symbol_number st ns symbols j x numbers at_x in
+      let (n, at_n, number) = name_member (symbols_of st) ns symbols j x numbers at_x in
       let (info, at_info, known) = info_of st names infos n.0 x are number in
       floatings_have infos ns j p n at_n (ap (option_and_then (λ info. info.floating)) at_info ∙ floating_latest (GivesType x) st info.floating p known latest)),
 )
@@ -147,8 +119,7 @@ in_left : (xs ys : List ℕ) (p : ℕ) → IsIn xs p → IsIn (xs ++ ys) p
 in_left xs ys p (i, there) = (i, get_kept xs ys i p there)
 
 in_right : (xs ys : List ℕ) (p : ℕ) → IsIn ys p → IsIn (xs ++ ys) p
-in_right [] ys p at = at
-in_right (z ∷ xs) ys p at = let (i, there) = in_right xs ys p at in (suc i, there)
+in_right xs ys p (i, there) = (length xs + i, get_after xs ys i p there)
 
 -- one `$e` more
 pub gathered_more : (st : List Sentence) (names : List (List ℕ)) (infos : List SymbolInfo) (es : List ℕ) (q : ℕ) (h s : Sentence) (ns : List Sym) (places : List ℕ) → AreInfos st names infos → slice_get st q ≡ Some h
@@ -205,7 +176,6 @@ gathered_step st names infos es xs i s ns places pushed now are essentials same 
 -- a list that rises from each element to the next rises
 increasing_rises : (xs : List ℕ) → IsStrictlyIncreasing xs → AreRisingPlaces xs
 increasing_rises xs increasing i j p q at_i at_j lt =
-    let within_i = slice_get_within xs i p at_i in
     let within_j = slice_get_within xs j q at_j in
     let pairs = AllPairs-from_increasing xs increasing in
     let h = pairs i j 0 lt within_j in

@@ -17,6 +17,7 @@ use Rattle.mm_frame.proofs.Meant.{meant_at}
 use Rattle.mm_frame.proofs.Needed.{typed_variable, some_later}
 use Rattle.mm_text.proofs.Lists.{at_from_contains, contains_from_at}
 use Rattle.mm_frame.proofs.Numbered.{At, symbols_push, symbols_unique, symbols_none, number_from_declared, with_name_cases}
+use Rattle.mm_frame.specs.Mirror.Declaring.{IsDeclaration, latest_by}
 
 -- the latest statement that is so, with one statement more
 pub latest_kept : (P : Sentence → Type 0) (st : List Sentence) (e : Sentence) (o : Option ℕ) → ¬ (P e) → IsLatestIn P st o → IsLatestIn P (st ++ e ∷ []) o
@@ -64,13 +65,11 @@ latest_replaced P st e d (Some p) there back latest = elim (pushed_cases st e p 
   | inr (at_end, same) ↦ subst (λ n. IsLatest P (st ++ d ∷ []) n) (sym at_end) (latest_new P st d (there (subst P (sym same) latest.holds)))
 ]
 
-nothing_in : (x : List ℕ) → ¬ (Contains [] x)
-nothing_in x (k, lt, is) = absurd (omega arith)
-
 undeclaring : (e : Sentence) (x : List ℕ) → declared_by e ≡ [] → ¬ (Declares Variables x e)
 undeclaring e x none (kind, in_it) =
     let empty : e.symbols ≡ [] = sym (ap (λ k. declared_in k e.symbols) kind) ∙ none in
-    nothing_in x (subst (λ xs. Contains xs x) empty in_it)
+    let (k, lt, is) = subst (λ xs. Contains xs x) empty in_it in
+    omega arith
 
 -- no symbols of its own, and no type
 pub infos_other : (st : List Sentence) (symbols : List (List ℕ)) (infos : List SymbolInfo) (e : Sentence) → AreInfos st symbols infos → declared_by e ≡ [] → ¬ (e.kind ≡ Floating) → AreInfos (st ++ e ∷ []) symbols infos
@@ -87,15 +86,12 @@ same_number : (st : List Sentence) (symbols : List (List ℕ)) (m n : ℕ) (x : 
 same_number st symbols m n x all at_m at_n =
     symbols_unique st m n x (subst (λ xs. slice_get xs m ≡ Some x) all at_m) (subst (λ xs. slice_get xs n ≡ Some x) all at_n)
 
-floating_declares_none : (e : Sentence) → e.kind ≡ Floating → declared_by e ≡ []
-floating_declares_none e kind = ap (λ k. declared_in k e.symbols) kind
-
 -- a `$f`
 pub infos_floating : (st : List Sentence) (symbols : List (List ℕ)) (infos : List SymbolInfo) (e : Sentence) (code x : List ℕ) (n : ℕ) (info : SymbolInfo) → AreInfos st symbols infos
     → e.kind ≡ Floating → e.symbols ≡ code ∷ x ∷ [] → slice_get symbols n ≡ Some x → slice_get infos n ≡ Some info
     → AreInfos (st ++ e ∷ []) symbols (set infos n (record info { floating = Some (length st) }))
 infos_floating st symbols infos e code x n info are kind says named there =
-    let none = floating_declares_none e kind in
+    let none : declared_by e ≡ [] = ap (λ k. declared_in k e.symbols) kind in
     record {
       all = are.all ∙ sym (symbols_push st e ∙ ap (fold with_name (symbols_of st)) none);
       informed = length-set infos n (record info { floating = Some (length st) }) ∙ are.informed;
@@ -159,7 +155,6 @@ pub infos_known : (st : List Sentence) (symbols xs : List (List ℕ)) (infos : L
 infos_known st symbols xs infos x n info are named there =
     let e = of_kind Variables xs in
     let d = of_kind Variables (xs ++ x ∷ []) in
-    let new = record info { variable = Some (length st) } in
     let at_names : At (symbols_of (st ++ e ∷ [])) x = (n, subst (λ names. slice_get names n ≡ Some x) are.all named) in
     record {
       all = are.all ∙ sym (names_more st Variables xs x (inr refl) ∙ known_name (symbols_of (st ++ e ∷ [])) x at_names);
@@ -252,23 +247,31 @@ infos_fresh st kind symbols xs infos x v meant which are unknown latest =
       | inr (last, same) ↦ no_type_first kind (xs ++ x ∷ []) x which (subst (GivesType x) (sym same ∙ is) types)
     ]
 
-pub infos_fresh_variable : (st : List Sentence) (symbols xs : List (List ℕ)) (infos : List SymbolInfo) (x : List ℕ) → AllMeant st
-    → AreInfos (st ++ of_kind Variables xs ∷ []) symbols infos → ¬ (Contains symbols x)
-    → AreInfos (st ++ of_kind Variables (xs ++ x ∷ []) ∷ []) (symbols ++ x ∷ []) (infos ++ record { variable = Some (length st); floating = None } ∷ [])
-infos_fresh_variable st symbols xs infos x meant are unknown =
-    infos_fresh st Variables symbols xs infos x (Some (length st)) meant (inr refl) are unknown (latest_new (Declares Variables x) st (of_kind Variables (xs ++ x ∷ [])) (refl, contains_last xs x))
-
-pub infos_fresh_constant : (st : List Sentence) (symbols xs : List (List ℕ)) (infos : List SymbolInfo) (x : List ℕ) → AllMeant st
-    → AreInfos (st ++ of_kind Constants xs ∷ []) symbols infos → ¬ (Contains symbols x)
-    → AreInfos (st ++ of_kind Constants (xs ++ x ∷ []) ∷ []) (symbols ++ x ∷ []) (infos ++ record { variable = None; floating = None } ∷ [])
-infos_fresh_constant st symbols xs infos x meant are unknown =
-    infos_fresh st Constants symbols xs infos x None meant (inl refl) are unknown (λ (p, s, there, declares). elim (pushed_cases st (of_kind Constants (xs ++ x ∷ [])) p s there) [
-      | inl before ↦
-          let e = of_kind Constants xs in
-          let (n, at) = number_from_declared (st ++ e ∷ []) x (inr (p, s, get_kept st (e ∷ []) p s before, declares)) in
-          unknown (contains_from_at symbols x (n, subst (λ names. slice_get names n ≡ Some x) (sym are.all) at))
-      | inr (last, same) ↦ no_variable (xs ++ x ∷ []) x (subst (Declares Variables x) (sym same) declares)
-    ])
+-- its latest `$v`, if it has one, is this one
+pub latest_declared : (st : List Sentence) (kind : Kind) (symbols xs : List (List ℕ))
+    (infos : List SymbolInfo) (x : List ℕ) → IsDeclaration kind
+    → AreInfos (st ++ of_kind kind xs ∷ []) symbols infos → ¬ (Contains symbols x)
+    → IsLatestIn (Declares Variables x) (st ++ of_kind kind (xs ++ x ∷ []) ∷ [])
+    (latest_by kind (length st))
+latest_declared st kind symbols xs infos x which are unknown = elim which [
+  | inl c ↦ subst LatestBy (sym c) (λ (p, s, there, declares).
+      elim (pushed_cases st (of_kind Constants (xs ++ x ∷ [])) p s there) [
+        | inl before ↦
+            let e = of_kind kind xs in
+            let (n, at) = number_from_declared (st ++ e ∷ []) x
+            (inr (p, s, get_kept st (e ∷ []) p s before, declares)) in
+            let named = subst (λ names. slice_get names n ≡ Some x) (sym are.all) at in
+            unknown (contains_from_at symbols x (n, named))
+        | inr (last, same) ↦ no_variable (xs ++ x ∷ []) x
+            (subst (Declares Variables x) (sym same) declares)
+      ])
+  | inr v ↦ subst LatestBy (sym v)
+      (latest_new (Declares Variables x) st (of_kind Variables (xs ++ x ∷ [])) (refl, contains_last xs x))
+]
+  where
+    LatestBy : Kind → Type 0
+    LatestBy k = IsLatestIn (Declares Variables x) (st ++ of_kind k (xs ++ x ∷ []) ∷ [])
+        (latest_by k (length st))
 
 -- before its symbols are taken, a `$c` or `$v` says nothing of them
 pub infos_begin : (st : List Sentence) (symbols : List (List ℕ)) (infos : List SymbolInfo) (kind : Kind) → AreInfos st symbols infos → (kind ≡ Constants) ⊎ (kind ≡ Variables) → AreInfos (st ++ of_kind kind [] ∷ []) symbols infos

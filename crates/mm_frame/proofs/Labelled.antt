@@ -1,15 +1,17 @@
 -- Numbers of labelled statements: their places among the labelled ones, which stay as statements are added.
 use Rattle.std.proofs.Common.{◌≡◌, ℕ, zero, suc, ◌<◌, ◌≤◌, inl, inr, Bool, true, false, cond, length, take, drop, List, [], ◌∷◌, ◌++◌, map, is_some, Some, refl, sym, ap, ◌∙◌, subst, append-nil, arith}
+use Rattle.std.proofs.Common.{not}
 use Rattle.std.specs.List.{slice_get}
 use Rattle.std.proofs.lemmas.Option.{slice_get_within}
 use Rattle.std.proofs.lemmas.Bool.{cases_order}
 use Rattle.std.proofs.lemmas.List.Elements.{filter-append}
-use Rattle.std.proofs.lemmas.List.{take-append-le}
+use Rattle.std.proofs.lemmas.List.{take-append-le, take-take}
 use Rattle.std.proofs.Math.Seq.{take-append_seam}
 use Rattle.mm_frame.specs.Sentence.{Sentence}
 use Rattle.mm_frame.specs.Numbers.{labelled_sentences, IsNumbered}
 use Rattle.mm_text.proofs.Lists.{get_kept, get_pushed, get_before, get_in_front, get_parted, split_at}
-use Rattle.mm_frame.proofs.Actives.{fronts}
+use Rattle.mm_text.proofs.Lists.{zip_mapped, mapped_zip}
+use Rattle.std.proofs.lemmas.List.Filters.{length-filter_both}
 
 pub labelled_append : (st more : List Sentence) → labelled_sentences (st ++ more) ≡ labelled_sentences st ++ labelled_sentences more
 labelled_append st more = filter-append (λ (s : Sentence). is_some s.label) st more
@@ -68,16 +70,14 @@ numbered_rise st i j p q s t first second lt =
     let front : IsNumbered (take q st) i p s = record {
       there = get_in_front st q p s lt first.there;
       named = first.named;
-      number = subst (λ ys. length (labelled_sentences ys) ≡ i) (sym (fronts st p q (omega arith))) first.number;
+      number = rw (take-take p q st (omega arith)) first.number;
     } in
     let h = numbered_within (take q st) i p s front in
-    let number = second.number in
     omega arith
 
 -- a number is that of one statement
 pub numbered_unique : (st : List Sentence) (id p q : ℕ) (s t : Sentence) → IsNumbered st id p s → IsNumbered st id q t → (p ≡ q) × (s ≡ t)
 numbered_unique st id p q s t first second =
-    let one = numbered_get st id p s first in
     let other = numbered_get st id q t second in
     let place : p ≡ q = elim (cases_order p q) [
       | inl same ↦ same
@@ -125,20 +125,13 @@ labelled_grow st more i s there = subst (λ ys. slice_get ys i ≡ Some s) (sym 
 
 -- there are no more labelled statements than statements
 pub labelled_few : (st : List Sentence) → length (labelled_sentences st) ≤ length st
-labelled_few [] = omega arith
-labelled_few (x ∷ st) = few (is_some x.label) (labelled_few st)
-  where
-    few : (b : Bool) → length (labelled_sentences st) ≤ length st → length (cond b (x ∷ labelled_sentences st) (labelled_sentences st)) ≤ length (x ∷ st)
-    few true le = omega arith
-    few false le = omega arith
+labelled_few st =
+    let both = length-filter_both (λ (s : Sentence). is_some s.label)
+    (λ s. not (is_some s.label)) (λ s. refl) st in
+    omega arith
 
 -- numbers of labelled statements stay theirs
 pub labels_grow : (st more : List Sentence) (numbers : List ℕ) (hs : List Sentence) → map (slice_get (labelled_sentences st)) numbers ≡ map (λ h. Some h) hs → map (slice_get (labelled_sentences (st ++ more))) numbers ≡ map (λ h. Some h) hs
-labels_grow st more [] hs are = are
-labels_grow st more (n ∷ numbers) [] are = absurd (cc)
-labels_grow st more (n ∷ numbers) (h ∷ hs) are =
-    let here : slice_get (labelled_sentences st) n ≡ Some h = cc in
-    let rest : map (slice_get (labelled_sentences st)) numbers ≡ map (λ h. Some h) hs = cc in
-    let here' = labelled_grow st more n h here in
-    let rest' = labels_grow st more numbers hs rest in
-    cc
+labels_grow st more numbers hs are =
+    zip_mapped (slice_get (labelled_sentences (st ++ more))) Some numbers hs (mapped_zip
+    (slice_get (labelled_sentences st)) Some _ (labelled_grow st more) numbers hs are)

@@ -3,7 +3,7 @@ use Rattle.std.proofs.Common.{◌≡◌, ℕ, zero, suc, ◌<◌, ◌≤◌, inl
 use Rattle.std.specs.List.{slice_get}
 use Rattle.std.proofs.lemmas.Option.{slice_get_within}
 use Rattle.std.proofs.lemmas.Bool.{cases_lt}
-use Rattle.std.proofs.lemmas.List.{map-append, length-map, take-append-le}
+use Rattle.std.proofs.lemmas.List.{map-append, take-append-le}
 use Rattle.std.proofs.Math.Seq.{take-append_seam, take-length}
 use Rattle.mm_text.specs.declared.statement.Kind.TheVariants.{Essential, Closing}
 use Rattle.mm_frame.specs.declared.number.LabelId.{LabelId}
@@ -14,6 +14,7 @@ use Rattle.mm_frame.specs.Active.{IsActive}
 use Rattle.mm_frame.specs.Numbers.{labelled_sentences, IsNumbered}
 use Rattle.mm_frame.specs.Mirror.Layout.{AreLabelInfos, IsEntered, AreEssentials}
 use Rattle.mm_text.proofs.Lists.{get_kept, get_pushed, pushed_cases, get_before, get_within, append_cases}
+use Rattle.mm_text.proofs.Lists.{same_length}
 use Rattle.mm_frame.proofs.ScopeLaws.{length_pushed}
 use Rattle.mm_frame.proofs.Stays.{active_last, active_stays, active_falls, active_nest}
 use Rattle.mm_frame.proofs.Meant.{active_in_front}
@@ -22,8 +23,7 @@ use Rattle.mm_frame.proofs.Labelled.{labelled_push, labelled_pass, numbered_grow
 
 -- how many labels there are
 pub labels_counted : (st : List Sentence) (labels : List (List ℕ)) (named : List LabelInfo) (log : List Entry) → AreLabelInfos st labels named log → length (labelled_sentences st) ≡ length labels
-labels_counted st labels named log are =
-    sym (length-map (labelled_sentences st) (λ (s : Sentence). s.label)) ∙ ap length are.all ∙ length-map labels (λ l. Some l)
+labels_counted st labels named log are = same_length _ _ _ labels are.all
 
 front_count : (st : List Sentence) (e : Sentence) (place : ℕ) → place ≤ length st → length (labelled_sentences (take place (st ++ e ∷ []))) ≡ length (labelled_sentences (take place st))
 front_count st e place le = ap (λ ys. length (labelled_sentences ys)) (take-append-le place st (e ∷ []) le)
@@ -109,10 +109,6 @@ essentials_other st places e are other stays = record {
   ];
 }
 
--- the places of active `$e` lie within
-places_within : (st : List Sentence) (places : List ℕ) (i p : ℕ) → AreEssentials st places → slice_get places i ≡ Some p → p < length st
-places_within st places i p are there = let (s, at, kind, active) = are.only i p there in slice_get_within st p s at
-
 pub essentials_essential : (st : List Sentence) (places : List ℕ) (e : Sentence) → AreEssentials st places → e.kind ≡ Essential → AreEssentials (st ++ e ∷ []) (places ++ length st ∷ [])
 essentials_essential st places e are kind = record {
   rising = λ i j p q lt at_i at_j. elim (pushed_cases places (length st) j q at_j) [
@@ -120,7 +116,7 @@ essentials_essential st places e are kind = record {
         let within = slice_get_within places j q j_before in
         are.rising i j p q lt (get_before places (length st ∷ []) i p (omega arith) at_i) j_before
     | inr (last, same) ↦
-        let h = places_within st places i p are (get_before places (length st ∷ []) i p (omega arith) at_i) in
+        let (s, at, is, active) = are.only i p (get_before places _ i p (omega arith) at_i) in
         omega arith
   ];
   only = λ i p there. elim (pushed_cases places (length st) i p there) [
@@ -138,8 +134,6 @@ essentials_essential st places e are kind = record {
 -- of two active statements, the earlier one is active if the later one is
 earlier_active : (st : List Sentence) (e : Sentence) (s p : ℕ) → s < p → IsActive st s → IsActive st p → IsActive (st ++ e ∷ []) p → IsActive (st ++ e ∷ []) s
 earlier_active st e s p lt at_s at_p now =
-    let within = at_p.within in
-    let size = length_pushed st e in
     let all : take (length (st ++ e ∷ [])) (st ++ e ∷ []) ≡ st ++ e ∷ [] = take-length (st ++ e ∷ []) in
     let early : IsActive (take (suc p) (st ++ e ∷ [])) s = subst (λ ys. IsActive ys s) (sym (take-append-le (suc p) st (e ∷ []) (omega arith))) (active_in_front st s (suc p) (omega arith) (omega arith) at_s) in
     subst (λ ys. IsActive ys s) all (active_nest (st ++ e ∷ []) s p (length (st ++ e ∷ [])) lt (omega arith) early (subst (λ ys. IsActive ys p) (sym all) now))

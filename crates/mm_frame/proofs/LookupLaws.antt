@@ -1,5 +1,5 @@
 -- What is known of a name, in the words of the rules of meaning.
-use Rattle.std.proofs.Common.{◌≡◌, ◌≢◌, ℕ, ◌<◌, ◌⊎◌, inl, inr, ◌↔◌, IsTrue, Bool, true, false, length, take, List, map, Option, Some, None, Contains, is_some, not, refl, sym, ap, ◌∙◌, subst, arith, rules}
+use Rattle.std.proofs.Common.{◌≡◌, ◌≢◌, ℕ, ◌<◌, ◌⊎◌, inl, inr, ◌↔◌, IsTrue, Bool, true, false, length, take, List, map, Option, Some, None, Contains, is_some, not, refl, sym, ◌∙◌, subst, arith, rules}
 use Rattle.std.specs.List.{slice_get}
 use Rattle.std.specs.Option.{MatchOption}
 use Rattle.mm_text.specs.declared.statement.Kind.TheVariants.{Constants, Variables}
@@ -17,7 +17,7 @@ use Rattle.mm_frame.proofs.Labelled.{numbered_from_get, numbered_get, numbered_a
 use Rattle.std.proofs.Math.Seq.{take-length}
 use Rattle.mm_text.proofs.Lists.{get_within, contains_from_at, at_from_contains}
 use Rattle.std.proofs.lemmas.Option.{slice_get_within}
-use Rattle.mm_frame.proofs.NameLists.{get_mapped, get_unmapped}
+use Rattle.mm_frame.proofs.NameLists.{get_alike}
 
 -- a symbol with a number is known
 pub known_number : (st : List Sentence) (names : List (List ℕ)) (infos : List SymbolInfo) (x : List ℕ) (n : ℕ) (info : SymbolInfo) → AreInfos st names infos
@@ -51,9 +51,6 @@ has_constant st x info meant k = by info.variable k.known.variable k.declared
 pub some_of_active : (st : List Sentence) (P : Sentence → Type 0) → SomeActive st P → SomeSentence st P
 some_of_active st P (p, s, there, active, holds) = (p, s, there, holds)
 
-pub place_within : (st : List Sentence) (p : ℕ) (s : Sentence) → slice_get st p ≡ Some s → p < length st
-place_within st p s there = slice_get_within st p s there
-
 -- a symbol is active if it is a constant, or an active variable
 pub active_symbol : (st : List Sentence) (x : List ℕ) → AllMeant st → IsActiveSymbol st x ↔ (IsConstant st x ⊎ SomeActive st (Declares Variables x))
 active_symbol st x meant = (to, from)
@@ -84,18 +81,16 @@ label_number st labels label all = (to, from)
         let some : is_some s.label ≡ true = rw named refl in
         let numbered = numbered_at st p s there some in
         let n : ℕ = length (labelled_sentences (take p st)) in
-        let mapped : slice_get (map (λ t. t.label) (labelled_sentences st)) n ≡ Some s.label = get_mapped (λ (t : Sentence). t.label) (labelled_sentences st) n s (numbered_get st n p s numbered) in
-        let other : slice_get (map (λ l. Some l) labels) n ≡ Some (Some label) = rw (← all) (mapped ∙ ap Some named) in
-        let (l, at, same) = get_unmapped (λ (l : List ℕ). Some l) labels n (Some label) other in
+        let (l, at, same) = get_alike (λ (t : Sentence). t.label) Some (labelled_sentences st) labels
+        n s all (numbered_get st n p s numbered) in
         let is : l ≡ label = cc in
         contains_from_at labels label (n, subst (λ (x : List ℕ). slice_get labels n ≡ Some x) is at)
 
     from : Contains labels label → SomeSentence st (IsLabelled label)
     from c =
         let (n, at) = at_from_contains labels label c in
-        let mapped : slice_get (map (λ l. Some l) labels) n ≡ Some (Some label) = get_mapped (λ (l : List ℕ). Some l) labels n label at in
-        let other : slice_get (map (λ t. t.label) (labelled_sentences st)) n ≡ Some (Some label) = rw all mapped in
-        let (s, there, same) = get_unmapped (λ (t : Sentence). t.label) (labelled_sentences st) n (Some label) other in
+        let (s, there, same) = get_alike Some (λ (t : Sentence). t.label) labels
+        (labelled_sentences st) n label (sym all) at in
         let (p, numbered) = numbered_from_get st n s there in
         (p, s, numbered.there, same)
 

@@ -1,8 +1,8 @@
 -- The mandatory distinct pairs of an assertion, as they are found among its mandatory variables.
-use Rattle.std.proofs.Common.{◌≡◌, ◌↔◌, ℕ, zero, suc, ◌+◌, ◌<◌, inl, inr, Bool, true, false, IsTrue, length, take, get_or, List, [], ◌∷◌, ◌++◌, map, Contains, Option, Some, None, refl, sym, ap, ◌∙◌, subst, arith}
+use Rattle.std.proofs.Common.{◌≡◌, ◌↔◌, ℕ, ◌+◌, ◌<◌, inl, inr, Bool, true, false, IsTrue, length, take, get_or, List, [], ◌∷◌, ◌++◌, map, Contains, Option, Some, None, refl, sym, ap, ◌∙◌, subst, arith}
 use Rattle.std.specs.List.{slice_get}
-use Rattle.std.specs.Option.{MatchOption, option_map}
-use Rattle.std.proofs.lemmas.Option.{slice_get_within, slice_get-get_or, slice_get-map, slice_get_read, get_or_from_slice_get}
+use Rattle.std.specs.Option.{MatchOption}
+use Rattle.std.proofs.lemmas.Option.{slice_get_within, slice_get-get_or, slice_get_read}
 use Rattle.std.proofs.lemmas.Bool.{cases_order}
 use Rattle.std.proofs.lemmas.List.{take_more, length-take-le}
 use Rattle.std.proofs.Math.Seq.{take-append_seam, take-length}
@@ -20,9 +20,9 @@ use Rattle.mm_frame.proofs.Numbered.{symbols_grow}
 use Rattle.mm_frame.proofs.Needed.{latest_from_active, mandatory_typed}
 use Rattle.mm_frame.proofs.Those.{distinct_other}
 use Rattle.mm_frame.proofs.FrameLaws.{at_place}
-
-one_element : (xs : List Sym) (i j : ℕ) (a b : Sym) → i ≡ j → slice_get xs i ≡ Some a → slice_get xs j ≡ Some b → a ≡ b
-one_element xs i j a b same at_a at_b = let at = subst (λ m. slice_get xs m ≡ Some a) same at_a in cc
+use Rattle.mm_frame.proofs.NameLists.{get_mapped, get_unmapped}
+use Rattle.mm_frame.proofs.Gather.{one_latest}
+use Rattle.mm_frame.specs.Mirror.Layout.{GivesType}
 
 one_name : (st : List Sentence) (n m : ℕ) (x y : List ℕ) → IsNumberOf st x n → IsNumberOf st y m → n ≡ m → x ≡ y
 one_name st n m x y at_n at_m same = let at = subst (λ k. slice_get (symbols_of st) k ≡ Some x) same at_n in cc
@@ -33,13 +33,9 @@ one_type : (st : List Sentence) (s : Sentence) (places : List ℕ) (i j p q : �
 one_type st s places i j p q f g c d x meant are at_i at_j at_p at_q types_f types_g =
     let mandatory_p = (are.exact p f at_p).1 (contains_from_at places p (i, at_i)) in
     let mandatory_q = (are.exact q g at_q).1 (contains_from_at places q (j, at_j)) in
-    let first = latest_from_active st x p f meant at_p mandatory_p.0 (c, types_f) in
-    let second = latest_from_active st x q g meant at_q mandatory_q.0 (d, types_g) in
-    elim (cases_order p q) [
-      | inl same ↦ same
-      | inr (inl lt) ↦ absurd (first.last q g lt at_q (d, types_g))
-      | inr (inr gt) ↦ absurd (second.last p f gt at_p (c, types_f))
-    ]
+    one_latest (GivesType x) st p q
+    (latest_from_active st x p f meant at_p mandatory_p.0 (c, types_f))
+    (latest_from_active st x q g meant at_q mandatory_q.0 (d, types_g))
 
 typed_longer : (st : List Sentence) (places more : List ℕ) (n : Sym) → IsTypedBy st places n → IsTypedBy st (places ++ more) n
 typed_longer st places more n is = record {
@@ -132,13 +128,6 @@ variables_step st s places i (Some n) variables meant are lt says so_far =
     subst (λ ys. AreVariables st ys (variables ++ n ∷ [])) (sym (take_more places i 0 lt)) (variables_more st (take i places) p f code x n variables there types number new so_far)
 
 -- ---- pairs
-
-pub found_none : (st : List Sentence) (variables : List Sym) → AreFound st variables 0 0 []
-found_none st variables = record {
-  only = λ m pair there. absurd (cc);
-  each = λ j k a b at_j at_k lt reached apart. elim reached [ inl below ↦ absurd (omega arith) | inr (same, below) ↦ absurd (omega arith) ];
-  once = λ m n p q at_m at_n first second. absurd (cc);
-}
 
 -- all before the k-th are reached with it
 pub found_next : (st : List Sentence) (variables : List Sym) (i : ℕ) (pairs : List (Sym × Sym)) → AreFound st variables i i pairs → AreFound st variables (i + 1) 0 pairs
@@ -246,16 +235,10 @@ mandatory_number st s places variables x meant last stated are vars mandatory =
     let (k, at) = at_from_contains places p in_places in
     vars.each k p f code x at there types
 
-pair_at : (pairs : List (Sym × Sym)) (m : ℕ) (p : ℕ × ℕ) → slice_get (map (λ pair. (pair.0.0, pair.1.0)) pairs) m ≡ Some p → (q : Sym × Sym) × (slice_get pairs m ≡ Some q) × (p ≡ (q.0.0, q.1.0))
-pair_at [] m p there = absurd (cc)
-pair_at (q ∷ pairs) zero p there = (q, refl, cc)
-pair_at (q ∷ pairs) (suc m) p there = pair_at pairs m p there
-
 pub pair_there : (pairs : List (Sym × Sym)) (m : ℕ) (q : Sym × Sym) → slice_get pairs m ≡ Some q → Contains {X = ℕ × ℕ} (map (λ pair. (pair.0.0, pair.1.0)) pairs) (q.0.0, q.1.0)
 pair_there pairs m q there =
     let named : Sym × Sym → ℕ × ℕ = λ pair. (pair.0.0, pair.1.0) in
-    let at : slice_get (map named pairs) m ≡ Some (named q) = slice_get-map named pairs m ∙ ap (option_map named) there in
-    (m, slice_get_within (map named pairs) m (named q) at, get_or_from_slice_get (map named pairs) m (named q) (named q) at)
+    contains_from_at (map named pairs) (named q) (m, get_mapped named pairs m q there)
 
 -- the pairs that are found, in one order or the other
 found_pair : (st : List Sentence) (places : List ℕ) (variables : List Sym) (n : ℕ) (pairs : List (Sym × Sym)) (i j : ℕ) (a b : Sym) → length variables ≡ n → AreFound st variables n 0 pairs → slice_get variables i ≡ Some a → slice_get variables j ≡ Some b
@@ -269,19 +252,20 @@ pub pairs_from_found : (st : List Sentence) (s : Sentence) (more : List Sentence
     → AreVariables st places variables → length variables ≡ n → AreFound st variables n 0 pairs → ArePairs (at_place (st ++ s ∷ more) (length st)) (map (λ pair. (pair.0.0, pair.1.0)) pairs)
 pairs_from_found st s more places variables n pairs meant last stated are vars size found =
     let front : take (length st) (st ++ s ∷ more) ≡ st = take-append_seam st (s ∷ more) in
-    let names = map (λ (pair : Sym × Sym). (pair.0.0, pair.1.0)) pairs in
+    let named : Sym × Sym → ℕ × ℕ = λ pair. (pair.0.0, pair.1.0) in
+    let names = map named pairs in
     record {
       assertion = s;
       there = get_parted st more s;
       only = λ pair (m, lt, is).
           let at : slice_get names m ≡ Some pair = slice_get_read names (length names) m pair refl lt (sym is) in
-          let (q, at_q, same) = pair_at pairs m pair at in
+          let (q, at_q, same) = get_unmapped named pairs m pair at in
           let (j, k, at_j, at_k, less, reached, apart) = found.only m q at_q in
           let (x, y, number_x, number_y, distinct) = apart in
           let x_is = variable_mandatory st s places q.0 x are (vars.only j q.0 at_j) number_x in
           let y_is = variable_mandatory st s places q.1 y are (vars.only k q.1 at_k) number_y in
-          let first : q.0.0 ≡ pair.0 = ap (λ (r : ℕ × ℕ). r.0) (sym same) in
-          let second : q.1.0 ≡ pair.1 = ap (λ (r : ℕ × ℕ). r.1) (sym same) in (
+          let first : q.0.0 ≡ pair.0 = ap (λ (r : ℕ × ℕ). r.0) same in
+          let second : q.1.0 ≡ pair.1 = ap (λ (r : ℕ × ℕ). r.1) same in (
             x,
             y,
             symbols_grow st (s ∷ more) pair.0 x (subst (IsNumberOf st x) first number_x),
@@ -296,7 +280,10 @@ pairs_from_found st s more places variables n pairs meant last stated are vars s
             symbols_grow st (s ∷ more) a.0 x number_a,
             symbols_grow st (s ∷ more) b.0 y number_b,
             elim (cases_order i j) [
-              | inl same ↦ absurd (distinct.0 (one_name st a.0 b.0 x y number_a number_b (ap (λ (m : Sym). m.0) (one_element variables i j a b same at_a at_b))))
+              | inl same ↦
+                  let at = subst (λ k. slice_get variables k ≡ Some a) same at_a in
+                  let number = ap (λ (m : Sym). m.0) (one_there variables j a b at at_b) in
+                  absurd (distinct.0 (one_name st a.0 b.0 x y number_a number_b number))
               | inr (inl lt) ↦ let (m, there) = found_pair st places variables n pairs i j a b size found at_a at_b lt (x, y, number_a, number_b, distinct) in inl (pair_there pairs m (a, b) there)
               | inr (inr gt) ↦
                   let (m, there) = found_pair st places variables n pairs j i b a size found at_b at_a gt (y, x, number_b, number_a, distinct_other st x y distinct) in
@@ -308,14 +295,16 @@ pairs_from_found st s more places variables n pairs meant last stated are vars s
   where
     one_pair : (i j : ℕ) (p q : ℕ × ℕ) → slice_get (map (λ (pair : Sym × Sym). (pair.0.0, pair.1.0)) pairs) i ≡ Some p → slice_get (map (λ (pair : Sym × Sym). (pair.0.0, pair.1.0)) pairs) j ≡ Some q → IsSamePair p q → i ≡ j
     one_pair i j p q at_i at_j same =
-        let (u, at_u, p_is) = pair_at pairs i p at_i in
-        let (v, at_v, q_is) = pair_at pairs j q at_j in
+        let named : Sym × Sym → ℕ × ℕ = λ pair. (pair.0.0, pair.1.0) in
+        let (u, at_u, p_is) = get_unmapped named pairs i p at_i in
+        let (v, at_v, q_is) = get_unmapped named pairs j q at_j in
         elim same [
           | inl straight ↦
-              let e : ◌≡◌ {A = ℕ × ℕ} (u.0.0, u.1.0) (v.0.0, v.1.0) = sym p_is ∙ straight ∙ q_is in
+              let e : ◌≡◌ {A = ℕ × ℕ} (u.0.0, u.1.0) (v.0.0, v.1.0) = p_is ∙ straight ∙ sym q_is in
               found.once i j u v at_u at_v (ap (λ (r : ℕ × ℕ). r.0) e) (ap (λ (r : ℕ × ℕ). r.1) e)
           | inr turned ↦
-              let e : ◌≡◌ {A = ℕ × ℕ} (u.0.0, u.1.0) (v.1.0, v.0.0) = sym p_is ∙ turned ∙ ap (λ (r : ℕ × ℕ). (r.1, r.0)) q_is in
+              let e : ◌≡◌ {A = ℕ × ℕ} (u.0.0, u.1.0) (v.1.0, v.0.0) =
+              p_is ∙ turned ∙ sym (ap (λ (r : ℕ × ℕ). (r.1, r.0)) q_is) in
               let (j1, k1, at_j1, at_k1, less1, reached1, apart1) = found.only i u at_u in
               let (j2, k2, at_j2, at_k2, less2, reached2, apart2) = found.only j v at_v in
               let a = vars.once j1 k2 u.0 v.1 at_j1 at_k2 (ap (λ (r : ℕ × ℕ). r.0) e) in

@@ -1,5 +1,5 @@
 -- What it gives that no statement breaks a rule after those before it.
-use Rattle.std.proofs.Common.{◌≡◌, ◌≢◌, ◌↔◌, ℕ, suc, ◌<◌, ◌≤◌, ◌⊎◌, inl, inr, length, take, drop, List, [], ◌∷◌, ◌++◌, Some, None, sym, ap, ◌∙◌, subst, append_assoc, arith}
+use Rattle.std.proofs.Common.{◌≡◌, ◌≢◌, ◌↔◌, ℕ, suc, ◌<◌, ◌≤◌, inl, inr, length, take, drop, List, [], ◌∷◌, ◌++◌, Some, sym, ap, ◌∙◌, subst, append_assoc, arith}
 use Rattle.std.specs.List.{slice_get}
 use Rattle.std.specs.Bool.{Decides}
 use Rattle.std.specs.Str.{bytes_eq}
@@ -13,11 +13,12 @@ use Rattle.mm_frame.specs.declared.rule.MeaningRule.TheVariants.{M1, M2, M3, M5,
 use Rattle.mm_frame.specs.Sentence.{Sentence, SomeSentence, Declares, IsLabelled, Types}
 use Rattle.mm_frame.specs.Active.{IsActive, SomeActive, IsConstant, IsVariable, IsTyped}
 use Rattle.mm_frame.specs.Rules.{IsMeant, AllMeant}
-use Rattle.mm_frame.specs.Form.{IsFormedSentence, AllFormed, HasItsLabel}
+use Rattle.mm_frame.specs.Form.{IsFormedSentence, AllFormed}
 use Rattle.mm_frame.specs.Mirror.Latest.{IsLatest}
 use Rattle.mm_text.proofs.Lists.{pushed_cases, get_from_front, get_in_front, get_parted, split_at}
 use Rattle.mm_frame.proofs.Actives.{unclosed_shorter}
 use Rattle.mm_frame.proofs.Stays.{active_falls}
+use Rattle.mm_frame.proofs.Counts.{open_in}
 
 -- the statement at a place breaks no rule after those before it
 pub meant_at : (st : List Sentence) (p : ℕ) (s : Sentence) → AllMeant st → slice_get st p ≡ Some s → IsMeant (take p st) s
@@ -108,16 +109,11 @@ pub one_code : (st : List Sentence) (x c d : List ℕ) (i j : ℕ) (f g : Senten
 one_code st x c d i j f g meant at_i at_j types_f types_g = elim (cases_order i j) [
   | inl same ↦
       let e : f ≡ g = let at = subst (λ k. slice_get st k ≡ Some f) same at_i in cc in
-      let one = types_f.1 in
-      let other = types_g.1 in
       let h : f.symbols ≡ g.symbols = ap (λ (s : Sentence). s.symbols) e in
       cc
   | inr (inl lt) ↦ one_code_ordered st x c d i j f g meant lt at_i at_j types_f types_g
   | inr (inr gt) ↦ sym (one_code_ordered st x d c j i g f meant gt at_j at_i types_g types_f)
 ]
-
-pub latest_code : (st : List Sentence) (x code other : List ℕ) (p k : ℕ) (f g : Sentence) → AllMeant st → slice_get st p ≡ Some f → Types code x f → slice_get st k ≡ Some g → Types other x g → other ≡ code
-latest_code st x code other p k f g meant at_p types_f at_k types_g = one_code st x other code k p g f meant at_k at_p types_g types_f
 
 -- Each constant is active (by M1: no block is open where it is declared).
 pub constant_active : (st : List Sentence) (x : List ℕ) → AllMeant st → IsConstant st x → SomeActive st (Declares Constants x)
@@ -130,12 +126,9 @@ constant_active st x meant (p, s, there, declares) = (
     kept = λ outer (before, still). absurd (meant_at st p s meant there M1 (
       declares.0,
       outer,
-      record {
-        opening = still.opening;
-        there = get_in_front st p outer still.opening before (get_from_front st (suc p) outer still.opening still.there);
-        opened = still.opened;
-        unclosed = unclosed_shorter st p (suc p) (suc outer) (omega arith) still.unclosed;
-      },
+      let there = get_from_front st (suc p) outer still.opening still.there in
+          open_in still (get_in_front st p outer still.opening before there)
+          (unclosed_shorter st p (suc p) (suc outer) (omega arith) still.unclosed),
     ));
   },
   declares,
@@ -147,8 +140,6 @@ one_role st x meant (i, s, at_i, constant) (j, t, at_j, variable) = elim (cases_
   | inl same ↦
       let e : s ≡ t = let at = subst (λ k. slice_get st k ≡ Some s) same at_i in cc in
       let h : s.kind ≡ t.kind = ap (λ (s : Sentence). s.kind) e in
-      let c = constant.0 in
-      let v = variable.0 in
       absurd (cc)
   | inr (inl lt) ↦ meant_at st j t meant at_j M3 (variable.0, (x, variable.1, inr (inl (some_earlier st (Declares Constants x) i j s lt at_i constant))))
   | inr (inr gt) ↦ meant_at st i s meant at_i M2 (constant.0, (x, constant.1, inr (inl (some_earlier st (Declares Variables x) j i t gt at_j variable))))
@@ -156,22 +147,7 @@ one_role st x meant (i, s, at_i, constant) (j, t, at_j, variable) = elim (cases_
 
 -- No two statements have one label (by M5).
 pub one_label : (st : List Sentence) (l : List ℕ) (i j : ℕ) (s t : Sentence) → AllMeant st → slice_get st i ≡ Some s → slice_get st j ≡ Some t → IsLabelled l s → IsLabelled l t → i ≡ j
-one_label st l i j s t meant at_i at_j label_s label_t = elim (cases_order i j) [
-  | inl same ↦ same
-  | inr (inl lt) ↦ absurd (meant_at st j t meant at_j M5 (l, label_t, some_earlier st (IsLabelled l) i j s lt at_i label_s))
-  | inr (inr gt) ↦ absurd (meant_at st i s meant at_i M5 (l, label_s, some_earlier st (IsLabelled l) j i t gt at_j label_t))
-]
-
--- a `$c` or `$v` has no label
-undeclared : (s : Sentence) (l : List ℕ) → IsFormedSentence s → (s.kind ≡ Constants) ⊎ (s.kind ≡ Variables) → IsLabelled l s → ⊥
-undeclared s l formed kind label =
-    let named = formed.label in
-    elim kind [
-      | inl is ↦ let none : s.label ≡ None = subst (λ k. HasItsLabel k s.label) is named in absurd (cc)
-      | inr is ↦ let none : s.label ≡ None = subst (λ k. HasItsLabel k s.label) is named in absurd (cc)
-    ]
-
-same_label : (st : List Sentence) (i j : ℕ) (s t : Sentence) (l : List ℕ) → i ≡ j → slice_get st i ≡ Some s → slice_get st j ≡ Some t → IsLabelled l s → IsLabelled l t
-same_label st i j s t l same at_i at_j label =
-    let e : s ≡ t = let at = subst (λ k. slice_get st k ≡ Some s) same at_i in cc in
-    subst (IsLabelled l) e label
+one_label st l i j s t meant at_i at_j label_s label_t =
+    let no : ¬ (i < j) = λ lt. meant_at st j t meant at_j M5 (l, label_t, some_earlier st _ i j s lt at_i label_s) in
+    let none : ¬ (j < i) = λ gt. meant_at st i s meant at_i M5 (l, label_s, some_earlier st _ j i t gt at_j label_t) in
+    omega arith

@@ -1,9 +1,8 @@
 -- A book's lists once a label and its statement are written.
-use Rattle.std.proofs.Common.{◌≡◌, ℕ, zero, suc, ◌+◌, ◌<◌, ◌≤◌, inl, inr, length, set, List, [], ◌∷◌, ◌++◌, map, Some, refl, sym, ap, ◌∙◌, subst, length-append, arith}
-use Rattle.std.specs.List.{slice_get, slice_range, fold}
+use Rattle.std.proofs.Common.{◌≡◌, ℕ, ◌+◌, ◌<◌, ◌≤◌, inl, inr, length, set, List, [], ◌∷◌, ◌++◌, map, Some, refl, sym, ap, ◌∙◌, subst, length-append, arith}
+use Rattle.std.specs.List.{slice_get, fold}
 use Rattle.std.proofs.lemmas.Option.{slice_get_within}
 use Rattle.std.proofs.lemmas.List.{append-nil}
-use Rattle.mm_text.specs.Statement.{FitsCount}
 use Rattle.mm_text.specs.declared.statement.Kind.{Kind}
 use Rattle.mm_text.specs.declared.statement.Kind.TheVariants.{Floating, Essential, Distinct, Closing}
 use Rattle.mm_text.specs.Files.{most_bytes}
@@ -17,7 +16,7 @@ use Rattle.mm_frame.specs.declared.tables.LabelInfo.{LabelInfo}
 use Rattle.mm_frame.specs.declared.part.Part.{Part}
 use Rattle.mm_frame.specs.declared.tables.SymbolInfo.{SymbolInfo}
 use Rattle.mm_frame.specs.declared.tables.Tables.{Tables}
-use Rattle.mm_frame.specs.Sentence.{Sentence, IsAssertion}
+use Rattle.mm_frame.specs.Sentence.{Sentence, IsAssertion, IsHypothesis}
 use Rattle.mm_frame.specs.Rules.{IsMeant}
 use Rattle.mm_frame.specs.declared.rule.MeaningRule.TheVariants.{M5}
 use Rattle.mm_frame.specs.Form.{IsFormedSentence}
@@ -30,7 +29,7 @@ use Rattle.mm_frame.specs.Mirror.Grows.{Grows, SameLists, entry_of}
 use Rattle.mm_frame.specs.Mirror.Naming.{Named, FrameParts, label_info, part_after}
 use Rattle.mm_frame.specs.FramePlace.{AreHypotheses, HaveTypings, ArePairs}
 use Rattle.mm_frame.specs.Mirror.Gathered.{ArePlaces, AreThoseAt}
-use Rattle.mm_frame.specs.Pieces.{variables_of, AreItsPieces, HavePatterns, HavePlaces}
+use Rattle.mm_frame.specs.Pieces.{variables_of, HavePlaces}
 use Rattle.mm_frame.specs.Mirror.Patterned.{ArePatterned}
 use Rattle.mm_frame.proofs.FrameOf.{hypotheses_from_places}
 use Rattle.mm_text.proofs.Lists.{get_pushed, get_within, contains_from_at}
@@ -46,6 +45,7 @@ use Rattle.mm_frame.proofs.Patterns.{its_pieces_grow, patterns_more}
 use Rattle.mm_frame.proofs.Patterned.{ids_same}
 use Rattle.mm_frame.proofs.Written.{added_part, names_numbered, same_sentence}
 use Rattle.mm_frame.proofs.Assembled.{AreAppended, AreGrown, assembled}
+use Rattle.mm_frame.proofs.NameLists.{numbers_within}
 
 -- there are fewer labels than numbers for them
 pub few_labels : (t : Tables) (bytes : ℕ) → AreTables t → t.bytes + bytes ≤ most_bytes → length t.labels.names + 1 < 4294967296
@@ -53,7 +53,6 @@ few_labels t bytes are room =
     let counted = labels_counted (statements_of t) t.labels.names t.named.items t.log.items are.labels in
     let few = labelled_few (statements_of t) in
     let size = length-sentences t.symbols.names t.labels.names t.flat.items t.log.items in
-    let sum = are.counted in
     omega arith
 
 -- the number of the next label
@@ -69,17 +68,6 @@ label_new st labels named log s l are meant has = elim (with_name_cases labels l
   | inl (at, same) ↦ absurd (meant M5 (l, has, (label_number st labels l are.all).1 (contains_from_at labels l at)))
   | inr (new, longer) ↦ longer
 ]
-
-pub numbers_within : (names : List (List ℕ)) (numbers : List Sym) (xs : List (List ℕ)) → map (slice_get names) (map (λ n. n.0) numbers) ≡ map (λ x. Some x) xs
-    → (i : ℕ) (n : Sym) → slice_get numbers i ≡ Some n → n.0 < length names
-numbers_within names (m ∷ numbers) (x ∷ xs) are zero n there =
-    let here : slice_get names m.0 ≡ Some x = cc in
-    let same : m ≡ n = cc in
-    slice_get_within names n.0 x (subst (λ (k : Sym). slice_get names k.0 ≡ Some x) same here)
-numbers_within names (m ∷ numbers) (x ∷ xs) are (suc i) n there =
-    let rest : map (slice_get names) (map (λ n. n.0) numbers) ≡ map (λ x. Some x) xs = cc in
-    numbers_within names numbers xs rest i n there
-numbers_within names numbers xs are i n there = absurd cc
 
 -- the lists before a label is written: those of a book, but for what is known of symbols and for the active `$e`, and with more of frames
 pub record Before (t u : Tables) (a : List Hypothesis) (b : List DistinctPair) (c : List Piece) : Type 0 where
@@ -187,17 +175,9 @@ named_grows t u v s kind l numbers frame id a b c bytes are before named number 
     (grown t u v s kind l numbers frame id a b c bytes are before named number is none unclosed together infos essentials frames typings)
     (named.counted ∙ ap (λ n. n + bytes) before.bytes) enough room
 
-declares_none : (s : Sentence) (kind : Kind) → s.kind ≡ kind → declared_in kind s.symbols ≡ [] → declared_by s ≡ []
-declares_none s kind is none = ap (λ k. declared_in k s.symbols) is ∙ none
-
-no_assertion : (s : Sentence) (kind : Kind) → s.kind ≡ kind → ¬ (IsAssertion kind) → ¬ (IsAssertion s.kind)
-no_assertion s kind is other asserts = other (subst IsAssertion is asserts)
-
-floating_asserts : ¬ (IsAssertion Floating)
-floating_asserts asserts = elim asserts [ inl e ↦ absurd (cc) | inr e ↦ absurd (cc) ]
-
-essential_asserts : ¬ (IsAssertion Essential)
-essential_asserts asserts = elim asserts [ inl e ↦ absurd (cc) | inr e ↦ absurd (cc) ]
+no_assertion : (s : Sentence) → IsHypothesis s.kind → ¬ (IsAssertion s.kind)
+no_assertion s (inl is) asserts = elim asserts [ inl e ↦ absurd cc | inr e ↦ absurd cc ]
+no_assertion s (inr is) asserts = elim asserts [ inl e ↦ absurd cc | inr e ↦ absurd cc ]
 
 -- a hypothesis has no frame
 hypothesis_frames : (t : Tables) (s : Sentence) (e : Entry) (frame : FrameParts) → AreTables t → ¬ (IsAssertion s.kind)
@@ -214,13 +194,13 @@ pub supposed : (t u v : Tables) (s : Sentence) (l : List ℕ) (numbers : List Sy
     → 1 + length numbers ≤ bytes → t.bytes + bytes ≤ most_bytes → Grows t v s bytes
 supposed t u v s l numbers frame id bytes are before infos essentials named number is enough room =
     let st = statements_of t in
-    let none = declares_none s Essential is.kinds refl in
+    let none : declared_by s ≡ [] = ap (λ k. declared_in k s.symbols) is.kinds in
     let size = length-sentences t.symbols.names t.labels.names t.flat.items t.log.items in
     let known = infos_other st t.symbols.names t.infos.items s are.infos none (λ floats. let e = is.kinds in absurd (cc)) in
     let active : AreEssentials (st ++ s ∷ []) (t.essentials.items ++ length t.log.items ∷ []) =
     subst (λ n. AreEssentials (st ++ s ∷ []) (t.essentials.items ++ n ∷ [])) size (essentials_essential st t.essentials.items s are.essentials is.kinds) in
     named_grows t u v s Essential l numbers frame id [] [] [] bytes are before named number is none (λ e. absurd (cc)) (λ e. absurd (cc))
-    (rw infos known) (rw essentials active) (hypothesis_frames t s (entry_of Essential (Some id) (length t.flat.items) (length (t.flat.items ++ numbers))) frame are (no_assertion s Essential is.kinds essential_asserts)) (typings_none st) enough room
+    (rw infos known) (rw essentials active) (hypothesis_frames t s (entry_of Essential (Some id) (length t.flat.items) (length (t.flat.items ++ numbers))) frame are (no_assertion s (inr is.kinds))) (typings_none st) enough room
 
 -- a `$f`
 pub typed : (t u v : Tables) (s : Sentence) (code x : List ℕ) (n : Sym) (info : SymbolInfo) (l : List ℕ) (numbers : List Sym) (frame : FrameParts) (id : LabelId) (bytes : ℕ)
@@ -230,14 +210,14 @@ pub typed : (t u v : Tables) (s : Sentence) (code x : List ℕ) (n : Sym) (info 
     → 1 + length numbers ≤ bytes → t.bytes + bytes ≤ most_bytes → Grows t v s bytes
 typed t u v s code x n info l numbers frame id bytes are before says at there infos essentials named number is enough room =
     let st = statements_of t in
-    let none = declares_none s Floating is.kinds refl in
+    let none : declared_by s ≡ [] = ap (λ k. declared_in k s.symbols) is.kinds in
     let size = length-sentences t.symbols.names t.labels.names t.flat.items t.log.items in
     let known : AreInfos (st ++ s ∷ []) t.symbols.names (set t.infos.items n.0 (record info { floating = Some (length t.log.items) })) =
     subst (λ k. AreInfos (st ++ s ∷ []) t.symbols.names (set t.infos.items n.0 (record info { floating = Some k }))) size
     (infos_floating st t.symbols.names t.infos.items s code x n.0 info are.infos is.kinds says at there) in
     let active = essentials_other st t.essentials.items s are.essentials (λ e. let k = is.kinds in absurd (cc)) (λ e. let k = is.kinds in absurd (cc)) in
     named_grows t u v s Floating l numbers frame id [] [] [] bytes are before named number is none (λ e. absurd (cc)) (λ e. absurd (cc))
-    (rw infos known) (rw essentials active) (hypothesis_frames t s (entry_of Floating (Some id) (length t.flat.items) (length (t.flat.items ++ numbers))) frame are (no_assertion s Floating is.kinds floating_asserts)) (typings_none st) enough room
+    (rw infos known) (rw essentials active) (hypothesis_frames t s (entry_of Floating (Some id) (length t.flat.items) (length (t.flat.items ++ numbers))) frame are (no_assertion s (inl is.kinds))) (typings_none st) enough room
 
 -- a `$a` or `$p`
 pub asserted : (t u v : Tables) (s : Sentence) (kind : Kind) (l : List ℕ) (numbers : List Sym) (frame : FrameParts) (id : LabelId) (a : List Hypothesis) (b : List DistinctPair) (c : List Piece) (bytes : ℕ)
@@ -247,7 +227,8 @@ pub asserted : (t u v : Tables) (s : Sentence) (kind : Kind) (l : List ℕ) (num
     → HaveTypings (statements_of t) a → 1 + length numbers ≤ bytes → t.bytes + bytes ≤ most_bytes → Grows t v s bytes
 asserted t u v s kind l numbers frame id a b c bytes are which before infos essentials named number is framed typings enough room =
     let st = statements_of t in
-    let none = declares_none s kind is.kinds (elim which [ inl e ↦ ap (λ k. declared_in k s.symbols) e | inr e ↦ ap (λ k. declared_in k s.symbols) e ]) in
+    let none : declared_by s ≡ [] = ap (λ k. declared_in k s.symbols) is.kinds
+    ∙ elim which [ inl e ↦ ap (λ k. declared_in k s.symbols) e | inr e ↦ ap (λ k. declared_in k s.symbols) e ] in
     let unclosed : ¬ (kind ≡ Closing) = λ e. elim which [ inl f ↦ absurd (cc) | inr f ↦ absurd (cc) ] in
     let apart : ¬ (kind ≡ Distinct) = λ e. elim which [ inl f ↦ absurd (cc) | inr f ↦ absurd (cc) ] in
     let typeless : ¬ (s.kind ≡ Floating) = λ e. let k = is.kinds in elim which [ inl f ↦ absurd (cc) | inr f ↦ absurd (cc) ] in
@@ -259,36 +240,10 @@ asserted t u v s kind l numbers frame id a b c bytes are which before infos esse
     (frames_assertion st s t.hypotheses.items a t.pairs.items b t.pieces.items c t.named.items (label_info (length t.log.items) (entry_of kind (Some id) (length t.flat.items) (length (t.flat.items ++ numbers))) frame)
     (placed st t.labels.names t.named.items t.log.items are.labels) are.frames framed) typings enough room
 
--- the numbers of a type code and a variable
-pub record AreTwo (names : List (List ℕ)) (numbers : List Sym) (xs : List (List ℕ)) : Type 0 where
-  pub first : Sym
-  pub second : Sym
-  pub code : List ℕ
-  pub variable : List ℕ
-  pub numbers_are : numbers ≡ first ∷ second ∷ []
-  pub symbols_are : xs ≡ code ∷ variable ∷ []
-  pub named : slice_get names second.0 ≡ Some variable
-
-pub are_two : (names : List (List ℕ)) (numbers : List Sym) (xs : List (List ℕ)) → map (slice_get names) (map (λ n. n.0) numbers) ≡ map (λ x. Some x) xs → length xs ≡ 2 → AreTwo names numbers xs
-are_two names numbers [] are size = absurd (omega arith)
-are_two names numbers (c ∷ []) are size = absurd (omega arith)
-are_two names [] (c ∷ x ∷ []) are size = absurd (cc)
-are_two names (a ∷ []) (c ∷ x ∷ []) are size = absurd (cc)
-are_two names (a ∷ n ∷ []) (c ∷ x ∷ []) are size = record { first = a; second = n; code = c; variable = x; numbers_are = refl; symbols_are = refl; named = cc }
-are_two names (a ∷ n ∷ m ∷ ms) (c ∷ x ∷ []) are size = absurd (cc)
-are_two names numbers (c ∷ x ∷ y ∷ ys) are size = absurd (omega arith)
-
--- the symbols of a `$f`
-pub typing_numbers : (t : Tables) (s : Sentence) (l : List ℕ) (numbers : List Sym) → AreTables t → IsWritten t s Floating l numbers → AreTwo t.symbols.names numbers s.symbols
-typing_numbers t s l numbers are is =
-    let count : length s.symbols ≡ 2 = subst (λ k. FitsCount k (length s.symbols)) is.kinds is.formed.count in
-    are_two t.symbols.names numbers s.symbols (by_names t numbers s.symbols are is.numbered) count
-
 -- what is known of a symbol that has a number
 pub known_info : (t : Tables) (n : Sym) (x : List ℕ) → AreTables t → slice_get t.symbols.names n.0 ≡ Some x → (info : SymbolInfo) × (slice_get t.infos.items n.0 ≡ Some info)
 known_info t n x are at =
     let lt = slice_get_within t.symbols.names n.0 x at in
-    let size = are.infos.informed in
     get_within t.infos.items n.0 (omega arith)
 
 -- what is noted of a symbol, by lists, numbers and places that are the same
@@ -309,26 +264,23 @@ framed t s e places numbers old a b c conclusion are at those pairs placed numbe
     let st = statements_of t in
     let size = length-sentences t.symbols.names t.labels.names t.flat.items t.log.items in
     let hs : AreHypotheses (at_place (st ++ s ∷ []) (length st)) (map (λ h. h.id.0) a) =
-    subst (AreHypotheses (at_place (st ++ s ∷ []) (length st))) (sym (ids_same old a patterned.same ∙ those.numbers)) (hypotheses_from_places st places s [] are.sound.1 at) in
-    let added : slice_range (t.hypotheses.items ++ a) (length t.hypotheses.items) (length (t.hypotheses.items ++ a)) ≡ a = added_part t.hypotheses.items a in
+    rw (ids_same old a patterned.same, those.numbers) (hypotheses_from_places st places s [] are.sound.1 at) in
+    let all_h = added_part t.hypotheses.items a in
+    let all_p = added_part t.pairs.items b in
     let concluded = patterned.concluded in
     record {
       hypotheses_in = record { ordered = longer t.hypotheses.items a; within = omega arith };
       pairs_in = record { ordered = longer t.pairs.items b; within = omega arith };
       conclusion_in = record { ordered = concluded.ordered; within = concluded.within };
-      are_hypotheses = subst (λ n. AreHypotheses (at_place (st ++ s ∷ []) n) (map (λ h. h.id.0) (slice_range (t.hypotheses.items ++ a) (length t.hypotheses.items) (length (t.hypotheses.items ++ a))))) size
-          (subst (λ (hs : List Hypothesis). AreHypotheses (at_place (st ++ s ∷ []) (length st)) (map (λ h. h.id.0) hs)) (sym added) hs);
-      are_pairs = subst (λ n. ArePairs (at_place (st ++ s ∷ []) n) (map (λ pair. (pair.variables.0.0, pair.variables.1.0)) (slice_range (t.pairs.items ++ b) (length t.pairs.items) (length (t.pairs.items ++ b))))) size
-          (subst (λ (ps : List DistinctPair). ArePairs (at_place (st ++ s ∷ []) (length st)) (map (λ pair. (pair.variables.0.0, pair.variables.1.0)) ps)) (sym (added_part t.pairs.items b)) pairs);
-      placed = subst (λ (hs : List Hypothesis). HavePlaces (variables_of hs) (slice_range (t.pairs.items ++ b) (length t.pairs.items) (length (t.pairs.items ++ b)))) (sym added)
-          (subst (HavePlaces (variables_of a)) (sym (added_part t.pairs.items b)) placed);
+      are_hypotheses = rw (← size, all_h) hs;
+      are_pairs = rw (← size, all_p) pairs;
+      placed = rw (all_h, all_p) placed;
       concluded = (
         s,
-        subst (λ n. slice_get (st ++ s ∷ []) n ≡ Some s) size (get_pushed st s),
-        subst (λ (hs : List Hypothesis). AreItsPieces (st ++ s ∷ []) (variables_of hs) s (slice_range (t.pieces.items ++ c) conclusion.start conclusion.end)) (sym added)
-            (its_pieces_grow st (s ∷ []) (variables_of a) s _ (numbers, numbered, concluded.says)),
+        rw (← size) (get_pushed st s),
+        rw all_h (its_pieces_grow st (s ∷ []) _ s _ (numbers, numbered, concluded.says)),
       );
-      patterned = subst (λ (hs : List Hypothesis). HavePatterns (st ++ s ∷ []) (variables_of hs) (t.pieces.items ++ c) hs) (sym added) (patterns_more st (s ∷ []) (variables_of a) (t.pieces.items ++ c) a patterned.patterned);
+      patterned = rw all_h (patterns_more st (s ∷ []) _ _ a patterned.patterned);
     }
 
 -- what an assertion is taken as

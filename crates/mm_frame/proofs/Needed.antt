@@ -21,7 +21,8 @@ use Rattle.mm_frame.proofs.Decided.{dec_or, variable_dec, constant_dec, typed_de
 pub some_later : (st : List Sentence) (n : ℕ) (P : Sentence → Type 0) → SomeSentence (take n st) P → SomeSentence st P
 some_later st n P (p, s, there, holds) = (p, s, get_from_front st n p s there, holds)
 
-declared_by_active : (st : List Sentence) (x : List ℕ) → IsActiveSymbol st x → IsConstant st x ⊎ IsVariable st x
+pub declared_by_active : (st : List Sentence) (x : List ℕ) → IsActiveSymbol st x
+    → IsConstant st x ⊎ IsVariable st x
 declared_by_active st x (p, s, there, active, declares) = elim declares [ inl constant ↦ inl (p, s, there, constant) | inr variable ↦ inr (p, s, there, variable) ]
 
 -- a symbol in use is declared (by M7)
@@ -54,7 +55,6 @@ stated_typed before s x meant stated in_it variable =
 -- what was active where an active statement stands, no `$}`, is active
 pub active_after : (st : List Sentence) (k p : ℕ) (e : Sentence) → slice_get st p ≡ Some e → ¬ (e.kind ≡ Closing) → IsActive (take p st) k → IsActive st p → IsActive st k
 active_after st k p e there other at active =
-    let within = at.within in
     let lt = active.within in
     let size = length-take-le p st (omega arith) in
     let next : IsActive (take (suc p) st) k = subst (λ ys. IsActive ys k) (sym (take_next st p e there)) (active_stays (take p st) e k other at) in

@@ -1,20 +1,22 @@
 -- Numbers of symbols: each name stands once among the declared symbols, and keeps its place as statements are added.
-use Rattle.std.proofs.Common.{◌≡◌, ℕ, zero, suc, ◌⊎◌, inl, inr, Bool, true, false, ◌||◌, length, List, [], ◌∷◌, ◌++◌, map, Some, refl, sym, ap, ◌∙◌, subst, append-nil}
+use Rattle.std.proofs.Common.{◌≡◌, ℕ, zero, suc, ◌⊎◌, inl, inr, true, length, List, [], ◌∷◌, ◌++◌, map, Some, refl, sym, ap, ◌∙◌, subst, append-nil}
+use Rattle.std.proofs.Common.{◌+◌, get_or}
 use Rattle.std.specs.Prelude.{if◌then◌else◌}
 use Rattle.std.specs.List.{slice_get, fold, flat_map, list_any}
 use Rattle.std.specs.Str.{bytes_eq}
-use Rattle.std.specs.Bool.{Decides}
-use Rattle.std.proofs.lemmas.Bool.{cases_Bool, or_cases}
+use Rattle.std.proofs.lemmas.Bool.{cases_Bool}
 use Rattle.std.proofs.lemmas.Slice.Eq.{bytes_eq-Decides}
 use Rattle.std.proofs.lemmas.List.Concat.{flat_map-append}
 use Rattle.std.proofs.lemmas.List.Sums.{fold-append}
 use Rattle.mm_text.specs.declared.statement.Kind.{Kind}
-use Rattle.mm_text.specs.declared.statement.Kind.TheVariants.{Constants, Variables, Distinct, Floating, Essential, Axiom, Provable, Opening, Closing}
+use Rattle.mm_text.specs.declared.statement.Kind.TheVariants.{Constants, Variables}
 use Rattle.mm_frame.specs.Sentence.{Sentence, SomeSentence, Declares}
 use Rattle.mm_frame.specs.Active.{IsConstant, IsVariable}
 use Rattle.mm_frame.specs.Numbers.{declared_in, declared_by, with_name, symbols_of, AreNumbers}
-use Rattle.mm_text.proofs.Lists.{get_kept, get_pushed, pushed_cases, append_cases}
-use Rattle.mm_text.proofs.Lists.{at_from_contains, contains_from_at}
+use Rattle.mm_text.proofs.Lists.{get_kept, get_pushed, pushed_cases, append_cases, get_after}
+use Rattle.mm_text.proofs.Lists.{at_from_contains, contains_from_at, zip_mapped, mapped_zip}
+use Rattle.std.proofs.lemmas.List.Folds.{Any-from_list_any, list_any_at}
+use Rattle.std.proofs.lemmas.Option.{slice_get_within, get_or_from_slice_get}
 
 -- an element stands at some place
 abbrev pub At : {X : Type 0} → List X → X → Type 0
@@ -22,26 +24,15 @@ At xs x = (i : ℕ) × (slice_get xs i ≡ Some x)
 
 -- what the test whether a name is among names tells
 found_at : (name : List ℕ) (names : List (List ℕ)) → list_any (bytes_eq name) names ≡ true → At names name
-found_at name [] found = absurd (cc)
-found_at name (x ∷ names) found =
-    let decides : Decides (bytes_eq name x) (name ≡ x) = bytes_eq-Decides name x in
-    elim (or_cases (bytes_eq name x) (list_any (bytes_eq name) names) found) [
-      | inl here ↦ (0, ap (λ y. Some y) (sym (decides.0 here)))
-      | inr there ↦ let (i, at) = found_at name names there in (suc i, at)
-    ]
-
-or_right : (a b : Bool) → b ≡ true → (a || b) ≡ true
-or_right true b is = refl
-or_right false b is = is
+found_at name names found =
+    let (k, x, lt, is, passes) = Any-from_list_any (bytes_eq name) names found in
+    let same = (bytes_eq-Decides name x).0 passes in
+    at_from_contains names name (k, lt, ap (λ d. get_or names k d) same ∙ is ∙ sym same)
 
 found_from : (name : List ℕ) (names : List (List ℕ)) (i : ℕ) → slice_get names i ≡ Some name → list_any (bytes_eq name) names ≡ true
-found_from name [] i there = absurd (cc)
-found_from name (x ∷ names) zero there =
-    let decides : Decides (bytes_eq name x) (name ≡ x) = bytes_eq-Decides name x in
-    let same : name ≡ x = cc in
-    ap (λ b. b || list_any (bytes_eq name) names) (decides.1 same)
-found_from name (x ∷ names) (suc i) there =
-    or_right (bytes_eq name x) (list_any (bytes_eq name) names) (found_from name names i there)
+found_from name names i there =
+    list_any_at (bytes_eq name) names i name (slice_get_within names i name there)
+    ((bytes_eq-Decides name _).1 (sym (get_or_from_slice_get names i name name there)))
 
 -- a name is among the names already, or is put at their end
 pub with_name_cases : (names : List (List ℕ)) (name : List ℕ) → (At names name × (with_name names name ≡ names)) ⊎ (¬ (At names name) × (with_name names name ≡ names ++ name ∷ []))
@@ -144,8 +135,7 @@ in_declared Variables symbols x at = (inr refl, at)
 in_declared kind symbols x (i, there) = absurd (cc)
 
 append_right : {X : Type 0} (xs ys : List X) (x : X) → At ys x → At (xs ++ ys) x
-append_right [] ys x at = at
-append_right (z ∷ xs) ys x at = let (i, there) = append_right xs ys x at in (suc i, there)
+append_right xs ys x (i, there) = (length xs + i, get_after xs ys i x there)
 
 -- one statement more to the left
 further : (s : Sentence) (st : List Sentence) (P : Sentence → Type 0) → SomeSentence st P → SomeSentence (s ∷ st) P
@@ -195,14 +185,9 @@ declared_from_number st x i there = elim (from_fold [] (flat_map declared_by st)
 
 -- numbers of symbols stay theirs
 pub numbers_grow : (st more : List Sentence) (numbers : List ℕ) (symbols : List (List ℕ)) → AreNumbers st numbers symbols → AreNumbers (st ++ more) numbers symbols
-numbers_grow st more [] symbols are = are
-numbers_grow st more (n ∷ numbers) [] are = absurd (cc)
-numbers_grow st more (n ∷ numbers) (x ∷ symbols) are =
-    let here : slice_get (symbols_of st) n ≡ Some x = cc in
-    let rest : AreNumbers st numbers symbols = cc in
-    let here' = symbols_grow st more n x here in
-    let rest' = numbers_grow st more numbers symbols rest in
-    cc
+numbers_grow st more numbers symbols are =
+    zip_mapped (slice_get (symbols_of (st ++ more))) Some numbers symbols (mapped_zip
+    (slice_get (symbols_of st)) Some _ (symbols_grow st more) numbers symbols are)
 
 -- the same numbers are those of the same symbols, and the same symbols have the same numbers
 pub same_somes : {X : Type 0} (xs ys : List X) → map (λ x. Some x) xs ≡ map (λ x. Some x) ys

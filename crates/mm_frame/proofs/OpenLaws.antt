@@ -3,17 +3,20 @@ use Rattle.std.proofs.Common.{◌≡◌, ◌↔◌, ℕ, zero, suc, ◌+◌, ◌
 use Rattle.std.specs.List.{slice_get}
 use Rattle.std.proofs.lemmas.Bool.{cases_lt}
 use Rattle.std.proofs.lemmas.Option.{slice_get_within}
-use Rattle.std.proofs.lemmas.List.{drop-append-le, drop-drop, take-append-le}
+use Rattle.std.proofs.lemmas.List.{drop-append-le, drop-drop}
 use Rattle.mm_text.specs.declared.statement.Kind.TheVariants.{Opening, Closing}
 use Rattle.mm_frame.specs.Sentence.{Sentence}
 use Rattle.mm_frame.specs.Active.{open_marks, close_marks, IsOpen, Holds, IsActive}
 use Rattle.mm_text.specs.Blocks.{is_closing, is_opening}
 use Rattle.mm_frame.specs.Mirror.Scopes.{IsUnclosed}
 use Rattle.mm_frame.specs.Laws.{IsInnermostOpen, OpenBlocks, ActiveStatements}
-use Rattle.mm_text.proofs.Lists.{get_kept, get_pushed, get_in_front, pushed_cases, get_dropped}
+use Rattle.mm_text.proofs.Lists.{get_kept, get_pushed, get_in_front, get_dropped, split_at}
 use Rattle.mm_frame.proofs.Counts.{openings-append, closings-append, unclosed_pushed, unclosed_all, unclosed_new, unclosed_front}
+use Rattle.mm_frame.proofs.Counts.{open_in}
 use Rattle.mm_frame.proofs.ScopeLaws.{openings_one, closings_one, length_pushed, open_before}
-use Rattle.mm_frame.proofs.Stays.{open_stays, active_last, active_stays, active_falls}
+use Rattle.mm_frame.proofs.ScopeLaws.{opened_last}
+use Rattle.mm_frame.proofs.Stays.{open_stays, active_last, active_stays, active_falls, holds_less}
+use Rattle.mm_frame.proofs.Stays.{holds_more}
 use Rattle.mm_frame.proofs.Surplus.{some_open}
 
 -- what is open comes before the end
@@ -29,18 +32,12 @@ open_last st e kind = record {
   unclosed = unclosed_new (st ++ e ∷ []) (suc (length st)) (let h = length_pushed st e in omega arith);
 }
 
-opened_last : (st : List Sentence) (e : Sentence) (p : ℕ) → IsOpen (st ++ e ∷ []) p → ¬ (p < length st) → (e.kind ≡ Opening) × (p ≡ length st)
-opened_last st e p still past = elim (pushed_cases st e p still.opening still.there) [
-  | inl before ↦ absurd (past (slice_get_within st p still.opening before))
-  | inr (last, same) ↦ (ap (λ s. s.kind) same ∙ still.opened, last)
-]
-
 pub opening_law : (st : List Sentence) (e : Sentence) (p : ℕ) → ¬ (e.kind ≡ Closing)
     → (IsOpen (st ++ e ∷ []) p ↔ (IsOpen st p ⊎ ((e.kind ≡ Opening) × (p ≡ length st))))
 opening_law st e p other = (
   (λ still. elim (cases_lt p (length st)) [
     | inl lt ↦ inl (open_before st e p still lt)
-    | inr ge ↦ inr (opened_last st e p still (λ lt. omega arith))
+    | inr ge ↦ let (last, kind) = opened_last st e p still (λ lt. omega arith) in inr (kind, last)
   ]),
   (λ either. elim either [
     | inl still ↦ open_stays st e p other still
@@ -52,19 +49,14 @@ opening_law st e p other = (
 part_counts : (st : List Sentence) (m : ℕ) (x : Sentence) → slice_get st m ≡ Some x
     → (open_marks st ≡ open_marks (take m st) + (open_marks (x ∷ []) + open_marks (drop (suc m) st)))
     × (close_marks st ≡ close_marks (take m st) + (close_marks (x ∷ []) + close_marks (drop (suc m) st)))
-part_counts [] m x there = absurd (cc)
-part_counts (y ∷ st) zero x there =
-    let same : y ≡ x = cc in
-    let os = subst (λ z. open_marks (y ∷ st) ≡ open_marks (z ∷ []) + open_marks st) same (openings-append (y ∷ []) st) in
-    let cs = subst (λ z. close_marks (y ∷ st) ≡ close_marks (z ∷ []) + close_marks st) same (closings-append (y ∷ []) st) in
-    (omega arith, omega arith)
-part_counts (y ∷ st) (suc m) x there =
-    let (os, cs) = part_counts st m x there in
-    let o = openings-append (y ∷ []) st in
-    let c = closings-append (y ∷ []) st in
-    let o' = openings-append (y ∷ []) (take m st) in
-    let c' = closings-append (y ∷ []) (take m st) in
-    (omega arith, omega arith)
+part_counts st m x there =
+    let whole = split_at st m x there in
+    let rest = drop (suc m) st in (
+      ap open_marks whole ∙ openings-append (take m st) (x ∷ rest)
+          ∙ ap (λ n. open_marks (take m st) + n) (openings-append (x ∷ []) rest),
+      ap close_marks whole ∙ closings-append (take m st) (x ∷ rest)
+          ∙ ap (λ n. close_marks (take m st) + n) (closings-append (x ∷ []) rest),
+    )
 
 -- past an open block's `${` there is one `${` more than `$}` where another open block begins there
 outer_counts : (st : List Sentence) (p m : ℕ) → p < m → IsOpen st p → IsOpen st m → close_marks (drop (suc p) st) + 1 ≤ open_marks (drop (suc p) st)
@@ -74,7 +66,6 @@ outer_counts st p m lt outer inner =
     let f : suc p + suc d ≡ suc m = omega arith in
     let there : slice_get (drop (suc p) st) d ≡ Some inner.opening = get_past (suc p) st d inner.opening (subst (λ k. slice_get st k ≡ Some inner.opening) (sym e) inner.there) in
     let (os, cs) = part_counts (drop (suc p) st) d inner.opening there in
-    let front = outer.unclosed d in
     let rest : drop (suc d) (drop (suc p) st) ≡ drop (suc m) st = drop-drop (suc d) (suc p) st ∙ ap (λ k. drop k st) f in
     let all = subst (λ (ys : List Sentence). close_marks ys ≤ open_marks ys) (sym rest) (unclosed_all st (suc m) inner.unclosed) in
     let o1 = openings_one inner.opening true (ap is_opening inner.opened) in
@@ -90,14 +81,11 @@ outer_counts st p m lt outer inner =
 
 -- a block that is open inside what lies past a place is open
 open_past : (st : List Sentence) (n k : ℕ) → IsOpen (drop n st) k → IsOpen st (n + k)
-open_past st n k still = record {
-  opening = still.opening;
-  there = get_dropped n st k still.opening still.there;
-  opened = still.opened;
-  unclosed = subst (λ x. IsUnclosed st x) (e) (λ j.
-      let same : drop (suc k) (drop n st) ≡ drop (n + suc k) st = drop-drop (suc k) n st in
-      subst (λ (ys : List Sentence). close_marks (take j ys) ≤ open_marks (take j ys)) same (still.unclosed j));
-}
+open_past st n k still =
+    open_in still (get_dropped n st k still.opening still.there)
+    (subst (λ x. IsUnclosed st x) e (λ j.
+    let same : drop (suc k) (drop n st) ≡ drop (n + suc k) st = drop-drop (suc k) n st in
+    subst (λ (ys : List Sentence). close_marks (take j ys) ≤ open_marks (take j ys)) same (still.unclosed j)))
   where
     e : n + suc k ≡ suc (n + k)
     e = omega arith
@@ -129,7 +117,7 @@ closing_law st e p m kind innermost = (
             | inr ge ↦ absurd (innermost_closed st e m kind innermost (let same : p ≡ m = omega arith in subst (λ q. IsOpen (st ++ e ∷ []) q) same still))
           ],
         )
-    | inr ge ↦ absurd (let opens = (opened_last st e p still (λ lt. omega arith)).0 in let k = kind in cc)
+    | inr ge ↦ absurd (let opens = (opened_last st e p still (λ lt. omega arith)).1 in let k = kind in cc)
   ]),
   (λ (before, lt). kept before lt),
 )
@@ -141,30 +129,18 @@ closing_law st e p m kind innermost = (
         let os = openings-append (drop (suc p) st) (e ∷ []) in
         let cs = closings-append (drop (suc p) st) (e ∷ []) in
         let c1 = closings_one e true (ap is_closing kind) in
-        record {
-          opening = before.opening;
-          there = get_kept st (e ∷ []) p before.opening before.there;
-          opened = before.opened;
-          unclosed = unclosed_pushed st e (suc p) (omega arith) before.unclosed (omega arith);
-        }
+        open_in before (get_kept st (e ∷ []) p before.opening before.there)
+        (unclosed_pushed st e (suc p) (omega arith) before.unclosed (omega arith))
 
 pub open_blocks_hold : OpenBlocks
 open_blocks_hold st e p = ((λ other. opening_law st e p other), (λ m kind innermost. closing_law st e p m kind innermost))
-
--- a block that holds a statement, without the statement more
-holds_less : (st : List Sentence) (e : Sentence) (p outer : ℕ) → p < length st → Holds (st ++ e ∷ []) outer p → Holds st outer p
-holds_less st e p outer lt (before, still) = (before, subst (λ ys. IsOpen ys outer) (take-append-le (suc p) st (e ∷ []) (omega arith)) still)
 
 -- an open block holds what comes after its `${`
 holds_open : (st : List Sentence) (p outer : ℕ) → outer < p → IsOpen st outer → Holds st outer p
 holds_open st p outer lt still = (
   lt,
-  record {
-    opening = still.opening;
-    there = get_in_front st (suc p) outer still.opening (omega arith) still.there;
-    opened = still.opened;
-    unclosed = unclosed_front st (suc p) (suc outer) still.unclosed;
-  },
+  open_in still (get_in_front st (suc p) outer still.opening (omega arith) still.there)
+      (unclosed_front st (suc p) (suc outer) still.unclosed),
 )
 
 active_kept : (st : List Sentence) (e : Sentence) (p : ℕ) → IsActive (st ++ e ∷ []) p → IsActive st p ⊎ (p ≡ length st)
@@ -180,8 +156,8 @@ active_closed : (st : List Sentence) (e : Sentence) (p m : ℕ) → e.kind ≡ C
 active_closed st e p m kind innermost active le = record {
   within = let h = length_pushed st e in let lt = active.within in omega arith;
   kept = λ outer holds.
-      let lt = holds.0 in
-      (closing_law st e outer m kind innermost).1 (active.kept outer (holds_less st e p outer active.within holds), omega arith);
+      let before = holds_less st (e ∷ []) p outer active.within holds in
+      (closing_law st e outer m kind innermost).1 (active.kept outer before, omega arith);
 }
 
 pub active_statements_hold : ActiveStatements
@@ -205,12 +181,9 @@ active_statements_hold st e p = (
   )),
 )
   where
-    holds_more : (st : List Sentence) (e : Sentence) (p outer : ℕ) → p < length st → Holds st outer p → Holds (st ++ e ∷ []) outer p
-    holds_more st e p outer lt (before, still) = (before, subst (λ ys. IsOpen ys outer) (sym (take-append-le (suc p) st (e ∷ []) (omega arith))) still)
-
     up_to : (m : ℕ) → e.kind ≡ Closing → IsInnermostOpen st m → IsActive (st ++ e ∷ []) p → IsActive st p → p ≤ m
     up_to m kind innermost active before = elim (cases_lt m p) [
       | inl lt ↦ absurd (innermost_closed st e m kind innermost (active.kept m
-          (holds_more st e p m before.within (holds_open st p m lt innermost.still))))
+          (holds_more st (e ∷ []) p m before.within (holds_open st p m lt innermost.still))))
       | inr ge ↦ omega arith
     ]

@@ -1,14 +1,10 @@
 -- The variables that `$f` type, and their distinct pairs, by numbers.
-use Rattle.std.proofs.Common.{◌≡◌, ◌≢◌, ◌↔◌, ℕ, ◌<◌, ◌≤◌, ◌⊎◌, inl, inr, length, take, List, [], ◌∷◌, map, Some, None, refl, sym, ap, subst, arith}
+use Rattle.std.proofs.Common.{◌≡◌, ◌≢◌, ◌↔◌, ℕ, ◌<◌, ◌⊎◌, inl, inr, length, take, List, [], ◌∷◌, Some, None, refl, sym, ap, subst, arith}
 use Rattle.std.specs.List.{slice_get}
-use Rattle.mm_text.specs.Statement.{FitsCount}
-use Rattle.mm_text.specs.declared.statement.Kind.TheVariants.{Floating}
 use Rattle.mm_frame.specs.declared.number.Sym.{Sym}
-use Rattle.mm_frame.specs.Sentence.{Sentence, Types}
-use Rattle.mm_frame.specs.Form.{AllFormed}
-use Rattle.mm_frame.specs.Numbers.{symbols_of, AreNumbers, IsNumberOf}
-use Rattle.std.specs.Prelude.{if◌then◌else◌, nat_lt}
-use Rattle.std.proofs.lemmas.Bool.{cases_order, lt-ltb, le-ltb}
+use Rattle.mm_frame.specs.Sentence.{Sentence}
+use Rattle.mm_frame.specs.Numbers.{symbols_of, IsNumberOf}
+use Rattle.std.proofs.lemmas.Bool.{cases_order}
 use Rattle.mm_frame.specs.declared.tables.Entry.{Entry}
 use Rattle.mm_frame.specs.Frame.{IsDistinct}
 use Rattle.mm_frame.specs.Mirror.Stated.{AllStated, HasSpan}
@@ -19,24 +15,13 @@ use Rattle.mm_frame.proofs.DistinctAt.{distinct_stated, span_distinct}
 use Rattle.mm_frame.proofs.WideDistinct.{held_distinct}
 use Rattle.mm_frame.specs.Mirror.Layout.{sentences_by, sentence_by, AreStated}
 use Rattle.mm_frame.proofs.Entries.{sentence_at, entry_at}
+use Rattle.mm_frame.specs.Mirror.Separated.{ordered_pair}
+use Rattle.mm_frame.proofs.Separated.{ordered_less, ordered_more}
 
 -- the second of two
 pub two_parts : (symbols : List (List ℕ)) → length symbols ≡ 2 → (a : List ℕ) × (b : List ℕ) × (symbols ≡ a ∷ b ∷ [])
 two_parts (a ∷ b ∷ []) size = (a, b, refl)
 two_parts symbols size = absurd (omega arith)
-
-second_number : (st : List Sentence) (ns : List Sym) (code x : List ℕ) → AreNumbers st (map (λ n. n.0) ns) (code ∷ x ∷ []) → (n : Sym) × (slice_get ns 1 ≡ Some n) × IsNumberOf st x n.0
-second_number st (a ∷ b ∷ ns) code x are = (b, refl, cc)
-second_number st ns code x are = absurd cc
-
--- the second number of a `$f` is that of its variable
-pub variable_says : (st : List Sentence) (place : ℕ) (f : Sentence) (ns : List Sym) → AllFormed st → slice_get st place ≡ Some f → f.kind ≡ Floating → AreNumbers st (map (λ n. n.0) ns) f.symbols
-    → (n : Sym) × (slice_get ns 1 ≡ Some n) × (code : List ℕ) × (x : List ℕ) × Types code x f × IsNumberOf st x n.0
-variable_says st place f ns formed there kind are =
-    let count : length f.symbols ≡ 2 = subst (λ k. FitsCount k (length f.symbols)) kind (formed place f there).count in
-    let (code, x, parts) = two_parts f.symbols count in
-    let (n, at, number) = second_number st ns code x (subst (AreNumbers st (map (λ n. n.0) ns)) parts are) in
-    (n, at, code, x, (kind, parts), number)
 
 -- a statement's kind is its entry's
 pub kind_at : (symbols labels : List (List ℕ)) (flat : List Sym) (log : List Entry) (place : ℕ) (e : Entry) (f : Sentence) → slice_get log place ≡ Some e → slice_get (sentences_by symbols labels flat log) place ≡ Some f → f.kind ≡ e.kind
@@ -52,16 +37,6 @@ some_entry symbols labels flat log place f said none =
     absurd (cc)
 
 -- ---- whether two numbers' symbols are distinct, by the pairs that `$d` state
-
--- the pair of two numbers, the lesser one first
-abbrev pub ordered : ℕ → ℕ → ℕ × ℕ
-ordered a b = if nat_lt a b then (a, b) else (b, a)
-
-ordered_below : (a b : ℕ) → a < b → ordered a b ≡ (a, b)
-ordered_below a b lt = ap (λ t. if t then (a, b) else (b, a)) (lt-ltb a b lt)
-
-ordered_above : (a b : ℕ) → b ≤ a → ordered a b ≡ (b, a)
-ordered_above a b le = ap (λ t. if t then (a, b) else (b, a)) (le-ltb a b le)
 
 names_number : (st : List Sentence) (names : List (List ℕ)) (x : List ℕ) (n : ℕ) → names ≡ symbols_of st → IsNumberOf st x n → slice_get names n ≡ Some x
 names_number st names x n all at = subst (λ ys. slice_get ys n ≡ Some x) (sym all) at
@@ -91,16 +66,16 @@ held_other st wide q a b (i, w, there, (before, in_a, in_b, active)) =
 pub stated_tells : (st : List Sentence) (names : List (List ℕ)) (stated : AllStated) (a b q : ℕ)
     (x y : List ℕ) → names ≡ symbols_of st → AreStated st names stated → IsNumberOf st x a
     → IsNumberOf st y b → a ≢ b
-    → (HasSpan st stated.pairs (ordered a b) q ⊎ IsHeld st stated.wide q a b)
+    → (HasSpan st stated.pairs (ordered_pair a b) q ⊎ IsHeld st stated.wide q a b)
     ↔ IsDistinct (take q st) x y
 stated_tells st names stated a b q x y all are at_a at_b apart = elim (cases_order a b) [
   | inl same ↦ absurd (apart same)
   | inr (inl lt) ↦ subst (λ p. (HasSpan st stated.pairs p q ⊎ IsHeld st stated.wide q a b)
-      ↔ IsDistinct (take q st) x y) (sym (ordered_below a b lt))
+      ↔ IsDistinct (take q st) x y) (sym (ordered_less a b lt))
       (stated_below st names stated a b q x y all are at_a at_b lt)
   | inr (inr gt) ↦
       let tell = stated_below st names stated b a q y x all are at_b at_a gt in
-      let is = ordered_above a b (omega arith) in (
+      let is = ordered_more a b (omega arith) in (
         (λ either. distinct_other (take q st) y x (tell.0 (elim either [
           | inl has ↦ inl (subst (λ p. HasSpan st stated.pairs p q) is has)
           | inr held ↦ inr (held_other st stated.wide q a b held)

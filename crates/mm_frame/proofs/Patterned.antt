@@ -1,11 +1,10 @@
 -- The patterns of an assertion and of its `$e` are made.
-use Rattle.std.proofs.Common.{◌≡◌, ℕ, zero, suc, ◌+◌, ◌<◌, ◌≤◌, inl, inr, false, length, get_or, take, set, List, [], ◌∷◌, ◌++◌, map, Option, option_map, Some, None, refl, sym, ap, ◌∙◌, subst, Result, Ok, Err, append-nil, append_assoc, arith}
+use Rattle.std.proofs.Common.{◌≡◌, ℕ, zero, suc, ◌+◌, ◌<◌, ◌≤◌, inl, inr, false, length, get_or, take, set, List, [], ◌∷◌, ◌++◌, map, Option, option_map, Some, None, refl, sym, ap, ◌∙◌, subst, Result, append-nil, append_assoc, arith}
 use Rattle.std.specs.List.{slice_get}
 use Rattle.std.specs.Option.{is_none}
 use Rattle.std.specs.Result.{IfOk}
 use Rattle.std.proofs.lemmas.List.{length-map, take_more, map-append}
-use Rattle.std.proofs.Math.Seq.{take-append_seam}
-use Rattle.std.proofs.lemmas.Option.{slice_get_within}
+use Rattle.std.proofs.lemmas.Option.{slice_get_within, get_or_from_slice_get}
 use Rattle.mm_frame.specs.declared.hypothesis.Hypothesis.{Hypothesis}
 use Rattle.mm_frame.specs.declared.number.LabelId.{LabelId}
 use Rattle.mm_frame.specs.declared.number.Sym.{Sym}
@@ -21,23 +20,20 @@ use Rattle.mm_frame.specs.Mirror.Gathered.{AreRisingPlaces}
 use Rattle.mm_frame.specs.Mirror.Layout.{statements_of}
 use Rattle.mm_frame.specs.Mirror.Naming.{part_after}
 use Rattle.mm_frame.specs.Mirror.Patterned.{IsLonger, IsPatternAt, told, AreSameButPatterns, AreMandatoryOf, HaveFirstPatterns, ArePatterned}
-use Rattle.mm_text.proofs.Lists.{get_within, get_set_cases, zip_push}
-use Rattle.mm_frame.proofs.NameLists.{get_mapped, get_unmapped}
+use Rattle.mm_text.proofs.Lists.{get_within, get_set_cases, zip_push, zip_mapped, mapped_zip}
+use Rattle.mm_text.proofs.Lists.{same_length}
+use Rattle.mm_frame.proofs.NameLists.{get_mapped, get_alike}
 use Rattle.mm_frame.proofs.Labelled.{numbered_at, numbered_get}
 use Rattle.mm_frame.proofs.Entries.{length-sentences, longer}
 use Rattle.mm_frame.proofs.Written.{added_part}
 use Rattle.mm_frame.proofs.FrameOf.{place_named}
 use Rattle.mm_frame.proofs.Patterns.{pattern_longer}
+use Rattle.std.proofs.lemmas.Result.{IfOk-weaker}
+use Rattle.std.proofs.Math.Seq.{map-set_same}
 
 told_agree : {Y : Type 0} (f : LabelId × Option (Sym × Sym) → Y) (old new : List Hypothesis) → AreSameButPatterns old new → map (λ h. f (told h)) new ≡ map (λ h. f (told h)) old
-told_agree f [] [] same = refl
-told_agree f (x ∷ xs) (y ∷ ys) same =
-    let first : told y ≡ told x = cc in
-    let rest : map told ys ≡ map told xs = cc in
-    let head = ap f first in
-    let tail = told_agree f xs ys rest in
-    cc (head, tail)
-told_agree f old new same = absurd cc
+told_agree f old new same = zip_mapped (λ h. f (told h)) (λ h. f (told h)) new old
+    (mapped_zip told told _ (λ x y e. ap f e) new old same)
 
 pub ids_same : (old new : List Hypothesis) → AreSameButPatterns old new → map (λ h. h.id.0) new ≡ map (λ h. h.id.0) old
 ids_same old new same = told_agree (λ p. p.0.0) old new same
@@ -50,14 +46,12 @@ typing_same st g h same has = subst (λ (p : LabelId × Option (Sym × Sym)). (e
 
 pub typings_same : (st : List Sentence) (old new : List Hypothesis) → AreSameButPatterns old new → HaveTypings st old → HaveTypings st new
 typings_same st old new same have i h there =
-    let mapped = get_mapped told new i h there in
-    let (g, at, is) = get_unmapped told old i (told h) (subst (λ ps. slice_get ps i ≡ Some (told h)) same mapped) in
+    let (g, at, is) = get_alike told told new old i h same there in
     typing_same st g h is (have i g at)
 
 set_kept : (hs : List Hypothesis) (i : ℕ) (h : Hypothesis) (part : Part) → slice_get hs i ≡ Some h → map told (set hs i (record h { pattern = part })) ≡ map told hs
-set_kept [] i h part there = absurd (cc)
-set_kept (g ∷ hs) zero h part there = let same : g ≡ h = cc in ap (λ (k : Hypothesis). told k ∷ map told hs) (sym same)
-set_kept (g ∷ hs) (suc i) h part there = ap (λ ps. told g ∷ ps) (set_kept hs i h part there)
+set_kept hs i h part there = map-set_same told hs i (record h { pattern = part }) h
+    (ap told (sym (get_or_from_slice_get hs i h h there)))
 
 -- a rising list has at each place at least its place
 rising_least : (places : List ℕ) → AreRisingPlaces places → (i p : ℕ) → slice_get places i ≡ Some p → i ≤ p
@@ -79,8 +73,7 @@ rising_few (x ∷ places) n rise within =
 
 -- there is a hypothesis for each place
 pub hypotheses_counted : (t : Tables) (log : List Entry) (flat : List Sym) (places : List ℕ) (hs : List Hypothesis) → AreMandatoryOf t log flat places hs → length hs ≡ length places
-hypotheses_counted t log flat places hs of =
-    sym (length-map hs (λ h. h.id.0)) ∙ ap length of.those.numbers ∙ length-map places (λ p. length (labelled_sentences (take p (statements_of t))))
+hypotheses_counted t log flat places hs of = same_length _ _ hs places of.those.numbers
 
 pub same_counted : (old new : List Hypothesis) → AreSameButPatterns old new → length new ≡ length old
 same_counted old new same = sym (length-map new told) ∙ ap length same ∙ length-map old told
@@ -91,8 +84,6 @@ few_hypotheses t log flat places hs of =
     let all = hypotheses_counted t log flat places hs of in
     let few = rising_few places (length (statements_of t)) of.are_places.rising of.are_places.within in
     let size = length-sentences t.symbols.names t.labels.names t.flat.items t.log.items in
-    let sum = of.tables.counted in
-    let small = of.tables.small in
     omega arith
 
 -- there is a hypothesis at each place
@@ -168,10 +159,6 @@ longer_none xs = ([], sym (append-nil xs))
 pub longer_more : {X : Type 0} (xs ys zs : List X) → IsLonger xs ys → IsLonger ys zs → IsLonger xs zs
 longer_more xs ys zs (a, first) (b, second) = (a ++ b, second ∙ ap (λ ws. ws ++ b) first ∙ append_assoc xs a b)
 
--- what began a longer list
-pub longer_front : {X : Type 0} (xs ys : List X) → IsLonger xs ys → take (length xs) ys ≡ xs
-longer_front xs ys (a, is) = ap (take (length xs)) is ∙ take-append_seam xs a
-
 -- one piece more
 pub pieces_step : (variables : List (Option ℕ)) (symbols : List Sym) (i : ℕ) (d : Sym) (more : List Piece) (p : Piece) → i < length symbols → ArePieces variables (map (λ n. n.0) (take i symbols)) more
     → IsPieceOf variables (get_or symbols i d).0 p → ArePieces variables (map (λ n. n.0) (take (i + 1) symbols)) (more ++ p ∷ [])
@@ -208,9 +195,6 @@ essential_step t log flat places numbers old hs new pieces pieces' i place h par
     subst (λ ks. HaveFirstPatterns st old ks pieces' (i + 1)) (sym set_is)
     (subst (λ ps. HaveFirstPatterns st old (set hs i (record h { pattern = part })) ps (i + 1)) (sym more) (first_step st old hs pieces c i h part have at has))
 
-is_typed : (o : Option (Sym × Sym)) → is_none o ≡ false → ¬ (o ≡ None)
-is_typed o is untyped = absurd cc
-
 -- a `$f` gets none
 pub typed_step : (st : List Sentence) (old hs new : List Hypothesis) (pieces : List Piece) (i : ℕ) (h : Hypothesis) → HaveFirstPatterns st old hs pieces i → slice_get hs i ≡ Some h → is_none h.typing ≡ false
     → new ≡ set hs i (record h { pattern = record { start = 0; end = 0 } }) → HaveFirstPatterns st old new pieces (i + 1)
@@ -219,11 +203,7 @@ typed_step st old hs new pieces i h have at typed set_is =
     let none : Part = record { start = 0; end = 0 } in
     subst (λ ks. HaveFirstPatterns st old ks pieces (i + 1)) (sym set_is)
     (subst (λ ps. HaveFirstPatterns st old (set hs i (record h { pattern = none })) ps (i + 1)) whole
-    (first_step st old hs pieces [] i h none have at (typed_has st (variables_of old) (pieces ++ []) h (is_typed h.typing typed))))
-
-pub if_ok_more : {T E : Type 0} (P Q : T → Type 0) (r : Result T E) → ((x : T) → P x → Q x) → IfOk r P → IfOk r Q
-if_ok_more P Q (Ok x) more is = more x is
-if_ok_more P Q (Err e) more is = tt
+    (first_step st old hs pieces [] i h none have at (typed_has st (variables_of old) (pieces ++ []) h (λ untyped. absurd cc))))
 
 -- the patterns of the `$e` were added, and then that of the assertion
 pub all_step : {E : Type 0} (t : Tables) (log : List Entry) (flat : List Sym) (places numbers : List ℕ) (old hs shown : List Hypothesis) (pieces pieces' : List Piece) → AreMandatoryOf t log flat places old
@@ -234,7 +214,7 @@ all_step t log flat places numbers old hs shown pieces pieces' of have is (c, mo
     let size = same_counted old hs have.same in
     let shown_size = ap length is in
     let all = hypotheses_counted t log flat places old of in
-    if_ok_more (IsPatternAt (variables_of shown) numbers pieces') (ArePatterned (statements_of t) numbers old hs pieces') result
+    IfOk-weaker result _ _
     (λ part at. subst (λ ps. ArePatterned (statements_of t) numbers old hs ps part) (sym more)
     (first_all (statements_of t) numbers old hs pieces c (length places) part have (sym all) (subst (λ ps. IsPatternAt (variables_of hs) numbers ps part) more (subst (λ ks. IsPatternAt (variables_of ks) numbers pieces' part) is at))))
     (pattern (omega arith))

@@ -1,5 +1,5 @@
 -- Places of variables among hypotheses, and patterns by them.
-use Rattle.std.proofs.Common.{◌≡◌, ℕ, zero, suc, ◌<◌, ◌≤◌, length, get_or, List, [], ◌∷◌, ◌++◌, Option, option_map, None, false, refl, sym, ap, subst, arith}
+use Rattle.std.proofs.Common.{◌≡◌, ℕ, zero, suc, ◌<◌, ◌≤◌, length, get_or, List, [], ◌∷◌, ◌++◌, Option, option_map, None, false, refl, sym, subst, arith}
 use Rattle.std.specs.List.{slice_index_or}
 use Rattle.mm_frame.specs.declared.hypothesis.Hypothesis.{Hypothesis}
 use Rattle.mm_frame.specs.declared.piece.Piece.{Piece}
@@ -8,12 +8,12 @@ use Rattle.mm_frame.specs.Pieces.{variables_of, is_of, AreItsPieces, HasPattern,
 use Rattle.mm_frame.proofs.Entries.{slice_left, longer}
 use Rattle.mm_frame.proofs.Numbered.{numbers_grow}
 use Rattle.mm_frame.proofs.Labelled.{labelled_grow}
+use Rattle.std.proofs.lemmas.List.{get_or-map, length-map}
 
 -- the variable of the hypothesis at a place
 pub variable_at : (hs : List Hypothesis) (k : ℕ) (d : Hypothesis) → k < length hs → slice_index_or (variables_of hs) k None ≡ option_map (λ typing. typing.1.0) (get_or hs k d).typing
-variable_at [] k d lt = absurd (omega arith)
-variable_at (h ∷ hs) zero d lt = refl
-variable_at (h ∷ hs) (suc k) d lt = variable_at hs k d (omega arith)
+variable_at hs k d lt =
+    get_or-map (λ (h : Hypothesis). option_map (λ typing. typing.1.0) h.typing) hs k d None lt
 
 -- behind the last there is none
 pub none_behind : (hs : List Hypothesis) (n k : ℕ) → length hs ≤ k → is_of n (slice_index_or (variables_of hs) k None) ≡ false
@@ -22,8 +22,7 @@ none_behind (h ∷ hs) n zero le = absurd (omega arith)
 none_behind (h ∷ hs) n (suc k) le = none_behind hs n k (omega arith)
 
 pub variables_counted : (hs : List Hypothesis) → length (variables_of hs) ≡ length hs
-variables_counted [] = refl
-variables_counted (h ∷ hs) = ap suc (variables_counted hs)
+variables_counted hs = length-map hs _
 
 -- ---- patterns stay what they are as statements and pieces are added
 
@@ -42,7 +41,6 @@ pattern_grow st more variables pieces h has = record {
 
 pub pattern_longer : (st : List Sentence) (variables : List (Option ℕ)) (pieces c : List Piece) (h : Hypothesis) → HasPattern st variables pieces h → HasPattern st variables (pieces ++ c) h
 pattern_longer st variables pieces c h has =
-    let inside = has.within in
     let more = longer pieces c in
     record {
       ordered = has.ordered;

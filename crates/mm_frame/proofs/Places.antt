@@ -1,5 +1,5 @@
 -- Between the elements that code walks over and what is said by them, place by place.
-use Rattle.std.proofs.Common.{◌≡◌, ◌↔◌, IsTrue, Any, ℕ, ◌<◌, length, Bool, true, false, List, map, Option, Some, None, inl, inr, refl, sym, ◌∙◌, ap, subst, arith}
+use Rattle.std.proofs.Common.{◌≡◌, ◌↔◌, IsTrue, Any, ℕ, ◌<◌, length, Bool, true, false, List, map, Option, Some, inl, inr, refl, sym, ◌∙◌, ap, subst, arith}
 use Rattle.std.specs.List.{slice_get, slice_index_or, FoldsTo, HoldsAt, AllWithin}
 use Rattle.std.specs.Bool.{MatchBool}
 use Rattle.std.specs.Option.{MatchOption, option_map}
@@ -7,7 +7,7 @@ use Rattle.std.specs.Iterator.{YieldsThen}
 use Rattle.std.specs.Fn.{Called}
 use denote.Param.Members.{Mut}
 use Rattle.std.proofs.lemmas.Option.{slice_get-map, slice_get_read, slice_get_cases}
-use Rattle.std.proofs.lemmas.Iterator.{YieldsList, cases_from_any, IsFirst-from_position}
+use Rattle.std.proofs.lemmas.Iterator.{YieldsList, cases_from_any}
 
 -- some element is so, by its place
 abbrev pub SomeAt : {X : Type 0} → List X → (X → Type 0) → Type 0
@@ -52,34 +52,3 @@ pub some_says : {S A B F Y : Type 0} {steps : S → Option A → S → Type 0} {
 some_says {all = all} w P u f r ran list calls =
     let any = any_says u f r (λ x. P (w x)) ran list calls in
     ((λ t. some_from_any w P all (any.0 t)), (λ s. any.1 (any_from_some w P all s)))
-
--- the first place at which it is so
-abbrev pub FirstAt : {X : Type 0} → List X → (X → Type 0) → ℕ → Type 0
-FirstAt {X} xs P place =
-    (x : X) × (slice_get xs place ≡ Some x) × P x × ((k : ℕ) (y : X) → k < place → slice_get xs k ≡ Some y → ¬ (P y))
-
-first_from_cases : {X Y : Type 0} (w : X → Y) (P : Y → Type 0) (xs : List X) (r : Option ℕ)
-    → MatchOption r (AllWithin (λ x. ¬ (P (w x))) xs 0 (length xs)) (λ i. (i < length xs) × HoldsAt (λ x. P (w x)) xs i × AllWithin (λ x. ¬ (P (w x))) xs 0 i)
-    → MatchOption r (¬ (SomeAt (map w xs) P)) (FirstAt (map w xs) P)
-first_from_cases w P xs None none =
-    λ some. let (k, x, lt, is, p) = any_from_some w P xs some in none k x (omega arith) lt (subst (λ y. P (w y)) (sym is) p)
-first_from_cases w P xs (Some i) (lt, holds, before) =
-    elim (slice_get_cases xs i).1 [
-      | inl (x, in_range, there, at) ↦ (
-        w x,
-        slice_get-map w xs i ∙ ap (λ o. option_map w o) there,
-        subst (λ y. P (w y)) at (holds x),
-        λ k y below place p.
-            let (z, within, is, q) = said_at w P xs k y place p in before k z (omega arith) below (subst (λ y. P (w y)) (sym is) q),
-      )
-      | inr (past, none) ↦ absurd (omega arith)
-    ]
-
--- what `position` answers
-pub first_says : {S A B F Y : Type 0} {steps : S → Option A → S → Type 0} {v : A → B} {g : Mut F (A × Unit {0}) Bool} {s : S} {all : List B} (w : B → Y) (P : Y → Type 0) (u : S) (f : F) (r : Option ℕ)
-    → (xs : List A) × (o : Option A) × (j : F) × YieldsThen steps s xs o u × FoldsTo (λ p x q. Called g p (x, tt) false q) f xs j × MatchOption o (r ≡ None) (λ x. (r ≡ Some (length xs)) × ((h : F) × Called g j (x, tt) true h))
-    → YieldsList steps v s all → ((x : A) (b : Bool) (q : F) → Called g f (x, tt) b q → (q ≡ f) × (IsTrue b ↔ P (w (v x))))
-    → MatchOption r (¬ (SomeAt (map w all) P)) (FirstAt (map w all) P)
-first_says {all = all} w P u f r ran list calls =
-    first_from_cases w P all r (IsFirst-from_position u f r (λ x. P (w x)) (λ x. ¬ (P (w x))) ran list
-    (λ x q k. (calls x true q k).1.0 refl) (λ x q k. ((calls x false q k).0, λ p. absurd (let t : IsTrue false = (calls x false q k).1.1 p in cc t))))

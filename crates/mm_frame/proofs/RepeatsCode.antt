@@ -1,5 +1,5 @@
 -- Names that are read one after the other, until one comes again.
-use Rattle.std.proofs.Common.{◌≡◌, ℕ, zero, suc, ◌+◌, ◌<◌, inl, inr, ◌↔◌, IsTrue, Bool, true, false, is_some, get_or, length, take, List, [], ◌∷◌, ◌++◌, map, Contains, Option, Some, None, refl, sym, ap, ◌∙◌, subst, arith}
+use Rattle.std.proofs.Common.{◌≡◌, ℕ, suc, ◌+◌, ◌<◌, inl, inr, ◌↔◌, IsTrue, Bool, true, false, is_some, get_or, length, take, List, [], ◌∷◌, ◌++◌, map, Contains, Option, Some, None, sym, ap, ◌∙◌, subst, arith}
 use Rattle.std.specs.List.{slice_get}
 use Rattle.std.specs.Option.{MatchOption}
 use Rattle.mm_text.specs.declared.token.Token.{Token}
@@ -7,23 +7,18 @@ use Rattle.mm_text.specs.Token.{plain_token}
 use Rattle.mm_frame.specs.Sentence.{StandsTwice}
 use Rattle.mm_frame.specs.Numbers.{with_name}
 use Rattle.mm_frame.proofs.Numbered.{with_name_cases}
-use Rattle.mm_text.proofs.Lists.{get_from_front, take_next, contains_from_at}
+use Rattle.mm_text.proofs.Lists.{take_next, contains_from_at, get_from_take}
 use Rattle.mm_frame.proofs.Symbols.{texts}
+use Rattle.mm_frame.proofs.NameLists.{get_mapped}
+use Rattle.std.proofs.lemmas.Option.{slice_get-get_or}
 
 -- the texts of tokens
 abbrev pub texts_of : List Token → List (List ℕ)
 texts_of tokens = map (λ t. t.text.now) tokens
 
 pub text_at : (tokens : List Token) (i : ℕ) (d : Token) → i < length tokens → slice_get (texts_of tokens) i ≡ Some (get_or tokens i d).text.now
-text_at [] i d lt = absurd (omega arith)
-text_at (t ∷ tokens) zero d lt = refl
-text_at (t ∷ tokens) (suc i) d lt = text_at tokens i d (omega arith)
-
-within_front : (xs : List (List ℕ)) (i j : ℕ) (x : List ℕ) → slice_get (take i xs) j ≡ Some x → j < i
-within_front xs zero j x there = absurd (cc)
-within_front [] (suc i) j x there = absurd (cc)
-within_front (y ∷ xs) (suc i) zero x there = omega arith
-within_front (y ∷ xs) (suc i) (suc j) x there = let rest = within_front xs i j x there in omega arith
+text_at tokens i d lt =
+    get_mapped (λ (t : Token). t.text.now) tokens i (get_or tokens i d) (slice_get-get_or tokens i d lt)
 
 -- a name that was among the ones before stands twice
 pub found_again : (tokens : List Token) (i : ℕ) (d : Token) (names : List (List ℕ)) (o : Option ℕ) (r : Bool) → i < length tokens → names ≡ take i (texts_of tokens)
@@ -33,7 +28,8 @@ found_again tokens i d names None r lt are is so h = absurd (cc)
 found_again tokens i d names (Some n) r lt are is so h =
     let x = (get_or tokens i d).text.now in
     let there : slice_get (take i (texts_of tokens)) n ≡ Some x = subst (λ (ns : List (List ℕ)). slice_get ns n ≡ Some x) are h in
-    (x, record { i = n; j = i; apart = within_front (texts_of tokens) i n x there; at_i = get_from_front (texts_of tokens) i n x there; at_j = text_at tokens i d lt })
+    let (apart, at) = get_from_take (texts_of tokens) i n x there in
+    (x, record { i = n; j = i; apart = apart; at_i = at; at_j = text_at tokens i d lt })
 
 -- a new name goes last
 pub new_name : (tokens : List Token) (i : ℕ) (d : Token) (names : List (List ℕ)) (o : Option ℕ) (r : Bool) → i < length tokens → names ≡ take i (texts_of tokens)

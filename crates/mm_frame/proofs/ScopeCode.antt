@@ -1,23 +1,24 @@
 -- What the scopes' code does, in terms of the laws of blocks by numbers.
 use Rattle.std.proofs.Common.{◌≡◌, ℕ, suc, ◌+◌, ◌<◌, ◌≤◌, ◌↔◌, IsTrue, IsSome, false, leb, length, take, set, List, [], ◌∷◌, ◌++◌, Option, Some, None, refl, sym, ap, ◌∙◌, subst, arith, rules}
+use Rattle.std.proofs.Common.{◌-◌}
 use Rattle.std.specs.List.{slice_get}
 use Rattle.mm_text.specs.declared.statement.Kind.{Kind}
-use Rattle.mm_text.specs.declared.statement.Kind.TheVariants.{Constants, Variables, Distinct, Floating, Essential, Axiom, Provable, Opening, Closing}
+use Rattle.mm_text.specs.declared.statement.Kind.TheVariants.{Opening, Closing}
 use Rattle.mm_frame.specs.Sentence.{Sentence}
 use Rattle.mm_frame.specs.Active.{IsActive, open_marks, close_marks}
 use Rattle.mm_text.specs.Blocks.{is_opening}
 use Rattle.mm_frame.specs.Mirror.Scopes.{AreScopes}
 use Rattle.mm_frame.proofs.Actives.{scope_active}
-use Rattle.mm_frame.proofs.Depth.{scope_depth, scope_block_within, scope_stack_within}
+use Rattle.mm_frame.proofs.Depth.{scope_depth}
 use Rattle.mm_frame.proofs.Stays.{not_closing}
 use Rattle.mm_text.proofs.Lists.{get_within, get_pushed}
 use Rattle.std.specs.Option.{option_to_list}
 use Rattle.mm_frame.proofs.ScopeLaws.{length_pushed, scopes_ordinary, scopes_opening, scopes_closing}
+use Rattle.std.proofs.lemmas.Option.{slice_get_within}
 
 -- a list that isn't empty has a last element, at the place before its length
 pub last_place : (stack : List ℕ) → 1 ≤ length stack → (k : ℕ) × (length stack ≡ suc k)
-last_place [] some = absurd (omega arith)
-last_place (x ∷ stack) some = (length stack, refl)
+last_place stack some = (length stack - 1, omega arith)
 
 -- the stack has a block
 pub stack_some : (never : ℕ) (st : List Sentence) (blocks ends stack : List ℕ) → AreScopes never st blocks ends stack → (k : ℕ) × (length stack ≡ suc k)
@@ -36,8 +37,9 @@ pub no_end : (never : ℕ) (st : List Sentence) (blocks ends stack : List ℕ) (
     → slice_get blocks p ≡ Some b → slice_get ends b ≡ None
     → AreScopes never st blocks ends stack → ⊥
 no_end never st blocks ends stack p b there none a =
-    let within = scope_block_within never st blocks ends stack a p b there in
-    let (c, end) = get_within ends b within in cc
+    let h = a.holders p b there in
+    let lt = slice_get_within a.starts b h.start h.there in
+    let (c, end) = get_within ends b (omega arith) in cc
 
 not_opening : (kind : Kind) → ¬ (kind ≡ Opening) → is_opening kind ≡ false
 not_opening Opening apart = absurd (apart refl)
@@ -84,7 +86,9 @@ closed never st e blocks ends stack below popped top under inner outer split len
     let same : Some top ≡ Some t = sym (inner (length below) (omega arith)) ∙ at_end in
     let top_is : top ≡ t = cc in
     let (k, below_is) = last_place below (omega arith) in
-    let within : top < length ends = scope_stack_within never st blocks ends stack a (length below) top (inner (length below) (omega arith)) in
+    let h = a.on_stack (length below) top (inner (length below) (omega arith)) in
+    let lt = slice_get_within a.starts top h.start h.there in
+    let within : top < length ends = let sized = a.sized in omega arith in
     let b : AreScopes never st blocks ends (below ++ top ∷ []) = subst (λ (xs : List ℕ). AreScopes never st blocks ends xs) (whole ∙ ap (λ x. below ++ x ∷ []) (sym top_is)) a in
     let held : length blocks ≡ length st = a.held in
     (within, rw held (scopes_closing never st e blocks ends below k top under b below_is (outer k below_is) is_close))

@@ -12,31 +12,22 @@ use Rattle.mm_text.specs.Blocks.{is_closing, is_opening}
 use Rattle.mm_frame.specs.Mirror.Scopes.{IsUnclosed, IsBegun, IsEnd, IsOnStack, DirectlyHolds, AreScopes}
 use Rattle.mm_text.proofs.Lists.{get_kept, get_pushed, pushed_cases, get_before, get_set_cases}
 use Rattle.mm_frame.proofs.Counts.{openings-append, closings-append, unclosed_pushed, unclosed_before, unclosed_all, unclosed_new}
+use Rattle.mm_frame.proofs.Counts.{open_in}
 
 -- what one statement opens and closes
 pub openings_one : (e : Sentence) (b : Bool) → is_opening e.kind ≡ b → open_marks (e ∷ []) ≡ cond b 1 0
-openings_one e b is = ap (λ c. 0 + cond c 1 0) is ∙ same
-  where
-    same : 0 + cond b 1 0 ≡ cond b 1 0
-    same = omega arith
+openings_one e b is = ap (λ c. 0 + cond c 1 0) is ∙ omega arith
 
 pub closings_one : (e : Sentence) (b : Bool) → is_closing e.kind ≡ b → close_marks (e ∷ []) ≡ cond b 1 0
-closings_one e b is = ap (λ c. 0 + cond c 1 0) is ∙ same
-  where
-    same : 0 + cond b 1 0 ≡ cond b 1 0
-    same = omega arith
+closings_one e b is = ap (λ c. 0 + cond c 1 0) is ∙ omega arith
 
 pub length_pushed : {X : Type 0} (xs : List X) (x : X) → length (xs ++ x ∷ []) ≡ suc (length xs)
 length_pushed xs x = length-append xs (x ∷ []) ∙ (omega arith)
 
 -- what is open after one statement more was open before it, or is opened by it
 pub open_before : (xs : List Sentence) (e : Sentence) (p : ℕ) → IsOpen (xs ++ e ∷ []) p → p < length xs → IsOpen xs p
-open_before xs e p o lt = record {
-  opening = o.opening;
-  there = get_before xs (e ∷ []) p o.opening lt o.there;
-  opened = o.opened;
-  unclosed = unclosed_before xs (e ∷ []) (suc p) o.unclosed;
-}
+open_before xs e p o lt = open_in o (get_before xs (e ∷ []) p o.opening lt o.there)
+    (unclosed_before xs (e ∷ []) (suc p) o.unclosed)
 
 pub opened_last : (xs : List Sentence) (e : Sentence) (p : ℕ) → IsOpen (xs ++ e ∷ []) p → ¬ (p < length xs) → (p ≡ length xs) × (e.kind ≡ Opening)
 opened_last xs e p o past =
@@ -45,24 +36,26 @@ opened_last xs e p o past =
       | inr (last, same) ↦ (last, ap (λ (s : Sentence). s.kind) same ∙ o.opened)
     ]
 
--- a front of the statements before is one of those and one more
-front_kept : (xs : List Sentence) (e : Sentence) (n : ℕ) → n ≤ length xs → take n (xs ++ e ∷ []) ≡ take n xs
-front_kept xs e n le = take-append-le n xs (e ∷ []) le
-
 pub all_taken : (xs : List Sentence) (e : Sentence) → take (suc (length xs)) (xs ++ e ∷ []) ≡ xs ++ e ∷ []
 all_taken xs e = take_all (suc (length xs)) (xs ++ e ∷ []) (let h = length_pushed xs e in omega arith)
+
+-- and so is the front up to the place of the one more
+pub taken_at : (xs : List Sentence) (e : Sentence) (place : ℕ) → place ≡ length xs
+    → take (place + 1) (xs ++ e ∷ []) ≡ xs ++ e ∷ []
+taken_at xs e place last =
+    let next : place + 1 ≡ suc (length xs) = omega arith in
+    ap (λ n. take n (xs ++ e ∷ [])) next ∙ all_taken xs e
 
 begun_grown : (xs : List Sentence) (e : Sentence) (x : ℕ) → IsBegun xs x → IsBegun (xs ++ e ∷ []) x
 begun_grown xs e x b = record { place = b.place; opening = b.opening; next = b.next; there = get_kept xs (e ∷ []) b.place b.opening b.there; opened = b.opened }
 
 end_grown : (xs : List Sentence) (e : Sentence) (x c : ℕ) → IsEnd xs x c → IsEnd (xs ++ e ∷ []) x c
 end_grown xs e x c end =
-    let lt = end.within in
     let more = length_pushed xs e in
     record {
       within = omega arith;
-      before = subst (λ ys. IsUnclosed ys x) (sym (front_kept xs e c (omega arith))) end.before;
-      after = subst (λ ys. ¬ (IsUnclosed ys x)) (sym (front_kept xs e (suc c) (omega arith))) end.after;
+      before = rw (take-append-le c xs (e ∷ []) (omega arith)) end.before;
+      after = rw (take-append-le (suc c) xs (e ∷ []) (omega arith)) end.after;
     }
 
 -- each start is a start in the other list too
@@ -71,7 +64,7 @@ AreKept starts others = (b x : ℕ) → slice_get starts b ≡ Some x → slice_
 
 holder_grown : (xs : List Sentence) (e : Sentence) (starts others : List ℕ) (b i : ℕ) → AreKept starts others → i < length xs → DirectlyHolds xs starts b i → DirectlyHolds (xs ++ e ∷ []) others b i
 holder_grown xs e starts others b i kept lt h =
-    let same : take (suc i) (xs ++ e ∷ []) ≡ take (suc i) xs = front_kept xs e (suc i) (omega arith) in
+    let same = take-append-le (suc i) xs (e ∷ []) (omega arith) in
     record {
       start = h.start;
       there = kept b h.start h.there;
@@ -103,7 +96,6 @@ start_within never xs blocks ends stack a zero x there = let first = a.outermost
 start_within never xs blocks ends stack a (suc b) x there =
     let begun = a.begun b x there in
     let lt = slice_get_within xs begun.place begun.opening begun.there in
-    let next = begun.next in
     omega arith
 
 -- the last block on the stack begins after each other block on it
@@ -221,7 +213,6 @@ on_stack_new xs e starts next k b there size =
 ended_new : (never : ℕ) (xs : List Sentence) (e : Sentence) (blocks ends stack : List ℕ) (a : AreScopes never xs blocks ends stack) (new b x c : ℕ) → slice_get (a.starts ++ new ∷ []) b ≡ Some x → slice_get (ends ++ never ∷ []) b ≡ Some c
     → ((c ≡ never) × (k : ℕ) × (slice_get (stack ++ length ends ∷ []) k ≡ Some b)) ⊎ IsEnd (xs ++ e ∷ []) x c
 ended_new never xs e blocks ends stack a new b x c begins ends_at =
-    let sized = a.sized in
     elim (pushed_cases a.starts new b x begins) [
       | inl before ↦
           let lt = slice_get_within a.starts b x before in
@@ -301,7 +292,6 @@ closed_by xs e starts stack k b h le size closes still =
     let all = unclosed_all (xs ++ e ∷ []) x still in
     let same : drop x (xs ++ e ∷ []) ≡ drop x xs ++ e ∷ [] = drop-append-le x xs (e ∷ []) le in
     let all' : close_marks (drop x xs ++ e ∷ []) ≤ open_marks (drop x xs ++ e ∷ []) = subst (λ ys. close_marks ys ≤ open_marks ys) same all in
-    let above = h.above in
     let o = openings_one e false (ap is_opening closes) in
     let c = closings_one e true (ap is_closing closes) in
     let os = openings-append (drop x xs) (e ∷ []) in
@@ -342,7 +332,6 @@ scopes_closing never xs e blocks ends below k top under a size last closes =
     elim (pushed_cases below top k b on) [
       | inl before ↦ (k, b, before, begins)
       | inr (at_end, is_top) ↦ absurd (ended (
-          let x_there = ending.there in
           let start_is : suc place ≡ ending.start = let at = subst (λ m. slice_get a.starts m ≡ Some (suc place)) (sym is_top) begins in cc in
           subst (λ x. IsUnclosed (xs ++ e ∷ []) x) start_is still.unclosed))
     ] in

@@ -1,5 +1,5 @@
 -- The pairs that a `$d` adds.
-use Rattle.std.proofs.Common.{◌≡◌, ℕ, zero, suc, ◌+◌, ◌<◌, ◌≤◌, ◌⊎◌, inl, inr, ◌↔◌, Bool, true, false, IsTrue, take, List, [], ◌∷◌, ◌++◌, map, length, Contains, Some, refl, sym, ap, ◌∙◌, subst, arith}
+use Rattle.std.proofs.Common.{◌≡◌, ℕ, ◌+◌, ◌<◌, ◌≤◌, ◌⊎◌, inl, inr, ◌↔◌, Bool, true, false, IsTrue, take, List, [], ◌∷◌, ◌++◌, map, length, Contains, Some, refl, sym, ap, ◌∙◌, subst, arith}
 use Rattle.std.specs.List.{slice_get}
 use Rattle.std.specs.Bool.{if◌then◌else◌}
 use Rattle.std.proofs.lemmas.Option.{slice_get_within}
@@ -15,17 +15,17 @@ use Rattle.mm_frame.specs.declared.rule.MeaningRule.TheVariants.{M9}
 use Rattle.mm_frame.specs.Mirror.Stated.{Stated}
 use Rattle.mm_frame.specs.Mirror.Separated.{ordered_pair, stated_at, IsOld, IsFresh, IsPassed, ArePaired}
 use Rattle.mm_text.proofs.Lists.{get_kept, get_pushed, pushed_cases}
-use Rattle.mm_frame.proofs.NameLists.{get_mapped, get_unmapped}
+use Rattle.mm_frame.proofs.NameLists.{get_mapped, get_unmapped, member_name, name_member}
 use Rattle.mm_text.proofs.Lists.{at_from_contains, contains_from_at}
 use Rattle.mm_frame.proofs.Numbered.{At, StandOnce, once_pushed, symbols_unique}
 use Rattle.mm_frame.proofs.Repeats.{twice_some}
 use Rattle.mm_frame.proofs.Those.{distinct_other}
 use Rattle.mm_frame.proofs.DistinctAt.{AreNew}
 
-ordered_less : (a b : ℕ) → a < b → ordered_pair a b ≡ (a, b)
+pub ordered_less : (a b : ℕ) → a < b → ordered_pair a b ≡ (a, b)
 ordered_less a b lt = ap (λ c. if c then (a, b) else (b, a)) (lt-ltb a b lt)
 
-ordered_more : (a b : ℕ) → b ≤ a → ordered_pair a b ≡ (b, a)
+pub ordered_more : (a b : ℕ) → b ≤ a → ordered_pair a b ≡ (b, a)
 ordered_more a b le = ap (λ c. if c then (a, b) else (b, a)) (le-ltb a b le)
 
 -- a pair in order is of the same two numbers
@@ -121,8 +121,6 @@ paired_push st members i j a b pairs less at_j at_i fresh are = record {
               again u v passed e f
           | inr (same_b, same_a) ↦
               let e = stand i u b at_i (at_u ∙ ap (λ n. Some n) (sym (same_number b c same_b))) in
-              let f = stand j v a at_j (at_v ∙ ap (λ n. Some n) (sym (same_number a d same_a))) in
-              let h = passed.0 in
               omega arith
         ]
       where
@@ -147,31 +145,6 @@ is_fresh st a b n r all says fails x y at_x at_y distinct =
     (subst (λ ys. IsDistinct ys x y) (sym whole) distinct) in
     absurd (cc)
 
--- the name of a member with one of some numbers, and the number of a symbol
-pub member_name : (names : List (List ℕ)) (members : List Sym) (symbols : List (List ℕ)) (u : ℕ) (a : Sym) → map (slice_get names) (map (λ n. n.0) members) ≡ map Some symbols → slice_get members u ≡ Some a
-    → (x : List ℕ) × (slice_get symbols u ≡ Some x) × (slice_get names a.0 ≡ Some x)
-member_name names (m ∷ members) (x ∷ symbols) zero a are there =
-    let same : m ≡ a = cc in
-    let here : slice_get names m.0 ≡ Some x = cc in
-    (x, refl, subst (λ (k : Sym). slice_get names k.0 ≡ Some x) same here)
-member_name names (m ∷ members) (x ∷ symbols) (suc u) a are there =
-    let rest : map (slice_get names) (map (λ n. n.0) members) ≡ map Some symbols = cc in
-    member_name names members symbols u a rest there
-member_name names members symbols u a are there = absurd cc
-
-pub name_member : (names : List (List ℕ)) (members : List Sym) (symbols : List (List ℕ)) (u : ℕ)
-    (x : List ℕ) → map (slice_get names) (map (λ n. n.0) members) ≡ map Some symbols
-    → slice_get symbols u ≡ Some x
-    → (a : Sym) × (slice_get members u ≡ Some a) × (slice_get names a.0 ≡ Some x)
-name_member names members [] u x are there = absurd (cc)
-name_member names [] (y ∷ symbols) u x are there = absurd (cc)
-name_member names (m ∷ members) (y ∷ symbols) zero x are there =
-    let here : slice_get names m.0 ≡ Some y = cc in
-    (m, refl, here ∙ there)
-name_member names (m ∷ members) (y ∷ symbols) (suc u) x are there =
-    let rest : map (slice_get names) (map (λ n. n.0) members) ≡ map Some symbols = cc in
-    name_member names members symbols u x rest there
-
 -- no member of a `$d` that breaks no rule stands twice
 members_once : (st : List Sentence) (s : Sentence) (members : List Sym) → s.kind ≡ Distinct → IsMeant st s → AreNumbers st (map (λ n. n.0) members) s.symbols → StandOnce members
 members_once st s members kind meant numbers u v a at_u at_v =
@@ -179,11 +152,9 @@ members_once st s members kind meant numbers u v a at_u at_v =
     let (y, in_v, name_v) = member_name (symbols_of st) members s.symbols v a numbers at_v in
     let same : y ≡ x = cc in
     let in_v' : slice_get s.symbols v ≡ Some x = in_v ∙ ap (λ z. Some z) same in
-    elim (cases_order u v) [
-      | inl is ↦ is
-      | inr (inl before) ↦ absurd (meant M9 (kind, twice_some s x u v before in_u in_v'))
-      | inr (inr after) ↦ absurd (meant M9 (kind, twice_some s x v u after in_v' in_u))
-    ]
+    let no : ¬ (u < v) = λ before. meant M9 (kind, twice_some s x u v before in_u in_v') in
+    let none : ¬ (v < u) = λ after. meant M9 (kind, twice_some s x v u after in_v' in_u) in
+    omega arith
 
 -- a pair of members that weren't distinct, the one with the lesser number first
 abbrev IsAdded : List Sentence → Sentence → List (List ℕ) → ℕ × ℕ → Type 0
@@ -227,7 +198,6 @@ new_from_paired st s symbols members pairs all kind meant numbers are = record {
       let is_b : n.0 ≡ b = symbols_unique st n.0 b y n_name (subst (λ xs. slice_get xs b ≡ Some y) all at_b) in
       elim (cases_order u v) [
         | inl is ↦
-            let at = subst (λ k. slice_get members k ≡ Some m) is m_at in
             let same : m ≡ n = cc in
             let number = ap (λ (k : Sym). k.0) same in
             absurd (omega arith)

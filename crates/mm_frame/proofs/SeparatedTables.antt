@@ -1,7 +1,6 @@
 -- A book's lists once a `$d` is written.
 use Rattle.std.proofs.Common.{◌≡◌, ℕ, ◌+◌, ◌<◌, ◌≤◌, length, List, [], ◌∷◌, ◌++◌, map, Some, None, refl, sym, ap, ◌∙◌, subst, length-append, arith}
 use Rattle.std.specs.List.{slice_get, slice_range}
-use Rattle.std.proofs.lemmas.Option.{slice_get_within}
 use Rattle.std.proofs.lemmas.List.{append-nil}
 use Rattle.mm_text.specs.declared.statement.Kind.TheVariants.{Floating, Essential, Distinct, Closing}
 use Rattle.mm_text.specs.Files.{most_bytes}
@@ -12,22 +11,19 @@ use Rattle.mm_frame.specs.Rules.{IsMeant}
 use Rattle.mm_frame.specs.Form.{IsFormedSentence}
 use Rattle.mm_frame.specs.Numbers.{AreNumbers, declared_by, declared_in}
 use Rattle.mm_frame.specs.Mirror.ScopesOf.{HaveScopes}
-use Rattle.mm_frame.specs.Mirror.Layout.{AreTables, AreInfos, AreLabelInfos, AreEssentials, AreFrames, AreStated, names_by, statements_of}
+use Rattle.mm_frame.specs.Mirror.Layout.{AreTables, AreStated, names_by, statements_of}
 use Rattle.mm_frame.specs.Mirror.Grows.{Grows, HaveRoom, SameLists, entry_of}
 use Rattle.mm_frame.specs.Mirror.Stated.{PairTable}
-use Rattle.mm_frame.specs.Mirror.Separated.{ArePaired, EntersMembers, stated_at}
+use Rattle.mm_frame.specs.Mirror.Separated.{EntersMembers}
 use Rattle.mm_frame.proofs.Labels.{labels_none, essentials_other}
 use Rattle.mm_frame.proofs.Infos.{infos_other}
-use Rattle.mm_frame.proofs.Entries.{length-sentences}
 use Rattle.mm_frame.proofs.FrameLaws.{placed, frames_other}
-use Rattle.mm_frame.proofs.DistinctAt.{stated_push}
-use Rattle.mm_frame.proofs.WideAdded.{stated_wide}
-use Rattle.mm_frame.specs.declared.wide.WideDistinct.{WideDistinct}
-use Rattle.mm_frame.specs.Mirror.Wide.{IsNewWide}
-use Rattle.mm_frame.proofs.Separated.{member_name, new_from_paired}
 use Rattle.mm_frame.proofs.Written.{added_part, names_numbered, same_sentence}
 use Rattle.mm_frame.proofs.Typings.{typings_grow}
 use Rattle.mm_frame.proofs.Assembled.{AreAppended, AreGrown, assembled}
+use Rattle.mm_frame.proofs.NameLists.{numbers_within}
+use Rattle.mm_frame.proofs.Entries.{all_statements}
+use Rattle.mm_text.specs.declared.statement.Kind.{Kind}
 
 -- the lists with a `$d` of these members more
 pub record AreSeparated (t v : Tables) (members : List Sym) (size : ℕ) : Type 0 where
@@ -71,10 +67,8 @@ appended t v s members bytes tables are new =
       said = same_sentence s Distinct None _ (sym new.kind) (sym new.label)
           (ap (λ ns. names_by ns (slice_range flat (length t.flat.items) (length flat))) whole ∙ ap (names_by names) part ∙ names_numbered names members s.symbols numbers);
       within = record { ordered = omega arith; within = omega arith };
-      numbers = λ i n there.
-          let (x, in_it, at) = member_name names members s.symbols i n numbers there in
-          let lt = slice_get_within names n.0 x at in
-          subst (λ ns. n.0 < length ns) (sym whole) lt;
+      numbers = λ i n there. subst (λ ns. n.0 < length ns) (sym whole)
+          (numbers_within names members s.symbols numbers i n there);
       label = λ id is. absurd (cc);
     }
 
@@ -83,23 +77,26 @@ grown : (t v : Tables) (s : Sentence) (members : List Sym) (bytes : ℕ) → Are
     → AreStated (statements_of t ++ s ∷ []) t.symbols.names v.distinct.stated → AreGrown t v s
 grown t v s members bytes tables are new added =
     let st = statements_of t in
-    let size : length t.log.items ≡ length st = sym (length-sentences t.symbols.names t.labels.names t.flat.items t.log.items) in
     let declares : declared_by s ≡ [] = ap (λ k. declared_in k s.symbols) new.kind in
-    let types : ¬ (s.kind ≡ Floating) = λ is. absurd (let k = new.kind in cc) in
-    let supposes : ¬ (s.kind ≡ Essential) = λ is. absurd (let k = new.kind in cc) in
-    let closes : ¬ (s.kind ≡ Closing) = λ is. absurd (let k = new.kind in cc) in
-    let infos : AreInfos (st ++ s ∷ []) v.symbols.names v.infos.items = rw (are.symbols, are.infos) (infos_other st t.symbols.names t.infos.items s tables.infos declares types) in
-    let labels : AreLabelInfos (st ++ s ∷ []) v.labels.names v.named.items v.log.items = rw (are.labels, are.named, are.log) (labels_none st t.labels.names t.named.items t.log.items s _ tables.labels new.label refl size) in
-    let essentials : AreEssentials (st ++ s ∷ []) v.essentials.items = rw are.essentials (essentials_other st t.essentials.items s tables.essentials supposes closes) in
-    let others : AreFrames (st ++ s ∷ []) (t.hypotheses.items ++ []) (t.pairs.items ++ []) (t.pieces.items ++ []) t.named.items =
-    frames_other st s t.hypotheses.items [] t.pairs.items [] t.pieces.items [] t.named.items (placed st t.labels.names t.named.items t.log.items tables.labels) tables.frames in
-    let hypotheses : v.hypotheses.items ≡ t.hypotheses.items ++ [] = are.hypotheses ∙ sym (append-nil t.hypotheses.items) in
-    let distinct : v.pairs.items ≡ t.pairs.items ++ [] = are.pairs ∙ sym (append-nil t.pairs.items) in
-    let pieces : v.pieces.items ≡ t.pieces.items ++ [] = are.pieces ∙ sym (append-nil t.pieces.items) in
-    let frames : AreFrames (st ++ s ∷ []) v.hypotheses.items v.pairs.items v.pieces.items v.named.items = rw (hypotheses, distinct, pieces, are.named) others in
-    let stated : AreStated (st ++ s ∷ []) v.symbols.names v.distinct.stated = rw are.symbols added
-    in
-    record { infos = infos; labels = labels; scopes = are.scopes s new.kind; essentials = essentials; frames = frames; typed = rw are.hypotheses (typings_grow st (s ∷ []) t.hypotheses.items tables.typed); stated = stated }
+    let none : (kind : Kind) → ¬ (Distinct ≡ kind) → ¬ (s.kind ≡ kind) =
+    λ kind apart is. apart (sym new.kind ∙ is) in
+    let hypotheses = are.hypotheses ∙ sym (append-nil t.hypotheses.items) in
+    let pairs = are.pairs ∙ sym (append-nil t.pairs.items) in
+    let pieces = are.pieces ∙ sym (append-nil t.pieces.items) in
+    record {
+      infos = rw (are.symbols, are.infos) (infos_other st t.symbols.names t.infos.items s
+          tables.infos declares (none Floating (λ e. cc)));
+      labels = rw (are.labels, are.named, are.log) (labels_none st t.labels.names t.named.items
+          t.log.items s _ tables.labels new.label refl (sym (all_statements t)));
+      scopes = are.scopes s new.kind;
+      essentials = rw are.essentials (essentials_other st t.essentials.items s tables.essentials
+          (none Essential (λ e. cc)) (none Closing (λ e. cc)));
+      frames = rw (hypotheses, pairs, pieces, are.named) (frames_other st s t.hypotheses.items []
+          t.pairs.items [] t.pieces.items [] t.named.items
+          (placed st t.labels.names t.named.items t.log.items tables.labels) tables.frames);
+      typed = rw are.hypotheses (typings_grow st (s ∷ []) t.hypotheses.items tables.typed);
+      stated = rw are.symbols added;
+    }
 
 -- The lists hold the `$d`.
 pub separated : (t v : Tables) (s : Sentence) (members : List Sym) (bytes : ℕ) → AreTables t
@@ -140,30 +137,3 @@ separated_after t u v d members bytes tables same e =
       pieces = e.pieces ∙ same.pieces;
       bytes = e.counted ∙ ap (λ (n : ℕ). n + bytes) same.bytes;
     }
-
--- What is stated once the pairs of its members are.
-pub pairs_stated : (t : Tables) (s : Sentence) (members : List Sym) (pairs : List (ℕ × ℕ))
-    → AreTables t → IsNewDistinct t s members
-    → ArePaired (statements_of t) members (length members) 0 pairs
-    → AreStated (statements_of t ++ s ∷ []) t.symbols.names
-    (record {
-      pairs = t.distinct.stated.pairs ++ map (stated_at (length (statements_of t)))
-          pairs;
-      wide = t.distinct.stated.wide;
-    })
-pairs_stated t s members pairs tables new paired =
-    let st = statements_of t in
-    stated_push st s t.symbols.names t.distinct.stated (map (stated_at (length st)) pairs)
-    tables.infos.all tables.stated new.kind
-    (new_from_paired st s t.symbols.names members pairs tables.infos.all new.kind new.meant
-    new.numbered paired)
-
--- The same where its members are kept.
-pub members_stated : (t : Tables) (s : Sentence) (members : List Sym) (w : WideDistinct)
-    → AreTables t → IsNewDistinct t s members
-    → IsNewWide (statements_of t) t.distinct.stated.wide members w
-    → AreStated (statements_of t ++ s ∷ []) t.symbols.names
-    (record { pairs = t.distinct.stated.pairs; wide = t.distinct.stated.wide ++ w ∷ [] })
-members_stated t s members w tables new wide =
-    stated_wide (statements_of t) s t.symbols.names members t.distinct.stated w tables.infos.all
-    tables.stated new.kind new.numbered wide

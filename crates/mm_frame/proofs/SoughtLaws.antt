@@ -19,7 +19,7 @@ use Rattle.mm_frame.specs.Mirror.Layout.{AreInfos, IsKnown, IsDeclared, GivesTyp
 use Rattle.mm_frame.specs.Mirror.Sought.{IsOfNumber, IsSought, AreSought, HasNumbers}
 use Rattle.mm_frame.proofs.LookupLaws.{known_number, unknown, untyped, some_of_active, active_symbol, both_ways}
 use Rattle.mm_frame.proofs.NameLists.{map_snoc}
-use Rattle.mm_frame.proofs.Needed.{used_declared}
+use Rattle.mm_frame.proofs.Needed.{used_declared, declared_by_active}
 use Rattle.mm_text.proofs.Lists.{at_from_contains, contains_from_at}
 use Rattle.mm_frame.proofs.Places.{SomeAt, some_says}
 use Rattle.mm_text.proofs.Lists.{get_within, pushed_cases, take_next}
@@ -37,13 +37,13 @@ pub no_number : (st : List Sentence) (n : ℕ) (P : List ℕ → Type 0) (r : Bo
 no_number st n P r none is_false = ((λ t. absurd (cc)), (λ (y, there, p). absurd (cc)))
 
 -- what is known by a number
-pub number_info : (st : List Sentence) (names : List (List ℕ)) (infos : List SymbolInfo) (n : ℕ) (o : Option SymbolInfo) → AreInfos st names infos → o ≡ slice_get infos n
+pub number_info : {st : List Sentence} {names : List (List ℕ)} {infos : List SymbolInfo} (n : ℕ) (o : Option SymbolInfo) → AreInfos st names infos → o ≡ slice_get infos n
     → MatchOption o (slice_get (symbols_of st) n ≡ None) (λ info. (x : List ℕ) × IsNumberOf st x n × IsKnown st x info)
-number_info st names infos n (Some info) a is =
+number_info {st} {names} {infos} n (Some info) a is =
     let lt = slice_get_within infos n info (sym is) in
     let (x, there) = get_within names n (let e = a.informed in omega (arith, e)) in
     (x, subst (λ (ns : List (List ℕ)). slice_get ns n ≡ Some x) a.all there, known_number st names infos x n info a there (sym is))
-number_info st names infos n None a is =
+number_info {st} {names} {infos} n None a is =
     elim (slice_get_cases names n).1 as (λ _. slice_get (symbols_of st) n ≡ None) [
       | inl (x, lt, there, at) ↦ absurd (let (info, known) = get_within infos n (let e = a.informed in omega (arith, e)) in cc)
       | inr (le, none) ↦ subst (λ (ns : List (List ℕ)). slice_get ns n ≡ None) a.all none
@@ -77,12 +77,9 @@ constant_by_number st x n sought = same_by_number st (λ y. IsConstant st y) x n
 pub variable_by_number : (st : List Sentence) (x : List ℕ) (n : ℕ) → IsSought st x n → IsOfNumber st n (λ y. IsVariable st y) ↔ IsVariable st x
 variable_by_number st x n sought = same_by_number st (λ y. IsVariable st y) x n sought (λ missing v. missing (inr v))
 
-active_declared : (st : List Sentence) (x : List ℕ) → IsActiveSymbol st x → IsDeclared st x
-active_declared st x (p, s, there, active, inl c) = inl (p, s, there, c)
-active_declared st x (p, s, there, active, inr v) = inr (p, s, there, v)
-
 pub active_by_number : (st : List Sentence) (x : List ℕ) (n : ℕ) → IsSought st x n → IsOfNumber st n (λ y. IsActiveSymbol st y) ↔ IsActiveSymbol st x
-active_by_number st x n sought = same_by_number st (λ y. IsActiveSymbol st y) x n sought (λ missing a. missing (active_declared st x a))
+active_by_number st x n sought = same_by_number st (λ y. IsActiveSymbol st y) x n sought
+    (λ missing a. missing (declared_by_active st x a))
 
 pub typed_by_number : (st : List Sentence) (x : List ℕ) (n : ℕ) → AllMeant st → IsSought st x n → IsOfNumber st n (λ y. IsTyped st y) ↔ IsTyped st x
 typed_by_number st x n meant sought =

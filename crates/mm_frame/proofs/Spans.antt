@@ -1,13 +1,14 @@
 -- The spans of pairs, one after the other and linked.
-use Rattle.std.proofs.Common.{◌≡◌, ◌≢◌, ℕ, zero, suc, ◌+◌, ◌<◌, ◌≤◌, inl, inr, true, cond, ◌==◌, length, length-append, List, [], ◌∷◌, ◌++◌, map, Option, Some, None, refl, sym, ap, ◌∙◌, subst, arith}
+use Rattle.std.proofs.Common.{◌≡◌, ◌≢◌, ℕ, suc, ◌+◌, ◌<◌, ◌≤◌, inl, inr, true, cond, ◌==◌, length, length-append, List, [], ◌∷◌, ◌++◌, map, Option, Some, None, refl, sym, ap, ◌∙◌, subst, arith}
 use Rattle.std.specs.List.{slice_get}
-use Rattle.std.specs.Option.{option_and_then, option_map}
-use Rattle.std.proofs.lemmas.Option.{slice_get_within, slice_get-map}
+use Rattle.std.specs.Option.{option_and_then}
+use Rattle.std.proofs.lemmas.Option.{slice_get_within}
 use Rattle.std.proofs.lemmas.Bool.{cases_lt, cases_order, cases_Bool, and_parts, and_from, eqb-true, eq-eqb}
 use Rattle.std.specs.Map.{update}
 use Rattle.mm_frame.specs.declared.pairs.Span.{Span}
 use Rattle.mm_frame.specs.Mirror.Stated.{Stated, stated_by, IsLastSpan, IsLatestStated, AreOlder, AreLinked, is_same_key}
 use Rattle.mm_text.proofs.Lists.{get_kept, get_pushed, pushed_cases, get_before}
+use Rattle.mm_frame.proofs.NameLists.{get_mapped, get_unmapped}
 
 -- after so many steps from the newest span of a pair, the next one is the last of the first spans of the pair, and those after
 -- them stand at the place or later
@@ -21,19 +22,11 @@ left_first spans newest before = record {
   left = λ pair last. (length spans, omega arith, last, λ j span le there same. absurd (let lt = slice_get_within spans j span there in omega arith));
 }
 
--- the stated pair at a place is that of a span
-span_of : (spans : List Span) (j : ℕ) (other : Stated) → slice_get (map stated_by spans) j ≡ Some other → (span : Span) × (slice_get spans j ≡ Some span) × (stated_by span ≡ other)
-span_of [] j other there = absurd (cc)
-span_of (s ∷ spans) zero other there = (s, refl, cc)
-span_of (s ∷ spans) (suc j) other there = span_of spans j other there
-
-stated_at : (spans : List Span) (j : ℕ) (span : Span) → slice_get spans j ≡ Some span → slice_get (map stated_by spans) j ≡ Some (stated_by span)
-stated_at spans j span there = slice_get-map stated_by spans j ∙ ap (option_map stated_by) there
-
 -- the one further back
-pub left_next : (spans : List Span) (newest : Option ℕ) (k before steps : ℕ) (span : Span) → AreOlder spans → IsLeft spans newest (Some k) before steps → slice_get spans k ≡ Some span → before ≤ span.place
+pub step_next : (spans : List Span) (newest next : Option ℕ) (before steps : ℕ) (span : Span) → AreOlder spans → IsLeft spans newest next before steps → option_and_then (λ n. slice_get spans n) next ≡ Some span → before ≤ span.place
     → IsLeft spans newest span.older before (steps + 1)
-left_next spans newest k before steps span links is there late = record {
+step_next spans newest None before steps span links is found late = absurd cc
+step_next spans newest (Some k) before steps span links is there late = record {
   left = λ pair last.
       let (n, within, (lt, (s, at, same), after), done) = is.left pair last in
       let e : s ≡ span = cc in
@@ -56,7 +49,7 @@ left_next spans newest k before steps span links is there late = record {
 pub left_none : (spans : List Span) (newest : Option ℕ) (before steps : ℕ) → IsLeft spans newest None before steps → (pair : ℕ × ℕ) → IsLastSpan spans (length spans) pair newest → IsLatestStated (map stated_by spans) pair before None
 left_none spans newest before steps is pair last j other there same =
     let (n, within, none, done) = is.left pair last in
-    let (span, at, says) = span_of spans j other there in
+    let (span, at, says) = get_unmapped stated_by spans j other there in
     let pair_is : span.pair ≡ pair = ap (λ (t : Stated). t.pair) says ∙ same in
     let place_is : span.place ≡ other.place = ap (λ (t : Stated). t.place) says in
     elim (cases_lt j n) [
@@ -72,20 +65,21 @@ left_all spans newest (Some k) before is pair last =
     absurd (omega arith)
 
 -- the first one that stands before the place
-pub left_found : (spans : List Span) (newest : Option ℕ) (k before steps : ℕ) (span : Span) → IsLeft spans newest (Some k) before steps → slice_get spans k ≡ Some span → span.place < before
+pub step_found : (spans : List Span) (newest next : Option ℕ) (before steps : ℕ) (span : Span) → IsLeft spans newest next before steps → option_and_then (λ n. slice_get spans n) next ≡ Some span → span.place < before
     → (pair : ℕ × ℕ) → IsLastSpan spans (length spans) pair newest → IsLatestStated (map stated_by spans) pair before (Some span.place)
-left_found spans newest k before steps span is there early pair last =
+step_found spans newest None before steps span is found early pair last = absurd cc
+step_found spans newest (Some k) before steps span is there early pair last =
     let (n, within, (lt, (s, at, same), after), done) = is.left pair last in
     let e : s ≡ span = cc in
     let pair_is : span.pair ≡ pair = ap (λ (t : Span). t.pair) (sym e) ∙ same in (
       k,
       stated_by span,
-      stated_at spans k span there,
+      get_mapped stated_by spans k span there,
       pair_is,
       refl,
       early,
       λ j other more other_at other_is.
-          let (found, found_at, says) = span_of spans j other other_at in
+          let (found, found_at, says) = get_unmapped stated_by spans j other other_at in
           let found_is : found.pair ≡ pair = ap (λ (t : Stated). t.pair) says ∙ other_is in
           let place_is : found.place ≡ other.place = ap (λ (t : Stated). t.place) says in
           elim (cases_lt j n) [
@@ -94,23 +88,7 @@ left_found spans newest k before steps span is there early pair last =
           ],
     )
 
--- what a look-up by a number that there may be gives
-span_found : (spans : List Span) (next : Option ℕ) (span : Span) → option_and_then (λ n. slice_get spans n) next ≡ Some span → (k : ℕ) × (next ≡ Some k) × (slice_get spans k ≡ Some span)
-span_found spans None span found = absurd (cc)
-span_found spans (Some k) span found = (k, refl, found)
-
-pub step_next : (spans : List Span) (newest next : Option ℕ) (before steps : ℕ) (span : Span) → AreOlder spans → IsLeft spans newest next before steps → option_and_then (λ n. slice_get spans n) next ≡ Some span → before ≤ span.place
-    → IsLeft spans newest span.older before (steps + 1)
-step_next spans newest next before steps span links is found late =
-    let (k, at, there) = span_found spans next span found in
-    left_next spans newest k before steps span links (subst (λ o. IsLeft spans newest o before steps) at is) there late
-
-pub step_found : (spans : List Span) (newest next : Option ℕ) (before steps : ℕ) (span : Span) → IsLeft spans newest next before steps → option_and_then (λ n. slice_get spans n) next ≡ Some span → span.place < before
-    → (pair : ℕ × ℕ) → IsLastSpan spans (length spans) pair newest → IsLatestStated (map stated_by spans) pair before (Some span.place)
-step_found spans newest next before steps span is found early =
-    let (k, at, there) = span_found spans next span found in
-    left_found spans newest k before steps span (subst (λ o. IsLeft spans newest o before steps) at is) there early
-
+-- where a look-up by a number that there may be gives nothing, none stands before the place
 pub step_none : (spans : List Span) (newest next : Option ℕ) (before steps : ℕ) → IsLeft spans newest next before steps → option_and_then (λ n. slice_get spans n) next ≡ None
     → (pair : ℕ × ℕ) → IsLastSpan spans (length spans) pair newest → IsLatestStated (map stated_by spans) pair before None
 step_none spans newest None before steps is found pair last = left_none spans newest before steps is pair last

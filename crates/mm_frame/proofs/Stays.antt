@@ -3,12 +3,13 @@ use Rattle.std.proofs.Common.{◌≡◌, ℕ, suc, ◌<◌, false, length, take,
 use Rattle.std.proofs.lemmas.Option.{slice_get_within}
 use Rattle.std.proofs.lemmas.List.{take-append-le}
 use Rattle.mm_text.specs.declared.statement.Kind.{Kind}
-use Rattle.mm_text.specs.declared.statement.Kind.TheVariants.{Constants, Variables, Distinct, Floating, Essential, Axiom, Provable, Opening, Closing}
+use Rattle.mm_text.specs.declared.statement.Kind.TheVariants.{Closing}
 use Rattle.mm_frame.specs.Sentence.{Sentence}
 use Rattle.mm_frame.specs.Active.{IsOpen, Holds, IsActive}
 use Rattle.mm_text.specs.Blocks.{is_closing}
 use Rattle.mm_text.proofs.Lists.{get_kept, get_before}
 use Rattle.mm_frame.proofs.Counts.{openings-append, closings-append, unclosed_pushed, unclosed_before, unclosed_all}
+use Rattle.mm_frame.proofs.Counts.{open_in}
 use Rattle.mm_frame.proofs.ScopeLaws.{closings_one, length_pushed, all_taken}
 use Rattle.mm_frame.proofs.Actives.{holds_kept, holds_back}
 
@@ -17,10 +18,12 @@ not_closing Closing apart = absurd (apart refl)
 not_closing kind apart = refl
 
 -- the block that holds a statement holds it too where more statements are known
-holds_more : (st more : List Sentence) (p outer : ℕ) → p < length st → Holds st outer p → Holds (st ++ more) outer p
+pub holds_more : (st more : List Sentence) (p outer : ℕ) → p < length st → Holds st outer p
+    → Holds (st ++ more) outer p
 holds_more st more p outer lt (before, still) = (before, subst (λ ys. IsOpen ys outer) (sym (take-append-le (suc p) st more (omega arith))) still)
 
-holds_less : (st more : List Sentence) (p outer : ℕ) → p < length st → Holds (st ++ more) outer p → Holds st outer p
+pub holds_less : (st more : List Sentence) (p outer : ℕ) → p < length st → Holds (st ++ more) outer p
+    → Holds st outer p
 holds_less st more p outer lt (before, still) = (before, subst (λ ys. IsOpen ys outer) (take-append-le (suc p) st more (omega arith)) still)
 
 -- a block stays open until a `$}`
@@ -31,12 +34,8 @@ open_stays st e p other still =
     let os = openings-append (drop (suc p) st) (e ∷ []) in
     let cs = closings-append (drop (suc p) st) (e ∷ []) in
     let all = unclosed_all st (suc p) still.unclosed in
-    record {
-      opening = still.opening;
-      there = get_kept st (e ∷ []) p still.opening still.there;
-      opened = still.opened;
-      unclosed = unclosed_pushed st e (suc p) (omega arith) still.unclosed (omega arith);
-    }
+    open_in still (get_kept st (e ∷ []) p still.opening still.there)
+    (unclosed_pushed st e (suc p) (omega arith) still.unclosed (omega arith))
 
 -- the last statement is active
 pub active_last : (st : List Sentence) (e : Sentence) → IsActive (st ++ e ∷ []) (length st)
@@ -58,13 +57,8 @@ active_falls st more p lt active = record {
   within = lt;
   kept = λ outer holds.
       let still = active.kept outer (holds_more st more p outer lt holds) in
-      let before = holds.0 in
-      record {
-        opening = still.opening;
-        there = get_before st more outer still.opening (omega arith) still.there;
-        opened = still.opened;
-        unclosed = unclosed_before st more (suc outer) still.unclosed;
-      };
+      open_in still (get_before st more outer still.opening (omega arith) still.there)
+      (unclosed_before st more (suc outer) still.unclosed);
 }
 
 -- what is active where another statement stands, which is active, is active
@@ -73,6 +67,5 @@ active_nest st s p q s_before p_before at_p at_q = record {
   within = let lt = at_q.within in omega arith;
   kept = λ outer holds.
       let still = at_p.kept outer (holds_back st (suc p) s outer (omega arith) (holds_kept st q s outer (omega arith) holds)) in
-      let lt = holds.0 in
       at_q.kept outer (holds_back st q p outer p_before (omega arith, still));
 }

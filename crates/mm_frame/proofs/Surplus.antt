@@ -1,7 +1,7 @@
 -- Where there are more `${` than `$}`, some block is open.
 use Rattle.std.proofs.Common.{◌≡◌, ℕ, zero, suc, ◌+◌, ◌<◌, ◌≤◌, ◌⊎◌, inl, inr, Bool, true, false, cond, take, List, [], ◌∷◌, refl, arith}
 use Rattle.mm_text.specs.declared.statement.Kind.{Kind}
-use Rattle.mm_text.specs.declared.statement.Kind.TheVariants.{Constants, Variables, Distinct, Floating, Essential, Axiom, Provable, Opening, Closing}
+use Rattle.mm_text.specs.declared.statement.Kind.TheVariants.{Opening, Closing}
 use Rattle.mm_frame.specs.Sentence.{Sentence}
 use Rattle.mm_frame.specs.Active.{open_marks, close_marks, IsOpen}
 use Rattle.mm_text.specs.Blocks.{is_closing, is_opening}
@@ -43,7 +43,6 @@ fronts_step : (x : Sentence) (xs : List Sentence) (o c : Bool) (d k : ℕ) → i
 fronts_step x xs o c d k is_o is_c le within zero = omega arith
 fronts_step x xs o c d k is_o is_c le within (suc n) =
     let (os, cs) = counts x (take n xs) o c is_o is_c in
-    let h = within n in
     omega arith
 
 -- Either some block is open or no front has too many `$}`; and with more `${` than `$}` some block is open.

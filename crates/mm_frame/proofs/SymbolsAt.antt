@@ -12,6 +12,7 @@ use Rattle.mm_frame.specs.Mirror.Layout.{names_by, sentences_by, sentence_by, st
 use Rattle.mm_frame.specs.Mirror.Latest.{IsLatest}
 use Rattle.mm_frame.proofs.Entries.{sentence_at, get_sliced, length-sentences}
 use Rattle.mm_text.proofs.Lists.{get_within}
+use Rattle.mm_frame.proofs.NameLists.{name_member}
 
 -- numbers within are those of their names
 numbers_of_names : (names : List (List ℕ)) (numbers : List Sym) → ((i : ℕ) (n : Sym) → slice_get numbers i ≡ Some n → n.0 < length names)
@@ -31,7 +32,6 @@ pub numbers_at : (symbols labels : List (List ℕ)) (flat : List Sym) (log : Lis
     → slice_get (sentences_by symbols labels flat log) place ≡ Some s
     → AreNumbers (sentences_by symbols labels flat log) (map (λ n. n.0) part) s.symbols
 numbers_at symbols labels flat log place e s part all a there is said =
-    let st = sentences_by symbols labels flat log in
     let w = a.within place e there in
     let part_is : part ≡ slice_range flat e.symbols.start e.symbols.end = is w.ordered w.within in
     let same : Some (sentence_by symbols labels flat e) ≡ Some s = sym (sentence_at symbols labels flat log place e there) ∙ said in
@@ -43,12 +43,6 @@ numbers_at symbols labels flat log place e s part all a there is said =
     let whole = subst (λ (names : List (List ℕ)). map (slice_get names) (map (λ n. n.0) (slice_range flat e.symbols.start e.symbols.end)) ≡ map (λ x. Some x) (names_by symbols (slice_range flat e.symbols.start e.symbols.end))) all numbers in
     rw (part_is, ← xs) whole
 
--- the number of the first of some symbols
-pub first_number : (names : List (List ℕ)) (numbers : List Sym) (x : List ℕ) (xs : List (List ℕ)) → map (slice_get names) (map (λ n. n.0) numbers) ≡ map (λ y. Some y) (x ∷ xs)
-    → (a : Sym) × (slice_get numbers 0 ≡ Some a) × (slice_get names a.0 ≡ Some x)
-first_number names [] x xs e = absurd (cc)
-first_number names (a ∷ numbers) x xs e = (a, refl, cc)
-
 -- what a look-up of a name by the first number gives
 pub latest_code_says : (st : List Sentence) (names : List (List ℕ)) (numbers : List Sym) (x : List ℕ) (p : ℕ) (a : Sym) (text : Option (List ℕ)) → names ≡ symbols_of st
     → IsLatest (GivesType x) st p → ((s : Sentence) → slice_get st p ≡ Some s → AreNumbers st (map (λ n. n.0) numbers) s.symbols)
@@ -58,7 +52,7 @@ latest_code_says st names numbers x p a text all latest numbered first is =
     let (code, types) = latest.holds in
     let e = numbered f latest.there in
     let whole : map (slice_get (symbols_of st)) (map (λ n. n.0) numbers) ≡ map (λ y. Some y) (code ∷ x ∷ []) = e ∙ ap (λ ys. map (λ y. Some y) ys) types.1 in
-    let (b, at, named) = first_number (symbols_of st) numbers code (x ∷ []) whole in
+    let (b, at, named) = name_member (symbols_of st) numbers (code ∷ x ∷ []) 0 code whole refl in
     let joined : Some a ≡ Some b = sym first ∙ at in
     let same : a ≡ b = cc in
     (code, rw (is, all, same) named, (p, f, latest.there, types))
@@ -70,7 +64,7 @@ no_first st numbers x p latest numbered first =
     let (code, types) = latest.holds in
     let e = numbered latest.statement latest.there in
     let whole : map (slice_get (symbols_of st)) (map (λ n. n.0) numbers) ≡ map (λ y. Some y) (code ∷ x ∷ []) = e ∙ ap (λ ys. map (λ y. Some y) ys) types.1 in
-    let (b, at, named) = first_number (symbols_of st) numbers code (x ∷ []) whole in
+    let (b, at, named) = name_member (symbols_of st) numbers (code ∷ x ∷ []) 0 code whole refl in
     let bad : None ≡ Some b = sym first ∙ at in
     absurd (cc)
 

@@ -6,6 +6,7 @@ use Rattle.mm_frame.specs.Sentence.{Sentence}
 use Rattle.mm_frame.specs.Frame.{AreThose, AreMandatory, IsMandatoryAt, IsDistinct}
 use Rattle.mm_text.proofs.Lists.{at_from_contains, contains_from_at}
 use Rattle.mm_frame.proofs.Numbered.{At}
+use Rattle.std.proofs.lemmas.List.{length-drop}
 
 -- there is one list of those only
 pub those_unique : {X : Type 0} (P : ℕ → X → Type 0) (n : ℕ) (xs ys zs : List X) → AreThose P n xs ys → AreThose P n xs zs → ys ≡ zs
@@ -41,9 +42,7 @@ rest_first (y ∷ whole) zero x xs e = (cc, cc)
 rest_first (y ∷ whole) (suc n) x xs e = rest_first whole n x xs e
 
 rest_none : {X : Type 0} (whole : List X) (n : ℕ) → drop n whole ≡ [] → length whole ≤ n
-rest_none [] n e = omega arith
-rest_none (y ∷ whole) zero e = absurd (cc)
-rest_none (y ∷ whole) (suc n) e = let h = rest_none whole n e in omega arith
+rest_none whole n e = omega (arith, length-drop n whole, ap length e)
 
 -- places rise, lie from a place on within the list, and are those where P holds
 record AreAll {X : Type 0} (P : ℕ → X → Type 0) (whole : List X) (n : ℕ) (places : List ℕ) : Type 0 where

@@ -6,7 +6,7 @@ use Rattle.mm_text.specs.declared.statement.Kind.TheVariants.{Floating}
 use Rattle.mm_frame.specs.declared.hypothesis.Hypothesis.{Hypothesis}
 use Rattle.mm_frame.specs.declared.number.Sym.{Sym}
 use Rattle.mm_frame.specs.Sentence.{Sentence, IsHypothesis}
-use Rattle.mm_frame.specs.Form.{AllFormed}
+use Rattle.mm_frame.specs.Form.{AllFormed, IsFormedSentence}
 use Rattle.mm_frame.specs.Numbers.{labelled_sentences, AreNumbers, IsNumberOf}
 use Rattle.mm_frame.specs.FramePlace.{IsTypingOf, HasTyping, HaveTypings}
 use Rattle.mm_frame.specs.Mirror.Gathered.{ArePlaces}
@@ -54,10 +54,10 @@ two_numbers : (st : List Sentence) (ns : List Sym) (code x : List ℕ) → AreNu
 two_numbers st (a ∷ b ∷ []) code x are = (a, b, refl, cc, cc)
 two_numbers st ns code x are = absurd cc
 
-pub typing_says : (st : List Sentence) (place : ℕ) (f : Sentence) (ns : List Sym) → AllFormed st → slice_get st place ≡ Some f → f.kind ≡ Floating → AreNumbers st (map (λ n. n.0) ns) f.symbols
+pub typing_says : (st : List Sentence) (f : Sentence) (ns : List Sym) → IsFormedSentence f → f.kind ≡ Floating → AreNumbers st (map (λ n. n.0) ns) f.symbols
     → (a : Sym) × (b : Sym) × (ns ≡ a ∷ b ∷ []) × IsTypingOf st (Some (a, b)) f
-typing_says st place f ns formed there kind are =
-    let count : length f.symbols ≡ 2 = subst (λ k. FitsCount k (length f.symbols)) kind (formed place f there).count in
+typing_says st f ns formed kind are =
+    let count : length f.symbols ≡ 2 = subst (λ k. FitsCount k (length f.symbols)) kind formed.count in
     let (code, x, parts) = two_parts f.symbols count in
     let (a, b, is, first, second) = two_numbers st ns code x (subst (AreNumbers st (map (λ n. n.0) ns)) parts are) in
     (a, b, is, (code, x, (kind, parts), first, second))

@@ -1,13 +1,14 @@
 -- Statements that used symbols, and what they say by numbers.
-use Rattle.std.proofs.Common.{◌≡◌, ℕ, ◌+◌, ◌≤◌, inl, inr, length, List, map, Option, Some, None, Result, refl, sym, ap, ◌∙◌, subst, arith}
-use Rattle.std.specs.List.{slice_get}
+use Rattle.std.proofs.Common.{◌≡◌, ℕ, ◌+◌, ◌≤◌, inl, inr, length, List, map, Option, Some, None, Result, refl, sym, ap, subst, arith}
+use Rattle.std.proofs.Common.{◌∷◌, []}
+use Rattle.std.specs.List.{slice_get, AllByRecursion, sum_by}
 use Rattle.std.specs.Option.{option_map}
 use Rattle.std.specs.Result.{IfOk}
 use Rattle.std.proofs.lemmas.Result.{IfOk-weaker}
 use Rattle.std.proofs.lemmas.List.{length-map}
 use Rattle.mm_text.specs.declared.token.Token.{Token}
 use Rattle.mm_text.specs.declared.statement.Kind.{Kind}
-use Rattle.mm_text.specs.declared.statement.Kind.TheVariants.{Constants, Variables, Distinct, Floating, Essential, Axiom, Provable, Opening, Closing}
+use Rattle.mm_text.specs.declared.statement.Kind.TheVariants.{Distinct, Floating, Essential, Axiom, Provable}
 use Rattle.mm_text.specs.declared.statement.Statement.{Statement}
 use Rattle.mm_text.specs.Token.{PlainToken, plain_token}
 use Rattle.mm_text.specs.Statement.{PlainStatement, plain_statement, FitsCount, HasLabel, HasForm, bytes_in}
@@ -22,18 +23,27 @@ use Rattle.mm_frame.specs.Numbers.{symbols_of, AreNumbers}
 use Rattle.mm_frame.specs.Mirror.Layout.{statements_of}
 use Rattle.mm_frame.specs.Taken.{TakenAs}
 use Rattle.mm_frame.specs.Mirror.Grows.{Grows}
-use Rattle.mm_frame.proofs.Declared.{bytes_enough}
+use Rattle.std.proofs.lemmas.List.Sums.{sum_by-cons}
+use Rattle.mm_text.proofs.Lists.{same_length}
 
--- there are as many numbers as symbols
-pub numbers_length : (st : List Sentence) (numbers : List Sym) (symbols : List (List ℕ)) → AreNumbers st (map (λ n. n.0) numbers) symbols → length numbers ≡ length symbols
-numbers_length st numbers symbols are =
-    sym (length-map (map (λ (n : Sym). n.0) numbers) (slice_get (symbols_of st)) ∙ length-map numbers (λ (n : Sym). n.0)) ∙ ap length are ∙ length-map symbols (λ x. Some x)
+-- each symbol has a byte
+symbols_small : (tokens : List PlainToken) → AllByRecursion (λ t. 1 ≤ length t.text) tokens → length tokens ≤ sum_by (λ (t : PlainToken). length t.text) tokens
+symbols_small [] all = omega arith
+symbols_small (t ∷ tokens) (one, all) =
+    let rest = symbols_small tokens all in
+    let sum = sum_by-cons (λ (t : PlainToken). length t.text) t tokens in
+    omega arith
 
+pub bytes_enough : (p : PlainStatement) → HasForm p → 1 + length p.symbols ≤ bytes_in p
+bytes_enough p form = let small = symbols_small p.symbols form.symbols in let first = form.first in omega arith
+
+-- the bytes are more than the numbers
 pub numbers_enough : (st : List Sentence) (s : Statement) (numbers : List Sym) (bytes : ℕ) → AreNumbers st (map (λ n. n.0) numbers) (sentence_in s).symbols → HasForm (plain_statement s)
     → bytes ≡ bytes_in (plain_statement s) → 1 + length numbers ≤ bytes
 numbers_enough st s numbers bytes are form counted =
     let enough = bytes_enough (plain_statement s) form in
-    let size = numbers_length st numbers (sentence_in s).symbols are in
+    let size = same_length (slice_get (symbols_of st)) Some _ (sentence_in s).symbols are in
+    let all = length-map numbers (λ (n : Sym). n.0) in
     let texts = length-map (map plain_token s.symbols.items) (λ (t : PlainToken). t.text) in
     omega arith
 
@@ -77,9 +87,6 @@ pub labelled_use : {E : Type 0} (r : Result Taken E) (t v : Tables) (s : Stateme
 labelled_use r t v s label numbers bytes is are meant form ok = IfOk-weaker r _ _
     (λ taken (said_as, grows). (grows (sentence_in s) refl (label_said s label is) are meant (formed_said (plain_statement s) form), said_as)) ok
 
-taken_distinct : (st : List Sentence) (kind : Kind) (taken : Taken) → kind ≡ Distinct → taken ≡ Declared → TakenAs st kind taken
-taken_distinct st kind taken is said_as = subst (λ k. TakenAs st k taken) (sym is) said_as
-
 pub unlabelled_uses : {E : Type 0} (r : Result Taken E) (t v : Tables) (s : Statement) (numbers : List Sym) (bytes : ℕ) → s.label ≡ None → IsUse s.kind
     → AreNumbers (statements_of t) (map (λ n. n.0) numbers) (sentence_in s).symbols → IsMeant (statements_of t) (sentence_in s) → HasForm (plain_statement s)
     → IfOk r (λ taken. (taken ≡ Declared) × GrowsBy t v Distinct None numbers bytes)
@@ -90,5 +97,5 @@ unlabelled_uses r t v s numbers bytes none used are meant form ok =
     IfOk-weaker r _ _
     (λ taken (said_as, grows). (
       grows (sentence_in s) is (ap (option_map (λ (t : PlainToken). t.text)) bare) are meant (formed_said (plain_statement s) form),
-      taken_distinct (statements_of t) s.kind taken is said_as,
+      subst (λ k. TakenAs (statements_of t) k taken) (sym is) said_as,
     )) ok

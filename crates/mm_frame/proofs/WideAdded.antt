@@ -1,5 +1,5 @@
 -- A new `$d` of many variables, as it is kept.
-use Rattle.std.proofs.Common.{◌≡◌, ℕ, suc, ◌+◌, ◌<◌, ◌≤◌, inl, inr, length, take, List, [], ◌∷◌, ◌++◌, map, Contains, Some, sym, ap, ◌∙◌, subst, arith}
+use Rattle.std.proofs.Common.{◌≡◌, ℕ, ◌<◌, ◌≤◌, inl, inr, length, take, List, [], ◌∷◌, ◌++◌, map, Contains, Some, sym, ap, ◌∙◌, subst, arith}
 use Rattle.std.specs.List.{slice_get}
 use Rattle.std.proofs.lemmas.List.Sorted.{IsPermutation-sym, Contains-permutation}
 use Rattle.std.proofs.lemmas.List.{take-append-le}
@@ -15,13 +15,12 @@ use Rattle.mm_frame.specs.Mirror.Stated.{AllStated}
 use Rattle.mm_frame.specs.Mirror.Layout.{AreStated}
 use Rattle.mm_frame.specs.Mirror.Wide.{IsWide, AreWide, IsNewWide}
 use Rattle.mm_text.proofs.Lists.{get_kept, get_pushed, pushed_cases, get_before}
-use Rattle.mm_frame.proofs.NameLists.{get_mapped, get_unmapped}
 use Rattle.mm_text.proofs.Lists.{at_from_contains, contains_from_at}
 use Rattle.mm_frame.proofs.Numbered.{symbols_unique}
-use Rattle.mm_frame.proofs.ScopeLaws.{all_taken}
 use Rattle.mm_frame.proofs.Stays.{active_last}
 use Rattle.mm_frame.proofs.DistinctAt.{stated_more}
-use Rattle.mm_frame.proofs.Separated.{member_name, name_member}
+use Rattle.mm_frame.proofs.NameLists.{get_mapped, get_unmapped, member_name, name_member}
+use Rattle.mm_frame.proofs.ScopeLaws.{taken_at}
 
 -- what is kept of a new `$d` is right
 wide_new : (st : List Sentence) (s : Sentence) (symbols : List (List ℕ)) (members : List Sym)
@@ -83,7 +82,6 @@ wide_push st s symbols members wide w all kind numbers kept before new = record 
         let le_w : w.older ≤ k = subst (λ (x : WideDistinct). x.older ≤ k) (sym same) le in
         let front : take w.place (st ++ s ∷ []) ≡ st = ap (λ n. take n (st ++ s ∷ [])) new.place
         ∙ take-append-le (length st) st (s ∷ []) (omega arith) ∙ take-length st in
-        let place = new.place in
         subst (λ (x : WideDistinct). (u.place < x.place)
         × ¬ (IsActive (take x.place (st ++ s ∷ [])) u.place)) same
         (omega arith, subst (λ ys. ¬ (IsActive ys u.place)) (sym front) (new.passed k u le_w at))
@@ -101,9 +99,6 @@ unfolding wide_new
 stated_wide st s symbols members stated w all are kind numbers new =
     let kept = stated_more st s symbols stated are in
     let is = wide_new st s symbols members stated.wide w all kind numbers new in
-    let next : length st + 1 ≡ suc (length st) = omega arith in
-    let pushed : take (length st + 1) (st ++ s ∷ []) ≡ st ++ s ∷ [] =
-    ap (λ n. take n (st ++ s ∷ [])) next ∙ all_taken st s in
     record {
       only = kept.only;
       each = λ place a b d x y there kinds at_a at_b lt in_x in_y. elim
@@ -116,7 +111,6 @@ stated_wide st s symbols members stated w all are kind numbers new =
             | inr (last, same) ↦
                 let in_x' = subst (λ (t : Sentence). Contains t.symbols x) (sym same) in_x in
                 let in_y' = subst (λ (t : Sentence). Contains t.symbols y) (sym same) in_y in
-                let place_is = new.place in
                 inr (
                   length stated.wide,
                   w,
@@ -124,9 +118,8 @@ stated_wide st s symbols members stated w all are kind numbers new =
                   is.each a x at_a in_x',
                   is.each b y at_b in_y',
                   omega arith,
-                  subst (λ n. IsActive (take (n + 1) (st ++ s ∷ [])) w.place) (sym last)
-                      (subst (λ ys. IsActive ys w.place) (sym pushed)
-                      (subst (IsActive (st ++ s ∷ [])) (sym new.place) (active_last st s))),
+                  subst (λ ys. IsActive ys w.place) (sym (taken_at st s place last))
+                      (subst (IsActive (st ++ s ∷ [])) (sym new.place) (active_last st s)),
                 )
           ];
       apart = kept.apart;

@@ -1,8 +1,9 @@
 -- The `$d` of many variables that are kept as they are written.
 use Rattle.std.proofs.Common.{◌≡◌, ◌≢◌, ℕ, zero, suc, ◌-◌, ◌<◌, ◌≤◌, inl, inr, length, take, get_or, List, [], ◌∷◌, ◌++◌, Contains, Some, refl, sym, ap, ◌∙◌, subst, arith}
+use Rattle.std.proofs.Common.{◌+◌}
 use Rattle.std.specs.List.{slice_get}
 use Rattle.std.proofs.lemmas.Bool.{cases_lt}
-use Rattle.std.proofs.lemmas.List.{take-append-le, length-take-le}
+use Rattle.std.proofs.lemmas.List.{take-append-le, length-take-le, take-take}
 use Rattle.std.proofs.Math.Seq.{take-length}
 use Rattle.std.proofs.lemmas.Option.{slice_get_within, slice_get_read}
 use Rattle.mm_text.specs.declared.statement.Kind.TheVariants.{Distinct}
@@ -13,7 +14,6 @@ use Rattle.mm_frame.specs.Frame.{IsDistinct}
 use Rattle.mm_frame.specs.Numbers.{symbols_of}
 use Rattle.mm_frame.specs.Mirror.Wide.{AreWide, HoldsPair, IsHeld, NoneFrom}
 use Rattle.mm_text.proofs.Lists.{get_kept, get_in_front}
-use Rattle.mm_frame.proofs.Actives.{fronts}
 use Rattle.mm_frame.proofs.Meant.{active_in_front}
 use Rattle.mm_frame.proofs.Numbered.{symbols_unique}
 
@@ -22,9 +22,9 @@ positive zero apart = absurd (apart refl)
 positive (suc n) apart = omega arith
 
 -- the last of the first so many, as it is read
-pub wide_at : (wide read : List WideDistinct) (n : ℕ) (w : WideDistinct) → read ≡ wide → 0 < n
-    → n ≤ length wide → w ≡ get_or read (n - 1) w → slice_get wide (n - 1) ≡ Some w
-wide_at wide read n w same some within is =
+pub wide_at : (wide read : List WideDistinct) (n m : ℕ) (w : WideDistinct) → read ≡ wide → n ≢ 0
+    → n + m ≤ length wide → w ≡ get_or read (n - 1) w → slice_get wide (n - 1) ≡ Some w
+wide_at wide read n m w same apart within is =
     slice_get_read wide (length wide) (n - 1) w refl (omega arith)
     (is ∙ ap (λ xs. get_or xs (n - 1) w) same)
 
@@ -54,7 +54,7 @@ pub active_shorter : (st : List Sentence) (k n q : ℕ) → k < n → n ≤ q �
     → IsActive (take q st) k → IsActive (take n st) k
 active_shorter st k n q lt le within active =
     let size = length-take-le q st within in
-    subst (λ ys. IsActive ys k) (fronts st n q le)
+    subst (λ ys. IsActive ys k) (take-take n q st le)
     (active_in_front (take q st) k n lt (omega arith) active)
 
 -- one that stands before a place passes none that is active there
@@ -86,11 +86,10 @@ pub active_next : (st : List Sentence) (symbols : List (List ℕ)) (wide : List 
 active_next st symbols wide n w are some there other none =
     let is = are.each (n - 1) w there in
     let lt = slice_get_within st w.place is.d is.there in
-    let whole : take (length st) st ≡ st = take-length st in
     none_older (λ v. IsActive st v.place) wide (n - 1) w.older
     (λ k v le less at active. passes_none st symbols wide (n - 1) k (length st) w v are there at le
     less lt
-    (omega arith) (subst (λ ys. IsActive ys v.place) (sym whole) active))
+    (omega arith) (subst (λ ys. IsActive ys v.place) (sym (take-length st)) active))
     (none_next (λ v. IsActive st v.place) wide n w some there other none)
 
 -- the members of one that is active are distinct

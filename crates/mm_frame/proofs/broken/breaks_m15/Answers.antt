@@ -1,10 +1,8 @@
-use Rattle.std.proofs.Common.{rules, ℕ, List, inr}
+use Rattle.std.proofs.Common.{rules, inr}
 use Rattle.std.proofs.lemmas.Iterator.{YieldsList-from_slice}
 use borrow.Author.Tests.{tests}
 use Rattle.mm_frame.specs.Mirror.Layout.{statements_of}
 use Rattle.mm_frame.specs.Sentence.{sentence_in}
-use Rattle.mm_frame.specs.Active.{IsVariable, IsTyped}
-use Rattle.mm_frame.specs.Mirror.Sought.{IsOfNumber}
 use Rattle.mm_frame.proofs.Symbols.{with_test}
 use Rattle.mm_frame.proofs.SoughtLaws.{number_says, variable_by_number, typed_by_number, neither, both}
 use Rattle.mm_frame.proofs.broken.breaks_m15.Goals as goal
@@ -13,8 +11,6 @@ pub returns-then-is_stated : goal.returns-then-is_stated
 returns-then-is_stated c =
     let before = statements_of c.args.tables.now in
     let stated = c.is_stated.ensures.0 c.if-is_stated.true in
-    let P : List ℕ → Type 0 = λ x. IsVariable before x × ¬ (IsTyped before x) in
-    let Q : ℕ → Type 0 = λ n. IsOfNumber before n (λ x. IsVariable before x) × ¬ (IsOfNumber before n (λ x. IsTyped before x)) in
-    with_test _ stated (number_says before (sentence_in c.args.statement.now).symbols Q P _ _ _ c.any.ensures.ran (YieldsList-from_slice c.args.numbers.now cc)
+    with_test _ stated (number_says before (sentence_in c.args.statement.now).symbols _ _ _ _ _ c.any.ensures.ran (YieldsList-from_slice c.args.numbers.now cc)
     (c.requires.numbers.sought (inr (inr stated)))
     (λ x n sought. both (variable_by_number before x n sought) (neither (typed_by_number before x n c.requires.tables.sound.0 sought))) (λ n b q k. search (rules, tests)))

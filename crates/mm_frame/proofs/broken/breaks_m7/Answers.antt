@@ -1,10 +1,8 @@
-use Rattle.std.proofs.Common.{rules, ℕ, List}
+use Rattle.std.proofs.Common.{rules}
 use Rattle.std.proofs.lemmas.Iterator.{YieldsList-from_slice}
 use borrow.Author.Tests.{tests}
 use Rattle.mm_frame.specs.Mirror.Layout.{statements_of}
 use Rattle.mm_frame.specs.Sentence.{sentence_in}
-use Rattle.mm_frame.specs.Active.{IsActiveSymbol}
-use Rattle.mm_frame.specs.Mirror.Sought.{IsOfNumber}
 use Rattle.mm_frame.proofs.Symbols.{with_test}
 use Rattle.mm_frame.proofs.SoughtLaws.{number_says, active_by_number, neither}
 use Rattle.mm_frame.proofs.broken.breaks_m7.Goals as goal
@@ -13,7 +11,5 @@ pub returns-then-is_use : goal.returns-then-is_use
 returns-then-is_use c =
     let before = statements_of c.args.tables.now in
     let used = c.is_use.ensures.0 c.if-is_use.true in
-    let P : List ℕ → Type 0 = λ x. ¬ (IsActiveSymbol before x) in
-    let Q : ℕ → Type 0 = λ n. ¬ (IsOfNumber before n (λ x. IsActiveSymbol before x)) in
-    with_test _ used (number_says before (sentence_in c.args.statement.now).symbols Q P _ _ _ c.any.ensures.ran (YieldsList-from_slice c.args.numbers.now cc) (c.requires.numbers.sought used)
+    with_test _ used (number_says before (sentence_in c.args.statement.now).symbols _ _ _ _ _ c.any.ensures.ran (YieldsList-from_slice c.args.numbers.now cc) (c.requires.numbers.sought used)
     (λ x n sought. neither (active_by_number before x n sought)) (λ n b q k. search (rules, tests)))

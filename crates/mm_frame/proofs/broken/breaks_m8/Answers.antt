@@ -1,11 +1,9 @@
-use Rattle.std.proofs.Common.{rules, ◌≡◌, ℕ, List, inl}
+use Rattle.std.proofs.Common.{rules, ◌≡◌, inl}
 use Rattle.std.proofs.lemmas.Iterator.{YieldsList-from_slice}
 use borrow.Author.Tests.{tests}
 use Rattle.mm_text.specs.declared.statement.Kind.TheVariants.{Distinct}
 use Rattle.mm_frame.specs.Mirror.Layout.{statements_of}
 use Rattle.mm_frame.specs.Sentence.{sentence_in}
-use Rattle.mm_frame.specs.Active.{IsConstant}
-use Rattle.mm_frame.specs.Mirror.Sought.{IsOfNumber}
 use Rattle.mm_frame.proofs.Symbols.{with_test}
 use Rattle.mm_frame.proofs.SoughtLaws.{number_says, constant_by_number}
 use Rattle.mm_frame.proofs.broken.breaks_m8.Goals as goal
@@ -14,7 +12,5 @@ pub returns-then-eq : goal.returns-then-eq
 returns-then-eq c =
     let before = statements_of c.args.tables.now in
     let kind : c.args.statement.now.kind ≡ Distinct = search (rules, tests) in
-    let P : List ℕ → Type 0 = λ x. IsConstant before x in
-    let Q : ℕ → Type 0 = λ n. IsOfNumber before n (λ x. IsConstant before x) in
-    with_test _ kind (number_says before (sentence_in c.args.statement.now).symbols Q P _ _ _ c.any.ensures.ran (YieldsList-from_slice c.args.numbers.now cc) (c.requires.numbers.sought (inl kind))
+    with_test _ kind (number_says before (sentence_in c.args.statement.now).symbols _ _ _ _ _ c.any.ensures.ran (YieldsList-from_slice c.args.numbers.now cc) (c.requires.numbers.sought (inl kind))
     (λ x n sought. constant_by_number before x n sought) (λ n b q k. search (rules, tests)))

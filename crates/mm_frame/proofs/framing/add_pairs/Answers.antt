@@ -1,10 +1,10 @@
-use Rattle.std.proofs.Common.{◌≡◌, ◌+◌, ℕ, length, sym, ◌∙◌, ap, subst, arith}
+use Rattle.std.proofs.Common.{◌≡◌, ◌+◌, length, sym, ◌∙◌, ap, subst, arith}
 use Rattle.mm_frame.specs.Mirror.Layout.{statements_of}
 use Rattle.mm_frame.specs.Mirror.Gathered.{AreFound}
-use Rattle.mm_frame.proofs.Entries.{length-sentences}
 use Rattle.mm_frame.proofs.MandatoryPairs.{pairs_step, found_next}
 use Rattle.mm_frame.proofs.framing.add_pairs.Goals as goal
 use Rattle.mm_frame.proofs.framing.add_pairs.Goals.{then-is_distinct+in_ok-push, else-is_distinct}
+use Rattle.mm_frame.proofs.Entries.{all_statements}
 
 pub loop-other-preserved : goal.loop-other-preserved
 loop-other-preserved c places variables are same at_b first =
@@ -12,7 +12,7 @@ loop-other-preserved c places variables are same at_b first =
     let st = statements_of t in
     let others = c.args.others.now in
     let i = c.loop-other.other-index in
-    let all : c.len.result ≡ length st = omega (arith, length-sentences t.symbols.names t.labels.names t.flat.items t.log.items) in
+    let all : c.len.result ≡ length st = omega (arith, all_statements t) in
     let step = pairs_step st places variables others c.args.variable i c.len.result _ c.is_distinct.result c.loop-other.pairs.items are same at_b c.loop-other-test.true all c.is_distinct.ensures
     (c.loop-other.invariant places variables are same at_b first) in
     elim c.if-is_distinct.branch [
@@ -23,15 +23,9 @@ loop-other-preserved c places variables are same at_b first =
 
 pub returns : goal.returns
 returns c places variables are same at_b first =
-    let st = statements_of c.args.tables.now in
     let others = c.args.others.now in
-    let test = c.loop-other-test.false in
     let all : c.loop-other.other-index ≡ length others = omega (arith, c.loop-other.auto.other-index-end) in
-    found_next st variables (length others) c.loop-other.pairs.items
-    (subst (λ (n : ℕ). AreFound st variables (length others) n c.loop-other.pairs.items) all (c.loop-other.invariant places variables are same at_b first))
+    found_next _ _ _ _ (rw all at (c.loop-other.invariant places variables are same at_b first))
 
 pub is_distinct-requires-clause-within : goal.is_distinct-requires-clause-within
-is_distinct-requires-clause-within c =
-    let t = c.args.tables.now in
-    let size = length-sentences t.symbols.names t.labels.names t.flat.items t.log.items in
-    omega (arith, size)
+is_distinct-requires-clause-within c = omega (arith, all_statements c.args.tables.now)

@@ -24,5 +24,4 @@ loop-place-preserved c s are =
 
 pub returns : goal.returns
 returns c s are =
-    let st = statements_of c.args.tables.now in
-    subst (λ ps. AreThoseAt st ps c.loop-place.hypotheses.items) (take_all c.loop-place.place-index c.args.places.now c.loop-place-test.false) (c.loop-place.invariant s are)
+    rw (take_all _ _ c.loop-place-test.false) at (c.loop-place.invariant s are)

@@ -1,9 +1,7 @@
 use Rattle.std.proofs.Common.{rules}
-use Rattle.mm_frame.specs.Mirror.Layout.{statements_of}
 use Rattle.mm_frame.proofs.LookupLaws.{other_code}
 use Rattle.mm_frame.proofs.lookups.has_other_type.Goals as goal
 
 pub returns-in-Some : goal.returns-in-Some
-returns-in-Some c =
-    other_code (statements_of c.args.tables.now) c.args.variable.now c.args.code.now c.in-Some.other.now c.ne.result c.requires.sound.0
+returns-in-Some c = other_code _ _ _ c.in-Some.other.now _ c.requires.sound.0
     (rw c.in-Some.is at c.latest_code.ensures) (search rules)

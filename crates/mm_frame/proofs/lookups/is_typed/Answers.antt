@@ -3,9 +3,7 @@ use Rattle.mm_frame.proofs.LookupLaws.{typed_says, untyped, some_of_active}
 use Rattle.mm_frame.proofs.lookups.is_typed.Goals as goal
 
 pub returns-in-Some-floating : goal.returns-in-Some-floating
-returns-in-Some-floating c =
-    let t = c.args.tables.now in
-    typed_says (statements_of t) c.args.variable.now c.in-Some.info c.in-Some-floating.place c.is_active_now.result c.requires.sound.0
+returns-in-Some-floating c = typed_says _ _ c.in-Some.info _ _ c.requires.sound.0
     (rw c.in-Some.is at c.symbol_info.ensures) c.in-Some-floating.is c.is_active_now.ensures
 
 pub returns-in-None : goal.returns-in-None

@@ -7,28 +7,25 @@ use Rattle.mm_frame.proofs.lookups.latest_code.Goals as goal
 
 pub symbols_at-requires-clause-within : goal.symbols_at-requires-clause-within
 symbols_at-requires-clause-within c =
-    let t = c.args.tables.now in
-    let latest = known_latest (statements_of t) c.args.variable.now c.in-Some.info
-    c.in-Some-floating.place (rw c.in-Some.is at c.symbol_info.ensures) c.in-Some-floating.is in
-    entry_within t c.in-Some-floating.place latest.statement latest.there
+    let latest = known_latest _ c.args.variable.now c.in-Some.info _
+    (rw c.in-Some.is at c.symbol_info.ensures) c.in-Some-floating.is in
+    entry_within c.args.tables.now _ latest.statement latest.there
 
 pub returns-in-Some-at : goal.returns-in-Some-at
 returns-in-Some-at c =
-    let t = c.args.tables.now in
-    let st = statements_of t in
+    let st = statements_of c.args.tables.now in
     let x = c.args.variable.now in
-    let latest = known_latest st x c.in-Some.info c.in-Some-floating.place (rw c.in-Some.is at c.symbol_info.ensures) c.in-Some-floating.is in
+    let latest = known_latest st x c.in-Some.info _
+    (rw c.in-Some.is at c.symbol_info.ensures) c.in-Some-floating.is in
     code_match (λ text. text.now) _ (λ code. SomeSentence st (Types code x)) c.name.result
-    (latest_code_says st t.symbols.names c.symbols_at.result.now x c.in-Some-floating.place c.in-Some-at.code _ c.requires.infos.all latest c.symbols_at.ensures (search rules) c.name.ensures)
+    (latest_code_says st _ c.symbols_at.result.now x _ c.in-Some-at.code _ c.requires.infos.all
+    latest c.symbols_at.ensures (search rules) c.name.ensures)
 
 pub returns-in-None-at : goal.returns-in-None-at
 returns-in-None-at c =
-    let t = c.args.tables.now in
-    let st = statements_of t in
-    let x = c.args.variable.now in
-    let latest = known_latest st x c.in-Some.info c.in-Some-floating.place (rw c.in-Some.is at c.symbol_info.ensures) c.in-Some-floating.is in
-    absurd (no_first st c.symbols_at.result.now x c.in-Some-floating.place latest c.symbols_at.ensures (search rules))
+    let latest = known_latest _ c.args.variable.now c.in-Some.info _
+    (rw c.in-Some.is at c.symbol_info.ensures) c.in-Some-floating.is in
+    absurd (no_first _ c.symbols_at.result.now _ _ latest c.symbols_at.ensures (search rules))
 
 pub returns-in-None : goal.returns-in-None
-returns-in-None c =
-    untyped (statements_of c.args.tables.now) c.args.variable.now c.requires.sound.0 (rw c.in-None.is at c.symbol_info.ensures)
+returns-in-None c = untyped _ _ c.requires.sound.0 (rw c.in-None.is at c.symbol_info.ensures)

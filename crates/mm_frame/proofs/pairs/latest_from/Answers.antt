@@ -18,6 +18,5 @@ loop-preserved c =
 
 pub returns : goal.returns
 returns c =
-    let test = c.loop-test.false in
     let all : c.loop.counter ≡ length c.args.spans.now = omega (arith, c.loop.auto.counter-end) in
     left_all c.args.spans.now c.args.newest c.loop.next c.args.before (subst (λ (n : ℕ). IsLeft c.args.spans.now c.args.newest c.loop.next c.args.before n) all c.loop.invariant)

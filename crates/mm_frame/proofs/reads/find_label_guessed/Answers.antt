@@ -5,8 +5,7 @@ use Rattle.mm_frame.proofs.reads.find_label_guessed.Goals as goal
 
 pub returns-in-Some : goal.returns-in-Some
 returns-in-Some c =
-    let t = c.args.tables.now in
-    let (place, s, numbered, named) = labelled_at (statements_of t) t.labels.names t.named.items t.log.items c.in-Some.number c.args.label.now c.requires.labels
+    let (place, s, numbered, named) = labelled_at c.requires
     (rw c.in-Some.is at c.find_guessed.ensures) in
     c.find_number.ensures c.args.label.now place s numbered named
 
@@ -17,7 +16,6 @@ returns-in-None c some =
 
 pub find_number-requires-clause-known : goal.find_number-requires-clause-known
 find_number-requires-clause-known c =
-    let t = c.args.tables.now in
-    let (place, s, numbered, named) = labelled_at (statements_of t) t.labels.names t.named.items t.log.items c.in-Some.number c.args.label.now c.requires.labels
+    let (place, s, numbered, named) = labelled_at c.requires
     (rw c.in-Some.is at c.find_guessed.ensures) in
     (place, s, numbered)

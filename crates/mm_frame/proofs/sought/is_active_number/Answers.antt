@@ -4,41 +4,35 @@ use Rattle.mm_frame.specs.Sentence.{Declares}
 use Rattle.mm_frame.specs.Active.{IsActiveSymbol}
 use Rattle.mm_frame.specs.Mirror.Latest.{IsLatest}
 use Rattle.mm_frame.specs.Mirror.Layout.{statements_of}
-use Rattle.mm_frame.proofs.LookupLaws.{variable_says, has_constant, active_symbol, place_within}
+use Rattle.mm_frame.proofs.LookupLaws.{variable_says, has_constant, active_symbol}
 use Rattle.mm_frame.proofs.SoughtLaws.{of_number, no_number, number_info, active_variable}
 use Rattle.mm_frame.proofs.sought.is_active_number.Goals as goal
+use Rattle.std.proofs.lemmas.Option.{slice_get_within}
 
 pub returns-in-Some-variable : goal.returns-in-Some-variable
 returns-in-Some-variable c =
-    let t = c.args.tables.now in
-    let st = statements_of t in
-    let (x, is, known) = rw c.in-Some.is at (number_info st t.symbols.names t.infos.items c.args.symbol.0 c.info.result c.requires.infos c.info.ensures) in
+    let st = statements_of c.args.tables.now in
+    let (x, is, known) = rw c.in-Some.is at (number_info _ _ c.requires.infos c.info.ensures) in
     let other = rw c.in-Some-variable.is at (has_constant st x c.in-Some.info c.requires.sound.0 known) in
     let says = variable_says st x c.in-Some.info c.in-Some-variable.place c.is_active_now.result c.requires.sound.0 known c.in-Some-variable.is c.is_active_now.ensures in
     of_number st x c.args.symbol.0 (λ y. IsActiveSymbol st y) c.is_active_now.result is (active_variable st x c.is_active_now.result c.requires.sound.0 other says)
 
 pub returns-in-None-variable : goal.returns-in-None-variable
 returns-in-None-variable c =
-    let t = c.args.tables.now in
-    let st = statements_of t in
-    let (x, is, known) = rw c.in-Some.is at (number_info st t.symbols.names t.infos.items c.args.symbol.0 c.info.result c.requires.infos c.info.ensures) in
+    let st = statements_of c.args.tables.now in
+    let (x, is, known) = rw c.in-Some.is at (number_info _ _ c.requires.infos c.info.ensures) in
     let constant = rw c.in-None-variable.is at (has_constant st x c.in-Some.info c.requires.sound.0 known) in
     of_number st x c.args.symbol.0 (λ y. IsActiveSymbol st y) _ is ((λ t. (active_symbol st x c.requires.sound.0).1 (inl constant)), (λ a. refl))
 
 pub returns-in-None : goal.returns-in-None
 returns-in-None c =
-    let t = c.args.tables.now in
-    let st = statements_of t in
-    no_number st c.args.symbol.0 (λ y. IsActiveSymbol st y) _ (rw c.in-None.is at (number_info st t.symbols.names t.infos.items c.args.symbol.0 c.info.result c.requires.infos c.info.ensures)) refl
+    no_number _ _ _ _ (rw c.in-None.is at (number_info _ _ c.requires.infos c.info.ensures)) refl
 
 pub is_active_now-requires-clause-place : goal.is_active_now-requires-clause-place
 is_active_now-requires-clause-place c =
-    let t = c.args.tables.now in
-    let st = statements_of t in
-    let (x, is, known) = rw c.in-Some.is at
-    (number_info st t.symbols.names t.infos.items c.args.symbol.0 c.info.result c.requires.infos
-    c.info.ensures) in
+    let st = statements_of c.args.tables.now in
+    let (x, is, known) = rw c.in-Some.is at (number_info _ _ c.requires.infos c.info.ensures) in
     let place = c.in-Some-variable.place in
     let latest : IsLatest (Declares Variables x) st place = rw c.in-Some-variable.is at
     known.known.variable in
-    place_within st place latest.statement latest.there
+    slice_get_within st place latest.statement latest.there

@@ -7,13 +7,10 @@ use Rattle.mm_frame.proofs.sought.is_constant_number.Goals as goal
 
 pub returns-in-Some : goal.returns-in-Some
 returns-in-Some c =
-    let t = c.args.tables.now in
-    let st = statements_of t in
-    let (x, is, known) = rw c.in-Some.is at (number_info st t.symbols.names t.infos.items c.args.symbol.0 c.info.result c.requires.infos c.info.ensures) in
+    let st = statements_of c.args.tables.now in
+    let (x, is, known) = rw c.in-Some.is at (number_info _ _ c.requires.infos c.info.ensures) in
     of_number st x c.args.symbol.0 (λ y. IsConstant st y) c.is_none.result is (constant_says st x c.in-Some.info c.is_none.result c.requires.sound.0 known c.is_none.ensures)
 
 pub returns-in-None : goal.returns-in-None
 returns-in-None c =
-    let t = c.args.tables.now in
-    let st = statements_of t in
-    no_number st c.args.symbol.0 (λ y. IsConstant st y) _ (rw c.in-None.is at (number_info st t.symbols.names t.infos.items c.args.symbol.0 c.info.result c.requires.infos c.info.ensures)) refl
+    no_number _ _ _ _ (rw c.in-None.is at (number_info _ _ c.requires.infos c.info.ensures)) refl

@@ -1,39 +1,33 @@
 use Rattle.std.proofs.Common.{refl}
 use Rattle.mm_frame.specs.Active.{IsTyped}
 use Rattle.mm_frame.specs.Mirror.Layout.{statements_of, GivesType}
-use Rattle.mm_frame.proofs.LookupLaws.{typed_says, some_of_active, known_latest, place_within}
+use Rattle.mm_frame.proofs.LookupLaws.{typed_says, some_of_active, known_latest}
 use Rattle.mm_frame.proofs.SoughtLaws.{of_number, no_number, number_info}
 use Rattle.mm_frame.proofs.sought.is_typed_number.Goals as goal
+use Rattle.std.proofs.lemmas.Option.{slice_get_within}
 
 pub returns-in-Some-floating : goal.returns-in-Some-floating
 returns-in-Some-floating c =
-    let t = c.args.tables.now in
-    let st = statements_of t in
-    let (x, is, known) = rw c.in-Some.is at (number_info st t.symbols.names t.infos.items c.args.variable.0 c.info.result c.requires.infos c.info.ensures) in
+    let st = statements_of c.args.tables.now in
+    let (x, is, known) = rw c.in-Some.is at (number_info _ _ c.requires.infos c.info.ensures) in
     of_number st x c.args.variable.0 (λ y. IsTyped st y) c.is_active_now.result is
     (typed_says st x c.in-Some.info c.in-Some-floating.place c.is_active_now.result c.requires.sound.0 known c.in-Some-floating.is c.is_active_now.ensures)
 
 pub returns-in-None-floating : goal.returns-in-None-floating
 returns-in-None-floating c =
-    let t = c.args.tables.now in
-    let st = statements_of t in
-    let (x, is, known) = rw c.in-Some.is at (number_info st t.symbols.names t.infos.items c.args.variable.0 c.info.result c.requires.infos c.info.ensures) in
+    let st = statements_of c.args.tables.now in
+    let (x, is, known) = rw c.in-Some.is at (number_info _ _ c.requires.infos c.info.ensures) in
     let never = rw c.in-None-floating.is at known.known.floating in
     of_number st x c.args.variable.0 (λ y. IsTyped st y) _ is ((λ h. absurd (cc h)), (λ typed. absurd (never (some_of_active st (GivesType x) typed))))
 
 pub returns-in-None : goal.returns-in-None
 returns-in-None c =
-    let t = c.args.tables.now in
-    let st = statements_of t in
-    no_number st c.args.variable.0 (λ y. IsTyped st y) _ (rw c.in-None.is at (number_info st t.symbols.names t.infos.items c.args.variable.0 c.info.result c.requires.infos c.info.ensures)) refl
+    no_number _ _ _ _ (rw c.in-None.is at (number_info _ _ c.requires.infos c.info.ensures)) refl
 
 pub is_active_now-requires-clause-place : goal.is_active_now-requires-clause-place
 is_active_now-requires-clause-place c =
-    let t = c.args.tables.now in
-    let st = statements_of t in
-    let (x, is, known) = rw c.in-Some.is at
-    (number_info st t.symbols.names t.infos.items c.args.variable.0 c.info.result c.requires.infos
-    c.info.ensures) in
+    let st = statements_of c.args.tables.now in
+    let (x, is, known) = rw c.in-Some.is at (number_info _ _ c.requires.infos c.info.ensures) in
     let place = c.in-Some-floating.place in
     let latest = known_latest st x c.in-Some.info place known c.in-Some-floating.is in
-    place_within st place latest.statement latest.there
+    slice_get_within st place latest.statement latest.there

@@ -1,4 +1,3 @@
-use Rattle.mm_frame.specs.Mirror.Layout.{statements_of}
 use Rattle.mm_frame.proofs.Labelled.{numbered_from_get}
 use Rattle.mm_frame.proofs.book.Book.label.Goals as goal
 
@@ -6,11 +5,9 @@ pub label_text-requires-clause-known : goal.label_text-requires-clause-known
 label_text-requires-clause-known c = c.is_label.ensures.0 c.if-is_label.true
 
 pub returns-then-is_label : goal.returns-then-is_label
-returns-then-is_label c = rw (← c.self.view_is) (λ s there.
-    let (place, numbered) = numbered_from_get (statements_of c.self.inside.tables) c.args.id.0 s there in
-    c.label_text.ensures place s numbered)
+returns-then-is_label c = rw (← c.self.view_is)
+    (λ s there. c.label_text.ensures _ s (numbered_from_get _ _ s there).1)
 
 pub returns-else-is_label : goal.returns-else-is_label
 returns-else-is_label c = rw (← c.self.view_is) (λ s there.
-    let (place, numbered) = numbered_from_get (statements_of c.self.inside.tables) c.args.id.0 s there in
-    absurd (let yes = c.is_label.ensures.1 (place, s, numbered) in cc))
+    absurd (let yes = c.is_label.ensures.1 (_, s, (numbered_from_get _ _ s there).1) in cc))

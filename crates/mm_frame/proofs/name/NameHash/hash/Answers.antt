@@ -12,7 +12,6 @@ returns-then-self-gt-MOST_IN_ENDS g c =
 pub returns-else-self-gt-MOST_IN_ENDS : goal.returns-else-self-gt-MOST_IN_ENDS
 unfolding hashed
 returns-else-self-gt-MOST_IN_ENDS g c =
-    let f = c.if-self-gt-MOST_IN_ENDS.false in
     let front : c.self.inside.front ≡ (ends_of c.self.inside.bytes.now).0 = ap (λ p. p.0) c.self.invariant.ends in
     let back : c.self.inside.back ≡ (ends_of c.self.inside.bytes.now).1 = ap (λ p. p.1) c.self.invariant.ends in
     let short : length c.self.inside.bytes.now ≤ 16 = omega arith in

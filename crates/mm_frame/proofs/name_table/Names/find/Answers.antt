@@ -4,8 +4,6 @@ use Rattle.mm_frame.proofs.name_table.Names.find.Goals as goal
 
 pub returns-in-len1 : goal.returns-in-len1
 returns-in-len1 c =
-    let a = c.in-len1.len_at_least in
-    let b = c.in-len1.len_below in
     rw (← c.self.view_is)
     (found_by_byte c.self.inside.table.keys c.self.inside.by_byte c.args.name.now (omega arith)
     (let byte = c.type_inv.name 0 in omega arith) c.self.invariant.1)

@@ -21,5 +21,4 @@ loop-place-preserved c =
     ]
 
 pub returns : goal.returns
-returns c =
-    subst (λ hs. AreNoted c.loop-place.self.places.items (variables_of hs)) (take_all c.loop-place.place c.args.hypotheses.now c.loop-place-test.false) c.loop-place.invariant
+returns c = rw (take_all _ _ c.loop-place-test.false) at c.loop-place.invariant

@@ -15,7 +15,6 @@ returns-then-is_none c noted =
 
 pub returns-else-is_none : goal.returns-else-is_none
 returns-else-is_none c noted =
-    let variables = variables_of c.args.before.now in
-    let places = c.make_room.new.self.places.items in
-    let longer = noted_longer c.args.self.now.places.items places variables c.in_ok-make_room.ensures.longer noted in
-    noted_by_some places variables c.args.variable.0 c.place_of.result (c.is_none.ensures ∙ ap not c.if-is_none.false) (c.place_of.ensures longer) longer
+    let longer = noted_longer _ _ _ c.in_ok-make_room.ensures.longer noted in
+    noted_by_some _ _ _ c.place_of.result (c.is_none.ensures ∙ ap not c.if-is_none.false)
+    (c.place_of.ensures longer) longer

@@ -13,7 +13,6 @@ invariant_of-self c =
     let before = newest_of c.self.inside.near.items c.self.inside.newest in
     let after = newest_of c.note_newest.new.near.items c.note_newest.new.far in
     let room = ap (λ t. t.room) c.self.view_is in
-    let some = c.requires.room in
     let space : vec_len c.self.inside.spans < vec_capacity c.self.inside.spans = omega arith in
     let s : Span = record { pair = c.args.pair; place = c.args.place; older = c.newest_of-older.result } in
     let pushed : c.push.new.self.items ≡ spans ++ s ∷ [] =

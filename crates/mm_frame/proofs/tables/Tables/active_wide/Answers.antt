@@ -1,34 +1,25 @@
-use Rattle.std.proofs.Common.{◌≡◌, ◌-◌, ◌<◌, ◌≤◌, length, take, Some, ap, sym, ◌∙◌, subst, arith}
-use Rattle.std.specs.List.{slice_get}
+use Rattle.std.proofs.Common.{◌≡◌, ◌-◌, ◌<◌, ◌≤◌, length, take, ap, sym, ◌∙◌, subst, arith}
 use Rattle.std.proofs.lemmas.Option.{slice_get_within}
 use Rattle.std.proofs.Math.Seq.{take-length}
 use Rattle.mm_frame.specs.declared.scopes.TheConstants.{NEVER}
 use Rattle.mm_frame.specs.Active.{IsActive}
 use Rattle.mm_frame.specs.Mirror.Layout.{statements_of}
-use Rattle.mm_frame.proofs.Entries.{length-sentences}
 use Rattle.mm_frame.proofs.WideDistinct.{positive, wide_at, active_next}
 use Rattle.mm_frame.proofs.tables.Tables.active_wide.Goals as goal
+use Rattle.mm_frame.proofs.Entries.{all_statements}
 
 pub is_active-requires-clause-place : goal.is_active-requires-clause-place
 is_active-requires-clause-place c =
-    let t = c.args.self.now in
-    let st = statements_of t in
-    let wide = t.distinct.stated.wide in
-    let w = c.index-wide-left.result in
-    let n = c.loop.left in
-    let within = c.loop.invariant.within in
-    let there : slice_get wide (n - 1) ≡ Some w = wide_at wide _ n w c.wide-wide.ensures
-    (positive n c.if-left-eq0.false) (omega arith) c.index-wide-left.is in
-    let is = c.requires.stated.wide.each (n - 1) w there in
-    let lt = slice_get_within st w.place is.d is.there in
-    let size = length-sentences t.symbols.names t.labels.names t.flat.items t.log.items in
+    let there = wide_at _ _ _ _ _ c.wide-wide.ensures c.if-left-eq0.false
+    c.loop.invariant.within c.index-wide-left.is in
+    let is = c.requires.stated.wide.each _ _ there in
+    let lt = slice_get_within (statements_of c.args.self.now) _ is.d is.there in
+    let size = all_statements c.args.self.now in
     omega arith
 
 pub is_active-requires-clause-within : goal.is_active-requires-clause-within
 is_active-requires-clause-within c =
-    let t = c.args.self.now in
-    let size = length-sentences t.symbols.names t.labels.names t.flat.items t.log.items in
-    omega (arith, size, c.requires.scopes.held)
+    omega (arith, all_statements c.args.self.now, c.requires.scopes.held)
 
 pub loop-preserved : goal.loop-preserved
 loop-preserved c =
@@ -39,10 +30,10 @@ loop-preserved c =
     let n = c.loop.left in
     let within = c.loop.invariant.within in
     let some : 0 < n = positive n c.if-left-eq0.false in
-    let there : slice_get wide (n - 1) ≡ Some w = wide_at wide _ n w c.wide-wide.ensures
-    some (omega arith) c.index-wide-left.is in
+    let there = wide_at _ _ _ _ _ c.wide-wide.ensures c.if-left-eq0.false
+    c.loop.invariant.within c.index-wide-left.is in
     let older = c.requires.stated.wide.older (n - 1) w there in
-    let size = length-sentences t.symbols.names t.labels.names t.flat.items t.log.items in
+    let size = all_statements t in
     let all : c.len-at.result ≡ length st = c.len-at.ensures ∙ t.log.ok.0 ∙ sym size in
     let whole : take c.len-at.result st ≡ st = ap (λ m. take m st) all ∙ take-length st in
     let small : length st ≤ NEVER = omega (arith, c.requires.counted, c.requires.small, size) in

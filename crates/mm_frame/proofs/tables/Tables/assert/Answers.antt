@@ -13,7 +13,7 @@ use Rattle.mm_frame.specs.Mirror.Patterned.{AreMandatoryOf, ArePatterned, AreNot
 use Rattle.mm_frame.specs.Mirror.Grows.{entry_of}
 use Rattle.mm_frame.specs.Mirror.Naming.{label_info}
 use Rattle.mm_frame.proofs.SameTables.{on_err, same_tables}
-use Rattle.mm_frame.proofs.NamedTables.{few_labels, assertion_taken, before_same, asserted, framed}
+use Rattle.mm_frame.proofs.NamedTables.{few_labels, assertion_taken, asserted, framed}
 use Rattle.mm_frame.proofs.FrameLaws.{at_place}
 use Rattle.mm_frame.proofs.Patterned.{typings_same, variables_same, few_hypotheses}
 use Rattle.mm_frame.proofs.Placed.{pairs_among, pairs_named}
@@ -25,9 +25,8 @@ returns-in_err-reserve-clause-err c = on_err c.from_residual-in_err-reserve.resu
 
 pub returns-in_err-reserve_numbered-clause-err : goal.returns-in_err-reserve_numbered-clause-err
 returns-in_err-reserve_numbered-clause-err c =
-    let same = c.reserve.ensures.same in
     on_err c.from_residual-in_err-reserve_numbered.result (same_tables _ _ c.requires.tables
-    (search (c.reserve_numbered.ensures.items ∙ same.hypotheses)))
+    (search (c.reserve_numbered.ensures.items ∙ c.reserve.ensures.same.hypotheses)))
 
 pub returns-in_err-reserve_numbered-2-clause-err : goal.returns-in_err-reserve_numbered-2-clause-err
 returns-in_err-reserve_numbered-2-clause-err c =
@@ -122,7 +121,6 @@ returns-clause-ok c =
     let t = c.args.self.now in
     let st = statements_of t in
     let same = c.reserve.ensures.same in
-    let b = before_same t c.reserve.new.self same in
     let bare = c.find_hypotheses.new.hypotheses.items in
     let hs = c.add_patterns.new.hypotheses.items in
     let pairs = c.find_places.new.placed.items in

@@ -1,12 +1,17 @@
-use Rattle.std.proofs.Common.{refl, ◌∙◌, [], ◌∷◌, ◌++◌, None, arith}
+use Rattle.std.proofs.Common.{refl, ◌∙◌, [], ◌∷◌, ◌++◌, None, arith, ◌≤◌, length, subst}
 use Rattle.mm_text.specs.declared.statement.Kind.TheVariants.{Closing}
 use Rattle.mm_frame.specs.Sentence.{Sentence}
 use Rattle.mm_frame.specs.Mirror.Layout.{statements_of}
-use Rattle.mm_frame.proofs.Blocks.{adds_block, close_grows, closing_left, closing_ready, same_on_err, same_scopes}
+use Rattle.mm_frame.proofs.Blocks.{adds_block, close_grows, closing_ready, same_scopes}
 use Rattle.mm_frame.proofs.tables.Tables.close.Goals as goal
+use Rattle.mm_frame.proofs.SameTables.{on_err, same_tables}
+use Rattle.mm_frame.proofs.Entries.{all_statements}
+use Rattle.mm_frame.proofs.ScopeLaws.{length_pushed}
+use Rattle.mm_frame.specs.declared.scopes.TheConstants.{NEVER}
+use Rattle.mm_frame.specs.Mirror.Forgotten.{AreForgotten}
 
 pub returns-in_err-reserve-clause-err : goal.returns-in_err-reserve-clause-err
-returns-in_err-reserve-clause-err c = same_on_err _ c.args.self.now c.reserve.new.self c.requires.tables c.reserve.ensures.same
+returns-in_err-reserve-clause-err c = on_err _ (same_tables _ _ c.requires.tables c.reserve.ensures.same)
 
 pub forget_inactive-requires-clause-scopes : goal.forget_inactive-requires-clause-scopes
 forget_inactive-requires-clause-scopes c =
@@ -18,25 +23,27 @@ forget_inactive-requires-clause-scopes c =
 
 pub forget_inactive-requires-clause-all : goal.forget_inactive-requires-clause-all
 forget_inactive-requires-clause-all c =
-    (closing_ready c.args.self.now c.reserve.new.self c.enter.new.self c.len-start.result
-    c.args.bytes c.len.result c.requires.tables c.reserve.ensures.same c.enter.ensures
-    c.requires.closes (omega arith)).0
+    (closing_ready _ _ _ _ _ c.len.result c.requires.tables c.reserve.ensures.same
+    c.enter.ensures c.requires.closes (omega arith)).0
 
 pub forget_inactive-requires-clause-within : goal.forget_inactive-requires-clause-within
 forget_inactive-requires-clause-within c =
-    (closing_ready c.args.self.now c.reserve.new.self c.enter.new.self c.len-start.result
-    c.args.bytes c.len.result c.requires.tables c.reserve.ensures.same c.enter.ensures
-    c.requires.closes (omega arith)).1
+    (closing_ready _ _ _ _ _ c.len.result c.requires.tables c.reserve.ensures.same
+    c.enter.ensures c.requires.closes (omega arith)).1
 
 pub returns-clause-ok : goal.returns-clause-ok
 returns-clause-ok c = (
   refl,
   λ s is unlabelled bare meant formed.
       let adds = adds_block c.args.self.now c.reserve.new.self c.enter.new.self Closing c.len-start.result c.args.bytes c.reserve.ensures.same c.enter.ensures (omega arith) in
-      let left = closing_left c.args.self.now c.enter.new.self s c.args.bytes
-      c.forget_inactive.new.places.items c.requires.tables adds
-      (c.enter.ensures.essentials ∙ c.reserve.ensures.same.essentials) is c.requires.closes
-      c.forget_inactive.ensures in
+      let st = statements_of c.args.self.now in
+      let size = all_statements c.args.self.now in
+      let longer = length_pushed st s in
+      let small : length (st ++ s ∷ []) ≤ NEVER = omega (arith, c.requires.tables.small) in
+      let left = subst (λ ys. AreForgotten (st ++ s ∷ []) ys c.forget_inactive.new.places.items)
+      (c.enter.ensures.essentials ∙ c.reserve.ensures.same.essentials)
+      (c.forget_inactive.ensures (st ++ s ∷ [])
+      (adds.scopes st s c.requires.tables.scopes is (λ k. c.requires.closes)) small) in
       close_grows c.args.self.now _ s c.args.bytes c.requires.tables
       (search adds)
       left is unlabelled bare c.requires.closes c.requires.some c.requires.room meant formed,

@@ -6,14 +6,13 @@ use Rattle.mm_frame.specs.Mirror.Declaring.{TakesSymbols}
 use Rattle.mm_frame.proofs.SameTables.{on_err, same_tables}
 use Rattle.mm_frame.proofs.Symbols.{texts}
 use Rattle.mm_frame.proofs.RepeatsCode.{texts_of}
-use Rattle.mm_frame.proofs.Declared.{declares, names_fit, symbols_fit}
+use Rattle.mm_frame.proofs.Declared.{declares, symbols_fit}
 use Rattle.mm_frame.proofs.tables.Tables.declare_all.Goals as goal
 
 pub make_room-requires : goal.make_room-requires
 make_room-requires c =
     let statement = plain_statement c.args.statement.now in
-    let names = names_fit c.args.self.now statement c.args.bytes c.requires.tables c.requires.formed c.requires.counted c.requires.room in
-    let symbols = symbols_fit c.args.self.now statement c.args.bytes c.requires.tables c.requires.formed c.requires.counted c.requires.room in
+    let fit = symbols_fit c.args.self.now statement c.args.bytes c.requires.tables c.requires.formed c.requires.counted c.requires.room in
     let len : c.len.result ≡ length c.args.statement.now.symbols.items = search rules in
     let size = length-map c.args.statement.now.symbols.items plain_token in
     omega arith

@@ -1,17 +1,16 @@
 use Rattle.std.proofs.Common.{◌≡◌, ◌++◌, [], ◌∷◌, ℕ, length, None, ap, ◌∙◌}
 use Rattle.std.specs.Bool.{if◌then◌else◌}
-use Rattle.mm_text.specs.declared.statement.Kind.TheVariants.{Distinct, Closing}
+use Rattle.mm_text.specs.declared.statement.Kind.TheVariants.{Distinct}
 use Rattle.mm_frame.specs.Mirror.Grows.{entry_of}
 use Rattle.mm_frame.proofs.tables.Tables.enter_members.Goals as goal
 
 pub returns-clause-entered : goal.returns-clause-entered
 returns-clause-entered c =
     let t = c.args.self.now in
-    let members = c.args.members.now in
     let e = c.enter.ensures in
     let longer = c.extend_from_slice.new.self.items in
     let flat = c.extend_from_slice.ensures.items
-    ∙ ap (λ b. if b then (t.flat.items ++ members) else t.flat.items)
+    ∙ ap (λ b. if b then (t.flat.items ++ c.args.members.now) else t.flat.items)
     (c.extend_from_slice.ensures.succeeds c.requires.room.flat) in
     let start : c.len-start.result ≡ length t.flat.items = c.len-start.ensures ∙ t.flat.ok.0 in
     record {

@@ -6,8 +6,9 @@ use Rattle.mm_text.specs.declared.statement.Kind.TheVariants.{Floating}
 use Rattle.mm_frame.specs.Sentence.{Types}
 use Rattle.mm_frame.specs.Numbers.{IsNumberOf}
 use Rattle.mm_frame.specs.Mirror.Layout.{statements_of}
-use Rattle.mm_frame.proofs.PairsOf.{variable_says, kind_at, some_entry}
+use Rattle.mm_frame.proofs.PairsOf.{kind_at, some_entry}
 use Rattle.mm_frame.proofs.tables.Tables.floating_variable.Goals as goal
+use Rattle.mm_frame.proofs.Typings.{typing_says}
 
 pub returns-then-eq : goal.returns-then-eq
 returns-then-eq c f said =
@@ -16,9 +17,10 @@ returns-then-eq c f said =
     let there : slice_get t.log.items c.args.place ≡ Some c.in-Some.entry = ap (λ xs. slice_get xs c.args.place) (sym c.deref.ensures.value) ∙ sym c.at.ensures ∙ c.in-Some.is in
     let kind : c.in-Some.entry.kind ≡ Floating = same_true the_type (search rules) _ _ (sym c.if-eq.ensures) in
     let floats = kind_at t.symbols.names t.labels.names t.flat.items t.log.items c.args.place c.in-Some.entry f there said ∙ kind in
-    let (n, at, code, x, types, number) = variable_says st c.args.place f c.symbols_at.result.now c.requires.sound.1 said floats (c.symbols_at.ensures f said) in
-    let found = c.at-then-eq.ensures in
-    subst (λ o. MatchOption o (¬ (f.kind ≡ Floating)) (λ n. (code : List ℕ) × (x : List ℕ) × Types code x f × IsNumberOf st x n.0)) (sym (found ∙ at)) (code, x, types, number)
+    let (a, n, is, (code, x, types, first, number)) = typing_says st f c.symbols_at.result.now
+    (c.requires.sound.1 _ f said) floats (c.symbols_at.ensures f said) in
+    let found = c.at-then-eq.ensures ∙ ap (λ ns. slice_get ns 1) is in
+    subst (λ o. MatchOption o (¬ (f.kind ≡ Floating)) (λ n. (code : List ℕ) × (x : List ℕ) × Types code x f × IsNumberOf st x n.0)) (sym found) (code, x, types, number)
 
 pub returns-else-eq : goal.returns-else-eq
 returns-else-eq c f said floats =
@@ -26,7 +28,6 @@ returns-else-eq c f said floats =
     let there : slice_get t.log.items c.args.place ≡ Some c.in-Some.entry = ap (λ xs. slice_get xs c.args.place) (sym c.deref.ensures.value) ∙ sym c.at.ensures ∙ c.in-Some.is in
     let kind : c.in-Some.entry.kind ≡ Floating = sym (kind_at t.symbols.names t.labels.names t.flat.items t.log.items c.args.place c.in-Some.entry f there said) ∙ floats in
     let same = ap (λ k. sameb the_type k Floating) kind in
-    let test = c.if-eq.ensures in
     absurd (cc)
 
 pub returns-in-None : goal.returns-in-None

@@ -3,10 +3,10 @@ use Rattle.std.proofs.lemmas.Option.{slice_get-get_or}
 use Rattle.mm_frame.specs.declared.number.Sym.{Sym}
 use Rattle.mm_frame.specs.Mirror.Layout.{statements_of}
 use Rattle.mm_frame.specs.Mirror.Separated.{ArePaired}
-use Rattle.mm_frame.proofs.Entries.{length-sentences}
 use Rattle.mm_frame.proofs.Separated.{is_old, is_fresh, paired_pass, paired_push, paired_row}
 use Rattle.mm_frame.proofs.tables.Tables.gather.Goals as goal
 use Rattle.mm_frame.proofs.tables.Tables.gather.Goals.{then-not-is_distinct+in_ok-push, else-not-is_distinct}
+use Rattle.mm_frame.proofs.Entries.{all_statements}
 
 pub loop-j-preserved : goal.loop-j-preserved
 loop-j-preserved c =
@@ -20,7 +20,7 @@ loop-j-preserved c =
     let b : Sym = get_or members i (record { 0 = 0 }) in
     let at_j = slice_get-get_or members j (record { 0 = 0 }) (omega arith) in
     let at_i = slice_get-get_or members i (record { 0 = 0 }) c.requires.within in
-    let all : c.len.result ≡ length st = c.len.ensures ∙ t.log.ok.0 ∙ sym (length-sentences t.symbols.names t.labels.names t.flat.items t.log.items) in
+    let all : c.len.result ≡ length st = c.len.ensures ∙ t.log.ok.0 ∙ sym (all_statements t) in
     elim c.if-not-is_distinct.branch [
       | then-not-is_distinct+in_ok-push w ↦
           let fresh = is_fresh st b.0 a.0 c.len.result c.is_distinct.result all c.is_distinct.ensures w.if-not-is_distinct.true in
@@ -34,13 +34,8 @@ loop-j-preserved c =
 
 pub returns : goal.returns
 returns c =
-    let test = c.loop-j-test.false in
     let end : c.loop-j.j ≡ c.args.i = omega (arith, c.loop-j.auto.j-end) in
-    let t = c.args.self.now in
-    paired_row (statements_of t) c.args.members.now c.args.i c.loop-j.pairs.items (subst (λ n. ArePaired (statements_of t) c.args.members.now c.args.i n c.loop-j.pairs.items) end c.loop-j.invariant)
+    paired_row _ _ _ _ (rw end at c.loop-j.invariant)
 
 pub is_distinct-requires-clause-within : goal.is_distinct-requires-clause-within
-is_distinct-requires-clause-within c =
-    let t = c.args.self.now in
-    let size = length-sentences t.symbols.names t.labels.names t.flat.items t.log.items in
-    omega (arith, size)
+is_distinct-requires-clause-within c = omega (arith, all_statements c.args.self.now)

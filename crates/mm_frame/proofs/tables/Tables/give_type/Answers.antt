@@ -3,9 +3,11 @@ use Rattle.std.specs.List.{slice_get}
 use Rattle.mm_text.specs.declared.statement.Kind.TheVariants.{Floating}
 use Rattle.mm_frame.specs.declared.answer.Taken.TheVariants.{Hypothesis}
 use Rattle.mm_frame.proofs.SameTables.{on_err, same_tables}
-use Rattle.mm_frame.proofs.NamedTables.{Before, IsWritten, few_labels, next_number, before_same, typed, typing_numbers, known_info, noted}
+use Rattle.mm_frame.proofs.NamedTables.{Before, IsWritten, few_labels, next_number, before_same, typed, known_info, noted}
 use Rattle.mm_frame.proofs.tables.Tables.give_type.Goals as goal
 use Rattle.mm_frame.proofs.tables.Tables.give_type.Goals.{in-Some, in-None}
+use Rattle.mm_frame.proofs.Typings.{typing_says}
+use Rattle.mm_frame.specs.Mirror.Layout.{statements_of}
 
 pub returns-in_err-reserve-clause-err : goal.returns-in_err-reserve-clause-err
 returns-in_err-reserve-clause-err c = on_err c.from_residual.result (same_tables _ _ c.requires.tables c.reserve.ensures.same)
@@ -31,21 +33,24 @@ returns-clause-ok c =
       ap Hypothesis (next_number t c.name-id.result c.requires.tables (c.name-id.ensures.id ∙ ap length labels)),
       λ s kind label numbered meant formed.
           let is : IsWritten t s Floating c.args.label.now c.args.numbers.now = record { kinds = kind; label = label; numbered = numbered; meant = meant; formed = formed } in
-          let two = typing_numbers t s c.args.label.now c.args.numbers.now c.requires.tables is in
-          let second : slice_get c.args.numbers.now 1 ≡ Some two.second = ap (λ ns. slice_get ns 1) two.numbers_are in
-          let (info, there) = known_info t two.second two.variable c.requires.tables two.named in
+          let (one, n, are, (code, x, types, at_code, at_x)) = typing_says (statements_of t) s
+          c.args.numbers.now formed kind numbered in
+          let named : slice_get t.symbols.names n.0 ≡ Some x = subst
+          (λ names. slice_get names n.0 ≡ Some x) (sym c.requires.tables.infos.all) at_x in
+          let second : slice_get c.args.numbers.now 1 ≡ Some n = ap (λ ns. slice_get ns 1) are in
+          let (info, there) = known_info t n x c.requires.tables named in
           elim c.match-at.branch [
             | in-Some w ↦
-                let found : Some w.in-Some.variable ≡ Some two.second = sym w.in-Some.is ∙ c.at.ensures ∙ second in
-                let is_second : w.in-Some.variable ≡ two.second = cc in
+                let found : Some w.in-Some.variable ≡ Some n = sym w.in-Some.is ∙ c.at.ensures ∙ second in
+                let is_second : w.in-Some.variable ≡ n = cc in
                 let place : w.len.result ≡ length t.log.items = let size = ap length same.log in omega arith in
-                typed t c.match-at.self c.name-id.new.self s two.code two.variable two.second info c.args.label.now c.args.numbers.now _ c.name-id.result c.args.bytes c.requires.tables
+                typed t c.match-at.self c.name-id.new.self s code x n info c.args.label.now c.args.numbers.now _ c.name-id.result c.args.bytes c.requires.tables
                 (subst (λ u. Before t u [] [] []) (sym w.self-is) (search b))
-                two.symbols_are two.named there
-                (rw w.self-is (noted c.reserve.new.self.infos.items t.infos.items w.note_floating.new.infos.items w.in-Some.variable two.second info w.len.result (length t.log.items)
+                types.1 named there
+                (rw w.self-is (noted c.reserve.new.self.infos.items t.infos.items w.note_floating.new.infos.items w.in-Some.variable n info w.len.result (length t.log.items)
                 same.infos is_second place there w.note_floating.ensures))
                 (rw w.self-is same.essentials)
                 c.name-id.ensures.named c.name-id.ensures.id is c.requires.enough c.requires.room
-            | in-None w ↦ absurd (let found : None ≡ Some two.second = sym w.in-None.is ∙ c.at.ensures ∙ second in cc)
+            | in-None w ↦ absurd (let found : None ≡ Some n = sym w.in-None.is ∙ c.at.ensures ∙ second in cc)
           ],
     )

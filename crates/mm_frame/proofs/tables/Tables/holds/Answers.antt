@@ -1,8 +1,7 @@
-use Rattle.std.proofs.Common.{◌<◌, ◌≤◌, length, arith}
-use Rattle.mm_frame.specs.declared.scopes.TheConstants.{NEVER}
+use Rattle.std.proofs.Common.{◌<◌, arith}
 use Rattle.mm_frame.specs.Mirror.Layout.{statements_of}
-use Rattle.mm_frame.proofs.Entries.{length-sentences}
 use Rattle.mm_frame.proofs.tables.Tables.holds.Goals as goal
+use Rattle.mm_frame.proofs.Entries.{few_statements}
 
 pub returns : goal.returns
 returns c =
@@ -10,13 +9,7 @@ returns c =
     let st = statements_of t in
     let tables = c.requires.tables in
     let before : c.args.wide.now.place < c.args.at = omega (arith, c.if-wide-at.false) in
-    let small : length st ≤ NEVER = omega (
-      arith,
-      tables.counted,
-      tables.small,
-      length-sentences t.symbols.names t.labels.names t.flat.items t.log.items,
-    ) in
-    let active = c.is_active.ensures st tables.scopes small in
+    let active = c.is_active.ensures st tables.scopes (few_statements t tables) in
     let (in_a, in_b) = rw c.deref.ensures.value at (c.are_among.ensures.0 c.if-not-are_among.false)
     in (
       (λ is. (before, in_a, in_b, active.0 is)),

@@ -1,29 +1,20 @@
-use Rattle.std.proofs.Common.{◌≡◌, ◌≤◌, length, arith}
+use Rattle.std.proofs.Common.{◌≡◌, length, arith}
 use Rattle.mm_frame.specs.Mirror.Layout.{statements_of}
-use Rattle.mm_frame.specs.declared.scopes.TheConstants.{NEVER}
-use Rattle.mm_frame.proofs.Entries.{length-sentences}
 use Rattle.mm_frame.proofs.LookupLaws.{at_end}
 use Rattle.mm_frame.proofs.tables.Tables.is_active_now.Goals as goal
+use Rattle.mm_frame.proofs.Entries.{few_statements, all_statements}
 
 pub is_active-requires-clause-place : goal.is_active-requires-clause-place
 is_active-requires-clause-place c =
-    let t = c.args.self.now in
-    let size = length-sentences t.symbols.names t.labels.names t.flat.items t.log.items in
-    omega (arith, size, c.requires.place)
+    omega (arith, all_statements c.args.self.now, c.requires.place)
 
 pub is_active-requires-clause-within : goal.is_active-requires-clause-within
 is_active-requires-clause-within c =
-    let t = c.args.self.now in
-    let size = length-sentences t.symbols.names t.labels.names t.flat.items t.log.items in
-    omega (arith, size, c.requires.tables.scopes.held)
+    omega (arith, all_statements c.args.self.now, c.requires.tables.scopes.held)
 
 pub returns : goal.returns
 returns c =
     let t = c.args.self.now in
-    let st = statements_of t in
-    let tables = c.requires.tables in
-    let size = length-sentences t.symbols.names t.labels.names t.flat.items t.log.items in
-    let all : c.len.result ≡ length st = omega (arith, size) in
-    let small : length st ≤ NEVER = omega (arith, tables.counted, tables.small, all) in
-    at_end st c.args.place c.len.result c.is_active.result all c.requires.place
-    (c.is_active.ensures st tables.scopes small)
+    let all : c.len.result ≡ length (statements_of t) = omega (arith, all_statements t) in
+    at_end (statements_of t) c.args.place c.len.result c.is_active.result all c.requires.place
+    (c.is_active.ensures _ c.requires.tables.scopes (few_statements t c.requires.tables))

@@ -1,5 +1,4 @@
-use Rattle.std.proofs.Common.{◌≡◌, ◌-◌, ◌<◌, Some, subst, sym, arith}
-use Rattle.std.specs.List.{slice_get}
+use Rattle.std.proofs.Common.{◌-◌, ◌<◌, subst, sym, arith}
 use Rattle.mm_frame.specs.Mirror.Layout.{statements_of}
 use Rattle.mm_frame.specs.Mirror.Wide.{HoldsPair, NoneFrom}
 use Rattle.mm_frame.proofs.WideDistinct.{positive, wide_at, none_next, held_next}
@@ -8,23 +7,15 @@ use Rattle.mm_frame.proofs.tables.Tables.is_held.Goals.{then-last-at, else-last-
 
 pub holds-requires-clause-sorted : goal.holds-requires-clause-sorted
 holds-requires-clause-sorted c =
-    let wide = c.args.self.now.distinct.stated.wide in
-    let w = c.index-wide-left.result in
-    let n = c.loop.left in
-    let within = c.loop.invariant.within in
-    let there : slice_get wide (n - 1) ≡ Some w = wide_at wide _ n w c.wide-wide.ensures
-    (positive n c.if-left-eq0.false) (omega arith) c.index-wide-left.is in
-    (c.requires.tables.stated.wide.each (n - 1) w there).sorted
+    let there = wide_at _ _ _ _ _ c.wide-wide.ensures c.if-left-eq0.false
+    c.loop.invariant.within c.index-wide-left.is in
+    (c.requires.tables.stated.wide.each _ _ there).sorted
 
 pub returns-then-holds : goal.returns-then-holds
 returns-then-holds c =
-    let wide = c.args.self.now.distinct.stated.wide in
-    let w = c.index-wide-left.result in
-    let n = c.loop.left in
-    let within = c.loop.invariant.within in
-    let there : slice_get wide (n - 1) ≡ Some w = wide_at wide _ n w c.wide-wide.ensures
-    (positive n c.if-left-eq0.false) (omega arith) c.index-wide-left.is in
-    ((λ yes. (n - 1, w, there, c.holds.ensures.0 c.if-holds.true)), (λ held. cc))
+    let there = wide_at _ _ _ _ _ c.wide-wide.ensures c.if-left-eq0.false
+    c.loop.invariant.within c.index-wide-left.is in
+    ((λ yes. (_, _, there, c.holds.ensures.0 c.if-holds.true)), (λ held. cc))
 
 pub loop-preserved : goal.loop-preserved
 loop-preserved c =
@@ -35,8 +26,8 @@ loop-preserved c =
     let n = c.loop.left in
     let within = c.loop.invariant.within in
     let some : 0 < n = positive n c.if-left-eq0.false in
-    let there : slice_get wide (n - 1) ≡ Some w = wide_at wide _ n w c.wide-wide.ensures
-    some (omega arith) c.index-wide-left.is in
+    let there = wide_at _ _ _ _ _ c.wide-wide.ensures c.if-left-eq0.false
+    c.loop.invariant.within c.index-wide-left.is in
     let wides = c.requires.tables.stated.wide in
     let older = wides.older (n - 1) w there in
     let P = HoldsPair st c.args.at c.args.a.0 c.args.b.0 in

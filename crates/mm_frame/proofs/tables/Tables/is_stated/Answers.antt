@@ -1,9 +1,7 @@
-use Rattle.std.proofs.Common.{◌≤◌, length, arith}
-use Rattle.mm_frame.specs.declared.scopes.TheConstants.{NEVER}
 use Rattle.mm_frame.specs.Mirror.Layout.{statements_of}
-use Rattle.mm_frame.proofs.Entries.{length-sentences}
 use Rattle.mm_frame.proofs.DistinctAt.{latest_has, none_has}
 use Rattle.mm_frame.proofs.tables.Tables.is_stated.Goals as goal
+use Rattle.mm_frame.proofs.Entries.{few_statements}
 
 pub returns-in-Some : goal.returns-in-Some
 returns-in-Some c =
@@ -13,13 +11,7 @@ returns-in-Some c =
     let (before, tell) =
     latest_has st t.symbols.names t.distinct.stated c.args.pair c.args.at c.in-Some.place
     tables.stated c.requires.within c.in-Some.ensures in
-    let small : length st ≤ NEVER = omega (
-      arith,
-      tables.counted,
-      tables.small,
-      length-sentences t.symbols.names t.labels.names t.flat.items t.log.items,
-    ) in
-    let active = c.is_active.ensures st tables.scopes small in
+    let active = c.is_active.ensures st tables.scopes (few_statements t tables) in
     ((λ is. tell.0 (active.0 is)), (λ has. active.1 (tell.1 has)))
 
 pub returns-in-None : goal.returns-in-None

@@ -1,10 +1,11 @@
 use Rattle.std.proofs.Common.{refl, ◌∙◌, arith}
 use Rattle.mm_text.specs.declared.statement.Kind.TheVariants.{Opening}
-use Rattle.mm_frame.proofs.Blocks.{adds_block, open_grows, same_on_err}
+use Rattle.mm_frame.proofs.Blocks.{adds_block, open_grows}
 use Rattle.mm_frame.proofs.tables.Tables.open.Goals as goal
+use Rattle.mm_frame.proofs.SameTables.{on_err, same_tables}
 
 pub returns-in_err-reserve-clause-err : goal.returns-in_err-reserve-clause-err
-returns-in_err-reserve-clause-err c = same_on_err _ c.args.self.now c.reserve.new.self c.requires.tables c.reserve.ensures.same
+returns-in_err-reserve-clause-err c = on_err _ (same_tables _ _ c.requires.tables c.reserve.ensures.same)
 
 pub returns-clause-ok : goal.returns-clause-ok
 returns-clause-ok c = (

@@ -1,11 +1,12 @@
-use Rattle.std.proofs.Common.{◌≡◌, ◌++◌, [], ◌∷◌, ℕ, length, map, ap, sym, ◌∙◌, subst}
+use Rattle.std.proofs.Common.{◌≡◌, ◌++◌, [], ◌∷◌, length, map, ap, sym, ◌∙◌, subst, refl}
 use Rattle.mm_frame.specs.Mirror.Layout.{AreStated, statements_of}
-use Rattle.mm_frame.specs.Mirror.Stated.{AllStated}
 use Rattle.mm_frame.specs.Mirror.Separated.{stated_at}
-use Rattle.mm_frame.proofs.Entries.{length-sentences}
 use Rattle.mm_frame.proofs.SameTables.{on_err, same_tables, same_but}
-use Rattle.mm_frame.proofs.SeparatedTables.{IsNewDistinct, has_room, separated, separated_after, pairs_stated}
+use Rattle.mm_frame.proofs.SeparatedTables.{IsNewDistinct, has_room, separated, separated_after}
 use Rattle.mm_frame.proofs.tables.Tables.separate_pairs.Goals as goal
+use Rattle.mm_frame.proofs.Entries.{all_statements}
+use Rattle.mm_frame.proofs.DistinctAt.{stated_push}
+use Rattle.mm_frame.proofs.Separated.{new_from_paired}
 
 pub returns-in_err-reserve-clause-err : goal.returns-in_err-reserve-clause-err
 returns-in_err-reserve-clause-err c = on_err _
@@ -33,29 +34,19 @@ returns-clause-ok c = (
       let e = c.enter_members.ensures.entered in
       let same = c.reserve.ensures.same in
       let place : c.len-place.result ≡ length st =
-      c.len-place.ensures ∙ u.log.ok.0 ∙ ap length same.log
-      ∙ sym (length-sentences t.symbols.names t.labels.names t.flat.items t.log.items) in
-      let stated = e.stated ∙ c.state.ensures
-      ∙ ap (λ (x : AllStated). record {
-        pairs = x.pairs ++ map (stated_at c.len-place.result) c.deref.result.now;
-        wide = x.wide;
-      })
-      (c.reserve-2.ensures.stated ∙ same.stated)
-      ∙ ap (λ xs. record {
-        pairs = before.pairs ++ map (stated_at c.len-place.result) xs;
+      c.len-place.ensures ∙ u.log.ok.0 ∙ ap length same.log ∙ sym (all_statements t) in
+      let stated : v.distinct.stated ≡ record {
+        pairs = before.pairs ++ map (stated_at (length st)) pairs;
         wide = before.wide;
-      })
-      c.deref.ensures.value
-      ∙ ap (λ (n : ℕ). record {
-        pairs = before.pairs ++ map (stated_at n) pairs;
-        wide = before.wide;
-      })
-      place in
+      } = e.stated ∙ c.state.ensures
+      ∙ rw (c.reserve-2.ensures.stated, same.stated, c.deref.ensures.value, place) refl in
       let new : IsNewDistinct t s members =
       record { kind = kind; label = label; numbered = numbers; meant = meant; formed = formed } in
       separated t v s members c.args.bytes c.requires.tables c.requires.room c.requires.enough
       (separated_after t u v _ members c.args.bytes c.requires.tables same e)
       (subst (AreStated (st ++ s ∷ []) t.symbols.names) (sym stated)
-      (pairs_stated t s members pairs c.requires.tables new c.in_ok-pairs.ensures))
+      (stated_push st s t.symbols.names before _ c.requires.tables.infos.all
+      c.requires.tables.stated kind (new_from_paired st s t.symbols.names members pairs
+      c.requires.tables.infos.all kind meant numbers c.in_ok-pairs.ensures)))
       new,
 )

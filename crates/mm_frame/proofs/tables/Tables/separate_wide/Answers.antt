@@ -2,8 +2,9 @@ use Rattle.std.proofs.Common.{◌++◌, [], ◌∷◌, ap, sym, ◌∙◌, subst
 use Rattle.mm_frame.specs.Mirror.Layout.{AreStated, statements_of}
 use Rattle.mm_frame.specs.Mirror.Stated.{AllStated}
 use Rattle.mm_frame.proofs.SameTables.{on_err, same_tables, same_but}
-use Rattle.mm_frame.proofs.SeparatedTables.{IsNewDistinct, has_room, separated, separated_after, members_stated}
+use Rattle.mm_frame.proofs.SeparatedTables.{IsNewDistinct, has_room, separated, separated_after}
 use Rattle.mm_frame.proofs.tables.Tables.separate_wide.Goals as goal
+use Rattle.mm_frame.proofs.WideAdded.{stated_wide}
 
 pub returns-in_err-reserve-clause-err : goal.returns-in_err-reserve-clause-err
 returns-in_err-reserve-clause-err c = on_err _
@@ -36,6 +37,7 @@ returns-clause-ok c = (
       separated t v s members c.args.bytes c.requires.tables c.requires.room c.requires.enough
       (separated_after t u v _ members c.args.bytes c.requires.tables same e)
       (subst (AreStated (st ++ s ∷ []) t.symbols.names) (sym stated)
-      (members_stated t s members w c.requires.tables new c.in_ok-wide.ensures))
+      (stated_wide st s t.symbols.names members t.distinct.stated w c.requires.tables.infos.all
+      c.requires.tables.stated kind numbers c.in_ok-wide.ensures))
       new,
 )

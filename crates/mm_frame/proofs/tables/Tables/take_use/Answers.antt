@@ -1,5 +1,4 @@
 use Rattle.std.proofs.Common.{refl}
-use Rattle.mm_frame.specs.Mirror.Layout.{statements_of}
 use Rattle.mm_frame.specs.Sentence.{sentence_in}
 use Rattle.mm_frame.proofs.SoughtLaws.{numbers_used}
 use Rattle.mm_frame.proofs.Uses.{numbers_enough, labelled_use, unlabelled_uses}
@@ -7,36 +6,31 @@ use Rattle.mm_frame.proofs.tables.Tables.take_use.Goals as goal
 
 pub take_labelled-requires-clause-enough : goal.take_labelled-requires-clause-enough
 take_labelled-requires-clause-enough c =
-    let st = statements_of c.args.self.now in
-    let s = c.args.statement.now in
-    let are = numbers_used st (sentence_in s) _ c.requires.numbers c.requires.meant c.requires.kind in
-    numbers_enough st s c.args.numbers.now c.args.bytes are c.requires.formed c.requires.counted
+    let are = numbers_used _ _ _ c.requires.numbers c.requires.meant c.requires.kind in
+    numbers_enough _ c.args.statement.now c.args.numbers.now _ are c.requires.formed
+    c.requires.counted
 
 pub returns-in-Some-clause-ok : goal.returns-in-Some-clause-ok
 returns-in-Some-clause-ok c =
-    let st = statements_of c.args.self.now in
-    let s = c.args.statement.now in
-    let are = numbers_used st (sentence_in s) _ c.requires.numbers c.requires.meant c.requires.kind in
-    labelled_use c.take_labelled.result c.args.self.now c.take_labelled.new.self s c.in-Some.label c.args.numbers.now c.args.bytes c.in-Some.is are c.requires.meant c.requires.formed
+    let are = numbers_used _ _ _ c.requires.numbers c.requires.meant c.requires.kind in
+    labelled_use c.take_labelled.result c.args.self.now _ c.args.statement.now c.in-Some.label
+    c.args.numbers.now _ c.in-Some.is are c.requires.meant c.requires.formed
     c.take_labelled.ensures.ok
 
 pub separate_all-requires-clause-enough : goal.separate_all-requires-clause-enough
 separate_all-requires-clause-enough c =
-    let st = statements_of c.args.self.now in
-    let s = c.args.statement.now in
-    let are = numbers_used st (sentence_in s) _ c.requires.numbers c.requires.meant c.requires.kind in
-    numbers_enough st s c.args.numbers.now c.args.bytes are c.requires.formed c.requires.counted
+    let are = numbers_used _ _ _ c.requires.numbers c.requires.meant c.requires.kind in
+    numbers_enough _ c.args.statement.now c.args.numbers.now _ are c.requires.formed
+    c.requires.counted
 
 pub returns-in-None-clause-ok : goal.returns-in-None-clause-ok
 returns-in-None-clause-ok c =
-    let st = statements_of c.args.self.now in
-    let s = c.args.statement.now in
-    let are = numbers_used st (sentence_in s) _ c.requires.numbers c.requires.meant c.requires.kind in
-    unlabelled_uses c.separate_all.result c.args.self.now c.separate_all.new.self s c.args.numbers.now c.args.bytes c.in-None.is c.requires.kind are c.requires.meant c.requires.formed
+    let are = numbers_used _ _ _ c.requires.numbers c.requires.meant c.requires.kind in
+    unlabelled_uses c.separate_all.result c.args.self.now _ c.args.statement.now
+    c.args.numbers.now _ c.in-None.is c.requires.kind are c.requires.meant c.requires.formed
     c.separate_all.ensures.ok
 
 pub take_labelled-requires-clause-meant : goal.take_labelled-requires-clause-meant
 take_labelled-requires-clause-meant c =
-    let st = statements_of c.args.self.now in
-    let s = sentence_in c.args.statement.now in
-    (s, refl, numbers_used st s _ c.requires.numbers c.requires.meant c.requires.kind, c.requires.meant)
+    let are = numbers_used _ _ _ c.requires.numbers c.requires.meant c.requires.kind in
+    (sentence_in c.args.statement.now, refl, are, c.requires.meant)

@@ -16,7 +16,7 @@ returns-then-eq c f said hypothesis =
     let there : slice_get t.log.items c.args.place ≡ Some c.in-Some.entry = ap (λ xs. slice_get xs c.args.place) (sym c.deref.ensures.value) ∙ sym c.at.ensures ∙ c.in-Some.is in
     let kind : c.in-Some.entry.kind ≡ Floating = same_true the_type (search rules) _ _ (sym c.if-eq.ensures) in
     let floats = kind_at t.symbols.names t.labels.names t.flat.items t.log.items c.args.place c.in-Some.entry f there said ∙ kind in
-    let (a, b, is, types) = typing_says st c.args.place f c.symbols_at.result.now c.requires.sound.1 said floats (c.symbols_at.ensures f said) in
+    let (a, b, is, types) = typing_says st f c.symbols_at.result.now (c.requires.sound.1 _ f said) floats (c.symbols_at.ensures f said) in
     subst (λ o. IsTypingOf st o f) (sym (c.first_two.ensures a b is)) types
 
 pub returns-else-eq : goal.returns-else-eq
@@ -27,7 +27,6 @@ returns-else-eq c f said hypothesis =
       | inl floats ↦
           let kind : c.in-Some.entry.kind ≡ Floating = sym (kind_at t.symbols.names t.labels.names t.flat.items t.log.items c.args.place c.in-Some.entry f there said) ∙ floats in
           let same = ap (λ k. sameb the_type k Floating) kind in
-          let test = c.if-eq.ensures in
           absurd (cc)
       | inr essential ↦ essential
     ]
