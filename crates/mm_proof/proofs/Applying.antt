@@ -1,12 +1,12 @@
 -- The step by an assertion, by numbers and by names: what it breaks, and what it makes.
-use Rattle.std.proofs.Common.{◌≡◌, ℕ, zero, suc, ◌<◌, ◌≤◌, List, [], ◌∷◌, ◌++◌, length, map, take, drop, slice_get, Contains, Bool, true, false, MatchBool, Option, Some, None, option_map, unwrap_or, ◌⊎◌, inl, inr, ⊎_elim, refl, sym, ap, subst, ◌∙◌, arith}
+use Rattle.std.proofs.Common.{◌≡◌, ℕ, suc, ◌<◌, ◌≤◌, List, [], ◌∷◌, ◌++◌, length, map, take, drop, slice_get, Contains, Bool, true, false, MatchBool, Option, Some, None, option_map, unwrap_or, ◌⊎◌, inl, inr, ⊎_elim, refl, sym, ap, subst, ◌∙◌, arith}
 use Rattle.std.specs.List.{AllByRecursion}
-use Rattle.std.proofs.lemmas.Bool.{false≢true}
+use Rattle.std.proofs.lemmas.Bool.{MatchBool-at_true, MatchBool-at_false}
 use Rattle.std.proofs.lemmas.Option.{same_Some, slice_get_within, get_or_from_slice_get, slice_get-get_or}
 use Rattle.std.proofs.lemmas.List.{map-append, length-map, take-append-drop, take-take}
 use Rattle.mm_frame.specs.declared.rule.MeaningRule.TheVariants.{M7}
 use Rattle.mm_frame.specs.Sentence.{Sentence, IsAssertion, IsHypothesis, IsUse, IsLabelled}
-use Rattle.mm_frame.specs.Active.{IsActive, IsConstant, IsVariable, IsActiveSymbol}
+use Rattle.mm_frame.specs.Active.{IsConstant, IsVariable, IsActiveSymbol}
 use Rattle.mm_frame.specs.Frame.{AreMandatory, IsMandatoryPair}
 use Rattle.mm_frame.specs.Rules.{AllMeant}
 use Rattle.mm_frame.specs.Numbers.{symbols_of, IsNumbered, IsNumberOf, AreNumbers}
@@ -17,7 +17,6 @@ use Rattle.mm_frame.specs.declared.scheme.Scheme.{Scheme}
 use Rattle.mm_frame.specs.Taken.{kind_behind}
 use Rattle.mm_frame.specs.declared.number.LabelKind.{LabelKind}
 use Rattle.mm_frame.specs.declared.number.LabelKind.TheVariants as kinds
-use Rattle.mm_text.specs.declared.statement.Kind.{Kind}
 use Rattle.mm_frame.specs.Laws.{OneNumber}
 use Rattle.mm_frame.proofs.Meant.{meant_at, allmeant_front}
 use Rattle.mm_frame.proofs.Labelled.{numbered_get}
@@ -29,11 +28,13 @@ use Rattle.mm_proof.specs.Proof.{MeetsHypotheses, SomePair, Passed, IsWithin}
 use Rattle.mm_proof.specs.Steps.{IsNumberedMove}
 use Rattle.mm_proof.specs.Stores.{all_said_by}
 use Rattle.mm_proof.specs.Mirror.CodeVerify.{name_at, names_at, all_names_at, value_of, replaced_in, pairs_in, IsSymbol, AreDeclaredSymbols, AreStackEntries, AreBelow, IsRightCode, IsWrongCode, IsEqual, IsUnequal, EachEntry, EachPairValues, SomePairValues, Replaces, AreVariablesOf}
+use Rattle.mm_proof.specs.Mirror.CodeVerify.{IsVariableOf}
 use Rattle.mm_proof.specs.Plain.{label_ids}
 use Rattle.mm_proof.specs.Mirror.CodeSteps.{MayBeUsed}
 use Rattle.mm_proof.specs.Mirror.CodeRun.{CarriesOn, StopsAt}
 use Rattle.mm_proof.specs.Mirror.CodeApply.{IsAppliedAssertion, IsMatched, IsReady, IsEarlierScheme}
-use Rattle.mm_text.proofs.Lists.{get_take, get_from_take}
+use Rattle.mm_text.proofs.Lists.{get_take, get_from_take, all_weaker, all_append, all_front}
+use Rattle.mm_text.proofs.Lists.{all_back, all_push, zip_length}
 use Rattle.mm_proof.proofs.OneStep.{StepTo, not_both_kinds}
 use Rattle.mm_proof.proofs.Replacements.{replaced_by, meets_of}
 use Rattle.mm_proof.proofs.Replacing.{replaces_by, replaced_named}
@@ -41,7 +42,8 @@ use Rattle.mm_proof.proofs.Named.{name_is, named_is, below_is, typed_variables}
 use Rattle.mm_proof.proofs.Values.{pattern_says}
 use Rattle.mm_proof.proofs.Shared.{value_symbols, symbols_below}
 use Rattle.mm_proof.proofs.Turned.{share_turned, distinct_share_none, apart_turned}
-use Rattle.mm_proof.proofs.Firsts.{EachPair, first_P8, first_P9, first_P10, first_P11, first_P12, first_L1, step_of_meets, step_of_hypothesis}
+use Rattle.mm_proof.proofs.Judged.{below_P8, step_of_hypothesis}
+use Rattle.mm_proof.proofs.Firsts.{EachPair, below_P9, below_P10, below_P11, below_P12, first_L1, step_of_meets}
 use Rattle.mm_proof.proofs.Forward.{passed_name}
 use Rattle.mm_proof.proofs.Running.{named_push}
 
@@ -64,11 +66,6 @@ names_of st place id at ids hs label c move =
       mandatory = subst (λ (l : List Sentence). AreMandatory l c.s hs) (sym (take-take at place st (omega (arith, c.before)))) c.mandatory;
     }
 
--- the stack by names is cut where the one by numbers is
-named_split : (st : List Sentence) (stack : List (List ℕ)) (base : ℕ) → all_names_at st stack ≡ all_names_at st (take base stack) ++ all_names_at st (drop base stack)
-named_split st stack base =
-    ap (λ l. all_names_at st l) (sym (take-append-drop base stack)) ∙ map-append (λ (e : List ℕ). map (name_at st) e) (take base stack) (drop base stack)
-
 named_count : (st : List Sentence) (entries : List (List ℕ)) → length (all_names_at st entries) ≡ length entries
 named_count st entries = length-map entries (λ (e : List ℕ). map (name_at st) e)
 
@@ -77,7 +74,10 @@ abbrev met : (st : List Sentence) (place id at : ℕ) (ids : List ℕ) (hs : Lis
     → IsAppliedAssertion st place id at ids hs → IsNumberedMove st (name id) (name label) → length (drop base stack) ≡ length hs → MeetsHypotheses (take place st) (all_names_at st stack) label
 met st place id at ids hs label stack base all c move paired =
     meets_of (take place st) (all_names_at st stack) label at c.s hs (all_names_at st (take base stack)) (all_names_at st (drop base stack)) (allmeant_front st place all)
-    (names_of st place id at ids hs label c move) (named_split st stack base) (named_count st (drop base stack) ∙ paired)
+    (names_of st place id at ids hs label c move)
+    (ap (all_names_at st) (sym (take-append-drop base stack))
+    ∙ map-append (names_at st) (take base stack) (drop base stack))
+    (named_count st (drop base stack) ∙ paired)
 
 -- ---- pairs
 
@@ -92,19 +92,26 @@ value_at st σ vs es x n e r number value =
 pub stops_P8 : (limit : ℕ) (st : List Sentence) (place id at : ℕ) (ids : List ℕ) (hs : List Sentence) (stack : List (List ℕ)) → IsAppliedAssertion st place id at ids hs → length stack < length hs
     → StopsAt limit st place id stack P8
 stops_P8 limit st place id at ids hs stack c short label kept move =
-    first_P8 (IsWithin limit) (take place st) (all_names_at st stack) kept label at c.s hs (names_of st place id at ids hs label c move)
-    (omega (arith, short, named_count st stack))
+    let names = names_of st place id at ids hs label c move in
+    record {
+      broken = (at, c.s, hs, names, omega (arith, short, named_count st stack));
+      first = below_P8 (IsWithin limit) (take place st) (all_names_at st stack) label;
+    }
 
 pub stops_P9 : (limit : ℕ) (st : List Sentence) (place id at : ℕ) (ids : List ℕ) (hs : List Sentence) (stack : List (List ℕ)) (base : ℕ) → AllMeant st → IsAppliedAssertion st place id at ids hs
     → length (drop base stack) ≡ length hs → SomePair hs (all_names_at st (drop base stack)) IsWrongCode → StopsAt limit st place id stack P9
 stops_P9 limit st place id at ids hs stack base all c paired pair label kept move =
-    first_P9 (IsWithin limit) (take place st) (all_names_at st stack) kept label (met st place id at ids hs label stack base all c move paired) (allmeant_front st place all) pair
+    let m = met st place id at ids hs label stack base all c move paired in
+    let front = allmeant_front st place all in
+    record { broken = (m, pair); first = below_P9 (IsWithin limit) _ _ _ m front }
 
 pub stops_P10 : (limit : ℕ) (st : List Sentence) (place id at : ℕ) (ids : List ℕ) (hs : List Sentence) (stack : List (List ℕ)) (base : ℕ) → AllMeant st → IsAppliedAssertion st place id at ids hs
     → length (drop base stack) ≡ length hs → EachEntry hs (all_names_at st (drop base stack)) IsRightCode
     → SomePair hs (all_names_at st (drop base stack)) (IsUnequal (replaced_by hs (all_names_at st (drop base stack)))) → StopsAt limit st place id stack P10
 stops_P10 limit st place id at ids hs stack base all c paired codes pair label kept move =
-    first_P10 (IsWithin limit) (take place st) (all_names_at st stack) kept label (met st place id at ids hs label stack base all c move paired) (allmeant_front st place all) codes pair
+    let m = met st place id at ids hs label stack base all c move paired in
+    let front = allmeant_front st place all in
+    record { broken = (m, pair); first = below_P10 (IsWithin limit) _ _ _ m front codes }
 
 -- the pair of names behind a pair of numbers, with what replaces it
 pair_found : (st : List Sentence) (place id at : ℕ) (ids : List ℕ) (hs : List Sentence) (pairs : List (ℕ × ℕ)) → (c : IsAppliedAssertion st place id at ids hs)
@@ -152,12 +159,16 @@ pub stops_P11 : (limit : ℕ) → OneNumber → (st : List Sentence) (place id a
     → EachEntry hs (all_names_at st (drop base stack)) IsRightCode → EachEntry hs (all_names_at st (drop base stack)) (IsEqual (replaced_by hs (all_names_at st (drop base stack))))
     → SomePairValues (value_of vs (drop base stack)) pairs (λ e f. ¬ (ShareNoVariable (take place st) (names_at st e) (names_at st f))) → StopsAt limit st place id stack P11
 stops_P11 limit one st place id at ids hs stack base vs pairs all c paired typed mand codes equal found label kept move =
+    let m = met st place id at ids hs label stack base all c move paired in
     let r = replaces_by one st vs hs (drop base stack) typed in
     let σ = replaced_by hs (all_names_at st (drop base stack)) in
     let p = pair_found st place id at ids hs pairs c mand found.0 found.1 found.2 in
-    first_P11 (IsWithin limit) (take place st) (all_names_at st stack) kept label (met st place id at ids hs label stack base all c move paired) (allmeant_front st place all) codes equal
-    p.0 p.1 (names_at st found.3.0) (names_at st found.3.1) p.4
-    (value_at st σ vs (drop base stack) p.0 found.1.0 found.3.0 r p.2 found.3.2) (value_at st σ vs (drop base stack) p.1 found.1.1 found.3.1 r p.3 found.3.3) found.3.4
+    let at_x = value_at st σ vs (drop base stack) p.0 found.1.0 found.3.0 r p.2 found.3.2 in
+    let at_y = value_at st σ vs (drop base stack) p.1 found.1.1 found.3.1 r p.3 found.3.3 in
+    record {
+      broken = (m, p.0, p.1, _, _, p.4, at_x, at_y, found.3.4);
+      first = below_P11 (IsWithin limit) _ _ _ m (allmeant_front st place all) codes equal;
+    }
 
 pub stops_P12 : (limit : ℕ) → OneNumber → (st : List Sentence) (place id at : ℕ) (ids : List ℕ) (hs : List Sentence) (stack : List (List ℕ)) (base : ℕ) (vs : List (Option ℕ)) (pairs : List (ℕ × ℕ)) → AllMeant st
     → IsAppliedAssertion st place id at ids hs → length (drop base stack) ≡ length hs → AreVariablesOf st vs hs → ArePairs (record { statements = st; place = at }) pairs
@@ -165,20 +176,20 @@ pub stops_P12 : (limit : ℕ) → OneNumber → (st : List Sentence) (place id a
     → EachPairValues (value_of vs (drop base stack)) pairs (λ e f. ShareNoVariable (take place st) (names_at st e) (names_at st f))
     → SomePairValues (value_of vs (drop base stack)) pairs (λ e f. ¬ (AreDistinct (take place st) (names_at st e) (names_at st f))) → StopsAt limit st place id stack P12
 stops_P12 limit one st place id at ids hs stack base vs pairs all c paired typed mand codes equal share found label kept move =
+    let m = met st place id at ids hs label stack base all c move paired in
+    let apart = each_pair one st place id at ids hs label stack base vs pairs _
+    (share_turned (take place st)) all c move paired typed mand share in
     let r = replaces_by one st vs hs (drop base stack) typed in
     let σ = replaced_by hs (all_names_at st (drop base stack)) in
     let p = pair_found st place id at ids hs pairs c mand found.0 found.1 found.2 in
-    first_P12 (IsWithin limit) (take place st) (all_names_at st stack) kept label (met st place id at ids hs label stack base all c move paired) (allmeant_front st place all) codes equal
-    (each_pair one st place id at ids hs label stack base vs pairs (ShareNoVariable (take place st)) (share_turned (take place st)) all c move paired typed mand share)
-    p.0 p.1 (names_at st found.3.0) (names_at st found.3.1) p.4
-    (value_at st σ vs (drop base stack) p.0 found.1.0 found.3.0 r p.2 found.3.2) (value_at st σ vs (drop base stack) p.1 found.1.1 found.3.1 r p.3 found.3.3) found.3.4
+    let at_x = value_at st σ vs (drop base stack) p.0 found.1.0 found.3.0 r p.2 found.3.2 in
+    let at_y = value_at st σ vs (drop base stack) p.1 found.1.1 found.3.1 r p.3 found.3.3 in
+    record {
+      broken = (m, p.0, p.1, _, _, p.4, at_x, at_y, found.3.4);
+      first = below_P12 (IsWithin limit) _ _ _ m (allmeant_front st place all) codes equal apart;
+    }
 
 -- ---- what the step makes
-
-pub typed_count : (st : List Sentence) (vs : List (Option ℕ)) (hs : List Sentence) → AreVariablesOf st vs hs → length vs ≡ length hs
-typed_count st [] [] all = refl
-typed_count st (v ∷ vs) (h ∷ hs) all = ap suc (typed_count st vs hs all.1)
-typed_count st vs hs all = absurd all
 
 -- what is made, by names
 made_named : OneNumber → (st : List Sentence) (hs : List Sentence) (vs : List (Option ℕ)) (es : List (List ℕ)) (pattern : List ℕ) (symbols : List (List ℕ)) → AreVariablesOf st vs hs
@@ -191,7 +202,7 @@ step_to : OneNumber → (st : List Sentence) (place id at : ℕ) (label : List �
     → (ready : IsReady st place id at vs (drop base stack) conclusion) → length (drop base stack) ≡ length vs → IsNumberedMove st (name id) (name label)
     → StepTo (take place st) (all_names_at st stack) label (all_names_at st (take base stack)) (instance_of (replaced_by ready.hs (all_names_at st (drop base stack))) ready.called.s.symbols)
 step_to one st place id at label stack base vs conclusion all ready as_many move =
-    let paired = as_many ∙ typed_count st vs ready.hs ready.typed in
+    let paired = as_many ∙ zip_length (IsVariableOf st) vs ready.hs ready.typed in
     let r = replaces_by one st vs ready.hs (drop base stack) ready.typed in
     let apart = each_pair one st place id at ready.ids ready.hs label stack base vs ready.pairs (AreDistinct (take place st)) (apart_turned (take place st)) all ready.called move paired ready.typed ready.mandatory ready.matched.apart in
     step_of_meets (take place st) (all_names_at st stack) label (met st place id at ready.ids ready.hs label stack base all ready.called move paired)
@@ -256,10 +267,6 @@ pub known_symbols : (st : List Sentence) (place at : ℕ) (s : Sentence) (patter
 known_symbols st place at s pattern all there less in_use numbers =
     known_from st place pattern s.symbols numbers (λ x has none. meant_at st at s all there M7 (in_use, (x, has, (λ active. none (declared_here st place at x less active)))))
 
-symbols_append : (st before : List Sentence) (a b : List ℕ) → AreDeclaredSymbols st before a → AreDeclaredSymbols st before b → AreDeclaredSymbols st before (a ++ b)
-symbols_append st before [] b x y = y
-symbols_append st before (n ∷ a) b x y = (x.0, symbols_append st before a b x.1 y)
-
 piece_symbols : (st before : List Sentence) (n : ℕ) (o : Option (List ℕ)) → IsSymbol st before n → ((v : List ℕ) → o ≡ Some v → AreDeclaredSymbols st before v) → AreDeclaredSymbols st before (unwrap_or o (n ∷ []))
 piece_symbols st before n None is some = (is, tt)
 piece_symbols st before n (Some v) is some = some v refl
@@ -268,24 +275,20 @@ replaced_symbols : (st before : List Sentence) (vs : List (Option ℕ)) (es : Li
     → AreDeclaredSymbols st before (replaced_in (value_of vs es) ns)
 replaced_symbols st before vs es [] all are = tt
 replaced_symbols st before vs es (n ∷ ns) all are =
-    symbols_append st before _ _ (piece_symbols st before n (value_of vs es n) are.0 (λ v is. value_symbols st before vs es n v all is)) (replaced_symbols st before vs es ns all are.1)
+    all_append (IsSymbol st before) _ _
+    (piece_symbols st before n (value_of vs es n) are.0 (λ v is. value_symbols st before vs es n v all is)) (replaced_symbols st before vs es ns all are.1)
 
-pub entries_push : (st before : List Sentence) (rest : List (List ℕ)) (made : List ℕ) → AreStackEntries st before rest → AreDeclaredSymbols st before made → AreStackEntries st before (rest ++ made ∷ [])
-entries_push st before [] made all are = (are, tt)
-entries_push st before (e ∷ rest) made all are = (all.0, entries_push st before rest made all.1 are)
+entries_drop : (st before : List Sentence) (n : ℕ) (entries : List (List ℕ)) → AreStackEntries st before entries → AreStackEntries st before (drop n entries)
+entries_drop st before n entries all =
+    all_back (AreDeclaredSymbols st before) (take n entries) (drop n entries)
+    (rw (take-append-drop n entries) all)
 
-pub entries_drop : (st before : List Sentence) (n : ℕ) (entries : List (List ℕ)) → AreStackEntries st before entries → AreStackEntries st before (drop n entries)
-entries_drop st before zero entries all = all
-entries_drop st before (suc n) [] all = tt
-entries_drop st before (suc n) (e ∷ entries) all = entries_drop st before n entries all.1
-
-pub entries_take : (st before : List Sentence) (n : ℕ) (entries : List (List ℕ)) → AreStackEntries st before entries → AreStackEntries st before (take n entries)
-entries_take st before (suc n) (e ∷ entries) all = (all.0, entries_take st before n entries all.1)
-entries_take st before n entries all = tt
-
-pub entries_below : (st before : List Sentence) (entries : List (List ℕ)) → AreStackEntries st before entries → AllByRecursion (AreBelow st) entries
-entries_below st before [] all = tt
-entries_below st before (e ∷ entries) all = (symbols_below st before e all.0, entries_below st before entries all.1)
+-- the numbers on the stack past a place are those of symbols
+pub drop_below : (st before : List Sentence) (base : ℕ) (stack : List (List ℕ))
+    → AreStackEntries st before stack → AllByRecursion (AreBelow st) (drop base stack)
+drop_below st before base stack entries =
+    all_weaker (AreDeclaredSymbols st before) (AreBelow st) (symbols_below st before)
+    (drop base stack) (entries_drop st before base stack entries)
 
 pub made_entries : (st : List Sentence) (place id at : ℕ) (stack : List (List ℕ)) (base : ℕ) (vs : List (Option ℕ)) (conclusion : List Piece) (made : List ℕ) → AllMeant st
     → IsReady st place id at vs (drop base stack) conclusion → length (drop base stack) ≡ length vs
@@ -293,18 +296,17 @@ pub made_entries : (st : List Sentence) (place id at : ℕ) (stack : List (List 
 made_entries st place id at stack base vs conclusion made all ready as_many is entries =
     let pattern = ready.concluded.0 in
     let known = known_symbols st place at ready.called.s pattern all ready.called.numbered.there ready.called.before (inr (inr (inr ready.called.kind))) ready.concluded.1 in
-    entries_push st (take place st) (take base stack) made (entries_take st (take place st) base stack entries)
+    all_push (AreDeclaredSymbols st (take place st)) (take base stack) made
+    (all_front _ (take base stack) (drop base stack) (rw (take-append-drop base stack) entries))
     (subst (AreDeclaredSymbols st (take place st)) (sym (is ∙ made_is st place id at vs (drop base stack) conclusion as_many ready))
     (replaced_symbols st (take place st) vs (drop base stack) pattern (entries_drop st (take place st) base stack entries) known))
 
 -- one side of a test
 pub match_true : (b : Bool) (P Q : Type 0) → b ≡ true → MatchBool b P Q → P
-match_true true P Q is h = h
-match_true false P Q is h = absurd (false≢true is)
+match_true b P Q is h = MatchBool-at_true P Q is h
 
 pub match_false : (b : Bool) (P Q : Type 0) → b ≡ false → MatchBool b P Q → Q
-match_false true P Q is h = absurd (false≢true (sym is))
-match_false false P Q is h = h
+match_false b P Q is h = MatchBool-at_false P Q is h
 
 -- ---- what the frame tells
 
@@ -346,14 +348,11 @@ is_assertion_kind kinds.Essential f e = absurd (e refl)
 is_assertion_kind kinds.Axiom f e = inl refl
 is_assertion_kind kinds.Proof f e = inr refl
 
--- what may be used is an active hypothesis, or an assertion
-pub is_active_hypothesis : (st : List Sentence) (place : ℕ) (label : List ℕ) (id : ℕ) → (u : MayBeUsed st place label id) → IsHypothesis u.s.kind → IsActive (take place st) u.at
-is_active_hypothesis st place label id u kind = ⊎_elim (λ h. h.1) (λ a. absurd (not_both_kinds u.s.kind kind a)) u.kind
-
 hypothesis_step : (st : List Sentence) (place id : ℕ) (used label : List ℕ) (stack : List (List ℕ)) → (u : MayBeUsed st place used id) → IsHypothesis u.s.kind
     → IsNumberedMove st (name id) (name label) → StepTo (take place st) (all_names_at st stack) label (all_names_at st stack) u.s.symbols
 hypothesis_step st place id used label stack u kind move =
-    step_of_hypothesis (take place st) (all_names_at st stack) label u.at u.s (get_take st place u.at u.before ∙ u.numbered.there) (is_active_hypothesis st place used id u kind)
+    step_of_hypothesis (take place st) (all_names_at st stack) label u.at u.s (get_take st place u.at u.before ∙ u.numbered.there)
+    (⊎_elim (λ h. h.1) (λ a. absurd (not_both_kinds u.s.kind kind a)) u.kind)
     (label_of st id u.at u.s label u.numbered move) kind
 
 pub stops_long : (limit : ℕ) (st : List Sentence) (place id : ℕ) (used : List ℕ) (stack : List (List ℕ)) (expression : List ℕ) → AllMeant st → (u : MayBeUsed st place used id) → IsHypothesis u.s.kind
@@ -374,12 +373,9 @@ pushes limit st place id used stack expression all u kind numbers within label m
     (hypothesis_step st place id used label stack u kind move) (subst (IsWithin limit) is fits) in
     subst (λ l. Passed (IsWithin limit) (take place st) (moves ++ name label ∷ []) l kept) (sym (named_push st stack expression ∙ ap (λ x. all_names_at st stack ++ x ∷ []) is)) next
 
-hypothesis_use : (k : Kind) → IsHypothesis k → IsUse k
-hypothesis_use k (inl f) = inr (inl f)
-hypothesis_use k (inr e) = inr (inr (inl e))
-
 pub pushed_entries : (st : List Sentence) (place id : ℕ) (used : List ℕ) (stack : List (List ℕ)) (expression : List ℕ) → AllMeant st → (u : MayBeUsed st place used id) → IsHypothesis u.s.kind
     → AreNumbers st expression u.s.symbols → AreStackEntries st (take place st) stack → AreStackEntries st (take place st) (stack ++ expression ∷ [])
 pushed_entries st place id used stack expression all u kind numbers entries =
-    entries_push st (take place st) stack expression entries
-    (known_symbols st place u.at u.s expression all u.numbered.there u.before (hypothesis_use u.s.kind kind) numbers)
+    all_push (AreDeclaredSymbols st (take place st)) stack expression entries
+    (known_symbols st place u.at u.s expression all u.numbered.there u.before
+    (⊎_elim (λ f. inr (inl f)) (λ e. inr (inr (inl e))) kind) numbers)

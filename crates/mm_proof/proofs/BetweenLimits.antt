@@ -1,6 +1,6 @@
 -- A proof within the smaller limit is one within the greater, so that under the strict profile
 -- nothing but its form is at fault.
-use Rattle.std.proofs.Common.{◌≡◌, ℕ, ◌≤◌, List, length, inl, inr, arith}
+use Rattle.std.proofs.Common.{◌≡◌, ℕ, List, inl, inr, arith}
 use Rattle.mm_frame.specs.Sentence.{Sentence}
 use Rattle.mm_frame.specs.Rules.{AllMeant}
 use Rattle.mm_proof.specs.declared.fault.ProofRule.{ProofRule}
@@ -20,12 +20,9 @@ within_strict before s tokens p = record {
   whole = p.1.whole;
   moves = p.1.moves;
   said = p.1.said;
-  proves = prove_looser (IsWithin (limit_of Lenient)) (IsWithin (limit_of Strict)) wider before s
-      p.1.moves p.1.proves;
+  proves = prove_looser (IsWithin (limit_of Lenient)) (IsWithin (limit_of Strict))
+      (λ e less. omega (arith, less)) before s p.1.moves p.1.proves;
 }
-  where
-    wider : (e : List (List ℕ)) → length e ≤ 1048576 → length e ≤ 16777216
-    wider e less = omega (arith, less)
 
 -- what is at fault with it under the strict profile is its form
 pub only_form : (before : List Sentence) (s : Sentence) (tokens : List (List ℕ))

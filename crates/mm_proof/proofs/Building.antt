@@ -1,11 +1,12 @@
 -- What is built of the moves so far.
-use Rattle.std.proofs.Common.{◌≡◌, ℕ, zero, suc, ◌+◌, ◌-◌, ◌<◌, ◌≤◌, List, [], ◌∷◌, ◌++◌, length, take, drop, slice_get, get_or, Some, Result, IfErr, refl, sym, ap, subst, ◌∙◌, arith}
+use Rattle.std.proofs.Common.{◌≡◌, ℕ, ◌+◌, ◌-◌, ◌<◌, ◌≤◌, List, [], ◌∷◌, ◌++◌, length, take, drop, slice_get, get_or, Some, Result, IfErr, refl, sym, ap, subst, ◌∙◌, arith}
 use Rattle.std.specs.List.{AllZip, AllByRecursion}
 use Rattle.std.specs.Result.{IsErrAnd}
-use Rattle.std.proofs.lemmas.Option.{same_Some, none-some, slice_get_within}
+use Rattle.std.proofs.lemmas.Option.{same_Some, slice_get_within, get_or_from_slice_get}
 use Rattle.std.proofs.lemmas.Result.{err_from_is_err_and}
 use Rattle.std.proofs.lemmas.Slice.Zip.{AllZip-long}
-use Rattle.std.proofs.lemmas.List.{length-map, length-append, length-drop, take-append-drop, drop_all}
+use Rattle.std.proofs.lemmas.List.{length-map, length-append, length-drop, take-append-drop}
+use Rattle.std.proofs.lemmas.List.{drop_all, drop_more}
 use Rattle.mm_text.proofs.Lists.{zip_push, zip_left, zip_right, all_at}
 use Rattle.mm_frame.specs.Sentence.{Sentence}
 use Rattle.mm_frame.specs.Rules.{AllMeant}
@@ -31,13 +32,7 @@ handed {X} {F} {Gives} Q r is all = let p = err_from_is_err_and r is in subst (�
 -- ---- the word only grows
 
 spelled_over : (rest below : Trees) (label : List ℕ) → length (spelling (beside rest (tree label below none))) ≡ length (spelling (beside rest below)) + 1
-spelled_over rest below label =
-    let a = ap length (spelling-beside rest (tree label below none)) in
-    let b = length-append (spelling rest) (spelling below ++ label ∷ []) in
-    let c = length-append (spelling below) (label ∷ []) in
-    let d = ap length (spelling-beside rest below) in
-    let e = length-append (spelling rest) (spelling below) in
-    omega arith
+spelled_over rest below label = simp (spelling-beside, length-append) (omega arith)
 
 spelled_again : (row t : Trees) → length (spelling (beside row t)) ≡ length (spelling row) + length (spelling t)
 spelled_again row t = ap length (spelling-beside row t) ∙ length-append (spelling row) (spelling t)
@@ -79,11 +74,6 @@ make_tree_at st id xs ys place s names label below all steps same proof numbered
 
 -- ---- the next move
 
-drop_at : {X : Type 0} (xs : List X) (i : ℕ) (x : X) → slice_get xs i ≡ Some x → drop i xs ≡ x ∷ drop (suc i) xs
-drop_at [] i x e = absurd (none-some x e)
-drop_at (y ∷ xs) zero x e = ap (λ z. z ∷ xs) (same_Some y x e)
-drop_at (y ∷ xs) (suc i) x e = drop_at xs i x e
-
 record Next {X : Type 0} (held : Holding X) (st : List Sentence) (moves : List NumberedMove) (m : MakeTreeAt st (moves_in moves)) (i : ℕ) (stack shelf : List X) (x : Move ℕ) (h : At held st moves m i stack shelf) : Type 0 where
   move : Move (List ℕ)
   numbered : IsNumberedMove st x move
@@ -98,9 +88,8 @@ next : {X : Type 0} (held : Holding X) (st : List Sentence) (moves : List Number
 next {X} held st moves m i stack shelf d x h less is =
     let here = move_at moves i d less ∙ ap (λ y. Some (move_in y)) is in
     let at = zip_left (IsNumberedMove st) (moves_in moves) m.names i (move_in x) m.numbered here in
-    let split : drop i m.names ≡ at.0 ∷ drop (i + 1) m.names = drop_at m.names i at.0 at.1 ∙ ap (λ (k : ℕ). at.0 ∷ drop k m.names) (let e : suc i ≡ i + 1 = omega arith in e) in
-    let left : Makes (take m.place st) (at.0 ∷ drop (i + 1) m.names) h.row h.kept (tree m.label m.below none) m.makes.kept =
-    subst (λ (l : List (Move (List ℕ))). Makes (take m.place st) l h.row h.kept (tree m.label m.below none) m.makes.kept) split h.made in
+    let split = drop_more m.names i at.0 (slice_get_within m.names i at.0 at.1) in
+    let left = rw (split, get_or_from_slice_get m.names i at.0 at.0 at.1) at h.made in
     record { move = at.0; numbered = at.2; usable = all_at (MayBeMade st m.place) (moves_in moves) i (move_in x) m.usable here; row' = left.0; kept' = left.1; one = left.2; others = left.3 }
 
 -- a step by a label, by the trees that it takes
@@ -275,8 +264,7 @@ pub only_item : {X : Type 0} (held : Holding X) (st : List Sentence) (moves : Li
     → (item : X) × (stack ≡ item ∷ []) × IsBuilt held m.names (tree m.label m.below none) item
 only_item {X} held st moves m i stack shelf all most h =
     let long : length m.names ≡ length moves = AllZip-long (IsNumberedMove st) (moves_in moves) m.names m.numbered ∙ length-map moves move_in in
-    let made : Makes (take m.place st) [] h.row h.kept (tree m.label m.below none) m.makes.kept =
-    subst (λ (l : List (Move (List ℕ))). Makes (take m.place st) l h.row h.kept (tree m.label m.below none) m.makes.kept) (drop_all i m.names (omega arith)) h.made in
+    let made = rw (drop_all i m.names (omega arith)) at h.made in
     let one = one_item stack (h.deep ∙ ap roots (sym made.0)) in (
       one.0,
       one.1,

@@ -9,7 +9,7 @@ use Rattle.mm_proof.specs.Proof.{IsWithin, IsWhole, Prove, IsProvedWithin}
 use Rattle.mm_proof.specs.Laws.{OneWord, MadeByWord, ProveByWord, ByWord, IsSpelledWithin, BySpelling}
 use Rattle.mm_proof.proofs.Making.{makes_once, derive_fits, fit_makes}
 use Rattle.mm_proof.proofs.SaidMoves.{normal_or_compressed}
-use Rattle.mm_proof.proofs.Expanded.{names_spell, made_words, made_word, made_of_word, one_word}
+use Rattle.mm_proof.proofs.Expanded.{names_spell, made_words, made_word, made_of_word, expands_once}
 
 pub by_word_for : (Fits : List (List ℕ) → Type 0) (before : List Sentence) (s : Sentence) (moves : List (Move (List ℕ))) → AllMeant before → Prove Fits before s moves ↔ ProveByWord Fits before s moves
 by_word_for Fits before s moves all = (
@@ -19,7 +19,8 @@ by_word_for Fits before s moves all = (
 )
 
 pub one_word_holds : OneWord
-one_word_holds before moves v w all p q = one_word before moves v w all p q
+one_word_holds before moves v w all p q =
+    (expands_once before moves [] v w [] p.0 q.0 all p.1 q.1).0
 
 pub made_by_word_holds : MadeByWord
 made_by_word_holds before moves trees = (

@@ -8,14 +8,14 @@ use Rattle.std.proofs.lemmas.List.Sums.{sum_by-cons, sum_by-append}
 use Rattle.mm_code.specs.declared.code.Code.{Code}
 use Rattle.mm_code.specs.declared.code.Code.TheVariants.{Number, Tag}
 use Rattle.mm_frame.specs.Sentence.{Sentence}
-use Rattle.mm_proof.specs.Tree.{Trees, none, tree, spelling, beside, roots}
+use Rattle.mm_proof.specs.Tree.{Trees, none, tree, beside, roots}
 use Rattle.mm_proof.specs.Moves.{Move, name, again, mark, is_step, steps_in, Makes}
 use Rattle.mm_proof.specs.Tokens.{Says}
 use Rattle.mm_proof.specs.BigSubtrees.{nodes, IsBig, children, IsSubtree}
-use Rattle.mm_proof.specs.Visits.{Visit, makes, repeats, keeps, visits, trees_made}
+use Rattle.mm_proof.specs.Visits.{Visit, makes, keeps, visits, trees_made}
 use Rattle.mm_proof.specs.Sharing.{is_number, steps_of}
 use Rattle.mm_proof.proofs.Making.{roots-beside}
-use Rattle.mm_proof.proofs.Members.{In, get_in, in_left, in_right, in_apart, Once}
+use Rattle.mm_proof.proofs.Members.{In, get_in, in_left, in_right, in_apart, in_push, Once}
 use Rattle.mm_proof.proofs.Covers.{AreOnes, ones_push}
 use Rattle.mm_proof.proofs.Tidy.{Tidy}
 
@@ -41,9 +41,12 @@ pub said_steps : (labels : List (List ℕ)) (codes : List Code) (moves : List (M
     → AllZip (Says labels) codes moves → steps_of codes ≡ steps_in moves
 said_steps labels [] [] p = refl
 said_steps labels (code ∷ codes) (move ∷ moves) p =
-    codes_more code codes ∙ ap (λ b. cond b 1 0 + steps_of codes) (code_steps labels code move p.0)
-    ∙ ap (λ n. cond (is_step move) 1 0 + n) (said_steps labels codes moves p.1)
-    ∙ sym (steps_more move moves)
+    rw (
+      codes_more code codes,
+      steps_more move moves,
+      code_steps labels code move p.0,
+      said_steps labels codes moves p.1,
+    ) refl
 said_steps labels codes moves p = absurd p
 
 -- each step adds a tree, and takes the children of what it makes
@@ -52,24 +55,20 @@ pub steps_children : (before : List Sentence) (moves : List (Move (List ℕ))) (
     (m : Makes before moves row kept row' kept') → AreOnes kept
     → steps_in moves + roots row ≡ roots row' + sum_by children
     (trees_made (visits before moves row kept row' kept' m))
-steps_children before [] row kept row' kept' m ones = let e = ap roots m.0 in let none_left : sum_by
-    children [] ≡ 0 = refl in omega arith
+steps_children before [] row kept row' kept' m ones = omega (arith, ap roots m.0)
 steps_children before (name label ∷ moves) row kept row' kept' m ones =
     let t : Trees = tree label m.2.1 none in
-    let later : List Trees = trees_made (visits before moves m.0 m.1 row' kept' m.3) in
     let ih = steps_children before moves m.0 m.1 row' kept' m.3 (subst AreOnes (sym m.2.5) ones) in
     let s = steps_more (name label) moves in
-    let c = sum_by-cons children t later in
+    let c = sum_by-cons children t (trees_made (visits before moves m.0 m.1 row' kept' m.3)) in
     let taken : roots row ≡ roots m.2.0 + roots m.2.1 = ap roots m.2.2 ∙ roots-beside m.2.0 m.2.1 in
     let put : roots m.0 ≡ roots m.2.0 + 1 = ap roots m.2.4 ∙ roots-beside m.2.0 t in
-    let kids : children t ≡ roots m.2.1 = refl in
     omega arith
 steps_children before (again tag ∷ moves) row kept row' kept' m ones =
     let one = ones m.2.0 (get_in kept tag m.2.0 m.2.1) in
     let ih = steps_children before moves m.0 m.1 row' kept' m.3 (subst AreOnes (sym m.2.3) ones) in
     let s = steps_more {X = List ℕ} (again tag) moves in
-    let put : roots m.0 ≡ roots row + 1 = ap roots m.2.2 ∙ roots-beside row m.2.0
-    ∙ ap (λ n. roots row + n) (ap roots one.2) in
+    let put = ap roots m.2.2 ∙ roots-beside row m.2.0 ∙ ap (λ n. roots row + n) (ap roots one.2) in
     omega arith
 steps_children before (mark ∷ moves) row kept row' kept' m ones =
     let ih = steps_children before moves m.0 m.1 row' kept' m.3
@@ -104,62 +103,45 @@ pub subtrees_made : (P : Trees → Type 0) (before : List Sentence) (moves : Lis
     → ((t u : Trees) → In kept t → IsSubtree t u → P u)
     → ((u : Trees) → In (trees_made (visits before moves row kept row' kept' m)) u → P u)
     → (u : Trees) → IsSubtree row' u → P u
-subtrees_made P before [] row kept row' kept' m has keeps_all made = λ u h. has u
-    (subst (λ r. IsSubtree r u) m.0 h)
+subtrees_made P before [] row kept row' kept' m has keeps_all made = λ u h. has u (rw m.0 at h)
 subtrees_made P before (name label ∷ moves) row kept row' kept' m has keeps_all made =
     let t : Trees = tree label m.2.1 none in
-    let next : (u : Trees) → IsSubtree m.0 u → P u = λ u h. ⊎_elim
-    (λ a. has u (subst (λ r. IsSubtree r u) (sym m.2.2) (sub_left m.2.0 m.2.1 u a)))
-    (λ b. of_new t u has_below made b)
-    (sub_apart m.2.0 t u (subst (λ r. IsSubtree r u) m.2.4 h)) in
+    let next : (u : Trees) → IsSubtree m.0 u → P u = λ u h.
+    elim (sub_apart m.2.0 t u (rw m.2.4 at h)) [
+      | inl a ↦ has u (rw m.2.2 (sub_left m.2.0 m.2.1 u a))
+      | inr (inl e) ↦ made u (inl (sym e))
+      | inr (inr (inl b)) ↦ has u (rw m.2.2 (sub_right m.2.0 m.2.1 u b))
+      | inr (inr (inr z)) ↦ absurd z
+    ] in
     subtrees_made P before moves m.0 m.1 row' kept' m.3 next
-    (λ t u h. keeps_all t u (subst (λ k. In k t) m.2.5 h)) (λ u h. made u (inr h))
-  where
-    has_below : (u : Trees) → IsSubtree m.2.1 u → P u
-    has_below u h = has u (subst (λ r. IsSubtree r u) (sym m.2.2) (sub_right m.2.0 m.2.1 u h))
-
-    of_new : (t u : Trees) → ((u : Trees) → IsSubtree m.2.1 u → P u)
-        → ((u : Trees) → In (tree label m.2.1 none ∷ trees_made
-        (visits before moves m.0 m.1 row' kept' m.3)) u → P u)
-        → IsSubtree (tree label m.2.1 none) u → P u
-    of_new t u below all (inl e) = all u (inl (sym e))
-    of_new t u below all (inr (inl h)) = below u h
-    of_new t u below all (inr (inr h)) = absurd h
+    (λ t u h. keeps_all t u (rw m.2.5 at h)) (λ u h. made u (inr h))
 subtrees_made P before (again tag ∷ moves) row kept row' kept' m has keeps_all made =
-    let next : (u : Trees) → IsSubtree m.0 u → P u = λ u h. ⊎_elim
-    (λ a. has u a)
+    let next : (u : Trees) → IsSubtree m.0 u → P u = λ u h. ⊎_elim (λ a. has u a)
     (λ b. keeps_all m.2.0 u (get_in kept tag m.2.0 m.2.1) b)
-    (sub_apart row m.2.0 u (subst (λ r. IsSubtree r u) m.2.2 h)) in
+    (sub_apart row m.2.0 u (rw m.2.2 at h)) in
     subtrees_made P before moves m.0 m.1 row' kept' m.3 next
-    (λ t u h. keeps_all t u (subst (λ k. In k t) m.2.3 h)) made
+    (λ t u h. keeps_all t u (rw m.2.3 at h)) made
 subtrees_made P before (mark ∷ moves) row kept row' kept' m has keeps_all made =
     let t : Trees = tree m.2.1 m.2.2 none in
-    subtrees_made P before moves m.0 m.1 row' kept' m.3
-    (λ u h. has u (subst (λ r. IsSubtree r u) m.2.4 h))
-    (λ s u h k. ⊎_elim
-    (λ a. keeps_all s u a k)
-    (λ b. ⊎_elim
-    (λ e. has u (subst (λ r. IsSubtree r u) (sym m.2.3)
-    (sub_right m.2.0 t u (subst (λ x. IsSubtree x u) (sym e) k))))
-    (λ z. absurd z) b)
-    (in_apart kept (t ∷ []) s (subst (λ l. In l s) m.2.5 h))) made
+    subtrees_made P before moves m.0 m.1 row' kept' m.3 (λ u h. has u (rw m.2.4 at h))
+    (λ s u h k. ⊎_elim (λ a. keeps_all s u a k)
+    (λ e. has u (rw m.2.3 (sub_right m.2.0 t u (rw (← e) at k))))
+    (in_push kept t s (rw m.2.5 at h))) made
 
 -- what stands in a row stands in what is made of it
 pub sub_stays : (before : List Sentence) (moves : List (Move (List ℕ))) (row : Trees)
     (kept : List Trees) (row' : Trees) (kept' : List Trees) → Makes before moves row kept row' kept'
     → (u : Trees) → IsSubtree row u → IsSubtree row' u
-sub_stays before [] row kept row' kept' m u h = subst (λ r. IsSubtree r u) (sym m.0) h
+sub_stays before [] row kept row' kept' m u h = rw m.0 h
 sub_stays before (name label ∷ moves) row kept row' kept' m u h =
     let t : Trees = tree label m.2.1 none in
-    sub_stays before moves m.0 m.1 row' kept' m.3 u
-    (subst (λ r. IsSubtree r u) (sym m.2.4)
+    sub_stays before moves m.0 m.1 row' kept' m.3 u (rw m.2.4
     (⊎_elim (λ a. sub_left m.2.0 t u a) (λ b. sub_right m.2.0 t u (inr (inl b)))
-    (sub_apart m.2.0 m.2.1 u (subst (λ r. IsSubtree r u) m.2.2 h))))
+    (sub_apart m.2.0 m.2.1 u (rw m.2.2 at h))))
 sub_stays before (again tag ∷ moves) row kept row' kept' m u h =
-    sub_stays before moves m.0 m.1 row' kept' m.3 u
-    (subst (λ r. IsSubtree r u) (sym m.2.2) (sub_left row m.2.0 u h))
+    sub_stays before moves m.0 m.1 row' kept' m.3 u (rw m.2.2 (sub_left row m.2.0 u h))
 sub_stays before (mark ∷ moves) row kept row' kept' m u h =
-    sub_stays before moves m.0 m.1 row' kept' m.3 u (subst (λ r. IsSubtree r u) (sym m.2.4) h)
+    sub_stays before moves m.0 m.1 row' kept' m.3 u (rw m.2.4 h)
 
 -- each tree made is a subtree of what is made
 pub made_subtrees : (before : List Sentence) (moves : List (Move (List ℕ))) (row : Trees)
@@ -168,24 +150,19 @@ pub made_subtrees : (before : List Sentence) (moves : List (Move (List ℕ))) (r
     → (u : Trees) → In (trees_made (visits before moves row kept row' kept' m)) u → IsSubtree row' u
 made_subtrees before [] row kept row' kept' m u h = absurd h
 made_subtrees before (name label ∷ moves) row kept row' kept' m u (inl e) =
-    let t : Trees = tree label m.2.1 none in
     sub_stays before moves m.0 m.1 row' kept' m.3 u
-    (subst (λ r. IsSubtree r u) (sym m.2.4) (sub_right m.2.0 t u (inl (sym e))))
-made_subtrees before (name label ∷ moves) row kept row' kept' m u
-    (inr h) = made_subtrees before moves m.0 m.1 row' kept' m.3 u h
-made_subtrees before (again tag ∷ moves) row kept row' kept' m u h = made_subtrees before moves m.0
-    m.1 row' kept' m.3 u h
-made_subtrees before (mark ∷ moves) row kept row' kept' m u h = made_subtrees before moves m.0 m.1
-    row' kept' m.3 u h
+    (rw m.2.4 (sub_right m.2.0 (tree label m.2.1 none) u (inl (sym e))))
+made_subtrees before (name label ∷ moves) row kept row' kept' m u (inr h) =
+    made_subtrees before moves m.0 m.1 row' kept' m.3 u h
+made_subtrees before (move ∷ moves) row kept row' kept' m u h =
+    made_subtrees before moves m.0 m.1 row' kept' m.3 u h
 
 -- ---- big trees
 
 -- a small tree has no children
 pub small_children : (t : Trees) → nodes t < 2 → children t ≡ 0
 small_children (tree label (tree l b r) right) small =
-    let a = length-append (spelling b ++ l ∷ spelling r) (label ∷ spelling right) in
-    let c = length-append (spelling b) (l ∷ spelling r) in
-    absurd (omega arith)
+    absurd (omega (arith, simp length-append at small))
 small_children t small = refl
 
 -- each big tree of the list once
@@ -232,29 +209,26 @@ bigs_of (t ∷ ts) =
       }
     ]
 
+-- what is tidy stays so with its first visit done
+pub tidy_later : (x : Visit) (v done : List Visit) → Tidy done (x ∷ v) → Tidy (x ∷ done) v
+tidy_later (keeps t) v done c = c.2
+tidy_later x v done c = c.1
+
 -- tidy visits make each big tree once
 pub not_made_again : (v done : List Visit) (t : Trees) → Tidy done v → In done (makes t) → IsBig t
     → In (trees_made v) t → ⊥
 not_made_again [] done t c made big h = h
-not_made_again (makes u ∷ v) done t c made big (inl e) = c.0 (subst IsBig (sym e) big)
-    (subst (λ x. In done (makes x)) (sym e) made)
-not_made_again (makes u ∷ v) done t c made big (inr h) = not_made_again v (makes u ∷ done) t c.1
-    (inr made) big h
-not_made_again (repeats u ∷ v) done t c made big h = not_made_again v (repeats u ∷ done) t c.1
-    (inr made) big h
-not_made_again (keeps u ∷ v) done t c made big h = not_made_again v (keeps u ∷ done) t c.2
-    (inr made) big h
+not_made_again (makes u ∷ v) done t c made big (inl e) = c.0 (rw e big) (rw e made)
+not_made_again (makes u ∷ v) done t c made big (inr h) =
+    not_made_again v (makes u ∷ done) t c.1 (inr made) big h
+not_made_again (x ∷ v) done t c made big h =
+    not_made_again v (x ∷ done) t (tidy_later x v done c) (inr made) big h
 
 pub tidy_big_once : (v done : List Visit) → Tidy done v → BigOnce (trees_made v)
 tidy_big_once [] done c = tt
-tidy_big_once (makes t ∷ v) done
-    c = (
-      λ big again. not_made_again v (makes t ∷ done) t c.1 (inl refl) big again,
-      tidy_big_once v
-          (makes t ∷ done) c.1,
-    )
-tidy_big_once (repeats t ∷ v) done c = tidy_big_once v (repeats t ∷ done) c.1
-tidy_big_once (keeps t ∷ v) done c = tidy_big_once v (keeps t ∷ done) c.2
+tidy_big_once (makes t ∷ v) done c =
+    (not_made_again v (makes t ∷ done) t c.1 (inl refl), tidy_big_once v (makes t ∷ done) c.1)
+tidy_big_once (x ∷ v) done c = tidy_big_once v (x ∷ done) (tidy_later x v done c)
 
 -- ---- sums
 
@@ -276,10 +250,5 @@ sum_within {X} f (x ∷ xs) ys once within =
     (λ e. absurd (once.0 (subst (In xs) (sym e) h)))
     (λ k. in_right s.0 s.1 u k) b)
     (in_apart s.0 (x ∷ s.1) u (subst (λ l. In l u) s.2 (within u (inr h)))) in
-    let ih = sum_within f xs (s.0 ++ s.1) once.1 rest in
-    let a = sum_by-append f s.0 s.1 in
-    let b = sum_by-append f s.0 (x ∷ s.1) in
-    let c = sum_by-cons f x s.1 in
-    let d = sum_by-cons f x xs in
-    let e = ap (sum_by f) s.2 in
-    omega arith
+    let ih = simp (sum_by-append f) at (sum_within f xs (s.0 ++ s.1) once.1 rest) in
+    rw s.2 (simp (sum_by-append f, sum_by-cons f) (omega arith))

@@ -17,18 +17,13 @@ use Rattle.mm_proof.specs.Mirror.CodeSteps.{MayBeUsed, MayAllBeUsed, NumberSays,
 use Rattle.mm_proof.specs.Mirror.CodeApply.{IsCallOf}
 use Rattle.mm_proof.proofs.Compressed.{codes_say}
 
--- a front with one code more
-pub codes_front : (ids : List ℕ) (said : List Code) (i : ℕ) (d : Code) → i < length said
-    → take (i + 1) (code_moves ids said) ≡ take i (code_moves ids said) ++ code_move ids (get_or said i d) ∷ []
-codes_front ids said i d less =
-    take-map (code_move ids) (i + 1) said ∙ map_more (code_move ids) said i d less
-    ∙ ap (λ front. front ++ code_move ids (get_or said i d) ∷ []) (sym (take-map (code_move ids) i said))
-
--- that code given
+-- a front with one code more, which is given
 pub codes_front_with : (ids : List ℕ) (said : List Code) (i : ℕ) (d c : Code) → i < length said → get_or said i d ≡ c
     → take (i + 1) (code_moves ids said) ≡ take i (code_moves ids said) ++ code_move ids c ∷ []
 codes_front_with ids said i d c less is =
-    codes_front ids said i d less ∙ ap (λ x. take i (code_moves ids said) ++ code_move ids x ∷ []) is
+    take-map (code_move ids) (i + 1) said ∙ map_more (code_move ids) said i d less
+    ∙ ap (λ front. front ++ code_move ids (get_or said i d) ∷ []) (sym (take-map (code_move ids) i said))
+    ∙ ap (λ x. take i (code_moves ids said) ++ code_move ids x ∷ []) is
 
 -- the move of the code at a place
 pub code_there : (ids : List ℕ) (said : List Code) (i : ℕ) (d : Code) → i < length said → slice_get (code_moves ids said) i ≡ Some (code_move ids (get_or said i d))

@@ -1,5 +1,5 @@
 -- Compressed proofs: their list, their letters, and the moves that their codes say.
-use Rattle.std.proofs.Common.{◌≡◌, ℕ, suc, ◌+◌, ◌-◌, ◌<◌, ◌≤◌, ◌⊎◌, min, List, [], ◌∷◌, ◌++◌, length, map, take, drop, get_or, slice_get, Contains, All, Bor, Some, None, Result, Ok, Err, inl, inr, ⊎_elim, refl, sym, ap, subst, ◌∙◌, arith}
+use Rattle.std.proofs.Common.{◌≡◌, ℕ, suc, ◌+◌, ◌-◌, ◌<◌, ◌≤◌, ◌⊎◌, List, [], ◌∷◌, ◌++◌, length, map, take, drop, get_or, slice_get, Contains, All, Bor, Some, None, Result, Ok, Err, inl, inr, ⊎_elim, refl, sym, ap, subst, ◌∙◌, arith}
 use Rattle.std.specs.Prelude.{OnOk}
 use Rattle.std.specs.List.{AllZip, AllByRecursion, flat_map}
 use Rattle.std.proofs.lemmas.Option.{same_Some, slice_get_cases}
@@ -14,7 +14,8 @@ use Rattle.mm_code.specs.declared.code.CodeRule.TheVariants as code
 use Rattle.mm_code.specs.declared.code.CodeFault.{CodeFault}
 use Rattle.mm_code.specs.declared.code.CodeFault.TheVariants as code_fault
 use Rattle.mm_text.specs.declared.token.Token.{Token}
-use Rattle.mm_text.proofs.Lists.{zip_push, zip_append, split_at, get_from_take}
+use Rattle.mm_text.proofs.Lists.{zip_push, zip_append, zip_left, split_at, get_from_take, all_there}
+use Rattle.mm_text.proofs.Lists.{two_cuts}
 use Rattle.mm_frame.specs.Sentence.{Sentence, IsLabelled, IsHypothesis}
 use Rattle.mm_frame.specs.Active.{IsActive}
 use Rattle.mm_frame.specs.Rules.{AllMeant}
@@ -35,6 +36,7 @@ use Rattle.mm_code.specs.Layout.{texts}
 use Rattle.mm_proof.specs.Answer.{OnRule}
 use Rattle.mm_proof.proofs.Frames.{those_hold}
 use Rattle.mm_proof.proofs.Ending.{may_be_used}
+use Rattle.mm_proof.proofs.Letters.{from_one}
 use Rattle.mm_proof.proofs.TokenFacts.{HasLabels, labels_pass}
 use Rattle.mm_proof.proofs.Readings.{Stands, for_stands, codes_named, whole_of}
 
@@ -47,35 +49,19 @@ codes_more ids codes i d moves m less all here =
     rw (take_more codes i d less, map-append move_in moves (m ∷ [])) (zip_push (NumberSays ids) (take i codes) (moves_in moves) (get_or codes i d) (move_in m) all here)
 
 -- each code that letters say is a number from 1 on, or a tag
-spelled_said : (pieces : List (List ℕ)) (spelled : List Code) → AllZip letter.SaysCode pieces spelled → AllByRecursion HasSpelling (map letter.code_for spelled)
-spelled_said [] [] all = tt
-spelled_said (p ∷ pieces) (Tag ∷ spelled) all = (tt, spelled_said pieces spelled all.1)
-spelled_said (p ∷ pieces) (Number n ∷ spelled) all =
-    let s = all.0 in
-    let last = s.is_last.0 in
-    let some : 1 ≤ n = omega (arith, s.value, last) in
-    let held : 1 ≤ min n letter.largest = omega arith in
-    (held, spelled_said pieces spelled all.1)
-spelled_said pieces spelled all = absurd all
-
-pub letters_spelled : (text : List ℕ) (codes : List Code) → Letters text codes → All HasSpelling codes
-letters_spelled text codes l =
-    subst (λ cs. All HasSpelling cs) (sym l.are_codes) (All-from_recursion HasSpelling (map letter.code_for l.spelled) (spelled_said l.spells.pieces l.spelled l.spells.each))
+pub letters_spelled : (text : List ℕ) (codes : List Code) → Letters text codes
+    → All HasSpelling codes
+letters_spelled text codes l = All-from_recursion HasSpelling codes (from_one text codes l)
 
 -- ---- the one list of a compressed proof
 
-tail_has : (x : List ℕ) (xs : List (List ℕ)) (c : List ℕ) → ¬ (Contains (x ∷ xs) c) → ¬ (Contains xs c)
-tail_has x xs c none has = none (suc has.0, (let l : has.0 < length xs = has.1 in omega arith), has.2)
-
 -- the part before the first of a token is one
 one_front : (c : List ℕ) (xs es ys fs : List (List ℕ)) → xs ++ c ∷ es ≡ ys ++ c ∷ fs → ¬ (Contains xs c) → ¬ (Contains ys c) → (xs ≡ ys) × (es ≡ fs)
-one_front c [] es [] fs e p q = (refl, (let t = ap (drop 1) e in t))
-one_front c [] es (y ∷ ys) fs e p q = absurd (q (0, omega arith, (let h : c ≡ y = same_Some c y (ap (λ l. slice_get l 0) e) in sym h)))
-one_front c (x ∷ xs) es [] fs e p q = absurd (p (0, omega arith, same_Some x c (ap (λ l. slice_get l 0) e)))
-one_front c (x ∷ xs) es (y ∷ ys) fs e p q =
-    let rest = one_front c xs es ys fs (ap (drop 1) e) (tail_has x xs c p) (tail_has y ys c q) in
-    let first : x ≡ y = same_Some x y (ap (λ l. slice_get l 0) e) in
-    (ap (λ z. z ∷ xs) first ∙ ap (λ l. y ∷ l) rest.0, rest.1)
+one_front c xs es ys fs e p q = elim (two_cuts xs c es ys c fs e) [
+  | inl h ↦ (h.0, h.2)
+  | inr (inl h) ↦ absurd (q (rw h.1 (Contains-append_right xs (c ∷ h.0) c (0, omega arith, refl))))
+  | inr (inr h) ↦ absurd (p (rw h.1 (Contains-append_right ys (c ∷ h.0) c (0, omega arith, refl))))
+]
 
 pub one_compressed : (tokens a es b fs : List (List ℕ)) → IsCompressed tokens a es → IsCompressed tokens b fs → (a ≡ b) × (es ≡ fs)
 one_compressed tokens a es b fs c d = one_front closing_token a es b fs (ap (drop 1) (sym c.whole ∙ d.whole)) c.first d.first
@@ -202,13 +188,9 @@ pub entries_usable : (statements : List Sentence) (place : ℕ) (ids hypothesis_
 entries_usable statements place ids hypothesis_ids listed all formed each h =
     let hl = hypotheses_labels statements place hypothesis_ids h.hypotheses h.numbered (mandatory_usable statements place h.assertion h.hypotheses formed h.mandatory) in
     let stand = zip_append (Stands statements place) hypothesis_ids hl.labels ids listed hl.stand (for_stands statements place ids listed each) in
-    stand_usable (hypothesis_ids ++ ids) (hl.labels ++ listed) stand
-  where
-    stand_usable : (numbers : List ℕ) (labels : List (List ℕ)) → AllZip (Stands statements place) numbers labels → MayAllBeUsed statements place numbers
-    stand_usable [] labels z = tt
-    stand_usable (n ∷ numbers) [] z = absurd z
-    stand_usable (n ∷ numbers) (l ∷ labels) z =
-        ((l, may_be_used statements place n z.0.s l all z.0.there z.0.named z.0.usable), stand_usable numbers labels z.1)
+    all_there _ (hypothesis_ids ++ ids) (λ k n at.
+    let z = zip_left (Stands statements place) _ (hl.labels ++ listed) k n stand at in
+    (z.0, may_be_used statements place n z.2.s z.0 all z.2.there z.2.named z.2.usable))
 
 -- ---- the moves that codes say
 
@@ -233,19 +215,6 @@ codes_say ids said spelled = each_says ids said (recursion_from_All HasSpelling 
 
 -- ---- the parts, by the place of the first `)`
 
-pub parts_whole : (xs : List (List ℕ)) (i : ℕ) → slice_get xs i ≡ Some closing_token → xs ≡ take i xs ++ closing_token ∷ drop (i + 1) xs
-parts_whole xs i at = let one : suc i ≡ i + 1 = omega arith in subst (λ (k : ℕ). xs ≡ take i xs ++ closing_token ∷ drop k xs) one (split_at xs i closing_token at)
-
-pub parts_compressed : (rest : List Token) (i : ℕ) → slice_get (token_texts rest) i ≡ Some closing_token → ¬ (Contains (take i (token_texts rest)) closing_token)
-    → IsCompressed (opening_token ∷ token_texts rest) (token_texts (take i rest)) (token_texts (drop (i + 1) rest))
-parts_compressed rest i at none =
-    let front = take-map (λ t. t.text.now) i rest in
-    let back = drop-map (λ t. t.text.now) (i + 1) rest in
-    record {
-      whole = ap (λ l. opening_token ∷ l) (parts_whole (token_texts rest) i at ∙ ap (λ l. l ++ closing_token ∷ drop (i + 1) (token_texts rest)) front ∙ ap (λ l. token_texts (take i rest) ++ closing_token ∷ l) back);
-      first = λ has. none (subst (λ l. Contains l closing_token) (sym front) has);
-    }
-
 pub joined_texts : (tokens : List (Bor (List ℕ))) → letter.joined_tokens tokens ≡ flat_map (λ p. p) (texts tokens)
 joined_texts [] = refl
 joined_texts (t ∷ tokens) = ap (λ l. t.now ++ l) (joined_texts tokens)
@@ -253,8 +222,15 @@ joined_texts (t ∷ tokens) = ap (λ l. t.now ++ l) (joined_texts tokens)
 pub parts_given : (rest front back : List Token) (i : ℕ) → front ≡ take i rest → back ≡ drop (i + 1) rest → slice_get (token_texts rest) i ≡ Some closing_token
     → ¬ (Contains (take i (token_texts rest)) closing_token) → IsCompressed (opening_token ∷ token_texts rest) (token_texts front) (token_texts back)
 parts_given rest front back i f b at none =
-    subst (λ l. IsCompressed (opening_token ∷ token_texts rest) (token_texts l) (token_texts back)) (sym f)
-    (subst (λ l. IsCompressed (opening_token ∷ token_texts rest) (token_texts (take i rest)) (token_texts l)) (sym b) (parts_compressed rest i at none))
+    let start = take-map (λ t. t.text.now) i rest in
+    let last = drop-map (λ t. t.text.now) (i + 1) rest in
+    let one : i + 1 ≡ suc i = omega arith in
+    let whole : token_texts rest ≡ token_texts front ++ closing_token ∷ token_texts back =
+    rw (f, b, ← start, ← last, one) (split_at (token_texts rest) i closing_token at) in
+    record {
+      whole = ap (λ l. opening_token ∷ l) whole;
+      first = λ h. none (subst (λ l. Contains l closing_token) (ap token_texts f ∙ sym start) h);
+    }
 
 -- a fault of the letters is one of the proof
 pub letter_broken : (statements : List Sentence) (place : ℕ) (tokens : List (List ℕ)) (ids : List ℕ) (listed letters : List (List ℕ)) (fault : CodeFault) → AllMeant statements

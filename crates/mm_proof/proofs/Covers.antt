@@ -8,14 +8,13 @@ use Rattle.mm_proof.specs.Tree.{Trees, none, tree, beside}
 use Rattle.mm_proof.specs.Moves.{Move, name, again, mark, Makes}
 use Rattle.mm_proof.specs.Visits.{Visit, makes, repeats, keeps, visits}
 pub use Rattle.mm_proof.specs.Mirror.SharedSteps.{Covers, Careful, after}
-use Rattle.mm_proof.proofs.Members.{In, get_in, in_apart}
+use Rattle.mm_proof.proofs.Members.{In, get_in, in_push}
 
 -- the steps alone
 abbrev pub strip : List Visit → List Visit
 strip [] = []
-strip (makes t ∷ v) = makes t ∷ strip v
-strip (repeats t ∷ v) = repeats t ∷ strip v
 strip (keeps t ∷ v) = strip v
+strip (x ∷ v) = x ∷ strip v
 
 pub covers_beside : (a b : Trees) (v w : List Visit) → Covers a v → Covers b w
     → Covers (beside a b) (v ++ w)
@@ -43,14 +42,9 @@ covers_apart (tree label below right) b v p =
 -- one tree, made or repeated
 pub covers_made_one : (label : List ℕ) (below : Trees) (v : List Visit) → Covers below v
     → Covers (tree label below none) (v ++ makes (tree label below none) ∷ [])
-covers_made_one label below v p = (
-  v ++ makes (tree label below none) ∷ [],
-  [],
-  sym
-      (append-nil (v ++ makes (tree label below none) ∷ [])),
-  refl,
-  inr (v, refl, p),
-)
+covers_made_one label below v p =
+    let steps : List Visit = v ++ makes (tree label below none) ∷ [] in
+    (steps, [], sym (append-nil steps), refl, inr (v, refl, p))
 
 pub covers_one : (label : List ℕ) (below : Trees)
     → Covers (tree label below none) (repeats (tree label below none) ∷ [])
@@ -65,10 +59,8 @@ AreOnes kept = (t : Trees) → In kept t → IsOne t
 
 pub ones_push : (kept : List Trees) (label : List ℕ) (below : Trees) → AreOnes kept
     → AreOnes (kept ++ tree label below none ∷ [])
-ones_push kept label below ones t h = ⊎_elim
-    (λ a. ones t a)
-    (λ b. ⊎_elim (λ e. (label, below, sym e)) (λ z. absurd z) b)
-    (in_apart kept (tree label below none ∷ []) t h)
+ones_push kept label below ones t h = ⊎_elim (λ a. ones t a) (λ e. (label, below, sym e))
+    (in_push kept (tree label below none) t h)
 
 -- what moves do covers what they make
 pub covers_made : (before : List Sentence) (moves : List (Move (List ℕ))) (row : Trees)
@@ -76,55 +68,43 @@ pub covers_made : (before : List Sentence) (moves : List (Move (List ℕ))) (row
     (m : Makes before moves row kept row' kept') (v : List Visit)
     → AreOnes kept → Covers row v → Covers row'
     (v ++ strip (visits before moves row kept row' kept' m))
-covers_made before [] row kept row' kept' m v ones p = subst (λ x. Covers row' x)
-    (sym (append-nil v)) (subst (λ r. Covers r v) (sym m.0) p)
+covers_made before [] row kept row' kept' m v ones p = rw (m.0, append-nil) p
 covers_made before (name label ∷ moves) row kept row' kept' m v ones p =
     let step = m.2 in
     let t : Trees = tree label step.1 none in
-    let parts = covers_apart step.0 step.1 v (subst (λ r. Covers r v) step.2 p) in
+    let parts = covers_apart step.0 step.1 v (rw step.2 at p) in
     let next : Covers m.0 (v ++ makes t ∷ []) =
-    subst (λ r. Covers r (v ++ makes t ∷ [])) (sym step.4)
-    (subst (λ x. Covers (beside step.0 t) x)
-    (sym (append_assoc parts.0 parts.1 (makes t ∷ []))
-    ∙ ap (λ x. x ++ makes t ∷ []) (sym parts.2))
+    rw (step.4, parts.2, append_assoc parts.0 parts.1 (makes t ∷ []))
     (covers_beside step.0 t parts.0 (parts.1 ++ makes t ∷ []) parts.3
-    (covers_made_one label step.1 parts.1 parts.4))) in
-    subst (λ x. Covers row' x) (append_assoc v (makes t ∷ [])
-    (strip (visits before moves m.0 m.1 row' kept' m.3)))
+    (covers_made_one label step.1 parts.1 parts.4)) in
+    rw (← append_assoc v (makes t ∷ []) (strip (visits before moves m.0 m.1 row' kept' m.3)))
     (covers_made before moves m.0 m.1 row' kept' m.3 (v ++ makes t ∷ [])
     (subst AreOnes (sym step.5) ones) next)
 covers_made before (again tag ∷ moves) row kept row' kept' m v ones p =
-    let step = m.2 in
-    let one = ones step.0 (get_in kept tag step.0 step.1) in
-    let single : Covers step.0 (repeats step.0 ∷ []) = subst (λ t. Covers t (repeats t ∷ []))
-    (sym one.2) (covers_one one.0 one.1) in
-    let next : Covers m.0 (v ++ repeats step.0 ∷ []) =
-    subst (λ r. Covers r (v ++ repeats step.0 ∷ [])) (sym step.2)
-    (covers_beside row step.0 v (repeats step.0 ∷ []) p single) in
-    subst (λ x. Covers row' x) (append_assoc v (repeats step.0 ∷ [])
-    (strip (visits before moves m.0 m.1 row' kept' m.3)))
-    (covers_made before moves m.0 m.1 row' kept' m.3 (v ++ repeats step.0 ∷ [])
-    (subst AreOnes (sym step.3) ones) next)
+    let t = m.2.0 in
+    let one = ones t (get_in kept tag t m.2.1) in
+    let next : Covers m.0 (v ++ repeats t ∷ []) =
+    rw m.2.2 (covers_beside row t v (repeats t ∷ []) p (rw one.2 (covers_one one.0 one.1))) in
+    rw (← append_assoc v (repeats t ∷ []) (strip (visits before moves m.0 m.1 row' kept' m.3)))
+    (covers_made before moves m.0 m.1 row' kept' m.3 (v ++ repeats t ∷ [])
+    (subst AreOnes (sym m.2.3) ones) next)
 covers_made before (mark ∷ moves) row kept row' kept' m v ones p =
     let step = m.2 in
     covers_made before moves m.0 m.1 row' kept' m.3 v
-    (subst AreOnes (sym step.5) (ones_push kept step.1 step.2 ones))
-    (subst (λ r. Covers r v) (sym step.4) p)
+    (subst AreOnes (sym step.5) (ones_push kept step.1 step.2 ones)) (rw step.4 p)
 
 -- ---- steps that make no big tree twice, and repeat a big one only after it was made
 
 pub after_has : (made : List Trees) (v : List Visit) (t : Trees) → In made t → In (after made v) t
 after_has made [] t h = h
 after_has made (makes u ∷ v) t h = after_has (u ∷ made) v t (inr h)
-after_has made (repeats u ∷ v) t h = after_has made v t h
-after_has made (keeps u ∷ v) t h = after_has made v t h
+after_has made (x ∷ v) t h = after_has made v t h
 
 pub after-append : (made : List Trees) (v w : List Visit)
     → after made (v ++ w) ≡ after (after made v) w
 after-append made [] w = refl
 after-append made (makes u ∷ v) w = after-append (u ∷ made) v w
-after-append made (repeats u ∷ v) w = after-append made v w
-after-append made (keeps u ∷ v) w = after-append made v w
+after-append made (x ∷ v) w = after-append made v w
 
 pub careful_apart : (made : List Trees) (v w : List Visit) → Careful made (v ++ w) → Careful made v
     × Careful (after made v) w
@@ -158,11 +138,9 @@ one_cover (tree label below right) made v w p q c d =
     let here : p.0 ≡ q.0 = ⊎_elim
     (λ a. ⊎_elim
     (λ b. a ∙ sym b)
-    (λ b. absurd (repeated_or_made made b.0 t (subst (Careful made) a cv.0)
-    (subst (Careful made) b.1 cw.0))) q.4)
+    (λ b. absurd (repeated_or_made made b.0 t (rw a at cv.0) (rw b.1 at cw.0))) q.4)
     (λ a. ⊎_elim
-    (λ b. absurd (repeated_or_made made a.0 t (subst (Careful made) b cw.0)
-    (subst (Careful made) a.1 cv.0)))
+    (λ b. absurd (repeated_or_made made a.0 t (rw b at cw.0) (rw a.1 at cv.0)))
     (λ b.
     let ca = careful_apart made a.0 (makes t ∷ []) (subst (Careful made) a.1 cv.0) in
     let cb = careful_apart made b.0 (makes t ∷ []) (subst (Careful made) b.1 cw.0) in

@@ -1,13 +1,14 @@
 -- Steps that share all, one step more: what a tree that was made before is made of takes one step for each child.
 use Rattle.std.proofs.Common.{◌≡◌, ℕ, List, [], ◌∷◌, ◌++◌, length, inl, inr, ⊎_elim, refl, sym, ap, subst, ◌∙◌, append_assoc, arith}
 use Rattle.std.proofs.lemmas.List.{length-append}
-use Rattle.mm_proof.specs.Tree.{Trees, none, tree, spelling, beside, roots}
+use Rattle.mm_proof.specs.Tree.{Trees, none, tree, beside, roots}
 use Rattle.mm_proof.specs.BigSubtrees.{IsBig, IsSubtree}
 use Rattle.mm_proof.specs.Visits.{Visit, makes, repeats}
 use Rattle.mm_proof.specs.Mirror.CodeSharing.{Sharing}
-use Rattle.mm_proof.proofs.Members.{In, in_apart}
+use Rattle.mm_proof.proofs.Members.{In, in_push}
+use Rattle.mm_proof.proofs.Making.{beside-none}
 use Rattle.mm_proof.proofs.Covers.{Covers, covers_beside, covers_apart, covers_made_one, covers_one, Careful, after, after_has, after-append, careful_apart, careful_join}
-use Rattle.mm_proof.proofs.ChildSums.{sub_right}
+use Rattle.mm_proof.proofs.ChildSums.{sub_apart, sub_right}
 use Rattle.mm_proof.proofs.SomeCover.{covered_made, not_below}
 
 -- a leaf isn't big
@@ -16,10 +17,7 @@ leaf_small label big = absurd (omega arith)
 
 -- a tree with a child is
 pub parent_big : (label l : List ℕ) (b r : Trees) → IsBig (tree label (tree l b r) none)
-parent_big label l b r =
-    let a = length-append (spelling b ++ l ∷ spelling r) (label ∷ []) in
-    let c = length-append (spelling b) (l ∷ spelling r) in
-    omega arith
+parent_big label l b r = simp length-append (omega arith)
 
 -- ---- all subtrees of what is made are made
 
@@ -39,11 +37,7 @@ all_made (tree label below right) made v closed p c =
     let here : AllMade made t p.0 = ⊎_elim
     (λ a.
     let cut : Careful made (repeats t ∷ []) = subst (Careful made) a parts.0 in
-    let has : IsBig t × In made t = cut.0 in
-    record {
-      closed = subst (λ x. Closed (after made x)) (sym a) closed;
-      subtrees = λ u h. subst (λ x. In (after made x) u) (sym a) (closed t u has.1 h);
-    })
+    record { closed = rw a closed; subtrees = λ u h. rw a (closed t u cut.0.1 h) })
     (λ a.
     let inner = careful_apart made a.0 (makes t ∷ []) (subst (Careful made) a.1 parts.0) in
     let all = all_made below made a.0 closed a.2 inner.0 in
@@ -52,20 +46,17 @@ all_made (tree label below right) made v closed p c =
     (λ e. inl (sym e))
     (λ k. ⊎_elim (λ b. inr (all.subtrees u b)) (λ z. absurd z) k) h in
     record {
-      closed = subst Closed (sym is) (λ w u h s. ⊎_elim
-          (λ e. of_new u (subst (λ x. IsSubtree x u) (sym e) s))
+      closed = rw is (λ w u h s. ⊎_elim (λ e. of_new u (rw (← e) at s))
           (λ k. inr (all.closed w u k s)) h);
-      subtrees = λ u h. subst (λ x. In x u) (sym is) (of_new u h);
+      subtrees = λ u h. rw is (of_new u h);
     }) p.4 in
     let rest = all_made right (after made p.0) p.1 here.closed p.3 parts.1 in
     let is : after made v ≡ after (after made p.0) p.1 = ap (after made) p.2 ∙ after-append made p.0 p.1 in
     record {
-      closed = subst Closed (sym is) rest.closed;
-      subtrees = λ u h. subst (λ x. In x u) (sym is) (⊎_elim
-          (λ e. after_has (after made p.0) p.1 u (here.subtrees u (inl e)))
-          (λ k. ⊎_elim
-          (λ b. after_has (after made p.0) p.1 u (here.subtrees u (inr (inl b))))
-          (λ r. rest.subtrees u r) k) h);
+      closed = rw is rest.closed;
+      subtrees = λ u h. rw is (⊎_elim
+          (λ s. after_has (after made p.0) p.1 u (here.subtrees u s))
+          (λ r. rest.subtrees u r) (sub_apart t right u h));
     }
 
 -- ---- where all big subtrees were made, one step covers each tree
@@ -94,14 +85,10 @@ each_one (tree label below right) made v has p c =
           (λ k. k) (subst (λ x. In (after made x) u) is h);
     }) p.4 in
     let rest = each_one right (after made p.0) p.1 (λ u s big. after_has made p.0 u (has u (inr (inr s)) big)) p.3 parts.1 in
-    let l = here.long in
-    let r = rest.long in
-    let n = length-append p.0 p.1 in
-    let whole = ap length p.2 in
     let is : after made v ≡ after (after made p.0) p.1 = ap (after made) p.2 ∙ after-append made p.0 p.1 in
     record {
-      long = omega arith;
-      same = λ u big h. here.same u big (rest.same u big (subst (λ x. In x u) is h));
+      long = omega (arith, here.long, rest.long, length-append p.0 p.1, ap length p.2);
+      same = λ u big h. here.same u big (rest.same u big (rw is at h));
     }
   where
     no_child : (b : Trees) → ((l : List ℕ) (x r : Trees) → b ≡ tree l x r → ⊥) → b ≡ none
@@ -181,12 +168,7 @@ sharing_repeat row kept v label below s among big =
 -- a kept leaf
 pub sharing_leaf : (row : Trees) (kept : List Trees) (v : List Visit) (label : List ℕ) → Sharing row kept v → Sharing (beside row (tree label none none)) kept (v ++ makes (tree label none none) ∷ [])
 sharing_leaf row kept v label s =
-    let t : Trees = tree label none none in
-    record {
-      covers = covers_beside row t v (makes t ∷ []) s.covers (covers_made_one label none [] refl);
-      careful = careful_join [] v (makes t ∷ []) s.careful ((λ h. leaf_small label h.0), tt);
-      kept_made = λ u h big. after_make v t u (s.kept_made u h big);
-    }
+    sharing_make row kept v label none (rw (beside-none row) s) (λ h. leaf_small label h.0)
 
 -- a mark
 pub sharing_keep : (rest : Trees) (kept : List Trees) (v : List Visit) (label : List ℕ) (below : Trees) → Sharing (beside rest (tree label below none)) kept v
@@ -197,8 +179,6 @@ sharing_keep rest kept v label below s =
     record {
       covers = s.covers;
       careful = s.careful;
-      kept_made = λ u h big. ⊎_elim
-          (λ old. s.kept_made u old big)
-          (λ new. ⊎_elim (λ e. all.subtrees u (sub_right rest t u (inl (sym e)))) (λ z. absurd z) new)
-          (in_apart kept (t ∷ []) u h);
+      kept_made = λ u h big. ⊎_elim (λ old. s.kept_made u old big)
+          (λ e. all.subtrees u (sub_right rest t u (inl (sym e)))) (in_push kept t u h);
     }

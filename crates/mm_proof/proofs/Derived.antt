@@ -34,9 +34,9 @@ pub record Halves (Fits : List (List ℕ) → Type 0) (before : List Sentence) (
   pub derive_right : DeriveAll Fits before right fs
 
 pub derive_halves : (Fits : List (List ℕ) → Type 0) (before : List Sentence) (trees : Trees) (es fs : List (List (List ℕ))) → DeriveAll Fits before trees (es ++ fs) → Halves Fits before trees es fs
-derive_halves Fits before none [] fs d = record { left = none; right = none; parts = refl; derive_left = refl; derive_right = d }
+derive_halves Fits before trees [] fs d =
+    record { left = none; right = trees; parts = refl; derive_left = refl; derive_right = d }
 derive_halves Fits before none (e ∷ es) fs d = absurd (let p : e ∷ (es ++ fs) ≡ [] = d in cc)
-derive_halves Fits before (tree label below right) [] fs d = record { left = none; right = tree label below right; parts = refl; derive_left = refl; derive_right = d }
 derive_halves Fits before (tree label below right) (e ∷ es) fs d =
     let same = cons_parts e d.0 (es ++ fs) d.1 d.2 in
     let h = derive_halves Fits before right es fs (subst (DeriveAll Fits before right) (sym same.1) d.5) in
@@ -55,13 +55,6 @@ derive_apart Fits before none b gs d = ([], gs, refl, refl, d)
 derive_apart Fits before (tree label below right) b gs d =
     let h = derive_apart Fits before right b d.1 d.5 in
     (d.0 ∷ h.0, h.1, d.2 ∙ ap (λ l. d.0 ∷ l) h.2, (d.0, h.0, refl, d.3, d.4, h.3), h.4)
-
--- one tree derives one expression
-pub derive_single : (Fits : List (List ℕ) → Type 0) (before : List Sentence) (label : List ℕ) (below : Trees) (es : List (List (List ℕ)))
-    → DeriveAll Fits before (tree label below none) es → (e : List (List ℕ)) × (es ≡ e ∷ []) × DeriveAll Fits before (tree label below none) (e ∷ [])
-derive_single Fits before label below es d =
-    let one : es ≡ d.0 ∷ [] = d.2 ∙ ap (λ l. d.0 ∷ l) d.5 in
-    (d.0, one, subst (DeriveAll Fits before (tree label below none)) one d)
 
 -- what derives nothing is no tree
 pub nothing_derives : (Fits : List (List ℕ) → Type 0) (before : List Sentence) (trees : Trees) → DeriveAll Fits before trees [] → trees ≡ none

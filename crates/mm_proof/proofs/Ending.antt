@@ -3,9 +3,8 @@ use Rattle.std.proofs.Common.{◌≡◌, ℕ, ◌+◌, ◌<◌, List, [], ◌∷
 use Rattle.std.specs.List.{AllByRecursion}
 use Rattle.std.proofs.lemmas.Option.{same_Some}
 use Rattle.std.proofs.lemmas.List.{length-map}
-use Rattle.mm_text.proofs.Lists.{all_weaker, get_from_take}
+use Rattle.mm_text.proofs.Lists.{all_weaker, get_from_take, zip_each}
 use Rattle.mm_frame.specs.Sentence.{Sentence, IsHypothesis, IsAssertion, IsLabelled}
-use Rattle.mm_frame.specs.Active.{IsActive}
 use Rattle.mm_frame.specs.Rules.{AllMeant}
 use Rattle.mm_frame.specs.Numbers.{symbols_of, labelled_sentences, IsNumbered}
 use Rattle.mm_frame.specs.FramePlace.{AreItsSymbols}
@@ -17,7 +16,7 @@ use Rattle.mm_proof.specs.declared.fault.ProofFault.TheVariants.{Rule, Memory}
 use Rattle.mm_proof.specs.Answer.{OnRule}
 use Rattle.mm_proof.specs.Tree.{tree, none}
 use Rattle.mm_proof.specs.Moves.{Move, name}
-use Rattle.mm_proof.specs.Proof.{IsWithin, Passed, Prove, BreaksEnd, IsMoveFault, IsMovesFault}
+use Rattle.mm_proof.specs.Proof.{IsWithin, Prove, BreaksEnd, IsMoveFault, IsMovesFault}
 use Rattle.mm_proof.specs.Profiles.{limit_of}
 use Rattle.mm_proof.specs.ReadSteps.{ReadSteps}
 use Rattle.mm_proof.specs.Steps.{IsNumberedMove, AreNumberedMoves, IsUsable, IsUsableMove, AreSteps}
@@ -46,49 +45,40 @@ usable_names st id xs place s names a n numbered =
     let same : a.moves ≡ names = zip_once (IsNumberedMove st) (IsNumberedMove st) xs a.moves names (one_move st) a.numbered numbered in
     subst (λ p. AllByRecursion (IsUsableMove (take p st)) names) here (subst (λ l. AllByRecursion (IsUsableMove (take a.place st)) l) same a.usable)
 
+-- the statement with a number and a label is the one that has the label before the place
+labelled_there : (st : List Sentence) (place id : ℕ) (s : Sentence) (label : List ℕ) (at : ℕ)
+    (t : Sentence) → AllMeant st → slice_get (labelled_sentences st) id ≡ Some s
+    → IsLabelled label s → slice_get (take place st) at ≡ Some t → IsLabelled label t
+    → (t ≡ s) × IsNumbered st id at s × (at < place)
+labelled_there st place id s label at t all there is found named =
+    let p = numbered_from_get st id s there in
+    let f = get_from_take st place at t found in
+    let one : at ≡ p.0 = one_label st at p.0 t s label all f.1 p.1.there named is in
+    let same = same_Some t s (sym f.1 ∙ ap (slice_get st) one ∙ p.1.there) in
+    (same, subst (λ k. IsNumbered st id k s) (sym one) p.1, f.0)
+
 pub may_be_used : (st : List Sentence) (place id : ℕ) (s : Sentence) (label : List ℕ) → AllMeant st → slice_get (labelled_sentences st) id ≡ Some s → IsLabelled label s → IsUsable (take place st) label
     → MayBeUsed st place label id
 may_be_used st place id s label all there is (inl h) =
-    let p = numbered_from_get st id s there in
-    let t = get_from_take st place h.0 h.1 h.2 in
-    let one : h.0 ≡ p.0 = one_label st h.0 p.0 h.1 s label all t.1 p.1.there h.4.0 is in
-    let same : h.1 ≡ s = same_Some h.1 s (sym t.1 ∙ ap (slice_get st) one ∙ p.1.there) in
-    record {
-      at = p.0;
-      s = s;
-      numbered = p.1;
-      named = is;
-      before = subst (λ k. k < place) one t.0;
-      kind = inl (subst (λ (x : Sentence). IsHypothesis x.kind) same h.4.1, subst (IsActive (take place st)) one h.3);
-    }
+    let u = labelled_there st place id s label h.0 h.1 all there is h.2 h.4.0 in
+    let kind = subst (λ (x : Sentence). IsHypothesis x.kind) u.0 h.4.1 in
+    record { at = h.0; s = s; numbered = u.1; named = is; before = u.2; kind = inl (kind, h.3) }
 may_be_used st place id s label all there is (inr b) =
-    let p = numbered_from_get st id s there in
-    let t = get_from_take st place b.0 b.1 b.2 in
-    let one : b.0 ≡ p.0 = one_label st b.0 p.0 b.1 s label all t.1 p.1.there b.3.0 is in
-    let same : b.1 ≡ s = same_Some b.1 s (sym t.1 ∙ ap (slice_get st) one ∙ p.1.there) in
-    record {
-      at = p.0;
-      s = s;
-      numbered = p.1;
-      named = is;
-      before = subst (λ k. k < place) one t.0;
-      kind = inr (subst (λ (x : Sentence). IsAssertion x.kind) same b.3.1);
-    }
+    let u = labelled_there st place id s label b.0 b.1 all there is b.2 b.3.0 in
+    let kind = subst (λ (x : Sentence). IsAssertion x.kind) u.0 b.3.1 in
+    record { at = b.0; s = s; numbered = u.1; named = is; before = u.2; kind = inr kind }
 
 move_made : (st : List Sentence) (place : ℕ) (x : Move ℕ) (move : Move (List ℕ)) → AllMeant st → IsNumberedMove st x move → IsUsableMove (take place st) move → MayBeMade st place x
 move_made st place (name id) move all n u =
     (n.1, may_be_used st place id n.0 n.1 all n.2 n.3 (subst (IsUsableMove (take place st)) n.4 u))
 move_made st place x move all n u = tt
 
-all_made : (st : List Sentence) (place : ℕ) (xs : List (Move ℕ)) (names : List (Move (List ℕ))) → AllMeant st → AreNumberedMoves st xs names
-    → AllByRecursion (IsUsableMove (take place st)) names → AllByRecursion (MayBeMade st place) xs
-all_made st place [] names all z u = tt
-all_made st place (x ∷ xs) [] all z u = absurd z
-all_made st place (x ∷ xs) (m ∷ names) all z u = (move_made st place x m all z.0 u.0, all_made st place xs names all z.1 u.1)
-
 pub steps_made : (st : List Sentence) (id : ℕ) (xs : List (Move ℕ)) (place : ℕ) (s : Sentence) → AllMeant st → AreSteps st id xs → IsNumbered st id place s
     → AllByRecursion (MayBeMade st place) xs
-steps_made st id xs place s all a n = all_made st place xs a.moves all a.numbered (usable_names st id xs place s a.moves a n a.numbered)
+steps_made st id xs place s all a n =
+    zip_each (IsNumberedMove st) (MayBeMade st place) (IsUsableMove (take place st))
+    (λ x move. move_made st place x move all) xs a.moves a.numbered
+    (usable_names st id xs place s a.moves a n a.numbered)
 
 -- ---- the verdict
 
@@ -106,8 +96,7 @@ proved_end limit st id own t xs stack kept count numbers n symbols run is place 
     let here : own ≡ place = one_place st id own place t s n proof.numbered in
     let moved = subst (λ p. HasRun limit st p xs stack kept count) here run in
     let expression = (its_symbols st own place s numbers here proof.numbered.there symbols).0 in
-    let passed = subst (λ l. Passed (IsWithin limit) (take place st) names l (all_names_at st kept))
-    (ap (all_names_at st) is ∙ ap (λ e. e ∷ []) expression) (moved.passed names numbered) in
+    let passed = rw (is, expression) at (moved.passed names numbered) in
     prove_at_end (IsWithin limit) (take place st) s names (all_names_at st kept) passed
 
 -- what is proved, with the assertions that the moves name

@@ -1,5 +1,5 @@
 -- A verdict is one, so each row of moves has one answer, unless memory is refused.
-use Rattle.std.proofs.Common.{◌≡◌, ℕ, List, Result, Ok, Err, inl, inr, refl, ap, ◌∙◌}
+use Rattle.std.proofs.Common.{◌≡◌, ℕ, List, Result, Ok, Err, inl, inr, refl}
 use Rattle.std.specs.Result.{IfErr, IsOkUnless}
 use Rattle.mm_frame.specs.Sentence.{Sentence}
 use Rattle.mm_frame.specs.Rules.{AllMeant}
@@ -26,5 +26,4 @@ refuses Fits before s moves (Ok x) meant p f rule step fault = absurd (proof_no_
 refuses Fits before s moves (Err Memory) meant p f rule step fault = inr refl
 refuses {X} Fits before s moves (Err (Rule other at)) meant p f rule step fault =
     let same = one_moves_fault Fits before s moves other rule at step meant f fault in
-    let refusal : ProofRule → ℕ → Result X ProofFault = λ r n. Err (Rule r n) in
-    inl (ap (λ (r : ProofRule). refusal r at) same.0 ∙ ap (λ (n : ℕ). refusal rule n) same.1)
+    inl (rw (same.0, same.1) refl)

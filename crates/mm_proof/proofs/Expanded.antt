@@ -111,8 +111,7 @@ no_front before g t u all f h width e =
     let s = makes_split before (map name g) (map name (spelling u)) none t [] [] whole in
     let one = makes_once before (map name (spelling u)) s.0 t (beside s.0 u) s.1 [] s.1 all s.3 (fit_makes before u s.0 s.1 h) in
     let n : roots t ≡ roots s.0 + roots u = ap roots one.0 ∙ roots-beside s.0 u in
-    let bare : s.0 ≡ none = no_roots s.0 (omega arith) in
-    sym (names_spell before g none s.0 [] s.1 s.2) ∙ ap spelling bare
+    sym (names_spell before g none s.0 [] s.1 s.2) ∙ ap spelling (no_roots s.0 (omega arith))
 
 -- so an ending of labels spells one tree
 one_ending : (before : List Sentence) (a c : List (List ℕ)) (t u : Trees) → AllMeant before → TreesFit before t → TreesFit before u → roots t ≡ roots u → a ++ spelling t ≡ c ++ spelling u → spelling t ≡ spelling u
@@ -130,16 +129,13 @@ expands_one before mark labels a b words v w all p q =
     let same = one_ending before p.0 q.0 (tree p.1 p.2 none) (tree q.1 q.2 none) all p.3 q.3 refl (sym p.4 ∙ q.4) in
     (p.5 ∙ sym q.5, p.6 ∙ ap (λ x. words ++ x ∷ []) same ∙ sym q.6)
 
-expands_once : (before : List Sentence) (moves : List (Move (List ℕ))) (labels a b : List (List ℕ)) (words v w : List (List (List ℕ))) → AllMeant before
+pub expands_once : (before : List Sentence) (moves : List (Move (List ℕ)))
+    (labels a b : List (List ℕ)) (words v w : List (List (List ℕ))) → AllMeant before
     → Expands before moves labels words a v → Expands before moves labels words b w → (a ≡ b) × (v ≡ w)
 expands_once before [] labels a b words v w all p q = (p.0 ∙ sym q.0, p.1 ∙ sym q.1)
 expands_once before (move ∷ moves) labels a b words v w all p q =
     let one = expands_one before move labels p.0 q.0 words p.1 q.1 all p.2 q.2 in
-    expands_once before moves q.0 a b q.1 v w all
-    (subst (λ x. Expands before moves q.0 x a v) one.1 (subst (λ x. Expands before moves x p.1 a v) one.0 p.3)) q.3
-
-pub one_word : (before : List Sentence) (moves : List (Move (List ℕ))) (v w : List (List ℕ)) → AllMeant before → IsWord before moves v → IsWord before moves w → v ≡ w
-one_word before moves v w all p q = (expands_once before moves [] v w [] p.0 q.0 all p.1 q.1).0
+    expands_once before moves q.0 a b q.1 v w all (rw (← one.0, ← one.1) p.3) q.3
 
 -- ---- what a word spells is made
 

@@ -1,14 +1,13 @@
 -- Tokens that break no rule over the whole proof say as many moves as they have bytes, at most: each
 -- label has a byte, and each letter is one.
-use Rattle.std.proofs.Common.{ℕ, ◌≤◌, List, [], ◌∷◌, ◌++◌, length, map, take, get_or, Contains, inl, inr, refl, ap, arith}
+use Rattle.std.proofs.Common.{ℕ, ◌≤◌, List, [], ◌∷◌, ◌++◌, length, map, take, Contains, inl, inr, refl, ap, arith}
 use Rattle.std.specs.List.{flat_map, sum_by, AllZip, AllByRecursion}
 use Rattle.std.proofs.lemmas.Bool.{false≢true}
 use Rattle.std.proofs.lemmas.List.{length-map, length-append}
 use Rattle.std.proofs.lemmas.List.Concat.{length-flat_map}
-use Rattle.std.proofs.lemmas.List.Elements.{Contains-get_or}
 use Rattle.std.proofs.lemmas.List.Sums.{sum_by-append}
 use Rattle.std.proofs.lemmas.Slice.Zip.{AllZip-long}
-use Rattle.mm_text.proofs.Lists.{all_places}
+use Rattle.mm_text.proofs.Lists.{all_there, contains_from_at}
 use Rattle.mm_code.specs.declared.code.Code.{Code}
 use Rattle.mm_code.specs.declared.code.Code.TheVariants.{Number, Tag}
 use Rattle.mm_code.specs.Letters as letter
@@ -35,10 +34,8 @@ piece_letters piece Tag s = omega (arith, ap length s)
 pieces_letters : (pieces : List (List ℕ)) (codes : List Code) → AllZip letter.SaysCode pieces codes → length codes ≤ sum_by length pieces
 pieces_letters [] [] z = omega arith
 pieces_letters (piece ∷ pieces) (code ∷ codes) z =
-    let first = piece_letters piece code z.0 in
     let others = pieces_letters pieces codes z.1 in
-    let all = sum_by-append length (piece ∷ []) pieces in
-    omega (arith, first, others, all)
+    omega (arith, piece_letters piece code z.0, others, sum_by-append length (piece ∷ []) pieces)
 pieces_letters pieces codes z = absurd z
 
 codes_letters : (text : List ℕ) (codes : List Code) → letter.Letters text codes → length codes ≤ length text
@@ -51,26 +48,19 @@ tokens_bytes : (tokens : List (List ℕ)) → AllByRecursion (λ t. 1 ≤ length
     → length tokens ≤ sum_by length tokens
 tokens_bytes [] held = omega arith
 tokens_bytes (t ∷ tokens) held =
-    let first = held.0 in
-    let others = tokens_bytes tokens held.1 in
-    let all = sum_by-append length (t ∷ []) tokens in
-    omega (arith, first, others, all)
+    omega (arith, held.0, tokens_bytes tokens held.1, sum_by-append length (t ∷ []) tokens)
 
 -- each label is that of an earlier statement, so it has a byte
-label_some : (before : List Sentence) (tokens labels : List (List ℕ)) (label : List ℕ)
-    → AllFormed before → IsWhole before tokens → AreLabels tokens labels → Contains labels label
-    → 1 ≤ length label
-label_some before tokens labels [] formed whole are has =
-    absurd (whole P2 (labels, are, [], has, λ found. false≢true (label_named before [] formed found)))
-label_some before tokens labels (b ∷ label) formed whole are has = omega arith
-
 labels_some : (before : List Sentence) (tokens labels : List (List ℕ)) → AllFormed before
     → IsWhole before tokens → AreLabels tokens labels
     → AllByRecursion (λ t. 1 ≤ length t) labels
-labels_some before tokens labels formed whole are =
-    all_places (λ (t : List ℕ). 1 ≤ length t) labels [] (λ k within.
-    label_some before tokens labels (get_or labels k []) formed whole are
-    (Contains-get_or labels k [] within))
+labels_some before tokens labels formed whole are = all_there (λ t. 1 ≤ length t) labels
+    (λ k label at. some label (contains_from_at labels label (k, at)))
+  where
+    some : (label : List ℕ) → Contains labels label → 1 ≤ length label
+    some [] has =
+        absurd (whole P2 (labels, are, [], has, λ f. false≢true (label_named before [] formed f)))
+    some (b ∷ label) has = omega arith
 
 pub said_moves : (before : List Sentence) (s : Sentence) (tokens : List (List ℕ))
     (moves : List (Move (List ℕ))) → AllFormed before → IsWhole before tokens
@@ -82,10 +72,9 @@ said_moves before s tokens moves formed whole (inr c) =
     let most = codes_letters (flat_map (λ piece. piece) c.letters) c.codes c.coded in
     let long = AllZip-long (Says (c.labels ++ c.listed)) c.codes moves c.each in
     let text = length-flat_map (λ (piece : List ℕ). piece) c.letters in
-    let all = ap (sum_by length) c.parts.whole in
     let head = sum_by-append length (opening_token ∷ c.listed) (closing_token ∷ c.letters) in
     let tail = sum_by-append length (closing_token ∷ []) c.letters in
-    omega (arith, most, long, text, all, head, tail)
+    omega (arith, most, long, text, ap (sum_by length) c.parts.whole, head, tail)
 
 -- the moves that tokens say, as the code holds them, are as many as bytes at most
 pub moves_bytes : (st : List Sentence) (place : ℕ) (s : Sentence) (tokens : List (List ℕ))

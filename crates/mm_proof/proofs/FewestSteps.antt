@@ -1,5 +1,5 @@
 -- A fully shared proof has the fewest steps of all proofs of its tree.
-use Rattle.std.proofs.Common.{◌≡◌, ℕ, ◌+◌, List, [], refl, sym, ap, ◌∙◌, arith}
+use Rattle.std.proofs.Common.{◌≡◌, ℕ, ◌+◌, List, [], sym, ap, ◌∙◌, arith}
 use Rattle.std.specs.List.{sum_by}
 use Rattle.mm_code.specs.declared.code.Code.{Code}
 use Rattle.mm_frame.specs.Sentence.{Sentence}
@@ -14,17 +14,30 @@ use Rattle.mm_proof.proofs.SharedOnce.{shared_tidy}
 use Rattle.mm_proof.proofs.ChildSums.{said_steps, steps_children, subtrees_made, made_subtrees}
 use Rattle.mm_proof.proofs.ChildSums.{Bigs, bigs_of, tidy_big_once, sum_within}
 
--- the moves of one tree
-one_and_children : (before : List Sentence) (label : List ℕ) (below : Trees)
-    (moves : List (Move (List ℕ))) (kept : List Trees)
-    (m : Makes before moves none [] (tree label below none) kept)
-    → steps_in moves ≡ 1 + sum_by children
-    (trees_made (visits before moves none [] (tree label below none) kept m))
-one_and_children before label below moves kept m =
-    let s = steps_children before moves none [] (tree label below none) kept m (λ t h. absurd h) in
-    let bare : roots none ≡ 0 = refl in
-    let one : roots (tree label below none) ≡ 1 = refl in
-    omega arith
+module _ (before : List Sentence) (trees : Trees) (moves : List (Move (List ℕ)))
+    (kept : List Trees) (m : Makes before moves none [] trees kept) where
+  -- the trees that the moves make by labels
+  abbrev made : List Trees
+  made = trees_made (visits before moves none [] trees kept m)
+
+  steps_count : steps_in moves ≡ roots trees + sum_by children made
+  steps_count =
+      omega (arith, steps_children before moves none [] trees kept m (λ t h. absurd h))
+
+  subtree_made : (t : Trees) → IsSubtree trees t → In made t
+  subtree_made = subtrees_made (In made) before moves none [] trees kept m (λ u h. absurd h)
+      (λ t u h. absurd h) (λ u h. h)
+
+  -- the big trees that a fully shared proof makes are the big subtrees
+  big_subtrees : (b : Bigs made) → Once b.list → AreBigSubtrees trees b.list
+  big_subtrees b once = record {
+    each = λ t. (
+      λ c. let h = b.only t (contains_in b.list t c) in
+          (made_subtrees before moves none [] trees kept m t h.0, h.1),
+      λ h. in_contains b.list t (b.each t (subtree_made t h.0) h.1),
+    );
+    once = λ i j t. once_places b.list i j t once;
+  }
 
 pair_steps : (before : List Sentence) (s : Sentence) (label : List ℕ) (below : Trees)
     (listed : List (List ℕ)) (codes : List Code)
@@ -32,14 +45,7 @@ pair_steps : (before : List Sentence) (s : Sentence) (label : List ℕ) (below :
     → steps_of codes ≡ 1 + sum_by children
     (trees_of before s (tree label below none) listed codes p)
 pair_steps before s label below listed codes p = said_steps _ codes p.moves p.says.each
-    ∙ one_and_children before label below p.moves p.kept p.made
-
-subtree_made : (before : List Sentence) (trees : Trees) (moves : List (Move (List ℕ)))
-    (kept : List Trees) (m : Makes before moves none [] trees kept) (t : Trees)
-    → IsSubtree trees t → In (trees_made (visits before moves none [] trees kept m)) t
-subtree_made before trees moves kept m =
-    subtrees_made (In (trees_made (visits before moves none [] trees kept m))) before moves none []
-    trees kept m (λ u h. absurd h) (λ t u h. absurd h) (λ u h. h)
+    ∙ steps_count before (tree label below none) p.moves p.kept p.made
 
 pub steps_make_children_holds : StepsMakeChildren
 steps_make_children_holds before s label below listed codes p = (
@@ -48,47 +54,28 @@ steps_make_children_holds before s label below listed codes p = (
       (subtree_made before (tree label below none) p.moves p.kept p.made t h),
 )
 
--- the big trees that a fully shared proof makes are the big subtrees
-big_subtrees : (before : List Sentence) (trees : Trees) (moves : List (Move (List ℕ)))
-    (kept : List Trees) (m : Makes before moves none [] trees kept)
-    (b : Bigs (trees_made (visits before moves none [] trees kept m))) → Once b.list
-    → AreBigSubtrees trees b.list
-big_subtrees before trees moves kept m b once = record {
-  each = λ t. (
-    λ c. let h = b.only t (contains_in b.list t c) in
-        (made_subtrees before moves none [] trees kept m t h.0, h.1),
-    λ h. in_contains b.list t (b.each t (subtree_made before trees moves kept m t h.0) h.1),
-  );
-  once = λ i j t. once_places b.list i j t once;
-}
-
 pub fewest_steps_holds : FewestSteps
 fewest_steps_holds before s label below listed codes p =
     let trees : Trees = tree label below none in
-    let made : List Trees = trees_made
-    (visits before p.moves none [] trees p.shared.kept p.shared.made) in
-    let b = bigs_of made in
-    let once : Once b.list = b.once
-    (tidy_big_once _ [] (shared_tidy before trees p.moves p.shared)) in
+    let b = bigs_of (made before trees p.moves p.shared.kept p.shared.made) in
+    let once = b.once (tidy_big_once _ [] (shared_tidy before trees p.moves p.shared)) in
     let count : steps_of codes ≡ 1 + sum_by children b.list =
     said_steps _ codes p.moves p.says.each
-    ∙ one_and_children before label below p.moves p.shared.kept p.shared.made
+    ∙ steps_count before trees p.moves p.shared.kept p.shared.made
     ∙ ap (λ n. 1 + n) (sym b.same) in
     let are : AreBigSubtrees trees b.list = big_subtrees before trees p.moves p.shared.kept
     p.shared.made b once in (
       (b.list, are),
       λ list other.
-          let once' : Once list = places_once list other.once in
           let most = sum_within children b.list list once
           (λ t h. contains_in list t ((other.each t).1
           ((are.each t).0 (in_contains b.list t h)))) in
-          let least = sum_within children list b.list once'
+          let least = sum_within children list b.list (places_once list other.once)
           (λ t h. contains_in b.list t ((are.each t).1
           ((other.each t).0 (in_contains list t h)))) in
           omega arith,
       λ listed' codes' q.
-          let all : List Trees = trees_of before s trees listed' codes' q in
-          let more = sum_within children b.list all once
+          let more = sum_within children b.list (trees_of before s trees listed' codes' q) once
           (λ t h. subtree_made before trees q.moves q.kept q.made t
           ((are.each t).0 (in_contains b.list t h)).0) in
           let steps = pair_steps before s label below listed' codes' q in

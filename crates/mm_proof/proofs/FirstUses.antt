@@ -2,9 +2,9 @@
 use Rattle.std.proofs.Common.{◌≡◌, ℕ, List, [], ◌∷◌, ◌++◌, inl, inr, ⊎_elim, refl, sym, ap, subst, ◌∙◌, append_assoc, append-nil}
 use Rattle.mm_proof.specs.Tree.{Trees, none, tree, spelling}
 use Rattle.mm_proof.specs.BigSubtrees.{IsSubtree}
-use Rattle.mm_proof.specs.Visits.{Visit, makes, repeats, keeps}
+use Rattle.mm_proof.specs.Visits.{Visit, makes, repeats}
 use Rattle.mm_proof.specs.Sharing.{AreFirstUses}
-use Rattle.mm_proof.proofs.Members.{In, contains_in, in_contains, in_left, in_right, in_apart}
+use Rattle.mm_proof.proofs.Members.{In, contains_in, in_contains, in_left, in_right, in_push}
 use Rattle.mm_proof.proofs.Covers.{Covers, Careful, after, careful_apart}
 use Rattle.mm_proof.proofs.SomeCover.{covered_made}
 
@@ -20,8 +20,7 @@ in_upon [] seen x h = h
 in_upon (y ∷ listed) seen x h = in_upon listed (y ∷ seen) x (inr h)
 
 uses_join : (w more seen mid others : List (List ℕ)) → AreFirstUses seen w mid → AreFirstUses (upon mid seen) more others → AreFirstUses seen (w ++ more) (mid ++ others)
-uses_join [] more seen mid others p q =
-    subst (λ m. AreFirstUses seen more (m ++ others)) (sym p) (subst (λ m. AreFirstUses (upon m seen) more others) p q)
+uses_join [] more seen mid others p q = rw p (rw p at q)
 uses_join (l ∷ w) more seen mid others (inl u) q = inl (u.0, uses_join w more seen mid others u.1 q)
 uses_join (l ∷ w) more seen mid others (inr u) q =
     inr (u.0, u.1 ++ others, ap (λ m. m ++ others) u.2, uses_join w more (l ∷ seen) u.1 others u.3 (subst (λ m. AreFirstUses (upon m seen) more others) u.2 q))
@@ -65,14 +64,12 @@ root_label (tree label below right) = label ∷ []
 abbrev pub labels_in : List Visit → List (List ℕ)
 labels_in [] = []
 labels_in (makes t ∷ v) = root_label t ++ labels_in v
-labels_in (repeats t ∷ v) = labels_in v
-labels_in (keeps t ∷ v) = labels_in v
+labels_in (x ∷ v) = labels_in v
 
 labels_in-append : (v w : List Visit) → labels_in (v ++ w) ≡ labels_in v ++ labels_in w
 labels_in-append [] w = refl
 labels_in-append (makes t ∷ v) w = ap (λ l. root_label t ++ l) (labels_in-append v w) ∙ sym (append_assoc (root_label t) (labels_in v) (labels_in w))
-labels_in-append (repeats t ∷ v) w = labels_in-append v w
-labels_in-append (keeps t ∷ v) w = labels_in-append v w
+labels_in-append (x ∷ v) w = labels_in-append v w
 
 -- ---- the labels of trees
 
@@ -81,12 +78,8 @@ sub_spelled none t x s h = absurd s
 sub_spelled (tree label below right) t x (inl e) h =
     ⊎_elim
     (λ a. in_left (spelling below) (label ∷ spelling right) x a)
-    (λ b. in_right (spelling below) (label ∷ spelling right) x (first b))
-    (in_apart (spelling below) (label ∷ []) x (subst (λ u. In (spelling u) x) e h))
-  where
-    first : In (label ∷ []) x → In (label ∷ spelling right) x
-    first (inl e) = inl e
-    first (inr k) = absurd k
+    (λ b. in_right (spelling below) (label ∷ spelling right) x (inl b))
+    (in_push (spelling below) label x (subst (λ u. In (spelling u) x) e h))
 sub_spelled (tree label below right) t x (inr (inl s)) h = in_left (spelling below) (label ∷ spelling right) x (sub_spelled below t x s h)
 sub_spelled (tree label below right) t x (inr (inr s)) h = in_right (spelling below) (label ∷ spelling right) x (inr (sub_spelled right t x s h))
 
@@ -125,6 +118,5 @@ spelled_uses (tree label below right) made v seen listed known p c u =
     let covers : Covers t p.0 = (p.0, [], sym (append-nil p.0), refl, p.4) in
     let second : AreFirstUses (upon s.mid seen) (spelling right) s.others =
     spelled_uses right (after made p.0) p.1 (upon s.mid seen) s.others (known_after t made p.0 seen s.mid known covers first) p.3 parts.1 s.second in
-    subst (AreFirstUses seen (spelling (tree label below right))) (sym s.parts)
-    (subst (λ w. AreFirstUses seen w (s.mid ++ s.others)) (append_assoc (spelling below) (label ∷ []) (spelling right))
-    (uses_join (spelling below ++ label ∷ []) (spelling right) seen s.mid s.others first second))
+    rw (s.parts, ← append_assoc (spelling below) (label ∷ []) (spelling right))
+    (uses_join (spelling below ++ label ∷ []) (spelling right) seen s.mid s.others first second)

@@ -1,20 +1,19 @@
 -- The first rule that a move breaks, from what a judge of it finds one after the other.
-use Rattle.std.proofs.Common.{◌≡◌, ◌≢◌, ℕ, ◌+◌, ◌<◌, ◌≤◌, List, [], ◌++◌, length, take, slice_get, Some, inl, inr, refl, sym, ap, subst, ◌∙◌, arith}
+use Rattle.std.proofs.Common.{◌≡◌, ℕ, ◌+◌, ◌<◌, ◌≤◌, List, [], ◌++◌, length, take, slice_get, Some, inl, inr, refl, sym, ap, subst, ◌∙◌, arith}
 use Rattle.std.proofs.lemmas.Option.{same_Some}
 use Rattle.std.proofs.lemmas.Bool.{cases_lt}
 use Rattle.std.proofs.lemmas.List.Sums.{sum_by-append}
 use Rattle.std.specs.Prelude.{cond}
 use Rattle.mm_text.specs.declared.statement.Kind.TheVariants.{Floating, Essential}
-use Rattle.mm_frame.specs.Sentence.{Sentence, IsHypothesis, IsLabelled}
-use Rattle.mm_frame.specs.Active.{IsActive}
+use Rattle.mm_frame.specs.Sentence.{Sentence}
 use Rattle.mm_frame.specs.Frame.{IsMandatoryPair}
 use Rattle.mm_frame.specs.Rules.{AllMeant}
 use Rattle.mm_proof.specs.declared.fault.ProofRule.{ProofRule}
 use Rattle.mm_proof.specs.declared.fault.ProofRule.TheVariants.{P6, P7, P8, P9, P10, P11, P12, L1}
 use Rattle.mm_proof.specs.Substitution.{instance_of}
-use Rattle.mm_proof.specs.Tree.{Names, ShareNoVariable, AreDistinct}
+use Rattle.mm_proof.specs.Tree.{ShareNoVariable, AreDistinct}
 use Rattle.mm_proof.specs.Moves.{Move, name, again, mark, is_step, steps_in}
-use Rattle.mm_proof.specs.Proof.{proof_rank, MeetsHypotheses, SomePair, SomeReplacedPair, BreaksStep, FirstAtMove, Passed, BreaksEnd, IsMovesFault}
+use Rattle.mm_proof.specs.Proof.{proof_rank, MeetsHypotheses, SomeReplacedPair, BreaksStep, FirstAtMove, Passed, BreaksEnd, IsMovesFault}
 use Rattle.mm_proof.proofs.OneStep.{StepTo, agree, meets_enough, same_substituted}
 use Rattle.mm_proof.proofs.Verdicts.{ranked, at_rank}
 use Rattle.mm_proof.proofs.Judged.{limit_first, only_P6, only_P7, below_P8}
@@ -56,8 +55,7 @@ no_pair : (before : List Sentence) (stack : List (List (List ℕ))) (label : Lis
     → EachPair before stack label m P → ¬ (SomeReplacedPair before stack label (λ e f. ¬ (P e f)))
 no_pair before stack label m P all each b =
     let a = agree before stack label all m b.0 in
-    let pair : IsMandatoryPair (take m.place before) m.assertion b.1 b.2 =
-    subst (λ s. IsMandatoryPair (take m.place before) s b.1 b.2) (sym a.assertion) (subst (λ k. IsMandatoryPair (take k before) b.0.assertion b.1 b.2) (sym a.place) b.5) in
+    let pair = rw (← a.place, ← a.assertion) at b.5 in
     b.8 (each b.1 b.2 b.3 b.4 pair (a.replacement b.1 ∙ b.6) (a.replacement b.2 ∙ b.7))
 
 -- ---- the first rule, by the rank below which none is broken
@@ -73,59 +71,30 @@ one_more Fits before stack label rule n one none below other less b = elim (case
 of_rank : (rule other : ProofRule) → proof_rank other ≡ proof_rank rule → other ≡ rule
 of_rank rule other same = same_Some other rule (sym (at_rank other) ∙ ap (slice_get ranked) same ∙ at_rank rule)
 
-below_P9 : (Fits : List (List ℕ) → Type 0) (before : List Sentence) (stack : List (List (List ℕ))) (label : List ℕ) (m : MeetsHypotheses before stack label) → AllMeant before
+pub below_P9 : (Fits : List (List ℕ) → Type 0) (before : List Sentence) (stack : List (List (List ℕ))) (label : List ℕ) (m : MeetsHypotheses before stack label)
+    → AllMeant before
     → (other : ProofRule) → proof_rank other < proof_rank P9 → ¬ (BreaksStep Fits other before stack label)
 below_P9 Fits before stack label m all = one_more Fits before stack label P8 (proof_rank P8) (of_rank P8) (meets_enough Fits before stack label all m) (below_P8 Fits before stack label)
 
-below_P10 : (Fits : List (List ℕ) → Type 0) (before : List Sentence) (stack : List (List (List ℕ))) (label : List ℕ) (m : MeetsHypotheses before stack label) → AllMeant before → HasCodes before stack label m
+pub below_P10 : (Fits : List (List ℕ) → Type 0) (before : List Sentence) (stack : List (List (List ℕ))) (label : List ℕ) (m : MeetsHypotheses before stack label)
+    → AllMeant before → HasCodes before stack label m
     → (other : ProofRule) → proof_rank other < proof_rank P10 → ¬ (BreaksStep Fits other before stack label)
 below_P10 Fits before stack label m all codes =
     one_more Fits before stack label P9 (proof_rank P9) (of_rank P9) (no_P9 Fits before stack label m all codes) (below_P9 Fits before stack label m all)
 
-below_P11 : (Fits : List (List ℕ) → Type 0) (before : List Sentence) (stack : List (List (List ℕ))) (label : List ℕ) (m : MeetsHypotheses before stack label) → AllMeant before → HasCodes before stack label m
+pub below_P11 : (Fits : List (List ℕ) → Type 0) (before : List Sentence) (stack : List (List (List ℕ))) (label : List ℕ) (m : MeetsHypotheses before stack label)
+    → AllMeant before → HasCodes before stack label m
     → HasEqual before stack label m → (other : ProofRule) → proof_rank other < proof_rank P11 → ¬ (BreaksStep Fits other before stack label)
 below_P11 Fits before stack label m all codes equal =
     one_more Fits before stack label P10 (proof_rank P10) (of_rank P10) (no_P10 Fits before stack label m all equal) (below_P10 Fits before stack label m all codes)
 
-below_P12 : (Fits : List (List ℕ) → Type 0) (before : List Sentence) (stack : List (List (List ℕ))) (label : List ℕ) (m : MeetsHypotheses before stack label) → AllMeant before → HasCodes before stack label m
+pub below_P12 : (Fits : List (List ℕ) → Type 0) (before : List Sentence) (stack : List (List (List ℕ))) (label : List ℕ) (m : MeetsHypotheses before stack label)
+    → AllMeant before → HasCodes before stack label m
     → HasEqual before stack label m → EachPair before stack label m (ShareNoVariable before) → (other : ProofRule) → proof_rank other < proof_rank P12 → ¬ (BreaksStep Fits other before stack label)
 below_P12 Fits before stack label m all codes equal share =
     one_more Fits before stack label P11 (proof_rank P11) (of_rank P11) (no_pair before stack label m (ShareNoVariable before) all share) (below_P11 Fits before stack label m all codes equal)
 
--- ---- the rules, in their order
-
--- fewer entries than hypotheses
-pub first_P8 : (Fits : List (List ℕ) → Type 0) (before : List Sentence) (stack kept : List (List (List ℕ))) (label : List ℕ) (place : ℕ) (assertion : Sentence) (hypotheses : List Sentence)
-    → Names before label place assertion hypotheses → length stack < length hypotheses → FirstAtMove Fits P8 before stack kept (name label)
-first_P8 Fits before stack kept label place assertion hypotheses names short =
-    record { broken = (place, assertion, hypotheses, names, short); first = below_P8 Fits before stack label }
-
--- a type code differs
-pub first_P9 : (Fits : List (List ℕ) → Type 0) (before : List Sentence) (stack kept : List (List (List ℕ))) (label : List ℕ) (m : MeetsHypotheses before stack label) → AllMeant before
-    → SomePair m.hypotheses m.entries (λ h entry. (h.kind ≡ Floating) × (slice_get entry 0 ≢ slice_get h.symbols 0)) → FirstAtMove Fits P9 before stack kept (name label)
-first_P9 Fits before stack kept label m all pair = record { broken = (m, pair); first = below_P9 Fits before stack label m all }
-
--- the type codes don't, but a `$e` does
-pub first_P10 : (Fits : List (List ℕ) → Type 0) (before : List Sentence) (stack kept : List (List (List ℕ))) (label : List ℕ) (m : MeetsHypotheses before stack label) → AllMeant before
-    → HasCodes before stack label m
-    → SomePair m.hypotheses m.entries (λ h entry. (h.kind ≡ Essential) × (entry ≢ instance_of m.σ h.symbols)) → FirstAtMove Fits P10 before stack kept (name label)
-first_P10 Fits before stack kept label m all codes pair = record { broken = (m, pair); first = below_P10 Fits before stack label m all codes }
-
--- the hypotheses match, but what replaces a pair shares a variable
-pub first_P11 : (Fits : List (List ℕ) → Type 0) (before : List Sentence) (stack kept : List (List (List ℕ))) (label : List ℕ) (m : MeetsHypotheses before stack label) → AllMeant before
-    → HasCodes before stack label m → HasEqual before stack label m
-    → (x y : List ℕ) (e f : List (List ℕ)) → IsMandatoryPair (take m.place before) m.assertion x y → m.σ x ≡ Some e → m.σ y ≡ Some f → ¬ (ShareNoVariable before e f)
-    → FirstAtMove Fits P11 before stack kept (name label)
-first_P11 Fits before stack kept label m all codes equal x y e f pair at_x at_y shared =
-    record { broken = (m, x, y, e, f, pair, at_x, at_y, shared); first = below_P11 Fits before stack label m all codes equal }
-
--- it never does, but variables of it are no active pair
-pub first_P12 : (Fits : List (List ℕ) → Type 0) (before : List Sentence) (stack kept : List (List (List ℕ))) (label : List ℕ) (m : MeetsHypotheses before stack label) → AllMeant before
-    → HasCodes before stack label m → HasEqual before stack label m → EachPair before stack label m (ShareNoVariable before)
-    → (x y : List ℕ) (e f : List (List ℕ)) → IsMandatoryPair (take m.place before) m.assertion x y → m.σ x ≡ Some e → m.σ y ≡ Some f → ¬ (AreDistinct before e f)
-    → FirstAtMove Fits P12 before stack kept (name label)
-first_P12 Fits before stack kept label m all codes equal share x y e f pair at_x at_y near =
-    record { broken = (m, x, y, e, f, pair, at_x, at_y, near); first = below_P12 Fits before stack label m all codes equal share }
+-- ---- a step that breaks none of them, and the rules that stand alone
 
 -- the step by the assertion breaks no rule but the limit
 pub step_of_meets : (before : List Sentence) (stack : List (List (List ℕ))) (label : List ℕ) (m : MeetsHypotheses before stack label) → HasCodes before stack label m → HasEqual before stack label m
@@ -139,12 +108,6 @@ step_of_meets before stack label m codes equal share near = inr (record {
   apart = λ x y e f pair at_x at_y. (share x y e f pair at_x at_y, near x y e f pair at_x at_y);
   made = refl;
 })
-
--- the step by an active hypothesis breaks none but the limit
-pub step_of_hypothesis : (before : List Sentence) (stack : List (List (List ℕ))) (label : List ℕ) (place : ℕ) (h : Sentence) → slice_get before place ≡ Some h → IsActive before place
-    → IsLabelled label h → IsHypothesis h.kind → StepTo before stack label stack h.symbols
-step_of_hypothesis before stack label place h there active named kind =
-    inl (record { kept = refl; place = place; hypothesis = h; there = there; active = active; named = named; kind = kind; made = refl })
 
 -- what such a step makes is over the limit
 pub first_L1 : (Fits : List (List ℕ) → Type 0) (before : List Sentence) (stack kept : List (List (List ℕ))) (label : List ℕ) (rest : List (List (List ℕ))) (e : List (List ℕ)) → AllMeant before

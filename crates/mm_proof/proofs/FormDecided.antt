@@ -1,34 +1,32 @@
 -- Whether a proof has the form that a profile demands can be decided, so each proof and each known front has one verdict under
 -- a profile.
-use Rattle.std.proofs.Common.{◌≡◌, ℕ, zero, suc, ◌+◌, List, [], ◌∷◌, ◌++◌, length, map, take, drop, slice_get, Contains, Some, ◌⊎◌, inl, inr, ⊎_elim, refl, sym, ap, subst, ◌∙◌, arith}
-use Rattle.std.proofs.lemmas.Option.{same_Some, none-some, slice_get_within}
-use Rattle.std.proofs.lemmas.Bool.{cases_order}
-use Rattle.std.proofs.lemmas.List.{length-append, length-take}
+use Rattle.std.proofs.Common.{◌≡◌, ℕ, ◌+◌, List, [], ◌∷◌, ◌++◌, length, take, slice_get, Contains, Some, inl, inr, refl, sym, ap, subst, ◌∙◌, arith}
+use Rattle.std.proofs.lemmas.Option.{same_Some}
+use Rattle.std.specs.List.{AllZip}
 use Rattle.std.proofs.Math.Decide.{ℕ_discrete}
 use Rattle.mm_frame.specs.Sentence.{Sentence, SomeSentence, IsLabelled, IsAssertion}
-use Rattle.mm_frame.specs.Frame.{AreMandatory, IsMandatoryAt}
+use Rattle.mm_frame.specs.Frame.{AreMandatory}
 use Rattle.mm_frame.specs.Form.{AllFormed}
 use Rattle.mm_text.specs.declared.statement.Kind.TheVariants.{Axiom, Provable}
-use Rattle.mm_text.proofs.Lists.{split_at, get_before, get_parted}
+use Rattle.mm_text.proofs.Lists.{get_before, get_parted, zip_left, zip_right}
 use Rattle.mm_frame.proofs.Decided.{dec_both, dec_as, dec_some, kind_dec, contains_dec, dec_not, dec_or}
-use Rattle.mm_frame.proofs.Those.{those_unique}
-use Rattle.mm_proof.specs.declared.fault.ProofRule.{ProofRule}
+use Rattle.mm_frame.proofs.Those.{mandatory_unique}
 use Rattle.mm_proof.specs.declared.fault.ProofRule.TheVariants.{P15}
 use Rattle.mm_proof.specs.declared.profile.Profile.{Profile}
 use Rattle.mm_proof.specs.declared.profile.Profile.TheVariants.{Strict, Lenient}
-use Rattle.mm_proof.specs.Moves.{Move, name, again, mark}
+use Rattle.mm_proof.specs.Moves.{Move, name, mark}
 use Rattle.mm_proof.specs.Tokens.{SayMoves}
-use Rattle.mm_proof.specs.Proof.{IsWhole, IsWithin, IsProvedWithin, IsFault}
+use Rattle.mm_proof.specs.Proof.{IsWhole}
 use Rattle.mm_proof.specs.Profiles.{limit_of}
-use Rattle.mm_proof.specs.KnownFront.{known_front, IsFrontAllowed, IsFrontFault}
+use Rattle.mm_proof.specs.KnownFront.{known_front}
 use Rattle.mm_proof.specs.Strict.{IsStrictList, MarkAssertions, IsStrict, HasFormOf}
-use Rattle.mm_proof.specs.UnderProfile.{IsProvedUnder, IsFaultUnder, IsFrontAllowedUnder, IsFrontFaultUnder, OneVerdictUnder, OneFrontVerdictUnder}
-use Rattle.mm_text.proofs.Lists.{get_take, get_from_take, at_from_contains, contains_from_at}
+use Rattle.mm_proof.specs.UnderProfile.{OneVerdictUnder, OneFrontVerdictUnder}
+use Rattle.mm_text.proofs.Lists.{get_from_take, at_from_contains, contains_from_at}
 use Rattle.mm_proof.proofs.SaidMoves.{some_moves, moves_once}
 use Rattle.mm_proof.proofs.Compressed.{one_compressed}
 use Rattle.mm_proof.proofs.Judged.{some_verdict_holds, first_symbol_dec}
 use Rattle.mm_proof.proofs.KnownFronts.{one_front_verdict_holds}
-use Rattle.mm_proof.proofs.FormJudged.{last_of}
+use Rattle.mm_proof.proofs.FormJudged.{last_of, told_each, once_from, step_before, strict_normal}
 use Rattle.mm_proof.proofs.UnderAnswers.{fault_under, have_under, proved_none, one_under, front_none, one_front_under}
 
 -- ---- the list
@@ -41,56 +39,36 @@ Twice labels = (i : ℕ) × (l : List ℕ) × (slice_get labels i ≡ Some l) ×
 abbrev Shared : List (List ℕ) → List (List ℕ) → Type 0
 Shared given labels = (i : ℕ) × (l : List ℕ) × (slice_get given i ≡ Some l) × Contains labels l
 
-label_at : (hs : List Sentence) (ls : List (List ℕ)) (i : ℕ) (h : Sentence) → map (λ h. h.label) hs ≡ map Some ls → slice_get hs i ≡ Some h → (l : List ℕ) × (slice_get ls i ≡ Some l) × IsLabelled l h
-label_at [] ls i h e at = absurd (none-some h at)
-label_at (g ∷ hs) [] i h e at = absurd cc
-label_at (g ∷ hs) (l ∷ ls) zero h e at =
-    let here : g.label ≡ Some l = cc in (l, refl, subst (IsLabelled l) (same_Some g h at) here)
-label_at (g ∷ hs) (l ∷ ls) (suc i) h e at =
-    let others : map (λ (k : Sentence). k.label) hs ≡ map Some ls = cc in label_at hs ls i h others at
-
-hypothesis_at : (hs : List Sentence) (ls : List (List ℕ)) (i : ℕ) (l : List ℕ) → map (λ h. h.label) hs ≡ map Some ls → slice_get ls i ≡ Some l → (h : Sentence) × (slice_get hs i ≡ Some h) × IsLabelled l h
-hypothesis_at [] [] i l e at = absurd (none-some l at)
-hypothesis_at [] (k ∷ ls) i l e at = absurd cc
-hypothesis_at (g ∷ hs) [] i l e at = absurd (none-some l at)
-hypothesis_at (g ∷ hs) (k ∷ ls) zero l e at =
-    let here : g.label ≡ Some k = cc in (g, refl, here ∙ at)
-hypothesis_at (g ∷ hs) (k ∷ ls) (suc i) l e at =
-    let others : map (λ (h : Sentence). h.label) hs ≡ map Some ls = cc in hypothesis_at hs ls i l others at
-
-list_from : (before : List Sentence) (s : Sentence) (hs : List Sentence) (given labels : List (List ℕ)) → AreMandatory before s hs → map (λ h. h.label) hs ≡ map Some given
-    → ¬ (Twice labels) → ¬ (Shared given labels) → IsStrictList before s labels
-list_from before s hs given labels mandatory labelled not_twice not_shared = record {
-  once = λ i j label p q. elim (cases_order i j) [
-    | inl e ↦ e
-    | inr (inl less) ↦ absurd (not_twice (j, label, q, contains_from_at (take j labels) label (i, get_take labels j i less ∙ p)))
-    | inr (inr more) ↦ absurd (not_twice (i, label, p, contains_from_at (take i labels) label (j, get_take labels i j more ∙ q)))
-  ];
-  optional = λ hypotheses h label those has named among.
-      let same : hypotheses ≡ hs = those_unique (IsMandatoryAt before s) 0 before hypotheses hs those mandatory in
-      let at = at_from_contains hs h (subst (λ (l : List Sentence). Contains l h) same has) in
-      let l = label_at hs given at.0 h labelled at.1 in
-      let one : l.0 ≡ label = same_Some l.0 label (sym l.2 ∙ named) in
-      not_shared (at.0, label, l.1 ∙ ap Some one, among);
-}
-
 not_twice_from : (before : List Sentence) (s : Sentence) (labels : List (List ℕ)) → IsStrictList before s labels → ¬ (Twice labels)
 not_twice_from before s labels strict (i, l, at, has) =
     let k = at_from_contains (take i labels) l has in
     let f = get_from_take labels i k.0 l k.1 in
     absurd (omega (arith, f.0, strict.once k.0 i l f.1 at))
 
-not_shared_from : (before : List Sentence) (s : Sentence) (hs : List Sentence) (given labels : List (List ℕ)) → AreMandatory before s hs → map (λ h. h.label) hs ≡ map Some given
-    → IsStrictList before s labels → ¬ (Shared given labels)
-not_shared_from before s hs given labels mandatory labelled strict (i, l, at, has) =
-    let h = hypothesis_at hs given i l labelled at in
-    strict.optional hs h.0 l mandatory (contains_from_at hs h.0 (i, h.1)) h.2 has
+module _ (before : List Sentence) (s : Sentence) (hs : List Sentence) (given labels : List (List ℕ))
+    (mandatory : AreMandatory before s hs) (labelled : AllZip (λ h l. IsLabelled l h) hs given)
+  where
+    list_from : ¬ (Twice labels) → ¬ (Shared given labels) → IsStrictList before s labels
+    list_from not_twice not_shared = record {
+      once = once_from labels (λ i l at has. not_twice (i, l, at, has));
+      optional = λ hypotheses h label those has named among.
+          let same = mandatory_unique before s hypotheses hs those mandatory in
+          let at = at_from_contains hs h (subst (λ (l : List Sentence). Contains l h) same has) in
+          let l = zip_left (λ h l. IsLabelled l h) hs given at.0 h labelled at.1 in
+          not_shared (at.0, label, l.1 ∙ ap Some (same_Some l.0 label (sym l.2 ∙ named)), among);
+    }
 
-list_dec : (before : List Sentence) (s : Sentence) (hs : List Sentence) (given labels : List (List ℕ)) → AreMandatory before s hs → map (λ h. h.label) hs ≡ map Some given → Dec (IsStrictList before s labels)
-list_dec before s hs given labels mandatory labelled = dec_as
-    (λ h. list_from before s hs given labels mandatory labelled h.0 h.1)
-    (λ strict. (not_twice_from before s labels strict, not_shared_from before s hs given labels mandatory labelled strict))
-    (dec_both (dec_not (dec_some (λ i l. Contains (take i labels) l) (λ i l. contains_dec (take i labels) l) labels)) (dec_not (dec_some (λ i l. Contains labels l) (λ i l. contains_dec labels l) given)))
+    not_shared_from : IsStrictList before s labels → ¬ (Shared given labels)
+    not_shared_from strict (i, l, at, has) =
+        let h = zip_right (λ h l. IsLabelled l h) hs given i l labelled at in
+        strict.optional hs h.0 l mandatory (contains_from_at hs h.0 (i, h.1)) h.2 has
+
+    list_dec : Dec (IsStrictList before s labels)
+    list_dec = dec_as (λ h. list_from h.0 h.1)
+        (λ strict. (not_twice_from before s labels strict, not_shared_from strict))
+        (dec_both
+        (dec_not (dec_some _ (λ i l. contains_dec (take i labels) l) labels))
+        (dec_not (dec_some _ (λ i l. contains_dec labels l) given)))
 
 -- ---- the marks
 
@@ -99,22 +77,16 @@ OfAssertion before label = SomeSentence before (λ a. IsLabelled label a × IsAs
 
 abbrev ByAssertion : List Sentence → Move (List ℕ) → Type 0
 ByAssertion before (name label) = OfAssertion before label
-ByAssertion before (again tag) = ⊥
-ByAssertion before mark = ⊥
-
-assertion_dec : (before : List Sentence) (label : List ℕ) → Dec (OfAssertion before label)
-assertion_dec before label = dec_some (λ i a. IsLabelled label a × IsAssertion a.kind)
-    (λ i a. dec_both (first_symbol_dec a.label (Some label)) (dec_or (kind_dec a.kind Axiom) (kind_dec a.kind Provable))) before
+ByAssertion before move = ⊥
 
 by_dec : (before : List Sentence) (move : Move (List ℕ)) → Dec (ByAssertion before move)
-by_dec before (name label) = assertion_dec before label
-by_dec before (again tag) = no (λ h. h)
-by_dec before mark = no (λ h. h)
+by_dec before (name label) = dec_some (λ i a. IsLabelled label a × IsAssertion a.kind)
+    (λ i a. dec_both (first_symbol_dec a.label (Some label)) (dec_or (kind_dec a.kind Axiom) (kind_dec a.kind Provable))) before
+by_dec before move = no (λ h. h)
 
 mark_dec : (move : Move (List ℕ)) → Dec (move ≡ mark)
-mark_dec (name label) = no (λ e. absurd cc)
-mark_dec (again tag) = no (λ e. absurd cc)
 mark_dec mark = yes refl
+mark_dec move = no (λ e. absurd cc)
 
 -- the move before a place is a step by an assertion
 abbrev After : List Sentence → List (Move (List ℕ)) → ℕ → Type 0
@@ -126,48 +98,38 @@ Loose before moves = (k : ℕ) × (m : Move (List ℕ)) × (slice_get moves k �
 after_dec : (before : List Sentence) (moves : List (Move (List ℕ))) (k : ℕ) → Dec (After before moves k)
 after_dec before moves k = dec_some (λ b m. (k ≡ b + 1) × ByAssertion before m) (λ b m. dec_both (ℕ_discrete k (b + 1)) (by_dec before m)) moves
 
-loose_dec : (before : List Sentence) (moves : List (Move (List ℕ))) → Dec (Loose before moves)
-loose_dec before moves = dec_some (λ k m. (m ≡ mark) × ¬ (After before moves k)) (λ k m. dec_both (mark_dec m) (dec_not (after_dec before moves k))) moves
-
 after_front : (before : List Sentence) (front : List (Move (List ℕ))) (b : ℕ) (m : Move (List ℕ)) → slice_get front b ≡ Some m → length front ≡ b + 1 → ByAssertion before m
     → (earlier : List (Move (List ℕ))) × (label : List ℕ) × (front ≡ earlier ++ name label ∷ []) × OfAssertion before label
 after_front before front b (name label) at long by = let last = last_of front b (name label) long at in (last.0, label, last.1, by)
 after_front before front b m at long by = absurd by
 
 marks_from : (before : List Sentence) (moves : List (Move (List ℕ))) → ¬ (Loose before moves) → MarkAssertions before moves
-marks_from before moves tight front after parts = go (after_dec before moves (length front))
-  where
-    go : Dec (After before moves (length front)) → (earlier : List (Move (List ℕ))) × (label : List ℕ) × (front ≡ earlier ++ name label ∷ []) × OfAssertion before label
-    go (yes a) = after_front before front a.0 a.1 (get_before front (mark ∷ after) a.0 a.1 (omega (arith, a.3.0)) (ap (λ l. slice_get l a.0) (sym parts) ∙ a.2)) a.3.0 a.3.1
-    go (no none) = absurd (tight (length front, mark, ap (λ l. slice_get l (length front)) parts ∙ get_parted front after mark, (refl, none)))
+marks_from before moves tight front after parts = elim (after_dec before moves (length front)) [
+  | yes a ↦ after_front before front a.0 a.1 (get_before front (mark ∷ after) a.0 a.1 (omega (arith, a.3.0)) (ap (λ l. slice_get l a.0) (sym parts) ∙ a.2)) a.3.0 a.3.1
+  | no none ↦ absurd (tight (length front, mark, ap (λ l. slice_get l (length front)) parts ∙ get_parted front after mark, (refl, none)))
+]
 
 tight_from : (before : List Sentence) (moves : List (Move (List ℕ))) → MarkAssertions before moves → ¬ (Loose before moves)
 tight_from before moves strict (k, move, at, same) =
-    let marked : slice_get moves k ≡ Some mark = at ∙ ap Some same.0 in
-    let m = strict (take k moves) (drop (suc k) moves) (split_at moves k mark marked) in
-    let within = slice_get_within moves k mark marked in
-    let long : k ≡ length m.0 + 1 = omega (arith, ap length m.2, length-append m.0 (name m.1 ∷ []), length-take k moves, within) in
-    let held : slice_get (take k moves) (length m.0) ≡ Some (name m.1) = ap (λ l. slice_get l (length m.0)) m.2 ∙ get_parted m.0 [] (name m.1) in
-    let moved = get_from_take moves k (length m.0) (name m.1) held in
-    same.1 (length m.0, name m.1, moved.1, (long, m.3))
+    let m = step_before before moves k strict (at ∙ ap Some same.0) in
+    same.1 (m.0, name m.1, m.3, (m.2, m.4))
 
 marks_dec : (before : List Sentence) (moves : List (Move (List ℕ))) → Dec (MarkAssertions before moves)
-marks_dec before moves = dec_as (marks_from before moves) (tight_from before moves) (dec_not (loose_dec before moves))
+marks_dec before moves = dec_as (marks_from before moves) (tight_from before moves) (dec_not
+    (dec_some _ (λ k m. dec_both (mark_dec m) (dec_not (after_dec before moves k))) moves))
 
 -- ---- the form
 
 strict_dec : (before : List Sentence) (s : Sentence) (tokens : List (List ℕ)) (moves : List (Move (List ℕ))) → SayMoves before s tokens moves → Dec (IsStrict before s tokens)
-strict_dec before s tokens moves (inl n) = yes (record {
-  listed = λ labels letters c. absurd (n.0 (ap (λ l. slice_get l 0) c.whole));
-  marked = λ others c. absurd (n.0 (ap (λ l. slice_get l 0) c.parts.whole));
-})
+strict_dec before s tokens moves (inl n) = yes (strict_normal before s tokens n.0)
 strict_dec before s tokens moves (inr c) = dec_as
     (λ h. record {
       listed = λ labels letters d. subst (IsStrictList before s) (one_compressed tokens c.listed c.letters labels letters c.parts d).0 h.0;
       marked = λ others d. subst (MarkAssertions before) (moves_once before s tokens moves others (inr c) (inr d)) h.1;
     })
     (λ strict. (strict.listed c.listed c.letters c.parts, strict.marked moves c))
-    (dec_both (list_dec before s c.hypotheses c.labels c.listed c.mandatory c.labelled) (marks_dec before moves))
+    (dec_both (list_dec before s c.hypotheses c.labels c.listed c.mandatory
+    (told_each (λ h. h.label) c.hypotheses c.labels c.labelled)) (marks_dec before moves))
 
 -- of tokens that break no rule over the whole of them
 form_dec : (profile : Profile) (before : List Sentence) (s : Sentence) (tokens : List (List ℕ)) → AllFormed before → IsWhole before tokens → Dec (HasFormOf profile before s tokens)
@@ -176,37 +138,30 @@ form_dec Lenient before s tokens formed whole = yes tt
 
 pub one_verdict_under_holds : OneVerdictUnder
 one_verdict_under_holds profile before s tokens all formed = (
-  ⊎_elim proved fails (some_verdict_holds (limit_of profile) before s tokens all formed),
-  λ p rule step f. proved_none profile before s tokens rule step all p f,
-  λ rule rule' step step'. one_under profile before s tokens rule rule' step step' all,
-)
-  where
-    proved : IsProvedWithin (IsWithin (limit_of profile)) before s tokens → IsProvedUnder profile before s tokens ⊎ ((rule : ProofRule) × (step : ℕ) × IsFaultUnder profile before s tokens rule step)
-    proved p = elim (form_dec profile before s tokens formed p.whole) [ yes form ↦ inl (form, p) | no none ↦ inr (P15, 0, inl (refl, inr (p.whole, refl, none))) ]
-
-    fails : (rule : ProofRule) × (step : ℕ) × IsFault (IsWithin (limit_of profile)) before s tokens rule step
-        → IsProvedUnder profile before s tokens ⊎ ((rule : ProofRule) × (step : ℕ) × IsFaultUnder profile before s tokens rule step)
-    fails (rule, step, inl f) = inr (rule, step, inl (f.0, inl f.1))
-    fails (rule, step, inr f) = elim (form_dec profile before s tokens formed f.0) [
+  elim (some_verdict_holds (limit_of profile) before s tokens all formed) [
+    | inl p ↦ elim (form_dec profile before s tokens formed p.whole) [ yes form ↦ inl (form, p) | no none ↦ inr (P15, 0, inl (refl, inr (p.whole, refl, none))) ]
+    | inr (rule, step, inl f) ↦ inr (rule, step, inl (f.0, inl f.1))
+    | inr (rule, step, inr f) ↦ elim (form_dec profile before s tokens formed f.0) [
       | yes form ↦ inr (rule, step, fault_under profile before s tokens rule step form (inr f))
       | no none ↦ inr (P15, 0, inl (refl, inr (f.0, refl, none)))
     ]
+  ],
+  λ p rule step f. proved_none profile before s tokens rule step all p f,
+  λ rule rule' step step'. one_under profile before s tokens rule rule' step step' all,
+)
 
 pub one_front_verdict_under_holds : OneFrontVerdictUnder
 one_front_verdict_under_holds profile before s tokens all formed = (
-  ⊎_elim allowed fails (one_front_verdict_holds (limit_of profile) before s tokens all formed).0,
+  elim (one_front_verdict_holds (limit_of profile) before s tokens all formed).0 [
+    | inl p ↦ elim (form_dec profile before s (known_front tokens) formed p.whole) [ yes form ↦ inl (form, p) | no none ↦ inr (P15, 0, inl (refl, inr (p.whole, refl, none))) ]
+    | inr (rule, step, inl f) ↦ inr (rule, step, inl (f.0, inl f.1))
+    | inr (rule, step, inr f) ↦ elim (form_dec profile before s (known_front tokens) formed f.0) [
+      | yes form ↦
+          let fault = have_under profile before s (known_front tokens) rule step form (inr f) in
+          inr (rule, step, fault)
+      | no none ↦ inr (P15, 0, inl (refl, inr (f.0, refl, none)))
+    ]
+  ],
   λ p rule step f. front_none profile before s tokens rule step all p f,
   λ rule rule' step step'. one_front_under profile before s tokens rule rule' step step' all,
 )
-  where
-    allowed : IsFrontAllowed (IsWithin (limit_of profile)) before s tokens
-        → IsFrontAllowedUnder profile before s tokens ⊎ ((rule : ProofRule) × (step : ℕ) × IsFrontFaultUnder profile before s tokens rule step)
-    allowed p = elim (form_dec profile before s (known_front tokens) formed p.whole) [ yes form ↦ inl (form, p) | no none ↦ inr (P15, 0, inl (refl, inr (p.whole, refl, none))) ]
-
-    fails : (rule : ProofRule) × (step : ℕ) × IsFrontFault (IsWithin (limit_of profile)) before s tokens rule step
-        → IsFrontAllowedUnder profile before s tokens ⊎ ((rule : ProofRule) × (step : ℕ) × IsFrontFaultUnder profile before s tokens rule step)
-    fails (rule, step, inl f) = inr (rule, step, inl (f.0, inl f.1))
-    fails (rule, step, inr f) = elim (form_dec profile before s (known_front tokens) formed f.0) [
-      | yes form ↦ inr (rule, step, have_under profile before s (known_front tokens) rule step form (inr f))
-      | no none ↦ inr (P15, 0, inl (refl, inr (f.0, refl, none)))
-    ]

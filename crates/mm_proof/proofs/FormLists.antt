@@ -2,8 +2,8 @@
 use Rattle.std.proofs.Common.{◌≡◌, ℕ, zero, suc, ◌+◌, ◌<◌, ◌≤◌, List, [], ◌∷◌, ◌++◌, length, take, get_or, slice_get, Contains, Bool, true, false, Some, ◌⊎◌, ◌↔◌, inl, inr, ⊎_elim, refl, sym, ap, subst, ◌∙◌, arith}
 use Rattle.std.proofs.lemmas.Option.{same_Some, slice_get_within}
 use Rattle.std.proofs.lemmas.Bool.{cases_lt}
-use Rattle.std.proofs.lemmas.List.{length-map}
-use Rattle.std.proofs.lemmas.List.Elements.{Contains-append_left, Contains-append_right, Contains-append_cases}
+use Rattle.std.proofs.lemmas.List.{length-map, length-take, map_more, take-map}
+use Rattle.std.proofs.lemmas.List.Elements.{Contains-append_left, Contains-push, Contains-push_cases}
 use Rattle.mm_frame.specs.declared.number.LabelId.{LabelId}
 use Rattle.mm_frame.specs.Sentence.{Sentence}
 use Rattle.mm_proof.specs.declared.moves.NumberedMove.{NumberedMove}
@@ -19,45 +19,46 @@ pub only_one : (n x : ℕ) → Contains (n ∷ []) x → n ≡ x
 only_one n x (zero, within, is) = is
 only_one n x (suc k, within, is) = absurd (let w : suc k < 1 = within in omega arith)
 
+-- what is among numbers with one more behind them
+push_has : (old : List ℕ) (n x : ℕ) → Contains (old ++ n ∷ []) x ↔ (Contains old x ⊎ (n ≡ x))
+push_has old n x = (
+  Contains-push_cases old n x,
+  ⊎_elim (Contains-append_left old (n ∷ []) x)
+      (λ e. subst (Contains (old ++ n ∷ [])) e (Contains-push old n)),
+)
+
 -- what is among them after one was put behind them
 added_has : (old : List ℕ) (n : ℕ) (b : Bool) (new : List ℕ) → AddsNew old n b new → (x : ℕ) → Contains new x ↔ (Contains old x ⊎ (n ≡ x))
-added_has old n false new a x = (
-  (λ h. inl (subst (λ l. Contains l x) a.1 h)),
-  λ h. subst (λ l. Contains l x) (sym a.1) (⊎_elim (λ o. o) (λ e. subst (Contains old) e a.0) h),
-)
-added_has old n true new a x = (
-  (λ h. ⊎_elim (λ o. inl o) (λ e. inr (only_one n x e)) (Contains-append_cases old (n ∷ []) x (subst (λ l. Contains l x) a.1 h))),
-  λ h. subst (λ l. Contains l x) (sym a.1)
-      (⊎_elim (λ o. Contains-append_left old (n ∷ []) x o) (λ e. Contains-append_right old (n ∷ []) x (0, omega arith, e)) h),
-)
+added_has old n false new a x =
+    rw a.1 ((λ h. inl h), ⊎_elim (λ o. o) (λ e. subst (Contains old) e a.0))
+added_has old n true new a x = rw a.1 (push_has old n x)
 
 -- the numbers of one label more
 pub ids_more : (ids : List LabelId) (i : ℕ) (d : LabelId) → i < length ids → take (i + 1) (ids_in ids) ≡ take i (ids_in ids) ++ (get_or ids i d).0 ∷ []
-ids_more [] i d less = absurd (omega arith)
-ids_more (id ∷ ids) zero d less = refl
-ids_more (id ∷ ids) (suc i) d less =
-    let more : suc i + 1 ≡ suc (i + 1) = omega arith in
-    ap (λ n. take n (id.0 ∷ ids_in ids)) more ∙ ap (λ l. id.0 ∷ l) (ids_more ids i d (omega arith))
+ids_more ids i d less =
+    let label : LabelId → ℕ = λ l. l.0 in
+    take-map label (i + 1) ids ∙ map_more label ids i d less
+    ∙ ap (λ front. front ++ (get_or ids i d).0 ∷ []) (sym (take-map label i ids))
 
 -- so far each is new, and these are seen
 pub record NewSoFar (first seen ids : List ℕ) (i : ℕ) : Type 0 where
   pub new : (j id : ℕ) → j < i → slice_get ids j ≡ Some id → ¬ (Contains first id) × ¬ (Contains (take j ids) id)
   pub has : (x : ℕ) → Contains seen x ↔ (Contains first x ⊎ Contains (take i ids) x)
 
-nothing_in : (x : ℕ) (ids : List ℕ) → ¬ (Contains (take 0 ids) x)
-nothing_in x [] h = absurd (let w : h.0 < 0 = h.1 in omega arith)
-nothing_in x (n ∷ ids) h = absurd (let w : h.0 < 0 = h.1 in omega arith)
-
 pub new_none : (first : List ℕ) (ids : List ℕ) → NewSoFar first first ids 0
 new_none first ids = record {
   new = λ j id less. absurd (omega arith);
-  has = λ x. ((λ h. inl h), λ h. ⊎_elim (λ f. f) (λ n. absurd (nothing_in x ids n)) h);
+  has = λ x. ((λ h. inl h), ⊎_elim (λ f. f) (λ n. absurd (omega (arith, n.1, length-take 0 ids))));
 }
 
-new_more : (first seen next : List ℕ) (ids : List LabelId) (i : ℕ) (d : LabelId) → i < length ids → NewSoFar first seen (ids_in ids) i → AddsNew seen (get_or ids i d).0 true next
+-- one more that is new
+pub new_one : (first seen next : List ℕ) (ids : List LabelId) (i : ℕ) (d : LabelId) (b : Bool) → i < length ids → NewSoFar first seen (ids_in ids) i → AddsNew seen (get_or ids i d).0 b next → b ≡ true
     → NewSoFar first next (ids_in ids) (i + 1)
-new_more first seen next ids i d less so a = record { new = new; has = has }
+new_one first seen next ids i d b less so added is = record { new = new; has = has }
   where
+    a : AddsNew seen (get_or ids i d).0 true next
+    a = subst (λ (c : Bool). AddsNew seen (get_or ids i d).0 c next) is added
+
     here : slice_get (ids_in ids) i ≡ Some (get_or ids i d).0
     here = entry_at ids i d less
 
@@ -73,35 +74,36 @@ new_more first seen next ids i d less so a = record { new = new; has = has }
 
     has : (x : ℕ) → Contains next x ↔ (Contains first x ⊎ Contains (take (i + 1) (ids_in ids)) x)
     has x =
-        let more = ids_more ids i d less in
-        let added = added_has seen (get_or ids i d).0 true next a x in (
-          (λ h. ⊎_elim
-              (λ s. ⊎_elim (λ f. inl f) (λ t. inr (subst (λ l. Contains l x) (sym more) (Contains-append_left (take i (ids_in ids)) ((get_or ids i d).0 ∷ []) x t))) ((so.has x).0 s))
-              (λ e. inr (subst (λ l. Contains l x) (sym more) (Contains-append_right (take i (ids_in ids)) ((get_or ids i d).0 ∷ []) x (0, omega arith, e)))) (added.0 h)),
-          λ h. added.1 (⊎_elim (λ f. inl ((so.has x).1 (inl f)))
-              (λ t. ⊎_elim (λ b. inl ((so.has x).1 (inr b))) (λ e. inr (only_one (get_or ids i d).0 x e)) (Contains-append_cases (take i (ids_in ids)) ((get_or ids i d).0 ∷ []) x (subst (λ l. Contains l x) more t))) h),
+        let grown = added_has seen (get_or ids i d).0 true next a x in
+        let pushed = push_has (take i (ids_in ids)) (get_or ids i d).0 x in
+        rw (ids_more ids i d less) (
+          λ h. ⊎_elim
+              (λ s. ⊎_elim (λ f. inl f) (λ t. inr (pushed.1 (inl t))) ((so.has x).0 s))
+              (λ e. inr (pushed.1 (inr e))) (grown.0 h),
+          λ h. grown.1 (⊎_elim (λ f. inl ((so.has x).1 (inl f)))
+              (λ t. ⊎_elim (λ b. inl ((so.has x).1 (inr b))) (λ e. inr e) (pushed.0 t)) h),
         )
 
 pub new_all : (first seen : List ℕ) (ids : List LabelId) (i : ℕ) → length ids ≤ i → NewSoFar first seen (ids_in ids) i → AllNew first (ids_in ids)
-new_all first seen ids i past so j id at = so.new j id (omega (arith, slice_get_within (ids_in ids) j id at, length_ids ids)) at
-  where
-    length_ids : (l : List LabelId) → length (ids_in l) ≡ length l
-    length_ids [] = refl
-    length_ids (x ∷ l) = ap (λ n. suc n) (length_ids l)
+new_all first seen ids i past so j id at =
+    so.new j id (omega (arith, slice_get_within (ids_in ids) j id at, length-map ids (λ l. l.0))) at
 
-old_one : (first seen next : List ℕ) (ids : List LabelId) (i : ℕ) (d : LabelId) → i < length ids → NewSoFar first seen (ids_in ids) i → AddsNew seen (get_or ids i d).0 false next
+pub old_here : (first seen next : List ℕ) (ids : List LabelId) (i : ℕ) (d : LabelId) (b : Bool) → i < length ids → NewSoFar first seen (ids_in ids) i → AddsNew seen (get_or ids i d).0 b next → b ≡ false
     → SomeOld first (ids_in ids)
-old_one first seen next ids i d less so a = (i, (get_or ids i d).0, entry_at ids i d less, (so.has (get_or ids i d).0).0 a.0)
+old_here first seen next ids i d b less so added is =
+    let a = subst (λ (c : Bool). AddsNew seen (get_or ids i d).0 c next) is added in
+    (i, (get_or ids i d).0, entry_at ids i d less, (so.has (get_or ids i d).0).0 a.0)
 
 -- ---- labels of hypotheses, put into a set one after the other
 
 pub set_more : (old new hids more : List ℕ) (n : ℕ) (b : Bool) → ((x : ℕ) → Contains old x ↔ Contains hids x) → AddsNew old n b new → more ≡ hids ++ n ∷ []
     → (x : ℕ) → Contains new x ↔ Contains more x
 set_more old new hids more n b same a is x =
-    let added = added_has old n b new a x in (
-      (λ h. subst (λ l. Contains l x) (sym is)
-          (⊎_elim (λ o. Contains-append_left hids (n ∷ []) x ((same x).0 o)) (λ e. Contains-append_right hids (n ∷ []) x (0, omega arith, e)) (added.0 h))),
-      λ h. added.1 (⊎_elim (λ o. inl ((same x).1 o)) (λ e. inr (only_one n x e)) (Contains-append_cases hids (n ∷ []) x (subst (λ l. Contains l x) is h))),
+    let grown = added_has old n b new a x in
+    let pushed = push_has hids n x in
+    rw is (
+      λ h. pushed.1 (⊎_elim (λ o. inl ((same x).0 o)) (λ e. inr e) (grown.0 h)),
+      λ h. grown.1 (⊎_elim (λ o. inl ((same x).1 o)) (λ e. inr e) (pushed.0 h)),
     )
 
 pub new_seen : (seen hids ids : List ℕ) → ((x : ℕ) → Contains seen x ↔ Contains hids x) → AllNew seen ids → AllNew hids ids
@@ -121,7 +123,8 @@ move_mark code.Mark e = refl
 move_mark m e = absurd cc
 
 -- one mark more
-marks_more : (st : List Sentence) (moves : List NumberedMove) (i : ℕ) (d : NumberedMove) → i < length moves
+pub marks_more : (st : List Sentence) (moves : List NumberedMove) (i : ℕ) (d : NumberedMove)
+    → i < length moves
     → ((k : ℕ) → k < i → slice_get (moves_in moves) k ≡ Some mark → IsAfterAssertion st (moves_in moves) k)
     → (get_or moves i d ≡ code.Mark → IsAfterAssertion st (moves_in moves) i)
     → (k : ℕ) → k < i + 1 → slice_get (moves_in moves) k ≡ Some mark → IsAfterAssertion st (moves_in moves) k
@@ -136,25 +139,3 @@ marks_more st moves i d less before here k below at = elim (cases_lt k i) [
 pub marks_all : (st : List Sentence) (moves : List NumberedMove) (i : ℕ) → length moves ≤ i
     → ((k : ℕ) → k < i → slice_get (moves_in moves) k ≡ Some mark → IsAfterAssertion st (moves_in moves) k) → AreMarksStrict st (moves_in moves)
 marks_all st moves i past before k at = before k (omega (arith, slice_get_within (moves_in moves) k mark at, length-map moves move_in)) at
-
--- ---- what the code tells at once
-
-pub new_one : (first seen next : List ℕ) (ids : List LabelId) (i : ℕ) (d : LabelId) (b : Bool) → i < length ids → NewSoFar first seen (ids_in ids) i → AddsNew seen (get_or ids i d).0 b next → b ≡ true
-    → NewSoFar first next (ids_in ids) (i + 1)
-new_one first seen next ids i d b less so a is = new_more first seen next ids i d less so (subst (λ (c : Bool). AddsNew seen (get_or ids i d).0 c next) is a)
-
-pub old_here : (first seen next : List ℕ) (ids : List LabelId) (i : ℕ) (d : LabelId) (b : Bool) → i < length ids → NewSoFar first seen (ids_in ids) i → AddsNew seen (get_or ids i d).0 b next → b ≡ false
-    → SomeOld first (ids_in ids)
-old_here first seen next ids i d b less so a is = old_one first seen next ids i d less so (subst (λ (c : Bool). AddsNew seen (get_or ids i d).0 c next) is a)
-
-pub mark_here : (st : List Sentence) (moves : List NumberedMove) (i : ℕ) (d : NumberedMove) → i < length moves
-    → ((k : ℕ) → k < i → slice_get (moves_in moves) k ≡ Some mark → IsAfterAssertion st (moves_in moves) k)
-    → get_or moves i d ≡ code.Mark → IsAfterAssertion st (moves_in moves) i
-    → (k : ℕ) → k < i + 1 → slice_get (moves_in moves) k ≡ Some mark → IsAfterAssertion st (moves_in moves) k
-mark_here st moves i d less before is here = marks_more st moves i d less before (λ marked. here)
-
-pub no_mark : (st : List Sentence) (moves : List NumberedMove) (i : ℕ) (d : NumberedMove) → i < length moves
-    → ((k : ℕ) → k < i → slice_get (moves_in moves) k ≡ Some mark → IsAfterAssertion st (moves_in moves) k)
-    → ¬ (get_or moves i d ≡ code.Mark)
-    → (k : ℕ) → k < i + 1 → slice_get (moves_in moves) k ≡ Some mark → IsAfterAssertion st (moves_in moves) k
-no_mark st moves i d less before not_so = marks_more st moves i d less before (λ marked. absurd (not_so marked))

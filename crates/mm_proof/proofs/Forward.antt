@@ -1,7 +1,8 @@
 -- A move that breaks no rule carries passed moves on: its tree stands for the trees of its hypotheses.
-use Rattle.std.proofs.Common.{◌≡◌, ℕ, suc, List, [], ◌∷◌, ◌++◌, length, take, drop, map, slice_get, Some, None, inl, inr, ⊎_elim, refl, sym, ap, subst, ◌∙◌, option_map, arith}
-use Rattle.std.proofs.lemmas.Option.{same_Some, none-some, slice_get-map}
-use Rattle.std.proofs.lemmas.List.{length-map}
+use Rattle.std.proofs.Common.{◌≡◌, ℕ, List, [], ◌∷◌, ◌++◌, take, drop, map, slice_get, Some, None, inl, inr, ⊎_elim, refl, sym, ap, subst, ◌∙◌, option_map}
+use Rattle.std.proofs.lemmas.Option.{same_Some, none-some, slice_get-map, slice_get-get_or}
+use Rattle.std.proofs.lemmas.Option.{get_or_from_slice_get}
+use Rattle.std.proofs.lemmas.List.{length-map, same_lists}
 use Rattle.mm_text.proofs.Lists.{zip_push, zip_right, get_beside}
 use Rattle.mm_frame.specs.Sentence.{Sentence}
 use Rattle.mm_frame.specs.Frame.{IsMandatoryAt}
@@ -19,12 +20,6 @@ use Rattle.mm_proof.proofs.Making.{beside-none, makes_more, roots_derive}
 use Rattle.mm_proof.proofs.Derived.{derive_beside, derive_halves, single_derives}
 
 -- ---- the entries are the substituted hypotheses
-
-same_by_places : {X : Type 0} (xs ys : List X) → length xs ≡ length ys → ((i : ℕ) (x y : X) → slice_get xs i ≡ Some x → slice_get ys i ≡ Some y → x ≡ y) → xs ≡ ys
-same_by_places [] [] l h = refl
-same_by_places (x ∷ xs) (y ∷ ys) l h =
-    ap (λ z. z ∷ xs) (h 0 x y refl refl) ∙ ap (λ zs. y ∷ zs) (same_by_places xs ys (omega arith) (λ i a b p q. h (suc i) a b p q))
-same_by_places xs ys l h = absurd (omega arith)
 
 front_is : (entry : List (List ℕ)) (code : List ℕ) → slice_get entry 0 ≡ Some code → entry ≡ code ∷ drop 1 entry
 front_is [] code e = absurd (none-some code e)
@@ -48,11 +43,13 @@ entries_are : (before : List Sentence) (stack : List (List (List ℕ))) (label :
     → (p : Applies before stack label rest e) → p.meets.entries ≡ map (λ (h : Sentence). instance_of p.meets.σ h.symbols) p.meets.hypotheses
 entries_are before stack label rest e all p =
     let f : Sentence → List (List ℕ) = λ h. instance_of p.meets.σ h.symbols in
-    same_by_places p.meets.entries (map f p.meets.hypotheses) (p.meets.paired ∙ sym (length-map p.meets.hypotheses f))
-    (λ i entry made at there.
-    let h = get_beside p.meets.entries p.meets.hypotheses i entry (sym p.meets.paired) at in
-    entry_is before stack label rest e all p i h.0 entry h.1 at
-    ∙ same_Some (f h.0) made (sym (slice_get-map f p.meets.hypotheses i ∙ ap (λ o. option_map f o) h.1) ∙ there))
+    let hs = p.meets.hypotheses in
+    same_lists p.meets.entries (map f hs) (p.meets.paired ∙ sym (length-map hs f)) (λ i d less.
+    let at = slice_get-get_or p.meets.entries i d less in
+    let h = get_beside p.meets.entries hs i _ (sym p.meets.paired) at in
+    let made = slice_get-map f hs i ∙ ap (option_map f) h.1 in
+    entry_is before stack label rest e all p i h.0 _ h.1 at
+    ∙ sym (get_or_from_slice_get (map f hs) i (f h.0) d made))
 
 -- ---- one move more
 

@@ -1,6 +1,7 @@
 -- A front has one answer, unless memory is refused.
-use Rattle.std.proofs.Common.{◌≡◌, ℕ, List, take, Result, Ok, Err, inl, inr, refl, ap, subst, ◌∙◌}
+use Rattle.std.proofs.Common.{◌≡◌, ℕ, List, take, Result, Ok, Err, inl, inr, refl, subst}
 use Rattle.std.specs.Result.{IfOk, IfErr, OnOk, IsOkUnless}
+use Rattle.std.proofs.lemmas.Result.{IfOk-at_ok}
 use Rattle.mm_frame.specs.Sentence.{Sentence}
 use Rattle.mm_frame.specs.Rules.{AllMeant}
 use Rattle.mm_frame.specs.Numbers.{IsNumbered}
@@ -54,8 +55,7 @@ front_refuses Fits before moves (Ok x) meant p f rule step fault = absurd (passe
 front_refuses Fits before moves (Err Memory) meant p f rule step fault = inr refl
 front_refuses {X} Fits before moves (Err (Rule other at)) meant p f rule step fault =
     let same = two_moves Fits before moves other rule at step meant f fault in
-    let refusal : ProofRule → ℕ → Result X ProofFault = λ r n. Err (Rule r n) in
-    inl (ap (λ (r : ProofRule). refusal r at) same.0 ∙ ap (λ (n : ℕ). refusal rule n) same.1)
+    inl (rw (same.0, same.1) refl)
 
 -- ---- answers
 
@@ -64,8 +64,7 @@ ok_both (Ok x) P Q R f h k = (h, f k)
 ok_both (Err e) P Q R f h k = tt
 
 pub on_ok_at : {X : Type 0} (r : Result X ProofFault) (Q : Type 0) (x : X) → r ≡ Ok x → OnOk r Q → Q
-on_ok_at (Ok y) Q x is h = h
-on_ok_at (Err e) Q x is h = absurd cc
+on_ok_at r Q x is h = IfOk-at_ok (λ y. Q) is h
 
 -- ---- the tokens of a front, from what is said of their moves
 

@@ -1,8 +1,9 @@
 -- The tokens of the known front: what of the whole's tokens holds of them.
-use Rattle.std.proofs.Common.{◌≡◌, ℕ, zero, suc, ◌+◌, ◌<◌, ◌≤◌, List, [], ◌∷◌, ◌++◌, length, map, take, get_or, slice_get, Some, None, Bool, true, false, if◌then◌else◌, ◌==◌, append-nil, refl, sym, ap, ◌∙◌, arith}
+use Rattle.std.proofs.Common.{◌≡◌, ℕ, zero, suc, ◌+◌, ◌<◌, ◌≤◌, List, [], ◌∷◌, ◌++◌, length, map, take, get_or, slice_get, Some, Bool, true, false, if◌then◌else◌, ◌==◌, append-nil, refl, sym, ap, ◌∙◌, arith}
 use Rattle.std.specs.List.{list_any, sum_by, position_or_len, before_first}
-use Rattle.std.proofs.lemmas.Bool.{or_parts, or_from}
-use Rattle.std.proofs.lemmas.List.{length-take}
+use Rattle.std.proofs.lemmas.Option.{slice_get_past}
+use Rattle.std.proofs.lemmas.List.{length-take, length-map, get_or-map, take-map, map-append}
+use Rattle.std.proofs.lemmas.List.Folds.{list_any_more}
 use Rattle.std.proofs.lemmas.List.Sums.{sum_by-append, sum_by-take-le}
 use Rattle.mm_text.specs.declared.token.Token.{Token}
 use Rattle.mm_proof.specs.Plain.{token_texts}
@@ -34,49 +35,18 @@ front_room tokens = by (begins_list tokens) (ends_list (known_tokens tokens))
     by true false = omega arith
     by false ended = sum_by-take-le length tokens (position_or_len is_unknown tokens)
 
--- ---- the first of some items that passes a test
+-- ---- one item more, where none passes a test
 
 pub any_more : {T X : Type 0} (f : T → X) (p : X → Bool) (items : List T) (i : ℕ) (d : T) → i < length items → list_any p (take i (map f items)) ≡ false → p (f (get_or items i d)) ≡ false
     → list_any p (take (i + 1) (map f items)) ≡ false
-any_more f p [] i d less none not_so = absurd (omega arith)
-any_more f p (t ∷ items) zero d less none not_so = or_from (p (f t)) false not_so refl
-any_more f p (t ∷ items) (suc i) d less none not_so =
-    let parts = or_parts (p (f t)) (list_any p (take i (map f items))) none in
-    let more : suc i + 1 ≡ suc (i + 1) = omega arith in
-    ap (λ n. list_any p (take n (f t ∷ map f items))) more ∙ or_from (p (f t)) (list_any p (take (i + 1) (map f items))) parts.0 (any_more f p items i d (omega arith) parts.1 not_so)
-
-pub first_at : {T X : Type 0} (f : T → X) (p : X → Bool) (items : List T) (i : ℕ) (d : T) → i < length items → list_any p (take i (map f items)) ≡ false → p (f (get_or items i d)) ≡ true
-    → i ≡ position_or_len p (map f items)
-first_at f p [] i d less none so = absurd (omega arith)
-first_at f p (t ∷ items) zero d less none so = rw so refl
-first_at f p (t ∷ items) (suc i) d less none so =
-    let parts = or_parts (p (f t)) (list_any p (take i (map f items))) none in
-    let later = first_at f p items i d (omega arith) parts.1 so in
-    rw parts.0 (omega (arith, later))
-
-pub first_past : {T X : Type 0} (f : T → X) (p : X → Bool) (items : List T) → list_any p (map f items) ≡ false → length items ≡ position_or_len p (map f items)
-first_past f p [] none = refl
-first_past f p (t ∷ items) none =
-    let parts = or_parts (p (f t)) (list_any p (map f items)) none in
-    let later = first_past f p items parts.1 in
-    rw parts.0 (omega (arith, later))
+any_more f p items i d less none not_so =
+    list_any_more p (map f items) i (f d) (omega (arith, length-map items f))
+    ∙ rw (none, get_or-map f items i d (f d) less, not_so) refl
 
 -- ---- tokens as the code holds them
 
 pub texts_take : (tokens : List Token) (n : ℕ) → token_texts (take n tokens) ≡ take n (token_texts tokens)
-texts_take [] zero = refl
-texts_take [] (suc n) = refl
-texts_take (t ∷ tokens) zero = refl
-texts_take (t ∷ tokens) (suc n) = ap (λ l. t.text.now ∷ l) (texts_take tokens n)
-
-texts_past : (tokens : List Token) (n : ℕ) → length tokens ≤ n → slice_get (token_texts tokens) n ≡ None
-texts_past [] n past = refl
-texts_past (t ∷ tokens) zero past = absurd (omega arith)
-texts_past (t ∷ tokens) (suc n) past = texts_past tokens n (omega arith)
-
-texts_put : (tokens : List Token) (put : Token) → token_texts (tokens ++ put ∷ []) ≡ token_texts tokens ++ put.text.now ∷ []
-texts_put [] put = refl
-texts_put (t ∷ tokens) put = ap (λ l. t.text.now ∷ l) (texts_put tokens put)
+texts_take tokens n = sym (take-map (λ t. t.text.now) n tokens)
 
 token_none : (text : List ℕ) → true ≡ (length text == 0) → token_of text ≡ []
 token_none [] e = refl
@@ -97,7 +67,8 @@ pub piece_past : (tokens out : List Token) (place : ℕ) → length tokens ≤ p
     → token_texts out ≡ take place (token_texts tokens) ++ known_piece (slice_get (token_texts tokens) place)
 piece_past tokens out place past is =
     ap token_texts is ∙ texts_take tokens place ∙ sym (append-nil (take place (token_texts tokens)))
-    ∙ ap (λ o. take place (token_texts tokens) ++ known_piece o) (sym (texts_past tokens place past))
+    ∙ ap (λ o. take place (token_texts tokens) ++ known_piece o) (sym (slice_get_past _ place
+    (omega (arith, length-map tokens (λ t. t.text.now)))))
 
 pub piece_none : (tokens out : List Token) (place n : ℕ) (t : Token) → place < length tokens → t ≡ get_or tokens place t → n ≡ position_or_len is_question t.text.now
     → true ≡ (length (take n t.text.now) == 0) → out ≡ take place tokens
@@ -110,27 +81,12 @@ pub piece_some : (tokens held out : List Token) (place n : ℕ) (t put : Token) 
     → n ≡ position_or_len is_question t.text.now → false ≡ (length (take n t.text.now) == 0) → put.text.now ≡ take n t.text.now
     → token_texts out ≡ take place (token_texts tokens) ++ known_piece (slice_get (token_texts tokens) place)
 piece_some tokens held out place n t put is front less there first filled text =
-    ap token_texts is ∙ texts_put held put ∙ ap (λ (l : List Token). token_texts l ++ put.text.now ∷ []) front
+    ap token_texts is ∙ map-append (λ t. t.text.now) held (put ∷ [])
+    ∙ ap (λ (l : List Token). token_texts l ++ put.text.now ∷ []) front
     ∙ ap (λ (l : List (List ℕ)). l ++ put.text.now ∷ []) (texts_take tokens place) ∙ ap (λ (p : List ℕ). take place (token_texts tokens) ++ p ∷ []) text
     ∙ ap (λ l. take place (token_texts tokens) ++ l) (sym (at_place tokens place n t less there first ∙ token_some (take n t.text.now) filled))
 
--- ---- the front by cases
+-- ---- the tokens before the first that is unknown
 
 pub known_cut : (tokens : List Token) (n : ℕ) → n ≡ position_or_len is_unknown (token_texts tokens) → token_texts (take n tokens) ≡ known_tokens (token_texts tokens)
 known_cut tokens n first = texts_take tokens n ∙ ap (λ k. take k (token_texts tokens)) first
-
-pub front_normal : (texts : List (List ℕ)) → begins_list texts ≡ false → known_front texts ≡ known_tokens texts
-front_normal texts not_begun = ap (λ b. if b then (if ends_list (known_tokens texts) then known_text texts else []) else known_tokens texts) not_begun
-
-pub front_open : (texts : List (List ℕ)) → begins_list texts ≡ true → ends_list (known_tokens texts) ≡ false → known_front texts ≡ []
-front_open texts begun not_ended =
-    ap (λ b. if b then (if ends_list (known_tokens texts) then known_text texts else []) else known_tokens texts) begun
-    ∙ ap (λ e. if e then known_text texts else []) not_ended
-
-pub front_closed : (texts : List (List ℕ)) → begins_list texts ≡ true → ends_list (known_tokens texts) ≡ true → known_front texts ≡ known_text texts
-front_closed texts begun ended =
-    ap (λ b. if b then (if ends_list (known_tokens texts) then known_text texts else []) else known_tokens texts) begun
-    ∙ ap (λ e. if e then known_text texts else []) ended
-
-pub known_joined : (texts : List (List ℕ)) (n : ℕ) → n ≡ position_or_len is_unknown texts → take n texts ++ known_piece (slice_get texts n) ≡ known_text texts
-known_joined texts n first = ap (λ k. take k texts ++ known_piece (slice_get texts k)) first

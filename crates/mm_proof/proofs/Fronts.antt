@@ -14,7 +14,7 @@ use Rattle.mm_proof.specs.Proof.{Prove, BreaksMove, FirstAtMove, Passed}
 use Rattle.mm_proof.proofs.OneStep.{StepTo, step_breaks_none}
 use Rattle.mm_proof.proofs.Runs.{tree_step, derived_once}
 use Rattle.mm_proof.proofs.Making.{makes_split, makes_once}
-use Rattle.mm_proof.proofs.Derived.{zip_once, derive_beside, derive_apart, derive_single}
+use Rattle.mm_proof.proofs.Derived.{zip_once, derive_beside, derive_apart}
 
 -- trees that keep expressions derive them
 abbrev pub KeepAll : (List (List ℕ) → Type 0) → List Sentence → List Trees → List (List (List ℕ)) → Type 0
@@ -181,49 +181,42 @@ went_well Fits Gits rule before stack kept mark all weaker w b =
 
 -- ---- what is kept derives
 
--- the row before a move derives what stood on the stack
-row_back : (Fits : List (List ℕ) → Type 0) (before : List Sentence) (move : Move (List ℕ)) (a b : Trees) (k l : List Trees) (es : List (List (List ℕ))) → AllMeant before
-    → MakesOne before move a k b l → DeriveAll Fits before b es → (ds : List (List (List ℕ))) × DeriveAll Fits before a ds
-row_back Fits before (name label) a b k l es all m d =
-    let t = step_of_tree Fits before m.0 label m.1 es all (subst (λ x. DeriveAll Fits before x es) m.4 d) in
-    (t.stack, subst (λ x. DeriveAll Fits before x t.stack) (sym m.2) t.derived)
-row_back Fits before (again tag) a b k l es all m d =
-    let parts = derive_apart Fits before a m.0 es (subst (λ x. DeriveAll Fits before x es) m.2 d) in (parts.0, parts.3)
-row_back Fits before mark a b k l es all m d = (es, subst (λ x. DeriveAll Fits before x es) m.4 d)
+-- the row before moves derives, and what they keep does if what was kept before them did
+abbrev Back : (List (List ℕ) → Type 0) → List Sentence → Trees → List Trees → List Trees → Type 0
+Back Fits before a k l =
+    (ds : List (List (List ℕ))) × DeriveAll Fits before a ds
+    × ((ks : List (List (List ℕ))) → KeepAll Fits before k ks
+    → (ls : List (List (List ℕ))) × KeepAll Fits before l ls)
 
-rows_back : (Fits : List (List ℕ) → Type 0) (before : List Sentence) (moves : List (Move (List ℕ))) (a b : Trees) (k l : List Trees) (es : List (List (List ℕ))) → AllMeant before
-    → Makes before moves a k b l → DeriveAll Fits before b es → (ds : List (List (List ℕ))) × DeriveAll Fits before a ds
-rows_back Fits before [] a b k l es all m d = (es, subst (λ x. DeriveAll Fits before x es) m.0 d)
-rows_back Fits before (move ∷ moves) a b k l es all m d =
-    let next = rows_back Fits before moves m.0 b m.1 l es all m.3 d in
-    row_back Fits before move a m.0 k m.1 next.0 all m.2 next.1
+one_back : (Fits : List (List ℕ) → Type 0) (before : List Sentence) (move : Move (List ℕ)) (a b : Trees) (k l : List Trees) (es : List (List (List ℕ))) → AllMeant before
+    → MakesOne before move a k b l → DeriveAll Fits before b es → Back Fits before a k l
+one_back Fits before (name label) a b k l es all m d =
+    let t = step_of_tree Fits before m.0 label m.1 es all (rw m.4 at d) in
+    (t.stack, rw m.2 t.derived, λ ks h. (ks, rw m.5 h))
+one_back Fits before (again tag) a b k l es all m d =
+    let parts = derive_apart Fits before a m.0 es (rw m.2 at d) in
+    (parts.0, parts.3, λ ks h. (ks, rw m.3 h))
+one_back Fits before mark a b k l es all m d =
+    let t : Trees = tree m.1 m.2 none in
+    let parts = derive_apart Fits before m.0 t es (rw (m.4, m.3) at d) in
+    let last = parts.4 in
+    let one : parts.1 ≡ last.0 ∷ [] = last.2 ∙ ap (λ l. last.0 ∷ l) last.5 in
+    let push = zip_push (λ t e. DeriveAll Fits before t (e ∷ [])) k in
+    (es, rw m.4 at d, λ ks h. (ks ++ last.0 ∷ [], rw m.5 (push ks t last.0 h (rw one at last))))
 
--- what a move keeps derives, if the row after it does
-kept_next : (Fits : List (List ℕ) → Type 0) (before : List Sentence) (move : Move (List ℕ)) (a b : Trees) (k l : List Trees) (es ks : List (List (List ℕ)))
-    → MakesOne before move a k b l → DeriveAll Fits before b es → KeepAll Fits before k ks → (ls : List (List (List ℕ))) × KeepAll Fits before l ls
-kept_next Fits before (name label) a b k l es ks m d h = (ks, subst (λ x. KeepAll Fits before x ks) (sym m.5) h)
-kept_next Fits before (again tag) a b k l es ks m d h = (ks, subst (λ x. KeepAll Fits before x ks) (sym m.3) h)
-kept_next Fits before mark a b k l es ks m d h =
-    let parts = derive_apart Fits before m.0 (tree m.1 m.2 none) es (subst (λ x. DeriveAll Fits before x es) (m.4 ∙ m.3) d) in
-    let one = derive_single Fits before m.1 m.2 parts.1 parts.4 in (
-      ks ++ one.0 ∷ [],
-      subst (λ x. KeepAll Fits before x (ks ++ one.0 ∷ [])) (sym m.5)
-          (zip_push (λ t e. DeriveAll Fits before t (e ∷ [])) k ks (tree m.1 m.2 none) one.0 h one.2),
-    )
-
-kept_on : (Fits : List (List ℕ) → Type 0) (before : List Sentence) (moves : List (Move (List ℕ))) (a b : Trees) (k l : List Trees) (es ks : List (List (List ℕ))) → AllMeant before
-    → Makes before moves a k b l → DeriveAll Fits before b es → KeepAll Fits before k ks → (ls : List (List (List ℕ))) × KeepAll Fits before l ls
-kept_on Fits before [] a b k l es ks all m d h = (ks, subst (λ x. KeepAll Fits before x ks) (sym m.1) h)
-kept_on Fits before (move ∷ moves) a b k l es ks all m d h =
-    let row = rows_back Fits before moves m.0 b m.1 l es all m.3 d in
-    let next = kept_next Fits before move a m.0 k m.1 row.0 ks m.2 row.1 h in
-    kept_on Fits before moves m.0 b m.1 l es next.0 all m.3 d next.1
+all_back : (Fits : List (List ℕ) → Type 0) (before : List Sentence) (moves : List (Move (List ℕ))) (a b : Trees) (k l : List Trees) (es : List (List (List ℕ))) → AllMeant before
+    → Makes before moves a k b l → DeriveAll Fits before b es → Back Fits before a k l
+all_back Fits before [] a b k l es all m d = (es, rw m.0 at d, λ ks h. (ks, rw m.1 h))
+all_back Fits before (move ∷ moves) a b k l es all m d =
+    let next = all_back Fits before moves m.0 b m.1 l es all m.3 d in
+    let one = one_back Fits before move a m.0 k m.1 next.0 all m.2 next.1 in
+    (one.0, one.1, λ ks h. let more = one.2 ks h in next.2 more.0 more.1)
 
 -- moves whose row derives have passed
 pub made_passed : (Fits : List (List ℕ) → Type 0) (before : List Sentence) (moves : List (Move (List ℕ))) (row : Trees) (shelf : List Trees) (es : List (List (List ℕ))) → AllMeant before
     → Makes before moves none [] row shelf → DeriveAll Fits before row es → (kept : List (List (List ℕ))) × Passed Fits before moves es kept
 made_passed Fits before moves row shelf es all made derived =
-    let k = kept_on Fits before moves none row [] shelf es [] all made derived tt in
+    let k = (all_back Fits before moves none row [] shelf es all made derived).2 [] tt in
     (k.0, record { trees = row; shelf = shelf; made = made; derived = derived; kept_derived = k.1 })
 
 pub proof_passed : (Fits : List (List ℕ) → Type 0) (before : List Sentence) (s : Sentence) (moves : List (Move (List ℕ))) → AllMeant before → Prove Fits before s moves

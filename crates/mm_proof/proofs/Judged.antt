@@ -6,7 +6,7 @@ use Rattle.std.proofs.lemmas.Bool.{cases_lt}
 use Rattle.std.proofs.lemmas.List.{length-drop, take-append-drop}
 use Rattle.std.proofs.Math.Decide.{ℕ_discrete}
 use Rattle.mm_text.specs.declared.statement.Kind.TheVariants.{Floating, Essential}
-use Rattle.mm_frame.specs.Sentence.{Sentence, IsHypothesis, IsAssertion, IsLabelled}
+use Rattle.mm_frame.specs.Sentence.{Sentence, IsHypothesis, IsLabelled}
 use Rattle.mm_frame.specs.Active.{IsActive}
 use Rattle.mm_frame.specs.Frame.{IsMandatoryAt, AreMandatory, IsMandatoryPair}
 use Rattle.mm_frame.specs.Rules.{AllMeant}
@@ -40,26 +40,19 @@ pub record First (Broken : ProofRule → Type 0) : Type 0 where
 
 first_below : (Broken : ProofRule → Type 0) → ((rule : ProofRule) → Dec (Broken rule)) → (n : ℕ) → First Broken ⊎ ((rule : ProofRule) → proof_rank rule < n → ¬ (Broken rule))
 first_below Broken each zero = inr (λ rule h. absurd (omega arith))
-first_below Broken each (suc n) = go (first_below Broken each n) (slice_get ranked n) refl
-  where
-    -- the rule of this rank, if there is one
-    here : ((rule : ProofRule) → proof_rank rule < n → ¬ (Broken rule)) → ((rule : ProofRule) → proof_rank rule ≡ n → ¬ (Broken rule)) → (rule : ProofRule) → proof_rank rule < suc n → ¬ (Broken rule)
-    here below at rule less = elim (cases_lt (proof_rank rule) n) [ inl l ↦ below rule l | inr m ↦ at rule (omega arith) ]
-
-    one : (q : ProofRule) → slice_get ranked n ≡ Some q → (rule : ProofRule) → proof_rank rule ≡ n → q ≡ rule
-    one q e rule r = same_Some q rule (sym e ∙ ap (slice_get ranked) (sym r) ∙ at_rank rule)
-
-    at_q : ((rule : ProofRule) → proof_rank rule < n → ¬ (Broken rule)) → (q : ProofRule) → slice_get ranked n ≡ Some q → Dec (proof_rank q ≡ n) → Dec (Broken q)
-        → First Broken ⊎ ((rule : ProofRule) → proof_rank rule < suc n → ¬ (Broken rule))
-    at_q below q e (no m) b = inr (here below (λ rule r broken. m (ap proof_rank (one q e rule r) ∙ r)))
-    at_q below q e (yes m) (yes b) = inl (record { rule = q; broken = b; first = λ other less. below other (omega arith) })
-    at_q below q e (yes m) (no b) = inr (here below (λ rule r broken. b (subst Broken (sym (one q e rule r)) broken)))
-
-    go : First Broken ⊎ ((rule : ProofRule) → proof_rank rule < n → ¬ (Broken rule)) → (o : Option ProofRule) → slice_get ranked n ≡ o
-        → First Broken ⊎ ((rule : ProofRule) → proof_rank rule < suc n → ¬ (Broken rule))
-    go (inl f) o e = inl f
-    go (inr below) None e = inr (here below (λ rule r. absurd (none-some rule (sym e ∙ ap (slice_get ranked) (sym r) ∙ at_rank rule))))
-    go (inr below) (Some q) e = at_q below q e (ℕ_discrete (proof_rank q) n) (each q)
+first_below Broken each (suc n) = elim (first_below Broken each n) [
+  | inl f ↦ inl f
+  | inr below ↦ elim (dec_some (λ i rule. (proof_rank rule ≡ n) × Broken rule)
+      (λ i rule. dec_both (ℕ_discrete (proof_rank rule) n) (each rule)) ranked) [
+        | yes b ↦
+            let rank : proof_rank b.1 ≡ n = b.3.0 in
+            inl (record { rule = b.1; broken = b.3.1; first = λ q less. below q (omega arith) })
+        | no none ↦ inr (λ rule less broken. elim (cases_lt (proof_rank rule) n) [
+          | inl l ↦ below rule l broken
+          | inr m ↦ none (proof_rank rule, rule, at_rank rule, (omega arith, broken))
+        ])
+      ]
+]
 
 pub first_or_none : (Broken : ProofRule → Type 0) → ((rule : ProofRule) → Dec (Broken rule)) → First Broken ⊎ ((rule : ProofRule) → ¬ (Broken rule))
 first_or_none Broken each = ⊎_elim (λ f. inl f) (λ none. inr (λ rule. none rule (rank_below rule))) (first_below Broken each 17)
@@ -79,14 +72,10 @@ limit_first Fits before stack label rest e all over step = (
   λ other less. step_breaks_none Fits other before stack label rest e all (λ same. absurd (lt_irrefl (proof_rank L1) (subst (λ r. proof_rank r < proof_rank L1) same less))) step,
 )
 
-within_or_over : (Fits : List (List ℕ) → Type 0) (each : (e : List (List ℕ)) → Dec (Fits e)) (e : List (List ℕ)) → Fits e ⊎ (¬ (Fits e))
-within_or_over Fits each e = elim (each e) [ yes w ↦ inl w | no n ↦ inr n ]
-
 pub first_symbol_dec : (a b : Option (List ℕ)) → Dec (a ≡ b)
 first_symbol_dec None None = yes refl
-first_symbol_dec None (Some b) = no (λ e. none-some b e)
-first_symbol_dec (Some a) None = no (λ e. none-some a (sym e))
 first_symbol_dec (Some a) (Some b) = dec_as (λ e. ap Some e) (λ e. same_Some a b e) (symbol_dec a b)
+first_symbol_dec a b = no (λ e. absurd cc)
 
 pair_dec : (hypotheses : List Sentence) (entries : List (List (List ℕ))) (P : Sentence → List (List ℕ) → Type 0) → ((h : Sentence) (entry : List (List ℕ)) → Dec (P h entry))
     → Dec (SomePair hypotheses entries P)
@@ -105,12 +94,9 @@ pair_moved before stack label m n P a x = (x.0, x.1, x.2, rw a.hypotheses x.3, r
 replaced_moved : (before : List Sentence) (stack : List (List (List ℕ))) (label : List ℕ) (m : MeetsHypotheses before stack label) (P : List (List ℕ) → List (List ℕ) → Type 0) → AllMeant before
     → SomeReplacedPair before stack label P → (x : List ℕ) × (y : List ℕ) × IsMandatoryPair (take m.place before) m.assertion x y × BothReplaced m.σ P x y
 replaced_moved before stack label m P all b =
-    let a = agree before stack label all m b.0 in (
-      b.1,
-      b.2,
-      subst (λ s. IsMandatoryPair (take m.place before) s b.1 b.2) (sym a.assertion) (subst (λ k. IsMandatoryPair (take k before) b.0.assertion b.1 b.2) (sym a.place) b.5),
-      (b.3, b.4, a.replacement b.1 ∙ b.6, a.replacement b.2 ∙ b.7, b.8),
-    )
+    let a = agree before stack label all m b.0 in
+    let pair = rw (← a.place, ← a.assertion) at b.5 in
+    (b.1, b.2, pair, (b.3, b.4, a.replacement b.1 ∙ b.6, a.replacement b.2 ∙ b.7, b.8))
 
 replaced_dec : (before : List Sentence) (stack : List (List (List ℕ))) (label : List ℕ) (m : MeetsHypotheses before stack label) (P : List (List ℕ) → List (List ℕ) → Type 0) → AllMeant before
     → ((e f : List (List ℕ)) → Dec (P e f)) → Dec (SomeReplacedPair before stack label P)
@@ -163,15 +149,21 @@ step_of Fits before stack label m none = inr (record {
   made = refl;
 })
 
+-- the step by an active hypothesis breaks none but the limit
+pub step_of_hypothesis : (before : List Sentence) (stack : List (List (List ℕ))) (label : List ℕ) (place : ℕ) (h : Sentence) → slice_get before place ≡ Some h → IsActive before place
+    → IsLabelled label h → IsHypothesis h.kind → StepTo before stack label stack h.symbols
+step_of_hypothesis before stack label place h there active named kind =
+    inl (record { kept = refl; place = place; hypothesis = h; there = there; active = active; named = named; kind = kind; made = refl })
+
 -- what a step does: it goes on within the limit, or it breaks a rule first
 abbrev Outcome : (List (List ℕ) → Type 0) → List Sentence → List (List (List ℕ)) → List ℕ → Type 0
 Outcome Fits before stack label = ((rest : List (List (List ℕ))) × (e : List (List ℕ)) × StepTo before stack label rest e × Fits e) ⊎ ((rule : ProofRule) × FirstAtStep Fits rule before stack label)
 
 made_outcome : (Fits : List (List ℕ) → Type 0) (each : (e : List (List ℕ)) → Dec (Fits e)) (before : List Sentence) (stack : List (List (List ℕ))) (label : List ℕ) (rest : List (List (List ℕ))) (e : List (List ℕ)) → AllMeant before
     → StepTo before stack label rest e → Outcome Fits before stack label
-made_outcome Fits each before stack label rest e all step = elim (within_or_over Fits each e) [
-  | inl within ↦ inl (rest, e, step, within)
-  | inr over ↦ inr (L1, limit_first Fits before stack label rest e all over step)
+made_outcome Fits each before stack label rest e all step = elim (each e) [
+  | yes within ↦ inl (rest, e, step, within)
+  | no over ↦ inr (L1, limit_first Fits before stack label rest e all over step)
 ]
 
 -- an assertion's step with entries for all its hypotheses
@@ -183,12 +175,7 @@ meets_outcome Fits each before stack label all m = ⊎_elim (λ f. inr (f.rule, 
 -- below the entries that an assertion wants, P8 is the first rule broken
 pub below_P8 : (Fits : List (List ℕ) → Type 0) (before : List Sentence) (stack : List (List (List ℕ))) (label : List ℕ) (other : ProofRule) → proof_rank other < proof_rank P8 → ¬ (BreaksStep Fits other before stack label)
 below_P8 Fits before stack label P8 less = absurd (omega arith)
-below_P8 Fits before stack label P9 less = absurd (omega arith)
-below_P8 Fits before stack label P10 less = absurd (omega arith)
-below_P8 Fits before stack label P11 less = absurd (omega arith)
-below_P8 Fits before stack label P12 less = absurd (omega arith)
-below_P8 Fits before stack label L1 less = absurd (omega arith)
-below_P8 Fits before stack label rule less = λ b. b
+below_P8 Fits before stack label rule less = grind arith
 
 named_outcome : (Fits : List (List ℕ) → Type 0) (each : (e : List (List ℕ)) → Dec (Fits e)) (before : List Sentence) (stack : List (List (List ℕ))) (label : List ℕ) (place : ℕ) (assertion : Sentence) (hypotheses : List Sentence) → AllMeant before
     → Names before label place assertion hypotheses → Outcome Fits before stack label
@@ -200,30 +187,17 @@ named_outcome Fits each before stack label place assertion hypotheses all names 
       (omega (arith, length-drop n stack)))
 ]
 
-assertion_outcome : (Fits : List (List ℕ) → Type 0) (each : (e : List (List ℕ)) → Dec (Fits e)) (before : List Sentence) (stack : List (List (List ℕ))) (label : List ℕ) (place : ℕ) (a : Sentence) → AllMeant before → slice_get before place ≡ Some a
-    → IsLabelled label a → IsAssertion a.kind → Outcome Fits before stack label
-assertion_outcome Fits each before stack label place a all there named kind =
-    let frame : (hypotheses : List Sentence) × AreMandatory (take place before) a hypotheses =
-    those_of (IsMandatoryAt (take place before) a) (mandatory_at_dec (take place before) a) 0 (take place before) in
-    named_outcome Fits each before stack label place a frame.0 all (record { there = there; named = named; kind = kind; mandatory = frame.1 })
-
-hypothesis_outcome : (Fits : List (List ℕ) → Type 0) (each : (e : List (List ℕ)) → Dec (Fits e)) (before : List Sentence) (stack : List (List (List ℕ))) (label : List ℕ) (place : ℕ) (h : Sentence) → AllMeant before → slice_get before place ≡ Some h
-    → IsActive before place → IsLabelled label h → IsHypothesis h.kind → Outcome Fits before stack label
-hypothesis_outcome Fits each before stack label place h all there active named kind =
-    made_outcome Fits each before stack label stack h.symbols all (inl (record { kept = refl; place = place; hypothesis = h; there = there; active = active; named = named; kind = kind; made = refl }))
-
 label_outcome : (Fits : List (List ℕ) → Type 0) (each : (e : List (List ℕ)) → Dec (Fits e)) (before : List Sentence) (stack : List (List (List ℕ))) (label : List ℕ) → AllMeant before
     → IsUsable before label → Outcome Fits before stack label
-label_outcome Fits each before stack label all (inl h) = hypothesis_outcome Fits each before stack label h.0 h.1 all h.2 h.3 h.4.0 h.4.1
-label_outcome Fits each before stack label all (inr a) = assertion_outcome Fits each before stack label a.0 a.1 all a.2 a.3.0 a.3.1
+label_outcome Fits each before stack label all (inl h) =
+    made_outcome Fits each before stack label stack h.1.symbols all
+    (step_of_hypothesis before stack label h.0 h.1 h.2 h.3 h.4.0 h.4.1)
+label_outcome Fits each before stack label all (inr a) =
+    let frame : (hypotheses : List Sentence) × AreMandatory (take a.0 before) a.1 hypotheses =
+    those_of (IsMandatoryAt (take a.0 before) a.1) (mandatory_at_dec (take a.0 before) a.1) 0 (take a.0 before) in
+    named_outcome Fits each before stack label a.0 a.1 frame.0 all (record { there = a.2; named = a.3.0; kind = a.3.1; mandatory = frame.1 })
 
 -- ---- the moves
-
--- what a move does: it passes, or it breaks a rule first
-abbrev Passes : (List (List ℕ) → Type 0) → List Sentence → List (Move (List ℕ)) → List (List (List ℕ)) → List (List (List ℕ)) → Move (List ℕ) → Type 0
-Passes Fits before earlier stack kept move =
-    ((stack' : List (List (List ℕ))) × (kept' : List (List (List ℕ))) × Passed Fits before (earlier ++ move ∷ []) stack' kept')
-    ⊎ ((rule : ProofRule) × FirstAtMove Fits rule before stack kept move)
 
 -- the last entry of a stack
 pub last_entry : (stack : List (List (List ℕ))) → (stack ≡ []) ⊎ ((rest : List (List (List ℕ))) × (e : List (List ℕ)) × (stack ≡ rest ++ e ∷ []))
@@ -237,8 +211,12 @@ only_P6 Fits before stack kept tag other less b = absurd (lt_irrefl (proof_rank 
 pub only_P7 : (Fits : List (List ℕ) → Type 0) (before : List Sentence) (stack kept : List (List (List ℕ))) (other : ProofRule) → proof_rank other < proof_rank P7 → ¬ (BreaksMove Fits other before stack kept mark)
 only_P7 Fits before stack kept other less b = absurd (lt_irrefl (proof_rank P7) (subst (λ r. proof_rank r < proof_rank P7) b.0 less))
 
+-- what a move does: it passes, or it breaks a rule first
 pub move_outcome : (Fits : List (List ℕ) → Type 0) (each : (e : List (List ℕ)) → Dec (Fits e)) (before : List Sentence) (earlier : List (Move (List ℕ))) (stack kept : List (List (List ℕ))) (move : Move (List ℕ))
-    → AllMeant before → IsUsableMove before move → Passed Fits before earlier stack kept → Passes Fits before earlier stack kept move
+    → AllMeant before → IsUsableMove before move → Passed Fits before earlier stack kept
+    → ((stack' : List (List (List ℕ))) × (kept' : List (List (List ℕ)))
+    × Passed Fits before (earlier ++ move ∷ []) stack' kept')
+    ⊎ ((rule : ProofRule) × FirstAtMove Fits rule before stack kept move)
 move_outcome Fits each before earlier stack kept (name label) all usable passed = ⊎_elim
     (λ o. inl (o.0 ++ o.1 ∷ [], kept, passed_name Fits before earlier stack kept label o.0 o.1 all passed o.2 o.3))
     (λ f. inr (f.0, record { broken = f.1.0; first = f.1.1 })) (label_outcome Fits each before stack label all usable)
@@ -254,9 +232,8 @@ abbrev pub MovesVerdict : (List (List ℕ) → Type 0) → List Sentence → Sen
 MovesVerdict Fits before s moves = Prove Fits before s moves ⊎ ((rule : ProofRule) × (step : ℕ) × IsMovesFault Fits before s moves rule step)
 
 not_one : (stack : List (List (List ℕ))) → length stack ≢ 1 ⊎ ((entry : List (List ℕ)) × (stack ≡ entry ∷ []))
-not_one [] = inl (λ e. absurd (omega arith))
 not_one (entry ∷ []) = inr (entry, refl)
-not_one (entry ∷ other ∷ more) = inl (λ e. absurd (omega arith))
+not_one stack = inl (λ e. absurd (omega arith))
 
 end_verdict : (Fits : List (List ℕ) → Type 0) (before : List Sentence) (s : Sentence) (moves : List (Move (List ℕ))) (stack kept : List (List (List ℕ)))
     → Passed Fits before moves stack kept → MovesVerdict Fits before s moves

@@ -32,9 +32,6 @@ known_push P labels label all here l has = ⊎_elim (all l) (λ same. subst (λ 
 used_known : (statements : List Sentence) (place : ℕ) (label : List ℕ) (id : ℕ) → MayBeUsed statements place label id → ¬ (IsUnknown statements place label)
 used_known statements place label id m unknown = unknown (m.at, m.s, get_take statements place m.at m.before ∙ m.numbered.there, m.named)
 
-idle_known : (statements : List Sentence) (place : ℕ) (label : List ℕ) → IsIdle statements place label → ¬ (IsUnknown statements place label)
-idle_known statements place label m unknown = unknown (m.at, m.s, m.there, m.named)
-
 or_push : (statements : List Sentence) (place : ℕ) (idle : Bool) (ids : List ℕ) (id : ℕ) (labels : List (List ℕ)) (label : List ℕ)
     → IdleOr statements place idle ids labels → MayBeUsed statements place label id → IdleOr statements place idle (ids ++ id ∷ []) (labels ++ label ∷ [])
 or_push statements place true ids id labels label so here = (so.0, Contains-append_left labels (label ∷ []) so.0 so.1, so.2)
@@ -56,7 +53,8 @@ pub sofar_idle : (statements : List Sentence) (place : ℕ) (idle : Bool) (ids :
     → SoFar statements place true ids (take (i + 1) (token_texts labels))
 sofar_idle statements place idle ids labels i d less so here =
     rw (texts_more (λ t. t.text.now) labels i d less) (
-      known_push (IsUnknown statements place) (take i (token_texts labels)) (get_or labels i d).text.now so.0 (idle_known statements place _ here),
+      known_push (IsUnknown statements place) (take i (token_texts labels)) (get_or labels i d).text.now so.0
+          (λ unknown. unknown (here.at, here.s, here.there, here.named)),
       ((get_or labels i d).text.now, Contains-push (take i (token_texts labels)) (get_or labels i d).text.now, here),
     )
 

@@ -15,7 +15,7 @@ use Rattle.mm_proof.proofs.Covers.{Covers, Careful}
 use Rattle.mm_proof.proofs.Tidy.{Tidy, Marked, trees_kept, kept_visit, visit_kept, visit_made}
 use Rattle.mm_proof.proofs.Tidy.{tidy_once}
 use Rattle.mm_proof.proofs.SharedOnce.{onto, kept_stays, kept_are}
-use Rattle.mm_proof.proofs.ChildSums.{not_made_again}
+use Rattle.mm_proof.proofs.ChildSums.{not_made_again, tidy_later}
 use Rattle.mm_proof.proofs.SomeCover.{some_cover, covers_no_keeps, some_marks, marked_kept}
 use Rattle.mm_proof.proofs.SomeCover.{marked_repeats, careful_tidy}
 
@@ -30,9 +30,7 @@ led_join : (before : List Sentence) (moves more : List (Move (List ℕ))) (a b c
     → Led before moves a k b l v → Led before more b l c n w
     → Led before (moves ++ more) a k c n (v ++ w)
 led_join before [] more a b c k l n v w r q =
-    subst (λ x. Led before more a k c n (x ++ w)) r.1
-    (subst (λ x. Led before more a x c n w) r.0.1
-    (subst (λ x. Led before more x l c n w) r.0.0 q))
+    rw (← r.1, ← r.0.0, ← r.0.1) q
 led_join before (move ∷ moves) more a b c k l n v w r q =
     let m = r.0 in
     let rest = led_join before moves more m.0 b c m.1 l n (visits before moves m.0 m.1 b l m.3) w
@@ -56,14 +54,8 @@ marked_apart whole [] y v m = ([], v, refl, refl, m)
 marked_apart whole (makes t ∷ x) y v m =
     let h = marked_apart whole x y m.0 m.1 in
     ⊎_elim
-    (λ p. (
-      makes t ∷ keeps t ∷ h.0,
-      h.1,
-      p.1
-          ∙ ap (λ z. makes t ∷ keeps t ∷ z) h.2,
-      (h.0, h.3, inl (p.0, refl)),
-      h.4,
-    ))
+    (λ p. let e = p.1 ∙ ap (λ z. makes t ∷ keeps t ∷ z) h.2 in
+    (makes t ∷ keeps t ∷ h.0, h.1, e, (h.0, h.3, inl (p.0, refl)), h.4))
     (λ p. (makes t ∷ h.0, h.1, p.1 ∙ ap (λ z. makes t ∷ z) h.2, (h.0, h.3, inr (p.0, refl)), h.4))
     m.2
 marked_apart whole (repeats t ∷ x) y v m =
@@ -91,9 +83,7 @@ HasKept done kept = (t : Trees) → In done (keeps t) → In kept t
 has_after : (before : List Sentence) (moves : List (Move (List ℕ))) (a b : Trees) (k l : List Trees)
     (v done : List Visit) → Led before moves a k b l v → HasKept done k → HasKept (onto v done) l
 has_after before moves a b k l v done r has t h =
-    let are : l ≡ k ++ trees_kept v = kept_are before moves a k b l r.0
-    ∙ ap (λ x. k ++ trees_kept x) r.1 in
-    subst (λ x. In x t) (sym are)
+    rw (kept_are before moves a k b l r.0, r.1)
     (⊎_elim (λ p. in_right k (trees_kept v) t (visit_kept v t p))
     (λ p. in_left k (trees_kept v) t (has t p)) (in_onto v done (keeps t) h))
 
@@ -106,9 +96,9 @@ pub record Leads (before : List Sentence) (row : Trees) (kept : List Trees) (row
   pub kept' : List Trees
   pub led : Led before moves row kept row' kept' v
 
-leads_join : (before : List Sentence) (a b c : Trees) (k : List Trees) (v w : List Visit)
+leads_join : {before : List Sentence} {a b c : Trees} {k : List Trees} {v w : List Visit}
     (p : Leads before a k b v) → Leads before b p.kept' c w → Leads before a k c (v ++ w)
-leads_join before a b c k v w p q = record {
+leads_join {before} {a} {b} {c} {k} {v} {w} p q = record {
   moves = p.moves ++ q.moves;
   kept' = q.kept';
   led = led_join before p.moves q.moves a b c k p.kept' q.kept' v w p.led q.led;
@@ -132,9 +122,7 @@ leads_label before whole label row below kept v stands m =
       kept' = kept ++ t ∷ [];
       led =
           let e : v ≡ makes t ∷ keeps t ∷ [] = p.1 ∙ ap (λ x. makes t ∷ keeps t ∷ x) m.1 in
-          subst (λ x. Led before (name label ∷ mark ∷ []) (beside row below) kept (beside row t)
-          (kept ++ t ∷ []) x) (sym e)
-          (led_join before (name label ∷ []) (mark ∷ []) (beside row below) (beside row t)
+          rw e (led_join before (name label ∷ []) (mark ∷ []) (beside row below) (beside row t)
           (beside row t) kept kept (kept ++ t ∷ []) (makes t ∷ []) (keeps t ∷ []) one
           (led_one before mark (beside row t) (beside row t) kept (kept ++ t ∷ []) tag));
     })
@@ -143,8 +131,7 @@ leads_label before whole label row below kept v stands m =
       kept' = kept;
       led =
           let e : v ≡ makes t ∷ [] = p.1 ∙ ap (λ x. makes t ∷ x) m.1 in
-          subst (λ x. Led before (name label ∷ []) (beside row below) kept (beside row t) kept x)
-          (sym e) one;
+          rw e one;
     }) m.2
 
 -- the step by a tag
@@ -180,19 +167,14 @@ leads_to before whole (tree label below right) row kept steps done v fit covers 
     (subst (λ s. Marked whole s parts.0) a.1 parts.3) in
     let within = tidy_apart done inner.0 inner.1 (subst (Tidy done) inner.2 tidy.0) in
     let p = leads_to before whole below row kept a.0 done inner.0 fit.1 a.2 inner.3 within.0 has in
-    subst (Leads before row kept (beside row t)) (sym inner.2)
-    (leads_join before row (beside row below) (beside row t) kept inner.0 inner.1 p
-    (leads_label before whole label row below p.kept' inner.1 fit.0 inner.4)))
+    rw inner.2
+    (leads_join p (leads_label before whole label row below p.kept' inner.1 fit.0 inner.4)))
     covers.4 in
     let second : Leads before (beside row t) first.kept' (beside (beside row t) right) parts.1 =
     leads_to before whole right (beside row t) first.kept' covers.1
     (onto parts.0 done) parts.1 fit.2 covers.3 parts.4 tidy.1
     (has_after before first.moves row (beside row t) kept first.kept' parts.0 done first.led has) in
-    subst (Leads before row kept (beside row (tree label below right))) (sym parts.2)
-    (leads_join before row (beside row t)
-    (beside row (tree label below right)) kept parts.0 parts.1 first
-    (subst (λ r. Leads before (beside row t) first.kept' r parts.1)
-    (beside_assoc row t right) second))
+    rw parts.2 (leads_join first (rw (beside_assoc row t right) at second))
 
 -- ---- what is said of tidy visits, by places
 
@@ -211,12 +193,8 @@ tidy_make_once (x ∷ v) done zero (suc j) t c big p q = absurd
     (not_twice x v done t j c big (same_Some x (makes t) p) q)
 tidy_make_once (x ∷ v) done (suc i) zero t c big p q = absurd
     (not_twice x v done t i c big (same_Some x (makes t) q) p)
-tidy_make_once (makes u ∷ v) done (suc i) (suc j) t c big p q = ap suc
-    (tidy_make_once v (makes u ∷ done) i j t c.1 big p q)
-tidy_make_once (repeats u ∷ v) done (suc i) (suc j) t c big p q = ap suc
-    (tidy_make_once v (repeats u ∷ done) i j t c.1 big p q)
-tidy_make_once (keeps u ∷ v) done (suc i) (suc j) t c big p q = ap suc
-    (tidy_make_once v (keeps u ∷ done) i j t c.2 big p q)
+tidy_make_once (x ∷ v) done (suc i) (suc j) t c big p q = ap suc
+    (tidy_make_once v (x ∷ done) i j t (tidy_later x v done c) big p q)
 
 -- what a mark keeps was just made: by the last visit that is done, or by the one before the mark
 abbrev JustMade : List Visit → List Visit → ℕ → Trees → Type 0
@@ -236,19 +214,12 @@ just_later x v done i t h = (
 tidy_just : (v done : List Visit) (i : ℕ) (t : Trees) → Tidy done v → slice_get v i ≡ Some (keeps t)
     → JustMade done v i t
 tidy_just [] done i t c p = absurd (none-some (keeps t) p)
-tidy_just (makes u ∷ v) done zero t c p = absurd
-    (let e : makes u ≡ keeps t = same_Some (makes u) (keeps t) p in cc)
-tidy_just (repeats u ∷ v) done zero t c p = absurd
-    (let e : repeats u ≡ keeps t = same_Some (repeats u) (keeps t) p in cc)
 tidy_just (keeps u ∷ v) done zero t c p =
     let same : u ≡ t = (let e : keeps u ≡ keeps t = same_Some (keeps u) (keeps t) p in cc) in
     (subst IsBig same c.0, inl (refl, c.1.0, c.1.1 ∙ ap (λ x. makes x ∷ c.1.0) same))
-tidy_just (makes u ∷ v) done (suc i) t c p = just_later (makes u) v done i t
-    (tidy_just v (makes u ∷ done) i t c.1 p)
-tidy_just (repeats u ∷ v) done (suc i) t c p = just_later (repeats u) v done i t
-    (tidy_just v (repeats u ∷ done) i t c.1 p)
-tidy_just (keeps u ∷ v) done (suc i) t c p = just_later (keeps u) v done i t
-    (tidy_just v (keeps u ∷ done) i t c.2 p)
+tidy_just (x ∷ v) done zero t c p = absurd (let e : x ≡ keeps t = same_Some x (keeps t) p in cc)
+tidy_just (x ∷ v) done (suc i) t c p = just_later x v done i t
+    (tidy_just v (x ∷ done) i t (tidy_later x v done c) p)
 
 tidy_keep_made : (v : List Visit) → Tidy [] v → KeepMade v
 tidy_keep_made v c i t p =
@@ -265,14 +236,12 @@ visit_again : (before : List Sentence) (moves : List (Move (List ℕ))) (row : T
     → In (visits before moves row kept row' kept' m) (repeats t) → (tag : ℕ) × In moves (again tag)
     × (slice_get kept' tag ≡ Some t)
 visit_again before [] row kept row' kept' m t h = absurd h
-visit_again before (name label ∷ moves) row kept row' kept' m t (inl e) = absurd
-    (let f : makes (tree label m.2.1 none) ≡ repeats t = e in cc)
 visit_again before (again k ∷ moves) row kept row' kept' m t (inl e) =
     let same : m.2.0 ≡ t = (let f : repeats m.2.0 ≡ repeats t = e in cc) in
     let there : slice_get m.1 k ≡ Some t = ap (λ l. slice_get l k) m.2.3 ∙ m.2.1 ∙ ap Some same in
     (k, inl refl, kept_stays before moves m.0 m.1 row' kept' m.3 k t there)
-visit_again before (mark ∷ moves) row kept row' kept' m t (inl e) = absurd
-    (let f : keeps (tree m.2.1 m.2.2 none) ≡ repeats t = e in cc)
+visit_again before (move ∷ moves) row kept row' kept' m t (inl e) = absurd
+    (let f : visit before move row kept m.0 m.1 m.2 ≡ repeats t = e in cc)
 visit_again before (move ∷ moves) row kept row' kept' m t (inr h) =
     let g = visit_again before moves m.0 m.1 row' kept' m.3 t h in (g.0, inr g.1, g.2)
 
@@ -324,8 +293,7 @@ shared_moves before trees steps fit covers careful =
           referred = λ tag less.
               let t : Trees = get_or l.kept' tag none in
               let there : slice_get l.kept' tag ≡ Some t = slice_get-get_or l.kept' tag none less in
-              let among : In (trees_kept v) t = subst (λ k. In k t) kept
-              (get_in l.kept' tag t there) in
+              let among = subst (λ k. In k t) kept (get_in l.kept' tag t there) in
               let needed = marked_kept steps steps v t marked (kept_visit v t among) in
               let repeated = subst (λ x. In x (repeats t)) same
               (marked_repeats steps steps v t marked needed) in

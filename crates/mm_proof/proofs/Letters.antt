@@ -7,21 +7,15 @@ use Rattle.mm_code.specs.declared.code.CodeRule.{CodeRule}
 use Rattle.mm_code.specs.declared.code.CodeRule.TheVariants.{P4, P5}
 use Rattle.mm_code.specs.Letters.{Letters, SaysCode, LettersBreak as Breaks, HasSpelling, code_for}
 use Rattle.mm_code.specs.Mirror.Reading.{reading}
+use Rattle.mm_frame.proofs.Decided.{dec_as}
 use Rattle.mm_code.proofs.LettersFound.{is_read}
 use Rattle.mm_code.proofs.LettersAgain.{is_read_again}
 use Rattle.mm_code.proofs.Faults.{breaks_read, read_breaks}
 
-abbrev coded : List Code → Result (List Code) CodeRule
-coded codes = Ok codes
-
-abbrev refused : CodeRule → Result (List Code) CodeRule
-refused rule = Err rule
-
 -- letters that say codes break no rule
 pub coded_not_broken : (text : List ℕ) (codes : List Code) (rule : CodeRule) → Letters text codes → ¬ (Breaks rule text)
 coded_not_broken text codes rule letters broken =
-    let e : coded codes ≡ refused rule =
-    sym (is_read_again text codes letters) ∙ breaks_read rule text broken in cc
+    let e = sym (is_read_again text codes letters) ∙ breaks_read rule text broken in cc
 
 -- letters say codes or break a rule
 pub coded_or_broken : (text : List ℕ) → ((codes : List Code) × Letters text codes) ⊎ ((rule : CodeRule) × Breaks rule text)
@@ -33,25 +27,16 @@ coded_or_broken text = go (reading 0 text) refl
 
 rule_dec : (a b : CodeRule) → Dec (a ≡ b)
 rule_dec P4 P4 = yes refl
-rule_dec P4 P5 = no (λ e. absurd cc)
-rule_dec P5 P4 = no (λ e. absurd cc)
 rule_dec P5 P5 = yes refl
-
--- letters break one rule at most
-pub one_rule : (text : List ℕ) (a b : CodeRule) → Breaks a text → Breaks b text → a ≡ b
-one_rule text a b p q =
-    let e : refused a ≡ refused b = sym (breaks_read a text p) ∙ breaks_read b text q in cc
+rule_dec a b = no (λ e. absurd cc)
 
 pub breaks_dec : (rule : CodeRule) (text : List ℕ) → Dec (Breaks rule text)
-breaks_dec rule text = go (coded_or_broken text)
-  where
-    of_rule : (other : CodeRule) → Breaks other text → Dec (other ≡ rule) → Dec (Breaks rule text)
-    of_rule other broken (yes e) = yes (subst (λ r. Breaks r text) e broken)
-    of_rule other broken (no n) = no (λ b. n (one_rule text other rule broken b))
-
-    go : ((codes : List Code) × Letters text codes) ⊎ ((other : CodeRule) × Breaks other text) → Dec (Breaks rule text)
-    go (inl c) = no (coded_not_broken text c.0 rule c.1)
-    go (inr b) = of_rule b.0 b.1 (rule_dec b.0 rule)
+breaks_dec rule text = elim (coded_or_broken text) [
+  | inl c ↦ no (coded_not_broken text c.0 rule c.1)
+  | inr b ↦ dec_as (λ e. subst (λ r. Breaks r text) e b.1)
+      (λ q. let e = sym (breaks_read b.0 text b.1) ∙ breaks_read rule text q in cc)
+      (rule_dec b.0 rule)
+]
 
 -- ---- a number that letters say is at least 1
 

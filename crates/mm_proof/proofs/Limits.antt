@@ -59,13 +59,11 @@ prove_looser Fits More more before s moves p = record {
 -- ---- the first step over the limit
 
 -- a move of moves that pass without a limit passes within it, or passes it
-abbrev PassesOr : (List (List ℕ) → Type 0) → List Sentence → List (Move (List ℕ)) → List (List (List ℕ)) → List (List (List ℕ)) → Move (List ℕ) → Type 0
-PassesOr Fits before earlier stack kept move =
-    ((stack' : List (List (List ℕ))) × (kept' : List (List (List ℕ))) × Passed Fits before (earlier ++ move ∷ []) stack' kept')
-    ⊎ FirstAtMove Fits L1 before stack kept move
-
 went_or_over : (Fits : List (List ℕ) → Type 0) (each : (e : List (List ℕ)) → Dec (Fits e)) (before : List Sentence) (earlier : List (Move (List ℕ))) (stack kept : List (List (List ℕ))) (move : Move (List ℕ))
-    → AllMeant before → Went AnyExpression before stack kept move → Passed Fits before earlier stack kept → PassesOr Fits before earlier stack kept move
+    → AllMeant before → Went AnyExpression before stack kept move → Passed Fits before earlier stack kept
+    → ((stack' : List (List (List ℕ))) × (kept' : List (List (List ℕ)))
+    × Passed Fits before (earlier ++ move ∷ []) stack' kept')
+    ⊎ FirstAtMove Fits L1 before stack kept move
 went_or_over Fits each before earlier stack kept (name label) all w passed =
     let s = went_step AnyExpression before stack kept label all w in
     elim (each s.1) [

@@ -16,10 +16,6 @@ use Rattle.mm_proof.proofs.Firsts.{steps_in-append}
 
 -- ---- a list with one element more
 
--- the new element
-pub get_new : {X : Type 0} (xs : List X) (x : X) (i : ℕ) → i ≡ length xs → slice_get (xs ++ x ∷ []) i ≡ Some x
-get_new xs x i e = subst (λ n. slice_get (xs ++ x ∷ []) n ≡ Some x) (sym e) (get_pushed xs x)
-
 -- an element is an old one or the new one
 pub old_or_new : {X : Type 0} (xs : List X) (x y : X) (i : ℕ) → slice_get (xs ++ x ∷ []) i ≡ Some y
     → ((i < length xs) × (slice_get xs i ≡ Some y)) ⊎ ((i ≡ length xs) × (x ≡ y))
@@ -39,11 +35,10 @@ one_step move is = refl
 step_before : (moves : List (Move (List ℕ))) (i : ℕ) (move : Move (List ℕ)) → slice_get moves i ≡ Some move → is_step move ≡ true
     → steps_in (take i moves) < steps_in moves
 step_before moves i move there is =
-    let whole : steps_in moves ≡ steps_in (take i moves) + steps_in (move ∷ drop (suc i) moves) =
-    ap steps_in (split_at moves i move there) ∙ steps_in-append (take i moves) (move ∷ drop (suc i) moves) in
-    let here : steps_in (move ∷ drop (suc i) moves) ≡ steps_in (move ∷ []) + steps_in (drop (suc i) moves) = steps_in-append (move ∷ []) (drop (suc i) moves) in
-    let one = one_step move is in
-    omega (arith, whole, here, one)
+    let rest = drop (suc i) moves in
+    let whole = ap steps_in (split_at moves i move there) in
+    let parts = steps_in-append (take i moves) (move ∷ rest) in
+    omega (arith, whole, parts, steps_in-append (move ∷ []) rest, one_step move is)
 
 -- ---- tags
 
@@ -56,7 +51,7 @@ stands_later {X} moves more tag step s =
 -- the tag of a new mark stands after the last step
 pub stands_new : {X : Type 0} (moves : List (Move X)) (tag step : ℕ) → steps_in moves ≡ step → step + tag ≡ length moves → StandsAfter (moves ++ mark ∷ []) tag step
 stands_new {X} moves tag step count all =
-    (get_new moves mark (step + tag) all, ap steps_in (take_at moves (mark ∷ []) (step + tag) (sym all)) ∙ count)
+    (rw all (get_pushed moves mark), ap steps_in (take_at moves (mark ∷ []) (step + tag) (sym all)) ∙ count)
 
 -- ---- what is listed
 
@@ -65,11 +60,8 @@ pub listed_step : (before : List Sentence) (moves : List (Move (List ℕ))) (mov
     → is_step move ≡ true → IsListed before moves move step → AreListed before (moves ++ move ∷ []) (steps ++ step ∷ [])
 listed_step before moves move steps step listed is new = record {
   count =
-      let a = length-append steps (step ∷ []) in
-      let b = steps_in-append moves (move ∷ []) in
-      let c = one_step move is in
-      let d : length steps ≡ steps_in moves = listed.count in
-      omega (arith, a, b, c, d);
+      let more = steps_in-append moves (move ∷ []) in
+      omega (arith, listed.count, length-append steps (step ∷ []), more, one_step move is);
   each = λ place m s there is_one at. each place m s there is_one at (old_or_new moves move m place there);
 }
   where
@@ -97,10 +89,7 @@ listed_step before moves move steps step listed is new = record {
 -- a mark more
 pub listed_mark : (before : List Sentence) (moves : List (Move (List ℕ))) (steps : List ListedStep) → AreListed before moves steps → AreListed before (moves ++ mark ∷ []) steps
 listed_mark before moves steps listed = record {
-  count =
-      let b = steps_in-append moves (mark ∷ []) in
-      let d : length steps ≡ steps_in moves = listed.count in
-      omega (arith, b, d);
+  count = omega (arith, listed.count, steps_in-append moves (mark ∷ []));
   each = λ place m s there is_one at. each place m s is_one at (old_or_new moves mark m place there);
 }
   where

@@ -148,19 +148,14 @@ pub listing_name : (limit : ℕ) (st : List Sentence) (place : ℕ) (moves : Lis
     → line.name ≡ names.Label id → slice_get stack' (length stack' - 1) ≡ Some (numbers_in line.expression.items)
     → Listing limit st place moves (i + 1) stack' kept' (lines ++ line ∷ []) tags
 listing_name limit st place moves i d id stack kept stack' kept' lines tags line less is l carries entries same called last =
-    let count : length (lines ++ line ∷ []) ≡ length lines + 1 = length-append lines (line ∷ []) in
     let turn = more_name limit st place moves i d id stack kept stack' kept' (length lines) (length tags) less is l.turn carries entries same in
     let one : take (i + 1) (moves_in moves) ≡ take i (moves_in moves) ++ name id.0 ∷ [] = front_more moves i d less ∙ ap (λ m. take i (moves_in moves) ++ move_in m ∷ []) is in
-    let run = subst (λ f. HasRun limit st place f stack' kept' (length lines + 1)) one turn.0 in
     record {
-      turn = subst (λ n. Turn limit st place moves (i + 1) stack' kept' n (length tags)) (sym count) turn;
+      turn = rw (length-append lines (line ∷ [])) turn;
       listed = subst (λ f. AreLinesAt st place f (lines ++ line ∷ [])) (sym one)
-          (line_more limit st place (take i (moves_in moves)) (name id.0) stack' kept' (length lines + 1) lines line run last refl
-          (λ moves move numbered n. (
-            by_label n.1,
-            subst (λ c. IsNameOf st c (by_label n.1)) (sym called) (n.0, n.1, n.2, n.3, refl),
-            subst (λ m. IsCalled moves m (by_label n.1)) (sym n.4) refl,
-          )) l.listed);
+          (line_more limit st place _ (name id.0) stack' kept' _ lines line (rw one at turn.0) last
+          refl (λ moves move numbered n.
+          (by_label n.1, rw called (n.0, n.1, n.2, n.3, refl), rw n.4 refl)) l.listed);
       stand = subst (λ f. AreTagsFor st f tags) (sym one) (tags_later st (take i (moves_in moves)) (name id.0) tags l.stand);
     }
 
@@ -171,19 +166,14 @@ pub listing_again : (limit : ℕ) (st : List Sentence) (place : ℕ) (moves : Li
     → line.name ≡ names.Step after → slice_get stack' (length stack' - 1) ≡ Some (numbers_in line.expression.items)
     → Listing limit st place moves (i + 1) stack' kept' (lines ++ line ∷ []) tags
 listing_again limit st place moves i d tag after stack kept stack' kept' lines tags line less is l pushed same there called last =
-    let count : length (lines ++ line ∷ []) ≡ length lines + 1 = length-append lines (line ∷ []) in
     let turn = more_again limit st place moves i d tag stack kept stack' kept' (length lines) (length tags) less is l.turn pushed same in
     let one : take (i + 1) (moves_in moves) ≡ take i (moves_in moves) ++ again tag ∷ [] = front_more moves i d less ∙ ap (λ m. take i (moves_in moves) ++ move_in m ∷ []) is in
-    let run = subst (λ f. HasRun limit st place f stack' kept' (length lines + 1)) one turn.0 in
     record {
-      turn = subst (λ n. Turn limit st place moves (i + 1) stack' kept' n (length tags)) (sym count) turn;
+      turn = rw (length-append lines (line ∷ [])) turn;
       listed = subst (λ f. AreLinesAt st place f (lines ++ line ∷ [])) (sym one)
-          (line_more limit st place (take i (moves_in moves)) (again tag) stack' kept' (length lines + 1) lines line run last refl
-          (λ moves move numbered n. (
-            by_step after,
-            subst (λ c. IsNameOf st c (by_step after)) (sym called) refl,
-            subst (λ m. IsCalled moves m (by_step after)) (sym n) (after, l.stand moves numbered tag after there, refl),
-          )) l.listed);
+          (line_more limit st place _ (again tag) stack' kept' _ lines line (rw one at turn.0) last
+          refl (λ moves move numbered n. let stands = l.stand moves numbered tag after there in
+          (by_step after, rw called refl, rw n (after, stands, refl))) l.listed);
       stand = subst (λ f. AreTagsFor st f tags) (sym one) (tags_later st (take i (moves_in moves)) (again tag) tags l.stand);
     }
 
@@ -193,13 +183,12 @@ pub listing_mark : (limit : ℕ) (st : List Sentence) (place : ℕ) (moves : Lis
     → (rest : List (List ℕ)) × (e : List ℕ) × (stack ≡ rest ++ e ∷ []) × (kept' ≡ kept ++ e ∷ []) → stack' ≡ stack → new ≡ length lines
     → Listing limit st place moves (i + 1) stack' kept' lines (tags ++ new ∷ [])
 listing_mark limit st place moves i d stack kept stack' kept' lines tags new less is l kept_one same number =
-    let count : length (tags ++ new ∷ []) ≡ length tags + 1 = length-append tags (new ∷ []) in
     let turn = more_mark limit st place moves i d stack kept stack' kept' (length lines) (length tags) less is l.turn kept_one same in
     let one : take (i + 1) (moves_in moves) ≡ take i (moves_in moves) ++ mark ∷ [] = front_more moves i d less ∙ ap (λ m. take i (moves_in moves) ++ move_in m ∷ []) is in
     let sum : length lines + length tags ≡ i = l.turn.2 in
     let long : length (take i (moves_in moves)) ≡ i = length-take-le i (moves_in moves) (omega (arith, length-map moves move_in)) in
     record {
-      turn = subst (λ n. Turn limit st place moves (i + 1) stack' kept' (length lines) n) (sym count) turn;
+      turn = rw (length-append tags (new ∷ [])) turn;
       listed = subst (λ f. AreLinesAt st place f lines) (sym one) (line_mark st place (take i (moves_in moves)) lines l.listed);
       stand = subst (λ f. AreTagsFor st f (tags ++ new ∷ [])) (sym one)
           (tags_more st (take i (moves_in moves)) tags new (number ∙ l.turn.0.count) (omega arith) l.stand);

@@ -29,24 +29,18 @@ spelling-beside none b = refl
 spelling-beside (tree label below right) b =
     ap (λ l. spelling below ++ label ∷ l) (spelling-beside right b) ∙ sym (append_assoc (spelling below) (label ∷ spelling right) (spelling b))
 
-pub same_trees : (l m : List ℕ) (a b c d : Trees) → tree l a b ≡ tree m c d → (l ≡ m) × (a ≡ c) × (b ≡ d)
-same_trees l m a b c d e = (cc, cc, cc)
-
 -- a row parts in one way only into a front and an end of known width
 one_row_split : (a b c d : Trees) → beside a b ≡ beside c d → roots a ≡ roots c → (a ≡ c) × (b ≡ d)
 one_row_split none b none d e n = (refl, e)
 one_row_split (tree l a r) b (tree m c s) d e n =
-    let h = same_trees l m a (beside r b) c (beside s d) e in
+    let f : tree l a (beside r b) ≡ tree m c (beside s d) = e in
+    let h : (l ≡ m) × (a ≡ c) × (beside r b ≡ beside s d) = (cc, cc, cc) in
     let k = one_row_split r b s d h.2 (omega arith) in
     (ap (λ x. tree x a r) h.0 ∙ ap (λ x. tree m x r) h.1 ∙ ap (λ x. tree m c x) k.0, k.1)
 one_row_split a b c d e n = absurd (omega arith)
 
 pub one_row_end : (a b c d : Trees) → beside a b ≡ beside c d → roots b ≡ roots d → (a ≡ c) × (b ≡ d)
 one_row_end a b c d e n = one_row_split a b c d e (omega (arith, roots-beside a b, roots-beside c d, ap roots e))
-
--- the last tree of a row is one
-pub one_last : (a c : Trees) (l m : List ℕ) (b d : Trees) → beside a (tree l b none) ≡ beside c (tree m d none) → tree l b none ≡ tree m d none
-one_last a c l m b d e = (one_row_end a (tree l b none) c (tree m d none) e refl).1
 
 -- ---- what a label may stand over
 
@@ -68,8 +62,7 @@ one_width before label below below' all (inr p) (inr q) =
 
 pub makes_join : (before : List Sentence) (moves more : List (Move (List ℕ))) (a b c : Trees) (k l m : List Trees)
     → Makes before moves a k b l → Makes before more b l c m → Makes before (moves ++ more) a k c m
-makes_join before [] more a b c k l m r q =
-    subst (λ x. Makes before more x k c m) r.0 (subst (λ x. Makes before more b x c m) r.1 q)
+makes_join before [] more a b c k l m r q = rw (← r.0, ← r.1) q
 makes_join before (move ∷ moves) more a b c k l m r q = (r.0, r.1, r.2, makes_join before moves more r.0 b c r.1 l m r.3 q)
 
 -- one move more
@@ -95,7 +88,8 @@ one_made before (name label) a b c k l m all r q =
 one_made before (again tag) a b c k l m all r q =
     (r.2 ∙ ap (λ x. beside a x) (same_Some r.0 q.0 (sym r.1 ∙ q.1)) ∙ sym q.2, r.3 ∙ sym q.3)
 one_made before mark a b c k l m all r q =
-    (r.4 ∙ sym q.4, r.5 ∙ ap (λ x. k ++ x ∷ []) (one_last r.0 q.0 r.1 q.1 r.2 q.2 (sym r.3 ∙ q.3)) ∙ sym q.5)
+    let one = one_row_end r.0 (tree r.1 r.2 none) q.0 (tree q.1 q.2 none) (sym r.3 ∙ q.3) refl in
+    (r.4 ∙ sym q.4, r.5 ∙ ap (λ x. k ++ x ∷ []) one.1 ∙ sym q.5)
 
 -- the same moves make the same
 pub makes_once : (before : List Sentence) (moves : List (Move (List ℕ))) (a b c : Trees) (k l m : List Trees) → AllMeant before
@@ -103,8 +97,7 @@ pub makes_once : (before : List Sentence) (moves : List (Move (List ℕ))) (a b 
 makes_once before [] a b c k l m all r q = (r.0 ∙ sym q.0, r.1 ∙ sym q.1)
 makes_once before (move ∷ moves) a b c k l m all r q =
     let one = one_made before move a r.0 q.0 k r.1 q.1 all r.2 q.2 in
-    makes_once before moves q.0 b c q.1 l m all
-    (subst (λ x. Makes before moves q.0 x b l) one.1 (subst (λ x. Makes before moves x r.1 b l) one.0 r.3)) q.3
+    makes_once before moves q.0 b c q.1 l m all (rw (← one.0, ← one.1) r.3) q.3
 
 -- ---- trees that fit are made by the labels of their spelling
 
@@ -114,13 +107,12 @@ pub fit_makes : (before : List Sentence) (trees row : Trees) (kept : List Trees)
 fit_makes before none row kept fit = (beside-none row, refl)
 fit_makes before (tree label below right) row kept fit =
     let children : Makes before (map name (spelling below)) row kept (beside row below) kept = fit_makes before below row kept fit.1 in
-    let one : MakesOne before (name label) (beside row below) kept (beside row (tree label below none)) kept = (row, below, refl, fit.0, refl, refl) in
     let others : Makes before (map name (spelling right)) (beside row (tree label below none)) kept (beside row (tree label below right)) kept =
     subst (λ w. Makes before (map name (spelling right)) (beside row (tree label below none)) kept w kept) (beside_assoc row (tree label below none) right)
     (fit_makes before right (beside row (tree label below none)) kept fit.2) in
     subst (λ l. Makes before l row kept (beside row (tree label below right)) kept) (sym (map-append name (spelling below) (label ∷ spelling right)))
     (makes_join before (map name (spelling below)) (name label ∷ map name (spelling right)) row (beside row below) (beside row (tree label below right)) kept kept kept children
-    (beside row (tree label below none), kept, one, others))
+    (beside row (tree label below none), kept, (row, below, refl, fit.0, refl, refl), others))
 
 -- trees that fit and have one spelling are equal
 pub one_fit_holds : (before : List Sentence) (t u : Trees) → AllMeant before → TreesFit before t → TreesFit before u → spelling t ≡ spelling u → t ≡ u

@@ -5,7 +5,7 @@ use Rattle.std.proofs.lemmas.List.Sums.{sum_by-cons}
 use Rattle.std.proofs.lemmas.Slice.Zip.{AllZip-long}
 use Rattle.mm_frame.specs.Sentence.{Sentence}
 use Rattle.mm_proof.specs.declared.fault.ProofRule.TheVariants.{P6, P7}
-use Rattle.mm_proof.specs.Tree.{Trees, none, tree, roots, DeriveAll}
+use Rattle.mm_proof.specs.Tree.{Trees, none, roots, DeriveAll}
 use Rattle.mm_proof.specs.Moves.{Move, name, again, mark, is_step, steps_in, MakesOne, Makes}
 use Rattle.mm_proof.specs.Proof.{IsWithin, BreaksMove, Passed, IsMovesFault}
 use Rattle.mm_proof.specs.Laws.{MarkBeforeAnyStep, IsOverMarks, TagOverMarks, marks_in}
@@ -19,18 +19,14 @@ use Rattle.mm_proof.proofs.Judged.{only_P6, only_P7}
 leaves_one : (before : List Sentence) (m : Move (List ℕ)) (row next : Trees) (kept more : List Trees) → MakesOne before m row kept next more
     → (1 ≤ roots row) ⊎ (kept ≡ []) → 1 ≤ roots next
 leaves_one before (name label) row next kept more made was =
-    let wide : roots next ≡ roots made.0 + 1 = ap roots made.4 ∙ roots-beside made.0 (tree label made.1 none) in
-    omega (arith, wide)
+    rw (made.4, roots-beside) (omega arith)
 leaves_one before (again tag) row next kept more made (inl one) =
-    let wide : roots next ≡ roots row + roots made.0 = ap roots made.2 ∙ roots-beside row made.0 in
-    omega (arith, wide, one)
+    rw (made.2, roots-beside) (omega (arith, one))
 leaves_one before (again tag) row next kept more made (inr bare) =
     let there : slice_get [] tag ≡ Some made.0 = subst (λ (ts : List Trees). slice_get ts tag ≡ Some made.0) bare made.1 in
     absurd cc
 leaves_one before mark row next kept more made was =
-    let wide : roots row ≡ roots made.0 + 1 = ap roots made.3 ∙ roots-beside made.0 (tree made.1 made.2 none) in
-    let same : roots next ≡ roots row = ap roots made.4 in
-    omega (arith, wide, same)
+    rw (made.4, made.3, roots-beside) (omega arith)
 
 stays_one : (before : List Sentence) (moves : List (Move (List ℕ))) (row last : Trees) (kept shelf : List Trees) → Makes before moves row kept last shelf
     → 1 ≤ roots row → 1 ≤ roots last
@@ -46,18 +42,14 @@ none_made before (m ∷ moves) last shelf made bare =
     let one : 1 ≤ roots last = stays_one before moves made.0 last made.1 shelf made.3 (leaves_one before m none made.0 [] made.1 made.2 (inr refl)) in
     absurd (omega (arith, one, bare))
 
-nothing_passed : (Fits : List (List ℕ) → Type 0) (before : List Sentence) (moves : List (Move (List ℕ))) (stack kept : List (List (List ℕ)))
-    → Passed Fits before moves stack kept → stack ≡ [] → moves ≡ []
-nothing_passed Fits before moves stack kept p e =
-    none_made before moves p.trees p.shelf p.made (roots_derive Fits before p.trees stack p.derived ∙ ap length e)
-
 begins_with : (Fits : List (List ℕ) → Type 0) (before : List Sentence) (moves earlier later : List (Move (List ℕ))) (stack kept : List (List (List ℕ)))
     (move : Move (List ℕ)) (step : ℕ) → moves ≡ earlier ++ move ∷ later → step ≡ steps_in earlier + 1 → Passed Fits before earlier stack kept
     → BreaksMove Fits P7 before stack kept move → (step ≡ 1) × (later : List (Move (List ℕ))) × (moves ≡ mark ∷ later)
 begins_with Fits before moves earlier later stack kept (name label) step parts number p broken = absurd broken
 begins_with Fits before moves earlier later stack kept (again tag) step parts number p broken = absurd cc
 begins_with Fits before moves earlier later stack kept mark step parts number p broken =
-    let bare : earlier ≡ [] = nothing_passed Fits before earlier stack kept p broken.1 in (
+    let bare : earlier ≡ [] = none_made before earlier p.trees p.shelf p.made
+    (roots_derive Fits before p.trees stack p.derived ∙ ap length broken.1) in (
       number ∙ ap (λ (ms : List (Move (List ℕ))). steps_in ms + 1) bare,
       later,
       parts ∙ ap (λ (ms : List (Move (List ℕ))). ms ++ mark ∷ later) bare,
@@ -90,39 +82,32 @@ mark_before_any_step_holds limit before s moves step =
 
 -- ## Tags over the marks
 
-marks_more : (m : Move (List ℕ)) (moves : List (Move (List ℕ))) → marks_in (m ∷ moves) ≡ cond (not (is_step m)) 1 0 + marks_in moves
-marks_more m moves = sum_by-cons (λ (n : Move (List ℕ)). cond (not (is_step n)) 1 0) m moves
-
 keeps_one : (before : List Sentence) (m : Move (List ℕ)) (row next : Trees) (kept more : List Trees) → MakesOne before m row kept next more
     → length more ≡ length kept + cond (not (is_step m)) 1 0
 keeps_one before (name label) row next kept more made = let e : length more ≡ length kept = ap length made.5 in omega (arith, e)
 keeps_one before (again tag) row next kept more made = let e : length more ≡ length kept = ap length made.3 in omega (arith, e)
-keeps_one before mark row next kept more made =
-    let e : length more ≡ length kept + 1 = ap length made.5 ∙ length-append kept (tree made.1 made.2 none ∷ []) in omega (arith, e)
+keeps_one before mark row next kept more made = rw (made.5, length-append) refl
 
 keeps_marks : (before : List Sentence) (moves : List (Move (List ℕ))) (row last : Trees) (kept shelf : List Trees) → Makes before moves row kept last shelf
     → length shelf ≡ length kept + marks_in moves
 keeps_marks before [] row last kept shelf made = let e : length shelf ≡ length kept = ap length made.1 in omega (arith, e)
 keeps_marks before (m ∷ moves) row last kept shelf made =
-    let rest : length shelf ≡ length made.1 + marks_in moves = keeps_marks before moves made.0 last made.1 shelf made.3 in
-    let one : length made.1 ≡ length kept + cond (not (is_step m)) 1 0 = keeps_one before m row made.0 kept made.1 made.2 in
-    let more : marks_in (m ∷ moves) ≡ cond (not (is_step m)) 1 0 + marks_in moves = marks_more m moves in
-    omega (arith, rest, one, more)
+    let rest = keeps_marks before moves made.0 last made.1 shelf made.3 in
+    let one = keeps_one before m row made.0 kept made.1 made.2 in
+    omega (arith, rest, one, sum_by-cons (λ n. cond (not (is_step n)) 1 0) m moves)
 
 -- as many are kept as there are marks
 kept_by_marks : (Fits : List (List ℕ) → Type 0) (before : List Sentence) (moves : List (Move (List ℕ))) (stack kept : List (List (List ℕ)))
     → Passed Fits before moves stack kept → length kept ≡ marks_in moves
 kept_by_marks Fits before moves stack kept p =
-    let shelf : length p.shelf ≡ length kept = sym (AllZip-long (λ t e. DeriveAll Fits before t (e ∷ [])) p.shelf kept p.kept_derived) in
-    let marks : length p.shelf ≡ 0 + marks_in moves = keeps_marks before moves none p.trees [] p.shelf p.made in
-    omega (arith, shelf, marks)
+    let shelf = AllZip-long (λ t e. DeriveAll Fits before t (e ∷ [])) p.shelf kept p.kept_derived in
+    omega (arith, shelf, keeps_marks before moves none p.trees [] p.shelf p.made)
 
 tag_over : (Fits : List (List ℕ) → Type 0) (before : List Sentence) (moves earlier later : List (Move (List ℕ))) (stack kept : List (List (List ℕ)))
     (move : Move (List ℕ)) (step : ℕ) → moves ≡ earlier ++ move ∷ later → step ≡ steps_in earlier + 1 → Passed Fits before earlier stack kept
     → BreaksMove Fits P6 before stack kept move → IsOverMarks Fits before moves step
 tag_over Fits before moves earlier later stack kept (name label) step parts number p broken = absurd broken
 tag_over Fits before moves earlier later stack kept (again tag) step parts number p broken =
-    let count : length kept ≡ marks_in earlier = kept_by_marks Fits before earlier stack kept p in
     record {
       earlier = earlier;
       tag = tag;
@@ -132,7 +117,7 @@ tag_over Fits before moves earlier later stack kept (again tag) step parts numbe
       stack = stack;
       kept = kept;
       passed = p;
-      over = subst (λ (n : ℕ). n ≤ tag) count broken.1;
+      over = subst (λ (n : ℕ). n ≤ tag) (kept_by_marks Fits before earlier stack kept p) broken.1;
     }
 tag_over Fits before moves earlier later stack kept mark step parts number p broken = absurd cc
 

@@ -37,6 +37,12 @@ in_apart [] ys x h = inr h
 in_apart (y ∷ xs) ys x (inl e) = inl (inl e)
 in_apart (y ∷ xs) ys x (inr h) = ⊎_elim (λ a. inl (inr a)) (λ b. inr b) (in_apart xs ys x h)
 
+pub in_push : {X : Type 0} (xs : List X) (y x : X) → In (xs ++ y ∷ []) x → In xs x ⊎ (y ≡ x)
+in_push [] y x (inl e) = inr e
+in_push [] y x (inr z) = absurd z
+in_push (z ∷ xs) y x (inl e) = inl (inl e)
+in_push (z ∷ xs) y x (inr h) = ⊎_elim (λ a. inl (inr a)) (λ b. inr b) (in_push xs y x h)
+
 -- no member stands twice
 abbrev pub Once : {X : Type 0} → List X → Type 0
 Once [] = Unit {0}

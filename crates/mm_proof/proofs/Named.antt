@@ -1,10 +1,11 @@
 -- Symbols by their numbers, and what is said of their names.
-use Rattle.std.proofs.Common.{◌≡◌, ◌↔◌, ℕ, zero, suc, ◌+◌, ◌<◌, List, [], ◌∷◌, length, map, drop, get_or, slice_get, Bool, true, false, IsTrue, MatchBool, is_some, Option, option_map, Some, None, inl, inr, refl, sym, ap, subst, ◌∙◌, arith}
+use Rattle.std.proofs.Common.{◌≡◌, ◌↔◌, ℕ, suc, ◌+◌, ◌<◌, List, [], ◌∷◌, length, map, drop, get_or, slice_get, Bool, true, false, IsTrue, MatchBool, is_some, Option, option_map, Some, None, inl, inr, refl, sym, ap, subst, ◌∙◌, arith}
 use Rattle.std.specs.List.{AllByRecursion}
 use Rattle.std.proofs.lemmas.Option.{same_Some, none-some, slice_get_within, get_or_from_slice_get, slice_get-get_or, slice_get-map}
 use Rattle.std.proofs.lemmas.Bool.{false≢true, cases_lt}
 use Rattle.mm_text.specs.declared.statement.Kind.TheVariants.{Floating, Essential}
-use Rattle.mm_text.proofs.Lists.{all_at}
+use Rattle.mm_text.proofs.Lists.{all_at, same_length, mapped_zip, zip_left, zip_right}
+use Rattle.std.proofs.lemmas.List.{length-map, get_or-map}
 use Rattle.mm_frame.specs.Sentence.{Sentence, Types}
 use Rattle.mm_frame.specs.Numbers.{symbols_of, labelled_sentences, IsNumberOf, AreNumbers}
 use Rattle.mm_frame.specs.FramePlace.{IsTypingOf, HaveTypings}
@@ -89,22 +90,20 @@ no_variable st h essential floats = let both : Floating ≡ Essential = sym floa
 abbrev pub no_hypothesis : Hypothesis
 no_hypothesis = record { id = record { 0 = 0 }; typing = None; pattern = record { start = 0; end = 0 } }
 
--- the hypothesis with the number at a place
-pub hypothesis_at : (st : List Sentence) (ids : List Hypothesis) (hs : List Sentence) (i : ℕ) (d : Hypothesis) → AreHypothesesOf st (label_ids ids) hs → i < length ids
-    → (h : Sentence) × (slice_get hs i ≡ Some h) × (slice_get (labelled_sentences st) (get_or ids i d).id.0 ≡ Some h)
-hypothesis_at st [] hs i d are less = absurd (omega arith)
-hypothesis_at st (id ∷ ids) [] i d are less = absurd cc
-hypothesis_at st (id ∷ ids) (h ∷ hs) zero d are less = (h, refl, (let e : slice_get (labelled_sentences st) id.id.0 ≡ Some h = cc in e))
-hypothesis_at st (id ∷ ids) (h ∷ hs) (suc i) d are less =
-    let rest : AreHypothesesOf st (label_ids ids) hs = cc in
-    hypothesis_at st ids hs i d rest (omega arith)
-
--- what stands with its number is the hypothesis' typing
-pub typing_at : (st : List Sentence) (xs : List Hypothesis) (i : ℕ) (d : Hypothesis) (h : Sentence) → HaveTypings st xs → i < length xs
-    → slice_get (labelled_sentences st) (get_or xs i d).id.0 ≡ Some h → IsTypingOf st (get_or xs i d).typing h
-typing_at st xs i d h have less there =
-    let (g, at, is) = have i (get_or xs i d) (slice_get-get_or xs i d less) in
-    subst (IsTypingOf st (get_or xs i d).typing) (same_Some g h (sym at ∙ there)) is
+-- the hypothesis with the number at a place, whose typing is what stands with it
+pub hypothesis_at : (st : List Sentence) (xs : List Hypothesis) (hs : List Sentence) (i : ℕ)
+    (d : Hypothesis) → HaveTypings st xs → AreHypothesesOf st (label_ids xs) hs → i < length xs
+    → (h : Sentence) × (slice_get hs i ≡ Some h)
+    × (slice_get (labelled_sentences st) (get_or xs i d).id.0 ≡ Some h)
+    × IsTypingOf st (get_or xs i d).typing h
+hypothesis_at st xs hs i d have are less =
+    let L = labelled_sentences st in
+    let number : slice_get (label_ids xs) i ≡ Some (get_or xs i d).id.0 =
+    rw (slice_get-map, slice_get-get_or xs i d less) refl in
+    let at = zip_left (λ n h. slice_get L n ≡ Some h) (label_ids xs) hs i (get_or xs i d).id.0
+    (mapped_zip (slice_get L) Some _ (λ n h e. e) (label_ids xs) hs are) number in
+    let (g, there, is) = have i (get_or xs i d) (slice_get-get_or xs i d less) in
+    (at.0, at.1, at.2, rw (same_Some g at.0 (sym there ∙ at.2)) at is)
 
 typing_variable : (st : List Sentence) (typing : Option (Sym × Sym)) (h : Sentence) → IsTypingOf st typing h → IsVariableOf st (option_map (λ t. t.1.0) typing) h
 typing_variable st None h is = no_variable st h is
@@ -150,27 +149,24 @@ pub each_more : (hs : List Sentence) (entries : List (List (List ℕ))) (P : Sen
 each_more hs entries P n h e at_h at_e here = each_next hs entries P n h at_h (λ entry at. subst (P h) (same_Some e entry (sym at_e ∙ at)) here)
 
 pub as_many : (st : List Sentence) (ids : List Hypothesis) (hs : List Sentence) → AreHypothesesOf st (label_ids ids) hs → length hs ≡ length ids
-as_many st [] [] are = refl
-as_many st (id ∷ ids) (h ∷ hs) are = let rest : AreHypothesesOf st (label_ids ids) hs = cc in ap suc (as_many st ids hs rest)
-as_many st ids hs are = absurd cc
+as_many st ids hs are = sym (same_length _ Some (label_ids ids) hs are) ∙ length-map ids _
 
 -- the variable at a place is that of the hypothesis there
 pub variable_typed : (st : List Sentence) (vs : List (Option ℕ)) (hs : List Sentence) (i : ℕ) (h : Sentence) → AreVariablesOf st vs hs → slice_get hs i ≡ Some h
     → IsVariableOf st (get_or vs i None) h
-variable_typed st [] [] i h all at = absurd (none-some h at)
-variable_typed st (v ∷ vs) (g ∷ hs) zero h all at = subst (IsVariableOf st v) (same_Some g h at) all.0
-variable_typed st (v ∷ vs) (g ∷ hs) (suc i) h all at = variable_typed st vs hs i h all.1 at
-variable_typed st vs hs i h all at = absurd all
+variable_typed st vs hs i h all at =
+    let v = zip_right (IsVariableOf st) vs hs i h all at in
+    rw (get_or_from_slice_get vs i v.0 None v.1) v.2
 
 -- a hypothesis with a typing has a variable
 pub typing_some : (hs : List Hypothesis) (k : ℕ) (d : Hypothesis) → k < length hs → is_some (get_or hs k d).typing ≡ true → is_some (get_or (variables_of hs) k None) ≡ true
-typing_some [] k d less is = absurd (omega arith)
-typing_some (h ∷ hs) zero d less is = some h.typing is
+typing_some hs k d less is =
+    let variable = λ (h : Hypothesis). option_map (λ (t : Sym × Sym). t.1.0) h.typing in
+    rw (get_or-map variable hs k d None less) (some (get_or hs k d).typing is)
   where
     some : (typing : Option (Sym × Sym)) → is_some typing ≡ true → is_some (option_map (λ (t : Sym × Sym). t.1.0) typing) ≡ true
     some None e = absurd (false≢true e)
     some (Some t) e = refl
-typing_some (h ∷ hs) (suc k) d less is = typing_some hs k d (omega arith) is
 
 -- nothing is asked of a `$f`
 pub floating_equal : (st : List Sentence) (σ : List ℕ → Option (List (List ℕ))) (h : Sentence) (entry : List (List ℕ)) (v : Option ℕ) → is_some v ≡ true → IsVariableOf st v h → IsEqual σ h entry

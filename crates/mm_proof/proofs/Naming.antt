@@ -1,10 +1,10 @@
 -- The assertions among labels, by their numbers.
-use Rattle.std.proofs.Common.{◌≡◌, ℕ, zero, suc, ◌+◌, ◌<◌, ◌≤◌, List, [], ◌∷◌, ◌++◌, length, take, slice_get, get_or, Contains, Some, ◌⊎◌, ◌↔◌, inl, inr, ⊎_elim, refl, sym, ap, subst, ◌∙◌, arith, Less, nat_cmp}
+use Rattle.std.proofs.Common.{◌≡◌, ℕ, zero, suc, ◌+◌, ◌<◌, List, [], ◌∷◌, ◌++◌, length, take, slice_get, get_or, Contains, Some, ◌⊎◌, ◌↔◌, inl, inr, ⊎_elim, refl, sym, ap, subst, ◌∙◌, arith, Less, nat_cmp}
 use Rattle.std.specs.List.Sorted.{IsStrictlySortedBy}
 use Rattle.std.specs.List.{AllByRecursion}
 use Rattle.std.proofs.lemmas.Option.{same_Some, none-some}
 use Rattle.std.proofs.lemmas.Bool.Decides.{nat_tests}
-use Rattle.std.proofs.lemmas.List.{map-append, take_all, take_more}
+use Rattle.std.proofs.lemmas.List.{map-append, length-map, get_or-map, take_more}
 use Rattle.std.proofs.lemmas.List.Elements.{Contains-push, Contains-push_cases, Contains-append_left}
 use Rattle.mm_frame.specs.declared.number.LabelId.{LabelId}
 use Rattle.mm_frame.specs.declared.number.LabelKind.{LabelKind}
@@ -79,28 +79,27 @@ pub gather_none : (st : List Sentence) (picked : List LabelId) (i : ℕ) (d : La
     → Gathered st (take i picked) ids → Gathered st (take (i + 1) picked) ids
 gather_none st picked i d ids less none old = rw (take_more picked i d less) (gather_other st (take i picked) ids (get_or picked i d) none old)
 
-pub gathered_all : (st : List Sentence) (picked : List LabelId) (i : ℕ) (ids : List LabelId) → length picked ≤ i → Gathered st (take i picked) ids → Gathered st picked ids
-gathered_all st picked i ids past all = subst (λ l. Gathered st l ids) (take_all i picked past) all
-
 pub listed_at : (xs : List LabelId) (i : ℕ) (d : LabelId) → i < length xs → Contains (ids_in xs) (get_or xs i d).0
-listed_at [] i d less = absurd (omega arith)
-listed_at (x ∷ xs) zero d less = (0, omega arith, refl)
-listed_at (x ∷ xs) (suc i) d less =
-    let r = listed_at xs i d (omega arith) in (suc r.0, (let m : r.0 < length (ids_in xs) = r.1 in omega arith), r.2)
+listed_at xs i d less = (
+  i,
+  omega (arith, length-map xs (λ (x : LabelId). x.0)),
+  get_or-map (λ (x : LabelId). x.0) xs i d (get_or xs i d).0 less,
+)
 
 -- ---- in order, each once
 
 contains_number_at : (xs : List LabelId) (x : LabelId) (k : ℕ) → k < length xs → get_or xs k x ≡ x → Contains (ids_in xs) x.0
-contains_number_at [] x k l e = absurd (omega arith)
-contains_number_at (y ∷ xs) x zero l e = (0, omega arith, ap (λ (z : LabelId). z.0) e)
-contains_number_at (y ∷ xs) x (suc k) l e =
-    let r = contains_number_at xs x k (omega arith) e in (suc r.0, (let m : r.0 < length (ids_in xs) = r.1 in omega arith), r.2)
+contains_number_at xs x k l e = (
+  k,
+  omega (arith, length-map xs (λ (y : LabelId). y.0)),
+  get_or-map (λ (y : LabelId). y.0) xs k x x.0 l ∙ ap (λ (y : LabelId). y.0) e,
+)
 
 contains_id_at : (xs : List LabelId) (n k : ℕ) → k < length (ids_in xs) → get_or (ids_in xs) k n ≡ n → Contains xs (record { 0 = n })
-contains_id_at [] n k l e = absurd (omega arith)
-contains_id_at (y ∷ xs) n zero l e = let made : ℕ → LabelId = λ m. record { 0 = m } in (0, omega arith, ap made e)
-contains_id_at (y ∷ xs) n (suc k) l e =
-    let r = contains_id_at xs n k (omega arith) e in (suc r.0, (let m : r.0 < length xs = r.1 in omega arith), r.2)
+contains_id_at xs n k l e =
+    let made : ℕ → LabelId = λ m. record { 0 = m } in
+    let within : k < length xs = omega (arith, length-map xs (λ (y : LabelId). y.0)) in
+    (k, within, ap made (sym (get_or-map (λ (y : LabelId). y.0) xs k (made n) n within) ∙ e))
 
 each_above : (x : LabelId) (xs : List LabelId) (i b : ℕ) → AllByRecursion (λ (y : LabelId). nat_cmp x.0 y.0 ≡ Less) xs → slice_get (ids_in xs) i ≡ Some b → x.0 < b
 each_above x [] i b all e = absurd (none-some b e)

@@ -2,7 +2,7 @@
 use Rattle.std.proofs.Common.{◌≡◌, ℕ, ◌+◌, ◌<◌, List, length, take, drop, slice_get, Option, Some, None, ◌⊎◌, inl, inr, refl, sym, ap, subst, ◌∙◌, arith}
 use Rattle.std.proofs.lemmas.List.{length-append}
 use Rattle.mm_text.specs.declared.statement.Kind.{Kind}
-use Rattle.mm_text.specs.declared.statement.Kind.TheVariants.{Floating, Essential, Axiom, Provable}
+use Rattle.mm_text.specs.declared.statement.Kind.TheVariants.{Floating, Essential}
 use Rattle.mm_frame.specs.Sentence.{Sentence, IsHypothesis, IsAssertion, IsLabelled, Types}
 use Rattle.mm_frame.specs.Active.{IsActive, IsTyped}
 use Rattle.mm_frame.specs.Frame.{IsMandatory, IsMandatoryAt, AreMandatory, IsMandatoryPair}
@@ -47,21 +47,8 @@ StepTo before stack label rest e = Pushes before stack label rest e ⊎ Applies 
 
 -- ---- hypotheses and assertions have different labels
 
-abbrev is_assertion_kind : Kind → ℕ
-is_assertion_kind Axiom = 1
-is_assertion_kind Provable = 1
-is_assertion_kind kind = 0
-
-assertion_one : (k : Kind) → IsAssertion k → is_assertion_kind k ≡ 1
-assertion_one k (inl a) = ap is_assertion_kind a
-assertion_one k (inr p) = ap is_assertion_kind p
-
-hypothesis_zero : (k : Kind) → IsHypothesis k → is_assertion_kind k ≡ 0
-hypothesis_zero k (inl f) = ap is_assertion_kind f
-hypothesis_zero k (inr e) = ap is_assertion_kind e
-
 pub not_both_kinds : (k : Kind) → IsHypothesis k → IsAssertion k → ⊥
-not_both_kinds k h a = omega (arith, hypothesis_zero k h, assertion_one k a)
+not_both_kinds k h a = grind arith
 
 pub hypothesis_or_assertion : (before : List Sentence) (i j : ℕ) (h a : Sentence) (label : List ℕ) → AllMeant before → slice_get before i ≡ Some h → slice_get before j ≡ Some a
     → IsLabelled label h → IsLabelled label a → IsHypothesis h.kind → IsAssertion a.kind → ⊥
@@ -132,10 +119,8 @@ agree before stack label all m n =
     let assertion : m.assertion ≡ n.assertion = one_labelled before m.place n.place m.assertion n.assertion label all m.names.there n.names.there m.names.named n.names.named in
     let hypotheses : m.hypotheses ≡ n.hypotheses = one_frame before m.place n.place m.assertion n.assertion m.hypotheses n.hypotheses place assertion m.names.mandatory n.names.mandatory in
     let parts = one_parting m.rest m.entries n.rest n.entries (sym m.split ∙ n.split) (m.paired ∙ ap length hypotheses ∙ sym n.paired) in
-    let on : IsOn (IsMandatory (take n.place before) n.assertion) m.σ =
-    subst (λ b. IsOn (IsMandatory (take n.place before) b) m.σ) assertion (subst (λ k. IsOn (IsMandatory (take k before) m.assertion) m.σ) place m.on) in
-    let replaced : Replaces n.hypotheses n.entries m.σ =
-    subst (λ hs. Replaces hs n.entries m.σ) hypotheses (subst (λ es. Replaces m.hypotheses es m.σ) parts.1 m.replaced) in
+    let on = rw (place, assertion) at m.on in
+    let replaced = rw (hypotheses, parts.1) at m.replaced in
     record {
       place = place;
       assertion = assertion;

@@ -3,7 +3,7 @@ use Rattle.std.proofs.Common.{◌≡◌, ℕ, ◌+◌, ◌<◌, List, [], ◌∷
 use Rattle.std.specs.List.{AllZip}
 use Rattle.std.proofs.lemmas.Option.{slice_get_within, slice_get-get_or}
 use Rattle.std.proofs.lemmas.Slice.Zip.{AllZip-long}
-use Rattle.mm_text.proofs.Lists.{zip_push, zip_left, zip_right, get_kept, cons_parts}
+use Rattle.mm_text.proofs.Lists.{zip_push, zip_left, zip_right, get_kept, get_pushed, cons_parts}
 use Rattle.mm_code.specs.declared.code.Code.{Code}
 use Rattle.mm_code.specs.declared.code.Code.TheVariants.{Number, Tag}
 use Rattle.mm_frame.specs.Sentence.{Sentence}
@@ -68,10 +68,6 @@ led_none before (move ∷ moves) row kept last end l =
 
 -- ---- trees that are tagged
 
--- the one tree that a subtree is
-single : (st : List Sentence) (rows : List Row) (t : Subtree) (label : List ℕ) (below : Trees) → IsTreeOf st rows t label below → IsSubtreeOf st rows t (tree label below none)
-single st rows t label below is = (is, tt)
-
 tree_of_number : (st : List Sentence) (rows : List Row) (t : Subtree) (label : List ℕ) (below u : Trees) → IsTreeOf st rows t label below → IsSubtreeOf st rows t u → u ≡ tree label below none
 tree_of_number st rows t label below none is is' = absurd is'
 tree_of_number st rows t label below (tree m c none) is is' =
@@ -92,12 +88,8 @@ not_tagged st rows numbers kept end t label below z is once stays has =
     let beside = zip_left (IsSubtreeOf st rows) numbers kept has.0 t z there in
     let old : slice_get kept has.0 ≡ Some tr = beside.1 ∙ ap Some (tree_of_number st rows t label below beside.0 is beside.2) in
     let less : has.0 < length kept = slice_get_within kept has.0 tr old in
-    let same : has.0 ≡ length kept = once_places end has.0 (length kept) tr once (stays has.0 tr (get_kept kept (tr ∷ []) has.0 tr old)) (stays (length kept) tr (last_there kept tr)) in
+    let same : has.0 ≡ length kept = once_places end has.0 (length kept) tr once (stays has.0 tr (get_kept kept (tr ∷ []) has.0 tr old)) (stays (length kept) tr (get_pushed kept tr)) in
     omega (arith, less, same)
-  where
-    last_there : (kept : List Trees) (tr : Trees) → slice_get (kept ++ tr ∷ []) (length kept) ≡ Some tr
-    last_there [] tr = refl
-    last_there (k ∷ kept) tr = last_there kept tr
 
 -- ---- what a code says
 
@@ -133,10 +125,7 @@ made_bare : (st before : List Sentence) (rows : List Row) (labels : List (List �
     → Led before moves row kept last end w → AreTagged st rows tagged kept → SaidLater st before rows labels next kept last end rest others → AllZip (Says labels) codes moves
 made_bare st before rows labels tagged next kept last end rest w label below here others codes number moves row said is one parts same l tags later =
     let f = led_makes before moves row kept last end label below rest (subst (Led before moves row kept last end) is l) in
-    let whole : codes ≡ number ∷ others = parts ∙ ap (λ x. x ++ others) one in
-    subst (λ x. AllZip (Says labels) x moves) (sym whole)
-    (subst (λ x. AllZip (Says labels) (number ∷ others) x) (sym f.parts)
-    (said, later f.others f.row f.led (subst (λ k. AreTagged st rows k kept) (sym same) tags)))
+    rw (parts, one, f.parts) (said, later f.others f.row f.led (rw same tags))
 
 -- a step by a label whose tree is
 made_tagged : (st before : List Sentence) (rows : List Row) (labels : List (List ℕ)) (tagged next : List Subtree) (kept : List Trees) (last : Trees) (end : List Trees) (rest w : List Visit)
@@ -147,16 +136,12 @@ made_tagged st before rows labels tagged next kept last end rest w t label below
     let tr : Trees = tree label below none in
     let f = led_makes before moves row kept last end label below (keeps tr ∷ rest) (subst (Led before moves row kept last end) is l) in
     let g = led_keeps before f.others f.row kept last end tr rest f.led in
-    let whole : codes ≡ number ∷ Tag ∷ others = parts ∙ ap (λ x. x ++ others) two in
-    let both : moves ≡ name label ∷ mark ∷ g.others = f.parts ∙ ap (λ x. name label ∷ x) g.parts in
     let stays : (i : ℕ) (u : Trees) → slice_get (kept ++ tr ∷ []) i ≡ Some u → slice_get end i ≡ Some u = λ i u h. kept_stays before g.others g.row (kept ++ tr ∷ []) last end g.led.0 i u h in
     let fresh = not_tagged st rows tagged kept end t label below tags of once stays in
     let added : next ≡ tagged ++ t ∷ [] = ⊎_elim (λ p. absurd (fresh p.0)) (λ p. p.1) adds in
-    let more : AreTagged st rows next (kept ++ tr ∷ []) = subst (λ k. AreTagged st rows k (kept ++ tr ∷ [])) (sym added)
-    (zip_push (IsSubtreeOf st rows) tagged kept t tr tags (single st rows t label below of)) in
-    subst (λ x. AllZip (Says labels) x moves) (sym whole)
-    (subst (λ x. AllZip (Says labels) (number ∷ Tag ∷ others) x) (sym both)
-    (said, (refl, later g.others g.row g.led more)))
+    let more : AreTagged st rows next (kept ++ tr ∷ []) =
+    rw added (zip_push (IsSubtreeOf st rows) tagged kept t tr tags (of, tt)) in
+    rw (parts, two, f.parts, g.parts) (said, (refl, later g.others g.row g.led more))
 
 -- a step that repeats a tree
 repeated_one : (st before : List Sentence) (rows : List Row) (many : ℕ) (labels : List (List ℕ)) (tagged next : List Subtree) (kept : List Trees) (last : Trees) (end : List Trees) (rest w : List Visit)
@@ -173,10 +158,8 @@ repeated_one st before rows many labels tagged next kept last end rest w t label
     let again_there : slice_get kept place ≡ Some tr = found.1 ∙ ap Some (tree_of_number st rows t label below found.0 of found.2) in
     let stays : (i : ℕ) (u : Trees) → slice_get kept i ≡ Some u → slice_get end i ≡ Some u = λ i u h. kept_stays before moves row kept last end led.0 i u h in
     let at : place ≡ tag = once_places end place tag tr once (stays place tr again_there) (stays tag tr f.1) in
-    let whole : codes ≡ Number (many + tag + 1) ∷ others = parts ∙ ap (λ x. x ++ others) one ∙ ap (λ (k : ℕ). Number (many + k + 1) ∷ others) at in
-    subst (λ x. AllZip (Says labels) x moves) (sym whole)
-    (subst (λ x. AllZip (Says labels) (Number (many + tag + 1) ∷ others) x) (sym f.2.parts)
-    (tag_said labels many tag long, later f.2.others f.2.row f.2.led (subst (λ k. AreTagged st rows k kept) (sym same) tags)))
+    rw (parts, one, f.2.parts, at)
+    (tag_said labels many tag long, later f.2.others f.2.row f.2.led (rw same tags))
 
 pub codes_said : (st before : List Sentence) (rows : List Row) (numbers : List ℕ) (labels : List (List ℕ)) (repeated : List Subtree) (whole : List Visit) (last : Trees) (end : List Trees)
     → Whole st rows numbers labels repeated whole end
@@ -185,7 +168,7 @@ pub codes_said : (st before : List Sentence) (rows : List Row) (numbers : List �
     → AreEncoded numbers repeated tagged steps codes tagged' → AllZip (Says labels) codes moves
 codes_said st before rows numbers labels repeated whole last end a [] [] w tagged kept codes tagged' moves row z m l tags e =
     let none_left : moves ≡ [] = led_none before moves row kept last end (subst (λ x. Led before moves row kept last end x) m l) in
-    subst (λ x. AllZip (Says labels) x moves) (sym e.0) (subst (λ x. AllZip (Says labels) [] x) (sym none_left) tt)
+    rw (e.0, none_left) tt
 codes_said st before rows numbers labels repeated whole last end a (Make t ∷ steps) (x ∷ v) w tagged kept codes tagged' moves row z m l tags e =
     let o : (label : List ℕ) × (below : Trees) × IsTreeOf st rows t label below × (x ≡ makes (tree label below none)) = z.0 in
     let tr : Trees = tree o.0 o.1 none in

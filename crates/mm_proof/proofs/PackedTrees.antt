@@ -2,7 +2,7 @@
 use Rattle.std.proofs.Common.{◌≡◌, ℕ, List, [], ◌∷◌, ◌++◌, map, take, slice_get, Contains, Some, ◌↔◌, inl, inr, ⊎_elim, refl, sym, ap, subst, ◌∙◌}
 use Rattle.std.specs.List.{AllZip}
 use Rattle.std.proofs.lemmas.Option.{same_Some}
-use Rattle.mm_text.proofs.Lists.{zip_left, zip_right, zip_append, cons_parts, get_from_take}
+use Rattle.mm_text.proofs.Lists.{zip_left, zip_right, zip_append, zip_on, mapped_zip, get_from_take}
 use Rattle.mm_code.specs.declared.code.Code.{Code}
 use Rattle.mm_frame.specs.declared.number.LabelId.{LabelId}
 use Rattle.mm_frame.specs.Sentence.{Sentence}
@@ -41,12 +41,12 @@ use Rattle.mm_proof.proofs.PackedCodes.{Whole, codes_said}
 -- the numbers of the hypotheses are those of their labels
 own_labels : (st : List Sentence) (numbers : List ℕ) (hypotheses : List Sentence) (labels : List (List ℕ)) → map (slice_get (labelled_sentences st)) numbers ≡ map Some hypotheses
     → map (λ (h : Sentence). h.label) hypotheses ≡ map Some labels → AllZip (IsNumberOfLabel st) numbers labels
-own_labels st [] [] [] p q = tt
-own_labels st (n ∷ numbers) (h ∷ hypotheses) (l ∷ labels) p q =
-    let a = cons_parts (slice_get (labelled_sentences st) n) (Some h) (map (slice_get (labelled_sentences st)) numbers) (map Some hypotheses) p in
-    let b = cons_parts h.label (Some l) (map (λ (h : Sentence). h.label) hypotheses) (map Some labels) q in
-    (record { s = h; there = a.0; named = b.0 }, own_labels st numbers hypotheses labels a.1 b.1)
-own_labels st numbers hypotheses labels p q = absurd cc
+own_labels st numbers hypotheses labels p q =
+    zip_on (λ n h. slice_get (labelled_sentences st) n ≡ Some h)
+    (λ (h : Sentence) l. h.label ≡ Some l) _
+    (λ n h l there named. record { s = h; there = there; named = named }) numbers hypotheses labels
+    (mapped_zip _ Some _ (λ n h e. e) numbers hypotheses p)
+    (mapped_zip (λ (h : Sentence). h.label) Some _ (λ h l e. e) hypotheses labels q)
 
 -- different labels have different numbers
 numbers_once : (st : List Sentence) (numbers : List ℕ) (labels : List (List ℕ)) → AllZip (IsNumberOfLabel st) numbers labels → Once labels → Once numbers
@@ -100,11 +100,8 @@ named_uses st seen numbers listed names word all z y u = absurd y
 step_labels : (st : List Sentence) (rows : List Row) (steps : List SharedStep) (v : List Visit) → AllZip (IsStepOf st rows) steps v → AllZip (IsNumberOfLabel st) (labels_made steps) (labels_in v)
 step_labels st rows [] [] z = tt
 step_labels st rows (Make t ∷ steps) (x ∷ v) z =
-    let o : (label : List ℕ) × (below : Trees) × IsTreeOf st rows t label below × (x ≡ makes (tree label below none)) = z.0 in
-    subst (λ y. AllZip (IsNumberOfLabel st) (t.label ∷ labels_made steps) (labels_in (y ∷ v))) (sym o.3) (o.2.named, step_labels st rows steps v z.1)
-step_labels st rows (Repeat t ∷ steps) (x ∷ v) z =
-    let o : (label : List ℕ) × (below : Trees) × IsTreeOf st rows t label below × (x ≡ repeats (tree label below none)) = z.0 in
-    subst (λ y. AllZip (IsNumberOfLabel st) (labels_made steps) (labels_in (y ∷ v))) (sym o.3) (step_labels st rows steps v z.1)
+    rw z.0.3 (z.0.2.named, step_labels st rows steps v z.1)
+step_labels st rows (Repeat t ∷ steps) (x ∷ v) z = rw z.0.3 (step_labels st rows steps v z.1)
 step_labels st rows steps v z = absurd z
 
 labels_of_ids : (st : List Sentence) (ids : List LabelId) (labels : List (List ℕ)) → AllZip (IsNumberOfLabel st) (ids_in ids) labels → AreLabelsOf st ids labels
@@ -182,12 +179,6 @@ packed_steps st place s rows label below steps hypotheses ids codes all formed o
       },
     )
 
--- the frame is that of the statement at the place
-same_frame : (st : List Sentence) (place : ℕ) (own : FramePlace) (numbers : List ℕ) → own.statements ≡ st → own.place ≡ place → AreHypotheses own numbers → AreHypotheses (record { statements = st; place = place }) numbers
-same_frame st place own numbers book at are =
-    subst (λ (p : ℕ). AreHypotheses (record { statements = st; place = p }) numbers) at
-    (subst (λ (x : List Sentence). AreHypotheses (record { statements = x; place = own.place }) numbers) book are)
-
 pub packed_made : (st : List Sentence) (id place : ℕ) (s t : Sentence) (own : FramePlace) (rows : List Row) (label : List ℕ) (below : Trees) (names : List (Move (List ℕ))) (steps : List SharedStep) (hypotheses : List ℕ) (ids : List LabelId) (codes : List Code)
     → IsSound st → AreOnce rows → IsNumbered st id place s → own.statements ≡ st → IsNumbered st id own.place t → AreHypotheses own hypotheses → MakeTree (take place st) names label below
     → AreSharedSteps st rows (tree label below none) steps → AreStepsPacked hypotheses steps (ids_in ids) codes → ArePacked st place s (tree label below none) ids codes
@@ -195,4 +186,4 @@ packed_made st id place s t own rows label below names steps hypotheses ids code
     let at : own.place ≡ place = one_place st id own.place place t s its numbered in
     let fit = made_word (take place st) names (tree label below none) made.kept made.made in
     packed_steps st place s rows label below steps hypotheses ids codes sound.0 (λ i u e. sound.1 i u (get_from_take st place i u e).1) once fit.1 numbered.there
-    (same_frame st place own hypotheses book at are) shared packed
+    (rw (← book, ← at) are) shared packed

@@ -1,24 +1,21 @@
 -- What is known of the labels and the codes of the steps so far.
-use Rattle.std.proofs.Common.{◌≡◌, ℕ, suc, ◌+◌, ◌<◌, ◌≤◌, List, [], ◌∷◌, ◌++◌, length, take, get_or, Contains, Bool, true, false, Some, ◌⊎◌, ◌↔◌, inl, inr, ⊎_elim, refl, sym, ap, subst, ◌∙◌, append_assoc, append-nil, arith}
+use Rattle.std.proofs.Common.{◌≡◌, ℕ, ◌+◌, ◌<◌, ◌≤◌, List, [], ◌∷◌, ◌++◌, length, take, get_or, Contains, Bool, true, false, Some, ◌⊎◌, ◌↔◌, inl, inr, ⊎_elim, refl, sym, ap, subst, ◌∙◌, append_assoc, append-nil, arith}
 use Rattle.std.proofs.lemmas.Option.{slice_get-get_or}
-use Rattle.std.proofs.lemmas.List.{length-append, map-append}
+use Rattle.std.proofs.lemmas.List.{length-append, map-append, take_more}
 use Rattle.std.proofs.lemmas.List.Elements.{Contains-push, Contains-push_cases, Contains-append_left}
-use Rattle.mm_text.proofs.Lists.{take_next}
 use Rattle.mm_code.specs.declared.code.Code.{Code}
 use Rattle.mm_frame.specs.declared.hypothesis.Hypothesis.{Hypothesis}
-use Rattle.mm_frame.specs.declared.number.LabelId.{LabelId}
 use Rattle.mm_proof.specs.declared.subtrees.Subtree.{Subtree}
 use Rattle.mm_proof.specs.declared.sharing.SharedStep.{SharedStep}
 use Rattle.mm_proof.specs.declared.sharing.SharedStep.TheVariants.{Make, Repeat}
-use Rattle.mm_proof.specs.Plain.{ids_in, label_ids}
+use Rattle.mm_proof.specs.Plain.{label_ids}
 use Rattle.mm_proof.specs.Mirror.CodeSharing.{Adds, AddsNew, labels_made, AreFirstNumbers, IsEncoded, AreEncoded, AreMadeBefore}
 use Rattle.mm_proof.proofs.Members.{In, contains_in, in_contains, get_in, in_left, in_right, in_apart}
 
 -- ---- a front with one more
 
 pub one_more : {X : Type 0} (xs : List X) (i : ℕ) (d x : X) → i < length xs → get_or xs i d ≡ x → take (i + 1) xs ≡ take i xs ++ x ∷ []
-one_more xs i d x less is =
-    ap (λ (k : ℕ). take k xs) (let e : i + 1 ≡ suc i = omega arith in e) ∙ take_next xs i x (slice_get-get_or xs i d less ∙ ap Some is)
+one_more xs i d x less is = take_more xs i d less ∙ ap (λ y. take i xs ++ y ∷ []) is
 
 pub one_there : {X : Type 0} (xs : List X) (i : ℕ) (d x : X) → i < length xs → get_or xs i d ≡ x → Contains xs x
 one_there xs i d x less is = in_contains xs x (get_in xs i x (slice_get-get_or xs i d less ∙ ap Some is))
@@ -73,13 +70,9 @@ first_seen seen (m ∷ numbers) listed n (inr u) h = inr (
   u.0,
   u.1,
   u.2,
-  first_seen (m ∷ seen) numbers u.1 n u.3
-      (⊎_elim (λ a. inl (inr a)) (λ b. listed_one (subst (λ l. In l n) u.2 b)) h),
+  first_seen (m ∷ seen) numbers u.1 n u.3 (⊎_elim (λ a. inl (inr a))
+      (λ b. ⊎_elim (λ e. inl (inl e)) (λ k. inr k) (subst (λ l. In l n) u.2 b)) h),
 )
-  where
-    listed_one : In (m ∷ u.1) n → In (m ∷ seen) n ⊎ In u.1 n
-    listed_one (inl e) = inl (inl e)
-    listed_one (inr k) = inr k
 
 -- another is listed
 first_new : (seen numbers listed : List ℕ) (n : ℕ) → AreFirstNumbers seen numbers listed → ¬ (In seen n) → ¬ (In listed n) → AreFirstNumbers seen (numbers ++ n ∷ []) (listed ++ n ∷ [])
@@ -113,9 +106,6 @@ listing_new seen labels labels' numbers listed n l a =
       first = first_new seen numbers listed n l.first (λ h. fresh (in_left seen listed n h)) (λ h. fresh (in_right seen listed n h));
     }
 
-pub listing_made : (seen labels numbers numbers' listed : List ℕ) → numbers' ≡ numbers → Listing seen labels numbers listed → Listing seen labels numbers' listed
-listing_made seen labels numbers numbers' listed e l = subst (λ x. Listing seen labels x listed) (sym e) l
-
 -- where nothing was seen, and whatever is new
 pub first_added : (numbers listed listed' : List ℕ) (n : ℕ) (is_new : Bool) → AreFirstNumbers [] numbers listed → AddsNew listed n is_new listed' → AreFirstNumbers [] (numbers ++ n ∷ []) listed'
 first_added numbers listed listed' n false f a =
@@ -125,15 +115,11 @@ first_added numbers listed listed' n true f a =
 
 -- ---- the labels of steps
 
-pub labels_made-make : (steps : List SharedStep) (t : Subtree) → labels_made (steps ++ Make t ∷ []) ≡ labels_made steps ++ t.label ∷ []
-labels_made-make [] t = refl
-labels_made-make (Make u ∷ steps) t = ap (λ l. u.label ∷ l) (labels_made-make steps t)
-labels_made-make (Repeat u ∷ steps) t = labels_made-make steps t
-
-pub labels_made-repeat : (steps : List SharedStep) (t : Subtree) → labels_made (steps ++ Repeat t ∷ []) ≡ labels_made steps
-labels_made-repeat [] t = refl
-labels_made-repeat (Make u ∷ steps) t = ap (λ l. u.label ∷ l) (labels_made-repeat steps t)
-labels_made-repeat (Repeat u ∷ steps) t = labels_made-repeat steps t
+pub labels_made-append : (a b : List SharedStep)
+    → labels_made (a ++ b) ≡ labels_made a ++ labels_made b
+labels_made-append [] b = refl
+labels_made-append (Make u ∷ a) b = ap (λ l. u.label ∷ l) (labels_made-append a b)
+labels_made-append (Repeat u ∷ a) b = labels_made-append a b
 
 pub labels_made-few : (steps : List SharedStep) → length (labels_made steps) ≤ length steps
 labels_made-few [] = omega arith
@@ -145,9 +131,6 @@ first_few seen [] listed e = let l = ap length e in omega arith
 first_few seen (n ∷ numbers) listed (inl u) = let h = first_few seen numbers listed u.1 in omega arith
 first_few seen (n ∷ numbers) listed (inr u) = let h = first_few (n ∷ seen) numbers u.1 u.3 in let l = ap length u.2 in omega arith
 
-pub ids_more : (ids : List LabelId) (id : LabelId) → ids_in (ids ++ id ∷ []) ≡ ids_in ids ++ id.0 ∷ []
-ids_more ids id = map-append (λ (i : LabelId). i.0) ids (id ∷ [])
-
 pub label_ids-more : (hypotheses : List Hypothesis) (h : Hypothesis) → label_ids (hypotheses ++ h ∷ []) ≡ label_ids hypotheses ++ h.id.0 ∷ []
 label_ids-more hypotheses h = map-append (λ (i : Hypothesis). i.id.0) hypotheses (h ∷ [])
 
@@ -157,12 +140,12 @@ number_known seen [] listed n u h = absurd h
 number_known seen (m ∷ numbers) listed n (inl u) (inl e) = inl (subst (In seen) e (contains_in seen m u.0))
 number_known seen (m ∷ numbers) listed n (inl u) (inr h) = number_known seen numbers listed n u.1 h
 number_known seen (m ∷ numbers) listed n (inr u) (inl e) = inr (subst (λ l. In l n) (sym u.2) (inl e))
-number_known seen (m ∷ numbers) listed n (inr u) (inr h) = moved (number_known (m ∷ seen) numbers u.1 n u.3 h)
-  where
-    moved : In (m ∷ seen) n ⊎ In u.1 n → In seen n ⊎ In listed n
-    moved (inl (inl e)) = inr (subst (λ l. In l n) (sym u.2) (inl e))
-    moved (inl (inr old)) = inl old
-    moved (inr k) = inr (subst (λ l. In l n) (sym u.2) (inr k))
+number_known seen (m ∷ numbers) listed n (inr u) (inr h) =
+    elim (number_known (m ∷ seen) numbers u.1 n u.3 h) [
+      | inl (inl e) ↦ inr (subst (λ l. In l n) (sym u.2) (inl e))
+      | inl (inr old) ↦ inl old
+      | inr k ↦ inr (subst (λ l. In l n) (sym u.2) (inr k))
+    ]
 
 -- the label of a tree that is made is among those
 made_labelled : (steps : List SharedStep) (t : Subtree) → In steps (Make t) → In (labels_made steps) t.label
@@ -203,9 +186,8 @@ pub encoded_next : (labels : List ℕ) (repeated : List Subtree) (steps : List S
     → (length kept' ≤ i + 1) × AreEncoded labels repeated [] (take (i + 1) steps) codes' kept'
 encoded_next labels repeated steps i d codes codes' kept kept' less few are is = (
   (let more = encoded_few labels repeated kept (get_or steps i d) is.0 kept' is.2 in omega arith),
-  subst (λ s. AreEncoded labels repeated [] s codes' kept') (sym (one_more steps i d (get_or steps i d) less refl))
-      (subst (λ c. AreEncoded labels repeated [] (take i steps ++ get_or steps i d ∷ []) c kept') (sym is.1)
-      (encoded_more labels repeated [] (take i steps) codes kept (get_or steps i d) is.0 kept' are is.2)),
+  rw (take_more steps i d less, is.1)
+      (encoded_more labels repeated [] (take i steps) codes kept (get_or steps i d) is.0 kept' are is.2),
 )
 
 -- ---- trees that are tagged

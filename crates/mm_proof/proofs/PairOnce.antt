@@ -38,11 +38,7 @@ uses_once (label ∷ word) seen listed listed' (inr p) (inr q) =
 -- none was seen, and none stands twice
 pub uses_apart : (word seen listed : List (List ℕ)) → AreFirstUses seen word listed → Once listed
     × ((label : List ℕ) → In listed label → ¬ (In seen label))
-uses_apart [] seen listed p = (
-  subst Once (sym p) tt,
-  λ label h. absurd
-      (subst (λ l. In l label) p h),
-)
+uses_apart [] seen listed p = (rw p tt, λ label h. absurd (rw p at h))
 uses_apart (label ∷ word) seen listed (inl p) = uses_apart word seen listed p.1
 uses_apart (label ∷ word) seen listed (inr p) =
     let h = uses_apart word (label ∷ seen) p.1 p.3 in (
@@ -125,8 +121,7 @@ codes_once labels [] [] [] once p q = refl
 codes_once labels (c ∷ codes) codes' [] once p q = absurd p
 codes_once labels [] codes' (move ∷ moves) once p q = absurd p
 codes_once labels (c ∷ codes) (d ∷ codes') (move ∷ moves) once p q =
-    ap (λ x. x ∷ codes) (one_code labels move c d once p.0 q.0)
-    ∙ ap (λ x. d ∷ x) (codes_once labels codes codes' moves once p.1 q.1)
+    rw (one_code labels move c d once p.0 q.0, codes_once labels codes codes' moves once p.1 q.1)
 codes_once labels codes codes' moves once p q = absurd q
 
 -- ---- the laws
@@ -146,16 +141,10 @@ pub one_pair : (before : List Sentence) (s : Sentence) (trees : Trees)
     → IsPacked before s trees listed codes
     → IsPacked before s trees listed' codes' → (listed ≡ listed') × (codes ≡ codes')
 one_pair before s trees listed listed' codes codes' all p q =
-    let labels : p.says.labels ≡ q.says.labels = same_mandatory before s listed listed' codes codes'
-    p.moves q.moves p.says q.says in
-    let same : listed ≡ listed' = uses_once (spelling trees) q.says.labels listed listed'
-    (subst (λ l. AreFirstUses l (spelling trees) listed) labels p.uses) q.uses in
-    let moves : p.moves ≡ q.moves = shared_once before trees p.moves q.moves p.shared q.shared in
-    let whole : p.says.labels ++ listed ≡ q.says.labels ++ listed' = ap (λ l. l ++ listed) labels
-    ∙ ap (λ l. q.says.labels ++ l) same in
-    let each : AllZip (Says (q.says.labels ++ listed')) codes q.moves =
-    subst (λ m. AllZip (Says (q.says.labels ++ listed')) codes m) moves
-    (subst (λ l. AllZip (Says l) codes p.moves) whole p.says.each) in
+    let labels = same_mandatory _ _ listed listed' codes codes' p.moves q.moves p.says q.says in
+    let same = uses_once _ _ listed listed' (rw labels at p.uses) q.uses in
+    let moves = shared_once before trees p.moves q.moves p.shared q.shared in
+    let each = rw (labels, same, moves) at p.says.each in
     let apart = uses_apart (spelling trees) q.says.labels listed' q.uses in
     let once : Once (q.says.labels ++ listed') =
     once_joined q.says.labels listed'
@@ -173,24 +162,17 @@ pub same_made : (before : List Sentence) (s : Sentence) (trees trees' : Trees)
     → IsPacked before s trees listed codes
     → IsPacked before s trees' listed' codes' → listed ≡ listed' → codes ≡ codes' → trees ≡ trees'
 same_made before s trees trees' listed listed' codes codes' all p q e f =
-    let labels : p.says.labels ≡ q.says.labels = same_mandatory before s listed listed' codes codes'
-    p.moves q.moves p.says q.says in
-    let whole : p.says.labels ++ listed ≡ q.says.labels ++ listed' = ap (λ l. l ++ listed) labels
-    ∙ ap (λ l. q.says.labels ++ l) e in
-    let each : AllZip (Says (q.says.labels ++ listed')) codes' p.moves =
-    subst (λ c. AllZip (Says (q.says.labels ++ listed')) c p.moves) f
-    (subst (λ l. AllZip (Says l) codes p.moves) whole p.says.each) in
+    let labels = same_mandatory _ _ listed listed' codes codes' p.moves q.moves p.says q.says in
+    let says = Says (q.says.labels ++ listed') in
     let moves : p.moves ≡ q.moves =
-    zip_once (Says (q.says.labels ++ listed'))
-    (Says (q.says.labels ++ listed')) codes' p.moves q.moves
-    (says_once (q.says.labels ++ listed')) each q.says.each in
+    zip_once says says codes' p.moves q.moves (says_once (q.says.labels ++ listed'))
+    (rw (labels, e, f) at p.says.each) q.says.each in
     (makes_once before q.moves none trees trees' [] p.shared.kept q.shared.kept all
     (subst (λ m. Makes before m none [] trees p.shared.kept) moves p.shared.made) q.shared.made).0
 
 pub told_by_packed_holds : ToldByPacked
 told_by_packed_holds before s l m a b listed listed' codes codes' all p q = (
-  λ same. one_pair before s (tree m b none) listed listed' codes codes' all
-      (subst (λ t. IsPacked before s t listed codes) same p) q,
+  λ same. one_pair before s (tree m b none) listed listed' codes codes' all (rw same at p) q,
   λ e. same_made before s (tree l a none)
       (tree m b none) listed listed' codes codes' all p q e.0 e.1,
 )

@@ -1,5 +1,5 @@
 -- Ranges of a list that grows at its end, or is cut there.
-use Rattle.std.proofs.Common.{◌≡◌, ℕ, zero, suc, ◌+◌, ◌-◌, ◌<◌, ◌≤◌, get_or, slice_get, Some, Result, Ok, Err, List, [], ◌∷◌, ◌++◌, take, drop, length, refl, sym, ap, subst, ◌∙◌, arith}
+use Rattle.std.proofs.Common.{◌≡◌, ℕ, zero, suc, ◌+◌, ◌-◌, ◌<◌, ◌≤◌, get_or, Result, Ok, Err, List, [], ◌∷◌, ◌++◌, take, drop, length, refl, sym, ap, subst, ◌∙◌, arith}
 use Rattle.std.specs.List.{slice_range}
 use Rattle.std.specs.Result.{OnOk, OnErr}
 use Rattle.mm_frame.specs.declared.number.Sym.{Sym}
@@ -11,6 +11,7 @@ use Rattle.mm_proof.specs.Mirror.Buffer.{parts_of, IsPart, AreParts}
 use Rattle.std.proofs.lemmas.Option.{none-some, same_Some}
 use Rattle.mm_proof.proofs.RowLemmas.{read-behind}
 use Rattle.std.proofs.lemmas.List.{append_assoc, take-map, drop-map, drop-drop, take_at, drop_at, length-drop, length-take, take_all, drop-take, take-take, length-append, map-append}
+use Rattle.mm_text.proofs.Lists.{get_from_front}
 use Rattle.mm_frame.proofs.Entries.{slice_left}
 
 -- a part of a front, from a place within it on
@@ -92,15 +93,9 @@ value-part xs entries base i first d less behind none =
     let read = read-behind seen entries base i d [] less in
     ap numbers_in (behind-first (e.end - e.start) xs e.start e.end first refl behind none) ∙ sym (drop-map (λ (s : Sym). s.0) 1 whole) ∙ ap (drop 1) (sym read)
 
-get-front : {X : Type 0} (n : ℕ) (xs : List X) (i : ℕ) (x : X) → slice_get (take n xs) i ≡ Some x → slice_get xs i ≡ Some x
-get-front zero xs i x at = absurd (none-some x at)
-get-front (suc n) [] i x at = absurd (none-some x at)
-get-front (suc n) (y ∷ xs) zero x at = at
-get-front (suc n) (y ∷ xs) (suc i) x at = get-front n xs i x at
-
 -- those of a front are within what all are within
 pub within-front : (m base : ℕ) (entries : List Entry) → AreParts m entries → AreParts m (take base entries)
-within-front m base entries h i e at = h i e (get-front base entries i e at)
+within-front m base entries h i e at = h i e (get_from_front entries base i e at)
 
 -- and so are these and one more that is
 pub within-more : (m : ℕ) (entries : List Entry) (e : Entry) → AreParts m entries → IsPart m e → AreParts m (entries ++ e ∷ [])
@@ -162,15 +157,13 @@ moved-entry n start xs new entries base e h within inside from to is =
     let more = drop start xs in
     let size : length front ≡ n = omega (arith, length-take n xs, within) in
     let rest : length more ≡ length xs - start = length-drop start xs in
-    let parts : AreParts (length front) (take base entries) = subst (λ k. AreParts k (take base entries)) (sym size) h in
     ap (λ l. parts_of l (take base entries ++ e ∷ [])) is
-    ∙ parts-push front more (take base entries) e parts (from ∙ sym size) (omega (arith, to, size, rest, length-append front more))
+    ∙ parts-push front more (take base entries) e (rw size h) (from ∙ sym size)
+    (omega (arith, to, size, rest, length-append front more))
     ∙ ap (λ l. l ++ numbers_in more ∷ []) (parts-cut n xs (take base entries) h ∙ sym (take-map (λ (a : Entry). numbers_in (slice_range xs a.start a.end)) base entries))
 
 -- what is named of a front stays where something else is put behind that front
 pub parts-moved : (n : ℕ) (xs more new : List Sym) (entries : List Entry) → AreParts n entries → n ≤ length xs → new ≡ take n xs ++ more → parts_of new entries ≡ parts_of xs entries
 parts-moved n xs more new entries h within is =
     let size : length (take n xs) ≡ n = omega (arith, length-take n xs, within) in
-    ap (λ l. parts_of l entries) is
-    ∙ parts-grow (take n xs) more entries (subst (λ k. AreParts k entries) (sym size) h)
-    ∙ parts-cut n xs entries h
+    rw is (parts-grow (take n xs) more entries (rw size h) ∙ parts-cut n xs entries h)

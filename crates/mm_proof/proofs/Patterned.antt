@@ -1,11 +1,10 @@
 -- What a step knows of the patterns of an assertion's `$e`.
-use Rattle.std.proofs.Common.{◌≡◌, ℕ, ◌<◌, ◌≤◌, List, length, get_or, slice_get, slice_range, Bool, false, IsTrue, MatchBool, is_some, Option, Some, None, refl, sym, subst, ◌∙◌}
+use Rattle.std.proofs.Common.{◌≡◌, ℕ, ◌<◌, ◌≤◌, List, length, get_or, slice_get, slice_range, Bool, false, IsTrue, MatchBool, is_some, Option, Some, sym, subst, ◌∙◌}
 use Rattle.std.specs.List.{AllByRecursion}
-use Rattle.std.proofs.lemmas.Bool.{false≢true}
 use Rattle.std.proofs.lemmas.Option.{same_Some, slice_get-get_or}
+use Rattle.mm_text.proofs.NestLaws.{none_there}
 use Rattle.mm_text.specs.declared.statement.Kind.TheVariants.{Essential}
 use Rattle.mm_frame.specs.declared.hypothesis.Hypothesis.{Hypothesis}
-use Rattle.mm_frame.specs.declared.number.Sym.{Sym}
 use Rattle.mm_frame.specs.declared.piece.Piece.{Piece}
 use Rattle.mm_frame.specs.Sentence.{Sentence}
 use Rattle.mm_frame.specs.Numbers.{labelled_sentences}
@@ -16,10 +15,6 @@ use Rattle.mm_proof.specs.Mirror.CodeVerify.{names_at, AreBelow, IsEqual, IsUneq
 use Rattle.mm_proof.proofs.Values.{pattern_says, pattern_within}
 use Rattle.mm_proof.proofs.Replacing.{equal_told}
 
-untyped : (typing : Option (Sym × Sym)) → is_some typing ≡ false → typing ≡ None
-untyped None is = refl
-untyped (Some t) is = absurd (false≢true (sym is))
-
 -- the part that a `$e` names is its pattern
 pub pattern_found : (st : List Sentence) (vs : List (Option ℕ)) (xs : List Hypothesis) (pieces part : List Piece) (i : ℕ) (d : Hypothesis) (h : Sentence) → HavePatterns st vs pieces xs
     → i < length xs → is_some (get_or xs i d).typing ≡ false
@@ -28,7 +23,7 @@ pub pattern_found : (st : List Sentence) (vs : List (Option ℕ)) (xs : List Hyp
     → slice_get (labelled_sentences st) (get_or xs i d).id.0 ≡ Some h → AreItsPieces st vs h part
 pattern_found st vs xs pieces part i d h have less none is there =
     let has = have i (get_or xs i d) (slice_get-get_or xs i d less) in
-    let says = has.says (untyped (get_or xs i d).typing none) in
+    let says = has.says (none_there _ none) in
     let same : says.0 ≡ h = same_Some says.0 h (sym says.1 ∙ there) in
     subst (λ (g : Sentence). AreItsPieces st vs g part) same (subst (AreItsPieces st vs says.0) (sym (is has.ordered has.within)) says.2)
 
@@ -42,7 +37,7 @@ pub part_within : (st : List Sentence) (vs : List (Option ℕ)) (xs : List Hypot
     → part ≡ slice_range pieces (get_or xs i d).pattern.start (get_or xs i d).pattern.end)
     → AllByRecursion (IsWithinPlaces count) part
 part_within st vs xs pieces part i count d size have less none is =
-    let says = (have i (get_or xs i d) (slice_get-get_or xs i d less)).says (untyped (get_or xs i d).typing none) in
+    let says = (have i (get_or xs i d) (slice_get-get_or xs i d less)).says (none_there _ none) in
     its_within st vs count says.0 part size (pattern_found st vs xs pieces part i d says.0 have less none is says.1)
 
 -- whether an entry is what the pattern of its `$e` says

@@ -40,19 +40,17 @@ pub picked_none : ArePicked [] []
 picked_none n = ((λ c. absurd (let less : c.0 < 0 = c.1 in omega arith)), λ h. absurd (none-some (name n) h.1))
 
 pub picked_more : (front : List (Move ℕ)) (ids : List LabelId) (id : LabelId) → ArePicked front (ids_in ids) → ArePicked (front ++ name id.0 ∷ []) (ids_in (ids ++ id ∷ []))
-picked_more front ids id old n = (to, from)
-  where
-    to : Contains (ids_in (ids ++ id ∷ [])) n → (i : ℕ) × (slice_get (front ++ name id.0 ∷ []) i ≡ Some (name n))
-    to h = elim (Contains-push_cases (ids_in ids) id.0 n (subst (λ l. Contains l n) (map-append (λ (i : LabelId). i.0) ids (id ∷ [])) h)) [
-      | inl c ↦ let o = (old n).0 c in (o.0, get_kept front (name id.0 ∷ []) o.0 (name n) o.1)
-      | inr same ↦ (length front, get_pushed front (name id.0) ∙ ap (λ k. Some (name k)) same)
-    ]
-
-    from : (i : ℕ) × (slice_get (front ++ name id.0 ∷ []) i ≡ Some (name n)) → Contains (ids_in (ids ++ id ∷ [])) n
-    from h = subst (λ l. Contains l n) (sym (map-append (λ (i : LabelId). i.0) ids (id ∷ []))) (elim (get_push front (name id.0) (name n) h.0 h.1) [
-      | inl there ↦ Contains-append_left (ids_in ids) (id.0 ∷ []) n ((old n).1 (h.0, there))
-      | inr same ↦ subst (Contains (ids_in ids ++ id.0 ∷ [])) (same_number id.0 n same) (Contains-push (ids_in ids) id.0)
-    ])
+picked_more front ids id old n = let more = map-append (λ (i : LabelId). i.0) ids (id ∷ []) in (
+  λ h. elim (Contains-push_cases (ids_in ids) id.0 n (rw more at h)) [
+    | inl c ↦ let o = (old n).0 c in (o.0, get_kept front (name id.0 ∷ []) o.0 (name n) o.1)
+    | inr same ↦ (length front, get_pushed front (name id.0) ∙ ap (λ k. Some (name k)) same)
+  ],
+  λ h. rw more (elim (get_push front (name id.0) (name n) h.0 h.1) [
+    | inl there ↦ Contains-append_left (ids_in ids) (id.0 ∷ []) n ((old n).1 (h.0, there))
+    | inr same ↦
+        rw (← same_number id.0 n same) (Contains-push (ids_in ids) id.0)
+  ]),
+)
 
 -- no label
 pub picked_other : (front : List (Move ℕ)) (ids : List LabelId) (m : NumberedMove) → ((id : LabelId) → m ≡ code.Name id → ⊥) → ArePicked front (ids_in ids)
@@ -119,10 +117,6 @@ marked_more entries front place id marks there within old = record {
     back p t true e = (length front, id, ap (slice_get entries) ((Decides-eqb p place).0 e) ∙ there, get_pushed front (name id))
     back p t false e = let o = old.named p (sym (other p e) ∙ t) in (o.0, o.1, o.2, get_kept front (name id ∷ []) o.0 (name o.1) o.3)
 
-pub marked_push : (entries : List ℕ) (moves : List NumberedMove) (m : NumberedMove) (marks : List Bool) → AreMarked entries (moves_in moves ++ move_in m ∷ []) marks
-    → AreMarked entries (moves_in (moves ++ m ∷ [])) marks
-marked_push entries moves m marks all = subst (λ front. AreMarked entries front marks) (sym (map-append move_in moves (m ∷ []))) all
-
 -- ---- those of the first entries at whose places something holds
 
 abbrev pub AreFirst : (ℕ → Type 0) → List LabelId → ℕ → List LabelId → Type 0
@@ -148,33 +142,31 @@ first_none P entries n = ((λ c. absurd (let less : c.0 < 0 = c.1 in omega arith
 
 pub first_more : (P : ℕ → Type 0) (entries : List LabelId) (at : ℕ) (d : LabelId) (ids : List LabelId) → at < length entries → P at
     → AreFirst P entries at ids → AreFirst P entries (at + 1) (ids ++ get_or entries at d ∷ [])
-first_more P entries at d ids less holds old n = (to, from)
-  where
-    id : LabelId
-    id = get_or entries at d
-
-    more : ids_in (ids ++ id ∷ []) ≡ ids_in ids ++ id.0 ∷ []
-    more = map-append (λ (i : LabelId). i.0) ids (id ∷ [])
-
-    to : Contains (ids_in (ids ++ id ∷ [])) n → (place : ℕ) × (slice_get (ids_in entries) place ≡ Some n) × P place
-    to h = ⊎_elim (λ c. (old n).0 c) (λ same. (at, entry_at entries at d less ∙ ap Some same, holds)) (Contains-push_cases (ids_in ids) id.0 n (subst (λ l. Contains l n) more h))
-
-    from : (place : ℕ) → place < at + 1 → slice_get (ids_in entries) place ≡ Some n → P place → Contains (ids_in (ids ++ id ∷ [])) n
-    from place before e t = subst (λ l. Contains l n) (sym more) (⊎_elim
-        (λ front. Contains-append_left (ids_in ids) (id.0 ∷ []) n ((old n).1 place front e t))
-        (λ last.
-        let here : at ≡ place = omega (arith, last, before) in
-        let same : id.0 ≡ n = same_Some id.0 n (sym (entry_at entries at d less) ∙ ap (slice_get (ids_in entries)) here ∙ e) in
-        subst (Contains (ids_in ids ++ id.0 ∷ [])) same (Contains-push (ids_in ids) id.0))
-        (cases_lt place at))
+first_more P entries at d ids less holds old n =
+    let id = get_or entries at d in
+    let more = map-append (λ (i : LabelId). i.0) ids (id ∷ []) in (
+      λ h. ⊎_elim
+          (λ c. (old n).0 c)
+          (λ same. (at, entry_at entries at d less ∙ ap Some same, holds))
+          (Contains-push_cases (ids_in ids) id.0 n (rw more at h)),
+      λ place before e t. rw more (elim (cases_lt place at) [
+        | inl front ↦ Contains-append_left (ids_in ids) (id.0 ∷ []) n ((old n).1 place front e t)
+        | inr last ↦
+            let here : at ≡ place = omega (arith, last, before) in
+            let there = sym (entry_at entries at d less) ∙ ap (slice_get (ids_in entries)) here in
+            subst (Contains (ids_in ids ++ id.0 ∷ [])) (same_Some id.0 n (there ∙ e))
+            (Contains-push (ids_in ids) id.0)
+      ]),
+    )
 
 pub first_skipped : (P : ℕ → Type 0) (entries : List LabelId) (at : ℕ) (ids : List LabelId) → (P at → ⊥) → AreFirst P entries at ids → AreFirst P entries (at + 1) ids
-first_skipped P entries at ids not old n = ((old n).0, from)
-  where
-    from : (place : ℕ) → place < at + 1 → slice_get (ids_in entries) place ≡ Some n → P place → Contains (ids_in ids) n
-    from place before e t = ⊎_elim (λ front. (old n).1 place front e t)
-        (λ last. let here : place ≡ at = omega (arith, last, before) in absurd (not (subst P here t)))
-        (cases_lt place at)
+first_skipped P entries at ids not old n = (
+  (old n).0,
+  λ place before e t. ⊎_elim
+      (λ front. (old n).1 place front e t)
+      (λ last. let here : place ≡ at = omega (arith, last, before) in absurd (not (rw here at t)))
+      (cases_lt place at),
+)
 
 -- what is said of the call there
 pub called_there : (calls : List Call) (marks : List Bool) (place : ℕ) (d : Call) → place < length calls → IsTrue (get_or marks place false) × IsOfAssertion (get_or calls place d)

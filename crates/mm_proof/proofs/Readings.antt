@@ -1,8 +1,8 @@
 -- What the tokens of a proof say, once their labels have numbers and their letters are read.
-use Rattle.std.proofs.Common.{◌≡◌, ℕ, ◌+◌, ◌<◌, List, [], ◌∷◌, length, map, take, slice_get, Some, ◌⊎◌, inl, inr, ⊎_elim, refl, sym, ap, subst, ◌∙◌, arith}
+use Rattle.std.proofs.Common.{◌≡◌, ℕ, ◌<◌, List, [], ◌∷◌, map, take, slice_get, Some, ◌⊎◌, inl, inr, ⊎_elim, refl, sym, ap, subst, ◌∙◌, arith}
 use Rattle.std.specs.List.{AllZip, AllByRecursion}
 use Rattle.std.proofs.lemmas.Slice.Zip.{AllZip-long}
-use Rattle.mm_text.proofs.Lists.{zip_left, get_take}
+use Rattle.mm_text.proofs.Lists.{zip_left, zip_weaker, get_take}
 use Rattle.mm_code.specs.declared.code.Code.{Code}
 use Rattle.mm_code.specs.declared.code.Code.TheVariants.{Number, Tag}
 use Rattle.mm_frame.specs.Sentence.{Sentence, IsLabelled}
@@ -39,9 +39,8 @@ used_stands statements place id label m =
 
 pub for_stands : (statements : List Sentence) (place : ℕ) (ids : List ℕ) (labels : List (List ℕ)) → AreFor statements place ids labels
     → AllZip (Stands statements place) ids labels
-for_stands statements place [] [] all = all
-for_stands statements place (id ∷ ids) (l ∷ labels) all = (used_stands statements place id l all.0, for_stands statements place ids labels all.1)
-for_stands statements place ids labels all = absurd all
+for_stands statements place ids labels all =
+    zip_weaker _ _ (used_stands statements place) ids labels all
 
 -- ---- moves by numbers and by names
 
@@ -63,18 +62,16 @@ named_label statements place id label s = (s.s, label, s.there, s.named, refl)
 number_named : (statements : List Sentence) (place : ℕ) (ids : List ℕ) (labels : List (List ℕ)) → AllZip (Stands statements place) ids labels
     → (n : ℕ) (codes : List Code) (s : Move ℕ) (steps : List (Move ℕ)) → NumberSays ids (Number n) s → Named statements place (Says labels) codes steps
     → Named statements place (Says labels) (Number n ∷ codes) (s ∷ steps)
-number_named statements place ids labels all n codes s steps here rest = go here.2
-  where
-    go : ((id : ℕ) × (slice_get ids here.0 ≡ Some id) × (s ≡ name id)) ⊎ ((tag : ℕ) × (here.0 ≡ length ids + tag) × (s ≡ again tag))
-        → Named statements place (Says labels) (Number n ∷ codes) (s ∷ steps)
-    go (inl l) =
-        let at = zip_left (Stands statements place) ids labels here.0 l.0 all l.1 in
-        one_named statements place (Says labels) (Number n) codes s steps (name at.0) (here.0, here.1, inl (at.0, at.1, refl))
-        (subst (λ m. IsNumberedMove statements m (name at.0)) (sym l.2) (named_label statements place l.0 at.0 at.2)) at.2.usable rest
-    go (inr t) =
-        let count = sym (AllZip-long (Stands statements place) ids labels all) in
-        one_named statements place (Says labels) (Number n) codes s steps (again t.0) (here.0, here.1, inr (t.0, t.1 ∙ ap (λ k. k + t.0) count, refl))
-        (subst (λ m. IsNumberedMove statements m (again t.0)) (sym t.2) refl) tt rest
+number_named statements place ids labels all n codes s steps here rest = elim here.2 [
+  | inl l ↦
+      let at = zip_left (Stands statements place) ids labels here.0 l.0 all l.1 in
+      one_named _ _ _ _ _ _ _ (name at.0) (here.0, here.1, inl (at.0, at.1, refl))
+      (rw l.2 (named_label statements place l.0 at.0 at.2)) at.2.usable rest
+  | inr t ↦
+      let count = AllZip-long (Stands statements place) ids labels all in
+      one_named _ _ _ _ _ _ _ (again t.0) (here.0, here.1, inr (t.0, rw count t.1, refl))
+      (rw t.2 refl) tt rest
+]
 
 pub codes_named : (statements : List Sentence) (place : ℕ) (ids : List ℕ) (labels : List (List ℕ)) → AllZip (Stands statements place) ids labels
     → (codes : List Code) (steps : List (Move ℕ)) → AllZip (NumberSays ids) codes steps → Named statements place (Says labels) codes steps

@@ -1,7 +1,6 @@
 -- Replacement by numbers is replacement by names.
 use Rattle.std.proofs.Common.{◌≡◌, ℕ, ◌<◌, List, [], ◌∷◌, ◌++◌, length, drop, Bool, true, false, eqb, cond, Option, option_map, unwrap_or, Some, None, IsTrue, MatchBool, refl, sym, ap, subst, ◌∙◌}
 use Rattle.std.specs.List.{AllByRecursion}
-use Rattle.std.proofs.lemmas.Option.{same_Some}
 use Rattle.std.proofs.lemmas.Bool.{false≢true}
 use Rattle.std.proofs.lemmas.Bool.Decides.{Decides-eqb}
 use Rattle.std.proofs.lemmas.List.{map-append, drop-map}
@@ -10,10 +9,12 @@ use Rattle.mm_frame.specs.Sentence.{Sentence, Types}
 use Rattle.mm_frame.specs.Numbers.{symbols_of, IsNumberOf, AreNumbers}
 use Rattle.mm_frame.specs.Laws.{OneNumber}
 use Rattle.mm_proof.specs.Substitution.{instance_of}
+use Rattle.mm_text.proofs.Lists.{all_append}
 use Rattle.mm_frame.specs.Pieces.{is_of}
 use Rattle.mm_frame.proofs.Decided.{types_dec}
 use Rattle.mm_proof.specs.Mirror.CodeVerify.{name_at, names_at, all_names_at, AreBelow, value_of, replaced_in, IsVariableOf, AreVariablesOf, IsEqual, IsUnequal, Replaces}
 use Rattle.mm_proof.proofs.Replacements.{replaced_by, first_of}
+use Rattle.mm_proof.proofs.Values.{value_all}
 use Rattle.mm_proof.proofs.Named.{name_is, named_is, below_is, number_of_name, named_once}
 
 -- one `$f` has one variable
@@ -52,23 +53,6 @@ value_named one st (v ∷ vs) (h ∷ hs) (e ∷ es) n are below = go (types_dec 
     go (no none) later = rw (variable_not st v h n are.0 none) later
 value_named one st vs hs es n are below = refl
 
--- what replaces a symbol has symbols
-value_below : (st : List Sentence) (vs : List (Option ℕ)) (es : List (List ℕ)) (n : ℕ) (v : List ℕ) → AllByRecursion (AreBelow st) es → value_of vs es n ≡ Some v → AreBelow st v
-value_below st (x ∷ vs) (e ∷ es) n v all is = go (is_of n x) is (value_below st vs es n v all.1)
-  where
-    tail : (l : List ℕ) → AreBelow st l → AreBelow st (drop 1 l)
-    tail [] a = tt
-    tail (y ∷ l) a = a.1
-
-    go : (b : Bool) → cond b (Some (drop 1 e)) (value_of vs es n) ≡ Some v → (value_of vs es n ≡ Some v → AreBelow st v) → AreBelow st v
-    go true s later = subst (AreBelow st) (same_Some (drop 1 e) v s) (tail e all.0)
-    go false s later = later s
-value_below st vs es n v all is = absurd cc
-
-below_append : (st : List Sentence) (a b : List ℕ) → AreBelow st a → AreBelow st b → AreBelow st (a ++ b)
-below_append st [] b x y = y
-below_append st (n ∷ a) b x y = (x.0, below_append st a b x.1 y)
-
 piece_below : (st : List Sentence) (n : ℕ) (o : Option (List ℕ)) → n < length (symbols_of st) → ((v : List ℕ) → o ≡ Some v → AreBelow st v) → AreBelow st (unwrap_or o (n ∷ []))
 piece_below st n None below some = (below, tt)
 piece_below st n (Some v) below some = some v refl
@@ -76,7 +60,9 @@ piece_below st n (Some v) below some = some v refl
 pub replaced_below : (st : List Sentence) (vs : List (Option ℕ)) (es : List (List ℕ)) (ns : List ℕ) → AllByRecursion (AreBelow st) es → AreBelow st ns → AreBelow st (replaced_in (value_of vs es) ns)
 replaced_below st vs es [] all below = tt
 replaced_below st vs es (n ∷ ns) all below =
-    below_append st _ _ (piece_below st n (value_of vs es n) below.0 (λ v is. value_below st vs es n v all is)) (replaced_below st vs es ns all below.1)
+    all_append (λ m. m < length (symbols_of st)) _ _
+    (piece_below st n (value_of vs es n) below.0 (λ v is. value_all _ vs es n v all is))
+    (replaced_below st vs es ns all below.1)
 
 piece_named : (st : List Sentence) (n : ℕ) (o : Option (List ℕ)) → names_at st (unwrap_or o (n ∷ [])) ≡ unwrap_or (option_map (names_at st) o) (name_at st n ∷ [])
 piece_named st n None = refl

@@ -1,10 +1,10 @@
 -- The moves of a proof, one after the other.
 use Rattle.std.proofs.Common.{◌≡◌, ℕ, zero, suc, ◌+◌, ◌<◌, ◌≤◌, ◌-◌, List, [], ◌∷◌, ◌++◌, length, Result, Err, take, drop, slice_get, get_or, Some, cond, refl, sym, ap, subst, ◌∙◌, arith}
-use Rattle.std.specs.List.{AllByRecursion}
 use Rattle.std.specs.Result.{IsErrAnd}
 use Rattle.std.proofs.lemmas.Result.{err_from_is_err_and}
 use Rattle.std.proofs.lemmas.List.{map_more, take-map, map-append, length-map, length-append}
-use Rattle.mm_text.proofs.Lists.{zip_left, zip_front, all_push, all_at, split_at, zip_take}
+use Rattle.mm_text.proofs.Lists.{all_push, all_at, all_back}
+use Rattle.mm_text.proofs.Lists.{zip_left, zip_front, split_at, zip_take}
 use Rattle.mm_frame.specs.declared.number.LabelId.{LabelId}
 use Rattle.mm_frame.specs.Sentence.{Sentence}
 use Rattle.mm_proof.specs.declared.fault.ProofFault.{ProofFault}
@@ -27,8 +27,7 @@ use Rattle.mm_proof.proofs.Firsts.{first_P6, first_P7, steps_in-append}
 pub front_more : (moves : List NumberedMove) (i : ℕ) (d : NumberedMove) → i < length moves
     → take (i + 1) (moves_in moves) ≡ take i (moves_in moves) ++ move_in (get_or moves i d) ∷ []
 front_more moves i d less =
-    take-map move_in (i + 1) moves ∙ map_more move_in moves i d less
-    ∙ ap (λ front. front ++ move_in (get_or moves i d) ∷ []) (sym (take-map move_in i moves))
+    rw (take-map move_in (i + 1) moves, map_more move_in moves i d less, take-map move_in i moves)
 
 -- the move at a place
 pub move_at : (moves : List NumberedMove) (i : ℕ) (d : NumberedMove) → i < length moves → slice_get (moves_in moves) i ≡ Some (move_in (get_or moves i d))
@@ -85,8 +84,7 @@ pub run_name : (limit : ℕ) (st : List Sentence) (place : ℕ) (front : List (M
     → CarriesOn limit st place id stack stack' → AreStackEntries st (take place st) stack' → HasRun limit st place (front ++ name id ∷ []) stack' kept (steps + 1)
 run_name limit st place front id stack kept stack' steps run carries entries =
     run_more limit st place front (name id) stack kept stack' kept steps (steps + 1) run
-    (λ move moves n passed.
-    subst (λ m. Passed (IsWithin limit) (take place st) (moves ++ m ∷ []) (all_names_at st stack') (all_names_at st kept)) (sym n.4)
+    (λ move moves n passed. rw n.4
     (carries n.1 moves (all_names_at st kept) (n.0, n.1, n.2, n.3, refl) passed))
     entries run.kept_entries refl
 
@@ -108,10 +106,6 @@ run_again limit st place front tag stack kept stack' steps e run there is =
     (rw is (all_push (AreDeclaredSymbols st (take place st)) stack e run.entries (all_at (AreDeclaredSymbols st (take place st)) kept tag e run.kept_entries there)))
     run.kept_entries refl
 
-last_is : {X : Type 0} (P : X → Type 0) (rest : List X) (e : X) → AllByRecursion P (rest ++ e ∷ []) → P e
-last_is P [] e all = all.0
-last_is P (x ∷ rest) e all = last_is P rest e all.1
-
 -- a mark
 pub run_mark : (limit : ℕ) (st : List Sentence) (place : ℕ) (front : List (Move ℕ)) (stack kept stack' kept' : List (List ℕ)) (steps : ℕ) (rest : List (List ℕ)) (e : List ℕ) → HasRun limit st place front stack kept steps
     → stack ≡ rest ++ e ∷ [] → stack' ≡ stack → kept' ≡ kept ++ e ∷ [] → HasRun limit st place (front ++ mark ∷ []) stack' kept' steps
@@ -122,7 +116,7 @@ run_mark limit st place front stack kept stack' kept' steps rest e run split sam
     (subst (λ l. Passed (IsWithin limit) (take place st) moves l (all_names_at st kept)) (ap (all_names_at st) split ∙ named_push st rest e) passed)))
     (rw same run.entries)
     (rw is (all_push (AreDeclaredSymbols st (take place st)) kept e run.kept_entries
-    (last_is (AreDeclaredSymbols st (take place st)) rest e (subst (AreStackEntries st (take place st)) split run.entries))))
+    (all_back (AreDeclaredSymbols st (take place st)) rest (e ∷ []) (rw split at run.entries)).0))
     (omega arith)
 
 -- ---- a move that breaks a rule
@@ -150,8 +144,7 @@ run_fault limit st place xs i x stack kept steps rule at there run first number 
 pub stops_first : (limit : ℕ) (st : List Sentence) (place id : ℕ) (stack kept : List (List ℕ)) (rule : ProofRule) → StopsAt limit st place id stack rule
     → (move : Move (List ℕ)) → IsNumberedMove st (name id) move → FirstAtMove (IsWithin limit) rule (take place st) (all_names_at st stack) (all_names_at st kept) move
 stops_first limit st place id stack kept rule stops move n =
-    subst (λ m. FirstAtMove (IsWithin limit) rule (take place st) (all_names_at st stack) (all_names_at st kept) m) (sym n.4)
-    (stops n.1 (all_names_at st kept) (n.0, n.1, n.2, n.3, refl))
+    rw n.4 (stops n.1 (all_names_at st kept) (n.0, n.1, n.2, n.3, refl))
 
 -- a tag of nothing kept
 pub again_first : (limit : ℕ) (st : List Sentence) (place tag : ℕ) (stack kept : List (List ℕ)) (rule : ProofRule) → rule ≡ P6 → length kept ≤ tag

@@ -32,9 +32,7 @@ pub runs_once : (Fits Gits : List (List ℕ) → Type 0) (before : List Sentence
 runs_once Fits Gits before [] a b c all r q = r ∙ sym q
 runs_once Fits Gits before (label ∷ labels) a b c all r q =
     let one = step_once before a label r.0 q.0 r.1 q.1 all r.2 q.2 in
-    let r' : Runs Fits before labels (q.0 ++ q.1 ∷ []) b =
-    subst (λ e. Runs Fits before labels (q.0 ++ e ∷ []) b) one.1 (subst (λ s. Runs Fits before labels (s ++ r.1 ∷ []) b) one.0 r.4) in
-    runs_once Fits Gits before labels (q.0 ++ q.1 ∷ []) b c all r' q.4
+    runs_once Fits Gits before labels (q.0 ++ q.1 ∷ []) b c all (rw (one.0, one.1) at r.4) q.4
 
 -- ---- a tree's own step
 
@@ -142,8 +140,7 @@ derive_runs Fits before (tree label below right) es stack all d =
     runs_join Fits before (spelling below) (label ∷ []) stack (stack ++ entries) (stack ++ d.0 ∷ []) children
     (stack, d.0, tree_step before label n.0 n.1 n.2 n.3 stack d.0 all n.4 n.5 n.7 n.8, d.3, refl)) d.4 in
     let others : Runs Fits before (spelling right) (stack ++ d.0 ∷ []) (stack ++ es) =
-    subst (λ s. Runs Fits before (spelling right) (stack ++ d.0 ∷ []) s) (append_assoc stack (d.0 ∷ []) d.1 ∙ ap (λ l. stack ++ l) (sym d.2))
-    (derive_runs Fits before right d.1 (stack ++ d.0 ∷ []) all d.5) in
+    rw (d.2, ← append_assoc stack (d.0 ∷ []) d.1) (derive_runs Fits before right d.1 _ all d.5) in
     subst (λ l. Runs Fits before l stack (stack ++ es)) (append_assoc (spelling below) (label ∷ []) (spelling right))
     (runs_join Fits before (spelling below ++ label ∷ []) (spelling right) stack (stack ++ d.0 ∷ []) (stack ++ es) one others)
 

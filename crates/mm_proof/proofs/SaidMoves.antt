@@ -1,11 +1,12 @@
 -- Tokens say one row of moves; and where they break no rule over the whole proof, they say one, of labels that may be used.
-use Rattle.std.proofs.Common.{◌≡◌, ℕ, zero, suc, ◌+◌, ◌-◌, ◌<◌, ◌≤◌, List, [], ◌∷◌, ◌++◌, length, drop, map, slice_get, get_or, Contains, Option, Some, None, ◌⊎◌, inl, inr, ⊎_elim, refl, sym, ap, subst, ◌∙◌, arith}
+use Rattle.std.proofs.Common.{◌≡◌, ℕ, suc, ◌+◌, ◌-◌, ◌<◌, ◌≤◌, List, [], ◌∷◌, ◌++◌, length, drop, map, slice_get, get_or, Contains, Option, Some, ◌⊎◌, inl, inr, ⊎_elim, refl, sym, ap, subst, ◌∙◌, arith}
 use Rattle.std.specs.List.{flat_map, AllZip, AllByRecursion}
-use Rattle.std.proofs.lemmas.Option.{same_Some, none-some, slice_get-map, slice_get_within, slice_get-get_or, get_or_from_slice_get}
+use Rattle.std.proofs.lemmas.Option.{same_Some, none-some, slice_get_within, slice_get-get_or}
 use Rattle.std.proofs.lemmas.Bool.{cases_lt}
 use Rattle.mm_text.specs.declared.statement.Kind.{Kind}
 use Rattle.mm_text.specs.declared.statement.Kind.TheVariants.{Floating, Essential, Axiom, Provable}
-use Rattle.mm_text.proofs.Lists.{cons_parts}
+use Rattle.mm_text.proofs.Lists.{cons_parts, two_cuts, append_cases, contains_from_at, get_parted}
+use Rattle.mm_text.proofs.Lists.{zip_right, mapped_zip}
 use Rattle.mm_code.specs.declared.code.Code.{Code}
 use Rattle.mm_code.specs.declared.code.Code.TheVariants.{Number, Tag}
 use Rattle.mm_code.specs.declared.code.CodeRule.{CodeRule}
@@ -35,18 +36,16 @@ use Rattle.mm_proof.proofs.Letters.{coded_or_broken, breaks_dec, from_one}
 -- ---- the parts of a compressed proof
 
 contains_middle : (front : List (List ℕ)) (x : List ℕ) (end : List (List ℕ)) → Contains (front ++ x ∷ end) x
-contains_middle [] x end = contains_first x end
-contains_middle (y ∷ front) x end = contains_later y (front ++ x ∷ end) x (contains_middle front x end)
+contains_middle front x end =
+    contains_from_at (front ++ x ∷ end) x (length front, get_parted front end x)
 
 -- a list parts in one way at its first element of a kind
 one_first : (x : List ℕ) (a b c d : List (List ℕ)) → a ++ x ∷ c ≡ b ++ x ∷ d → ¬ (Contains a x) → ¬ (Contains b x) → (a ≡ b) × (c ≡ d)
-one_first x [] [] c d e p q = (refl, (cons_parts x x c d e).1)
-one_first x [] (y ∷ b) c d e p q = absurd (q (subst (λ z. Contains (z ∷ b) x) (cons_parts x y c (b ++ x ∷ d) e).0 (contains_first x b)))
-one_first x (y ∷ a) [] c d e p q = absurd (p (subst (λ z. Contains (z ∷ a) x) (sym (cons_parts y x (a ++ x ∷ c) d e).0) (contains_first x a)))
-one_first x (y ∷ a) (z ∷ b) c d e p q =
-    let h = cons_parts y z (a ++ x ∷ c) (b ++ x ∷ d) e in
-    let k = one_first x a b c d h.1 (λ i. p (contains_later y a x i)) (λ i. q (contains_later z b x i)) in
-    (ap (λ w. w ∷ a) h.0 ∙ ap (λ l. z ∷ l) k.0, k.1)
+one_first x a b c d e p q = elim (two_cuts a x c b x d e) [
+  | inl h ↦ (h.0, h.2)
+  | inr (inl h) ↦ absurd (q (rw h.1 (contains_middle a x h.0)))
+  | inr (inr h) ↦ absurd (p (rw h.1 (contains_middle b x h.0)))
+]
 
 -- and does part, where it has one
 some_first : (x : List ℕ) (xs : List (List ℕ))
@@ -107,26 +106,24 @@ endless_labels before tokens labels b (inr p) = endless_compressed before tokens
 -- something about the labels
 some_labels_dec : (before : List Sentence) (tokens : List (List ℕ)) (P : List (List ℕ) → Type 0) → ((labels : List (List ℕ)) → Dec (P labels))
     → Dec ((labels : List (List ℕ)) × AreLabels tokens labels × P labels)
-some_labels_dec before tokens P each = go (form_of before tokens)
+some_labels_dec before tokens P each = elim (form_of before tokens) [
+  | normal n ↦ of_labels tokens (inl (n, refl))
+  | compressed labels letters c ↦ of_labels labels (inr (letters, c))
+  | endless b ↦ no (λ h. endless_labels before tokens h.0 b h.1)
+]
   where
     of_labels : (labels : List (List ℕ)) → AreLabels tokens labels → Dec ((labels : List (List ℕ)) × AreLabels tokens labels × P labels)
     of_labels labels are = dec_as (λ p. (labels, are, p)) (λ h. subst P (labels_once tokens h.0 labels h.1 are) h.2) (each labels)
 
-    go : Form before tokens → Dec ((labels : List (List ℕ)) × AreLabels tokens labels × P labels)
-    go (normal n) = of_labels tokens (inl (n, refl))
-    go (compressed labels letters c) = of_labels labels (inr (letters, c))
-    go (endless b) = no (λ h. endless_labels before tokens h.0 b h.1)
-
 some_letters_dec : (before : List Sentence) (tokens : List (List ℕ)) (rule : CodeRule) → Dec ((text : List ℕ) × AreLetters tokens text × Breaks rule text)
-some_letters_dec before tokens rule = go (form_of before tokens)
-  where
-    go : Form before tokens → Dec ((text : List ℕ) × AreLetters tokens text × Breaks rule text)
-    go (normal n) = no (λ h. normal_or_compressed tokens h.1.0 h.1.1 n h.1.2)
-    go (compressed labels letters c) =
-        let text : List ℕ = flat_map (λ piece. piece) letters in
-        let are : AreLetters tokens text = (labels, letters, c, refl) in
-        dec_as (λ b. (text, are, b)) (λ h. subst (Breaks rule) (letters_once tokens h.0 text h.1 are) h.2) (breaks_dec rule text)
-    go (endless b) = no (λ h. endless_compressed before tokens h.1.0 h.1.1 b h.1.2)
+some_letters_dec before tokens rule = elim (form_of before tokens) [
+  | normal n ↦ no (λ h. normal_or_compressed tokens h.1.0 h.1.1 n h.1.2)
+  | compressed labels letters c ↦
+      let text : List ℕ = flat_map (λ piece. piece) letters in
+      let are : AreLetters tokens text = (labels, letters, c, refl) in
+      dec_as (λ b. (text, are, b)) (λ h. subst (Breaks rule) (letters_once tokens h.0 text h.1 are) h.2) (breaks_dec rule text)
+  | endless b ↦ no (λ h. endless_compressed before tokens h.1.0 h.1.1 b h.1.2)
+]
 
 first_dec : (tokens : List (List ℕ)) → Dec (slice_get tokens 0 ≡ Some opening_token)
 first_dec [] = no (λ e. none-some opening_token e)
@@ -177,9 +174,7 @@ moves_once before s tokens a b (inr p) (inr q) =
     (subst (λ (l : List (List ℕ)). Letters (flat_map (λ piece. piece) l) p.codes) parts.1 p.coded) q.coded in
     let hypotheses : p.hypotheses ≡ q.hypotheses = those_unique (IsMandatoryAt before s) 0 before p.hypotheses q.hypotheses p.mandatory q.mandatory in
     let labels : p.labels ≡ q.labels = same_somes p.labels q.labels (sym p.labelled ∙ ap (map (λ (h : Sentence). h.label)) hypotheses ∙ q.labelled) in
-    let all : p.labels ++ p.listed ≡ q.labels ++ q.listed = ap (λ l. l ++ p.listed) labels ∙ ap (λ l. q.labels ++ l) parts.0 in
-    let each : AllZip (Says (q.labels ++ q.listed)) q.codes a =
-    subst (λ c. AllZip (Says (q.labels ++ q.listed)) c a) codes (subst (λ l. AllZip (Says l) p.codes a) all p.each) in
+    let each = rw (labels, parts.0, codes) at p.each in
     zip_once (Says (q.labels ++ q.listed)) (Says (q.labels ++ q.listed)) q.codes a b (says_once (q.labels ++ q.listed)) each q.each
 
 -- ---- tokens that break no rule over the whole proof say moves
@@ -235,7 +230,14 @@ letters_break before tokens text code.P4 are broken = (text, are, broken)
 letters_break before tokens text code.P5 are broken = (text, are, broken)
 
 pub some_moves : (before : List Sentence) (s : Sentence) (tokens : List (List ℕ)) → AllFormed before → IsWhole before tokens → (moves : List (Move (List ℕ))) × SayMoves before s tokens moves
-some_moves before s tokens formed whole = go (form_of before tokens)
+some_moves before s tokens formed whole = elim (form_of before tokens) [
+  | normal n ↦ (map name tokens, inl (n, refl))
+  | compressed labels letters c ↦ ⊎_elim
+      (λ coded. of_codes labels letters c coded.0 coded.1)
+      (λ broken. absurd (whole (broken_rule broken.0) (letters_break before tokens (flat_map (λ piece. piece) letters) broken.0 (labels, letters, c, refl) broken.1)))
+      (coded_or_broken (flat_map (λ piece. piece) letters))
+  | endless b ↦ absurd (whole P1 b)
+]
   where
     of_codes : (labels letters : List (List ℕ)) → IsCompressed tokens labels letters → (codes : List Code) → Letters (flat_map (λ piece. piece) letters) codes
         → (moves : List (Move (List ℕ))) × SayMoves before s tokens moves
@@ -258,14 +260,6 @@ some_moves before s tokens formed whole = go (form_of before tokens)
           }),
         )
 
-    go : Form before tokens → (moves : List (Move (List ℕ))) × SayMoves before s tokens moves
-    go (normal n) = (map name tokens, inl (n, refl))
-    go (compressed labels letters c) = ⊎_elim
-        (λ coded. of_codes labels letters c coded.0 coded.1)
-        (λ broken. absurd (whole (broken_rule broken.0) (letters_break before tokens (flat_map (λ piece. piece) letters) broken.0 (labels, letters, c, refl) broken.1)))
-        (coded_or_broken (flat_map (λ piece. piece) letters))
-    go (endless b) = absurd (whole P1 b)
-
 -- ---- and their labels may be used
 
 -- what has a label is a hypothesis or an assertion
@@ -279,16 +273,17 @@ labelled_kind k o label n e = absurd (none-some label (sym n ∙ e))
 -- a label that breaks neither P2 nor P3
 pub label_usable : (before : List Sentence) (tokens labels : List (List ℕ)) (label : List ℕ) → AllFormed before → IsWhole before tokens → AreLabels tokens labels → Contains labels label
     → IsUsable before label
-label_usable before tokens labels label formed whole are used = go (sentence_dec before (IsLabelled label) (label_dec label))
-  where
-    of_hypothesis : (place : ℕ) (h : Sentence) → slice_get before place ≡ Some h → IsLabelled label h → IsHypothesis h.kind → Dec (IsActive before place) → IsUsable before label
-    of_hypothesis place h there named kind (yes active) = inl (place, h, there, active, (named, kind))
-    of_hypothesis place h there named kind (no closed) = absurd (whole P3 (labels, are, label, used, place, h, there, named, kind, closed))
-
-    go : Dec (SomeSentence before (IsLabelled label)) → IsUsable before label
-    go (no n) = absurd (whole P2 (labels, are, label, used, n))
-    go (yes t) = ⊎_elim (λ h. of_hypothesis t.0 t.1 t.2 t.3 h (active_dec before t.0)) (λ a. inr (t.0, t.1, t.2, (t.3, a)))
-        (labelled_kind t.1.kind t.1.label label (formed t.0 t.1 t.2).label t.3)
+label_usable before tokens labels label formed whole are used =
+    elim (sentence_dec before (IsLabelled label) (label_dec label)) [
+      | no n ↦ absurd (whole P2 (labels, are, label, used, n))
+      | yes t ↦ elim (labelled_kind t.1.kind t.1.label label (formed t.0 t.1 t.2).label t.3) [
+        | inl h ↦ elim (active_dec before t.0) [
+          | yes active ↦ inl (t.0, t.1, t.2, active, (t.3, h))
+          | no n ↦ absurd (whole P3 (labels, are, label, used, t.0, t.1, t.2, t.3, h, n))
+        ]
+        | inr a ↦ inr (t.0, t.1, t.2, (t.3, a))
+      ]
+    ]
 
 usable_names : (before : List Sentence) (labels : List (List ℕ)) → ((label : List ℕ) → Contains labels label → IsUsable before label) → AllByRecursion (IsUsableMove before) (map name labels)
 usable_names before [] each = tt
@@ -307,25 +302,11 @@ usable_codes before labels (c ∷ codes) (m ∷ moves) each z = (one c m z.0, us
         (λ t. subst (IsUsableMove before) (sym t.2) tt) says.2
 usable_codes before labels codes moves each z = absurd z
 
-pub contained : (xs : List (List ℕ)) (i : ℕ) (x : List ℕ) → slice_get xs i ≡ Some x → Contains xs x
-contained xs i x e = (i, slice_get_within xs i x e, get_or_from_slice_get xs i x x e)
-
--- the labels of the mandatory hypotheses, and then those of the list
-either_label : (a b : List (List ℕ)) (i : ℕ) (x : List ℕ) → slice_get (a ++ b) i ≡ Some x → ((j : ℕ) × (slice_get a j ≡ Some x)) ⊎ ((j : ℕ) × (slice_get b j ≡ Some x))
-either_label [] b i x e = inr (i, e)
-either_label (y ∷ a) b zero x e = inl (0, e)
-either_label (y ∷ a) b (suc i) x e = ⊎_elim (λ h. inl (suc h.0, h.1)) (λ h. inr h) (either_label a b i x e)
-
 pub labelled_at : (hypotheses : List Sentence) (labels : List (List ℕ)) (i : ℕ) (label : List ℕ) → map (λ (h : Sentence). h.label) hypotheses ≡ map Some labels → slice_get labels i ≡ Some label
     → (h : Sentence) × (slice_get hypotheses i ≡ Some h) × IsLabelled label h
-labelled_at hypotheses labels i label e there = go (slice_get hypotheses i) refl
-  where
-    at : slice_get (map (λ (h : Sentence). h.label) hypotheses) i ≡ Some (Some label)
-    at = ap (λ l. slice_get l i) e ∙ slice_get-map Some labels i ∙ rw there refl
-
-    go : (o : Option Sentence) → slice_get hypotheses i ≡ o → (h : Sentence) × (slice_get hypotheses i ≡ Some h) × IsLabelled label h
-    go None n = absurd (none-some (Some label) (sym (slice_get-map (λ (h : Sentence). h.label) hypotheses i ∙ rw n refl) ∙ at))
-    go (Some h) n = (h, n, same_Some h.label (Some label) (sym (slice_get-map (λ (h : Sentence). h.label) hypotheses i ∙ rw n refl) ∙ at))
+labelled_at hypotheses labels i label e there =
+    zip_right (λ (h : Sentence) l. h.label ≡ Some l) hypotheses labels i label
+    (mapped_zip (λ (h : Sentence). h.label) Some _ (λ h l same. same) hypotheses labels e) there
 
 pub moves_usable : (before : List Sentence) (s : Sentence) (tokens : List (List ℕ)) (moves : List (Move (List ℕ))) → AllFormed before → IsWhole before tokens → SayMoves before s tokens moves
     → AllByRecursion (IsUsableMove before) moves
@@ -333,8 +314,8 @@ moves_usable before s tokens moves formed whole (inl p) =
     subst (AllByRecursion (IsUsableMove before)) (sym p.1) (usable_names before tokens (λ label used. label_usable before tokens tokens label formed whole (inl (p.0, refl)) used))
 moves_usable before s tokens moves formed whole (inr p) =
     usable_codes before (p.labels ++ p.listed) p.codes moves (λ i label e. ⊎_elim
-    (λ h. let t = labelled_at p.hypotheses p.labels h.0 label p.labelled h.1 in
-    let a = mandatory_active before s p.hypotheses h.0 t.0 p.mandatory t.1 in
+    (λ h. let t = labelled_at p.hypotheses p.labels i label p.labelled h in
+    let a = mandatory_active before s p.hypotheses i t.0 p.mandatory t.1 in
     inl (a.0, t.0, a.1, a.2, (t.2, a.3)))
-    (λ h. label_usable before tokens p.listed label formed whole (inr (p.letters, p.parts)) (contained p.listed h.0 label h.1))
-    (either_label p.labels p.listed i label e)) p.each
+    (λ h. label_usable before tokens _ label formed whole (inr (p.letters, p.parts)) (contains_from_at _ label (h.0, h.2)))
+    (append_cases p.labels p.listed i label e)) p.each

@@ -1,15 +1,10 @@
 -- What is put behind the symbols that are used.
-use Rattle.std.proofs.Common.{◌≡◌, ℕ, ◌-◌, ◌≤◌, List, ◌++◌, take, length, Option, None, Some, IfSome, sym, ap, subst, ◌∙◌, arith}
+use Rattle.std.proofs.Common.{◌≡◌, ℕ, ◌-◌, ◌≤◌, List, ◌++◌, take, length, sym, ap, subst, ◌∙◌, arith}
 use Rattle.std.proofs.lemmas.List.{length-append, length-map, length-take, take-take}
 use Rattle.mm_frame.specs.declared.number.Sym.{Sym}
 use Rattle.mm_proof.specs.declared.entry.Entry.{Entry}
 use Rattle.mm_proof.specs.Mirror.Buffer.{AreParts}
 use Rattle.mm_proof.specs.Stores.{numbers_in}
-
--- what is told of what is there, where it is told for each
-pub some_told : {X : Type 0} (found : Option X) (P Q : X → Type 0) → ((x : X) → P x → Q x) → IfSome found P → IfSome found Q
-some_told None P Q each h = tt
-some_told (Some x) P Q each h = each x h
 
 -- the first ones stay where more than them do
 pub front_stays : {X : Type 0} (n k : ℕ) (new old first : List X) → n ≤ k → take k new ≡ take k old → take n old ≡ take n first → take n new ≡ take n first

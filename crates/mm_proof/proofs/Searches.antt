@@ -1,5 +1,5 @@
 -- What can be decided of frames, and of what replaces the members of their pairs.
-use Rattle.std.proofs.Common.{◌≡◌, ◌≢◌, ℕ, zero, suc, ◌+◌, ◌<◌, List, [], ◌∷◌, length, get_or, Contains, Option, Some, None, ◌⊎◌, inl, inr, refl, sym, subst, ◌∙◌, arith}
+use Rattle.std.proofs.Common.{◌≡◌, ◌≢◌, ℕ, zero, suc, ◌+◌, ◌<◌, List, [], ◌∷◌, length, Contains, Option, Some, None, ◌⊎◌, inl, inr, refl, sym, subst, ◌∙◌, arith}
 use Rattle.std.proofs.lemmas.Option.{same_Some, none-some}
 use Rattle.mm_text.specs.declared.statement.Kind.TheVariants.{Distinct}
 use Rattle.mm_frame.specs.Sentence.{Sentence}
@@ -7,7 +7,7 @@ use Rattle.mm_frame.specs.Active.{IsActive, IsVariable}
 use Rattle.mm_frame.specs.Frame.{IsMandatory, AreThose, IsDistinct, IsMandatoryPair}
 use Rattle.mm_frame.proofs.Decided.{dec_both, dec_if, dec_as, dec_some, kind_dec, symbol_dec}
 use Rattle.mm_frame.proofs.Decided.{distinct_dec, mandatory_dec, active_dec, contains_dec}
-use Rattle.mm_frame.proofs.Decided.{dec_not, variable_dec}
+use Rattle.mm_frame.proofs.Decided.{dec_not, dec_or, variable_dec}
 use Rattle.mm_proof.specs.Tree.{ShareNoVariable, AreDistinct}
 
 -- ---- over the elements of a list
@@ -19,37 +19,29 @@ pub contains_first : (y : List ℕ) (xs : List (List ℕ)) → Contains (y ∷ x
 contains_first y xs = (0, omega arith, refl)
 
 pub contains_cases : (y : List ℕ) (xs : List (List ℕ)) (x : List ℕ) → Contains (y ∷ xs) x → (y ≡ x) ⊎ Contains xs x
-contains_cases y xs x h = go h.0 h.1 h.2
-  where
-    go : (k : ℕ) → k < length (y ∷ xs) → get_or (y ∷ xs) k x ≡ x → (y ≡ x) ⊎ Contains xs x
-    go zero less e = inl e
-    go (suc k) less e = inr (k, omega arith, e)
+contains_cases y xs x (zero, less, e) = inl e
+contains_cases y xs x (suc k, less, e) =
+    let more : suc k < length (y ∷ xs) = less in inr (k, omega arith, e)
 
 pub dec_member : (P : List ℕ → Type 0) → ((x : List ℕ) → Dec (P x)) → (xs : List (List ℕ)) → Dec ((x : List ℕ) × Contains xs x × P x)
 dec_member P each [] = no (λ h. absurd (let less : h.1.0 < 0 = h.1.1 in omega arith))
-dec_member P each (y ∷ xs) = go (each y) (dec_member P each xs)
-  where
-    other : (x : List ℕ) → (y ≡ x) ⊎ Contains xs x → P x → ¬ (P y) → Contains xs x
-    other x (inl e) p n = absurd (n (subst P (sym e) p))
-    other x (inr c) p n = c
-
-    go : Dec (P y) → Dec ((x : List ℕ) × Contains xs x × P x) → Dec ((x : List ℕ) × Contains (y ∷ xs) x × P x)
-    go (yes p) b = yes (y, contains_first y xs, p)
-    go (no n) (yes b) = yes (b.0, contains_later y xs b.0 b.1, b.2)
-    go (no n) (no b) = no (λ h. b (h.0, other h.0 (contains_cases y xs h.0 h.1) h.2 n, h.2))
+dec_member P each (y ∷ xs) = dec_as
+    (λ h. elim h [
+      | inl p ↦ (y, contains_first y xs, p)
+      | inr b ↦ (b.0, contains_later y xs b.0 b.1, b.2)
+    ])
+    (λ h. elim (contains_cases y xs h.0 h.1) [
+      | inl e ↦ inl (subst P (sym e) h.2)
+      | inr c ↦ inr (h.0, c, h.2)
+    ])
+    (dec_or (each y) (dec_member P each xs))
 
 pub dec_each : (P : List ℕ → Type 0) → ((x : List ℕ) → Dec (P x)) → (xs : List (List ℕ)) → Dec ((x : List ℕ) → Contains xs x → P x)
 dec_each P each [] = yes (λ x h. absurd (let less : h.0 < 0 = h.1 in omega arith))
-dec_each P each (y ∷ xs) = go (each y) (dec_each P each xs)
-  where
-    of_cases : P y → ((x : List ℕ) → Contains xs x → P x) → (x : List ℕ) → (y ≡ x) ⊎ Contains xs x → P x
-    of_cases p f x (inl e) = subst P e p
-    of_cases p f x (inr c) = f x c
-
-    go : Dec (P y) → Dec ((x : List ℕ) → Contains xs x → P x) → Dec ((x : List ℕ) → Contains (y ∷ xs) x → P x)
-    go (yes p) (yes f) = yes (λ x h. of_cases p f x (contains_cases y xs x h))
-    go (yes p) (no n) = no (λ h. n (λ x c. h x (contains_later y xs x c)))
-    go (no n) b = no (λ h. n (h y (contains_first y xs)))
+dec_each P each (y ∷ xs) = dec_as
+    (λ h x c. elim (contains_cases y xs x c) [ inl e ↦ subst P e h.0 | inr k ↦ h.1 x k ])
+    (λ h. (h y (contains_first y xs), λ x c. h x (contains_later y xs x c)))
+    (dec_both (each y) (dec_each P each xs))
 
 -- the elements that a property picks
 pub those_of : {X : Type 0} (P : ℕ → X → Type 0) → ((k : ℕ) (x : X) → Dec (P k x)) → (place : ℕ) (xs : List X) → (those : List X) × AreThose P place xs those

@@ -1,7 +1,8 @@
 -- Variables that two expressions share, by numbers and by names.
-use Rattle.std.proofs.Common.{◌≡◌, ℕ, zero, suc, ◌+◌, ◌<◌, ◌≤◌, List, [], ◌∷◌, length, take, drop, get_or, slice_get, Contains, Bool, true, false, not, cond, Option, Some, IsTrue, MatchBool, inl, inr, ⊎_elim, refl, sym, ap, subst, ◌∙◌, arith}
+use Rattle.std.proofs.Common.{◌≡◌, ℕ, zero, suc, ◌+◌, ◌<◌, ◌≤◌, List, [], ◌∷◌, length, take, drop, get_or, slice_get, Contains, Bool, true, false, not, Option, Some, IsTrue, MatchBool, inl, inr, ⊎_elim, refl, sym, ap, subst, ◌∙◌, arith}
 use Rattle.std.proofs.lemmas.Bool.{false≢true, cases_lt}
-use Rattle.std.proofs.lemmas.List.{length-map, get_or_default}
+use Rattle.std.proofs.lemmas.List.{length-map, get_or-map, get_or_default}
+use Rattle.mm_text.proofs.Lists.{all_weaker}
 use Rattle.mm_text.specs.declared.statement.Kind.TheVariants.{Constants, Variables}
 use Rattle.mm_frame.specs.declared.distinct.DistinctPair.{DistinctPair}
 use Rattle.mm_frame.specs.declared.number.Sym.{Sym}
@@ -12,29 +13,24 @@ use Rattle.mm_frame.specs.Numbers.{symbols_of}
 use Rattle.mm_frame.specs.Laws.{OneNumber}
 use Rattle.mm_proof.specs.Tree.{ShareNoVariable, AreDistinct}
 use Rattle.mm_proof.specs.Stores.{numbers_in}
-use Rattle.mm_frame.specs.Pieces.{is_of}
 use Rattle.mm_proof.specs.Mirror.CodeVerify.{name_at, names_at, IsSymbol, AreDeclaredSymbols, AreBelow, IsApartFromEach, AreStackEntries, value_of, EachValues, SomeValues, pairs_in}
-use Rattle.std.proofs.lemmas.Option.{same_Some}
+use Rattle.std.proofs.lemmas.Option.{same_Some, slice_get-map, slice_get-get_or}
 use Rattle.mm_frame.specs.Frame.{IsDistinct}
 use Rattle.mm_frame.proofs.Decided.{distinct_dec}
 use Rattle.mm_frame.proofs.Needed.{some_later}
 use Rattle.mm_frame.proofs.Meant.{one_role}
 use Rattle.mm_proof.proofs.Named.{one_name}
+use Rattle.mm_proof.proofs.Values.{within_at, all_rest, value_all}
 
 pub number_at : (symbols : List Sym) (k : ℕ) (d : Sym) → k < length symbols → get_or (numbers_in symbols) k 0 ≡ (get_or symbols k d).0
-number_at [] k d less = absurd (omega arith)
-number_at (s ∷ symbols) zero d less = refl
-number_at (s ∷ symbols) (suc k) d less = number_at symbols k d (omega arith)
+number_at symbols k d less = get_or-map (λ s. s.0) symbols k d 0 less
 
 -- numbers of symbols are below the count
 pub symbols_below : (st before : List Sentence) (ns : List ℕ) → AreDeclaredSymbols st before ns → AreBelow st ns
-symbols_below st before [] all = tt
-symbols_below st before (n ∷ ns) all = (all.0.below, symbols_below st before ns all.1)
+symbols_below st before ns all = all_weaker (IsSymbol st before) _ (λ n s. s.below) ns all
 
 pub symbol_at : (st before : List Sentence) (ns : List ℕ) (k : ℕ) → AreDeclaredSymbols st before ns → k < length ns → IsSymbol st before (get_or ns k 0)
-symbol_at st before [] k all less = absurd (omega arith)
-symbol_at st before (n ∷ ns) zero all less = all.0
-symbol_at st before (n ∷ ns) (suc k) all less = symbol_at st before ns k all.1 (omega arith)
+symbol_at st before ns k all less = within_at (IsSymbol st before) ns k 0 all less
 
 -- a variable of all statements that was declared before is a variable of those before
 pub variable_before : (st : List Sentence) (place n : ℕ) → AllMeant st → IsSymbol st (take place st) n → IsVariable st (name_at st n) → ¬ (¬ (IsVariable (take place st) (name_at st n)))
@@ -43,18 +39,16 @@ variable_before st place n all s variable none =
 
 -- a name stands among the names as the number does among the numbers
 pub named_has : (st : List Sentence) (ns : List ℕ) (n : ℕ) → Contains ns n → Contains (names_at st ns) (name_at st n)
-named_has st [] n has = absurd (let l : has.0 < 0 = has.1 in omega arith)
-named_has st (m ∷ ns) n (zero, less, is) = (0, omega arith, ap (name_at st) is)
-named_has st (m ∷ ns) n (suc k, less, is) =
-    let rest = named_has st ns n (k, (let l : suc k < suc (length ns) = less in omega arith), is) in
-    (suc rest.0, (let l : rest.0 < length (names_at st ns) = rest.1 in omega arith), rest.2)
+named_has st ns n (k, less, is) = (
+  k,
+  omega (arith, less, length-map ns (name_at st)),
+  get_or-map (name_at st) ns k n (name_at st n) less ∙ ap (name_at st) is,
+)
 
 pub has_named : (st : List Sentence) (ns : List ℕ) (u : List ℕ) → Contains (names_at st ns) u → (k : ℕ) × (k < length ns) × (name_at st (get_or ns k 0) ≡ u)
-has_named st [] u has = absurd (let l : has.0 < 0 = has.1 in omega arith)
-has_named st (n ∷ ns) u (zero, less, is) = (0, omega arith, is)
-has_named st (n ∷ ns) u (suc k, less, is) =
-    let rest = has_named st ns u (k, (let l : suc k < suc (length (names_at st ns)) = less in omega arith), is) in
-    (suc rest.0, (let l : rest.0 < length ns = rest.1 in omega arith), rest.2)
+has_named st ns u (k, less, is) =
+    let within : k < length ns = omega (arith, less, length-map ns (name_at st)) in
+    (k, within, sym (get_or-map (name_at st) ns k 0 u within) ∙ is)
 
 -- the number at a place is one of the numbers
 pub number_among : (ns : List ℕ) (k : ℕ) → k < length ns → Contains ns (get_or ns k 0)
@@ -126,24 +120,15 @@ near_told st place e f k all se sf less near distinct =
     decided (yes d) u v f = d
     decided (no n) u v f = absurd (u (λ x. v (λ y. n (f x y))))
 
-rest_symbols : (st before : List Sentence) (l : List ℕ) → AreDeclaredSymbols st before l → AreDeclaredSymbols st before (drop 1 l)
-rest_symbols st before [] all = tt
-rest_symbols st before (n ∷ l) all = all.1
-
 -- what follows the type code of an entry has symbols
 pub entry_symbols : (st before : List Sentence) (es : List (List ℕ)) (i : ℕ) → AreStackEntries st before es → AreDeclaredSymbols st before (drop 1 (get_or es i []))
 entry_symbols st before [] i all = tt
-entry_symbols st before (e ∷ es) zero all = rest_symbols st before e all.0
+entry_symbols st before (e ∷ es) zero all = all_rest (IsSymbol st before) e all.0
 entry_symbols st before (e ∷ es) (suc i) all = entry_symbols st before es i all.1
 
 -- what replaces a symbol has symbols
 pub value_symbols : (st before : List Sentence) (vs : List (Option ℕ)) (es : List (List ℕ)) (n : ℕ) (v : List ℕ) → AreStackEntries st before es → value_of vs es n ≡ Some v → AreDeclaredSymbols st before v
-value_symbols st before (x ∷ vs) (e ∷ es) n v all is = go (is_of n x) is (value_symbols st before vs es n v all.1)
-  where
-    go : (b : Bool) → cond b (Some (drop 1 e)) (value_of vs es n) ≡ Some v → (value_of vs es n ≡ Some v → AreDeclaredSymbols st before v) → AreDeclaredSymbols st before v
-    go true s later = subst (AreDeclaredSymbols st before) (same_Some (drop 1 e) v s) (rest_symbols st before e all.0)
-    go false s later = later s
-value_symbols st before vs es n v all is = absurd cc
+value_symbols st before vs es n v all is = value_all (IsSymbol st before) vs es n v all is
 
 -- the one pair of values is so or not
 pub values_told : (σ : ℕ → Option (List ℕ)) (x y : ℕ) (e f : List ℕ) (P : List ℕ → List ℕ → Type 0) (r : Bool) → σ x ≡ Some e → σ y ≡ Some f
@@ -159,9 +144,7 @@ values_apart σ x y e f P true at_x at_y h =
 values_apart σ x y e f P false at_x at_y h = (e, f, at_x, at_y, h)
 
 pub pair_at : (pairs : List DistinctPair) (k : ℕ) (d : DistinctPair) → k < length pairs → slice_get (pairs_in pairs) k ≡ Some ((get_or pairs k d).variables.0.0, (get_or pairs k d).variables.1.0)
-pair_at [] k d less = absurd (omega arith)
-pair_at (p ∷ pairs) zero d less = refl
-pair_at (p ∷ pairs) (suc k) d less = pair_at pairs k d (omega arith)
+pair_at pairs k d less = rw (slice_get-map, slice_get-get_or pairs k d less)
 
 pub pairs_more : (σ : ℕ → Option (List ℕ)) (pairs : List DistinctPair) (P : List ℕ → List ℕ → Type 0) (n : ℕ) (d : DistinctPair) → n < length pairs
     → ((k : ℕ) (p : ℕ × ℕ) → k < n → slice_get (pairs_in pairs) k ≡ Some p → EachValues σ p.0 p.1 P) → EachValues σ (get_or pairs n d).variables.0.0 (get_or pairs n d).variables.1.0 P
@@ -179,5 +162,4 @@ abbrev pub no_pair : DistinctPair
 no_pair = record { variables = (record { 0 = 0 }, record { 0 = 0 }); places = (0, 0) }
 
 pub pairs_length : (pairs : List DistinctPair) → length (pairs_in pairs) ≡ length pairs
-pairs_length [] = refl
-pairs_length (p ∷ pairs) = ap suc (pairs_length pairs)
+pairs_length pairs = length-map pairs _

@@ -23,15 +23,12 @@ pub kept_stays : (before : List Sentence) (moves : List (Move (List ℕ))) (row 
     → (i : ℕ) (t : Trees) → slice_get kept i ≡ Some t → slice_get kept' i ≡ Some t
 kept_stays before [] row kept row' kept' m i t h = subst (λ k. slice_get k i ≡ Some t) (sym m.1) h
 kept_stays before (name label ∷ moves) row kept row' kept' m i t h =
-    kept_stays before moves m.0 m.1 row' kept' m.3 i t
-    (subst (λ k. slice_get k i ≡ Some t) (sym m.2.5) h)
+    kept_stays before moves m.0 m.1 row' kept' m.3 i t (rw m.2.5 h)
 kept_stays before (again tag ∷ moves) row kept row' kept' m i t h =
-    kept_stays before moves m.0 m.1 row' kept' m.3 i t
-    (subst (λ k. slice_get k i ≡ Some t) (sym m.2.3) h)
+    kept_stays before moves m.0 m.1 row' kept' m.3 i t (rw m.2.3 h)
 kept_stays before (mark ∷ moves) row kept row' kept' m i t h =
     kept_stays before moves m.0 m.1 row' kept' m.3 i t
-    (subst (λ k. slice_get k i ≡ Some t) (sym m.2.5)
-    (get_kept kept (tree m.2.1 m.2.2 none ∷ []) i t h))
+    (rw m.2.5 (get_kept kept (tree m.2.1 m.2.2 none ∷ []) i t h))
 
 -- the kept trees are those of the marks
 pub kept_are : (before : List Sentence) (moves : List (Move (List ℕ))) (row : Trees)
@@ -60,15 +57,13 @@ again_visit : (before : List Sentence) (moves : List (Move (List ℕ))) (row : T
 again_visit before [] row kept row' kept' m tag h = absurd h
 again_visit before (move ∷ moves) row kept row' kept' m tag (inr h) =
     let g = again_visit before moves m.0 m.1 row' kept' m.3 tag h in (g.0, g.1, inr g.2)
-again_visit before (name label ∷ moves) row kept row' kept' m tag (inl e) =
-    absurd (let f : name label ≡ again tag = e in cc)
 again_visit before (again k ∷ moves) row kept row' kept' m tag (inl e) =
     let same : k ≡ tag = (let f : ◌≡◌ {A = Move (List ℕ)} (again k) (again tag) = e in cc) in
     let there : slice_get m.1 tag ≡ Some m.2.0 = subst (λ l. slice_get l tag ≡ Some m.2.0)
     (sym m.2.3) (subst (λ x. slice_get kept x ≡ Some m.2.0) same m.2.1) in
     (m.2.0, kept_stays before moves m.0 m.1 row' kept' m.3 tag m.2.0 there, inl refl)
-again_visit before (mark ∷ moves) row kept row' kept' m tag (inl e) =
-    absurd (let f : ◌≡◌ {A = Move (List ℕ)} mark (again tag) = e in cc)
+again_visit before (move ∷ moves) row kept row' kept' m tag (inl e) =
+    absurd (let f : move ≡ again tag = e in cc)
 
 -- ---- what is said by places, said one visit after the other
 
@@ -157,24 +152,20 @@ moves_once before (name x ∷ moves)
     let h = cons_parts _ _ _ _ same in
     let label : x ≡ y =
     (let f : makes (tree x m.2.1 none) ≡ makes (tree y n.2.1 none) = h.0 in cc) in
-    ap (λ z. name z ∷ moves) label
-    ∙ ap (λ z. name y ∷ z) (moves_once before moves moves' m.0 n.0 m.1 n.1 row' row₂' kept' kept₂'
-    m.3 n.3 (m.2.5 ∙ k ∙ sym n.2.5) l once h.1)
+    rw label (ap (λ z. name y ∷ z) (moves_once before moves moves' m.0 n.0 m.1 n.1 row' row₂' kept'
+    kept₂' m.3 n.3 (m.2.5 ∙ k ∙ sym n.2.5) l once h.1))
 moves_once before (again x ∷ moves)
     (again y ∷ moves') row row₂ kept kept₂ row' row₂' kept' kept₂' m n k l once same =
     let h = cons_parts _ _ _ _ same in
     let u : m.2.0 ≡ n.2.0 = (let f : repeats m.2.0 ≡ repeats n.2.0 = h.0 in cc) in
     let at_x : slice_get kept₂' x ≡ Some n.2.0 =
-    subst (λ q. slice_get q x ≡ Some n.2.0) l
-    (kept_stays before moves m.0 m.1 row' kept' m.3 x n.2.0
-    (subst (λ q. slice_get q x ≡ Some n.2.0) (sym m.2.3) (m.2.1 ∙ ap Some u))) in
+    rw (← l) (kept_stays before moves m.0 m.1 row' kept' m.3 x n.2.0
+    (rw m.2.3 (m.2.1 ∙ ap Some u))) in
     let at_y : slice_get kept₂' y ≡ Some n.2.0 =
-    kept_stays before moves' n.0 n.1 row₂' kept₂' n.3 y n.2.0
-    (subst (λ q. slice_get q y ≡ Some n.2.0) (sym n.2.3) n.2.1) in
+    kept_stays before moves' n.0 n.1 row₂' kept₂' n.3 y n.2.0 (rw n.2.3 n.2.1) in
     let tag : x ≡ y = once x y n.2.0 at_x at_y in
-    ap (λ z. again z ∷ moves) tag
-    ∙ ap (λ z. again y ∷ z) (moves_once before moves moves' m.0 n.0 m.1 n.1 row' row₂' kept' kept₂'
-    m.3 n.3 (m.2.3 ∙ k ∙ sym n.2.3) l once h.1)
+    rw tag (ap (λ z. again y ∷ z) (moves_once before moves moves' m.0 n.0 m.1 n.1 row' row₂' kept'
+    kept₂' m.3 n.3 (m.2.3 ∙ k ∙ sym n.2.3) l once h.1))
 moves_once before (mark ∷ moves)
     (mark ∷ moves') row row₂ kept kept₂ row' row₂' kept' kept₂' m n k l once same =
     let h = cons_parts _ _ _ _ same in
@@ -191,35 +182,16 @@ moves_once before moves moves' row row₂ kept kept₂ row' row₂' kept' kept�
 
 strip_repeats : (v : List Visit) (t : Trees) → In (strip v) (repeats t) → In v (repeats t)
 strip_repeats [] t h = absurd h
-strip_repeats (makes u ∷ v) t (inl e) = inl e
-strip_repeats (makes u ∷ v) t (inr h) = inr (strip_repeats v t h)
-strip_repeats (repeats u ∷ v) t (inl e) = inl e
-strip_repeats (repeats u ∷ v) t (inr h) = inr (strip_repeats v t h)
 strip_repeats (keeps u ∷ v) t h = inr (strip_repeats v t h)
+strip_repeats (x ∷ v) t (inl e) = inl e
+strip_repeats (x ∷ v) t (inr h) = inr (strip_repeats v t h)
 
 repeats_strip : (v : List Visit) (t : Trees) → In v (repeats t) → In (strip v) (repeats t)
 repeats_strip [] t h = absurd h
-repeats_strip (makes u ∷ v) t (inl e) = inl e
-repeats_strip (makes u ∷ v) t (inr h) = inr (repeats_strip v t h)
-repeats_strip (repeats u ∷ v) t (inl e) = inl e
-repeats_strip (repeats u ∷ v) t (inr h) = inr (repeats_strip v t h)
 repeats_strip (keeps u ∷ v) t (inl e) = absurd (let f : keeps u ≡ repeats t = e in cc)
 repeats_strip (keeps u ∷ v) t (inr h) = repeats_strip v t h
-
--- what the moves do
-abbrev pub course : (before : List Sentence) (trees : Trees) (moves : List (Move (List ℕ)))
-    → ShareAll before trees moves → List Visit
-course before trees moves s = visits before moves none [] trees s.kept s.made
-
-pub shared_tidy : (before : List Sentence) (trees : Trees) (moves : List (Move (List ℕ)))
-    (s : ShareAll before trees moves) → Tidy [] (course before trees moves s)
-shared_tidy before trees moves s = tidy_of before moves none [] trees s.kept s.made []
-    (λ t h. absurd h) s.once s.marked
-
-pub shared_careful : (before : List Sentence) (trees : Trees) (moves : List (Move (List ℕ)))
-    (s : ShareAll before trees moves) → Careful [] (strip (course before trees moves s))
-shared_careful before trees moves s = tidy_careful (course before trees moves s) []
-    (λ t h. absurd h) (shared_tidy before trees moves s)
+repeats_strip (x ∷ v) t (inl e) = inl e
+repeats_strip (x ∷ v) t (inr h) = inr (repeats_strip v t h)
 
 pub made_covers : (before : List Sentence) (trees : Trees) (moves : List (Move (List ℕ)))
     (kept : List Trees) (m : Makes before moves none [] trees kept)
@@ -227,37 +199,40 @@ pub made_covers : (before : List Sentence) (trees : Trees) (moves : List (Move (
 made_covers before trees moves kept m = covers_made before moves none [] trees kept m []
     (λ t h. absurd h) refl
 
--- what is kept is repeated
-shared_referred : (before : List Sentence) (trees : Trees) (moves : List (Move (List ℕ)))
-    (s : ShareAll before trees moves) (t : Trees)
-    → In (course before trees moves s) (keeps t) → In (course before trees moves s) (repeats t)
-shared_referred before trees moves s t h =
-    let among : In s.kept t = subst (λ k. In k t)
-    (sym (kept_are before moves none [] trees s.kept s.made))
-    (visit_kept (course before trees moves s) t h) in
-    let at = in_get s.kept t among in
-    let tag = contains_in moves (again at.0)
-    (s.referred at.0 (slice_get_within s.kept at.0 t at.1)) in
-    let g = again_visit before moves none [] trees s.kept s.made at.0 tag in
-    subst (λ x. In (course before trees moves s) (repeats x)) (same_Some g.0 t (sym g.1 ∙ at.1)) g.2
+module _ (before : List Sentence) (trees : Trees) (moves : List (Move (List ℕ)))
+    (s : ShareAll before trees moves) where
+  -- what the moves do
+  abbrev pub course : List Visit
+  course = visits before moves none [] trees s.kept s.made
 
-pub shared_marked : (before : List Sentence) (trees : Trees) (moves : List (Move (List ℕ)))
-    (s : ShareAll before trees moves)
-    → Marked (strip (course before trees moves s)) (strip (course before trees moves s))
-    (course before trees moves s)
-shared_marked before trees moves s =
-    let v : List Visit = course before trees moves s in
-    let tidy = shared_tidy before trees moves s in
-    subst (Marked (strip v) (strip v)) (bare_front v tidy)
-    (tidy_marked (strip v) v [] (λ t h. absurd h) (λ t h. absurd h) tidy
-    (λ t h. inr (strip_repeats v t h))
-    (λ t h. repeats_strip v t (shared_referred before trees moves s t h)))
+  pub shared_tidy : Tidy [] course
+  shared_tidy =
+      tidy_of before moves none [] trees s.kept s.made [] (λ t h. absurd h) s.once s.marked
 
-pub shared_kept_once : (before : List Sentence) (trees : Trees) (moves : List (Move (List ℕ)))
-    (s : ShareAll before trees moves) → StandOnce s.kept
-shared_kept_once before trees moves s i j t =
-    once_places s.kept i j t (subst Once (sym (kept_are before moves none [] trees s.kept s.made))
-    (tidy_once (course before trees moves s) [] (shared_tidy before trees moves s)))
+  pub shared_careful : Careful [] (strip course)
+  shared_careful = tidy_careful course [] (λ t h. absurd h) shared_tidy
+
+  -- what is kept is repeated
+  shared_referred : (t : Trees) → In course (keeps t) → In course (repeats t)
+  shared_referred t h =
+      let among : In s.kept t = subst (λ k. In k t)
+      (sym (kept_are before moves none [] trees s.kept s.made)) (visit_kept course t h) in
+      let at = in_get s.kept t among in
+      let tag = contains_in moves (again at.0)
+      (s.referred at.0 (slice_get_within s.kept at.0 t at.1)) in
+      let g = again_visit before moves none [] trees s.kept s.made at.0 tag in
+      subst (λ x. In course (repeats x)) (same_Some g.0 t (sym g.1 ∙ at.1)) g.2
+
+  pub shared_marked : Marked (strip course) (strip course) course
+  shared_marked = subst (Marked (strip course) (strip course)) (bare_front course shared_tidy)
+      (tidy_marked (strip course) course [] (λ t h. absurd h) (λ t h. absurd h) shared_tidy
+      (λ t h. inr (strip_repeats course t h))
+      (λ t h. repeats_strip course t (shared_referred t h)))
+
+  pub shared_kept_once : StandOnce s.kept
+  shared_kept_once i j t =
+      once_places s.kept i j t (subst Once (sym (kept_are before moves none [] trees s.kept s.made))
+      (tidy_once course [] shared_tidy))
 
 pub shared_once : (before : List Sentence) (trees : Trees) (moves moves' : List (Move (List ℕ)))
     → ShareAll before trees moves → ShareAll before trees moves' → moves ≡ moves'

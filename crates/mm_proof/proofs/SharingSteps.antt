@@ -6,7 +6,7 @@ use Rattle.mm_proof.specs.Mirror.SharedSteps.{Careful}
 use Rattle.std.proofs.lemmas.List.{length-append, take_at, length-take}
 use Rattle.std.proofs.lemmas.List.Elements.{Contains-push, Contains-push_cases, Contains-append_left}
 use Rattle.std.proofs.lemmas.Slice.Zip.{AllZip-long}
-use Rattle.mm_text.proofs.Lists.{zip_push, zip_left, zip_take}
+use Rattle.mm_text.proofs.Lists.{zip_push, zip_left, zip_take, zip_weaker}
 use Rattle.mm_frame.specs.Sentence.{Sentence}
 use Rattle.mm_frame.specs.Rules.{AllMeant}
 use Rattle.mm_proof.specs.declared.subtrees.Subtree.{Subtree}
@@ -39,20 +39,16 @@ big_below st rows n label (tree l b r) s e = parent_big label l b r
 -- ---- the steps so far
 
 -- by a greater table
-step_later : (st : List Sentence) (old new : List Row) (x : SharedStep) (v : Visit) → KeepNumbers old new → IsStepOf st old x v → IsStepOf st new x v
-step_later st old new (step.Make t) v keep h = (h.0, h.1, tree_later st old new t h.0 h.1 keep h.2, h.3)
-step_later st old new (step.Repeat t) v keep h = (h.0, h.1, tree_later st old new t h.0 h.1 keep h.2, h.3)
-
-all_later : (st : List Sentence) (old new : List Row) (xs : List SharedStep) (vs : List Visit) → KeepNumbers old new → AllZip (IsStepOf st old) xs vs → AllZip (IsStepOf st new) xs vs
-all_later st old new [] [] keep z = tt
-all_later st old new (x ∷ xs) (v ∷ vs) keep z = (step_later st old new x v keep z.0, all_later st old new xs vs keep z.1)
-all_later st old new xs vs keep z = absurd z
+step_later : (st : List Sentence) (old new : List Row) → KeepNumbers old new
+    → (x : SharedStep) (v : Visit) → IsStepOf st old x v → IsStepOf st new x v
+step_later st old new keep (step.Make t) v h = (h.0, h.1, tree_later st old new t h.0 h.1 keep h.2, h.3)
+step_later st old new keep (step.Repeat t) v h = (h.0, h.1, tree_later st old new t h.0 h.1 keep h.2, h.3)
 
 pub steps_later : (st : List Sentence) (old new : List Row) (steps : List SharedStep) (keys : List Subtree) (row : Trees) (kept : List Trees) → KeepNumbers old new → SharingSteps st old steps keys row kept
     → SharingSteps st new steps keys row kept
 steps_later st old new steps keys row kept keep h = record {
   v = h.v;
-  are = all_later st old new steps h.v keep h.are;
+  are = zip_weaker _ _ (step_later st old new keep) steps h.v h.are;
   sharing = h.sharing;
   known = λ label below big made. let q = h.known label below big made in (q.0, q.1, tree_later st old new q.0 label below keep q.2);
   only = λ t has. let q = h.only t has in (q.0, q.1, tree_later st old new t q.0 q.1 keep q.2, q.3, q.4);
@@ -60,12 +56,6 @@ steps_later st old new steps keys row kept keep h = record {
 
 after_more : (v : List Visit) (t u : Trees) → In (after [] (v ++ makes t ∷ [])) u → (t ≡ u) ⊎ In (after [] v) u
 after_more v t u h = subst (λ x. In x u) (after-append [] v (makes t ∷ [])) h
-
-after_new : (v : List Visit) (t : Trees) → In (after [] (v ++ makes t ∷ [])) t
-after_new v t = subst (λ x. In x t) (sym (after-append [] v (makes t ∷ []))) (inl refl)
-
-repeat_same : (v : List Visit) (t : Trees) → after [] (v ++ repeats t ∷ []) ≡ after [] v
-repeat_same v t = after-append [] v (repeats t ∷ [])
 
 -- fewer steps at the end
 zip_front_of : (st : List Sentence) (rows : List Row) (steps : List SharedStep) (v front back : List Visit) (count : ℕ) → AllZip (IsStepOf st rows) steps v → v ≡ front ++ back → length back ≡ count
@@ -137,7 +127,7 @@ steps_make st rows t count steps steps' keys keys' rest below kept label all onc
         (after_more h.v tr (tree l b none) k))
         (λ u k. ⊎_elim
         (λ old. let q = h.only u old in (q.0, q.1, q.2, q.3, after_make h.v tr (tree q.0 q.1 none) q.4))
-        (λ e. (label, below, subst (λ x. IsTreeOf st rows x label below) e is, big, after_new h.v tr))
+        (λ e. (label, below, rw e at is, big, rw after-append (inl refl)))
         (Contains-push_cases keys t u (subst (λ x. Contains x u) new.3 k)))
 
 pub steps_repeat : (st : List Sentence) (rows : List Row) (t : Subtree) (one : SharedStep) (steps : List SharedStep) (keys : List Subtree) (row : Trees) (kept : List Trees) (label : List ℕ) (below : Trees)
@@ -167,8 +157,8 @@ steps_repeat st rows t one steps keys row kept label below of among is h = go is
           v = h.v ++ repeats tr ∷ [];
           are = zip_push (IsStepOf st rows) steps h.v one (repeats tr) h.are (subst (λ x. IsStepOf st rows x (repeats tr)) (sym more.1) (label, below, of, refl));
           sharing = sharing_repeat row kept h.v label below h.sharing among big;
-          known = λ l b is k. h.known l b is (subst (λ x. In x (tree l b none)) (repeat_same h.v tr) k);
-          only = λ u k. let q = h.only u k in (q.0, q.1, q.2, q.3, subst (λ x. In x (tree q.0 q.1 none)) (sym (repeat_same h.v tr)) q.4);
+          known = λ l b is k. h.known l b is (rw (after-append [] h.v (repeats tr ∷ [])) at k);
+          only = λ u k. let q = h.only u k in (q.0, q.1, q.2, q.3, rw (after-append [] h.v (repeats tr ∷ [])) q.4);
         }
 
 pub shared_keep : (first now : SharedSteps) (st : List Sentence) (stack shelf : List Subtree) (item : Subtree) (rest : Trees) (kept : List Trees) (steps : ℕ) (label : List ℕ) (below : Trees)
@@ -219,17 +209,10 @@ made_before st rows made (step.Repeat u ∷ steps) (w ∷ v) (suc i) t label bel
     let later = subst (λ x. Careful made (x ∷ v)) o.3 careful in
     ⊎_elim (λ h. inl h) (λ h. inr (inr h)) (made_before st rows made steps v i t label below all once z.1 later.1 there is)
 
--- a step that repeats does so of a tree
-repeated_tree : (st : List Sentence) (rows : List Row) (steps : List SharedStep) (v : List Visit) (i : ℕ) (t : Subtree) → AllZip (IsStepOf st rows) steps v → slice_get steps i ≡ Some (step.Repeat t)
-    → (label : List ℕ) × (below : Trees) × IsTreeOf st rows t label below
-repeated_tree st rows steps v i t z there =
-    let w = zip_left (IsStepOf st rows) steps v i (step.Repeat t) z there in
-    (w.2.0, w.2.1, w.2.2)
-
 pub steps_made_before : (st : List Sentence) (rows : List Row) (steps : List SharedStep) (keys : List Subtree) (row : Trees) (kept : List Trees) → AllMeant st → AreOnce rows
     → SharingSteps st rows steps keys row kept → AreMadeBefore steps
 steps_made_before st rows steps keys row kept all once h i t there =
-    let one = repeated_tree st rows steps h.v i t h.are there in
+    let one = (zip_left (IsStepOf st rows) steps h.v i (step.Repeat t) h.are there).2 in
     in_contains (take i steps) (step.Make t)
     (⊎_elim (λ k. absurd k) (λ k. k) (made_before st rows [] steps h.v i t one.0 one.1 all once h.are h.sharing.careful there one.2))
 

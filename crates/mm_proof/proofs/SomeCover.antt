@@ -27,9 +27,8 @@ in_dec [] t = no (λ h. h)
 in_dec (u ∷ ts) t = dec_or (trees_dec u t) (in_dec ts t)
 
 repeat_dec : (x : Visit) (t : Trees) → Dec (x ≡ repeats t)
-repeat_dec (makes u) t = no (λ e. cc)
-repeat_dec (keeps u) t = no (λ e. cc)
 repeat_dec (repeats u) t = dec_as (λ e. ap (λ x. repeats x) e) (λ e. cc) (trees_dec u t)
+repeat_dec x t = no (λ e. cc)
 
 repeats_dec : (v : List Visit) (t : Trees) → Dec (In v (repeats t))
 repeats_dec [] t = no (λ h. h)
@@ -50,14 +49,10 @@ sub_nodes (tree label below right) u (inl e) =
     let a = length-append (spelling below) (label ∷ spelling right) in
     let b = length-append (spelling below) (label ∷ []) in
     omega arith
-sub_nodes (tree label below right) u (inr (inl h)) =
-    let g = sub_nodes below u h in
+sub_nodes (tree label below right) u (inr h) =
     let a = length-append (spelling below) (label ∷ spelling right) in
-    omega arith
-sub_nodes (tree label below right) u (inr (inr h)) =
-    let g = sub_nodes right u h in
-    let a = length-append (spelling below) (label ∷ spelling right) in
-    omega arith
+    ⊎_elim (λ k. let g = sub_nodes below u k in omega arith)
+    (λ k. let g = sub_nodes right u k in omega arith) h
 
 -- no tree stands below itself
 pub not_below : (label : List ℕ) (below : Trees) → ¬ (IsSubtree below (tree label below none))
@@ -72,14 +67,12 @@ pub covered_made : (trees : Trees) (made : List Trees) (v : List Visit) (u : Tre
 covered_made none made v u p h = inl (subst (λ x. In (after made x) u) p h)
 covered_made (tree label below right) made v u p h =
     let t : Trees = tree label below none in
-    let parted : In (after (after made p.0) p.1) u = subst (λ ts. In ts u)
-    (ap (after made) p.2 ∙ after-append made p.0 p.1) h in
+    let parted = rw (p.2, after-append made p.0 p.1) at h in
     ⊎_elim
     (λ earlier. ⊎_elim
     (λ a. inl (subst (λ x. In (after made x) u) a earlier))
     (λ a.
-    let inner : In (t ∷ after made a.0) u = subst (λ ts. In ts u)
-    (ap (after made) a.1 ∙ after-append made a.0 (makes t ∷ [])) earlier in
+    let inner = rw (a.1, after-append made a.0 (makes t ∷ [])) at earlier in
     ⊎_elim
     (λ e. inr (inl (sym e)))
     (λ k. ⊎_elim (λ old. inl old) (λ sub. inr (inr (inl sub)))
@@ -92,12 +85,21 @@ covered_made (tree label below right) made v u p h =
 pub some_cover : (trees : Trees) (made : List Trees) → (v : List Visit) × Covers trees v
     × Careful made v
 some_cover none made = ([], refl, tt)
-some_cover (tree label below right) made = go (again_dec made (tree label below none))
-    (λ ts. some_cover below ts) (λ ts. some_cover right ts)
+some_cover (tree label below right) made = elim (again_dec made (tree label below none)) [
+  | yes h ↦ join (repeats (tree label below none) ∷ []) (h, tt) (inl refl) (some_cover right made)
+  | no n ↦
+      let inner = some_cover below made in
+      let fresh : ¬ (IsBig (tree label below none)
+      × In (after made inner.0) (tree label below none)) = λ h. ⊎_elim
+      (λ old. n (h.0, old))
+      (λ sub. not_below label below sub)
+      (covered_made below made inner.0 (tree label below none) inner.1 h.1) in
+      join (inner.0 ++ makes (tree label below none) ∷ [])
+      (careful_join made inner.0 (makes (tree label below none) ∷ []) inner.2 (fresh, tt))
+      (inr (inner.0, refl, inner.1))
+      (some_cover right (after made (inner.0 ++ makes (tree label below none) ∷ [])))
+]
   where
-    t : Trees
-    t = tree label below none
-
     join : (here : List Visit) → Careful made here
         → ((here ≡ repeats (tree label below none) ∷ [])
         ⊎ ((inner : List Visit) × (here ≡ inner ++ makes (tree label below none) ∷ [])
@@ -110,56 +112,34 @@ some_cover (tree label below right) made = go (again_dec made (tree label below 
       careful_join made here later.0 c later.2,
     )
 
-    go : Dec (IsBig (tree label below none) × In made (tree label below none))
-        → ((ts : List Trees) → (v : List Visit) × Covers below v × Careful ts v)
-        → ((ts : List Trees) → (v : List Visit) × Covers right v × Careful ts v) → (v : List Visit)
-        × Covers (tree label below right) v × Careful made v
-    go (yes h) inside beside = join (repeats (tree label below none) ∷ []) (h, tt) (inl refl)
-        (beside made)
-    go (no n) inside beside =
-        let inner = inside made in
-        let fresh : ¬ (IsBig (tree label below none)
-        × In (after made inner.0) (tree label below none)) = λ h. ⊎_elim
-        (λ old. n (h.0, old))
-        (λ sub. not_below label below sub)
-        (covered_made below made inner.0 (tree label below none) inner.1 h.1) in
-        join (inner.0 ++ makes (tree label below none) ∷ [])
-        (careful_join made inner.0 (makes (tree label below none) ∷ []) inner.2 (fresh, tt))
-        (inr (inner.0, refl, inner.1))
-        (beside (after made (inner.0 ++ makes (tree label below none) ∷ [])))
-
 -- ---- marks
 
 abbrev pub NoKeeps : List Visit → Type 0
 NoKeeps [] = Unit {0}
-NoKeeps (makes t ∷ v) = NoKeeps v
-NoKeeps (repeats t ∷ v) = NoKeeps v
 NoKeeps (keeps t ∷ v) = ⊥
+NoKeeps (x ∷ v) = NoKeeps v
 
 no_keeps_join : (v w : List Visit) → NoKeeps v → NoKeeps w → NoKeeps (v ++ w)
 no_keeps_join [] w p q = q
-no_keeps_join (makes t ∷ v) w p q = no_keeps_join v w p q
-no_keeps_join (repeats t ∷ v) w p q = no_keeps_join v w p q
 no_keeps_join (keeps t ∷ v) w p q = absurd p
+no_keeps_join (x ∷ v) w p q = no_keeps_join v w p q
 
 pub covers_no_keeps : (trees : Trees) (v : List Visit) → Covers trees v → NoKeeps v
 covers_no_keeps none v p = subst NoKeeps (sym p) tt
 covers_no_keeps (tree label below right) v p =
     let here : NoKeeps p.0 = ⊎_elim
-    (λ a. subst NoKeeps (sym a) tt)
-    (λ a. subst NoKeeps (sym a.1) (no_keeps_join a.0 (makes (tree label below none) ∷ [])
-    (covers_no_keeps below a.0 a.2) tt)) p.4 in
-    subst NoKeeps (sym p.2) (no_keeps_join p.0 p.1 here (covers_no_keeps right p.1 p.3))
+    (λ a. rw a tt)
+    (λ a. rw a.1 (no_keeps_join a.0 _ (covers_no_keeps below a.0 a.2) tt)) p.4 in
+    rw p.2 (no_keeps_join p.0 p.1 here (covers_no_keeps right p.1 p.3))
 
 pub some_marks : (whole steps : List Visit) → NoKeeps steps → (v : List Visit)
     × Marked whole steps v
 some_marks whole [] p = ([], refl)
-some_marks whole (makes t ∷ steps) p = go (repeats_dec whole t) (some_marks whole steps p)
-  where
-    go : Dec (In whole (repeats t)) → (v : List Visit) × Marked whole steps v → (v : List Visit)
-        × Marked whole (makes t ∷ steps) v
-    go (yes h) r = (makes t ∷ keeps t ∷ r.0, (r.0, r.1, inl (h, refl)))
-    go (no n) r = (makes t ∷ r.0, (r.0, r.1, inr (n, refl)))
+some_marks whole (makes t ∷ steps) p = let r = some_marks whole steps p in
+    elim (repeats_dec whole t) [
+      | yes h ↦ (makes t ∷ keeps t ∷ r.0, (r.0, r.1, inl (h, refl)))
+      | no n ↦ (makes t ∷ r.0, (r.0, r.1, inr (n, refl)))
+    ]
 some_marks whole (repeats t ∷ steps) p = let r = some_marks whole steps p in
     (repeats t ∷ r.0, (r.0, r.1, refl))
 some_marks whole (keeps t ∷ steps) p = absurd p
@@ -190,24 +170,21 @@ marked_repeats whole (makes u ∷ steps) v t m (inl e) = absurd
     (let f : makes u ≡ repeats t = e in cc)
 marked_repeats whole (makes u ∷ steps) v t m (inr h) =
     let k = marked_repeats whole steps m.0 t m.1 h in
-    ⊎_elim (λ a. subst (λ l. In l (repeats t)) (sym a.1) (inr (inr k)))
-    (λ a. subst (λ l. In l (repeats t)) (sym a.1) (inr k)) m.2
-marked_repeats whole (repeats u ∷ steps) v t m (inl e) = subst (λ l. In l (repeats t)) (sym m.2)
-    (inl e)
-marked_repeats whole (repeats u ∷ steps) v t m (inr h) = subst (λ l. In l (repeats t)) (sym m.2)
-    (inr (marked_repeats whole steps m.0 t m.1 h))
+    ⊎_elim (λ a. rw a.1 (inr (inr k))) (λ a. rw a.1 (inr k)) m.2
+marked_repeats whole (repeats u ∷ steps) v t m (inl e) = rw m.2 (inl e)
+marked_repeats whole (repeats u ∷ steps) v t m (inr h) =
+    rw m.2 (inr (marked_repeats whole steps m.0 t m.1 h))
 marked_repeats whole (keeps u ∷ steps) v t m h = absurd m
 
 -- what careful steps repeat is big
 careful_big : (made : List Trees) (v : List Visit) (t : Trees) → Careful made v → In v (repeats t)
     → IsBig t
 careful_big made [] t c h = absurd h
-careful_big made (makes u ∷ v) t c (inl e) = absurd (let f : makes u ≡ repeats t = e in cc)
+careful_big made (repeats u ∷ v) t c (inl e) =
+    let same : u ≡ t = (let f : repeats u ≡ repeats t = e in cc) in subst IsBig same c.0.0
+careful_big made (x ∷ v) t c (inl e) = absurd (let f : x ≡ repeats t = e in cc)
 careful_big made (makes u ∷ v) t c (inr h) = careful_big (u ∷ made) v t c.1 h
-careful_big made (repeats u ∷ v) t c
-    (inl e) = let same : u ≡ t = (let f : repeats u ≡ repeats t = e in cc) in subst IsBig same c.0.0
 careful_big made (repeats u ∷ v) t c (inr h) = careful_big made v t c.1 h
-careful_big made (keeps u ∷ v) t c (inl e) = absurd (let f : keeps u ≡ repeats t = e in cc)
 careful_big made (keeps u ∷ v) t c (inr h) = careful_big made v t c h
 
 -- ---- they are tidy

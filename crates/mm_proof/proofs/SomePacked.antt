@@ -1,6 +1,6 @@
 -- A tree that fits has a fully shared proof.
-use Rattle.std.proofs.Common.{◌≡◌, ℕ, ◌+◌, List, [], ◌∷◌, ◌++◌, length, Contains, inl, inr, refl}
-use Rattle.std.proofs.Common.{sym, ap, subst}
+use Rattle.std.proofs.Common.{◌≡◌, ℕ, ◌+◌, List, [], ◌∷◌, ◌++◌, length, inl, inr, refl}
+use Rattle.std.proofs.Common.{⊎_elim, sym, ap, subst}
 use Rattle.std.specs.List.{AllZip}
 use Rattle.mm_code.specs.declared.code.Code.{Code}
 use Rattle.mm_code.specs.declared.code.Code.TheVariants.{Number, Tag}
@@ -16,7 +16,7 @@ use Rattle.mm_proof.specs.Sharing.{AreFirstUses}
 use Rattle.mm_proof.specs.SharingLaws.{SomePacked}
 use Rattle.mm_proof.proofs.Searches.{those_of}
 use Rattle.mm_proof.proofs.SaidMoves.{labels_of, mandatory_active}
-use Rattle.mm_proof.proofs.Members.{In, in_get, contains_in, in_left, in_right}
+use Rattle.mm_proof.proofs.Members.{In, in_get, contains_in, in_left, in_right, in_apart}
 use Rattle.mm_proof.proofs.ChildSums.{made_subtrees}
 use Rattle.mm_proof.proofs.LedMoves.{some_shared}
 
@@ -24,13 +24,10 @@ use Rattle.mm_proof.proofs.LedMoves.{some_shared}
 
 some_uses : (word seen : List (List ℕ)) → (listed : List (List ℕ)) × AreFirstUses seen word listed
 some_uses [] seen = ([], refl)
-some_uses (label ∷ word) seen = go (contains_dec seen label) (λ s. some_uses word s)
-  where
-    go : Dec (Contains seen label) → ((s : List (List ℕ)) → (listed : List (List ℕ))
-        × AreFirstUses s word listed) → (listed : List (List ℕ))
-        × AreFirstUses seen (label ∷ word) listed
-    go (yes c) rest = let r = rest seen in (r.0, inl (c, r.1))
-    go (no n) rest = let r = rest (label ∷ seen) in (label ∷ r.0, inr (n, r.0, refl, r.1))
+some_uses (label ∷ word) seen = elim (contains_dec seen label) [
+  | yes c ↦ let r = some_uses word seen in (r.0, inl (c, r.1))
+  | no n ↦ let r = some_uses word (label ∷ seen) in (label ∷ r.0, inr (n, r.0, refl, r.1))
+]
 
 -- each label was seen or is listed
 uses_have : (word seen listed : List (List ℕ)) (label : List ℕ) → AreFirstUses seen word listed
@@ -41,19 +38,11 @@ uses_have (l ∷ word) seen listed label (inl u) (inl e) = subst (In (seen ++ li
 uses_have (l ∷ word) seen listed label (inl u) (inr h) = uses_have word seen listed label u.1 h
 uses_have (l ∷ word) seen listed label (inr u) (inl e) = in_right seen listed label
     (subst (λ x. In x label) (sym u.2) (inl e))
-uses_have (l ∷ word) seen listed label (inr u) (inr h) = moved seen u.1 listed
-    (λ x k. subst (λ y. In y x) (sym u.2) k) (uses_have word (l ∷ seen) u.1 label u.3 h)
-  where
-    within : (xs ys zs : List (List ℕ)) (x : List ℕ) → ((x : List ℕ) → In ys x → In zs x)
-        → In (xs ++ ys) x → In (xs ++ zs) x
-    within [] ys zs x f h = f x h
-    within (y ∷ xs) ys zs x f (inl e) = inl e
-    within (y ∷ xs) ys zs x f (inr h) = inr (within xs ys zs x f h)
-
-    moved : (xs ys zs : List (List ℕ)) → ((x : List ℕ) → In (l ∷ ys) x → In zs x)
-        → In (l ∷ (xs ++ ys)) label → In (xs ++ zs) label
-    moved xs ys zs f (inl e) = in_right xs zs label (f label (inl e))
-    moved xs ys zs f (inr h) = within xs ys zs label (λ x k. f x (inr k)) h
+uses_have (l ∷ word) seen listed label (inr u) (inr h) = ⊎_elim
+    (λ a. ⊎_elim (λ e. in_right seen listed label (subst (λ x. In x label) (sym u.2) (inl e)))
+    (λ k. in_left seen listed label k) a)
+    (λ b. in_right seen listed label (subst (λ x. In x label) (sym u.2) (inr b)))
+    (in_apart (l ∷ seen) u.1 label (uses_have word (l ∷ seen) u.1 label u.3 h))
 
 -- ---- the labels of moves
 
@@ -78,16 +67,12 @@ label_made before [] row kept row' kept' m label h = absurd h
 label_made before (name l ∷ moves) row kept row' kept' m label (inl e) =
     let same : l ≡ label = (let f : name l ≡ name label = e in cc) in
     (m.2.1, inl (ap (λ x. tree x m.2.1 none) same))
-label_made before (name l ∷ moves) row kept row' kept' m label
-    (inr h) = let g = label_made before moves m.0 m.1 row' kept' m.3 label h in (g.0, inr g.1)
-label_made before (again tag ∷ moves) row kept row' kept' m label (inl e) = absurd
-    (let f : again tag ≡ name label = e in cc)
-label_made before (again tag ∷ moves) row kept row' kept' m label
-    (inr h) = label_made before moves m.0 m.1 row' kept' m.3 label h
-label_made before (mark ∷ moves) row kept row' kept' m label (inl e) = absurd
-    (let f : mark ≡ name label = e in cc)
-label_made before (mark ∷ moves) row kept row' kept' m label
-    (inr h) = label_made before moves m.0 m.1 row' kept' m.3 label h
+label_made before (name l ∷ moves) row kept row' kept' m label (inr h) =
+    let g = label_made before moves m.0 m.1 row' kept' m.3 label h in (g.0, inr g.1)
+label_made before (move ∷ moves) row kept row' kept' m label (inl e) =
+    absurd (let f : move ≡ name label = e in cc)
+label_made before (move ∷ moves) row kept row' kept' m label (inr h) =
+    label_made before moves m.0 m.1 row' kept' m.3 label h
 
 -- ---- codes
 

@@ -1,7 +1,8 @@
 -- The labels of a tree, and the tokens of a fully shared proof of it, are a proof of what it derives.
-use Rattle.std.proofs.Common.{◌≡◌, ℕ, ◌<◌, List, [], ◌∷◌, ◌++◌, map, drop, slice_get, Contains, Some, ◌⊎◌, inl, inr, refl, sym, ap, subst, ◌∙◌, arith, append_assoc}
+use Rattle.std.proofs.Common.{◌≡◌, ℕ, ◌<◌, List, [], ◌∷◌, ◌++◌, map, drop, slice_get, Contains, Some, inl, inr, refl, sym, ap, subst, ◌∙◌, arith, append_assoc}
 use Rattle.std.specs.List.{flat_map}
 use Rattle.std.proofs.lemmas.List.Elements.{Contains-append_left, Contains-append_right, Contains-append_cases}
+use Rattle.mm_text.proofs.Lists.{contains_from_at}
 use Rattle.mm_code.specs.declared.code.Code.{Code}
 use Rattle.mm_code.specs.declared.code.CodeRule.{CodeRule}
 use Rattle.mm_code.specs.declared.code.CodeRule.TheVariants as code
@@ -18,7 +19,7 @@ use Rattle.mm_proof.specs.Tokens.{opening_token, closing_token, IsNormal, SaysCo
 use Rattle.mm_proof.specs.Proof.{BreaksWhole, IsWhole, IsProvedWithin}
 use Rattle.mm_proof.specs.Sharing.{AreFirstUses, IsPacked}
 use Rattle.mm_proof.proofs.Making.{derive_fits, fit_makes}
-use Rattle.mm_proof.proofs.SaidMoves.{normal_or_compressed, labels_once, letters_once, contained}
+use Rattle.mm_proof.proofs.SaidMoves.{normal_or_compressed, labels_once, letters_once}
 use Rattle.mm_proof.proofs.Letters.{coded_not_broken}
 use Rattle.mm_proof.proofs.Searches.{contains_first, contains_later, contains_cases}
 use Rattle.mm_proof.proofs.OneStep.{not_both_kinds}
@@ -34,16 +35,13 @@ no_member x (i, less, e) = let h : i < 0 = less in absurd (omega (arith, h))
 pub label_fits : (before : List Sentence) (trees : Trees) (label : List ℕ) → TreesFit before trees → Contains (spelling trees) label → (below : Trees) × MayStandOver before label below
 label_fits before none label fit c = absurd (no_member label c)
 label_fits before (tree own below right) label fit c =
-    go (label_fits before below label fit.1) (label_fits before right label fit.2) (Contains-append_cases (spelling below) (own ∷ spelling right) label c)
-  where
-    later : (Contains (spelling right) label → (under : Trees) × MayStandOver before label under) → ((own ≡ label) ⊎ Contains (spelling right) label) → (under : Trees) × MayStandOver before label under
-    later right_fits (inl same) = (below, subst (λ (l : List ℕ). MayStandOver before l below) same fit.0)
-    later right_fits (inr h) = right_fits h
-
-    go : (Contains (spelling below) label → (under : Trees) × MayStandOver before label under) → (Contains (spelling right) label → (under : Trees) × MayStandOver before label under)
-        → (Contains (spelling below) label ⊎ Contains (own ∷ spelling right) label) → (under : Trees) × MayStandOver before label under
-    go below_fits right_fits (inl h) = below_fits h
-    go below_fits right_fits (inr h) = later right_fits (contains_cases own (spelling right) label h)
+    elim (Contains-append_cases (spelling below) (own ∷ spelling right) label c) [
+      | inl h ↦ label_fits before below label fit.1 h
+      | inr h ↦ elim (contains_cases own (spelling right) label h) [
+        | inl same ↦ (below, subst (λ (l : List ℕ). MayStandOver before l below) same fit.0)
+        | inr k ↦ label_fits before right label fit.2 k
+      ]
+    ]
 
 -- it is that of a statement
 pub stands_known : (before : List Sentence) (label : List ℕ) (below : Trees) → MayStandOver before label below → SomeSentence before (IsLabelled label)
@@ -91,7 +89,7 @@ spelled_proves Fits before s label below meant apart derived =
     let trees : Trees = tree label below none in
     let tokens : List (List ℕ) = spelling trees in
     let fit : TreesFit before trees = derive_fits Fits before trees (s.symbols ∷ []) derived in
-    let normal : IsNormal tokens = λ e. apart (contained tokens 0 opening_token e) in
+    let normal : IsNormal tokens = λ e. apart (contains_from_at tokens opening_token (0, e)) in
     let whole : IsWhole before tokens = whole_of before tokens tokens meant (λ broken. normal broken.0) (λ others are. labels_once tokens others tokens are (inl (normal, refl)))
     (λ l used. label_fits before trees l fit used) (λ text rule are. absurd (normal_or_compressed tokens are.0 are.1 normal are.2)) in (
       record {
@@ -110,11 +108,10 @@ first_used : (seen word listed : List (List ℕ)) (label : List ℕ) → AreFirs
 first_used seen [] listed label uses c = absurd (no_member label (subst (λ (ls : List (List ℕ)). Contains ls label) uses c))
 first_used seen (own ∷ word) listed label (inl (old, uses)) c = contains_later own word label (first_used seen word listed label uses c)
 first_used seen (own ∷ word) listed label (inr (new, others, e, uses)) c =
-    go (first_used (own ∷ seen) word others label uses) (contains_cases own others label (subst (λ (ls : List (List ℕ)). Contains ls label) e c))
-  where
-    go : (Contains others label → Contains word label) → ((own ≡ label) ⊎ Contains others label) → Contains (own ∷ word) label
-    go used (inl same) = subst (Contains (own ∷ word)) same (contains_first own word)
-    go used (inr h) = contains_later own word label (used h)
+    elim (contains_cases own others label (subst (λ (ls : List (List ℕ)). Contains ls label) e c)) [
+      | inl same ↦ subst (Contains (own ∷ word)) same (contains_first own word)
+      | inr h ↦ contains_later own word label (first_used (own ∷ seen) word others label uses h)
+    ]
 
 pub packed_listed : (before : List Sentence) (s : Sentence) (trees : Trees) (listed : List (List ℕ)) (codes : List Code) (label : List ℕ) → IsPacked before s trees listed codes → Contains listed label → Contains (spelling trees) label
 packed_listed before s trees listed codes label p c = first_used p.says.labels (spelling trees) listed label p.uses c

@@ -1,6 +1,6 @@
 -- A normal proof has the strict form, and so has the packed proof of a tree.
 use Rattle.std.proofs.Common.{◌≡◌, ℕ, zero, suc, ◌≤◌, List, [], ◌∷◌, ◌++◌, length, map, slice_get}
-use Rattle.std.proofs.Common.{Contains, Some, inl, inr, refl, sym, ap, subst, ◌∙◌, arith}
+use Rattle.std.proofs.Common.{Contains, Option, Some, inl, inr, refl, sym, ap, subst, ◌∙◌, arith}
 use Rattle.std.specs.List.{flat_map}
 use Rattle.std.proofs.lemmas.Option.{same_Some, none-some}
 use Rattle.mm_code.specs.declared.code.Code.{Code}
@@ -13,11 +13,10 @@ use Rattle.mm_proof.specs.BigSubtrees.{IsBig}
 use Rattle.mm_proof.specs.Moves.{Move, name, again, mark, Makes}
 use Rattle.mm_proof.specs.Visits.{makes, repeats, keeps, visits}
 use Rattle.mm_proof.specs.Tokens.{closing_token, IsNormal}
-use Rattle.mm_proof.specs.Tokens.{SaysCompressed}
 use Rattle.mm_proof.specs.Sharing.{ShareAll, IsPacked}
 use Rattle.mm_proof.specs.Strict.{IsStrictList, MarkAssertions, IsStrict}
-use Rattle.mm_text.proofs.Lists.{get_before, get_parted}
-use Rattle.mm_proof.proofs.Members.{In, contains_in, once_places}
+use Rattle.mm_text.proofs.Lists.{get_before, get_parted, zip_left, mapped_zip}
+use Rattle.mm_proof.proofs.Members.{In, contains_in, in_get, get_in, once_places}
 use Rattle.mm_proof.proofs.SaidMoves.{compressed_once, moves_once}
 use Rattle.mm_proof.proofs.PairOnce.{uses_apart}
 use Rattle.mm_proof.proofs.SpelledProofs.{packed_says}
@@ -34,14 +33,11 @@ normal_is_strict before s tokens normal = strict_normal before s tokens normal
 label_in : (hypotheses : List Sentence) (labels : List (List ℕ)) (h : Sentence) (label : List ℕ)
     → map (λ (g : Sentence). g.label) hypotheses ≡ map Some labels → In hypotheses h
     → IsLabelled label h → In labels label
-label_in [] labels h label e has named = absurd has
-label_in (g ∷ hypotheses) [] h label e has named = absurd cc
-label_in (g ∷ hypotheses) (l ∷ labels) h label e (inl same) named =
-    let here : g.label ≡ Some l = cc in
-    inl (same_Some l label (sym here ∙ subst (IsLabelled label) (sym same) named))
-label_in (g ∷ hypotheses) (l ∷ labels) h label e (inr later) named =
-    let others : map (λ (k : Sentence). k.label) hypotheses ≡ map Some labels = cc in
-    inr (label_in hypotheses labels h label others later named)
+label_in hypotheses labels h label e has named =
+    let at = in_get hypotheses h has in
+    let l = zip_left (λ (g : Sentence) k. g.label ≡ Some k) hypotheses labels at.0 h
+    (mapped_zip (λ (g : Sentence). g.label) Some _ (λ g k same. same) hypotheses labels e) at.1 in
+    get_in labels at.0 label (l.1 ∙ sym l.2 ∙ named)
 
 -- the labels by first use are listed once, and those of mandatory hypotheses aren't
 packed_list : (before : List Sentence) (s : Sentence) (trees : Trees) (listed : List (List ℕ))
@@ -66,29 +62,26 @@ kept_there : (before : List Sentence) (moves : List (Move (List ℕ))) (row : Tr
     (made : Makes before moves row kept row' kept') (i : ℕ) → slice_get moves i ≡ Some mark
     → (t : Trees) × (slice_get (visits before moves row kept row' kept' made) i ≡ Some (keeps t))
 kept_there before [] row kept row' kept' made i at = absurd (none-some mark at)
-kept_there before (name label ∷ moves) row kept row' kept' made zero at =
-    absurd (let e = same_Some {A = Move (List ℕ)} (name label) mark at in cc)
-kept_there before (again tag ∷ moves) row kept row' kept' made zero at =
-    absurd (let e = same_Some {A = Move (List ℕ)} (again tag) mark at in cc)
 kept_there before (mark ∷ moves) row kept row' kept' made zero at =
     (tree made.2.1 made.2.2 none, refl)
+kept_there before (move ∷ moves) row kept row' kept' made zero at =
+    absurd (let e = same_Some {A = Move (List ℕ)} move mark at in cc)
 kept_there before (move ∷ moves) row kept row' kept' made (suc i) at =
     kept_there before moves made.0 made.1 row' kept' made.3 i at
 
--- the step at a place makes the tree by its label
-record ByLabel (before : List Sentence) (moves : List (Move (List ℕ))) (j : ℕ)
-    (t : Trees) : Type 0 where
+-- the step makes the tree by its label
+record ByLabel (before : List Sentence) (move : Option (Move (List ℕ))) (t : Trees) : Type 0 where
   label : List ℕ
   below : Trees
   whole : t ≡ tree label below none
-  there : slice_get moves j ≡ Some (name label)
+  there : move ≡ Some (name label)
   stands : MayStandOver before label below
 
 made_there : (before : List Sentence) (moves : List (Move (List ℕ))) (row : Trees)
     (kept : List Trees) (row' : Trees) (kept' : List Trees)
     (made : Makes before moves row kept row' kept') (j : ℕ) (t : Trees)
     → slice_get (visits before moves row kept row' kept' made) j ≡ Some (makes t)
-    → ByLabel before moves j t
+    → ByLabel before (slice_get moves j) t
 made_there before [] row kept row' kept' made j t at = absurd (none-some (makes t) at)
 made_there before (name label ∷ moves) row kept row' kept' made zero t at =
     let e : makes (tree label made.2.1 none) ≡ makes t =
@@ -100,14 +93,7 @@ made_there before (mark ∷ moves) row kept row' kept' made zero t at =
     let e : keeps (tree made.2.1 made.2.2 none) ≡ makes t =
     same_Some (keeps (tree made.2.1 made.2.2 none)) (makes t) at in absurd cc
 made_there before (move ∷ moves) row kept row' kept' made (suc j) t at =
-    let later = made_there before moves made.0 made.1 row' kept' made.3 j t at in
-    record {
-      label = later.label;
-      below = later.below;
-      whole = later.whole;
-      there = later.there;
-      stands = later.stands;
-    }
+    made_there before moves made.0 made.1 row' kept' made.3 j t at
 
 -- what stands over a tree is an assertion's label
 big_assertion : (before : List Sentence) (label : List ℕ) (below : Trees)
@@ -139,16 +125,6 @@ shared_marks before trees moves s front after parts =
 
 -- ---- the form
 
-strict_from : (before : List Sentence) (s : Sentence) (tokens : List (List ℕ))
-    (moves : List (Move (List ℕ))) → (says : SaysCompressed before s tokens moves)
-    → IsStrictList before s says.listed → MarkAssertions before moves → IsStrict before s tokens
-strict_from before s tokens moves says list marks = record {
-  listed = λ labels letters parts. subst (IsStrictList before s)
-      (compressed_once tokens says.listed labels says.letters letters says.parts parts).0 list;
-  marked = λ others other. subst (MarkAssertions before)
-      (moves_once before s tokens moves others (inr says) (inr other)) marks;
-}
-
 -- the tokens of a packed proof have the strict form
 pub packed_is_strict : (before : List Sentence) (s : Sentence) (trees : Trees)
     (listed : List (List ℕ)) (codes : List Code) (letters : List ℕ) (pieces : List (List ℕ))
@@ -156,6 +132,13 @@ pub packed_is_strict : (before : List Sentence) (s : Sentence) (trees : Trees)
     → flat_map (λ piece. piece) pieces ≡ letters → ¬ (Contains (spelling trees) closing_token)
     → IsStrict before s (in_parentheses listed ++ pieces)
 packed_is_strict before s trees listed codes letters pieces p coded joined apart =
-    strict_from before s (in_parentheses listed ++ pieces) p.moves
-    (packed_says before s trees listed codes letters pieces p coded joined apart)
-    (packed_list before s trees listed codes p) (shared_marks before trees p.moves p.shared)
+    let tokens = in_parentheses listed ++ pieces in
+    let says = packed_says before s trees listed codes letters pieces p coded joined apart in
+    record {
+      listed = λ labels others parts. subst (IsStrictList before s)
+          (compressed_once tokens says.listed labels says.letters others says.parts parts).0
+          (packed_list before s trees listed codes p);
+      marked = λ others other. subst (MarkAssertions before)
+          (moves_once before s tokens p.moves others (inr says) (inr other))
+          (shared_marks before trees p.moves p.shared);
+    }

@@ -1,32 +1,25 @@
 -- What a set answers, said of its list.
-use Rattle.std.proofs.Common.{◌≡◌, ℕ, ◌&&◌, eqb, eq-eqb, List, [], ◌∷◌, ◌++◌, get_or, slice_get, Contains, Bool, true, false, not, ◌||◌, Some, if◌then◌else◌, ◌⊎◌, inl, inr, refl, sym, ap, subst, ◌∙◌}
+use Rattle.std.proofs.Common.{◌≡◌, ℕ, ◌&&◌, eqb, eq-eqb, List, [], ◌∷◌, ◌++◌, get_or, slice_get, Contains, Bool, true, false, not, Some, if◌then◌else◌, inl, inr, refl, sym, ap, subst, ◌∙◌}
 use Rattle.std.specs.List.{list_any, position}
-use Rattle.std.proofs.lemmas.Bool.{false≢true, eqb-true}
+use Rattle.std.proofs.lemmas.Bool.{false≢true, eqb-true, and_parts, and_from}
 use Rattle.std.proofs.lemmas.Option.{slice_get-get_or}
+use Rattle.std.proofs.lemmas.List.Folds.{list_any_at}
 use Rattle.std.proofs.lemmas.List.Quantifiers.{position-Some}
 use Rattle.std.proofs.lemmas.Map.Views.{Contains-from_any}
 use Rattle.mm_proof.specs.declared.subtrees.Subtree.{Subtree}
 use Rattle.mm_proof.specs.Mirror.CodeSharing.{Adds, AddsNew}
-use Rattle.mm_proof.proofs.Members.{In, contains_in}
 
 -- the test of equality tells apart
 pub record Tells {X : Type 0} (eq : X → X → Bool) : Type 0 where
   pub told : (a b : X) → eq a b ≡ true → a ≡ b
   pub same : (a : X) → eq a a ≡ true
 
-either_true : (a b : Bool) → (a ≡ true) ⊎ (b ≡ true) → (a || b) ≡ true
-either_true true b h = refl
-either_true false b (inl e) = absurd (false≢true e)
-either_true false b (inr e) = e
-
-any_in : {X : Type 0} (eq : X → X → Bool) → Tells eq → (list : List X) (t : X) → In list t → list_any (eq t) list ≡ true
-any_in eq tells [] t h = absurd h
-any_in eq tells (u ∷ list) t (inl e) = either_true (eq t u) (list_any (eq t) list) (inl (ap (eq t) e ∙ tells.same t))
-any_in eq tells (u ∷ list) t (inr h) = either_true (eq t u) (list_any (eq t) list) (inr (any_in eq tells list t h))
-
 pub any_contains : {X : Type 0} (eq : X → X → Bool) → Tells eq → (list : List X) (t : X)
     → (list_any (eq t) list ≡ true → Contains list t) × (Contains list t → list_any (eq t) list ≡ true)
-any_contains eq tells list t = (λ e. Contains-from_any tells.told t list e, λ c. any_in eq tells list t (contains_in list t c))
+any_contains eq tells list t = (
+  λ e. Contains-from_any tells.told t list e,
+  λ c. list_any_at (eq t) list c.0 t c.1 (ap (eq t) c.2 ∙ tells.same t),
+)
 
 -- the place that is found is that of the subtree
 pub place_there : {X : Type 0} (eq : X → X → Bool) → Tells eq → (list : List X) (t : X) (i : ℕ) → position (eq t) list ≡ Some i → slice_get list i ≡ Some t
@@ -56,17 +49,13 @@ pub numbers_told : Tells eqb
 numbers_told = record { told = λ a b e. eqb-true a b e; same = λ a. eq-eqb a a refl }
 
 -- the derived test of equality
-both_true : (a b : Bool) → (a && b) ≡ true → (a ≡ true) × (b ≡ true)
-both_true true b e = (refl, e)
-both_true false b e = absurd (false≢true e)
-
-pub same_fields : (a b : Subtree) → (eqb a.label b.label && eqb a.below b.below) ≡ true → a ≡ b
-same_fields a b e =
-    let h = both_true (eqb a.label b.label) (eqb a.below b.below) e in
-    let label : a.label ≡ b.label = eqb-true a.label b.label h.0 in
-    let below : a.below ≡ b.below = eqb-true a.below b.below h.1 in
-    let subtree : ℕ → ℕ → Subtree = λ l k. record { label = l; below = k } in
-    ap (λ l. subtree l a.below) label ∙ ap (λ k. subtree b.label k) below
-
-pub own_fields : (a : Subtree) → (eqb a.label a.label && eqb a.below a.below) ≡ true
-own_fields a = (ap (λ x. x && eqb a.below a.below) (eq-eqb a.label a.label refl)) ∙ eq-eqb a.below a.below refl
+pub fields_told : Tells (λ (a b : Subtree). eqb a.label b.label && eqb a.below b.below)
+fields_told = record {
+  told = λ a b e.
+      let h = and_parts (eqb a.label b.label) (eqb a.below b.below) e in
+      let label : a.label ≡ b.label = eqb-true a.label b.label h.0 in
+      let below : a.below ≡ b.below = eqb-true a.below b.below h.1 in
+      let subtree : ℕ → ℕ → Subtree = λ l k. record { label = l; below = k } in
+      ap (λ l. subtree l a.below) label ∙ ap (λ k. subtree b.label k) below;
+  same = λ a. and_from _ _ (eq-eqb a.label a.label refl) (eq-eqb a.below a.below refl);
+}

@@ -1,10 +1,9 @@
 -- The trees of the moves so far, by the numbers of their subtrees, one move more.
 use Rattle.std.proofs.Common.{◌≡◌, ℕ, suc, ◌<◌, List, [], ◌∷◌, ◌++◌, length, drop, get_or, refl, sym, ap, subst, ◌∙◌, arith}
-use Rattle.std.specs.List.{AllZip}
 use Rattle.std.proofs.lemmas.Option.{same_Some, none-some}
 use Rattle.std.proofs.lemmas.List.{length-append}
 use Rattle.std.proofs.Math.Seq.{drop-cons}
-use Rattle.mm_text.proofs.Lists.{zip_push, zip_right}
+use Rattle.mm_text.proofs.Lists.{zip_push, zip_right, zip_weaker}
 use Rattle.mm_frame.specs.Sentence.{Sentence}
 use Rattle.mm_proof.specs.declared.subtrees.Subtree.{Subtree}
 use Rattle.mm_proof.specs.declared.subtrees.Row.{Row}
@@ -44,11 +43,6 @@ trees_split st rows [] us (tree l x r) b many p = absurd (let n = trees_count st
 trees_split st rows (t ∷ ts) us none b many p = absurd (let n = trees_count st rows (t ∷ (ts ++ us)) b p in let m = length-append ts us in omega arith)
 trees_split st rows (t ∷ ts) us (tree l x r) b many p = let h = trees_split st rows ts us r b many p.1 in ((p.0, h.0), h.1)
 
-shelf_later : (st : List Sentence) (old new : List Row) (shelf : List Subtree) (kept : List Trees) → KeepNumbers old new → AllZip (IsSubtreeOf st old) shelf kept → AllZip (IsSubtreeOf st new) shelf kept
-shelf_later st old new [] [] keep z = tt
-shelf_later st old new (t ∷ shelf) (u ∷ kept) keep z = (trees_later st old new (t ∷ []) u keep z.0, shelf_later st old new shelf kept keep z.1)
-shelf_later st old new shelf kept keep z = absurd z
-
 -- a step by a label
 pub subtrees_make : (st : List Sentence) (first old new : List Row) (stack items shelf : List Subtree) (t : Subtree) (rest below : Trees) (kept : List Trees) (label : List ℕ)
     → ((row : Trees) → AreTreesOf st old items row → StandsFor st new t.below row) → KeepNumbers old new → (AreOnce old → AreOnce new) → IsNumberOfLabel st t.label label → roots below ≡ length items
@@ -59,7 +53,8 @@ subtrees_make st first old new stack items shelf t rest below kept label number 
       keep = λ place row there. keep place row (h.keep place row there);
       once = once h.once;
       stands = trees_join st new stack (t ∷ []) rest (tree label below none) (trees_later st old new stack rest keep parts.0) (record { named = named; stands = number below parts.1 }, tt);
-      shelved = shelf_later st old new shelf kept keep h.shelved;
+      shelved = zip_weaker _ _ (λ t u is. trees_later st old new (t ∷ []) u keep is) shelf kept
+          h.shelved;
     }
 
 -- the last tree is the one that was made

@@ -17,6 +17,19 @@ Tidy done (repeats t ∷ v) = In done (keeps t) × Tidy (repeats t ∷ done) v
 Tidy done (keeps t ∷ v) = IsBig t × ((rest : List Visit) × (done ≡ makes t ∷ rest))
     × Tidy (keeps t ∷ done) v
 
+-- a visit is the next one, and then the last that is done
+done_after : (x : Visit) (done v : List Visit) (y : Visit) → In done y ⊎ In (x ∷ v) y
+    → In (x ∷ done) y ⊎ In v y
+done_after x done v y (inl h) = inl (inr h)
+done_after x done v y (inr (inl e)) = inl (inl e)
+done_after x done v y (inr (inr h)) = inr h
+
+left_before : (x : Visit) (done v : List Visit) (y : Visit) → In (x ∷ done) y ⊎ In v y
+    → In done y ⊎ In (x ∷ v) y
+left_before x done v y (inl (inl e)) = inr (inl e)
+left_before x done v y (inl (inr h)) = inl h
+left_before x done v y (inr h) = inr (inr h)
+
 -- ---- what the visits that are done say
 
 -- what is kept is big, and was made
@@ -58,17 +71,14 @@ pub made_visit : (v : List Visit) (t : Trees) → In (trees_made v) t → In v (
 made_visit [] t h = absurd h
 made_visit (makes u ∷ v) t (inl e) = inl (ap (λ x. makes x) e)
 made_visit (makes u ∷ v) t (inr h) = inr (made_visit v t h)
-made_visit (repeats u ∷ v) t h = inr (made_visit v t h)
-made_visit (keeps u ∷ v) t h = inr (made_visit v t h)
+made_visit (x ∷ v) t h = inr (made_visit v t h)
 
 pub visit_made : (v : List Visit) (t : Trees) → In v (makes t) → In (trees_made v) t
 visit_made [] t h = absurd h
 visit_made (makes u ∷ v) t (inl e) = inl (let f : makes u ≡ makes t = e in cc)
 visit_made (makes u ∷ v) t (inr h) = inr (visit_made v t h)
-visit_made (repeats u ∷ v) t (inl e) = absurd (let f : repeats u ≡ makes t = e in cc)
-visit_made (repeats u ∷ v) t (inr h) = visit_made v t h
-visit_made (keeps u ∷ v) t (inl e) = absurd (let f : keeps u ≡ makes t = e in cc)
-visit_made (keeps u ∷ v) t (inr h) = visit_made v t h
+visit_made (x ∷ v) t (inl e) = absurd (let f : x ≡ makes t = e in cc)
+visit_made (x ∷ v) t (inr h) = visit_made v t h
 
 -- tidy visits are careful steps
 pub tidy_careful : (v done : List Visit) → KeepsMade done → Tidy done v
@@ -102,18 +112,16 @@ next_keeps x done v rest t c e =
 pub not_kept : (v done : List Visit) (t : Trees) → Tidy done v → In done (makes t) → IsNotNext v t
     → In v (keeps t) → ⊥
 not_kept [] done t c made next h = h
-not_kept (makes u ∷ v) done t c made next (inl e) = (let f : makes u ≡ keeps t = e in cc)
 not_kept (makes u ∷ v) done t c made next (inr h) =
     not_kept v (makes u ∷ done) t c.1 (inr made)
     (λ rest e.
     let n = next_keeps (makes u) done v rest t c.1 e in
     let same : u ≡ t = (let f : makes u ≡ makes t = n.1 in cc) in
     c.0 (subst IsBig (sym same) n.0) (subst (λ x. In done (makes x)) (sym same) made)) h
-not_kept (repeats u ∷ v) done t c made next (inl e) = (let f : repeats u ≡ keeps t = e in cc)
 not_kept (repeats u ∷ v) done t c made next (inr h) =
     not_kept v (repeats u ∷ done) t c.1 (inr made)
     (λ rest e. let f = (next_keeps (repeats u) done v rest t c.1 e).1 in cc) h
-not_kept (keeps u ∷ v) done t c made next (inl e) = next v (ap (λ x. x ∷ v) e)
+not_kept (x ∷ v) done t c made next (inl e) = next v (ap (λ y. y ∷ v) e)
 not_kept (keeps u ∷ v) done t c made next (inr h) =
     not_kept v (keeps u ∷ done) t c.2 (inr made)
     (λ rest e. let f = (next_keeps (keeps u) done v rest t c.2 e).1 in cc) h
@@ -122,19 +130,13 @@ not_kept (keeps u ∷ v) done t c made next (inr h) =
 repeated_kept : (v done : List Visit) (t : Trees) → Tidy done v → In v (repeats t)
     → In done (keeps t) ⊎ In v (keeps t)
 repeated_kept [] done t c h = absurd h
-repeated_kept (makes u ∷ v) done t c (inl e) = absurd (let f : makes u ≡ repeats t = e in cc)
-repeated_kept (makes u ∷ v) done t c (inr h) = ⊎_elim
-    (λ a. ⊎_elim (λ e. absurd (let f : makes u ≡ keeps t = e in cc)) (λ k. inl k) a)
-    (λ b. inr (inr b)) (repeated_kept v (makes u ∷ done) t c.1 h)
 repeated_kept (repeats u ∷ v) done t c (inl e) = inl
     (subst (λ x. In done (keeps x)) (let f : repeats u ≡ repeats t = e in cc) c.0)
-repeated_kept (repeats u ∷ v) done t c (inr h) = ⊎_elim
-    (λ a. ⊎_elim (λ e. absurd (let f : repeats u ≡ keeps t = e in cc)) (λ k. inl k) a)
-    (λ b. inr (inr b)) (repeated_kept v (repeats u ∷ done) t c.1 h)
-repeated_kept (keeps u ∷ v) done t c (inl e) = absurd (let f : keeps u ≡ repeats t = e in cc)
-repeated_kept (keeps u ∷ v) done t c (inr h) = ⊎_elim
-    (λ a. ⊎_elim (λ e. inr (inl e)) (λ k. inl k) a)
-    (λ b. inr (inr b)) (repeated_kept v (keeps u ∷ done) t c.2 h)
+repeated_kept (x ∷ v) done t c (inl e) = absurd (let f : x ≡ repeats t = e in cc)
+repeated_kept (keeps u ∷ v) done t c (inr h) =
+    left_before _ done v _ (repeated_kept v (keeps u ∷ done) t c.2 h)
+repeated_kept (x ∷ v) done t c (inr h) =
+    left_before x done v _ (repeated_kept v (x ∷ done) t c.1 h)
 
 -- ---- where marks stand is told by the steps
 
@@ -167,21 +169,14 @@ marked_once whole (keeps t ∷ steps) v w p q = absurd p
 
 -- the visits without a mark that they begin with
 abbrev pub unmark : List Visit → List Visit
-unmark [] = []
-unmark (makes t ∷ v) = makes t ∷ v
-unmark (repeats t ∷ v) = repeats t ∷ v
 unmark (keeps t ∷ v) = v
+unmark v = v
 
 first_kept : (v : List Visit) → ((t : Trees) × (rest : List Visit) × (v ≡ keeps t ∷ rest))
     ⊎ (((t : Trees) → IsNotNext v t) × (unmark v ≡ v))
 first_kept [] = inr (λ t rest e. cc, refl)
-first_kept (makes u ∷ v) = inr (
-  λ t rest e. (let f : makes u ≡ keeps t = (cons_parts (makes u) (keeps t) v rest e).0 in cc),
-  refl,
-)
-first_kept (repeats u ∷ v) = inr
-    (λ t rest e. let f = (cons_parts (repeats u) (keeps t) v rest e).0 in cc, refl)
 first_kept (keeps u ∷ v) = inl (u, v, refl)
+first_kept (x ∷ v) = inr (λ t rest e. let f = (cons_parts x (keeps t) v rest e).0 in cc, refl)
 
 -- a mark follows only what is made
 bare_after : (x : Visit) (done v : List Visit) → Tidy (x ∷ done) v → ((t : Trees) → x ≡ makes t → ⊥)
@@ -192,8 +187,7 @@ bare_after x done v c other = ⊎_elim
 
 kept_first : (v rest : List Visit) (t u : Trees) → v ≡ keeps u ∷ rest → t ≡ u
     → v ≡ keeps t ∷ unmark v
-kept_first v rest t u e same = e ∙ ap (λ x. keeps x ∷ rest) (sym same)
-    ∙ ap (λ x. keeps t ∷ x) (sym (ap unmark e))
+kept_first v rest t u e same = rw (same, e)
 
 pub tidy_marked : (whole v done : List Visit) → KeepsMade done → RepeatsKept done → Tidy done v
     → ((t : Trees) → In whole (repeats t) → In done (repeats t) ⊎ In v (repeats t))
@@ -203,10 +197,7 @@ tidy_marked whole [] done k r c parts refer = refl
 tidy_marked whole (makes t ∷ v) done k r c parts refer =
     let rest : Marked whole (strip v) (unmark v) = tidy_marked whole v (makes t ∷ done)
     (keeps_after (makes t) done (λ u e. cc) k) (repeats_after (makes t) done (λ u e. cc) r) c.1
-    (λ u h. ⊎_elim
-    (λ a. inl (inr a))
-    (λ b. ⊎_elim (λ e. let f : makes t ≡ repeats u = e in absurd cc) (λ l. inr l) b) (parts u h))
-    (λ u h. refer u (inr h)) in
+    (λ u h. done_after _ done v _ (parts u h)) (λ u h. refer u (inr h)) in
     ⊎_elim
     (λ f.
     let n = next_keeps (makes t) done v f.1 f.0 c.1 f.2 in
@@ -216,8 +207,7 @@ tidy_marked whole (makes t ∷ v) done k r c parts refer =
       rest,
       inl (
         refer t (inr (subst (λ l. In l (keeps t)) (sym again) (inl refl))),
-        ap
-            (λ x. makes t ∷ x) again,
+        ap (λ x. makes t ∷ x) again,
       ),
     ))
     (λ b. (
@@ -241,54 +231,43 @@ tidy_marked whole (repeats t ∷ v) done k r c parts refer = (
   subst (Marked whole (strip v)) (bare_after (repeats t) done v c.1 (λ u e. cc))
       (tidy_marked whole v (repeats t ∷ done) (keeps_after (repeats t) done (λ u e. cc) k)
       (repeats_after_repeat done t c.0 r) c.1
-      (λ u h. ⊎_elim
-      (λ a. inl (inr a))
-      (λ b. ⊎_elim (λ e. inl (inl e)) (λ l. inr l) b) (parts u h))
-      (λ u h. refer u (inr h))),
+      (λ u h. done_after _ done v _ (parts u h)) (λ u h. refer u (inr h))),
   refl,
 )
 tidy_marked whole (keeps t ∷ v) done k r c parts refer =
     subst (Marked whole (strip v)) (bare_after (keeps t) done v c.2 (λ u e. cc))
     (tidy_marked whole v (keeps t ∷ done) (keeps_after_keep done c.1.0 t c.0 c.1.1 k)
     (repeats_after (keeps t) done (λ u e. cc) r) c.2
-    (λ u h. ⊎_elim
-    (λ a. inl (inr a))
-    (λ b. ⊎_elim (λ e. let f : keeps t ≡ repeats u = e in absurd cc) (λ l. inr l) b) (parts u h))
-    (λ u h. refer u (inr h)))
+    (λ u h. done_after _ done v _ (parts u h)) (λ u h. refer u (inr h)))
 
 -- ---- what is kept is kept once
 
 abbrev pub trees_kept : List Visit → List Trees
 trees_kept [] = []
-trees_kept (makes t ∷ v) = trees_kept v
-trees_kept (repeats t ∷ v) = trees_kept v
 trees_kept (keeps t ∷ v) = t ∷ trees_kept v
+trees_kept (x ∷ v) = trees_kept v
 
 pub kept_visit : (v : List Visit) (t : Trees) → In (trees_kept v) t → In v (keeps t)
 kept_visit [] t h = absurd h
-kept_visit (makes u ∷ v) t h = inr (kept_visit v t h)
-kept_visit (repeats u ∷ v) t h = inr (kept_visit v t h)
 kept_visit (keeps u ∷ v) t (inl e) = inl (ap (λ x. keeps x) e)
 kept_visit (keeps u ∷ v) t (inr h) = inr (kept_visit v t h)
+kept_visit (x ∷ v) t h = inr (kept_visit v t h)
 
 pub visit_kept : (v : List Visit) (t : Trees) → In v (keeps t) → In (trees_kept v) t
 visit_kept [] t h = absurd h
-visit_kept (makes u ∷ v) t (inl e) = absurd (let f : makes u ≡ keeps t = e in cc)
-visit_kept (makes u ∷ v) t (inr h) = visit_kept v t h
-visit_kept (repeats u ∷ v) t (inl e) = absurd (let f : repeats u ≡ keeps t = e in cc)
-visit_kept (repeats u ∷ v) t (inr h) = visit_kept v t h
 visit_kept (keeps u ∷ v) t (inl e) = inl (let f : keeps u ≡ keeps t = e in cc)
 visit_kept (keeps u ∷ v) t (inr h) = inr (visit_kept v t h)
+visit_kept (x ∷ v) t (inl e) = absurd (let f : x ≡ keeps t = e in cc)
+visit_kept (x ∷ v) t (inr h) = visit_kept v t h
 
 pub tidy_once : (v done : List Visit) → Tidy done v → Once (trees_kept v)
 tidy_once [] done c = tt
-tidy_once (makes t ∷ v) done c = tidy_once v (makes t ∷ done) c.1
-tidy_once (repeats t ∷ v) done c = tidy_once v (repeats t ∷ done) c.1
 tidy_once (keeps t ∷ v) done c = (
   λ h. not_kept v (keeps t ∷ done) t c.2 (inr (subst (λ d. In d (makes t)) (sym c.1.1) (inl refl)))
       (λ rest e. let f = (next_keeps (keeps t) done v rest t c.2 e).1 in cc) (kept_visit v t h),
   tidy_once v (keeps t ∷ done) c.2,
 )
+tidy_once (x ∷ v) done c = tidy_once v (x ∷ done) c.1
 
 -- no mark comes first
 pub bare_front : (v : List Visit) → Tidy [] v → unmark v ≡ v

@@ -1,5 +1,6 @@
 -- The tokens of a proof: its parts, its labels, and what a list of labels that may be used tells.
-use Rattle.std.proofs.Common.{◌≡◌, ℕ, zero, suc, ◌+◌, ◌<◌, ◌≤◌, List, [], ◌∷◌, length, map, take, drop, get_or, slice_get, Contains, Some, inl, inr, ⊎_elim, refl, ap, subst, ◌∙◌, arith}
+use Rattle.std.proofs.Common.{◌≡◌, ℕ, ◌+◌, ◌<◌, ◌≤◌, List, [], length, map, take, drop, get_or, slice_get, Contains, Some, inl, inr, ⊎_elim, refl, ap, subst, ◌∙◌, arith}
+use Rattle.std.proofs.lemmas.Option.{slice_get-map, slice_get-get_or}
 use Rattle.std.proofs.lemmas.List.{take_all, length-map}
 use Rattle.mm_frame.specs.Sentence.{Sentence, IsLabelled, IsHypothesis, IsAssertion}
 use Rattle.mm_frame.specs.Active.{IsActive}
@@ -9,7 +10,7 @@ use Rattle.mm_proof.specs.declared.fault.ProofRule.TheVariants.{P1, P2, P3, P4}
 use Rattle.mm_proof.specs.Tokens.{IsNormal, AreLabels, opening_token, closing_token}
 use Rattle.mm_proof.specs.Proof.{proof_rank, BreaksWhole, IsWholeFault}
 use Rattle.mm_proof.specs.Mirror.CodeSteps.{AreFor, MayBeUsed, BreaksLabels}
-use Rattle.mm_text.proofs.Lists.{get_take, get_from_take}
+use Rattle.mm_text.proofs.Lists.{get_take, get_from_take, at_from_contains, zip_right}
 use Rattle.mm_proof.proofs.Meaning.{one_label, one_labelled}
 use Rattle.mm_proof.proofs.LabelLists.{texts_more, known_push}
 use Rattle.mm_proof.proofs.OneStep.{not_both_kinds}
@@ -27,20 +28,17 @@ pub front_all : {T : Type 0} (f : T → List ℕ) (tokens : List T) (i : ℕ) �
 front_all f tokens i all = take_all i (map f tokens) (omega (arith, length-map tokens f))
 
 pub text_at : {T : Type 0} (f : T → List ℕ) (tokens : List T) (i : ℕ) (d : T) → i < length tokens → slice_get (map f tokens) i ≡ Some (f (get_or tokens i d))
-text_at f [] i d less = absurd (omega arith)
-text_at f (t ∷ tokens) zero d less = refl
-text_at f (t ∷ tokens) (suc i) d less = text_at f tokens i d (omega arith)
+text_at f tokens i d less = rw (slice_get-map, slice_get-get_or tokens i d less)
 
 -- ---- labels that may be used
 
 -- each of the labels is that of an earlier statement
 pub for_known : (statements : List Sentence) (place : ℕ) (ids : List ℕ) (labels : List (List ℕ)) (label : List ℕ) → AreFor statements place ids labels
     → Contains labels label → (id : ℕ) × MayBeUsed statements place label id
-for_known statements place [] [] label all has = absurd (let l : has.0 < 0 = has.1 in omega arith)
-for_known statements place (id ∷ ids) (l ∷ labels) label all (zero, within, is) = (id, subst (λ k. MayBeUsed statements place k id) is all.0)
-for_known statements place (id ∷ ids) (l ∷ labels) label all (suc k, within, is) =
-    for_known statements place ids labels label all.1 (k, (let w : suc k < suc (length labels) = within in omega arith), is)
-for_known statements place ids labels label all has = absurd all
+for_known statements place ids labels label all has =
+    let at = at_from_contains labels label has in
+    let id = zip_right _ ids labels at.0 label all at.1 in
+    (id.0, id.2)
 
 -- no hypothesis with such a label is idle
 used_not_idle : (statements : List Sentence) (place : ℕ) (label : List ℕ) (id : ℕ) → AllMeant statements → MayBeUsed statements place label id

@@ -1,5 +1,5 @@
 -- The verdict under a profile is one.
-use Rattle.std.proofs.Common.{◌≡◌, ℕ, List, take, Result, Ok, Err, inl, inr, refl, sym, ap, subst, ◌∙◌}
+use Rattle.std.proofs.Common.{◌≡◌, ℕ, List, take, Result, Ok, Err, inl, inr, refl, sym, subst, ◌∙◌}
 use Rattle.std.specs.Result.{IfOk, IfErr, IsOkUnless}
 use Rattle.mm_frame.specs.Sentence.{Sentence}
 use Rattle.mm_frame.specs.Rules.{AllMeant}
@@ -72,10 +72,9 @@ pub refused_under : (profile : Profile) → {X : Type 0} (r : Result X ProofFaul
     → OfProof st id (λ place s. (rule : ProofRule) (step : ℕ) → IsFaultUnder profile (take place st) s tokens rule step → IsUnlessMemory r (Err (Rule rule step)))
 refused_under profile (Ok x) st id tokens all p f place s proof rule step fault = absurd (proved_none profile (take place st) s tokens rule step (allmeant_front st place all) (p x refl place s proof) fault)
 refused_under profile (Err Memory) st id tokens all p f place s proof rule step fault = inr refl
-refused_under profile {X} (Err (Rule other at)) st id tokens all p f place s proof rule step fault =
+refused_under profile (Err (Rule other at)) st id tokens all p f place s proof rule step fault =
     let same = one_under profile (take place st) s tokens other rule at step (allmeant_front st place all) (f place s proof) fault in
-    let refusal : ProofRule → ℕ → Result X ProofFault = λ r n. Err (Rule r n) in
-    inl (ap (λ (r : ProofRule). refusal r at) same.0 ∙ ap (λ (n : ℕ). refusal rule n) same.1)
+    inl cc
 
 -- ---- a known front
 
@@ -113,18 +112,14 @@ pub front_refused : (profile : Profile) → {X : Type 0} (r : Result X ProofFaul
     → OfProof st id (λ place s. (rule : ProofRule) (step : ℕ) → IsFrontFaultUnder profile (take place st) s tokens rule step → IsUnlessMemory r (Err (Rule rule step)))
 front_refused profile (Ok x) st id tokens all p f place s proof rule step fault = absurd (front_none profile (take place st) s tokens rule step (allmeant_front st place all) (p x refl place s proof) fault)
 front_refused profile (Err Memory) st id tokens all p f place s proof rule step fault = inr refl
-front_refused profile {X} (Err (Rule other at)) st id tokens all p f place s proof rule step fault =
+front_refused profile (Err (Rule other at)) st id tokens all p f place s proof rule step fault =
     let same = one_front_under profile (take place st) s tokens other rule at step (allmeant_front st place all) (f place s proof) fault in
-    let refusal : ProofRule → ℕ → Result X ProofFault = λ r n. Err (Rule r n) in
-    inl (ap (λ (r : ProofRule). refusal r at) same.0 ∙ ap (λ (n : ℕ). refusal rule n) same.1)
+    inl cc
 
 -- the answer on a front that is allowed
 pub front_allowed : (profile : Profile) (r : Result Proved ProofFault) (P : Type 0) (st : List Sentence) (id : ℕ) (tokens : List (List ℕ)) → AllMeant st → IfOk r (λ p. (p ≡ Incomplete) × P)
     → IfErr r (λ e. OnRule e (λ rule step. OfProof st id (λ place s. IsFrontFaultUnder profile (take place st) s tokens rule step)))
     → OfProof st id (λ place s. IsFrontAllowedUnder profile (take place st) s tokens → IsUnlessMemory r (Ok Incomplete))
-front_allowed profile (Ok x) P st id tokens all h f place s proof p =
-    let answer : Proved → Result Proved ProofFault = λ v. Ok v in
-    inl (ap answer h.0)
+front_allowed profile (Ok x) P st id tokens all h f place s proof p = inl cc
 front_allowed profile (Err e) P st id tokens all h f place s proof p =
-    let answer : ProofFault → Result Proved ProofFault = λ v. Err v in
-    inr (ap answer (front_only profile e st id tokens all f place s proof p))
+    let only = front_only profile e st id tokens all f place s proof p in inr cc

@@ -36,11 +36,9 @@ label_known before tokens labels label formed whole are has unknown =
 
 -- ---- letters and parentheses
 
-opening_known : (token : List ℕ) → opening_token ≡ token → ¬ (Contains token 63)
-opening_known token same unknown = absurd (let e : 40 ≡ 63 = only_one 40 63 (subst (λ t. Contains t 63) (sym same) unknown) in cc)
-
-closing_known : (token : List ℕ) → closing_token ≡ token → ¬ (Contains token 63)
-closing_known token same unknown = absurd (let e : 41 ≡ 63 = only_one 41 63 (subst (λ t. Contains t 63) (sym same) unknown) in cc)
+one_known : (b : ℕ) (token : List ℕ) → b ∷ [] ≡ token → ¬ (b ≡ 63) → ¬ (Contains token 63)
+one_known b token same other unknown =
+    other (only_one b 63 (subst (λ t. Contains t 63) (sym same) unknown))
 
 -- a byte of a piece is one of what the pieces are joined to
 among_joined : (pieces : List (List ℕ)) (piece : List ℕ) (b : ℕ) → Contains pieces piece → Contains piece b → Contains (flat_map (λ p. p) pieces) b
@@ -67,11 +65,11 @@ compressed_known : (before : List Sentence) (tokens labels letters : List (List 
     → Contains tokens token → ¬ (Contains token 63)
 compressed_known before tokens labels letters token formed whole parts has =
     elim (contains_cases opening_token (labels ++ closing_token ∷ letters) token (subst (λ ts. Contains ts token) parts.whole has)) [
-      | inl same ↦ opening_known token same
+      | inl same ↦ one_known 40 token same (λ e. cc)
       | inr rest ↦ elim (Contains-append_cases labels (closing_token ∷ letters) token rest) [
         | inl among ↦ label_known before tokens labels token formed whole (inr (letters, parts)) among
         | inr behind ↦ elim (contains_cases closing_token letters token behind) [
-          | inl same ↦ closing_known token same
+          | inl same ↦ one_known 41 token same (λ e. cc)
           | inr among ↦ letters_known before tokens labels letters token whole parts among
         ]
       ]

@@ -1,5 +1,5 @@
 -- The labels in the trees that moves make are those of the moves; so the assertions that are used are those of the moves.
-use Rattle.std.proofs.Common.{◌≡◌, ℕ, zero, suc, List, [], ◌∷◌, ◌++◌, get_or, slice_get, Contains, Some, ◌⊎◌, inl, inr, ⊎_elim, ◌↔◌, refl, sym, ap, subst, ◌∙◌, ◌≤◌, arith}
+use Rattle.std.proofs.Common.{◌≡◌, ℕ, zero, suc, List, [], ◌∷◌, ◌++◌, slice_get, Contains, Some, ◌⊎◌, inl, inr, ⊎_elim, ◌↔◌, refl, sym, ap, subst, ◌∙◌, ◌≤◌, arith}
 use Rattle.std.specs.List.{AllByRecursion}
 use Rattle.std.proofs.lemmas.Option.{same_Some, none-some}
 use Rattle.std.proofs.lemmas.List.Elements.{Contains-append_left, Contains-append_right, Contains-append_cases}
@@ -15,11 +15,8 @@ abbrev pub IsStepOf : List (Move (List ℕ)) → List ℕ → Type 0
 IsStepOf moves label = (i : ℕ) × (slice_get moves i ≡ Some (name label))
 
 one_of : (y x : List ℕ) → Contains (y ∷ []) x → y ≡ x
-one_of y x h = go h.0 h.1 h.2
-  where
-    go : (k : ℕ) → suc k ≤ 1 → get_or (y ∷ []) k x ≡ x → y ≡ x
-    go zero less e = e
-    go (suc k) less e = absurd (omega arith)
+one_of y x (zero, less, e) = e
+one_of y x (suc k, less, e) = absurd (let more : suc (suc k) ≤ 1 = less in omega arith)
 
 itself : (x : List ℕ) → Contains (x ∷ []) x
 itself x = (0, omega arith, refl)
@@ -37,15 +34,6 @@ pub record RowGrows (move : Move (List ℕ)) (row row' : Trees) (kept' : List Tr
   pub no_more : (x : List ℕ) → Contains (spelling row') x → Contains (spelling row) x ⊎ (move ≡ name x)
   pub kept_in : AllByRecursion (KeptInRow row') kept'
 
-same_name : (a b : List ℕ) (m : Move (List ℕ)) → m ≡ name a → m ≡ name b → a ≡ b
-same_name a b m p q = let e : name a ≡ name b = sym p ∙ q in cc
-
-not_again : (tag : ℕ) (x : List ℕ) (m : Move (List ℕ)) → m ≡ again tag → m ≡ name x → ⊥
-not_again tag x m p q = let e : again tag ≡ name x = sym p ∙ q in absurd cc
-
-not_mark : (x : List ℕ) (m : Move (List ℕ)) → m ≡ mark → m ≡ name x → ⊥
-not_mark x m p q = let e : mark ≡ name x = sym p ∙ q in absurd cc
-
 row_grows : (before : List Sentence) (move : Move (List ℕ)) (a b : Trees) (k l : List Trees) → AllByRecursion (KeptInRow a) k → MakesOne before move a k b l → RowGrows move a b l
 row_grows before (name label) a b k l inside m =
     let word : spelling b ≡ spelling a ++ label ∷ [] = ap spelling m.4 ∙ spelling_over m.0 m.1 label ∙ ap (λ t. spelling t ++ label ∷ []) (sym m.2) in
@@ -53,8 +41,9 @@ row_grows before (name label) a b k l inside m =
     λ x h. subst (λ w. Contains w x) (sym word) (Contains-append_left (spelling a) (label ∷ []) x h) in
     record {
       keeps = keeps;
-      gets = λ x e. subst (λ w. Contains w x) (sym word)
-          (Contains-append_right (spelling a) (label ∷ []) x (subst (λ y. Contains (y ∷ []) x) (sym (same_name label x (name label) refl e)) (itself x)));
+      gets = λ x e.
+          let same : x ≡ label = (let f : name label ≡ name x = e in cc) in
+          rw (word, same) (Contains-append_right (spelling a) (label ∷ []) label (itself label));
       no_more = λ x h. ⊎_elim (λ c. inl c) (λ c. inr (ap name (one_of label x c))) (Contains-append_cases (spelling a) (label ∷ []) x (subst (λ w. Contains w x) word h));
       kept_in = subst (AllByRecursion (KeptInRow b)) (sym m.5) (all_weaker (KeptInRow a) (KeptInRow b) (λ t p x h. keeps x (p x h)) k inside);
     }
@@ -65,7 +54,7 @@ row_grows before (again tag) a b k l inside m =
     let inner : KeptInRow a m.0 = all_at (KeptInRow a) k tag m.0 inside m.1 in
     record {
       keeps = keeps;
-      gets = λ x e. absurd (not_again tag x (again tag) refl e);
+      gets = λ x e. absurd (let f : again tag ≡ name x = e in cc);
       no_more = λ x h. inl (⊎_elim (λ c. c) (λ c. inner x c) (Contains-append_cases (spelling a) (spelling m.0) x (subst (λ w. Contains w x) word h)));
       kept_in = subst (AllByRecursion (KeptInRow b)) (sym m.3) (all_weaker (KeptInRow a) (KeptInRow b) (λ t p x h. keeps x (p x h)) k inside);
     }
@@ -76,7 +65,7 @@ row_grows before mark a b k l inside m =
     λ x h. keeps x (subst (λ w. Contains w x) (sym (ap spelling m.3 ∙ spelling-beside m.0 t)) (Contains-append_right (spelling m.0) (spelling t) x h)) in
     record {
       keeps = keeps;
-      gets = λ x e. absurd (not_mark x mark refl e);
+      gets = λ x e. absurd (let f : mark ≡ name x = e in cc);
       no_more = λ x h. inl (subst (λ r. Contains (spelling r) x) m.4 h);
       kept_in = subst (AllByRecursion (KeptInRow b)) (sym m.5)
           (all_push (KeptInRow b) k t (all_weaker (KeptInRow a) (KeptInRow b) (λ u p x h. keeps x (p x h)) k inside) last);

@@ -1,17 +1,20 @@
 -- What replaces a symbol, by numbers: the entry of the hypothesis that types it.
 use Rattle.std.proofs.Common.{◌≡◌, ℕ, zero, suc, ◌+◌, ◌<◌, ◌≤◌, List, [], ◌∷◌, ◌++◌, length, take, drop, get_or, slice_get, Bool, eqb, ◌&&◌, Option, unwrap_or, Some, None, IsTrue, refl, sym, ap, ◌∙◌, arith}
+use Rattle.std.proofs.Common.{true, false, cond, subst}
 use Rattle.std.specs.List.{flat_map, AllByRecursion}
 use Rattle.std.specs.Cmp.Lexicographic.{pointwise}
 use Rattle.std.specs.Str.{bytes_eq}
 use Rattle.std.proofs.lemmas.Slice.Eq.{bytes_eq-Decides}
 use Rattle.std.proofs.lemmas.Option.{same_Some, none-some, slice_get-get_or}
+use Rattle.std.proofs.lemmas.List.{nil_from_length}
 use Rattle.std.proofs.lemmas.List.{length-map, take-map, take_more, append_assoc, append-nil, append_cancel_left, length-append, take_all, take_at, take-append-drop}
 use Rattle.std.proofs.lemmas.List.Concat.{flat_map-append}
 use Rattle.mm_frame.specs.declared.number.Sym.{Sym}
 use Rattle.mm_proof.specs.Stores.{numbers_in, said_by, all_said_by, IsWithinPlaces}
 use Rattle.mm_frame.specs.declared.piece.Piece.{Piece}
 use Rattle.mm_frame.specs.declared.piece.Piece.TheVariants.{Symbol, Value}
-use Rattle.mm_frame.specs.Pieces.{IsNowhere, IsFirstAt, IsPieceOf, ArePieces}
+use Rattle.mm_text.proofs.Lists.{all_at}
+use Rattle.mm_frame.specs.Pieces.{is_of, IsNowhere, IsFirstAt, IsPieceOf, ArePieces}
 use Rattle.mm_proof.specs.Mirror.CodeVerify.{value_of, replaced_in}
 
 pub value_nowhere : (n : ℕ) (variables : List (Option ℕ)) (entries : List (List ℕ)) → IsNowhere n variables → value_of variables entries n ≡ None
@@ -26,6 +29,22 @@ value_first n (v ∷ variables) (x ∷ entries) zero e f at = rw f.is (ap (λ (l
 value_first n (v ∷ variables) (x ∷ entries) (suc place) e f at =
     rw (f.first 0 (omega arith)) (value_first n variables entries place e
     (record { within = (let l : suc place < suc (length variables) = f.within in omega arith); is = f.is; first = λ k less. f.first (suc k) (omega arith) }) at)
+
+pub all_rest : {A : Type 0} (P : A → Type 0) (xs : List A) → AllByRecursion P xs
+    → AllByRecursion P (drop 1 xs)
+all_rest P [] all = tt
+all_rest P (x ∷ xs) all = all.1
+
+-- what holds of each symbol of the entries holds of each that replaces one
+pub value_all : (P : ℕ → Type 0) (vs : List (Option ℕ)) (es : List (List ℕ)) (n : ℕ) (v : List ℕ)
+    → AllByRecursion (AllByRecursion P) es → value_of vs es n ≡ Some v → AllByRecursion P v
+value_all P (x ∷ vs) (e ∷ es) n v all is = go (is_of n x) is (value_all P vs es n v all.1)
+  where
+    go : (b : Bool) → cond b (Some (drop 1 e)) (value_of vs es n) ≡ Some v
+        → (value_of vs es n ≡ Some v → AllByRecursion P v) → AllByRecursion P v
+    go true s later = subst (AllByRecursion P) (same_Some (drop 1 e) v s) (all_rest P e all.0)
+    go false s later = later s
+value_all P vs es n v all is = absurd cc
 
 -- what replaces the variable whose `$f` stands at the place
 pub value_placed : (n : ℕ) (variables : List (Option ℕ)) (entries : List (List ℕ)) (place : ℕ) (v : List ℕ) → IsFirstAt n variables place → place < length entries → v ≡ drop 1 (get_or entries place [])
@@ -58,9 +77,7 @@ front_of symbols front begin n rest b count e =
 
 pub said_more : {X : Type 0} (f : X → List ℕ) (pieces : List X) (i : ℕ) (d : X) → i < length pieces
     → flat_map f (take (i + 1) pieces) ≡ flat_map f (take i pieces) ++ f (get_or pieces i d)
-said_more f pieces i d less =
-    ap (flat_map f) (take_more pieces i d less) ∙ flat_map-append f (take i pieces) (get_or pieces i d ∷ [])
-    ∙ ap (λ l. flat_map f (take i pieces) ++ l) (append-nil (f (get_or pieces i d)))
+said_more f pieces i d less = rw (take_more pieces i d less, flat_map-append, append-nil)
 
 -- the whole goes on behind a front
 pub said_whole : {X : Type 0} (f : X → List ℕ) (pieces : List X) (i : ℕ) → flat_map f pieces ≡ flat_map f (take i pieces) ++ flat_map f (drop i pieces)
@@ -70,9 +87,8 @@ pub said_step : {X : Type 0} (f : X → List ℕ) (pieces : List X) (i : ℕ) (d
     → whole ≡ flat_map f (take i pieces) ++ rest → rest ≡ f (get_or pieces i d) ++ others
     → whole ≡ flat_map f (take (i + 1) pieces) ++ others
 said_step f pieces i d whole rest others less inv piece =
-    inv ∙ ap (λ l. flat_map f (take i pieces) ++ l) piece
-    ∙ sym (append_assoc (flat_map f (take i pieces)) (f (get_or pieces i d)) others)
-    ∙ ap (λ l. l ++ others) (sym (said_more f pieces i d less))
+    rw (inv, piece, said_more f pieces i d less)
+    (sym (append_assoc (flat_map f (take i pieces)) (f (get_or pieces i d)) others))
 
 -- what isn't so at one piece isn't so at all
 pub said_none : {X : Type 0} (f : X → List ℕ) (pieces : List X) (i : ℕ) (d : X) (whole rest : List ℕ) → i < length pieces
@@ -90,17 +106,13 @@ pub said_end : {X : Type 0} (f : X → List ℕ) (pieces : List X) (i : ℕ) (wh
     → whole ≡ flat_map f (take i pieces) ++ numbers_in rest → (IsTrue r → length rest ≡ 0) → (length rest ≡ 0 → IsTrue r)
     → (IsTrue r → whole ≡ flat_map f pieces) × (whole ≡ flat_map f pieces → IsTrue r)
 said_end f pieces i whole rest r all inv to from = (
-  λ t. here ∙ ap (λ l. flat_map f pieces ++ numbers_in l) (none_left rest (to t)) ∙ append-nil (flat_map f pieces),
+  λ t. here ∙ ap (λ l. flat_map f pieces ++ numbers_in l) (nil_from_length _ (to t)) ∙ append-nil _,
   λ is. from (let e = append_cancel_left (flat_map f pieces) (numbers_in rest) [] (sym here ∙ is ∙ sym (append-nil (flat_map f pieces))) in
       omega (arith, ap length e, length-map rest (λ s. s.0))),
 )
   where
     here : whole ≡ flat_map f pieces ++ numbers_in rest
     here = inv ∙ ap (λ l. flat_map f l ++ numbers_in rest) (take_all i pieces all)
-
-    none_left : (xs : List Sym) → length xs ≡ 0 → xs ≡ []
-    none_left [] e = refl
-    none_left (x ∷ xs) e = absurd (omega arith)
 
 -- a front over the limit puts the whole over it
 pub said_over : {X : Type 0} (f : X → List ℕ) (pieces : List X) (i n : ℕ) → n < length (flat_map f (take i pieces)) → n < length (flat_map f pieces)
@@ -127,8 +139,7 @@ piece_says vs es n (Value place) size is =
 pub pattern_says : (vs : List (Option ℕ)) (es : List (List ℕ)) (ns : List ℕ) (pieces : List Piece) → length vs ≡ length es → ArePieces vs ns pieces → all_said_by es pieces ≡ replaced_in (value_of vs es) ns
 pattern_says vs es [] [] size are = refl
 pattern_says vs es (n ∷ ns) (p ∷ pieces) size are =
-    ap (λ l. l ++ all_said_by es pieces) (piece_says vs es n p size are.0)
-    ∙ ap (λ l. unwrap_or (value_of vs es n) (n ∷ []) ++ l) (pattern_says vs es ns pieces size are.1)
+    rw (piece_says vs es n p size are.0, pattern_says vs es ns pieces size are.1)
 pattern_says vs es ns pieces size are = absurd are
 
 piece_within : (vs : List (Option ℕ)) (n count : ℕ) (p : Piece) → length vs ≡ count → IsPieceOf vs n p → IsWithinPlaces count p
@@ -141,8 +152,7 @@ pattern_within vs count [] [] size are = tt
 pattern_within vs count (n ∷ ns) (p ∷ pieces) size are = (piece_within vs n count p size are.0, pattern_within vs count ns pieces size are.1)
 pattern_within vs count ns pieces size are = absurd are
 
--- the piece at a place is within
-pub within_at : (P : Piece → Type 0) (pieces : List Piece) (i : ℕ) (d : Piece) → AllByRecursion P pieces → i < length pieces → P (get_or pieces i d)
-within_at P [] i d all less = absurd (omega arith)
-within_at P (p ∷ pieces) zero d all less = all.0
-within_at P (p ∷ pieces) (suc i) d all less = within_at P pieces i d all.1 (omega arith)
+-- what holds of each element holds of that at a place
+pub within_at : {A : Type 0} (P : A → Type 0) (xs : List A) (i : ℕ) (d : A)
+    → AllByRecursion P xs → i < length xs → P (get_or xs i d)
+within_at P xs i d all less = all_at P xs i (get_or xs i d) all (slice_get-get_or xs i d less)

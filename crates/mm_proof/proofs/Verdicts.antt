@@ -2,7 +2,7 @@
 use Rattle.std.proofs.Common.{◌≡◌, ◌≢◌, ℕ, ◌+◌, ◌<◌, List, [], ◌∷◌, ◌++◌, length, slice_get, Some, ◌⊎◌, inl, inr, ⊎_elim, refl, sym, ap, subst, ◌∙◌}
 use Rattle.std.proofs.lemmas.Option.{same_Some}
 use Rattle.std.proofs.lemmas.Bool.{cases_order}
-use Rattle.mm_text.proofs.Lists.{cons_parts}
+use Rattle.mm_text.proofs.Lists.{two_cuts}
 use Rattle.mm_frame.specs.Sentence.{Sentence}
 use Rattle.mm_frame.specs.Rules.{AllMeant}
 use Rattle.mm_proof.specs.declared.fault.ProofRule.{ProofRule}
@@ -33,23 +33,6 @@ first_once Broken r q br bq fr fq = elim (cases_order (proof_rank r) (proof_rank
   | inr (inl less) ↦ absurd (fq r less br)
   | inr (inr more) ↦ absurd (fr q more bq)
 ]
-
--- ---- two splits of one list, by which is longer
-
-abbrev OneOfSplits : {X : Type 0} → List X → X → List X → X → Type 0
-OneOfSplits {X} a x b y = ((a ≡ b) × (x ≡ y)) ⊎ ((more : List X) × (b ≡ a ++ x ∷ more)) ⊎ ((more : List X) × (a ≡ b ++ y ∷ more))
-
-compare_splits : {X : Type 0} (a : List X) (x : X) (c b : List X) (y : X) (d : List X) → a ++ x ∷ c ≡ b ++ y ∷ d → OneOfSplits a x b y
-compare_splits [] x c [] y d e = inl (refl, (cons_parts x y c d e).0)
-compare_splits [] x c (z ∷ b) y d e = inr (inl (b, ap (λ w. w ∷ b) (sym (cons_parts x z c (b ++ y ∷ d) e).0)))
-compare_splits (z ∷ a) x c [] y d e = inr (inr (a, ap (λ w. w ∷ a) (cons_parts z y (a ++ x ∷ c) d e).0))
-compare_splits (z ∷ a) x c (w ∷ b) y d e =
-    let h = cons_parts z w (a ++ x ∷ c) (b ++ y ∷ d) e in
-    elim (compare_splits a x c b y d h.1) [
-      | inl same ↦ inl (ap (λ l. z ∷ l) same.0 ∙ ap (λ v. v ∷ b) h.0, same.1)
-      | inr (inl more) ↦ inr (inl (more.0, ap (λ l. w ∷ l) more.1 ∙ ap (λ v. v ∷ (a ++ x ∷ more.0)) (sym h.0)))
-      | inr (inr more) ↦ inr (inr (more.0, ap (λ l. z ∷ l) more.1 ∙ ap (λ v. v ∷ (b ++ y ∷ more.0)) h.0))
-    ]
 
 -- ---- what is proved has no fault
 
@@ -94,16 +77,14 @@ same_move : (Fits : List (List ℕ) → Type 0) (before : List Sentence) (moves 
     → (f : IsMoveFault Fits before moves rule step) (g : IsMoveFault Fits before moves rule' step') → f.earlier ≡ g.earlier → f.move ≡ g.move → Same rule step rule' step'
 same_move Fits before moves rule rule' step step' all f g a x =
     let one = passed_once Fits Fits before g.earlier f.stack g.stack f.kept g.kept all (subst (λ l. Passed Fits before l f.stack f.kept) a f.passed) g.passed in
-    let fault : FirstAtMove Fits rule before g.stack g.kept g.move =
-    subst (λ m. FirstAtMove Fits rule before g.stack g.kept m) x
-    (subst (λ k. FirstAtMove Fits rule before g.stack k f.move) one.1 (subst (λ k. FirstAtMove Fits rule before k f.kept f.move) one.0 f.fault)) in (
+    let fault = rw (one.0, one.1, x) at f.fault in (
       first_once (λ r. BreaksMove Fits r before g.stack g.kept g.move) rule rule' fault.broken g.fault.broken fault.first g.fault.first,
       f.number ∙ ap (λ l. steps_in l + 1) a ∙ sym g.number,
     )
 
 pub two_moves : (Fits : List (List ℕ) → Type 0) (before : List Sentence) (moves : List (Move (List ℕ))) (rule rule' : ProofRule) (step step' : ℕ) → AllMeant before
     → IsMoveFault Fits before moves rule step → IsMoveFault Fits before moves rule' step' → Same rule step rule' step'
-two_moves Fits before moves rule rule' step step' all f g = elim (compare_splits f.earlier f.move f.later g.earlier g.move g.later (sym f.parts ∙ g.parts)) [
+two_moves Fits before moves rule rule' step step' all f g = elim (two_cuts f.earlier f.move f.later g.earlier g.move g.later (sym f.parts ∙ g.parts)) [
   | inl same ↦ same_move Fits before moves rule rule' step step' all f g same.0 same.1
   | inr (inl more) ↦ absurd (longer_passed Fits before f.earlier f.move more.0 g.earlier f.stack f.kept g.stack g.kept rule all more.1 g.passed f.passed f.fault)
   | inr (inr more) ↦ absurd (longer_passed Fits before g.earlier g.move more.0 f.earlier g.stack g.kept f.stack f.kept rule' all more.1 f.passed g.passed g.fault)

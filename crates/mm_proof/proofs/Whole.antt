@@ -7,7 +7,6 @@ use Rattle.mm_frame.specs.Sentence.{Sentence}
 use Rattle.mm_frame.specs.Numbers.{IsNumbered}
 use Rattle.mm_proof.specs.declared.fault.ProofRule.{ProofRule}
 use Rattle.mm_proof.specs.Moves.{Move}
-use Rattle.mm_proof.specs.Tokens.{SayMoves}
 use Rattle.mm_proof.specs.Proof.{IsWhole, IsWholeFault}
 use Rattle.mm_proof.specs.Verified.{OfMoves, ProvesUsingNumbers, ProvesUsing, FailsWith, TokensProve, TokensFail}
 use Rattle.mm_proof.specs.Steps.{AreSteps, IsProofNumber, IsUsableMove}
@@ -23,8 +22,7 @@ reading_said st id own t tokens steps number r place s proof =
     let same = same_Some r.own s (sym r.there ∙ ap (slice_get st) at ∙ proof.numbered.there) in (
       subst (λ (k : ℕ). IsWhole (take k st) tokens) at r.whole,
       r.moves,
-      subst (λ (k : ℕ). SayMoves (take k st) s tokens r.moves) at
-          (subst (λ (u : Sentence). SayMoves (take own st) u tokens r.moves) same r.said),
+      rw (same, at) at r.said,
       r.numbered,
     )
 

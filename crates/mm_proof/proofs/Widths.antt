@@ -7,8 +7,6 @@ use Rattle.mm_frame.specs.Rules.{AllMeant}
 use Rattle.mm_frame.proofs.Meant.{allmeant_front}
 use Rattle.mm_frame.proofs.Labelled.{numbered_get}
 use Rattle.mm_proof.specs.Tree.{Trees, roots, Names, MayStandOver}
-use Rattle.mm_proof.specs.Moves.{name}
-use Rattle.mm_proof.specs.Steps.{IsNumberedMove}
 use Rattle.mm_proof.specs.Mirror.CodeSteps.{MayBeUsed}
 use Rattle.mm_proof.specs.Mirror.CodeApply.{IsEarlierScheme}
 use Rattle.mm_proof.specs.Spelled.{IsNumberOfLabel}
@@ -27,16 +25,14 @@ width_hypothesis st place id label below all u h (inl p) = ap roots p.0
 width_hypothesis st place id label below all u h (inr p) =
     absurd (hypothesis_or_assertion (take place st) u.at p.0 u.s p.1 label (allmeant_front st place all) (there_before st place id label u) p.3.there u.named p.3.named h p.3.kind)
 
-used_move : (st : List Sentence) (place id : ℕ) (label : List ℕ) → MayBeUsed st place label id → IsNumberedMove st (name id) (name label)
-used_move st place id label u = (u.s, label, numbered_get st id u.at u.s u.numbered, u.named, refl)
-
 -- an assertion stands over as many as it has hypotheses
 pub width_assertion : (st : List Sentence) (place id : ℕ) (label : List ℕ) (below : Trees) (scheme : Scheme) → AllMeant st → MayBeUsed st place label id → IsEarlierScheme st place id scheme
     → MayStandOver (take place st) label below → roots below ≡ length scheme.hypotheses.now
 width_assertion st place id label below scheme all u is stands =
     let called = called_of st place id scheme is in
     let hs = is.hypotheses.hypotheses in
-    let names : Names (take place st) label is.at called.s hs = names_of st place id is.at _ hs label called (used_move st place id label u) in
+    let names : Names (take place st) label is.at called.s hs = names_of st place id is.at _ hs label
+    called (u.s, label, numbered_get st id u.at u.s u.numbered, u.named, refl) in
     go stands called.s hs names (as_many st scheme.hypotheses.now hs called.known)
   where
     go : MayStandOver (take place st) label below → (a : Sentence) (hs : List Sentence) → Names (take place st) label is.at a hs → length hs ≡ length scheme.hypotheses.now

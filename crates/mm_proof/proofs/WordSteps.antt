@@ -1,10 +1,10 @@
 -- The words of the trees of the moves so far, one move more.
-use Rattle.std.proofs.Common.{◌≡◌, ℕ, suc, ◌+◌, ◌-◌, ◌≤◌, List, [], ◌∷◌, ◌++◌, length, take, drop, refl, sym, ap, subst, ◌∙◌, append_assoc, append-nil, arith}
+use Rattle.std.proofs.Common.{◌≡◌, ℕ, suc, ◌+◌, ◌-◌, ◌≤◌, List, [], ◌∷◌, ◌++◌, length, drop, refl, sym, ap, subst, ◌∙◌, append_assoc, append-nil, arith}
 use Rattle.std.specs.List.{AllZip, slice_range}
 use Rattle.std.proofs.lemmas.Option.{same_Some}
 use Rattle.std.proofs.lemmas.List.{length-append}
 use Rattle.std.proofs.Math.Seq.{take-append_seam, drop-append_seam}
-use Rattle.mm_text.proofs.Lists.{zip_push, zip_right, zip_take, zip_drop}
+use Rattle.mm_text.proofs.Lists.{zip_push, zip_right, zip_take, zip_drop, zip_weaker}
 use Rattle.mm_frame.specs.declared.number.LabelId.{LabelId}
 use Rattle.mm_frame.specs.Sentence.{Sentence}
 use Rattle.mm_proof.specs.declared.words.Part.{Part}
@@ -50,11 +50,6 @@ part_later word more part t p = record {
   end = p.end;
 }
 
-parts_later : (word more : List (List ℕ)) (shelf : List Part) (kept : List Trees) → AllZip (IsPartOf word) shelf kept → AllZip (IsPartOf (word ++ more)) shelf kept
-parts_later word more [] [] z = tt
-parts_later word more (p ∷ shelf) (t ∷ kept) z = (part_later word more p t z.0, parts_later word more shelf kept z.1)
-parts_later word more shelf kept z = absurd z
-
 pub kept_part : (stack shelf : List Part) (item : Part) (row : Trees) (kept : List Trees) (label : List ℕ) (below : Trees) → IsKept shelf kept item label below → ArePartsOf stack row shelf kept
     → IsPartOf (spelling row) item (tree label below none)
 kept_part stack shelf item row kept label below is h =
@@ -73,11 +68,7 @@ part_count word part t p = omega (arith, p.start, p.end)
 
 part_spells : (word : List (List ℕ)) (part : Part) (t : Trees) → IsPartOf word part t → slice_range word part.start part.end ≡ spelling t
 part_spells word part t p =
-    ap (λ n. take n (drop part.start word)) (part_count word part t p)
-    ∙ ap (λ n. take (length (spelling t)) (drop n word)) p.start
-    ∙ ap (λ w. take (length (spelling t)) (drop (length p.front) w)) p.whole
-    ∙ ap (take (length (spelling t))) (drop-append_seam p.front (spelling t ++ p.back))
-    ∙ take-append_seam (spelling t) p.back
+    rw (part_count word part t p, p.whole, p.start, drop-append_seam, take-append_seam)
 
 pub zip_part : {A : Type 0} (R : A → List ℕ → Type 0) (xs : List A) (word : List (List ℕ)) (part : Part) (t : Trees) → AllZip R xs word → IsPartOf word part t
     → AllZip R (slice_range xs part.start part.end) (spelling t)
@@ -89,8 +80,7 @@ zip_part R xs word part t z p =
 
 pub spelling_over : (rest below : Trees) (label : List ℕ) → spelling (beside rest (tree label below none)) ≡ spelling (beside rest below) ++ label ∷ []
 spelling_over rest below label =
-    spelling-beside rest (tree label below none) ∙ sym (append_assoc (spelling rest) (spelling below) (label ∷ []))
-    ∙ ap (λ w. w ++ label ∷ []) (sym (spelling-beside rest below))
+    simp spelling-beside (sym (append_assoc (spelling rest) (spelling below) (label ∷ [])))
 
 pub parts_make : (stack items shelf : List Part) (item : Part) (rest below : Trees) (kept : List Trees) (label : List ℕ) (end : ℕ) → roots below ≡ length items → end ≡ length (spelling (beside rest below))
     → ((start : ℕ) (row : Trees) → AreParts start items row → end ≡ start + length (spelling row) → item.start ≡ start) → item.end ≡ end + 1
@@ -101,7 +91,8 @@ parts_make stack items shelf item rest below kept label end many whole begins en
     let start = begins (0 + length (spelling rest)) below split.1 (omega arith) in
     record {
       parts = parts_join 0 stack (item ∷ []) rest (tree label below none) split.0 (start, omega arith, tt);
-      shelved = subst (λ w. AllZip (IsPartOf w) shelf kept) (sym (spelling_over rest below label)) (parts_later (spelling (beside rest below)) (label ∷ []) shelf kept h.shelved);
+      shelved = rw (spelling_over rest below label)
+          (zip_weaker _ _ (part_later _ (label ∷ [])) shelf kept h.shelved);
     }
 
 pub parts_repeat : (stack shelf : List Part) (item again : Part) (row : Trees) (kept : List Trees) (label : List ℕ) (below : Trees) → IsKept shelf kept item label below → again.start ≡ length (spelling row)
@@ -112,7 +103,7 @@ parts_repeat stack shelf item again row kept label below is start end h =
     let long = length-append (spelling below) (label ∷ []) in
     record {
       parts = parts_join 0 stack (again ∷ []) row t h.parts (omega arith, omega arith, tt);
-      shelved = subst (λ w. AllZip (IsPartOf w) shelf kept) (sym (spelling-beside row t)) (parts_later (spelling row) (spelling t) shelf kept h.shelved);
+      shelved = rw spelling-beside (zip_weaker _ _ (part_later _ (spelling t)) shelf kept h.shelved);
     }
 
 pub parts_keep : (stack shelf : List Part) (item : Part) (rest below : Trees) (kept : List Trees) (label : List ℕ) → ArePartsOf (stack ++ item ∷ []) (beside rest (tree label below none)) shelf kept

@@ -1,30 +1,23 @@
-use Rattle.std.proofs.Common.{◌≡◌, ℕ, List, ◌-◌, ◌<◌, length, drop, arith, subst}
-use Rattle.std.specs.List.{AllByRecursion}
+use Rattle.std.proofs.Common.{◌≡◌, ℕ, ◌-◌, ◌<◌, length, drop, arith, subst}
 use Rattle.std.proofs.lemmas.List.{length-drop}
 use Rattle.std.proofs.lemmas.Result.{IfOk-weaker}
-use Rattle.mm_frame.specs.Sentence.{Sentence}
 use Rattle.mm_frame.specs.Pieces.{variables_of}
 use Rattle.mm_frame.proofs.Patterns.{variables_counted}
 use Rattle.mm_proof.specs.declared.fault.ProofRule.{ProofRule}
 use Rattle.mm_proof.specs.declared.fault.ProofRule.TheVariants.{P8, P9}
 use Rattle.mm_proof.specs.Plain.{label_ids}
-use Rattle.mm_proof.specs.Mirror.CodeVerify.{AreBelow, AreStackEntries}
 use Rattle.mm_proof.specs.Mirror.CodeRun.{StopsAt}
 use Rattle.mm_proof.specs.Mirror.CodeApply.{IsReady, IsEarlierScheme}
 use Rattle.mm_proof.proofs.Named.{as_many}
 use Rattle.mm_proof.proofs.Patterned.{its_within}
-use Rattle.mm_proof.proofs.Applying.{stops_P8, stops_P9, called_of, ready_of, entries_drop, entries_below}
+use Rattle.mm_proof.proofs.Applying.{stops_P8, stops_P9, called_of, ready_of, drop_below}
 use Rattle.mm_proof.proofs.apply.apply.Given as given
 use Rattle.mm_proof.proofs.apply.apply.Goals as goal
 
-drop_below : (st before : List Sentence) (base : ℕ) (stack : List (List ℕ)) → AreStackEntries st before stack → AllByRecursion (AreBelow st) (drop base stack)
-drop_below st before base stack entries = entries_below st before (drop base stack) (entries_drop st before base stack entries)
-
 pub returns-then-count-scheme-clause-fault : goal.returns-then-count-scheme-clause-fault
 returns-then-count-scheme-clause-fault g c rule step is =
-    let same : P8 ≡ rule = cc in
-    let number : step ≡ c.args.number = cc in (
-      number,
+    let same : P8 ≡ rule = cc in (
+      cc,
       λ id of.
           let st = c.args.book.now.statements in
           let xs = c.args.scheme.now.hypotheses.now in
@@ -36,9 +29,8 @@ returns-then-count-scheme-clause-fault g c rule step is =
 
 pub returns-in_default-clause-fault : goal.returns-in_default-clause-fault
 returns-in_default-clause-fault g c rule step is =
-    let same : P9 ≡ rule = cc in
-    let number : step ≡ c.args.number = cc in (
-      number,
+    let same : P9 ≡ rule = cc in (
+      cc,
       λ id of.
           let st = c.args.book.now.statements in
           let xs = c.args.scheme.now.hypotheses.now in
@@ -62,9 +54,8 @@ conclude-requires-clause-within g c =
 
 pub returns-in-Some-rule_broken-clause-fault : goal.returns-in-Some-rule_broken-clause-fault
 returns-in-Some-rule_broken-clause-fault g c rule step is =
-    let same : c.in-Some-rule_broken.rule ≡ rule = cc in
-    let number : step ≡ c.args.number = cc in (
-      number,
+    let same : c.in-Some-rule_broken.rule ≡ rule = cc in (
+      cc,
       λ id of.
           let st = c.args.book.now.statements in
           let stack = g.S.Store.stack c.args.store.now in

@@ -5,7 +5,6 @@ use Rattle.mm_frame.proofs.Patterns.{variables_counted}
 use Rattle.mm_proof.specs.declared.fault.ProofRule.{ProofRule}
 use Rattle.mm_proof.specs.declared.fault.ProofRule.TheVariants.{L1}
 use Rattle.mm_proof.specs.Mirror.CodeRun.{CarriesOn, StopsAt}
-use Rattle.mm_proof.specs.Stores.{all_said_by}
 use Rattle.mm_proof.specs.Mirror.CodeVerify.{AreStackEntries}
 use Rattle.mm_proof.proofs.Applying.{stops_L1, carries, made_entries, match_true, match_false}
 use Rattle.mm_proof.proofs.apply.conclude.Goals as goal
@@ -17,9 +16,8 @@ returns-then-not-branch-clause-fault g c rule step is =
     let vs = variables_of xs in
     let count : length (drop c.args.base stack) ≡ length vs = omega (arith, length-drop c.args.base stack, c.requires.entries, variables_counted xs) in
     let over = (match_false c.in_ok-conclude.field-0 _ _ c.if-not-branch.true c.in_ok-conclude.ensures.said).0 in
-    let same : L1 ≡ rule = cc in
-    let number : step ≡ c.args.number = cc in (
-      number,
+    let same : L1 ≡ rule = cc in (
+      cc,
       λ st place id at sound ready. subst (λ (r : ProofRule). StopsAt c.args.limit st place id stack r) same
           (stops_L1 c.args.limit c.one_number.ensures st place id at stack c.args.base vs c.args.scheme.now.conclusion.now sound.0 ready count over),
     )
@@ -31,9 +29,8 @@ returns-clause-carried g c st place id at sound ready =
     let vs = variables_of xs in
     let count : length (drop c.args.base stack) ≡ length vs = omega (arith, length-drop c.args.base stack, c.requires.entries, variables_counted xs) in
     let made = match_true c.in_ok-conclude.field-0 _ _ c.if-not-branch.false c.in_ok-conclude.ensures.said in
-    let whole = all_said_by (drop c.args.base stack) c.args.scheme.now.conclusion.now in
     subst (λ (l : List (List ℕ)). CarriesOn c.args.limit st place id stack l) (sym made.1)
-    (carries c.args.limit c.one_number.ensures st place id at stack c.args.base vs c.args.scheme.now.conclusion.now whole sound.0 ready count refl made.0)
+    (carries c.args.limit c.one_number.ensures st place id at stack c.args.base vs c.args.scheme.now.conclusion.now _ sound.0 ready count refl made.0)
 
 pub returns-clause-entries : goal.returns-clause-entries
 returns-clause-entries g c st place id at sound ready entries =
@@ -42,6 +39,5 @@ returns-clause-entries g c st place id at sound ready entries =
     let vs = variables_of xs in
     let count : length (drop c.args.base stack) ≡ length vs = omega (arith, length-drop c.args.base stack, c.requires.entries, variables_counted xs) in
     let made = match_true c.in_ok-conclude.field-0 _ _ c.if-not-branch.false c.in_ok-conclude.ensures.said in
-    let whole = all_said_by (drop c.args.base stack) c.args.scheme.now.conclusion.now in
     subst (λ (l : List (List ℕ)). AreStackEntries st (take place st) l) (sym made.1)
-    (made_entries st place id at stack c.args.base vs c.args.scheme.now.conclusion.now whole sound.0 ready count refl entries)
+    (made_entries st place id at stack c.args.base vs c.args.scheme.now.conclusion.now _ sound.0 ready count refl entries)

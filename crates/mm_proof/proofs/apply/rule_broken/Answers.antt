@@ -5,12 +5,12 @@ use Rattle.mm_proof.specs.Mirror.CodeVerify.{pairs_in, all_names_at}
 use Rattle.mm_proof.proofs.Named.{as_many, typed_variables}
 use Rattle.mm_proof.proofs.Replacements.{replaced_by}
 use Rattle.mm_proof.proofs.Replacing.{replaces_by}
-use Rattle.mm_proof.proofs.Applying.{stops_P10, stops_P11, stops_P12, entries_drop, entries_below}
+use Rattle.mm_proof.proofs.Applying.{stops_P10, stops_P11, stops_P12, drop_below}
 use Rattle.mm_proof.proofs.apply.rule_broken.Goals as goal
 
 pub are_equal-requires-clause-below : goal.are_equal-requires-clause-below
 are_equal-requires-clause-below g c =
-    entries_below c.args.book.now.statements _ (drop c.args.base (g.S.Store.stack c.args.store.now)) (entries_drop c.args.book.now.statements _ c.args.base (g.S.Store.stack c.args.store.now) c.requires.symbols)
+    drop_below c.args.book.now.statements _ c.args.base _ c.requires.symbols
 
 pub returns-then-not-are_equal : goal.returns-then-not-are_equal
 returns-then-not-are_equal g c limit id at hs called mandatory codes =

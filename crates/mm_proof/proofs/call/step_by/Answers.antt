@@ -1,8 +1,7 @@
-use Rattle.std.proofs.Common.{◌≡◌, ◌<◌, ◌≤◌, ℕ, List, length, take, sym, ap, subst, arith}
+use Rattle.std.proofs.Common.{◌≡◌, ℕ, take, sym, ap, subst, arith}
 use Rattle.std.specs.Prelude.{OnOk}
 use Rattle.std.proofs.lemmas.List.{length-map}
 use Rattle.std.proofs.lemmas.Result.{on_ok_weaker}
-use Rattle.mm_proof.specs.declared.fault.ProofRule.{ProofRule}
 use Rattle.mm_proof.specs.declared.fault.ProofRule.TheVariants.{L1}
 use Rattle.mm_proof.specs.Stores.{numbers_in}
 use Rattle.mm_proof.specs.Mirror.CodeRun.{CarriesOn, StopsAt}
@@ -15,22 +14,17 @@ use Rattle.mm_proof.proofs.call.step_by.Goals as goal
 pub returns-then-expression-site-clause-fault : goal.returns-then-expression-site-clause-fault
 returns-then-expression-site-clause-fault g c rule at is =
     let same : L1 ≡ rule = cc in
-    let number : at ≡ c.args.number = cc in
-    let over : c.args.site.now.limit < length (numbers_in c.in-Hypothesis.expression.now) = omega (
-      arith,
-      c.if-expression-site.true,
-      ap (λ (v : ProofSite). v.limit) c.site.view_is,
-      length-map c.in-Hypothesis.expression.now (λ s. s.0),
-    ) in (
-      number,
+    let limit = ap (λ (v : ProofSite). v.limit) c.site.view_is in
+    let long = length-map c.in-Hypothesis.expression.now (λ s. s.0) in
+    let sound = (subst IsSite c.site.view_is c.site.invariant.1).sound.0 in (
+      cc,
       λ id of.
           let st = c.args.site.now.statements in
           let u = subst (IsCallOf st c.args.site.now.place id) c.in-Hypothesis.is of in
-          subst (λ (r : ProofRule). StopsAt c.args.site.now.limit st c.args.site.now.place id
-          (g.S.Store.stack c.args.store.now) r) same
-          (stops_long c.args.site.now.limit st c.args.site.now.place id u.0
-          (g.S.Store.stack c.args.store.now) (numbers_in c.in-Hypothesis.expression.now)
-          (subst IsSite c.site.view_is c.site.invariant.1).sound.0 u.1 u.2 u.3 over),
+          rw (← same)
+          (stops_long c.args.site.now.limit st _ id u.0 (g.S.Store.stack c.args.store.now)
+          (numbers_in c.in-Hypothesis.expression.now) sound u.1 u.2 u.3
+          (omega (arith, c.if-expression-site.true, limit, long))),
     )
 
 pub returns-in_ok-push-in-Hypothesis-clause-carried :
@@ -38,28 +32,23 @@ pub returns-in_ok-push-in-Hypothesis-clause-carried :
 returns-in_ok-push-in-Hypothesis-clause-carried g c id of =
     let st = c.args.site.now.statements in
     let u = subst (IsCallOf st c.args.site.now.place id) c.in-Hypothesis.is of in
-    let within : length (numbers_in c.in-Hypothesis.expression.now) ≤ c.args.site.now.limit = omega (
-      arith,
-      c.if-expression-site.false,
-      ap (λ (v : ProofSite). v.limit) c.site.view_is,
-      length-map c.in-Hypothesis.expression.now (λ s. s.0),
-    ) in
-    subst (λ (l : List (List ℕ)). CarriesOn c.args.site.now.limit st c.args.site.now.place id
-    (g.S.Store.stack c.args.store.now) l) (sym c.in_ok-push-in-Hypothesis.ensures.pushed)
-    (pushes c.args.site.now.limit st c.args.site.now.place id u.0
-    (g.S.Store.stack c.args.store.now) (numbers_in c.in-Hypothesis.expression.now)
-    (subst IsSite c.site.view_is c.site.invariant.1).sound.0 u.1 u.2 u.3 within)
+    let limit = ap (λ (v : ProofSite). v.limit) c.site.view_is in
+    let long = length-map c.in-Hypothesis.expression.now (λ s. s.0) in
+    rw c.in_ok-push-in-Hypothesis.ensures.pushed
+    (pushes c.args.site.now.limit st _ id u.0 (g.S.Store.stack c.args.store.now)
+    (numbers_in c.in-Hypothesis.expression.now)
+    (subst IsSite c.site.view_is c.site.invariant.1).sound.0 u.1 u.2 u.3
+    (omega (arith, c.if-expression-site.false, limit, long)))
 
 pub returns-in_ok-push-in-Hypothesis-clause-entries :
     goal.returns-in_ok-push-in-Hypothesis-clause-entries
 returns-in_ok-push-in-Hypothesis-clause-entries g c =
     let st = c.args.site.now.statements in
-    let u = subst (IsCallOf st c.args.site.now.place c.requires.call.0) c.in-Hypothesis.is
-    c.requires.call.1 in
-    subst (λ (l : List (List ℕ)). AreStackEntries st (take c.args.site.now.place st) l)
-    (sym c.in_ok-push-in-Hypothesis.ensures.pushed)
-    (pushed_entries st c.args.site.now.place c.requires.call.0 u.0
-    (g.S.Store.stack c.args.store.now) (numbers_in c.in-Hypothesis.expression.now)
+    let of = c.requires.call.1 in
+    let u = subst (IsCallOf st c.args.site.now.place c.requires.call.0) c.in-Hypothesis.is of in
+    rw c.in_ok-push-in-Hypothesis.ensures.pushed
+    (pushed_entries st _ _ u.0 (g.S.Store.stack c.args.store.now)
+    (numbers_in c.in-Hypothesis.expression.now)
     (subst IsSite c.site.view_is c.site.invariant.1).sound.0 u.1 u.2 u.3 c.requires.entries)
 
 pub apply-requires-clause-scheme : goal.apply-requires-clause-scheme

@@ -1,18 +1,31 @@
-use Rattle.std.proofs.Common.{sym, ap, ◌∙◌}
-use Rattle.std.specs.List.{list_any}
+use Rattle.std.proofs.Common.{◌≡◌, [], length, get_or, false, sym, ap, ◌∙◌, arith}
+use Rattle.std.proofs.lemmas.List.{length-map, get_or-map}
+use Rattle.std.proofs.lemmas.List.Sums.{position_or_len_is}
+use borrow.Author.Count.{below_more}
 use Rattle.mm_proof.specs.Tokens.{is_unknown}
-use Rattle.mm_proof.proofs.FrontTokens.{any_more, first_at, first_past}
-use Rattle.mm_proof.proofs.TokenFacts.{front_all}
+use Rattle.mm_proof.specs.Plain.{token_texts}
 use Rattle.mm_proof.proofs.front.known_count.Goals as goal
 
 pub returns-then-is_unknown-clause-first : goal.returns-then-is_unknown-clause-first
 returns-then-is_unknown-clause-first c =
-    first_at (λ t. t.text.now) is_unknown c.args.tokens.now c.loop-place.place _ c.loop-place-test.true c.loop-place.invariant (sym c.is_unknown.ensures ∙ c.if-is_unknown.true)
+    let tokens = c.args.tokens.now in
+    let here = get_or-map (λ t. t.text.now) tokens c.loop-place.place _ [] c.loop-place-test.true in
+    sym (position_or_len_is is_unknown (token_texts c.args.tokens.now) c.loop-place.place []
+    (omega (arith, c.loop-place-test.true, length-map c.args.tokens.now (λ t. t.text.now)))
+    c.loop-place.invariant
+    (λ less. ap is_unknown here ∙ sym c.is_unknown.ensures ∙ c.if-is_unknown.true))
 
 pub loop-place-preserved : goal.loop-place-preserved
 loop-place-preserved c =
-    any_more (λ t. t.text.now) is_unknown c.args.tokens.now c.loop-place.place _ c.loop-place-test.true c.loop-place.invariant (sym c.is_unknown.ensures ∙ c.if-is_unknown.false)
+    let tokens = c.args.tokens.now in
+    let here = get_or-map (λ t. t.text.now) tokens c.loop-place.place _ [] c.loop-place-test.true in
+    below_more (λ k. is_unknown (get_or (token_texts tokens) k []) ≡ false) c.loop-place.place
+    c.loop-place.invariant (ap is_unknown here ∙ sym c.is_unknown.ensures ∙ c.if-is_unknown.false)
 
 pub returns-clause-first : goal.returns-clause-first
 returns-clause-first c =
-    first_past (λ t. t.text.now) is_unknown c.args.tokens.now (ap (list_any is_unknown) (sym (front_all (λ t. t.text.now) c.args.tokens.now c.loop-place.place c.loop-place-test.false)) ∙ c.loop-place.invariant)
+    let long = length-map c.args.tokens.now (λ t. t.text.now) in
+    sym (position_or_len_is is_unknown (token_texts c.args.tokens.now) (length c.args.tokens.now) []
+    (omega (arith, long))
+    (λ k less. c.loop-place.invariant k (omega (arith, less, c.loop-place-test.false)))
+    (λ less. absurd (omega (arith, less, long))))

@@ -16,7 +16,6 @@ returns-in-Assertion c =
 pub returns-then-active : goal.returns-then-active
 returns-then-active c =
     let f = c.in-Hypothesis.ensures.found in
-    let less = numbers_order _ _ _ _ _ _ _ f.2 c.requires.own.1 (omega arith) in
     let own = subst (λ (st : List Sentence). IsNumbered st c.in-Hypothesis.found.0 f.0 f.1) (sym c.requires.book) f.2 in
     let active = (c.active.ensures f.0 f.1 own).0 c.if-active.true in
     record {
@@ -24,7 +23,7 @@ returns-then-active c =
       s = f.1;
       numbered = f.2;
       named = f.3;
-      before = less;
+      before = numbers_order _ _ _ _ _ _ _ f.2 c.requires.own.1 (omega arith);
       kind = inl (f.4, subst (λ (st : List Sentence). IsActive (take c.args.own.now.place st) f.0) c.requires.book active);
     }
 

@@ -1,16 +1,17 @@
 use Rattle.std.proofs.Common.{take}
+use Rattle.std.proofs.lemmas.Result.{IfOk-weaker}
 use Rattle.mm_frame.proofs.Meant.{allmeant_front}
 use Rattle.mm_proof.specs.Proof.{IsWithin}
 use Rattle.mm_proof.specs.Profiles.{limit_of}
 use Rattle.mm_proof.proofs.Ending.{same_moves, seen_moves, seen_limit}
 use Rattle.mm_proof.proofs.Exact.{accepts, refuses}
-use Rattle.mm_proof.proofs.ListingEnd.{if_ok_map, if_ok_at, if_rule_at}
+use Rattle.mm_proof.proofs.ListingEnd.{if_ok_at, if_rule_at}
 use Rattle.mm_proof.proofs.lines.listing.Goals as goal
 use Rattle.mm_proof.proofs.Answering.{rules_map}
 
 pub returns-clause-listed : goal.returns-clause-listed
 returns-clause-listed c =
-    if_ok_map c.lines_of_proof.result _ _ (λ lines h place s moves proof numbered.
+    IfOk-weaker c.lines_of_proof.result _ _ (λ lines h place s moves proof numbered.
     (h place s moves proof (same_moves c.args.book.now.statements _ _ _ moves c.deref.ensures.value (seen_moves c.steps.view_is) numbered)).1) (rw (seen_limit c.steps.view_is) at c.lines_of_proof.ensures.listed)
 
 pub returns-clause-fault : goal.returns-clause-fault

@@ -1,6 +1,4 @@
-use Rattle.std.proofs.Common.{[], subst}
 use Rattle.std.proofs.lemmas.List.{take_all}
-use Rattle.mm_proof.specs.Mirror.CodeSharing.{AreEncoded}
 use Rattle.mm_proof.proofs.PackingLists.{one_there, encoded_next, repeated_tagged, tagged_next}
 use Rattle.mm_proof.proofs.packing.codes_of.Goals as goal
 
@@ -28,5 +26,5 @@ loop-one-preserved c =
 pub returns-clause-said : goal.returns-clause-said
 returns-clause-said c = (
   c.loop-one.kept,
-  subst (λ steps. AreEncoded c.args.labels.now c.args.repeated.now [] steps c.loop-one.codes.items c.loop-one.kept) (take_all c.loop-one.one-index c.args.steps.now c.loop-one-test.false) c.loop-one.invariant.said,
+  rw (take_all _ c.args.steps.now c.loop-one-test.false) at c.loop-one.invariant.said,
 )

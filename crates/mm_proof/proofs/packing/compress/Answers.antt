@@ -1,9 +1,8 @@
-use Rattle.std.proofs.Common.{subst, length, sym, ap, arith}
+use Rattle.std.proofs.Common.{length, ap, arith}
 use Rattle.std.proofs.lemmas.Result.{IfOk-weaker}
 use Rattle.std.proofs.lemmas.Slice.Zip.{AllZip-long}
 use Rattle.mm_proof.specs.Steps.{IsNumberedMove}
-use Rattle.mm_proof.specs.Plain.{ids_in, label_ids}
-use Rattle.mm_proof.specs.Mirror.CodeSharing.{AreStepsPacked, AreMadeBefore}
+use Rattle.mm_proof.specs.Plain.{label_ids}
 use Rattle.mm_proof.proofs.SharingSteps.{shared_keep, steps_end, steps_made_before}
 use Rattle.mm_proof.proofs.PackedTrees.{packed_made}
 use Rattle.mm_proof.proofs.packing.compress.Goals as goal
@@ -21,11 +20,11 @@ pack-requires-clause-steps c =
 pub pack-requires-clause-made : goal.pack-requires-clause-made
 pack-requires-clause-made c =
     let a = c.requires.steps in
-    let st = c.args.book.now.statements in
     let t = c.requires.makes a.place a.s a.moves a.proof a.numbered in
     let all = (c.in_ok-build.ensures.built a.place a.s a.moves a.proof a.numbered t.0 t.1 t.2).holds in
     let meant = c.frame-own.ensures.sound.0 in
-    subst AreMadeBefore (sym c.deref.ensures.value) (steps_made_before st _ _ _ _ _ meant all.subtrees.once (all.shared meant))
+    rw c.deref.ensures.value
+    (steps_made_before _ _ _ _ _ _ meant all.subtrees.once (all.shared meant))
 
 pub returns-clause-packed : goal.returns-clause-packed
 returns-clause-packed c = IfOk-weaker c.pack.result _ _ (λ packed h place s moves proof numbered label below makes.
@@ -35,4 +34,4 @@ returns-clause-packed c = IfOk-weaker c.pack.result _ _ (λ packed h place s mov
     let its = c.frame-own.ensures.place in
     packed_made st c.args.id.0 place s its.0 c.frame-own.result _ label below moves _ (label_ids c.hypotheses.result.now) packed.labels.items packed.codes.items
     sound all.subtrees.once proof.numbered c.frame-own.ensures.book its.1 c.hypotheses.ensures.ids makes (steps_end st _ _ _ _ _ (all.shared sound.0))
-    (subst (λ steps. AreStepsPacked (label_ids c.hypotheses.result.now) steps (ids_in packed.labels.items) packed.codes.items) c.deref.ensures.value h)) c.pack.ensures.packed
+    (rw c.deref.ensures.value at h)) c.pack.ensures.packed

@@ -1,7 +1,6 @@
-use Rattle.std.proofs.Common.{ℕ, sym, subst, arith, below_more, get_or}
+use Rattle.std.proofs.Common.{arith, below_more}
 use Rattle.std.proofs.lemmas.List.{length-map}
 use Rattle.mm_proof.specs.Stores.{numbers_in}
-use Rattle.mm_proof.specs.Mirror.CodeVerify.{IsApartFromEach}
 use Rattle.mm_proof.proofs.Shared.{number_at, symbol_below, distinct_told, near_told}
 use Rattle.mm_proof.proofs.pairs.are_apart.Goals as goal
 
@@ -12,15 +11,12 @@ pub returns-then-not-is_apart_from_each : goal.returns-then-not-is_apart_from_ea
 returns-then-not-is_apart_from_each c =
     let at = number_at c.args.e.now c.loop-symbol.symbol-index (record { 0 = 0 }) c.loop-symbol-test.true in
     near_told c.args.book.now.statements c.args.own.now.place (numbers_in c.args.e.now) (numbers_in c.args.f.now) c.loop-symbol.symbol-index c.requires.sound.0 c.requires.first c.requires.second
-    (omega (arith, length-map c.args.e.now (λ s. s.0)))
-    (subst (λ (n : ℕ). ¬ (IsApartFromEach c.args.book.now.statements c.args.own.now.place (numbers_in c.args.f.now) n)) (sym at) c.if-not-is_apart_from_each.ensures)
+    (omega (arith, length-map c.args.e.now (λ s. s.0))) (rw at c.if-not-is_apart_from_each.ensures)
 
 pub loop-symbol-preserved : goal.loop-symbol-preserved
 loop-symbol-preserved c =
     let at = number_at c.args.e.now c.loop-symbol.symbol-index (record { 0 = 0 }) c.loop-symbol-test.true in
-    below_more (λ (k : ℕ). IsApartFromEach c.args.book.now.statements c.args.own.now.place (numbers_in c.args.f.now) (get_or (numbers_in c.args.e.now) k 0)) c.loop-symbol.symbol-index
-    c.loop-symbol.invariant
-    (subst (λ (n : ℕ). IsApartFromEach c.args.book.now.statements c.args.own.now.place (numbers_in c.args.f.now) n) (sym at) c.if-not-is_apart_from_each.ensures)
+    below_more _ _ c.loop-symbol.invariant (rw at c.if-not-is_apart_from_each.ensures)
 
 pub returns : goal.returns
 returns c = distinct_told _ _ _ _ (λ k less. c.loop-symbol.invariant k (omega (arith, length-map c.args.e.now (λ s. s.0))))

@@ -1,7 +1,3 @@
-use Rattle.std.proofs.Common.{ℕ, ◌≡◌, List, Some, IsTrue, take, slice_get, subst}
-use Rattle.mm_frame.specs.Sentence.{Sentence}
-use Rattle.mm_frame.specs.Frame.{IsDistinct}
-use Rattle.mm_frame.specs.Numbers.{symbols_of}
 use Rattle.mm_proof.proofs.Shared.{apart_free, apart_told}
 use Rattle.mm_proof.proofs.Named.{number_of_name}
 use Rattle.mm_proof.proofs.pairs.is_apart.Goals as goal
@@ -12,7 +8,6 @@ returns-then-not-is_variable c =
 
 pub returns-else-not-is_variable : goal.returns-else-not-is_variable
 returns-else-not-is_variable c =
-    let told = subst (λ (st : List Sentence). (x y : List ℕ) → slice_get (symbols_of st) c.args.variable.0 ≡ Some x → slice_get (symbols_of st) c.args.symbol.0 ≡ Some y
-    → (IsTrue c.distinct.result → IsDistinct (take c.args.own.now.place st) x y) × (IsDistinct (take c.args.own.now.place st) x y → IsTrue c.distinct.result)) c.requires.book c.distinct.ensures in
+    let told = rw c.requires.book at c.distinct.ensures in
     let d = told _ _ (number_of_name c.args.book.now.statements c.args.variable.0 c.requires.first) (number_of_name c.args.book.now.statements c.args.symbol.0 c.requires.second) in
     apart_told _ _ c.distinct.result d.0 d.1 ((c.is_variable.ensures.variable _ (number_of_name c.args.book.now.statements c.args.symbol.0 c.requires.second)).0 c.if-not-is_variable.false)

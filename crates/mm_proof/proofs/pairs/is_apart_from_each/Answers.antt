@@ -1,7 +1,5 @@
-use Rattle.std.proofs.Common.{ℕ, sym, subst, arith, below_more, get_or}
+use Rattle.std.proofs.Common.{arith, below_more}
 use Rattle.std.proofs.lemmas.List.{length-map}
-use Rattle.mm_proof.specs.Stores.{numbers_in}
-use Rattle.mm_proof.specs.Mirror.CodeVerify.{IsApart}
 use Rattle.mm_proof.proofs.Shared.{number_at, symbol_below}
 use Rattle.mm_proof.proofs.Named.{number_of_name}
 use Rattle.mm_proof.proofs.pairs.is_apart_from_each.Goals as goal
@@ -12,15 +10,14 @@ is_apart-requires-clause-second c = symbol_below c.args.book.now.statements _ c.
 pub loop-symbol-preserved : goal.loop-symbol-preserved
 loop-symbol-preserved c =
     let at = number_at c.args.f.now c.loop-symbol.symbol-index (record { 0 = 0 }) c.loop-symbol-test.true in
-    below_more (λ (k : ℕ). IsApart c.args.book.now.statements c.args.own.now.place c.args.variable.0 (get_or (numbers_in c.args.f.now) k 0)) c.loop-symbol.symbol-index c.loop-symbol.invariant
-    (subst (λ (n : ℕ). IsApart c.args.book.now.statements c.args.own.now.place c.args.variable.0 n) (sym at) c.if-not-is_apart.ensures)
+    below_more _ _ c.loop-symbol.invariant (rw at c.if-not-is_apart.ensures)
 
 pub returns-then-not-is_apart : goal.returns-then-not-is_apart
 returns-then-not-is_apart c each =
-    let at = number_at c.args.f.now c.loop-symbol.symbol-index (record { 0 = 0 }) c.loop-symbol-test.true in
+    let same = number_at c.args.f.now _ (record { 0 = 0 }) c.loop-symbol-test.true in
     let variable = (c.is_variable.ensures.variable _ (number_of_name c.args.book.now.statements c.args.variable.0 c.requires.first)).0 c.if-not-is_variable.false in
     c.if-not-is_apart.ensures
-    (subst (λ (n : ℕ). IsApart c.args.book.now.statements c.args.own.now.place c.args.variable.0 n) at (each variable c.loop-symbol.symbol-index (omega (arith, length-map c.args.f.now (λ s. s.0)))))
+    (rw same at (each variable c.loop-symbol.symbol-index (omega (arith, length-map c.args.f.now (λ s. s.0)))))
 
 pub returns : goal.returns
 returns c variable k less = c.loop-symbol.invariant k (omega (arith, length-map c.args.f.now (λ s. s.0)))

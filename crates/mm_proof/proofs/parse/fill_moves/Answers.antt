@@ -1,6 +1,6 @@
+use Rattle.std.proofs.lemmas.List.{map-append}
 use Rattle.mm_proof.specs.Plain.{ids_in, moves_in}
 use Rattle.mm_proof.proofs.Compressed.{codes_more}
-use Rattle.mm_proof.proofs.Picking.{marked_push}
 use Rattle.mm_proof.proofs.parse.fill_moves.Goals as goal
 
 pub loop-code-init : goal.loop-code-init
@@ -11,7 +11,7 @@ loop-code-preserved c =
     rw c.in_ok-push.ensures.items (
       codes_more _ c.args.codes.now c.loop-code.code-index _ _ _ c.loop-code-test.true c.loop-code.invariant.0 c.move_of-one.ensures.says,
       c.move_of-one.ensures.long,
-      marked_push _ c.loop-code.moves.items c.move_of-one.result _ (c.move_of-one.ensures.marked (moves_in c.loop-code.moves.items) c.loop-code.invariant.2),
+      rw map-append (c.move_of-one.ensures.marked _ c.loop-code.invariant.2),
     )
 
 pub returns-clause-picked : goal.returns-clause-picked

@@ -1,10 +1,5 @@
-use Rattle.std.proofs.Common.{slice_get, ℕ, List, map, subst, sym, ap, ◌∙◌}
+use Rattle.std.proofs.Common.{slice_get, ap}
 use Rattle.std.proofs.lemmas.Result.{err_from_is_err_and}
-use Rattle.mm_proof.specs.Moves.{Move, name}
-use Rattle.mm_proof.specs.declared.moves.NumberedMove.{NumberedMove}
-use Rattle.mm_proof.specs.Plain.{ids_in, moves_in, token_texts}
-use Rattle.mm_proof.specs.Mirror.CodeSteps.{IsReading}
-use Rattle.mm_proof.specs.Mirror.CodeRun.{ArePicked}
 use Rattle.mm_proof.proofs.Answering.{on_rule_map}
 use Rattle.mm_proof.proofs.TokenFacts.{labels_fault, normal_labels}
 use Rattle.mm_proof.proofs.Readings.{reading_normal}
@@ -14,13 +9,10 @@ pub returns-clause-ok : goal.returns-clause-ok
 returns-clause-ok c =
     let own = c.site.invariant.1 in
     let reading = reading_normal _ _ own.s _ _ c.site.invariant.1.sound.0 own.proof.numbered.there c.requires.normal c.in_ok-fill_numbers.ensures.ok in
-    rw (← c.site.view_is) (
-    subst (λ (ms : List (Move ℕ)). IsReading c.site.inside.book.now.statements c.site.inside.own.place (token_texts c.args.tokens.now) ms)
-    (sym (c.in_ok-fill_names.ensures.ok ∙ ap (λ l. map name (ids_in l)) c.deref.ensures.value)) reading)
+    rw (← c.site.view_is, c.in_ok-fill_names.ensures.ok, c.deref.ensures.value) reading
 
 pub returns-clause-picked : goal.returns-clause-picked
-returns-clause-picked c =
-    subst (λ (ms : List NumberedMove). ArePicked (moves_in ms) (ids_in c.fill_picked.new.ids.items)) c.deref-2.ensures.value c.in_ok-fill_picked.ensures
+returns-clause-picked c = rw c.deref-2.ensures.value at c.in_ok-fill_picked.ensures
 
 pub returns-in_err-fill_names-clause-fault : goal.returns-in_err-fill_names-clause-fault
 returns-in_err-fill_names-clause-fault c =

@@ -1,8 +1,5 @@
-use Rattle.std.proofs.Common.{take, inl, inr, subst}
+use Rattle.std.proofs.Common.{inl, inr}
 use Rattle.std.proofs.lemmas.Result.{err_from_is_err_and}
-use Rattle.mm_proof.specs.declared.profile.Profile.{Profile}
-use Rattle.mm_proof.specs.Strict.{HasFormOf}
-use Rattle.mm_proof.specs.Plain.{token_texts}
 use Rattle.mm_proof.proofs.Answering.{on_rule_map, rules_map}
 use Rattle.mm_proof.proofs.parse.fill_under.Goals as goal
 
@@ -13,8 +10,6 @@ returns-in_err-fill_steps-clause-fault c =
 
 pub returns-in-Strict-clause-fault : goal.returns-in-Strict-clause-fault
 returns-in-Strict-clause-fault c =
-    let st = c.args.site.now.statements in
-    let texts = token_texts c.args.tokens.now in
     rules_map c.judge_form.result _ _ (λ rule step h. λ place s proof.
     let f = h place s proof in
-    (f.0, inr ((c.in_ok-fill_steps.ensures.steps place s proof).0, f.1, λ form. f.2 (subst (λ (p : Profile). HasFormOf p (take place st) s texts) c.in-Strict.is form)))) c.judge_form.ensures.fault
+    (f.0, inr ((c.in_ok-fill_steps.ensures.steps place s proof).0, f.1, λ form. f.2 (rw c.in-Strict.is at form)))) c.judge_form.ensures.fault

@@ -1,11 +1,6 @@
-use Rattle.std.proofs.Common.{ℕ, List, ◌++◌, Err, subst, sym, ap, ◌∙◌}
-use Rattle.std.specs.List.{AllZip}
+use Rattle.std.proofs.Common.{Err, ap}
 use Rattle.std.proofs.lemmas.Result.{err_from_is_err_and}
 use Rattle.mm_code.specs.declared.code.CodeRule.TheVariants as code
-use Rattle.mm_frame.specs.Sentence.{Sentence}
-use Rattle.mm_frame.specs.FramePlace.{AreHypotheses}
-use Rattle.mm_proof.specs.Plain.{ids_in, label_ids}
-use Rattle.mm_proof.specs.Mirror.CodeSteps.{NumberSays, MayAllBeUsed, AreFor}
 use Rattle.mm_proof.proofs.Answering.{on_rule_map}
 use Rattle.mm_proof.proofs.TokenFacts.{labels_fault}
 use Rattle.mm_proof.proofs.Compressed.{one_compressed, reading_compressed, entries_usable, compressed_labels, letters_spelled, letter_broken}
@@ -21,30 +16,29 @@ returns-in_err-fill_numbers-clause-fault c =
 
 pub returns-in-Err-clause-fault : goal.returns-in-Err-clause-fault
 returns-in-Err-clause-fault c =
-    rw (c.letter_fault.ensures, ← c.site.view_is) (letter_broken c.site.inside.book.now.statements c.site.inside.own.place _ _ _ _ c.in-Err.fault c.site.invariant.1.sound.0 c.in-Some.ensures c.in_ok-fill_numbers.ensures.ok
+    rw (c.letter_fault.ensures, ← c.site.view_is) (letter_broken _ _ _ _ _ _ c.in-Err.fault
+    c.site.invariant.1.sound.0 c.in-Some.ensures c.in_ok-fill_numbers.ensures.ok
     (λ rule is. c.in-Err.ensures.rule rule (ap Err is)))
 
 pub returns-clause-reads : goal.returns-clause-reads
 returns-clause-reads c steps says =
-    let entries = c.in_ok-fill_entries.ensures ∙ ap (λ l. label_ids c.hypotheses.result.now ++ ids_in l) c.deref.ensures.value in
-    let by_ids = subst (λ (ids : List ℕ). AllZip (NumberSays ids) c.read_letters.new.codes.items steps) entries says in
+    let own = c.site.invariant.1 in
+    let by_ids = rw (c.in_ok-fill_entries.ensures, c.deref.ensures.value) at says in
     rw (← c.site.view_is) (
-    reading_compressed c.site.inside.book.now.statements c.site.inside.own.place c.site.invariant.1.s _ _ _ _ _ _ _ c.site.invariant.1.sound.0 c.site.invariant.1.sound.1 c.site.invariant.1.proof.numbered.there
+    reading_compressed _ _ own.s _ _ _ _ _ _ _ own.sound.0 own.sound.1 own.proof.numbered.there
     c.in-Some.ensures c.in_ok-fill_numbers.ensures.ok
-    (subst (λ (st : List Sentence). AreHypotheses (record { statements = st; place = c.site.inside.own.place }) (label_ids c.hypotheses.result.now)) c.site.invariant.0 c.hypotheses.ensures.ids)
+    (rw c.site.invariant.0 at c.hypotheses.ensures.ids)
     c.in-Ok.ensures.read (c.in-Ok.ensures.unbroken code.P4) (c.in-Ok.ensures.unbroken code.P5)
     by_ids)
 
 pub returns-clause-usable : goal.returns-clause-usable
 returns-clause-usable c =
-    let entries = c.in_ok-fill_entries.ensures ∙ ap (λ l. label_ids c.hypotheses.result.now ++ ids_in l) c.deref.ensures.value in
-    rw (← c.site.view_is) (
-    subst (λ (ids : List ℕ). MayAllBeUsed c.site.inside.book.now.statements c.site.inside.own.place ids) (sym entries)
-    (entries_usable c.site.inside.book.now.statements c.site.inside.own.place _ _ _ c.site.invariant.1.sound.0 c.site.invariant.1.sound.1 c.in_ok-fill_numbers.ensures.ok
-    (subst (λ (st : List Sentence). AreHypotheses (record { statements = st; place = c.site.inside.own.place }) (label_ids c.hypotheses.result.now)) c.site.invariant.0 c.hypotheses.ensures.ids)))
+    let sound = c.site.invariant.1.sound in
+    rw (← c.site.view_is, c.in_ok-fill_entries.ensures, c.deref.ensures.value)
+    (entries_usable _ _ _ _ _ sound.0 sound.1 c.in_ok-fill_numbers.ensures.ok
+    (rw c.site.invariant.0 at c.hypotheses.ensures.ids))
 
 pub returns-clause-listed : goal.returns-clause-listed
 returns-clause-listed c labels letters parts =
-    rw (← c.site.view_is) (
-    subst (AreFor c.site.inside.book.now.statements c.site.inside.own.place (ids_in c.fill_numbers.new.ids.items))
-    (sym (one_compressed _ labels letters _ _ parts c.in-Some.ensures).0) c.in_ok-fill_numbers.ensures.ok)
+    rw (← c.site.view_is, (one_compressed _ labels letters _ _ parts c.in-Some.ensures).0)
+    c.in_ok-fill_numbers.ensures.ok

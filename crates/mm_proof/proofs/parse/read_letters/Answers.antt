@@ -1,9 +1,6 @@
-use Rattle.std.proofs.Common.{◌≡◌, ℕ, List, Bor, ap, subst, ◌∙◌}
-use Rattle.std.specs.Prelude.{OnOk}
+use Rattle.std.proofs.Common.{◌≡◌, ℕ, List, Bor, ap, ◌∙◌}
 use Rattle.std.specs.List.{flat_map}
-use Rattle.std.proofs.lemmas.Result.{on_ok_weaker}
-use Rattle.mm_code.specs.declared.code.CodeRule.{CodeRule}
-use Rattle.mm_code.specs.Letters.{Letters, LettersBreak as Breaks, joined_tokens}
+use Rattle.mm_code.specs.Letters.{joined_tokens}
 use Rattle.mm_proof.specs.Plain.{token_texts}
 use Rattle.mm_code.specs.Layout.{texts}
 use Rattle.mm_proof.proofs.Compressed.{joined_texts, filled_unbroken}
@@ -17,8 +14,8 @@ returns c =
     ∙ ap (λ (ts : List (List ℕ)). flat_map (λ (p : List ℕ). p) ts) c.in_ok-fill_texts.ensures in
     let codes = c.fill_codes.new.codes.items in
     record {
-      read = on_ok_weaker c.fill_codes.result (subst (λ (text : List ℕ). Letters text codes) joined) c.fill_codes.ensures.read;
-      unbroken = subst (λ (text : List ℕ). OnOk c.fill_codes.result ((rule : CodeRule) → ¬ (Breaks rule text))) joined
-          (filled_unbroken c.fill_codes.result codes (joined_tokens c.deref.result.now) c.fill_codes.ensures.broken);
-      rule = λ rule is. subst (Breaks rule) joined (c.fill_codes.ensures.rule rule is);
+      read = rw joined at c.fill_codes.ensures.read;
+      unbroken = rw joined at (filled_unbroken c.fill_codes.result codes
+          (joined_tokens c.deref.result.now) c.fill_codes.ensures.broken);
+      rule = λ rule is. rw joined at (c.fill_codes.ensures.rule rule is);
     }

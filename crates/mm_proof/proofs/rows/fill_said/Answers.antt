@@ -1,7 +1,6 @@
-use Rattle.std.proofs.Common.{◌≡◌, ◌++◌, drop, ap, ◌+◌, ◌∙◌, subst, length, arith}
-use Rattle.mm_frame.specs.declared.piece.Piece.{Piece}
+use Rattle.std.proofs.Common.{drop, ap, ◌+◌, ◌∙◌, length, arith}
 use Rattle.std.proofs.lemmas.List.{length-map}
-use Rattle.mm_proof.specs.Stores.{numbers_in, rows_in, said_by, IsWithinPlaces}
+use Rattle.mm_proof.specs.Stores.{rows_in, said_by, IsWithinPlaces}
 use Rattle.mm_proof.proofs.Values.{said_over, said_appended, within_at}
 use Rattle.mm_proof.proofs.rows.fill_said.Goals as goal
 
@@ -11,14 +10,14 @@ append_said-requires-clause-within c =
 
 pub returns-then-not-branch : goal.returns-then-not-branch
 returns-then-not-branch c =
+    let said = rw (c.piece.ensures ∙ c.piece-item.is) at c.in_ok-append_said.ensures.made in
     let made = said_appended (said_by (drop c.args.base (rows_in c.args.rows.now))) c.args.pieces.now
-    c.loop-piece.piece-index c.piece-item.result (numbers_in c.loop-piece.made.items) (numbers_in c.append_said.new.made.items) c.loop-piece-test.true c.loop-piece.invariant
-    (subst (λ (p : Piece). numbers_in c.append_said.new.made.items ≡ numbers_in c.loop-piece.made.items ++ said_by (drop c.args.base (rows_in c.args.rows.now)) p) (c.piece.ensures ∙ c.piece-item.is) c.in_ok-append_said.ensures.made) in
+    _ c.piece-item.result _ _ c.loop-piece-test.true c.loop-piece.invariant said in
     said_over (said_by (drop c.args.base (rows_in c.args.rows.now))) c.args.pieces.now
     (c.loop-piece.piece-index + 1) c.args.limit (omega (arith, c.in_ok-append_said.ensures.over c.if-not-branch.true, ap length made, length-map c.append_said.new.made.items (λ s. s.0)))
 
 pub loop-piece-preserved : goal.loop-piece-preserved
 loop-piece-preserved c =
+    let said = rw (c.piece.ensures ∙ c.piece-item.is) at c.in_ok-append_said.ensures.made in
     said_appended (said_by (drop c.args.base (rows_in c.args.rows.now))) c.args.pieces.now
-    c.loop-piece.piece-index c.piece-item.result (numbers_in c.loop-piece.made.items) (numbers_in c.append_said.new.made.items) c.loop-piece-test.true c.loop-piece.invariant
-    (subst (λ (p : Piece). numbers_in c.append_said.new.made.items ≡ numbers_in c.loop-piece.made.items ++ said_by (drop c.args.base (rows_in c.args.rows.now)) p) (c.piece.ensures ∙ c.piece-item.is) c.in_ok-append_said.ensures.made)
+    _ c.piece-item.result _ _ c.loop-piece-test.true c.loop-piece.invariant said

@@ -1,8 +1,5 @@
-use Rattle.std.proofs.Common.{◌≡◌, ◌++◌, take, drop, ◌∙◌, subst, arith}
+use Rattle.std.proofs.Common.{◌++◌, take, ◌∙◌, arith}
 use Rattle.std.proofs.lemmas.List.{get_or_default}
-use Rattle.mm_frame.specs.declared.piece.Piece.{Piece}
-use Rattle.mm_proof.specs.Mirror.Buffer.{parts_of}
-use Rattle.mm_proof.specs.Stores.{numbers_in, said_by}
 use Rattle.mm_proof.proofs.Parts.{pieces-step}
 use Rattle.mm_proof.proofs.Values.{no_piece}
 use Rattle.mm_proof.proofs.Saying.{front_stays, parts_used}
@@ -17,7 +14,7 @@ loop-piece-preserved c =
     let before = c.loop-piece.invariant in
     let used = take c.args.used c.args.room.now in
     let said = c.in_ok-end.ensures.said in
-    let says = subst (λ (p : Piece). numbers_in said.0 ≡ said_by (drop c.args.base (parts_of (take c.loop-piece.end c.loop-piece.room) c.args.stack.now)) p) (c.piece-item.is ∙ get_or_default c.args.pieces.now c.loop-piece.piece-index c.piece-item.result no_piece c.loop-piece-test.true) said.2 in
+    let says = rw (c.piece-item.is ∙ get_or_default c.args.pieces.now c.loop-piece.piece-index c.piece-item.result no_piece c.loop-piece-test.true) at said.2 in
     let step = pieces-step used (take c.loop-piece.end c.loop-piece.room) (take c.in_ok-end.end c.put_piece.new.room) before.4 said.0 c.args.stack.now c.args.base c.loop-piece.piece-index c.args.pieces.now
     (parts_used c.args.used c.args.room.now c.args.stack.now c.requires.used c.requires.parts) c.loop-piece-test.true before.5 before.6 said.1 says in (
       omega (arith, before.0, c.in_ok-end.ensures.order),

@@ -1,13 +1,11 @@
-use Rattle.std.proofs.Common.{subst}
-use Rattle.mm_frame.specs.FramePlace.{IsTypingOf}
 use Rattle.mm_proof.proofs.Named.{code_told, code_judged, no_code}
 use Rattle.mm_proof.proofs.step.is_typed.Goals as goal
 
 pub returns-in-Some : goal.returns-in-Some
 returns-in-Some c st h typing below =
-    let (code, x, types, first, second) = subst (λ o. IsTypingOf st o h) c.in-Some.is typing in
+    let (code, x, types, first, second) = rw c.in-Some.is at typing in
     let told = code_told c.one_number.ensures st h code x _ _ below types first in
     code_judged c.begins_with.result h _ types.0 (λ is. told.0 (c.begins_with.ensures.0 is)) (λ same. c.begins_with.ensures.1 (told.1 same))
 
 pub returns-in-None : goal.returns-in-None
-returns-in-None c st h typing below = no_code h _ (subst (λ o. IsTypingOf st o h) c.in-None.is typing)
+returns-in-None c st h typing below = no_code h _ (rw c.in-None.is at typing)

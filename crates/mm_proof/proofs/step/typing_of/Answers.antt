@@ -3,7 +3,7 @@ use Rattle.std.proofs.lemmas.Option.{slice_get_within, same_Some}
 use Rattle.std.proofs.lemmas.Bool.{false≢true, cases_lt}
 use Rattle.mm_frame.specs.Pieces.{variables_of}
 use Rattle.mm_frame.proofs.Patterns.{variables_counted}
-use Rattle.mm_proof.proofs.Named.{hypothesis_at, typing_at, typing_some, entry_at, entry_below, each_more, as_many, no_hypothesis}
+use Rattle.mm_proof.proofs.Named.{hypothesis_at, typing_some, entry_at, entry_below, each_more, as_many, no_hypothesis}
 use Rattle.mm_proof.proofs.step.typing_of.Goals as goal
 use Rattle.mm_proof.proofs.step.typing_of.Goals.{then-floating, else-floating}
 
@@ -12,25 +12,26 @@ loop-index-init g c = (λ st have below hs are i h entry less p q. absurd (omega
 
 pub returns-then-not-is_typed-clause-codes : goal.returns-then-not-is_typed-clause-codes
 returns-then-not-is_typed-clause-codes g c st have below hs are =
-    let i = c.loop-index.index in
-    let at = hypothesis_at st c.args.hypotheses.now hs i no_hypothesis are c.loop-index-test.true in
-    let typing = typing_at st c.args.hypotheses.now i no_hypothesis at.0 have c.loop-index-test.true at.2 in (
-      i,
+    let stack = g.S.Store.stack c.args.store.now in
+    let at = hypothesis_at st _ hs _ no_hypothesis have are c.loop-index-test.true in (
+      _,
       at.0,
       _,
       at.1,
-      entry_at st (g.S.Store.stack c.args.store.now) c.args.base i _ c.at.ensures,
-      c.if-not-is_typed.ensures st at.0 typing (entry_below st (g.S.Store.stack c.args.store.now) c.args.base i _ below c.at.ensures),
+      entry_at st stack c.args.base _ _ c.at.ensures,
+      c.if-not-is_typed.ensures st at.0 at.3
+          (entry_below st stack c.args.base _ _ below c.at.ensures),
     )
 
 pub loop-index-preserved : goal.loop-index-preserved
 loop-index-preserved g c = (
   λ st have below hs are.
-      let i = c.loop-index.index in
-      let at = hypothesis_at st c.args.hypotheses.now hs i no_hypothesis are c.loop-index-test.true in
-      let typing = typing_at st c.args.hypotheses.now i no_hypothesis at.0 have c.loop-index-test.true at.2 in
-      let here = c.if-not-is_typed.ensures st at.0 typing (entry_below st (g.S.Store.stack c.args.store.now) c.args.base i _ below c.at.ensures) in
-      each_more hs _ _ i at.0 _ at.1 (entry_at st (g.S.Store.stack c.args.store.now) c.args.base i _ c.at.ensures) here (c.loop-index.invariant.0 st have below hs are),
+      let stack = g.S.Store.stack c.args.store.now in
+      let at = hypothesis_at st _ hs _ no_hypothesis have are c.loop-index-test.true in
+      each_more hs _ _ _ at.0 _ at.1 (entry_at st stack c.args.base _ _ c.at.ensures)
+      (c.if-not-is_typed.ensures st at.0 at.3
+      (entry_below st stack c.args.base _ _ below c.at.ensures))
+      (c.loop-index.invariant.0 st have below hs are),
   λ all k less. elim c.if-floating.branch [
     | then-floating w ↦ elim (cases_lt k c.loop-index.index) [
       | inl before ↦ c.loop-index.invariant.1 w.if-floating.true k before

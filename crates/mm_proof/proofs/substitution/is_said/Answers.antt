@@ -1,7 +1,6 @@
-use Rattle.std.proofs.Common.{◌≡◌, ◌++◌, ℕ, List, drop, sym, ◌∙◌, subst, length}
+use Rattle.std.proofs.Common.{drop, sym, ◌∙◌, length}
 use Rattle.std.proofs.lemmas.Bool.{false≢true}
 use Rattle.std.proofs.lemmas.Bool.Decides.{Decides-eqb}
-use Rattle.mm_frame.specs.declared.piece.Piece.{Piece}
 use Rattle.mm_proof.specs.Stores.{numbers_in, said_by, IsWithinPlaces}
 use Rattle.mm_proof.proofs.Values.{said_step, said_none, said_end, within_at}
 use Rattle.mm_proof.proofs.substitution.is_said.Goals as goal
@@ -14,16 +13,14 @@ pub returns-in-None : goal.returns-in-None
 returns-in-None g c = (
   λ f. absurd (false≢true f),
   λ is. absurd (said_none (said_by (drop c.args.base (g.S.Store.stack c.args.store.now))) c.args.pieces.now
-      c.loop-piece.piece-index c.piece-item.result (numbers_in c.args.symbols.now) (numbers_in c.loop-piece.rest.now) c.loop-piece-test.true c.loop-piece.invariant
-      (subst (λ (p : Piece). (others : List ℕ) → ¬ (numbers_in c.loop-piece.rest.now ≡ said_by (drop c.args.base (g.S.Store.stack c.args.store.now)) p ++ others)) c.piece-item.is c.in-None.ensures) is),
+      _ c.piece-item.result _ _ c.loop-piece-test.true c.loop-piece.invariant (rw c.piece-item.is at c.in-None.ensures) is),
 )
 
 pub loop-piece-preserved : goal.loop-piece-preserved
 loop-piece-preserved g c =
     said_step (said_by (drop c.args.base (g.S.Store.stack c.args.store.now))) c.args.pieces.now
-    c.loop-piece.piece-index c.piece-item.result (numbers_in c.args.symbols.now) (numbers_in c.loop-piece.rest.now) (numbers_in c.in-Some.others.now) c.loop-piece-test.true
-    c.loop-piece.invariant
-    (subst (λ (p : Piece). numbers_in c.loop-piece.rest.now ≡ said_by (drop c.args.base (g.S.Store.stack c.args.store.now)) p ++ numbers_in c.in-Some.others.now) c.piece-item.is c.in-Some.ensures)
+    _ c.piece-item.result _ _ _ c.loop-piece-test.true c.loop-piece.invariant
+    (rw c.piece-item.is at c.in-Some.ensures)
 
 pub returns : goal.returns
 returns g c =

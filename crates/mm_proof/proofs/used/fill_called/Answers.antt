@@ -1,8 +1,5 @@
-use Rattle.std.proofs.Common.{sym, subst, get_or, false, arith, ◌∙◌}
-use Rattle.std.specs.Bool.{IsTrue}
+use Rattle.std.proofs.Common.{sym, arith, ◌∙◌}
 use Rattle.std.proofs.lemmas.Bool.{false≢true}
-use Rattle.mm_proof.specs.declared.call.Call.{Call}
-use Rattle.mm_proof.specs.Mirror.CodeApply.{IsOfAssertion}
 use Rattle.mm_proof.proofs.Picking.{IsCalledAt, first_none, first_more, first_skipped, called_there, there_called, called_all}
 use Rattle.mm_proof.proofs.used.fill_called.Goals as goal
 use Rattle.mm_proof.proofs.used.fill_called.Goals.{then-is_called+in_ok-push, else-is_called}
@@ -15,11 +12,10 @@ loop-place-preserved c = elim c.if-is_called.branch [
   | then-is_called+in_ok-push w ↦ rw (w.named-is, w.in_ok-push.ensures.items)
       (first_more (IsCalledAt c.args.calls.now c.args.marks.now) c.args.entries.now c.loop-place.place _ c.loop-place.named.ids.items c.loop-place-test.true
       (called_there c.args.calls.now c.args.marks.now c.loop-place.place c.index-calls-place.result (omega arith)
-      (subst (λ (call : Call). IsTrue (get_or c.args.marks.now c.loop-place.place false) × IsOfAssertion call) c.index-calls-place.is (c.is_called.ensures.0 w.if-is_called.true))) c.loop-place.invariant)
+      (rw c.index-calls-place.is at (c.is_called.ensures.0 w.if-is_called.true))) c.loop-place.invariant)
   | else-is_called w ↦ rw w.named-is
       (first_skipped (IsCalledAt c.args.calls.now c.args.marks.now) c.args.entries.now c.loop-place.place c.loop-place.named.ids.items
-      (λ h. false≢true (sym w.if-is_called.false ∙ c.is_called.ensures.1
-      (subst (λ (call : Call). IsTrue (get_or c.args.marks.now c.loop-place.place false) × IsOfAssertion call) (sym c.index-calls-place.is)
+      (λ h. false≢true (sym w.if-is_called.false ∙ c.is_called.ensures.1 (rw c.index-calls-place.is
       (there_called c.args.calls.now c.args.marks.now c.loop-place.place c.index-calls-place.result (omega arith) h)))) c.loop-place.invariant)
 ]
 

@@ -1,6 +1,7 @@
 use Rattle.std.proofs.Common.{sym, ◌∙◌}
 use Rattle.std.proofs.lemmas.Bool.{false≢true}
-use Rattle.mm_proof.proofs.Naming.{listed_at, gather_added, gather_none, gathered_all, gathered_empty}
+use Rattle.std.proofs.lemmas.List.{take_all}
+use Rattle.mm_proof.proofs.Naming.{listed_at, gather_added, gather_none, gathered_empty}
 use Rattle.mm_proof.proofs.used.fill_named.Goals as goal
 use Rattle.mm_proof.proofs.used.fill_named.Goals.{then-is_assertion+in_ok-push, else-is_assertion}
 
@@ -23,4 +24,4 @@ loop-id-preserved c = elim c.if-is_assertion.branch [
 ]
 
 pub returns : goal.returns
-returns c = gathered_all c.args.book.now.statements c.args.picked.now c.loop-id.id-index _ c.loop-id-test.false c.loop-id.invariant
+returns c = rw (take_all _ c.args.picked.now c.loop-id-test.false) at c.loop-id.invariant

@@ -1,34 +1,32 @@
 use Rattle.std.proofs.Common.{Err, ap, ◌∙◌}
 use Rattle.std.proofs.lemmas.Result.{err_from_is_err_and}
-use Rattle.mm_proof.specs.Plain.{moves_in}
 use Rattle.mm_proof.proofs.Ending.{steps_made, proved_end, wrong_end, wrong_move, on_rule_from}
 use Rattle.mm_proof.proofs.verdict.derive.Goals as goal
 
 pub run-requires-clause-usable : goal.run-requires-clause-usable
 run-requires-clause-usable g c =
     let own = c.expression-expression.ensures.site in
-    steps_made c.args.site.now.statements c.args.site.now.number (moves_in c.args.moves.now) c.args.site.now.place own.s own.sound.0 c.requires.steps own.proof.numbered
+    steps_made _ _ _ _ _ own.sound.0 c.requires.steps own.proof.numbered
 
 pub returns-in_err-count-clause-fault : goal.returns-in_err-count-clause-fault
 returns-in_err-count-clause-fault g c =
     let own = c.expression-expression.ensures.site in
     let p = err_from_is_err_and c.from_residual.result c.from_residual.ensures.1 in
     rw (p.1, p.2) (on_rule_from c.in_err-count.field-0.0 _ (λ rule at is.
-    wrong_move c.args.site.now.limit c.args.site.now.statements c.args.site.now.number c.args.site.now.place own.s (moves_in c.args.moves.now) rule at own.proof.numbered
+    wrong_move _ _ _ _ own.s _ rule at own.proof.numbered
     (λ names numbered. c.run.ensures.fault rule at (c.in_err-count.was ∙ ap Err is) names numbered)))
 
 pub returns-in_err-ending-clause-fault : goal.returns-in_err-ending-clause-fault
 returns-in_err-ending-clause-fault g c =
-    let own = c.expression-expression.ensures.site in
+    let own = c.expression-expression.ensures in
     let p = err_from_is_err_and c.from_residual-in_err-ending.result c.from_residual-in_err-ending.ensures.1 in
-    let symbols = c.expression-expression.ensures.symbols in
     rw (p.1, p.2) (on_rule_from c.in_err-ending.field-0.0 _ (λ rule at is.
-    wrong_end c.args.site.now.limit c.args.site.now.statements c.args.site.now.number c.args.site.now.place own.s (moves_in c.args.moves.now) _ _ _ _ rule at c.one_number.ensures own.proof.numbered symbols c.in_ok-count.ensures.ok
+    wrong_end _ _ _ _ own.site.s _ _ _ _ _ rule at c.one_number.ensures own.site.proof.numbered
+    own.symbols c.in_ok-count.ensures.ok
     (c.ending.ensures.fault rule at (c.in_err-ending.was ∙ ap Err is))))
 
 pub returns-clause-proved : goal.returns-clause-proved
 returns-clause-proved g c =
-    let own = c.expression-expression.ensures.site in
-    let symbols = c.expression-expression.ensures.symbols in
-    proved_end c.args.site.now.limit c.args.site.now.statements c.args.site.now.number c.args.site.now.place own.s (moves_in c.args.moves.now) _ _ _ _ own.proof.numbered symbols
+    let own = c.expression-expression.ensures in
+    proved_end _ _ _ _ own.site.s _ _ _ _ _ own.site.proof.numbered own.symbols
     c.in_ok-count.ensures.ok c.in_ok-ending.ensures.ok

@@ -1,6 +1,5 @@
 use Rattle.std.proofs.Common.{Err, ap, ◌∙◌}
 use Rattle.std.proofs.lemmas.Result.{err_from_is_err_and}
-use Rattle.mm_proof.specs.Plain.{moves_in}
 use Rattle.mm_proof.proofs.Ending.{steps_made, on_rule_from}
 use Rattle.mm_proof.proofs.FrontAnswers.{has_passed, has_stopped}
 use Rattle.mm_proof.proofs.verdict.pass.Goals as goal
@@ -8,21 +7,16 @@ use Rattle.mm_proof.proofs.verdict.pass.Goals as goal
 pub run-requires-clause-usable : goal.run-requires-clause-usable
 run-requires-clause-usable g c =
     let own = c.requires.site in
-    steps_made c.args.site.now.statements c.args.site.now.number (moves_in c.args.moves.now)
-    c.args.site.now.place own.s own.sound.0 c.requires.steps own.proof.numbered
+    steps_made _ _ _ _ _ own.sound.0 c.requires.steps own.proof.numbered
 
 pub returns-in_err-run-clause-fault : goal.returns-in_err-run-clause-fault
 returns-in_err-run-clause-fault g c =
     let own = c.requires.site in
     let p = err_from_is_err_and c.from_residual.result c.from_residual.ensures.1 in
     rw (p.1, p.2) (on_rule_from c.in_err-run.field-0.0 _ (λ rule at is.
-    has_stopped c.args.site.now.limit c.args.site.now.statements c.args.site.now.number
-    c.args.site.now.place own.s (moves_in c.args.moves.now) rule at own.proof.numbered
-    (λ names numbered. c.run.ensures.fault rule at (c.in_err-run.was ∙ ap Err is) names numbered)))
+    has_stopped _ _ _ _ own.s _ rule at own.proof.numbered (λ names numbered.
+    c.run.ensures.fault rule at (c.in_err-run.was ∙ ap Err is) names numbered)))
 
 pub returns-clause-passed : goal.returns-clause-passed
 returns-clause-passed g c =
-    let own = c.requires.site in
-    has_passed c.args.site.now.limit c.args.site.now.statements c.args.site.now.number
-    c.args.site.now.place own.s (moves_in c.args.moves.now) _ _ _ own.proof.numbered
-    c.in_ok-run.ensures.ok
+    has_passed _ _ _ _ _ _ _ _ _ c.requires.site.proof.numbered c.in_ok-run.ensures.ok

@@ -1,7 +1,5 @@
-use Rattle.std.proofs.Common.{◌≡◌, [], take}
+use Rattle.std.proofs.Common.{◌≡◌, []}
 use Rattle.mm_frame.proofs.Meant.{allmeant_front}
-use Rattle.mm_proof.specs.Proof.{IsWithin}
-use Rattle.mm_proof.specs.Profiles.{limit_of}
 use Rattle.mm_proof.proofs.FrontAnswers.{front_accepts, front_refuses, ok_both, on_ok_at}
 use Rattle.mm_proof.proofs.verdict.verify.Goals as goal
 use Rattle.mm_proof.proofs.Answering.{rules_map}
@@ -13,17 +11,15 @@ returns-then-is_front-clause-passed g c is =
 
 pub returns-then-is_front-clause-accepts_front : goal.returns-then-is_front-clause-accepts_front
 returns-then-is_front-clause-accepts_front g c is place s moves proof numbered p =
-    front_accepts (IsWithin (limit_of c.args.steps.now.profile))
-    (take place c.args.book.now.statements) moves c.answer_front.result
-    (allmeant_front c.args.book.now.statements place c.answer_front.ensures.sound.0)
+    front_accepts _ _ moves c.answer_front.result
+    (allmeant_front _ place c.answer_front.ensures.sound.0)
     (rules_map c.answer_front.result _ _ (λ rule step h. h place s moves proof numbered)
     c.answer_front.ensures.fault) p
 
 pub returns-then-is_front-clause-refuses_front : goal.returns-then-is_front-clause-refuses_front
 returns-then-is_front-clause-refuses_front g c is place s moves proof numbered rule step fault =
-    front_refuses (IsWithin (limit_of c.args.steps.now.profile))
-    (take place c.args.book.now.statements) moves c.answer_front.result
-    (allmeant_front c.args.book.now.statements place c.answer_front.ensures.sound.0)
+    front_refuses _ _ moves c.answer_front.result
+    (allmeant_front _ place c.answer_front.ensures.sound.0)
     (λ x is. on_ok_at c.answer_front.result _ x is c.answer_front.ensures.passed place s moves proof
     numbered)
     (rules_map c.answer_front.result _ _ (λ r n h. h place s moves proof numbered)

@@ -1,6 +1,4 @@
-use Rattle.std.proofs.Common.{◌+◌, ◌≤◌, length, subst, sym}
-use Rattle.mm_proof.specs.Tree.{tree, none, beside}
-use Rattle.mm_proof.specs.Mirror.CodeSharing.{SharingSteps}
+use Rattle.mm_proof.specs.Tree.{tree, none}
 use Rattle.mm_proof.proofs.Members.{get_in}
 use Rattle.mm_proof.proofs.SubtreeSteps.{kept_is, subtrees_repeat}
 use Rattle.mm_proof.proofs.SharingSteps.{steps_repeat, fewer_more}
@@ -11,8 +9,8 @@ returns-clause-made c first st stack shelf row kept steps label below is h =
     let table = c.args.self.now.table in
     record {
       subtrees = subtrees_repeat st first.table table stack shelf c.args.item row kept label below is h.subtrees;
-      few = subst (λ l. length l ≤ steps + 1) (sym c.in_ok-push.ensures.items) (fewer_more steps c.again.result c.args.self.now.steps.items h.few);
-      shared = λ all. subst (λ l. SharingSteps st table l c.args.self.now.made (beside row (tree label below none)) kept) (sym c.in_ok-push.ensures.items)
+      few = rw c.in_ok-push.ensures.items (fewer_more steps c.again.result c.args.self.now.steps.items h.few);
+      shared = λ all. rw c.in_ok-push.ensures.items
           (steps_repeat st table c.args.item c.again.result _ _ row kept label below (kept_is st first.table table stack shelf c.args.item row kept label below is h.subtrees)
           (get_in kept is.tag (tree label below none) is.tree_there) c.again.ensures (h.shared all));
     }

@@ -1,15 +1,14 @@
-use Rattle.std.proofs.Common.{◌≡◌, Some, slice_get, Contains, sym, ap, subst, ◌∙◌}
+use Rattle.std.proofs.Common.{sym, ap, ◌∙◌}
 use Rattle.std.specs.Option.{is_some}
 use Rattle.std.proofs.lemmas.Bool.{false≢true}
-use Rattle.mm_proof.proofs.SubtreeLists.{any_contains, place_there, same_fields, own_fields}
+use Rattle.mm_proof.proofs.SubtreeLists.{any_contains, place_there, fields_told}
 use Rattle.mm_proof.proofs.subtree_set.SubtreeSet.place.Goals as goal
 
 pub returns-clause-there : goal.returns-clause-there
 returns-clause-there c =
-    subst (λ keys. slice_get keys c.in-Some.place ≡ Some c.args.tree) c.self.view_is
-    (place_there _ (record { told = λ a b e. same_fields a b e; same = λ a. own_fields a }) c.self.inside.set.keys c.args.tree c.in-Some.place (sym c.get_index_of.ensures.index ∙ c.in-Some.is))
+    rw (← c.self.view_is) (place_there _ fields_told _ c.args.tree c.in-Some.place (sym c.get_index_of.ensures.index ∙ c.in-Some.is))
 
 pub unreachable-requires : goal.unreachable-requires
 unreachable-requires c =
-    let h = any_contains _ (record { told = λ a b e. same_fields a b e; same = λ a. own_fields a }) c.self.inside.set.keys c.args.tree in
-    absurd (false≢true (sym (ap is_some c.in-None.is) ∙ c.get_index_of.ensures.found ∙ h.1 (subst (λ keys. Contains keys c.args.tree) (sym c.self.view_is) c.requires)))
+    let h = any_contains _ fields_told c.self.inside.set.keys c.args.tree in
+    absurd (false≢true (sym (ap is_some c.in-None.is) ∙ c.get_index_of.ensures.found ∙ h.1 (rw (← c.self.view_is) at c.requires)))

@@ -1,10 +1,10 @@
-use Rattle.std.proofs.Common.{rules, ◌≡◌, ℕ, List, [], ◌∷◌, ◌++◌, length, sym, subst, arith}
+use Rattle.std.proofs.Common.{rules, ◌≡◌, ℕ, List, length, arith}
 use Rattle.std.specs.Vec.{vec_len}
 use Rattle.std.proofs.lemmas.Slice.Zip.{AllZip-long}
 use Rattle.mm_text.proofs.Lists.{zip_push}
 use Rattle.mm_frame.specs.declared.number.LabelId.{LabelId}
-use Rattle.mm_proof.specs.Tree.{tree, none, spelling, beside}
-use Rattle.mm_proof.specs.Spelled.{IsNumberOfLabel, AreLabelsOf}
+use Rattle.mm_proof.specs.Tree.{spelling, beside}
+use Rattle.mm_proof.specs.Spelled.{IsNumberOfLabel}
 use Rattle.mm_proof.proofs.WordSteps.{spelling_over, parts_make}
 use Rattle.mm_proof.proofs.words.VecLabelIdBuilder.make.Goals as goal
 
@@ -15,8 +15,8 @@ returns-clause-made c first st stack shelf rest below kept steps label named man
     let long = AllZip-long R old (spelling (beside rest below)) h.labels_are in
     let same : vec_len c.args.self.now ≡ length old = search rules in
     record {
-      labels_are = subst (λ ls. AreLabelsOf st ls (spelling (beside rest (tree label below none)))) (sym c.in_ok-push.ensures.items)
-          (subst (AreLabelsOf st (old ++ c.args.id ∷ [])) (sym (spelling_over rest below label)) (zip_push R old (spelling (beside rest below)) c.args.id label h.labels_are named));
+      labels_are = rw (c.in_ok-push.ensures.items, spelling_over rest below label)
+          (zip_push R old (spelling (beside rest below)) c.args.id label h.labels_are named);
       parts = parts_make stack c.args.below.now shelf _ rest below kept label c.len.result many (let l = c.len.ensures in omega arith) c.start_of-start.ensures
           (let l = c.len.ensures in let n = c.len-2.ensures in let m = c.in_ok-push.ensures.len in omega arith) h.parts;
     }

@@ -1,11 +1,11 @@
-use Rattle.std.proofs.Common.{rules, ◌≡◌, ℕ, List, ◌++◌, length, sym, subst, arith}
+use Rattle.std.proofs.Common.{rules, ◌≡◌, ℕ, List, length, arith}
 use Rattle.std.specs.List.{slice_range}
 use Rattle.std.specs.Vec.{vec_len}
 use Rattle.std.proofs.lemmas.Slice.Zip.{AllZip-long}
 use Rattle.mm_text.proofs.Lists.{zip_append}
 use Rattle.mm_frame.specs.declared.number.LabelId.{LabelId}
-use Rattle.mm_proof.specs.Tree.{tree, none, spelling, beside}
-use Rattle.mm_proof.specs.Spelled.{IsNumberOfLabel, AreLabelsOf}
+use Rattle.mm_proof.specs.Tree.{tree, none, spelling}
+use Rattle.mm_proof.specs.Spelled.{IsNumberOfLabel}
 use Rattle.mm_proof.proofs.Making.{spelling-beside}
 use Rattle.mm_proof.proofs.WordSteps.{kept_part, part_order, zip_part, parts_repeat}
 use Rattle.mm_proof.proofs.words.VecLabelIdBuilder.repeat.Goals as goal
@@ -32,9 +32,8 @@ returns-clause-made c first st stack shelf row kept steps label below has h =
     let same : vec_len c.args.self.now ≡ length old = search rules in
     let part = kept_part stack shelf c.args.item row kept label below has h.parts in
     record {
-      labels_are = subst (λ ls. AreLabelsOf st ls (spelling (beside row t))) (sym c.in_ok-extend_from_within.ensures.items)
-          (subst (AreLabelsOf st (old ++ slice_range old c.args.item.start c.args.item.end)) (sym (spelling-beside row t))
-          (zip_append R old (spelling row) (slice_range old c.args.item.start c.args.item.end) (spelling t) h.labels_are (zip_part R old (spelling row) c.args.item t h.labels_are part)));
+      labels_are = rw (c.in_ok-extend_from_within.ensures.items, spelling-beside row t)
+          (zip_append R old (spelling row) (slice_range old c.args.item.start c.args.item.end) (spelling t) h.labels_are (zip_part R old (spelling row) c.args.item t h.labels_are part));
       parts = parts_repeat stack shelf c.args.item _ row kept label below has (let l = c.len-start.ensures in omega arith)
           (let l = c.len-start.ensures in let n = c.len.ensures in let m = c.in_ok-extend_from_within.ensures.len in omega arith) h.parts;
     }
