@@ -59,9 +59,7 @@ replaced_again profile f statements others s t new obeyed still carries said the
     let same : u ≡ t =
     sym (one_stands others r.label r.place u t (all_meant profile others still) has.proof.there
     has.proof.named (k, here, named)) in
-    let own : HasText f others r.label r.place t r.root r.below r.text =
-    subst (λ (v : PlainStatement). HasText f others r.label r.place v r.root r.below r.text) same
-    has in
+    let own : HasText f others r.label r.place t r.root r.below r.text = rw same at has in
     record {
       label = r.label;
       place = r.place;

@@ -10,7 +10,7 @@ use Rattle.std.proofs.lemmas.Option.{same_Some, slice_get_within}
 use Rattle.mm_text.specs.Statement.{PlainStatement}
 use Rattle.mm_text.specs.Files.{PlainFile, most_bytes}
 use Rattle.mm_text.proofs.Lists.{all_weaker, at_from_contains, get_within, split_at, two_cuts}
-use Rattle.mm_text.proofs.Lists.{zip_left}
+use Rattle.mm_text.proofs.Lists.{zip_left, get_parted}
 use Rattle.mm_text.proofs.FormedLaws.{readings_are_formed_in_place, readings_few}
 use Rattle.mm_code.proofs.SomeLayout.{some_layout}
 use Rattle.mm_frame.specs.Sentence.{sentence_of}
@@ -36,7 +36,6 @@ use Rattle.mm_check.proofs.OnTheWay.{within_limit}
 use Rattle.mm_check.proofs.PackedSizes.{some_packed_text}
 use Rattle.mm_check.proofs.Rereading.{said_there, proof_fits}
 use Rattle.mm_check.proofs.Saving.{provable_proof}
-use Rattle.mm_check.proofs.SavedFiles.{seam_at}
 use Rattle.mm_check.proofs.SavedOnce.{one_proof_tree, not_over}
 use Rattle.mm_check.proofs.FileTheorems.{theorem_complete, each_theorem}
 use Rattle.mm_check.proofs.AllSavedOnce.{one_all_saved}
@@ -245,8 +244,7 @@ put_not_long : (profile : Profile) (statements : List PlainStatement) (s : Plain
     → ¬ (IsTooLong statements s)
 put_not_long profile statements s new obeyed r (label, (place, root, below, proof, long)) =
     let same : label ≡ r.label = same_Some label r.label (sym proof.named ∙ r.proof.named) in
-    let own : HasProofTree statements r.label place s root below =
-    subst (λ (l : List ℕ). HasProofTree statements l place s root below) same proof in
+    let own : HasProofTree statements r.label place s root below = rw same at proof in
     let (here, (one, trees)) = one_proof_tree profile statements r.label r.place place s s r.root
     root r.below below obeyed r.proof own in
     not_over (length (spelling (tree r.root r.below none))) r.laid.0
@@ -260,7 +258,7 @@ none_long : (profile : Profile) (statements before : List PlainStatement) (s : P
 none_long profile statements before s after theorems news obeyed each split long =
     let there : slice_get theorems (length before) ≡ Some s =
     ap (λ (ss : List PlainStatement). slice_get ss (length before)) split
-    ∙ seam_at before s after in
+    ∙ get_parted before after s in
     let (new, at, r) = zip_left (IsReplacement form.Normal statements) theorems news (length before)
     s each there in
     put_not_long profile statements s new obeyed r long
@@ -300,12 +298,7 @@ fault_of_saved profile f files statements number bytes ask.F3 accepted sv (other
     let once = one_all_saved profile f files statements number others bytes accepted sw sv in
     inr (refl, subst (λ (b : List ℕ). most_bytes < total_with files number b) once over)
 fault_of_saved profile f files statements number bytes ask.Memory accepted sv why = inl refl
-fault_of_saved profile f files statements number bytes ask.A1 accepted sv why = absurd why
-fault_of_saved profile f files statements number bytes ask.A2 accepted sv why = absurd why
-fault_of_saved profile f files statements number bytes ask.A3 accepted sv why = absurd why
-fault_of_saved profile f files statements number bytes ask.L2 accepted sv why = absurd why
-fault_of_saved profile f files statements number bytes (ask.Text rule step) accepted sv why =
-    absurd why
+fault_of_saved profile f files statements number bytes _ accepted sv why = absurd why
 
 pub one_save_all_answer : OneSaveAllAnswer
 one_save_all_answer profile files statements number accepted within =

@@ -9,7 +9,7 @@ use Rattle.mm_text.specs.Statement.{PlainStatement}
 use Rattle.mm_text.specs.Files.{PlainFile}
 use Rattle.mm_text.specs.Reading.{Reads}
 use Rattle.mm_text.specs.Replaced.{placeless, with_span, with_bytes}
-use Rattle.mm_text.proofs.Lists.{cons_parts}
+use Rattle.mm_text.proofs.Lists.{cons_parts, get_parted}
 use Rattle.mm_frame.specs.Sentence.{Sentence, sentence_of}
 use Rattle.mm_frame.proofs.Meant.{one_label}
 use Rattle.mm_proof.specs.Strict.{IsStrict}
@@ -27,10 +27,10 @@ use Rattle.mm_check.proofs.Woven.{Slot, filled}
 use Rattle.mm_check.proofs.SavedSpans.{HasSlots, slots_put_anew}
 use Rattle.mm_check.proofs.Rereading.{said_there}
 use Rattle.mm_check.proofs.Unproved.{all_meant}
-use Rattle.mm_check.proofs.SavedFiles.{nowhere, put_anew, IsProvedAnew, seam_at, readable_anew}
+use Rattle.mm_check.proofs.SavedFiles.{nowhere, put_anew, readable_anew}
 use Rattle.mm_check.proofs.SavedFiles.{handed_anew, with_bytes_again, with_bytes_own}
 use Rattle.mm_check.proofs.SavedFiles.{SayAlike, say_themselves, say_on, said_same}
-use Rattle.mm_check.proofs.SavedOnce.{IsToPut, to_put, anew_of, ArePutAnew, are_put_anew}
+use Rattle.mm_check.proofs.SavedOnce.{IsToPut, to_put, anew_of, are_put_anew, read_anew}
 use Rattle.mm_check.proofs.SavedOnce.{put_says_alike}
 
 -- ---- the statements with the new proofs
@@ -62,9 +62,7 @@ saved_as_moved number front s t u same saved =
       said = saved.said ∙ said;
       home = saved.home ∙ ap (λ (v : PlainStatement). v.first.file) same;
       theorem = saved.theorem ∙ theorem;
-      strict = λ is. subst (λ (x : Sentence). IsStrict front x (proof_of u)) said
-          (subst (λ (tokens : List (List ℕ)). IsStrict front (sentence_of t) tokens) proof
-          (saved.strict (theorem ∙ is)));
+      strict = λ is. rw (said, proof) at (saved.strict (theorem ∙ is));
       kept = λ is. saved.kept (theorem ∙ is) ∙ proof;
     }
 
@@ -97,9 +95,7 @@ saved_as_at number front [] (u ∷ later) all place t there = absurd all
 saved_as_at number front (s ∷ after) [] all place t there = absurd all
 saved_as_at number front (s ∷ after) (u ∷ later) all zero t there =
     let same : u ≡ t = cc in
-    let here : IsSavedAs number (front ++ []) s u =
-    subst (λ (ss : List Sentence). IsSavedAs number ss s u) (sym (append-nil front)) all.0 in
-    (s, refl, subst (λ (v : PlainStatement). IsSavedAs number (front ++ []) s v) same here)
+    (s, refl, rw (append-nil front, ← same) all.0)
 saved_as_at number front (s ∷ after) (u ∷ later) all (suc place) t there =
     let (v, here, saved) =
     saved_as_at number (front ++ sentence_of u ∷ []) after later all.1 place t there in
@@ -110,75 +106,46 @@ saved_as_at number front (s ∷ after) (u ∷ later) all (suc place) t there =
 
 -- ---- the proofs behind some statements
 
--- the slots of the theorems among these are filled, and those of the ones before aren't
-abbrev AreFilledBehind : (files others : List PlainFile) → (number : ℕ)
+-- with these bytes, the slots of the theorems among these are filled, and those of the ones before
+-- aren't
+abbrev AreFilledBehind : (files : List PlainFile) → (number : ℕ) → (bytes : List ℕ)
     → (before : List PlainStatement) → (statements all : List PlainStatement)
     → (news : List Replacement) → Type 0
-AreFilledBehind files others number before statements all news =
+AreFilledBehind files number bytes before statements all news =
     (first : List ℕ) (front back : List Slot)
     → length front ≡ length (theorems_of number before)
     → HasSlots files statements number first (front ++ back)
     → AllZip (λ slot new. new.text ≡ slot.put) back news
-    → HasSlots others all number first (front ++ map filled back)
+    → HasSlots (with_bytes files number bytes) all number first (front ++ map filled back)
 
 -- The files with these bytes read as the statements before, and others, which say what those after
 -- them said; the theorems of the file among them have new proofs.
 record ArePutBehind (profile : Profile) (files : List PlainFile) (number : ℕ) (bytes : List ℕ)
-    (before after : List PlainStatement) (news : List Replacement) : Type 0 where
-  pub later : List PlainStatement
-  pub reads : Reads (with_bytes files number bytes) (before ++ later) None
-  pub obeyed : AllObey profile (before ++ later)
-  pub alike : SayAlike (before ++ after) (before ++ later)
-  pub each : AreSavedAs number (sentences before) after later
-  pub fill : AreFilledBehind files (with_bytes files number bytes) number before (before ++ after)
-      (before ++ later) news
-
--- the statement before them may be counted among them
-record ArePutNext (profile : Profile) (files : List PlainFile) (number : ℕ) (bytes : List ℕ)
-    (before : List PlainStatement) (s : PlainStatement) (after : List PlainStatement)
+    (whole : List PlainStatement → List PlainStatement) (before after : List PlainStatement)
     (news : List Replacement) : Type 0 where
   pub later : List PlainStatement
-  pub reads : Reads (with_bytes files number bytes) (before ++ s ∷ later) None
-  pub obeyed : AllObey profile (before ++ s ∷ later)
-  pub alike : SayAlike (before ++ s ∷ after) (before ++ s ∷ later)
-  pub each : AreSavedAs number (sentences before ++ sentence_of s ∷ []) after later
-  pub fill : AreFilledBehind files (with_bytes files number bytes) number (before ++ s ∷ [])
-      (before ++ s ∷ after) (before ++ s ∷ later) news
+  pub reads : Reads (with_bytes files number bytes) (whole later) None
+  pub obeyed : AllObey profile (whole later)
+  pub alike : SayAlike (whole after) (whole later)
+  pub each : AreSavedAs number (sentences before) after later
+  pub fill : AreFilledBehind files number bytes before (whole after) (whole later) news
 
-put_next : (profile : Profile) (files : List PlainFile) (number : ℕ) (bytes : List ℕ)
-    (before : List PlainStatement) (s : PlainStatement) (after : List PlainStatement)
-    (news : List Replacement)
-    → ArePutBehind profile files number bytes (before ++ s ∷ []) after news
-    → ArePutNext profile files number bytes before s after news
-put_next profile files number bytes before s after news put =
-    let whole : (rest : List PlainStatement) → (before ++ s ∷ []) ++ rest ≡ before ++ s ∷ rest =
-    λ rest. append_assoc before (s ∷ []) rest in
-    let Fill : List PlainStatement → List PlainStatement → Type 0 =
-    λ st su. AreFilledBehind files (with_bytes files number bytes) number (before ++ s ∷ []) st su
-    news in
-    record {
-      later = put.later;
-      reads = subst (λ (ss : List PlainStatement). Reads (with_bytes files number bytes) ss None)
-          (whole put.later) put.reads;
-      obeyed = subst (λ (ss : List PlainStatement). AllObey profile ss) (whole put.later)
-          put.obeyed;
-      alike = subst (λ (ss : List PlainStatement). SayAlike ss (before ++ s ∷ put.later))
-          (whole after)
-          (subst (λ (ss : List PlainStatement). SayAlike ((before ++ s ∷ []) ++ after) ss)
-          (whole put.later) put.alike);
-      each = subst (λ (ss : List Sentence). AreSavedAs number ss after put.later)
-          (map-append sentence_of before (s ∷ [])) put.each;
-      fill = subst (λ (ss : List PlainStatement). Fill ss (before ++ s ∷ put.later)) (whole after)
-          (subst (λ (ss : List PlainStatement). Fill ((before ++ s ∷ []) ++ after) ss)
-          (whole put.later) put.fill);
-    }
+-- it is so behind the statements before, whatever the theorems after them are replaced by
+abbrev PutsBehind : Profile → Form → List PlainFile → ℕ → PlainFile
+    → (whole : List PlainStatement → List PlainStatement) → (before after : List PlainStatement)
+    → Type 0
+PutsBehind profile f files number file whole before after =
+    (news : List Replacement) → Reads files (whole after) None → AllObey profile (whole after)
+    → AllZip (IsReplacement f (whole after)) (theorems_of number after) news
+    → ArePutBehind profile files number (with_replaced file.bytes news) whole before after news
 
 -- a statement that is no theorem of the file is passed over
 passed_over : (profile : Profile) (files : List PlainFile) (number : ℕ) (bytes : List ℕ)
     (before : List PlainStatement) (s : PlainStatement) (after : List PlainStatement)
     (news : List Replacement) → is_theorem_of number s ≡ false
-    → ArePutNext profile files number bytes before s after news
-    → ArePutBehind profile files number bytes before (s ∷ after) news
+    → ArePutBehind profile files number bytes (λ rest. before ++ s ∷ rest) (before ++ s ∷ [])
+    after news
+    → ArePutBehind profile files number bytes (λ rest. before ++ rest) before (s ∷ after) news
 passed_over profile files number bytes before s after news other put = record {
   later = s ∷ put.later;
   reads = put.reads;
@@ -192,7 +159,7 @@ passed_over profile files number bytes before s after news other put = record {
       strict = λ is. absurd (let none = other in cc);
       kept = λ is. refl;
     },
-    put.each,
+    rw (map-append sentence_of before (s ∷ [])) at put.each,
   );
   fill = λ first front back long has texts.
       put.fill first front back
@@ -200,184 +167,147 @@ passed_over profile files number bytes before s after news other put = record {
 }
 
 -- a theorem's proof may be put in where those behind it were
-replaced_to_put : (profile : Profile) (f : Form) (files : List PlainFile)
-    (before : List PlainStatement) (s : PlainStatement) (after later : List PlainStatement)
-    (file : PlainFile) (new : Replacement) → AllObey profile (before ++ s ∷ after)
+replaced_to_put : (profile : Profile) {f : Form} {files : List PlainFile}
+    (before : List PlainStatement) (s : PlainStatement) (after : List PlainStatement)
+    {later : List PlainStatement} {file : PlainFile} {new : Replacement}
+    → AllObey profile (before ++ s ∷ after)
     → (r : IsReplacement f (before ++ s ∷ after) s new) → Reads files (before ++ s ∷ later) None
     → AllObey profile (before ++ s ∷ later) → slice_get files s.first.file ≡ Some file
     → IsToPut profile f files before s later file r.text
-replaced_to_put profile f files before s after later file new obeyed r reads still handed =
+replaced_to_put profile before s after obeyed r reads still handed =
     let st : List PlainStatement = before ++ s ∷ after in
     let here : r.place ≡ length before =
     one_label (sentences st) r.label r.place (length before) (sentence_of s) (sentence_of s)
     (all_meant profile st obeyed) (said_there st r.place s r.proof.there)
-    (said_there st (length before) s (seam_at before s after)) r.proof.named r.proof.named in
+    (said_there st (length before) s (get_parted before after s)) r.proof.named r.proof.named in
     let front : sentences (take r.place st) ≡ sentences before =
     ap (λ (n : ℕ). sentences (take n st)) here
     ∙ ap sentences (take-append_seam before (s ∷ after)) in
-    to_put profile f st r.label r.place r.root r.below files before s later file r.text r.proof
-    r.laid front reads still handed
+    to_put r.proof r.laid front reads still handed
 
--- Its slot is filled behind which all are.
-filled_one : (profile : Profile) (f : Form) (files : List PlainFile) (number : ℕ)
-    (file : PlainFile) (bytes : List ℕ) (before : List PlainStatement) (s : PlainStatement)
-    (after later : List PlainStatement) (new : Replacement) (news : List Replacement)
-    → (r : IsReplacement f (before ++ s ∷ after) s new) → slice_get files number ≡ Some file
-    → s.first.file ≡ number → is_theorem_of number s ≡ true
-    → IsToPut profile f (with_bytes files number bytes) before s later
-    (record file { bytes = bytes }) r.text
-    → (put : ArePutAnew profile (with_bytes files number bytes) before s later
-    (record file { bytes = bytes }) r.text)
-    → AreFilledBehind files (with_bytes files number bytes) number (before ++ s ∷ [])
-    (before ++ s ∷ after) (before ++ s ∷ later) news
-    → AreFilledBehind files (with_bytes files number (with_span bytes new.span new.text)) number
-    before (before ++ s ∷ after) (before ++ put_anew s (10 ∷ r.text) ∷ put.later)
-    (new ∷ news)
-filled_one profile f files number file bytes before s after later new news r handed home is p put
-    fill first front [] long has texts = absurd texts
-filled_one profile f files number file bytes before s after later new news r handed home is p put
-    fill first front (slot ∷ back) long has texts =
-    let others : List PlainFile = with_bytes files number bytes in
-    let own : PlainFile = record file { bytes = bytes } in
-    let all : List PlainStatement = before ++ put_anew s (10 ∷ r.text) ∷ put.later in
-    let one : (rest : List Slot) → (front ++ slot ∷ []) ++ rest ≡ front ++ slot ∷ rest =
-    λ rest. append_assoc front (slot ∷ []) rest in
-    let longer : length (front ++ slot ∷ []) ≡ length (theorems_of number (before ++ s ∷ [])) =
-    length-append front (slot ∷ []) ∙ ap (λ (n : ℕ). n + 1) long
-    ∙ sym (length-append (theorems_of number before) (s ∷ []))
-    ∙ sym (ap length (theorems_parted number before s [] is)) in
-    let behind : HasSlots others (before ++ s ∷ later) number first
-    (front ++ slot ∷ map filled back) =
-    subst (λ (l : List Slot). HasSlots others (before ++ s ∷ later) number first l)
-    (one (map filled back))
-    (fill first (front ++ slot ∷ []) back longer
-    (subst (λ (l : List Slot). HasSlots files (before ++ s ∷ after) number first l)
-    (sym (one back)) has) texts.1) in
-    let put_there =
-    slots_put_anew profile f others number before s later own r.text first front slot
-    (map filled back) p put home (sym texts.0 ∙ r.put) long behind in
-    subst (λ (fs : List PlainFile).
-    HasSlots fs all number first (front ++ map filled (slot ∷ back)))
-    (with_bytes_again files number file bytes (with_span bytes s.span slot.put) handed
-    ∙ (λ i. with_bytes files number (with_span bytes (sym r.span i) (sym texts.0 i)))) put_there
+module _ (profile : Profile) (f : Form) (files : List PlainFile) (number : ℕ) (file : PlainFile)
+    (handed : slice_get files number ≡ Some file) where
+  -- Its slot is filled behind which all are.
+  filled_one : (bytes : List ℕ) {before : List PlainStatement} {s : PlainStatement}
+      (after : List PlainStatement) {later : List PlainStatement} {new : Replacement}
+      (news : List Replacement) (r : IsReplacement f (before ++ s ∷ after) s new)
+      (p : IsToPut profile f (with_bytes files number bytes) before s later
+      (record file { bytes = bytes }) r.text) → is_theorem_of number s ≡ true
+      → AreFilledBehind files number bytes (before ++ s ∷ []) (before ++ s ∷ after)
+      (before ++ s ∷ later) news
+      → AreFilledBehind files number (with_span bytes new.span new.text) before
+      (before ++ s ∷ after) (read_anew p) (new ∷ news)
+  filled_one bytes after news r p is fill first front [] long has texts = absurd texts
+  filled_one bytes {before} {s} after {later} news r p is fill first front (slot ∷ back) long has
+      texts =
+      let others : List PlainFile = with_bytes files number bytes in
+      let one : (rest : List Slot) → (front ++ slot ∷ []) ++ rest ≡ front ++ slot ∷ rest =
+      λ rest. append_assoc front (slot ∷ []) rest in
+      let longer : length (front ++ slot ∷ []) ≡ length (theorems_of number (before ++ s ∷ [])) =
+      length-append front (slot ∷ []) ∙ ap (λ (n : ℕ). n + 1) long
+      ∙ sym (length-append (theorems_of number before) (s ∷ []))
+      ∙ sym (ap length (theorems_parted number before s [] is)) in
+      let behind : HasSlots others (before ++ s ∷ later) number first
+      (front ++ slot ∷ map filled back) =
+      rw (one (map filled back)) at
+      (fill first (front ++ slot ∷ []) back longer (rw (one back) has) texts.1) in
+      subst (λ (fs : List PlainFile).
+      HasSlots fs (read_anew p) number first (front ++ map filled (slot ∷ back)))
+      (with_bytes_again files number file bytes (with_span bytes s.span slot.put) handed
+      ∙ (λ i. with_bytes files number (with_span bytes (sym r.span i) (sym texts.0 i))))
+      (slots_put_anew p number first front slot (map filled back) (theorem_home number s is)
+      (sym texts.0 ∙ r.put) long behind)
 
--- and it is put in
-put_in : (profile : Profile) (f : Form) (files : List PlainFile) (number : ℕ) (file : PlainFile)
-    (bytes : List ℕ) (before : List PlainStatement) (s : PlainStatement)
-    (after : List PlainStatement) (new : Replacement) (news : List Replacement)
-    → slice_get files number ≡ Some file → AllObey profile (before ++ s ∷ after)
-    → IsReplacement f (before ++ s ∷ after) s new → is_theorem_of number s ≡ true
-    → ArePutNext profile files number bytes before s after news
-    → ArePutBehind profile files number (with_span bytes new.span new.text) before (s ∷ after)
-    (new ∷ news)
-put_in profile f files number file bytes before s after new news handed obeyed r is next =
-    let home : s.first.file ≡ number = theorem_home number s is in
-    let others : List PlainFile = with_bytes files number bytes in
-    let own : PlainFile = record file { bytes = bytes } in
-    let there : slice_get others s.first.file ≡ Some own =
-    ap (slice_get others) home ∙ handed_anew files number file bytes handed in
-    let p : IsToPut profile f others before s next.later own r.text =
-    replaced_to_put profile f others before s after next.later own new obeyed r next.reads
-    next.obeyed there in
-    let put : ArePutAnew profile others before s next.later own r.text =
-    are_put_anew profile f others before s next.later own r.text p in
-    let t : PlainStatement = put_anew s (10 ∷ r.text) in
-    let anew : IsProvedAnew profile (sentences before) t p.root p.below =
-    (anew_of profile f others before s next.later own r.text p).1 in
-    let theorem : is_theorem_of number t ≡ true = theorem_there number t anew.complete home in
-    let changed : with_bytes others s.first.file (with_span bytes s.span (10 ∷ r.text))
-    ≡ with_bytes files number (with_span bytes new.span new.text) =
-    (λ i. with_bytes others (home i) (with_span bytes (sym r.span i) (sym r.put i)))
-    ∙ with_bytes_again files number file bytes (with_span bytes new.span new.text) handed in
-    record {
-      later = t ∷ put.later;
-      reads = subst (λ (fs : List PlainFile). Reads fs (before ++ t ∷ put.later) None) changed
-          put.reads;
-      obeyed = put.obeyed;
-      alike = say_on (before ++ s ∷ after) (before ++ s ∷ next.later) (before ++ t ∷ put.later)
-          next.alike
-          (put_says_alike profile f others before s next.later own r.text p put.later put.same);
-      each = (
-        record {
-          said = refl;
-          home = refl;
-          theorem = is ∙ sym theorem;
-          strict = λ so. anew.strict;
-          kept = λ none. absurd (let so = theorem in cc);
-        },
-        all_saved_as_moved number (sentences before ++ sentence_of s ∷ []) after next.later
-            put.later put.same next.each,
-      );
-      fill = filled_one profile f files number file bytes before s after next.later new news r
-          handed home is p put next.fill;
-    }
+  -- and it is put in
+  put_in : (bytes : List ℕ) (before : List PlainStatement) (s : PlainStatement)
+      (after : List PlainStatement) (new : Replacement) (news : List Replacement)
+      → AllObey profile (before ++ s ∷ after) → IsReplacement f (before ++ s ∷ after) s new
+      → is_theorem_of number s ≡ true
+      → ArePutBehind profile files number bytes (λ rest. before ++ s ∷ rest) (before ++ s ∷ [])
+      after news
+      → ArePutBehind profile files number (with_span bytes new.span new.text)
+      (λ rest. before ++ rest) before (s ∷ after) (new ∷ news)
+  put_in bytes before s after new news obeyed r is next =
+      let home : s.first.file ≡ number = theorem_home number s is in
+      let others : List PlainFile = with_bytes files number bytes in
+      let own : PlainFile = record file { bytes = bytes } in
+      let p : IsToPut profile f others before s next.later own r.text =
+      replaced_to_put profile before s after obeyed r next.reads next.obeyed
+      (ap (slice_get others) home ∙ handed_anew files number file bytes handed) in
+      let put = are_put_anew p in
+      let anew = anew_of p in
+      let theorem : is_theorem_of number (put_anew s (10 ∷ r.text)) ≡ true =
+      theorem_there number (put_anew s (10 ∷ r.text)) anew.complete home in
+      let changed : with_bytes others s.first.file (with_span bytes s.span (10 ∷ r.text))
+      ≡ with_bytes files number (with_span bytes new.span new.text) =
+      (λ i. with_bytes others (home i) (with_span bytes (sym r.span i) (sym r.put i)))
+      ∙ with_bytes_again files number file bytes (with_span bytes new.span new.text) handed in
+      record {
+        later = put_anew s (10 ∷ r.text) ∷ put.later;
+        reads = subst (λ (fs : List PlainFile). Reads fs (read_anew p) None) changed put.reads;
+        obeyed = put.obeyed;
+        alike = say_on next.alike (put_says_alike p);
+        each = (
+          record {
+            said = refl;
+            home = refl;
+            theorem = is ∙ sym theorem;
+            strict = λ so. anew.strict;
+            kept = λ none. absurd (let so = theorem in cc);
+          },
+          all_saved_as_moved number (sentences before ++ sentence_of s ∷ []) after next.later
+              put.later put.same
+              (rw (map-append sentence_of before (s ∷ [])) at next.each),
+        );
+        fill = filled_one bytes after news r p is next.fill;
+      }
 
--- ---- all of them
+  -- ---- all of them
 
--- a statement before those that are put in, by whether it is a theorem of the file
-behind_one : (profile : Profile) (f : Form) (files : List PlainFile) (number : ℕ)
-    (file : PlainFile) (before : List PlainStatement) (s : PlainStatement)
-    (after : List PlainStatement) → slice_get files number ≡ Some file
-    → AllObey profile (before ++ s ∷ after)
-    → ((news : List Replacement)
-    → AllZip (IsReplacement f ((before ++ s ∷ []) ++ after)) (theorems_of number after) news
-    → ArePutBehind profile files number (with_replaced file.bytes news) (before ++ s ∷ []) after
-    news)
-    → (b : Bool) → is_theorem_of number s ≡ b → (news : List Replacement)
-    → AllZip (IsReplacement f (before ++ s ∷ after))
-    (cond b (s ∷ theorems_of number after) (theorems_of number after)) news
-    → ArePutBehind profile files number (with_replaced file.bytes news) before (s ∷ after) news
-behind_one profile f files number file before s after handed obeyed so false is news each =
-    passed_over profile files number (with_replaced file.bytes news) before s after news is
-    (put_next profile files number (with_replaced file.bytes news) before s after news
-    (so news (subst (λ (ss : List PlainStatement).
-    AllZip (IsReplacement f ss) (theorems_of number after) news)
-    (sym (append_assoc before (s ∷ []) after)) each)))
-behind_one profile f files number file before s after handed obeyed so true is [] each = absurd each
-behind_one profile f files number file before s after handed obeyed so true is (new ∷ news) each =
-    put_in profile f files number file (with_replaced file.bytes news) before s after new news
-    handed obeyed each.0 is
-    (put_next profile files number (with_replaced file.bytes news) before s after news
-    (so news (subst (λ (ss : List PlainStatement).
-    AllZip (IsReplacement f ss) (theorems_of number after) news)
-    (sym (append_assoc before (s ∷ []) after)) each.1)))
+  -- a statement before those that are put in, by whether it is a theorem of the file
+  behind_one : (before : List PlainStatement) (s : PlainStatement) (after : List PlainStatement)
+      → PutsBehind profile f files number file (λ rest. before ++ s ∷ rest) (before ++ s ∷ []) after
+      → (b : Bool) → is_theorem_of number s ≡ b → (news : List Replacement)
+      → Reads files (before ++ s ∷ after) None → AllObey profile (before ++ s ∷ after)
+      → AllZip (IsReplacement f (before ++ s ∷ after))
+      (cond b (s ∷ theorems_of number after) (theorems_of number after)) news
+      → ArePutBehind profile files number (with_replaced file.bytes news) (λ rest. before ++ rest)
+      before (s ∷ after) news
+  behind_one before s after so false is news reads obeyed each =
+      passed_over profile files number (with_replaced file.bytes news) before s after news is
+      (so news reads obeyed each)
+  behind_one before s after so true is [] reads obeyed each = absurd each
+  behind_one before s after so true is (new ∷ news) reads obeyed each =
+      put_in (with_replaced file.bytes news) before s after new news obeyed each.0 is
+      (so news reads obeyed each.1)
 
-none_behind : (back : List Slot)
-    → AllZip (λ (slot : Slot) (new : Replacement). new.text ≡ slot.put) back [] → back ≡ []
-none_behind [] texts = refl
-none_behind (slot ∷ back) texts = absurd texts
-
-put_behind : (profile : Profile) (f : Form) (files : List PlainFile) (number : ℕ)
-    (file : PlainFile) (before after : List PlainStatement) (news : List Replacement)
-    → slice_get files number ≡ Some file → Reads files (before ++ after) None
-    → AllObey profile (before ++ after)
-    → AllZip (IsReplacement f (before ++ after)) (theorems_of number after) news
-    → ArePutBehind profile files number (with_replaced file.bytes news) before after news
-put_behind profile f files number file before [] [] handed reads obeyed each = record {
-  later = [];
-  reads = subst (λ (fs : List PlainFile). Reads fs (before ++ []) None)
-      (sym (with_bytes_own files number file handed)) reads;
-  obeyed = obeyed;
-  alike = say_themselves (before ++ []);
-  each = tt;
-  fill = λ first front back long has texts.
-      let others = sym (with_bytes_own files number file handed) in
-      subst (λ (l : List Slot). HasSlots (with_bytes files number file.bytes) (before ++ []) number
-      first (front ++ map filled l)) (sym (none_behind back texts))
-      (subst (λ (fs : List PlainFile). HasSlots fs (before ++ []) number first (front ++ []))
-      others
-      (subst (λ (l : List Slot). HasSlots files (before ++ []) number first (front ++ l))
-      (none_behind back texts) has));
-}
-put_behind profile f files number file before [] (new ∷ news) handed reads obeyed each = absurd each
-put_behind profile f files number file before (s ∷ after) news handed reads obeyed each =
-    let whole : before ++ s ∷ after ≡ (before ++ s ∷ []) ++ after =
-    sym (append_assoc before (s ∷ []) after) in
-    behind_one profile f files number file before s after handed obeyed
-    (λ others. put_behind profile f files number file (before ++ s ∷ []) after others handed
-    (subst (λ (ss : List PlainStatement). Reads files ss None) whole reads)
-    (subst (λ (ss : List PlainStatement). AllObey profile ss) whole obeyed))
-    (is_theorem_of number s) refl news each
+  put_behind : (before after : List PlainStatement)
+      → PutsBehind profile f files number file (λ rest. before ++ rest) before after
+  put_behind before [] [] reads obeyed each = record {
+    later = [];
+    reads = subst (λ (fs : List PlainFile). Reads fs (before ++ []) None)
+        (sym (with_bytes_own files number file handed)) reads;
+    obeyed = obeyed;
+    alike = say_themselves (before ++ []);
+    each = tt;
+    fill = fill;
+  }
+    where
+      fill : AreFilledBehind files number file.bytes before (before ++ []) (before ++ []) []
+      fill first front [] long has texts =
+          subst (λ (fs : List PlainFile). HasSlots fs (before ++ []) number first (front ++ []))
+          (sym (with_bytes_own files number file handed)) has
+      fill first front (slot ∷ back) long has texts = absurd texts
+  put_behind before [] (new ∷ news) reads obeyed each = absurd each
+  put_behind before (s ∷ after) news reads obeyed each =
+      let same : (λ (rest : List PlainStatement). (before ++ s ∷ []) ++ rest)
+      ≡ (λ (rest : List PlainStatement). before ++ s ∷ rest) =
+      λ i rest. append_assoc before (s ∷ []) rest i in
+      behind_one before s after
+      (subst (λ (whole : List PlainStatement → List PlainStatement).
+      PutsBehind profile f files number file whole (before ++ s ∷ []) after) same
+      (put_behind (before ++ s ∷ []) after))
+      (is_theorem_of number s) refl news reads obeyed each
 
 -- The files with what is saved are accepted as these statements, which say what the old ones said:
 -- each slot is filled.
@@ -398,10 +328,8 @@ pub are_all_put : (profile : Profile) (f : Form) (files : List PlainFile)
     → FitsSaved files number bytes
     → AreAllPut profile files statements number bytes sv.replaced
 are_all_put profile f files statements number bytes accepted sv fits =
-    let put : ArePutBehind profile files number (with_replaced sv.file.bytes sv.replaced) []
-    statements sv.replaced =
-    put_behind profile f files number sv.file [] statements sv.replaced sv.handed accepted.reads
-    accepted.obeyed sv.each in
+    let put = put_behind profile f files number sv.file sv.handed [] statements sv.replaced
+    accepted.reads accepted.obeyed sv.each in
     record {
       same = put.later;
       accepted = record {

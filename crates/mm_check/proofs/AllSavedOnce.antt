@@ -1,9 +1,9 @@
 -- What is saved of a whole file is one.
-use Rattle.std.proofs.Common.{◌≡◌, ℕ, List, [], ◌∷◌, refl, sym, ap, subst, ◌∙◌}
-use Rattle.std.specs.List.{AllZip}
+use Rattle.std.proofs.Common.{◌≡◌, ℕ, List, ◌∷◌, sym, ap, ◌∙◌}
 use Rattle.std.proofs.lemmas.Option.{same_Some}
 use Rattle.mm_text.specs.Statement.{PlainStatement}
 use Rattle.mm_proof.specs.declared.profile.Profile.{Profile}
+use Rattle.mm_proof.proofs.Derived.{zip_once}
 use Rattle.mm_check.specs.declared.form.Form.{Form}
 use Rattle.mm_check.specs.Verdict.{AllObey}
 use Rattle.mm_check.specs.Forms.{HasProofTree}
@@ -17,8 +17,7 @@ one_replacement : (profile : Profile) (f : Form) (statements : List PlainStateme
     → IsReplacement f statements s new → IsReplacement f statements s other → new ≡ other
 one_replacement profile f statements s new other obeyed r q =
     let label : q.label ≡ r.label = same_Some q.label r.label (sym q.proof.named ∙ r.proof.named) in
-    let proof : HasProofTree statements r.label q.place s q.root q.below =
-    subst (λ (l : List ℕ). HasProofTree statements l q.place s q.root q.below) label q.proof in
+    let proof : HasProofTree statements r.label q.place s q.root q.below = rw label at q.proof in
     let text : r.text ≡ q.text =
     one_text_of profile f statements r.label r.place q.place s s r.root q.root r.below q.below
     r.text q.text obeyed r.proof proof r.laid q.laid in
@@ -27,25 +26,12 @@ one_replacement profile f statements s new other obeyed r q =
     r.put ∙ ap (λ (t : List ℕ). 10 ∷ t) text ∙ sym q.put in
     λ i. record { span = span i; text = put i }
 
--- so are all of them
-one_replaced : (profile : Profile) (f : Form) (statements theorems : List PlainStatement)
-    (news others : List Replacement) → AllObey profile statements
-    → AllZip (IsReplacement f statements) theorems news
-    → AllZip (IsReplacement f statements) theorems others → news ≡ others
-one_replaced profile f statements [] [] [] obeyed each every = refl
-one_replaced profile f statements [] [] (other ∷ others) obeyed each every = absurd every
-one_replaced profile f statements [] (new ∷ news) others obeyed each every = absurd each
-one_replaced profile f statements (s ∷ theorems) [] others obeyed each every = absurd each
-one_replaced profile f statements (s ∷ theorems) (new ∷ news) [] obeyed each every = absurd every
-one_replaced profile f statements (s ∷ theorems) (new ∷ news) (other ∷ others) obeyed each every =
-    let first = one_replacement profile f statements s new other obeyed each.0 every.0 in
-    let rest = one_replaced profile f statements theorems news others obeyed each.1 every.1 in
-    λ i. first i ∷ rest i
-
 pub one_all_saved : OneAllSaved
 one_all_saved profile f files statements number bytes others accepted sv sw =
     let file : sv.file ≡ sw.file = same_Some sv.file sw.file (sym sv.handed ∙ sw.handed) in
     let news : sv.replaced ≡ sw.replaced =
-    one_replaced profile f statements (theorems_of number statements) sv.replaced sw.replaced
-    accepted.obeyed sv.each sw.each in
+    zip_once (IsReplacement f statements) (IsReplacement f statements)
+    (theorems_of number statements) sv.replaced sw.replaced
+    (λ s new other. one_replacement profile f statements s new other accepted.obeyed)
+    sv.each sw.each in
     sv.whole ∙ (λ i. with_replaced (file i).bytes (news i)) ∙ sym sw.whole

@@ -1,5 +1,5 @@
 -- The proofs that saving whole files puts in have the strict form.
-use Rattle.std.proofs.Common.{◌≡◌, ℕ, ◌<◌, List, [], ◌∷◌, ◌++◌, take, length, slice_get}
+use Rattle.std.proofs.Common.{◌≡◌, ℕ, ◌<◌, List, [], ◌∷◌, ◌++◌, take, length, slice_get, arith}
 use Rattle.std.proofs.Common.{Bool, true, false, not, ◌&&◌, Some, None, Contains, ◌⊎◌, inl, inr}
 use Rattle.std.proofs.Common.{refl, sym, ap, subst, ◌∙◌}
 use Rattle.std.specs.List.{AllByRecursion}
@@ -11,7 +11,7 @@ use Rattle.mm_text.specs.Files.{PlainFile}
 use Rattle.mm_text.specs.Replaced.{with_bytes}
 use Rattle.mm_text.proofs.FormedLaws.{readings_are_formed_in_place}
 use Rattle.mm_frame.specs.Sentence.{sentence_of}
-use Rattle.mm_text.proofs.Lists.{at_from_contains}
+use Rattle.mm_text.proofs.Lists.{get_parted}
 use Rattle.mm_proof.specs.Strict.{IsStrict}
 use Rattle.mm_proof.specs.Tokens.{is_incomplete}
 use Rattle.mm_proof.specs.declared.profile.Profile.{Profile}
@@ -22,13 +22,12 @@ use Rattle.mm_check.specs.Verdict.{AreAccepted, sentences, proof_of, is_proof, u
 use Rattle.mm_check.specs.AllSaved.{is_theorem_of, Replacement}
 use Rattle.mm_check.specs.AllSavedLaws.{AllSavedProofsAreStrict, AreFilesSaved}
 use Rattle.mm_check.specs.AllSavedLaws.{PackedFilesAreStrict}
-use Rattle.mm_check.proofs.Reports.{first_or_later}
+use Rattle.mm_check.proofs.Ordered.{holds_cons}
 use Rattle.mm_check.proofs.AlikeVerdicts.{moved}
 use Rattle.mm_check.proofs.Rereading.{same_reading}
 use Rattle.mm_check.proofs.Saving.{with_bytes_is, home_file}
 use Rattle.mm_check.proofs.Unproved.{none_incomplete}
 use Rattle.mm_check.proofs.SavedStatements.{front_told}
-use Rattle.mm_check.proofs.SavedFiles.{seam_at}
 use Rattle.mm_check.proofs.FileTheorems.{theorem_there}
 use Rattle.mm_check.proofs.AllSavedFiles.{IsSavedAs, saved_as_at, AreAllPut}
 use Rattle.mm_check.proofs.AllSavedFiles.{are_all_put}
@@ -45,9 +44,7 @@ all_saved_proofs_are_strict profile f files statements same number bytes accepte
     let there : slice_get put.same place ≡ Some s =
     ap (λ (ss : List PlainStatement). slice_get ss place) (sym read) ∙ theorem.there in
     let (t, here, saved) = saved_as_at number [] statements put.same put.each place s there in
-    subst (λ (ss : List PlainStatement).
-    IsStrict (sentences (take place ss)) (sentence_of s) (proof_of s)) (sym read)
-    (saved.strict (theorem_there number s theorem.complete home))
+    rw read (saved.strict (theorem_there number s theorem.complete home))
 
 -- ---- after several files were
 
@@ -93,9 +90,6 @@ record AreStrictFiles (P : ℕ → Type 0) (files : List PlainFile) : Type 0 whe
   pub none : unproved_of same ≡ []
   pub strict : AreStrictIn P same
 
-none_holds : (n : ℕ) → Contains [] n → ⊥
-none_holds n c = let (i, there) = at_from_contains [] n c in cc
-
 files_strict : (P : ℕ → Type 0) (numbers : List ℕ) (files others : List PlainFile)
     (statements : List PlainStatement) → AreAccepted Lenient files statements
     → unproved_of statements ≡ [] → AreStrictIn P statements
@@ -109,7 +103,7 @@ files_strict P [] files others statements accepted none strict is =
       none = none;
       strict = λ place s there complete so. elim so [
         | inl old ↦ strict place s there complete old
-        | inr c ↦ absurd (none_holds s.first.file c)
+        | inr (k, less, is) ↦ absurd (omega (arith, less))
       ];
     })
 files_strict P (number ∷ numbers) files others statements accepted none strict
@@ -130,8 +124,8 @@ files_strict P (number ∷ numbers) files others statements accepted none strict
       none = more.none;
       strict = λ place s there complete so. more.strict place s there complete (elim so [
         | inl old ↦ inl (inl old)
-        | inr c ↦ elim (first_or_later number numbers s.first.file c) [
-          | inl is ↦ inl (inr is)
+        | inr c ↦ elim (holds_cons number numbers s.first.file c) [
+          | inl is ↦ inl (inr (sym is))
           | inr other ↦ inr other
         ]
       ]);
@@ -175,7 +169,7 @@ strict_accepted files statements accepted none strict = record {
     form before after s split complete =
         let there : slice_get statements (length before) ≡ Some s =
         ap (λ (ss : List PlainStatement). slice_get ss (length before)) split
-        ∙ seam_at before s after in
+        ∙ get_parted before after s in
         let front : take (length before) statements ≡ before =
         ap (take (length before)) split ∙ take-append_seam before (s ∷ after) in
         let (file, home) =

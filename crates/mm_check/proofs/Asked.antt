@@ -9,12 +9,13 @@ use Rattle.mm_frame.specs.declared.number.LabelId.{LabelId}
 use Rattle.mm_frame.specs.declared.number.LabelKind.{LabelKind}
 use Rattle.mm_frame.specs.declared.number.LabelKind.TheVariants as label_kinds
 use Rattle.mm_frame.specs.Taken.{kind_behind}
-use Rattle.mm_frame.specs.Sentence.{Sentence, SomeSentence, IsHypothesis, sentence_of, IsLabelled}
+use Rattle.mm_frame.specs.Sentence.{Sentence, IsHypothesis, sentence_of, IsLabelled}
 use Rattle.mm_frame.specs.Rules.{AllMeant}
 use Rattle.mm_frame.specs.Numbers.{labelled_sentences, IsNumbered}
-use Rattle.mm_text.proofs.Lists.{at_from_contains, contains_from_at}
+use Rattle.mm_text.proofs.Lists.{at_from_contains, contains_from_at, all_there, all_at}
 use Rattle.mm_frame.proofs.Labelled.{numbered_get, numbered_some, numbered_unique, numbered_within}
 use Rattle.mm_frame.proofs.Meant.{allmeant_front}
+use Rattle.mm_frame.proofs.NameLists.{get_unmapped}
 use Rattle.mm_proof.specs.Tree.{Trees, none as no_trees}
 use Rattle.mm_proof.specs.Moves.{Move, Makes}
 use Rattle.mm_proof.specs.Proof.{IsProved}
@@ -35,16 +36,10 @@ use Rattle.mm_check.proofs.Trees.{Spells, AreUsesOf}
 
 -- ---- numbers of what statements say, and of statements
 
-said_at : (statements : List PlainStatement) (place : ℕ) (t : Sentence) → slice_get (sentences statements) place ≡ Some t
-    → (s : PlainStatement) × (slice_get statements place ≡ Some s) × (sentence_of s ≡ t)
-said_at [] place t e = absurd cc
-said_at (s ∷ statements) zero t e = (s, refl, cc)
-said_at (s ∷ statements) (suc place) t e = said_at statements place t e
-
 pub numbered_as : (statements : List PlainStatement) (id place : ℕ) (t : Sentence) → IsNumbered (sentences statements) id place t
     → (s : PlainStatement) × IsAt statements id place s × (sentence_of s ≡ t)
 numbered_as statements id place t numbered =
-    let found = said_at statements place t numbered.there in (
+    let found = get_unmapped sentence_of statements place t numbered.there in (
       found.0,
       record {
         there = found.1;
@@ -106,21 +101,14 @@ found_other statements c label id place t kept numbered labelled_sentences other
     (subst (λ (ss : List Sentence). IsNumbered ss id place t) kept.sentences numbered) labelled_sentences
     (λ s at kind e. other (sym kind ∙ e))
 
-pub found_none : (statements : List PlainStatement) (c : Conclusion) (label : List ℕ) → IsKeptOf statements c → ¬ (SomeSentence c.sentences (IsLabelled label))
-    → (id : ℕ) → ¬ (IsNamed statements label (λ s. Unit {0}) id)
-found_none statements c label kept none id named =
-    none (subst (λ (ss : List Sentence). SomeSentence ss (IsLabelled label)) (sym kept.sentences) (named.0, sentence_of named.1, named.2.numbered.there, named.3.0))
-
 -- what a hypothesis is not, and what a kind that isn't that of a `$p` is not
 pub hypothesis_other : (kind : Kind) → IsHypothesis kind → kind ≢ Provable
 hypothesis_other kind (inl e) f = cc
 hypothesis_other kind (inr e) f = cc
 
 pub other_kind : (k : LabelKind) (kind : Kind) → kind ≡ kind_behind k → ¬ (k ≡ label_kinds.Proof) → kind ≢ Provable
-other_kind label_kinds.Floating kind e other f = cc
-other_kind label_kinds.Essential kind e other f = cc
-other_kind label_kinds.Axiom kind e other f = cc
 other_kind label_kinds.Proof kind e other f = other refl
+other_kind _ kind e other f = cc
 
 -- a number among labels, as a test finds it
 pub any_among : (xs : List LabelId) (x : LabelId) (b : Bool) → b ≡ list_any (λ y. nat_eq y.0 x.0) xs → IsTrue b ↔ Contains (ids_in xs) x.0
@@ -154,10 +142,8 @@ no_axiom_kind statements id k told other (place, s, numbered, kind) =
     by_kind k (sym (told s (numbered_get statements id place s numbered)) ∙ kind) other
   where
     by_kind : (j : LabelKind) → kind_behind j ≡ Axiom → ¬ (j ≡ label_kinds.Axiom) → ⊥
-    by_kind label_kinds.Floating e h = cc
-    by_kind label_kinds.Essential e h = cc
     by_kind label_kinds.Axiom e h = h refl
-    by_kind label_kinds.Proof e h = cc
+    by_kind _ e h = cc
 
 -- ---- the tree of a proof is one
 
@@ -190,13 +176,8 @@ one_tree statements id p q t u all one other =
 number_among : (uses : List ProofUses) (id : ℕ) → Contains (numbers_of uses) id → (u : ProofUses) × Contains uses u × (u.number ≡ id)
 number_among uses id h =
     let at = at_from_contains (numbers_of uses) id h in
-    let found = find uses at.0 at.1 in
+    let found = get_unmapped (λ (u : ProofUses). u.number) uses at.0 id at.1 in
     (found.0, contains_from_at uses found.0 (at.0, found.1), found.2)
-  where
-    find : (us : List ProofUses) (i : ℕ) → slice_get (numbers_of us) i ≡ Some id → (u : ProofUses) × (slice_get us i ≡ Some u) × (u.number ≡ id)
-    find [] i e = absurd cc
-    find (u ∷ us) zero e = (u, refl, cc)
-    find (u ∷ us) (suc i) e = find us i e
 
 pub used_is : (statements : List PlainStatement) (uses : List ProofUses) → AllMeant (sentences statements) → AreUses statements uses
     → (id used : ℕ) → UsedIn uses id used ↔ Uses statements id used
@@ -256,20 +237,12 @@ report_of statements c label id marks axioms unproved kept all named marked are_
 
 -- ---- ranges of numbers
 
-pub all_within : (P : ℕ → Type 0) (ids : List ℕ) → ((n : ℕ) → Contains ids n → P n) → AllByRecursion P ids
-all_within P ids h = each ids (λ i n at. h n (contains_from_at ids n (i, at)))
-  where
-    each : (ns : List ℕ) → ((i n : ℕ) → slice_get ns i ≡ Some n → P n) → AllByRecursion P ns
-    each [] k = tt
-    each (n ∷ ns) k = (k 0 n refl, each ns (λ i m at. k (suc i) m at))
+pub all_within : {X : Type 0} (P : X → Type 0) (xs : List X) → ((x : X) → Contains xs x → P x)
+    → AllByRecursion P xs
+all_within P xs h = all_there P xs (λ i x at. h x (contains_from_at xs x (i, at)))
 
 pub all_among : (P : ℕ → Type 0) (ids : List ℕ) (n : ℕ) → AllByRecursion P ids → Contains ids n → P n
-all_among P ids n all h = let at = at_from_contains ids n h in each ids at.0 all at.1
-  where
-    each : (ns : List ℕ) (i : ℕ) → AllByRecursion P ns → slice_get ns i ≡ Some n → P n
-    each [] i k e = absurd cc
-    each (m ∷ ns) zero k e = let same : m ≡ n = cc in subst P same k.0
-    each (m ∷ ns) (suc i) k e = each ns i k.1 e
+all_among P ids n all h = let at = at_from_contains ids n h in all_at P ids at.0 n all at.1
 
 -- a `$a` has a label
 pub axiom_within : (statements : List Sentence) (n : ℕ) → IsAxiomNumber statements n → n < length (labels_in statements)

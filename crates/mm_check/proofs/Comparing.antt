@@ -140,10 +140,5 @@ same_fault profile ss statements label id steps text fault is r (inr (rule, step
 pub asked_fault : (profile : Profile) (statements : List PlainStatement) (label text : List ℕ)
     (fault : AskFault) → IsAskFault statements label fault
     → IsSameFault profile statements label text fault
-asked_fault profile statements label text ask.A1 h = h
-asked_fault profile statements label text ask.A2 h = h
-asked_fault profile statements label text ask.A3 h = h
-asked_fault profile statements label text ask.L2 h = h
-asked_fault profile statements label text ask.F3 h = h
 asked_fault profile statements label text (ask.Text rule step) h = absurd h
-asked_fault profile statements label text ask.Memory h = h
+asked_fault profile statements label text _ h = h

@@ -5,7 +5,6 @@ use Rattle.mm_text.specs.Statement.{PlainStatement, HasForm}
 use Rattle.mm_text.specs.Files.{PlainFile}
 use Rattle.mm_text.specs.Reading.{PlainFault, Reads}
 use Rattle.mm_text.specs.Remaining.{Remaining, IsUnread}
-use Rattle.mm_text.proofs.ReaderLaws.{each_has_one_reading}
 use Rattle.mm_frame.specs.Sentence.{Sentence}
 use Rattle.mm_proof.specs.declared.profile.Profile.{Profile}
 use Rattle.mm_check.specs.declared.fault.CheckFault.{CheckFault}
@@ -21,6 +20,7 @@ use Rattle.mm_check.proofs.Unproved.{one_more, no_statement}
 use Rattle.mm_check.proofs.Asked.{backward}
 use Rattle.mm_check.proofs.Known.{ids, knows_more, labels_said, names_of_ids}
 use Rattle.mm_check.proofs.Numbers.{names_at, numbers_within}
+use Rattle.mm_check.proofs.Rereading.{same_reading}
 
 -- ## What holds on the way
 
@@ -66,7 +66,7 @@ goes_on profile files s p q old new taken formed takes = (
 )
 
 -- the reading where no statement is left
-pub none_left : (profile : Profile) (files : List PlainFile) (p : Progress) (left : Remaining) (way : IsUnderWay profile files p left) → left.statements ≡ []
+none_left : (profile : Profile) (files : List PlainFile) (p : Progress) (left : Remaining) (way : IsUnderWay profile files p left) → left.statements ≡ []
     → Reads files way.earlier left.ending
 none_left profile files p left way none =
     subst (λ (ss : List PlainStatement). Reads files ss left.ending)
@@ -145,78 +145,84 @@ concluded_as profile files c statements (n ∷ numbers) (u ∷ unproved) accepte
     let told : labels_at c.labels (n ∷ numbers) ≡ u ∷ unproved = names_at c.labels (n ∷ numbers) (u ∷ unproved) named in
     (statements, accepted, told ∙ same, λ e. cc (told, e))
 
--- what is kept of a database that is read to its end tells its verdict
-pub end_concludes : (profile : Profile) (files : List PlainFile) (p : Progress) (left : Remaining) (c : Conclusion) → IsUnderWay profile files p left
-    → left.statements ≡ [] → left.ending ≡ None → Concludes p c → HasVerdict profile files (verdict_of_conclusion c)
-end_concludes profile files p left c way none ending kept =
-    let plain : List PlainStatement = way.earlier in
-    let reads : Reads files plain None =
-    subst (λ (e : Option PlainFault). Reads files plain e) ending (none_left profile files p left way none) in
-    let labels : c.labels ≡ labels_of plain = kept.labels ∙ ap labels_in way.known.book ∙ labels_said plain in
-    let named : map (slice_get c.labels) c.incomplete ≡ map Some (unproved_of plain) =
-    ap (λ (ns : List ℕ). map (slice_get c.labels) ns) kept.incomplete
-    ∙ ap (λ (ls : List (List ℕ)). map (slice_get ls) (ids p.incomplete.items)) labels
-    ∙ sym (names_of_ids (labels_of plain) p.incomplete.items) ∙ way.known.incomplete in
-    concluded_as profile files c plain c.incomplete (unproved_of plain) (record { readable = way.readable; reads = reads; obeyed = way.obeyed })
-    refl named (kept.statements ∙ way.known.count) (kept.proofs ∙ way.known.proofs)
+module _ {profile : Profile} {files : List PlainFile} {p : Progress} {left : Remaining}
+    (end : IsAtEnd profile files p left) where
+  pub read_to_end : Reads files end.way.earlier None
+  read_to_end =
+      subst (λ (e : Option PlainFault). Reads files end.way.earlier e) end.ending
+      (none_left profile files p left end.way end.none)
 
-pub labels_kept : (profile : Profile) (files : List PlainFile) (p : Progress) (left : Remaining) (c : Conclusion) → IsUnderWay profile files p left
-    → left.statements ≡ [] → Concludes p c → KeepsLabels files c
-labels_kept profile files p left c way none kept statements ending reads =
-    let one = each_has_one_reading files in
-    kept.labels ∙ ap labels_in way.known.book ∙ labels_said way.earlier
-    ∙ ap labels_of ((one.only way.earlier left.ending (none_left profile files p left way none)).0 ∙ sym (one.only statements ending reads).0)
+  -- the numbers of the incomplete proofs name these
+  named : map (slice_get (labels_of end.way.earlier)) (ids p.incomplete.items)
+      ≡ map Some (unproved_of end.way.earlier)
+  named =
+      sym (names_of_ids (labels_of end.way.earlier) p.incomplete.items) ∙ end.way.known.incomplete
 
-pub counts_kept : (profile : Profile) (files : List PlainFile) (p : Progress) (left : Remaining) (c : Conclusion) → IsUnderWay profile files p left
-    → left.statements ≡ [] → Concludes p c → KeepsCounts files c
-counts_kept profile files p left c way none kept statements ending reads =
-    let one = each_has_one_reading files in
-    let same : way.earlier ≡ statements =
-    (one.only way.earlier left.ending (none_left profile files p left way none)).0 ∙ sym (one.only statements ending reads).0 in
-    (kept.statements ∙ way.known.count ∙ ap length same, kept.proofs ∙ way.known.proofs ∙ ap proofs_of same)
+  own_reading : (statements : List PlainStatement) (ending : Option PlainFault)
+      → Reads files statements ending → end.way.earlier ≡ statements
+  own_reading statements ending reads =
+      (same_reading files end.way.earlier statements None ending read_to_end reads).0
 
-pub uses_kept : (profile : Profile) (files : List PlainFile) (p : Progress) (left : Remaining) (c : Conclusion) → IsUnderWay profile files p left
-    → left.statements ≡ [] → Concludes p c → KeepsUses files c
-uses_kept profile files p left c way none kept statements ending reads =
-    let one = each_has_one_reading files in
-    let same : way.earlier ≡ statements =
-    (one.only way.earlier left.ending (none_left profile files p left way none)).0 ∙ sym (one.only statements ending reads).0 in
-    let here : IsKeptOf way.earlier c = record {
-      sentences = kept.sentences ∙ way.known.book;
-      incomplete = subst (λ (ns : List ℕ). AreInOrder (IsNumberWhere way.earlier (λ s. is_unproved s ≡ true)) ns) (sym kept.incomplete) way.known.noted;
-      uses = subst (λ (us : List ProofUses). AreUses way.earlier us) (sym kept.uses) way.known.kept;
-    } in
-    subst (λ (ss : List PlainStatement). IsKeptOf ss c) same here
+  module _ {c : Conclusion} (kept : Concludes p c) where
+    own_labels : c.labels ≡ labels_of end.way.earlier
+    own_labels = kept.labels ∙ ap labels_in end.way.known.book ∙ labels_said end.way.earlier
 
--- the numbers of the incomplete proofs are those of labels
-incomplete_within : (profile : Profile) (files : List PlainFile) (p : Progress) (left : Remaining) → IsUnderWay profile files p left
-    → AllByRecursion (λ n. n < length (labels_in p.prover.book.statements)) (ids p.incomplete.items)
-incomplete_within profile files p left way =
-    let labels : labels_in p.prover.book.statements ≡ labels_of way.earlier = ap labels_in way.known.book ∙ labels_said way.earlier in
-    let named : map (slice_get (labels_of way.earlier)) (ids p.incomplete.items) ≡ map Some (unproved_of way.earlier) =
-    sym (names_of_ids (labels_of way.earlier) p.incomplete.items) ∙ way.known.incomplete in
-    subst (λ (ls : List (List ℕ)). AllByRecursion (λ n. n < length ls) (ids p.incomplete.items)) (sym labels)
-    (numbers_within (labels_of way.earlier) (ids p.incomplete.items) (unproved_of way.earlier) named)
+    -- what is kept of a database that is read to its end tells its verdict
+    pub end_concludes : HasVerdict profile files (verdict_of_conclusion c)
+    end_concludes =
+        let names : map (slice_get c.labels) c.incomplete ≡ map Some (unproved_of end.way.earlier) =
+        ap (λ (ns : List ℕ). map (slice_get c.labels) ns) kept.incomplete
+        ∙ ap (λ (ls : List (List ℕ)). map (slice_get ls) (ids p.incomplete.items)) own_labels
+        ∙ named in
+        concluded_as profile files c end.way.earlier c.incomplete (unproved_of end.way.earlier)
+        (record { readable = end.way.readable; reads = read_to_end; obeyed = end.way.obeyed }) refl names
+        (kept.statements ∙ end.way.known.count) (kept.proofs ∙ end.way.known.proofs)
 
--- what is kept at the end
-pub kept_well : (profile : Profile) (files : List PlainFile) (p : Progress) (left : Remaining) → IsUnderWay profile files p left → left.statements ≡ [] → left.ending ≡ None
-    → IsKeptWell profile files p.prover.book.statements (ids p.incomplete.items) p.kept
-kept_well profile files p left way none ending = record {
-  in_range = incomplete_within profile files p left way;
-  rising = way.known.noted.rising;
-  backward = backward way.earlier p.kept way.known.kept;
-  origin = record {
-    statements = way.earlier;
-    accepted = record {
-      readable = way.readable;
-      reads = subst (λ (e : Option PlainFault). Reads files way.earlier e) ending (none_left profile files p left way none);
-      obeyed = way.obeyed;
+    pub labels_kept : KeepsLabels files c
+    labels_kept statements ending reads =
+        own_labels ∙ ap labels_of (own_reading statements ending reads)
+
+    pub counts_kept : KeepsCounts files c
+    counts_kept statements ending reads =
+        let same = own_reading statements ending reads in (
+          kept.statements ∙ end.way.known.count ∙ ap length same,
+          kept.proofs ∙ end.way.known.proofs ∙ ap proofs_of same,
+        )
+
+    pub uses_kept : KeepsUses files c
+    uses_kept statements ending reads =
+        subst (λ (ss : List PlainStatement). IsKeptOf ss c) (own_reading statements ending reads)
+        (record {
+          sentences = kept.sentences ∙ end.way.known.book;
+          incomplete = subst (λ (ns : List ℕ).
+              AreInOrder (IsNumberWhere end.way.earlier (λ s. is_unproved s ≡ true)) ns)
+              (sym kept.incomplete) end.way.known.noted;
+          uses = subst (λ (us : List ProofUses). AreUses end.way.earlier us) (sym kept.uses)
+              end.way.known.kept;
+        })
+
+  -- what is kept at the end
+  pub kept_well : IsKeptWell profile files p.prover.book.statements (ids p.incomplete.items) p.kept
+  kept_well = record {
+    in_range = subst (λ (ls : List (List ℕ)).
+        AllByRecursion (λ n. n < length ls) (ids p.incomplete.items))
+        (sym (ap labels_in end.way.known.book ∙ labels_said end.way.earlier))
+        (numbers_within (labels_of end.way.earlier) (ids p.incomplete.items)
+        (unproved_of end.way.earlier) named);
+    rising = end.way.known.noted.rising;
+    backward = backward end.way.earlier p.kept end.way.known.kept;
+    origin = record {
+      statements = end.way.earlier;
+      accepted = record {
+        readable = end.way.readable;
+        reads = read_to_end;
+        obeyed = end.way.obeyed;
+      };
+      sentences = end.way.known.book;
+      incomplete = end.way.known.noted;
+      uses = end.way.known.kept;
     };
-    sentences = way.known.book;
-    incomplete = way.known.noted;
-    uses = way.known.kept;
-  };
-}
+  }
 
 -- where nothing is left, the progress is at its end
 pub at_end : (profile : Profile) (files : List PlainFile) (p : Progress) (old new : Remaining)

@@ -8,13 +8,15 @@ use Rattle.mm_text.specs.Files.{most_bytes, PlainFile, BreaksLoad, HasTwins, tot
 use Rattle.mm_text.specs.Reading.{PlainFault, Reads}
 use Rattle.mm_text.proofs.ReaderLaws.{each_has_one_reading}
 use Rattle.mm_text.proofs.FormedLaws.{readings_are_formed_in_place}
+use Rattle.mm_text.proofs.Lists.{all_front}
 use Rattle.mm_frame.specs.Sentence.{sentence_of}
 use Rattle.mm_frame.specs.Rules.{IsMeant}
 use Rattle.mm_frame.specs.Form.{IsFormedSentence, AllFormed}
 use Rattle.mm_frame.proofs.Uses.{formed_said}
 use Rattle.mm_proof.specs.declared.profile.Profile.{Profile}
 use Rattle.mm_proof.specs.declared.fault.ProofRule.{ProofRule}
-use Rattle.mm_frame.proofs.Decided.{dec_both, dec_as, dec_some, dec_le, symbol_dec}
+use Rattle.std.proofs.Math.Decide.{dec_le}
+use Rattle.mm_frame.proofs.Decided.{dec_both, dec_as, dec_some, symbol_dec}
 use Rattle.mm_proof.proofs.FormDecided.{one_verdict_under_holds, one_front_verdict_under_holds}
 use Rattle.mm_check.specs.declared.rule.Rule.{Rule}
 use Rattle.mm_check.specs.Verdict.{PlainRefusal, Verdict, Load, Refused, Incomplete, Yes, Obeys, AllObey, AreAccepted, CanBeRead, HasFault, HasVerdict, RefusesStatement, sentences, load_rule, meaning_rule, proof_rule, refusal_of, text_refusal, proof_of, proofs_of, unproved_of, is_proof}
@@ -114,24 +116,21 @@ judged_statement profile before s obeyed formed = elim (some_meaning (sentences 
   | inr broken ↦ inr (meaning_rule broken.0, 0, inl (broken.0, broken.1, refl, refl))
 ]
 
-formed_front : (front rest : List PlainStatement) → AllByRecursion HasForm (front ++ rest) → AllByRecursion HasForm front
-formed_front [] rest all = tt
-formed_front (s ∷ front) rest all = (all.0, formed_front front rest all.1)
-
 -- what comes before a statement says what is in form
 pub formed_before : (statements before : List PlainStatement) (s : PlainStatement)
     (after : List PlainStatement) → AllByRecursion HasForm statements
     → statements ≡ before ++ s ∷ after → AllFormed (sentences before)
 formed_before statements before s after formed split =
     formed_sentences before
-    (formed_front before (s ∷ after) (subst (AllByRecursion HasForm) split formed))
+    (all_front HasForm before (s ∷ after) (subst (AllByRecursion HasForm) split formed))
 
 -- the first statement at fault, or that there is none
 judged_statements : (profile : Profile) (files : List PlainFile) (before later : List PlainStatement) → AllObey profile before → AllByRecursion HasForm (before ++ later)
     → ((refusal : PlainRefusal) × RefusesStatement profile files (before ++ later) refusal) ⊎ AllObey profile (before ++ later)
 judged_statements profile files before [] obeyed formed = inr (subst (AllObey profile) (sym (append-nil before)) obeyed)
 judged_statements profile files before (s ∷ later) obeyed formed =
-    elim (judged_statement profile before s obeyed (formed_sentences before (formed_front before (s ∷ later) formed))) [
+    elim (judged_statement profile before s obeyed
+    (formed_sentences before (all_front HasForm before (s ∷ later) formed))) [
       | inl obeys ↦
           let same : (before ++ s ∷ []) ++ later ≡ before ++ s ∷ later = append_assoc before (s ∷ []) later in
           subst (λ (ss : List PlainStatement). ((refusal : PlainRefusal) × RefusesStatement profile files ss refusal) ⊎ AllObey profile ss) same

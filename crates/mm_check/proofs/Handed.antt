@@ -6,10 +6,11 @@ use Rattle.mm_text.specs.Token.{PlainToken, tokens_from}
 use Rattle.mm_text.specs.Statement.{PlainStatement}
 use Rattle.mm_text.specs.Files.{PlainFile}
 use Rattle.mm_text.specs.Items.{Item, Plain, Wrong, Inclusion, End, plain_tokens, items}
-use Rattle.mm_text.specs.Reading.{PlainFault, Reads, EndsAt, IsSliceOf, IsInPlace}
+use Rattle.mm_text.specs.Reading.{PlainFault, Reads, EndsAt, IsInPlace}
 use Rattle.mm_text.proofs.ItemTokens.{ItemIs, all_items}
 use Rattle.mm_text.proofs.PlaceLaws.{StandsIn, tokens_in_place}
 use Rattle.mm_text.proofs.FormedLaws.{readings_are_formed_in_place}
+use Rattle.mm_text.proofs.Lists.{all_back}
 use Rattle.mm_proof.specs.declared.profile.Profile.{Profile}
 use Rattle.mm_check.specs.declared.fault.CheckFault.{CheckFault}
 use Rattle.mm_check.specs.Conclusion.{Conclusion}
@@ -29,9 +30,8 @@ tokens_so : (P : PlainToken → Type 0) (its : List Item) → AllByRecursion (It
     → AllTokens P its
 tokens_so P [] h = tt
 tokens_so P (Plain t ∷ its) h = (h.0.0, tokens_so P its h.1)
-tokens_so P (Wrong rule t ∷ its) h = (h.0, tokens_so P its h.1)
-tokens_so P (Inclusion t ∷ its) h = (h.0, tokens_so P its h.1)
 tokens_so P (End n ∷ its) h = tokens_so P its h.1
+tokens_so P (item ∷ its) h = (h.0, tokens_so P its h.1)
 
 -- ---- the file of each token was handed in
 
@@ -50,34 +50,24 @@ handed files =
 -- the token of an item, and those before it
 middle_token : (P : PlainToken → Type 0) (front : List Item) (item : Item) (rest : List Item) → AllTokens P (front ++ item ∷ rest) → AllTokens P front × AllTokens P (item ∷ rest)
 middle_token P [] item rest h = (tt, h)
-middle_token P (Plain t ∷ front) item rest h = let inner = middle_token P front item rest h.1 in ((h.0, inner.0), inner.1)
-middle_token P (Wrong rule t ∷ front) item rest h = let inner = middle_token P front item rest h.1 in ((h.0, inner.0), inner.1)
-middle_token P (Inclusion t ∷ front) item rest h = let inner = middle_token P front item rest h.1 in ((h.0, inner.0), inner.1)
 middle_token P (End n ∷ front) item rest h = middle_token P front item rest h
+middle_token P (first ∷ front) item rest h = let inner = middle_token P front item rest h.1 in ((h.0, inner.0), inner.1)
 
 all_plain : (P : PlainToken → Type 0) (front : List Item) → AllTokens P front → AllByRecursion P (plain_tokens front)
 all_plain P [] h = tt
 all_plain P (Plain t ∷ front) h = (h.0, all_plain P front h.1)
-all_plain P (Wrong rule t ∷ front) h = all_plain P front h.1
-all_plain P (Inclusion t ∷ front) h = all_plain P front h.1
 all_plain P (End n ∷ front) h = all_plain P front h
-
-middle_of : {X : Type 0} (P : X → Type 0) (before : List X) (x : X) (after : List X) → AllByRecursion P (before ++ x ∷ after) → P x
-middle_of P [] x after h = h.0
-middle_of P (y ∷ before) x after h = middle_of P before x after h.1
+all_plain P (item ∷ front) h = all_plain P front h.1
 
 -- ---- refusals
-
-slice_home : (files : List PlainFile) (t : PlainToken) → IsSliceOf files t → IsHanded files t
-slice_home files t h = slice_get_within files t.file h.0 h.1
 
 -- a statement of a reading begins in one of the files
 first_home : (files : List PlainFile) (statements : List PlainStatement) (ending : Option PlainFault) (before : List PlainStatement) (s : PlainStatement) (after : List PlainStatement)
     → Reads files statements ending → statements ≡ before ++ s ∷ after → IsHanded files s.first
 first_home files statements ending before s after reads split =
-    let placed = middle_of (IsInPlace files) before s after
+    let placed = all_back (IsInPlace files) before (s ∷ after)
     (subst (λ (ss : List PlainStatement). AllByRecursion (IsInPlace files) ss) split (readings_are_formed_in_place files statements ending reads).in_place) in
-    slice_home files s.first placed.first
+    slice_get_within files s.first.file placed.0.first.0 placed.0.first.1
 
 fault_home : (files : List PlainFile) (statements : List PlainStatement) (fault : PlainFault) → Reads files statements (Some fault) → fault.file < length files
 fault_home files statements fault reads =
@@ -96,7 +86,8 @@ fault_home files statements fault reads =
     at_item (End n) h plain (inl e) =
         let tokens : plain_tokens reads.0 ≡ reads.5.finished ++ e.0 ∷ e.1 =
         reads.5.whole ∙ ap (λ (ts : List PlainToken). reads.5.finished ++ ts) e.2 in
-        named e.0 (middle_of (IsHanded files) reads.5.finished e.0 e.1 (subst (λ (ts : List PlainToken). AllByRecursion (IsHanded files) ts) tokens plain))
+        named e.0 (all_back (IsHanded files) reads.5.finished (e.0 ∷ e.1)
+        (subst (λ (ts : List PlainToken). AllByRecursion (IsHanded files) ts) tokens plain)).0
         (ap (λ (f : PlainFault). f.file) e.3)
     at_item (End n) h plain (inr e) =
         named e.3.first (first_home files statements (Some fault) e.2 e.3 e.4.within reads e.4.whole) (ap (λ (f : PlainFault). f.file) e.5)

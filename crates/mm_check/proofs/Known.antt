@@ -8,7 +8,7 @@ use Rattle.std.specs.List.{flat_map}
 use Rattle.std.specs.Option.{option_to_list, option_map}
 use Rattle.std.proofs.lemmas.Bool.{and_parts}
 use Rattle.mm_text.specs.declared.statement.Kind.{Kind}
-use Rattle.mm_text.specs.declared.statement.Kind.TheVariants.{Constants, Variables, Distinct, Floating, Essential, Axiom, Provable, Opening, Closing}
+use Rattle.mm_text.specs.declared.statement.Kind.TheVariants.{Provable}
 use Rattle.mm_text.specs.Token.{PlainToken}
 use Rattle.mm_text.specs.Statement.{PlainStatement, HasForm, HasLabel, bytes_in}
 use Rattle.mm_frame.specs.Sentence.{Sentence, sentence_of}
@@ -32,9 +32,6 @@ pub labels_said : (statements : List PlainStatement) → labels_in (sentences st
 labels_said [] = refl
 labels_said (s ∷ statements) = ap (λ (rest : List (List ℕ)). label_of s ++ rest) (labels_said statements)
 
-labels_of-append : (a b : List PlainStatement) → labels_of (a ++ b) ≡ labels_of a ++ labels_of b
-labels_of-append a b = flat_map-append label_of a b
-
 pub unproved_of-append : (a b : List PlainStatement) → unproved_of (a ++ b) ≡ unproved_of a ++ unproved_of b
 unproved_of-append a b =
     ap (λ (ss : List PlainStatement). flat_map label_of ss) (filter-append is_unproved a b)
@@ -53,14 +50,7 @@ names_of_ids names (id ∷ list) = ap (λ (rest : List (Option (List ℕ))). sli
 pub provable_label : (kind : Kind) (label : Option PlainToken) → HasLabel kind label → is_provable kind ≡ true
     → (l : PlainToken) × (label ≡ Some l)
 provable_label Provable label has e = (has.0, has.1)
-provable_label Constants label has e = absurd cc
-provable_label Variables label has e = absurd cc
-provable_label Distinct label has e = absurd cc
-provable_label Floating label has e = absurd cc
-provable_label Essential label has e = absurd cc
-provable_label Axiom label has e = absurd cc
-provable_label Opening label has e = absurd cc
-provable_label Closing label has e = absurd cc
+provable_label kind label has e = absurd cc
 
 -- a `$p` has a label
 labelled_provable : (s : PlainStatement) (rest : Bool) → HasForm s → (is_provable s.kind && rest) ≡ true → is_some (sentence_of s).label ≡ true
@@ -102,7 +92,8 @@ incomplete_more profile statements s p q formed known takes =
     let named : map (slice_get names) numbers ≡ map Some (unproved_of statements) =
     sym (names_of_ids names p.incomplete.items) ∙ known.incomplete in
     let longer : labels_of (statements ++ s ∷ []) ≡ names ++ label_of s =
-    labels_of-append statements (s ∷ []) ∙ ap (λ (ls : List (List ℕ)). names ++ ls) (append-nil (label_of s)) in
+    flat_map-append label_of statements (s ∷ [])
+    ∙ ap (λ (ls : List (List ℕ)). names ++ ls) (append-nil (label_of s)) in
     names_of_ids (labels_of (statements ++ s ∷ [])) q.incomplete.items
     ∙ ap (λ (ns : List ℕ). map (slice_get (labels_of (statements ++ s ∷ []))) ns) takes.incomplete
     ∙ ap (λ (ls : List (List ℕ)). map (slice_get ls) (numbers ++ cond (is_unproved s) (count ∷ []) [])) longer

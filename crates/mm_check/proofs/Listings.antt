@@ -5,6 +5,7 @@ use Rattle.std.specs.Option.{option_to_list}
 use Rattle.std.specs.Result.{IsOkUnless}
 use Rattle.std.proofs.lemmas.List.{take_more, map-append}
 use Rattle.std.proofs.lemmas.Grind.{flat_map-append}
+use Rattle.std.proofs.lemmas.Option.{slice_get-get_or}
 use Rattle.mm_frame.specs.declared.number.Sym.{Sym}
 use Rattle.mm_frame.specs.Sentence.{Sentence}
 use Rattle.mm_frame.specs.Numbers.{symbols_of}
@@ -21,6 +22,7 @@ use Rattle.mm_proof.specs.Listing.{ListedStep, TellsStep}
 use Rattle.mm_check.specs.Answer.{labels_at}
 use Rattle.mm_check.specs.Shown.{name_text, symbols_text, step_text, steps_text}
 use Rattle.mm_check.proofs.Numbers.{names_at, numbers_within}
+use Rattle.mm_text.proofs.Lists.{zip_length, zip_left}
 
 -- ---- symbols
 
@@ -62,18 +64,13 @@ line_told statements line step number o₀ o₁ o₂ o₃ o₄ o₅ tells h₁ h
 -- the step that the line at a place tells
 pub told_at : (statements : List Sentence) (lines : List Line) (steps : List ListedStep) (at : ℕ) (d : Line) → AllZip (TellsStep statements) lines steps → at < length lines
     → (step : ListedStep) × (slice_get steps at ≡ Some step) × TellsStep statements (get_or lines at d) step
-told_at statements [] [] at d zip less = absurd (omega arith)
-told_at statements [] (step ∷ steps) at d zip less = absurd zip
-told_at statements (line ∷ lines) [] at d zip less = absurd zip
-told_at statements (line ∷ lines) (step ∷ steps) zero d zip less = (step, refl, zip.0)
-told_at statements (line ∷ lines) (step ∷ steps) (suc at) d zip less = told_at statements lines steps at d zip.1 (omega arith)
+told_at statements lines steps at d zip less =
+    zip_left (TellsStep statements) lines steps at (get_or lines at d) zip
+    (slice_get-get_or lines at d less)
 
 -- as many lines as steps
 pub as_many : (statements : List Sentence) (lines : List Line) (steps : List ListedStep) → AllZip (TellsStep statements) lines steps → length steps ≡ length lines
-as_many statements [] [] zip = refl
-as_many statements [] (step ∷ steps) zip = absurd zip
-as_many statements (line ∷ lines) [] zip = absurd zip
-as_many statements (line ∷ lines) (step ∷ steps) zip = ap suc (as_many statements lines steps zip.1)
+as_many statements lines steps zip = sym (zip_length (TellsStep statements) lines steps zip)
 
 -- one step more
 one_more_step : (steps : List ListedStep) (n at : ℕ) (step : ListedStep) → slice_get steps at ≡ Some step

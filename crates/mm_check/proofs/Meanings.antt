@@ -1,5 +1,7 @@
 -- Each statement breaks a first rule of meaning, or none.
 use Rattle.std.proofs.Common.{◌≡◌, ◌≢◌, ℕ, zero, suc, ◌<◌, ◌≤◌, List, [], ◌∷◌, slice_get, Option, Some, None, ◌⊎◌, inl, inr, refl, sym, ap, subst, ◌∙◌, arith}
+use Rattle.std.proofs.lemmas.Bool.{cases_order}
+use Rattle.std.proofs.lemmas.Option.{same_Some}
 use Rattle.mm_text.specs.declared.statement.Kind.{Kind}
 use Rattle.mm_text.specs.declared.statement.Kind.TheVariants.{Constants, Variables, Distinct, Floating, Essential, Axiom, Provable}
 use Rattle.mm_frame.specs.declared.rule.MeaningRule.{MeaningRule}
@@ -8,10 +10,11 @@ use Rattle.mm_frame.specs.Sentence.{Sentence, SomeSentence, IsStated, IsUse, Dec
 use Rattle.mm_frame.specs.Active.{IsOpen, SomeActive, IsConstant, IsVariable, IsActiveSymbol, IsTyped}
 use Rattle.mm_frame.specs.Rules.{Breaks, FirstBroken, IsMeant, ItsLabel, ItsFirst, ItsTyping, rank}
 use Rattle.mm_frame.proofs.Decided.{constant_dec, typed_dec}
-use Rattle.mm_frame.proofs.Decided.{dec_both, dec_as, dec_some, dec_le, kind_dec, symbol_dec, contains_dec, open_dec}
+use Rattle.std.proofs.Math.Decide.{dec_le}
+use Rattle.mm_frame.proofs.Decided.{dec_both, dec_as, dec_some, kind_dec, symbol_dec, contains_dec, open_dec}
 use Rattle.mm_frame.proofs.Decided.{dec_or, dec_not, label_dec, sentence_dec, some_active_dec, variable_dec}
 use Rattle.mm_proof.proofs.Searches.{dec_member}
-use Rattle.mm_check.proofs.Ranks.{ranked, ranked-rank, rank-ranked, compared}
+use Rattle.mm_check.proofs.Ranks.{ranked, ranked-rank, rank-ranked}
 
 -- ## What the rules ask
 
@@ -38,12 +41,9 @@ twice_dec symbols x = dec_as
 labelled_dec : (before : List Sentence) (x : List ℕ) → Dec (SomeSentence before (IsLabelled x))
 labelled_dec before x = sentence_dec before (IsLabelled x) (label_dec x)
 
-same_label : (l m : List ℕ) → Some l ≡ Some m → l ≡ m
-same_label l m e = cc
-
 its_label_dec : (s : Sentence) (P : List ℕ → Type 0) → ((x : List ℕ) → Dec (P x)) → (o : Option (List ℕ)) → s.label ≡ o → Dec (ItsLabel s P)
 its_label_dec s P each None e = no (λ h. let f : None ≡ Some h.0 = sym e ∙ h.1 in absurd cc)
-its_label_dec s P each (Some l) e = dec_as (λ p. (l, e, p)) (λ h. subst P (sym (same_label l h.0 (sym e ∙ h.1))) h.2) (each l)
+its_label_dec s P each (Some l) e = dec_as (λ p. (l, e, p)) (λ h. subst P (sym (same_Some l h.0 (sym e ∙ h.1))) h.2) (each l)
 
 its_first_dec : (s : Sentence) (P : List ℕ → Type 0) → ((x : List ℕ) → Dec (P x)) → (symbols : List (List ℕ)) → s.symbols ≡ symbols → Dec (ItsFirst s P)
 its_first_dec s P each [] e = no (λ h. let f : [] ≡ h.0 ∷ h.1 = sym e ∙ h.2 in absurd cc)
@@ -119,37 +119,11 @@ breaks_dec M15 before s = dec_both (stated_dec s)
 
 no_rank_zero : (rule : MeaningRule) → rank rule ≤ 0 → ⊥
 no_rank_zero M1 h = absurd (omega arith)
-no_rank_zero M2 h = absurd (omega arith)
-no_rank_zero M3 h = absurd (omega arith)
-no_rank_zero M4 h = absurd (omega arith)
-no_rank_zero M5 h = absurd (omega arith)
-no_rank_zero M6 h = absurd (omega arith)
-no_rank_zero M7 h = absurd (omega arith)
-no_rank_zero M8 h = absurd (omega arith)
-no_rank_zero M9 h = absurd (omega arith)
-no_rank_zero M10 h = absurd (omega arith)
-no_rank_zero M11 h = absurd (omega arith)
-no_rank_zero M12 h = absurd (omega arith)
-no_rank_zero M13 h = absurd (omega arith)
-no_rank_zero M14 h = absurd (omega arith)
-no_rank_zero M15 h = absurd (omega arith)
+no_rank_zero rule h = absurd (omega arith)
 
 last_rank : (rule : MeaningRule) → rank rule ≤ 15
 last_rank M1 = omega arith
-last_rank M2 = omega arith
-last_rank M3 = omega arith
-last_rank M4 = omega arith
-last_rank M5 = omega arith
-last_rank M6 = omega arith
-last_rank M7 = omega arith
-last_rank M8 = omega arith
-last_rank M9 = omega arith
-last_rank M10 = omega arith
-last_rank M11 = omega arith
-last_rank M12 = omega arith
-last_rank M13 = omega arith
-last_rank M14 = omega arith
-last_rank M15 = omega arith
+last_rank _ = omega arith
 
 -- the first rule that is broken among those up to a rank, or that none of them is
 abbrev JudgedUpTo : List Sentence → Sentence → ℕ → Type 0
@@ -162,12 +136,10 @@ next_judged before s n next only low broken (inl f) = inl f
 next_judged before s n next only low (yes b) (inr none) =
     inl (next, record { broken = b; first = λ other less. none other (omega arith) })
 next_judged before s n next only low (no b) (inr none) = inr (λ rule h.
-    elim (compared (rank rule) (suc n)) [
-      | inl less ↦ none rule (omega arith)
-      | inr rest ↦ elim rest [
-        | inl more ↦ absurd (omega arith)
-        | inr same ↦ subst (λ (r : MeaningRule). ¬ (Breaks r before s)) (sym (only rule same)) b
-      ]
+    elim (cases_order (rank rule) (suc n)) [
+      | inl same ↦ subst (λ (r : MeaningRule). ¬ (Breaks r before s)) (sym (only rule same)) b
+      | inr (inl less) ↦ none rule (omega arith)
+      | inr (inr more) ↦ absurd (omega arith)
     ])
 
 judged_up_to : (before : List Sentence) (s : Sentence) (n : ℕ) → JudgedUpTo before s n

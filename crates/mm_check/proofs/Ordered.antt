@@ -12,7 +12,7 @@ use Rattle.mm_check.specs.Rests.{AreRising}
 
 -- ---- what is in a list
 
-holds_cons : (m : ℕ) (rest : List ℕ) (n : ℕ) → Contains (m ∷ rest) n → (m ≡ n) ⊎ Contains rest n
+pub holds_cons : (m : ℕ) (rest : List ℕ) (n : ℕ) → Contains (m ∷ rest) n → (m ≡ n) ⊎ Contains rest n
 holds_cons m rest n h = let at = at_from_contains (m ∷ rest) n h in go at.0 at.1
   where
     go : (i : ℕ) → slice_get (m ∷ rest) i ≡ Some n → (m ≡ n) ⊎ Contains rest n
@@ -82,11 +82,8 @@ put_rises x (m ∷ ms) rising = go (put_rises x ms (rising_tail m ms rising)) (n
         rising_cons m (put x ms) (λ n h. ⊎_elim (λ own. subst (λ k. m < k) own less) (λ c. rising_above m ms rising n c) ((put_holds x ms n).0 h)) more
     go more false e false f = rising
 
-rising_none : AreRising []
-rising_none i j a b less p q = absurd (none-some a p)
-
 pub ordered_rises : (ns : List ℕ) → AreRising (ordered ns)
-ordered_rises [] = rising_none
+ordered_rises [] = λ i j a b less p q. absurd (none-some a p)
 ordered_rises (x ∷ ns) = put_rises x (ordered ns) (ordered_rises ns)
 
 -- so the assertions that a tree uses are given each once, in database order

@@ -64,9 +64,7 @@ few_made : (before : List Sentence) (moves : List (Move (List ℕ))) (row : Tree
 few_made before [] row kept row' kept' m = omega arith
 few_made before (name label ∷ moves) row kept row' kept' m =
     let rest = few_made before moves m.0 m.1 row' kept' m.3 in omega (arith, rest)
-few_made before (again tag ∷ moves) row kept row' kept' m =
-    let rest = few_made before moves m.0 m.1 row' kept' m.3 in omega (arith, rest)
-few_made before (mark ∷ moves) row kept row' kept' m =
+few_made before (move ∷ moves) row kept row' kept' m =
     let rest = few_made before moves m.0 m.1 row' kept' m.3 in omega (arith, rest)
 
 -- They are no more than the moves that any proof of the tree has.
@@ -136,14 +134,12 @@ tags_below : (before : List Sentence) (moves : List (Move (List ℕ))) (row : Tr
     → Makes before moves row kept row' kept'
     → AllByRecursion (IsTagBelow (length kept')) moves
 tags_below before [] row kept row' kept' m = tt
-tags_below before (name label ∷ moves) row kept row' kept' m =
-    (tt, tags_below before moves m.0 m.1 row' kept' m.3)
 tags_below before (again tag ∷ moves) row kept row' kept' m = (
   slice_get_within kept' tag m.2.0
       (kept_stays before (again tag ∷ moves) row kept row' kept' m tag m.2.0 m.2.1),
   tags_below before moves m.0 m.1 row' kept' m.3,
 )
-tags_below before (mark ∷ moves) row kept row' kept' m =
+tags_below before (move ∷ moves) row kept row' kept' m =
     (tt, tags_below before moves m.0 m.1 row' kept' m.3)
 
 -- the number is from 1 on and within the most

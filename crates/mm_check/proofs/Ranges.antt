@@ -1,10 +1,11 @@
 -- Lists of numbers that stand as ranges in one list, where one more is put at its end.
-use Rattle.std.proofs.Common.{◌≡◌, ◌↔◌, ℕ, zero, suc, List, [], ◌∷◌, ◌++◌, length, get_or, slice_get, Contains, Some, refl, sym, ap, subst, ◌∙◌}
-use Rattle.std.proofs.lemmas.Option.{same_Some, none-some, get_or_from_slice_get}
+use Rattle.std.proofs.Common.{◌≡◌, ◌↔◌, ℕ, suc, List, [], ◌∷◌, ◌++◌, length, get_or, slice_get, Contains, Some, refl, sym, ap, subst, ◌∙◌}
+use Rattle.std.proofs.lemmas.Option.{get_or_from_slice_get}
 use Rattle.std.specs.List.{slice_range}
 use Rattle.std.proofs.lemmas.List.{map-append}
 use Rattle.mm_frame.specs.declared.number.LabelId.{LabelId}
 use Rattle.mm_frame.proofs.Entries.{slice_left}
+use Rattle.mm_frame.proofs.NameLists.{get_unmapped}
 use Rattle.mm_proof.proofs.Parts.{part-new}
 use Rattle.mm_check.specs.declared.kept.KeptProof.{KeptProof}
 use Rattle.mm_check.specs.Conclusion.{ProofUses}
@@ -34,18 +35,12 @@ uses_push xs ys proofs p h from to =
     whole ∙ ap (λ (us : List ProofUses). us ++ uses_at (xs ++ ys) p ∷ []) (uses_grow xs ys proofs h)
     ∙ ap (λ (u : ProofUses). uses_in xs proofs ++ u ∷ []) last
 
--- what is kept at a place is of the proof there
-use_at : (labels : List LabelId) (proofs : List KeptProof) (at : ℕ) (u : ProofUses) → slice_get (uses_in labels proofs) at ≡ Some u
-    → (p : KeptProof) × (slice_get proofs at ≡ Some p) × (uses_at labels p ≡ u)
-use_at labels [] at u e = absurd (none-some u e)
-use_at labels (p ∷ proofs) zero u e = (p, refl, same_Some (uses_at labels p) u e)
-use_at labels (p ∷ proofs) (suc at) u e = use_at labels proofs at u e
-
 -- its range holds the same numbers
 pub uses_there : (labels held : List LabelId) (proofs : List KeptProof) (at : ℕ) (p : KeptProof) (kept : List ProofUses) (u : ProofUses) → uses_in labels proofs ≡ kept → held ≡ labels
     → p ≡ get_or proofs at p → slice_get kept at ≡ Some u → (n : ℕ) → Contains (ids_in (slice_range held p.start p.end)) n ↔ Contains u.used n
 uses_there labels held proofs at p kept u view same is there n =
-    let found = use_at labels proofs at u (subst (λ (us : List ProofUses). slice_get us at ≡ Some u) (sym view) there) in
+    let found = get_unmapped (uses_at labels) proofs at u
+    (subst (λ (us : List ProofUses). slice_get us at ≡ Some u) (sym view) there) in
     let one : p ≡ found.0 = is ∙ get_or_from_slice_get proofs at found.0 p found.1 in
     let range : List LabelId → List ℕ = λ ls. ids_in (slice_range ls p.start p.end) in
     let used : ordered (range labels) ≡ u.used =

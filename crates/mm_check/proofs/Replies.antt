@@ -68,10 +68,6 @@ question_refused files answer fault Answers text status is holds said ends =
     inl (refused_at files fault text status (subst Holds is holds) (subst Said is said) (subst Ends is ends))
 
 -- what holds of a reply that was made
-pub made : {X E : Type 0} (r : Result X E) (P Q : X → Type 0) → ((x : X) → P x → Q x) → IfOk r P → IfOk r Q
-made (Ok x) P Q f h = f x h
-made (Err e) P Q f h = tt
-
 pub made_both : {X E : Type 0} (r : Result X E) (P Q R : X → Type 0) → ((x : X) → P x → Q x → R x) → IfOk r P → IfOk r Q → IfOk r R
 made_both (Ok x) P Q R f h k = f x h k
 made_both (Err e) P Q R f h k = tt
@@ -87,10 +83,6 @@ pub asked_all : (wanted : Form) (files : List PlainFile) (number : ℕ)
     → IsAllSaveFault wanted files statements number fault
     → IsAskReply fault (name_of files number) text status
     → IsAllSavedReply wanted files number statements text status
-asked_all wanted files number statements ask.A1 text status h reply = absurd h
-asked_all wanted files number statements ask.A2 text status h reply = absurd h
-asked_all wanted files number statements ask.A3 text status h reply = absurd h
-asked_all wanted files number statements ask.L2 text status h reply = absurd h
 asked_all wanted files number statements ask.F3 text status h reply = inr (inl (h, reply))
-asked_all wanted files number statements (ask.Text rule step) text status h reply = absurd h
 asked_all wanted files number statements ask.Memory text status h reply = absurd reply
+asked_all wanted files number statements _ text status h reply = absurd h

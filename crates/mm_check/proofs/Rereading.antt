@@ -12,6 +12,7 @@ use Rattle.mm_text.proofs.Lists.{split_at}
 use Rattle.mm_frame.specs.Sentence.{Sentence, sentence_of, IsLabelled}
 use Rattle.mm_frame.specs.Rules.{AllMeant}
 use Rattle.mm_frame.proofs.Meant.{one_label}
+use Rattle.mm_frame.proofs.NameLists.{get_mapped}
 use Rattle.mm_proof.specs.declared.profile.Profile.{Profile}
 use Rattle.mm_proof.specs.UnderProfile.{IsProvedUnder}
 use Rattle.mm_check.specs.Conclusion.{Conclusion}
@@ -19,7 +20,7 @@ use Rattle.mm_check.specs.Verdict.{AllObey, AreAccepted, CanBeRead, sentences, p
 use Rattle.mm_text.specs.Statement.{is_provable}
 use Rattle.mm_check.specs.Answer.{IsKeptOf}
 use Rattle.mm_check.specs.Mirror.Judged.{TakesNext}
-use Rattle.mm_check.specs.Mirror.Marks.{IsKeptFrom}
+use Rattle.mm_check.specs.Mirror.Marks.{IsKeptFrom, IsKeptWell}
 use Rattle.mm_check.specs.Rests.{IsAt, IsNamed}
 use Rattle.mm_proof.specs.Moves.{Move}
 use Rattle.mm_proof.specs.Tokens.{is_incomplete, SayMoves}
@@ -31,13 +32,6 @@ use Rattle.mm_check.proofs.Asked.{map-take}
 use Rattle.mm_check.proofs.Unproved.{provable_kind}
 
 -- ---- up to a statement with a label
-
--- among one statement more
-stands_after : (s : PlainStatement) (statements : List PlainStatement) (label : List ℕ) (t : PlainStatement) → Stands statements label t → Stands (s ∷ statements) label t
-stands_after s statements label t (place, there, named) = (suc place, there, named)
-
-stands_first : (s : PlainStatement) (statements : List PlainStatement) (label : List ℕ) → IsLabelled label (sentence_of s) → Stands (s ∷ statements) label s
-stands_first s statements label named = (0, refl, named)
 
 stands_later : (s : PlainStatement) (statements : List PlainStatement) (label : List ℕ) (t : PlainStatement) → ¬ (IsLabelled label (sentence_of s)) → Stands (s ∷ statements) label t → Stands statements label t
 stands_later s statements label t other (zero, there, named) =
@@ -51,12 +45,12 @@ sought_on label first old new s sought taken other =
     record {
       faultless = ap (λ (r : Remaining). r.ending) taken.1 ∙ sought.faultless;
       some = (sought.some.0, stands_later s new.statements label sought.some.0 other here);
-      within = λ t h. sought.within t (subst (λ (ss : List PlainStatement). Stands ss label t) (sym taken.0) (stands_after s new.statements label t h));
+      within = λ t h. sought.within t (subst (λ (ss : List PlainStatement). Stands ss label t) (sym taken.0) (suc h.0, h.1, h.2));
     }
 
 pub sought_found : (label : List ℕ) (first old new : Remaining) (s : PlainStatement) → IsStillLeft label first old → TakesNext old true s new → IsLabelled label (sentence_of s) → Stands first.statements label s
 sought_found label first old new s sought taken named =
-    sought.within s (subst (λ (ss : List PlainStatement). Stands ss label s) (sym taken.0) (stands_first s new.statements label named))
+    sought.within s (subst (λ (ss : List PlainStatement). Stands ss label s) (sym taken.0) (0, refl, named))
 
 -- ---- the reading is one
 
@@ -68,6 +62,10 @@ same_reading files a b c d one other =
     (x.0 ∙ sym y.0, x.1 ∙ sym y.1)
 
 -- ---- the theorem
+
+-- what is kept is kept well
+abbrev pub KeptWell : Conclusion → Type 0
+KeptWell c = IsKeptWell c.profile c.files c.sentences c.incomplete c.uses
 
 -- the statements of the files, of which this is kept
 pub record AreOf (c : Conclusion) (statements : List PlainStatement) : Type 0 where
@@ -83,9 +81,7 @@ read_statements c statements o reads =
     subst (λ (ss : List PlainStatement). AreOf c ss) (same_reading c.files o.statements statements None None o.accepted.reads reads).0 (own_statements c o)
 
 pub said_there : (statements : List PlainStatement) (place : ℕ) (s : PlainStatement) → slice_get statements place ≡ Some s → slice_get (sentences statements) place ≡ Some (sentence_of s)
-said_there [] place s e = absurd cc
-said_there (t ∷ statements) zero s e = let same : t ≡ s = cc in ap (λ (u : PlainStatement). Some (sentence_of u)) same
-said_there (t ∷ statements) (suc place) s e = said_there statements place s e
+said_there statements place s e = get_mapped sentence_of statements place s e
 
 -- one statement has the label
 pub one_stands : (statements : List PlainStatement) (label : List ℕ) (place : ℕ) (s t : PlainStatement) → AllMeant (sentences statements)

@@ -5,13 +5,16 @@ use Rattle.std.proofs.Common.{Bool, true, false, not, ◌&&◌, Some, None, ◌�
 use Rattle.std.proofs.Common.{ap, subst, ◌∙◌, arith, append_assoc, length-append}
 use Rattle.std.proofs.Math.Seq.{take-append_seam, drop-append_seam}
 use Rattle.std.proofs.lemmas.Bool.{and_parts}
+use Rattle.std.proofs.lemmas.List.{set-set, set-get_or}
+use Rattle.std.proofs.lemmas.Option.{get_or_from_slice_get}
 use Rattle.mm_text.specs.declared.fault.LoadRule.{LoadRule}
 use Rattle.mm_text.specs.declared.fault.LoadRule.TheVariants as load
 use Rattle.mm_text.specs.Token.{tokens_from}
 use Rattle.mm_text.specs.Statement.{PlainStatement, is_provable}
 use Rattle.mm_text.specs.Files.{most_bytes, PlainFile, total_bytes, BreaksLoad}
 use Rattle.mm_text.specs.Replaced.{placeless, with_span, with_bytes}
-use Rattle.mm_text.proofs.Lists.{same_length, split_at}
+use Rattle.mm_text.proofs.Lists.{same_length, split_at, get_parted, zip_left, mapped_zip}
+use Rattle.mm_text.proofs.Lists.{get_set_cases}
 use Rattle.mm_text.proofs.ReplacedItems.{set_there}
 use Rattle.mm_code.proofs.TextTokens.{texts_in}
 use Rattle.mm_frame.specs.Sentence.{Sentence, sentence_of}
@@ -129,13 +132,10 @@ Near n s t place x y = ((sentence_of x ≡ sentence_of y) × (proof_of x ≡ pro
 
 placeless_at : (after later : List PlainStatement) → map placeless after ≡ map placeless later → (place : ℕ) (x : PlainStatement) → slice_get after place ≡ Some x
     → (y : PlainStatement) × (slice_get later place ≡ Some y) × (placeless x ≡ placeless y)
-placeless_at [] later same place x e = absurd cc
-placeless_at (a ∷ after) [] same place x e = absurd cc
-placeless_at (a ∷ after) (l ∷ later) same zero x e =
-    let is : a ≡ x = cc in
-    let head : placeless a ≡ placeless l = cc in
-    (l, refl, subst (λ (u : PlainStatement). placeless u ≡ placeless l) is head)
-placeless_at (a ∷ after) (l ∷ later) same (suc place) x e = let tail : map placeless after ≡ map placeless later = cc in placeless_at after later tail place x e
+placeless_at after later same place x e =
+    let Alike : PlainStatement → PlainStatement → Type 0 = λ s t. placeless s ≡ placeless t in
+    zip_left Alike after later place x
+    (mapped_zip placeless placeless Alike (λ s t is. is) after later same) e
 
 pub near_at : (before : List PlainStatement) (s t : PlainStatement) (after later : List PlainStatement) → map placeless after ≡ map placeless later → (place : ℕ) (x : PlainStatement)
     → slice_get (before ++ s ∷ after) place ≡ Some x → (y : PlainStatement) × (slice_get (before ++ t ∷ later) place ≡ Some y) × Near (length before) s t place x y
@@ -176,11 +176,6 @@ carries_of before s t after later same own = record {
 
 -- ---- each obeys the rules
 
-pub seam_at : (before : List PlainStatement) (s : PlainStatement) (after : List PlainStatement)
-    → slice_get (before ++ s ∷ after) (length before) ≡ Some s
-seam_at [] s after = refl
-seam_at (b ∷ before) s after = seam_at before s after
-
 obeys_at : (profile : Profile) (before : List PlainStatement) (s t : PlainStatement) (after later : List PlainStatement) → sentence_of s ≡ sentence_of t → map placeless after ≡ map placeless later → AllObey profile (before ++ s ∷ after)
     → Obeys profile (sentences before) t → (place : ℕ) (y : PlainStatement) → slice_get (before ++ t ∷ later) place ≡ Some y → Obeys profile (sentences (take place (before ++ t ∷ later))) y
 obeys_at profile before s t after later own same obeyed new place y there =
@@ -199,7 +194,8 @@ pub all_obey_anew : (profile : Profile) (before : List PlainStatement) (s t : Pl
     → Obeys profile (sentences before) t → AllObey profile (before ++ t ∷ later)
 all_obey_anew profile before s t after later own same obeyed new earlier rest y split =
     let su : List PlainStatement = before ++ t ∷ later in
-    let there : slice_get su (length earlier) ≡ Some y = ap (λ (ss : List PlainStatement). slice_get ss (length earlier)) split ∙ seam_at earlier y rest in
+    let there : slice_get su (length earlier) ≡ Some y =
+    ap (λ (ss : List PlainStatement). slice_get ss (length earlier)) split ∙ get_parted earlier rest y in
     let front : take (length earlier) su ≡ earlier = ap (take (length earlier)) split ∙ take-append_seam earlier (y ∷ rest) in
     subst (λ (ss : List PlainStatement). Obeys profile (sentences ss) y) front (obeys_at profile before s t after later own same obeyed new (length earlier) y there)
 
@@ -229,12 +225,6 @@ handed_anew files k f bytes there =
     ap (λ (fs : List PlainFile). slice_get fs k) (with_bytes_is files k f bytes there)
     ∙ set_there files k f (record f { bytes = bytes }) there
 
-set_again : (files : List PlainFile) (k : ℕ) (f g : PlainFile)
-    → slice_set (slice_set files k f) k g ≡ slice_set files k g
-set_again [] k f g = refl
-set_again (h ∷ files) zero f g = refl
-set_again (h ∷ files) (suc k) f g = ap (λ (fs : List PlainFile). h ∷ fs) (set_again files k f g)
-
 -- its bytes are the last ones
 pub with_bytes_again : (files : List PlainFile) (k : ℕ) (f : PlainFile) (bytes others : List ℕ)
     → slice_get files k ≡ Some f
@@ -244,40 +234,34 @@ with_bytes_again files k f bytes others there =
     (handed_anew files k f bytes there)
     ∙ ap (λ (fs : List PlainFile). slice_set fs k (record f { bytes = others }))
     (with_bytes_is files k f bytes there)
-    ∙ set_again files k (record f { bytes = bytes }) (record f { bytes = others })
+    ∙ set-set files k (record f { bytes = bytes }) (record f { bytes = others })
     ∙ sym (with_bytes_is files k f others there)
-
-set_own : (files : List PlainFile) (k : ℕ) (f : PlainFile) → slice_get files k ≡ Some f
-    → slice_set files k f ≡ files
-set_own [] k f there = absurd cc
-set_own (h ∷ files) zero f there =
-    let same : h ≡ f = cc in ap (λ (g : PlainFile). g ∷ files) (sym same)
-set_own (h ∷ files) (suc k) f there =
-    ap (λ (fs : List PlainFile). h ∷ fs) (set_own files k f there)
 
 -- and its own ones change nothing
 pub with_bytes_own : (files : List PlainFile) (k : ℕ) (f : PlainFile)
     → slice_get files k ≡ Some f → with_bytes files k f.bytes ≡ files
 with_bytes_own files k f there =
-    with_bytes_is files k f f.bytes there ∙ set_own files k f there
+    with_bytes_is files k f f.bytes there
+    ∙ ap (λ (g : PlainFile). slice_set files k g) (sym (get_or_from_slice_get files k f f there))
+    ∙ set-get_or files k f
 
 -- ---- the files as a whole
 
 named_back : (files : List PlainFile) (k : ℕ) (f : PlainFile) (bytes : List ℕ) → slice_get files k ≡ Some f → (i : ℕ) (x : PlainFile) → slice_get (slice_set files k (record f { bytes = bytes })) i ≡ Some x
     → (y : PlainFile) × (slice_get files i ≡ Some y) × (y.name ≡ x.name)
-named_back [] k f bytes there i x e = absurd cc
-named_back (h ∷ files) zero f bytes there zero x e =
-    let is : h ≡ f = cc in
-    let same : record f { bytes = bytes } ≡ x = cc in
-    (h, refl, ap (λ (u : PlainFile). u.name) is ∙ ap (λ (u : PlainFile). u.name) same)
-named_back (h ∷ files) zero f bytes there (suc i) x e = (x, e, refl)
-named_back (h ∷ files) (suc k) f bytes there zero x e = (x, e, refl)
-named_back (h ∷ files) (suc k) f bytes there (suc i) x e = named_back files k f bytes there i x e
+named_back files k f bytes there i x e =
+    elim (get_set_cases files k i (record f { bytes = bytes }) x e) [
+      | inl (here, same) ↦ (
+        f,
+        ap (slice_get files) here ∙ there,
+        ap (λ (u : PlainFile). u.name) same,
+      )
+      | inr (apart, old) ↦ (x, old, refl)
+    ]
 
 none_back : (files : List PlainFile) (k : ℕ) (f g : PlainFile) → slice_get files k ≡ Some f → slice_set files k g ≡ [] → ⊥
-none_back [] k f g there e = absurd cc
-none_back (h ∷ files) zero f g there e = absurd cc
 none_back (h ∷ files) (suc k) f g there e = absurd cc
+none_back _ _ f g there e = absurd cc
 
 some_files : (files : List PlainFile) (k : ℕ) (f : PlainFile) → slice_get files k ≡ Some f → files ≢ []
 some_files [] k f there e = absurd cc
@@ -355,11 +339,11 @@ say_themselves statements = record {
   count = refl;
 }
 
-pub say_on : (statements others more : List PlainStatement) → SayAlike statements others
+pub say_on : {statements others more : List PlainStatement} → SayAlike statements others
     → SayAlike others more → SayAlike statements more
-say_on statements others more one other = record {
-  to = carries_on statements others more one.to other.to;
-  from = carries_on more others statements other.from one.from;
+say_on one other = record {
+  to = carries_on one.to other.to;
+  from = carries_on other.from one.from;
   left = one.left ∙ other.left;
   many = one.many ∙ other.many;
   count = one.count ∙ other.count;

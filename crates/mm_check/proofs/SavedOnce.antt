@@ -6,12 +6,12 @@ use Rattle.std.specs.List.{AllZip}
 use Rattle.std.proofs.Math.Seq.{take-append_seam}
 use Rattle.std.proofs.lemmas.Option.{same_Some}
 use Rattle.mm_text.specs.declared.statement.Kind.TheVariants.{Provable}
-use Rattle.mm_text.specs.Statement.{PlainStatement, HasForm}
+use Rattle.mm_text.specs.Statement.{PlainStatement}
 use Rattle.mm_text.specs.Files.{most_bytes, PlainFile}
 use Rattle.mm_text.specs.Reading.{Reads}
 use Rattle.mm_text.specs.Replaced.{placeless, with_span, with_bytes, IsProofSpan, IsMoved}
 use Rattle.mm_text.specs.Replaced.{AreReadBut}
-use Rattle.mm_text.proofs.Lists.{all_front, split_at}
+use Rattle.mm_text.proofs.Lists.{split_at, get_parted}
 use Rattle.mm_text.proofs.FormedLaws.{readings_are_formed_in_place}
 use Rattle.mm_text.proofs.ReplacedFiles.{replaced_proofs_are_read_holds}
 use Rattle.mm_text.proofs.ProofSpans.{proofs_stand_in_spans_holds}
@@ -40,15 +40,15 @@ use Rattle.mm_check.specs.declared.form.Form.{Form}
 use Rattle.mm_check.specs.declared.form.Form.TheVariants as form
 use Rattle.mm_check.specs.declared.ask.AskFault.TheVariants as ask
 use Rattle.mm_check.specs.Verdict.{AreAccepted, AllObey, Obeys, sentences, proof_of, is_proof, is_unproved}
-use Rattle.mm_check.specs.Rests.{IsNamed, IsAskFault}
+use Rattle.mm_check.specs.Rests.{IsNamed}
 use Rattle.mm_check.specs.Compared.{IsTheorem}
 use Rattle.mm_check.specs.Forms.{HasProofTree, most_labels}
-use Rattle.mm_check.specs.Saved.{IsTextIn, IsSaved, FitsSaved, IsFormFault, total_with}
+use Rattle.mm_check.specs.Saved.{IsTextIn, IsSaved, FitsSaved, total_with}
 use Rattle.mm_check.specs.SavedLaws.{SavingChangesNoAnswer, SavedProofIsStrict, OneSaved}
 use Rattle.mm_check.specs.SavedLaws.{OneSaveAnswer, SavingAgainChangesNothing}
 use Rattle.mm_check.proofs.AlikeVerdicts.{moved}
 use Rattle.mm_check.proofs.Asked.{map-take}
-use Rattle.mm_check.proofs.Existence.{formed_sentences}
+use Rattle.mm_check.proofs.Existence.{formed_before}
 use Rattle.mm_check.proofs.Rereading.{same_reading, said_there, one_stands}
 use Rattle.mm_check.proofs.Saving.{provable_proof}
 use Rattle.mm_check.proofs.Trees.{any_proof}
@@ -57,7 +57,7 @@ use Rattle.mm_check.proofs.SavedTokens.{is_proof_text}
 use Rattle.mm_check.proofs.SavedProofs.{ReadsAsProof, text_reads, tree_derives}
 use Rattle.mm_check.proofs.SavedFiles.{put_anew, IsProvedAnew, proved_anew, anew_alike, alike_anew}
 use Rattle.mm_check.proofs.SavedFiles.{carries_of, all_obey_anew, readable_anew, handed_anew}
-use Rattle.mm_check.proofs.SavedFiles.{same_left, same_count, same_many, seam_at}
+use Rattle.mm_check.proofs.SavedFiles.{same_left, same_count, same_many}
 use Rattle.mm_check.proofs.SavedFiles.{SayAlike, said_same, span_put}
 
 pub front_meant : (profile : Profile) (statements : List PlainStatement) (n : ℕ) → AllObey profile statements → AllMeant (sentences (take n statements))
@@ -81,27 +81,6 @@ pub record IsToPut (profile : Profile) (f : Form) (files : List PlainFile) (befo
 abbrev pub files_anew : List PlainFile → PlainStatement → PlainFile → List ℕ → List PlainFile
 files_anew files s file text = with_bytes files s.first.file (with_span file.bytes s.span (10 ∷ text))
 
-meant_before : (profile : Profile) (before : List PlainStatement) (s : PlainStatement) (after : List PlainStatement) → AllObey profile (before ++ s ∷ after) → AllMeant (sentences before)
-meant_before profile before s after obeyed =
-    subst (λ (ss : List PlainStatement). AllMeant (sentences ss)) (take-append_seam before (s ∷ after)) (front_meant profile (before ++ s ∷ after) (length before) obeyed)
-
--- the theorem's new proof
-pub anew_of : (profile : Profile) (f : Form) (files : List PlainFile) (before : List PlainStatement) (s : PlainStatement) (after : List PlainStatement) (file : PlainFile) (text : List ℕ)
-    → (p : IsToPut profile f files before s after file text) → ReadsAsProof (sentences before) (sentence_of s) p.root p.below text × IsProvedAnew profile (sentences before) (put_anew s (10 ∷ text)) p.root p.below
-anew_of profile f files before s after file text p =
-    let front : List Sentence = sentences before in
-    let Fits : List (List ℕ) → Type 0 = IsWithin (limit_of profile) in
-    let meant : AllMeant front = meant_before profile before s after p.obeyed in
-    let old : IsProvedWithin Fits front (sentence_of s) (proof_of s) =
-    ((p.obeyed before after s refl).proved p.complete).1 in
-    let fit : TreesFit front (tree p.root p.below none) =
-    derive_fits Fits front (tree p.root p.below none) ((sentence_of s).symbols ∷ []) (tree_derives Fits front (sentence_of s) (proof_of s) p.moves p.root p.below meant old p.told p.made) in
-    let formed : AllFormed front =
-    formed_sentences before (all_front HasForm before (s ∷ after)
-    (readings_are_formed_in_place files (before ++ s ∷ after) None p.reads).formed) in
-    let ra = text_reads f front (sentence_of s) p.root p.below text meant formed fit p.laid in
-    (ra, proved_anew profile front s p.root p.below p.moves text meant p.complete old p.told p.made ra)
-
 -- the files with the text put in read as what obeys the profile
 pub record ArePutAnew (profile : Profile) (files : List PlainFile) (before : List PlainStatement) (s : PlainStatement) (after : List PlainStatement) (file : PlainFile) (text : List ℕ) : Type 0 where
   pub later : List PlainStatement
@@ -111,178 +90,228 @@ pub record ArePutAnew (profile : Profile) (files : List PlainFile) (before : Lis
   pub moved : AllZip (λ u v. u.kind ≡ Provable
       → IsMoved s.first.file s.span.1 (s.span.0 + length (10 ∷ text)) u v) after later
 
-pub are_put_anew : (profile : Profile) (f : Form) (files : List PlainFile) (before : List PlainStatement) (s : PlainStatement) (after : List PlainStatement) (file : PlainFile) (text : List ℕ) → IsToPut profile f files before s after file text
-    → ArePutAnew profile files before s after file text
-are_put_anew profile f files before s after file text p =
-    let both = anew_of profile f files before s after file text p in
-    let ra = both.0 in
-    let new = both.1 in
-    let read : AreReadBut (files_anew files s file text) before s after (10 ∷ text) =
-    replaced_proofs_are_read_holds files before s after file (10 ∷ text) p.reads
-    (provable_proof s p.complete) p.handed
-    (is_proof_text text ra.tokens ra.read ra.fine ra.ends) in
-    let t : PlainStatement = put_anew s (10 ∷ text) in
-    let obeys : Obeys profile (sentences before) t = record {
-      meant = (p.obeyed before after s refl).meant;
-      proved = λ complete. new.under;
-      known = λ unproved. absurd
-          (let none_left : is_unproved t ≡ false = proof_not_unproved t new.complete in cc);
-    } in
-    record {
-      later = read.later;
-      reads = read.reads;
-      obeyed = all_obey_anew profile before s t after read.later refl read.same p.obeyed obeys;
-      same = read.same;
-      moved = read.moved;
-    }
+-- a text put in place of itself changes nothing
+put_again : (s : PlainStatement) (bytes text : List ℕ) → IsProofSpan s bytes → with_span (with_span bytes s.span text) (s.span.0, s.span.0 + length text) text ≡ with_span bytes s.span text
+put_again s bytes text p =
+    let once : with_span bytes s.span text ≡ p.front ++ (text ++ p.back) =
+    ap (λ (l : List ℕ). with_span l s.span text) p.whole
+    ∙ span_put p.front p.within p.back text s.span p.start p.stop in
+    let span : ℕ × ℕ = (s.span.0, s.span.0 + length text) in
+    ap (λ (l : List ℕ). with_span l span text) once
+    ∙ span_put p.front text p.back text span p.start
+    (ap (λ (n : ℕ). n + length text) p.start) ∙ sym once
 
--- and say alike what is answered
-pub put_says_alike : (profile : Profile) (f : Form) (files : List PlainFile)
-    (before : List PlainStatement) (s : PlainStatement) (after : List PlainStatement)
-    (file : PlainFile) (text : List ℕ) → IsToPut profile f files before s after file text
-    → (later : List PlainStatement) → map placeless after ≡ map placeless later
-    → SayAlike (before ++ s ∷ after) (before ++ put_anew s (10 ∷ text) ∷ later)
-put_says_alike profile f files before s after file text p later same =
-    let front : List Sentence = sentences before in
-    let t : PlainStatement = put_anew s (10 ∷ text) in
-    let meant : AllMeant front = meant_before profile before s after p.obeyed in
-    let old = any_proof profile front (sentence_of s) (proof_of s)
-    ((p.obeyed before after s refl).proved p.complete).1 in
-    let new : IsProvedAnew profile front t p.root p.below =
-    (anew_of profile f files before s after file text p).1 in
-    record {
-      to = carries_of before s t after later same
-          (anew_alike profile front s p.root p.below p.moves (10 ∷ text) meant p.complete p.told
-          p.made new);
-      from = carries_of before t s later after (sym same)
-          (alike_anew profile front s p.root p.below p.moves (10 ∷ text) meant p.complete old p.told
-          p.made new);
-      left = same_left before s t after later (proof_not_unproved s p.complete)
-          (proof_not_unproved t new.complete) same;
-      many = same_many before s t after later same;
-      count = same_count before s t after later (p.complete ∙ sym new.complete) same;
-    }
+-- the statement that has the label has a proof in the strict form
+abbrev HasStrictProof : List PlainStatement → List ℕ → Type 0
+HasStrictProof statements label =
+    (place : ℕ) × (s : PlainStatement) × IsTheorem statements label place s
+    × IsStrict (sentences (take place statements)) (sentence_of s) (proof_of s)
+
+module _ {profile : Profile} {f : Form} {files : List PlainFile} {before : List PlainStatement}
+    {s : PlainStatement} {after : List PlainStatement} {file : PlainFile} {text : List ℕ}
+    (p : IsToPut profile f files before s after file text) where
+  meant_before : AllMeant (sentences before)
+  meant_before =
+      rw (take-append_seam before (s ∷ after)) at
+      (front_meant profile (before ++ s ∷ after) (length before) p.obeyed)
+
+  proved_before : IsProvedWithin (IsWithin (limit_of profile)) (sentences before) (sentence_of s)
+      (proof_of s)
+  proved_before = ((p.obeyed before after s refl).proved p.complete).1
+
+  reads_anew : ReadsAsProof (sentences before) (sentence_of s) p.root p.below text
+  reads_anew =
+      let front : List Sentence = sentences before in
+      let Fits : List (List ℕ) → Type 0 = IsWithin (limit_of profile) in
+      let fit : TreesFit front (tree p.root p.below none) =
+      derive_fits Fits front (tree p.root p.below none) ((sentence_of s).symbols ∷ [])
+      (tree_derives Fits front (sentence_of s) (proof_of s) p.moves p.root p.below meant_before
+      proved_before p.told p.made) in
+      let formed : AllFormed front =
+      formed_before (before ++ s ∷ after) before s after
+      (readings_are_formed_in_place files (before ++ s ∷ after) None p.reads).formed refl in
+      text_reads f front (sentence_of s) p.root p.below text meant_before formed fit p.laid
+
+  -- the theorem's new proof
+  pub anew_of : IsProvedAnew profile (sentences before) (put_anew s (10 ∷ text)) p.root p.below
+  anew_of =
+      proved_anew profile (sentences before) s p.root p.below p.moves text meant_before p.complete
+      proved_before p.told p.made reads_anew
+
+  pub are_put_anew : ArePutAnew profile files before s after file text
+  are_put_anew =
+      let ra = reads_anew in
+      let new = anew_of in
+      let read : AreReadBut (files_anew files s file text) before s after (10 ∷ text) =
+      replaced_proofs_are_read_holds files before s after file (10 ∷ text) p.reads
+      (provable_proof s p.complete) p.handed
+      (is_proof_text text ra.tokens ra.read ra.fine ra.ends) in
+      let t : PlainStatement = put_anew s (10 ∷ text) in
+      let obeys : Obeys profile (sentences before) t = record {
+        meant = (p.obeyed before after s refl).meant;
+        proved = λ complete. new.under;
+        known = λ unproved. absurd
+            (let none_left : is_unproved t ≡ false = proof_not_unproved t new.complete in cc);
+      } in
+      record {
+        later = read.later;
+        reads = read.reads;
+        obeyed = all_obey_anew profile before s t after read.later refl read.same p.obeyed obeys;
+        same = read.same;
+        moved = read.moved;
+      }
+
+  -- the statements with the new proof
+  abbrev pub read_anew : List PlainStatement
+  read_anew = before ++ put_anew s (10 ∷ text) ∷ are_put_anew.later
+
+  -- they say alike what is answered
+  pub put_says_alike : SayAlike (before ++ s ∷ after) read_anew
+  put_says_alike =
+      let front : List Sentence = sentences before in
+      let t : PlainStatement = put_anew s (10 ∷ text) in
+      let old = any_proof profile front (sentence_of s) (proof_of s) proved_before in
+      let new = anew_of in
+      let put = are_put_anew in
+      record {
+        to = carries_of before s t after put.later put.same
+            (anew_alike profile front s p.root p.below p.moves (10 ∷ text) meant_before p.complete
+            p.told p.made new);
+        from = carries_of before t s put.later after (sym put.same)
+            (alike_anew profile front s p.root p.below p.moves (10 ∷ text) meant_before p.complete
+            old p.told p.made new);
+        left = same_left before s t after put.later (proof_not_unproved s p.complete)
+            (proof_not_unproved t new.complete) put.same;
+        many = same_many before s t after put.later put.same;
+        count = same_count before s t after put.later (p.complete ∙ sym new.complete) put.same;
+      }
+
+  -- the proof is strict then
+  strict_anew : (label : List ℕ) → IsLabelled label (sentence_of s)
+      → HasStrictProof read_anew label
+  strict_anew label named =
+      let t : PlainStatement = put_anew s (10 ∷ text) in
+      let new = anew_of in
+      let put = are_put_anew in (
+        length before,
+        t,
+        record { there = get_parted before put.later t; named = named; complete = new.complete },
+        rw (take-append_seam before (t ∷ put.later)) new.strict,
+      )
+
+  -- and the files are saved as they are
+  again_saved : (label : List ℕ) → IsLabelled label (sentence_of s)
+      → IsSaved f (files_anew files s file text) read_anew label s.first.file
+      (with_span file.bytes s.span (10 ∷ text))
+  again_saved label named =
+      let t : PlainStatement = put_anew s (10 ∷ text) in
+      let put = are_put_anew in
+      let new = anew_of in
+      let moves : List (Move (List ℕ)) = new.proof.moves in
+      let q = new.proof.proves in
+      let made : MakeTree (sentences before) moves p.root p.below = record {
+        kept = q.kept;
+        made = subst (λ (u : Trees). Makes (sentences before) moves none [] u q.kept) new.spelled
+            q.made;
+      } in
+      let front : take (length before) read_anew ≡ before =
+      take-append_seam before (t ∷ put.later) in
+      record {
+        place = length before;
+        s = t;
+        root = p.root;
+        below = p.below;
+        proof = record {
+          there = get_parted before put.later t;
+          named = named;
+          complete = new.complete;
+          moves = moves;
+          told = rw front new.proof.said;
+          made = rw front made;
+        };
+        text = text;
+        laid = rw front p.laid;
+        home = refl;
+        file = record file { bytes = with_span file.bytes s.span (10 ∷ text) };
+        handed = handed_anew files s.first.file file (with_span file.bytes s.span (10 ∷ text))
+            p.handed;
+        whole = sym (put_again s file.bytes (10 ∷ text)
+            (proofs_stand_in_spans_holds files before s after None file p.reads
+            (provable_proof s p.complete) p.handed));
+      }
 
 -- ---- what is saved is put in
 
 -- a text of the tree of a proof
-pub to_put : (profile : Profile) (f : Form) (statements : List PlainStatement) (label : List ℕ)
-    (place : ℕ) (root : List ℕ) (below : Trees) (files : List PlainFile)
-    (before : List PlainStatement) (s : PlainStatement) (after : List PlainStatement)
-    (file : PlainFile) (text : List ℕ) → HasProofTree statements label place s root below
+pub to_put : {profile : Profile} {f : Form} {statements : List PlainStatement} {label : List ℕ}
+    {place : ℕ} {root : List ℕ} {below : Trees} {files : List PlainFile}
+    {before : List PlainStatement} {s : PlainStatement} {after : List PlainStatement}
+    {file : PlainFile} {text : List ℕ} → HasProofTree statements label place s root below
     → IsTextIn f (sentences (take place statements)) (sentence_of s) (tree root below none) text
     → sentences (take place statements) ≡ sentences before
     → Reads files (before ++ s ∷ after) None → AllObey profile (before ++ s ∷ after)
     → slice_get files s.first.file ≡ Some file
     → IsToPut profile f files before s after file text
-to_put profile f statements label place root below files before s after file text proof laid front
-    reads obeyed handed = record {
+to_put {f = f} {root = root} {below = below} {s = s} {text = text} proof laid front reads obeyed
+    handed = record {
       reads = reads;
       obeyed = obeyed;
       complete = proof.complete;
       root = root;
       below = below;
       moves = proof.moves;
-      told = subst (λ (ss : List Sentence). SayMoves ss (sentence_of s) (proof_of s) proof.moves)
-          front proof.told;
-      made = subst (λ (ss : List Sentence). MakeTree ss proof.moves root below) front proof.made;
-      laid = subst (λ (ss : List Sentence).
-          IsTextIn f ss (sentence_of s) (tree root below none) text) front laid;
+      told = rw front at proof.told;
+      made = rw front at proof.made;
+      laid = rw front at laid;
       handed = handed;
     }
 
--- what is known of the theorem that is saved, and of the files with it
-pub record IsPutAndRead (profile : Profile) (f : Form) (files : List PlainFile)
-    (statements : List PlainStatement) (label : List ℕ) (number : ℕ) (bytes : List ℕ)
-    (sv : IsSaved f files statements label number bytes) : Type 0 where
-  pub parted : statements ≡ take sv.place statements ++ sv.s ∷ drop (suc sv.place) statements
-  pub to_put : IsToPut profile f files (take sv.place statements) sv.s
+module _ {profile : Profile} {f : Form} {files : List PlainFile} {statements : List PlainStatement}
+    {label : List ℕ} {number : ℕ} {bytes : List ℕ} (accepted : AreAccepted profile files statements)
+    (sv : IsSaved f files statements label number bytes) where
+  -- the theorem that is saved
+  pub saved_to_put : IsToPut profile f files (take sv.place statements) sv.s
       (drop (suc sv.place) statements) sv.file sv.text
-  pub put : ArePutAnew profile files (take sv.place statements) sv.s
-      (drop (suc sv.place) statements) sv.file sv.text
-  pub changed : files_anew files sv.s sv.file sv.text ≡ with_bytes files number bytes
-  pub accepted : AreAccepted profile (with_bytes files number bytes)
-      (take sv.place statements ++ put_anew sv.s (10 ∷ sv.text) ∷ put.later)
+  saved_to_put =
+      let parted = split_at statements sv.place sv.s sv.proof.there in
+      to_put sv.proof sv.laid refl
+      (subst (λ (ss : List PlainStatement). Reads files ss None) parted accepted.reads)
+      (subst (λ (ss : List PlainStatement). AllObey profile ss) parted accepted.obeyed)
+      (ap (slice_get files) (sym sv.home) ∙ sv.handed)
 
-pub put_and_read : (profile : Profile) (f : Form) (files : List PlainFile)
-    (statements : List PlainStatement) (label : List ℕ) (number : ℕ) (bytes : List ℕ)
-    → AreAccepted profile files statements
-    → (sv : IsSaved f files statements label number bytes) → FitsSaved files number bytes
-    → IsPutAndRead profile f files statements label number bytes sv
-put_and_read profile f files statements label number bytes accepted sv fits =
-    let before : List PlainStatement = take sv.place statements in
-    let after : List PlainStatement = drop (suc sv.place) statements in
-    let parted : statements ≡ before ++ sv.s ∷ after = split_at statements sv.place sv.s sv.proof.there in
-    let p : IsToPut profile f files before sv.s after sv.file sv.text =
-    to_put profile f statements label sv.place sv.root sv.below files before sv.s after sv.file
-    sv.text sv.proof sv.laid refl
-    (subst (λ (ss : List PlainStatement). Reads files ss None) parted accepted.reads)
-    (subst (λ (ss : List PlainStatement). AllObey profile ss) parted accepted.obeyed)
-    (ap (slice_get files) (sym sv.home) ∙ sv.handed) in
-    let put = are_put_anew profile f files before sv.s after sv.file sv.text p in
-    let su : List PlainStatement = before ++ put_anew sv.s (10 ∷ sv.text) ∷ put.later in
-    let changed : files_anew files sv.s sv.file sv.text ≡ with_bytes files number bytes =
-    λ i. with_bytes files (sym sv.home i) (sym sv.whole i) in
-    record {
-      parted = parted;
-      to_put = p;
-      put = put;
-      changed = changed;
-      accepted = record {
+  -- the files with it
+  pub saved_accepted : FitsSaved files number bytes
+      → AreAccepted profile (with_bytes files number bytes) (read_anew saved_to_put)
+  saved_accepted fits =
+      let put = are_put_anew saved_to_put in
+      let changed : files_anew files sv.s sv.file sv.text ≡ with_bytes files number bytes =
+      λ i. with_bytes files (sym sv.home i) (sym sv.whole i) in
+      record {
         readable = readable_anew files number sv.file bytes sv.handed fits accepted.readable;
-        reads = subst (λ (fs : List PlainFile). Reads fs su None) changed put.reads;
+        reads = subst (λ (fs : List PlainFile). Reads fs (read_anew saved_to_put) None) changed
+            put.reads;
         obeyed = put.obeyed;
-      };
-    }
+      }
 
 pub saving_changes_no_answer : SavingChangesNoAnswer
 saving_changes_no_answer profile f files statements label number bytes accepted sv fits =
-    let before : List PlainStatement = take sv.place statements in
-    let after : List PlainStatement = drop (suc sv.place) statements in
-    let r = put_and_read profile f files statements label number bytes accepted sv fits in
-    let su : List PlainStatement = before ++ put_anew sv.s (10 ∷ sv.text) ∷ r.put.later in
-    let alike : SayAlike (before ++ sv.s ∷ after) su =
-    put_says_alike profile f files before sv.s after sv.file sv.text r.to_put r.put.later
-    r.put.same in (
-      su,
-      said_same profile files (with_bytes files number bytes) statements su accepted r.accepted
-          (subst (λ (ss : List PlainStatement). SayAlike ss su) (sym r.parted) alike),
-    )
-
--- the statement that has the label then has a proof in the strict form
-abbrev HasStrictProof : List PlainStatement → List ℕ → Type 0
-HasStrictProof statements label =
-    (place : ℕ) × (s : PlainStatement) × IsTheorem statements label place s
-    × IsStrict (sentences (take place statements)) (sentence_of s) (proof_of s)
-
-strict_anew : (profile : Profile) (f : Form) (files : List PlainFile)
-    (before : List PlainStatement) (s : PlainStatement) (after : List PlainStatement)
-    (file : PlainFile) (text label : List ℕ) → IsLabelled label (sentence_of s)
-    → IsToPut profile f files before s after file text → (later : List PlainStatement)
-    → HasStrictProof (before ++ put_anew s (10 ∷ text) ∷ later) label
-strict_anew profile f files before s after file text label named p later =
-    let t : PlainStatement = put_anew s (10 ∷ text) in
-    let su : List PlainStatement = before ++ t ∷ later in
-    let new = (anew_of profile f files before s after file text p).1 in
-    let front : sentences before ≡ sentences (take (length before) su) =
-    ap sentences (sym (take-append_seam before (t ∷ later))) in (
-      length before,
-      t,
-      record { there = seam_at before t later; named = named; complete = new.complete },
-      subst (λ (ss : List Sentence). IsStrict ss (sentence_of t) (proof_of t)) front new.strict,
+    let p = saved_to_put accepted sv in (
+      read_anew p,
+      said_same profile files (with_bytes files number bytes) statements (read_anew p) accepted
+          (saved_accepted accepted sv fits)
+          (subst (λ (ss : List PlainStatement). SayAlike ss (read_anew p))
+          (sym (split_at statements sv.place sv.s sv.proof.there)) (put_says_alike p)),
     )
 
 pub saved_proof_is_strict : SavedProofIsStrict
 saved_proof_is_strict profile f files statements same label number bytes accepted sv fits reads =
-    let before : List PlainStatement = take sv.place statements in
-    let after : List PlainStatement = drop (suc sv.place) statements in
-    let r = put_and_read profile f files statements label number bytes accepted sv fits in
-    let su : List PlainStatement = before ++ put_anew sv.s (10 ∷ sv.text) ∷ r.put.later in
-    let read : same ≡ su =
-    (same_reading (with_bytes files number bytes) same su None None reads r.accepted.reads).0 in
+    let p = saved_to_put accepted sv in
+    let still = saved_accepted accepted sv fits in
+    let read : same ≡ read_anew p =
+    (same_reading (with_bytes files number bytes) same (read_anew p) None None reads
+    still.reads).0 in
     subst (λ (ss : List PlainStatement). HasStrictProof ss label) (sym read)
-    (strict_anew profile f files before sv.s after sv.file sv.text label sv.proof.named r.to_put
-    r.put.later)
+    (strict_anew p label sv.proof.named)
 
 -- ---- what is saved is one
 
@@ -330,12 +359,7 @@ one_text_of profile f statements label place other s t root under below beneath 
     below beneath obeyed h k in
     let front : List Sentence = sentences (take place statements) in
     let laid : IsTextIn f front (sentence_of s) (tree root below none) b =
-    subst (λ (u : Trees). IsTextIn f front (sentence_of s) u b) trees
-    (subst (λ (u : PlainStatement).
-    IsTextIn f front (sentence_of u) (tree under beneath none) b) same
-    (subst (λ (n : ℕ).
-    IsTextIn f (sentences (take n statements)) (sentence_of t) (tree under beneath none) b)
-    here two)) in
+    rw (here, same, trees) at two in
     texts_once f front (sentence_of s) root below a b (front_meant profile statements place obeyed)
     one laid
 
@@ -366,108 +390,48 @@ pub not_over : (n : ℕ) → n ≤ most_labels → most_labels < n → ⊥
 not_over n h k = omega (arith, h, k)
 
 pub one_save_answer : OneSaveAnswer
-one_save_answer profile f files statements label number bytes ask.A1 accepted sv why = absurd (no_a1 f why)
-  where
-    no_a1 : (g : Form) → IsFormFault g statements label ask.A1 → ⊥
-    no_a1 form.Normal h = let n = numbered_so statements sv.place sv.s label sv.proof.there sv.proof.named in h n.0 n.1
-    no_a1 form.Packed h = let n = numbered_so statements sv.place sv.s label sv.proof.there sv.proof.named in h n.0 n.1
-one_save_answer profile f files statements label number bytes ask.A2 accepted sv why = absurd (no_a2 f why)
-  where
-    other : IsAskFault statements label ask.A2 → ⊥
-    other (id, (place, t, at, (named, kind))) =
-        let same : t ≡ sv.s = one_stands statements label sv.place sv.s t (all_meant profile statements accepted.obeyed) sv.proof.there sv.proof.named (place, at.there, named) in
-        kind (ap (λ (u : PlainStatement). u.kind) same ∙ provable_proof sv.s sv.proof.complete)
-
-    no_a2 : (g : Form) → IsFormFault g statements label ask.A2 → ⊥
-    no_a2 form.Normal h = other h
-    no_a2 form.Packed h = other h
-one_save_answer profile f files statements label number bytes ask.A3 accepted sv why = absurd (no_a3 f why)
-  where
-    other : IsAskFault statements label ask.A3 → ⊥
-    other (id, (place, t, at, (named, unproved))) =
-        unproved_not sv.s t (one_stands statements label sv.place sv.s t (all_meant profile statements accepted.obeyed) sv.proof.there sv.proof.named (place, at.there, named)) sv.proof.complete unproved
-
-    no_a3 : (g : Form) → IsFormFault g statements label ask.A3 → ⊥
-    no_a3 form.Normal h = other h
-    no_a3 form.Packed h = other h
 one_save_answer profile form.Normal files statements label number bytes ask.L2 accepted sv (place, t, root, below, has, over) =
     let (here, (same, trees)) = one_proof_tree profile statements label sv.place place sv.s t sv.root root sv.below below accepted.obeyed sv.proof has in
     absurd (not_over (length (spelling (tree sv.root sv.below none))) sv.laid.0 (subst (λ (u : Trees). most_labels < length (spelling u)) trees over))
-one_save_answer profile form.Packed files statements label number bytes ask.L2 accepted sv why = absurd why
 one_save_answer profile f files statements label number bytes ask.F3 accepted sv (other, others, sw, over) =
     let once = one_saved profile f files statements label number other bytes others accepted sv sw in
     inr (refl, subst (λ (n : ℕ). most_bytes < n) (λ i. total_with files (sym once.0 i) (sym once.1 i)) over)
-one_save_answer profile form.Normal files statements label number bytes (ask.Text rule step) accepted sv why = absurd why
-one_save_answer profile form.Packed files statements label number bytes (ask.Text rule step) accepted sv why = absurd why
 one_save_answer profile f files statements label number bytes ask.Memory accepted sv why = inl refl
+one_save_answer profile f files statements label number bytes ask.A1 accepted sv why =
+    let n = numbered_so statements sv.place sv.s label sv.proof.there sv.proof.named in
+    absurd (why n.0 n.1)
+one_save_answer profile f files statements label number bytes ask.A2 accepted sv
+    (id, (place, t, at, (named, kind))) =
+    let same : t ≡ sv.s =
+    one_stands statements label sv.place sv.s t (all_meant profile statements accepted.obeyed)
+    sv.proof.there sv.proof.named (place, at.there, named) in
+    absurd (kind (ap (λ (u : PlainStatement). u.kind) same ∙ provable_proof sv.s sv.proof.complete))
+one_save_answer profile f files statements label number bytes ask.A3 accepted sv
+    (id, (place, t, at, (named, unproved))) =
+    let same : t ≡ sv.s =
+    one_stands statements label sv.place sv.s t (all_meant profile statements accepted.obeyed)
+    sv.proof.there sv.proof.named (place, at.there, named) in
+    absurd (unproved_not sv.s t same sv.proof.complete unproved)
+one_save_answer profile f files statements label number bytes _ accepted sv why = absurd why
 
 -- ---- saving again
 
--- a text put in place of itself changes nothing
-put_again : (s : PlainStatement) (bytes text : List ℕ) → IsProofSpan s bytes → with_span (with_span bytes s.span text) (s.span.0, s.span.0 + length text) text ≡ with_span bytes s.span text
-put_again s bytes text p =
-    let once : with_span bytes s.span text ≡ p.front ++ (text ++ p.back) =
-    ap (λ (l : List ℕ). with_span l s.span text) p.whole
-    ∙ span_put p.front p.within p.back text s.span p.start p.stop in
-    let span : ℕ × ℕ = (s.span.0, s.span.0 + length text) in
-    ap (λ (l : List ℕ). with_span l span text) once
-    ∙ span_put p.front text p.back text span p.start
-    (ap (λ (n : ℕ). n + length text) p.start) ∙ sym once
-
--- the files with the text put in are saved as they are
-again_saved : (profile : Profile) (f : Form) (files : List PlainFile) (label : List ℕ) (before : List PlainStatement) (s : PlainStatement) (after : List PlainStatement) (file : PlainFile) (text : List ℕ) → IsLabelled label (sentence_of s)
-    → (p : IsToPut profile f files before s after file text) → (put : ArePutAnew profile files before s after file text)
-    → IsSaved f (files_anew files s file text) (before ++ put_anew s (10 ∷ text) ∷ put.later) label s.first.file (with_span file.bytes s.span (10 ∷ text))
-again_saved profile f files label before s after file text named p put =
-    let t : PlainStatement = put_anew s (10 ∷ text) in
-    let su : List PlainStatement = before ++ t ∷ put.later in
-    let bytes : List ℕ = with_span file.bytes s.span (10 ∷ text) in
-    let both = anew_of profile f files before s after file text p in
-    let new : IsProvedAnew profile (sentences before) t p.root p.below = both.1 in
-    let q = new.proof.proves in
-    let made : MakeTree (sentences before) new.proof.moves p.root p.below =
-    record { kept = q.kept; made = subst (λ (u : Trees). Makes (sentences before) new.proof.moves none [] u q.kept) new.spelled q.made } in
-    let front : sentences before ≡ sentences (take (length before) su) = ap sentences (sym (take-append_seam before (t ∷ put.later))) in
-    record {
-      place = length before;
-      s = t;
-      root = p.root;
-      below = p.below;
-      proof = record {
-        there = seam_at before t put.later;
-        named = named;
-        complete = new.complete;
-        moves = new.proof.moves;
-        told = subst (λ (ss : List Sentence). SayMoves ss (sentence_of s) (proof_of t) new.proof.moves) front new.proof.said;
-        made = subst (λ (ss : List Sentence). MakeTree ss new.proof.moves p.root p.below) front made;
-      };
-      text = text;
-      laid = subst (λ (ss : List Sentence). IsTextIn f ss (sentence_of s) (tree p.root p.below none) text) front p.laid;
-      home = refl;
-      file = record file { bytes = bytes };
-      handed = handed_anew files s.first.file file bytes p.handed;
-      whole = sym (put_again s file.bytes (10 ∷ text)
-          (proofs_stand_in_spans_holds files before s after None file p.reads
-          (provable_proof s p.complete) p.handed));
-    }
-
 pub saving_again : SavingAgainChangesNothing
 saving_again profile f files statements same label number bytes accepted sv fits reads =
-    let before : List PlainStatement = take sv.place statements in
-    let after : List PlainStatement = drop (suc sv.place) statements in
-    let r = put_and_read profile f files statements label number bytes accepted sv fits in
-    let su : List PlainStatement = before ++ put_anew sv.s (10 ∷ sv.text) ∷ r.put.later in
+    let p = saved_to_put accepted sv in
+    let still = saved_accepted accepted sv fits in
+    let su : List PlainStatement = read_anew p in
     let anew : List PlainFile = with_bytes files number bytes in
     let own : IsSaved f anew su label number bytes =
     moved (λ (fs : List PlainFile) (n : ℕ) (b : List ℕ). IsSaved f fs su label n b)
     (files_anew files sv.s sv.file sv.text) anew sv.s.first.file number
-    (with_span sv.file.bytes sv.s.span (10 ∷ sv.text)) bytes r.changed (sym sv.home) (sym sv.whole)
-    (again_saved profile f files label before sv.s after sv.file sv.text sv.proof.named r.to_put
-    r.put) in
-    let read : same ≡ su = (same_reading anew same su None None reads r.accepted.reads).0 in (
+    (with_span sv.file.bytes sv.s.span (10 ∷ sv.text)) bytes
+    (λ i. with_bytes files (sym sv.home i) (sym sv.whole i)) (sym sv.home) (sym sv.whole)
+    (again_saved p label sv.proof.named) in
+    let read : same ≡ su = (same_reading anew same su None None reads still.reads).0 in (
       subst (λ (ss : List PlainStatement). IsSaved f anew ss label number bytes) (sym read) own,
       λ again others sw.
-          let once = one_saved profile f anew su label number again bytes others r.accepted own
+          let once = one_saved profile f anew su label number again bytes others still own
           (subst (λ (ss : List PlainStatement). IsSaved f anew ss label again others) read sw) in
           (sym once.0, sym once.1),
     )

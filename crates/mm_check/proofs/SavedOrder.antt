@@ -8,9 +8,9 @@ use Rattle.std.proofs.lemmas.Option.{same_Some, slice_get_within}
 use Rattle.mm_text.specs.Statement.{PlainStatement}
 use Rattle.mm_text.specs.Files.{PlainFile}
 use Rattle.mm_text.specs.Replaced.{with_span, with_bytes}
-use Rattle.mm_text.proofs.Lists.{all_append, all_front, all_back, get_kept, get_after}
+use Rattle.mm_text.proofs.Lists.{all_append, all_front, all_back, get_kept, get_after, get_parted}
 use Rattle.mm_text.proofs.Lists.{all_there, all_filtered, zip_weaker, zip_append, zip_each}
-use Rattle.mm_text.proofs.Lists.{zip_length, zip_on, ZipParts, zip_parts}
+use Rattle.mm_text.proofs.Lists.{zip_length, zip_on, ZipParts, zip_parts, split_at}
 use Rattle.mm_frame.specs.Sentence.{Sentence, sentence_of, IsLabelled}
 use Rattle.mm_frame.proofs.Meant.{one_label}
 use Rattle.mm_proof.specs.declared.profile.Profile.{Profile}
@@ -24,8 +24,9 @@ use Rattle.mm_check.specs.AllSavedLaws.{AreSavedInTurn, IsLabelInFile, SavingInT
 use Rattle.mm_check.proofs.Rereading.{same_reading, said_there}
 use Rattle.mm_check.proofs.Unproved.{all_meant}
 use Rattle.mm_check.proofs.SavedStatements.{Carries, carries_self, carries_on}
-use Rattle.mm_check.proofs.SavedFiles.{put_anew, seam_at}
-use Rattle.mm_check.proofs.SavedOnce.{IsPutAndRead, put_and_read, put_says_alike, anew_of}
+use Rattle.mm_check.proofs.SavedFiles.{put_anew}
+use Rattle.mm_check.proofs.SavedOnce.{anew_of, are_put_anew, read_anew, put_says_alike}
+use Rattle.mm_check.proofs.SavedOnce.{saved_to_put, saved_accepted}
 use Rattle.mm_check.proofs.FileTheorems.{theorem_there, theorems_parted}
 use Rattle.mm_check.proofs.SavedTexts.{same_text}
 use Rattle.mm_check.proofs.Woven.{Slot, filled, woven, IsFor, IsCut, all_filled}
@@ -36,34 +37,30 @@ use Rattle.mm_check.proofs.SavedSpans.{HasSlots, cut_into_slots, theorems_said, 
 abbrev HasNot : List ℕ → PlainStatement → Type 0
 HasNot label s = ¬ (IsLabelled label (sentence_of s))
 
-others_named : (profile : Profile) (before : List PlainStatement) (s : PlainStatement)
-    (after : List PlainStatement) (label : List ℕ) → AllObey profile (before ++ s ∷ after)
-    → IsLabelled label (sentence_of s) → (place : ℕ) (t : PlainStatement)
-    → slice_get (before ++ s ∷ after) place ≡ Some t → ¬ (place ≡ length before)
-    → HasNot label t
-others_named profile before s after label obeyed named place t there other is =
-    let st : List PlainStatement = before ++ s ∷ after in
-    other (one_label (sentences st) label place (length before) (sentence_of t) (sentence_of s)
-    (all_meant profile st obeyed) (said_there st place t there)
-    (said_there st (length before) s (seam_at before s after)) is named)
+module _ (profile : Profile) (before : List PlainStatement) (s : PlainStatement)
+    (after : List PlainStatement) (label : List ℕ) (obeyed : AllObey profile (before ++ s ∷ after))
+    (named : IsLabelled label (sentence_of s)) where
+  others_named : (place : ℕ) (t : PlainStatement)
+      → slice_get (before ++ s ∷ after) place ≡ Some t → ¬ (place ≡ length before)
+      → HasNot label t
+  others_named place t there other is =
+      let st : List PlainStatement = before ++ s ∷ after in
+      other (one_label (sentences st) label place (length before) (sentence_of t) (sentence_of s)
+      (all_meant profile st obeyed) (said_there st place t there)
+      (said_there st (length before) s (get_parted before after s)) is named)
 
-not_before : (profile : Profile) (before : List PlainStatement) (s : PlainStatement)
-    (after : List PlainStatement) (label : List ℕ) → AllObey profile (before ++ s ∷ after)
-    → IsLabelled label (sentence_of s) → AllByRecursion (HasNot label) before
-not_before profile before s after label obeyed named =
-    all_there (HasNot label) before
-    (λ k t there.
-    let less : k < length before = slice_get_within before k t there in
-    others_named profile before s after label obeyed named k t
-    (get_kept before (s ∷ after) k t there) (λ e. omega (arith, less, e)))
+  not_before : AllByRecursion (HasNot label) before
+  not_before =
+      all_there (HasNot label) before
+      (λ k t there.
+      let less : k < length before = slice_get_within before k t there in
+      others_named k t (get_kept before (s ∷ after) k t there) (λ e. omega (arith, less, e)))
 
-not_after : (profile : Profile) (before : List PlainStatement) (s : PlainStatement)
-    (after : List PlainStatement) (label : List ℕ) → AllObey profile (before ++ s ∷ after)
-    → IsLabelled label (sentence_of s) → AllByRecursion (HasNot label) after
-not_after profile before s after label obeyed named =
-    all_there (HasNot label) after
-    (λ k t there. others_named profile before s after label obeyed named (length before + suc k) t
-    (get_after before (s ∷ after) (suc k) t there) (λ e. omega (arith, e)))
+  not_after : AllByRecursion (HasNot label) after
+  not_after =
+      all_there (HasNot label) after
+      (λ k t there. others_named (length before + suc k) t
+      (get_after before (s ∷ after) (suc k) t there) (λ e. omega (arith, e)))
 
 -- ---- slots that are still to be filled
 
@@ -80,9 +77,6 @@ filled_again [] slot back = refl
 filled_again (x ∷ front) slot back =
     ap (λ (l : List Slot). filled x ∷ l) (filled_again front slot back)
 
-contains_none : {A : Type 0} (x : A) → Contains [] x → ⊥
-contains_none x (k, less, is) = omega (arith, less)
-
 all_are_filled : (slots : List Slot) → AllByRecursion (IsFilledOrAmong []) slots
     → map filled slots ≡ slots
 all_are_filled [] all = refl
@@ -90,7 +84,7 @@ all_are_filled (slot ∷ slots) all = λ i. own i ∷ all_are_filled slots all.1
   where
     now_put : IsFilledOrAmong [] slot → slot.put ≡ slot.now
     now_put (inl is) = sym is
-    now_put (inr (label, among, named)) = absurd (contains_none label among)
+    now_put (inr (label, (k, less, is), named)) = absurd (omega (arith, less))
 
     own : filled slot ≡ slot
     own = ap (λ (now : List ℕ). record slot { now = now }) (now_put all.0)
@@ -134,62 +128,15 @@ record AreOnTheWay (profile : Profile) (statements : List PlainStatement) (numbe
   pub owners : AllZip Owns slots (theorems_of number others)
 
 -- the slots of the others are those of other labels
-others_slots : (profile : Profile) (number : ℕ) (before : List PlainStatement) (s : PlainStatement)
-    (after : List PlainStatement) (label : List ℕ) (front back : List Slot)
-    → AllObey profile (before ++ s ∷ after) → IsLabelled label (sentence_of s)
-    → AllZip Owns front (theorems_of number before) → AllZip Owns back (theorems_of number after)
-    → AllByRecursion (λ slot. HasNot label slot.owner) front
-    × AllByRecursion (λ slot. HasNot label slot.owner) back
-others_slots profile number before s after label front back obeyed named one other = (
-  zip_each Owns (λ slot. HasNot label slot.owner) (HasNot label) owner front
-      (theorems_of number before) one
-      (all_filtered (HasNot label) (is_theorem_of number) before
-      (not_before profile before s after label obeyed named)),
-  zip_each Owns (λ slot. HasNot label slot.owner) (HasNot label) owner back
-      (theorems_of number after) other
-      (all_filtered (HasNot label) (is_theorem_of number) after
-      (not_after profile before s after label obeyed named)),
-)
-  where
-    owner : (slot : Slot) (t : PlainStatement) → Owns slot t → HasNot label t
-        → HasNot label slot.owner
-    owner slot t same other is = other (sym (ap (λ (x : Sentence). x.label) same) ∙ is)
-
--- the slot of what is saved, and what is to stand there
-record IsSlotOf (slots : List Slot) (number : ℕ) (before : List PlainStatement)
-    (s : PlainStatement) (after : List PlainStatement) (text : List ℕ) : Type 0 where
-  pub parts : ZipParts Owns slots (theorems_of number before) s (theorems_of number after)
-  pub put : parts.x.put ≡ 10 ∷ text
-
-slot_of : (profile : Profile) (f : Form) (statements : List PlainStatement) (number : ℕ)
-    (first : List ℕ) (slots : List Slot) (files : List PlainFile) (others : List PlainStatement)
-    (label new : List ℕ) → AllObey profile statements
-    → AllByRecursion (IsFor (IsReplacement f statements)) slots
-    → AreOnTheWay profile statements number first slots files others
-    → (sv : IsSaved f files others label number new)
-    → others ≡ take sv.place others ++ sv.s ∷ drop (suc sv.place) others
-    → IsSlotOf slots number (take sv.place others) sv.s (drop (suc sv.place) others) sv.text
-slot_of profile f statements number first slots files others label new obeyed each on sv parted =
-    let before : List PlainStatement = take sv.place others in
-    let after : List PlainStatement = drop (suc sv.place) others in
-    let is : is_theorem_of number sv.s ≡ true =
-    theorem_there number sv.s sv.proof.complete (sym sv.home) in
-    let parts : ZipParts Owns slots (theorems_of number before) sv.s (theorems_of number after) =
-    zip_parts Owns slots (theorems_of number before) sv.s (theorems_of number after)
-    (subst (λ (ss : List PlainStatement). AllZip Owns slots ss)
-    (ap (theorems_of number) parted ∙ theorems_parted number before sv.s after is) on.owners) in
-    let own : AllByRecursion (IsFor (IsReplacement f statements)) (parts.x ∷ parts.back) =
-    all_back (IsFor (IsReplacement f statements)) parts.front (parts.x ∷ parts.back)
-    (subst (λ (l : List Slot). AllByRecursion (IsFor (IsReplacement f statements)) l) parts.whole
-    each) in
-    let (replacement, r, put) = own.0 in
-    record {
-      parts = parts;
-      put = sym put
-          ∙ same_text profile f statements others parts.x.owner sv.s replacement label sv.place
-          sv.root sv.below sv.text obeyed on.accepted.obeyed on.carries parts.here r
-          (record { proof = sv.proof; laid = sv.laid });
-    }
+others_slots : (label : List ℕ) (slots : List Slot) (number : ℕ) (statements : List PlainStatement)
+    → AllZip Owns slots (theorems_of number statements)
+    → AllByRecursion (HasNot label) statements
+    → AllByRecursion (λ slot. HasNot label slot.owner) slots
+others_slots label slots number statements owned others =
+    zip_each Owns (λ slot. HasNot label slot.owner) (HasNot label)
+    (λ slot t same other is. other (sym (ap (λ (x : Sentence). x.label) same) ∙ is)) slots
+    (theorems_of number statements) owned
+    (all_filtered (HasNot label) (is_theorem_of number) statements others)
 
 -- one more is saved
 record IsOneFurther (profile : Profile) (statements : List PlainStatement) (number : ℕ)
@@ -204,99 +151,111 @@ record IsOneFurther (profile : Profile) (statements : List PlainStatement) (numb
       (with_bytes files number new) others
   pub left : AllByRecursion (IsFilledOrAmong labels) (front ++ filled slot ∷ back)
 
--- its slot is filled
-filled_on : (profile : Profile) (f : Form) (files : List PlainFile) (number : ℕ)
-    (others : List PlainStatement) (label new first : List ℕ) (slots : List Slot)
-    → (sv : IsSaved f files others label number new)
-    → (r : IsPutAndRead profile f files others label number new sv)
-    → HasSlots files others number first slots
-    → (o : IsSlotOf slots number (take sv.place others) sv.s (drop (suc sv.place) others) sv.text)
-    → HasSlots (with_bytes files number new)
-    (take sv.place others ++ put_anew sv.s (10 ∷ sv.text) ∷ r.put.later) number first
-    (o.parts.front ++ filled o.parts.x ∷ o.parts.back)
-filled_on profile f files number others label new first slots sv r has o =
-    let before : List PlainStatement = take sv.place others in
-    let after : List PlainStatement = drop (suc sv.place) others in
-    let s : PlainStatement = sv.s in
-    let slot : Slot = o.parts.x in
-    let t : PlainStatement = put_anew s (10 ∷ sv.text) in
-    let stands : HasSlots files (before ++ s ∷ after) number first
-    (o.parts.front ++ slot ∷ o.parts.back) =
-    subst (λ (l : List Slot). HasSlots files (before ++ s ∷ after) number first l) o.parts.whole
-    (subst (λ (ss : List PlainStatement). HasSlots files ss number first slots) r.parted has) in
-    subst (λ (bytes : List ℕ). HasSlots (with_bytes files number bytes) (before ++ t ∷ r.put.later)
-    number first (o.parts.front ++ filled slot ∷ o.parts.back))
-    (ap (λ (l : List ℕ). with_span sv.file.bytes s.span l) o.put ∙ sym sv.whole)
-    (slots_put_anew profile f files number before s after sv.file sv.text first o.parts.front slot
-    o.parts.back r.to_put r.put (sym sv.home) o.put
-    (zip_length Owns o.parts.front (theorems_of number before) o.parts.earlier) stands)
+module _ {profile : Profile} {f : Form} {statements : List PlainStatement} {number : ℕ}
+    {first : List ℕ} {slots : List Slot} {files : List PlainFile} {others : List PlainStatement}
+    {label new : List ℕ} (obeyed : AllObey profile statements)
+    (each : AllByRecursion (IsFor (IsReplacement f statements)) slots)
+    (on : AreOnTheWay profile statements number first slots files others)
+    (sv : IsSaved f files others label number new) where
+  -- the slot of what is saved
+  slot_of : ZipParts Owns slots (theorems_of number (take sv.place others)) sv.s
+      (theorems_of number (drop (suc sv.place) others))
+  slot_of =
+      let before : List PlainStatement = take sv.place others in
+      let after : List PlainStatement = drop (suc sv.place) others in
+      let is : is_theorem_of number sv.s ≡ true =
+      theorem_there number sv.s sv.proof.complete (sym sv.home) in
+      zip_parts Owns slots (theorems_of number before) sv.s (theorems_of number after)
+      (rw (ap (theorems_of number) (split_at others sv.place sv.s sv.proof.there)
+      ∙ theorems_parted number before sv.s after is) at on.owners)
 
-one_further : (profile : Profile) (f : Form) (statements : List PlainStatement)
-    (number : ℕ) (first : List ℕ) (slots : List Slot) (files : List PlainFile)
-    (others : List PlainStatement) (label new : List ℕ) (labels : List (List ℕ))
-    → AllObey profile statements → AllByRecursion (IsFor (IsReplacement f statements)) slots
-    → AreOnTheWay profile statements number first slots files others
-    → IsSaved f files others label number new → FitsSaved files number new
-    → AllByRecursion (IsFilledOrAmong (label ∷ labels)) slots
-    → IsOneFurther profile statements number first slots files new labels
-one_further profile f statements number first slots files others label new labels obeyed each
-    on sv fits left =
-    let before : List PlainStatement = take sv.place others in
-    let after : List PlainStatement = drop (suc sv.place) others in
-    let s : PlainStatement = sv.s in
-    let t : PlainStatement = put_anew s (10 ∷ sv.text) in
-    let r = put_and_read profile f files others label number new on.accepted sv fits in
-    let o = slot_of profile f statements number first slots files others label new obeyed each on sv
-    r.parted in
-    let front : List Slot = o.parts.front in
-    let slot : Slot = o.parts.x in
-    let back : List Slot = o.parts.back in
-    let su : List PlainStatement = before ++ t ∷ r.put.later in
-    let anew = (anew_of profile f files before s after sv.file sv.text r.to_put).1 in
-    let new_is : is_theorem_of number t ≡ true =
-    theorem_there number t anew.complete (sym sv.home) in
-    let carried : Carries others su =
-    subst (λ (ss : List PlainStatement). Carries ss su) (sym r.parted)
-    (put_says_alike profile f files before s after sv.file sv.text r.to_put r.put.later
-    r.put.same).to in
-    let still : AllObey profile (before ++ s ∷ after) =
-    subst (λ (ss : List PlainStatement). AllObey profile ss) r.parted on.accepted.obeyed in
-    let apart = others_slots profile number before s after label front back still sv.proof.named
-    o.parts.earlier o.parts.later in
-    let among : AllByRecursion (IsFilledOrAmong (label ∷ labels)) (front ++ slot ∷ back) =
-    subst (λ (l : List Slot). AllByRecursion (IsFilledOrAmong (label ∷ labels)) l) o.parts.whole
-    left in
-    let owners : AllZip Owns (front ++ filled slot ∷ back)
-    (theorems_of number before ++ t ∷ theorems_of number r.put.later) =
-    zip_append Owns front (theorems_of number before) (filled slot ∷ back)
-    (t ∷ theorems_of number r.put.later) o.parts.earlier (
-      o.parts.here,
-      zip_on Owns (λ x y. sentence_of x ≡ sentence_of y) Owns
-          (λ x y z one other. one ∙ other) back (theorems_of number after)
-          (theorems_of number r.put.later) o.parts.later
-          (theorems_said number after r.put.later r.put.same),
-    ) in
-    record {
-      front = front;
-      slot = slot;
-      back = back;
-      whole = o.parts.whole;
-      others = su;
-      on = record {
-        accepted = r.accepted;
-        carries = carries_on statements others su on.carries carried;
-        has = filled_on profile f files number others label new first slots sv r on.has o;
-        owners = subst (λ (ss : List PlainStatement). AllZip Owns (front ++ filled slot ∷ back) ss)
-            (sym (theorems_parted number before t r.put.later new_is)) owners;
-      };
-      left = all_append (IsFilledOrAmong labels) front (filled slot ∷ back)
-          (still_left label labels front apart.0
-          (all_front (IsFilledOrAmong (label ∷ labels)) front (slot ∷ back) among)) (
-            inl refl,
-            still_left label labels back apart.1
-                (all_back (IsFilledOrAmong (label ∷ labels)) front (slot ∷ back) among).1,
-          );
-    }
+  -- and what is to stand there
+  text_of : slot_of.x.put ≡ 10 ∷ sv.text
+  text_of =
+      let parts = slot_of in
+      let own : AllByRecursion (IsFor (IsReplacement f statements)) (parts.x ∷ parts.back) =
+      all_back (IsFor (IsReplacement f statements)) parts.front (parts.x ∷ parts.back)
+      (rw parts.whole at each) in
+      let (replacement, r, put) = own.0 in
+      sym put
+      ∙ same_text profile f statements others parts.x.owner sv.s replacement label sv.place sv.root
+      sv.below sv.text obeyed on.accepted.obeyed on.carries parts.here r
+      (record { proof = sv.proof; laid = sv.laid })
+
+  -- it is filled
+  filled_on : HasSlots (with_bytes files number new) (read_anew (saved_to_put on.accepted sv))
+      number first (slot_of.front ++ filled slot_of.x ∷ slot_of.back)
+  filled_on =
+      let p = saved_to_put on.accepted sv in
+      let parts = slot_of in
+      let before : List PlainStatement = take sv.place others in
+      let st : List PlainStatement = before ++ sv.s ∷ drop (suc sv.place) others in
+      let stands : HasSlots files st number first (parts.front ++ parts.x ∷ parts.back) =
+      subst (λ (l : List Slot). HasSlots files st number first l) parts.whole
+      (subst (λ (ss : List PlainStatement). HasSlots files ss number first slots)
+      (split_at others sv.place sv.s sv.proof.there) on.has) in
+      subst (λ (bytes : List ℕ). HasSlots (with_bytes files number bytes) (read_anew p) number first
+      (parts.front ++ filled parts.x ∷ parts.back))
+      (ap (λ (l : List ℕ). with_span sv.file.bytes sv.s.span l) text_of ∙ sym sv.whole)
+      (slots_put_anew p number first parts.front parts.x parts.back (sym sv.home) text_of
+      (zip_length Owns parts.front (theorems_of number before) parts.earlier) stands)
+
+  one_further : (labels : List (List ℕ)) → FitsSaved files number new
+      → AllByRecursion (IsFilledOrAmong (label ∷ labels)) slots
+      → IsOneFurther profile statements number first slots files new labels
+  one_further labels fits left =
+      let before : List PlainStatement = take sv.place others in
+      let after : List PlainStatement = drop (suc sv.place) others in
+      let parted : others ≡ before ++ sv.s ∷ after =
+      split_at others sv.place sv.s sv.proof.there in
+      let p = saved_to_put on.accepted sv in
+      let put = are_put_anew p in
+      let t : PlainStatement = put_anew sv.s (10 ∷ sv.text) in
+      let parts = slot_of in
+      let front : List Slot = parts.front in
+      let slot : Slot = parts.x in
+      let back : List Slot = parts.back in
+      let new_is : is_theorem_of number t ≡ true =
+      theorem_there number t (anew_of p).complete (sym sv.home) in
+      let carried : Carries others (read_anew p) =
+      subst (λ (ss : List PlainStatement). Carries ss (read_anew p)) (sym parted)
+      (put_says_alike p).to in
+      let others_front = others_slots label front number before parts.earlier
+      (not_before profile before sv.s after label p.obeyed sv.proof.named) in
+      let others_back = others_slots label back number after parts.later
+      (not_after profile before sv.s after label p.obeyed sv.proof.named) in
+      let among : AllByRecursion (IsFilledOrAmong (label ∷ labels)) (front ++ slot ∷ back) =
+      rw parts.whole at left in
+      let owners : AllZip Owns (front ++ filled slot ∷ back)
+      (theorems_of number before ++ t ∷ theorems_of number put.later) =
+      zip_append Owns front (theorems_of number before) (filled slot ∷ back)
+      (t ∷ theorems_of number put.later) parts.earlier (
+        parts.here,
+        zip_on Owns (λ x y. sentence_of x ≡ sentence_of y) Owns
+            (λ x y z one other. one ∙ other) back (theorems_of number after)
+            (theorems_of number put.later) parts.later
+            (theorems_said number after put.later put.same),
+      ) in
+      record {
+        front = front;
+        slot = slot;
+        back = back;
+        whole = parts.whole;
+        others = read_anew p;
+        on = record {
+          accepted = saved_accepted on.accepted sv fits;
+          carries = carries_on on.carries carried;
+          has = filled_on;
+          owners = rw (theorems_parted number before t put.later new_is) owners;
+        };
+        left = all_append (IsFilledOrAmong labels) front (filled slot ∷ back)
+            (still_left label labels front others_front
+            (all_front (IsFilledOrAmong (label ∷ labels)) front (slot ∷ back) among)) (
+              inl refl,
+              still_left label labels back others_back
+                  (all_back (IsFilledOrAmong (label ∷ labels)) front (slot ∷ back) among).1,
+            );
+      }
 
 -- the slots are still for what is to be put in
 still_for : (R : PlainStatement → Replacement → Type 0) (front : List Slot) (slot : Slot)
@@ -323,15 +282,12 @@ all_in_turn profile f statements number first (label ∷ labels) slots files oth
     each on left (ss, new, accepted, sv, fits, more) =
     let same : ss ≡ others =
     (same_reading files ss others None None accepted.reads on.accepted.reads).0 in
-    let here : IsSaved f files others label number new =
-    subst (λ (st : List PlainStatement). IsSaved f files st label number new) same sv in
-    let n = one_further profile f statements number first slots files others label new labels
-    obeyed each on here fits left in
+    let here : IsSaved f files others label number new = rw same at sv in
+    let n = one_further obeyed each on here labels fits left in
     let still : AllByRecursion (IsFor (IsReplacement f statements))
     (n.front ++ filled n.slot ∷ n.back) =
     still_for (IsReplacement f statements) n.front n.slot n.back
-    (subst (λ (l : List Slot). AllByRecursion (IsFor (IsReplacement f statements)) l) n.whole
-    each) in
+    (rw n.whole at each) in
     all_in_turn profile f statements number first labels (n.front ++ filled n.slot ∷ n.back)
     (with_bytes files number new) n.others bytes obeyed still n.on n.left more
     ∙ ap (woven first)

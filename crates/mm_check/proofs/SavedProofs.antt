@@ -1,8 +1,8 @@
 -- A text in one of the two forms is a proof of its theorem.
-use Rattle.std.proofs.Common.{◌≡◌, ℕ, suc, List, [], ◌∷◌, ◌++◌, Contains, refl, sym, subst, arith}
+use Rattle.std.proofs.Common.{◌≡◌, ℕ, List, [], ◌∷◌, ◌++◌, Contains, sym, subst, arith}
 use Rattle.std.specs.List.{AllByRecursion}
 use Rattle.mm_text.specs.Token.{IsLabel}
-use Rattle.mm_text.proofs.Lists.{all_weaker, at_from_contains, contains_from_at}
+use Rattle.mm_text.proofs.Lists.{all_weaker, contains_from_at, all_append}
 use Rattle.mm_code.specs.Layout.{LaidOut, in_parentheses}
 use Rattle.mm_code.specs.Words.{tokens_in, IsOneToken}
 use Rattle.mm_code.proofs.ReadBack.{normal_read_back, compressed_read_back}
@@ -25,17 +25,9 @@ use Rattle.mm_check.specs.declared.form.Form.TheVariants as form
 use Rattle.mm_check.specs.Forms.{IsPackedText}
 use Rattle.mm_check.specs.Saved.{IsTextIn}
 use Rattle.mm_check.proofs.SavedTokens.{AreFine, label_all_fine, label_token, no_parenthesis, letters_fine, cut_fine, fine_lacks, EndsLine, normal_ends, compressed_ends}
+use Rattle.mm_check.proofs.Asked.{all_within}
 
 -- ---- its tokens
-
-all_contained : {X : Type 0} (P : X → Type 0) (xs : List X) → ((x : X) → Contains xs x → P x) → AllByRecursion P xs
-all_contained P [] f = tt
-all_contained P (x ∷ xs) f =
-    (f x (contains_from_at (x ∷ xs) x (0, refl)), all_contained P xs (λ y h. let at = at_from_contains xs y h in f y (contains_from_at (x ∷ xs) y (suc at.0, at.1))))
-
-tokens_joined : (a b : List (List ℕ)) → AllByRecursion AreFine a → AllByRecursion AreFine b → AllByRecursion AreFine (a ++ b)
-tokens_joined [] b h k = k
-tokens_joined (x ∷ a) b h k = (h.0, tokens_joined a b h.1 k)
 
 -- what a text says where it stands for a proof of the statement by this tree
 pub record ReadsAsProof (before : List Sentence) (s : Sentence) (root : List ℕ) (below : Trees) (text : List ℕ) : Type 1 where
@@ -56,7 +48,7 @@ normal_reads : (before : List Sentence) (s : Sentence) (root : List ℕ) (below 
     → LaidOut (spelling (tree root below none)) text → ReadsAsProof before s root below text
 normal_reads before s root below text meant formed fit laid =
     let tokens : List (List ℕ) = spelling (tree root below none) in
-    let words : AllByRecursion IsLabel tokens = all_contained IsLabel tokens (spelled_labels before (tree root below none) formed fit) in
+    let words : AllByRecursion IsLabel tokens = all_within IsLabel tokens (spelled_labels before (tree root below none) formed fit) in
     let apart : ¬ (Contains tokens opening_token) = λ c.
     no_parenthesis 40 (omega arith)
     (spelled_labels before (tree root below none) formed fit opening_token c) in
@@ -74,7 +66,7 @@ packed_reads : (before : List Sentence) (s : Sentence) (root : List ℕ) (below 
     → IsPackedText before s (tree root below none) text → ReadsAsProof before s root below text
 packed_reads before s root below text meant formed fit p =
     let trees : Trees = tree root below none in
-    let words : AllByRecursion IsLabel p.listed = all_contained IsLabel p.listed (λ label c. spelled_labels before trees formed fit label (packed_listed before s trees p.listed p.codes label p.packed c)) in
+    let words : AllByRecursion IsLabel p.listed = all_within IsLabel p.listed (λ label c. spelled_labels before trees formed fit label (packed_listed before s trees p.listed p.codes label p.packed c)) in
     let letters : AreFine p.letters = letters_fine p.letters p.codes p.spelled in
     let (pieces, read, joined) = compressed_read_back p.listed p.letters text (all_weaker IsLabel IsOneToken label_token p.listed words) (fine_lacks p.letters letters) p.laid in
     let listed : AllByRecursion AreFine p.listed = all_weaker IsLabel AreFine label_all_fine p.listed words in
@@ -85,7 +77,9 @@ packed_reads before s root below text meant formed fit p =
     record {
       tokens = in_parentheses p.listed ++ pieces;
       read = read;
-      fine = tokens_joined (in_parentheses p.listed) pieces (left, tokens_joined p.listed ((41 ∷ []) ∷ []) listed (right, tt)) (cut_fine pieces (subst AreFine (sym joined) letters));
+      fine = all_append AreFine (in_parentheses p.listed) pieces
+          (left, all_append AreFine p.listed ((41 ∷ []) ∷ []) listed (right, tt))
+          (cut_fine pieces (subst AreFine (sym joined) letters));
       ends = compressed_ends p.listed p.letters text p.laid;
       strict = packed_is_strict before s trees p.listed p.codes p.letters pieces p.packed p.coded
           joined apart;

@@ -18,7 +18,7 @@ use Rattle.mm_check.specs.declared.form.Form.{Form}
 use Rattle.mm_check.specs.AllSaved.{Replacement, is_theorem_of, theorems_of}
 use Rattle.mm_check.proofs.AlikeVerdicts.{same_sentence}
 use Rattle.mm_check.proofs.SavedFiles.{nowhere, handed_anew, put_anew}
-use Rattle.mm_check.proofs.SavedOnce.{IsToPut, anew_of, ArePutAnew}
+use Rattle.mm_check.proofs.SavedOnce.{IsToPut, anew_of, are_put_anew, read_anew}
 use Rattle.mm_check.proofs.FileTheorems.{theorem_complete, theorem_home, theorem_there}
 use Rattle.mm_check.proofs.FileTheorems.{theorem_placeless}
 use Rattle.mm_check.proofs.FileTheorems.{theorems_parted, theorems_zip}
@@ -175,70 +175,48 @@ theorems_moved number end other_end after later same moved =
     R : PlainStatement → PlainStatement → Type 0
     R s t = (placeless s ≡ placeless t) × (s.kind ≡ Provable → IsMoved number end other_end s t)
 
--- With one proof put in, the i-th theorem stands where the i-th text does: the file is woven of the
--- slots of which that one is filled.
-pub slots_put : (files : List PlainFile) (number : ℕ) (file : PlainFile)
-    (before : List PlainStatement) (s : PlainStatement) (after : List PlainStatement)
-    (t : PlainStatement) (later : List PlainStatement) (first : List ℕ) (front : List Slot)
-    (slot : Slot) (back : List Slot) → slice_get files number ≡ Some file
-    → HasSlots files (before ++ s ∷ after) number first (front ++ slot ∷ back)
-    → length front ≡ length (theorems_of number before)
-    → is_theorem_of number s ≡ true → is_theorem_of number t ≡ true
-    → t.span ≡ (s.span.0, s.span.0 + length slot.put)
-    → AllZip (IsMovedTo s.span.1 (s.span.0 + length slot.put)) (theorems_of number after)
-    (theorems_of number later)
-    → HasSlots (with_bytes files number (with_span file.bytes s.span slot.put))
-    (before ++ t ∷ later) number first (front ++ filled slot ∷ back)
-slots_put files number file before s after t later first front slot back there has long is new span
-    moved =
-    let earlier : List PlainStatement = theorems_of number before in
-    let bytes : List ℕ = with_span file.bytes s.span slot.put in
-    let same : has.file ≡ file = same_Some has.file file (sym has.handed ∙ there) in
-    let whole : file.bytes ≡ woven first (front ++ slot ∷ back) =
-    ap (λ (f : PlainFile). f.bytes) (sym same) ∙ has.whole in
-    let stand : StandAt 0 first (front ++ slot ∷ back) (earlier ++ s ∷ theorems_of number after) =
-    subst (λ (ss : List PlainStatement). StandAt 0 first (front ++ slot ∷ back) ss)
-    (theorems_parted number before s after is) has.stand in
-    let put : bytes ≡ woven first (front ++ filled slot ∷ back) =
-    ap (λ (l : List ℕ). with_span l s.span slot.put) whole
-    ∙ put_woven [] first front slot back earlier s (theorems_of number after) long stand in
-    let stands : StandAt 0 first (front ++ filled slot ∷ back)
-    (earlier ++ t ∷ theorems_of number later) =
-    put_stands 0 first front slot back earlier s t (theorems_of number after)
-    (theorems_of number later) long span moved stand in
-    record {
-      file = record file { bytes = bytes };
-      handed = handed_anew files number file bytes there;
-      whole = put;
-      stand = subst (λ (ss : List PlainStatement).
-          StandAt 0 first (front ++ filled slot ∷ back) ss)
-          (sym (theorems_parted number before t later new)) stands;
-    }
-
--- A proof that is put anew fills its slot.
-pub slots_put_anew : (profile : Profile) (f : Form) (files : List PlainFile) (number : ℕ)
-    (before : List PlainStatement) (s : PlainStatement) (after : List PlainStatement)
-    (file : PlainFile) (text first : List ℕ) (front : List Slot) (slot : Slot) (back : List Slot)
-    → IsToPut profile f files before s after file text
-    → (put : ArePutAnew profile files before s after file text) → s.first.file ≡ number
-    → slot.put ≡ 10 ∷ text → length front ≡ length (theorems_of number before)
-    → HasSlots files (before ++ s ∷ after) number first (front ++ slot ∷ back)
-    → HasSlots (with_bytes files number (with_span file.bytes s.span slot.put))
-    (before ++ put_anew s (10 ∷ text) ∷ put.later) number first (front ++ filled slot ∷ back)
-slots_put_anew profile f files number before s after file text first front slot back p put home
-    fills long has =
-    let t : PlainStatement = put_anew s (10 ∷ text) in
-    let is : is_theorem_of number s ≡ true = theorem_there number s p.complete home in
-    let anew = (anew_of profile f files before s after file text p).1 in
-    let new : is_theorem_of number t ≡ true = theorem_there number t anew.complete home in
-    let there : slice_get files number ≡ Some file = ap (slice_get files) (sym home) ∙ p.handed in
-    let span : t.span ≡ (s.span.0, s.span.0 + length slot.put) =
-    ap (λ (l : List ℕ). (s.span.0, s.span.0 + length l)) (sym fills) in
-    let Moved : ℕ → List ℕ → Type 0 = λ n l. AllZip (λ u v. u.kind ≡ Provable
-    → IsMoved n s.span.1 (s.span.0 + length l) u v) after put.later in
-    let moved : Moved number slot.put =
-    subst (λ (n : ℕ). Moved n slot.put) home
-    (subst (λ (l : List ℕ). Moved s.first.file l) (sym fills) put.moved) in
-    slots_put files number file before s after t put.later first front slot back there has long is
-    new span
-    (theorems_moved number s.span.1 (s.span.0 + length slot.put) after put.later put.same moved)
+module _ {profile : Profile} {f : Form} {files : List PlainFile} {before : List PlainStatement}
+    {s : PlainStatement} {after : List PlainStatement} {file : PlainFile} {text : List ℕ}
+    (p : IsToPut profile f files before s after file text) where
+  -- With one proof put in, the i-th theorem stands where the i-th text does: the file is woven of
+  -- the slots of which that one is filled.
+  pub slots_put_anew : (number : ℕ) (first : List ℕ) (front : List Slot) (slot : Slot)
+      (back : List Slot) → s.first.file ≡ number → slot.put ≡ 10 ∷ text
+      → length front ≡ length (theorems_of number before)
+      → HasSlots files (before ++ s ∷ after) number first (front ++ slot ∷ back)
+      → HasSlots (with_bytes files number (with_span file.bytes s.span slot.put)) (read_anew p)
+      number first (front ++ filled slot ∷ back)
+  slots_put_anew number first front slot back home fills long has =
+      let t : PlainStatement = put_anew s (10 ∷ text) in
+      let put = are_put_anew p in
+      let is : is_theorem_of number s ≡ true = theorem_there number s p.complete home in
+      let new : is_theorem_of number t ≡ true = theorem_there number t (anew_of p).complete home in
+      let there : slice_get files number ≡ Some file =
+      ap (slice_get files) (sym home) ∙ p.handed in
+      let earlier : List PlainStatement = theorems_of number before in
+      let bytes : List ℕ = with_span file.bytes s.span slot.put in
+      let end : ℕ = s.span.0 + length slot.put in
+      let span : t.span ≡ (s.span.0, end) =
+      ap (λ (l : List ℕ). (s.span.0, s.span.0 + length l)) (sym fills) in
+      let Moved : ℕ → List ℕ → Type 0 = λ n l. AllZip (λ u v. u.kind ≡ Provable
+      → IsMoved n s.span.1 (s.span.0 + length l) u v) after put.later in
+      let moved : AllZip (IsMovedTo s.span.1 end) (theorems_of number after)
+      (theorems_of number put.later) =
+      theorems_moved number s.span.1 end after put.later put.same
+      (subst (λ (n : ℕ). Moved n slot.put) home
+      (subst (λ (l : List ℕ). Moved s.first.file l) (sym fills) put.moved)) in
+      let same : has.file ≡ file = same_Some has.file file (sym has.handed ∙ there) in
+      let whole : file.bytes ≡ woven first (front ++ slot ∷ back) =
+      ap (λ (f : PlainFile). f.bytes) (sym same) ∙ has.whole in
+      let stand : StandAt 0 first (front ++ slot ∷ back)
+      (earlier ++ s ∷ theorems_of number after) =
+      rw (theorems_parted number before s after is) at has.stand in
+      record {
+        file = record file { bytes = bytes };
+        handed = handed_anew files number file bytes there;
+        whole = ap (λ (l : List ℕ). with_span l s.span slot.put) whole
+            ∙ put_woven [] first front slot back earlier s (theorems_of number after) long stand;
+        stand = rw (theorems_parted number before t put.later new)
+            (put_stands 0 first front slot back earlier s t (theorems_of number after)
+            (theorems_of number put.later) long span moved stand);
+      }

@@ -65,9 +65,9 @@ alike_on front s t u one other = record {
       (r, same ∙ alike);
 }
 
-pub carries_on : (statements others more : List PlainStatement) → Carries statements others
+pub carries_on : {statements others more : List PlainStatement} → Carries statements others
     → Carries others more → Carries statements more
-carries_on statements others more one other = record {
+carries_on {statements} {others} one other = record {
   told = one.told ∙ other.told;
   at = λ place s there.
       let (t, here, alike) = one.at place s there in

@@ -6,7 +6,6 @@ use Rattle.mm_text.proofs.Lists.{split_at}
 use Rattle.mm_frame.specs.Sentence.{Sentence, sentence_of}
 use Rattle.mm_proof.specs.Tree.{Trees, none, tree, AnyExpression}
 use Rattle.mm_proof.specs.Moves.{Makes}
-use Rattle.mm_proof.specs.Tokens.{SayMoves}
 use Rattle.mm_proof.specs.OneTree.{MakeTree}
 use Rattle.mm_proof.specs.Proof.{IsProved}
 use Rattle.mm_proof.specs.declared.profile.Profile.{Profile}
@@ -72,14 +71,10 @@ text_carried profile f statements others label place s root below text obeyed ca
           named = sym (ap (λ (x : Sentence). x.label) alike.said) ∙ has.proof.named;
           complete = sym alike.proofs ∙ has.proof.complete;
           moves = q.moves;
-          told = subst (λ (ss : List Sentence). SayMoves ss (sentence_of t) (proof_of t) q.moves) to
-              q.said;
-          made = subst (λ (ss : List Sentence). MakeTree ss q.moves root below) to made;
+          told = rw to at q.said;
+          made = rw to at made;
         };
-        laid = subst (λ (ss : List Sentence).
-            IsTextIn f ss (sentence_of t) (tree root below none) text) to
-            (subst (λ (x : Sentence). IsTextIn f front x (tree root below none) text) alike.said
-            has.laid);
+        laid = rw (to, alike.said) at has.laid;
       },
     )
 

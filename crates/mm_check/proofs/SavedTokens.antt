@@ -6,6 +6,7 @@ use Rattle.std.proofs.lemmas.Bool.{leb-true, eqb-true, le-leb, ne_eqb, and_parts
 use Rattle.mm_text.specs.Token.{PlainToken, is_space, is_printable, is_label_byte, IsLabel, HoldsNoDollar, tokens_from}
 use Rattle.mm_text.specs.Replaced.{IsProofToken, IsProofText}
 use Rattle.mm_text.proofs.TextFacts.{label_held, label_bytes}
+use Rattle.mm_text.proofs.Lists.{all_append, all_front, all_back}
 use Rattle.mm_code.specs.declared.code.Code.{Code}
 use Rattle.mm_code.specs.declared.code.Code.TheVariants.{Number, Tag}
 use Rattle.mm_code.specs.Letters.{IsLeadingDigit, leading_letter, last_letter, SaysCode, SpellsCodes}
@@ -69,18 +70,6 @@ no_parenthesis b small h =
 
 -- ---- letters
 
-pub all_joined : (P : ℕ → Type 0) (a b : List ℕ) → AllByRecursion P a → AllByRecursion P b → AllByRecursion P (a ++ b)
-all_joined P [] b h k = k
-all_joined P (x ∷ a) b h k = (h.0, all_joined P a b h.1 k)
-
-all_first : (P : ℕ → Type 0) (a b : List ℕ) → AllByRecursion P (a ++ b) → AllByRecursion P a
-all_first P [] b h = tt
-all_first P (x ∷ a) b h = (h.0, all_first P a b h.1)
-
-all_last : (P : ℕ → Type 0) (a b : List ℕ) → AllByRecursion P (a ++ b) → AllByRecursion P b
-all_last P [] b h = h
-all_last P (x ∷ a) b h = all_last P a b h.1
-
 leading_fine : (digits : List ℕ) → AllByRecursion IsLeadingDigit digits → AreFine (map leading_letter digits)
 leading_fine [] h = tt
 leading_fine (d ∷ digits) h =
@@ -90,14 +79,14 @@ leading_fine (d ∷ digits) h =
 piece_fine : (piece : List ℕ) (code : Code) → SaysCode piece code → AreFine piece
 piece_fine piece (Number number) s =
     let more = s.is_last.0 in let less = s.is_last.1 in
-    subst AreFine (sym s.letters) (all_joined IsFine (map leading_letter s.leading) (last_letter s.last ∷ []) (leading_fine s.leading s.are_leading)
+    subst AreFine (sym s.letters) (all_append IsFine (map leading_letter s.leading) (last_letter s.last ∷ []) (leading_fine s.leading s.are_leading)
     (fine_in (64 + s.last) 65 84 (omega (arith, more)) (omega (arith, less)) (omega arith) (omega arith) (λ x. absurd (omega (arith, x))), tt))
 piece_fine piece Tag s = subst AreFine (sym s) (fine_in 90 90 90 (omega arith) (omega arith) (omega arith) (omega arith) (λ x. absurd (omega (arith, x))), tt)
 
 pieces_fine : (pieces : List (List ℕ)) (codes : List Code) → AllZip SaysCode pieces codes → AreFine (flat_map (λ piece. piece) pieces)
 pieces_fine [] codes h = tt
 pieces_fine (piece ∷ pieces) [] h = absurd h
-pieces_fine (piece ∷ pieces) (code ∷ codes) h = all_joined IsFine piece (flat_map (λ p. p) pieces) (piece_fine piece code h.0) (pieces_fine pieces codes h.1)
+pieces_fine (piece ∷ pieces) (code ∷ codes) h = all_append IsFine piece (flat_map (λ p. p) pieces) (piece_fine piece code h.0) (pieces_fine pieces codes h.1)
 
 pub letters_fine : (letters : List ℕ) (codes : List Code) → SpellsCodes letters codes → AreFine letters
 letters_fine letters codes s = subst AreFine (sym s.joined) (pieces_fine s.pieces codes s.each)
@@ -105,7 +94,7 @@ letters_fine letters codes s = subst AreFine (sym s.joined) (pieces_fine s.piece
 pub cut_fine : (pieces : List (List ℕ)) → AreFine (flat_map (λ piece. piece) pieces) → AllByRecursion AreFine pieces
 cut_fine [] h = tt
 cut_fine (piece ∷ pieces) h =
-    (all_first IsFine piece (flat_map (λ p. p) pieces) h, cut_fine pieces (all_last IsFine piece (flat_map (λ p. p) pieces) h))
+    (all_front IsFine piece (flat_map (λ p. p) pieces) h, cut_fine pieces (all_back IsFine piece (flat_map (λ p. p) pieces) h))
 
 -- ---- tokens of fine bytes
 

@@ -1,6 +1,8 @@
 -- What is put into a file, and why nothing is.
-use Rattle.std.proofs.Common.{◌≡◌, ℕ, zero, suc, ◌+◌, ◌-◌, ◌<◌, ◌≤◌, ◌↔◌, List, [], ◌∷◌, ◌++◌, map, take, drop, length, slice_get, slice_set, slice_index_or, true, not, Option, Some, None, Result, Ok, inl, inr, refl, sym, ap, subst, ◌∙◌, arith, length-append}
-use Rattle.std.proofs.lemmas.List.Sums.{sum_by-cons}
+use Rattle.std.proofs.Common.{◌≡◌, ℕ, suc, ◌+◌, ◌-◌, ◌<◌, ◌≤◌, ◌↔◌, List, ◌∷◌, ◌++◌, map, take, drop, length, slice_get, slice_set, slice_index_or, true, not, Option, Some, None, Result, Ok, inl, inr, sym, ap, subst, ◌∙◌, arith, length-append}
+use Rattle.std.proofs.lemmas.List.Sums.{get_or-le-sum_by, sum_by-set}
+use Rattle.std.proofs.lemmas.List.{length-map}
+use Rattle.std.proofs.lemmas.Option.{slice_get_within, get_or_from_slice_get}
 use Rattle.mm_text.specs.declared.file.File.{File}
 use Rattle.mm_text.specs.declared.statement.Kind.TheVariants.{Provable}
 use Rattle.mm_text.specs.Statement.{PlainStatement}
@@ -10,10 +12,10 @@ use Rattle.mm_text.specs.Replaced.{with_span, with_bytes, IsProofSpan}
 use Rattle.mm_text.proofs.FormedLaws.{readings_are_formed_in_place}
 use Rattle.mm_text.proofs.ProofSpans.{proofs_stand_in_spans_holds}
 use Rattle.mm_text.proofs.Lists.{all_at, split_at}
+use Rattle.mm_text.proofs.NestLaws.{file_there, file_within as handed_within}
 use Rattle.mm_frame.specs.Sentence.{Sentence}
 use Rattle.mm_frame.specs.Rules.{AllMeant}
 use Rattle.mm_proof.specs.ReadSteps.{ReadSteps}
-use Rattle.mm_proof.specs.Packing.{OfTree}
 use Rattle.mm_proof.specs.declared.profile.Profile.{Profile}
 use Rattle.mm_proof.specs.Tokens.{is_incomplete}
 use Rattle.mm_check.specs.declared.form.Form.{Form}
@@ -31,40 +33,31 @@ use Rattle.mm_check.specs.Mirror.Theorems.{AreProvedSteps, AreStepsOf}
 use Rattle.mm_check.specs.Mirror.Rewriting.{IsHomeOf, IsTextOf, IsTextFault, HoldsSpan, IsPutIn, IsPutFault}
 use Rattle.mm_check.proofs.Replies.{accepted_with}
 use Rattle.mm_check.proofs.Rereading.{one_stands}
-use Rattle.mm_check.proofs.Theorems.{of_theorem, tree_made, has_tree, normal_fault, ask_fault}
+use Rattle.mm_check.proofs.Theorems.{tree_told, normal_fault, ask_fault}
 use Rattle.mm_check.proofs.Unproved.{provable_kind}
 
 -- ---- files
 
--- the file at a place
-pub file_at : (files : List File) (k : ℕ) (d : File) → k < length files → slice_get (map plain_file files) k ≡ Some (plain_file (slice_index_or files k d))
-file_at [] k d less = absurd (omega arith)
-file_at (f ∷ files) zero d less = refl
-file_at (f ∷ files) (suc k) d less = file_at files k d (omega arith)
-
 pub number_within : (files : List File) (k : ℕ) (f : PlainFile) → slice_get (map plain_file files) k ≡ Some f → k < length files
-number_within [] k f is = absurd cc
-number_within (g ∷ files) zero f is = omega arith
-number_within (g ∷ files) (suc k) f is = omega (arith, number_within files k f is)
+number_within files k f is =
+    omega (arith, slice_get_within (map plain_file files) k f is, length-map files plain_file)
 
 -- it has no more bytes than all
 pub file_within : (files : List PlainFile) (k : ℕ) (f : PlainFile) → slice_get files k ≡ Some f → length f.bytes ≤ total_bytes files
-file_within [] k f is = absurd cc
-file_within (g ∷ files) zero f is =
-    let same : g ≡ f = cc is in omega (arith, ap (λ (h : PlainFile). length h.bytes) same, sum_by-cons (λ (h : PlainFile). length h.bytes) g files)
-file_within (g ∷ files) (suc k) f is = omega (arith, file_within files k f is, sum_by-cons (λ (h : PlainFile). length h.bytes) g files)
+file_within files k f is =
+    let Long : PlainFile → ℕ = λ g. length g.bytes in
+    let own = get_or-le-sum_by Long files k f (slice_get_within files k f is) in
+    omega (arith, own, ap Long (get_or_from_slice_get files k f f is))
 
 pub own_within : (files : List File) (k : ℕ) (d : File) (total : ℕ) → k < length files → total ≡ total_bytes (map plain_file files) → length (slice_index_or files k d).bytes.now ≤ total
-own_within files k d total less same = let own = file_within (map plain_file files) k (plain_file (slice_index_or files k d)) (file_at files k d less) in omega (arith, own, same)
+own_within files k d total less same = omega (arith, handed_within files k d less, same)
 
 -- with others in their place
 replaced_at : (files : List PlainFile) (k : ℕ) (f g : PlainFile) → slice_get files k ≡ Some f → total_bytes (slice_set files k g) + length f.bytes ≡ total_bytes files + length g.bytes
-replaced_at [] k f g is = absurd cc
-replaced_at (h ∷ files) zero f g is =
-    let same : h ≡ f = cc is in
-    omega (arith, ap (λ (x : PlainFile). length x.bytes) same, sum_by-cons (λ (x : PlainFile). length x.bytes) h files, sum_by-cons (λ (x : PlainFile). length x.bytes) g files)
-replaced_at (h ∷ files) (suc k) f g is =
-    omega (arith, replaced_at files k f g is, sum_by-cons (λ (x : PlainFile). length x.bytes) h files, sum_by-cons (λ (x : PlainFile). length x.bytes) h (slice_set files k g))
+replaced_at files k f g is =
+    let Long : PlainFile → ℕ = λ x. length x.bytes in
+    let all = sum_by-set Long files k g f (slice_get_within files k f is) in
+    omega (arith, all, ap Long (get_or_from_slice_get files k f f is))
 
 pub with_bytes_is : (files : List PlainFile) (k : ℕ) (f : PlainFile) (bytes : List ℕ) → slice_get files k ≡ Some f → with_bytes files k bytes ≡ slice_set files k (record f { bytes = bytes })
 with_bytes_is files k f bytes there = ap (λ (o : Option PlainFile). elim o [ None ↦ files | Some g ↦ slice_set files k (record g { bytes = bytes }) ]) there
@@ -92,7 +85,7 @@ pub file_most : (files : List File) (k : ℕ) (d : File) (bytes : List ℕ) (tot
     ↔ (most_bytes < total_with (map plain_file files) k bytes)
 file_most files k d bytes total less within same =
     most_is (map plain_file files) k (plain_file (slice_index_or files k d)) bytes total
-    (file_at files k d less) within same
+    (file_there files k d less) within same
 
 -- ---- where a theorem stands
 
@@ -136,18 +129,19 @@ pub saved_of : (form : Form) (ss : List Sentence) (files : List PlainFile) (stat
     → ss ≡ sentences statements → AreStepsOf statements label id steps.moves → AreProvedSteps ss id steps → IsTextOf form ss id steps.moves text
     → IsHomeOf statements label number span → IsPutIn files number span text bytes → IsSaved form files statements label number bytes
 saved_of form ss files statements label id steps number span text bytes same r proved laid home put =
-    let t = tree_made ss statements label id steps same r proved in
-    let told = of_theorem ss statements label id steps.moves (λ before s moves. OfTree before moves (λ trees. IsTextIn form before s trees text)) same r laid in
+    let (root, below, has, told) =
+    tree_told ss statements label id steps same r proved
+    (λ before s trees. IsTextIn form before s trees text) laid in
     let stands : Stands statements label r.s = (r.place, r.there, r.named) in
     let at = home r.s stands in
     record {
       place = r.place;
       s = r.s;
-      root = t.0;
-      below = t.1;
-      proof = has_tree statements label id steps.moves r t.0 t.1 t.2;
+      root = root;
+      below = below;
+      proof = has;
       text = text;
-      laid = told t.0 t.1 t.2;
+      laid = told;
       home = at.0;
       file = put.0;
       handed = put.1;
@@ -157,14 +151,9 @@ saved_of form ss files statements label id steps number span text bytes same r p
 -- ---- why there is none
 
 form_save_fault : (form : Form) (files : List PlainFile) (statements : List PlainStatement) (label : List ℕ) (fault : AskFault) → IsFormFault form statements label fault → IsSaveFault form files statements label fault
-form_save_fault form files statements label ask.A1 h = h
-form_save_fault form files statements label ask.A2 h = h
-form_save_fault form files statements label ask.A3 h = h
-form_save_fault form files statements label ask.L2 h = h
 form_save_fault form.Normal files statements label ask.F3 h = absurd h
 form_save_fault form.Packed files statements label ask.F3 h = absurd h
-form_save_fault form files statements label (ask.Text rule step) h = h
-form_save_fault form files statements label ask.Memory h = h
+form_save_fault form files statements label _ h = h
 
 asked_fault : (form : Form) (statements : List PlainStatement) (label : List ℕ) (fault : AskFault) → IsAskFault statements label fault → IsFormFault form statements label fault
 asked_fault form.Normal statements label fault h = ask_fault statements label fault h

@@ -1,7 +1,7 @@
 -- The tokens of a text, found one after the other.
-use Rattle.std.proofs.Common.{◌≡◌, ℕ, zero, suc, ◌<◌, Bool, true, false, List, [], ◌∷◌, ◌++◌, map, take, drop, length, get_or, slice_index, refl, sym, ap, subst, ◌∙◌, arith, append_assoc, append-nil, length-append}
+use Rattle.std.proofs.Common.{◌≡◌, ℕ, zero, suc, ◌<◌, Bool, true, false, List, [], ◌∷◌, ◌++◌, map, take, drop, length, get_or, slice_index, sym, ap, subst, ◌∙◌, arith, append_assoc, append-nil, length-append}
 use Rattle.std.specs.List.{list_all, onto_first}
-use Rattle.std.proofs.lemmas.List.{length-map, get_or-map}
+use Rattle.std.proofs.lemmas.List.{length-map, get_or-map, take-append-drop}
 use Rattle.std.proofs.lemmas.List.Folds.{list_all_at}
 use Rattle.std.proofs.lemmas.List.Sums.{sum_by-append}
 use Rattle.mm_text.specs.Token.{is_space as is_white_space}
@@ -48,12 +48,6 @@ front_word text tokens byte word after front dark stop =
       room = omega (arith, front.room, sum_by-append (length {A = ℕ}) tokens ((byte ∷ word) ∷ []), length-append (byte ∷ word) after);
     }
 
-take_and_drop : (n : ℕ) (xs : List ℕ) → xs ≡ take n xs ++ drop n xs
-take_and_drop zero [] = refl
-take_and_drop zero (x ∷ xs) = refl
-take_and_drop (suc n) [] = refl
-take_and_drop (suc n) (x ∷ xs) = ap (λ (ys : List ℕ). x ∷ ys) (take_and_drop n xs)
-
 stops : (n : ℕ) (rest : List ℕ) → (n < length rest → is_white_space (slice_index rest n) ≡ true) → IsStop (drop n rest)
 stops zero [] white = tt
 stops zero (b ∷ rest) white = white (omega arith)
@@ -68,7 +62,8 @@ word_taken text tokens first others zero front dark lacks white =
     let no : true ≡ false = sym light ∙ dark in absurd cc
 word_taken text tokens first others (suc n) front dark lacks white =
     front_word text tokens first (take n others) (drop n others)
-    (subst (λ (bytes : List ℕ). AreFrontTokens text tokens (first ∷ bytes)) (take_and_drop n others) front) lacks (stops (suc n) (first ∷ others) white)
+    (subst (λ (bytes : List ℕ). AreFrontTokens text tokens (first ∷ bytes))
+    (sym (take-append-drop n others)) front) lacks (stops (suc n) (first ∷ others) white)
 
 -- the word at the rest's beginning is taken
 pub front_taken : (text : List ℕ) (tokens : List (List ℕ)) (rest : List ℕ) (first : ℕ) (others : List ℕ) (n : ℕ) (token after : List ℕ) → AreFrontTokens text tokens rest

@@ -1,8 +1,10 @@
 -- What is told of a theorem's steps is told of the theorem.
-use Rattle.std.proofs.Common.{◌≡◌, ℕ, zero, suc, ◌+◌, ◌<◌, ◌≤◌, List, [], ◌∷◌, ◌++◌, take, length, get_or, slice_get, Some, Result, Ok, Err, IfErr, ◌⊎◌, inl, inr, refl, sym, ap, subst, ◌∙◌, arith}
+use Rattle.std.proofs.Common.{◌≡◌, ℕ, zero, suc, ◌+◌, ◌<◌, ◌≤◌, List, [], ◌∷◌, ◌++◌, take, length, get_or, slice_get, Some, Result, Ok, Err, IfErr, ◌⊎◌, inl, inr, sym, ap, subst, ◌∙◌, arith}
 use Rattle.std.specs.Result.{IsOkUnless}
 use Rattle.std.proofs.lemmas.Option.{same_Some}
+use Rattle.std.proofs.lemmas.Bool.{cases_lt}
 use Rattle.mm_text.specs.Statement.{PlainStatement}
+use Rattle.mm_text.proofs.Lists.{zip_length}
 use Rattle.mm_frame.specs.declared.number.LabelId.{LabelId}
 use Rattle.mm_frame.specs.Sentence.{Sentence, sentence_of, IsLabelled}
 use Rattle.mm_frame.specs.Numbers.{labelled_sentences}
@@ -11,10 +13,10 @@ use Rattle.mm_proof.specs.declared.fault.ProofRule.{ProofRule}
 use Rattle.mm_proof.specs.declared.fault.ExpandFault.{ExpandFault}
 use Rattle.mm_proof.specs.declared.fault.ExpandFault.TheVariants as expand
 use Rattle.mm_proof.specs.Profiles.{limit_of}
-use Rattle.mm_proof.specs.Tree.{Trees, spelling}
+use Rattle.mm_proof.specs.Tree.{Trees, spelling, none, tree}
 use Rattle.mm_proof.specs.Moves.{Move}
-use Rattle.mm_proof.specs.OneTree.{MakeTree, MakeOneTree}
-use Rattle.mm_proof.specs.Spelled.{AreLabelsOf}
+use Rattle.mm_proof.specs.OneTree.{MakeOneTree}
+use Rattle.mm_proof.specs.Spelled.{AreLabelsOf, IsNumberOfLabel}
 use Rattle.mm_proof.specs.Packing.{OfTree}
 use Rattle.mm_proof.specs.Proof.{IsWithin, IsProvedWithin, Prove}
 use Rattle.mm_proof.specs.Strict.{IsTextFault}
@@ -29,7 +31,7 @@ use Rattle.mm_check.specs.declared.ask.AskFault.TheVariants as ask
 use Rattle.mm_check.specs.Verdict.{sentences}
 use Rattle.mm_check.specs.Rests.{IsAskFault}
 use Rattle.mm_check.specs.Shown.{ShowsProof}
-use Rattle.mm_check.specs.Forms.{most_labels, HasProofTree, IsNormalText, IsPackedText, IsNormalOf, IsPackedOf, IsNormalFault}
+use Rattle.mm_check.specs.Forms.{most_labels, HasProofTree, IsNormalFault}
 use Rattle.mm_check.specs.Mirror.Theorems.{IsProofOf, SayStepsOf, AreProvedSteps, AreStepsOf, IsListingOf}
 use Rattle.mm_check.proofs.Asked.{map-take}
 use Rattle.mm_check.proofs.Listings.{moves_prove}
@@ -89,43 +91,40 @@ shown_of ss statements label id steps text same r holds =
       shown = record { moves = r.moves; told = r.told; steps = listed.0; listed = listed.1; laid = listed.2 };
     }
 
--- its tree
-pub tree_made : (ss : List Sentence) (statements : List PlainStatement) (label : List ℕ) (id : ℕ) (steps : ReadSteps) → ss ≡ sentences statements → (r : AreStepsOf statements label id steps.moves)
-    → AreProvedSteps ss id steps → MakeOneTree (sentences (take r.place statements)) r.moves
-tree_made ss statements label id steps same r proved =
-    of_theorem ss statements label id steps.moves (λ before s moves. MakeOneTree before moves) same r (steps_make ss id steps proved)
+-- what is told of its tree
+module _ (ss : List Sentence) (statements : List PlainStatement) (label : List ℕ) (id : ℕ)
+    (steps : ReadSteps) (same : ss ≡ sentences statements)
+    (r : AreStepsOf statements label id steps.moves) (proved : AreProvedSteps ss id steps)
+    (P : List Sentence → Sentence → Trees → Type 0) (holds : OfMoves ss id steps.moves
+    (λ place s moves. OfTree (take place ss) moves (P (take place ss) s))) where
+  pub tree_told : (root : List ℕ) × (below : Trees)
+      × HasProofTree statements label r.place r.s root below
+      × P (sentences (take r.place statements)) (sentence_of r.s) (tree root below none)
+  tree_told =
+      let (root, below, made) =
+      of_theorem ss statements label id steps.moves (λ before s moves. MakeOneTree before moves)
+      same r (steps_make ss id steps proved) in
+      let told =
+      of_theorem ss statements label id steps.moves
+      (λ before s moves. OfTree before moves (P before s)) same r holds in (
+        root,
+        below,
+        record {
+          there = r.there;
+          named = r.named;
+          complete = r.complete;
+          moves = r.moves;
+          told = r.told;
+          made = made;
+        },
+        told root below made,
+      )
 
-pub has_tree : (statements : List PlainStatement) (label : List ℕ) (id : ℕ) (steps : List (Move ℕ)) (r : AreStepsOf statements label id steps) (root : List ℕ) (below : Trees)
-    → MakeTree (sentences (take r.place statements)) r.moves root below → HasProofTree statements label r.place r.s root below
-has_tree statements label id steps r root below made =
-    record { there = r.there; named = r.named; complete = r.complete; moves = r.moves; told = r.told; made = made }
-
--- its normal proof
-pub normal_of : (ss : List Sentence) (statements : List PlainStatement) (label : List ℕ) (id : ℕ) (steps : ReadSteps) (text : List ℕ)
-    → ss ≡ sentences statements → AreStepsOf statements label id steps.moves → AreProvedSteps ss id steps
-    → OfMoves ss id steps.moves (λ place s moves. OfTree (take place ss) moves (λ trees. IsNormalText trees text)) → IsNormalOf statements label text
-normal_of ss statements label id steps text same r proved holds =
-    let t = tree_made ss statements label id steps same r proved in
-    let told = of_theorem ss statements label id steps.moves (λ before s moves. OfTree before moves (λ trees. IsNormalText trees text)) same r holds in
-    (r.place, r.s, t.0, t.1, has_tree statements label id steps.moves r t.0 t.1 t.2, told t.0 t.1 t.2)
-
--- its packed proof
-pub packed_of : (ss : List Sentence) (statements : List PlainStatement) (label : List ℕ) (id : ℕ) (steps : ReadSteps) (text : List ℕ)
-    → ss ≡ sentences statements → AreStepsOf statements label id steps.moves → AreProvedSteps ss id steps
-    → OfMoves ss id steps.moves (λ place s moves. OfTree (take place ss) moves (λ trees. IsPackedText (take place ss) s trees text)) → IsPackedOf statements label text
-packed_of ss statements label id steps text same r proved holds =
-    let t = tree_made ss statements label id steps same r proved in
-    let told = of_theorem ss statements label id steps.moves (λ before s moves. OfTree before moves (λ trees. IsPackedText before s trees text)) same r holds in
-    (r.place, r.s, t.0, t.1, has_tree statements label id steps.moves r t.0 t.1 t.2, told t.0 t.1 t.2)
-
--- why it has no normal proof that is written
-too_long : (ss : List Sentence) (statements : List PlainStatement) (label : List ℕ) (id : ℕ) (steps : ReadSteps)
-    → ss ≡ sentences statements → AreStepsOf statements label id steps.moves → AreProvedSteps ss id steps
-    → OfMoves ss id steps.moves (λ place s moves. OfTree (take place ss) moves (λ trees. most_labels < length (spelling trees))) → IsNormalFault statements label ask.L2
-too_long ss statements label id steps same r proved holds =
-    let t = tree_made ss statements label id steps same r proved in
-    let told = of_theorem ss statements label id steps.moves (λ before s moves. OfTree before moves (λ trees. most_labels < length (spelling trees))) same r holds in
-    (r.place, r.s, t.0, t.1, has_tree statements label id steps.moves r t.0 t.1 t.2, told t.0 t.1 t.2)
+  pub told_of_tree : (place : ℕ) × (s : PlainStatement) × (root : List ℕ) × (below : Trees)
+      × HasProofTree statements label place s root below
+      × P (sentences (take place statements)) (sentence_of s) (tree root below none)
+  told_of_tree =
+      let (root, below, has, told) = tree_told in (r.place, r.s, root, below, has, told)
 
 pub normal_fault : (ss : List Sentence) (statements : List PlainStatement) (label : List ℕ) (id : ℕ) (steps : ReadSteps) (fault : AskFault)
     → ss ≡ sentences statements → AreStepsOf statements label id steps.moves → AreProvedSteps ss id steps
@@ -133,50 +132,38 @@ pub normal_fault : (ss : List Sentence) (statements : List PlainStatement) (labe
     → IsNormalFault statements label fault
 normal_fault ss statements label id steps fault same r proved (inl memory) = subst (IsNormalFault statements label) (sym memory) tt
 normal_fault ss statements label id steps fault same r proved (inr (long, holds)) =
-    subst (IsNormalFault statements label) (sym long) (too_long ss statements label id steps same r proved holds)
+    subst (IsNormalFault statements label) (sym long)
+    (told_of_tree ss statements label id steps same r proved
+    (λ before s trees. most_labels < length (spelling trees)) holds)
 
 pub ask_fault : (statements : List PlainStatement) (label : List ℕ) (fault : AskFault) → IsAskFault statements label fault → IsNormalFault statements label fault
-ask_fault statements label ask.A1 h = h
-ask_fault statements label ask.A2 h = h
-ask_fault statements label ask.A3 h = h
 ask_fault statements label ask.L2 h = absurd h
-ask_fault statements label (ask.Text rule step) h = absurd h
-ask_fault statements label ask.F3 h = absurd h
-ask_fault statements label ask.Memory h = h
+ask_fault statements label _ h = h
 
 -- ---- expansions
 
-within_or_over : (n m : ℕ) → (n ≤ m) ⊎ (m < n)
-within_or_over zero m = inl (omega arith)
-within_or_over (suc n) zero = inr (omega arith)
-within_or_over (suc n) (suc m) = go (within_or_over n m)
-  where
-    go : ((n ≤ m) ⊎ (m < n)) → (suc n ≤ suc m) ⊎ (suc m < suc n)
-    go (inl h) = inl (omega arith)
-    go (inr h) = inr (omega arith)
-
 -- what is given is within the most
 pub given_is_within : {X : Type 0} (x : X) (max n : ℕ) → (max < n → (◌≡◌ {A = Result X ExpandFault} (Ok x) (Err expand.L2)) ⊎ (◌≡◌ {A = Result X ExpandFault} (Ok x) (Err expand.Memory))) → n ≤ max
-given_is_within {X} x max n over = go (within_or_over n max)
+given_is_within {X} x max n over = go (cases_lt max n)
   where
     no : ((◌≡◌ {A = Result X ExpandFault} (Ok x) (Err expand.L2)) ⊎ (◌≡◌ {A = Result X ExpandFault} (Ok x) (Err expand.Memory))) → ⊥
     no (inl e) = cc
     no (inr e) = cc
 
-    go : ((n ≤ max) ⊎ (max < n)) → n ≤ max
-    go (inl h) = h
-    go (inr h) = absurd (no (over h))
+    go : ((max < n) ⊎ (n ≤ max)) → n ≤ max
+    go (inl h) = absurd (no (over h))
+    go (inr h) = h
 
 -- what is refused is over the most
 pub refused_is_over : {X : Type 0} (r : Result X ExpandFault) (max n : ℕ) → r ≡ Err expand.L2 → (n ≤ max → IsOkUnless r expand.Memory) → max < n
-refused_is_over {X} r max n is within = go (within_or_over n max)
+refused_is_over {X} r max n is within = go (cases_lt max n)
   where
     no : IsOkUnless r expand.Memory → ⊥
     no h = let e : expand.L2 ≡ expand.Memory = subst (λ (q : Result X ExpandFault). IsOkUnless q expand.Memory) is h in cc
 
-    go : ((n ≤ max) ⊎ (max < n)) → max < n
-    go (inl h) = absurd (no (within h))
-    go (inr h) = h
+    go : ((max < n) ⊎ (n ≤ max)) → max < n
+    go (inl h) = h
+    go (inr h) = absurd (no (within h))
 
 -- what holds of a fault
 pub why : {X E : Type 0} (r : Result X E) (P Q : E → Type 0) → ((e : E) → P e → Q e) → IfErr r P → IfErr r Q
@@ -201,7 +188,5 @@ one_more_name st ids labels k d label are less named =
     ap (λ (n : ℕ). take n labels) next ∙ next_name st ids labels k d label are less named
 
 pub as_many_names : (st : List Sentence) (ids : List LabelId) (labels : List (List ℕ)) → AreLabelsOf st ids labels → length labels ≡ length ids
-as_many_names st [] [] are = refl
-as_many_names st [] (label ∷ labels) are = absurd are
-as_many_names st (id ∷ ids) [] are = absurd are
-as_many_names st (id ∷ ids) (label ∷ labels) are = ap suc (as_many_names st ids labels are.1)
+as_many_names st ids labels are =
+    sym (zip_length (λ (id : LabelId). IsNumberOfLabel st id.0) ids labels are)

@@ -1,5 +1,5 @@
 -- The trees of complete proofs as statements are added.
-use Rattle.std.proofs.Common.{◌≡◌, ℕ, ◌<◌, ◌≤◌, List, [], ◌∷◌, ◌++◌, take, length, is_some, Bool, true, false, cond, ◌⊎◌, inl, inr, refl, sym, ap, subst, ◌∙◌, arith, append-nil}
+use Rattle.std.proofs.Common.{◌≡◌, ℕ, ◌<◌, List, [], ◌∷◌, ◌++◌, take, length, is_some, Bool, true, false, cond, ◌⊎◌, inl, inr, refl, sym, ap, subst, ◌∙◌, arith, append-nil}
 use Rattle.std.proofs.lemmas.Option.{slice_get_within}
 use Rattle.std.proofs.lemmas.List.{map-append, length-map, take-append-le}
 use Rattle.std.proofs.Math.Seq.{take-append_seam}
@@ -97,9 +97,6 @@ one_more_number test statements s ids named order false e =
 
 -- ---- trees
 
-front_kept : (statements more : List PlainStatement) (place : ℕ) → place ≤ length statements → take place (statements ++ more) ≡ take place statements
-front_kept statements more place within = take-append-le place statements more within
-
 -- a proof within the limit is a proof, of the same tree
 pub any_proof : (profile : Profile) (before : List Sentence) (s : Sentence) (tokens : List (List ℕ)) → IsProvedWithin (IsWithin (limit_of profile)) before s tokens → IsProved before s tokens
 any_proof profile before s tokens p = record {
@@ -123,7 +120,8 @@ pub tree_grow : (statements more : List PlainStatement) (id place : ℕ) (t : Tr
 tree_grow statements more id place t has =
     let within : place < length statements = slice_get_within statements place has.s has.at.there in
     let proof : Spells has.s t (take place (statements ++ more)) =
-    subst (Spells has.s t) (sym (front_kept statements more place (omega arith))) (has.proof, has.spelled) in
+    subst (Spells has.s t) (sym (take-append-le place statements more (omega arith)))
+    (has.proof, has.spelled) in
     record { s = has.s; at = at_grow statements more id place has.s has.at; complete = has.complete; proof = proof.0; spelled = proof.1 }
 
 -- the uses of one proof
@@ -137,7 +135,8 @@ uses_grow statements more u (place, t, has, used) =
       place,
       t,
       tree_grow statements more u.number place t has,
-      subst (λ (front : List PlainStatement). AreUsed (sentences front) t u.used) (sym (front_kept statements more place (omega arith))) used,
+      subst (λ (front : List PlainStatement). AreUsed (sentences front) t u.used)
+          (sym (take-append-le place statements more (omega arith))) used,
     )
 
 uses_last : (profile : Profile) (statements : List PlainStatement) (s : PlainStatement) (used : List ℕ) → is_some (sentence_of s).label ≡ true → is_proof s ≡ true

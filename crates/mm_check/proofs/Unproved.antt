@@ -1,10 +1,11 @@
 -- Statements one by one: those that are meant, and the `$p` whose proofs are incomplete.
 use Rattle.std.proofs.Common.{◌≡◌, List, [], ◌∷◌, ◌++◌, map, filter, Bool, true, false, not, ◌&&◌, cond, Option, refl, sym, ap, subst, ◌∙◌}
+use Rattle.std.proofs.Common.{inl, inr}
 use Rattle.std.specs.List.{flat_map, AllByRecursion}
 use Rattle.std.specs.Option.{option_to_list, option_map}
 use Rattle.std.proofs.lemmas.Bool.{and_parts}
 use Rattle.mm_text.specs.declared.statement.Kind.{Kind}
-use Rattle.mm_text.specs.declared.statement.Kind.TheVariants.{Constants, Variables, Distinct, Floating, Essential, Axiom, Provable, Opening, Closing}
+use Rattle.mm_text.specs.declared.statement.Kind.TheVariants.{Provable}
 use Rattle.mm_text.specs.Token.{PlainToken}
 use Rattle.mm_text.specs.Statement.{PlainStatement, HasForm}
 use Rattle.mm_frame.specs.Sentence.{Sentence, sentence_of}
@@ -14,6 +15,7 @@ use Rattle.mm_proof.specs.Tokens.{is_incomplete}
 use Rattle.mm_check.specs.Verdict.{AllObey, Obeys, sentences, proof_of, label_of, unproved_of, is_proof, is_unproved}
 use Rattle.mm_text.specs.Statement.{is_provable}
 use Rattle.mm_text.proofs.GrammarSteps.{is_provable-true}
+use Rattle.mm_text.proofs.Lists.{all_back, last_cut}
 use Rattle.mm_check.proofs.Known.{provable_label, unproved_of-append}
 
 -- a split of a list's images is that of a split of the list
@@ -73,24 +75,6 @@ proof_not_unproved s h = unproved_test (is_provable s.kind) (is_incomplete (proo
 
 -- ## One more statement
 
--- a list with one more element, split in two ways
-pub data EndSplit {X : Type 0} (xs : List X) (x : X) (b : List X) (y : X) : Type 0 where
-  within : (after : List X) → xs ≡ b ++ y ∷ after → EndSplit xs x b y
-  last : xs ≡ b → x ≡ y → EndSplit xs x b y
-
-end_split : {X : Type 0} (xs : List X) (x : X) (b : List X) (y : X) (after : List X) → xs ++ x ∷ [] ≡ b ++ y ∷ after → EndSplit xs x b y
-end_split [] x [] y after e = last refl cc
-end_split [] x (z ∷ []) y after e = absurd cc
-end_split [] x (z ∷ w ∷ b) y after e = absurd cc
-end_split (z ∷ xs) x [] y after e = within xs cc
-end_split (z ∷ xs) x (w ∷ b) y after e =
-    let rest : xs ++ x ∷ [] ≡ b ++ y ∷ after = cc in
-    let first : z ≡ w = cc in
-    elim (end_split xs x b y after rest) [
-      | within others h ↦ within others (cc (h, first))
-      | last h k ↦ last (cc (h, first)) k
-    ]
-
 -- before any statement
 pub no_statement : (profile : Profile) → AllObey profile []
 no_statement profile [] after s e = absurd cc
@@ -98,16 +82,13 @@ no_statement profile (b ∷ before) after s e = absurd cc
 
 -- one more statement that obeys the rules
 pub one_more : (profile : Profile) (statements : List PlainStatement) (x : PlainStatement) → AllObey profile statements → Obeys profile (sentences statements) x → AllObey profile (statements ++ x ∷ [])
-one_more profile statements x obeyed new before after s split = elim (end_split statements x before s after split) [
-  | within others e ↦ obeyed before others s e
-  | last e f ↦ subst (λ (b : List PlainStatement). Obeys profile (sentences b) s) e (subst (λ (t : PlainStatement). Obeys profile (sentences statements) t) f new)
+one_more profile statements x obeyed new before after s split = elim (last_cut statements x before s after split) [
+  | inl (others, e) ↦ obeyed before others s e
+  | inr (e, f) ↦ subst (λ (b : List PlainStatement). Obeys profile (sentences b) s) (sym e)
+      (subst (λ (t : PlainStatement). Obeys profile (sentences statements) t) f new)
 ]
 
 -- ## No proof is incomplete
-
-first_formed : (before : List PlainStatement) (s : PlainStatement) (after : List PlainStatement) → AllByRecursion HasForm (before ++ s ∷ after) → HasForm s
-first_formed [] s after all = all.0
-first_formed (t ∷ before) s after all = first_formed before s after all.1
 
 -- a list with a first part has none of it where the whole is empty
 no_part : {X : Type 0} (a b : List X) → a ++ b ≡ [] → (a ≡ []) × (b ≡ [])
@@ -133,7 +114,8 @@ pub complete_where_none : (before after : List PlainStatement) (s : PlainStateme
 complete_where_none before after s formed none provable =
     let rest : unproved_of (s ∷ after) ≡ [] =
     (no_part (unproved_of before) (unproved_of (s ∷ after)) (sym (unproved_of-append before (s ∷ after)) ∙ none)).1 in
-    not_listed s after (first_formed before s after formed) provable rest (is_incomplete (proof_of s)) refl
+    not_listed s after (all_back HasForm before (s ∷ after) formed).0 provable rest
+    (is_incomplete (proof_of s)) refl
 
 -- so none is incomplete
 pub none_incomplete : (before after : List PlainStatement) (s : PlainStatement)
@@ -148,14 +130,7 @@ none_incomplete before after s formed none open_one =
 -- a statement that isn't an incomplete `$p` isn't listed
 not_unproved : (kind : Kind) (incomplete : Bool) → (kind ≡ Provable → incomplete ≡ false) → (is_provable kind && incomplete) ≡ false
 not_unproved Provable incomplete h = h refl
-not_unproved Constants incomplete h = refl
-not_unproved Variables incomplete h = refl
-not_unproved Distinct incomplete h = refl
-not_unproved Floating incomplete h = refl
-not_unproved Essential incomplete h = refl
-not_unproved Axiom incomplete h = refl
-not_unproved Opening incomplete h = refl
-not_unproved Closing incomplete h = refl
+not_unproved kind incomplete h = refl
 
 pub none_unproved : (statements : List PlainStatement)
     → ((before after : List PlainStatement) (s : PlainStatement) → statements ≡ before ++ s ∷ after → s.kind ≡ Provable → is_incomplete (proof_of s) ≡ false)

@@ -1,13 +1,14 @@
 -- There is one verdict over files; yes says that the profile is obeyed, and such files get yes, the limit aside.
-use Rattle.std.proofs.Common.{◌≡◌, ℕ, List, [], ◌∷◌, ◌++◌, length, not, false, Option, Some, None, Result, ◌⊎◌, inl, inr, refl, sym, ap, subst, ◌∙◌, append_assoc}
+use Rattle.std.proofs.Common.{◌≡◌, ℕ, List, ◌∷◌, ◌++◌, length, not, false, Option, Some, None, Result, ◌⊎◌, inl, inr, refl, sym, ap, subst, ◌∙◌, append_assoc}
+use Rattle.std.proofs.lemmas.Bool.{cases_order}
 use Rattle.std.specs.List.{AllByRecursion}
 use Rattle.mm_text.specs.declared.fault.LoadRule.{LoadRule}
 use Rattle.mm_text.specs.declared.fault.LoadRule.TheVariants as load
 use Rattle.mm_text.specs.Statement.{PlainStatement, HasForm}
 use Rattle.mm_text.specs.Files.{PlainFile, BreaksLoad}
 use Rattle.mm_text.specs.Reading.{PlainFault, Reads}
-use Rattle.mm_text.proofs.ReaderLaws.{each_has_one_reading}
 use Rattle.mm_text.proofs.FormedLaws.{readings_are_formed_in_place}
+use Rattle.mm_text.proofs.Lists.{two_cuts}
 use Rattle.mm_frame.specs.declared.rule.MeaningRule.{MeaningRule}
 use Rattle.mm_frame.specs.Sentence.{Sentence, sentence_of}
 use Rattle.mm_frame.specs.Rules.{FirstBroken, AllMeant, rank}
@@ -28,7 +29,8 @@ use Rattle.mm_check.specs.Answer.{verdict_of_answer, IsVerdict, IsOnlyVerdict, I
 use Rattle.mm_check.specs.declared.rule.Rule.{Rule}
 use Rattle.mm_check.specs.declared.rule.Rule.TheVariants.{L1}
 use Rattle.mm_check.specs.Verdict.{Verdict, Load, Refused, Incomplete, Yes, PlainRefusal, Obeys, AllObey, AreAccepted, HasFault, HasVerdict, RefusesStatement, RefusesText, ObeyTheProfile, sentences, load_rule, meaning_rule, proof_rule, refusal_of, text_refusal, proof_of, proofs_of, unproved_of}
-use Rattle.mm_check.proofs.Ranks.{ranked, ranked-rank, compared}
+use Rattle.mm_check.proofs.Ranks.{ranked, ranked-rank}
+use Rattle.mm_check.proofs.Rereading.{same_reading}
 use Rattle.mm_check.specs.Verdict.{IsProofFault}
 use Rattle.mm_check.proofs.Existence.{formed_before}
 use Rattle.mm_check.proofs.Unproved.{all_meant, none_unproved, complete_where_none, proof_there}
@@ -38,12 +40,10 @@ use Rattle.mm_check.proofs.Unproved.{provable_kind, proof_not_unproved}
 
 one_load : (files : List PlainFile) (a b : LoadRule) → BreaksLoad files a → BreaksLoad files b → a ≡ b
 one_load files load.F1 load.F1 h k = refl
-one_load files load.F1 load.F2 h k = absurd (k.0 h)
-one_load files load.F1 load.F3 h k = absurd (k.0 h)
-one_load files load.F2 load.F1 h k = absurd (h.0 k)
+one_load files load.F1 b h k = absurd (k.0 h)
+one_load files a load.F1 h k = absurd (h.0 k)
 one_load files load.F2 load.F2 h k = refl
 one_load files load.F2 load.F3 h k = absurd (k.1 h.1)
-one_load files load.F3 load.F1 h k = absurd (h.0 k)
 one_load files load.F3 load.F2 h k = absurd (h.1 k.1)
 one_load files load.F3 load.F3 h k = refl
 
@@ -51,12 +51,10 @@ one_load files load.F3 load.F3 h k = refl
 
 -- the first rule that a statement breaks is one
 one_first : (before : List Sentence) (s : Sentence) (a b : MeaningRule) → FirstBroken a before s → FirstBroken b before s → a ≡ b
-one_first before s a b f g = elim (compared (rank a) (rank b)) [
-  | inl less ↦ absurd (g.first a less f.broken)
-  | inr rest ↦ elim rest [
-    | inl more ↦ absurd (f.first b more g.broken)
-    | inr same ↦ sym (ranked-rank a) ∙ ap ranked same ∙ ranked-rank b
-  ]
+one_first before s a b f g = elim (cases_order (rank a) (rank b)) [
+  | inl same ↦ sym (ranked-rank a) ∙ ap ranked same ∙ ranked-rank b
+  | inr (inl less) ↦ absurd (g.first a less f.broken)
+  | inr (inr more) ↦ absurd (f.first b more g.broken)
 ]
 
 -- a proof that breaks no rule has no fault, nor has what is known of one
@@ -112,25 +110,6 @@ one_statement_fault profile before s rule rule' step step' meant formed (inr f) 
 
 -- ## The first statement at fault
 
--- of two places in one list, one comes before the other, or they are one
-pub data Placed {X : Type 0} (a : List X) (x : X) (b : List X) (y : X) : Type 0 where
-  earlier : (between : List X) → b ≡ a ++ x ∷ between → Placed a x b y
-  later : (between : List X) → a ≡ b ++ y ∷ between → Placed a x b y
-  same : a ≡ b → x ≡ y → Placed a x b y
-
-placed : {X : Type 0} (a : List X) (x : X) (c : List X) (b : List X) (y : X) (d : List X) → a ++ x ∷ c ≡ b ++ y ∷ d → Placed a x b y
-placed [] x c [] y d e = same refl cc
-placed [] x c (z ∷ b) y d e = earlier b cc
-placed (w ∷ a) x c [] y d e = later a cc
-placed (w ∷ a) x c (z ∷ b) y d e =
-    let rest : a ++ x ∷ c ≡ b ++ y ∷ d = cc in
-    let first : w ≡ z = cc in
-    elim (placed a x c b y d rest) [
-      | earlier between h ↦ earlier between (cc (h, first))
-      | later between h ↦ later between (cc (h, first))
-      | same h k ↦ same (cc (h, first)) k
-    ]
-
 -- the statements before the first one at fault are determined, and so is its fault
 one_refused_statement : (profile : Profile) (files : List PlainFile)
     (statements : List PlainStatement) (a b : PlainRefusal) → AllByRecursion HasForm statements
@@ -139,25 +118,20 @@ one_refused_statement : (profile : Profile) (files : List PlainFile)
 one_refused_statement profile files statements a b formed r q =
     let formed_r = formed_before statements r.before r.s r.after formed r.split in
     let formed_q = formed_before statements q.before q.s q.after formed q.split in
-    elim (placed r.before r.s r.after q.before q.s q.after (sym r.split ∙ q.split)) [
-      | earlier between e ↦ absurd (obeying_faultless profile (sentences r.before) r.s r.rule r.step
+    elim (two_cuts r.before r.s r.after q.before q.s q.after (sym r.split ∙ q.split)) [
+      | inr (inl (between, e, rest)) ↦
+          absurd (obeying_faultless profile (sentences r.before) r.s r.rule r.step
           (all_meant profile _ r.obeyed) formed_r (q.obeyed r.before between r.s e) r.fault)
-      | later between e ↦ absurd (obeying_faultless profile (sentences q.before) q.s q.rule q.step
+      | inr (inr (between, e, rest)) ↦
+          absurd (obeying_faultless profile (sentences q.before) q.s q.rule q.step
           (all_meant profile _ q.obeyed) formed_q (r.obeyed q.before between q.s e) q.fault)
-      | same e f ↦
-          let Faulty : List PlainStatement → PlainStatement → Type 0 =
-          λ before s. HasFault profile (sentences before) s q.rule q.step in
+      | inl (e, f, rest) ↦
           let fault : HasFault profile (sentences r.before) r.s q.rule q.step =
-          subst (λ (before : List PlainStatement). Faulty before r.s) (sym e)
-          (subst (λ (s : PlainStatement). Faulty q.before s) (sym f) q.fault) in
+          rw (e, f) q.fault in
           let one = one_statement_fault profile (sentences r.before) r.s r.rule q.rule r.step q.step
           (all_meant profile _ r.obeyed) formed_r r.fault fault in
-          let Refusal : List PlainStatement → PlainStatement → Rule → ℕ → PlainRefusal =
-          λ before s rule step. refusal_of files (length before) s rule step in
-          r.refused ∙ ap (λ (before : List PlainStatement). Refusal before r.s r.rule r.step) e
-          ∙ ap (λ (s : PlainStatement). Refusal q.before s r.rule r.step) f
-          ∙ ap (λ (rule : Rule). Refusal q.before q.s rule r.step) one.0
-          ∙ ap (λ (step : ℕ). Refusal q.before q.s q.rule step) one.1
+          r.refused
+          ∙ (λ i. refusal_of files (length (e i)) (f i) (one.0 i) (one.1 i))
           ∙ sym q.refused
     ]
 
@@ -193,28 +167,20 @@ one_refused profile files statements ending a b formed (inr r) (inr q) =
 
 -- ## The verdict
 
--- two readings of the files are one
-same_statements : (files : List PlainFile) (a b : List PlainStatement) (d e : Option PlainFault) → Reads files a d → Reads files b e → a ≡ b
-same_statements files a b d e r q =
-    let one = each_has_one_reading files in (one.only a d r).0 ∙ sym (one.only b e q).0
-
-same_ending : (files : List PlainFile) (a b : List PlainStatement) (d e : Option PlainFault) → Reads files a d → Reads files b e → d ≡ e
-same_ending files a b d e r q =
-    let one = each_has_one_reading files in (one.only a d r).1 ∙ sym (one.only b e q).1
-
 -- files that are read to the end, each statement obeying the rules, aren't refused
 pub accepted_or_refused : (profile : Profile) (files : List PlainFile) (a b : List PlainStatement) (ending : Option PlainFault) (refusal : PlainRefusal)
     → AreAccepted profile files a → Reads files b ending
     → RefusesStatement profile files b refusal ⊎ RefusesText profile files b ending refusal → ⊥
 accepted_or_refused profile files a b ending refusal accepted reads (inl r) =
-    let same = same_statements files a b None ending accepted.reads reads in
+    let same = (same_reading files a b None ending accepted.reads reads).0 in
     none_refused profile files b refusal (readings_are_formed_in_place files b ending reads).formed
     (subst (AllObey profile) same accepted.obeyed) r
 accepted_or_refused profile files a b ending refusal accepted reads (inr r) =
-    let same = same_ending files a b None ending accepted.reads reads in cc (same, r.ended)
+    let same = (same_reading files a b None ending accepted.reads reads).1 in cc (same, r.ended)
 
 same_accepted : (profile : Profile) (files : List PlainFile) (a b : List PlainStatement) → AreAccepted profile files a → AreAccepted profile files b → a ≡ b
-same_accepted profile files a b one other = same_statements files a b None None one.reads other.reads
+same_accepted profile files a b one other =
+    (same_reading files a b None None one.reads other.reads).0
 
 pub one_verdict : (profile : Profile) (files : List PlainFile) (v w : Verdict) → HasVerdict profile files v → HasVerdict profile files w → v ≡ w
 one_verdict profile files (Load a) (Load b) h k = ap Load (h.2 ∙ ap load_rule (one_load files h.0 k.0 h.1 k.1) ∙ sym k.2)
@@ -223,8 +189,8 @@ one_verdict profile files (Load a) (Incomplete ls) h k = absurd (k.1.readable h.
 one_verdict profile files (Load a) (Yes n p) h k = absurd (k.1.readable h.0 h.1)
 one_verdict profile files (Refused a) (Load b) h k = absurd (h.0 k.0 k.1)
 one_verdict profile files (Refused a) (Refused b) h k =
-    let statements = same_statements files h.1 k.1 h.2 k.2 h.3 k.3 in
-    let ending = same_ending files h.1 k.1 h.2 k.2 h.3 k.3 in
+    let statements = (same_reading files h.1 k.1 h.2 k.2 h.3 k.3).0 in
+    let ending = (same_reading files h.1 k.1 h.2 k.2 h.3 k.3).1 in
     let Refuses : List PlainStatement → Option PlainFault → Type 0 = λ ss e. RefusesStatement profile files ss a ⊎ RefusesText profile files ss e a in
     let moved : RefusesStatement profile files k.1 a ⊎ RefusesText profile files k.1 k.2 a =
     subst (λ (e : Option PlainFault). Refuses k.1 e) ending (subst (λ (ss : List PlainStatement). Refuses ss h.2) statements h.4) in
@@ -317,15 +283,15 @@ pub profile_verdict : (profile : Profile) (files : List PlainFile) → ObeyThePr
     → ((n : ℕ) × (p : ℕ) × (v ≡ Yes n p)) ⊎ ((refusal : PlainRefusal) × (v ≡ Refused refusal) × (refusal.rule ≡ L1))
 profile_verdict profile files obey (Load rule) h = absurd (obey.handed h.0 h.1)
 profile_verdict profile files obey (Incomplete ls) h =
-    let same = same_statements files h.0 obey.statements None None h.1.reads obey.reading in
+    let same = (same_reading files h.0 obey.statements None None h.1.reads obey.reading).0 in
     absurd (h.3 (h.2 ∙ ap unproved_of same ∙ none_unproved obey.statements (λ before after s split provable. (obey.proved before after s split provable).0)))
 profile_verdict profile files obey (Yes n p) h = inl (n, p, refl)
 profile_verdict profile files obey (Refused refusal) h = elim (h.4) [
   | inl r ↦
-      let same = same_statements files h.1 obey.statements h.2 None h.3 obey.reading in
+      let same = (same_reading files h.1 obey.statements h.2 None h.3 obey.reading).0 in
       inr (refusal, refl, over_the_limit profile files obey refusal (subst (λ (ss : List PlainStatement). RefusesStatement profile files ss refusal) same r))
   | inr r ↦
-      let same = same_ending files h.1 obey.statements h.2 None h.3 obey.reading in
+      let same = (same_reading files h.1 obey.statements h.2 None h.3 obey.reading).1 in
       cc (same, r.ended)
 ]
 

@@ -73,8 +73,6 @@ put_woven before first [] slot back [] s later long (start, stop, rest) =
     ∙ span_put (before ++ first) slot.now (woven slot.kept back) slot.put s.span (start ∙ sym one)
     (stop ∙ ap (λ (n : ℕ). n + length slot.now) (sym one))
     ∙ whole (slot.put ++ woven slot.kept back)
-put_woven before first [] slot back (u ∷ earlier) s later long stands = absurd (omega arith)
-put_woven before first (x ∷ front) slot back [] s later long stands = absurd (omega arith)
 put_woven before first (x ∷ front) slot back (u ∷ earlier) s later long (start, stop, rest) =
     let next : List ℕ = passed before first x.now in
     let stands =
@@ -83,6 +81,7 @@ put_woven before first (x ∷ front) slot back (u ∷ earlier) s later long (sta
     (passed_is before first x.now (woven x.kept (front ++ slot ∷ back)))
     ∙ put_woven next x.kept front slot back earlier s later (omega arith) stands
     ∙ sym (passed_is before first x.now (woven x.kept (front ++ filled slot ∷ back)))
+put_woven before first front slot back earlier s later long stands = absurd (omega arith)
 
 -- ---- and the spans then
 
@@ -127,10 +126,6 @@ put_stands at first [] slot back [] s t later moved long span zip (start, stop, 
           (at + length first + length slot.put) slot.kept back later moved
           (omega (arith, start, stop)) zip rest,
     )
-put_stands at first [] slot back (u ∷ earlier) s t later moved long span zip stands =
-    absurd (omega arith)
-put_stands at first (x ∷ front) slot back [] s t later moved long span zip stands =
-    absurd (omega arith)
 put_stands at first (x ∷ front) slot back (u ∷ earlier) s t later moved long span zip
     (start, stop, rest) = (
       start,
@@ -138,6 +133,8 @@ put_stands at first (x ∷ front) slot back (u ∷ earlier) s t later moved long
       put_stands (at + length first + length x.now) x.kept front slot back earlier s t later moved
           (omega arith) span zip rest,
     )
+put_stands at first front slot back earlier s t later moved long span zip stands =
+    absurd (omega arith)
 
 -- ---- all slots are filled
 

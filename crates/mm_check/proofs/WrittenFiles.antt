@@ -3,7 +3,7 @@ use Rattle.std.proofs.Common.{◌≡◌, ℕ, ◌<◌, ◌≤◌, ◌⊎◌, Lis
 use Rattle.std.proofs.Common.{take, drop, length, slice_get, Option, Some, None, option_map}
 use Rattle.std.proofs.Common.{inl, inr, refl, sym, ap, subst, ◌∙◌, arith}
 use Rattle.std.proofs.Common.{append_assoc}
-use Rattle.std.proofs.lemmas.Bool.{cases_lt}
+use Rattle.std.proofs.lemmas.Bool.{cases_lt, false_from_ne_true}
 use Rattle.std.proofs.lemmas.List.{take-append-le}
 use Rattle.std.proofs.lemmas.List.Elements.{filter-append}
 use Rattle.std.proofs.lemmas.Option.{slice_get_within}
@@ -11,26 +11,23 @@ use Rattle.std.specs.List.{AllZip}
 use Rattle.mm_text.specs.declared.statement.Kind.TheVariants.{Provable}
 use Rattle.mm_text.specs.Statement.{PlainStatement}
 use Rattle.mm_text.specs.Files.{PlainFile, most_bytes}
-use Rattle.mm_text.specs.Reading.{PlainFault, Reads}
+use Rattle.mm_text.specs.Reading.{Reads}
 use Rattle.mm_text.specs.Remaining.{Remaining}
 use Rattle.mm_text.specs.Replaced.{IsProofSpan}
 use Rattle.mm_text.proofs.FollowingSpans.{proof_spans_follow_holds}
 use Rattle.mm_text.proofs.Lists.{get_kept, get_parted, zip_push, zip_weaker}
 use Rattle.mm_text.proofs.ProofSpans.{proofs_stand_in_spans_holds}
-use Rattle.mm_frame.specs.Sentence.{sentence_of}
 use Rattle.mm_proof.specs.declared.profile.Profile.TheVariants.{Lenient}
-use Rattle.mm_proof.specs.Tokens.{SayMoves}
-use Rattle.mm_proof.specs.OneTree.{MakeTree}
-use Rattle.mm_proof.specs.Tree.{Trees, none, tree}
+use Rattle.mm_proof.specs.Tree.{Trees}
 use Rattle.mm_check.specs.declared.form.Form.{Form}
 use Rattle.mm_check.specs.declared.form.Form.TheVariants.{Normal}
 use Rattle.mm_check.specs.declared.ask.AskFault.{AskFault}
 use Rattle.mm_check.specs.declared.progress.Progress.{Progress}
 use Rattle.mm_check.specs.declared.save_fault.SaveFault.TheVariants as fault
 use Rattle.mm_check.specs.declared.save_all.NewFile.{NewFile}
-use Rattle.mm_check.specs.Verdict.{AreAccepted, sentences, proof_of}
+use Rattle.mm_check.specs.Verdict.{AreAccepted}
 use Rattle.mm_check.specs.Forms.{HasProofTree}
-use Rattle.mm_check.specs.Saved.{FitsSaved, IsTextIn, total_with}
+use Rattle.mm_check.specs.Saved.{FitsSaved, total_with}
 use Rattle.mm_check.specs.AllSaved.{Replacement, IsReplacement, with_replaced, is_theorem_of}
 use Rattle.mm_check.specs.AllSaved.{theorems_of, IsAllSaved, IsFirstTooLong, IsSavingAllFault}
 use Rattle.mm_check.specs.Mirror.Judged.{GoesOn, IsUnderWay}
@@ -39,7 +36,7 @@ use Rattle.mm_check.specs.Mirror.AllSaving.{AreSpansWithin, IsLastEnd, IsSameFil
 use Rattle.mm_check.specs.Mirror.AllSaving.{PutsProof, KeepsLabel, IsWhole, IsFinishFault}
 use Rattle.mm_check.specs.Mirror.AllSaving.{AreReplacedSoFar, IsSoFar, IsWrittenSoFar}
 use Rattle.mm_check.specs.Mirror.AllSaving.{IsAllWritten}
-use Rattle.mm_check.proofs.Course.{none_left}
+use Rattle.mm_check.proofs.Course.{read_to_end}
 use Rattle.mm_check.proofs.FileTheorems.{theorem_complete, theorem_home, theorems_parted}
 use Rattle.mm_check.proofs.FileTheorems.{theorems_passed}
 use Rattle.mm_check.proofs.ReplacedSpans.{spans_push, one_more_replaced, all_replaced}
@@ -63,10 +60,8 @@ tree_kept statements more label place s root below proof =
         named = proof.named;
         complete = proof.complete;
         moves = proof.moves;
-        told = subst (λ (ss : List PlainStatement).
-            SayMoves (sentences ss) (sentence_of s) (proof_of s) proof.moves) (sym front) proof.told;
-        made = subst (λ (ss : List PlainStatement). MakeTree (sentences ss) proof.moves root below)
-            (sym front) proof.made;
+        told = rw front proof.told;
+        made = rw front proof.made;
       },
       front,
     )
@@ -84,9 +79,7 @@ replaced_kept form statements more s new r =
       below = r.below;
       proof = proof;
       text = r.text;
-      laid = subst (λ (ss : List PlainStatement).
-          IsTextIn form (sentences ss) (sentence_of s) (tree r.root r.below none) r.text)
-          (sym front) r.laid;
+      laid = rw front r.laid;
       span = r.span;
       put = r.put;
     }
@@ -132,17 +125,8 @@ last_kept number at taken s (inr (before, t, between, parts, kind, same, ends)) 
 -- ---- the statement that was judged last
 
 -- the files hold it
-abbrev pub Holds : List PlainFile → (taken : List PlainStatement) → PlainStatement → Remaining
-    → Type 0
+abbrev Holds : List PlainFile → (taken : List PlainStatement) → PlainStatement → Remaining → Type 0
 Holds files taken s left = Reads files (taken ++ s ∷ left.statements) left.ending
-
-pub held : (files : List PlainFile) (p : Progress) (left : Remaining) (taken : List PlainStatement)
-    (s : PlainStatement) (on : IsUnderWay Lenient files p left) → on.earlier ≡ taken ++ s ∷ []
-    → Holds files taken s left
-held files p left taken s on all =
-    subst (λ (ss : List PlainStatement). Reads files ss left.ending)
-    (ap (λ (ss : List PlainStatement). ss ++ left.statements) all
-    ∙ append_assoc taken (s ∷ []) left.statements) on.reads
 
 -- it goes over to those so far
 pub judged_on : (files : List PlainFile) (p q : Progress) (old new : Remaining)
@@ -152,43 +136,7 @@ pub judged_on : (files : List PlainFile) (p q : Progress) (old new : Remaining)
 judged_on files p q old new s more goes is =
     (subst (λ (b : Bool). GoesOn Lenient files p old b s q new) is goes).1
 
--- a theorem
-pub theorem_met : (files : List PlainFile) (number : ℕ) (p : Progress) (left : Remaining)
-    (taken : List PlainStatement) (s : PlainStatement) (on : IsUnderWay Lenient files p left)
-    → on.earlier ≡ taken ++ s ∷ [] → is_theorem_of number s ≡ true
-    → (t : IsTheoremAmong p.prover.book.statements s) × (t.statements ≡ taken ++ s ∷ [])
-theorem_met files number p left taken s on all is = (
-  record {
-    statements = on.earlier;
-    same = on.known.book;
-    obeyed = on.obeyed;
-    place = length taken;
-    there = ap (λ (ss : List PlainStatement). slice_get ss (length taken)) all
-        ∙ get_parted taken [] s;
-    complete = theorem_complete number s is;
-    room = proof_fits files (taken ++ s ∷ left.statements) left.ending (length taken) s on.readable
-        (held files p left taken s on all) (get_parted taken left.statements s);
-  },
-  all,
-)
-
--- it stands in the file
-pub span_stands : (files : List PlainFile) (taken : List PlainStatement) (s : PlainStatement)
-    (left : Remaining) (file : NewFile) → IsWrittenSoFar files taken file
-    → Holds files taken s left → is_theorem_of file.number s ≡ true
-    → (s.span.0 ≤ s.span.1) × (s.span.1 ≤ length file.source.now)
-span_stands files taken s left file w holds is =
-    let complete = theorem_complete file.number s is in
-    let home = theorem_home file.number s is in
-    let stands : IsProofSpan s w.own.bytes =
-    proofs_stand_in_spans_holds files taken s left.statements left.ending w.own holds
-    (provable_proof s complete) (ap (slice_get files) home ∙ w.handed) in
-    let (start, stop) = within_bytes s w.own.bytes stands in (
-      omega (arith, stands.start, stands.stop),
-      subst (λ (bytes : List ℕ). s.span.1 ≤ length bytes) (sym w.source) stop,
-    )
-
--- behind what was taken
+-- it stands behind what was taken
 follows : (files : List PlainFile) (number at : ℕ) (taken : List PlainStatement)
     (s : PlainStatement) (left : Remaining) → Holds files taken s left → s.kind ≡ Provable
     → s.first.file ≡ number → IsLastEnd number taken at → at ≤ s.span.0
@@ -201,13 +149,6 @@ follows files number at taken s left holds provable home (inr (before, t, betwee
     provable (same ∙ sym home) in
     omega (arith, after, ends)
 
-pub span_follows : (files : List PlainFile) (taken : List PlainStatement) (s : PlainStatement)
-    (left : Remaining) (file : NewFile) → IsWrittenSoFar files taken file
-    → Holds files taken s left → is_theorem_of file.number s ≡ true → file.taken ≤ s.span.0
-span_follows files taken s left file w holds is =
-    follows files file.number file.taken taken s left holds
-    (provable_proof s (theorem_complete file.number s is)) (theorem_home file.number s is) w.last
-
 -- ---- one statement more
 
 -- one that isn't a theorem of the file; or there is one that is too long
@@ -218,17 +159,11 @@ passed_so taken s file (Some label) other (normal, first) =
     (normal, long_kept taken (s ∷ []) file.number label first)
 passed_so taken s file None other h = record {
   replaced = h.replaced;
-  each = subst (λ (ss : List PlainStatement).
-      AllZip (IsReplacement file.form (taken ++ s ∷ [])) ss h.replaced)
-      (sym (theorems_passed file.number taken s (other refl)))
+  each = rw (theorems_passed file.number taken s (other refl))
       (all_kept file.form taken (s ∷ []) (theorems_of file.number taken) h.replaced h.each);
   spans = h.spans;
   put = h.put;
 }
-
-other_one : (b : Bool) → ¬ (b ≡ true) → b ≡ false
-other_one true other = absurd (other refl)
-other_one false _ = refl
 
 unmapped : {A B : Type 0} (f : A → B) (o : Option A) → option_map f o ≡ None → o ≡ None
 unmapped f None _ = refl
@@ -246,7 +181,7 @@ passed_over files taken s file w unwanted = record {
   within = w.within;
   last = last_kept file.number file.taken taken s w.last;
   so_far = passed_so taken s file (option_map (λ l. l.now) file.too_long)
-      (λ short. other_one (is_theorem_of file.number s) (λ is.
+      (λ short. false_from_ne_true (is_theorem_of file.number s) (λ is.
       unwanted (unmapped (λ l. l.now) file.too_long short, is))) w.so_far;
 }
 
@@ -273,141 +208,166 @@ put_more : (file next : NewFile) (s : PlainStatement) (text : List ℕ) (news : 
     (with_replaced (take next.taken next.source.now) (news ++ replacement s text ∷ []))
     next.bytes.items
 put_more file next s text news puts spans after order within so_far =
-    let all : List Replacement = news ++ replacement s text ∷ [] in
-    let more =
-    subst (λ (bytes : List ℕ). IsUpTo file.most bytes next.bytes.items)
-    (sym (one_more_replaced file.taken file.source.now news (replacement s text) spans after order
-    within))
-    (puts.put (with_replaced (take file.taken file.source.now) news) so_far) in
-    subst (λ (most : ℕ). IsUpTo most (with_replaced (take next.taken next.source.now) all)
-    next.bytes.items) (sym puts.same.most)
-    (subst (λ (bytes : List ℕ). IsUpTo file.most (with_replaced (take next.taken bytes) all)
-    next.bytes.items) (sym puts.same.source)
-    (subst (λ (at : ℕ). IsUpTo file.most (with_replaced (take at file.source.now) all)
-    next.bytes.items) (sym puts.taken) more))
+    rw (
+      puts.same.most,
+      puts.same.source,
+      puts.taken,
+      one_more_replaced file.taken file.source.now news (replacement s text) spans after order
+          within,
+    ) (puts.put (with_replaced (take file.taken file.source.now) news) so_far)
 
--- one whose proof was put
-pub written_anew : (files : List PlainFile) (p : Progress) (left : Remaining)
-    (taken : List PlainStatement) (s : PlainStatement) (file next : NewFile)
-    → IsWrittenSoFar files taken file → file.too_long ≡ None
-    → (on : IsUnderWay Lenient files p left) → on.earlier ≡ taken ++ s ∷ []
-    → is_theorem_of file.number s ≡ true → PutsProof p.prover.book.statements file s next
-    → IsWrittenSoFar files (taken ++ s ∷ []) next
-written_anew files p left taken s file next w short on all is put =
-    let holds = held files p left taken s on all in
-    let (order, within) = span_stands files taken s left file w holds is in
-    let after = span_follows files taken s left file w holds is in
-    let (t, among) = theorem_met files file.number p left taken s on all is in
-    let more : List PlainStatement = taken ++ s ∷ [] in
-    let old : AreReplacedSoFar taken file = replaced_so_far files taken file w short in
-    let news : List Replacement = old.replaced ++ replacement s put.text ∷ [] in
-    let same = put.puts.same in
-    let own : IsReplacement file.form more s (replacement s put.text) =
-    subst (λ (ss : List PlainStatement). IsReplacement file.form ss s (replacement s put.text))
-    among (put.anew t) in
-    let each : AllZip (IsReplacement file.form more) (theorems_of file.number more) news =
-    subst (λ (ss : List PlainStatement). AllZip (IsReplacement file.form more) ss news)
-    (sym (theorems_parted file.number taken s [] is))
-    (zip_push (IsReplacement file.form more) (theorems_of file.number taken) old.replaced s
-    (replacement s put.text)
-    (all_kept file.form taken (s ∷ []) (theorems_of file.number taken) old.replaced old.each) own) in
-    let so_far : AreReplacedSoFar more next = record {
-      replaced = news;
-      each = subst (λ (f : Form). AllZip (IsReplacement f more) (theorems_of next.number more) news)
-          (sym same.form)
-          (subst (λ (n : ℕ). AllZip (IsReplacement file.form more) (theorems_of n more) news)
-          (sym same.number) each);
-      spans = subst (λ (n : ℕ). AreSpansWithin 0 n news) (sym put.puts.taken)
-          (spans_push 0 file.taken old.replaced (replacement s put.text) old.spans after order);
-      put = put_more file next s put.text old.replaced put.puts old.spans after order within
-          old.put;
-    } in
+module _ {files : List PlainFile} {p : Progress} {left : Remaining} (taken : List PlainStatement)
+    (s : PlainStatement) (on : IsUnderWay Lenient files p left)
+    (all : on.earlier ≡ taken ++ s ∷ []) where
+  held : Holds files taken s left
+  held =
+      subst (λ (ss : List PlainStatement). Reads files ss left.ending)
+      (ap (λ (ss : List PlainStatement). ss ++ left.statements) all
+      ∙ append_assoc taken (s ∷ []) left.statements) on.reads
+
+  -- a theorem
+  pub theorem_met : (number : ℕ) → is_theorem_of number s ≡ true
+      → (t : IsTheoremAmong p.prover.book.statements s) × (t.statements ≡ taken ++ s ∷ [])
+  theorem_met number is = (
     record {
-      own = w.own;
-      handed = ap (slice_get files) same.number ∙ w.handed;
-      source = same.source ∙ w.source;
-      limit = same_limit files file next same w.limit;
-      within = omega (arith, within, put.puts.taken, ap length same.source);
-      last = inr (
-        taken,
-        s,
-        [],
-        refl,
-        provable_proof s (theorem_complete file.number s is),
-        theorem_home file.number s is ∙ sym same.number,
-        put.puts.taken,
-      );
-      so_far = subst (λ (o : Option (List ℕ)). IsSoFar more next o)
-          (sym (ap (option_map (λ l. l.now)) (put.puts.long ∙ short))) so_far;
-    }
+      statements = on.earlier;
+      same = on.known.book;
+      obeyed = on.obeyed;
+      place = length taken;
+      there = ap (λ (ss : List PlainStatement). slice_get ss (length taken)) all
+          ∙ get_parted taken [] s;
+      complete = theorem_complete number s is;
+      room = proof_fits files (taken ++ s ∷ left.statements) left.ending (length taken) s
+          on.readable held (get_parted taken left.statements s);
+    },
+    all,
+  )
 
--- one whose normal proof is too long
-pub label_kept : (files : List PlainFile) (p : Progress) (left : Remaining)
-    (taken : List PlainStatement) (s : PlainStatement) (file next : NewFile)
-    → IsWrittenSoFar files taken file → file.too_long ≡ None
-    → (on : IsUnderWay Lenient files p left) → on.earlier ≡ taken ++ s ∷ []
-    → is_theorem_of file.number s ≡ true → KeepsLabel p.prover.book.statements file s next
-    → IsWrittenSoFar files (taken ++ s ∷ []) next
-label_kept files p left taken s file next w short on all is kept =
-    let (t, among) = theorem_met files file.number p left taken s on all is in
-    let more : List PlainStatement = taken ++ s ∷ [] in
-    let old : AreReplacedSoFar taken file = replaced_so_far files taken file w short in
-    let same = kept.same in
-    let (normal, long) = kept.long in
-    let (place, root, below, proof, over) = long t in
-    let first : IsFirstTooLong more file.number kept.label = record {
-      before = theorems_of file.number taken;
-      s = s;
-      after = [];
-      split = theorems_parted file.number taken s [] is;
-      news = old.replaced;
-      fit = subst (λ (f : Form). AllZip (IsReplacement f more) (theorems_of file.number taken)
-          old.replaced) normal
-          (all_kept file.form taken (s ∷ []) (theorems_of file.number taken) old.replaced old.each);
-      place = place;
-      root = root;
-      below = below;
-      proof = subst (λ (ss : List PlainStatement). HasProofTree ss kept.label place s root below)
-          among proof;
-      long = over;
-    } in
-    record {
-      own = w.own;
-      handed = ap (slice_get files) same.number ∙ w.handed;
-      source = same.source ∙ w.source;
-      limit = same_limit files file next same w.limit;
-      within = omega (arith, w.within, kept.taken, ap length same.source);
-      last = subst (λ (n : ℕ). IsLastEnd n more next.taken) (sym same.number)
-          (subst (λ (n : ℕ). IsLastEnd file.number more n) (sym kept.taken)
-          (last_kept file.number file.taken taken s w.last));
-      so_far = subst (λ (o : Option (List ℕ)). IsSoFar more next o) (sym kept.kept) (
-        same.form ∙ normal,
-        subst (λ (n : ℕ). IsFirstTooLong more n kept.label) (sym same.number) first,
-      );
-    }
+  module _ {file : NewFile} (w : IsWrittenSoFar files taken file)
+      (is : is_theorem_of file.number s ≡ true) where
+    -- it stands in the file
+    pub span_stands : (s.span.0 ≤ s.span.1) × (s.span.1 ≤ length file.source.now)
+    span_stands =
+        let complete = theorem_complete file.number s is in
+        let home = theorem_home file.number s is in
+        let stands : IsProofSpan s w.own.bytes =
+        proofs_stand_in_spans_holds files taken s left.statements left.ending w.own held
+        (provable_proof s complete) (ap (slice_get files) home ∙ w.handed) in
+        let (start, stop) = within_bytes s w.own.bytes stands in (
+          omega (arith, stands.start, stands.stop),
+          subst (λ (bytes : List ℕ). s.span.1 ≤ length bytes) (sym w.source) stop,
+        )
 
--- one whose proof was written
-pub written_on : (files : List PlainFile) (p : Progress) (left : Remaining)
-    (taken : List PlainStatement) (s : PlainStatement) (file next : NewFile)
-    → IsWrittenSoFar files taken file → file.too_long ≡ None
-    → (on : IsUnderWay Lenient files p left) → on.earlier ≡ taken ++ s ∷ []
-    → is_theorem_of file.number s ≡ true
-    → PutsProof p.prover.book.statements file s next
-    ⊎ KeepsLabel p.prover.book.statements file s next
-    → (IsWrittenSoFar files on.earlier next) × (next.number ≡ file.number)
-    × (next.form ≡ file.form)
-written_on files p left taken s file next w short on all is (inl put) = (
-  subst (λ (ss : List PlainStatement). IsWrittenSoFar files ss next) (sym all)
-      (written_anew files p left taken s file next w short on all is put),
-  put.puts.same.number,
-  put.puts.same.form,
-)
-written_on files p left taken s file next w short on all is (inr kept) = (
-  subst (λ (ss : List PlainStatement). IsWrittenSoFar files ss next) (sym all)
-      (label_kept files p left taken s file next w short on all is kept),
-  kept.same.number,
-  kept.same.form,
-)
+    -- behind what was taken
+    pub span_follows : file.taken ≤ s.span.0
+    span_follows =
+        follows files file.number file.taken taken s left held
+        (provable_proof s (theorem_complete file.number s is)) (theorem_home file.number s is)
+        w.last
+
+    -- its proof was put
+    written_anew : (next : NewFile) → file.too_long ≡ None
+        → PutsProof p.prover.book.statements file s next
+        → IsWrittenSoFar files (taken ++ s ∷ []) next
+    written_anew next short put =
+        let (order, within) = span_stands in
+        let (t, among) = theorem_met file.number is in
+        let more : List PlainStatement = taken ++ s ∷ [] in
+        let old : AreReplacedSoFar taken file = replaced_so_far files taken file w short in
+        let new : Replacement = replacement s put.text in
+        let news : List Replacement = old.replaced ++ new ∷ [] in
+        let same = put.puts.same in
+        let each : AllZip (IsReplacement file.form more) (theorems_of file.number more) news =
+        rw (theorems_parted file.number taken s [] is)
+        (zip_push (IsReplacement file.form more) (theorems_of file.number taken) old.replaced s new
+        (all_kept file.form taken (s ∷ []) (theorems_of file.number taken) old.replaced old.each)
+        (rw among at (put.anew t))) in
+        let so_far : AreReplacedSoFar more next = record {
+          replaced = news;
+          each = rw (same.form, same.number) each;
+          spans = rw put.puts.taken
+              (spans_push 0 file.taken old.replaced new old.spans span_follows order);
+          put = put_more file next s put.text old.replaced put.puts old.spans span_follows order
+              within old.put;
+        } in
+        record {
+          own = w.own;
+          handed = ap (slice_get files) same.number ∙ w.handed;
+          source = same.source ∙ w.source;
+          limit = same_limit files file next same w.limit;
+          within = omega (arith, within, put.puts.taken, ap length same.source);
+          last = inr (
+            taken,
+            s,
+            [],
+            refl,
+            provable_proof s (theorem_complete file.number s is),
+            theorem_home file.number s is ∙ sym same.number,
+            put.puts.taken,
+          );
+          so_far = subst (λ (o : Option (List ℕ)). IsSoFar more next o)
+              (sym (ap (option_map (λ l. l.now)) (put.puts.long ∙ short))) so_far;
+        }
+
+    -- its normal proof is too long
+    label_kept : (next : NewFile) → file.too_long ≡ None
+        → KeepsLabel p.prover.book.statements file s next
+        → IsWrittenSoFar files (taken ++ s ∷ []) next
+    label_kept next short kept =
+        let (t, among) = theorem_met file.number is in
+        let more : List PlainStatement = taken ++ s ∷ [] in
+        let old : AreReplacedSoFar taken file = replaced_so_far files taken file w short in
+        let same = kept.same in
+        let (normal, long) = kept.long in
+        let (place, root, below, proof, over) = long t in
+        let first : IsFirstTooLong more file.number kept.label = record {
+          before = theorems_of file.number taken;
+          s = s;
+          after = [];
+          split = theorems_parted file.number taken s [] is;
+          news = old.replaced;
+          fit = subst (λ (f : Form). AllZip (IsReplacement f more) (theorems_of file.number taken)
+              old.replaced) normal
+              (all_kept file.form taken (s ∷ []) (theorems_of file.number taken) old.replaced
+              old.each);
+          place = place;
+          root = root;
+          below = below;
+          proof = rw among at proof;
+          long = over;
+        } in
+        record {
+          own = w.own;
+          handed = ap (slice_get files) same.number ∙ w.handed;
+          source = same.source ∙ w.source;
+          limit = same_limit files file next same w.limit;
+          within = omega (arith, w.within, kept.taken, ap length same.source);
+          last = rw (same.number, kept.taken)
+              (last_kept file.number file.taken taken s w.last);
+          so_far = subst (λ (o : Option (List ℕ)). IsSoFar more next o) (sym kept.kept) (
+            same.form ∙ normal,
+            subst (λ (n : ℕ). IsFirstTooLong more n kept.label) (sym same.number) first,
+          );
+        }
+
+    -- either was
+    pub written_on : (next : NewFile) → file.too_long ≡ None
+        → PutsProof p.prover.book.statements file s next
+        ⊎ KeepsLabel p.prover.book.statements file s next
+        → IsWrittenSoFar files on.earlier next × (next.number ≡ file.number)
+        × (next.form ≡ file.form)
+    written_on next short (inl put) = (
+      subst (λ (ss : List PlainStatement). IsWrittenSoFar files ss next) (sym all)
+          (written_anew next short put),
+      put.puts.same.number,
+      put.puts.same.form,
+    )
+    written_on next short (inr kept) = (
+      subst (λ (ss : List PlainStatement). IsWrittenSoFar files ss next) (sym all)
+          (label_kept next short kept),
+      kept.same.number,
+      kept.same.form,
+    )
 
 -- ---- the end
 
@@ -422,8 +382,7 @@ judged_all files p q old new s more file goes is way w =
       end.way.earlier,
       record {
         readable = end.way.readable;
-        reads = subst (λ (e : Option PlainFault). Reads files end.way.earlier e) end.ending
-            (none_left Lenient files q new end.way end.none);
+        reads = read_to_end end;
         obeyed = end.way.obeyed;
       },
       subst (λ (ss : List PlainStatement). IsWrittenSoFar files ss file) (sym same) w,
@@ -479,12 +438,11 @@ own_fault : (files : List PlainFile) (file : NewFile) (why : AskFault) → file.
     → IsAllWritten files file → IsFinishFault file why
     → IsSavingAllFault file.form files file.number (fault.Ask why)
 own_fault files file why short (statements, accepted, w) (inl memory) =
-    subst (λ (f : AskFault). IsSavingAllFault file.form files file.number (fault.Ask f))
-    (sym memory) (statements, accepted, tt)
+    rw memory (statements, accepted, tt)
 own_fault files file why short (statements, accepted, w) (inr (is, over)) =
     let h : AreReplacedSoFar statements file = replaced_so_far files statements file w short in
     let bytes : List ℕ = made_of statements file h ++ drop file.taken file.source.now in
-    subst (λ (f : AskFault). IsSavingAllFault file.form files file.number (fault.Ask f)) (sym is) (
+    rw is (
       statements,
       accepted,
       (

@@ -14,7 +14,6 @@ use Rattle.mm_frame.specs.Numbers.{IsNumbered}
 use Rattle.mm_frame.proofs.Meant.{one_label}
 use Rattle.mm_proof.specs.declared.profile.Profile.TheVariants.{Lenient}
 use Rattle.mm_proof.specs.Tokens.{SayMoves}
-use Rattle.mm_proof.specs.Packing.{OfTree}
 use Rattle.mm_proof.specs.ReadSteps.{ReadSteps}
 use Rattle.mm_proof.specs.Steps.{IsProofNumber}
 use Rattle.mm_proof.specs.Tree.{spelling}
@@ -33,7 +32,7 @@ use Rattle.mm_check.specs.Mirror.AllSaving.{IsTheoremAmong, IsTheoremFault, HasT
 use Rattle.mm_check.specs.Mirror.AllSaving.{replacement}
 use Rattle.mm_check.proofs.Asked.{map-take, hypothesis_other}
 use Rattle.mm_check.proofs.Rereading.{said_there, proof_stands}
-use Rattle.mm_check.proofs.Theorems.{of_theorem, tree_made, has_tree}
+use Rattle.mm_check.proofs.Theorems.{tree_told}
 use Rattle.mm_check.proofs.Saving.{provable_proof}
 
 -- ---- its number
@@ -110,58 +109,31 @@ proof_among told s id tokens t number texts =
           subst (λ (ss : List Sentence). IsNumbered ss id t.place (sentence_of s)) t.same
           number.numbered;
     } in
-    subst (λ (ts : List (List ℕ)). IsProofOf Lenient told id ts) (sym texts)
-    (subst (λ (ss : List Sentence). IsProofOf Lenient ss id (proof_of s)) (sym t.same)
-    (proof_stands Lenient t.statements id t.place s t.obeyed at t.complete))
+    rw (texts, t.same)
+    (proof_stands Lenient t.statements id t.place s t.obeyed at t.complete)
 
-steps_among : (told : List Sentence) (s : PlainStatement) (label : List ℕ)
+abbrev steps_among : (told : List Sentence) (s : PlainStatement) (label : List ℕ)
     (id : ℕ) (steps : ReadSteps) (t : IsTheoremAmong told s)
     → IsLabelled label (sentence_of s) → IsProofNumber told id t.place (sentence_of s)
     → SayStepsOf told id (proof_of s) steps.moves
-    → (r : AreStepsOf t.statements label id steps.moves) × (r.place ≡ t.place) × (r.s ≡ s)
+    → AreStepsOf t.statements label id steps.moves
 steps_among told s label id steps t named number said =
     let own : IsProofNumber (sentences t.statements) id t.place (sentence_of s) =
     subst (λ (ss : List Sentence). IsProofNumber ss id t.place (sentence_of s)) t.same number in
     let here : SayStepsOf (sentences t.statements) id (proof_of s) steps.moves =
     subst (λ (ss : List Sentence). SayStepsOf ss id (proof_of s) steps.moves) t.same said in
-    let moves = here t.place (sentence_of s) own in (
-      record {
-        place = t.place;
-        s = s;
-        there = t.there;
-        named = named;
-        complete = t.complete;
-        number = own;
-        moves = moves.0;
-        told =
-            subst (λ (ss : List Sentence). SayMoves ss (sentence_of s) (proof_of s) moves.0)
-            (sym (map-take t.place t.statements)) moves.1;
-        numbered = moves.2;
-      },
-      refl,
-      refl,
-    )
-
-replaced_so : (form : Form) (told : List Sentence) (statements : List PlainStatement)
-    (label : List ℕ) (id : ℕ) (steps : ReadSteps) (text : List ℕ) → told ≡ sentences statements
-    → (r : AreStepsOf statements label id steps.moves) → AreProvedSteps told id steps
-    → IsTextOf form told id steps.moves text
-    → IsReplacement form statements r.s (replacement r.s text)
-replaced_so form told statements label id steps text same r proved laid =
-    let made = tree_made told statements label id steps same r proved in
-    let written =
-    of_theorem told statements label id steps.moves
-    (λ before s moves. OfTree before moves (λ trees. IsTextIn form before s trees text)) same r laid in
+    let moves = here t.place (sentence_of s) own in
     record {
-      label = label;
-      place = r.place;
-      root = made.0;
-      below = made.1;
-      proof = has_tree statements label id steps.moves r made.0 made.1 made.2;
-      text = text;
-      laid = written made.0 made.1 made.2;
-      span = refl;
-      put = refl;
+      place = t.place;
+      s = s;
+      there = t.there;
+      named = named;
+      complete = t.complete;
+      number = own;
+      moves = moves.0;
+      told = subst (λ (ss : List Sentence). SayMoves ss (sentence_of s) (proof_of s) moves.0)
+          (sym (map-take t.place t.statements)) moves.1;
+      numbered = moves.2;
     }
 
 -- written in a form
@@ -173,32 +145,34 @@ pub theorem_replaced : (form : Form) (told : List Sentence)
     → IsTextOf form told id steps.moves text
     → IsReplacement form t.statements s (replacement s text)
 theorem_replaced form told s label id steps text t named number said proved laid =
-    let (r, place, same) = steps_among told s label id steps t named number said in
-    subst (λ (u : PlainStatement). IsReplacement form t.statements u (replacement u text)) same
-    (replaced_so form told t.statements label id steps text t.same r proved laid)
+    let (root, below, has, written) =
+    tree_told told t.statements label id steps t.same
+    (steps_among told s label id steps t named number said) proved
+    (λ before u trees. IsTextIn form before u trees text) laid in
+    record {
+      label = label;
+      place = t.place;
+      root = root;
+      below = below;
+      proof = has;
+      text = text;
+      laid = written;
+      span = refl;
+      put = refl;
+    }
 
 -- its normal proof is too long
-long_so : (told : List Sentence) (statements : List PlainStatement) (label : List ℕ) (id : ℕ)
-    (steps : ReadSteps) → told ≡ sentences statements
-    → (r : AreStepsOf statements label id steps.moves) → AreProvedSteps told id steps
-    → IsTooLong told id steps.moves → HasTooLongProof statements r.s label
-long_so told statements label id steps same r proved long =
-    let made = tree_made told statements label id steps same r proved in
-    let over =
-    of_theorem told statements label id steps.moves
-    (λ before s moves. OfTree before moves (λ trees. most_labels < length (spelling trees))) same r
-    long in
-    (r.place, made.0, made.1, has_tree statements label id steps.moves r made.0 made.1 made.2, over made.0 made.1 made.2)
-
 theorem_long : (told : List Sentence) (s : PlainStatement) (label : List ℕ) (id : ℕ)
     (steps : ReadSteps) (t : IsTheoremAmong told s) → IsLabelled label (sentence_of s)
     → IsProofNumber told id t.place (sentence_of s) → SayStepsOf told id (proof_of s) steps.moves
     → AreProvedSteps told id steps → IsTooLong told id steps.moves
     → HasTooLongProof t.statements s label
 theorem_long told s label id steps t named number said proved long =
-    let (r, place, same) = steps_among told s label id steps t named number said in
-    subst (λ (u : PlainStatement). HasTooLongProof t.statements u label) same
-    (long_so told t.statements label id steps t.same r proved long)
+    let (root, below, has, over) =
+    tree_told told t.statements label id steps t.same
+    (steps_among told s label id steps t named number said) proved
+    (λ before u trees. most_labels < length (spelling trees)) long in
+    (t.place, root, below, has, over)
 
 -- why it isn't written
 memory_wanting : (f : Form) (told : List Sentence) (s : PlainStatement) (why : AskFault)

@@ -1,20 +1,15 @@
 -- What is accepted is proved; what is not has its first fault.
-use Rattle.std.proofs.Common.{ℕ, Err, ap}
-use Rattle.mm_proof.specs.declared.fault.ProofRule.{ProofRule}
-use Rattle.mm_proof.specs.Profiles.{limit_of}
-use Rattle.mm_proof.specs.Verified.{OfMoves, FailsWith}
+use Rattle.std.proofs.Common.{Err, ap}
 use Rattle.mm_check.specs.Compared.{text_fault}
-use Rattle.mm_check.specs.Mirror.Comparisons.{FailsAs}
 use Rattle.mm_check.proofs.Comparing.{fails_as}
 use Rattle.mm_text.proofs.Results.{error_keeps}
 use Rattle.mm_check.proofs.comparison.judge_steps.Goals as goal
 
 pub returns-in_err-_used-clause-fault : goal.returns-in_err-_used-clause-fault
 returns-in_err-_used-clause-fault c =
-    error_keeps c.from_residual.result (text_fault c.in_err-_used.field-0.0) (FailsAs c.args.book.now.statements c.args.id.0 c.args.steps.now) c.from_residual.ensures.1
-    (fails_as c.in_err-_used.field-0.0
-    (λ (rule : ProofRule) (step : ℕ). OfMoves c.args.book.now.statements c.args.id.0 c.args.steps.now.moves
-    (λ place s moves. FailsWith (limit_of c.args.steps.now.profile) c.args.book.now.statements place s moves rule step))
+    error_keeps c.from_residual.result (text_fault c.in_err-_used.field-0.0) _
+    c.from_residual.ensures.1
+    (fails_as c.in_err-_used.field-0.0 _
     (λ rule step is. c.in_err-_used.ensures.fault c.requires.whole rule step (ap Err is)))
 
 pub returns-clause-proved : goal.returns-clause-proved

@@ -1,25 +1,17 @@
 -- The steps are what the tokens say; a fault of theirs is one of the tokens.
-use Rattle.std.proofs.Common.{ℕ, List, take, Ok, Err, inl, ap}
+use Rattle.std.proofs.Common.{Ok, Err, inl, ap}
 use Rattle.std.proofs.lemmas.Bool.{both_ways}
 use Rattle.mm_code.specs.Layout.{texts}
-use Rattle.mm_proof.specs.declared.fault.ProofRule.{ProofRule}
-use Rattle.mm_proof.specs.Parsed.{OfProof}
-use Rattle.mm_proof.specs.UnderProfile.{IsFaultUnder}
 use Rattle.mm_check.specs.Compared.{text_fault}
-use Rattle.mm_check.specs.Mirror.Comparisons.{IsUnproved}
 use Rattle.mm_check.proofs.Comparing.{fails_as, unproved_of}
 use Rattle.mm_text.proofs.Results.{error_keeps}
 use Rattle.mm_check.proofs.comparison.proved_steps.Goals as goal
 
 pub returns-in_err-steps-clause-fault : goal.returns-in_err-steps-clause-fault
 returns-in_err-steps-clause-fault c =
-    let tokens : List (List ℕ) = texts c.args.tokens.now in
-    error_keeps c.from_residual.result (text_fault c.in_err-steps.field-0.0)
-    (IsUnproved c.args.profile c.args.book.now.statements c.args.id.0 tokens)
+    error_keeps c.from_residual.result (text_fault c.in_err-steps.field-0.0) _
     c.from_residual.ensures.1
-    (fails_as c.in_err-steps.field-0.0
-    (λ (rule : ProofRule) (step : ℕ). OfProof c.args.book.now.statements c.args.id.0 (λ place s.
-    IsFaultUnder c.args.profile (take place c.args.book.now.statements) s tokens rule step))
+    (fails_as c.in_err-steps.field-0.0 _
     (λ rule step is place s number. inl (c.in_err-steps.ensures.fault
     (both_ways _ c.requires.complete) rule step (ap Err is) place s number)))
 
@@ -34,14 +26,13 @@ judge_steps-requires-clause-whole c =
 
 pub returns-in_err-judge_steps-in-Steps-clause-fault : goal.returns-in_err-judge_steps-in-Steps-clause-fault
 returns-in_err-judge_steps-in-Steps-clause-fault c =
-    let tokens : List (List ℕ) = texts c.args.tokens.now in
     let was = ap Ok c.in-Steps.is in
     error_keeps c.from_residual-in_err-judge_steps-in-Steps.result
-    c.in_err-judge_steps-in-Steps.field-0.0
-    (IsUnproved c.args.profile c.args.book.now.statements c.args.id.0 tokens)
+    c.in_err-judge_steps-in-Steps.field-0.0 _
     c.from_residual-in_err-judge_steps-in-Steps.ensures.1
-    (unproved_of c.args.profile c.args.book.now.statements c.args.id.0 tokens c.in-Steps.steps
-    c.in_err-judge_steps-in-Steps.field-0.0 (c.in_ok-steps.ensures.profile c.in-Steps.steps was)
+    (unproved_of c.args.profile c.args.book.now.statements c.args.id.0 (texts c.args.tokens.now)
+    c.in-Steps.steps c.in_err-judge_steps-in-Steps.field-0.0
+    (c.in_ok-steps.ensures.profile c.in-Steps.steps was)
     (c.in_ok-steps.ensures.steps c.in-Steps.steps was)
     (c.in_ok-steps.ensures.form c.in-Steps.steps was)
     c.in_err-judge_steps-in-Steps.ensures.fault)

@@ -1,13 +1,8 @@
 -- The report, or the fault, is that of the statements.
-use Rattle.std.proofs.Common.{◌≡◌, ℕ, List, map, None, inl, inr, ap, ◌∙◌}
-use Rattle.mm_text.specs.Statement.{PlainStatement}
-use Rattle.mm_text.specs.Reading.{Reads}
+use Rattle.std.proofs.Common.{ℕ, List, map, inl, inr, ap, ◌∙◌}
+use Rattle.std.proofs.lemmas.Result.{IfOk-weaker}
 use Rattle.mm_frame.specs.declared.number.LabelId.{LabelId}
-use Rattle.mm_check.specs.declared.question.Reply.{Reply}
-use Rattle.mm_check.specs.Status.{number_of}
-use Rattle.mm_check.specs.Verdict.{labels_of}
-use Rattle.mm_check.specs.Reply.{report_text, IsAskReply, IsAxiomsReply}
-use Rattle.mm_check.proofs.Replies.{made}
+use Rattle.mm_check.specs.Reply.{report_text}
 use Rattle.mm_check.proofs.question.axioms_answer.Goals as goal
 
 pub returns-in_ok-text-in-Ok : goal.returns-in_ok-text-in-Ok
@@ -24,8 +19,7 @@ returns-in_ok-text-in-Ok c = λ statements reads labels.
 
 pub returns-in-Err : goal.returns-in-Err
 returns-in-Err c =
-    made c.ask_reply.result
-    (λ (reply : Reply). IsAskReply c.in-Err.fault c.args.label.now reply.text.items (number_of reply.status))
-    (λ (reply : Reply). (statements : List PlainStatement) → Reads c.args.checked.now.files statements None → c.args.checked.now.labels ≡ labels_of statements
-    → IsAxiomsReply c.args.label.now statements reply.text.items (number_of reply.status))
-    (λ reply h statements reads labels. inl (c.in-Err.fault, c.in-Err.ensures.fault statements reads, h)) c.ask_reply.ensures
+    IfOk-weaker c.ask_reply.result _ _
+    (λ reply h statements reads labels.
+    inl (c.in-Err.fault, c.in-Err.ensures.fault statements reads, h))
+    c.ask_reply.ensures

@@ -1,6 +1,6 @@
 -- The statements are those that were checked.
-use Rattle.std.proofs.Common.{◌≡◌, List, map, None, sym, subst}
-use Rattle.mm_text.specs.Files.{PlainFile, plain_file}
+use Rattle.std.proofs.Common.{List, None, sym, subst}
+use Rattle.mm_text.specs.Files.{PlainFile}
 use Rattle.mm_text.specs.Reading.{Reads}
 use Rattle.mm_proof.specs.declared.profile.Profile.TheVariants.{Lenient}
 use Rattle.mm_check.specs.Saved.{IsSaved, FitsSaved, IsSaveFault}
@@ -9,9 +9,8 @@ use Rattle.mm_check.proofs.save.saved.Goals as goal
 
 pub returns-in-Ok-answer-clause-saved : goal.returns-in-Ok-answer-clause-saved
 returns-in-Ok-answer-clause-saved c =
-    let files : List PlainFile = map plain_file c.args.files.now in
-    let found = accepted_of Lenient files c.check.result c.in-Ok.checked c.in-Ok.is c.check.ensures.verdict in
-    let kept : c.in-Ok.checked.files ≡ files = c.in-Ok.ensures.files in
+    let found = accepted_of Lenient _ c.check.result c.in-Ok.checked c.in-Ok.is c.check.ensures.verdict in
+    let kept = c.in-Ok.ensures.files in
     let reads : Reads c.in-Ok.checked.files found.0 None = subst (λ (fs : List PlainFile). Reads fs found.0 None) (sym kept) found.1.reads in (
       found.0,
       found.1,
@@ -21,9 +20,8 @@ returns-in-Ok-answer-clause-saved c =
 
 pub returns-in-Err-answer-clause-fault : goal.returns-in-Err-answer-clause-fault
 returns-in-Err-answer-clause-fault c =
-    let files : List PlainFile = map plain_file c.args.files.now in
-    let found = accepted_of Lenient files c.check.result c.in-Ok.checked c.in-Ok.is c.check.ensures.verdict in
-    let kept : c.in-Ok.checked.files ≡ files = c.in-Ok.ensures.files in
+    let found = accepted_of Lenient _ c.check.result c.in-Ok.checked c.in-Ok.is c.check.ensures.verdict in
+    let kept = c.in-Ok.ensures.files in
     let reads : Reads c.in-Ok.checked.files found.0 None = subst (λ (fs : List PlainFile). Reads fs found.0 None) (sym kept) found.1.reads in (
       found.0,
       found.1,

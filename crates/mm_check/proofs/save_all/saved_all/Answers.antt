@@ -1,9 +1,8 @@
 -- What was written is what is saved, or why nothing is.
-use Rattle.std.proofs.Common.{List, map}
-use Rattle.mm_text.specs.Files.{PlainFile, plain_file}
+use Rattle.std.proofs.Common.{map}
+use Rattle.mm_text.specs.Files.{plain_file}
 use Rattle.mm_text.proofs.Results.{error_keeps}
 use Rattle.mm_check.specs.declared.save_fault.SaveFault.TheVariants as fault
-use Rattle.mm_check.specs.AllSaved.{IsSavingAllFault}
 use Rattle.mm_check.proofs.WrittenFiles.{all_saved, finish_fault}
 use Rattle.mm_check.proofs.save_all.saved_all.Goals as goal
 
@@ -16,9 +15,8 @@ returns-clause-saved c =
 
 pub returns-in_err-finish-in-None-clause-fault : goal.returns-in_err-finish-in-None-clause-fault
 returns-in_err-finish-in-None-clause-fault c =
-    let files : List PlainFile = map plain_file c.args.files.now in
-    error_keeps c.from_residual.result (fault.Ask c.in_err-finish-in-None.field-0.0)
-    (IsSavingAllFault c.args.form files c.args.number) c.from_residual.ensures.1
-    (finish_fault c.args.form files c.args.number c.in-Ok-outcome.file
+    error_keeps c.from_residual.result (fault.Ask c.in_err-finish-in-None.field-0.0) _
+    c.from_residual.ensures.1
+    (finish_fault c.args.form (map plain_file c.args.files.now) c.args.number c.in-Ok-outcome.file
     c.in_err-finish-in-None.field-0.0 c.in-Ok-outcome.ensures.form c.in-Ok-outcome.ensures.number
     c.in-None.is c.in-Ok-outcome.ensures.written c.in_err-finish-in-None.ensures.fault)

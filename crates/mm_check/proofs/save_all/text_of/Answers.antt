@@ -1,14 +1,12 @@
 -- What is told of the steps is told of the theorem.
-use Rattle.std.proofs.Common.{ℕ, List, map, sym, subst}
+use Rattle.std.proofs.Common.{ℕ, List, map}
+use Rattle.std.proofs.lemmas.Result.{IfOk-weaker}
 use Rattle.mm_text.specs.Statement.{PlainStatement, plain_statement}
 use Rattle.mm_frame.specs.Sentence.{Sentence, sentence_of}
 use Rattle.mm_proof.specs.Steps.{IsProofNumber}
 use Rattle.mm_check.specs.Verdict.{proof_of}
-use Rattle.mm_check.specs.AllSaved.{IsReplacement}
-use Rattle.mm_check.specs.Mirror.AllSaving.{IsTheoremAmong, IsTheoremFault, replacement}
-use Rattle.mm_check.specs.Mirror.Rewriting.{IsTextOf, IsTextFault}
+use Rattle.mm_check.specs.Mirror.AllSaving.{IsTheoremAmong}
 use Rattle.mm_check.specs.Mirror.Theorems.{SayStepsOf}
-use Rattle.mm_check.proofs.Replies.{made}
 use Rattle.mm_check.proofs.Theorems.{why}
 use Rattle.mm_check.proofs.WrittenTheorems.{theorem_under, number_among, proof_among}
 use Rattle.mm_check.proofs.WrittenTheorems.{theorem_replaced, theorem_fault}
@@ -35,17 +33,12 @@ returns-clause-text c =
     let told : List Sentence = c.args.book.now.statements in
     let id : ℕ = c.in_ok-theorem.theorem.id.0 in
     let number : (t : IsTheoremAmong told s) → IsProofNumber told id t.place (sentence_of s) =
-    λ t. subst (λ (n : ℕ). IsProofNumber told n t.place (sentence_of s))
-    (sym c.in_ok-theorem.ensures.id)
+    λ t. rw c.in_ok-theorem.ensures.id
     (number_among told s c.label_of.result.now c.number_of-id.result.0 t c.label_of.ensures
     c.number_of-id.ensures) in
     let said : SayStepsOf told id (proof_of s) c.in_ok-theorem.theorem.steps.moves =
-    subst (λ (ts : List (List ℕ)). SayStepsOf told id ts c.in_ok-theorem.theorem.steps.moves)
-    c.requires.tokens c.in_ok-theorem.ensures.said in
-    made c.proof_text.result
-    (λ text. IsTextOf c.args.form told id c.in_ok-theorem.theorem.steps.moves text.items)
-    (λ text. (t : IsTheoremAmong told s)
-    → IsReplacement c.args.form t.statements s (replacement s text.items))
+    rw c.requires.tokens at c.in_ok-theorem.ensures.said in
+    IfOk-weaker c.proof_text.result _ _
     (λ text laid t. theorem_replaced c.args.form told s c.label_of.result.now id
     c.in_ok-theorem.theorem.steps text.items t c.label_of.ensures (number t) said
     c.in_ok-theorem.ensures.proved laid)
@@ -57,16 +50,12 @@ returns-clause-fault c =
     let told : List Sentence = c.args.book.now.statements in
     let id : ℕ = c.in_ok-theorem.theorem.id.0 in
     let number : (t : IsTheoremAmong told s) → IsProofNumber told id t.place (sentence_of s) =
-    λ t. subst (λ (n : ℕ). IsProofNumber told n t.place (sentence_of s))
-    (sym c.in_ok-theorem.ensures.id)
+    λ t. rw c.in_ok-theorem.ensures.id
     (number_among told s c.label_of.result.now c.number_of-id.result.0 t c.label_of.ensures
     c.number_of-id.ensures) in
     let said : SayStepsOf told id (proof_of s) c.in_ok-theorem.theorem.steps.moves =
-    subst (λ (ts : List (List ℕ)). SayStepsOf told id ts c.in_ok-theorem.theorem.steps.moves)
-    c.requires.tokens c.in_ok-theorem.ensures.said in
-    why c.proof_text.result
-    (IsTextFault c.args.form told id c.in_ok-theorem.theorem.steps.moves)
-    (IsTheoremFault c.args.form told s)
+    rw c.requires.tokens at c.in_ok-theorem.ensures.said in
+    why c.proof_text.result _ _
     (λ fault is. theorem_fault c.args.form told s id c.in_ok-theorem.theorem.steps fault number said
     c.in_ok-theorem.ensures.proved is)
     c.proof_text.ensures.fault

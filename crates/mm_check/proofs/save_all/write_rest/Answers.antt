@@ -8,7 +8,7 @@ use Rattle.mm_proof.specs.declared.profile.Profile.TheVariants.{Lenient}
 use Rattle.mm_check.specs.Mirror.Judged.{IsUnderWay}
 use Rattle.mm_check.specs.Mirror.AllSaving.{IsTheoremAmong, IsWrittenSoFar}
 use Rattle.mm_check.specs.Mirror.AllSaving.{PutsProof, KeepsLabel}
-use Rattle.mm_check.proofs.WrittenFiles.{Holds, held, judged_on, judged_all, theorem_met}
+use Rattle.mm_check.proofs.WrittenFiles.{judged_on, judged_all, theorem_met}
 use Rattle.mm_check.proofs.WrittenFiles.{span_stands, span_follows, passed_over, written_on}
 use Rattle.mm_check.proofs.save_all.write_rest.Goals as goal
 
@@ -23,40 +23,28 @@ judged c =
     c.in_ok-judge_next.field-0 c.in_ok-judge_next.ensures.judged c.if-branch.true
     c.loop-tokens.invariant.0
 
-holds : (c : goal.After-tokens-1) → Holds (map plain_file c.args.files.now)
-    c.loop-tokens.invariant.0.earlier (plain_statement c.judge_next.new.into)
-    c.judge_next.new.statements
-holds c =
-    held (map plain_file c.args.files.now) c.judge_next.new.progress c.judge_next.new.statements
-    c.loop-tokens.invariant.0.earlier (plain_statement c.judge_next.new.into) (judged c).0
-    (judged c).1
-
 pub write-requires-clause-theorem : goal.write-requires-clause-theorem
 write-requires-clause-theorem c =
     let s : PlainStatement = plain_statement c.judge_next.new.into in
     subst (λ (ss : List Sentence). IsTheoremAmong ss s)
     (sym (ap (λ b. b.statements) c.book.ensures))
-    (theorem_met (map plain_file c.args.files.now) c.loop-tokens.file.number
-    c.judge_next.new.progress c.judge_next.new.statements c.loop-tokens.invariant.0.earlier s
-    (judged c).0 (judged c).1 (c.wants.ensures.0 c.if-wants.true).1).0
+    (theorem_met c.loop-tokens.invariant.0.earlier s (judged c).0 (judged c).1
+    c.loop-tokens.file.number (c.wants.ensures.0 c.if-wants.true).1).0
 
 pub write-requires-clause-after : goal.write-requires-clause-after
 write-requires-clause-after c =
-    span_follows (map plain_file c.args.files.now) c.loop-tokens.invariant.0.earlier
-    (plain_statement c.judge_next.new.into) c.judge_next.new.statements c.loop-tokens.file
-    c.loop-tokens.invariant.1 (holds c) (c.wants.ensures.0 c.if-wants.true).1
+    span_follows c.loop-tokens.invariant.0.earlier (plain_statement c.judge_next.new.into)
+    (judged c).0 (judged c).1 c.loop-tokens.invariant.1 (c.wants.ensures.0 c.if-wants.true).1
 
 pub write-requires-clause-order : goal.write-requires-clause-order
 write-requires-clause-order c =
-    (span_stands (map plain_file c.args.files.now) c.loop-tokens.invariant.0.earlier
-    (plain_statement c.judge_next.new.into) c.judge_next.new.statements c.loop-tokens.file
-    c.loop-tokens.invariant.1 (holds c) (c.wants.ensures.0 c.if-wants.true).1).0
+    (span_stands c.loop-tokens.invariant.0.earlier (plain_statement c.judge_next.new.into)
+    (judged c).0 (judged c).1 c.loop-tokens.invariant.1 (c.wants.ensures.0 c.if-wants.true).1).0
 
 pub write-requires-clause-within : goal.write-requires-clause-within
 write-requires-clause-within c =
-    (span_stands (map plain_file c.args.files.now) c.loop-tokens.invariant.0.earlier
-    (plain_statement c.judge_next.new.into) c.judge_next.new.statements c.loop-tokens.file
-    c.loop-tokens.invariant.1 (holds c) (c.wants.ensures.0 c.if-wants.true).1).1
+    (span_stands c.loop-tokens.invariant.0.earlier (plain_statement c.judge_next.new.into)
+    (judged c).0 (judged c).1 c.loop-tokens.invariant.1 (c.wants.ensures.0 c.if-wants.true).1).1
 
 pub loop-tokens-preserved-in-Continue-branch-2 : goal.loop-tokens-preserved-in-Continue-branch-2
 loop-tokens-preserved-in-Continue-branch-2 c =
@@ -69,8 +57,7 @@ loop-tokens-preserved-in-Continue-branch-2 c =
     c.if-branch.true way in
     let (short, is) = c.wants.ensures.0 c.if-wants.true in
     let (written, same, alike) =
-    written_on files c.judge_next.new.progress c.judge_next.new.statements way.earlier s
-    c.loop-tokens.file c.write.new.self w short on all is
+    written_on way.earlier s on all w is c.write.new.self short
     (subst (λ (b : List Sentence). PutsProof b c.loop-tokens.file s c.write.new.self
     ⊎ KeepsLabel b c.loop-tokens.file s c.write.new.self) (ap (λ b. b.statements) c.book.ensures)
     c.in_ok-write.ensures.written) in

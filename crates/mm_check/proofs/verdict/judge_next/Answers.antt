@@ -1,90 +1,61 @@
 -- The next statement is judged where one is left.
-use Rattle.std.proofs.Common.{Bool, true, List, map, Ok, sym, ap, subst, arith}
+use Rattle.std.proofs.Common.{true, List, map, Ok, ap, subst, arith}
 use Rattle.mm_text.specs.Statement.{PlainStatement, plain_statement, HasForm}
 use Rattle.mm_text.specs.Files.{PlainFile, plain_file}
 use Rattle.mm_text.proofs.Results.{error_keeps}
 use Rattle.mm_check.specs.declared.progress.Progress.{Progress}
-use Rattle.mm_check.specs.Mirror.Judged.{GoesOn, IsUnderWay, TakesNext, TellsVerdict}
+use Rattle.mm_check.specs.Mirror.Judged.{GoesOn, IsUnderWay, TakesNext}
 use Rattle.mm_check.proofs.Course.{goes_on, at_end, end_verdict, statement_verdict}
 use Rattle.mm_check.proofs.OnTheWay.{closes, has_room, count_small, proofs_small}
 use Rattle.mm_check.proofs.verdict.judge_next.Goals as goal
 
 pub returns-in_err-next-clause-refused : goal.returns-in_err-next-clause-refused
 returns-in_err-next-clause-refused c =
-    let files : List PlainFile = map plain_file c.args.files.now in
-    error_keeps c.from_residual.result c.in_err-next.field-0.0 (TellsVerdict c.args.profile files)
-    c.from_residual.ensures.1
-    (end_verdict c.args.profile files c.args.progress.now c.args.statements.now
-    c.in_err-next.field-0.0 c.requires c.in_err-next.ensures.refused)
+    error_keeps c.from_residual.result c.in_err-next.field-0.0 _ c.from_residual.ensures.1
+    (end_verdict _ _ _ _ c.in_err-next.field-0.0 c.requires c.in_err-next.ensures.refused)
 
 pub returns-then-not-branch-clause-judged : goal.returns-then-not-branch-clause-judged
 returns-then-not-branch-clause-judged c =
     at_end c.args.profile (map plain_file c.args.files.now) c.args.progress.now
     c.args.statements.now c.next.new.statements (plain_statement c.next.new.into)
-    (subst (λ (b : Bool). TakesNext c.args.statements.now b (plain_statement c.next.new.into)
-    c.next.new.statements) c.if-not-branch.true c.in_ok-next.ensures.taken)
+    (rw c.if-not-branch.true at c.in_ok-next.ensures.taken)
 
 -- what holds where the statement is to be judged
 way : (c : goal.After-judge-arg-1) → IsUnderWay c.args.profile (map plain_file c.args.files.now)
     c.make_room.new.progress c.args.statements.now
-way c =
-    subst (λ (p : Progress). IsUnderWay c.args.profile (map plain_file c.args.files.now) p
-    c.args.statements.now) (sym c.make_room.ensures) c.requires
+way c = rw c.make_room.ensures c.requires
 
 taken : (c : goal.After-judge-arg-1) → TakesNext c.args.statements.now true
     (plain_statement c.next.new.into) c.next.new.statements
-taken c =
-    subst (λ (b : Bool). TakesNext c.args.statements.now b (plain_statement c.next.new.into)
-    c.next.new.statements) c.if-not-branch.false c.in_ok-next.ensures.taken
+taken c = rw c.if-not-branch.false at c.in_ok-next.ensures.taken
 
 pub judge-requires-clause-closes : goal.judge-requires-clause-closes
-judge-requires-clause-closes c =
-    closes c.args.profile (map plain_file c.args.files.now) c.make_room.new.progress
-    c.args.statements.now c.next.new.statements (plain_statement c.next.new.into) (way c) (taken c)
+judge-requires-clause-closes c = closes _ _ _ _ _ _ (way c) (taken c)
 
 pub judge-requires-clause-room : goal.judge-requires-clause-room
-judge-requires-clause-room c =
-    has_room c.args.profile (map plain_file c.args.files.now) c.make_room.new.progress
-    c.args.statements.now c.next.new.statements (plain_statement c.next.new.into) (way c) (taken c)
+judge-requires-clause-room c = has_room _ _ _ _ _ _ (way c) (taken c)
 
 pub judge-requires-clause-count : goal.judge-requires-clause-count
-judge-requires-clause-count c =
-    omega (
-      arith,
-      count_small c.args.profile (map plain_file c.args.files.now)
-          c.make_room.new.progress c.args.statements.now (way c),
-    )
+judge-requires-clause-count c = omega (arith, count_small _ _ _ _ (way c))
 
 pub judge-requires-clause-proofs : goal.judge-requires-clause-proofs
-judge-requires-clause-proofs c =
-    omega (
-      arith,
-      proofs_small c.args.profile (map plain_file c.args.files.now)
-          c.make_room.new.progress c.args.statements.now (way c),
-    )
+judge-requires-clause-proofs c = omega (arith, proofs_small _ _ _ _ (way c))
 
 pub returns-in_err-judge-clause-refused : goal.returns-in_err-judge-clause-refused
 returns-in_err-judge-clause-refused c =
-    let files : List PlainFile = map plain_file c.args.files.now in
-    let s : PlainStatement = plain_statement c.next.new.into in
-    let met : TakesNext c.args.statements.now true s c.next.new.statements =
-    subst (λ (b : Bool). TakesNext c.args.statements.now b s c.next.new.statements)
-    c.if-not-branch.false c.in_ok-next.ensures.taken in
-    let on : IsUnderWay c.args.profile files c.make_room.new.progress c.args.statements.now =
-    subst (λ (p : Progress). IsUnderWay c.args.profile files p c.args.statements.now)
-    (sym c.make_room.ensures) c.requires in
-    error_keeps c.from_residual-in_err-judge.result c.in_err-judge.field-0.0
-    (TellsVerdict c.args.profile files) c.from_residual-in_err-judge.ensures.1
-    (statement_verdict c.args.profile files c.make_room.new.progress s c.args.statements.now
-    c.next.new.statements c.in_err-judge.field-0.0 on met c.in_err-judge.ensures.refused)
+    error_keeps c.from_residual-in_err-judge.result c.in_err-judge.field-0.0 _
+    c.from_residual-in_err-judge.ensures.1
+    (statement_verdict c.args.profile (map plain_file c.args.files.now) c.make_room.new.progress
+    (plain_statement c.next.new.into) c.args.statements.now c.next.new.statements
+    c.in_err-judge.field-0.0 (rw c.make_room.ensures c.requires)
+    (rw c.if-not-branch.false at c.in_ok-next.ensures.taken) c.in_err-judge.ensures.refused)
 
 pub returns-clause-judged : goal.returns-clause-judged
 returns-clause-judged c =
     let files : List PlainFile = map plain_file c.args.files.now in
     let s : PlainStatement = plain_statement c.next.new.into in
     let met : TakesNext c.args.statements.now true s c.next.new.statements =
-    subst (λ (b : Bool). TakesNext c.args.statements.now b s c.next.new.statements)
-    c.if-not-branch.false c.in_ok-next.ensures.taken in
+    rw c.if-not-branch.false at c.in_ok-next.ensures.taken in
     let formed : HasForm s = c.in_ok-next.ensures.formed (ap Ok c.if-not-branch.false) in
     subst (λ (p : Progress). GoesOn c.args.profile files p c.args.statements.now true s
     c.judge.new.progress c.next.new.statements) c.make_room.ensures

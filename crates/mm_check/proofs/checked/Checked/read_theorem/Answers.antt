@@ -1,51 +1,41 @@
 -- What is read again under the label is the theorem.
-use Rattle.std.proofs.Common.{◌≡◌, ℕ, ◌≤◌, List, map, length, sum_by, true, None, IfOk, sym, ap, subst, ◌∙◌}
+use Rattle.std.proofs.Common.{◌≡◌, ℕ, List, map, true, None, sym, ap, subst}
+use Rattle.std.proofs.lemmas.Result.{IfOk-weaker}
 use Rattle.std.specs.Borrow.{Bor}
 use Rattle.mm_text.specs.Statement.{PlainStatement, plain_statement}
-use Rattle.mm_text.specs.Files.{most_bytes, PlainFile, plain_file}
+use Rattle.mm_text.specs.Files.{PlainFile, plain_file}
 use Rattle.mm_text.specs.Reading.{Reads}
-use Rattle.mm_frame.specs.Sentence.{Sentence}
-use Rattle.mm_check.specs.declared.ask.AskFault.{AskFault}
 use Rattle.mm_check.specs.Conclusion.{Conclusion}
 use Rattle.mm_check.specs.declared.theorem.Theorem.{Theorem}
-use Rattle.mm_proof.specs.declared.profile.Profile.{Profile}
-use Rattle.mm_proof.specs.Steps.{AreSteps}
-use Rattle.mm_check.specs.Verdict.{CanBeRead, proof_of, is_proof, sentences}
-use Rattle.mm_check.specs.Mirror.Marks.{IsKeptWell}
-use Rattle.mm_check.specs.Rests.{IsNamed, IsAskFault}
-use Rattle.mm_check.specs.Shown.{Stands}
-use Rattle.mm_check.specs.Mirror.Theorems.{IsProofOf, SayStepsOf, AreProvedSteps, AreStepsOf}
+use Rattle.mm_check.specs.Verdict.{CanBeRead, is_proof, sentences}
+use Rattle.mm_check.specs.Rests.{IsNamed}
+use Rattle.mm_check.specs.Mirror.Theorems.{SayStepsOf, AreStepsOf}
 use Rattle.mm_text.proofs.Results.{error_keeps}
 use Rattle.mm_check.proofs.Rereading.{AreOf, own_statements, read_statements, named_stands, shown_proof, shown_room, theorem_steps}
+use Rattle.mm_check.proofs.Rereading.{KeptWell}
 use Rattle.mm_check.specs.Mirror.Rewriting.{IsHomeOf}
 use Rattle.mm_frame.specs.Rules.{AllMeant}
-use Rattle.mm_check.proofs.Replies.{made, made_both}
+use Rattle.mm_check.proofs.Replies.{made_both}
 use Rattle.mm_check.proofs.Saving.{home_of}
 use Rattle.mm_check.proofs.checked.Checked.read_theorem.Goals as goal
 
 pub returns-in_err-id-clause-fault : goal.returns-in_err-id-clause-fault
 returns-in_err-id-clause-fault c =
-    let now : Conclusion = c.args.self.now in
-    let well : IsKeptWell now.profile now.files now.sentences now.incomplete now.uses =
-    subst (λ (v : Conclusion). IsKeptWell v.profile v.files v.sentences v.incomplete v.uses) c.self.view_is c.self.invariant in
-    error_keeps c.from_residual.result c.in_err-id.field-0.0
-    (λ (fault : AskFault). (statements : List PlainStatement) → Reads now.files statements None → IsAskFault statements c.args.label.now fault)
-    c.from_residual.ensures.1
-    (λ statements reads. c.in_err-id.ensures.fault statements (read_statements now statements well.origin reads).kept)
+    let well = subst KeptWell c.self.view_is c.self.invariant in
+    error_keeps c.from_residual.result c.in_err-id.field-0.0 _ c.from_residual.ensures.1
+    (λ statements reads. c.in_err-id.ensures.fault statements
+    (read_statements c.args.self.now statements well.origin reads).kept)
 
 pub reread-requires-clause-readable : goal.reread-requires-clause-readable
 reread-requires-clause-readable c =
-    let now : Conclusion = c.args.self.now in
-    let well : IsKeptWell now.profile now.files now.sentences now.incomplete now.uses =
-    subst (λ (v : Conclusion). IsKeptWell v.profile v.files v.sentences v.incomplete v.uses) c.self.view_is c.self.invariant in
-    let files : map plain_file c.self.inside.files.now ≡ now.files = ap (λ (v : Conclusion). v.files) c.self.view_is in
-    subst CanBeRead (sym files) well.origin.accepted.readable
+    let well = subst KeptWell c.self.view_is c.self.invariant in
+    subst CanBeRead (sym (ap (λ (v : Conclusion). v.files) c.self.view_is))
+    well.origin.accepted.readable
 
 pub reread-requires-clause-stands : goal.reread-requires-clause-stands
 reread-requires-clause-stands c =
     let now : Conclusion = c.args.self.now in
-    let well : IsKeptWell now.profile now.files now.sentences now.incomplete now.uses =
-    subst (λ (v : Conclusion). IsKeptWell v.profile v.files v.sentences v.incomplete v.uses) c.self.view_is c.self.invariant in
+    let well = subst KeptWell c.self.view_is c.self.invariant in
     let files : map plain_file c.self.inside.files.now ≡ now.files = ap (λ (v : Conclusion). v.files) c.self.view_is in
     let own : AreOf now well.origin.statements = own_statements now well.origin in
     let named = c.in_ok-id.ensures.found well.origin.statements own.kept in
@@ -55,46 +45,34 @@ reread-requires-clause-stands c =
 pub theorem_of-requires-clause-proof : goal.theorem_of-requires-clause-proof
 theorem_of-requires-clause-proof c =
     let now : Conclusion = c.args.self.now in
-    let well : IsKeptWell now.profile now.files now.sentences now.incomplete now.uses =
-    subst (λ (v : Conclusion). IsKeptWell v.profile v.files v.sentences v.incomplete v.uses) c.self.view_is c.self.invariant in
+    let well = subst KeptWell c.self.view_is c.self.invariant in
     let files : map plain_file c.self.inside.files.now ≡ now.files = ap (λ (v : Conclusion). v.files) c.self.view_is in
     let own : AreOf now well.origin.statements = own_statements now well.origin in
     let named = c.in_ok-id.ensures.found well.origin.statements own.kept in
     let t : PlainStatement = plain_statement c.in_ok-statement.statement in
-    let stands : Stands well.origin.statements c.args.label.now t =
-    c.in_ok-statement.ensures.found well.origin.statements (subst (λ (fs : List PlainFile). Reads fs well.origin.statements None) (sym files) own.accepted.reads) in
-    let texts : map (λ (b : Bor (List ℕ)). b.now) c.deref.result.now ≡ proof_of (plain_statement c.in_ok-statement.statement) =
-    ap (λ (ts : List (Bor (List ℕ))). map (λ (b : Bor (List ℕ)). b.now) ts) c.deref.ensures.value ∙ c.in_ok-tokens.ensures in
+    let stands = c.in_ok-statement.ensures.found well.origin.statements (rw files own.accepted.reads) in
     let sentences : c.self.inside.book.statements ≡ now.sentences = ap (λ (v : Conclusion). v.sentences) c.self.view_is in
     let id : ℕ = c.in_ok-id.id.0 in
     let under : c.self.inside.profile ≡ now.profile = ap (λ (v : Conclusion). v.profile) c.self.view_is in
-    subst (λ (p : Profile). IsProofOf p c.self.inside.book.statements id (map (λ (b : Bor (List ℕ)). b.now) c.deref.result.now)) (sym under)
-    (subst (λ (ss : List Sentence). IsProofOf now.profile ss id (map (λ (b : Bor (List ℕ)). b.now) c.deref.result.now)) (sym sentences)
-    (subst (λ (ts : List (List ℕ)). IsProofOf now.profile now.sentences id ts) (sym texts)
-    (shown_proof now well.origin.statements c.args.label.now id t own c.theorem.ensures.sound.0 named stands)))
+    rw (under, sentences, c.deref.ensures.value, c.in_ok-tokens.ensures)
+    (shown_proof now well.origin.statements c.args.label.now id t own c.theorem.ensures.sound.0 named stands)
 
 pub theorem_of-requires-clause-room : goal.theorem_of-requires-clause-room
 theorem_of-requires-clause-room c =
     let now : Conclusion = c.args.self.now in
-    let well : IsKeptWell now.profile now.files now.sentences now.incomplete now.uses =
-    subst (λ (v : Conclusion). IsKeptWell v.profile v.files v.sentences v.incomplete v.uses) c.self.view_is c.self.invariant in
+    let well = subst KeptWell c.self.view_is c.self.invariant in
     let files : map plain_file c.self.inside.files.now ≡ now.files = ap (λ (v : Conclusion). v.files) c.self.view_is in
     let own : AreOf now well.origin.statements = own_statements now well.origin in
     let t : PlainStatement = plain_statement c.in_ok-statement.statement in
-    let stands : Stands well.origin.statements c.args.label.now t =
-    c.in_ok-statement.ensures.found well.origin.statements (subst (λ (fs : List PlainFile). Reads fs well.origin.statements None) (sym files) own.accepted.reads) in
-    let texts : map (λ (b : Bor (List ℕ)). b.now) c.deref.result.now ≡ proof_of (plain_statement c.in_ok-statement.statement) =
-    ap (λ (ts : List (Bor (List ℕ))). map (λ (b : Bor (List ℕ)). b.now) ts) c.deref.ensures.value ∙ c.in_ok-tokens.ensures in
-    subst (λ (ts : List (List ℕ)). sum_by length ts ≤ most_bytes) (sym texts) (shown_room now well.origin.statements c.args.label.now t own stands)
+    let stands = c.in_ok-statement.ensures.found well.origin.statements (rw files own.accepted.reads) in
+    rw (c.deref.ensures.value, c.in_ok-tokens.ensures)
+    (shown_room now well.origin.statements c.args.label.now t own stands)
 
 pub returns-clause-read : goal.returns-clause-read
 returns-clause-read c =
     let now : Conclusion = c.args.self.now in
-    let well : IsKeptWell now.profile now.files now.sentences now.incomplete now.uses =
-    subst (λ (v : Conclusion). IsKeptWell v.profile v.files v.sentences v.incomplete v.uses) c.self.view_is c.self.invariant in
+    let well = subst KeptWell c.self.view_is c.self.invariant in
     let files : map plain_file c.self.inside.files.now ≡ now.files = ap (λ (v : Conclusion). v.files) c.self.view_is in
-    let texts : map (λ (b : Bor (List ℕ)). b.now) c.deref.result.now ≡ proof_of (plain_statement c.in_ok-statement.statement) =
-    ap (λ (ts : List (Bor (List ℕ))). map (λ (b : Bor (List ℕ)). b.now) ts) c.deref.ensures.value ∙ c.in_ok-tokens.ensures in
     let told : c.self.inside.book.statements ≡ now.sentences = ap (λ (v : Conclusion). v.sentences) c.self.view_is in
     let id : ℕ = c.in_ok-id.id.0 in
     let t : PlainStatement = plain_statement c.in_ok-statement.statement in
@@ -105,41 +83,35 @@ returns-clause-read c =
     → (now.sentences ≡ sentences statements) × AreStepsOf statements c.args.label.now theorem.id.0 theorem.steps.moves)
     (λ theorem same said statements reads.
     let of : AreOf now statements = read_statements now statements well.origin reads in
-    let stands : Stands statements c.args.label.now t =
-    c.in_ok-statement.ensures.found statements (subst (λ (fs : List PlainFile). Reads fs statements None) (sym files) reads) in
+    let stands = c.in_ok-statement.ensures.found statements (rw files reads) in
     let named : IsNamed statements c.args.label.now (λ s. is_proof s ≡ true) theorem.id.0 =
     subst (λ (n : ℕ). IsNamed statements c.args.label.now (λ s. is_proof s ≡ true) n) (sym same) (c.in_ok-id.ensures.found statements of.kept) in (
       of.kept.sentences,
       theorem_steps now statements c.args.label.now theorem.id.0 t theorem.steps.moves of c.theorem.ensures.sound.0 named stands
-          (subst (λ (ts : List (List ℕ)). SayStepsOf now.sentences theorem.id.0 ts theorem.steps.moves) texts
-          (subst (λ (ss : List Sentence). SayStepsOf ss theorem.id.0 (map (λ (b : Bor (List ℕ)). b.now) c.deref.result.now) theorem.steps.moves) told said)),
+          (rw (told, c.deref.ensures.value, c.in_ok-tokens.ensures) at said),
     ))
     c.theorem_of.ensures.id c.theorem_of.ensures.said
 
 pub returns-clause-proved : goal.returns-clause-proved
 returns-clause-proved c =
-    let told : c.self.inside.book.statements ≡ c.args.self.now.sentences = ap (λ (v : Conclusion). v.sentences) c.self.view_is in
-    subst (λ (ss : List Sentence). IfOk c.theorem_of.result (λ (theorem : Theorem). AreProvedSteps ss theorem.id.0 theorem.steps)) told c.theorem_of.ensures.proved
+    rw (ap (λ (v : Conclusion). v.sentences) c.self.view_is) at c.theorem_of.ensures.proved
 
 pub returns-clause-usable : goal.returns-clause-usable
 returns-clause-usable c =
-    let told : c.self.inside.book.statements ≡ c.args.self.now.sentences = ap (λ (v : Conclusion). v.sentences) c.self.view_is in
-    subst (λ (ss : List Sentence). IfOk c.theorem_of.result (λ (theorem : Theorem). AreSteps ss theorem.id.0 theorem.steps.moves)) told c.theorem_of.ensures.usable
+    rw (ap (λ (v : Conclusion). v.sentences) c.self.view_is) at c.theorem_of.ensures.usable
 
 pub returns-clause-home : goal.returns-clause-home
 returns-clause-home c =
     let now : Conclusion = c.args.self.now in
-    let well : IsKeptWell now.profile now.files now.sentences now.incomplete now.uses =
-    subst (λ (v : Conclusion). IsKeptWell v.profile v.files v.sentences v.incomplete v.uses) c.self.view_is c.self.invariant in
+    let well = subst KeptWell c.self.view_is c.self.invariant in
     let files : map plain_file c.self.inside.files.now ≡ now.files = ap (λ (v : Conclusion). v.files) c.self.view_is in
     let t : PlainStatement = plain_statement c.in_ok-statement.statement in
-    made c.theorem_of.result
+    IfOk-weaker c.theorem_of.result
     (λ (theorem : Theorem). (theorem.file ≡ t.first.file) × (theorem.span ≡ t.span))
     (λ (theorem : Theorem). (statements : List PlainStatement) → Reads now.files statements None → IsHomeOf statements c.args.label.now theorem.file theorem.span)
     (λ theorem both statements reads.
     let of : AreOf now statements = read_statements now statements well.origin reads in
     let meant : AllMeant (sentences statements) = subst AllMeant of.kept.sentences c.theorem.ensures.sound.0 in
-    let stands : Stands statements c.args.label.now t =
-    c.in_ok-statement.ensures.found statements (subst (λ (fs : List PlainFile). Reads fs statements None) (sym files) reads) in
+    let stands = c.in_ok-statement.ensures.found statements (rw files reads) in
     home_of statements c.args.label.now t theorem.file theorem.span meant stands both.0 both.1)
     c.theorem_of.ensures.home

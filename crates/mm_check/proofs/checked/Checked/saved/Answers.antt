@@ -1,49 +1,40 @@
 -- The bytes are the theorem's file with its proof in the form.
-use Rattle.std.proofs.Common.{◌≡◌, ℕ, ◌≤◌, List, map, None, sym, ap, subst, ◌∙◌}
+use Rattle.std.proofs.Common.{◌≡◌, ◌≤◌, List, map, None, sym, ap, subst, ◌∙◌}
 use Rattle.mm_text.specs.Statement.{PlainStatement}
 use Rattle.mm_text.specs.Files.{most_bytes, PlainFile, plain_file, total_bytes}
 use Rattle.mm_text.specs.Reading.{Reads}
-use Rattle.mm_frame.specs.Sentence.{Sentence}
-use Rattle.mm_check.specs.declared.ask.AskFault.{AskFault}
 use Rattle.mm_check.specs.Conclusion.{Conclusion}
-use Rattle.mm_check.specs.Mirror.Marks.{IsKeptWell}
-use Rattle.mm_check.specs.Mirror.Theorems.{AreProvedSteps}
-use Rattle.mm_check.specs.Saved.{IsSaveFault}
-use Rattle.mm_check.specs.Mirror.Rewriting.{HoldsSpan, IsPutIn, IsPutFault}
+use Rattle.mm_check.specs.Mirror.Rewriting.{HoldsSpan, IsPutFault}
 use Rattle.mm_check.proofs.OnTheWay.{within_limit}
 use Rattle.mm_text.proofs.Results.{error_keeps}
 use Rattle.mm_check.proofs.Saving.{holds_span, saved_of, ask_save_fault, text_save_fault, put_save_fault}
+use Rattle.mm_check.proofs.Rereading.{KeptWell}
 use Rattle.mm_check.proofs.checked.Checked.saved.Goals as goal
 
 pub returns-in_err-theorem-clause-fault : goal.returns-in_err-theorem-clause-fault
 returns-in_err-theorem-clause-fault c =
-    error_keeps c.from_residual.result c.in_err-theorem.field-0.0
-    (λ (fault : AskFault). (statements : List PlainStatement) → Reads c.args.self.now.files statements None → IsSaveFault c.args.form c.args.self.now.files statements c.args.label.now fault)
-    c.from_residual.ensures.1
-    (λ statements reads. ask_save_fault c.args.form c.args.self.now.files statements c.args.label.now c.in_err-theorem.field-0.0 (c.in_err-theorem.ensures.fault statements reads))
+    error_keeps c.from_residual.result c.in_err-theorem.field-0.0 _ c.from_residual.ensures.1
+    (λ statements reads. ask_save_fault c.args.form c.args.self.now.files statements
+    c.args.label.now c.in_err-theorem.field-0.0 (c.in_err-theorem.ensures.fault statements reads))
 
 pub proof_text-requires-clause-proved : goal.proof_text-requires-clause-proved
 proof_text-requires-clause-proved c =
-    let told : c.self.inside.book.statements ≡ c.args.self.now.sentences = ap (λ (v : Conclusion). v.sentences) c.self.view_is in
-    subst (λ (ss : List Sentence). AreProvedSteps ss c.in_ok-theorem.theorem.id.0 c.in_ok-theorem.theorem.steps) (sym told) c.in_ok-theorem.ensures.proved
+    rw (ap (λ (v : Conclusion). v.sentences) c.self.view_is) c.in_ok-theorem.ensures.proved
 
 pub returns-in_err-text-clause-fault : goal.returns-in_err-text-clause-fault
 returns-in_err-text-clause-fault c =
-    let told : c.self.inside.book.statements ≡ c.args.self.now.sentences = ap (λ (v : Conclusion). v.sentences) c.self.view_is in
-    let proved : AreProvedSteps c.self.inside.book.statements c.in_ok-theorem.theorem.id.0 c.in_ok-theorem.theorem.steps =
-    subst (λ (ss : List Sentence). AreProvedSteps ss c.in_ok-theorem.theorem.id.0 c.in_ok-theorem.theorem.steps) (sym told) c.in_ok-theorem.ensures.proved in
-    error_keeps c.from_residual-in_err-text.result c.in_err-text.field-0.0
-    (λ (fault : AskFault). (statements : List PlainStatement) → Reads c.args.self.now.files statements None → IsSaveFault c.args.form c.args.self.now.files statements c.args.label.now fault)
+    let told = ap (λ (v : Conclusion). v.sentences) c.self.view_is in
+    error_keeps c.from_residual-in_err-text.result c.in_err-text.field-0.0 _
     c.from_residual-in_err-text.ensures.1
     (λ statements reads.
     let read = c.in_ok-theorem.ensures.read statements reads in
-    text_save_fault c.args.form c.self.inside.book.statements c.args.self.now.files statements c.args.label.now c.in_ok-theorem.theorem.id.0 c.in_ok-theorem.theorem.steps c.in_err-text.field-0.0 (told ∙ read.0) read.1 proved c.in_err-text.ensures.fault)
+    text_save_fault c.args.form _ _ _ _ _ c.in_ok-theorem.theorem.steps c.in_err-text.field-0.0
+    (told ∙ read.0) read.1 (rw told c.in_ok-theorem.ensures.proved) c.in_err-text.ensures.fault)
 
 pub put_in-requires-clause-there : goal.put_in-requires-clause-there
 put_in-requires-clause-there c =
     let now : Conclusion = c.args.self.now in
-    let well : IsKeptWell now.profile now.files now.sentences now.incomplete now.uses =
-    subst (λ (v : Conclusion). IsKeptWell v.profile v.files v.sentences v.incomplete v.uses) c.self.view_is c.self.invariant in
+    let well = subst KeptWell c.self.view_is c.self.invariant in
     let files : map plain_file c.self.inside.files.now ≡ now.files = ap (λ (v : Conclusion). v.files) c.self.view_is in
     let statements : List PlainStatement = well.origin.statements in
     let reads : Reads now.files statements None = well.origin.accepted.reads in
@@ -54,40 +45,35 @@ put_in-requires-clause-there c =
 
 pub put_in-requires-clause-within : goal.put_in-requires-clause-within
 put_in-requires-clause-within c =
-    let now : Conclusion = c.args.self.now in
-    let well : IsKeptWell now.profile now.files now.sentences now.incomplete now.uses =
-    subst (λ (v : Conclusion). IsKeptWell v.profile v.files v.sentences v.incomplete v.uses) c.self.view_is c.self.invariant in
-    let files : map plain_file c.self.inside.files.now ≡ now.files = ap (λ (v : Conclusion). v.files) c.self.view_is in
-    subst (λ (fs : List PlainFile). total_bytes fs ≤ most_bytes) (sym files) (within_limit now.files well.origin.accepted.readable)
+    let well = subst KeptWell c.self.view_is c.self.invariant in
+    subst (λ (fs : List PlainFile). total_bytes fs ≤ most_bytes)
+    (sym (ap (λ (v : Conclusion). v.files) c.self.view_is))
+    (within_limit c.args.self.now.files well.origin.accepted.readable)
 
 pub returns-in_err-bytes-clause-fault : goal.returns-in_err-bytes-clause-fault
 returns-in_err-bytes-clause-fault c =
     let now : Conclusion = c.args.self.now in
-    let told : c.self.inside.book.statements ≡ now.sentences = ap (λ (v : Conclusion). v.sentences) c.self.view_is in
+    let told = ap (λ (v : Conclusion). v.sentences) c.self.view_is in
     let files : map plain_file c.self.inside.files.now ≡ now.files = ap (λ (v : Conclusion). v.files) c.self.view_is in
-    let proved : AreProvedSteps c.self.inside.book.statements c.in_ok-theorem.theorem.id.0 c.in_ok-theorem.theorem.steps =
-    subst (λ (ss : List Sentence). AreProvedSteps ss c.in_ok-theorem.theorem.id.0 c.in_ok-theorem.theorem.steps) (sym told) c.in_ok-theorem.ensures.proved in
-    let put : IsPutFault now.files c.in_ok-theorem.theorem.file c.in_ok-theorem.theorem.span c.in_ok-text.text.items c.in_err-bytes.field-0.0 =
-    subst (λ (fs : List PlainFile). IsPutFault fs c.in_ok-theorem.theorem.file c.in_ok-theorem.theorem.span c.in_ok-text.text.items c.in_err-bytes.field-0.0) files
-    (subst (λ (text : List ℕ). IsPutFault (map plain_file c.self.inside.files.now) c.in_ok-theorem.theorem.file c.in_ok-theorem.theorem.span text c.in_err-bytes.field-0.0) c.deref.ensures.value c.in_err-bytes.ensures.fault) in
-    error_keeps c.from_residual-in_err-bytes.result c.in_err-bytes.field-0.0
-    (λ (fault : AskFault). (statements : List PlainStatement) → Reads now.files statements None → IsSaveFault c.args.form now.files statements c.args.label.now fault)
+    let put =
+    subst (λ (fs : List PlainFile). IsPutFault fs c.in_ok-theorem.theorem.file
+    c.in_ok-theorem.theorem.span c.in_ok-text.text.items c.in_err-bytes.field-0.0) files
+    (rw c.deref.ensures.value at c.in_err-bytes.ensures.fault) in
+    error_keeps c.from_residual-in_err-bytes.result c.in_err-bytes.field-0.0 _
     c.from_residual-in_err-bytes.ensures.1
     (λ statements reads.
     let read = c.in_ok-theorem.ensures.read statements reads in
-    put_save_fault c.args.form c.self.inside.book.statements now.files statements c.args.label.now c.in_ok-theorem.theorem.id.0 c.in_ok-theorem.theorem.steps c.in_ok-theorem.theorem.file c.in_ok-theorem.theorem.span
-    c.in_ok-text.text.items c.in_err-bytes.field-0.0 (told ∙ read.0) read.1 proved c.in_ok-text.ensures.text (c.in_ok-theorem.ensures.home statements reads) put)
+    put_save_fault c.args.form _ _ _ _ _ c.in_ok-theorem.theorem.steps _ _ _ _ (told ∙ read.0) read.1
+    (rw told c.in_ok-theorem.ensures.proved) c.in_ok-text.ensures.text
+    (c.in_ok-theorem.ensures.home statements reads) put)
 
 pub returns-clause-saved : goal.returns-clause-saved
 returns-clause-saved c = λ statements reads.
     let now : Conclusion = c.args.self.now in
-    let told : c.self.inside.book.statements ≡ now.sentences = ap (λ (v : Conclusion). v.sentences) c.self.view_is in
+    let told = ap (λ (v : Conclusion). v.sentences) c.self.view_is in
     let files : map plain_file c.self.inside.files.now ≡ now.files = ap (λ (v : Conclusion). v.files) c.self.view_is in
-    let proved : AreProvedSteps c.self.inside.book.statements c.in_ok-theorem.theorem.id.0 c.in_ok-theorem.theorem.steps =
-    subst (λ (ss : List Sentence). AreProvedSteps ss c.in_ok-theorem.theorem.id.0 c.in_ok-theorem.theorem.steps) (sym told) c.in_ok-theorem.ensures.proved in
-    let put : IsPutIn now.files c.in_ok-theorem.theorem.file c.in_ok-theorem.theorem.span c.in_ok-text.text.items c.in_ok-bytes.bytes.items =
-    subst (λ (fs : List PlainFile). IsPutIn fs c.in_ok-theorem.theorem.file c.in_ok-theorem.theorem.span c.in_ok-text.text.items c.in_ok-bytes.bytes.items) files
-    (subst (λ (text : List ℕ). IsPutIn (map plain_file c.self.inside.files.now) c.in_ok-theorem.theorem.file c.in_ok-theorem.theorem.span text c.in_ok-bytes.bytes.items) c.deref.ensures.value c.in_ok-bytes.ensures.put) in
+    let put = rw (files, c.deref.ensures.value) at c.in_ok-bytes.ensures.put in
     let read = c.in_ok-theorem.ensures.read statements reads in
-    saved_of c.args.form c.self.inside.book.statements now.files statements c.args.label.now c.in_ok-theorem.theorem.id.0 c.in_ok-theorem.theorem.steps c.in_ok-theorem.theorem.file c.in_ok-theorem.theorem.span
-    c.in_ok-text.text.items c.in_ok-bytes.bytes.items (told ∙ read.0) read.1 proved c.in_ok-text.ensures.text (c.in_ok-theorem.ensures.home statements reads) put
+    saved_of c.args.form _ _ _ _ _ c.in_ok-theorem.theorem.steps _ _ _ _ (told ∙ read.0) read.1
+    (rw told c.in_ok-theorem.ensures.proved) c.in_ok-text.ensures.text
+    (c.in_ok-theorem.ensures.home statements reads) put

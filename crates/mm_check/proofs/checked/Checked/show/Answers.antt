@@ -1,22 +1,19 @@
 -- The text of the listing of its steps is that of the theorem.
-use Rattle.std.proofs.Common.{◌≡◌, List, sym, ap, subst, ◌∙◌}
+use Rattle.std.proofs.Common.{ap, ◌∙◌}
 use Rattle.std.proofs.lemmas.Result.{IfOk-weaker}
-use Rattle.mm_frame.specs.Sentence.{Sentence}
 use Rattle.mm_check.specs.Conclusion.{Conclusion}
-use Rattle.mm_check.specs.Mirror.Theorems.{AreProvedSteps}
 use Rattle.mm_check.proofs.Theorems.{shown_of}
 use Rattle.mm_check.proofs.checked.Checked.show.Goals as goal
 
 pub listing_text-requires-clause-proved : goal.listing_text-requires-clause-proved
 listing_text-requires-clause-proved c =
-    let told : c.self.inside.book.statements ≡ c.args.self.now.sentences = ap (λ (v : Conclusion). v.sentences) c.self.view_is in
-    subst (λ (ss : List Sentence). AreProvedSteps ss c.in_ok-theorem.theorem.id.0 c.in_ok-theorem.theorem.steps) (sym told) c.in_ok-theorem.ensures.proved
+    rw (ap (λ (v : Conclusion). v.sentences) c.self.view_is) c.in_ok-theorem.ensures.proved
 
 pub returns-clause-shown : goal.returns-clause-shown
 returns-clause-shown c =
-    let told : c.self.inside.book.statements ≡ c.args.self.now.sentences = ap (λ (v : Conclusion). v.sentences) c.self.view_is in
+    let told = ap (λ (v : Conclusion). v.sentences) c.self.view_is in
     IfOk-weaker c.listing_text.result _ _
     (λ text laid statements reads.
     let read = c.in_ok-theorem.ensures.read statements reads in
-    shown_of c.self.inside.book.statements statements c.args.label.now c.in_ok-theorem.theorem.id.0 c.in_ok-theorem.theorem.steps.moves text.items (told ∙ read.0) read.1 laid)
+    shown_of _ _ _ _ c.in_ok-theorem.theorem.steps.moves text.items (told ∙ read.0) read.1 laid)
     c.listing_text.ensures.text

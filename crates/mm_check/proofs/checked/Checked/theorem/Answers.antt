@@ -4,7 +4,7 @@ use Rattle.mm_frame.specs.declared.number.LabelId.{LabelId}
 use Rattle.mm_frame.specs.Sentence.{Sentence}
 use Rattle.mm_frame.specs.Taken.{kind_behind}
 use Rattle.mm_frame.specs.Form.{IsSound}
-use Rattle.mm_frame.specs.Numbers.{labelled_sentences, IsNumbered}
+use Rattle.mm_frame.specs.Numbers.{labelled_sentences}
 use Rattle.mm_frame.proofs.Labelled.{numbered_get, numbered_within}
 use Rattle.mm_check.specs.Conclusion.{Conclusion}
 use Rattle.mm_check.proofs.Asked.{found_theorem, found_incomplete, found_other, hypothesis_other, other_kind}
@@ -13,10 +13,10 @@ use Rattle.mm_check.proofs.checked.Checked.theorem.Goals as goal
 pub returns-in-Hypothesis-clause-fault : goal.returns-in-Hypothesis-clause-fault
 returns-in-Hypothesis-clause-fault c = λ statements kept.
     let (place, s, numbered, named, kind, active) = c.in-Hypothesis.ensures.found in
-    let same : c.self.inside.book.statements ≡ c.args.self.now.sentences = ap (λ (v : Conclusion). v.sentences) c.self.view_is in (
+    let same = ap (λ (v : Conclusion). v.sentences) c.self.view_is in (
       c.in-Hypothesis.id.0,
       found_other statements c.args.self.now c.args.label.now c.in-Hypothesis.id.0 place s kept
-          (subst (λ (ss : List Sentence). IsNumbered ss c.in-Hypothesis.id.0 place s) same numbered) named (hypothesis_other s.kind kind),
+          (rw same at numbered) named (hypothesis_other s.kind kind),
     )
 
 pub returns-in-Proof-clause-fault : goal.returns-in-Proof-clause-fault
@@ -28,7 +28,7 @@ returns-in-Proof-clause-fault c = λ statements kept.
     subst (λ ns. Contains ns c.in-Assertion.id.0) (ap (λ (ls : List LabelId). map (λ (l : LabelId). l.0) ls) c.deref.ensures.value ∙ numbers) (c.is_among.ensures.0 c.if-is_among.true) in (
       c.in-Assertion.id.0,
       found_incomplete statements c.args.self.now c.args.label.now c.in-Assertion.id.0 place s kept
-          (subst (λ (ss : List Sentence). IsNumbered ss c.in-Assertion.id.0 place s) same numbered) named among,
+          (rw same at numbered) named among,
     )
 
 pub returns-in-Proof-2-clause-within : goal.returns-in-Proof-2-clause-within
@@ -43,7 +43,7 @@ returns-in-Proof-2-clause-found c = λ statements kept.
     let same : c.self.inside.book.statements ≡ c.args.self.now.sentences = ap (λ (v : Conclusion). v.sentences) c.self.view_is in
     let numbers = ap (λ (v : Conclusion). v.incomplete) c.self.view_is in
     found_theorem statements c.args.self.now c.args.label.now c.in-Assertion.id.0 place s kept
-    (subst (λ (ss : List Sentence). IsNumbered ss c.in-Assertion.id.0 place s) same numbered) named
+    (rw same at numbered) named
     (c.kind.ensures s (numbered_get c.self.inside.book.statements c.in-Assertion.id.0 place s numbered) ∙ ap kind_behind c.in-Proof-2.is)
     (λ among.
     let t = c.is_among.ensures.1 (subst (λ ns. Contains ns c.in-Assertion.id.0) (sym (ap (λ (ls : List LabelId). map (λ (l : LabelId). l.0) ls) c.deref.ensures.value ∙ numbers)) among) in
@@ -52,10 +52,10 @@ returns-in-Proof-2-clause-found c = λ statements kept.
 pub returns-in_default-clause-fault : goal.returns-in_default-clause-fault
 returns-in_default-clause-fault c = λ statements kept.
     let (place, s, numbered, named, kind) = c.in-Assertion.ensures.found in
-    let same : c.self.inside.book.statements ≡ c.args.self.now.sentences = ap (λ (v : Conclusion). v.sentences) c.self.view_is in (
+    let same = ap (λ (v : Conclusion). v.sentences) c.self.view_is in (
       c.in-Assertion.id.0,
       found_other statements c.args.self.now c.args.label.now c.in-Assertion.id.0 place s kept
-          (subst (λ (ss : List Sentence). IsNumbered ss c.in-Assertion.id.0 place s) same numbered) named
+          (rw same at numbered) named
           (other_kind c.kind.result s.kind (c.kind.ensures s (numbered_get c.self.inside.book.statements c.in-Assertion.id.0 place s numbered)) c.in_default.not-Proof),
     )
 
