@@ -16,17 +16,16 @@ use Rattle.clap.specs.declared.parser.matches.Found.{Found}
 use Rattle.clap.proofs.OnLiterals.{clap_on_literals}
 use Rattle.clap.proofs.WalkLemmas.{first_value-rows, raw_values-rows}
 use Rattle.mm_check.specs.declared.command.Command.{Command}
-use Rattle.mm_check.specs.declared.command.Command.TheVariants.{All, Axioms, Check, Normal}
-use Rattle.mm_check.specs.declared.command.Command.TheVariants.{Packed, Same, Show}
+use Rattle.mm_check.specs.declared.command.Command.TheVariants.{All}
 use Rattle.mm_check.specs.declared.form.Form.{Form}
 use Rattle.mm_tool.specs.Ending.{AsksNamed}
 use Rattle.mm_tool.specs.Words.{AsksForm, AsksRun, IsAllFault, IsGiven, name_of_form}
 use Rattle.mm_tool.specs.Words.{number_among}
 use Rattle.mm_tool.specs.Words.{AreMatchesOf, Asks, Commands, IsAccepted, IsFaultOfKind, IsOfKind, IsWordFault, command_line, first_command}
 use Rattle.mm_tool.specs.declared.words.Request.{Request}
-use Rattle.mm_tool.specs.declared.words.Request.TheVariants.{Help, Version, Explain, Run, Compare}
+use Rattle.mm_tool.specs.declared.words.Request.TheVariants.{Help, Version, Run}
 use Rattle.mm_tool.specs.declared.stop.Stop.{Stop}
-use Rattle.mm_tool.specs.declared.stop.Stop.TheVariants.{Usage, NotText, CannotRead, CannotWrite, Memory}
+use Rattle.mm_tool.specs.declared.stop.Stop.TheVariants.{Usage, Memory}
 
 is_free_line : is_simple_and_free command_line ≡ true
 unfolding clap_on_literals
@@ -40,15 +39,13 @@ is_simple_line = refl
 pub values_are : (f : Found) (id : Text) (values : Option (List Text)) → values ≡ option_map raw_values (matched_of f id)
     → unwrap_or values [] ≡ unwrap_or (all_of id (rows_of f)) []
 values_are f id values e =
-    let given : Option (List Text) → List Text = λ o. unwrap_or o [] in
-    ap given (e ∙ raw_values-rows f id)
+    ap (λ (o : Option (List Text)). unwrap_or o []) (e ∙ raw_values-rows f id)
 
 -- The first value of an argument is that of its row.
 pub value_is : (f : Found) (id : Text) (value : Option Text) → value ≡ first_value f id
     → unwrap_or value [] ≡ unwrap_or (first_of id (rows_of f)) []
 value_is f id value e =
-    let given : Option Text → Text = λ o. unwrap_or o [] in
-    ap given (e ∙ first_value-rows f id)
+    ap (λ (o : Option Text). unwrap_or o []) (e ∙ first_value-rows f id)
 
 -- the kind of an error is wanting memory, or one of the faults of the words
 kind_among : (app : App) (words : List Text) (e : Error) → app ≡ command_line
@@ -61,9 +58,7 @@ kind_among app words e is kinds =
 among_faults : (words : List Text) (e : Error) (kind : ErrorKind) → HasKind (fault_of command_line words) e → kind_of e ≡ kind → kind ≢ OutOfMemory
     → IsAmong kind (fault_of command_line words)
 among_faults words e kind (inl memory) is other = absurd (other (sym is ∙ memory))
-among_faults words e kind (inr among) is other =
-    let Among : ErrorKind → Type 0 = λ k. IsAmong k (fault_of command_line words) in
-    subst Among is among
+among_faults words e kind (inr among) is other = rw is at among
 
 -- Help or the version is the request only where the words ask for it.
 pub request_asked : (app : App) (words : List Text) (topic : Option Text) (e : Error)
@@ -77,10 +72,8 @@ request_asked app words topic e (Ok (Help asked)) is first kinds h = inl (
 request_asked app words topic e (Ok Version) is first kinds h =
     inl (among_faults words e DisplayVersion (kind_among app words e is kinds) h
     (λ same. absurd (cc)))
-request_asked app words topic e (Ok (Explain asked)) is first kinds h = absurd h
-request_asked app words topic e (Ok (Run command names)) is first kinds h = absurd h
-request_asked app words topic e (Ok (Compare asked)) is first kinds h = absurd h
 request_asked app words topic e (Err fault) is first kinds h = h
+request_asked app words topic e request is first kinds h = absurd h
 
 -- Else the words are refused, or memory was wanting.
 pub fault_met : (app : App) (words : List Text) (e : Error) (r : Result Request Stop) → app ≡ command_line
@@ -89,10 +82,8 @@ pub fault_met : (app : App) (words : List Text) (e : Error) (r : Result Request 
 fault_met app words e (Ok request) is kinds h = h
 fault_met app words e (Err (Usage text)) is kinds h =
     inl (kind_of e, among_faults words e (kind_of e) (kind_among app words e is kinds) refl h.0, h.1, h.2)
-fault_met app words e (Err NotText) is kinds h = absurd h
-fault_met app words e (Err (CannotRead name label)) is kinds h = absurd h
-fault_met app words e (Err CannotWrite) is kinds h = absurd h
 fault_met app words e (Err Memory) is kinds h = tt
+fault_met app words e (Err other) is kinds h = absurd h
 
 abbrev pair_in : {X : Type 0} → (X → Text) → (X → List Row) → Option X → Option (Text × List Row)
 pair_in f g o = option_map {U = Text × List Row} (λ b. (f b, g b)) o
@@ -113,14 +104,11 @@ first_only f g (Some b) name rows e = ap (option_map {U = Text} (λ (p : Text ×
 -- Words without a fault are accepted.
 pub is_accepted : (app : App) (words : List Text) → app ≡ command_line → (is_simple_and_free app ≡ true → fault_of app words ≡ []) → IsAccepted words
 is_accepted app words is free =
-    let Free : App → Type 0 = λ a. fault_of a words ≡ [] in
-    subst Free is (free (ap is_simple_and_free is ∙ is_free_line))
+    rw is at (free (ap is_simple_and_free is ∙ is_free_line))
 
 rows_met : (app : App) (words : List Text) (m : ArgMatches) → app ≡ command_line → HasMatchesOf app words m
     → subcommand_rows_of m ≡ subcommand_of command_line words
-rows_met app words m is matched =
-    let Met : App → Type 0 = λ a. subcommand_rows_of m ≡ subcommand_of a words in
-    subst Met is (matched (ap is_simple is ∙ is_simple_line)).1
+rows_met app words m is matched = rw is at ((matched (ap is_simple is ∙ is_simple_line)).1)
 
 -- What the parse met are the matches of the words.
 pub matches_met : (app : App) (words : List Text) (m : ArgMatches) → app ≡ command_line
@@ -139,17 +127,6 @@ pub not_commanded : (words : List Text) (m : ArgMatches) (name : Text) (rows : L
     → (subcommand_name_of m ≡ Some name → ⊥) → Commands words name rows → ⊥
 not_commanded words m name rows met other asked =
     other (first_only _ _ (out-ArgMatches m).subcommand name rows (met.1 ∙ asked.1))
-
--- What matches ask for, the words ask for.
-pub asked_by_matches : (words : List Text) (m : ArgMatches) (r : Result Request Stop) → AreMatchesOf words m
-    → IfOk r (λ request. (asked : List Text) → AreMatchesOf asked m → Asks asked request) → IfOk r (Asks words)
-asked_by_matches words m (Ok request) met h = h words met
-asked_by_matches words m (Err stop) met h = h
-
-pub refused_by_matches : (words : List Text) (m : ArgMatches) (r : Result Request Stop) → AreMatchesOf words m
-    → IfErr r (λ stop. (asked : List Text) → AreMatchesOf asked m → IsWordFault asked stop) → IfErr r (IsWordFault words)
-refused_by_matches words m (Ok request) met h = h
-refused_by_matches words m (Err stop) met h = h words met
 
 -- No matches are there where none were found.
 pub none_there : {X : Type 0} (o : Option X) → o ≡ None → IsSome o → ⊥
@@ -174,20 +151,14 @@ pub number_found : (names : List Text) (name : Text) (number : ℕ)
 number_found names name number found =
     let place : ℕ = position_or_len (λ other. bytes_eq other name) names in
     let (before, is) = chosen (nat_lt place (length names)) place number found in
-    let Below : ℕ → Type 0 = λ n. n < length names in
-    subst Below is (ltb-true place (length names) before)
+    rw is at (ltb-true place (length names) before)
 
 -- The file about which the words ask is one of those that they name.
 pub named_by_words : (words : List Text) (command : Command) (names : List Text)
     → AsksRun words command names → AsksNamed command names
-named_by_words words (Check profile) names asked = tt
-named_by_words words (Axioms label) names asked = tt
-named_by_words words (Show label) names asked = tt
-named_by_words words (Normal label whole) names asked = tt
-named_by_words words (Packed label whole) names asked = tt
-named_by_words words (Same label text) names asked = tt
 named_by_words words (All form number) names (rows, commands, file, all, found, same) =
     number_found names (unwrap_or (first_of (codes "LABEL") rows) []) number found
+named_by_words words command names asked = tt
 
 -- The place of a name among names is that among their texts.
 pub number_named : (items given : List (Bor Text)) (name : Text) (found : Option ℕ)
@@ -197,68 +168,32 @@ number_named items given name found same is =
     sym (position-names (λ (n : Bor Text). n.now) (λ other. bytes_eq other name) items)
     ∙ ap (position (λ (n : Bor Text). bytes_eq n.now name)) (sym same) ∙ sym is
 
--- The words ask for all proofs of a file by the request for them.
-pub all_asked : (rows : List Row) (form : Form) (whole given : Bool) (name : Text)
-    (names : Vec (Bor Text)) (r : Result Request Stop)
-    → IsGiven (codes "file") rows whole → IsGiven (codes "all") rows given → given ≡ true
-    → name ≡ unwrap_or (first_of (codes "LABEL") rows) []
-    → map (λ n. n.now) names.items ≡ unwrap_or (all_of (codes "FILES") rows) []
-    → IfOk r (λ request. (number : ℕ) × (request ≡ Run (All form number) names) × (whole ≡ false)
-    × (number_among (map (λ n. n.now) names.items) name ≡ Some number))
-    → IfOk r (λ request. (words : List Text) → Commands words (name_of_form form) rows
-    → Asks words request)
-all_asked rows form whole given name names (Ok request) file all is_given word files
-    (number, is, alone, found) = λ words commands.
-    let Whole : Bool → Type 0 = IsGiven (codes "file") rows in
-    let Given : Bool → Type 0 = IsGiven (codes "all") rows in
-    let Found : Text → Type 0 =
-    λ t. number_among (map (λ n. n.now) names.items) t ≡ Some number in
-    subst (Asks words) (sym is) (
-      rows,
-      commands,
-      subst Whole alone file,
-      subst Given is_given all,
-      subst Found word found,
-      sym files,
-    )
-all_asked rows form whole given name names (Err stop) file all is_given word files h = tt
+module _ (rows : List Row) (form : Form) (whole given : Bool) (name : Text)
+    (file : IsGiven (codes "file") rows whole) (all : IsGiven (codes "all") rows given)
+    (is_given : given ≡ true) (word : name ≡ unwrap_or (first_of (codes "LABEL") rows) []) where
+  -- The words ask for all proofs of a file by the request for them.
+  pub all_asked : (names : Vec (Bor Text)) (r : Result Request Stop)
+      → map (λ n. n.now) names.items ≡ unwrap_or (all_of (codes "FILES") rows) []
+      → IfOk r (λ request. (number : ℕ) × (request ≡ Run (All form number) names) × (whole ≡ false)
+      × (number_among (map (λ n. n.now) names.items) name ≡ Some number))
+      → IfOk r (λ request. (words : List Text) → Commands words (name_of_form form) rows
+      → Asks words request)
+  all_asked names (Ok request) files (number, is, alone, found) = λ words commands.
+      rw is (rows, commands, rw alone at file, rw is_given at all, rw word at found, sym files)
+  all_asked names (Err stop) files h = tt
 
--- Where there is no such request, the words are refused.
-pub all_refused : (rows : List Row) (form : Form) (whole given : Bool) (name : Text)
-    (names : List Text) (r : Result Request Stop)
-    → IsGiven (codes "file") rows whole → IsGiven (codes "all") rows given → given ≡ true
-    → name ≡ unwrap_or (first_of (codes "LABEL") rows) []
-    → names ≡ unwrap_or (all_of (codes "FILES") rows) []
-    → IfErr r (IsAllFault whole name names)
-    → IfErr r (λ stop. (words : List Text) → Commands words (name_of_form form) rows
-    → IsWordFault words stop)
-all_refused rows form whole given name names (Ok request) file all is_given word files h = tt
-all_refused rows form whole given name names (Err (Usage text)) file all is_given word files
-    (inl both) = λ words commands.
-    let Whole : Bool → Type 0 = IsGiven (codes "file") rows in
-    let Given : Bool → Type 0 = IsGiven (codes "all") rows in
-    inr (inr (form, rows, commands, subst Given is_given all, inl (subst Whole both file)))
-all_refused rows form whole given name names (Err (Usage text)) file all is_given word files
-    (inr none) = λ words commands.
-    let Given : Bool → Type 0 = IsGiven (codes "all") rows in
-    let Amiss : List Text → Type 0 = λ ns. number_among ns name ≡ None in
-    let Unnamed : Text → Type 0 =
-    λ t. number_among (unwrap_or (all_of (codes "FILES") rows) []) t ≡ None in
-    inr (inr (
-      form,
-      rows,
-      commands,
-      subst Given is_given all,
-      inr (subst Unnamed word (subst Amiss files none)),
-    ))
-all_refused rows form whole given name names (Err NotText) file all is_given word files h =
-    absurd h
-all_refused rows form whole given name names (Err (CannotRead read label)) file all is_given word
-    files h = absurd h
-all_refused rows form whole given name names (Err CannotWrite) file all is_given word files h =
-    absurd h
-all_refused rows form whole given name names (Err Memory) file all is_given word files h =
-    λ words commands. tt
+  -- Where there is no such request, the words are refused.
+  pub all_refused : (names : List Text) (r : Result Request Stop)
+      → names ≡ unwrap_or (all_of (codes "FILES") rows) [] → IfErr r (IsAllFault whole name names)
+      → IfErr r (λ stop. (words : List Text) → Commands words (name_of_form form) rows
+      → IsWordFault words stop)
+  all_refused names (Ok request) files h = tt
+  all_refused names (Err (Usage text)) files (inl both) = λ words commands.
+      inr (inr (form, rows, commands, rw is_given at all, inl (rw both at file)))
+  all_refused names (Err (Usage text)) files (inr none) = λ words commands.
+      inr (inr (form, rows, commands, rw is_given at all, inr (rw (word, files) at none)))
+  all_refused names (Err Memory) files h = λ words commands. tt
+  all_refused names (Err other) files h = absurd h
 
 -- They ask for the proof of a theorem in a form, or for its file, where `--all` isn't given.
 pub form_asked : (words : List Text) (form : Form) (rows : List Row) (whole given : Bool)
@@ -268,5 +203,4 @@ pub form_asked : (words : List Text) (form : Form) (rows : List Row) (whole give
     → names ≡ unwrap_or (all_of (codes "FILES") rows) []
     → AsksForm (name_of_form form) words label whole names
 form_asked words form rows whole given label names commands file all not_given word files =
-    let Given : Bool → Type 0 = IsGiven (codes "all") rows in
-    (rows, commands, sym word, file, subst Given not_given all, sym files)
+    (rows, commands, sym word, file, rw not_given at all, sym files)

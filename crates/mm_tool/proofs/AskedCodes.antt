@@ -2,7 +2,7 @@
 use Rattle.std.proofs.Common.{◌≡◌, ◌≢◌, ℕ, ◌-◌, ◌==◌, ◌||◌, true, false, Bool, List, [], ◌∷◌}
 use Rattle.std.proofs.Common.{length, map, Bor, Option, Some, None, unwrap_or, Contains, codes}
 use Rattle.std.proofs.Common.{slice_get, refl, sym, ap, ◌∙◌, subst, arith, ◌++◌}
-use Rattle.std.proofs.lemmas.Bool.{cond-true, cond-false}
+use Rattle.std.proofs.lemmas.Bool.{cond-true}
 use Rattle.std.proofs.lemmas.List.{length-map}
 use Rattle.std.proofs.lemmas.List.Folds.{flat_map-map}
 use Rattle.std.proofs.lemmas.Option.{slice_get-map, slice_get_past, slice_get_read}
@@ -17,7 +17,7 @@ use Rattle.mm_tool.specs.Explained.{IsAskedFor, IsExplanation, IsUnknownCode}
 use Rattle.mm_tool.specs.declared.rule_text.RuleText.{RuleText}
 use Rattle.mm_tool.specs.declared.texts.Texts.{Texts}
 
-abbrev texts_in : List (Bor (List ℕ)) → List (List ℕ)
+abbrev pub texts_in : List (Bor (List ℕ)) → List (List ℕ)
 texts_in words = map (λ word. word.now) words
 
 -- ---- the code in a reply
@@ -55,11 +55,7 @@ pub none_told : (words : List (Bor (List ℕ))) (first : Bor (List ℕ))
 none_told [] first at other more = absurd (cc)
 none_told (w ∷ ws) first at other more =
     let same : w ≡ first = cc in
-    let not_last : tells_last w.now ≡ false =
-    subst (λ x. tells_last x.now ≡ false) (sym same) other in
-    let not_second : tells_second w.now ≡ false =
-    subst (λ x. tells_second x.now ≡ false) (sym same) more in
-    cond-false (tells_last w.now) _ _ not_last ∙ cond-false (tells_second w.now) _ _ not_second
+    rw (same, other, more) refl
 
 -- ---- the code that a line asks for
 
@@ -85,37 +81,33 @@ joined (w ∷ ws) =
     ap (λ l. w.now ++ l)
     (sym (flat_map-map (λ y. codes " " ++ y) (λ (x : Bor (List ℕ)). x.now) ws))
 
--- The capitals of the code that the line of the words asks for.
-pub record AreCapitalsOf (words : List (Bor (List ℕ))) (capitals : List ℕ) : Type 0 where
-  pub line : List ℕ
-  pub code : List ℕ
-  pub is_line : line ≡ join_by (λ (word : Bor (List ℕ)). word.now) (codes " ") words
-  pub is_code : code ≡ asked_code line
-  pub are_capitals : capitals ≡ map to_ascii_uppercase code
-
-capitals_asked : (words : List (Bor (List ℕ))) (capitals : List ℕ) → AreCapitalsOf words capitals
+-- The capitals are of the code that the line of the words asks for.
+pub capitals_asked : (words : List (Bor (List ℕ))) (line code capitals : List ℕ)
+    → line ≡ join_by (λ (word : Bor (List ℕ)). word.now) (codes " ") words → code ≡ asked_code line
+    → capitals ≡ map to_ascii_uppercase code
     → capitals ≡ map to_ascii_uppercase (asked_code (line_of (texts_in words)))
-capitals_asked words capitals h =
-    h.are_capitals
-    ∙ ap (map to_ascii_uppercase) (h.is_code ∙ ap asked_code (h.is_line ∙ joined words))
+capitals_asked words line code capitals is_line is_code are =
+    are ∙ ap (map to_ascii_uppercase) (is_code ∙ ap asked_code (is_line ∙ joined words))
 
 -- The text of the rule with these capitals is the explanation.
 pub explains : (texts : Texts) (words : List (Bor (List ℕ))) (capitals : List ℕ) (rule : RuleText)
-    → (length words == 0) ≡ false → AreCapitalsOf words capitals
+    → (length words == 0) ≡ false
+    → capitals ≡ map to_ascii_uppercase (asked_code (line_of (texts_in words)))
     → Contains (rules_in texts.chapters.now) rule → rule.code.now ≡ capitals
     → IsExplanation texts (texts_in words) rule.text.now
 explains texts [] capitals rule some are there same = absurd (cc)
 explains texts (w ∷ ws) capitals rule some are there same =
-    (rule, there, same ∙ capitals_asked (w ∷ ws) capitals are, refl)
+    (rule, there, same ∙ are, refl)
 
 -- No rule has these capitals, and so none is asked for.
 pub explains_none : (texts : Texts) (words : List (Bor (List ℕ))) (capitals : List ℕ)
-    → (length words == 0) ≡ false → AreCapitalsOf words capitals
+    → (length words == 0) ≡ false
+    → capitals ≡ map to_ascii_uppercase (asked_code (line_of (texts_in words)))
     → AllByRecursion (λ rule. rule.code.now ≢ capitals) (rules_in texts.chapters.now)
     → IsUnknownCode texts (texts_in words)
 explains_none texts [] capitals some are none = absurd (cc)
 explains_none texts (w ∷ ws) capitals some are none =
     all_weaker (λ (rule : RuleText). rule.code.now ≢ capitals)
     (λ (rule : RuleText). ¬ IsAskedFor (texts_in (w ∷ ws)) rule)
-    (λ rule other same. other (same ∙ sym (capitals_asked (w ∷ ws) capitals are)))
+    (λ rule other same. other (same ∙ sym are))
     (rules_in texts.chapters.now) none

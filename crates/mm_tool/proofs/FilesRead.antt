@@ -1,18 +1,16 @@
 -- From the reading of one file to that of all.
-use Rattle.std.proofs.Common.{◌≡◌, ℕ, suc, ◌+◌, ◌<◌, List, ◌∷◌, ◌++◌, length, map, take, drop, get_or, Result, Err, IsErrOf, refl, sym, ap, ◌∙◌, subst, arith, Bor}
+use Rattle.std.proofs.Common.{◌≡◌, ℕ, suc, ◌+◌, ◌<◌, List, ◌∷◌, ◌++◌, length, map, take, drop, get_or, Result, Err, IsErrOf, refl, sym, ap, ◌∙◌, arith, Bor}
 use Rattle.std.proofs.Math.Seq.{drop-cons}
 use Rattle.std.proofs.lemmas.List.{map-append}
 use Rattle.std.proofs.Common.{take-append-drop}
 use Rattle.std.specs.List.{AllByRecursion}
 use Rattle.mm_text.specs.Files.{PlainFile, total_bytes}
+use Rattle.mm_tool.proofs.AskedCodes.{texts_in}
 use Rattle.mm_tool.specs.Folder.{ComesNext, IsFileFault, IsHeld, KnownFile, MayHold}
 use Rattle.mm_tool.specs.Folder.{Unknown, Absent, Holds}
 use Rattle.mm_tool.specs.declared.files.FileFault.{FileFault}
 use Rattle.mm_tool.specs.declared.files.FileFault.TheVariants.{CannotRead, TooLong, Memory}
 use Rattle.mm_tool.specs.declared.files.ReadFile.{ReadFile}
-
-abbrev texts_in : List (Bor (List ℕ)) → List (List ℕ)
-texts_in names = map (λ n. n.now) names
 
 -- the names are those before a place, the one there, and those after it
 pub texts_at : (names : List (Bor (List ℕ))) (i : ℕ) (d : Bor (List ℕ)) → i < length names
@@ -43,8 +41,7 @@ pub file_fault_at : (holds : List ℕ → KnownFile) (may_fail : List ℕ → Ty
     → (IsErrOf (read_error f) TooLong → MayHold (holds name.now) (λ all. left < length all))
     → IsFileFault holds may_fail (texts_in names) max f
 file_fault_at holds may_fail names max name left next whole (CannotRead word) named fails over =
-    let Unreadable : Bor (List ℕ) → Type 0 = λ w. ComesNext holds (texts_in names) max w.now × may_fail w.now in
-    subst Unreadable (sym (named word refl)) (next, fails word refl)
+    rw (named word refl) (next, fails word refl)
 file_fault_at holds may_fail names max name left next whole TooLong named fails over =
     (name.now, next, more (holds name.now) (over refl))
   where

@@ -1,6 +1,6 @@
 -- What is found in a list, or in several.
-use Rattle.std.proofs.Common.{◌≡◌, ◌≢◌, false, ℕ, suc, zero, ◌+◌, ◌<◌, List, [], ◌∷◌, ◌++◌, length}
-use Rattle.std.proofs.Common.{take, get_or, Contains, sym, ap, ◌∙◌, subst, arith}
+use Rattle.std.proofs.Common.{◌≡◌, ◌≢◌, false, ℕ, suc, zero, ◌+◌, ◌<◌, List, [], ◌∷◌, length}
+use Rattle.std.proofs.Common.{take, get_or, Contains, arith}
 use Rattle.std.proofs.lemmas.Slice.Eq.{bytes_eq-Decides}
 use Rattle.std.proofs.lemmas.Bool.Decides.{not_from_Decides}
 use Rattle.std.proofs.lemmas.Grind.{flat_map-append}
@@ -16,8 +16,7 @@ use Rattle.mm_text.proofs.Lists.{all_append, all_push}
 pub all_more : {X : Type 0} (P : X → Type 0) (xs : List X) (i : ℕ) (d : X) → i < length xs
     → AllByRecursion P (take i xs) → P (get_or xs i d) → AllByRecursion P (take (i + 1) xs)
 all_more P xs i d less h p =
-    subst (AllByRecursion P) (sym (take_more xs i d less))
-    (all_push P (take i xs) (get_or xs i d) h p)
+    rw (take_more xs i d less) (all_push P (take i xs) (get_or xs i d) h p)
 
 -- Each of what one more is made of is so.
 pub all_made_more : {X Y : Type 0} (P : Y → Type 0) (f : X → List Y) (xs : List X) (i : ℕ) (d : X)
@@ -25,10 +24,7 @@ pub all_made_more : {X Y : Type 0} (P : Y → Type 0) (f : X → List Y) (xs : L
     → AllByRecursion P (f (get_or xs i d))
     → AllByRecursion P (flat_map f (take (i + 1) xs))
 all_made_more P f xs i d less h p =
-    let made : flat_map f (take (i + 1) xs) ≡ flat_map f (take i xs) ++ f (get_or xs i d) =
-    ap (flat_map f) (take_more xs i d less) ∙ flat_map-append f (take i xs) (get_or xs i d ∷ [])
-    ∙ ap (λ l. flat_map f (take i xs) ++ l) (append-nil (f (get_or xs i d))) in
-    subst (AllByRecursion P) (sym made)
+    rw (take_more xs i d less, flat_map-append, append-nil)
     (all_append P (flat_map f (take i xs)) (f (get_or xs i d)) h p)
 
 -- ---- one of a list

@@ -37,36 +37,22 @@ each_below p low (suc count) =
     elim (p low) as (λ b. AllByRecursion (λ n. n < low + suc count) (cond b (low ∷ rest) rest))
     [ true ↦ (omega arith, high) | false ↦ high ]
 
--- These are the numbers of the files that weren't included; none where the files can't be taken as
--- a whole.
-pub record AreNumbers (files : List PlainFile) (numbers : List ℕ) : Type 0 where
-  pub whole : ((rule : LoadRule) → BreaksLoad files rule → ⊥) → numbers ≡ left_out files
-  pub broken : (rule : LoadRule) → BreaksLoad files rule → numbers ≡ []
-
--- A list of the same numbers is one of such numbers.
-pub are_numbers : (files : List PlainFile) (numbers given : List ℕ) → given ≡ numbers
-    → (((rule : LoadRule) → BreaksLoad files rule → ⊥) → numbers ≡ left_out files)
-    → ((rule : LoadRule) → BreaksLoad files rule → numbers ≡ []) → AreNumbers files given
-are_numbers files numbers given same whole broken = record {
-  whole = λ none. same ∙ whole none;
-  broken = λ rule breaks. same ∙ broken rule breaks;
-}
-
--- Each is the number of a file.
-pub number_within : (files : List File) (numbers : List ℕ)
-    → AreNumbers (map plain_file files) numbers
-    → (i d : ℕ) → i < length numbers → get_or numbers i d < length files
-number_within files numbers are i d less =
+-- Each of the numbers of the files that weren't included is the number of a file.
+pub number_within : (files : List File) (numbers given : List ℕ) → given ≡ numbers
+    → (((rule : LoadRule) → BreaksLoad (map plain_file files) rule → ⊥)
+    → numbers ≡ left_out (map plain_file files))
+    → ((rule : LoadRule) → BreaksLoad (map plain_file files) rule → numbers ≡ [])
+    → (i d : ℕ) → i < length given → get_or given i d < length files
+number_within files numbers given same whole broken i d less =
     let count = length-map files plain_file in
     let none : (rule : LoadRule) → BreaksLoad (map plain_file files) rule → ⊥ =
-    λ rule broken. let empty = ap length (are.broken rule broken) in absurd (omega arith) in
-    let all : AllByRecursion (λ n. n < length files) numbers =
-    subst (AllByRecursion (λ n. n < length files)) (sym (are.whole none))
+    λ rule breaks. let empty = ap length (same ∙ broken rule breaks) in absurd (omega arith) in
+    let all : AllByRecursion (λ n. n < length files) given =
+    subst (AllByRecursion (λ n. n < length files)) (sym (same ∙ whole none))
     (all_weaker (λ n. n < 0 + length (map plain_file files)) (λ n. n < length files)
     (λ n h. omega arith) _
     (each_below (is_left_out (map plain_file files)) 0 (length (map plain_file files)))) in
-    all_at (λ n. n < length files) numbers i (get_or numbers i d) all
-    (slice_get-get_or numbers i d less)
+    all_at (λ n. n < length files) given i (get_or given i d) all (slice_get-get_or given i d less)
 
 -- ---- names
 
@@ -83,16 +69,16 @@ pub name_more : (files : List PlainFile) (names : List (List ℕ)) (numbers : Li
     → name ≡ name_of files (get_or numbers i d)
     → names ++ name ∷ [] ≡ map (name_of files) (take (i + 1) numbers)
 name_more files names numbers i d name less so_far this =
-    ap₂ (λ (ns : List (List ℕ)) (n : List ℕ). ns ++ n ∷ []) so_far this
-    ∙ sym (map-append (name_of files) (take i numbers) (get_or numbers i d ∷ []))
-    ∙ ap (map (name_of files)) (sym (take_more numbers i d less))
+    rw (so_far, this, take_more numbers i d less, map-append)
 
 -- The names by these numbers are those of the files that weren't included.
-pub names_told : (files : List PlainFile) (numbers : List ℕ) (names : List (List ℕ))
-    → AreNumbers files numbers → names ≡ map (name_of files) numbers → AreLeftOut files names
-names_told files numbers names are by = record {
-  whole = λ none. by ∙ ap (map (name_of files)) (are.whole none);
-  broken = λ rule broken. by ∙ ap (map (name_of files)) (are.broken rule broken);
+pub names_told : (files : List PlainFile) (numbers given : List ℕ) (names : List (List ℕ))
+    → given ≡ numbers → (((rule : LoadRule) → BreaksLoad files rule → ⊥) → numbers ≡ left_out files)
+    → ((rule : LoadRule) → BreaksLoad files rule → numbers ≡ [])
+    → names ≡ map (name_of files) given → AreLeftOut files names
+names_told files numbers given names same whole broken by = record {
+  whole = λ none. by ∙ ap (map (name_of files)) (same ∙ whole none);
+  broken = λ rule breaks. by ∙ ap (map (name_of files)) (same ∙ broken rule breaks);
 }
 
 -- ---- lines
@@ -102,8 +88,7 @@ pub three_parts : {T E : Type 0} (r : Result T E) (old first second new a b d : 
     → first ≡ old ++ a → second ≡ first ++ b → new ≡ (if is_ok r then second ++ d else second)
     → OnOk r (new ≡ old ++ (a ++ (b ++ d)))
 three_parts (Ok v) old first second new a b d one two three =
-    three ∙ ap (λ l. l ++ d) (two ∙ ap (λ l. l ++ b) one ∙ append_assoc old a b)
-    ∙ append_assoc old (a ++ b) d ∙ ap (λ l. old ++ l) (append_assoc a b d)
+    rw (three, two, one) (simp append_assoc)
 three_parts (Err e) old first second new a b d one two three = tt
 
 -- ---- files that were read

@@ -6,5 +6,4 @@ pub mod FilesRead
 pub mod LeftOutNames
 pub mod PartsWritten
 pub mod Runs
-pub mod Tellings
 pub mod WholeFiles

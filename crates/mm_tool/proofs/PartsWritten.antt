@@ -1,11 +1,9 @@
 -- Texts that are written one after the other.
 use Rattle.std.proofs.Common.{ℕ, ◌+◌, ◌≤◌, List, ◌++◌, length, length-append, take, Option}
-use Rattle.std.proofs.Common.{Result, Ok, Err, OnOk, OnErr, inl, inr, sym, ap, ◌∙◌, subst, arith}
+use Rattle.std.proofs.Common.{Result, Ok, Err, OnOk, OnErr, inl, inr, ap, ◌∙◌, arith}
 use Rattle.std.proofs.lemmas.List.{take-append-le}
 use Rattle.std.proofs.Math.Seq.{take-append-add}
 use Rattle.std.proofs.KnownBytes.{Appends-trans}
-use Rattle.std.specs.Io.KnownBytes.{Appends}
-use Rattle.mm_text.specs.Device.{inner_of}
 use Rattle.mm_text.specs.declared.counted.Counted.{Counted}
 use Rattle.mm_tool.specs.Ending.{BreaksOff, TakesWhole, TellsLine}
 
@@ -20,32 +18,22 @@ takes_both contents first second a b d one other =
 pub breaks_both : {E : Type 0} (contents : E → Option (List ℕ)) (first second : List ℕ)
     (a b d : Counted E) → TakesWhole contents first a b → BreaksOff contents second b d
     → BreaksOff contents (first ++ second) a d
-breaks_both contents first second a b d one ((k, less, put), counted) =
-    let Put : List ℕ → Type 0 =
-    λ text. Appends (contents (inner_of a)) (contents (inner_of d)) text in (
-      (
-        length first + k,
-        omega (arith, length-append first second),
-        subst Put (sym (take-append-add first second k))
-            (Appends-trans _ _ _ first (take k second) one.0 put),
-      ),
-      counted ∙ ap (λ n. n + 1) one.1,
-    )
+breaks_both contents first second a b d one ((k, less, put), counted) = (
+  (
+    length first + k,
+    omega (arith, length-append first second),
+    rw (take-append-add first second k) (Appends-trans _ _ _ first (take k second) one.0 put),
+  ),
+  counted ∙ ap (λ n. n + 1) one.1,
+)
 
 -- Where a text broke off, so did each that goes on behind it.
 pub breaks_before : {E : Type 0} (contents : E → Option (List ℕ)) (first second : List ℕ)
     (a b : Counted E) → BreaksOff contents first a b → BreaksOff contents (first ++ second) a b
 breaks_before contents first second a b ((k, less, put), counted) =
-    let Put : List ℕ → Type 0 =
-    λ text. Appends (contents (inner_of a)) (contents (inner_of b)) text in
-    let few : k ≤ length first = omega arith in (
-      (
-        k,
-        omega (arith, length-append first second),
-        subst Put (sym (take-append-le k first second few)) put,
-      ),
-      counted,
-    )
+    let few : k ≤ length first = omega arith in
+    let enough = length-append first second in
+    ((k, omega (arith, enough), rw (take-append-le k first second few) put), counted)
 
 -- The second text was written after the first, or broke off there.
 pub all_both : {E T F : Type 0} (contents : E → Option (List ℕ)) (first second : List ℕ)

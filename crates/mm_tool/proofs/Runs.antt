@@ -1,12 +1,11 @@
 -- How a command over files ends, from how its parts end.
-use Rattle.std.proofs.Common.{◌≡◌, ℕ, List, codes, Option, Result, Ok, Err, IfErr, IsErrAnd, IsErrOf, OnErr, ◌+◌, ◌≤◌, inl, inr, refl, sym, subst}
-use Rattle.std.proofs.Common.{◌<◌, length, map, ap, ◌∙◌}
+use Rattle.std.proofs.Common.{◌≡◌, ℕ, List, codes, Option, Result, Ok, Err, IfErr, IsErrAnd, IsErrOf, OnErr, ◌+◌, ◌≤◌, inl, inr, refl, sym}
+use Rattle.std.proofs.Common.{length, map, ap, ◌∙◌}
 use Rattle.std.proofs.lemmas.List.{length-map}
 use Rattle.std.specs.List.{AllZip}
 use Rattle.mm_text.proofs.Lists.{zip_length}
 use Rattle.mm_check.specs.Reply.{AsksHanded}
-use Rattle.mm_check.specs.declared.command.Command.TheVariants.{All, Axioms, Check, Normal}
-use Rattle.mm_check.specs.declared.command.Command.TheVariants.{Packed, Same, Show}
+use Rattle.mm_check.specs.declared.command.Command.TheVariants.{All}
 use Rattle.mm_tool.specs.ReadFiles.{IsReadAs}
 use Rattle.mm_tool.specs.Ending.{AsksNamed}
 use Rattle.mm_tool.specs.declared.files.Comments.{Comments}
@@ -24,62 +23,58 @@ use Rattle.mm_tool.specs.Answer.{Outcome, quiet}
 use Rattle.mm_tool.specs.Ending.{BreaksOff, StopsRun, stop_of}
 use Rattle.mm_tool.specs.Notes.{AreNotesOn}
 use Rattle.mm_tool.specs.declared.stop.Stop.{Stop}
-use Rattle.mm_tool.specs.declared.stop.Stop.TheVariants.{CannotWrite}
-
--- The line that the files hold too many bytes broke off.
-pub stops_too_long : {O T : Type 0} (contents : O → Option (List ℕ)) (holds : List ℕ → KnownFile) (may_fail : List ℕ → Type 0)
-    (command : Command) (names : List (List ℕ)) (max : ℕ) (r : Result T Stop) (old new : Counted O)
-    → IfErr r (λ stop. stop ≡ CannotWrite) → OnErr r (BreaksOff contents (codes "load F3\n") old new) → AreTooLong holds names max
-    → IfErr r (λ stop. StopsRun contents holds may_fail command names max stop old new)
-stops_too_long contents holds may_fail command names max (Ok v) old new stop broke long = tt
-stops_too_long contents holds may_fail command names max (Err s) old new stop broke long =
-    let Stopped : Stop → Type 0 = λ s. StopsRun contents holds may_fail command names max s old new in
-    subst Stopped (sym stop) (codes "load F3\n", quiet 4, inr (long, refl, refl), broke)
+use Rattle.mm_tool.specs.declared.stop.Stop.TheVariants.{CannotWrite, Memory}
 
 abbrev run_error : RunFault → Result Status RunFault
 run_error fault = Err fault
 
--- The reply over the files that were read broke off, or memory for it was wanting.
-stops_run : {O : Type 0} (contents : O → Option (List ℕ)) (holds : List ℕ → KnownFile) (may_fail : List ℕ → Type 0)
-    (command : Command) (names : List (List ℕ)) (max : ℕ) (fault : RunFault) (files : List PlainFile) (notes : List ℕ) (old new : Counted O)
-    → AreHeld holds names files → total_bytes files ≤ max → AreNotesOn files notes
-    → (IsErrOf (run_error fault) run.Device → WritesBeginningOf files command (contents (inner_of old)) (contents (inner_of new)))
-    → (IsErrOf (run_error fault) run.Memory → inner_of new ≡ inner_of old)
-    → (IsErrOf (run_error fault) run.Device → faults_of new ≡ faults_of old + 1)
-    → ((IsErrOf (run_error fault) run.Device → ⊥) → faults_of new ≡ faults_of old)
-    → StopsRun contents holds may_fail command names max (stop_of fault) old new
-stops_run contents holds may_fail command names max run.Device files notes old new held within noted device memory counted uncounted =
-    let (text, status, reply, beginning) = device refl in
-    let outcome : Outcome = record { status = status; notes = notes } in
-    (text, outcome, inl (files, held, within, reply, noted), (beginning, counted refl))
-stops_run contents holds may_fail command names max run.Memory files notes old new held within noted device memory counted uncounted =
-    (memory refl, uncounted (λ other. absurd (cc)))
+module _ {O : Type 0} (contents : O → Option (List ℕ)) (holds : List ℕ → KnownFile)
+    (may_fail : List ℕ → Type 0) (command : Command) (names : List (List ℕ)) (max : ℕ) where
+  -- The line that the files hold too many bytes broke off.
+  pub stops_too_long : {T : Type 0} (r : Result T Stop) (old new : Counted O)
+      → IfErr r (λ stop. stop ≡ CannotWrite)
+      → OnErr r (BreaksOff contents (codes "load F3\n") old new) → AreTooLong holds names max
+      → IfErr r (λ stop. StopsRun contents holds may_fail command names max stop old new)
+  stops_too_long (Ok v) old new stop broke long = tt
+  stops_too_long (Err s) old new stop broke long =
+      rw stop (codes "load F3\n", quiet 4, inr (long, refl, refl), broke)
 
-pub stops_at_run : {O T : Type 0} (contents : O → Option (List ℕ)) (holds : List ℕ → KnownFile) (may_fail : List ℕ → Type 0)
-    (command : Command) (names : List (List ℕ)) (max : ℕ) (r : Result T Stop) (fault : RunFault) (given files : List PlainFile) (notes : List ℕ) (old new : Counted O)
-    → IsErrAnd r (λ stop. stop ≡ stop_of fault) → ((text : List ℕ) (status : ℕ) → IsReplyTo given command text status → IsReplyTo files command text status) → AreHeld holds names files → total_bytes files ≤ max → AreNotesOn files notes
-    → (IsErrOf (run_error fault) run.Device → WritesBeginningOf given command (contents (inner_of old)) (contents (inner_of new)))
-    → (IsErrOf (run_error fault) run.Memory → inner_of new ≡ inner_of old)
-    → (IsErrOf (run_error fault) run.Device → faults_of new ≡ faults_of old + 1)
-    → ((IsErrOf (run_error fault) run.Device → ⊥) → faults_of new ≡ faults_of old)
-    → IfErr r (λ stop. StopsRun contents holds may_fail command names max stop old new)
-stops_at_run contents holds may_fail command names max r fault given files notes old new is same held within noted device memory counted uncounted =
-    error_keeps r (stop_of fault) (λ stop. StopsRun contents holds may_fail command names max stop old new) is
-    (stops_run contents holds may_fail command names max fault files notes old new held within noted (λ e. let (text, status, reply, beginning) = device e in (text, status, same text status reply, beginning)) memory counted uncounted)
+  -- The reply over the files that were read broke off, or memory for it was wanting.
+  pub stops_at_run : {T : Type 0} (r : Result T Stop) (fault : RunFault)
+      (given files : List PlainFile) (notes : List ℕ) (old new : Counted O)
+      → IsErrAnd r (λ stop. stop ≡ stop_of fault)
+      → ((text : List ℕ) (status : ℕ) → IsReplyTo given command text status
+      → IsReplyTo files command text status)
+      → AreHeld holds names files → total_bytes files ≤ max → AreNotesOn files notes
+      → (IsErrOf (run_error fault) run.Device
+      → WritesBeginningOf given command (contents (inner_of old)) (contents (inner_of new)))
+      → (IsErrOf (run_error fault) run.Memory → inner_of new ≡ inner_of old)
+      → (IsErrOf (run_error fault) run.Device → faults_of new ≡ faults_of old + 1)
+      → ((IsErrOf (run_error fault) run.Device → ⊥) → faults_of new ≡ faults_of old)
+      → IfErr r (λ stop. StopsRun contents holds may_fail command names max stop old new)
+  stops_at_run r run.Device given files notes old new is same held within noted device memory
+      counted uncounted =
+      let (text, status, reply, beginning) = device refl in
+      let outcome : Outcome = record { status = status; notes = notes } in
+      error_keeps r CannotWrite
+      (λ stop. StopsRun contents holds may_fail command names max stop old new) is (
+        text,
+        outcome,
+        inl (files, held, within, same text status reply, noted),
+        (beginning, counted refl),
+      )
+  stops_at_run r run.Memory given files notes old new is same held within noted device memory
+      counted uncounted =
+      error_keeps r Memory
+      (λ stop. StopsRun contents holds may_fail command names max stop old new) is
+      (memory refl, uncounted (λ other. absurd (cc)))
 
 -- The file about which a command asks is one of those that were read, of which there are as many as
 -- names.
 pub asks_handed : (command : Command) (names : List (List ℕ)) (files : List PlainFile)
     → length files ≡ length names → AsksNamed command names → AsksHanded files command
-asks_handed (Check profile) names files same named = tt
-asks_handed (Axioms label) names files same named = tt
-asks_handed (Show label) names files same named = tt
-asks_handed (Normal label whole) names files same named = tt
-asks_handed (Packed label whole) names files same named = tt
-asks_handed (Same label text) names files same named = tt
-asks_handed (All form number) names files same named =
-    let Below : ℕ → Type 0 = λ n. number < n in
-    subst Below (sym same) named
+asks_handed (All form number) names files same named = rw same named
+asks_handed command names files same named = tt
 
 -- Of the files that were read there are as many as names.
 pub as_many : (comments : Comments) (names : List (List ℕ)) (wholes files : List PlainFile)

@@ -28,42 +28,36 @@ more_bytes files file = sum_by_push (λ (f : PlainFile). length f.bytes) files f
 pub more_names : (files : List PlainFile) (file : PlainFile) (names : List (Bor (List ℕ))) (i : ℕ) (d : Bor (List ℕ)) → i < length names → map (λ f. f.name) files ≡ map (λ n. n.now) (take i names) → file.name ≡ (get_or names i d).now
     → map (λ f. f.name) (files ++ file ∷ []) ≡ map (λ n. n.now) (take (i + 1) names)
 more_names files file names i d within named name =
-    map-append (λ (f : PlainFile). f.name) files (file ∷ [])
-    ∙ ap (λ l. l ++ file.name ∷ []) named ∙ ap (λ (n : List ℕ). map (λ (n : Bor (List ℕ)). n.now) (take i names) ++ n ∷ []) name
-    ∙ sym (map-append (λ (n : Bor (List ℕ)). n.now) (take i names) (get_or names i d ∷ []))
-    ∙ ap (map (λ (n : Bor (List ℕ)). n.now)) (sym (take_more names i d within))
+    rw (map-append, take_more names i d within, map-append, named, name) refl
 
 -- ## The reply over what was read is that over the whole files
 
 -- nothing was left out
 pub same_files : (wholes reads : List PlainFile) → AllZip (IsReadAs Kept) wholes reads → reads ≡ wholes
 same_files [] [] all = refl
-same_files [] (read ∷ reads) all = absurd all
-same_files (whole ∷ wholes) [] all = absurd all
 same_files (whole ∷ wholes) (read ∷ reads) all =
     let name = all.0.0 in
     let bytes = all.0.1 in
     let rest = same_files wholes reads all.1 in
     let first : read ≡ whole = ap₂ (λ (n b : List ℕ). let f : PlainFile = record { name = n; bytes = b } in f) (sym name) bytes in
     ap (λ f. f ∷ reads) first ∙ ap (λ l. whole ∷ l) rest
+same_files wholes reads all = absurd all
 
 -- what comments say was left out
 pub alike_files : (wholes reads : List PlainFile) → AllZip (IsReadAs LeftOut) wholes reads → AllZip AreAlike reads wholes
 alike_files [] [] all = tt
-alike_files [] (read ∷ reads) all = absurd all
-alike_files (whole ∷ wholes) [] all = absurd all
 alike_files (whole ∷ wholes) (read ∷ reads) all = ((sym all.0.0, λ file. sym (all.0.1.0 file)), alike_files wholes reads all.1)
+alike_files wholes reads all = absurd all
 
 pub fewer_bytes : (wholes reads : List PlainFile) → AllZip (IsReadAs LeftOut) wholes reads → total_bytes reads ≤ total_bytes wholes
 fewer_bytes [] [] all = omega arith
-fewer_bytes [] (read ∷ reads) all = absurd all
-fewer_bytes (whole ∷ wholes) [] all = absurd all
 fewer_bytes (whole ∷ wholes) (read ∷ reads) all =
     let rest = fewer_bytes wholes reads all.1 in
     let first = all.0.1.1 in
     let one = byte_count whole wholes in
     let other = byte_count read reads in
     omega (arith, rest, first, one, other)
+fewer_bytes wholes reads all = absurd all
 
 pub reply_over : AlikeFilesHaveOneReply → (comments : Comments) (command : Command) (max : ℕ) → (comments ≡ LeftOut → ((profile : Profile) × (command ≡ Check profile)) × (max ≤ most_bytes)) → (wholes reads : List PlainFile) → AllZip (IsReadAs comments) wholes reads → total_bytes wholes ≤ max
     → (text : List ℕ) (status : ℕ) → IsReplyTo reads command text status → IsReplyTo wholes command text status
@@ -83,6 +77,4 @@ pub held_by : (P : List ℕ → Type 0) (known : KnownFile) (left : Option (List
     → MayHold known (λ bytes. left ≡ Some bytes) → IfSome left P → MayHold known P
 held_by P Unknown left one other = tt
 held_by P Absent left one other = absurd one
-held_by P (Holds bytes) left one other =
-    let Known : Option (List ℕ) → Type 0 = λ o. IfSome o P in
-    subst Known one other
+held_by P (Holds bytes) left one other = rw one at other

@@ -1,29 +1,21 @@
 -- The words are put on a line, which asks for the code.
 use Rattle.std.proofs.Common.{sym, ◌∙◌}
-use Rattle.mm_tool.proofs.AskedCodes.{AreCapitalsOf, explains, explains_none}
+use Rattle.mm_tool.proofs.AskedCodes.{capitals_asked, explains, explains_none}
 use Rattle.mm_tool.proofs.explain.explanation.Goals as goal
 
 pub returns-in-Some-clause-text : goal.returns-in-Some-clause-text
 returns-in-Some-clause-text c =
-    let are : AreCapitalsOf c.args.asked.now c.deref-2.result.now = record {
-      line = c.deref.result.now;
-      code = c.in_ok-code.code.now;
-      is_line = c.deref.ensures ∙ c.in_ok-line.ensures.ok;
-      is_code = c.in_ok-code.ensures;
-      are_capitals = c.deref-2.ensures ∙ c.in_ok-capitals.ensures.ok;
-    } in
+    let are = capitals_asked c.args.asked.now c.deref.result.now c.in_ok-code.code.now
+    c.deref-2.result.now (c.deref.ensures ∙ c.in_ok-line.ensures.ok) c.in_ok-code.ensures
+    (c.deref-2.ensures ∙ c.in_ok-capitals.ensures.ok) in
     explains c.args.texts.now c.args.asked.now c.deref-2.result.now c.in-Some.rule
     (sym c.is_empty.ensures ∙ c.if-is_empty.false) are
     c.in-Some.ensures.found.0 c.in-Some.ensures.found.1
 
 pub returns-clause-unknown : goal.returns-clause-unknown
 returns-clause-unknown c =
-    let are : AreCapitalsOf c.args.asked.now c.deref-2.result.now = record {
-      line = c.deref.result.now;
-      code = c.in_ok-code.code.now;
-      is_line = c.deref.ensures ∙ c.in_ok-line.ensures.ok;
-      is_code = c.in_ok-code.ensures;
-      are_capitals = c.deref-2.ensures ∙ c.in_ok-capitals.ensures.ok;
-    } in
+    let are = capitals_asked c.args.asked.now c.deref.result.now c.in_ok-code.code.now
+    c.deref-2.result.now (c.deref.ensures ∙ c.in_ok-line.ensures.ok) c.in_ok-code.ensures
+    (c.deref-2.ensures ∙ c.in_ok-capitals.ensures.ok) in
     explains_none c.args.texts.now c.args.asked.now c.deref-2.result.now
     (sym c.is_empty.ensures ∙ c.if-is_empty.false) are c.in-None.ensures.unknown

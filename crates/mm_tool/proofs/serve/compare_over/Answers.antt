@@ -1,9 +1,7 @@
 -- Once the proof is read, the comparison ends as the command over the files does.
-use Rattle.std.proofs.Common.{◌≤◌, ℕ, List, Bor, Err, IfOk, IfErr, length, map, ap, arith}
-use Rattle.std.proofs.Common.{subst, ◌∙◌}
-use Rattle.mm_tool.specs.Answer.{outcome_of}
+use Rattle.std.proofs.Common.{◌≤◌, Err, length, ap, arith}
+use Rattle.std.proofs.Common.{◌∙◌}
 use Rattle.mm_check.specs.declared.command.Command.TheVariants.{Same}
-use Rattle.mm_tool.specs.Ending.{IsReplyOver, StopsRun, TakesWhole}
 use Rattle.mm_tool.proofs.Answering.{same_replies, same_stops, same_too_long}
 use Rattle.mm_tool.proofs.serve.compare_over.Goals as goal
 
@@ -20,30 +18,20 @@ returns-clause-replies g c =
     let (whole, named, held, count, reads) = c.in-Ok.ensures.read in
     let within : length whole.bytes ≤ c.args.max =
     let few = c.in-Ok.ensures.within in omega (arith, count, few) in
-    let Replied : List (Bor (List ℕ)) → Type 0 = λ names.
-    IfOk c.run_over.result (λ answer. (text : List ℕ)
-    × IsReplyOver (g.F.Folder.holds c.args.folder.now) (Same c.as_bytes.result c.deref.result)
-    (map (λ name. name.now) names) c.args.max text (outcome_of answer)
-    × TakesWhole g.O.Write.contents text c.args.out.now c.run_over.new.out) in
     same_replies g.O.Write.contents (g.F.Folder.holds c.args.folder.now) c.args.max
     c.args.asked.now.label.now c.args.asked.now.proof.now _
     (Same c.as_bytes.result c.deref.result) whole c.run_over.result _ _
     (named, held, within) (c.as_bytes.ensures.value, c.deref.ensures.value ∙ reads.1)
-    (subst Replied c.deref-2.ensures.value c.run_over.ensures.replies)
+    (rw c.deref-2.ensures.value at c.run_over.ensures.replies)
 
 pub returns-clause-stops : goal.returns-clause-stops
 returns-clause-stops g c =
     let (whole, named, held, count, reads) = c.in-Ok.ensures.read in
     let within : length whole.bytes ≤ c.args.max =
     let few = c.in-Ok.ensures.within in omega (arith, count, few) in
-    let Stopped : List (Bor (List ℕ)) → Type 0 = λ names.
-    IfErr c.run_over.result (λ stop. StopsRun g.O.Write.contents
-    (g.F.Folder.holds c.args.folder.now) (g.F.Folder.may_fail c.args.folder.now)
-    (Same c.as_bytes.result c.deref.result) (map (λ name. name.now) names) c.args.max stop
-    c.args.out.now c.run_over.new.out) in
     same_stops g.O.Write.contents (g.F.Folder.holds c.args.folder.now)
     (g.F.Folder.may_fail c.args.folder.now) c.args.max
     c.args.asked.now.label.now c.args.asked.now.proof.now _
     (Same c.as_bytes.result c.deref.result) whole c.run_over.result _ _
     (named, held, within) (c.as_bytes.ensures.value, c.deref.ensures.value ∙ reads.1)
-    (subst Stopped c.deref-2.ensures.value c.run_over.ensures.stops)
+    (rw c.deref-2.ensures.value at c.run_over.ensures.stops)

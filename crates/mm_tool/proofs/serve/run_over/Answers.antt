@@ -1,7 +1,5 @@
 -- What `read_files`, `reply` and `run` say of their failing is what is said of the command over the files.
-use Rattle.std.proofs.Common.{List, ℕ, map, ap, ◌∙◌, subst, sym, inl}
-use Rattle.mm_text.specs.Files.{PlainFile}
-use Rattle.mm_check.specs.Reply.{AsksHanded}
+use Rattle.std.proofs.Common.{map, ap, ◌∙◌, subst, inl}
 use Rattle.mm_text.specs.Files.{plain_file}
 use Rattle.mm_tool.specs.Folder.{IsFileFault, plain_read}
 use Rattle.mm_tool.specs.declared.files.FileFault.{FileFault}
@@ -25,11 +23,8 @@ run-requires-clause-asks g c =
     let (wholes, held, within, reads) = c.in-Ok.ensures.read in
     let given = ap (map plain_file) c.deref-3.ensures.value ∙ c.in_ok-files.ensures
     ∙ ap (map plain_read) c.deref.ensures.value in
-    let names : List (List ℕ) = map (λ n. n.now) c.args.names.now in
-    let Asks : List PlainFile → Type 0 = λ files. AsksHanded files c.args.command.now in
-    subst Asks (sym given)
-    (asks_handed c.args.command.now names (map plain_read c.in-Ok.files.items)
-    (as_many c.comments_for.result names wholes (map plain_read c.in-Ok.files.items) held.0 reads)
+    rw given (asks_handed c.args.command.now _ (map plain_read c.in-Ok.files.items)
+    (as_many c.comments_for.result _ wholes (map plain_read c.in-Ok.files.items) held.0 reads)
     c.requires.named)
 
 pub returns-in_err-status-clause-stops : goal.returns-in_err-status-clause-stops

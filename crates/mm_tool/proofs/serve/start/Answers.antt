@@ -1,17 +1,14 @@
 -- The words that are served are those with which the program was started.
-use Rattle.std.proofs.Common.{ℕ, List, IfSome, ◌≡◌, map, string_bytes, inl, inr, subst, ap, Err, rules, sym}
+use Rattle.std.proofs.Common.{map, inl, inr, ap, Err, rules}
 use Rattle.mm_tool.proofs.Answering.{ends_unread}
 use Rattle.mm_tool.proofs.serve.start.Goals as goal
 
 pub returns-in-Ok-texts_of-clause-ends : goal.returns-in-Ok-texts_of-clause-ends
 returns-in-Ok-texts_of-clause-ends g c =
-    let AreWords : List (List ℕ) → Type 0 = λ words. IfSome (g.A.Arguments.words c.args.arguments.now) (λ all. words ≡ all) in
-    let strings : AreWords (map string_bytes c.deref.result.now) =
-    subst (λ list. AreWords (map string_bytes list)) (sym c.deref.ensures.value) c.in-Ok.ensures.all in
-    let texts : AreWords (map (λ text. text.now) c.in-Ok-texts_of.words.items) = subst AreWords (sym c.in-Ok-texts_of.ensures) strings in
+    let strings = rw (← c.deref.ensures.value, ← c.in-Ok-texts_of.ensures) at c.in-Ok.ensures.all in
     inl (
       map (λ text. text.now) c.deref-in-Ok-texts_of.result.now,
-      subst (λ list. AreWords (map (λ text. text.now) list)) (sym c.deref-in-Ok-texts_of.ensures.value) texts,
+      rw c.deref-in-Ok-texts_of.ensures.value strings,
       c.serve.ensures.ends,
     )
 

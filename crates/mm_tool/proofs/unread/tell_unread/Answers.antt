@@ -1,6 +1,6 @@
 -- The lines are written one after the other.
-use Rattle.std.proofs.Common.{List, ℕ, ◌++◌, codes, option_map, subst}
-use Rattle.mm_tool.specs.Ending.{BreaksOff, TakesWhole, input_line, order_line}
+use Rattle.std.proofs.Common.{List, ℕ, ◌++◌, codes, option_map}
+use Rattle.mm_tool.specs.Ending.{input_line, order_line}
 use Rattle.mm_tool.proofs.PartsWritten.{all_both, beginning_both, breaks_before, breaks_both}
 use Rattle.mm_tool.proofs.PartsWritten.{on_failure, takes_both}
 use Rattle.mm_tool.proofs.unread.tell_unread.Goals as goal
@@ -21,35 +21,29 @@ returns-in_err-say_all-clause-beginning g c =
 pub returns-in_err-say_text-clause-beginning : goal.returns-in_err-say_text-clause-beginning
 returns-in_err-say_text-clause-beginning g c =
     let name : List ℕ = c.args.name.now in
-    let Broke : List ℕ → Type 0 =
-    λ text. BreaksOff g.E.Write.contents text c.say_all.new.err c.say_text.new.err in
     on_failure c.from_residual-in_err-say_text.result
     (breaks_before g.E.Write.contents (line_on name ++ input_line name)
     (order_line name (option_map (λ l. l.now) c.args.label)) _ _
     (breaks_both g.E.Write.contents (line_on name) (input_line name) _ c.say_all.new.err _
     c.in_ok-say_all.ensures.all
-    (subst Broke c.input_hint.ensures c.in_err-say_text.ensures.beginning)))
+    (rw c.input_hint.ensures at c.in_err-say_text.ensures.beginning)))
 
 pub returns-clause-all : goal.returns-clause-all
 returns-clause-all g c =
     let name : List ℕ = c.args.name.now in
-    let Wrote : List ℕ → Type 0 =
-    λ text. TakesWhole g.E.Write.contents text c.say_all.new.err c.say_text.new.err in
     all_both g.E.Write.contents (line_on name ++ input_line name)
     (order_line name (option_map (λ l. l.now) c.args.label)) c.tell_order.result _
     c.say_text.new.err _
     (takes_both g.E.Write.contents (line_on name) (input_line name) _ c.say_all.new.err _
-    c.in_ok-say_all.ensures.all (subst Wrote c.input_hint.ensures c.in_ok-say_text.ensures.all))
+    c.in_ok-say_all.ensures.all (rw c.input_hint.ensures at c.in_ok-say_text.ensures.all))
     c.tell_order.ensures.all
 
 pub returns-clause-beginning : goal.returns-clause-beginning
 returns-clause-beginning g c =
     let name : List ℕ = c.args.name.now in
-    let Wrote : List ℕ → Type 0 =
-    λ text. TakesWhole g.E.Write.contents text c.say_all.new.err c.say_text.new.err in
     beginning_both g.E.Write.contents (line_on name ++ input_line name)
     (order_line name (option_map (λ l. l.now) c.args.label)) c.tell_order.result _
     c.say_text.new.err _
     (takes_both g.E.Write.contents (line_on name) (input_line name) _ c.say_all.new.err _
-    c.in_ok-say_all.ensures.all (subst Wrote c.input_hint.ensures c.in_ok-say_text.ensures.all))
+    c.in_ok-say_all.ensures.all (rw c.input_hint.ensures at c.in_ok-say_text.ensures.all))
     c.tell_order.ensures.beginning

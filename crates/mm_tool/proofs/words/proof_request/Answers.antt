@@ -1,10 +1,9 @@
 -- The words ask for what the matches of their command say.
-use Rattle.std.proofs.Common.{List, map, subst, sym, ◌∙◌}
-use Rattle.clap.specs.Words.{Row, Text, found_of, rows_of}
-use Rattle.mm_check.specs.declared.command.Command.{Command}
+use Rattle.std.proofs.Common.{List, map, ◌∙◌}
+use Rattle.clap.specs.Words.{Row, found_of, rows_of}
 use Rattle.mm_check.specs.declared.form.Form.{Form}
 use Rattle.mm_check.specs.declared.form.Form.TheVariants.{Normal, Packed}
-use Rattle.mm_tool.specs.Words.{AsksRun, Commands, name_of_form}
+use Rattle.mm_tool.specs.Words.{Commands, name_of_form}
 use Rattle.mm_tool.proofs.Asked.{all_asked, all_refused, form_asked}
 use Rattle.mm_tool.proofs.words.proof_request.Goals.{in-Normal, in-Packed}
 use Rattle.mm_tool.proofs.words.proof_request.Goals as goal
@@ -12,34 +11,26 @@ use Rattle.mm_tool.proofs.words.proof_request.Goals as goal
 pub returns-then-is_given-clause-request : goal.returns-then-is_given-clause-request
 returns-then-is_given-clause-request c =
     all_asked (rows_of (found_of c.args.matches.now)) c.args.form c.is_given-whole.result
-    c.is_given.result c.asked_word-word.result.now c.in_ok-names.names c.all_request.result
-    c.is_given-whole.ensures c.is_given.ensures c.if-is_given.true c.asked_word-word.ensures
+    c.is_given.result c.asked_word-word.result.now c.is_given-whole.ensures c.is_given.ensures
+    c.if-is_given.true c.asked_word-word.ensures c.in_ok-names.names c.all_request.result
     c.in_ok-names.ensures c.all_request.ensures.request
 
 pub returns-then-is_given-clause-fault : goal.returns-then-is_given-clause-fault
 returns-then-is_given-clause-fault c =
     all_refused (rows_of (found_of c.args.matches.now)) c.args.form c.is_given-whole.result
-    c.is_given.result c.asked_word-word.result.now (map (λ n. n.now) c.in_ok-names.names.items)
-    c.all_request.result
-    c.is_given-whole.ensures c.is_given.ensures c.if-is_given.true c.asked_word-word.ensures
-    c.in_ok-names.ensures c.all_request.ensures.fault
+    c.is_given.result c.asked_word-word.result.now c.is_given-whole.ensures c.is_given.ensures
+    c.if-is_given.true c.asked_word-word.ensures (map (λ n. n.now) c.in_ok-names.names.items)
+    c.all_request.result c.in_ok-names.ensures c.all_request.ensures.fault
 
 pub returns-clause-request : goal.returns-clause-request
 returns-clause-request c = λ words commands.
     let rows : List Row = rows_of (found_of c.args.matches.now) in
-    let names : List Text = map (λ n. n.now) c.in_ok-names.names.items in
-    let Named : Form → Type 0 = λ form. Commands words (name_of_form form) rows in
-    let Ran : Command → Type 0 = λ command. AsksRun words command names in
     let label = c.as_bytes-label.ensures.value ∙ c.asked_word-word.ensures in
+    let asked = λ (form : Form) (named : Commands words (name_of_form form) rows).
+    form_asked words form rows c.is_given-whole.result c.is_given.result c.as_bytes-label.result.now
+    (map (λ n. n.now) c.in_ok-names.names.items) named c.is_given-whole.ensures c.is_given.ensures
+    c.if-is_given.false label c.in_ok-names.ensures in
     elim c.match-form.branch [
-      | in-Normal w ↦ subst Ran (sym w.command-is)
-          (form_asked words Normal rows c.is_given-whole.result c.is_given.result
-          c.as_bytes-label.result.now names (subst Named w.in-Normal.is commands)
-          c.is_given-whole.ensures c.is_given.ensures c.if-is_given.false label
-          c.in_ok-names.ensures)
-      | in-Packed w ↦ subst Ran (sym w.command-is)
-          (form_asked words Packed rows c.is_given-whole.result c.is_given.result
-          c.as_bytes-label.result.now names (subst Named w.in-Packed.is commands)
-          c.is_given-whole.ensures c.is_given.ensures c.if-is_given.false label
-          c.in_ok-names.ensures)
+      | in-Normal w ↦ rw w.command-is (asked Normal (rw w.in-Normal.is at commands))
+      | in-Packed w ↦ rw w.command-is (asked Packed (rw w.in-Packed.is at commands))
     ]

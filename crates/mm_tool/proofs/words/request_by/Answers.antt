@@ -1,19 +1,24 @@
 -- The words ask for what the parse found.
-use Rattle.std.proofs.Common.{map, option_map}
+use Rattle.std.proofs.Common.{ℕ, List, map, option_map}
 use Rattle.clap.specs.Words.{app_of}
-use Rattle.mm_tool.proofs.Asked.{asked_by_matches, fault_met, matches_met, refused_by_matches, request_asked}
+use Rattle.std.proofs.lemmas.Result.{IfErr-weaker, IfOk-weaker}
+use Rattle.mm_tool.proofs.Asked.{fault_met, matches_met, request_asked}
 use Rattle.mm_tool.proofs.words.request_by.Goals as goal
 
 pub returns-in-Ok-clause-request : goal.returns-in-Ok-clause-request
 returns-in-Ok-clause-request c =
-    asked_by_matches (map (λ word. word.now) c.args.words.now) c.in-Ok.matches c.request_of_matches-request.result
-    (matches_met (app_of c.args.command.now) _ c.in-Ok.matches c.requires c.in-Ok.ensures.kinds c.in-Ok.ensures.ok.2)
+    let words : List (List ℕ) = map (λ word. word.now) c.args.words.now in
+    let met = matches_met (app_of c.args.command.now) words c.in-Ok.matches c.requires
+    c.in-Ok.ensures.kinds c.in-Ok.ensures.ok.2 in
+    IfOk-weaker c.request_of_matches-request.result _ _ (λ request h. h words met)
     c.request_of_matches-request.ensures.request
 
 pub returns-in-Ok-clause-fault : goal.returns-in-Ok-clause-fault
 returns-in-Ok-clause-fault c =
-    refused_by_matches (map (λ word. word.now) c.args.words.now) c.in-Ok.matches c.request_of_matches-request.result
-    (matches_met (app_of c.args.command.now) _ c.in-Ok.matches c.requires c.in-Ok.ensures.kinds c.in-Ok.ensures.ok.2)
+    let words : List (List ℕ) = map (λ word. word.now) c.args.words.now in
+    let met = matches_met (app_of c.args.command.now) words c.in-Ok.matches c.requires
+    c.in-Ok.ensures.kinds c.in-Ok.ensures.ok.2 in
+    IfErr-weaker c.request_of_matches-request.result _ _ (λ stop h. h words met)
     c.request_of_matches-request.ensures.fault
 
 pub returns-in-Err-clause-request : goal.returns-in-Err-clause-request

@@ -1,8 +1,5 @@
 -- The words ask for what their matches say.
-use Rattle.std.proofs.Common.{◌∙◌, List, Option, IsSome, IfNone, inl, inr, refl, subst, sym}
-use Rattle.clap.specs.Words.{Text}
-use Rattle.mm_tool.specs.Words.{AreMatchesOf, NamesNoForm, NamesNoText}
-use Rattle.mm_tool.specs.declared.words.Request.{Request}
+use Rattle.std.proofs.Common.{◌∙◌, inl, inr, refl, sym}
 use Rattle.mm_tool.proofs.Asked.{commands_met, none_there, not_commanded}
 use Rattle.mm_tool.proofs.words.request_of_matches.Goals as goal
 
@@ -32,27 +29,17 @@ returns-in-Some-subcommand_matches-2-clause-request c = λ words met. (
 
 pub returns-clause-fault : goal.returns-clause-fault
 returns-clause-fault c = λ words met.
-    let none : IsSome c.subcommand_matches.result → ⊥ =
-    none_there c.subcommand_matches.result c.in_default.is in
-    let none_2 : IsSome c.subcommand_matches-2.result → ⊥ =
-    none_there c.subcommand_matches-2.result c.in_default-subcommand_matches.is in
-    let none_3 : IsSome c.subcommand_matches-3.result → ⊥ =
-    none_there c.subcommand_matches-3.result c.in_default-subcommand_matches-2.is in
     let other = not_commanded words c.args.matches.now in
-    let NoForm : Option Request → Type 0 = λ o. IfNone o ((asked : List Text)
-    → AreMatchesOf asked c.args.matches.now → NamesNoForm asked) in
-    let NoText : Option Request → Type 0 = λ o. IfNone o ((asked : List Text)
-    → AreMatchesOf asked c.args.matches.now → NamesNoText asked) in
     inr (inl (
       met.0,
-      (subst NoForm c.in_default-2.is c.in_ok-request.ensures.none) words met,
-      (subst NoText c.in_default-3.is c.in_ok-request-2.ensures.none) words met,
+      (rw c.in_default-2.is at c.in_ok-request.ensures.none) words met,
+      (rw c.in_default-3.is at c.in_ok-request-2.ensures.none) words met,
       λ rows. (
-        λ asked.
-            other _ rows met (λ named. none (c.subcommand_matches.ensures.found.1 named)) asked,
-        λ asked.
-            other _ rows met (λ named. none_2 (c.subcommand_matches-2.ensures.found.1 named)) asked,
-        λ asked.
-            other _ rows met (λ named. none_3 (c.subcommand_matches-3.ensures.found.1 named)) asked,
+        other _ rows met (λ named. none_there c.subcommand_matches.result c.in_default.is
+            (c.subcommand_matches.ensures.found.1 named)),
+        other _ rows met (λ named. none_there c.subcommand_matches-2.result
+            c.in_default-subcommand_matches.is (c.subcommand_matches-2.ensures.found.1 named)),
+        other _ rows met (λ named. none_there c.subcommand_matches-3.result
+            c.in_default-subcommand_matches-2.is (c.subcommand_matches-3.ensures.found.1 named)),
       ),
     ))
