@@ -1,6 +1,7 @@
 -- Viable fronts of items that show the same.
 use Rattle.std.proofs.Common.{◌≡◌, ℕ, ◌+◌, map, List, [], ◌∷◌, ◌++◌, refl, sym, ap, subst, ◌∙◌}
 use Rattle.std.specs.Prelude.{option_map}
+use Rattle.std.proofs.Math.Path.{transport}
 use Rattle.mm_text.specs.declared.statement.Kind.{Kind}
 use Rattle.mm_text.specs.declared.statement.Kind.TheVariants.{Provable, Opening, Closing}
 use Rattle.mm_text.specs.Token.{PlainToken}
@@ -10,7 +11,7 @@ use Rattle.mm_text.specs.Reading.{AreOutside, Viable}
 use Rattle.mm_text.specs.Alike.{token_on, item_on, statement_on}
 use Rattle.mm_text.proofs.AlikeBeginnings.{text_alike, label_alike, symbols_alike, head_alike, beginning_alike}
 use Rattle.mm_text.proofs.AlikeEndings.{closed_alike, balanced_alike}
-use Rattle.mm_text.proofs.Lists.{append_split, cons_split, cut_parts, ended_parts, nil_split, one_split, same_length, three_parts}
+use Rattle.mm_text.proofs.Lists.{append_split, cons_split, nil_split, one_split, same_length}
 
 -- ---- the tail of a statement
 
@@ -33,7 +34,7 @@ tail_alike h k s Provable tail others e b =
       ends = λ o p r. record {
         equals = q;
         stop = u;
-        tokens = subst (λ (x : List PlainToken). others ≡ q ∷ x ++ u ∷ []) (sym p) (ended_parts others q qs steps end u whole split all);
+        tokens = subst (λ (x : List PlainToken). others ≡ q ∷ x ++ u ∷ []) (sym p) (whole ∙ ap (λ l. q ∷ l) (split ∙ ap (λ l. steps ++ l) all));
         sign = sym (text_alike h k b.equals q sign) ∙ b.sign;
         end = sym (text_alike h k b.stop u same) ∙ b.end;
         proof = subst AreSymbols (sym p) (symbols_alike h k s.proof steps proofs b.proof);
@@ -67,13 +68,12 @@ statement_alike h k tokens others s e b =
     let (head, symbols, split, heads, same_symbols) = append_split (token_on h) (token_on k) b.head s.symbols front fronts in
     let (first, more, begins, same_first, mores) = cons_split (token_on h) (token_on k) s.first b.first.0 head (ap (map (token_on h)) (sym b.first.1) ∙ heads) in
     let end = tail_alike h k s s.kind b.tail tail tails b.ends in
-    let o : PlainStatement = record { kind = s.kind; first = first; label = label_in head; symbols = symbols; proof = end.proof; span = end.span } in
-    let same_label : option_map (token_on h) s.label ≡ option_map (token_on k) (label_in head) = ap (option_map (token_on h)) b.label ∙ label_alike h k b.head head heads in (
+    let o : PlainStatement = record { kind = s.kind; first = first; label = label_in head; symbols = symbols; proof = end.proof; span = end.span } in (
       o,
       record {
         head = head;
         tail = tail;
-        whole = three_parts others front head symbols tail whole split;
+        whole = whole ∙ ap (λ l. l ++ tail) split;
         begins = head_alike h k s.kind b.head head heads b.begins;
         first = (more, begins);
         label = refl;
@@ -81,7 +81,7 @@ statement_alike h k tokens others s e b =
         count = subst (FitsCount s.kind) (same_length (token_on h) (token_on k) s.symbols symbols same_symbols) b.count;
         ends = end.ends o refl refl;
       },
-      λ i. record { kind = s.kind; first = same_first i; label = same_label i; symbols = same_symbols i; proof = end.same i; span = (0, 0) },
+      λ i. record { kind = s.kind; first = same_first i; label = (ap (option_map (token_on h)) b.label ∙ label_alike h k b.head head heads) i; symbols = same_symbols i; proof = end.same i; span = (0, 0) },
     )
 
 -- what corresponds to the tokens of statements is statements that differ in places alone
@@ -115,15 +115,10 @@ plain_tokens_on h (_ ∷ its) = plain_tokens_on h its
 pub plain_tokens_alike : (h k : ℕ → ℕ → ℕ) (its others : List Item) → map (item_on h) its ≡ map (item_on k) others → map (token_on h) (plain_tokens its) ≡ map (token_on k) (plain_tokens others)
 plain_tokens_alike h k its others e = sym (plain_tokens_on h its) ∙ ap plain_tokens e ∙ plain_tokens_on k others
 
-clean_on : (h : ℕ → ℕ → ℕ) (its : List Item) → HoldNoFault its → HoldNoFault (map (item_on h) its)
-clean_on h [] c = tt
-clean_on h (Wrong rule t ∷ its) c = absurd c
-clean_on h (_ ∷ its) c = clean_on h its c
-
-clean_off : (h : ℕ → ℕ → ℕ) (its : List Item) → HoldNoFault (map (item_on h) its) → HoldNoFault its
-clean_off h [] c = tt
-clean_off h (Wrong rule t ∷ its) c = absurd c
-clean_off h (_ ∷ its) c = clean_off h its c
+clean_on : (h : ℕ → ℕ → ℕ) (its : List Item) → HoldNoFault (map (item_on h) its) ≡ HoldNoFault its
+clean_on h [] = refl
+clean_on h (Wrong rule t ∷ its) = refl
+clean_on h (_ ∷ its) = clean_on h its
 
 -- the one are whole statements with no block open, as the others are
 pub outside_alike : (h k : ℕ → ℕ → ℕ) (tokens others : List PlainToken) → map (token_on h) tokens ≡ map (token_on k) others → AreOutside tokens → AreOutside others
@@ -133,51 +128,41 @@ outside_alike h k tokens others e out =
 
 -- ---- fronts
 
--- where an inclusion stands in the one, one stands in the other
-cut_inclusion : (h k : ℕ → ℕ → ℕ) (front other before after : List Item) (t : PlainToken) → map (item_on h) front ≡ map (item_on k) other → other ≡ before ++ Inclusion t ∷ after
-    → (earlier : List Item) × (later : List Item) × (u : PlainToken) × (front ≡ earlier ++ Inclusion u ∷ later) × (map (item_on h) earlier ≡ map (item_on k) before)
-cut_inclusion h k front other before after t e cut =
-    let (earlier, rest, whole, befores, rests) = append_split (item_on k) (item_on h) before (Inclusion t ∷ after) front (ap (map (item_on k)) (sym cut) ∙ sym e) in
-    let (item, later, split, one, afters) = cons_split (item_on k) (item_on h) (Inclusion t) after rest rests in
-    let (u, is) = inclusion_alike k h t item one in
-    (earlier, later, u, cut_parts front earlier rest item (Inclusion u) later whole split is, sym befores)
-
--- where a file ends in the one, it ends in the other
-cut_end : (h k : ℕ → ℕ → ℕ) (front other before after : List Item) (file : ℕ) → map (item_on h) front ≡ map (item_on k) other → other ≡ before ++ End file ∷ after
-    → (earlier : List Item) × (later : List Item) × (front ≡ earlier ++ End file ∷ later) × (map (item_on h) earlier ≡ map (item_on k) before)
-cut_end h k front other before after file e cut =
-    let (earlier, rest, whole, befores, rests) = append_split (item_on k) (item_on h) before (End file ∷ after) front (ap (map (item_on k)) (sym cut) ∙ sym e) in
-    let (item, later, split, one, afters) = cons_split (item_on k) (item_on h) (End file) after rest rests in
-    let is = end_alike k h file item one in
-    (earlier, later, whole ∙ ap (λ (x : List Item). earlier ++ x) (split ∙ ap (λ (x : Item). x ∷ later) is), sym befores)
+-- where an item stands in the one, an item that is alike stands in the other
+cut_item : (h k : ℕ → ℕ → ℕ) (front other before after : List Item) (item : Item) → map (item_on h) front ≡ map (item_on k) other → other ≡ before ++ item ∷ after
+    → (earlier : List Item) × (later : List Item) × (alike : Item) × (front ≡ earlier ++ alike ∷ later) × (item_on k item ≡ item_on h alike) × (map (item_on h) earlier ≡ map (item_on k) before)
+cut_item h k front other before after item e cut =
+    let (earlier, rest, whole, befores, rests) = append_split (item_on k) (item_on h) before (item ∷ after) front (ap (map (item_on k)) (sym cut) ∙ sym e) in
+    let (alike, later, split, one, afters) = cons_split (item_on k) (item_on h) item after rest rests in
+    (earlier, later, alike, whole ∙ ap (λ l. earlier ++ l) split, one, sym befores)
 
 -- what is alike to a front that reads as statements reads as statements that differ in places alone
 pub viable_alike : (h k : ℕ → ℕ → ℕ) (front other : List Item) (statements : List PlainStatement) (unfinished : List PlainToken) → map (item_on h) front ≡ map (item_on k) other → Viable front statements unfinished
     → (same : List PlainStatement) × (begun : List PlainToken) × Viable other same begun × (map (statement_on h) statements ≡ map (statement_on k) same) × (map (token_on h) unfinished ≡ map (token_on k) begun)
 viable_alike h k front other statements unfinished e v =
-    let tokens : map (token_on h) (v.finished ++ unfinished) ≡ map (token_on k) (plain_tokens other) = ap (map (token_on h)) (sym v.whole) ∙ plain_tokens_alike h k front other e in
-    let (finished, begun, whole, finisheds, beguns) = append_split (token_on h) (token_on k) v.finished unfinished (plain_tokens other) tokens in
+    let (finished, begun, whole, finisheds, beguns) = append_split (token_on h) (token_on k) v.finished unfinished (plain_tokens other) (ap (map (token_on h)) (sym v.whole) ∙ plain_tokens_alike h k front other e) in
     let (same, spelled, sames) = statements_alike h k v.finished finished statements finisheds v.spelled in (
       same,
       begun,
       record {
-        clean = clean_off k other (subst HoldNoFault e (clean_on h front v.clean));
+        clean = transport (sym (clean_on h front) ∙ ap HoldNoFault e ∙ clean_on k other) v.clean;
         finished = finished;
         whole = whole;
         spelled = spelled;
         begun = beginning_alike h k unfinished begun beguns v.begun;
         balanced = balanced_alike h k statements same sames v.balanced;
         included = λ before after t cut.
-            let (earlier, later, u, split, befores) = cut_inclusion h k front other before after t e cut in
-            outside_alike h k (plain_tokens earlier) (plain_tokens before) (plain_tokens_alike h k earlier before befores) (v.included earlier later u split);
+            let (earlier, later, item, split, one, befores) = cut_item h k front other before after (Inclusion t) e cut in
+            let (u, is) = inclusion_alike k h t item one in
+            outside_alike h k (plain_tokens earlier) (plain_tokens before) (plain_tokens_alike h k earlier before befores) (v.included earlier later u (split ∙ ap (λ i. earlier ++ i ∷ later) is));
         ended = λ before after file cut.
-            let (earlier, later, split, befores) = cut_end h k front other before after file e cut in
-            let read = v.ended earlier later file split in
+            let (earlier, later, item, split, one, befores) = cut_item h k front other before after (End file) e cut in
+            let read = v.ended earlier later file (split ∙ ap (λ i. earlier ++ i ∷ later) (end_alike k h file item one)) in
             let (others, all, _) = statements_alike h k (plain_tokens earlier) (plain_tokens before) read.0 (plain_tokens_alike h k earlier before befores) read.1 in
             (others, all);
         top_ended = λ before after cut.
-            let (earlier, later, split, befores) = cut_end h k front other before after 0 e cut in
-            outside_alike h k (plain_tokens earlier) (plain_tokens before) (plain_tokens_alike h k earlier before befores) (v.top_ended earlier later split);
+            let (earlier, later, item, split, one, befores) = cut_item h k front other before after (End 0) e cut in
+            outside_alike h k (plain_tokens earlier) (plain_tokens before) (plain_tokens_alike h k earlier before befores) (v.top_ended earlier later (split ∙ ap (λ i. earlier ++ i ∷ later) (end_alike k h 0 item one)));
       },
       sames,
       beguns,

@@ -38,12 +38,8 @@ shown_at_home file bytes =
 
 -- places of one file's tokens are replaced in the same way by what agrees on that file
 one_on : (h k : ℕ → ℕ → ℕ) (file : ℕ) → ((at : ℕ) → h file at ≡ k file at) → (s : Shown) → AtHome file s → shown_on h s ≡ shown_on k s
-one_on h k file agree (Clear t) home =
-    let line : h t.file t.at ≡ k t.file t.at = ap (λ n. h n t.at) home ∙ agree t.at ∙ ap (λ n. k n t.at) (sym home) in
-    ap (λ (n : ℕ). Clear (record { text = t.text; file = t.file; at = n })) line
-one_on h k file agree (Broken rule t) home =
-    let line : h t.file t.at ≡ k t.file t.at = ap (λ n. h n t.at) home ∙ agree t.at ∙ ap (λ n. k n t.at) (sym home) in
-    ap (λ (n : ℕ). Broken rule (record { text = []; file = t.file; at = n })) line
+one_on h k file agree (Clear t) home = rw (home, agree t.at) refl
+one_on h k file agree (Broken rule t) home = rw (home, agree t.at) refl
 
 -- the same for all that a file shows
 each_on : (h k : ℕ → ℕ → ℕ) (file : ℕ) → ((at : ℕ) → h file at ≡ k file at) → (shown : List Shown) → AllByRecursion (AtHome file) shown → map (shown_on h) shown ≡ map (shown_on k) shown
@@ -113,19 +109,15 @@ module _ (h k : ℕ → ℕ → ℕ) where
   pieces_same file Outside Outside (Clear t ∷ a) (Clear u ∷ b) w z =
       let text = text_alike h k t u z.0 in
       let naming = pieces_same file (Naming t) (Naming u) a b z.0 z.1 in
-      let outside = pieces_same file Outside Outside a b tt z.1 in
       both_choices (AllZip (SamePiece h k)) (spells t.text (codes "$[")) (spells u.text (codes "$[")) _ _ _ _ (ap (λ l. spells l (codes "$[")) text)
       (ap (λ (x : PlainToken). Inclusion x) z.0, naming)
-      (outside_same t u z.0 (pieces file Outside a) (pieces file Outside b) outside (broken_outside t.text) (broken_outside u.text) (ap broken_outside text))
+      (outside_same t u z.0 (pieces file Outside a) (pieces file Outside b) (pieces_same file Outside Outside a b tt z.1) (broken_outside t.text) (broken_outside u.text) (ap broken_outside text))
   pieces_same file (Naming x) (Naming y) (Clear t ∷ a) (Clear u ∷ b) w z =
       let text = text_alike h k t u z.0 in
-      let closing = pieces_same file (Closing x t) (Closing y u) a b (w, z.0) z.1 in
-      both_choices (AllZip (SamePiece h k)) (holds_dollar t.text) (holds_dollar u.text) _ _ _ _ (ap holds_dollar text) (wrong_piece X5 t u z.0) closing
+      both_choices (AllZip (SamePiece h k)) (holds_dollar t.text) (holds_dollar u.text) _ _ _ _ (ap holds_dollar text) (wrong_piece X5 t u z.0) (pieces_same file (Closing x t) (Closing y u) a b (w, z.0) z.1)
   pieces_same file (Closing x name) (Closing y other) (Clear t ∷ a) (Clear u ∷ b) w z =
-      let text = text_alike h k t u z.0 in
-      let outside = pieces_same file Outside Outside a b tt z.1 in
-      both_choices (AllZip (SamePiece h k)) (spells t.text (codes "$]")) (spells u.text (codes "$]")) _ _ _ _ (ap (λ l. spells l (codes "$]")) text)
-      (w.1, outside) (wrong_piece X5 t u z.0)
+      both_choices (AllZip (SamePiece h k)) (spells t.text (codes "$]")) (spells u.text (codes "$]")) _ _ _ _ (ap (λ l. spells l (codes "$]")) (text_alike h k t u z.0))
+      (w.1, pieces_same file Outside Outside a b tt z.1) (wrong_piece X5 t u z.0)
   pieces_same file s r [] (x ∷ b) w z = absurd z
   pieces_same file s r (x ∷ a) [] w z = absurd z
   pieces_same file s r (Clear t ∷ a) (Broken rule u ∷ b) w z = absurd z.0
@@ -144,10 +136,6 @@ module _ (h k : ℕ → ℕ → ℕ) where
 
   -- ---- putting in
 
-  -- items that correspond are both faults, or neither is
-  wrong_same : (a b : Item) → item_on h a ≡ item_on k b → is_wrong a ≡ is_wrong b
-  wrong_same a b e = sym (wrong_on h a) ∙ ap is_wrong e ∙ wrong_on k b
-
   -- the items are the same, but that two functions of places tell of them in place of their places
   abbrev pub SameItem : Item → Item → Type 0
   SameItem a b = item_on h a ≡ item_on k b
@@ -161,9 +149,8 @@ module _ (h k : ℕ → ℕ → ℕ) where
         → AllZip SameItem (with_inclusions files named next ps) (with_inclusions others named on qs)
     spliced_same named next on goes [] [] z = rw (spliced_nil files named next) (rw (spliced_nil others named on) tt)
     spliced_same named next on goes (Met a ∷ ps) (Met b ∷ qs) z =
-        let inner = spliced_same named next on goes ps qs z.1 in
         rw (spliced_met files named next a ps) (rw (spliced_met others named on b qs)
-        (both_choices (AllZip SameItem) (is_wrong a) (is_wrong b) _ _ _ _ (wrong_same a b z.0) (z.0, tt) (z.0, inner)))
+        (both_choices (AllZip SameItem) (is_wrong a) (is_wrong b) _ _ _ _ (sym (wrong_on h a) ∙ ap is_wrong z.0 ∙ wrong_on k b) (z.0, tt) (z.0, spliced_same named next on goes ps qs z.1)))
     spliced_same named next on goes (Named t ∷ ps) (Named u ∷ qs) z =
         let inner = spliced_same named next on goes ps qs z.1 in
         rw (spliced_name files named next t ps) (rw (spliced_name others named on u qs)
@@ -208,8 +195,7 @@ pub same_number : (files others : List PlainFile) → SameNames files others →
     → file_number files text ≡ file_number others text
 same_number files others z text =
     let place = first_place text files others z in
-    let long = as_long files others z in
-    λ i. cond (nat_lt (place i) (long i)) (Some (place i)) None
+    λ i. cond (nat_lt (place i) (as_long files others z i)) (Some (place i)) None
 
 -- the pieces of files with one number correspond
 file_pieces_same : (files others : List PlainFile) (n : ℕ) (f g : PlainFile) → slice_get files n ≡ Some f → slice_get others n ≡ Some g → AreAlike f g

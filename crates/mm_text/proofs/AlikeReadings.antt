@@ -23,7 +23,7 @@ alike_files_are_read_alike files others alike statements (Some fault) (front, it
     let (first, back, whole, before, behind) = append_split (item_on h) (item_on k) front (item ∷ rest) (items others) (ap (map (item_on h)) (sym split) ∙ alike_items files others alike) in
     let (other, after, next, one, later) = cons_split (item_on h) (item_on k) item rest back behind in
     let (same, begun, also, spelled, begins) = viable_alike h k front first statements unfinished before viable in
-    let (end, ended, told) = ends_alike h k statements same unfinished begun item other fault spelled begins one ends in record {
+    let (end, ended, told) = ends_alike h k statements same unfinished begun fault spelled begins item other one ends in record {
       same = same;
       end = Some end;
       reads = (first, other, after, begun, whole ∙ ap (λ l. first ++ l) next, also, ended);

@@ -49,17 +49,13 @@ still_named (b ∷ named) zero zero h = refl
 still_named (b ∷ named) (suc n) (suc k) h = still_named named n k h
 still_named named n k h = h
 
-still_unnamed : (named : List Bool) (n k : ℕ) → n ≢ k → slice_index_or named k true ≡ false → slice_index_or (slice_set named n true) k true ≡ false
-still_unnamed named n k other h = get_or-set_other named n k true true (λ e. other (sym e)) ∙ h
-
 pub now_named : (named : List Bool) (k : ℕ) → slice_index_or (slice_set named k true) k true ≡ true
 now_named [] k = refl
 now_named (b ∷ named) zero = refl
 now_named (b ∷ named) (suc k) = now_named named k
 
 named_apart : (named : List Bool) (n k : ℕ) → slice_index_or named n true ≡ false → slice_index_or named k true ≡ true → n ≢ k
-named_apart named n k e h same =
-    let no : false ≡ true = sym e ∙ ap (λ x. slice_index_or named x true) same ∙ h in absurd cc
+named_apart named n k e h same = cc
 
 met_spliced : (files : List PlainFile) (named : List Bool) (next : ℕ → List Piece → List Item) (p : List PlainToken) (rest : List Piece) → with_inclusions files named next (met p ++ rest) ≡ map Plain p ++ with_inclusions files named next rest
 met_spliced files named next [] rest = refl
@@ -172,10 +168,9 @@ module _ (h j : ℕ → ℕ → ℕ) (files others : List PlainFile) (k : ℕ) (
       spliced_within named (old_next left named) (new_next left named)
       (put_in_after (suc left) named known)
       (λ n x y w e v. let longer = put_longer n x in
-      let here = longer.1 (met p ++ y) in
       let there = put_same n (x ++ (met q ++ w)) (named_apart named n k e known)
       ∙ longer.1 (met q ++ w) in
-      rw (here, there)
+      rw (longer.1 (met p ++ y), there)
       (put_in_within left (slice_set named n true) (still_named named n k known) longer.0 y w v))
       a b c z
 
@@ -196,12 +191,6 @@ module _ (h j : ℕ → ℕ → ℕ) (files others : List PlainFile) (k : ℕ) (
         (spliced_before ps z.1) (λ n e. goes n ps e z.1) (file_number files t.text) _
         (numbers t.text)))
 
-  put_here : (rest : List Piece) → put_before files k rest ≡ before ++ (met p ++ (after ++ rest))
-  put_here rest = rw (here, put_before) (rw old (simp append_assoc))
-
-  put_there : (rest : List Piece) → put_before others k rest ≡ before ++ (met q ++ (behind ++ rest))
-  put_there rest = rw (there, put_before) (rw new (simp append_assoc))
-
   pub put_in_before : (left : ℕ) (named : List Bool) → slice_index_or named k true ≡ false
       → (ps : List Piece) → R ps ps
       → Differ (put_in files left named ps) (put_in others left named ps)
@@ -210,21 +199,17 @@ module _ (h j : ℕ → ℕ → ℕ) (files others : List PlainFile) (k : ℕ) (
       spliced_before named (λ n rest. []) (λ n rest. []) (λ n x e w. inl refl) ps z
   put_in_before (suc left) named known ps z =
       spliced_before named (old_next left named) (new_next left named)
-      (λ n x e w. at_file (put_in_before left) n x w (ℕ_discrete n k)) ps z
-    where
-      own : List Bool
-      own = slice_set named k true
-
-      at_file : ((named : List Bool) → slice_index_or named k true ≡ false → (ps : List Piece)
-          → R ps ps → Differ (put_in files left named ps) (put_in others left named ps))
-          → (n : ℕ) (x : List Piece) → R x x → Dec (n ≡ k)
-          → Differ (old_next left named n x) (new_next left named n x)
-      at_file inner n x w (yes e) =
-          let both : R (after ++ x) (behind ++ x) =
-          zip_append (SamePiece h j) after behind x x same w in
-          rw (e, put_here x, put_there x)
-          (put_in_within left own (now_named named k) before (after ++ x) (behind ++ x) both)
-      at_file inner n x w (no other) =
-          rw (put_same n x other)
-          (inner (slice_set named n true) (still_unnamed named n k other known)
-          (put_before files n x) (put_zip n x x other w))
+      (λ n x f w. elim (ℕ_discrete n k) [
+        | yes e ↦
+            let first : put_before files k x ≡ before ++ (met p ++ (after ++ x)) =
+            rw (here, put_before) (rw old (simp append_assoc)) in
+            let second : put_before others k x ≡ before ++ (met q ++ (behind ++ x)) =
+            rw (there, put_before) (rw new (simp append_assoc)) in
+            rw (e, first, second)
+            (put_in_within left (slice_set named k true) (now_named named k) before (after ++ x)
+            (behind ++ x) (zip_append (SamePiece h j) after behind x x same w))
+        | no other ↦
+            rw (put_same n x other) (put_in_before left (slice_set named n true)
+            (get_or-set_other named n k true true (λ e. other (sym e)) ∙ known)
+            (put_before files n x) (put_zip n x x other w))
+      ]) ps z

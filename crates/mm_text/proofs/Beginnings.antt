@@ -1,11 +1,11 @@
 -- The beginnings of statements are the fronts of whole statements.
-use Rattle.std.proofs.Common.{◌≡◌, ◌≢◌, ℕ, ◌+◌, ◌≤◌, length, List, [], ◌∷◌, ◌++◌, refl, sym, ap, subst, ◌∙◌, codes, ◌⊎◌, inl, inr, arith, append_assoc}
+use Rattle.std.proofs.Common.{◌≡◌, ◌≢◌, ℕ, ◌+◌, length, List, [], ◌∷◌, ◌++◌, refl, sym, ap, subst, ◌∙◌, codes, ◌⊎◌, inl, inr, arith, append_assoc}
 use Rattle.std.proofs.lemmas.List.{append-nil, length-append}
 use Rattle.mm_text.specs.declared.statement.Kind.{Kind}
 use Rattle.mm_text.specs.declared.statement.Kind.TheVariants.{Constants, Distinct, Floating, Essential, Axiom, Provable, Opening, Closing}
 use Rattle.mm_text.specs.Token.{PlainToken, HoldsNoDollar}
 use Rattle.mm_text.specs.Statement.{PlainStatement, IsHead, HasBody, IsLabelledHead, AreSymbols, FitsCount, label_in, Spells, IsTail, EndsAtOnce}
-use Rattle.mm_text.specs.Reading.{IsBeginning, IsBody, IsInProof, IsLone}
+use Rattle.mm_text.specs.Reading.{IsBeginning, IsBody}
 use Rattle.mm_text.specs.Laws.{BeginsStatement, BeginningsBeginStatements}
 use Rattle.mm_text.proofs.PartTokens.{started}
 use Rattle.mm_text.proofs.StatementRuns.{tail_cases, kind_cases, room_of, IsBlockSign, opening_sign, closing_sign_of}
@@ -45,9 +45,6 @@ finished_with tokens kind symbols b extra last tail span h count ends =
       };
     }
 
-some_more : (symbols : List PlainToken) → 1 ≤ length (symbols ++ symbol ∷ [])
-some_more symbols = omega (arith, length-append symbols (symbol ∷ []))
-
 -- a body that a `$.` ends
 stopped : (tokens : List PlainToken) (kind : Kind) (symbols : List PlainToken) (b : IsBody tokens kind symbols) (extra : List PlainToken) → AreSymbols extra → FitsCount kind (length (symbols ++ extra))
     → ((s : PlainStatement) → EndsAtOnce s (full_stop ∷ []) → IsTail s kind (full_stop ∷ [])) → BeginsStatement tokens
@@ -55,42 +52,18 @@ stopped tokens kind symbols b extra h count ends =
     finished_with tokens kind symbols b extra full_stop [] (0, 0) h count
     (λ first. ends (record { kind = kind; first = first; label = label_in b.head; symbols = symbols ++ extra; proof = []; span = (0, 0) }) (record { stop = full_stop; tokens = refl; end = refl; proof = refl; span = refl }))
 
-floating_begins : (tokens symbols : List PlainToken) → IsBody tokens Floating symbols → BeginsStatement tokens
-floating_begins tokens [] b = stopped tokens Floating [] b (symbol ∷ symbol ∷ []) (refl, (refl, tt)) refl (λ s k. k)
-floating_begins tokens (t ∷ []) b = stopped tokens Floating (t ∷ []) b (symbol ∷ []) (refl, tt) refl (λ s k. k)
-floating_begins tokens (t ∷ u ∷ []) b = stopped tokens Floating (t ∷ u ∷ []) b [] tt refl (λ s k. k)
-floating_begins tokens (t ∷ u ∷ v ∷ symbols) b = let le = b.room refl in absurd (omega arith)
-
 body_begins : (tokens : List PlainToken) (kind : Kind) (symbols : List PlainToken) (b : IsBody tokens kind symbols) → HasBody kind → BeginsStatement tokens
-body_begins tokens Floating symbols b h = floating_begins tokens symbols b
+body_begins tokens Floating [] b h = stopped tokens Floating [] b (symbol ∷ symbol ∷ []) (refl, (refl, tt)) refl (λ s k. k)
+body_begins tokens Floating (t ∷ []) b h = stopped tokens Floating (t ∷ []) b (symbol ∷ []) (refl, tt) refl (λ s k. k)
+body_begins tokens Floating (t ∷ u ∷ []) b h = stopped tokens Floating (t ∷ u ∷ []) b [] tt refl (λ s k. k)
+body_begins tokens Floating (t ∷ u ∷ v ∷ symbols) b h = let le = b.room refl in absurd (omega arith)
 body_begins tokens Provable symbols b h =
-    finished_with tokens Provable symbols b (symbol ∷ []) equals_sign (full_stop ∷ []) (2, 0) (refl, tt) (some_more symbols)
+    finished_with tokens Provable symbols b (symbol ∷ []) equals_sign (full_stop ∷ []) (2, 0) (refl, tt) (omega (arith, length-append symbols (symbol ∷ [])))
     (λ first. record { equals = equals_sign; stop = full_stop; tokens = refl; sign = refl; end = refl; proof = tt; span = refl })
 body_begins tokens Distinct symbols b h = stopped tokens Distinct symbols b (symbol ∷ symbol ∷ []) (refl, (refl, tt)) (omega (arith, length-append symbols (symbol ∷ symbol ∷ []))) (λ s k. k)
 body_begins tokens Opening symbols b h = absurd h
 body_begins tokens Closing symbols b h = absurd h
-body_begins tokens kind symbols b h = stopped tokens kind symbols b (symbol ∷ []) (refl, tt) (some_more symbols) (λ s k. k)
-
-proof_begins : (tokens : List PlainToken) → IsInProof tokens → BeginsStatement tokens
-proof_begins tokens p =
-    let b = p.stated in
-    let st = started Provable b.head b.begins in
-    record {
-      more = full_stop ∷ [];
-      some = λ e. cc;
-      statement = record { kind = Provable; first = st.first; label = label_in b.head; symbols = p.symbols; proof = p.proof; span = (p.equals.at + 2, 0) };
-      spelled = record {
-        head = b.head;
-        tail = p.equals ∷ p.proof ++ full_stop ∷ [];
-        whole = ap (λ (x : List PlainToken). x ++ full_stop ∷ []) (p.whole ∙ ap (λ (x : List PlainToken). x ++ p.equals ∷ p.proof) b.whole) ∙ append_assoc (b.head ++ p.symbols) (p.equals ∷ p.proof) (full_stop ∷ []);
-        begins = b.begins;
-        first = (st.others, st.is);
-        label = refl;
-        symbols = b.spelled;
-        count = p.some;
-        ends = record { equals = p.equals; stop = full_stop; tokens = refl; sign = p.sign; end = refl; proof = p.steps; span = refl };
-      };
-    }
+body_begins tokens kind symbols b h = stopped tokens kind symbols b (symbol ∷ []) (refl, tt) (omega (arith, length-append symbols (symbol ∷ []))) (λ s k. k)
 
 -- the head of a statement, with no symbols yet, is an unfinished statement
 head_body : (kind : Kind) (head tokens : List PlainToken) → HasBody kind → IsHead kind head
@@ -114,31 +87,43 @@ begins_before tokens t b = record {
   spelled = rw (append_assoc tokens (t ∷ []) b.more) at b.spelled;
 }
 
+begins_statement : (tokens : List PlainToken) → IsBeginning tokens → BeginsStatement tokens
 -- `$c x $.`
-nothing_begins : (tokens : List PlainToken) → tokens ≡ [] → BeginsStatement tokens
-nothing_begins tokens e =
+begins_statement tokens (inl e) =
     let keyword : PlainToken = record { text = codes "$c"; file = 0; at = 0 } in
     let head : IsHead Constants (keyword ∷ []) =
     record { keyword = keyword; tokens = refl; sign = refl } in
     let whole = ap (λ (x : List PlainToken). x ++ keyword ∷ []) e in
     begins_before tokens keyword
     (body_begins _ Constants [] (head_body Constants (keyword ∷ []) _ tt head whole) tt)
-
 -- a label, and `$a x $.`
-lone_begins : (tokens : List PlainToken) → IsLone tokens → BeginsStatement tokens
-lone_begins tokens l =
+begins_statement tokens (inr (inl l)) =
     let keyword : PlainToken = record { text = codes "$a"; file = 0; at = 0 } in
     let head : IsHead Axiom (l.label ∷ keyword ∷ []) =
     record { label = l.label; keyword = keyword; tokens = refl; named = l.named; sign = refl } in
     let whole = ap (λ (x : List PlainToken). x ++ keyword ∷ []) l.whole in
     begins_before tokens keyword
     (body_begins _ Axiom [] (head_body Axiom (l.label ∷ keyword ∷ []) _ tt head whole) tt)
-
-begins_statement : (tokens : List PlainToken) → IsBeginning tokens → BeginsStatement tokens
-begins_statement tokens (inl e) = nothing_begins tokens e
-begins_statement tokens (inr (inl l)) = lone_begins tokens l
 begins_statement tokens (inr (inr (inl b))) = body_begins tokens b.0 b.1 b.2 b.2.long
-begins_statement tokens (inr (inr (inr p))) = proof_begins tokens p
+begins_statement tokens (inr (inr (inr p))) =
+    let b = p.stated in
+    let st = started Provable b.head b.begins in
+    record {
+      more = full_stop ∷ [];
+      some = λ e. cc;
+      statement = record { kind = Provable; first = st.first; label = label_in b.head; symbols = p.symbols; proof = p.proof; span = (p.equals.at + 2, 0) };
+      spelled = record {
+        head = b.head;
+        tail = p.equals ∷ p.proof ++ full_stop ∷ [];
+        whole = ap (λ (x : List PlainToken). x ++ full_stop ∷ []) (p.whole ∙ ap (λ (x : List PlainToken). x ++ p.equals ∷ p.proof) b.whole) ∙ append_assoc (b.head ++ p.symbols) (p.equals ∷ p.proof) (full_stop ∷ []);
+        begins = b.begins;
+        first = (st.others, st.is);
+        label = refl;
+        symbols = b.spelled;
+        count = p.some;
+        ends = record { equals = p.equals; stop = full_stop; tokens = refl; sign = p.sign; end = refl; proof = p.steps; span = refl };
+      };
+    }
 
 -- ---- a front of a statement is a beginning
 
@@ -158,31 +143,23 @@ record Past (xs ys us vs : List PlainToken) : Type 0 where
 cut : (xs ys us vs : List PlainToken) → xs ++ ys ≡ us ++ vs → Inside xs ys us vs ⊎ Past xs ys us vs
 cut [] ys us vs e = inl (record { mid = us; longer = refl; rest = e })
 cut (x ∷ xs) ys [] vs e = inr (record { next = x; mid = xs; longer = refl; rest = sym e })
-cut (x ∷ xs) ys (a ∷ us) vs e =
-    let parts = cons_parts x a (xs ++ ys) (us ++ vs) e in
-    elim (cut xs ys us vs parts.1) [
-      | inl h ↦ inl (record { mid = h.mid; longer = (λ i. sym parts.0 i ∷ h.longer i); rest = h.rest })
-      | inr h ↦ inr (record { next = h.next; mid = h.mid; longer = (λ i. parts.0 i ∷ h.longer i); rest = h.rest })
-    ]
+cut (x ∷ xs) ys (a ∷ us) vs e = elim (cut xs ys us vs cc) [
+  | inl h ↦ inl (record { mid = h.mid; longer = cc; rest = h.rest })
+  | inr h ↦ inr (record { next = h.next; mid = h.mid; longer = cc; rest = h.rest })
+]
 
 nil_parts : (a b : List PlainToken) → a ++ b ≡ [] → (a ≡ []) × (b ≡ [])
 nil_parts [] b e = (refl, e)
 nil_parts (t ∷ a) b e = absurd cc
 
--- a whole head of a statement with symbols
-head_begins : (kind : Kind) (head tokens : List PlainToken) → HasBody kind → IsHead kind head → tokens ≡ head → IsBeginning tokens
-head_begins kind head tokens long h e =
-    inr (inr (inl (kind, [], head_body kind head tokens long h e)))
-
+-- up to a part of the head
 labelled_front : (kind : Kind) (head tokens mid : List PlainToken) → HasBody kind → IsHead kind head → IsLabelledHead kind head → head ≡ tokens ++ mid → IsBeginning tokens
 labelled_front kind head [] mid long h b e = inl refl
 labelled_front kind head (t ∷ []) mid long h b e =
     inr (inl (record { label = b.label; whole = ap (λ (x : PlainToken). x ∷ []) (cons_parts t b.label mid (b.keyword ∷ []) (sym e ∙ b.tokens)).0; named = b.named }))
 labelled_front kind head (t ∷ u ∷ tokens) mid long h b e =
-    let first = cons_parts t b.label (u ∷ tokens ++ mid) (b.keyword ∷ []) (sym e ∙ b.tokens) in
-    let second = cons_parts u b.keyword (tokens ++ mid) [] first.1 in
-    let none = nil_parts tokens mid second.1 in
-    head_begins kind head (t ∷ u ∷ tokens) long h ((λ i. first.0 i ∷ second.0 i ∷ none.0 i) ∙ sym b.tokens)
+    let none = nil_parts tokens mid cc in
+    inr (inr (inl (kind, [], head_body kind head (t ∷ u ∷ tokens) long h cc)))
 
 head_front : (kind : Kind) (head tokens mid : List PlainToken) → HasBody kind → IsHead kind head → head ≡ tokens ++ mid → IsBeginning tokens
 head_front kind head [] mid long h e = inl refl
@@ -194,8 +171,7 @@ head_front Opening head tokens mid long h e = absurd long
 head_front Closing head tokens mid long h e = absurd long
 head_front kind head (t ∷ tokens) mid long h e =
     let parts = cons_parts t h.keyword (tokens ++ mid) [] (sym e ∙ h.tokens) in
-    let none = nil_parts tokens mid parts.1 in
-    head_begins kind head (t ∷ tokens) long h ((λ i. parts.0 i ∷ none.0 i) ∙ sym h.tokens)
+    inr (inr (inl (kind, [], head_body kind head (t ∷ tokens) long h ((λ i. parts.0 i ∷ (nil_parts tokens mid parts.1).0 i) ∙ sym h.tokens))))
 
 -- up to some of the symbols
 symbols_front : (tokens more : List PlainToken) (s : PlainStatement) (h : Spells (tokens ++ more) s) → HasBody s.kind → Inside tokens more (h.head ++ s.symbols) h.tail → IsBeginning tokens

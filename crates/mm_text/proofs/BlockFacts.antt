@@ -1,5 +1,5 @@
 -- Blocks: what a reader keeps of them, against the statements that were read.
-use Rattle.std.proofs.Common.{◌≡◌, ℕ, zero, suc, ◌+◌, ◌-◌, ◌<◌, ◌≤◌, length, take, drop, List, [], ◌∷◌, ◌++◌, true, false, refl, sym, ap, subst, ◌∙◌, arith, append_assoc, inl, inr}
+use Rattle.std.proofs.Common.{◌≡◌, ℕ, zero, suc, ◌+◌, ◌-◌, ◌≤◌, length, take, drop, List, [], ◌∷◌, ◌++◌, true, false, refl, sym, ap, subst, ◌∙◌, arith, append_assoc, inl, inr}
 use Rattle.std.proofs.lemmas.List.{append-nil, length-append, take-append-le, take_all, take_at}
 use Rattle.std.proofs.Math.Seq.{take-append-add, take-length, take-nil}
 use Rattle.std.proofs.lemmas.List.Sums.{sum_by-append}
@@ -24,12 +24,6 @@ openings-append a b = sum_by-append _ a b
 closings-append : (a b : List PlainStatement) → closings (a ++ b) ≡ closings a + closings b
 closings-append a b = sum_by-append _ a b
 
-pub balanced_keeps : (a : List PlainStatement) → AreBalanced a → KeepsBlocks 0 a
-balanced_keeps a h n = omega (arith, h n)
-
-pub keeps_balanced : (a : List PlainStatement) → KeepsBlocks 0 a → AreBalanced a
-keeps_balanced a h n = omega (arith, h n)
-
 keeps_append : (d e : ℕ) (a b : List PlainStatement) → KeepsBlocks d a → KeepsBlocks e b → d + openings a ≡ closings a + e → KeepsBlocks d (a ++ b)
 keeps_append d e a b h k same n =
     elim (cases_lt n (length a)) [
@@ -41,20 +35,12 @@ keeps_append d e a b h k same n =
           (omega (arith, closings-append a (take m b), openings-append a (take m b), k m, same))
     ]
 
--- a front of statements that keep the blocks does
-pub keeps_front : (d : ℕ) (a b : List PlainStatement) → KeepsBlocks d (a ++ b) → KeepsBlocks d a
-keeps_front d a b h n =
-    elim (cases_lt n (length a)) [
-      | inl within ↦ rw (take-append-le n a b (omega arith)) at (h n)
-      | inr past ↦ rw (take_all n a past) (rw (take_at a b (length a) refl) at (h (length a)))
-    ]
-
 -- ---- one statement
 
-opening_count : (s : PlainStatement) → s.kind ≡ Opening → (openings (s ∷ []) ≡ 1) × (closings (s ∷ []) ≡ 0)
+pub opening_count : (s : PlainStatement) → s.kind ≡ Opening → (openings (s ∷ []) ≡ 1) × (closings (s ∷ []) ≡ 0)
 opening_count s k = (rw k refl, rw k refl)
 
-closing_count : (s : PlainStatement) → s.kind ≡ Closing → (openings (s ∷ []) ≡ 0) × (closings (s ∷ []) ≡ 1)
+pub closing_count : (s : PlainStatement) → s.kind ≡ Closing → (openings (s ∷ []) ≡ 0) × (closings (s ∷ []) ≡ 1)
 closing_count s k = (rw k refl, rw k refl)
 
 no_sign : (kind : Kind) → HasBody kind → (is_opening kind ≡ false) × (is_closing kind ≡ false)
@@ -62,7 +48,7 @@ no_sign Opening h = absurd h
 no_sign Closing h = absurd h
 no_sign _ h = (refl, refl)
 
-body_count : (s : PlainStatement) → HasBody s.kind → (openings (s ∷ []) ≡ 0) × (closings (s ∷ []) ≡ 0)
+pub body_count : (s : PlainStatement) → HasBody s.kind → (openings (s ∷ []) ≡ 0) × (closings (s ∷ []) ≡ 0)
 body_count s long = let none = no_sign s.kind long in (rw none.0 refl, rw none.1 refl)
 
 -- one statement keeps the blocks where it does in all
@@ -76,45 +62,34 @@ pub balanced_nothing : AreBalanced []
 balanced_nothing n = rw (take-nil n) (omega arith)
 
 pub balanced_front : (a b : List PlainStatement) → AreBalanced (a ++ b) → AreBalanced a
-balanced_front a b h = keeps_balanced a (keeps_front 0 a b (balanced_keeps (a ++ b) h))
+balanced_front a b h n =
+    elim (cases_lt n (length a)) [
+      | inl within ↦ rw (take-append-le n a b (omega arith)) at (h n)
+      | inr past ↦ rw (take_all n a past) (rw (take_at a b (length a) refl) at (h (length a)))
+    ]
 
 -- in all there are at most as many `$}` as `${`
 pub balanced_whole : (a : List PlainStatement) → AreBalanced a → closings a ≤ openings a
 balanced_whole a h = rw (take-length a) at (h (length a))
 
-balanced_append : (a b : List PlainStatement) → AreBalanced a → AreClosed a → AreBalanced b → AreBalanced (a ++ b)
-balanced_append a b h scope_after_closing k = keeps_balanced (a ++ b) (keeps_append 0 0 a b (balanced_keeps a h) (balanced_keeps b k) (omega (arith, scope_after_closing)))
+-- closed statements before balanced and closed ones
+closed_append : (a b : List PlainStatement) → AreBalanced a → AreClosed a → AreBalanced b → AreClosed b → AreBalanced (a ++ b) × AreClosed (a ++ b)
+closed_append a b h c k d = ((λ n. omega (arith, keeps_append 0 0 a b (λ m. omega (arith, h m)) (λ m. omega (arith, k m)) (omega (arith, c)) n)), omega (arith, openings-append a b, closings-append a b, c, d))
 
-closed_append : (a b : List PlainStatement) → AreClosed a → AreClosed b → AreClosed (a ++ b)
-closed_append a b h k = omega (arith, openings-append a b, closings-append a b, h, k)
-
--- one statement more, which is no `$}`
-pub balanced_more : (a : List PlainStatement) (s : PlainStatement) → AreBalanced a → closings (s ∷ []) ≤ openings (s ∷ []) → AreBalanced (a ++ s ∷ [])
-balanced_more a s h one =
+-- one statement more, which is no `$}`, or closes one of these
+pub balanced_more : (a : List PlainStatement) (s : PlainStatement) → AreBalanced a
+    → (closings a ≤ openings a → closings a + closings (s ∷ []) ≤ openings a + openings (s ∷ []))
+    → AreBalanced (a ++ s ∷ [])
+balanced_more a s h one n =
     let e : ℕ = openings a - closings a in
     let le = balanced_whole a h in
-    keeps_balanced (a ++ s ∷ []) (keeps_append 0 e a (s ∷ []) (balanced_keeps a h) (keeps_one e s (omega (arith, one))) (omega (arith, le)))
-
-pub balanced_body : (a : List PlainStatement) (s : PlainStatement) → AreBalanced a → HasBody s.kind → AreBalanced (a ++ s ∷ [])
-balanced_body a s h long = let c = body_count s long in balanced_more a s h (omega (arith, c.0, c.1))
-
-pub balanced_opening : (a : List PlainStatement) (s : PlainStatement) → AreBalanced a → s.kind ≡ Opening → AreBalanced (a ++ s ∷ [])
-balanced_opening a s h k = let c = opening_count s k in balanced_more a s h (omega (arith, c.0, c.1))
-
-pub balanced_closing : (a : List PlainStatement) (s : PlainStatement) → AreBalanced a → s.kind ≡ Closing → ¬ (AreClosed a) → AreBalanced (a ++ s ∷ [])
-balanced_closing a s h k some_open =
-    let c = closing_count s k in
-    let e : ℕ = openings a - closings a in
-    let le = balanced_whole a h in
-    let lt : closings a < openings a = omega (arith, le, some_open) in
-    keeps_balanced (a ++ s ∷ []) (keeps_append 0 e a (s ∷ []) (balanced_keeps a h) (keeps_one e s (omega (arith, c.0, c.1, lt))) (omega (arith, le)))
+    omega (arith, keeps_append 0 e a (s ∷ []) (λ m. omega (arith, h m)) (keeps_one e s (omega (arith, le, one le))) (omega (arith, le)) n)
 
 -- after closed blocks there is no `$}`
 pub closing_unbalanced : (a : List PlainStatement) (s : PlainStatement) → AreClosed a → s.kind ≡ Closing → AreBalanced (a ++ s ∷ []) → ⊥
 closing_unbalanced a s scope_after_closing k h =
     let c = closing_count s k in
-    let le = balanced_whole (a ++ s ∷ []) h in
-    omega (arith, openings-append a (s ∷ []), closings-append a (s ∷ []), c.0, c.1, scope_after_closing, le)
+    omega (arith, openings-append a (s ∷ []), closings-append a (s ∷ []), c.0, c.1, scope_after_closing, balanced_whole (a ++ s ∷ []) h)
 
 -- ---- open blocks
 
@@ -127,36 +102,22 @@ AreOpen statements (block ∷ blocks) =
 
 -- statements that close the blocks that they open change nothing
 open_segment : (before segment : List PlainStatement) (blocks : List OpenBlock) → AreOpen before blocks → AreBalanced segment → AreClosed segment → AreOpen (before ++ segment) blocks
-open_segment before segment [] h b c = (balanced_append before segment h.0 h.1 b, closed_append before segment h.1 c)
+open_segment before segment [] h b c = closed_append before segment h.0 h.1 b c
 open_segment before segment (block ∷ blocks) h b c =
-    let inner = h.2 in (
+    let inner = h.2 in
+    let more = closed_append inner.within segment inner.balanced inner.closed b c in (
       h.0,
       h.1,
       record {
         within = inner.within ++ segment;
         whole = ap (λ (x : List PlainStatement). x ++ segment) inner.whole ∙ append_assoc h.0 (h.1 ∷ inner.within) segment;
         opened = inner.opened;
-        balanced = balanced_append inner.within segment inner.balanced inner.closed b;
-        closed = closed_append inner.within segment inner.closed c;
+        balanced = more.0;
+        closed = more.1;
       },
       h.3,
       h.4,
     )
-
-open_body : (statements : List PlainStatement) (s : PlainStatement) (blocks : List OpenBlock) → AreOpen statements blocks → HasBody s.kind → AreOpen (statements ++ s ∷ []) blocks
-open_body statements s blocks h long =
-    let c = body_count s long in
-    open_segment statements (s ∷ []) blocks h (keeps_balanced (s ∷ []) (keeps_one 0 s (omega (arith, c.0, c.1)))) (c.0 ∙ sym c.1)
-
-open_opening : (statements : List PlainStatement) (s : PlainStatement) (blocks : List OpenBlock) (count : ℕ) → AreOpen statements blocks → s.kind ≡ Opening → count ≡ length statements
-    → AreOpen (statements ++ s ∷ []) (record { file = s.first.file; at = s.first.at; statement = count + 1 } ∷ blocks)
-open_opening statements s blocks count h k same = (
-  statements,
-  s,
-  record { within = []; whole = refl; opened = k; balanced = balanced_nothing; closed = refl },
-  (λ i. record { file = s.first.file; at = s.first.at; statement = same i + 1 }),
-  h,
-)
 
 open_closing : (statements : List PlainStatement) (s : PlainStatement) (blocks : List OpenBlock)
     → AreOpen statements blocks → s.kind ≡ Closing → AreBalanced (statements ++ s ∷ [])
@@ -170,33 +131,30 @@ open_closing statements s (block ∷ blocks) h k b =
     let kept : KeepsBlocks 1 after =
     keeps_append 1 1 inner.within (s ∷ []) (λ n. omega (arith, inner.balanced n)) (keeps_one 1 s (omega (arith, c.0, c.1))) (omega (arith, inner.closed)) in
     let segment : List PlainStatement = (h.1 ∷ []) ++ after in
-    let balanced : AreBalanced segment = keeps_balanced segment (keeps_append 0 1 (h.1 ∷ []) after (keeps_one 0 h.1 (omega (arith, o.0, o.1))) kept (omega (arith, o.0, o.1))) in
+    let balanced : AreBalanced segment = λ n. omega (arith, keeps_append 0 1 (h.1 ∷ []) after (keeps_one 0 h.1 (omega (arith, o.0, o.1))) kept (omega (arith, o.0, o.1)) n) in
     let scope_after_closing : AreClosed segment =
     omega (arith, openings-append (h.1 ∷ []) after, closings-append (h.1 ∷ []) after, openings-append inner.within (s ∷ []), closings-append inner.within (s ∷ []), o.0, o.1, c.0, c.1, inner.closed) in
     subst (λ (x : List PlainStatement). AreOpen x blocks) (sym (ap (λ (x : List PlainStatement). x ++ s ∷ []) inner.whole ∙ append_assoc h.0 (h.1 ∷ inner.within) (s ∷ []))) (open_segment h.0 segment blocks h.4 balanced scope_after_closing)
 
 -- ---- what the first open block tells
 
-open_balanced : (statements : List PlainStatement) (blocks : List OpenBlock) → AreOpen statements blocks → has_none blocks ≡ true → AreClosed statements
-open_balanced statements [] h e = h.1
-open_balanced statements (block ∷ blocks) h e = absurd (false≢true e)
-
 -- a `${` within closed blocks isn't closed there
 closed_within : (mid within other : List PlainStatement) (opening : PlainStatement) → opening.kind ≡ Opening → AreClosed within → AreBalanced other → AreClosed other → other ≡ mid ++ opening ∷ within → ⊥
 closed_within mid within other opening k c b scope_after_closing e =
     let o = opening_count opening k in
-    let le = balanced_whole mid (balanced_front mid (opening ∷ within) (subst AreBalanced e b)) in
-    let all : AreClosed (mid ++ opening ∷ within) = subst AreClosed e scope_after_closing in
-    omega (arith, openings-append mid (opening ∷ within), closings-append mid (opening ∷ within), openings-append (opening ∷ []) within, closings-append (opening ∷ []) within, o.0, o.1, le, c, all)
+    omega (arith, openings-append mid (opening ∷ within), closings-append mid (opening ∷ within), openings-append (opening ∷ []) within, closings-append (opening ∷ []) within, o.0, o.1, balanced_whole mid (balanced_front mid (opening ∷ within) (subst AreBalanced e b)), c, subst AreClosed e scope_after_closing)
 
 -- a block that is open isn't closed
 pub innermost_unclosed : (statements before : List PlainStatement) (opening : PlainStatement) → AreBalanced statements → IsInnermost statements before opening → ¬ (AreClosed statements)
 innermost_unclosed statements before opening h i closed =
     closed_within before i.within statements opening i.opened i.closed h closed i.whole
 
-open_unclosed : (statements : List PlainStatement) (blocks : List OpenBlock) → AreBalanced statements → AreOpen statements blocks → has_none blocks ≡ false → ¬ (AreClosed statements)
-open_unclosed statements [] b h e = absurd (false≢true (sym e))
-open_unclosed statements (block ∷ blocks) b h e = innermost_unclosed statements h.0 h.1 b h.2
+open_told : (statements : List PlainStatement) (blocks : List OpenBlock) → AreBalanced statements
+    → AreOpen statements blocks → (has_none blocks ≡ true → AreClosed statements)
+    × (has_none blocks ≡ false → ¬ (AreClosed statements))
+open_told statements [] b h = (λ e. h.1, λ e. absurd (false≢true (sym e)))
+open_told statements (block ∷ blocks) b h =
+    (λ e. absurd (false≢true e), λ e. innermost_unclosed statements h.0 h.1 b h.2)
 
 -- there is one innermost block
 pub one_innermost : (statements a b : List PlainStatement) (x y : PlainStatement) → IsInnermost statements a x → IsInnermost statements b y → (a ≡ b) × (x ≡ y)
@@ -255,9 +213,17 @@ scope_body statements s long = scope_more statements s ∙ body_kind (scope_of s
 
 open_step : (before : List PlainStatement) (s : PlainStatement) (scope : PlainScope) (kind : Kind) → s.kind ≡ kind → AreOpen before scope.blocks → scope.count ≡ length before → AreBalanced (before ++ s ∷ [])
     → AreOpen (before ++ s ∷ []) (after_kind scope s kind).blocks
-open_step before s scope Opening k h same b = open_opening before s scope.blocks scope.count h k same
+open_step before s scope Opening k h same b = (
+  before,
+  s,
+  record { within = []; whole = refl; opened = k; balanced = balanced_nothing; closed = refl },
+  (λ i. record { file = s.first.file; at = s.first.at; statement = same i + 1 }),
+  h,
+)
 open_step before s scope Closing k h same b = open_closing before s scope.blocks h k b
-open_step before s scope _ k h same b = open_body before s scope.blocks h (subst HasBody (sym k) tt)
+open_step before s scope _ k h same b =
+    let c = body_count s (subst HasBody (sym k) tt) in
+    open_segment before (s ∷ []) scope.blocks h (λ n. omega (arith, keeps_one 0 s (omega (arith, c.0, c.1)) n)) (c.0 ∙ sym c.1)
 
 open_after : (before statements : List PlainStatement) (scope : PlainScope) → AreOpen before scope.blocks → scope.count ≡ length before → AreBalanced (before ++ statements)
     → AreOpen (before ++ statements) (scope_after scope statements).blocks
@@ -275,10 +241,10 @@ pub scope_open : (statements : List PlainStatement) → AreBalanced statements �
 scope_open statements b = open_after [] statements outermost (balanced_nothing, refl) refl b
 
 pub scope_closed : (statements : List PlainStatement) → AreBalanced statements → has_none (scope_of statements).blocks ≡ true → AreClosed statements
-scope_closed statements b e = open_balanced statements (scope_of statements).blocks (scope_open statements b) e
+scope_closed statements b e = (open_told statements (scope_of statements).blocks b (scope_open statements b)).0 e
 
 pub scope_unclosed : (statements : List PlainStatement) → AreBalanced statements → has_none (scope_of statements).blocks ≡ false → ¬ (AreClosed statements)
-scope_unclosed statements b e = open_unclosed statements (scope_of statements).blocks b (scope_open statements b) e
+scope_unclosed statements b e = (open_told statements (scope_of statements).blocks b (scope_open statements b)).1 e
 
 pub closed_scope : (statements : List PlainStatement) → AreBalanced statements → AreClosed statements → has_none (scope_of statements).blocks ≡ true
 closed_scope statements b scope_after_closing = true_from_ne_false _ (λ e. scope_unclosed statements b e scope_after_closing)

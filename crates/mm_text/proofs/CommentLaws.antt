@@ -1,5 +1,5 @@
 -- How a comment is skipped: bytes that hold no `$` and may stand in a file are passed over, up to a token's begin.
-use Rattle.std.proofs.Common.{◌≡◌, ℕ, ⊎_elim, append-nil, ◌+◌, ◌-◌, ◌<◌, ◌≤◌, ◌==◌, ◌&&◌, ◌||◌, List, [], ◌∷◌, ◌++◌, length, get_or, drop, take, Bool, true, false, not, refl, sym, ap, ◌∙◌, subst, arith, Some, None, ◌⊎◌, inl, inr}
+use Rattle.std.proofs.Common.{◌≡◌, ℕ, ⊎_elim, append-nil, ◌+◌, ◌-◌, ◌<◌, ◌≤◌, ◌==◌, ◌&&◌, ◌||◌, List, [], ◌∷◌, ◌++◌, length, get_or, drop, take, Bool, true, false, cond, not, add-zero, refl, sym, ap, ◌∙◌, subst, arith, Some, None, ◌⊎◌, inl, inr}
 use Rattle.std.specs.Prelude.{slice_range, codes}
 use Rattle.std.specs.List.{list_any, list_all, AllByRecursion}
 use Rattle.std.proofs.lemmas.List.{drop_more, drop-drop, take-append-drop, get_or-drop, get_or-take, length-drop, length-take-le}
@@ -9,34 +9,78 @@ use Rattle.std.proofs.lemmas.List.Folds.{list_all_at}
 use Rattle.mm_text.specs.declared.fault.TextRule.TheVariants.{X1, X2, X3, X4}
 use Rattle.mm_text.specs.Token.{PlainToken, is_space, is_printable, with_byte, tokens_from}
 use Rattle.mm_text.specs.Items.{Clear, Broken, without_comments, spells, holds_mark}
-use Rattle.mm_text.specs.Mirror.Place.{is_legal, is_quiet, IsLegalFront, IsLegalUpTo, IsMarkAt, IsClosedAt, IsSameFile, IsLater, comment_at, shown_at}
-use Rattle.std.specs.Cmp.Lexicographic.{bytes_decides}
-use Rattle.mm_text.proofs.Lists.{all_places}
+use Rattle.mm_text.specs.Mirror.Place.{is_legal, is_quiet, IsLegalFront, IsLegalUpTo, IsMarkAt, IsClosedAt, IsLater, comment_at, shown_at}
+use Rattle.mm_text.proofs.Lists.{all_places, choice_mapped}
 use Rattle.mm_text.proofs.LegalLaws.{all_from_places}
 use Rattle.mm_text.specs.declared.comments.Place.{Place}
-use Rattle.mm_text.proofs.TokenLaws.{tokens_from-space, tokens_from-byte, tokens_from-nil, tokens_from-step, tokens_from-run, BeginFrom, tokens_from_begin, with_byte_apart, BeginsWithSpace, space_from_place}
+use Rattle.mm_text.proofs.TokenLaws.{tokens_from-nil, tokens_from-step, tokens_from-run, BeginFrom, begin_earlier, with_byte_apart, with_byte_joined, BeginsWithSpace, space_from_place}
 use Rattle.mm_text.specs.Files.{most_bytes}
 
 -- ---- marks
 
-pub holds_mark-step : (text : List ℕ) (at : ℕ) → 1 ≤ at → at < length text
-    → holds_mark (drop (at - 1) text) ≡ ((get_or text (at - 1) 0 == 36 && (get_or text at 0 == 40 || get_or text at 0 == 41)) || holds_mark (drop at text))
-holds_mark-step text at some within =
+pub holds_mark-step : (text : List ℕ) (at : ℕ) (m : Bool) → (get_or text (at - 1) 0 == 36 && (get_or text at 0 == 40 || get_or text at 0 == 41)) ≡ m
+    → 1 ≤ at → at < length text → holds_mark (drop (at - 1) text) ≡ (m || holds_mark (drop at text))
+holds_mark-step text at m e some within =
     let before : drop (at - 1) text ≡ get_or text (at - 1) 0 ∷ drop at text =
     drop_more text (at - 1) 0 (omega arith) ∙ ap (λ n. get_or text (at - 1) 0 ∷ drop n text) (omega arith) in
-    let here : drop at text ≡ get_or text at 0 ∷ drop (at + 1) text = drop_more text at 0 within in
-    rw (before, here) refl
+    rw (← e, before, drop_more text at 0 within) refl
 
 pub holds_mark-short : (text : List ℕ) → length text ≤ 1 → holds_mark text ≡ false
 holds_mark-short [] short = refl
 holds_mark-short (b ∷ []) short = refl
 holds_mark-short (b ∷ c ∷ text) short = absurd (omega arith)
 
--- ---- bytes that are passed over
+-- ---- tokens told from their begin on
 
--- tokens that are passed over in a comment
-abbrev IsQuiet : PlainToken → Type 0
-IsQuiet t = (list_all is_printable t.text ≡ true) × (list_any (λ b. b == 36) t.text ≡ false)
+-- the bytes up to the next white space
+abbrev pub run : List ℕ → List ℕ
+run [] = []
+run (b ∷ bytes) = cond (is_space b) [] (b ∷ run bytes)
+
+-- The tokens of bytes, each with a number in place of its place: the number goes on at each byte. At
+-- the beginning a token may go on that began before.
+abbrev pub ahead : ℕ → (ℕ → ℕ → ℕ) → Bool → ℕ → List ℕ → List PlainToken
+ahead file step inside n [] = []
+ahead file step inside n (b ∷ bytes) =
+    cond (is_space b) (ahead file step false (step n b) bytes)
+    (cond inside (ahead file step true (step n b) bytes)
+    (record { text = b ∷ run bytes; file = file; at = n } ∷ ahead file step true (step n b) bytes))
+
+-- the number is a place
+abbrev pub by_place : ℕ → ℕ → ℕ
+by_place n b = n + 1
+
+-- what is told from a place on begins there or later
+ahead_begins : (file : ℕ) (inside : Bool) (at : ℕ) (bytes : List ℕ) → BeginFrom at (ahead file by_place inside at bytes)
+ahead_begins file inside at [] = tt
+ahead_begins file inside at (b ∷ bytes) =
+    let apart = begin_earlier at _ (ahead_begins file false (at + 1) bytes) in
+    let more = begin_earlier at _ (ahead_begins file true (at + 1) bytes) in
+    cond_both (is_space b) _ _ (BeginFrom at) (λ _. apart)
+    (λ _. cond_both inside _ _ (BeginFrom at) (λ _. more) (λ _. omega arith))
+
+-- a byte before the rest of what is told
+extended : (file at b : ℕ) (bytes : List ℕ) → with_byte file at b (ahead file by_place false (at + 1) bytes) ≡ record { text = b ∷ run bytes; file = file; at = at } ∷ ahead file by_place true (at + 1) bytes
+extended file at b [] = refl
+extended file at b (c ∷ bytes) =
+    let later = ahead file by_place false (at + 1 + 1) bytes in
+    let more = ahead file by_place true (at + 1 + 1) bytes in
+    let far : BeginFrom (at + 2) later = subst (λ n. BeginFrom n later) (omega arith) (ahead_begins file false (at + 1 + 1) bytes) in
+    elim (cases_Bool (is_space c)) [
+      | inl e ↦ rw e (with_byte_apart file at b later far)
+      | inr e ↦ rw e (with_byte_joined file at b (c ∷ run bytes) more)
+    ]
+
+-- the tokens of a file are told so
+pub tokens_ahead : (file at : ℕ) (bytes : List ℕ) → tokens_from file at bytes ≡ ahead file by_place false at bytes
+unfolding tokens_from
+tokens_ahead file at [] = refl
+tokens_ahead file at (b ∷ bytes) =
+    let rest = tokens_ahead file (at + 1) bytes in
+    choice_mapped (λ l. l) (λ l. l) (is_space b) _ _ _ _ rest
+    (ap (with_byte file at b) rest ∙ extended file at b bytes)
+
+-- ---- bytes that are passed over
 
 abbrev AreQuiet : List ℕ → Type 0
 AreQuiet bytes = AllByRecursion (λ b. is_quiet b ≡ true) bytes
@@ -46,53 +90,23 @@ pub quiet_ink : (printable space dollar : Bool) → ((printable || space) && not
 quiet_ink true false false q s = (refl, refl)
 quiet_ink _ _ _ q s = absurd cc
 
--- a byte onto the front of a quiet token
-quiet_more : (file at other place b : ℕ) (text : List ℕ) → is_quiet b ≡ true → is_space b ≡ false → IsQuiet (record { text = text; file = other; at = place }) → IsQuiet (record { text = b ∷ text; file = file; at = at })
-quiet_more file at other place b text q ink h =
-    let parts = quiet_ink (is_printable b) (is_space b) (b == 36) q ink in
-    (ap (λ p. p && list_all is_printable text) parts.0 ∙ h.0, ap (λ d. d || list_any (λ x. x == 36) text) parts.1 ∙ h.1)
-
-quiet_one : (file at b : ℕ) → is_quiet b ≡ true → is_space b ≡ false → IsQuiet (record { text = b ∷ []; file = file; at = at })
-quiet_one file at b q ink = quiet_more file at file at b [] q ink (refl, refl)
-
--- the tokens of quiet bytes before white space, or before the file's end, are quiet
-record QuietFront (tokens rest : List PlainToken) : Type 0 where
-  quiet : List PlainToken
-  each : AllByRecursion IsQuiet quiet
-  whole : tokens ≡ quiet ++ rest
-
-quiet_byte : (file at b : ℕ) (tokens rest : List PlainToken) → is_quiet b ≡ true → is_space b ≡ false → BeginFrom (at + 2) rest → QuietFront tokens rest → QuietFront (with_byte file at b tokens) rest
-quiet_byte file at b tokens rest q ink far h = subst (λ l. QuietFront (with_byte file at b l) rest) (sym h.whole) (go h.quiet h.each)
-  where
-    go : (quiet : List PlainToken) → AllByRecursion IsQuiet quiet → QuietFront (with_byte file at b (quiet ++ rest)) rest
-    go [] each = record { quiet = record { text = b ∷ []; file = file; at = at } ∷ []; each = (quiet_one file at b q ink, tt); whole = with_byte_apart file at b rest far }
-    go (t ∷ ts) each =
-        cond_both (t.at == at + 1) _ _ (λ l. QuietFront l rest)
-        (λ _. record { quiet = record { text = b ∷ t.text; file = file; at = at } ∷ ts; each = (quiet_more file at t.file t.at b t.text q ink each.0, each.1); whole = refl })
-        (λ _. record { quiet = record { text = b ∷ []; file = file; at = at } ∷ t ∷ ts; each = (quiet_one file at b q ink, each); whole = refl })
-
--- after white space, or at the end, tokens begin one place later
-space_begins : (file at : ℕ) (rest : List ℕ) → BeginsWithSpace rest → BeginFrom (at + 1) (tokens_from file at rest)
-space_begins file at [] h = rw tokens_from-nil tt
-space_begins file at (b ∷ rest) h = rw (tokens_from-space file at b rest h) (tokens_from_begin file (at + 1) rest)
+-- the run at the front of quiet bytes before white space, or before the file's end, is quiet
+quiet_run : (front rest : List ℕ) → AreQuiet front → BeginsWithSpace rest
+    → (list_all is_printable (run (front ++ rest)) ≡ true)
+    × (list_any (λ b. b == 36) (run (front ++ rest)) ≡ false)
+quiet_run [] [] q after = (refl, refl)
+quiet_run [] (s ∷ rest) q after = rw after (refl, refl)
+quiet_run (b ∷ front) rest q after = elim (cases_Bool (is_space b)) [
+  | inl e ↦ rw e (refl, refl)
+  | inr e ↦
+      let parts = quiet_ink (is_printable b) (is_space b) (b == 36) q.0 e in
+      rw (e, parts.0, parts.1) (quiet_run front rest q.1 after)
+]
 
 pub begin_far : (at n : ℕ) (tokens : List PlainToken) → n ≤ at → BeginFrom at tokens
     → BeginFrom n tokens
 begin_far at n [] h k = tt
 begin_far at n (t ∷ tokens) h k = omega arith
-
-quiet_front : (file at : ℕ) (front rest : List ℕ) → AreQuiet front → BeginsWithSpace rest → QuietFront (tokens_from file at (front ++ rest)) (tokens_from file (at + length front) rest)
-quiet_front file at [] rest q after = record { quiet = []; each = tt; whole = ap (λ n. tokens_from file n rest) (omega arith) }
-quiet_front file at (b ∷ front) rest q after =
-    let inner = quiet_front file (at + 1) front rest q.1 after in
-    let further : at + length (b ∷ front) ≡ at + 1 + length front = omega arith in
-    let begins = space_begins file (at + 1 + length front) rest after in
-    rw further (elim (cases_Bool (is_space b)) [
-      | inl e ↦ rw (tokens_from-space file at b (front ++ rest) e) inner
-      | inr e ↦
-          rw (tokens_from-byte file at b (front ++ rest) e)
-          (quiet_byte file at b _ _ q.0 e (begin_far _ (at + 2) _ (omega arith) begins) inner)
-    ])
 
 -- ---- tokens in a comment
 
@@ -128,17 +142,31 @@ no_dollar-spells [] c h = refl
 no_dollar-spells (b ∷ text) c h =
     ap (λ d. d && spells text (c ∷ [])) (or_parts (b == 36) (list_any (λ x. x == 36) text) h).0
 
-quiet_passed : (begin : PlainToken) (quiet rest : List PlainToken) → AllByRecursion IsQuiet quiet → without_comments (Some begin) (quiet ++ rest) ≡ without_comments (Some begin) rest
-quiet_passed begin [] rest each = refl
-quiet_passed begin (t ∷ quiet) rest each =
-    in_comment-more begin t (quiet ++ rest) each.0.0 (no_dollar-spells t.text 41 each.0.1) (no_dollar-mark t.text each.0.1)
-    ∙ quiet_passed begin quiet rest each.1
-
 -- in a comment quiet bytes before white space or the file's end are passed over
+quiet_passed : (begin : PlainToken) (file : ℕ) (inside : Bool) (at : ℕ) (front rest : List ℕ)
+    → AreQuiet front → BeginsWithSpace rest
+    → without_comments (Some begin) (ahead file by_place inside at (front ++ rest))
+    ≡ without_comments (Some begin) (ahead file by_place false (at + length front) rest)
+quiet_passed begin file inside at [] [] q after = refl
+quiet_passed begin file inside at [] (s ∷ rest) q after = rw (after, add-zero at) refl
+quiet_passed begin file inside at (b ∷ front) rest q after =
+    let further : at + length (b ∷ front) ≡ at + 1 + length front = omega arith in
+    let more = λ (s : Bool). quiet_passed begin file s (at + 1) front rest q.1 after in
+    rw further (elim (cases_Bool (is_space b)) [
+      | inl e ↦ rw e (more false)
+      | inr e ↦
+          let (printable, lacks) = rw e at (quiet_run (b ∷ front) rest q after) in
+          let t : PlainToken = record { text = b ∷ run (front ++ rest); file = file; at = at } in
+          rw e (cond_both inside _ _ (λ l. without_comments (Some begin) l
+          ≡ without_comments (Some begin) (ahead file by_place false (at + 1 + length front) rest))
+          (λ _. more true) (λ _. in_comment-more begin t _ printable (no_dollar-spells t.text 41 lacks)
+          (no_dollar-mark t.text lacks) ∙ more true))
+    ])
+
 front_passed : (begin : PlainToken) (file at : ℕ) (front rest : List ℕ) → AreQuiet front → BeginsWithSpace rest → without_comments (Some begin) (tokens_from file at (front ++ rest)) ≡ without_comments (Some begin) (tokens_from file (at + length front) rest)
 front_passed begin file at front rest q after =
-    let split = quiet_front file at front rest q after in
-    ap (without_comments (Some begin)) split.whole ∙ quiet_passed begin split.quiet _ split.each
+    rw (tokens_ahead file at (front ++ rest), tokens_ahead file (at + length front) rest)
+    (quiet_passed begin file false at front rest q after)
 
 -- ---- the same, of the bytes of a file by their places
 
@@ -186,32 +214,16 @@ below_more_from P low i below here k from lt = ⊎_elim (λ (less : k < i). belo
 
 -- ---- how far bytes are judged
 
-pub quiet_legal : (legal dollar : Bool) → (legal && not dollar) ≡ true → legal ≡ true
-quiet_legal true dollar q = refl
-quiet_legal false dollar q = q
-
--- up to a place further on, where the bytes between may stand in a file
-pub legal_further : (bytes : List ℕ) (legal at stop n : ℕ) → IsLegalFront bytes legal → at ≤ legal → stop ≤ length bytes
-    → ((k : ℕ) → at ≤ k → k < stop → is_legal (get_or bytes k 0) ≡ true) → n ≤ length bytes → (legal < n → n ≤ stop) → IsLegalFront bytes n
-legal_further bytes legal at stop n front from within each inside most = record {
-  within = inside;
-  front = λ k high. ⊎_elim (λ (less : k < legal). front.front k less) (λ (more : legal ≤ k). each k (omega arith) (let last = most (omega arith) in omega arith)) (order k legal);
-}
-
--- behind a mark
+-- up to a place further on, behind a mark
 pub legal_behind_mark : (bytes : List ℕ) (second at place legal n : ℕ) → is_legal second ≡ true → IsMarkAt bytes second place → IsLegalFront bytes legal → at ≤ legal
     → ((k : ℕ) → at ≤ k → k < place → is_legal (get_or bytes k 0) ≡ true) → n ≤ length bytes → (legal < n → n ≤ place + 2) → IsLegalFront bytes n
-legal_behind_mark bytes second at place legal n right mark front from each =
-    let dollar : is_legal (get_or bytes place 0) ≡ true = ap is_legal mark.dollar in
-    let other : is_legal (get_or bytes (place + 1) 0) ≡ true = ap is_legal mark.other ∙ right in
-    let two : place + 1 + 1 ≡ place + 2 = omega arith in
-    legal_further bytes legal at (place + 2) n front from (omega (arith, mark.within))
-    (subst (λ m. (k : ℕ) → at ≤ k → k < m → is_legal (get_or bytes k 0) ≡ true) two
-    (below_more_from (λ k. is_legal (get_or bytes k 0) ≡ true) at (place + 1) (below_more_from (λ k. is_legal (get_or bytes k 0) ≡ true) at place each dollar) other))
-
--- white space is legal
-pub space_legal : (b : ℕ) → is_space b ≡ true → is_legal b ≡ true
-space_legal b space = or_right (is_printable b) (is_space b) space
+legal_behind_mark bytes second at place legal n right mark front from each inside most =
+    let all = below_more_from (λ k. is_legal (get_or bytes k 0) ≡ true) at (place + 1) (below_more_from (λ k. is_legal (get_or bytes k 0) ≡ true) at place each (ap is_legal mark.dollar)) (ap is_legal mark.other ∙ right) in
+    record {
+      within = inside;
+      front = λ k high. ⊎_elim (λ (less : k < legal). front.front k less)
+          (λ (more : legal ≤ k). let last = most (omega arith) in all k (omega arith) (omega arith)) (order k legal);
+    }
 
 -- ---- the bytes of a token
 
@@ -223,20 +235,20 @@ pub slice_byte : (bytes : List ℕ) (start stop k : ℕ) → start + k < stop �
 slice_byte bytes start stop k lt = get_or-take (stop - start) (drop start bytes) k 0 (omega arith) ∙ get_or-drop start bytes k 0
 
 -- a token before the first byte that may not stand there holds none
-pub token_printable : (bytes : List ℕ) (legal start stop : ℕ) → IsLegalFront bytes legal → start < stop → stop ≤ legal → ((k : ℕ) → start ≤ k → k < stop → is_space (get_or bytes k 0) ≡ false)
-    → list_all is_printable (slice_range bytes start stop) ≡ true
-token_printable bytes legal start stop front some within ink =
+pub token_printable : (bytes : List ℕ) (legal start stop file : ℕ) (t : PlainToken) → t ≡ record { text = slice_range bytes start stop; file = file; at = start } → IsLegalFront bytes legal → start < stop → stop ≤ legal
+    → ((k : ℕ) → start ≤ k → k < stop → is_space (get_or bytes k 0) ≡ false) → list_all is_printable t.text ≡ true
+token_printable bytes legal start stop file t same front some within ink =
     let long : length (slice_range bytes start stop) ≡ stop - start = length-take-le (stop - start) (drop start bytes) (omega (arith, length-drop start bytes, front.within)) in
-    all_from_places is_printable (slice_range bytes start stop) (λ k lt.
+    ap (λ (u : PlainToken). list_all is_printable u.text) same ∙ all_from_places is_printable (slice_range bytes start stop) (λ k lt.
     ap is_printable (slice_byte bytes start stop k (omega arith)) ∙ legal_ink (get_or bytes (start + k) 0) (ink (start + k) (omega arith) (omega arith)) ∙ front.front (start + k) (omega arith))
 
 -- a token across such a byte does
-pub token_illegal : (bytes : List ℕ) (legal start stop : ℕ) → is_legal (get_or bytes legal 0) ≡ false → start ≤ legal → legal < stop → stop ≤ length bytes → ((k : ℕ) → start ≤ k → k < stop → is_space (get_or bytes k 0) ≡ false)
-    → list_all is_printable (slice_range bytes start stop) ≡ false
-token_illegal bytes legal start stop bad low high within ink =
+pub token_illegal : (bytes : List ℕ) (legal start stop file : ℕ) (t : PlainToken) → t ≡ record { text = slice_range bytes start stop; file = file; at = start } → is_legal (get_or bytes legal 0) ≡ false → start ≤ legal → legal < stop → stop ≤ length bytes
+    → ((k : ℕ) → start ≤ k → k < stop → is_space (get_or bytes k 0) ≡ false) → list_all is_printable t.text ≡ false
+token_illegal bytes legal start stop file t same bad low high within ink =
     let long : length (slice_range bytes start stop) ≡ stop - start = length-take-le (stop - start) (drop start bytes) (omega (arith, length-drop start bytes)) in
     let place : start + (legal - start) ≡ legal = omega arith in
-    list_all_at is_printable (slice_range bytes start stop) (legal - start) 0 (omega arith)
+    ap (λ (u : PlainToken). list_all is_printable u.text) same ∙ list_all_at is_printable (slice_range bytes start stop) (legal - start) 0 (omega arith)
     (ap is_printable (slice_byte bytes start stop (legal - start) (omega arith) ∙ ap (λ m. get_or bytes m 0) place) ∙ legal_ink (get_or bytes legal 0) (ink legal low high) ∙ bad)
 
 -- ---- the next token of a comment that holds a `$` or a byte that may not stand there
@@ -274,10 +286,6 @@ pub outside-clear : (t : PlainToken) (tokens : List PlainToken) → list_all is_
 unfolding without_comments
 outside-clear t tokens e f g = simp (e, f, g)
 
--- a text is spelled in one way
-pub spells_other : (text a b : List ℕ) → spells a b ≡ false → spells text a ≡ true → spells text b ≡ false
-spells_other text a b apart e = ap (λ l. spells l b) ((bytes_decides text a).0 e) ∙ apart
-
 -- white space is skipped, and a token stands here
 pub outside_token : (p : Place) (start end : ℕ) (t : PlainToken)
     → ((file : ℕ) → tokens_from file p.at (drop p.at p.bytes.now) ≡ tokens_from file start (drop start p.bytes.now))
@@ -296,10 +304,6 @@ later_place p at legal front within after small = record {
   after = after;
 }
 
--- the same file at a third place
-pub same_file_on : (p q r : Place) → IsSameFile p q → IsSameFile q r → IsSameFile p r
-same_file_on p q r e f = f ∙ ap (λ (s : Place). record s { at = r.at; legal = r.legal }) e
-
 -- a byte that may not stand there isn't skipped as white space
 pub skipped_legal : (bytes : List ℕ) (legal at start stop : ℕ) → IsLegalUpTo bytes legal stop → at ≤ legal → start < stop → ((k : ℕ) → at ≤ k → k < start → is_space (get_or bytes k 0) ≡ true) → start ≤ legal
 skipped_legal bytes legal at start stop judged from within space =
@@ -314,10 +318,13 @@ mark_bytes : (bytes : List ℕ) (second at : ℕ) → IsMarkAt bytes second at
     → drop at bytes ≡ 36 ∷ second ∷ drop (at + 2) bytes
 mark_bytes bytes second at mark =
     let back : at + 1 + 1 ≡ at + 2 = omega arith in
-    let low : at < length bytes = omega (arith, mark.within) in
-    let high : at + 1 < length bytes = omega (arith, mark.within) in
-    let first = drop_more bytes at 0 low in
-    rw (first, mark.dollar, drop_more bytes (at + 1) 0 high, mark.other, back) refl
+    rw (
+      drop_more bytes at 0 (omega (arith, mark.within)),
+      mark.dollar,
+      drop_more bytes (at + 1) 0 (omega (arith, mark.within)),
+      mark.other,
+      back,
+    ) refl
 
 -- it is a token
 mark_token : (bytes : List ℕ) (file second at : ℕ) → IsMarkAt bytes second at → is_space second ≡ false
@@ -337,10 +344,9 @@ pub closed_at : (begin : PlainToken) (p : Place) (at legal : ℕ)
     → comment_at begin p ≡ shown_at (record p { at = at + 2; legal = legal })
 closed_at begin p at legal from quiet closed =
     let bytes = p.bytes.now in
-    let t : PlainToken = record { text = 36 ∷ 41 ∷ []; file = p.file; at = at } in
     passed_to begin bytes p.file p.at at from (omega (arith, closed.mark.within)) quiet (inr closed.left)
     ∙ ap (without_comments (Some begin)) (mark_token bytes p.file 41 at closed.mark refl)
-    ∙ in_comment-close begin t _ refl refl
+    ∙ in_comment-close begin (record { text = 36 ∷ 41 ∷ []; file = p.file; at = at }) _ refl refl
 
 -- a `$(` begins one outside comments
 pub begins_at : (p : Place) (start legal : ℕ) (t : PlainToken)

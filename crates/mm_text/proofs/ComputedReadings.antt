@@ -1,5 +1,5 @@
 -- What the reader computes of items is a reading of them.
-use Rattle.std.proofs.Common.{◌≡◌, ◌≢◌, ℕ, ◌+◌, ◌==◌, List, [], ◌∷◌, ◌++◌, refl, sym, ap, subst, ◌∙◌, Option, Some, None, append_assoc, ◌⊎◌, inl, inr}
+use Rattle.std.proofs.Common.{◌≡◌, ◌≢◌, ℕ, ◌+◌, ◌==◌, List, [], ◌∷◌, ◌++◌, refl, sym, ap, subst, ◌∙◌, Option, Some, None, append_assoc, arith, ◌⊎◌, inl, inr}
 use Rattle.std.specs.List.{AllByRecursion}
 use Rattle.std.proofs.Math.Path.{transport}
 use Rattle.std.proofs.lemmas.List.{append-nil}
@@ -20,7 +20,7 @@ use Rattle.mm_text.proofs.PartTokens.{Describes, Describes-label, beginning_of_p
 use Rattle.mm_text.proofs.GrammarSteps.{StepsTo, step_right}
 use Rattle.mm_text.proofs.StepLaws.{read_nothing, read_end, read_inclusion, read_wrong, read_more, read_whole, read_opened, read_closing, read_faulty}
 use Rattle.mm_text.proofs.StatementRuns.{spells_sign}
-use Rattle.mm_text.proofs.BlockFacts.{AreOpen, scope_after, scope_of, balanced_nothing, scope_body, scope_more, scope_count, scope_open, scope_closed, scope_unclosed, balanced_body, balanced_opening, balanced_closing}
+use Rattle.mm_text.proofs.BlockFacts.{AreOpen, scope_after, scope_of, balanced_nothing, scope_body, scope_more, scope_count, scope_open, scope_closed, scope_unclosed, balanced_more, body_count, closing_count, opening_count}
 use Rattle.mm_text.proofs.Lists.{last_cut, nil_append}
 
 -- ---- items that end well
@@ -90,19 +90,6 @@ between : (pre : List Item) (item : Item) (statements : List PlainStatement) (un
 between pre item statements unfinished v e none f =
     extended pre item statements statements unfinished [] v.finished v f (ap (λ (x : List PlainToken). plain_tokens pre ++ x) none ∙ append-nil (plain_tokens pre) ∙ nothing_left pre statements unfinished v e ∙ sym (append-nil v.finished)) v.spelled (inl refl) v.balanced
 
--- a token of a statement
-within : (pre : List Item) (t : PlainToken) (statements : List PlainStatement) (unfinished : List PlainToken) (next : Part) → Viable pre statements unfinished → Describes next (unfinished ++ t ∷ []) → Viable (pre ++ Plain t ∷ []) statements (unfinished ++ t ∷ [])
-within pre t statements unfinished next v d =
-    extended pre (Plain t) statements statements unfinished (unfinished ++ t ∷ []) v.finished v (plain_follows pre t)
-    (ap (λ (x : List PlainToken). x ++ t ∷ []) v.whole ∙ append_assoc v.finished unfinished (t ∷ [])) v.spelled (beginning_of_part next (unfinished ++ t ∷ []) d) v.balanced
-
--- the last token of a statement
-finishing : (pre : List Item) (t : PlainToken) (statements : List PlainStatement) (unfinished : List PlainToken) (s : PlainStatement) → Viable pre statements unfinished → Spells (unfinished ++ t ∷ []) s → AreBalanced (statements ++ s ∷ [])
-    → Viable (pre ++ Plain t ∷ []) (statements ++ s ∷ []) []
-finishing pre t statements unfinished s v h b =
-    extended pre (Plain t) statements (statements ++ s ∷ []) unfinished [] (v.finished ++ (unfinished ++ t ∷ [])) v (plain_follows pre t)
-    (ap (λ (x : List PlainToken). x ++ t ∷ []) v.whole ∙ append_assoc v.finished unfinished (t ∷ []) ∙ sym (append-nil (v.finished ++ (unfinished ++ t ∷ [])))) (spells_more v.finished (unfinished ++ t ∷ []) statements s v.spelled h) (inl refl) b
-
 -- ---- a reading after a viable front
 
 abbrev pub ReadsOn : List Item → List PlainStatement → PlainReading → Type 0
@@ -117,10 +104,6 @@ fault_here pre item rest statements unfinished fault v e =
 -- one item before
 item_before : (pre : List Item) (item : Item) (rest : List Item) (statements : List PlainStatement) (reading : PlainReading) → ReadsOn ((pre ++ item ∷ []) ++ rest) statements reading → ReadsOn (pre ++ item ∷ rest) statements reading
 item_before pre item rest statements reading h = subst (λ (x : List Item). ReadsOn x statements reading) (append_assoc pre (item ∷ []) rest) h
-
--- a whole statement before
-statement_before : (whole : List Item) (statements : List PlainStatement) (s : PlainStatement) (reading : PlainReading) → ReadsOn whole (statements ++ s ∷ []) reading → ReadsOn whole statements (with_statement s reading)
-statement_before whole statements s reading h = subst (λ (x : List PlainStatement). ReadsAs whole x reading.ending) (append_assoc statements (s ∷ []) reading.statements) h
 
 -- the reading is the same
 same_reading : (whole : List Item) (statements : List PlainStatement) (reading other : PlainReading) → reading ≡ other → ReadsOn whole statements other → ReadsOn whole statements reading
@@ -148,24 +131,31 @@ token_ends : (pre rest : List Item) (statements : List PlainStatement) (unfinish
     → reading_of (scope_of statements) part (Plain t ∷ rest) ≡ with_statement s (reading_of scope Between rest) → scope_of (statements ++ s ∷ []) ≡ scope → Spells (unfinished ++ t ∷ []) s → AreBalanced (statements ++ s ∷ [])
     → ReadsOn (pre ++ Plain t ∷ rest) statements (reading_of (scope_of statements) part (Plain t ∷ rest))
 token_ends pre rest statements unfinished part t s scope inner c e is h b =
+    let reading = reading_of (scope_of (statements ++ s ∷ [])) Between rest in
+    let v = c.viable in
+    let viable = extended pre (Plain t) statements (statements ++ s ∷ []) unfinished [] (v.finished ++ (unfinished ++ t ∷ [])) v (plain_follows pre t)
+    (ap (λ (x : List PlainToken). x ++ t ∷ []) v.whole ∙ append_assoc v.finished unfinished (t ∷ []) ∙ sym (append-nil (v.finished ++ (unfinished ++ t ∷ [])))) (spells_more v.finished (unfinished ++ t ∷ []) statements s v.spelled h) (inl refl) b in
     same_reading _ statements _ _ (e ∙ ap (λ (x : PlainScope). with_statement s (reading_of x Between rest)) (sym is))
-    (statement_before (pre ++ Plain t ∷ rest) statements s (reading_of (scope_of (statements ++ s ∷ [])) Between rest)
-    (item_before pre (Plain t) rest (statements ++ s ∷ []) (reading_of (scope_of (statements ++ s ∷ [])) Between rest)
-    (inner (pre ++ Plain t ∷ []) (statements ++ s ∷ []) [] Between (record { viable = finishing pre t statements unfinished s c.viable h b; described = refl }) (inl refl))))
+    (subst (λ (x : List PlainStatement). ReadsAs (pre ++ Plain t ∷ rest) x reading.ending) (append_assoc statements (s ∷ []) reading.statements)
+    (item_before pre (Plain t) rest (statements ++ s ∷ []) reading
+    (inner (pre ++ Plain t ∷ []) (statements ++ s ∷ []) [] Between (record { viable = viable; described = refl }) (inl refl))))
 
 -- what each step of the reader comes to
 token_next : (pre rest : List Item) (statements : List PlainStatement) (unfinished : List PlainToken) (part : Part) (t : PlainToken) → GoesOn rest → ComesToStop rest → Course pre statements unfinished part
     → (st : Step) → step part t ≡ st → StepsTo unfinished t st → ReadsOn (pre ++ Plain t ∷ rest) statements (reading_of (scope_of statements) part (Plain t ∷ rest))
 token_next pre rest statements unfinished part t inner stops c (More next) e so =
+    let v = c.viable in
+    let viable = extended pre (Plain t) statements statements unfinished (unfinished ++ t ∷ []) v.finished v (plain_follows pre t)
+    (ap (λ (x : List PlainToken). x ++ t ∷ []) v.whole ∙ append_assoc v.finished unfinished (t ∷ [])) v.spelled (beginning_of_part next (unfinished ++ t ∷ []) so) v.balanced in
     same_reading _ statements _ _ (read_more (scope_of statements) part t rest next e)
     (item_before pre (Plain t) rest statements (reading_of (scope_of statements) next rest)
-    (inner (pre ++ Plain t ∷ []) statements (unfinished ++ t ∷ []) next (record { viable = within pre t statements unfinished next c.viable so; described = so }) (inr stops)))
+    (inner (pre ++ Plain t ∷ []) statements (unfinished ++ t ∷ []) next (record { viable = viable; described = so }) (inr stops)))
 token_next pre rest statements unfinished part t inner stops c (Whole s) e so =
-    token_ends pre rest statements unfinished part t s (scope_after_statement (scope_of statements)) inner c (read_whole (scope_of statements) part t rest s e) (scope_body statements s so.1) so.0 (balanced_body statements s c.viable.balanced so.1)
+    token_ends pre rest statements unfinished part t s (scope_after_statement (scope_of statements)) inner c (read_whole (scope_of statements) part t rest s e) (scope_body statements s so.1) so.0 (balanced_more statements s c.viable.balanced (λ le. let d = body_count s so.1 in omega (arith, le, d.0, d.1)))
 token_next pre rest statements unfinished part t inner stops c Opened e so =
     let s : PlainStatement = bare_statement Opening t None in
     token_ends pre rest statements unfinished part t s (scope_after_opening (scope_of statements) t) inner c (read_opened (scope_of statements) part t rest e) (scope_more statements s)
-    (spells_sign Opening unfinished t so.0 so.1 refl (record { keyword = t; tokens = refl; sign = so.1 }) refl (refl, refl, refl)) (balanced_opening statements s c.viable.balanced refl)
+    (spells_sign Opening unfinished t so.0 so.1 refl (record { keyword = t; tokens = refl; sign = so.1 }) refl (refl, refl, refl)) (balanced_more statements s c.viable.balanced (λ le. let d = opening_count s refl in omega (arith, le, d.0, d.1)))
 token_next pre rest statements unfinished part t inner stops c Closed e so =
     let s : PlainStatement = bare_statement Closing t None in
     let b = c.viable.balanced in
@@ -175,7 +165,7 @@ token_next pre rest statements unfinished part t inner stops c Closed e so =
           (fault_here pre (Plain t) rest statements unfinished (fault_at S6 t statements unfinished) c.viable (S6, (so.0, so.1, scope_closed statements b none), refl))
       | inr some ↦
           token_ends pre rest statements unfinished part t s (scope_after_closing (scope_of statements)) inner c (read_closing (scope_of statements) part t rest e ∙ cond-false _ _ _ some) (scope_more statements s)
-          (spells_sign Closing unfinished t so.0 so.1 refl (record { keyword = t; tokens = refl; sign = so.1 }) refl (refl, refl, refl)) (balanced_closing statements s b refl (scope_unclosed statements b some))
+          (spells_sign Closing unfinished t so.0 so.1 refl (record { keyword = t; tokens = refl; sign = so.1 }) refl (refl, refl, refl)) (balanced_more statements s b (λ le. let d = closing_count s refl in omega (arith, le, d.0, d.1, scope_unclosed statements b some)))
     ]
 token_next pre rest statements unfinished part t inner stops c (Faulty rule) e so =
     same_reading _ statements _ _ (read_faulty (scope_of statements) part t rest rule e ∙ ap (λ (f : PlainFault). only_ending (Some f)) (fault_is rule t part statements unfinished c.described))
@@ -192,56 +182,7 @@ inclusion_faulty pre rest statements unfinished part t c e why =
     (read_inclusion (scope_of statements) part t rest ∙ ap (λ (f : Option PlainFault). unless f (reading_of (scope_of statements) part rest)) e ∙ ap (λ (f : PlainFault). only_ending (Some f)) (fault_is X6 t part statements unfinished c.described))
     (fault_here pre (Inclusion t) rest statements unfinished (fault_at X6 t statements unfinished) c.viable (why, refl))
 
--- or outside
-inclusion_passed : (pre rest : List Item) (statements : List PlainStatement) (unfinished : List PlainToken) (part : Part) (t : PlainToken) → GoesOn rest → Course pre statements unfinished part → part ≡ Between → unfinished ≡ []
-    → inclusion_fault (scope_of statements) part t ≡ None → AreClosed statements → ReadsOn (pre ++ Inclusion t ∷ rest) statements (reading_of (scope_of statements) part (Inclusion t ∷ rest))
-inclusion_passed pre rest statements unfinished part t inner c between_now none e scope_after_closing =
-    let follows : Follows pre (Inclusion t) = record { clean = tt; included = λ token is. outside pre statements unfinished c.viable none scope_after_closing; ended = λ file is. absurd cc; top_ended = λ is. absurd cc } in
-    same_reading _ statements _ _
-    (read_inclusion (scope_of statements) part t rest ∙ ap (λ (f : Option PlainFault). unless f (reading_of (scope_of statements) part rest)) e)
-    (item_before pre (Inclusion t) rest statements (reading_of (scope_of statements) part rest)
-    (inner (pre ++ Inclusion t ∷ []) statements [] part (record { viable = between pre (Inclusion t) statements unfinished c.viable none refl follows; described = subst (λ (x : Part). Describes x []) (sym between_now) refl }) (inl (ap part_first between_now))))
-
-inclusion_next : (pre rest : List Item) (statements : List PlainStatement) (unfinished : List PlainToken) (part : Part) (t : PlainToken) → GoesOn rest → Course pre statements unfinished part
-    → ReadsOn (pre ++ Inclusion t ∷ rest) statements (reading_of (scope_of statements) part (Inclusion t ∷ rest))
-inclusion_next pre rest statements unfinished part t inner c =
-    elim (first_of_part part unfinished c.described) [
-      | inl (is, none) ↦ elim (cases_Bool (has_none (scope_of statements).blocks)) [
-        | inl closed ↦
-            inclusion_passed pre rest statements unfinished part t inner c is none
-            (rw (is, inclusion_fault, closed) refl)
-            (scope_closed statements c.viable.balanced closed)
-        | inr some ↦
-            inclusion_faulty pre rest statements unfinished part t c
-            (rw (is, inclusion_fault, some) refl)
-            (inr (scope_unclosed statements c.viable.balanced some))
-      ]
-      | inr (first, others, some, is) ↦
-          inclusion_faulty pre rest statements unfinished part t c
-          (rw (inclusion_fault, some) refl) (inl (λ none. cc))
-    ]
-
 -- ---- ends of files
-
-end_unfinished : (pre rest : List Item) (statements : List PlainStatement) (unfinished others : List PlainToken) (part : Part) (file : ℕ) (first : PlainToken) → Course pre statements unfinished part → part_first part ≡ Some first → unfinished ≡ first ∷ others
-    → ReadsOn (pre ++ End file ∷ rest) statements (reading_of (scope_of statements) part (End file ∷ rest))
-end_unfinished pre rest statements unfinished others part file first c begun_by is =
-    let e : end_fault (scope_of statements) part file ≡ Some (fault_in (scope_of statements) part X8 first) = rw (end_fault, begun_by) refl in
-    same_reading _ statements _ _
-    (read_end (scope_of statements) part file rest ∙ ap (λ (f : Option PlainFault). unless f (reading_of (scope_of statements) part rest)) e ∙ ap (λ (f : PlainFault). only_ending (Some f)) (fault_is X8 first part statements unfinished c.described))
-    (fault_here pre (End file) rest statements unfinished (fault_at X8 first statements unfinished) c.viable (inl (first, others, is, refl)))
-
--- the top file ends in a block
-end_in_block : (pre rest : List Item) (statements : List PlainStatement) (unfinished : List PlainToken) (part : Part) (file : ℕ) (block : OpenBlock) (blocks : List OpenBlock) → Course pre statements unfinished part → part ≡ Between → unfinished ≡ [] → file ≡ 0
-    → (scope_of statements).blocks ≡ block ∷ blocks → ReadsOn (pre ++ End file ∷ rest) statements (reading_of (scope_of statements) part (End file ∷ rest))
-end_in_block pre rest statements unfinished part file block blocks c between_now none top is =
-    let opens : AreOpen statements (block ∷ blocks) = subst (AreOpen statements) is (scope_open statements c.viable.balanced) in
-    let e : end_fault (scope_of statements) part file ≡ block_fault (block ∷ blocks) =
-    (λ i. end_fault (scope_of statements) (between_now i) (top i)) ∙ ap block_fault is in
-    let fault : block_fault (block ∷ blocks) ≡ Some (fault_at S7 opens.1.first opens.0 []) = λ i. block_fault (opens.3 i ∷ blocks) in
-    same_reading _ statements _ _
-    (read_end (scope_of statements) part file rest ∙ ap (λ (f : Option PlainFault). unless f (reading_of (scope_of statements) part rest)) (e ∙ fault))
-    (fault_here pre (End file) rest statements unfinished (fault_at S7 opens.1.first opens.0 []) c.viable (inr (none, top, opens.0, opens.1, opens.2, refl)))
 
 end_passed : (pre rest : List Item) (statements : List PlainStatement) (unfinished : List PlainToken) (part : Part) (file : ℕ) → GoesOn rest → Course pre statements unfinished part → part ≡ Between → unfinished ≡ []
     → end_fault (scope_of statements) Between file ≡ None → (file ≡ 0 → AreClosed statements) → ReadsOn (pre ++ End file ∷ rest) statements (reading_of (scope_of statements) part (End file ∷ rest))
@@ -250,9 +191,7 @@ end_passed pre rest statements unfinished part file inner c between_now none e s
       clean = tt;
       included = λ token is. absurd cc;
       ended = λ other is. (statements, subst (λ (x : List PlainToken). SpellsAll x statements) (sym (nothing_left pre statements unfinished c.viable none)) c.viable.spelled);
-      top_ended = λ is.
-          let top : file ≡ 0 = cc in
-          outside pre statements unfinished c.viable none (scope_after_closing top);
+      top_ended = λ is. outside pre statements unfinished c.viable none (scope_after_closing (cc));
     } in
     same_reading _ statements _ _
     (read_end (scope_of statements) part file rest ∙ ap (λ (f : Option PlainFault). unless f (reading_of (scope_of statements) part rest)) (ap (λ (x : Part). end_fault (scope_of statements) x file) between_now ∙ e))
@@ -269,57 +208,83 @@ end_next pre rest statements unfinished part file inner c =
             end_passed pre rest statements unfinished part file inner c is none
             (cond-false (file == 0) _ _ other) (λ e. absurd (eqb-false file 0 other e))
       ]
-      | inr some ↦ end_unfinished pre rest statements unfinished some.1 part file some.0 c some.2 some.3
+      | inr (first, others, begun_by, is) ↦
+          let e : end_fault (scope_of statements) part file ≡ Some (fault_in (scope_of statements) part X8 first) = rw (end_fault, begun_by) refl in
+          same_reading _ statements _ _
+          (read_end (scope_of statements) part file rest ∙ ap (λ (f : Option PlainFault). unless f (reading_of (scope_of statements) part rest)) e ∙ ap (λ (f : PlainFault). only_ending (Some f)) (fault_is X8 first part statements unfinished c.described))
+          (fault_here pre (End file) rest statements unfinished (fault_at X8 first statements unfinished) c.viable (inl (first, others, is, refl)))
     ]
   where
     top : part ≡ Between → unfinished ≡ [] → file ≡ 0 → (blocks : List OpenBlock) → (scope_of statements).blocks ≡ blocks → ReadsOn (pre ++ End file ∷ rest) statements (reading_of (scope_of statements) part (End file ∷ rest))
     top between_now none first [] is =
         end_passed pre rest statements unfinished part file inner c between_now none (ap (end_fault (scope_of statements) Between) first ∙ ap block_fault is) (λ _. scope_closed statements c.viable.balanced (ap has_none is))
-    top between_now none first (block ∷ blocks) is = end_in_block pre rest statements unfinished part file block blocks c between_now none first is
+    -- the top file ends in a block
+    top between_now none first (block ∷ blocks) is =
+        let opens : AreOpen statements (block ∷ blocks) = subst (AreOpen statements) is (scope_open statements c.viable.balanced) in
+        let e : end_fault (scope_of statements) part file ≡ block_fault (block ∷ blocks) =
+        (λ i. end_fault (scope_of statements) (between_now i) (first i)) ∙ ap block_fault is in
+        let fault : block_fault (block ∷ blocks) ≡ Some (fault_at S7 opens.1.first opens.0 []) = λ i. block_fault (opens.3 i ∷ blocks) in
+        same_reading _ statements _ _
+        (read_end (scope_of statements) part file rest ∙ ap (λ (f : Option PlainFault). unless f (reading_of (scope_of statements) part rest)) (e ∙ fault))
+        (fault_here pre (End file) rest statements unfinished (fault_at S7 opens.1.first opens.0 []) c.viable (inr (none, first, opens.0, opens.1, opens.2, refl)))
 
 -- ---- all items
 
-nothing_next : (pre : List Item) (statements : List PlainStatement) (unfinished : List PlainToken) (part : Part) → Course pre statements unfinished part → part_first part ≡ None → ReadsOn (pre ++ []) statements (reading_of (scope_of statements) part [])
-nothing_next pre statements unfinished part c none =
+-- what the reader computes of items after a viable front is a reading of all
+pub reads_on : (rest : List Item) → AllByRecursion IsSigned (plain_tokens rest) → AreSettled rest → GoesOn rest
+reads_on [] signed settled pre statements unfinished part c (inl none) =
     elim (first_of_part part unfinished c.described) [
       | inl is ↦
           same_reading _ statements _ _ (read_nothing (scope_of statements) part ∙ ap (λ (x : Part). only_ending (unfinished_fault (scope_of statements) x)) is.0)
           (transport (λ i. Viable (sym (append-nil pre) i) (sym (append-nil statements) i) (is.1 i)) c.viable)
       | inr (first, others, some, is) ↦ absurd cc
     ]
-
--- what the reader computes of items after a viable front is a reading of all
-pub reads_on : (rest : List Item) → AllByRecursion IsSigned (plain_tokens rest) → AreSettled rest → GoesOn rest
-reads_on [] signed settled pre statements unfinished part c (inl none) = nothing_next pre statements unfinished part c none
 reads_on [] signed settled pre statements unfinished part c (inr stops) = absurd stops
 reads_on (Plain t ∷ rest) signed settled pre statements unfinished part c stops =
     token_next pre rest statements unfinished part t (reads_on rest signed.1 settled.1) settled.0 c (step part t) refl (step_right part unfinished t signed.0 c.described)
 reads_on (Wrong rule t ∷ rest) signed settled pre statements unfinished part c stops =
     same_reading _ statements _ _ (read_wrong (scope_of statements) part rule t rest ∙ ap (λ (f : PlainFault). only_ending (Some f)) (fault_is rule t part statements unfinished c.described))
     (fault_here pre (Wrong rule t) rest statements unfinished (fault_at rule t statements unfinished) c.viable refl)
-reads_on (Inclusion t ∷ rest) signed settled pre statements unfinished part c stops = inclusion_next pre rest statements unfinished part t (reads_on rest signed settled) c
+reads_on (Inclusion t ∷ rest) signed settled pre statements unfinished part c stops =
+    elim (first_of_part part unfinished c.described) [
+      | inl (is, none) ↦ elim (cases_Bool (has_none (scope_of statements).blocks)) [
+        | inl closed ↦
+            let e : inclusion_fault (scope_of statements) part t ≡ None =
+            rw (is, inclusion_fault, closed) refl in
+            let follows : Follows pre (Inclusion t) = record { clean = tt; included = λ _ _. outside pre statements unfinished c.viable none (scope_closed statements c.viable.balanced closed); ended = λ file same. absurd cc; top_ended = λ same. absurd cc } in
+            same_reading _ statements _ _
+            (read_inclusion (scope_of statements) part t rest ∙ ap (λ (f : Option PlainFault). unless f (reading_of (scope_of statements) part rest)) e)
+            (item_before pre (Inclusion t) rest statements (reading_of (scope_of statements) part rest)
+            (reads_on rest signed settled (pre ++ Inclusion t ∷ []) statements [] part (record { viable = between pre (Inclusion t) statements unfinished c.viable none refl follows; described = subst (λ (x : Part). Describes x []) (sym is) refl }) (inl (ap part_first is))))
+        | inr some ↦
+            inclusion_faulty pre rest statements unfinished part t c
+            (rw (is, inclusion_fault, some) refl)
+            (inr (scope_unclosed statements c.viable.balanced some))
+      ]
+      | inr (first, others, some, is) ↦
+          inclusion_faulty pre rest statements unfinished part t c
+          (rw (inclusion_fault, some) refl) (inl (λ none. cc))
+    ]
 reads_on (End file ∷ rest) signed settled pre statements unfinished part c stops = end_next pre rest statements unfinished part file (reads_on rest signed settled) c
 
 -- the reading of items from the start
 abbrev pub whole_reading : List Item → PlainReading
 whole_reading its = reading_of outermost Between its
 
-nothing_read : Course [] [] [] Between
-nothing_read = record {
-  viable = record {
-    clean = tt;
-    finished = [];
-    whole = refl;
-    spelled = refl;
-    begun = inl refl;
-    balanced = balanced_nothing;
-    included = λ before after token cut. absurd (nil_append before (Inclusion token) after cut);
-    ended = λ before after file cut. absurd (nil_append before (End file) after cut);
-    top_ended = λ before after cut. absurd (nil_append before (End 0) after cut);
-  };
-  described = refl;
-}
-
 pub items_read : (its : List Item) → AllByRecursion IsSigned (plain_tokens its) → AreSettled its → ReadsAs its (whole_reading its).statements (whole_reading its).ending
 unfolding scope_after
-items_read its signed settled = reads_on its signed settled [] [] [] Between nothing_read (inl refl)
+items_read its signed settled =
+    reads_on its signed settled [] [] [] Between (record {
+      viable = record {
+        clean = tt;
+        finished = [];
+        whole = refl;
+        spelled = refl;
+        begun = inl refl;
+        balanced = balanced_nothing;
+        included = λ before after token cut. absurd (nil_append before (Inclusion token) after cut);
+        ended = λ before after file cut. absurd (nil_append before (End file) after cut);
+        top_ended = λ before after cut. absurd (nil_append before (End 0) after cut);
+      };
+      described = refl;
+    }) (inl refl)

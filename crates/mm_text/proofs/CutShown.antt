@@ -1,6 +1,7 @@
 -- What is shown of tokens, from a token on that is shown.
-use Rattle.std.proofs.Common.{◌≡◌, List, [], ◌∷◌, ◌++◌, map, Bool, true, false, refl, sym, ap, ◌∙◌, subst, codes, Option, Some, None, append_assoc}
+use Rattle.std.proofs.Common.{◌≡◌, List, [], ◌∷◌, ◌++◌, map, refl, sym, ap, ◌∙◌, subst, codes, Option, Some, None, append_assoc, inl, inr}
 use Rattle.std.specs.List.{list_all}
+use Rattle.std.proofs.lemmas.Bool.{cases_Bool}
 use Rattle.mm_text.specs.Token.{PlainToken, is_printable}
 use Rattle.mm_text.specs.Items.{Shown, Clear, without_comments, spells, holds_mark}
 use Rattle.mm_text.proofs.CommentLaws.{in_comment-illegal, in_comment-close, in_comment-mark, in_comment-more, in_comment-end, outside-end, outside-illegal, outside-begin, outside-close, outside-clear}
@@ -28,30 +29,35 @@ skipped begin next u tokens passed t rest step s = record {
 first_shown : (begin : Option PlainToken) (tokens : List PlainToken) (t : PlainToken) (rest : List Shown) → without_comments begin tokens ≡ Clear t ∷ rest → ShownAt begin tokens [] t rest
 first_shown None [] t rest e = let no = sym outside-end ∙ e in absurd cc
 first_shown (Some begin) [] t rest e = let no = sym (in_comment-end begin) ∙ e in absurd cc
-first_shown None (u ∷ tokens) t rest e = go (λ b. first_shown b tokens t rest) (list_all is_printable u.text) refl (spells u.text (codes "$(")) refl (spells u.text (codes "$)")) refl
-  where
-    go : ((b : Option PlainToken) → without_comments b tokens ≡ Clear t ∷ rest → ShownAt b tokens [] t rest)
-        → (p : Bool) → list_all is_printable u.text ≡ p → (o : Bool) → spells u.text (codes "$(") ≡ o → (c : Bool) → spells u.text (codes "$)") ≡ c → ShownAt None (u ∷ tokens) [] t rest
-    go inner false p o oe c ce = let no = sym (outside-illegal u tokens p) ∙ e in absurd cc
-    go inner true p true oe c ce =
-        skipped None (Some u) u tokens [] t rest (λ more. outside-begin u more p oe) (inner (Some u) (sym (outside-begin u tokens p oe) ∙ e))
-    go inner true p false oe true ce =
-        let no = sym (outside-close u tokens p oe ce) ∙ e in absurd cc
-    go inner true p false oe false ce =
-        let told = sym (outside-clear u tokens p oe ce) ∙ e in
-        let same : u ≡ t = cc in
-        subst (λ (v : PlainToken). ShownAt None (u ∷ tokens) [] v rest) same (record { before = []; after = tokens; whole = refl; later = cc; others = λ others. outside-clear u others p oe ce })
-first_shown (Some begin) (u ∷ tokens) t rest e = go (λ b. first_shown b tokens t rest) (list_all is_printable u.text) refl (spells u.text (codes "$)")) refl (holds_mark u.text) refl
-  where
-    go : ((b : Option PlainToken) → without_comments b tokens ≡ Clear t ∷ rest → ShownAt b tokens [] t rest)
-        → (p : Bool) → list_all is_printable u.text ≡ p → (c : Bool) → spells u.text (codes "$)") ≡ c → (m : Bool) → holds_mark u.text ≡ m → ShownAt (Some begin) (u ∷ tokens) [] t rest
-    go inner false p c ce m me = let no = sym (in_comment-illegal begin u tokens p) ∙ e in absurd cc
-    go inner true p true ce m me =
-        skipped (Some begin) None u tokens [] t rest (λ more. in_comment-close begin u more p ce) (inner None (sym (in_comment-close begin u tokens p ce) ∙ e))
-    go inner true p false ce true me =
-        let no = sym (in_comment-mark begin u tokens p ce me) ∙ e in absurd cc
-    go inner true p false ce false me =
-        skipped (Some begin) (Some begin) u tokens [] t rest (λ more. in_comment-more begin u more p ce me) (inner (Some begin) (sym (in_comment-more begin u tokens p ce me) ∙ e))
+first_shown None (u ∷ tokens) t rest e = elim (cases_Bool (list_all is_printable u.text)) [
+  | inr p ↦ let no = sym (outside-illegal u tokens p) ∙ e in absurd cc
+  | inl p ↦ elim (cases_Bool (spells u.text (codes "$("))) [
+    | inl o ↦
+        skipped None (Some u) u tokens [] t rest (λ more. outside-begin u more p o)
+        (first_shown (Some u) tokens t rest (sym (outside-begin u tokens p o) ∙ e))
+    | inr o ↦ elim (cases_Bool (spells u.text (codes "$)"))) [
+      | inl c ↦ let no = sym (outside-close u tokens p o c) ∙ e in absurd cc
+      | inr c ↦
+          let told = sym (outside-clear u tokens p o c) ∙ e in
+          let same : u ≡ t = cc in
+          subst (λ (v : PlainToken). ShownAt None (u ∷ tokens) [] v rest) same (record { before = []; after = tokens; whole = refl; later = cc; others = λ others. outside-clear u others p o c })
+    ]
+  ]
+]
+first_shown (Some begin) (u ∷ tokens) t rest e = elim (cases_Bool (list_all is_printable u.text)) [
+  | inr p ↦ let no = sym (in_comment-illegal begin u tokens p) ∙ e in absurd cc
+  | inl p ↦ elim (cases_Bool (spells u.text (codes "$)"))) [
+    | inl c ↦
+        skipped (Some begin) None u tokens [] t rest (λ more. in_comment-close begin u more p c)
+        (first_shown None tokens t rest (sym (in_comment-close begin u tokens p c) ∙ e))
+    | inr c ↦ elim (cases_Bool (holds_mark u.text)) [
+      | inl m ↦ let no = sym (in_comment-mark begin u tokens p c m) ∙ e in absurd cc
+      | inr m ↦
+          skipped _ (Some begin) u tokens [] t rest (λ more. in_comment-more begin u more p c m)
+          (first_shown _ tokens t rest (sym (in_comment-more begin u tokens p c m) ∙ e))
+    ]
+  ]
+]
 
 -- after tokens that are shown
 pub clear_shown : (begin : Option PlainToken) (tokens run : List PlainToken) (t : PlainToken) (rest : List Shown) → without_comments begin tokens ≡ map Clear run ++ Clear t ∷ rest → ShownAt begin tokens (map Clear run) t rest

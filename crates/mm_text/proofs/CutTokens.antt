@@ -1,11 +1,11 @@
 -- Tokens of bytes that are cut apart, put behind others, or in place of others.
-use Rattle.std.proofs.Common.{◌≡◌, ℕ, ◌+◌, ◌-◌, ◌≤◌, ◌==◌, List, [], ◌∷◌, ◌++◌, length, map, true, refl, sym, ap, ◌∙◌, subst, arith, eq-eqb, add-zero, inl, inr}
+use Rattle.std.proofs.Common.{◌≡◌, ℕ, ◌+◌, ◌==◌, List, [], ◌∷◌, ◌++◌, length, map, Bool, true, false, refl, sym, ap, ◌∙◌, subst, arith, add-zero, inl, inr}
 use Rattle.std.proofs.lemmas.List.{append_assoc, append-nil, length-append}
-use Rattle.std.proofs.lemmas.Bool.{cases_Bool, cases_eq, cond_both, ne_eqb}
+use Rattle.std.proofs.lemmas.Bool.{cases_Bool}
 use Rattle.mm_text.specs.Token.{PlainToken, is_space, with_byte, tokens_from}
 use Rattle.mm_text.specs.Alike.{token_on}
-use Rattle.mm_text.proofs.Lists.{both_choices, choice_mapped, cons_parts, nil_append}
-use Rattle.mm_text.proofs.CommentLaws.{begin_far}
+use Rattle.mm_text.proofs.Lists.{choice_mapped, cons_parts, nil_append}
+use Rattle.mm_text.proofs.CommentLaws.{ahead, begin_far, by_place, run, tokens_ahead}
 use Rattle.mm_text.proofs.TokenLaws.{tokens_from-space, tokens_from-nil, tokens_from-run, tokens_from_begin, BeginFrom, AreInk, BeginsWithSpace, with_byte_apart}
 
 -- ---- a cut at white space
@@ -32,67 +32,27 @@ tokens_cut file at (c ∷ bytes) b rest space =
 
 -- ---- the same bytes further on
 
--- all begin at or after a place, in this file
-abbrev pub AllFrom : ℕ → ℕ → List PlainToken → Type 0
-AllFrom file at [] = Unit {0}
-AllFrom file at (t ∷ tokens) = (t.file ≡ file) × (at ≤ t.at) × AllFrom file at tokens
-
-all_earlier : (file at : ℕ) (tokens : List PlainToken) → AllFrom file (at + 1) tokens → AllFrom file at tokens
-all_earlier file at [] h = tt
-all_earlier file at (t ∷ tokens) h = (h.0, omega arith, all_earlier file at tokens h.2)
-
-with_byte_from : (file at b : ℕ) (tokens : List PlainToken) → AllFrom file (at + 1) tokens → AllFrom file at (with_byte file at b tokens)
-with_byte_from file at b [] h = (refl, omega arith, tt)
-with_byte_from file at b (t ∷ tokens) h =
-    let rest = all_earlier file at tokens h.2 in
-    cond_both (t.at == at + 1) _ _ (AllFrom file at)
-    (λ _. (refl, omega arith, rest)) (λ _. (refl, omega arith, (h.0, omega arith, rest)))
-
-pub all_from : (file at : ℕ) (bytes : List ℕ) → AllFrom file at (tokens_from file at bytes)
-unfolding tokens_from
-all_from file at [] = tt
-all_from file at (b ∷ bytes) =
-    let rest = all_from file (at + 1) bytes in
-    cond_both (is_space b) _ _ (AllFrom file at) (λ _. all_earlier file at _ rest)
-    (λ _. with_byte_from file at b (tokens_from file (at + 1) bytes) rest)
-
 -- places of a file from one on become those from another on
 abbrev pub Moves : (ℕ → ℕ → ℕ) → ℕ → ℕ → ℕ → Type 0
 Moves line file at to = (i : ℕ) → line file (at + i) ≡ to + i
 
-moves_on : (line : ℕ → ℕ → ℕ) (file at to : ℕ) → Moves line file at to → Moves line file (at + 1) (to + 1)
-moves_on line file at to moves i = ap (line file) (omega arith) ∙ moves (i + 1) ∙ omega arith
-
--- the place right after goes to the place right after, and no other does
-next_moves : (line : ℕ → ℕ → ℕ) (file at to : ℕ) (t : PlainToken) → Moves line file at to → t.file ≡ file → at + 1 ≤ t.at → (line t.file t.at == to + 1) ≡ (t.at == at + 1)
-next_moves line file at to t moves home from =
-    let there : line t.file t.at ≡ to + (t.at - at) = ap (λ n. line n t.at) home ∙ ap (line file) (omega arith) ∙ moves (t.at - at) in
-    elim (cases_eq t.at (at + 1)) [
-      | inl next ↦ eq-eqb _ _ (omega arith) ∙ sym (eq-eqb _ _ next)
-      | inr other ↦ ne_eqb _ _ (λ same. other (omega arith)) ∙ sym (ne_eqb _ _ other)
-    ]
-
-with_byte_moved : (line : ℕ → ℕ → ℕ) (file at to b : ℕ) (tokens : List PlainToken) → Moves line file at to → AllFrom file (at + 1) tokens
-    → with_byte file to b (map (token_on line) tokens) ≡ map (token_on line) (with_byte file at b tokens)
-with_byte_moved line file at to b [] moves h =
+moved_ahead : (line : ℕ → ℕ → ℕ) (file : ℕ) (s : Bool) (at to : ℕ) (bytes : List ℕ)
+    → Moves line file at to
+    → ahead file by_place s to bytes ≡ map (token_on line) (ahead file by_place s at bytes)
+moved_ahead line file s at to [] moves = refl
+moved_ahead line file s at to (b ∷ bytes) moves =
     let here : to ≡ line file at = sym (ap (line file) (sym (add-zero at)) ∙ moves 0 ∙ add-zero to) in
-    ap (λ (n : ℕ). record { text = b ∷ []; file = file; at = n } ∷ []) here
-with_byte_moved line file at to b (t ∷ tokens) moves h =
-    let here : to ≡ line file at = sym (ap (line file) (sym (add-zero at)) ∙ moves 0 ∙ add-zero to) in
-    let same = next_moves line file at to t moves h.0 h.1 in
-    both_choices (λ l m. l ≡ map (token_on line) m) _ (t.at == at + 1) _ _ _ _ same
-    (ap (λ (n : ℕ). record { text = b ∷ t.text; file = file; at = n } ∷ map (token_on line) tokens) here)
-    (ap (λ (n : ℕ). record { text = b ∷ []; file = file; at = n } ∷ map (token_on line) (t ∷ tokens)) here)
+    let rest = λ (r : Bool). moved_ahead line file r (at + 1) (to + 1) bytes
+    (λ i. ap (line file) (omega arith) ∙ moves (i + 1) ∙ omega arith) in
+    choice_mapped (λ l. l) (map (token_on line)) (is_space b) _ _ _ _ (rest false)
+    (choice_mapped (λ l. l) (map (token_on line)) s _ _ _ _ (rest true)
+    (λ i. record { text = b ∷ run bytes; file = file; at = here i } ∷ rest true i))
 
 -- the tokens of bytes that stand elsewhere
 pub tokens_moved : (line : ℕ → ℕ → ℕ) (file at to : ℕ) (bytes : List ℕ) → Moves line file at to → tokens_from file to bytes ≡ map (token_on line) (tokens_from file at bytes)
-unfolding tokens_from
-tokens_moved line file at to [] moves = refl
-tokens_moved line file at to (b ∷ bytes) moves =
-    let rest = tokens_moved line file (at + 1) (to + 1) bytes (moves_on line file at to moves) in
-    choice_mapped (λ l. l) (map (token_on line)) (is_space b) _ _ _ _ rest
-    (ap (with_byte file to b) rest
-    ∙ with_byte_moved line file at to b (tokens_from file (at + 1) bytes) moves (all_from file (at + 1) bytes))
+tokens_moved line file at to bytes moves =
+    rw (tokens_ahead file to bytes, tokens_ahead file at bytes)
+    (moved_ahead line file false at to bytes moves)
 
 -- ---- a token among the others
 
@@ -162,8 +122,7 @@ pub stands_at : (file at : ℕ) (bytes : List ℕ) (before : List PlainToken) (t
 stands_at file at bytes [] t after is = first_stands file at bytes t after is
 stands_at file at bytes (u ∷ before) t after is =
     let f = first_stands file at bytes u (before ++ t ∷ after) is in
-    let from : ℕ = u.at + length u.text in
-    let s = stands_at file from f.rest before t after (sym f.later) in
+    let s = stands_at file (u.at + length u.text) f.rest before t after (sym f.later) in
     let regroup : (more : List ℕ) → (f.front ++ (u.text ++ s.front)) ++ (t.text ++ more) ≡ f.front ++ (u.text ++ (s.front ++ (t.text ++ more))) = λ more.
     simp append_assoc in
     let long : length (f.front ++ (u.text ++ s.front)) ≡ length f.front + (length u.text + length s.front) =
@@ -178,17 +137,13 @@ stands_at file at bytes (u ∷ before) t after is =
       later = s.later;
       others = λ more h.
           ap (tokens_from file at) (regroup more)
-          ∙ f.others (s.front ++ (t.text ++ more)) (between s.front s.rest more t (subst BeginsWithSpace s.whole f.spaced) h)
+          ∙ f.others (s.front ++ (t.text ++ more)) (rw append_assoc at (between (s.front ++ t.text) s.rest more (rw append_assoc (subst BeginsWithSpace s.whole f.spaced)) h))
           ∙ ap (λ (l : List PlainToken). u ∷ l) (s.others more h);
     }
   where
-    between : (front rest more : List ℕ) (t : PlainToken) → BeginsWithSpace (front ++ (t.text ++ rest)) → BeginsWithSpace more → BeginsWithSpace (front ++ (t.text ++ more))
-    between [] rest more t h m = in_text t.text rest more h m
-      where
-        in_text : (text rest more : List ℕ) → BeginsWithSpace (text ++ rest) → BeginsWithSpace more → BeginsWithSpace (text ++ more)
-        in_text [] rest more h m = m
-        in_text (b ∷ text) rest more h m = h
-    between (b ∷ front) rest more t h m = h
+    between : (text rest more : List ℕ) → BeginsWithSpace (text ++ rest) → BeginsWithSpace more → BeginsWithSpace (text ++ more)
+    between [] rest more h m = m
+    between (b ∷ text) rest more h m = h
 
 -- ---- other bytes between two tokens
 

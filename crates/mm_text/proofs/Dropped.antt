@@ -1,73 +1,24 @@
 -- A byte of what a comment says may be left out: the file shows the same.
-use Rattle.std.proofs.Common.{◌≡◌, ℕ, suc, ◌+◌, ◌≤◌, ◌==◌, ◌&&◌, ◌||◌, ◌≢◌, List, [], ◌∷◌, ◌++◌, length, map, take, Bool, true, false, not, cond, refl, sym, ap, ◌∙◌, subst, arith, codes, Option, Some, None, count_by, append_assoc, add-zero}
+use Rattle.std.proofs.Common.{◌≡◌, ℕ, suc, ◌+◌, ◌≤◌, ◌==◌, ◌&&◌, ◌||◌, ◌≢◌, List, [], ◌∷◌, ◌++◌, length, map, take, Bool, true, false, not, cond, refl, sym, ap, ◌∙◌, arith, codes, Option, Some, None, count_by, append_assoc, add-zero}
 use Rattle.std.proofs.Common.{inl, inr}
 use Rattle.std.specs.Prelude.{option_map}
 use Rattle.std.specs.List.{list_all}
 use Rattle.std.proofs.lemmas.Bool.{cases_Bool, cond_both, ne_eqb, both_ways, and_parts}
 use Rattle.mm_text.proofs.Lists.{both_choices, choice_mapped}
 use Rattle.std.proofs.lemmas.List.Sums.{sum_by-cons}
-use Rattle.mm_text.specs.Token.{PlainToken, is_space, is_printable, with_byte, tokens_from}
+use Rattle.mm_text.specs.Token.{PlainToken, is_space, is_printable, tokens_from}
 use Rattle.mm_text.specs.Items.{Shown, Clear, without_comments, spells, holds_mark}
 use Rattle.mm_text.specs.LineNumbers.{feeds_before}
 use Rattle.mm_text.specs.Alike.{token_on, shown_on, shows}
 use Rattle.mm_text.specs.Mirror.Place.{is_quiet}
 use Rattle.mm_text.specs.Mirror.Hollow.{ShowSame, IsBoundary, IsOpen, ink, feeds}
-use Rattle.mm_text.proofs.TokenLaws.{BeginFrom, begin_earlier, with_byte_apart, with_byte_joined}
-use Rattle.mm_text.proofs.CommentLaws.{quiet_ink, outside-begin, in_comment-mark, in_comment-more}
+use Rattle.mm_text.proofs.CommentLaws.{run, ahead, by_place, tokens_ahead, quiet_ink, outside-begin, in_comment-mark, in_comment-more}
 
--- ---- tokens told from their begin on
-
--- the bytes up to the next white space
-abbrev run : List ℕ → List ℕ
-run [] = []
-run (b ∷ bytes) = cond (is_space b) [] (b ∷ run bytes)
-
--- The tokens of bytes, each with a number in place of its place: the number goes on at each byte. At
--- the beginning a token may go on that began before.
-abbrev ahead : ℕ → (ℕ → ℕ → ℕ) → Bool → ℕ → List ℕ → List PlainToken
-ahead file step inside n [] = []
-ahead file step inside n (b ∷ bytes) =
-    cond (is_space b) (ahead file step false (step n b) bytes)
-    (cond inside (ahead file step true (step n b) bytes)
-    (record { text = b ∷ run bytes; file = file; at = n } ∷ ahead file step true (step n b) bytes))
-
--- the number is a place
-abbrev by_place : ℕ → ℕ → ℕ
-by_place n b = n + 1
+-- ---- tokens that carry their lines
 
 -- the number is that of the line feeds before
 abbrev by_line : ℕ → ℕ → ℕ
 by_line n b = n + cond (b == 10) 1 0
-
--- what is told from a place on begins there or later
-ahead_begins : (file : ℕ) (inside : Bool) (at : ℕ) (bytes : List ℕ) → BeginFrom at (ahead file by_place inside at bytes)
-ahead_begins file inside at [] = tt
-ahead_begins file inside at (b ∷ bytes) =
-    let apart = begin_earlier at _ (ahead_begins file false (at + 1) bytes) in
-    let more = begin_earlier at _ (ahead_begins file true (at + 1) bytes) in
-    cond_both (is_space b) _ _ (BeginFrom at) (λ _. apart)
-    (λ _. cond_both inside _ _ (BeginFrom at) (λ _. more) (λ _. omega arith))
-
--- a byte before the rest of what is told
-extended : (file at b : ℕ) (bytes : List ℕ) → with_byte file at b (ahead file by_place false (at + 1) bytes) ≡ record { text = b ∷ run bytes; file = file; at = at } ∷ ahead file by_place true (at + 1) bytes
-extended file at b [] = refl
-extended file at b (c ∷ bytes) =
-    let later = ahead file by_place false (at + 1 + 1) bytes in
-    let more = ahead file by_place true (at + 1 + 1) bytes in
-    let far : BeginFrom (at + 2) later = subst (λ n. BeginFrom n later) (omega arith) (ahead_begins file false (at + 1 + 1) bytes) in
-    elim (cases_Bool (is_space c)) [
-      | inl e ↦ rw e (with_byte_apart file at b later far)
-      | inr e ↦ rw e (with_byte_joined file at b (c ∷ run bytes) more)
-    ]
-
--- the tokens of a file are told so
-tokens_ahead : (file at : ℕ) (bytes : List ℕ) → tokens_from file at bytes ≡ ahead file by_place false at bytes
-unfolding tokens_from
-tokens_ahead file at [] = refl
-tokens_ahead file at (b ∷ bytes) =
-    let rest = tokens_ahead file (at + 1) bytes in
-    choice_mapped (λ l. l) (λ l. l) (is_space b) _ _ _ _ rest
-    (ap (with_byte file at b) rest ∙ extended file at b bytes)
 
 -- places are line numbers in the other telling
 lines_ahead : (file : ℕ) (line : ℕ → ℕ → ℕ) (inside : Bool) (at n : ℕ) (bytes : List ℕ) → ((i : ℕ) → line file (at + i) ≡ n + count_by (λ b. b == 10) (take i bytes))
@@ -159,10 +110,6 @@ run_apart (b ∷ front) one other ends = elim (cases_Bool (is_space b)) [
   | inr e ↦ rw e (ap (λ l. b ∷ l) (run_apart front one other (rw e at ends)))
 ]
 
--- white space is skipped
-space_told : (file : ℕ) (begin : Option PlainToken) (inside : Bool) (n b : ℕ) (rest : List ℕ) → is_space b ≡ true → told file begin inside n (b ∷ rest) ≡ told file begin false (by_line n b) rest
-space_told file begin inside n b rest e = rw e refl
-
 -- such bytes before what shows the same
 front_told : (file : ℕ) (one other : List ℕ) → ((begin : Option PlainToken) (n : ℕ) → told file begin false n one ≡ told file begin false n other)
     → (inside : Bool) (n : ℕ) (front : List ℕ) → EndsApart inside front → (begin : Option PlainToken) → told file begin inside n (front ++ one) ≡ told file begin inside n (front ++ other)
@@ -170,10 +117,7 @@ front_told file one other same inside n [] ends begin =
     ap (λ s. told file begin s n one) ends ∙ same begin n ∙ ap (λ s. told file begin s n other) (sym ends)
 front_told file one other same inside n (b ∷ front) ends begin =
     elim (cases_Bool (is_space b)) [
-      | inl e ↦
-          space_told file begin inside n b (front ++ one) e
-          ∙ front_told file one other same false (by_line n b) front (rw e at ends) begin
-          ∙ sym (space_told file begin inside n b (front ++ other) e)
+      | inl e ↦ rw e (front_told file one other same false (by_line n b) front (rw e at ends) begin)
       | inr e ↦
           let h : EndsApart true front = rw e at ends in
           let rest = front_told file one other same true (by_line n b) front h in
@@ -194,26 +138,9 @@ ink_line n b e =
 ink_ahead : (file n b : ℕ) (rest : List ℕ) → is_space b ≡ false → ahead file by_line false n (b ∷ rest) ≡ record { text = b ∷ run rest; file = file; at = n } ∷ ahead file by_line true n rest
 ink_ahead file n b rest e = rw (e, ink_line n b e) refl
 
--- a token goes on
-ink_inside : (file n b : ℕ) (rest : List ℕ) → is_space b ≡ false → ahead file by_line true n (b ∷ rest) ≡ ahead file by_line true n rest
-ink_inside file n b rest e = rw (e, ink_line n b e) refl
-
--- another byte belongs to a run
-run_ink : (b : ℕ) (rest : List ℕ) → is_space b ≡ false → run (b ∷ rest) ≡ b ∷ run rest
-run_ink b rest e = rw e refl
-
 -- white space ends one
 run_space : (b : ℕ) (rest : List ℕ) → is_space b ≡ true → run (b ∷ rest) ≡ []
 run_space b rest e = rw e refl
-
--- white space may be replaced by its line feed
-fed : (file : ℕ) (begin : Option PlainToken) (n b : ℕ) (rest : List ℕ) → is_space b ≡ true → told file begin false n (feeds (b ∷ []) ++ rest) ≡ told file begin false n (b ∷ rest)
-fed file begin n b rest space =
-    let Fed : List ℕ → Type 0 =
-    λ l. told file begin false n (l ++ rest) ≡ told file begin false n (b ∷ rest) in
-    cond_both (b == 10) _ _ Fed (λ e. refl) (λ e.
-    ap (λ m. told file begin false m rest) (sym (ap (λ s. n + cond s 1 0) e ∙ add-zero n))
-    ∙ sym (space_told file begin false n b rest space))
 
 -- ---- a comment's tokens
 
@@ -233,34 +160,14 @@ like_seen begin file n text other tokens like =
     (both_choices Same (spells text (codes "$)")) _ _ _ _ _ like.closes refl
     (both_choices Same (holds_mark text) _ _ _ _ _ like.mark refl refl))
 
--- a comment's text is no `$)` where its first byte isn't a `$`
-spells_closing : (b : ℕ) (text : List ℕ) → (b == 36) ≡ false → spells (b ∷ text) (codes "$)") ≡ false
-spells_closing b text e = ap (λ d. d && spells text (41 ∷ [])) e
-
--- or its second one isn't a `)`
-spells_dollar : (b : ℕ) (text : List ℕ) → (b == 41) ≡ false → spells (36 ∷ b ∷ text) (codes "$)") ≡ false
-spells_dollar b text e = ap (λ d. d && spells text []) e
-
--- such a byte before others adds no mark
-mark_behind : (b c : ℕ) (text : List ℕ) → (b == 36) ≡ false → holds_mark (b ∷ c ∷ text) ≡ holds_mark (c ∷ text)
-mark_behind b c text e = ap (λ d. (d && (c == 40 || c == 41)) || holds_mark (c ∷ text)) e
-
--- nor a `$` before one that isn't a bracket
-mark_dollar : (b : ℕ) (text : List ℕ) → (b == 40) ≡ false → (b == 41) ≡ false → holds_mark (36 ∷ b ∷ text) ≡ holds_mark (b ∷ text)
-mark_dollar b text e f = ap (λ d. (d || (b == 41)) || holds_mark (b ∷ text)) e ∙ ap (λ d. d || holds_mark (b ∷ text)) f
-
--- a printable byte before others doesn't matter to whether all are
-printable_more : (b : ℕ) (text : List ℕ) → is_printable b ≡ true → list_all is_printable (b ∷ text) ≡ list_all is_printable text
-printable_more b text e = ap (λ p. p && list_all is_printable text) e
-
 -- one more byte that is neither white space nor a `$`
 more_like : (last b : ℕ) (text : List ℕ) → is_quiet last ≡ true → is_space last ≡ false → spells (b ∷ text) (codes "$)") ≡ false → IsLike (last ∷ b ∷ text) (b ∷ text)
 more_like last b text q e closes =
     let parts = quiet_ink (is_printable last) (is_space last) (last == 36) q e in
     record {
-      printable = printable_more last (b ∷ text) parts.0;
-      closes = spells_closing last (b ∷ text) parts.1 ∙ sym closes;
-      mark = mark_behind last b text parts.1;
+      printable = ap (λ p. p && list_all is_printable (b ∷ text)) parts.0;
+      closes = ap (λ d. d && spells (b ∷ text) (41 ∷ [])) parts.1 ∙ sym closes;
+      mark = ap (λ d. (d && (b == 40 || b == 41)) || holds_mark (b ∷ text)) parts.1;
     }
 
 -- a `$` more before such a byte
@@ -269,8 +176,8 @@ dollar_like b text q e left right =
     let parts = quiet_ink (is_printable b) (is_space b) (b == 36) q e in
     record {
       printable = refl;
-      closes = spells_dollar b text (ne_eqb b 41 right) ∙ sym (spells_closing b text parts.1);
-      mark = mark_dollar b text (ne_eqb b 40 left) (ne_eqb b 41 right);
+      closes = rw (ne_eqb b 41 right, parts.1) refl;
+      mark = rw (ne_eqb b 40 left, ne_eqb b 41 right) refl;
     }
 
 -- ---- the dropped bytes
@@ -284,12 +191,16 @@ passed : (begin : PlainToken) (file n b : ℕ) (text rest : List ℕ) → list_a
     → seen (Some begin) (record { text = text; file = file; at = n } ∷ ahead file by_line true n (b ∷ rest)) ≡ told file (Some begin) false n (b ∷ rest)
 passed begin file n b text rest e f g space =
     ap strip (in_comment-more begin (record { text = text; file = file; at = n }) (ahead file by_line true n (b ∷ rest)) e f g)
-    ∙ space_told file (Some begin) true n b rest space
-    ∙ sym (space_told file (Some begin) false n b rest space)
+    ∙ rw space refl
 
 -- what is left of a byte shows what the byte shows
 left_told : (file : ℕ) (begin : Option PlainToken) (n b : ℕ) (rest : List ℕ) (t : Bool) → is_space b ≡ t → told file begin false n (feeds (b ∷ []) ++ (cond t [] (b ∷ []) ++ rest)) ≡ told file begin false n (b ∷ rest)
-left_told file begin n b rest true e = fed file begin n b rest e
+left_told file begin n b rest true space =
+    let Fed : List ℕ → Type 0 =
+    λ l. told file begin false n (l ++ rest) ≡ told file begin false n (b ∷ rest) in
+    cond_both (b == 10) _ _ Fed (λ e. refl) (λ e.
+    ap (λ m. told file begin false m rest) (sym (ap (λ s. n + cond s 1 0) e ∙ add-zero n))
+    ∙ rw space refl)
 left_told file begin n b rest false e =
     let apart : (b == 10) ≡ false = ne_eqb b 10 (λ same. both_ways (is_space b) e (ap is_space same)) in
     ap (λ p. told file begin false n (cond p (b ∷ []) [] ++ (b ∷ rest))) apart
@@ -301,11 +212,10 @@ byte_told file begin n last b rest true t e f q r = refl
 byte_told file begin n last b rest false true e f q r =
     let parts = quiet_ink (is_printable last) (is_space last) (last == 36) q e in
     rw (ink_ahead file n last (b ∷ rest) e, run_space b rest f)
-    (passed begin file n b (last ∷ []) rest (printable_more last [] parts.0) (spells_closing last [] parts.1) refl f)
+    (passed begin file n b (last ∷ []) rest (rw parts.0 refl) (rw parts.1 refl) refl f)
 byte_told file begin n last b rest false false e f q r =
-    let parts = quiet_ink (is_printable b) (is_space b) (b == 36) r f in
     rw (two_ahead file n last b rest e f, ink_ahead file n b rest f)
-    (like_seen begin file n (last ∷ b ∷ run rest) (b ∷ run rest) (ahead file by_line true n rest) (more_like last b (run rest) q e (spells_closing b (run rest) parts.1)))
+    (like_seen begin file n (last ∷ b ∷ run rest) (b ∷ run rest) (ahead file by_line true n rest) (more_like last b (run rest) q e (rw (quiet_ink (is_printable b) (is_space b) (b == 36) r f).1 refl)))
 
 -- and so with a `$` between them
 dollar_told : (file : ℕ) (begin : PlainToken) (n last b : ℕ) (rest : List ℕ) (s t : Bool) → is_space last ≡ s → is_space b ≡ t → is_quiet last ≡ true → is_quiet b ≡ true → b ≢ 40 → b ≢ 41
@@ -319,12 +229,11 @@ dollar_told file begin n last b rest true false e f q r left right =
 dollar_told file begin n last b rest false true e f q r left right =
     let parts = quiet_ink (is_printable last) (is_space last) (last == 36) q e in
     rw (two_ahead file n last 36 (b ∷ rest) e refl, run_space b rest f)
-    (passed begin file n b (last ∷ 36 ∷ []) rest (printable_more last (36 ∷ []) parts.0) (spells_closing last (36 ∷ []) parts.1) (mark_behind last 36 [] parts.1) f)
+    (passed begin file n b (last ∷ 36 ∷ []) rest (rw parts.0 refl) (rw parts.1 refl) (rw parts.1 refl) f)
 dollar_told file begin n last b rest false false e f q r left right =
-    rw (two_ahead file n last 36 (b ∷ rest) e refl, run_ink b rest f, ink_inside file n b rest f)
-    (like_seen begin file n (last ∷ 36 ∷ b ∷ run rest) (36 ∷ b ∷ run rest) (ahead file by_line true n rest) (more_like last 36 (b ∷ run rest) q e (spells_dollar b (run rest) (ne_eqb b 41 right)))
-    ∙ like_seen begin file n (36 ∷ b ∷ run rest) (b ∷ run rest) (ahead file by_line true n rest) (dollar_like b (run rest) r f left right)
-    ∙ ap (seen (Some begin)) (sym (ink_ahead file n b rest f)))
+    rw (two_ahead file n last 36 (b ∷ rest) e refl, f, ink_line n b f)
+    (like_seen begin file n (last ∷ 36 ∷ b ∷ run rest) (36 ∷ b ∷ run rest) (ahead file by_line true n rest) (more_like last 36 (b ∷ run rest) q e (rw (ne_eqb b 41 right) refl))
+    ∙ like_seen begin file n (36 ∷ b ∷ run rest) (b ∷ run rest) (ahead file by_line true n rest) (dollar_like b (run rest) r f left right))
 
 -- ---- behind a `$(`
 
@@ -335,13 +244,7 @@ spaces_told file begin one other same inside n [] some each =
     ap (λ s. told file begin s n one) (some refl) ∙ same n ∙ ap (λ s. told file begin s n other) (sym (some refl))
 spaces_told file begin one other same inside n (b ∷ spaces) some each =
     let parts = and_parts (is_space b) (list_all is_space spaces) each in
-    space_told file begin inside n b (spaces ++ one) parts.0
-    ∙ spaces_told file begin one other same false (by_line n b) spaces (λ e. refl) parts.1
-    ∙ sym (space_told file begin inside n b (spaces ++ other) parts.0)
-
--- a `$(` before white space is a token
-mark_ahead : (file n b : ℕ) (rest : List ℕ) → is_space b ≡ true → ahead file by_line false n (36 ∷ 40 ∷ b ∷ rest) ≡ record { text = 36 ∷ 40 ∷ []; file = file; at = n } ∷ ahead file by_line true n (b ∷ rest)
-mark_ahead file n b rest e = two_ahead file n 36 40 (b ∷ rest) refl refl ∙ rw e refl
+    rw parts.0 (spaces_told file begin one other same false (by_line n b) spaces (λ e. refl) parts.1)
 
 -- it opens a comment, or is a fault in one
 mark_told : (file : ℕ) (one other : List ℕ) → ((begin : PlainToken) (n : ℕ) → told file (Some begin) false n one ≡ told file (Some begin) false n other)
@@ -349,8 +252,11 @@ mark_told : (file : ℕ) (one other : List ℕ) → ((begin : PlainToken) (n : �
 mark_told file one other same [] some each begin n = absurd (omega arith)
 mark_told file one other same (b ∷ spaces) some each begin n =
     let parts = and_parts (is_space b) (list_all is_space spaces) each in
-    ap (seen begin) (mark_ahead file n b (spaces ++ one) parts.0) ∙ go begin ∙ ap (seen begin) (sym (mark_ahead file n b (spaces ++ other) parts.0))
+    ap (seen begin) (mark (spaces ++ one) parts.0) ∙ go begin ∙ ap (seen begin) (sym (mark (spaces ++ other) parts.0))
   where
+    mark : (rest : List ℕ) → is_space b ≡ true → ahead file by_line false n (36 ∷ 40 ∷ b ∷ rest) ≡ record { text = 36 ∷ 40 ∷ []; file = file; at = n } ∷ ahead file by_line true n (b ∷ rest)
+    mark rest e = two_ahead file n 36 40 (b ∷ rest) refl refl ∙ rw e refl
+
     go : (begin : Option PlainToken) → seen begin (record { text = 36 ∷ 40 ∷ []; file = file; at = n } ∷ ahead file by_line true n (b ∷ spaces ++ one)) ≡ seen begin (record { text = 36 ∷ 40 ∷ []; file = file; at = n } ∷ ahead file by_line true n (b ∷ spaces ++ other))
     go None =
         let t : PlainToken = record { text = 36 ∷ 40 ∷ []; file = file; at = n } in
@@ -364,30 +270,32 @@ mark_told file one other same (b ∷ spaces) some each begin n =
 
 -- what shows the same in a comment, behind an open one
 opened : (file : ℕ) (bytes one other : List ℕ) → IsOpen bytes → ((begin : PlainToken) (n : ℕ) → told file (Some begin) false n one ≡ told file (Some begin) false n other) → shows file (bytes ++ one) ≡ shows file (bytes ++ other)
-opened file bytes one other comment same = whole one ∙ middle ∙ sym (whole other)
+opened file bytes one other comment same =
+    whole one ∙ front_told file (36 ∷ 40 ∷ comment.behind ++ one) (36 ∷ 40 ∷ comment.behind ++ other) (mark_told file one other same comment.behind comment.some comment.spaces)
+    false 0 comment.front (ends_apart false comment.front (λ e. refl) comment.boundary) None ∙ sym (whole other)
   where
     whole : (behind : List ℕ) → shows file (bytes ++ behind) ≡ told file None false 0 (comment.front ++ (36 ∷ 40 ∷ comment.behind ++ behind))
     whole behind =
         rw comment.whole (simp append_assoc
         (shows_told file (comment.front ++ (36 ∷ 40 ∷ comment.behind ++ behind))))
 
-    middle : told file None false 0 (comment.front ++ (36 ∷ 40 ∷ comment.behind ++ one)) ≡ told file None false 0 (comment.front ++ (36 ∷ 40 ∷ comment.behind ++ other))
-    middle =
-        front_told file (36 ∷ 40 ∷ comment.behind ++ one) (36 ∷ 40 ∷ comment.behind ++ other) (mark_told file one other same comment.behind comment.some comment.spaces)
-        false 0 comment.front (ends_apart false comment.front (λ e. refl) comment.boundary) None
+-- bytes of a comment may be left out where the rest tells the same
+dropped : (bytes more : List ℕ) (last b : ℕ) → IsOpen bytes
+    → ((file : ℕ) (begin : PlainToken) (n : ℕ) (rest : List ℕ)
+    → told file (Some begin) false n (ink last ++ (more ++ b ∷ rest))
+    ≡ told file (Some begin) false n (b ∷ rest))
+    → ShowSame (bytes ++ ink last ++ (more ++ b ∷ [])) (bytes ++ feeds (b ∷ []) ++ ink b)
+dropped bytes more last b comment same file rest =
+    simp append_assoc (opened file bytes (ink last ++ (more ++ b ∷ rest))
+    (feeds (b ∷ []) ++ (ink b ++ rest)) comment (λ begin n. same file begin n rest
+    ∙ sym (left_told file (Some begin) n b rest (is_space b) refl)))
 
--- a byte of what a comment says may be left out, but for its line feed and for the last byte of a word
+-- a byte of what a comment says may be left out so, but for its line feed and for the last byte of a word
 pub byte_dropped : (bytes : List ℕ) (last b : ℕ) → IsOpen bytes → is_quiet last ≡ true → is_quiet b ≡ true → ShowSame (bytes ++ ink last ++ b ∷ []) (bytes ++ feeds (b ∷ []) ++ ink b)
-byte_dropped bytes last b comment q r file rest =
-    ap (shows file) (append_assoc (bytes ++ ink last) (b ∷ []) rest ∙ append_assoc bytes (ink last) (b ∷ rest))
-    ∙ opened file bytes (ink last ++ (b ∷ rest)) (feeds (b ∷ []) ++ (ink b ++ rest)) comment (λ begin n.
-    byte_told file begin n last b rest (is_space last) (is_space b) refl refl q r ∙ sym (left_told file (Some begin) n b rest (is_space b) refl))
-    ∙ ap (shows file) (sym (append_assoc (bytes ++ feeds (b ∷ [])) (ink b) rest ∙ append_assoc bytes (feeds (b ∷ [])) (ink b ++ rest)))
+byte_dropped bytes last b comment q r =
+    dropped bytes [] last b comment (λ file begin n rest. byte_told file begin n last b rest (is_space last) (is_space b) refl refl q r)
 
 -- and so may a `$` before such a byte, where the two are no mark
 pub dollar_dropped : (bytes : List ℕ) (last b : ℕ) → IsOpen bytes → is_quiet last ≡ true → is_quiet b ≡ true → b ≢ 40 → b ≢ 41 → ShowSame (bytes ++ ink last ++ 36 ∷ b ∷ []) (bytes ++ feeds (b ∷ []) ++ ink b)
-dollar_dropped bytes last b comment q r left right file rest =
-    ap (shows file) (append_assoc (bytes ++ ink last) (36 ∷ b ∷ []) rest ∙ append_assoc bytes (ink last) (36 ∷ b ∷ rest))
-    ∙ opened file bytes (ink last ++ (36 ∷ b ∷ rest)) (feeds (b ∷ []) ++ (ink b ++ rest)) comment (λ begin n.
-    dollar_told file begin n last b rest (is_space last) (is_space b) refl refl q r left right ∙ sym (left_told file (Some begin) n b rest (is_space b) refl))
-    ∙ ap (shows file) (sym (append_assoc (bytes ++ feeds (b ∷ [])) (ink b) rest ∙ append_assoc bytes (feeds (b ∷ [])) (ink b ++ rest)))
+dollar_dropped bytes last b comment q r left right =
+    dropped bytes (36 ∷ []) last b comment (λ file begin n rest. dollar_told file begin n last b rest (is_space last) (is_space b) refl refl q r left right)

@@ -1,16 +1,15 @@
 -- Items that follow each other with no end of a file and no inclusion between them stand in one file, and follow each other there.
-use Rattle.std.proofs.Common.{◌≡◌, ℕ, zero, suc, List, [], ◌∷◌, ◌++◌, length, map, replicate, Bool, true, false, refl, sym, ap, ◌∙◌, subst, codes, Option, Some, None, append_assoc, append-nil}
-use Rattle.std.specs.Prelude.{slice_get, slice_set}
+use Rattle.std.proofs.Common.{◌≡◌, ℕ, List, [], ◌∷◌, ◌++◌, length, map, replicate, Bool, true, false, refl, sym, ap, ◌∙◌, subst, codes, Option, Some, None, append_assoc, append-nil}
+use Rattle.std.specs.Prelude.{slice_get}
 use Rattle.std.proofs.Common.{inl, inr}
 use Rattle.std.proofs.lemmas.Bool.{cases_Bool}
-use Rattle.std.proofs.lemmas.Option.{slice_get_cases}
 use Rattle.std.proofs.lemmas.List.{map-append}
 use Rattle.mm_text.specs.declared.fault.TextRule.{TextRule}
 use Rattle.mm_text.specs.Token.{PlainToken, tokens_from}
 use Rattle.mm_text.specs.Files.{PlainFile}
-use Rattle.mm_text.specs.Items.{Item, Plain, Wrong, Inclusion, Shown, Clear, Broken, without_comments, spells, holds_dollar, Spot, Outside, Naming, Closing, Piece, Met, Named, broken_outside, pieces, pieces_of, file_number, with_inclusions, put_before, put_in, items}
+use Rattle.mm_text.specs.Items.{Item, Plain, Inclusion, Shown, Clear, Broken, without_comments, spells, holds_dollar, Spot, Outside, Naming, Closing, Piece, Met, Named, broken_outside, pieces, pieces_of, put_in, items}
 use Rattle.mm_text.proofs.InclusionLaws.{pieces-end, pieces-broken, pieces-inclusion, pieces-wrong, pieces-plain, naming-end, naming-dollar, naming-name, closing-end, closing-other, closing-close}
-use Rattle.mm_text.proofs.InclusionLaws.{named_related, spliced_nil, spliced_met, spliced_name}
+use Rattle.mm_text.proofs.StepByStep.{put_before_by, put_in_by}
 
 -- what stands in front of a spot gives the same pieces whatever comes after it
 pub record Reaches (file : ℕ) (passed : List Shown) (spot : Spot) : Type 0 where
@@ -48,15 +47,12 @@ Follow files last (Plain t ∷ its) = GoesOn files last t (λ next. Follow files
 Follow files last (_ ∷ its) = Follow files None its
 
 -- the same of pieces; before the name of a file an inclusion came
-abbrev pub NamesAfter : List PlainFile → Last → Type 0 → Type 0
-NamesAfter files None P = P
-NamesAfter files (Some at) P = ⊥
-
 abbrev pub FollowIn : List PlainFile → Last → List Piece → Type 0
 FollowIn files last [] = Unit {0}
 FollowIn files last (Met (Plain t) ∷ rest) = GoesOn files last t (λ next. FollowIn files next rest)
 FollowIn files last (Met _ ∷ rest) = FollowIn files None rest
-FollowIn files last (Named name ∷ rest) = NamesAfter files last (FollowIn files None rest)
+FollowIn files None (Named name ∷ rest) = FollowIn files None rest
+FollowIn files (Some at) (Named name ∷ rest) = ⊥
 
 -- ---- one more of what a file shows
 
@@ -139,39 +135,31 @@ file_follows : (files : List PlainFile) (number : ℕ) (file : PlainFile) (tail 
 file_follows files number file tail there after =
     pieces_follow files number file there tail after Outside [] (without_comments None (tokens_from number 0 file.bytes)) None refl (record { tokens = []; clear = refl; front = []; before = λ more. refl }) tt
 
-put_before_follows : (files : List PlainFile) (n : ℕ) (rest : List Piece) → FollowIn files None rest → FollowIn files None (put_before files n rest)
-put_before_follows files n rest h = elim (slice_get_cases files n).1 [
-  | inl (file, lt, e, read) ↦ rw (e, put_before) (file_follows files n file rest e h)
-  | inr (past, e) ↦ rw (e, put_before) h
-]
-
 -- ---- the items
 
-module _ (files : List PlainFile) (named : List Bool) (next : ℕ → List Piece → List Item) (goes : (n : ℕ) (ps : List Piece) → FollowIn files None ps → Follow files None (next n ps)) where
-  on_from : (last : Last) (t : PlainToken) (P Q : Last → Type 0) → ((l : Last) → P l → Q l) → GoesOn files last t P → GoesOn files last t Q
-  on_from None t P Q step (number, passed, rest, place, plain, p) = (number, passed, rest, place, plain, step _ p)
-  on_from (Some at) t P Q step (rest, e, plain, p) = (rest, e, plain, step _ p)
-
-  spliced_follow : (ps : List Piece) (last : Last) → FollowIn files last ps → Follow files last (with_inclusions files named next ps)
-  spliced_follow [] last h = rw (spliced_nil files named next) tt
-  spliced_follow (Met (Plain t) ∷ ps) last h =
-      rw (spliced_met files named next (Plain t) ps)
-      (on_from last t (λ l. FollowIn files l ps) (λ l. Follow files l (with_inclusions files named next ps)) (spliced_follow ps) h)
-  spliced_follow (Met (Wrong rule t) ∷ ps) last h = rw (spliced_met files named next (Wrong rule t) ps) tt
-  spliced_follow (Met item ∷ ps) last h = rw (spliced_met files named next item ps) (spliced_follow ps None h)
-  spliced_follow (Named name ∷ ps) (Some at) h = absurd h
-  spliced_follow (Named name ∷ ps) None h =
-      rw (spliced_name files named next name ps)
-      (named_related (λ its _. Follow files None its) named name name _ [] (λ n. next n ps)
-      (λ _. []) tt (spliced_follow ps None h) (λ n e. goes n ps h)
-      (file_number files name.text) _ refl)
-
 put_in_follows : (files : List PlainFile) (left : ℕ) (named : List Bool) (ps : List Piece) → FollowIn files None ps → Follow files None (put_in files left named ps)
-unfolding put_in
-put_in_follows files zero named ps h = spliced_follow files named (λ n after. []) (λ n after k. tt) ps None h
-put_in_follows files (suc left) named ps h =
-    spliced_follow files named (λ n after. put_in files left (slice_set named n true) (put_before files n after))
-    (λ n after k. put_in_follows files left (slice_set named n true) (put_before files n after) (put_before_follows files n after k)) ps None h
+put_in_follows files left named ps h =
+    put_in_by files (λ _ _ ps its. (last : Last) → FollowIn files last ps → Follow files last its)
+    (λ left named last h. tt) (λ left named p ps rule t last h. tt)
+    (λ left named t ps its inner last h.
+    on_from last t (λ l. FollowIn files l ps) (λ l. Follow files l its) inner h)
+    (λ left named t ps its inner last h. inner None h)
+    (λ left named n ps its inner last h. inner None h)
+    (λ left named name ps its inner last h. behind last name ps its (inner None) h)
+    (λ named name n ps e last h. tt)
+    (λ left named name n ps its e inner last h. behind last name ps its
+    (λ k. inner None (put_before_by (FollowIn files None) files n ps k
+    (λ file there. file_follows files n file ps there k))) h) left named ps None h
+  where
+    on_from : (last : Last) (t : PlainToken) (P Q : Last → Type 0) → ((l : Last) → P l → Q l) → GoesOn files last t P → GoesOn files last t Q
+    on_from None t P Q step (number, passed, rest, place, plain, p) = (number, passed, rest, place, plain, step _ p)
+    on_from (Some at) t P Q step (rest, e, plain, p) = (rest, e, plain, step _ p)
+
+    behind : (last : Last) (name : PlainToken) (ps : List Piece) (its : List Item)
+        → (FollowIn files None ps → Follow files None its) → FollowIn files last (Named name ∷ ps)
+        → Follow files last its
+    behind None name ps its inner h = inner h
+    behind (Some at) name ps its inner h = absurd h
 
 -- the items of files follow each other so
 pub items_follow : (files : List PlainFile) → Follow files None (items files)
@@ -187,20 +175,24 @@ abbrev IsLast : List PlainFile → Last → Type 0
 IsLast files None = Unit {0}
 IsLast files (Some at) = IsPlace files at.0 at.1.0 at.1.1
 
--- one token further on in a file
-place_on : (files : List PlainFile) (number : ℕ) (passed rest : List Shown) (t : PlainToken) → IsPlace files number passed (Clear t ∷ rest) → IsPlainIn number t → IsPlace files number (passed ++ Clear t ∷ []) rest
-place_on files number passed rest t p plain = record {
-  file = p.file;
-  there = p.there;
-  whole = p.whole ∙ sym (append_assoc passed (Clear t ∷ []) rest);
-  reached = reaches_on number passed Outside Outside t (Met (Plain t) ∷ []) p.reached plain;
-}
+-- where the last token stood, one token goes on from there
+from_last : (files : List PlainFile) (last : Last) (t : PlainToken) (P : Last → Type 0)
+    → IsLast files last → GoesOn files last t P → GoesOn files None t P
+from_last files None t P l h = h
+from_last files (Some at) t P l (rest, e, plain, p) =
+    (at.0, at.1.0, rest, subst (IsPlace files at.0 at.1.0) e l, plain, p)
 
 follow_to : (files : List PlainFile) (its more : List Item) (last : Last) → IsLast files last → Follow files last (its ++ more) → (next : Last) × IsLast files next × Follow files next more
 follow_to files [] more last l h = (last, l, h)
-follow_to files (Plain t ∷ its) more None l (number, passed, rest, place, plain, later) = follow_to files its more (Some (number, (passed ++ Clear t ∷ [], rest))) (place_on files number passed rest t place plain) later
-follow_to files (Plain t ∷ its) more (Some at) l (rest, e, plain, later) =
-    follow_to files its more (Some (at.0, (at.1.0 ++ Clear t ∷ [], rest))) (place_on files at.0 at.1.0 rest t (subst (IsPlace files at.0 at.1.0) e l) plain) later
+follow_to files (Plain t ∷ its) more last l h =
+    let (number, passed, rest, p, plain, later) = from_last files last t
+    (λ next. Follow files next (its ++ more)) l h in
+    follow_to files its more (Some (number, (passed ++ Clear t ∷ [], rest))) (record {
+      file = p.file;
+      there = p.there;
+      whole = p.whole ∙ sym (append_assoc passed (Clear t ∷ []) rest);
+      reached = reaches_on number passed Outside Outside t (Met (Plain t) ∷ []) p.reached plain;
+    }) later
 follow_to files (_ ∷ its) more last l h = follow_to files its more None tt h
 
 -- all of these are items of their own
@@ -226,17 +218,7 @@ pub record StandsInFile (files : List PlainFile) (t : PlainToken) (tokens : List
 pub run_stands : (files : List PlainFile) (before after : List Item) (t : PlainToken) (tokens : List PlainToken) → items files ≡ before ++ (map Plain (t ∷ tokens) ++ after) → StandsInFile files t tokens
 run_stands files before after t tokens e =
     let (last, known, follow) = follow_to files before (map Plain (t ∷ tokens) ++ after) None tt (subst (Follow files None) e (items_follow files)) in
-    go last known follow
-  where
-    stands : (number : ℕ) (passed rest : List Shown) → IsPlace files number passed (Clear t ∷ rest)
-        → IsPlainIn number t → Follow files (Some (number, (passed ++ Clear t ∷ [], rest)))
-        (map Plain tokens ++ after) → StandsInFile files t tokens
-    stands number passed rest place plain later =
-        let (others, same, all) = run_on_from files number (passed ++ Clear t ∷ []) rest tokens after later in
-        record { number = number; passed = passed; rest = others; place = subst (λ (l : List Shown). IsPlace files number passed (Clear t ∷ l)) same place; plain = (plain, all) }
-
-    go : (last : Last) → IsLast files last → Follow files last (map Plain (t ∷ tokens) ++ after) → StandsInFile files t tokens
-    go None known (number, passed, rest, place, plain, later) =
-        stands number passed rest place plain later
-    go (Some at) known (rest, first, plain, later) =
-        stands at.0 at.1.0 rest (subst (IsPlace files at.0 at.1.0) first known) plain later
+    let (number, passed, rest, place, plain, later) = from_last files last t
+    (λ next. Follow files next (map Plain tokens ++ after)) known follow in
+    let (others, same, all) = run_on_from files number (passed ++ Clear t ∷ []) rest tokens after later in
+    record { number = number; passed = passed; rest = others; place = subst (λ (l : List Shown). IsPlace files number passed (Clear t ∷ l)) same place; plain = (plain, all) }

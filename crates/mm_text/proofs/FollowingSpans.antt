@@ -66,9 +66,8 @@ proof_spans_follow_holds files before between after s t ending reads p q home =
     ∙ ap (λ (x : List PlainToken). x ++ plain_tokens f.rest) split
     ∙ (λ i. ((b.front ++ (own i ++ b.back)) ++ (other i ++ a.back)) ++ plain_tokens f.rest)
     ∙ two_within b.front stated k.stop b.back later l.equals behind a.back (plain_tokens f.rest) in
-    let one = ends_home files all before (between ++ t ∷ after) f s first k in
-    let two = ends_home files all (before ++ s ∷ between) after f t a l in
     let less : k.stop.at < l.equals.at =
     tokens_in_order files (b.front ++ stated) (b.back ++ later) (behind ++ last) k.stop l.equals
-    parted (one.1 ∙ home ∙ sym two.0) in
+    parted ((ends_home files all before (between ++ t ∷ after) f s first k).1 ∙ home
+    ∙ sym (ends_home files all (before ++ s ∷ between) after f t a l).0) in
     omega (arith, ap (λ (x : ℕ × ℕ). x.1) k.span, ap (λ (x : ℕ × ℕ). x.0) l.span)

@@ -7,13 +7,13 @@ use Rattle.std.proofs.lemmas.List.Sums.{sum_by-cons}
 use Rattle.mm_text.specs.declared.statement.Kind.{Kind}
 use Rattle.mm_text.specs.declared.statement.Kind.TheVariants.{Floating, Essential, Axiom, Provable}
 use Rattle.mm_text.specs.Token.{PlainToken, is_label, IsLabel}
-use Rattle.mm_text.specs.Statement.{PlainStatement, IsHead, IsLabelledHead, label_in, Spells, HasLabel, HasForm, bytes_in}
+use Rattle.mm_text.specs.Statement.{PlainStatement, IsHead, IsLabelledHead, label_in, HasLabel, HasForm, bytes_in}
 use Rattle.mm_text.specs.Files.{PlainFile, total_bytes}
 use Rattle.mm_text.specs.Items.{items}
 use Rattle.mm_text.specs.Reading.{PlainFault, Reads, IsSliceOf, IsInPlace}
 use Rattle.mm_text.specs.Laws.{ReadingsAreFormedInPlace, ReadingsAreBalanced, ReadingsFit}
 use Rattle.mm_text.proofs.StatementTokens.{all_of_statement, reading_front, each_read, text_bytes, bytes-append, statements_bytes}
-use Rattle.mm_text.proofs.ItemTokens.{items_in_place, items_some}
+use Rattle.mm_text.proofs.ItemTokens.{HoldsByte, items_in_place, items_some}
 use Rattle.mm_text.proofs.TokenWeights.{tokens_fit}
 
 labelled_label : (kind : Kind) (head : List PlainToken) (label : Option PlainToken) → IsLabelledHead kind head → label ≡ label_in head → (l : PlainToken) × (label ≡ Some l) × IsLabel l.text
@@ -26,26 +26,18 @@ head_label Axiom head label h e = labelled_label Axiom head label h e
 head_label Provable head label h e = labelled_label Provable head label h e
 head_label kind head label h e = e ∙ ap label_in h.tokens ∙ cond-false (is_label h.keyword.text) _ _ (ap is_label h.sign)
 
--- a token holds a byte
-abbrev HoldsByte : PlainToken → Type 0
-HoldsByte t = 1 ≤ length t.text
-
-spelled_form : (tokens : List PlainToken) (s : PlainStatement) → Spells tokens s → AllByRecursion HoldsByte tokens → HasForm s
-spelled_form tokens s h all =
-    let each = all_of_statement HoldsByte tokens s h all in
-    record { count = h.count; label = head_label s.kind h.head s.label h.begins h.label; first = each.first; symbols = each.symbols; proof = each.proof }
-
-spelled_in_place : (files : List PlainFile) (tokens : List PlainToken) (s : PlainStatement) → Spells tokens s → AllByRecursion (IsSliceOf files) tokens → IsInPlace files s
-spelled_in_place files tokens s h all =
-    let each = all_of_statement (IsSliceOf files) tokens s h all in
-    record { first = each.first; label = each.label; symbols = each.symbols; proof = each.proof }
-
 pub readings_are_formed_in_place : ReadingsAreFormedInPlace
 readings_are_formed_in_place files statements ending r =
     let front = reading_front (items files) statements ending r in
     record {
-      formed = each_read HoldsByte HasForm spelled_form (items files) statements front (items_some files);
-      in_place = each_read (IsSliceOf files) (IsInPlace files) (spelled_in_place files) (items files) statements front (items_in_place files);
+      formed = each_read HoldsByte HasForm (λ tokens s h all.
+          let each = all_of_statement HoldsByte tokens s h all in
+          record { count = h.count; label = head_label s.kind h.head s.label h.begins h.label; first = each.first; symbols = each.symbols; proof = each.proof })
+          (items files) statements front (items_some files);
+      in_place = each_read (IsSliceOf files) (IsInPlace files) (λ tokens s h all.
+          let r = all_of_statement (IsSliceOf files) tokens s h all in
+          record { first = r.first; label = r.label; symbols = r.symbols; proof = r.proof })
+          (items files) statements front (items_in_place files);
     }
 
 pub readings_are_balanced : ReadingsAreBalanced
@@ -55,16 +47,13 @@ readings_are_balanced files statements (Some fault) r = r.5.balanced
 pub readings_fit : ReadingsFit
 readings_fit files statements ending r =
     let front = reading_front (items files) statements ending r in
-    let spelled = statements_bytes front.finished statements front.spelled in
-    omega (arith, spelled, ap text_bytes front.whole, bytes-append front.finished front.rest, tokens_fit files)
+    omega (arith, statements_bytes front.finished statements front.spelled, ap text_bytes front.whole, bytes-append front.finished front.rest, tokens_fit files)
 
 -- each statement holds a byte, so they are no more than the bytes of the files
 formed_few : (statements : List PlainStatement) → AllByRecursion HasForm statements → length statements ≤ sum_by bytes_in statements
 formed_few [] h = omega arith
 formed_few (s ∷ statements) h =
-    let rest = formed_few statements h.1 in
-    let first = h.0.first in
-    omega (arith, sum_by-cons bytes_in s statements, rest, first)
+    omega (arith, sum_by-cons bytes_in s statements, formed_few statements h.1, h.0.first)
 
 pub readings_few : (files : List PlainFile) (statements : List PlainStatement) (ending : Option PlainFault) → Reads files statements ending → length statements ≤ total_bytes files
 readings_few files statements ending r =

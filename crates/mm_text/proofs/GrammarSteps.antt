@@ -86,40 +86,10 @@ bare_right : (kind : Kind) (tokens : List PlainToken) (t : PlainToken) → token
 bare_right kind tokens t d e long h none =
     begun kind t [] _ None (ap (λ (x : List PlainToken). x ++ t ∷ []) d) h long (rw (e, none) refl)
 
-at_start_right : (tokens : List PlainToken) (t : PlainToken) → tokens ≡ [] → StepsTo tokens t (at_start t)
-at_start_right tokens t d =
-    cond_both (spells t.text (codes "$c")) _ _ (StepsTo tokens t)
-    (λ c. let e = same_text-true t.text (codes "$c") c in bare_right Constants tokens t d e tt (record { keyword = t; tokens = refl; sign = e }) refl)
-    (λ nc. cond_both (spells t.text (codes "$v")) _ _ (StepsTo tokens t)
-    (λ v. let e = same_text-true t.text (codes "$v") v in bare_right Variables tokens t d e tt (record { keyword = t; tokens = refl; sign = e }) refl)
-    (λ nv. cond_both (spells t.text (codes "$d")) _ _ (StepsTo tokens t)
-    (λ x. let e = same_text-true t.text (codes "$d") x in bare_right Distinct tokens t d e tt (record { keyword = t; tokens = refl; sign = e }) refl)
-    (λ nd. cond_both (spells t.text (codes "${")) _ _ (StepsTo tokens t)
-    (λ o. (d, same_text-true t.text (codes "${") o))
-    (λ no. cond_both (spells t.text (codes "$}")) _ _ (StepsTo tokens t)
-    (λ l. (d, same_text-true t.text (codes "$}") l))
-    (λ nl. cond_both (is_keyword t.text) _ _ (StepsTo tokens t)
-    (λ k statements. (d, is_keyword-true t.text k, same_text-false t.text (codes "$c") nc, same_text-false t.text (codes "$v") nv, same_text-false t.text (codes "$d") nd, same_text-false t.text (codes "${") no, same_text-false t.text (codes "$}") nl))
-    (λ nk. cond_both (is_label t.text) _ _ (StepsTo tokens t)
-    (λ l. (ap (λ (x : List PlainToken). x ++ t ∷ []) d, l))
-    (λ none statements. (d, is_keyword-false t.text nk, λ l. both_ways _ none l))))))))
-
 labelled_right : (kind : Kind) (label : PlainToken) (tokens : List PlainToken) (t : PlainToken) → tokens ≡ label ∷ [] → IsLabel label.text → HasBody kind → IsHead kind (label ∷ t ∷ []) → StepsTo tokens t (More (InBody (bare_statement kind label (Some label))))
 labelled_right kind label tokens t d l long h =
     let whole = ap (λ (x : List PlainToken). x ++ t ∷ []) d in
     begun kind label (t ∷ []) _ (Some label) whole h long (rw l refl)
-
-after_label_right : (label : PlainToken) (tokens : List PlainToken) (t : PlainToken) → tokens ≡ label ∷ [] → IsLabel label.text → StepsTo tokens t (after_label label t)
-after_label_right label tokens t d l =
-    cond_both (spells t.text (codes "$f")) _ _ (StepsTo tokens t)
-    (λ f. labelled_right Floating label tokens t d l tt (record { label = label; keyword = t; tokens = refl; named = l; sign = same_text-true t.text (codes "$f") f }))
-    (λ nf. cond_both (spells t.text (codes "$e")) _ _ (StepsTo tokens t)
-    (λ e. labelled_right Essential label tokens t d l tt (record { label = label; keyword = t; tokens = refl; named = l; sign = same_text-true t.text (codes "$e") e }))
-    (λ ne. cond_both (spells t.text (codes "$a")) _ _ (StepsTo tokens t)
-    (λ a. labelled_right Axiom label tokens t d l tt (record { label = label; keyword = t; tokens = refl; named = l; sign = same_text-true t.text (codes "$a") a }))
-    (λ na. cond_both (spells t.text (codes "$p")) _ _ (StepsTo tokens t)
-    (λ p. labelled_right Provable label tokens t d l tt (record { label = label; keyword = t; tokens = refl; named = l; sign = same_text-true t.text (codes "$p") p }))
-    (λ np statements. (record { label = label; whole = d; named = l }, same_text-false t.text (codes "$f") nf, same_text-false t.text (codes "$e") ne, same_text-false t.text (codes "$a") na, same_text-false t.text (codes "$p") np)))))
 
 -- the `$=`
 body_equals : (s : PlainStatement) (tokens : List PlainToken) (t : PlainToken) → IsPartBody s tokens → s.kind ≡ Provable → t.text ≡ codes "$=" → FitsCount s.kind (length s.symbols)
@@ -171,26 +141,9 @@ body_symbol s tokens t d h f = record {
   span = d.span;
 }
 
-in_body_right : (s : PlainStatement) (tokens : List PlainToken) (t : PlainToken) → IsSigned t → IsPartBody s tokens → StepsTo tokens t (in_body s t)
-in_body_right s tokens t ok d =
-    cond_both (is_keyword t.text) _ _ (StepsTo tokens t)
-    (λ k. cond_both (spells t.text (cond (is_provable s.kind) (codes "$=") (codes "$."))) _ _ (StepsTo tokens t)
-    (λ same. let sign = same_text-true t.text (cond (is_provable s.kind) (codes "$=") (codes "$.")) same in
-    cond_both (has_count s.kind (length s.symbols)) _ _ (StepsTo tokens t)
-    (λ c. let count = has_count-true s.kind (length s.symbols) c in
-    cond_both (is_provable s.kind) _ _ (StepsTo tokens t)
-    (λ p. body_equals s tokens t d (is_provable-true s.kind p) (sign ∙ ap (λ (b : Bool). cond b (codes "$=") (codes "$.")) p) count)
-    (λ np. (body_ends s tokens t d np (sign ∙ ap (λ (b : Bool). cond b (codes "$=") (codes "$.")) np) count, d.long)))
-    (λ nc statements. (s.kind, s.symbols, body_of_part s tokens d, inl (sign ∙ closing_sign s.kind, λ f. both_ways _ nc (has_count_from s.kind (length s.symbols) f)))))
-    (λ other statements. (is_keyword-true t.text k, inl (s.kind, s.symbols, body_of_part s tokens d, λ e. same_text-false t.text (cond (is_provable s.kind) (codes "$=") (codes "$.")) other (e ∙ sym (closing_sign s.kind))))))
-    (λ nk. cond_both (is_full s.kind (length s.symbols)) _ _ (StepsTo tokens t)
-    (λ f statements. let full = is_full-true s.kind (length s.symbols) f in (s.kind, s.symbols, body_of_part s tokens d, inr (signed_word t ok nk, full.0, full.1)))
-    (λ nf. body_symbol s tokens t d (signed_word t ok nk) nf))
-
 -- the `$.` after a proof
 proof_ends : (s : PlainStatement) (tokens : List PlainToken) (t : PlainToken) → IsPartProof s tokens → t.text ≡ codes "$." → Spells (tokens ++ t ∷ []) (record s { span = (s.span.0, t.at) })
 proof_ends s tokens t d e =
-    let made : PlainStatement = record s { span = (s.span.0, t.at) } in
     record {
       head = d.head;
       tail = d.equals ∷ s.proof ++ t ∷ [];
@@ -200,7 +153,7 @@ proof_ends s tokens t d e =
       label = d.label;
       symbols = d.spelled;
       count = subst (λ (k : Kind). FitsCount k (length s.symbols)) (sym d.kind) d.some;
-      ends = subst (λ (k : Kind). IsTail made k (d.equals ∷ s.proof ++ t ∷ [])) (sym d.kind) (record { equals = d.equals; stop = t; tokens = refl; sign = d.sign; end = e; proof = d.steps; span = ap (λ (x : ℕ × ℕ). (x.0, t.at)) d.span });
+      ends = subst (λ (k : Kind). IsTail (record s { span = (s.span.0, t.at) }) k (d.equals ∷ s.proof ++ t ∷ [])) (sym d.kind) (record { equals = d.equals; stop = t; tokens = refl; sign = d.sign; end = e; proof = d.steps; span = ap (λ (x : ℕ × ℕ). (x.0, t.at)) d.span });
     }
 
 proof_token : (s : PlainStatement) (tokens : List PlainToken) (t : PlainToken) → IsPartProof s tokens → HoldsNoDollar t.text → IsPartProof (record s { proof = s.proof ++ t ∷ [] }) (tokens ++ t ∷ [])
@@ -220,18 +173,52 @@ proof_token s tokens t d h = record {
   span = d.span;
 }
 
-in_proof_right : (s : PlainStatement) (tokens : List PlainToken) (t : PlainToken) → IsSigned t → IsPartProof s tokens → StepsTo tokens t (in_proof s t)
-in_proof_right s tokens t ok d =
+-- the reader's step is the grammar's
+pub step_right : (part : Part) (tokens : List PlainToken) (t : PlainToken) → IsSigned t → Describes part tokens → StepsTo tokens t (step part t)
+unfolding step
+step_right Between tokens t ok d =
+    cond_both (spells t.text (codes "$c")) _ _ (StepsTo tokens t)
+    (λ c. let e = same_text-true t.text (codes "$c") c in bare_right Constants tokens t d e tt (record { keyword = t; tokens = refl; sign = e }) refl)
+    (λ nc. cond_both (spells t.text (codes "$v")) _ _ (StepsTo tokens t)
+    (λ v. let e = same_text-true t.text (codes "$v") v in bare_right Variables tokens t d e tt (record { keyword = t; tokens = refl; sign = e }) refl)
+    (λ nv. cond_both (spells t.text (codes "$d")) _ _ (StepsTo tokens t)
+    (λ x. let e = same_text-true t.text (codes "$d") x in bare_right Distinct tokens t d e tt (record { keyword = t; tokens = refl; sign = e }) refl)
+    (λ nd. cond_both (spells t.text (codes "${")) _ _ (StepsTo tokens t)
+    (λ o. (d, same_text-true t.text (codes "${") o))
+    (λ no. cond_both (spells t.text (codes "$}")) _ _ (StepsTo tokens t)
+    (λ l. (d, same_text-true t.text (codes "$}") l))
+    (λ nl. cond_both (is_keyword t.text) _ _ (StepsTo tokens t)
+    (λ k statements. (d, is_keyword-true t.text k, same_text-false t.text (codes "$c") nc, same_text-false t.text (codes "$v") nv, same_text-false t.text (codes "$d") nd, same_text-false t.text (codes "${") no, same_text-false t.text (codes "$}") nl))
+    (λ nk. cond_both (is_label t.text) _ _ (StepsTo tokens t)
+    (λ l. (ap (λ (x : List PlainToken). x ++ t ∷ []) d, l))
+    (λ none statements. (d, is_keyword-false t.text nk, λ l. both_ways _ none l))))))))
+step_right (Labelled label) tokens t ok (d, l) =
+    cond_both (spells t.text (codes "$f")) _ _ (StepsTo tokens t)
+    (λ f. labelled_right Floating label tokens t d l tt (record { label = label; keyword = t; tokens = refl; named = l; sign = same_text-true t.text (codes "$f") f }))
+    (λ nf. cond_both (spells t.text (codes "$e")) _ _ (StepsTo tokens t)
+    (λ e. labelled_right Essential label tokens t d l tt (record { label = label; keyword = t; tokens = refl; named = l; sign = same_text-true t.text (codes "$e") e }))
+    (λ ne. cond_both (spells t.text (codes "$a")) _ _ (StepsTo tokens t)
+    (λ a. labelled_right Axiom label tokens t d l tt (record { label = label; keyword = t; tokens = refl; named = l; sign = same_text-true t.text (codes "$a") a }))
+    (λ na. cond_both (spells t.text (codes "$p")) _ _ (StepsTo tokens t)
+    (λ p. labelled_right Provable label tokens t d l tt (record { label = label; keyword = t; tokens = refl; named = l; sign = same_text-true t.text (codes "$p") p }))
+    (λ np statements. (record { label = label; whole = d; named = l }, same_text-false t.text (codes "$f") nf, same_text-false t.text (codes "$e") ne, same_text-false t.text (codes "$a") na, same_text-false t.text (codes "$p") np)))))
+step_right (InBody s) tokens t ok d =
+    cond_both (is_keyword t.text) _ _ (StepsTo tokens t)
+    (λ k. cond_both (spells t.text (cond (is_provable s.kind) (codes "$=") (codes "$."))) _ _ (StepsTo tokens t)
+    (λ same. let sign = same_text-true t.text (cond (is_provable s.kind) (codes "$=") (codes "$.")) same in
+    cond_both (has_count s.kind (length s.symbols)) _ _ (StepsTo tokens t)
+    (λ c. let count = has_count-true s.kind (length s.symbols) c in
+    cond_both (is_provable s.kind) _ _ (StepsTo tokens t)
+    (λ p. body_equals s tokens t d (is_provable-true s.kind p) (sign ∙ ap (λ (b : Bool). cond b (codes "$=") (codes "$.")) p) count)
+    (λ np. (body_ends s tokens t d np (sign ∙ ap (λ (b : Bool). cond b (codes "$=") (codes "$.")) np) count, d.long)))
+    (λ nc statements. (s.kind, s.symbols, body_of_part s tokens d, inl (sign ∙ closing_sign s.kind, λ f. both_ways _ nc (has_count_from s.kind (length s.symbols) f)))))
+    (λ other statements. (is_keyword-true t.text k, inl (s.kind, s.symbols, body_of_part s tokens d, λ e. same_text-false t.text (cond (is_provable s.kind) (codes "$=") (codes "$.")) other (e ∙ sym (closing_sign s.kind))))))
+    (λ nk. cond_both (is_full s.kind (length s.symbols)) _ _ (StepsTo tokens t)
+    (λ f statements. let full = is_full-true s.kind (length s.symbols) f in (s.kind, s.symbols, body_of_part s tokens d, inr (signed_word t ok nk, full.0, full.1)))
+    (λ nf. body_symbol s tokens t d (signed_word t ok nk) nf))
+step_right (InProof s) tokens t ok d =
     cond_both (is_keyword t.text) _ _ (StepsTo tokens t)
     (λ k. cond_both (spells t.text (codes "$.")) _ _ (StepsTo tokens t)
     (λ same. (proof_ends s tokens t d (same_text-true t.text (codes "$.") same), subst HasBody (sym d.kind) tt))
     (λ other statements. (is_keyword-true t.text k, inr (proof_of_part s tokens d, same_text-false t.text (codes "$.") other))))
     (λ nk. proof_token s tokens t d (signed_word t ok nk))
-
--- the reader's step is the grammar's
-pub step_right : (part : Part) (tokens : List PlainToken) (t : PlainToken) → IsSigned t → Describes part tokens → StepsTo tokens t (step part t)
-unfolding step
-step_right Between tokens t ok d = at_start_right tokens t d
-step_right (Labelled label) tokens t ok d = after_label_right label tokens t d.0 d.1
-step_right (InBody s) tokens t ok d = in_body_right s tokens t ok d
-step_right (InProof s) tokens t ok d = in_proof_right s tokens t ok d

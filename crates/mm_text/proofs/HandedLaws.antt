@@ -18,3 +18,6 @@ pub none_broken : (files : List PlainFile) → (files ≢ []) → ¬ (HasTwins f
 none_broken files some apart within F1 h = some h
 none_broken files some apart within F2 h = apart h.1
 none_broken files some apart within F3 h = absurd (omega arith)
+
+-- `grind` takes these by their names.
+pub ruleset handed_steps = (some_handed, none_broken)

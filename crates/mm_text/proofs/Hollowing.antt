@@ -19,16 +19,6 @@ pub kept_as_it_is : (bytes others more : List ℕ) → ShowSame bytes others →
 kept_as_it_is bytes others more same file rest =
     ap (shows file) (append_assoc bytes more rest) ∙ same file (more ++ rest) ∙ sym (ap (shows file) (append_assoc others more rest))
 
--- what shows the same as what shows the same
-pub same_again : (bytes others more : List ℕ) → ShowSame bytes others → ShowSame others more → ShowSame bytes more
-same_again bytes others more one other file rest = one file rest ∙ other file rest
-
--- a line feed is white space
-feed_space : (b : ℕ) → list_all is_space (feeds (b ∷ [])) ≡ true
-feed_space b =
-    cond_both (b == 10) _ _ (λ l. list_all is_space l ≡ true)
-    (λ e. rw (eqb-true b 10 e) refl) (λ _. refl)
-
 -- a comment stays open behind a line feed of it
 pub still_open : (kept : List ℕ) (b : ℕ) → IsOpen kept → IsOpen (kept ++ feeds (b ∷ []))
 still_open kept b «open» = record {
@@ -39,12 +29,9 @@ still_open kept b «open» = record {
   some = omega (arith, «open».some, length-append «open».behind (feeds (b ∷ [])));
   spaces =
       list_all-append is_space «open».behind (feeds (b ∷ []))
-      ∙ and_from _ _ «open».spaces (feed_space b);
+      ∙ and_from _ _ «open».spaces (cond_both (b == 10) _ _ (λ l. list_all is_space l ≡ true)
+      (λ e. rw (eqb-true b 10 e) refl) (λ _. refl));
 }
-
--- a byte of a word is one byte at most
-ink_few : (b : ℕ) → length (ink b) ≤ 1
-ink_few b = cond_both (is_space b) _ _ (λ l. length l ≤ 1) (λ _. omega arith) (λ _. omega arith)
 
 -- a line feed, or the byte of a word, is one byte at most
 few : (kept : List ℕ) (b : ℕ) → length (kept ++ feeds (b ∷ []) ++ ink b) ≤ length kept + 1
@@ -52,36 +39,33 @@ few kept b = elim (cases_eq b 10) [
   | inl feed ↦ rw feed (omega (arith, length-append (kept ++ 10 ∷ []) [], length-append kept (10 ∷ [])))
   | inr other ↦
       let none : feeds (b ∷ []) ≡ [] = rw (ne_eqb b 10 other) refl in
-      omega (arith, length-append (kept ++ feeds (b ∷ [])) (ink b), length-append kept (feeds (b ∷ [])), ap length none, ink_few b)
+      let ink_few : length (ink b) ≤ 1 =
+      cond_both (is_space b) _ _ (λ l. length l ≤ 1) (λ _. omega arith) (λ _. omega arith) in
+      omega (arith, length-append (kept ++ feeds (b ∷ [])) (ink b), length-append kept (feeds (b ∷ [])), ap length none)
 ]
 
 -- a byte of a comment is left out
 pub left_out : (bytes kept : List ℕ) (last b : ℕ) → is_quiet b ≡ true → IsHollow bytes kept (Inside last) → IsHollow (bytes ++ b ∷ []) (kept ++ feeds (b ∷ [])) (Inside b)
 left_out bytes kept last b quiet hollow = record {
-  same = same_again _ _ _ (kept_as_it_is bytes (kept ++ ink last) (b ∷ []) hollow.same) (byte_dropped kept last b hollow.at.0 hollow.at.1 quiet);
+  same = λ file rest. kept_as_it_is bytes (kept ++ ink last) (b ∷ []) hollow.same file rest ∙ byte_dropped kept last b hollow.at.0 hollow.at.1 quiet file rest;
   at = (still_open kept b hollow.at.0, quiet);
   short = omega (arith, few kept b, hollow.short, length-append bytes (b ∷ []), length-append kept (ink last));
 }
 
 -- what is told of a success, by what else is told of it
-pub both_told : {A E : Type 0} (r : Result A E) (P Q R : Type 0) → (P → Q → R) → OnOk r P → OnOk r Q → OnOk r R
-both_told (Ok x) P Q R each p q = each p q
-both_told (Err e) P Q R each p q = tt
+pub both_told : {A E : Type 0} (r : Result A E) (P Q R : Type 0) → OnOk r P → OnOk r Q → (P → Q → R) → OnOk r R
+both_told (Ok x) P Q R p q each = each p q
+both_told (Err e) P Q R p q each = tt
 
--- a byte of a comment was left out, as the code says it
-pub left_out_so : (bytes kept next : List ℕ) (state after : State) (last b : ℕ) → is_quiet b ≡ true → state ≡ Inside last → next ≡ kept ++ feeds (b ∷ []) → after ≡ Inside b → IsHollow bytes kept state → IsHollow (bytes ++ b ∷ []) next after
-left_out_so bytes kept next state after last b quiet is what where_to hollow =
-    rw (where_to, what) (left_out bytes kept last b quiet (rw is at hollow))
-
--- so was one behind a `$`
+-- a byte of a comment behind a `$` was left out, as the code says it
 pub mark_left_out_so : (bytes kept next : List ℕ) (state after : State) (last b : ℕ) → is_quiet b ≡ true → b ≢ 40 → b ≢ 41 → state ≡ Marked last → next ≡ kept ++ feeds (b ∷ []) → after ≡ Inside b → IsHollow bytes kept state → IsHollow (bytes ++ b ∷ []) next after
 mark_left_out_so bytes kept next state after last b quiet one other is what where_to hollow =
     let h = rw is at hollow in
     let whole : kept ++ (ink last ++ 36 ∷ []) ++ b ∷ [] ≡ kept ++ ink last ++ 36 ∷ b ∷ [] =
     simp append_assoc in
     rw (where_to, what) (record {
-      same = same_again _ _ _ (kept_as_it_is bytes (kept ++ (ink last ++ 36 ∷ [])) (b ∷ []) h.same)
-          (rw whole (dollar_dropped kept last b h.at.0 h.at.1 quiet one other));
+      same = λ file rest. kept_as_it_is bytes _ (b ∷ []) h.same file rest
+          ∙ rw whole (dollar_dropped kept last b h.at.0 h.at.1 quiet one other file rest);
       at = (still_open kept b h.at.0, quiet);
       short = omega (arith, few kept b, h.short, length-append bytes (b ∷ []), length-append kept (ink last ++ 36 ∷ []));
     })
@@ -97,31 +81,6 @@ kept_so bytes kept next more state after none none_then is where_to hollow =
       short = omega (arith, hollow.short, length-append bytes more, length-append kept more, ap length before, ap length behind);
     })
 
--- a `$` was held back, as the code says it
-pub held_back_so : (bytes kept : List ℕ) (state : State) (last b : ℕ) → b ≡ 36 → state ≡ Inside last → IsHollow bytes kept state → IsHollow (bytes ++ b ∷ []) kept (Marked last)
-held_back_so bytes kept state last b mark is hollow =
-    let h = rw is at hollow in
-    let whole = append_assoc kept (ink last) (36 ∷ []) in
-    rw mark (record {
-      same = rw whole at (kept_as_it_is bytes (kept ++ ink last) (36 ∷ []) h.same);
-      at = h.at;
-      short = omega (arith, h.short, length-append bytes (36 ∷ []), length-append (kept ++ ink last) (36 ∷ []), ap length whole);
-    })
-
--- a printable byte or a space, and no `$`, is neither white space that is kept nor at fault
-spoken_feeds : (b : ℕ) → is_spoken b ≡ true → feeds (b ∷ []) ≡ []
-spoken_feeds b spoken =
-    let parts = and_parts _ _ spoken in
-    let ends = and_parts _ _ parts.0 in
-    let low : 32 ≤ b = leb-true 32 b ends.0 in
-    rw (ne_eqb b 10 (λ is. omega (arith, low, is))) refl
-
-spoken_quiet : (b : ℕ) → is_spoken b ≡ true → is_quiet b ≡ true
-spoken_quiet b spoken =
-    let parts = and_parts _ _ spoken in
-    let ends = and_parts _ _ parts.0 in
-    ap (λ l. l && not (b == 36)) (shown_legal b (leb-true 32 b ends.0) (leb-true b 126 ends.1)) ∙ parts.1
-
 -- such bytes of a comment are left out
 run_left_out : (bytes kept piece : List ℕ) (at last n : ℕ) → at + n ≤ length piece → ((k : ℕ) → at ≤ k → k < at + n → is_spoken (get_or piece k 0) ≡ true) → IsHollow bytes kept (Inside last)
     → IsHollow (bytes ++ take n (drop at piece)) kept (Inside (last_before piece at last n))
@@ -129,9 +88,14 @@ run_left_out bytes kept piece at last zero within all hollow = subst (λ l. IsHo
 run_left_out bytes kept piece at last (suc n) within all hollow =
     let b = get_or piece (at + n) 0 in
     let before = run_left_out bytes kept piece at last n (omega (arith, within)) (λ k low high. all k low (omega (arith, high))) hollow in
-    let spoken : is_spoken b ≡ true = all (at + n) (omega arith) (omega arith) in
-    let one = left_out (bytes ++ take n (drop at piece)) kept (last_before piece at last n) b (spoken_quiet b spoken) before in
-    let same_kept = ap (λ l. kept ++ l) (spoken_feeds b spoken) ∙ append-nil kept in
+    let parts = and_parts _ _ (all (at + n) (omega arith) (omega arith)) in
+    let ends = and_parts _ _ parts.0 in
+    let low : 32 ≤ b = leb-true 32 b ends.0 in
+    let quiet : is_quiet b ≡ true =
+    ap (λ l. l && not (b == 36)) (shown_legal b low (leb-true b 126 ends.1)) ∙ parts.1 in
+    let none : feeds (b ∷ []) ≡ [] = rw (ne_eqb b 10 (λ is. omega (arith, low, is))) refl in
+    let one = left_out (bytes ++ take n (drop at piece)) kept (last_before piece at last n) b quiet before in
+    let same_kept = ap (λ l. kept ++ l) none ∙ append-nil kept in
     let next : n + 1 ≡ suc n = omega arith in
     let more : take n (drop at piece) ++ b ∷ [] ≡ take (suc n) (drop at piece) =
     sym (ap (λ m. take m (drop at piece)) (sym next) ∙ take_more (drop at piece) n 0 (omega (arith, within, length-drop at piece)) ∙ ap (λ d. take n (drop at piece) ++ d ∷ []) (get_or-drop at piece n 0)) in
@@ -180,9 +144,3 @@ lines_more bytes kept next piece state after start at end last from order within
     ∙ two_parts bytes piece start end (end + 1 - end) (omega (arith, from, order))
     ∙ ap (λ m. bytes ++ take (m - start) (drop start piece)) next_place in
     rw (where_to, what) (subst (λ l. IsHollow l (kept ++ feeds (10 ∷ [])) (Inside 10)) whole one)
-
--- no byte of a piece
-pub none_of : (bytes piece : List ℕ) (at end : ℕ) → end ≡ at → bytes ++ take (end - at) (drop at piece) ≡ bytes
-none_of bytes piece at end is =
-    let zero_more : end - at ≡ 0 = omega (arith, is) in
-    ap (λ m. bytes ++ take m (drop at piece)) zero_more ∙ append-nil bytes

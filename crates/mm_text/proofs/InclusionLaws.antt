@@ -10,7 +10,7 @@ use Rattle.mm_text.specs.declared.class.Keyword.TheVariants.{Constants}
 use Rattle.mm_text.specs.declared.class.Class.{Class}
 use Rattle.mm_text.specs.declared.class.Class.TheVariants as class
 use Rattle.mm_text.specs.declared.comments.Place.{Place}
-use Rattle.mm_text.specs.Token.{PlainToken, HoldsNoDollar}
+use Rattle.mm_text.specs.Token.{PlainToken}
 use Rattle.mm_text.specs.Mirror.Class.{keyword_bytes, ClassIs}
 use Rattle.mm_text.specs.Files.{PlainFile}
 use Rattle.mm_text.specs.Items.{Item, Plain, Wrong, Inclusion, End, Shown, Clear, Broken, Piece, Met, Named, Spot, Outside, Naming, Closing, pieces, broken_outside, holds_dollar, spells, file_number, with_inclusions, put_before, put_in}
@@ -51,16 +51,12 @@ keyword_stands : (keyword : Keyword) → broken_outside (keyword_bytes keyword) 
 keyword_stands Constants = refl
 keyword_stands _ = refl
 
--- nor does a word
-word_stands : (text : List ℕ) → HoldsNoDollar text → broken_outside text ≡ None
-word_stands text h = rw (no_dollar-spells text 93 h, h) refl
-
 -- the first token of a file outside inclusions, by its class
 pub pieces-class : (file : ℕ) (t : PlainToken) (rest : List Shown) (kind : Class) → spells t.text (codes "$[") ≡ false → ClassIs t.text kind
     → pieces file Outside (Clear t ∷ rest) ≡ pieces_with t kind (pieces file Outside rest)
 pieces-class file t rest (class.Wrong rule) e h = pieces-wrong file t rest rule e h
 pieces-class file t rest (class.Keyword keyword) e h = pieces-plain file t rest e (ap broken_outside h ∙ keyword_stands keyword)
-pieces-class file t rest class.Word e h = pieces-plain file t rest e (word_stands t.text h)
+pieces-class file t rest class.Word e h = pieces-plain file t rest e (rw (no_dollar-spells t.text 93 h, h) refl)
 
 -- ---- in an inclusion
 

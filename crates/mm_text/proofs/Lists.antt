@@ -41,20 +41,14 @@ pub two_cuts : {A : Type 0} (a : List A) (x : A) (b c : List A) (y : A) (d : Lis
     → a ++ x ∷ b ≡ c ++ y ∷ d
     → ((a ≡ c) × (x ≡ y) × (b ≡ d)) ⊎ ((mid : List A) × (c ≡ a ++ x ∷ mid) × (b ≡ mid ++ y ∷ d))
     ⊎ ((mid : List A) × (a ≡ c ++ y ∷ mid) × (d ≡ mid ++ x ∷ b))
-two_cuts [] x b [] y d e = let parts = cons_parts x y b d e in inl (refl, parts.0, parts.1)
-two_cuts [] x b (z ∷ c) y d e =
-    let parts = cons_parts x z b (c ++ y ∷ d) e in
-    inr (inl (c, (λ i. sym parts.0 i ∷ c), parts.1))
-two_cuts (z ∷ a) x b [] y d e =
-    let parts = cons_parts z y (a ++ x ∷ b) d e in
-    inr (inr (a, (λ i. parts.0 i ∷ a), sym parts.1))
-two_cuts (z ∷ a) x b (w ∷ c) y d e =
-    let parts = cons_parts z w (a ++ x ∷ b) (c ++ y ∷ d) e in
-    elim (two_cuts a x b c y d parts.1) [
-      | inl h ↦ inl ((λ i. parts.0 i ∷ h.0 i), h.1, h.2)
-      | inr (inl h) ↦ inr (inl (h.0, (λ i. sym parts.0 i ∷ h.1 i), h.2))
-      | inr (inr h) ↦ inr (inr (h.0, (λ i. parts.0 i ∷ h.1 i), h.2))
-    ]
+two_cuts [] x b [] y d e = inl (refl, cc, cc)
+two_cuts [] x b (z ∷ c) y d e = inr (inl (c, cc, cc))
+two_cuts (z ∷ a) x b [] y d e = inr (inr (a, cc, cc))
+two_cuts (z ∷ a) x b (w ∷ c) y d e = elim (two_cuts a x b c y d cc) [
+  | inl h ↦ inl (cc, h.1, h.2)
+  | inr (inl h) ↦ inr (inl (h.0, cc, h.2))
+  | inr (inr h) ↦ inr (inr (h.0, cc, h.2))
+]
 
 -- where an element stands in a list with one more at its end
 pub last_cut : {A : Type 0} (pre : List A) (x : A) (before : List A) (y : A) (after : List A)
@@ -70,16 +64,6 @@ last_cut pre x before y after e = elim (two_cuts pre x [] before y after e) [
 pub three_parts : {A : Type 0} (all front a b tail : List A) → all ≡ front ++ tail → front ≡ a ++ b
     → all ≡ a ++ b ++ tail
 three_parts all front a b tail e split = e ∙ ap (λ l. l ++ tail) split
-
--- a list from its first element, and from parts of the rest, of which the last is one element
-pub ended_parts : {A : Type 0} (all : List A) (x : A) (rest a end : List A) (y : A) → all ≡ x ∷ rest
-    → rest ≡ a ++ end → end ≡ y ∷ [] → all ≡ x ∷ a ++ y ∷ []
-ended_parts all x rest a end y e split last = e ∙ ap (λ l. x ∷ l) (split ∙ ap (λ l. a ++ l) last)
-
--- a list from two parts, the second of them from its first element
-pub cut_parts : {A : Type 0} (all a rest : List A) (x y : A) (b : List A) → all ≡ a ++ rest
-    → rest ≡ x ∷ b → x ≡ y → all ≡ a ++ y ∷ b
-cut_parts all a rest x y b e split is = e ∙ ap (λ l. a ++ l) (split ∙ ap (λ z. z ∷ b) is)
 
 -- ---- elements
 
@@ -100,9 +84,8 @@ get_kept (z ∷ xs) ys (suc i) x there = get_kept xs ys i x there
 -- an element before the end stays what it was
 pub get_before : {A : Type 0} (xs ys : List A) (i : ℕ) (x : A) → i < length xs
     → slice_get (xs ++ ys) i ≡ Some x → slice_get xs i ≡ Some x
-get_before [] ys i x lt there = absurd (omega arith)
-get_before (z ∷ xs) ys zero x lt there = there
-get_before (z ∷ xs) ys (suc i) x lt there = get_before xs ys i x (omega arith) there
+get_before xs ys i x lt there =
+    let (y, at) = get_within xs i lt in at ∙ sym (get_kept xs ys i y at) ∙ there
 
 -- the element between two parts
 pub get_parted : {A : Type 0} (xs ys : List A) (x : A)
@@ -173,8 +156,7 @@ get_take (x ∷ xs) (suc n) (suc i) h = get_take xs n i (omega arith)
 pub get_from_take : {A : Type 0} (xs : List A) (n i : ℕ) (x : A) → slice_get (take n xs) i ≡ Some x
     → (i < n) × (slice_get xs i ≡ Some x)
 get_from_take xs n i x e =
-    let within : i < length (take n xs) = slice_get_within (take n xs) i x e in
-    let lt : i < n = omega (arith, length-take n xs) in
+    let lt : i < n = omega (arith, length-take n xs, slice_get_within (take n xs) i x e) in
     (lt, sym (get_take xs n i lt) ∙ e)
 
 pub get_from_front : {A : Type 0} (xs : List A) (n i : ℕ) (x : A) → slice_get (take n xs) i ≡ Some x
@@ -239,58 +221,55 @@ pushed_cases xs y i x there = elim (append_cases xs (y ∷ []) i x there) [
 
 -- ---- lists of which all are so
 
--- what is said of each is said of each where it says less
-pub all_weaker : {A : Type 0} (P Q : A → Type 0) → ((x : A) → P x → Q x) → (xs : List A)
-    → AllByRecursion P xs → AllByRecursion Q xs
-all_weaker P Q f [] h = tt
-all_weaker P Q f (x ∷ xs) h = (f x h.0, all_weaker P Q f xs h.1)
+module _ {A : Type 0} (P : A → Type 0) where
+  -- what is said of each is said of each where it says less
+  pub all_weaker : (Q : A → Type 0) → ((x : A) → P x → Q x) → (xs : List A)
+      → AllByRecursion P xs → AllByRecursion Q xs
+  all_weaker Q f [] h = tt
+  all_weaker Q f (x ∷ xs) h = (f x h.0, all_weaker Q f xs h.1)
 
--- of both parts, and so of the whole
-pub all_append : {A : Type 0} (P : A → Type 0) (a b : List A) → AllByRecursion P a
-    → AllByRecursion P b → AllByRecursion P (a ++ b)
-all_append P [] b first second = second
-all_append P (x ∷ a) b first second = (first.0, all_append P a b first.1 second)
+  -- of both parts, and so of the whole
+  pub all_append : (a b : List A) → AllByRecursion P a → AllByRecursion P b
+      → AllByRecursion P (a ++ b)
+  all_append [] b first second = second
+  all_append (x ∷ a) b first second = (first.0, all_append a b first.1 second)
 
--- of the whole, and so of both parts
-pub all_front : {A : Type 0} (P : A → Type 0) (a b : List A) → AllByRecursion P (a ++ b)
-    → AllByRecursion P a
-all_front P [] b all = tt
-all_front P (x ∷ a) b all = (all.0, all_front P a b all.1)
+  -- of the whole, and so of both parts
+  pub all_front : (a b : List A) → AllByRecursion P (a ++ b) → AllByRecursion P a
+  all_front [] b all = tt
+  all_front (x ∷ a) b all = (all.0, all_front a b all.1)
 
-pub all_back : {A : Type 0} (P : A → Type 0) (a b : List A) → AllByRecursion P (a ++ b)
-    → AllByRecursion P b
-all_back P [] b all = all
-all_back P (x ∷ a) b all = all_back P a b all.1
+  pub all_back : (a b : List A) → AllByRecursion P (a ++ b) → AllByRecursion P b
+  all_back [] b all = all
+  all_back (x ∷ a) b all = all_back a b all.1
 
--- of one more
-pub all_push : {A : Type 0} (P : A → Type 0) (xs : List A) (x : A) → AllByRecursion P xs → P x
-    → AllByRecursion P (xs ++ x ∷ [])
-all_push P xs x a p = all_append P xs (x ∷ []) a (p, tt)
+  -- of one more
+  pub all_push : (xs : List A) (x : A) → AllByRecursion P xs → P x → AllByRecursion P (xs ++ x ∷ [])
+  all_push xs x a p = all_append xs (x ∷ []) a (p, tt)
 
--- of each where it is said of the element at each place
-pub all_places : {A : Type 0} (P : A → Type 0) (xs : List A) (d : A)
-    → ((k : ℕ) → k < length xs → P (get_or xs k d)) → AllByRecursion P xs
-all_places P xs d h = recursion_from_All P xs (All-from_get_or P xs d h)
+  -- of each where it is said of the element at each place
+  pub all_places : (xs : List A) (d : A)
+      → ((k : ℕ) → k < length xs → P (get_or xs k d)) → AllByRecursion P xs
+  all_places xs d h = recursion_from_All P xs (All-from_get_or P xs d h)
 
--- of each where it is said of what stands at each place
-pub all_there : {A : Type 0} (P : A → Type 0) (xs : List A)
-    → ((k : ℕ) (x : A) → slice_get xs k ≡ Some x → P x) → AllByRecursion P xs
-all_there P [] each = tt
-all_there P (x ∷ xs) each =
-    (each 0 x refl, all_there P xs (λ k y there. each (suc k) y there))
+  -- of each where it is said of what stands at each place
+  pub all_there : (xs : List A)
+      → ((k : ℕ) (x : A) → slice_get xs k ≡ Some x → P x) → AllByRecursion P xs
+  all_there [] each = tt
+  all_there (x ∷ xs) each =
+      (each 0 x refl, all_there xs (λ k y there. each (suc k) y there))
 
--- of each that passes a test
-pub all_filtered : {A : Type 0} (P : A → Type 0) (test : A → Bool) (xs : List A)
-    → AllByRecursion P xs → AllByRecursion P (filter test xs)
-all_filtered P test xs all =
-    recursion_from_All P (filter test xs) (All-filter test P xs (All-from_recursion P xs all))
+  -- of each that passes a test
+  pub all_filtered : (test : A → Bool) (xs : List A)
+      → AllByRecursion P xs → AllByRecursion P (filter test xs)
+  all_filtered test xs all =
+      recursion_from_All P (filter test xs) (All-filter test P xs (All-from_recursion P xs all))
 
--- of the element at a place
-pub all_at : {A : Type 0} (P : A → Type 0) (xs : List A) (i : ℕ) (x : A) → AllByRecursion P xs
-    → slice_get xs i ≡ Some x → P x
-all_at P [] i x a e = absurd (none-some x e)
-all_at P (y ∷ xs) zero x a e = subst P (same_Some y x e) a.0
-all_at P (y ∷ xs) (suc i) x a e = all_at P xs i x a.1 e
+  -- of the element at a place
+  pub all_at : (xs : List A) (i : ℕ) (x : A) → AllByRecursion P xs → slice_get xs i ≡ Some x → P x
+  all_at [] i x a e = absurd (none-some x e)
+  all_at (y ∷ xs) zero x a e = subst P (same_Some y x e) a.0
+  all_at (y ∷ xs) (suc i) x a e = all_at xs i x a.1 e
 
 -- ---- lists of which some are so
 
@@ -308,9 +287,7 @@ pub cons_split : {A B C : Type 0} (f : A → C) (g : B → C) (a : A) (others : 
     → map f (a ∷ others) ≡ map g ys → (b : B) × (bs : List B) × (ys ≡ b ∷ bs) × (f a ≡ g b)
     × (map f others ≡ map g bs)
 cons_split f g a others [] is = absurd cc
-cons_split f g a others (b ∷ bs) is =
-    let parts = cons_parts (f a) (g b) (map f others) (map g bs) is in
-    (b, bs, refl, parts.0, parts.1)
+cons_split f g a others (b ∷ bs) is = (b, bs, refl, cc, cc)
 
 -- what corresponds to nothing
 pub nil_split : {A B C : Type 0} (f : A → C) (g : B → C) (ys : List B) → map f [] ≡ map g ys
@@ -326,8 +303,7 @@ append_split f g [] bs ys is = ([], ys, refl, refl, is)
 append_split f g (a ∷ others) bs ys is =
     let (b, rest, whole, first, more) = cons_split f g a (others ++ bs) ys is in
     let (cs, ds, split, front, back) = append_split f g others bs rest more in
-    let fronts = ap (λ x. x ∷ map f others) first ∙ ap (λ l. g b ∷ l) front in
-    (b ∷ cs, ds, whole ∙ ap (λ l. b ∷ l) split, fronts, back)
+    (b ∷ cs, ds, whole ∙ ap (λ l. b ∷ l) split, cc, back)
 
 -- both are as long as each other
 pub same_length : {A B C : Type 0} (f : A → C) (g : B → C) (xs : List A) (ys : List B)
@@ -355,98 +331,92 @@ pub mapped_zip : {A B C : Type 0} (f : A → C) (g : B → C) (R : A → B → T
     → ((x : A) (y : B) → f x ≡ g y → R x y) → (xs : List A) (ys : List B) → map f xs ≡ map g ys
     → AllZip R xs ys
 mapped_zip f g R step [] [] is = tt
-mapped_zip f g R step (x ∷ xs) (y ∷ ys) is =
-    let parts = cons_parts (f x) (g y) (map f xs) (map g ys) is in
-    (step x y parts.0, mapped_zip f g R step xs ys parts.1)
+mapped_zip f g R step (x ∷ xs) (y ∷ ys) is = (step x y cc, mapped_zip f g R step xs ys cc)
 mapped_zip f g R step xs ys is = absurd cc
 
--- lists that correspond do so where less is said
-pub zip_weaker : {A B : Type 0} (R S : A → B → Type 0) → ((x : A) (y : B) → R x y → S x y)
-    → (xs : List A) (ys : List B) → AllZip R xs ys → AllZip S xs ys
-zip_weaker R S f [] [] z = tt
-zip_weaker R S f (x ∷ xs) (y ∷ ys) z = (f x y z.0, zip_weaker R S f xs ys z.1)
-zip_weaker R S f xs ys z = absurd z
+module _ {A B : Type 0} (R : A → B → Type 0) where
+  -- lists that correspond do so where less is said
+  pub zip_weaker : (S : A → B → Type 0) → ((x : A) (y : B) → R x y → S x y)
+      → (xs : List A) (ys : List B) → AllZip R xs ys → AllZip S xs ys
+  zip_weaker S f [] [] z = tt
+  zip_weaker S f (x ∷ xs) (y ∷ ys) z = (f x y z.0, zip_weaker S f xs ys z.1)
+  zip_weaker S f xs ys z = absurd z
 
--- lists that correspond, after lists that do
-pub zip_append : {A B : Type 0} (R : A → B → Type 0) (xs : List A) (ys : List B)
-    (us : List A) (vs : List B)
-    → AllZip R xs ys → AllZip R us vs → AllZip R (xs ++ us) (ys ++ vs)
-zip_append R [] [] us vs h k = k
-zip_append R (x ∷ xs) (y ∷ ys) us vs h k = (h.0, zip_append R xs ys us vs h.1 k)
-zip_append R xs ys us vs h k = absurd h
+  -- lists that correspond, after lists that do
+  pub zip_append : (xs : List A) (ys : List B) (us : List A) (vs : List B)
+      → AllZip R xs ys → AllZip R us vs → AllZip R (xs ++ us) (ys ++ vs)
+  zip_append [] [] us vs h k = k
+  zip_append (x ∷ xs) (y ∷ ys) us vs h k = (h.0, zip_append xs ys us vs h.1 k)
+  zip_append xs ys us vs h k = absurd h
 
--- lists that correspond, and one more of each
-pub zip_push : {A B : Type 0} (R : A → B → Type 0) (xs : List A) (ys : List B) (x : A) (y : B)
-    → AllZip R xs ys → R x y → AllZip R (xs ++ x ∷ []) (ys ++ y ∷ [])
-zip_push R xs ys x y r h = zip_append R xs ys (x ∷ []) (y ∷ []) r (h, tt)
+  -- lists that correspond, and one more of each
+  pub zip_push : (xs : List A) (ys : List B) (x : A) (y : B)
+      → AllZip R xs ys → R x y → AllZip R (xs ++ x ∷ []) (ys ++ y ∷ [])
+  zip_push xs ys x y r h = zip_append xs ys (x ∷ []) (y ∷ []) r (h, tt)
 
--- what stands in the second list at a place has one beside it in the first
-pub zip_right : {A B : Type 0} (R : A → B → Type 0) (xs : List A) (ys : List B) (i : ℕ) (y : B)
-    → AllZip R xs ys → slice_get ys i ≡ Some y
-    → (x : A) × (slice_get xs i ≡ Some x) × R x y
-zip_right R [] [] i y r e = absurd (none-some y e)
-zip_right R (a ∷ xs) (b ∷ ys) zero y r e = (a, refl, subst (R a) (same_Some b y e) r.0)
-zip_right R (a ∷ xs) (b ∷ ys) (suc i) y r e = zip_right R xs ys i y r.1 e
-zip_right R xs ys i y r e = absurd r
+  -- what stands in the second list at a place has one beside it in the first
+  pub zip_right : (xs : List A) (ys : List B) (i : ℕ) (y : B) → AllZip R xs ys
+      → slice_get ys i ≡ Some y → (x : A) × (slice_get xs i ≡ Some x) × R x y
+  zip_right [] [] i y r e = absurd (none-some y e)
+  zip_right (a ∷ xs) (b ∷ ys) zero y r e = (a, refl, subst (R a) (same_Some b y e) r.0)
+  zip_right (a ∷ xs) (b ∷ ys) (suc i) y r e = zip_right xs ys i y r.1 e
+  zip_right xs ys i y r e = absurd r
 
--- and the other way round
-pub zip_left : {A B : Type 0} (R : A → B → Type 0) (xs : List A) (ys : List B) (i : ℕ) (x : A)
-    → AllZip R xs ys → slice_get xs i ≡ Some x
-    → (y : B) × (slice_get ys i ≡ Some y) × R x y
-zip_left R [] [] i x r e = absurd (none-some x e)
-zip_left R (a ∷ xs) (b ∷ ys) zero x r e = (b, refl, subst (λ z. R z b) (same_Some a x e) r.0)
-zip_left R (a ∷ xs) (b ∷ ys) (suc i) x r e = zip_left R xs ys i x r.1 e
-zip_left R xs ys i x r e = absurd r
+  -- and the other way round
+  pub zip_left : (xs : List A) (ys : List B) (i : ℕ) (x : A) → AllZip R xs ys
+      → slice_get xs i ≡ Some x → (y : B) × (slice_get ys i ≡ Some y) × R x y
+  zip_left [] [] i x r e = absurd (none-some x e)
+  zip_left (a ∷ xs) (b ∷ ys) zero x r e = (b, refl, subst (λ z. R z b) (same_Some a x e) r.0)
+  zip_left (a ∷ xs) (b ∷ ys) (suc i) x r e = zip_left xs ys i x r.1 e
+  zip_left xs ys i x r e = absurd r
 
--- a front of the first list has one of the second beside it
-pub zip_front : {A B : Type 0} (R : A → B → Type 0) (xs : List A) (x : A) (ys : List B)
-    → AllZip R (xs ++ x ∷ []) ys
-    → (front : List B) × (y : B) × (ys ≡ front ++ y ∷ []) × AllZip R xs front × R x y
-zip_front R [] x [] r = absurd r
-zip_front R [] x (b ∷ []) r = ([], b, refl, tt, r.0)
-zip_front R [] x (b ∷ c ∷ ys) r = absurd r.1
-zip_front R (a ∷ xs) x [] r = absurd r
-zip_front R (a ∷ xs) x (b ∷ ys) r =
-    let h = zip_front R xs x ys r.1 in
-    (b ∷ h.0, h.1, ap (λ l. b ∷ l) h.2, (r.0, h.3), h.4)
+  -- a front of the first list has one of the second beside it
+  pub zip_front : (xs : List A) (x : A) (ys : List B) → AllZip R (xs ++ x ∷ []) ys
+      → (front : List B) × (y : B) × (ys ≡ front ++ y ∷ []) × AllZip R xs front × R x y
+  zip_front [] x [] r = absurd r
+  zip_front [] x (b ∷ []) r = ([], b, refl, tt, r.0)
+  zip_front [] x (b ∷ c ∷ ys) r = absurd r.1
+  zip_front (a ∷ xs) x [] r = absurd r
+  zip_front (a ∷ xs) x (b ∷ ys) r =
+      let h = zip_front xs x ys r.1 in
+      (b ∷ h.0, h.1, ap (λ l. b ∷ l) h.2, (r.0, h.3), h.4)
 
--- fronts of lists that correspond do so too
-pub zip_take : {A B : Type 0} (R : A → B → Type 0) (xs : List A) (ys : List B) (i : ℕ)
-    → AllZip R xs ys → AllZip R (take i xs) (take i ys)
-zip_take R xs ys zero z = tt
-zip_take R [] [] (suc i) z = tt
-zip_take R (x ∷ xs) (y ∷ ys) (suc i) z = (z.0, zip_take R xs ys i z.1)
-zip_take R xs ys (suc i) z = absurd z
+  -- fronts of lists that correspond do so too
+  pub zip_take : (xs : List A) (ys : List B) (i : ℕ)
+      → AllZip R xs ys → AllZip R (take i xs) (take i ys)
+  zip_take xs ys zero z = tt
+  zip_take [] [] (suc i) z = tt
+  zip_take (x ∷ xs) (y ∷ ys) (suc i) z = (z.0, zip_take xs ys i z.1)
+  zip_take xs ys (suc i) z = absurd z
 
--- and so do what is left of them
-pub zip_drop : {A B : Type 0} (R : A → B → Type 0) (xs : List A) (ys : List B) (n : ℕ)
-    → AllZip R xs ys → AllZip R (drop n xs) (drop n ys)
-zip_drop R xs ys zero z = z
-zip_drop R [] [] (suc n) z = tt
-zip_drop R (x ∷ xs) (y ∷ ys) (suc n) z = zip_drop R xs ys n z.1
-zip_drop R xs ys (suc n) z = absurd z
+  -- and so do what is left of them
+  pub zip_drop : (xs : List A) (ys : List B) (n : ℕ)
+      → AllZip R xs ys → AllZip R (drop n xs) (drop n ys)
+  zip_drop xs ys zero z = z
+  zip_drop [] [] (suc n) z = tt
+  zip_drop (x ∷ xs) (y ∷ ys) (suc n) z = zip_drop xs ys n z.1
+  zip_drop xs ys (suc n) z = absurd z
 
--- lists that correspond are as long
-pub zip_length : {A B : Type 0} (R : A → B → Type 0) (xs : List A) (ys : List B) → AllZip R xs ys
-    → length xs ≡ length ys
-zip_length R xs ys zip = sym (AllZip-long R xs ys zip)
+  -- lists that correspond are as long
+  pub zip_length : (xs : List A) (ys : List B) → AllZip R xs ys → length xs ≡ length ys
+  zip_length xs ys zip = sym (AllZip-long R xs ys zip)
 
--- what is said of each of the second is said of each of the first
-pub zip_each : {A B : Type 0} (R : A → B → Type 0) (P : A → Type 0) (Q : B → Type 0)
-    → ((x : A) (y : B) → R x y → Q y → P x) → (xs : List A) (ys : List B) → AllZip R xs ys
-    → AllByRecursion Q ys → AllByRecursion P xs
-zip_each R P Q step [] [] zip all = tt
-zip_each R P Q step (x ∷ xs) (y ∷ ys) zip all =
-    (step x y zip.0 all.0, zip_each R P Q step xs ys zip.1 all.1)
-zip_each R P Q step xs ys zip all = absurd zip
+  -- what is said of each of the second is said of each of the first
+  pub zip_each : (P : A → Type 0) (Q : B → Type 0)
+      → ((x : A) (y : B) → R x y → Q y → P x) → (xs : List A) (ys : List B) → AllZip R xs ys
+      → AllByRecursion Q ys → AllByRecursion P xs
+  zip_each P Q step [] [] zip all = tt
+  zip_each P Q step (x ∷ xs) (y ∷ ys) zip all =
+      (step x y zip.0 all.0, zip_each P Q step xs ys zip.1 all.1)
+  zip_each P Q step xs ys zip all = absurd zip
 
--- lists that correspond in two ways
-pub zip_both : {A B : Type 0} (R S : A → B → Type 0) (xs : List A) (ys : List B) → AllZip R xs ys
-    → AllZip S xs ys → AllZip (λ x y. R x y × S x y) xs ys
-zip_both R S [] [] one other = tt
-zip_both R S (x ∷ xs) (y ∷ ys) one other =
-    ((one.0, other.0), zip_both R S xs ys one.1 other.1)
-zip_both R S xs ys one other = absurd one
+  -- lists that correspond in two ways
+  pub zip_both : (S : A → B → Type 0) (xs : List A) (ys : List B) → AllZip R xs ys
+      → AllZip S xs ys → AllZip (λ x y. R x y × S x y) xs ys
+  zip_both S [] [] one other = tt
+  zip_both S (x ∷ xs) (y ∷ ys) one other =
+      ((one.0, other.0), zip_both S xs ys one.1 other.1)
+  zip_both S xs ys one other = absurd one
 
 -- and a list that corresponds to one that corresponds to another
 pub zip_on : {A B C : Type 0} (R : A → B → Type 0) (S : B → C → Type 0) (T : A → C → Type 0)

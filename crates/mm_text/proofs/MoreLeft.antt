@@ -1,11 +1,10 @@
 -- While a statement is unfinished, something is left to tell.
-use Rattle.std.proofs.Common.{List, [], ◌∷◌, Option, Some, None, inl, inr}
+use Rattle.std.proofs.Common.{List, [], ◌∷◌, Option, Some, None, inl, inr, ◌≡◌, refl, sym, subst}
 use Rattle.std.proofs.lemmas.Bool.{cond_both}
 use Rattle.mm_text.specs.Statement.{PlainStatement}
 use Rattle.mm_text.specs.Items.{Item, Plain, Wrong, Inclusion, End}
 use Rattle.mm_text.specs.Reading.{PlainFault, TellsMore}
 use Rattle.mm_text.specs.Mirror.Reader.{Part, Between, Labelled, Step, More, Whole, Opened, Closed, Faulty, step, PlainScope, has_none, unfinished_fault, end_fault, inclusion_fault, unless, PlainReading, only_ending, with_statement, reading_of}
-use Rattle.std.proofs.Common.{◌≡◌, refl, sym, subst}
 use Rattle.mm_text.proofs.StepLaws.{read_more, read_whole, read_opened, read_closing, read_faulty}
 use Rattle.mm_text.proofs.StepLaws.{IsUnfinished, Leads, step_leads}
 
@@ -42,10 +41,8 @@ more_left scope part (Plain t ∷ items) h =
     go : ((next : Part) → IsUnfinished next → HasMore (reading_of scope next items)) → (s : Step)
         → step part t ≡ s → Leads part s → HasMore (reading_of scope part (Plain t ∷ items))
     go on (More next) e k = subst HasMore (sym (read_more scope part t items next e)) (on next k.0)
-    go on (Whole s) e k =
-        subst HasMore (sym (read_whole scope part t items s e)) (statement_more s _)
+    go on (Whole s) e k = rw (read_whole scope part t items s e) (statement_more s _)
     go on Opened e k = subst HasMore (sym (read_opened scope part t items e)) (statement_more _ _)
     go on Closed e k = subst HasMore (sym (read_closing scope part t items e))
         (cond_both (has_none scope.blocks) _ _ HasMore (λ _. fault_more _) (λ _. statement_more _ _))
-    go on (Faulty rule) e k =
-        subst HasMore (sym (read_faulty scope part t items rule e)) (fault_more _)
+    go on (Faulty rule) e k = rw (read_faulty scope part t items rule e) (fault_more _)

@@ -14,7 +14,7 @@ use Rattle.mm_text.specs.Alike.{token_on, statement_on}
 use Rattle.mm_text.specs.Replaced.{IsMoved}
 use Rattle.mm_text.proofs.AlikeFronts.{statement_alike}
 use Rattle.mm_text.proofs.ReplacedPieces.{further, further_here, further_elsewhere}
-use Rattle.mm_text.proofs.ReplacedReading.{Parts, spells_append, spelled_once, without_rest}
+use Rattle.mm_text.proofs.ReplacedReading.{Parts, spells_append, without_rest}
 use Rattle.mm_text.proofs.StatementHomes.{ends_home}
 use Rattle.mm_text.proofs.Lists.{append_split, cons_parts, nil_split, same_length}
 
@@ -34,8 +34,7 @@ head_long : (tokens : List PlainToken) (s : PlainStatement) (h : Spells tokens s
     → s.kind ≡ Provable → length (h.head ++ s.symbols) ≡ 2 + length s.symbols
 head_long tokens s h p =
     let head = subst (λ (kind : Kind). IsHead kind h.head) p h.begins in
-    length-append h.head s.symbols
-    ∙ ap (λ (l : List PlainToken). length l + length s.symbols) head.tokens
+    length-append h.head s.symbols ∙ rw head.tokens refl
 
 -- the signs of a statement correspond to those of one to which it corresponds
 signs_alike : (h j : ℕ → ℕ → ℕ) (tokens others : List PlainToken) (s t : PlainStatement)
@@ -50,15 +49,12 @@ signs_alike h j tokens others s t e same a b k l p q =
     same_length f g s.symbols t.symbols (ap (λ (x : PlainStatement). x.symbols) same) in
     let proofs : length s.proof ≡ length t.proof =
     same_length f g s.proof t.proof (ap (λ (x : PlainStatement). x.proof) same) in
-    let tails : map f a.tail ≡ map g b.tail =
-    behind_alike f g (a.head ++ s.symbols) a.tail (b.head ++ t.symbols) b.tail
-    (head_long tokens s a p ∙ ap (λ (n : ℕ). 2 + n) symbols ∙ sym (head_long others t b q))
+    let tails = behind_alike f g (a.head ++ s.symbols) a.tail (b.head ++ t.symbols) b.tail
+    (cc (head_long tokens s a p, head_long others t b q, symbols))
     (ap (map f) (sym a.whole) ∙ e ∙ ap (map g) b.whole) in
-    let (equals, rest) =
-    cons_parts (f k.equals) (g l.equals) (map f (s.proof ++ k.stop ∷ []))
-    (map g (t.proof ++ l.stop ∷ [])) (ap (map f) (sym k.tokens) ∙ tails ∙ ap (map g) l.tokens) in
-    let stops = behind_alike f g s.proof (k.stop ∷ []) t.proof (l.stop ∷ []) proofs rest in
-    (equals, (cons_parts (f k.stop) (g l.stop) [] [] stops).0)
+    let signs = ap (map f) (sym k.tokens) ∙ tails ∙ ap (map g) l.tokens in
+    let stops = behind_alike f g s.proof (k.stop ∷ []) t.proof (l.stop ∷ []) proofs (cc (signs)) in
+    (cc (signs), cc (stops))
 
 -- ---- where the proof stands
 
@@ -73,10 +69,9 @@ module _ (number end other_end : ℕ) where
   place_here : (t u : PlainToken) → token_on was t ≡ token_on now u → t.file ≡ number
       → t.at + other_end ≡ u.at + end
   place_here t u e home =
-      let other : u.file ≡ number = ap (λ (x : PlainToken). x.file) (sym e) ∙ home in
-      sym (further_here number other_end t.at) ∙ ap (λ (n : ℕ). was n t.at) (sym home)
-      ∙ ap (λ (x : PlainToken). x.at) e ∙ ap (λ (n : ℕ). now n u.at) other
-      ∙ further_here number end u.at
+      let other = ap (λ (x : PlainToken). x.file) e in
+      let same = ap (λ (x : PlainToken). x.at) e in
+      cc (home, other, same, further_here number other_end t.at, further_here number end u.at)
 
   -- a token of another file stands where it stood
   place_elsewhere : (t u : PlainToken) → token_on was t ≡ token_on now u → t.file ≢ number
@@ -124,15 +119,15 @@ module _ (number end other_end : ℕ) where
       front = p.front ++ p.own;
       own = p.later.0;
       back = p.later.1;
-      whole = p.whole ∙ sym (append_assoc p.front p.own p.back)
-          ∙ ap (λ (l : List PlainToken). (p.front ++ p.own) ++ l) p.later.2;
+      whole = cc (p.whole, p.later.2, append_assoc p.front p.own p.back);
       earlier = spells_append p.front p.own before (s ∷ []) p.earlier
           (p.own, [], sym (append-nil p.own), p.here, refl);
       here = p.later.3;
       later = p.later.4;
     }
 
-    statements_moved : (before : List PlainStatement) (s : PlainStatement)
+    -- the statements behind one have moved so where their tokens have
+    pub statements_moved : (before : List PlainStatement) (s : PlainStatement)
         (after : List PlainStatement) (p : Parts tokens before s after) (others : List PlainToken)
         → map (token_on was) p.back ≡ map (token_on now) others
         → (later : List PlainStatement) × SpellsAll others later × AllZip MovesSo after later
@@ -152,20 +147,9 @@ module _ (number end other_end : ℕ) where
         subst (λ (kind : Kind). IsTail u kind q.here.tail) is q.here.ends in
         let l : EndsInProof t spelled.tail =
         subst (λ (kind : Kind). IsTail t kind spelled.tail) other spelled.ends in
-        let (equals, stop) =
-        signs_alike was now q.own mine u t fronts same q.here spelled k l is other in
-        let (one, two) =
-        ends_home files statements (before ++ s ∷ []) after
-        (without_rest (items files) statements v) u q k in
+        let (equals, stop) = signs_alike was now _ _ u t fronts same q.here spelled k l is other in
+        let f = without_rest (items files) statements v in
+        let (one, two) = ends_home files statements (before ++ s ∷ []) after f u q k in
         moved_by_signs u t q.here.tail spelled.tail k l (ap (λ (x : PlainStatement). x.first) same)
         equals stop one two in
         (t ∷ later, (mine, rest, split, spelled, all), (own, moved))
-
-    -- the statements behind one, and those that the tokens spell that correspond to theirs
-    pub moved_behind : (before : List PlainStatement) (s : PlainStatement)
-        (after : List PlainStatement) (p : Parts tokens before s after) (others : List PlainToken)
-        (later : List PlainStatement) → map (token_on was) p.back ≡ map (token_on now) others
-        → SpellsAll others later → AllZip MovesSo after later
-    moved_behind before s after p others later e spelled =
-        let (found, all, moved) = statements_moved before s after p others e in
-        rw (spelled_once others found later all spelled) at moved

@@ -5,8 +5,7 @@ use Rattle.std.specs.List.{list_any, position_or_len}
 use Rattle.std.specs.Cmp.Lexicographic.{bytes_decides}
 use Rattle.std.proofs.lemmas.Bool.{both_ways}
 use Rattle.std.proofs.lemmas.List.{get_or_default, get_or-take, length-take-le, length-map}
-use Rattle.std.proofs.lemmas.List.{map-append, get_or-map}
-use Rattle.std.proofs.Math.Seq.{take-suc}
+use Rattle.std.proofs.lemmas.List.{map-append, get_or-map, take_more}
 use Rattle.std.proofs.str.Laws.{order}
 use Rattle.std.proofs.lemmas.Option.{slice_get_within}
 use Rattle.std.proofs.lemmas.List.Folds.{list_any_at, Any-from_list_any}
@@ -87,13 +86,8 @@ module _ {K : Type 0} (g : K → List ℕ) (ks : List K) (files : List File) (n 
       → (new : List K) → (b : Bool) → new ≡ (if b then ks else ks ++ k ∷ []) → b ≡ false → map g new ≡ take (n + 1) (map (λ f. f.name.now) files)
   kept_more lt kept k same new b e none =
       let within : n < length (map (λ f. f.name.now) files) = omega (arith, length-map files (λ f. f.name.now)) in
-      let next : suc n ≡ n + 1 = omega arith in
-      ap (map g) (e ∙ ap (λ c. if c then ks else ks ++ k ∷ []) none)
-      ∙ map-append g ks (k ∷ [])
-      ∙ ap (λ l. l ++ g k ∷ []) kept
-      ∙ ap (λ name. take n (map (λ f. f.name.now) files) ++ name ∷ []) (same ∙ file_name files n d lt)
-      ∙ sym (take-suc (map (λ f. f.name.now) files) n [] within)
-      ∙ ap (λ m. take m (map (λ f. f.name.now) files)) next
+      rw (e, none, map-append, kept, same, file_name files n d lt)
+      (sym (take_more (map (λ f. f.name.now) files) n [] within))
 
   -- a name that is there already is that of two files
   pub twins_found : n < length files → map g ks ≡ take n (map (λ f. f.name.now) files)

@@ -1,17 +1,17 @@
 -- The items that are left, as a file's pieces are taken, a file is gone into and a file ends.
 use Rattle.std.proofs.Common.{◌≡◌, ℕ, zero, suc, ◌+◌, ◌-◌, ◌<◌, ◌≤◌, List, [], ◌∷◌, ◌++◌, length, map, Bool, true, false, not, cond, refl, sym, ap, ◌∙◌, Option, Some, None, count_by, get_or, drop, replicate, append-nil, arith}
-use Rattle.std.specs.Prelude.{slice_index_or, slice_set, slice_get, sum_by, if◌then◌else◌}
+use Rattle.std.specs.Prelude.{slice_index_or, slice_set, slice_get, if◌then◌else◌}
 use Rattle.std.specs.Option.{is_some, option_map}
 use Rattle.std.proofs.lemmas.Option.{slice_get-map, slice_get-get_or}
 use Rattle.std.proofs.lemmas.List.Sums.{sum_by-set, sum_by_from}
+use Rattle.std.proofs.lemmas.List.Folds.{sum_by-replicate}
 use Rattle.std.proofs.lemmas.List.Quantifiers.{position-Some}
-use Rattle.std.proofs.lemmas.List.{length-map}
+use Rattle.std.proofs.lemmas.List.{length-map, nil_from_length, get_or_default}
 use Rattle.mm_text.specs.declared.file.File.{File}
 use Rattle.mm_text.specs.declared.comments.Place.{Place}
 use Rattle.mm_text.specs.declared.comments.Wrong.{Wrong}
 use Rattle.mm_text.specs.declared.class.Class.{Class}
 use Rattle.mm_text.specs.declared.class.Class.TheVariants as class
-use Rattle.mm_text.specs.declared.fault.TextRule.TheVariants.{X7}
 use Rattle.mm_text.specs.declared.nest.Nest.{Nest}
 use Rattle.mm_text.specs.declared.token.Token.{Token}
 use Rattle.mm_text.specs.Token.{PlainToken, plain_token, tokens_from}
@@ -24,6 +24,7 @@ use Rattle.mm_text.specs.Mirror.Next.{items_with, TakesWord}
 use Rattle.mm_text.specs.Mirror.Nest.{IsNest, pieces_with, wrong_item, waiting, spot_of, put_into, pieces_left, items_after, items_left}
 use Rattle.mm_text.proofs.NameLaws.{position-names}
 use Rattle.mm_text.proofs.CommentLaws.{no_dollar-spells}
+use Rattle.mm_text.specs.declared.fault.TextRule.TheVariants.{X7}
 use Rattle.mm_text.proofs.InclusionLaws.{pieces-class, put_in-plain, put_in-wrong, put_in-inclusion, put_in-end, put_in-nil, put_in-unknown, put_in-again, put_in-first, waiting-push}
 
 -- before the top file's end, outside inclusions or after a `$[`
@@ -48,8 +49,7 @@ same_file p q e = ap (λ (r : Place). r.file) e
 put_in-with : (files : List PlainFile) (left : ℕ) (named : List Bool) (t : PlainToken) (kind : Class) (rest after : List Piece)
     → put_in files left named (pieces_with t kind rest ++ after) ≡ items_with t kind (put_in files left named (rest ++ after))
 put_in-with files left named t (class.Wrong rule) rest after = put_in-wrong files left named rule t after
-put_in-with files left named t (class.Keyword keyword) rest after = put_in-plain files left named t (rest ++ after)
-put_in-with files left named t class.Word rest after = put_in-plain files left named t (rest ++ after)
+put_in-with files left named t _ rest after = put_in-plain files left named t (rest ++ after)
 
 pub takes_token : (n : Nest) (q : Place) (t : PlainToken) (kind : Class) → n.is_over ≡ false → n.naming ≡ None → IsSameFile n.place q
     → pieces n.place.file Outside (shown_at n.place) ≡ pieces_with t kind (pieces n.place.file Outside (shown_at q))
@@ -155,8 +155,7 @@ in_range (b ∷ named) (suc n) e = omega (arith, in_range named n e)
 pub count_named : (named : List Bool) (n : ℕ) → n < length named → slice_index_or named n true ≡ false → count_by not named ≡ suc (count_by not (slice_set named n true))
 count_named named n lt e =
     let weight : Bool → ℕ = λ b. cond (not b) 1 0 in
-    let one : weight (get_or named n true) ≡ weight false = ap weight e in
-    omega (arith, sum_by-set (λ b. cond (not b) 1 0) named n true true lt, one)
+    omega (arith, sum_by-set (λ b. cond (not b) 1 0) named n true true lt, ap weight e)
 
 -- ---- a file is gone into
 
@@ -200,12 +199,10 @@ leaves_to n m q over naming e same =
 abbrev pub no_file : File
 no_file = record { name = record { ref_ptr = (0, 0); now = [] }; bytes = record { ref_ptr = (0, 0); now = [] } }
 
-count_replicate : (n : ℕ) → sum_by (λ b. cond (not b) 1 0) (replicate n false) ≡ n
-count_replicate zero = refl
-count_replicate (suc n) = omega (arith, count_replicate n, sum_by_from (λ b. cond (not b) 1 0) (0 + 1) (replicate n false))
-
 pub count_top : (n : ℕ) → count_by not (true ∷ replicate n false) ≡ n
-count_top n = omega (arith, count_replicate n, sum_by_from (λ b. cond (not b) 1 0) (0 + 0) (replicate n false))
+count_top n =
+    let weight : Bool → ℕ = λ b. cond (not b) 1 0 in
+    omega (arith, sum_by-replicate weight n false, sum_by_from weight (0 + 0) (replicate n false))
 
 -- all files but the top file aren't named yet
 pub room_at_begin : (files : List File) (named : List Bool) → 0 < length files → named ≡ replicate (length files) false → count_by not (slice_set named 0 true) ≡ length files - 1
@@ -222,10 +219,28 @@ begins (f ∷ files) d named p places some e bytes file at none =
     let all = map plain_file (f ∷ files) in
     let others : ℕ = length (map plain_file files) in
     let first : slice_set named 0 true ≡ true ∷ replicate others false =
-    ap (λ l. slice_set l 0 true) e
-    ∙ ap (λ n. true ∷ replicate n false) (sym (length-map files plain_file)) in
+    rw (e, length-map files plain_file) refl in
     let count = ap (count_by not) first ∙ count_top others in
     (λ i. put_in all (count i) (first i) (pieces (file i) Outside
     (without_comments None (tokens_from (file i) (at i) (drop (at i) (bytes i))))
     ++ waiting (none i)))
     ∙ ap (put_in all others (true ∷ replicate others false)) (append-nil (pieces_of 0 (plain_file f)))
+
+-- `grind` takes these by their names.
+pub ruleset nest_steps = (
+  nil_from_length,
+  get_or_default,
+  includes_wrong,
+  includes_name,
+  includes_unknown,
+  includes_again,
+  number_told,
+  number_within,
+  leaves_to,
+  leaves_last,
+  takes_token,
+  takes_inclusion,
+  takes_end,
+  takes_word,
+  none_there,
+)

@@ -1,8 +1,7 @@
 -- A reading of items is what the reader computes, so there is one reading.
-use Rattle.std.proofs.Common.{◌≡◌, ◌≢◌, ℕ, ◌==◌, length, List, [], ◌∷◌, ◌++◌, true, false, cond, refl, sym, ap, subst, ◌∙◌, codes, Option, Some, None, append_assoc, ◌⊎◌, inl, inr}
+use Rattle.std.proofs.Common.{◌≡◌, ◌≢◌, ℕ, ◌==◌, length, List, [], ◌∷◌, ◌++◌, true, false, refl, sym, ap, subst, ◌∙◌, codes, Option, Some, None, append_assoc, ◌⊎◌, inl, inr}
 use Rattle.std.proofs.lemmas.List.{append-nil}
 use Rattle.std.proofs.lemmas.Bool.{cond-true, cond-false, cond_both, false_from_ne_true, false≢true, eq-eqb, eqb-true}
-use Rattle.mm_text.specs.Items.{spells}
 use Rattle.mm_text.specs.declared.scope.OpenBlock.{OpenBlock}
 use Rattle.mm_text.specs.declared.fault.TextRule.{TextRule}
 use Rattle.mm_text.specs.declared.fault.TextRule.TheVariants.{X6, X8, S1, S2, S3, S4, S5, S6, S7}
@@ -13,19 +12,18 @@ use Rattle.mm_text.specs.Statement.{PlainStatement, SpellsAll, IsKeyword, FitsCo
 use Rattle.mm_text.specs.Items.{Item, Plain, Wrong, Inclusion, End, plain_tokens, HoldNoFault}
 use Rattle.mm_text.specs.Blocks.{AreBalanced, AreClosed, IsInnermost}
 use Rattle.mm_text.specs.Reading.{PlainFault, closes_symbols, IsBody, IsInProof, IsBeginning, AreOutside, Viable, Meets, MeetsS1, MeetsS2, MeetsS3, MeetsS6, fault_at, EndsInX8, EndsInS7, EndsAt, ReadsAs}
-use Rattle.mm_text.specs.Mirror.Reader.{Part, Between, Labelled, InBody, InProof, Step, More, Whole, Opened, Closed, Faulty, step, bare_statement, is_keyword, is_full, PlainScope, outermost, scope_after_statement, scope_after_opening, scope_after_closing, has_none, fault_in, block_fault, end_fault, inclusion_fault, unless, PlainReading, only_ending, with_statement, reading_of}
-use Rattle.mm_text.specs.Statement.{is_provable}
-use Rattle.mm_text.proofs.TextFacts.{same_text-ne, is_keyword-ne, is_keyword_from, symbol-is_keyword}
+use Rattle.mm_text.specs.Mirror.Reader.{Part, Between, Labelled, InBody, InProof, Step, More, Whole, Opened, Closed, Faulty, step, bare_statement, PlainScope, outermost, scope_after_statement, scope_after_opening, scope_after_closing, has_none, fault_in, block_fault, end_fault, inclusion_fault, unless, PlainReading, only_ending, with_statement, reading_of}
+use Rattle.mm_text.proofs.TextFacts.{same_text-ne, is_keyword-true, is_keyword_from}
 use Rattle.mm_text.proofs.ItemFronts.{plain_tokens-append, clean_behind}
 use Rattle.mm_text.proofs.PartTokens.{Describes, part_of_body, part_of_proof, part_of_beginning, first_of_part}
 use Rattle.mm_text.proofs.GrammarSteps.{closing_sign}
 use Rattle.mm_text.proofs.StepLaws.{read_nothing, read_end, read_inclusion, read_wrong, read_more, read_whole, read_opened, read_closing, read_faulty}
 use Rattle.mm_text.proofs.ReaderRuns.{Runs, run, run-nil, run_step, with_first, with_all, with_all-runs, run_on, runs_parts, front_of_run}
 use Rattle.mm_text.proofs.StatementRuns.{closing_short, spelled_run, whole_run}
-use Rattle.mm_text.proofs.StepLaws.{step_closes, step_no_label, IsLongPart, Leads, step_leads}
+use Rattle.mm_text.proofs.StepLaws.{step_closes, step_no_label, step_too_many, IsLongPart, Leads}
+use Rattle.mm_text.proofs.StepLaws.{step_leads}
 use Rattle.mm_text.proofs.BlockFacts.{AreOpen, scope_after, scope_of, scope_body, scope_more, scope_open, closed_scope, unclosed_scope, one_innermost, innermost_unclosed, balanced_front, closing_unbalanced}
 use Rattle.mm_text.proofs.ComputedReadings.{fault_is}
-use Rattle.mm_text.proofs.Lists.{cons_parts}
 
 -- ---- faulty tokens
 
@@ -46,7 +44,8 @@ breaks_S1 tokens t m = record {
 
 breaks_S2 : (tokens : List PlainToken) (t : PlainToken) → MeetsS2 tokens t → Breaks tokens t S2
 breaks_S2 tokens t m =
-    let faulty = step_no_label t (is_keyword-ne t.text m.1) (false_from_ne_true _ m.2) in
+    let none = false_from_ne_true _ (λ e. m.1 (is_keyword-true t.text e)) in
+    let faulty = step_no_label t none (false_from_ne_true _ m.2) in
     record { part = Between; described = m.0; faulty = faulty }
 
 breaks_S3 : (tokens : List PlainToken) (t : PlainToken) → MeetsS3 tokens t → Breaks tokens t S3
@@ -60,36 +59,31 @@ breaks_S3 tokens t m = record {
 body_other : (s : PlainStatement) (t : PlainToken) → IsKeyword t.text → t.text ≢ closes_symbols s.kind → step (InBody s) t ≡ Faulty S4
 unfolding step
 body_other s t k ne =
-    cond-true (is_keyword t.text) _ _ (is_keyword_from t.text k)
-    ∙ cond-false (spells t.text (cond (is_provable s.kind) (codes "$=") (codes "$."))) _ _ (same_text-ne t.text (cond (is_provable s.kind) (codes "$=") (codes "$.")) (λ e. ne (e ∙ closing_sign s.kind)))
-
-proof_other : (s : PlainStatement) (t : PlainToken) → IsKeyword t.text → t.text ≢ codes "$." → step (InProof s) t ≡ Faulty S4
-unfolding step
-proof_other s t k ne = cond-true (is_keyword t.text) _ _ (is_keyword_from t.text k) ∙ cond-false (spells t.text (codes "$.")) _ _ (same_text-ne t.text (codes "$.") ne)
+    rw (is_keyword_from t.text k) (simp (same_text-ne t.text _ (λ e. ne (e ∙ closing_sign s.kind))))
 
 breaks_S4 : (tokens : List PlainToken) (t : PlainToken) → IsKeyword t.text
     → ((kind : Kind) × (symbols : List PlainToken) × IsBody tokens kind symbols × (t.text ≢ closes_symbols kind)) ⊎ (IsInProof tokens × (t.text ≢ codes "$.")) → Breaks tokens t S4
+unfolding step
 breaks_S4 tokens t k (inl m) =
     let found = part_of_body tokens m.0 m.1 m.2 in
     record { part = InBody found.0; described = found.3; faulty = body_other found.0 t k (λ e. m.3 (e ∙ ap closes_symbols found.1)) }
 breaks_S4 tokens t k (inr m) =
     let found = part_of_proof tokens m.0 in
-    record { part = InProof found.0; described = found.1; faulty = proof_other found.0 t k m.1 }
-
-third_symbol : (s : PlainStatement) (t : PlainToken) → is_keyword t.text ≡ false → s.kind ≡ Floating → length s.symbols ≡ 2 → step (InBody s) t ≡ Faulty S5
-unfolding step
-third_symbol s t nk k two =
-    cond-false (is_keyword t.text) _ _ nk ∙ cond-true (is_full s.kind (length s.symbols)) _ _ (ap (λ (x : Kind). is_full x (length s.symbols)) k ∙ eq-eqb (length s.symbols) 2 two)
+    let stop = same_text-ne t.text (codes "$.") m.1 in
+    let faulty : step (InProof found.0) t ≡ Faulty S4 = rw (is_keyword_from t.text k) (simp stop) in
+    record { part = InProof found.0; described = found.1; faulty = faulty }
 
 breaks_S5 : (tokens : List PlainToken) (t : PlainToken) (kind : Kind) (symbols : List PlainToken) → IsBody tokens kind symbols
     → ((t.text ≡ closes_symbols kind) × ¬ (FitsCount kind (length symbols))) ⊎ (HoldsNoDollar t.text × (kind ≡ Floating) × (length symbols ≡ 2)) → Breaks tokens t S5
 breaks_S5 tokens t kind symbols b (inl m) =
-    let found = part_of_body tokens kind symbols b in
-    let short : ¬ (FitsCount found.0.kind (length found.0.symbols)) = λ c. m.1 (subst (λ (x : List PlainToken). FitsCount kind (length x)) found.2 (subst (λ (x : Kind). FitsCount x (length found.0.symbols)) found.1 c)) in
-    record { part = InBody found.0; described = found.3; faulty = closing_short found.0 t (m.0 ∙ ap closes_symbols (sym found.1)) short }
+    let (s, is, same, body) = part_of_body tokens kind symbols b in
+    let short : ¬ (FitsCount s.kind (length s.symbols)) = λ c. m.1 (rw (is, same) at c) in
+    let faulty = closing_short s t (m.0 ∙ ap closes_symbols (sym is)) short in
+    record { part = InBody s; described = body; faulty = faulty }
 breaks_S5 tokens t kind symbols b (inr m) =
-    let found = part_of_body tokens kind symbols b in
-    record { part = InBody found.0; described = found.3; faulty = third_symbol found.0 t (symbol-is_keyword t.text m.0) (found.1 ∙ m.1) (ap (length {A = PlainToken}) found.2 ∙ m.2) }
+    let (s, is, same, body) = part_of_body tokens kind symbols b in
+    let faulty = step_too_many s t m.0 (rw (is, same, m.1) (eq-eqb (length symbols) 2 m.2)) in
+    record { part = InBody s; described = body; faulty = faulty }
 
 -- ---- the fault after a front
 
@@ -110,7 +104,8 @@ meets_S6 : (statements : List PlainStatement) (tokens : List PlainToken) (t : Pl
 meets_S6 statements tokens t rest fault e b m = record {
   part = Between;
   described = m.0;
-  last = read_closing (scope_of statements) Between t rest (step_closes t m.1) ∙ cond-true (has_none (scope_of statements).blocks) _ _ (closed_scope statements b m.2)
+  last = read_closing (scope_of statements) Between t rest (step_closes t m.1)
+      ∙ rw (closed_scope statements b m.2) refl
       ∙ ap (λ (f : PlainFault). only_ending (Some f)) (fault_is S6 t Between statements tokens m.0 ∙ sym e);
 }
 
@@ -138,8 +133,7 @@ inclusion_is_fault statements tokens part t b d why =
       | inl none ↦ elim why [
         | inl not_empty ↦ absurd (not_empty none.1)
         | inr some_open ↦
-            ap (λ (x : Part). inclusion_fault (scope_of statements) x t) none.0 ∙ cond-false (has_none (scope_of statements).blocks) _ _ (unclosed_scope statements b some_open)
-            ∙ ap (λ (x : Part). Some (fault_in (scope_of statements) x X6 t)) (sym none.0)
+            rw (none.0, inclusion_fault, unclosed_scope statements b some_open) refl
       ]
     ]
 
@@ -161,7 +155,7 @@ end_X8 statements tokens file rest fault begins e =
       | inl none ↦ absurd (cc (none.1, e.2))
       | inr some ↦
           let unfinished : end_fault (scope_of statements) found.0 file ≡ Some (fault_in (scope_of statements) found.0 X8 some.0) = rw (end_fault, some.2) refl in
-          let same : some.0 ≡ e.0 = (cons_parts some.0 e.0 some.1 e.1 (sym some.3 ∙ e.2)).0 in
+          let same : some.0 ≡ e.0 = cc (some.3, e.2) in
           record {
             part = found.0;
             described = found.1;
@@ -237,8 +231,7 @@ moved whole pre front item all statements more after last part next w r is long 
 -- nothing is unfinished where tokens spell statements
 spelled_between : (pre : List Item) (statements earlier : List PlainStatement) (part : Part) → run Between (plain_tokens pre) ≡ Runs statements part → SpellsAll (plain_tokens pre) earlier → (earlier ≡ statements) × (part ≡ Between)
 spelled_between pre statements earlier part done h =
-    let parts = runs_parts earlier statements Between part (sym (whole_run (plain_tokens pre) earlier h) ∙ done) in
-    (parts.0, sym parts.1)
+    let run = whole_run (plain_tokens pre) earlier h in (cc (run, done), cc (run, done))
 
 -- how the items of a viable front may stand, whatever they spell
 record AllowsAll (whole : List Item) (all : List PlainStatement) : Type 0 where

@@ -2,6 +2,7 @@
 use Rattle.std.proofs.Common.{◌≡◌, ℕ, ◌+◌, List, [], ◌∷◌, true, false, Option, Some, None, Result}
 use Rattle.std.proofs.Common.{Ok, Err, IsErrAnd, refl, sym, ap, ◌∙◌, subst, codes}
 use Rattle.std.proofs.lemmas.Bool.{cond-true, cond-false}
+use Rattle.std.proofs.lemmas.List.{map_push}
 use Rattle.std.specs.Prelude.{option_map}
 use Rattle.mm_text.specs.declared.token.Token.{Token}
 use Rattle.mm_text.specs.declared.fault.TextRule.{TextRule}
@@ -16,7 +17,7 @@ use Rattle.mm_text.specs.Reading.{PlainFault}
 use Rattle.mm_text.specs.Mirror.Reader.{Part, step, More, Whole, Faulty, PlainScope, scope_after_opening, fault_in, end_fault, has_none, unless, part_label, part_first, Between, bare_statement, PlainReading, only_ending, with_statement, reading_of}
 use Rattle.mm_text.specs.Mirror.Steps.{fault_of, AnswersFault, GivesPart, GivesFirst, TellsFault, Opens, Closes, StepsTo, ReadsOn}
 use Rattle.mm_text.proofs.StepLaws.{read_nothing, read_end, read_inclusion, read_wrong, read_more, read_whole, read_opened, read_closing, read_faulty, step_opens, step_closes}
-use Rattle.mm_text.proofs.StepLaws.{IsUnfinished}
+use Rattle.mm_text.proofs.StepLaws.{IsUnfinished, step_proof_token, step_ends_proof, step_in_proof}
 use Rattle.mm_text.proofs.MoreLeft.{HasMore, more_left, statement_more}
 
 -- ---- faults
@@ -46,10 +47,9 @@ pub gives_faulty : (scope : PlainScope) (part : Part) (reading : PlainReading)
     → fault ≡ Fault rule t.file t.at (scope.count + 1) label
     → GivesPart scope reading (Err fault) into new
 gives_faulty scope part reading items rest t rule label fault into new same first faulty named e =
-    let last = read_faulty scope part t rest rule faulty in
     record {
       answer = answers_at scope part t rule label reading fault named e
-          (same ∙ ap (reading_of scope part) first ∙ last);
+          (same ∙ ap (reading_of scope part) first ∙ read_faulty scope part t rest rule faulty);
     }
 
 -- a file is included in a statement
@@ -73,12 +73,6 @@ answers_nothing scope part items first label fault next bare_statement named e =
     answers_at scope part first X8 label _ fault named e
     (ap (reading_of scope part) next ∙ read_nothing scope part ∙ rw bare_statement refl)
 
--- a fault of a token
-pub steps_to_fault : (scope : PlainScope) (part : Part) (t : PlainToken) (fault : TextFault) (rule : TextRule) (label : Option Token) (next : Part) → fault ≡ Fault rule t.file t.at (scope.count + 1) label → step part t ≡ Faulty rule
-    → part_label part ≡ option_map plain_token label → StepsTo scope part t (Err fault) next
-steps_to_fault scope part t fault rule label next e faulty named =
-    subst (λ f. StepsTo scope part t (Err f) next) (sym e) (faulty, fault_with scope part t rule label named)
-
 -- a token that was not taken in ends the reading, or there was no memory for it
 pub answers_refused : (scope : PlainScope) (part next : Part) (items rest : List Item) (t : PlainToken) (fault : TextFault) → IsUnfinished part → items ≡ Plain t ∷ rest → StepsTo scope part t (Err fault) next
     → AnswersFault (reading_of scope part items) fault
@@ -97,22 +91,21 @@ answers_same reading other fault e h = subst (λ x. AnswersFault x fault) (sym e
 pub gives_same : (scope : PlainScope) (reading other : PlainReading) (r : Result Unit TextFault) (into : PlainStatement) (new : List Item) → reading ≡ other → GivesPart scope other r into new → GivesPart scope reading r into new
 gives_same scope reading other r into new e h = subst (λ x. GivesPart scope x r into new) (sym e) h
 
--- a fault that is passed on
-pub gives_err : (scope : PlainScope) (reading other : PlainReading) (r : Result Unit TextFault)
-    (fault : TextFault) (into : PlainStatement) (new : List Item) → IsErrAnd r (λ e. e ≡ fault)
-    → reading ≡ other → AnswersFault other fault → GivesPart scope reading r into new
-gives_err scope reading other (Ok done) fault into new is same h = absurd is
-gives_err scope reading other (Err passed_on) fault into new is same h =
-    let known : AnswersFault other passed_on = subst (AnswersFault other) (sym is) h in
-    record { answer = answers_same reading other passed_on same known }
-
--- the same, where what was read is told apart from what is left
+-- a fault that is passed on, where what was read is told apart from what is left
 pub reads_err : (reading other later : PlainReading) (r : Result Unit TextFault) (fault : TextFault)
     → IsErrAnd r (λ e. e ≡ fault) → reading ≡ other → AnswersFault other fault
     → ReadsOn reading r later
 reads_err reading other later (Ok done) fault is same h = absurd is
 reads_err reading other later (Err passed_on) fault is same h =
     answers_same reading other passed_on same (subst (AnswersFault other) (sym is) h)
+
+-- and where it isn't
+pub gives_err : (scope : PlainScope) (reading other : PlainReading) (r : Result Unit TextFault)
+    (fault : TextFault) (into : PlainStatement) (new : List Item) → IsErrAnd r (λ e. e ≡ fault)
+    → reading ≡ other → AnswersFault other fault → GivesPart scope reading r into new
+gives_err scope reading other (Ok done) fault into new is same h = absurd is
+gives_err scope reading other (Err passed_on) fault into new is same h =
+    record { answer = reads_err reading other other (Err passed_on) fault is same h }
 
 -- a token that doesn't end the part
 pub same_more : (scope : PlainScope) (part next : Part) (items rest : List Item) (t : PlainToken) → items ≡ Plain t ∷ rest → step part t ≡ More next → reading_of scope part items ≡ reading_of scope next rest
@@ -134,8 +127,7 @@ answers_in_block scope items rest t fault next some e =
 pub answers_open : (scope : PlainScope) (items rest : List Item) (file : ℕ) (fault : TextFault) → items ≡ End file ∷ rest → TellsFault (end_fault scope Between file) (Some fault) → AnswersFault (reading_of scope Between items) fault
 answers_open scope items rest file (Fault rule home at statement label) next told =
     ap (reading_of scope Between) next ∙ read_end scope Between file rest ∙ ap (λ (f : Option PlainFault). unless f (reading_of scope Between rest)) told
-answers_open scope items rest file Memory next told = absurd told
-answers_open scope items rest file (Load rule) next told = absurd told
+answers_open scope items rest file _ next told = absurd told
 
 -- ---- whole statements
 
@@ -163,3 +155,28 @@ pub answers_closing : (scope later : PlainScope) (items rest : List Item) (t : P
 answers_closing scope later items rest t fault first sign h e =
     answers_at scope Between t S6 None _ fault refl (e ∙ ap (λ (x : PlainScope). Fault S6 t.file t.at (x.count + 1) None) h.1)
     (ap (reading_of scope Between) first ∙ read_closing scope Between t rest (step_closes t sign) ∙ cond-true (has_none scope.blocks) _ _ h.0)
+
+-- `grind` takes these by their names.
+pub ruleset part_steps = (
+  step_proof_token,
+  step_ends_proof,
+  step_in_proof,
+  read_nothing,
+  read_end,
+  read_inclusion,
+  answers_refused,
+  answers_wrong,
+  answers_closing,
+  answers_same,
+  answers_in_block,
+  answers_open,
+  gives_same,
+  gives_err,
+  gives_faulty,
+  gives_whole,
+  gives_opening,
+  closes_block,
+  same_more,
+  reads_err,
+  map_push,
+)

@@ -55,12 +55,6 @@ Describes-label (InBody s) tokens d = ap label_in d.whole ∙ label_in-front d.h
 Describes-label (InProof s) tokens d =
     ap label_in (d.whole ∙ append_assoc d.head s.symbols (d.equals ∷ s.proof)) ∙ label_in-front d.head s.first d.others (s.symbols ++ d.equals ∷ s.proof) d.first ∙ sym d.label
 
-pub body-first : (s : PlainStatement) (tokens : List PlainToken) (d : IsPartBody s tokens) → tokens ≡ s.first ∷ d.others ++ s.symbols
-body-first s tokens d = d.whole ∙ ap (λ (h : List PlainToken). h ++ s.symbols) d.first
-
-pub proof-first : (s : PlainStatement) (tokens : List PlainToken) (d : IsPartProof s tokens) → tokens ≡ s.first ∷ (d.others ++ s.symbols) ++ d.equals ∷ s.proof
-proof-first s tokens d = d.whole ∙ ap (λ (h : List PlainToken). (h ++ s.symbols) ++ d.equals ∷ s.proof) d.first
-
 -- ---- a head by itself
 
 pub record IsStarted (kind : Kind) (head : List PlainToken) : Type 0 where
@@ -124,5 +118,5 @@ pub first_of_part : (part : Part) (tokens : List PlainToken) → Describes part 
     → ((part ≡ Between) × (tokens ≡ [])) ⊎ ((first : PlainToken) × (others : List PlainToken) × (part_first part ≡ Some first) × (tokens ≡ first ∷ others))
 first_of_part Between tokens d = inl (refl, d)
 first_of_part (Labelled label) tokens d = inr (label, [], refl, d.0)
-first_of_part (InBody s) tokens d = inr (s.first, d.others ++ s.symbols, refl, body-first s tokens d)
-first_of_part (InProof s) tokens d = inr (s.first, (d.others ++ s.symbols) ++ d.equals ∷ s.proof, refl, proof-first s tokens d)
+first_of_part (InBody s) tokens d = inr (s.first, _, refl, rw d.first at d.whole)
+first_of_part (InProof s) tokens d = inr (s.first, _, refl, rw d.first at d.whole)

@@ -1,8 +1,6 @@
 -- Where the bytes of a proof stand in those of its file.
 use Rattle.std.proofs.Common.{◌≡◌, ℕ, ◌+◌, List, [], ◌∷◌, ◌++◌, map, length, refl, sym, ap, ◌∙◌, None, append_assoc}
-use Rattle.std.specs.Prelude.{slice_get}
 use Rattle.std.proofs.lemmas.List.{map-append}
-use Rattle.std.proofs.lemmas.Option.{same_Some}
 use Rattle.mm_text.specs.Token.{PlainToken, tokens_from}
 use Rattle.mm_text.specs.Files.{PlainFile}
 use Rattle.mm_text.specs.Statement.{PlainStatement}
@@ -40,12 +38,11 @@ proofs_stand_in_spans_holds files before s after ending file reads p there =
     let behind : List PlainToken = s.proof ++ a.ends.stop ∷ [] in
     let st = front_run_stands files all f a.front a.back a.ends.equals behind a.whole in
     let number : st.number ≡ s.first.file =
-    sym (home files a.ends.equals behind st)
-    ∙ (ends_home files all before after f s a.parts a.ends).0 in
-    let same_file : st.place.file ≡ file = same_Some st.place.file file (sym st.place.there ∙ ap (slice_get files) number ∙ there) in
+    sym (home files _ behind st) ∙ (ends_home files all before after f s a.parts a.ends).0 in
+    let same_file : st.place.file ≡ file = cc (st.place.there, number, there) in
     let r = st.place.reached in
     let (earlier, later, b) = apart st.number st.place.file.bytes st.passed r.tokens a.ends.equals s.proof a.ends.stop st.rest r.clear st.place.whole in
-    let two : a.ends.equals.at + length a.ends.equals.text ≡ a.ends.equals.at + 2 = ap (λ (l : List ℕ). a.ends.equals.at + length l) a.ends.sign in
+    let two = ap (λ (l : List ℕ). a.ends.equals.at + length l) a.ends.sign in
     record {
       front = b.front;
       within = b.within;

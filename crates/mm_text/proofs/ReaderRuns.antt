@@ -71,8 +71,7 @@ append_run : (part : Part) (a b : List PlainToken) → run part (a ++ b) ≡ the
 unfolding run
 append_run part [] b = refl
 append_run part (t ∷ a) b =
-    then_by t (λ next. run next (a ++ b)) (λ next. run next a) b
-    (λ next. append_run next a b) (step part t)
+    then_by t _ (λ next. run next a) b (λ next. append_run next a b) (step part t)
 
 -- after tokens that make statements and a part, more tokens go on from there
 pub run_on : (a b : List PlainToken) (statements : List PlainStatement) (part : Part) → run Between a ≡ Runs statements part → run Between (a ++ b) ≡ with_all statements (run part b)

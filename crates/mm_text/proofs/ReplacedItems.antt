@@ -1,8 +1,9 @@
 -- The items of files of which one has other bytes between the `$=` and the `$.` of a statement.
 use Rattle.std.proofs.Common.{◌≡◌, ◌≢◌, ℕ, zero, suc, ◌+◌, List, [], ◌∷◌, ◌++◌, length, replicate}
 use Rattle.std.proofs.Common.{Bool, true, false, refl, sym, ap, ◌∙◌, subst, codes, Some, arith}
-use Rattle.std.specs.Prelude.{slice_get, slice_index_or, slice_set}
+use Rattle.std.specs.Prelude.{slice_get, slice_set}
 use Rattle.std.specs.List.{AllZip}
+use Rattle.std.proofs.lemmas.List.{get_or-replicate}
 use Rattle.std.proofs.lemmas.Option.{same_Some, slice_get_within}
 use Rattle.mm_text.proofs.Lists.{get_set_same}
 use Rattle.mm_text.specs.Token.{PlainToken, tokens_from}
@@ -11,8 +12,7 @@ use Rattle.mm_text.specs.Items.{Item, Piece, pieces_of, put_in, items}
 use Rattle.mm_text.proofs.AlikeItems.{SamePiece, pieces_agree, SameNames, as_long, same_number}
 use Rattle.mm_text.proofs.FollowedItems.{StandsInFile}
 use Rattle.mm_text.specs.Replaced.{IsProofText, with_span}
-use Rattle.mm_text.proofs.ReplacedPieces.{further, further_elsewhere, met}
-use Rattle.mm_text.proofs.ReplacedPieces.{replaced_pieces}
+use Rattle.mm_text.proofs.ReplacedPieces.{further, further_elsewhere, met, replaced_pieces}
 use Rattle.mm_text.proofs.AlteredItems.{SameOrAlter, put_in_within, put_in_before}
 
 -- ---- files of which one is another
@@ -34,16 +34,9 @@ pub set_there : (files : List PlainFile) (k : ℕ) (f g : PlainFile) → slice_g
 set_there files k f g there = get_set_same files k g (slice_get_within files k f there)
 
 set_elsewhere : (files : List PlainFile) (k : ℕ) (g : PlainFile) (n : ℕ) → n ≢ k → slice_get (with_file files k g) n ≡ slice_get files n
-set_elsewhere [] k g n other = refl
 set_elsewhere (h ∷ files) zero g zero other = absurd (other refl)
-set_elsewhere (h ∷ files) zero g (suc n) other = refl
-set_elsewhere (h ∷ files) (suc k) g zero other = refl
 set_elsewhere (h ∷ files) (suc k) g (suc n) other = set_elsewhere files k g n (λ e. other (ap suc e))
-
-not_named : (files : List PlainFile) (k : ℕ) (f : PlainFile) → slice_get files k ≡ Some f → slice_index_or (replicate (length files) false) k true ≡ false
-not_named [] k f there = absurd cc
-not_named (h ∷ files) zero f there = refl
-not_named (h ∷ files) (suc k) f there = not_named files k f there
+set_elsewhere files k g n other = refl
 
 -- ---- the items
 
@@ -83,16 +76,12 @@ module _ (text : List ℕ) (equals : PlainToken) (proof : List PlainToken) (stop
       let changed : List PlainFile = g ∷ others in
       let long : ℕ = length others in
       let named : List Bool = true ∷ replicate long false in
-      let first : pieces_of 0 top ≡ r.before ++ (met run ++ r.after) =
-      ap (pieces_of 0) (same_Some top f there) ∙ r.old in
       let numbers = same_number files changed (same_names files 0 f g there r.name) in
       let inner =
       put_in_within h j files changed 0 f g run (replacing 0 text equals stop) r.before r.after
       r.behind numbers (set_elsewhere files 0 g) there refl r.old r.new r.same r.still long named
       refl r.before r.after r.behind r.same in
-      subst (λ (x : List Piece × List Piece).
-      Differ 0 (put_in files long named x.0) (put_in changed long named x.1))
-      (λ i. (sym first i, sym r.new i)) inner
+      rw (ap (pieces_of 0) (same_Some top f there) ∙ r.old, r.new) inner
 
   -- in another file
   other_replaced : (top : PlainFile) (others : List PlainFile) (k : ℕ) (f g : PlainFile)
@@ -102,15 +91,14 @@ module _ (text : List ℕ) (equals : PlainToken) (proof : List PlainToken) (stop
       let files : List PlainFile = top ∷ others in
       let changed : List PlainFile = top ∷ with_file others k g in
       let named : List Bool = true ∷ replicate (length others) false in
-      let names = same_names others k f g there r.name in
-      let long : length others ≡ length (with_file others k g) =
-      as_long others (with_file others k g) names in
+      let long = as_long others (with_file others k g) (same_names others k f g there r.name) in
       let numbers = same_number files changed (same_names files (suc k) f g there r.name) in
       let inner =
       put_in_before h j files changed (suc k) f g run (replacing (suc k) text equals stop) r.before
       r.after r.behind numbers (set_elsewhere files (suc k) g) there
       (set_there files (suc k) f g there) r.old r.new r.same r.still (length others) named
-      (not_named others k f there) (pieces_of 0 top) (r.still 0 top (λ e. omega (arith, e))) in
+      (get_or-replicate _ k false true (slice_get_within others k f there)) (pieces_of 0 top)
+      (r.still 0 top (λ e. omega (arith, e))) in
       subst (λ n. Differ (suc k) (put_in files (length others) named (pieces_of 0 top))
       (put_in changed n (true ∷ replicate n false) (pieces_of 0 top))) long inner
 
@@ -131,8 +119,7 @@ pub replaced_items : (text : List ℕ) (equals : PlainToken) (proof : List Plain
     (items (with_file files s.number (record s.place.file { bytes = bytes })))
 replaced_items text equals proof stop is_text sign files s =
     let start : ℕ = equals.at + length equals.text in
-    let end : ℕ = start + length text in
-    let h : ℕ → ℕ → ℕ = further s.number end in
+    let h : ℕ → ℕ → ℕ = further s.number (start + length text) in
     let j : ℕ → ℕ → ℕ = further s.number stop.at in
     let r = replaced_pieces files text equals proof stop is_text sign s in
     let bytes : List ℕ = with_span s.place.file.bytes (start, stop.at) text in
@@ -146,6 +133,6 @@ replaced_items text equals proof stop is_text sign files s =
       new = r.new;
       same = r.same;
       still = λ n file other. pieces_agree h j n file (λ at.
-          further_elsewhere s.number end n at other
+          further_elsewhere s.number (start + length text) n at other
           ∙ sym (further_elsewhere s.number stop.at n at other));
     })

@@ -1,14 +1,14 @@
 -- The pieces of a file in which other bytes stand between the `$=` and the `$.` of a statement.
-use Rattle.std.proofs.Common.{◌≡◌, ◌≢◌, ℕ, ◌+◌, ◌-◌, ◌≤◌, ◌==◌, Bool, cond, eq-eqb, List, [], ◌∷◌}
-use Rattle.std.proofs.Common.{◌++◌, length, map, take, drop, refl, sym, ap, ◌∙◌, subst}
+use Rattle.std.proofs.Common.{◌≡◌, ◌≢◌, ℕ, ◌+◌, ◌-◌, ◌≤◌, ◌==◌, Bool, true, cond, eq-eqb}
+use Rattle.std.proofs.Common.{List, [], ◌∷◌, ◌++◌, length, map, refl, sym, ap, ◌∙◌, subst}
 use Rattle.std.proofs.Common.{codes, None, append_assoc, arith}
-use Rattle.std.specs.List.{AllZip, AllByRecursion, list_all}
+use Rattle.std.specs.List.{AllZip, AllByRecursion}
 use Rattle.std.proofs.lemmas.Bool.{ne_eqb}
 use Rattle.std.proofs.lemmas.List.{map-append, length-append}
 use Rattle.std.proofs.Math.Seq.{take-append_seam, drop-append_seam}
-use Rattle.mm_text.specs.Token.{PlainToken, is_printable, tokens_from}
+use Rattle.mm_text.specs.Token.{PlainToken, tokens_from}
 use Rattle.mm_text.specs.Files.{PlainFile}
-use Rattle.mm_text.specs.Items.{Plain, Shown, Clear, without_comments, spells, Outside, Piece, Met, broken_outside, pieces, pieces_of}
+use Rattle.mm_text.specs.Items.{Plain, Shown, Clear, without_comments, Outside, Piece, Met, pieces, pieces_of}
 use Rattle.mm_text.specs.Alike.{token_on, shown_on}
 use Rattle.mm_text.specs.Replaced.{IsProofToken, IsProofText, with_span}
 use Rattle.mm_text.proofs.TokenLaws.{BeginsWithSpace}
@@ -16,7 +16,7 @@ use Rattle.mm_text.proofs.CommentLaws.{outside-clear, no_dollar-spells}
 use Rattle.mm_text.proofs.InclusionLaws.{pieces-plain}
 use Rattle.mm_text.proofs.AlikeItems.{SamePiece, SameShown, shown_same, pieces_same}
 use Rattle.mm_text.proofs.Dropped.{seen, lines_seen}
-use Rattle.mm_text.proofs.CutTokens.{IsSpaced, Moves, replaced_between}
+use Rattle.mm_text.proofs.CutTokens.{IsSpaced, replaced_between}
 use Rattle.mm_text.proofs.OnceLaws.{Rises, rises_earlier, tokens_rise}
 use Rattle.mm_text.proofs.FollowedItems.{IsPlainIn, AllPlainIn, StandsInFile}
 use Rattle.mm_text.proofs.CutShown.{clear_shown}
@@ -30,8 +30,7 @@ pub further_here : (number by at : ℕ) → further number by number at ≡ at +
 further_here number by at = ap (λ (b : Bool). cond b (at + by) at) (eq-eqb number number refl)
 
 pub further_elsewhere : (number by file at : ℕ) → file ≢ number → further number by file at ≡ at
-further_elsewhere number by file at other =
-    ap (λ (b : Bool). cond b (at + by) at) (ne_eqb file number other)
+further_elsewhere number by file at other = rw (ne_eqb file number other) refl
 
 -- a text that may stand between a `$=` and a `$.` has white space at both ends
 spaced : (text : List ℕ) → IsProofText text → IsSpaced text
@@ -50,21 +49,6 @@ all_clear [] more h = refl
 all_clear (t ∷ tokens) more h =
     outside-clear t (tokens ++ more) h.0.0 (no_dollar-spells t.text 40 h.0.1) (no_dollar-spells t.text 41 h.0.1)
     ∙ ap (λ (l : List Shown). Clear t ∷ l) (all_clear tokens more h.1)
-
-plain_word : (number : ℕ) (t : PlainToken) → IsProofToken t → IsPlainIn number t
-plain_word number t h more =
-    pieces-plain number t more (no_dollar-spells t.text 91 h.1)
-    (simp (no_dollar-spells t.text 93 h.1, h.1))
-
--- ---- the `$.`
-
-plain_stop : (number : ℕ) (t : PlainToken) → t.text ≡ codes "$." → IsPlainIn number t
-plain_stop number t e more =
-    pieces-plain number t more (ap (λ (l : List ℕ). spells l (codes "$[")) e) (ap broken_outside e)
-
-clear_stop : (t : PlainToken) (more : List PlainToken) → t.text ≡ codes "$." → without_comments None (t ∷ more) ≡ Clear t ∷ without_comments None more
-clear_stop t more e =
-    outside-clear t more (ap (list_all is_printable) e) (ap (λ (l : List ℕ). spells l (codes "$(")) e) (ap (λ (l : List ℕ). spells l (codes "$)")) e)
 
 -- ---- pieces
 
@@ -92,9 +76,8 @@ moved_same number at to n [] from r = refl
 moved_same number at to n (t ∷ tokens) from r =
     let behind : at ≤ t.at = omega (arith, r.0) in
     let place : further number to t.file t.at ≡ further number at t.file (to + (t.at - at)) =
-    ap (λ file. further number to file t.at) r.1 ∙ further_here number to t.at ∙ omega arith
-    ∙ sym (further_here number at (to + (t.at - at)))
-    ∙ ap (λ file. further number at file (to + (t.at - at))) (sym r.1) in
+    let same : (number == number) ≡ true = eq-eqb number number refl in
+    rw (r.1, same) (omega arith) in
     λ i. record { text = t.text; file = t.file; at = place i }
     ∷ moved_same number at to (t.at + 1) tokens (omega arith) r.2 i
 
@@ -107,14 +90,12 @@ moved_pieces number at to tokens r =
     let one : ℕ → ℕ → ℕ = further number to in
     let two : ℕ → ℕ → ℕ = further number at in
     let others : List PlainToken = map (token_on (λ file n. to + (n - at))) tokens in
-    let same : map (shown_on one) (without_comments None tokens)
-    ≡ map (shown_on two) (without_comments None others) =
-    lines_seen one None tokens ∙ ap (seen None) (moved_same number at to at tokens (omega arith) r)
+    let same = lines_seen one None tokens
+    ∙ ap (seen None) (moved_same number at to at tokens (omega arith) r)
     ∙ sym (lines_seen two None others) in
     pieces_same one two number Outside Outside (without_comments None tokens)
     (without_comments None others) tt
-    (mapped_zip (shown_on one) (shown_on two) (SameShown one two) (shown_same one two)
-    (without_comments None tokens) (without_comments None others) same)
+    (mapped_zip (shown_on one) (shown_on two) (SameShown one two) (shown_same one two) _ _ same)
 
 -- ---- the file
 
@@ -146,25 +127,28 @@ replaced_pieces files text equals proof stop is_text sign s =
     (spaced text is_text) in
     let start : ℕ = equals.at + length equals.text in
     let line : ℕ → ℕ → ℕ = λ f n. start + length text + (n - stop.at) in
-    let moves : Moves line number stop.at (length b.front + length text) =
-    λ i. omega (arith, b.start) in
     let put : List PlainToken = tokens_from number (length b.front) text in
     let moved : PlainToken = token_on line stop in
     let later : List PlainToken = map (token_on line) two.after in
     let bytes : with_span file.bytes (start, stop.at) text ≡ b.front ++ (text ++ b.back) =
     cut file.bytes b.front b.within b.back text start stop.at b.whole b.start b.stop in
     let told : without_comments None (tokens_from number 0 (b.front ++ (text ++ b.back))) ≡ map Clear r.tokens ++ (map Clear (equals ∷ (put ++ moved ∷ [])) ++ without_comments None later) =
-    ap (without_comments None) (b.tokens line moves)
+    ap (without_comments None) (b.tokens line (λ i. omega (arith, b.start)))
     ∙ one.others (put ++ moved ∷ later)
     ∙ ap (λ (l : List Shown). map Clear r.tokens ++ Clear equals ∷ l)
-    (all_clear put (moved ∷ later) (is_text.tokens number (length b.front)) ∙ ap (λ (l : List Shown). map Clear put ++ l) (clear_stop moved later sign)
+    (all_clear put (moved ∷ later) (is_text.tokens number (length b.front))
+    ∙ ap (λ (l : List Shown). map Clear put ++ l)
+    (outside-clear moved later (rw sign refl) (rw sign refl) (rw sign refl))
     ∙ sym (ap (λ (l : List Shown). l ++ without_comments None later) (map-append Clear put (moved ∷ [])) ∙ append_assoc (map Clear put) (Clear moved ∷ []) (without_comments None later))) in
     let reach : (more : List Shown) → pieces number Outside (map Clear r.tokens ++ more) ≡ r.front ++ pieces number Outside more = λ more.
     ap (λ (l : List Shown). pieces number Outside (l ++ more)) (sym r.clear) ∙ r.before more in
     let plain : AllPlainIn number (equals ∷ (put ++ moved ∷ [])) = (
       s.plain.0,
       all_push (IsPlainIn number) put moved (all_weaker IsProofToken (IsPlainIn number)
-          (plain_word number) put (is_text.tokens number (length b.front))) (plain_stop number moved sign),
+          (λ t h more. pieces-plain number t more (no_dollar-spells t.text 91 h.1)
+          (simp (no_dollar-spells t.text 93 h.1, h.1))) put
+          (is_text.tokens number (length b.front)))
+          (λ more. pieces-plain number moved more (rw sign refl) (rw sign refl)),
     ) in
     let place : line stop.file stop.at ≡ start + length text = omega arith in
     let found : pieces_of number (record file { bytes = with_span file.bytes (start, stop.at) text })
@@ -173,12 +157,11 @@ replaced_pieces files text equals proof stop is_text sign s =
     ap (λ (l : List ℕ). pieces number Outside (without_comments None (tokens_from number 0 l))) bytes
     ∙ ap (pieces number Outside) told ∙ reach (map Clear (equals ∷ (put ++ moved ∷ [])) ++ without_comments None later)
     ∙ ap (λ (l : List Piece). r.front ++ l) (pieces_met number (equals ∷ (put ++ moved ∷ [])) (without_comments None later) plain) in
-    let rise = tokens_rise number 0 file.bytes in
     let behind : Rises number stop.at two.after =
     rises_earlier number stop.at (stop.at + 1) two.after (omega arith)
     (rises_behind number (equals.at + 1) two.before stop two.after
     (rises_behind number 0 one.before equals (two.before ++ stop ∷ two.after)
-    (subst (Rises number 0) all rise))) in
+    (subst (Rises number 0) all (tokens_rise number 0 file.bytes)))) in
     record {
       before = r.front;
       after = pieces number Outside s.rest;
@@ -197,8 +180,12 @@ replaced_pieces files text equals proof stop is_text sign s =
     cut : (bytes front within back text : List ℕ) (start stop : ℕ) → bytes ≡ front ++ (within ++ back) → start ≡ length front → stop ≡ length front + length within
         → with_span bytes (start, stop) text ≡ front ++ (text ++ back)
     cut bytes front within back text start stop e a b =
-        let first : take start bytes ≡ front =
-        ap (λ (n : ℕ). take n bytes) a ∙ ap (take (length front)) e ∙ take-append_seam front (within ++ back) in
-        let last : drop stop bytes ≡ back =
-        ap (λ (n : ℕ). drop n bytes) (b ∙ sym (length-append front within)) ∙ ap (drop (length (front ++ within))) (e ∙ sym (append_assoc front within back)) ∙ drop-append_seam (front ++ within) back in
-        ap (λ (l : List ℕ). l ++ (text ++ drop stop bytes)) first ∙ ap (λ (l : List ℕ). front ++ (text ++ l)) last
+        rw (
+          e,
+          a,
+          b,
+          take-append_seam front (within ++ back),
+          ← length-append front within,
+          ← append_assoc front within back,
+          drop-append_seam (front ++ within) back,
+        ) refl

@@ -1,9 +1,8 @@
 -- The items of files with another proof of a statement: the same, but for it and for places.
-use Rattle.std.proofs.Common.{◌≡◌, ℕ, ◌+◌, ◌≤◌, ◌==◌, ◌&&◌, List, [], ◌∷◌, ◌++◌, length, map, Bool, true, false, cond, refl, sym, ap, ◌∙◌, subst, codes, None, inl, inr, ◌⊎◌, arith, eq-eqb}
-use Rattle.std.specs.Prelude.{slice_get, count_by}
+use Rattle.std.proofs.Common.{◌≡◌, ℕ, ◌+◌, ◌≤◌, ◌==◌, ◌&&◌, List, [], ◌∷◌, ◌++◌, length, map, Bool, true, false, cond, refl, sym, ap, ◌∙◌, subst, codes, inl, inr, arith, eq-eqb}
+use Rattle.std.specs.Prelude.{count_by}
 use Rattle.std.specs.List.{AllZip, AllByRecursion, list_any}
 use Rattle.std.proofs.lemmas.List.Sums.{sum_by-append, sum_by-cons}
-use Rattle.std.proofs.lemmas.Option.{same_Some}
 use Rattle.mm_text.specs.Token.{PlainToken, tokens_from, HoldsNoDollar}
 use Rattle.mm_text.specs.Files.{PlainFile}
 use Rattle.mm_text.specs.Statement.{PlainStatement, AreSymbols}
@@ -17,16 +16,13 @@ use Rattle.mm_text.proofs.OnceLaws.{token_weight, one_token, tokens_rise, files_
 use Rattle.mm_text.proofs.AlikeItems.{AtHome, SameItem, shown_at_home}
 use Rattle.mm_text.proofs.FollowedItems.{StandsInFile, run_stands}
 use Rattle.mm_text.specs.Replaced.{IsProofToken, IsProofText, with_span}
-use Rattle.mm_text.proofs.ReplacedPieces.{further, met}
-use Rattle.mm_text.proofs.ReplacedPieces.{replaced_pieces}
-use Rattle.mm_text.proofs.AlteredItems.{Alter, SameOrAlter}
+use Rattle.mm_text.proofs.ReplacedPieces.{further, met, replaced_pieces}
+use Rattle.mm_text.proofs.AlteredItems.{Alter}
 use Rattle.mm_text.proofs.ReplacedItems.{with_file, replaced_items, set_there}
 use Rattle.mm_text.proofs.ReplacedReading.{nowhere, ProofAt}
-use Rattle.std.proofs.lemmas.List.{map-append}
+use Rattle.std.proofs.lemmas.List.{map-append, append_cancel_left}
 use Rattle.std.proofs.lemmas.Bool.{cond_both}
-use Rattle.std.proofs.lemmas.List.{append_cancel_left}
-use Rattle.mm_text.proofs.Lists.{all_front, all_back, all_weaker}
-use Rattle.mm_text.proofs.Lists.{two_cuts}
+use Rattle.mm_text.proofs.Lists.{all_front, all_back, all_weaker, two_cuts}
 
 -- ---- the file of a token
 
@@ -36,11 +32,8 @@ pub run_home : (files : List PlainFile) (t : PlainToken) (tokens before : List P
     → t ∷ tokens ≡ before ++ u ∷ after → u.file ≡ s.number
 run_home files t tokens before u after s e =
     let P : Shown → Type 0 = AtHome s.number in
-    let bytes : List ℕ = s.place.file.bytes in
-    let all : AllByRecursion P (s.passed ++ Clear t ∷ (map Clear tokens ++ s.rest)) =
-    subst (AllByRecursion P) s.place.whole (shown_at_home s.number bytes) in
-    let run : AllByRecursion P (map Clear (t ∷ tokens)) =
-    all_front P (map Clear (t ∷ tokens)) s.rest
+    let all = rw s.place.whole at (shown_at_home s.number s.place.file.bytes) in
+    let run = all_front P (map Clear (t ∷ tokens)) s.rest
     (all_back P s.passed (Clear t ∷ (map Clear tokens ++ s.rest)) all) in
     (all_back P (map Clear before) (Clear u ∷ map Clear after)
     (subst (AllByRecursion P) (ap (map Clear) e ∙ map-append Clear before (u ∷ after)) run)).0
@@ -57,13 +50,11 @@ own_weight t = let a : (t.file == t.file) ≡ true = eq-eqb _ _ refl in let b : 
 cut_once : {A : Type 0} (all : List A) (x : A)
     → ((a b c : List A) → all ≡ (a ++ x ∷ b) ++ x ∷ c → ⊥) → (a b c d : List A)
     → all ≡ a ++ x ∷ b → all ≡ c ++ x ∷ d → (a ≡ c) × (b ≡ d)
-cut_once {A} all x twice a b c d here there = go (two_cuts a x b c x d (sym here ∙ there))
-  where
-    go : ((a ≡ c) × (x ≡ x) × (b ≡ d)) ⊎ ((mid : List A) × (c ≡ a ++ x ∷ mid) × (b ≡ mid ++ x ∷ d))
-        ⊎ ((mid : List A) × (a ≡ c ++ x ∷ mid) × (d ≡ mid ++ x ∷ b)) → (a ≡ c) × (b ≡ d)
-    go (inl h) = (h.0, h.2)
-    go (inr (inl (mid, e, g))) = absurd (twice a mid d (there ∙ ap (λ (l : List A). l ++ x ∷ d) e))
-    go (inr (inr (mid, e, g))) = absurd (twice c mid b (here ∙ ap (λ (l : List A). l ++ x ∷ b) e))
+cut_once all x twice a b c d here there = elim (two_cuts a x b c x d (sym here ∙ there)) [
+  | inl h ↦ (h.0, h.2)
+  | inr (inl h) ↦ absurd (twice a h.0 d (rw h.1 at there))
+  | inr (inr h) ↦ absurd (twice c h.0 b (rw h.1 at here))
+]
 
 -- among the pieces of a file
 one_cut : (k : ℕ) (f : PlainFile) (t : PlainToken) (a b c d : List Piece) → pieces_of k f ≡ a ++ Met (Plain t) ∷ b → pieces_of k f ≡ c ++ Met (Plain t) ∷ d → b ≡ d
@@ -89,7 +80,7 @@ item_cut files t = cut_once (items files) (Plain t) two
         let v : PlainToken → ℕ = λ u. cond (f u) 1 0 in
         let once : count_by f (plain_tokens (items files)) ≤ 1 = (files_are_put_in_once files t.file).1 t.at in
         let told : plain_tokens (items files) ≡ (plain_tokens x ++ t ∷ plain_tokens y) ++ t ∷ plain_tokens z =
-        ap plain_tokens e ∙ plain_tokens-append (x ++ Plain t ∷ y) (Plain t ∷ z) ∙ ap (λ (l : List PlainToken). l ++ t ∷ plain_tokens z) (plain_tokens-append x (Plain t ∷ y)) in
+        rw (e, plain_tokens-append, plain_tokens-append) refl in
         let many = ap (count_by f) told in
         let own : v t ≡ 1 = own_weight t in
         absurd (omega (arith, many, sum_by-append v (plain_tokens x ++ t ∷ plain_tokens y) (t ∷ plain_tokens z), sum_by-append v (plain_tokens x) (t ∷ plain_tokens y), sum_by-cons v t (plain_tokens y), sum_by-cons v t (plain_tokens z)))
@@ -104,12 +95,8 @@ same_run : (proof other : List PlainToken) (stop last : PlainToken) (x y : List 
     → met (other ++ last ∷ []) ++ x ≡ met (proof ++ stop ∷ []) ++ y
     → (other ≡ proof) × (last ≡ stop)
 same_run [] [] stop last x y h k s l e = (refl, cc)
-same_run [] (q ∷ other) stop last x y h k s l e =
-    let same : q ≡ stop = cc in
-    absurd (no_stop q k.0 (ap (λ (t : PlainToken). t.text) same ∙ s))
-same_run (p ∷ proof) [] stop last x y h k s l e =
-    let same : p ≡ last = cc in
-    absurd (no_stop p h.0 (ap (λ (t : PlainToken). t.text) same ∙ l))
+same_run [] (q ∷ other) stop last x y h k s l e = absurd (no_stop q k.0 (cc))
+same_run (p ∷ proof) [] stop last x y h k s l e = absurd (no_stop p h.0 (cc))
 same_run (p ∷ proof) (q ∷ other) stop last x y h k s l e =
     let (rest, same) = same_run proof other stop last x y h.1 k.1 s l cc in (cc, same)
 
@@ -180,13 +167,13 @@ module _ (files : List PlainFile) (before : List PlainStatement) (s : PlainState
   -- where they are the same the proof is the same
   where_same : items files ≡ items others → Altered
   where_same e =
-      let told : items others ≡ a.front ++ (map Plain (a.ends.equals ∷ (s.proof ++ a.ends.stop ∷ [])) ++ a.back) = sym e ∙ a.whole in
+      let told = sym e ∙ a.whole in
       let there = run_stands others a.front a.back a.ends.equals (s.proof ++ a.ends.stop ∷ []) told in
       let new = replaced_pieces files text a.ends.equals s.proof a.ends.stop is_text a.ends.end stands in
       let old = replaced_pieces others text a.ends.equals s.proof a.ends.stop is_text a.ends.end there in
       let number : there.number ≡ stands.number = sym (home others a.ends.equals (s.proof ++ a.ends.stop ∷ []) there) ∙ home files a.ends.equals (s.proof ++ a.ends.stop ∷ []) stands in
-      let file : there.place.file ≡ changed =
-      same_Some there.place.file changed (sym there.place.there ∙ ap (slice_get others) number ∙ set_there files stands.number stands.place.file changed stands.place.there) in
+      let set = set_there files stands.number stands.place.file changed stands.place.there in
+      let file : there.place.file ≡ changed = cc (there.place.there, number, set) in
       let known : pieces_of stands.number changed ≡ old.before ++ (met (a.ends.equals ∷ (s.proof ++ a.ends.stop ∷ [])) ++ old.after) =
       (λ i. pieces_of (sym number i) (sym file i)) ∙ old.old in
       let tail = one_cut stands.number changed a.ends.equals new.before (met (put ++ last ∷ []) ++ new.others) old.before (met (s.proof ++ a.ends.stop ∷ []) ++ old.after) new.new known in
@@ -198,9 +185,8 @@ module _ (files : List PlainFile) (before : List PlainStatement) (s : PlainState
       )
 
   pub altered : Altered
-  altered = go (replaced_items text a.ends.equals s.proof a.ends.stop is_text a.ends.end files stands)
-    where
-      go : SameOrAlter one other (a.ends.equals ∷ (s.proof ++ a.ends.stop ∷ []))
-          (a.ends.equals ∷ (put ++ last ∷ [])) (items files) (items others) → Altered
-      go (inl e) = where_same e
-      go (inr x) = where_altered x
+  altered =
+      elim (replaced_items text a.ends.equals s.proof a.ends.stop is_text a.ends.end files stands) [
+        | inl e ↦ where_same e
+        | inr x ↦ where_altered x
+      ]

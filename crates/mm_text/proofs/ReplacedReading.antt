@@ -1,9 +1,8 @@
 -- The reading of items in which a statement has another proof.
-use Rattle.std.proofs.Common.{◌≢◌}
-use Rattle.std.proofs.Common.{◌≡◌, ℕ, ◌+◌, List, [], ◌∷◌, ◌++◌, map, refl, sym, ap, ◌∙◌}
-use Rattle.std.proofs.Common.{subst, codes, Option, Some, None, inl, append_assoc, append-nil}
+use Rattle.std.proofs.Common.{◌≢◌, ◌≡◌, ℕ, ◌+◌, List, [], ◌∷◌, ◌++◌, map, refl, sym, ap, ◌∙◌, subst}
+use Rattle.std.proofs.Common.{codes, Option, Some, None, inl, append_assoc, append-nil}
 use Rattle.std.specs.List.{AllZip}
-use Rattle.std.proofs.lemmas.List.{map-append, append_cancel_left, append_cancel_right}
+use Rattle.std.proofs.lemmas.List.{map-append, append_cancel_left}
 use Rattle.mm_text.specs.declared.statement.Kind.{Kind}
 use Rattle.mm_text.specs.declared.statement.Kind.TheVariants.{Provable}
 use Rattle.mm_text.specs.declared.class.Keyword.TheVariants as keyword
@@ -18,18 +17,16 @@ use Rattle.mm_text.specs.Mirror.Reader.{Part, Between, InProof, PlainScope, oute
 use Rattle.mm_text.specs.Mirror.Reader.{with_statement, scope_after_statement, reading_of}
 use Rattle.mm_text.proofs.ItemFronts.{plain_tokens-append, clean_behind}
 use Rattle.mm_text.proofs.Beginnings.{beginnings_begin_statements}
-use Rattle.mm_text.proofs.PartTokens.{Describes, IsPartProof, beginning_of_part}
-use Rattle.mm_text.proofs.PartTokens.{part_of_beginning}
-use Rattle.mm_text.proofs.StepLaws.{read_more, read_whole}
+use Rattle.mm_text.proofs.PartTokens.{Describes, IsPartProof, beginning_of_part, part_of_beginning}
+use Rattle.mm_text.proofs.StepLaws.{read_more, read_whole, step_proof_token, step_ends_proof}
 use Rattle.mm_text.proofs.ReaderRuns.{runs_parts}
 use Rattle.mm_text.proofs.StatementRuns.{spelled_run, whole_run, begun}
-use Rattle.mm_text.proofs.StepLaws.{step_proof_token, step_ends_proof}
 use Rattle.mm_text.proofs.BlockFacts.{scope_of, balanced_front}
 use Rattle.mm_text.proofs.OneReading.{with_statements, front_reading, reads_reading}
 use Rattle.mm_text.proofs.ReaderLaws.{files_reading, reading_reads}
 use Rattle.mm_text.proofs.AlikeFronts.{viable_alike, statements_alike, plain_tokens_alike}
 use Rattle.mm_text.proofs.AlikeItems.{SameItem}
-use Rattle.mm_text.proofs.Lists.{cons_parts, nil_append, nil_split, zip_mapped}
+use Rattle.mm_text.proofs.Lists.{nil_append, nil_split, zip_mapped}
 
 -- no place matters
 abbrev pub nowhere : ℕ → ℕ → ℕ
@@ -64,20 +61,14 @@ parts_of tokens (b ∷ before) s after h =
 -- tokens that spell statements, and then others
 pub spells_append : (a b : List PlainToken) (xs ys : List PlainStatement) → SpellsAll a xs
     → SpellsAll b ys → SpellsAll (a ++ b) (xs ++ ys)
-spells_append a b [] ys h k = subst (λ (l : List PlainToken). SpellsAll (l ++ b) ys) (sym h) k
-spells_append a b (x ∷ xs) ys h k = (
-  h.0,
-  h.1 ++ b,
-  ap (λ (l : List PlainToken). l ++ b) h.2 ∙ append_assoc h.0 h.1 b,
-  h.3,
-  spells_append h.1 b xs ys h.4 k,
-)
+spells_append a b [] ys h k = rw h k
+spells_append a b (x ∷ xs) ys h k =
+    (h.0, h.1 ++ b, rw h.2 (append_assoc h.0 h.1 b), h.3, spells_append h.1 b xs ys h.4 k)
 
 -- tokens spell one list of statements
 pub spelled_once : (tokens : List PlainToken) (xs ys : List PlainStatement) → SpellsAll tokens xs
     → SpellsAll tokens ys → xs ≡ ys
-spelled_once tokens xs ys h k =
-    (runs_parts xs ys Between Between (sym (whole_run tokens xs h) ∙ whole_run tokens ys k)).0
+spelled_once tokens xs ys h k = cc (whole_run tokens xs h, whole_run tokens ys k)
 
 -- a token among those of items is one of them
 pub record TokenAt (its : List Item) (before : List PlainToken) (t : PlainToken) (after : List PlainToken) : Type 0 where
@@ -124,8 +115,7 @@ viable_front its front rest all before begun finished left v cut told said begin
   where
     longer : (pre post : List Item) (item : Item) → front ≡ pre ++ item ∷ post
         → its ≡ pre ++ item ∷ (post ++ rest)
-    longer pre post item e =
-        cut ∙ ap (λ (l : List Item). l ++ rest) e ∙ append_assoc pre (item ∷ post) rest
+    longer pre post item e = cc (append_assoc pre (item ∷ post) rest)
 
 -- a front of the items that reads as these statements, with none begun after them
 pub record WholeFront (its : List Item) (statements : List PlainStatement) : Type 0 where
@@ -154,9 +144,8 @@ finished_front its statements (t ∷ unfinished) v =
       front = p.front;
       rest = Plain t ∷ p.back;
       cut = p.whole;
-      viable = viable_front its p.front (Plain t ∷ p.back) statements statements (t ∷ unfinished)
-          v.finished [] v p.whole (p.first ∙ sym (append-nil v.finished)) v.spelled (inl refl)
-          v.balanced;
+      viable = viable_front its p.front _ statements _ _ v.finished [] v p.whole
+          (rw append-nil p.first) v.spelled (inl refl) v.balanced;
     }
 
 -- the statements of a reading are those of a front of its items
@@ -168,16 +157,11 @@ reads_front its statements (Some fault) (front, item, rest, unfinished, cut, v, 
     record {
       front = f.front;
       rest = f.rest ++ item ∷ rest;
-      cut = cut ∙ ap (λ (l : List Item). l ++ item ∷ rest) f.cut
-          ∙ append_assoc f.front f.rest (item ∷ rest);
+      cut = cc (f.cut, append_assoc f.front f.rest (item ∷ rest));
       viable = f.viable;
     }
 
 -- ---- the tokens of a statement
-
-some_end : (tokens : List PlainToken) (t : PlainToken) → tokens ++ t ∷ [] ≢ []
-some_end [] t e = cc
-some_end (u ∷ tokens) t e = cc
 
 -- a beginning of a statement after statements is no whole statement
 unfinished_not_whole : (front unfinished tokens : List PlainToken) (before earlier : List PlainStatement) → SpellsAll front before → IsBeginning unfinished → unfinished ≢ [] → tokens ≡ front ++ unfinished → ¬ (SpellsAll tokens earlier)
@@ -204,16 +188,14 @@ statement_follows : (its : List Item) (statements before : List PlainStatement) 
 statement_follows its statements before v front own s earlier h begun [] past back after whole some
     e done left = (back, refl, left)
 statement_follows its statements before v front own s earlier h begun (t ∷ rest) past back after whole some e done left =
-    let spelled = subst (λ (l : List PlainToken). Spells l s) whole h in
     let beginning : IsBeginning begun = (beginnings_begin_statements begun).1
-    (record { more = t ∷ rest; some = λ none. cc; statement = s; spelled = spelled }) in
+    (record { more = t ∷ rest; some = λ none. cc; statement = s; spelled = rw whole at h }) in
     let (more, one, others) = next_token its statements v past back t (rest ++ after) e (λ all. unfinished_not_whole front begun (plain_tokens past) before all earlier beginning some done) left in
     let (last, split, none) = statement_follows its statements before v front own s earlier h
-    (begun ++ t ∷ []) rest (past ++ Plain t ∷ []) more after
-    (whole ∙ sym (append_assoc begun (t ∷ []) rest)) (some_end begun t)
-    (e ∙ ap (λ (l : List Item). past ++ l) one ∙ sym (append_assoc past (Plain t ∷ []) more))
-    (plain_tokens-append past (Plain t ∷ []) ∙ ap (λ (l : List PlainToken). l ++ t ∷ []) done ∙ append_assoc front begun (t ∷ [])) others in
-    (last, one ∙ ap (λ (l : List Item). Plain t ∷ l) split, none)
+    (begun ++ t ∷ []) rest (past ++ Plain t ∷ []) more after (rw append_assoc whole)
+    (λ e. nil_append begun t [] (sym e)) (cc (one, append_assoc past (Plain t ∷ []) more))
+    (rw (plain_tokens-append, done) (append_assoc front begun (t ∷ []))) others in
+    (last, cc (one, split), none)
 
 -- so they stand together among the items
 pub own_stands : (its : List Item) (statements before : List PlainStatement) (s : PlainStatement)
@@ -223,18 +205,14 @@ pub own_stands : (its : List Item) (statements before : List PlainStatement) (s 
     × (plain_tokens front ≡ p.front) × (plain_tokens back ≡ p.back)
 own_stands its statements before s after v p =
     let others : List PlainToken = (p.here.first.0 ++ s.symbols) ++ p.here.tail in
-    let own : p.own ≡ s.first ∷ others =
-    p.here.whole ∙ ap (λ (l : List PlainToken). (l ++ s.symbols) ++ p.here.tail) p.here.first.1 in
-    let t = token_at its p.front s.first (others ++ p.back)
-    (p.whole ∙ ap (λ (l : List PlainToken). p.front ++ (l ++ p.back)) own) in
+    let own : p.own ≡ s.first ∷ others = rw p.here.first.1 at p.here.whole in
+    let t = token_at its p.front s.first (others ++ p.back) (rw own at p.whole) in
     let (more, split, left) = statement_follows its statements before v p.front p.own s p.earlier
     p.here (s.first ∷ []) others (t.front ++ Plain s.first ∷ []) t.back p.back own (λ none. cc)
-    (t.whole ∙ sym (append_assoc t.front (Plain s.first ∷ []) t.back))
-    (plain_tokens-append t.front (Plain s.first ∷ [])
-    ∙ ap (λ (l : List PlainToken). l ++ s.first ∷ []) t.first) t.last in
-    let whole = t.whole ∙ ap (λ (l : List Item). t.front ++ Plain s.first ∷ l) split
-    ∙ ap (λ (l : List PlainToken). t.front ++ (map Plain l ++ more)) (sym own) in
-    (t.front, more, whole, t.first, left)
+    (cc (t.whole, append_assoc t.front (Plain s.first ∷ []) t.back))
+    (cc (t.first, plain_tokens-append t.front (Plain s.first ∷ []))) t.last in
+    let run = ap (λ (l : List PlainToken). map Plain l ++ more) own in
+    (t.front, more, cc (t.whole, split, run), t.first, left)
 
 -- ---- where the proof stands
 
@@ -249,6 +227,10 @@ pub record ProofAt (its : List Item) (before : List PlainStatement) (s : PlainSt
   pub done : plain_tokens front ≡ parts.front ++ (parts.here.head ++ s.symbols)
   pub left : plain_tokens back ≡ parts.back
 
+all_plain : (tokens : List PlainToken) → plain_tokens (map Plain tokens) ≡ tokens
+all_plain [] = refl
+all_plain (t ∷ tokens) = ap (λ (l : List PlainToken). t ∷ l) (all_plain tokens)
+
 pub proof_at : (its : List Item) (before : List PlainStatement) (s : PlainStatement) (after : List PlainStatement) → Viable its (before ++ s ∷ after) [] → s.kind ≡ Provable → ProofAt its before s after
 proof_at its before s after v p =
     let parts = parts_of (plain_tokens its) before s after (subst (λ (l : List PlainToken). SpellsAll l (before ++ s ∷ after)) (sym (v.whole ∙ append-nil v.finished)) v.spelled) in
@@ -256,29 +238,24 @@ proof_at its before s after v p =
     let k : EndsInProof s h.tail = subst (λ (x : Kind). IsTail s x h.tail) p h.ends in
     let stated : List PlainToken = h.head ++ s.symbols in
     let end : List PlainToken = k.equals ∷ (s.proof ++ k.stop ∷ []) in
-    let own : parts.own ≡ stated ++ end =
-    h.whole ∙ ap (λ (l : List PlainToken). stated ++ l) k.tokens in
-    let (front, back, whole, first, left) =
-    own_stands its (before ++ s ∷ after) before s after v parts in
+    let own : parts.own ≡ stated ++ end = cc (h.whole, k.tokens) in
+    let (front, back, whole, first, left) = own_stands its _ before s after v parts in
     record {
       parts = parts;
       kind = p;
       ends = k;
       front = front ++ map Plain stated;
       back = back;
-      whole = whole
-          ∙ ap (λ (l : List Item). front ++ (l ++ back))
-          (ap (map Plain) own ∙ map-append Plain stated end)
-          ∙ ap (λ (l : List Item). front ++ l)
-          (append_assoc (map Plain stated) (map Plain end) back)
-          ∙ sym (append_assoc front (map Plain stated) (map Plain end ++ back));
+      whole = cc (
+        whole,
+        own,
+        map-append Plain stated end,
+        append_assoc (map Plain stated) (map Plain end) back,
+        append_assoc front (map Plain stated) (map Plain end ++ back),
+      );
       done = plain_tokens-append front (map Plain stated) ∙ (λ i. first i ++ all_plain stated i);
       left = left;
     }
-  where
-    all_plain : (tokens : List PlainToken) → plain_tokens (map Plain tokens) ≡ tokens
-    all_plain [] = refl
-    all_plain (t ∷ tokens) = ap (λ (l : List PlainToken). t ∷ l) (all_plain tokens)
 
 -- ---- the reader goes through a proof
 
@@ -341,24 +318,10 @@ module _ (its : List Item) (before : List PlainStatement) (s : PlainStatement) (
 
   -- the tokens of these
   rest_tokens : (rest : List Item)
-      → plain_tokens (before_rest rest) ≡ (a.parts.front ++ a.parts.own) ++ plain_tokens rest
+      → plain_tokens (before_rest rest) ≡ a.parts.front ++ (a.parts.own ++ plain_tokens rest)
   rest_tokens rest =
-      ap plain_tokens (sym (append_assoc a.front own rest)) ∙ plain_tokens-append until_end rest
-      ∙ ap (λ (l : List PlainToken). l ++ plain_tokens rest) same
-    where
-      own : List Item
-      own = map Plain (a.ends.equals ∷ (s.proof ++ a.ends.stop ∷ []))
-
-      until_end : List Item
-      until_end = a.front ++ own
-
-      same : plain_tokens until_end ≡ a.parts.front ++ a.parts.own
-      same =
-          append_cancel_right (plain_tokens until_end) (a.parts.front ++ a.parts.own) a.parts.back
-          (ap (λ (l : List PlainToken). plain_tokens until_end ++ l) (sym a.left)
-          ∙ sym (plain_tokens-append until_end a.back)
-          ∙ ap plain_tokens (append_assoc a.front own a.back ∙ sym a.whole) ∙ a.parts.whole
-          ∙ sym (append_assoc a.parts.front a.parts.own a.parts.back))
+      let plain = all_plain (s.proof ++ a.ends.stop ∷ []) in
+      simp (plain_tokens-append, plain, a.done, a.parts.here.whole, a.ends.tokens, append_assoc)
 
   -- what is read after the proof where the items after it are the old ones but for places
   abbrev Later : List Item → Type 0
@@ -377,49 +340,30 @@ module _ (its : List Item) (before : List PlainStatement) (s : PlainStatement) (
       let mixed : List Item = before_rest rest in
       let r : PlainReading = reading_of (scope_after_statement (scope_of before)) Between rest in
       let t : PlainStatement = record s { span = (a.ends.equals.at + 2, a.ends.stop.at) } in
-      let read : reading_of outermost Between mixed ≡ record { statements = same; ending = None } =
-      reads_reading mixed same None v in
-      let both : ◌≡◌ {A = PlainReading}
-      (record { statements = before ++ t ∷ r.statements; ending = r.ending })
-      (record { statements = same; ending = None }) =
-      sym (statements_read before (with_statement t r))
-      ∙ sym (any_proof s.proof a.ends.stop rest a.ends.proof a.ends.end) ∙ read in
-      let list : before ++ t ∷ r.statements ≡ same = ap (λ (x : PlainReading). x.statements) both in
-      let end : r.ending ≡ None = ap (λ (x : PlainReading). x.ending) both in
-      let tokens : plain_tokens mixed ≡ a.parts.front ++ (a.parts.own ++ plain_tokens rest) =
-      rest_tokens rest ∙ append_assoc a.parts.front a.parts.own (plain_tokens rest) in
+      let both = sym (statements_read before (with_statement t r))
+      ∙ sym (any_proof s.proof a.ends.stop rest a.ends.proof a.ends.end)
+      ∙ reads_reading mixed same None v in
       let mine : SpellsAll (plain_tokens mixed) (before ++ s ∷ others) =
-      rw tokens (spells_append a.parts.front (a.parts.own ++ plain_tokens rest) before (s ∷ others)
-      a.parts.earlier (a.parts.own, plain_tokens rest, refl, a.parts.here, told)) in
-      let theirs : SpellsAll (plain_tokens mixed) same =
-      rw (v.whole ∙ append-nil v.finished) v.spelled in
-      let once : t ∷ r.statements ≡ s ∷ others =
-      append_cancel_left before (t ∷ r.statements) (s ∷ others)
-      (list ∙ sym (spelled_once (plain_tokens mixed) (before ++ s ∷ others) same mine theirs)) in
-      let is : r.statements ≡ others = (cons_parts t s r.statements others once).1 in
-      λ i. record { statements = is i; ending = end i }
+      rw (rest_tokens rest) (spells_append a.parts.front (a.parts.own ++ plain_tokens rest) before
+      (s ∷ others) a.parts.earlier (a.parts.own, plain_tokens rest, refl, a.parts.here, told)) in
+      let theirs : SpellsAll (plain_tokens mixed) same = rw (v.whole, append-nil) v.spelled in
+      let once : t ∷ r.statements ≡ s ∷ others = append_cancel_left before _ _
+      (ap (λ (x : PlainReading). x.statements) both ∙ sym (spelled_once _ _ same mine theirs)) in
+      let is : r.statements ≡ others = cc (once) in
+      λ i. record { statements = is i; ending = (both i).ending }
 
   later_read : (rest : List Item) → AllZip (SameItem nowhere nowhere) a.back rest → Later rest
   later_read rest z =
       let h : Item → Item = item_on nowhere in
-      let own : List Item = map Plain (a.ends.equals ∷ (s.proof ++ a.ends.stop ∷ [])) in
       let mixed : List Item = before_rest rest in
       let same_rest : map h a.back ≡ map h rest = zip_mapped h h a.back rest z in
-      let same_items : map h its ≡ map h mixed =
-      ap (map h) a.whole
-      ∙ map-append h a.front (own ++ a.back)
-      ∙ ap (λ (l : List Item). map h a.front ++ l)
-      (map-append h own a.back ∙ ap (λ (l : List Item). map h own ++ l) same_rest
-      ∙ sym (map-append h own rest))
-      ∙ sym (map-append h a.front (own ++ rest)) in
+      let same_all : map h its ≡ map h mixed = ap (map h) a.whole ∙ simp (map-append, same_rest) in
       let (same, nothing, viable, spelled, unfinished) =
-      viable_alike nowhere nowhere its mixed (before ++ s ∷ after) [] same_items v in
+      viable_alike nowhere nowhere its mixed (before ++ s ∷ after) [] same_all v in
       let none : nothing ≡ [] = nil_split (token_on nowhere) (token_on nowhere) nothing unfinished in
-      let old : SpellsAll (plain_tokens a.back) after =
-      subst (λ (l : List PlainToken). SpellsAll l after) (sym a.left) a.parts.later in
       let (others, told, alike) =
       statements_alike nowhere nowhere (plain_tokens a.back) (plain_tokens rest) after
-      (plain_tokens_alike nowhere nowhere a.back rest same_rest) old in
+      (plain_tokens_alike nowhere nowhere a.back rest same_rest) (rw a.left a.parts.later) in
       (others, rest_read rest same others (subst (Viable mixed same) none viable) told, told, alike)
 
   -- files with these items read so
@@ -434,7 +378,7 @@ module _ (its : List Item) (before : List PlainStatement) (s : PlainStatement) (
       let (later, read, told, same) = later_read rest z in
       let o : PlainStatement = record s { proof = proof; span = (a.ends.equals.at + 2, stop.at) } in
       let found : files_reading others ≡ record { statements = before ++ o ∷ later; ending = None } =
-      ap (reading_of outermost Between) e ∙ any_proof proof stop rest h sign ∙ ap (λ (r : PlainReading). with_statements before (with_statement o r)) read
+      ap (reading_of outermost Between) e ∙ any_proof proof stop rest h sign
+      ∙ ap (λ (r : PlainReading). with_statements before (with_statement o r)) read
       ∙ statements_read before (with_statement o (record { statements = later; ending = None })) in
-      let reads = rw found at (reading_reads others) in
-      (later, reads, told, same)
+      (later, rw found at (reading_reads others), told, same)

@@ -1,17 +1,15 @@
 -- Among the items of files the tokens of each file come in the order of their places.
-use Rattle.std.proofs.Common.{◌≡◌, ◌≢◌, ℕ, ◌+◌, ◌<◌, ◌≤◌, List, [], ◌∷◌, ◌++◌, length}
-use Rattle.std.proofs.Common.{replicate, Bool, true, false, refl, sym, ap, ◌∙◌, subst}
-use Rattle.std.proofs.Common.{Option, None, ◌⊎◌, inl, inr, append_assoc, append-nil}
-use Rattle.std.proofs.Common.{arith}
+use Rattle.std.proofs.Common.{◌≡◌, ◌≢◌, ℕ, ◌+◌, ◌<◌, ◌≤◌, List, [], ◌∷◌, ◌++◌, length, replicate}
+use Rattle.std.proofs.Common.{Bool, true, false, refl, sym, ap, ◌∙◌, subst, Option, None, ◌⊎◌, inl}
+use Rattle.std.proofs.Common.{inr, append_assoc, append-nil, arith}
 use Rattle.std.specs.Prelude.{slice_index_or, slice_set}
 use Rattle.std.specs.List.{AllByRecursion}
 use Rattle.std.proofs.Math.Decide.{ℕ_discrete}
+use Rattle.std.proofs.lemmas.Bool.{both_ways, false_from_ne_true}
 use Rattle.mm_text.specs.Token.{PlainToken, tokens_from}
 use Rattle.mm_text.specs.Files.{PlainFile}
-use Rattle.mm_text.specs.Items.{Item, Plain, Shown, Clear, Broken}
-use Rattle.mm_text.specs.Items.{without_comments, Spot, Outside}
-use Rattle.mm_text.specs.Items.{Piece, Met, Named, pieces}
-use Rattle.mm_text.specs.Items.{pieces_of, put_before, put_in}
+use Rattle.mm_text.specs.Items.{Shown, Clear, Broken, without_comments, Spot, Outside}
+use Rattle.mm_text.specs.Items.{Piece, Met, Named, pieces, pieces_of, put_before, put_in}
 use Rattle.mm_text.specs.Items.{plain_tokens, items}
 use Rattle.mm_text.proofs.OnceLaws.{Rises, rises_earlier, tokens_rise}
 use Rattle.mm_text.proofs.StepByStep.{shown_by, pieces_by, put_before_by, put_in_by}
@@ -63,9 +61,7 @@ file_rises number file =
 
 piece_tokens-append : (a b : List Piece) → piece_tokens (a ++ b) ≡ piece_tokens a ++ piece_tokens b
 piece_tokens-append [] b = refl
-piece_tokens-append (Met item ∷ a) b =
-    ap (λ (l : List PlainToken). plain_tokens (item ∷ []) ++ l) (piece_tokens-append a b)
-    ∙ sym (append_assoc (plain_tokens (item ∷ [])) (piece_tokens a) (piece_tokens b))
+piece_tokens-append (Met item ∷ a) b = simp (piece_tokens-append a b, append_assoc)
 piece_tokens-append (Named name ∷ a) b = piece_tokens-append a b
 
 -- ---- among the tokens of all files
@@ -115,41 +111,27 @@ module _ (k : ℕ) where
       → RiseIn n (piece_tokens (put_before files m ps))
   put_before_rise files named n m ps new r fresh =
       put_before_by (λ qs. RiseIn n (piece_tokens qs)) files m ps r (λ file _.
-      rw (piece_tokens-append (pieces_of m file) ps) (longer file (ℕ_discrete m k)))
-    where
-      longer : (file : PlainFile) → Dec (m ≡ k)
-          → RiseIn n (piece_tokens (pieces_of m file) ++ piece_tokens ps)
-      longer file (yes e) =
-          let (start, none) = fresh (ap (λ i. slice_index_or named i true) (sym e) ∙ new) in
-          let tokens = piece_tokens (pieces_of m file) in
-          own_rise n tokens (piece_tokens ps)
-          (subst (λ i. Rises i n tokens) e
-          (subst (λ i. Rises m i tokens) (sym start) (file_rises m file))) none
-      longer file (no other) =
-          other_rise m 0 n (piece_tokens (pieces_of m file)) (piece_tokens ps) other
-          (file_rises m file) r
+      rw (piece_tokens-append (pieces_of m file) ps) (elim (ℕ_discrete m k) [
+        | yes e ↦
+            let (start, none) = fresh (ap (λ i. slice_index_or named i true) (sym e) ∙ new) in
+            own_rise n (piece_tokens (pieces_of m file)) (piece_tokens ps)
+            (rw (← e, start) (file_rises m file)) none
+        | no other ↦ other_rise m 0 n _ (piece_tokens ps) other (file_rises m file) r
+      ]))
 
   put_before_fresh : (files : List PlainFile) (named : List Bool) (n m : ℕ) (ps : List Piece)
       → IsFresh n named ps → IsFresh n (slice_set named m true) (put_before files m ps)
-  put_before_fresh files named n m ps fresh new = at_file (ℕ_discrete m k)
-    where
-      by_name : (b : Bool) → slice_index_or named k true ≡ b → slice_index_or named k true ≡ false
-      by_name false e = e
-      by_name true e = let no : false ≡ true = sym new ∙ still_named named m k e in absurd cc
-
-      at_file : Dec (m ≡ k) → (n ≡ 0) × AreElsewhere (piece_tokens (put_before files m ps))
-      at_file (yes e) =
-          let no : false ≡ true =
-          sym new ∙ ap (λ i. slice_index_or (slice_set named i true) k true) e
-          ∙ now_named named k in
-          absurd cc
-      at_file (no other) =
-          let (start, none) = fresh (by_name (slice_index_or named k true) refl) in (
-            start,
-            put_before_by (λ qs. AreElsewhere (piece_tokens qs)) files m ps none (λ file _.
-                rw (piece_tokens-append (pieces_of m file) ps) (other_elsewhere m 0 _
-                (piece_tokens ps) other (file_rises m file) none)),
-          )
+  put_before_fresh files named n m ps fresh new = elim (ℕ_discrete m k) [
+    | yes e ↦ absurd (both_ways _ new
+        (ap (λ i. slice_index_or (slice_set named i true) k true) e ∙ now_named named k))
+    | no other ↦
+        let was = false_from_ne_true _ (λ e. both_ways _ new (still_named named m k e)) in (
+          (fresh was).0,
+          put_before_by (λ qs. AreElsewhere (piece_tokens qs)) files m ps (fresh was).1 (λ file _.
+              rw (piece_tokens-append (pieces_of m file) ps) (other_elsewhere m 0 _
+              (piece_tokens ps) other (file_rises m file) (fresh was).1)),
+        )
+  ]
 
   put_in_rise : (files : List PlainFile) (left : ℕ) (named : List Bool) (n : ℕ) (ps : List Piece)
       → RiseIn n (piece_tokens ps) → IsFresh n named ps
@@ -157,51 +139,27 @@ module _ (k : ℕ) where
   put_in_rise files left named n ps =
       put_in_by files (λ _ flags qs its.
       (i : ℕ) → RiseIn i (piece_tokens qs) → IsFresh i flags qs → RiseIn i (plain_tokens its))
-      (λ _ flags i r fresh. tt) (λ _ flags p qs rule t i r fresh. tt) own
+      (λ _ flags i r fresh. tt) (λ _ flags p qs rule t i r fresh. tt)
+      (λ _ flags t qs its inner i r fresh. elim r [
+        | inl (home, from, rest) ↦
+            inl (home, from, inner (t.at + 1) rest (λ new. absurd ((fresh new).1.0 home)))
+        | inr (other, rest) ↦ inr (other, inner i rest (λ new. ((fresh new).0, (fresh new).1.1)))
+      ])
       (λ _ flags t qs its inner. inner) (λ _ flags file qs its inner. inner)
       (λ _ flags name qs its inner. inner) (λ flags name m qs new i r fresh. tt)
       (λ _ flags name m qs its new inner i r fresh. inner i
       (put_before_rise files flags i m qs new r fresh) (put_before_fresh files flags i m qs fresh))
       left named ps n
-    where
-      own : (_ : ℕ) (flags : List Bool) (t : PlainToken) (qs : List Piece) (its : List Item)
-          → ((i : ℕ) → RiseIn i (piece_tokens qs) → IsFresh i flags qs
-          → RiseIn i (plain_tokens its))
-          → (i : ℕ) → RiseIn i (t ∷ piece_tokens qs) → IsFresh i flags (Met (Plain t) ∷ qs)
-          → RiseIn i (t ∷ plain_tokens its)
-      own _ flags t qs its inner i (inl (home, from, r)) fresh =
-          inl (home, from, inner (t.at + 1) r (λ new. absurd ((fresh new).1.0 home)))
-      own _ flags t qs its inner i (inr (other, r)) fresh =
-          inr (other, inner i r (λ new. ((fresh new).0, (fresh new).1.1)))
 
   items_rise : (files : List PlainFile) → RiseIn 0 (plain_tokens (items files))
   items_rise [] = tt
-  items_rise (top ∷ others) = go (ℕ_discrete 0 k)
-    where
-      named : List Bool
-      named = true ∷ replicate (length others) false
-
-      tokens : List PlainToken
-      tokens = piece_tokens (pieces_of 0 top)
-
-      whole : tokens ++ [] ≡ tokens
-      whole = append-nil tokens
-
-      go : Dec (0 ≡ k) → RiseIn 0 (plain_tokens (items (top ∷ others)))
-      go (yes e) =
-          put_in_rise (top ∷ others) (length others) named 0 (pieces_of 0 top)
-          (subst (RiseIn 0) whole
-          (own_rise 0 tokens [] (subst (λ i. Rises i 0 tokens) e (file_rises 0 top)) tt))
-          (λ new. let no : false ≡ true = sym new ∙ ap (λ i. slice_index_or named i true) (sym e) in
-          absurd cc)
-      go (no other) =
-          put_in_rise (top ∷ others) (length others) named 0 (pieces_of 0 top)
-          (subst (RiseIn 0) whole (other_rise 0 0 0 tokens [] other (file_rises 0 top) tt))
-          (λ new. (
-            refl,
-            subst AreElsewhere whole
-                (other_elsewhere 0 0 tokens [] other (file_rises 0 top) tt),
-          ))
+  items_rise (top ∷ others) =
+      let files : List PlainFile = top ∷ others in
+      let named : List Bool = false ∷ replicate (length others) false in
+      let new : IsFresh 0 named [] = λ _. (refl, tt) in
+      rw (append-nil (pieces_of 0 top)) at (put_in_rise files (length others)
+      (slice_set named 0 true) 0 (put_before files 0 [])
+      (put_before_rise files named 0 0 [] refl tt new) (put_before_fresh files named 0 0 [] new))
 
   -- from a token on
   rise_behind : (n : ℕ) (before : List PlainToken) (t : PlainToken) (after : List PlainToken)

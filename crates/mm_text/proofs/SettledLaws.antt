@@ -1,6 +1,5 @@
 -- After each token among the items of files a fault or the end of a file comes.
-use Rattle.std.proofs.Common.{◌≡◌, ℕ, suc, ◌≤◌, length, List, [], ◌∷◌, ◌++◌, Bool, true, false, not, None, replicate, count_by, arith}
-use Rattle.std.specs.Prelude.{slice_index_or, slice_set}
+use Rattle.std.proofs.Common.{ℕ, ◌≤◌, length, List, [], ◌∷◌, ◌++◌, Bool, true, false, not, None, replicate, count_by, arith}
 use Rattle.mm_text.specs.Token.{tokens_from}
 use Rattle.mm_text.specs.Files.{PlainFile}
 use Rattle.mm_text.specs.Items.{Plain, Wrong, End, Shown, without_comments, Spot, Outside, Piece, Met, pieces, pieces_of, put_before, put_in, items}
@@ -39,24 +38,18 @@ AreStopped ps = StopsSoon ps × AllStop ps
 pieces_stop : (file : ℕ) (spot : Spot) (shown : List Shown) → AreStopped (pieces file spot shown)
 pieces_stop file spot shown =
     pieces_by file (λ rest ps. AreStopped ps) (tt, tt) (λ rest rule t. (tt, tt))
-    (λ t rest ps h. (h.0, h)) (λ t rest ps h. h) (λ t rest ps h. h) (λ t name rest ps h. h)
-    spot shown
+    (λ t rest ps h. (h.0, h)) (λ t rest ps h. h) (λ t rest ps h. h) (λ t _ _ _ h. h) spot shown
 
-put_before_stops : (files : List PlainFile) (n : ℕ) (rest : List Piece) → StopsSoon rest → StopsSoon (put_before files n rest)
-put_before_stops files n rest h =
-    put_before_by StopsSoon files n rest h (λ f _. stops-append (pieces_of n f) rest
-    (pieces_stop n Outside (without_comments None (tokens_from n 0 f.bytes))).0)
-
-put_before_all : (files : List PlainFile) (n : ℕ) (rest : List Piece) → AllStop rest → AllStop (put_before files n rest)
-put_before_all files n rest h =
-    put_before_by AllStop files n rest h (λ f _. all_stop-append (pieces_of n f) rest
-    (pieces_stop n Outside (without_comments None (tokens_from n 0 f.bytes))).1 h)
+put_before_stops : (files : List PlainFile) (n : ℕ) (rest : List Piece)
+    → (StopsSoon rest → StopsSoon (put_before files n rest))
+    × (AllStop rest → AllStop (put_before files n rest))
+put_before_stops files n rest =
+    put_before_by (λ ps. (StopsSoon rest → StopsSoon ps) × (AllStop rest → AllStop ps)) files n rest
+    (λ h. h, λ h. h) (λ f _.
+    let so = pieces_stop n Outside (without_comments None (tokens_from n 0 f.bytes)) in
+    (λ h. stops-append (pieces_of n f) rest so.0, λ h. all_stop-append (pieces_of n f) rest so.1 h))
 
 -- ---- items
-
--- a file that wasn't named is one of those that are left
-one_fewer : (named : List Bool) (n : ℕ) → slice_index_or named n true ≡ false → count_by not named ≡ suc (count_by not (slice_set named n true))
-one_fewer named n first = count_named named n (in_range named n first) first
 
 put_in_settles : (files : List PlainFile) (left : ℕ) (named : List Bool) (ps : List Piece)
     → count_by not named ≤ left → AllStop ps → AreSettled (put_in files left named ps)
@@ -68,10 +61,11 @@ put_in_settles files left named ps le all = (put_in_by files (λ room flags qs i
     (λ room flags t qs its inner. inner)
     (λ room flags file qs its inner few. (λ h. tt, (inner few).1))
     (λ room flags name qs its inner. inner)
-    (λ flags name n qs new few. absurd (omega (arith, one_fewer flags n new, few)))
+    (λ flags name n qs new few.
+    absurd (omega (arith, count_named flags n (in_range flags n new) new, few)))
     (λ room flags name n qs its new inner few.
-    let so = inner (omega (arith, one_fewer flags n new, few)) in
-    (λ h. so.0 (put_before_stops files n qs h), λ h. so.1 (put_before_all files n qs h)))
+    let so = inner (omega (arith, count_named flags n (in_range flags n new) new, few)) in
+    let (soon, all) = put_before_stops files n qs in (λ h. so.0 (soon h), λ h. so.1 (all h)))
     left named ps le).1 all
 
 pub items_settled : (files : List PlainFile) → AreSettled (items files)

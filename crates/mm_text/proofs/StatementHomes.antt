@@ -15,9 +15,12 @@ pub front_run_stands : (files : List PlainFile) (statements : List PlainStatemen
     → StandsInFile files t tokens
 front_run_stands files statements f before after t tokens e =
     run_stands files before (after ++ f.rest) t tokens
-    (f.cut ∙ ap (λ (l : List Item). l ++ f.rest) e
-    ∙ append_assoc before (map Plain (t ∷ tokens) ++ after) f.rest
-    ∙ ap (λ (l : List Item). before ++ l) (append_assoc (map Plain (t ∷ tokens)) after f.rest))
+    (cc (
+      f.cut,
+      e,
+      append_assoc before (map Plain (t ∷ tokens) ++ after) f.rest,
+      append_assoc (map Plain (t ∷ tokens)) after f.rest,
+    ))
 
 -- each token of a statement after its first is of the file of the first
 pub one_home : (files : List PlainFile) (statements before after : List PlainStatement)
@@ -26,8 +29,7 @@ pub one_home : (files : List PlainFile) (statements before after : List PlainSta
     (others earlier later : List PlainToken) (u : PlainToken) → p.own ≡ s.first ∷ others
     → others ≡ earlier ++ u ∷ later → u.file ≡ s.first.file
 one_home files statements before after f s p others earlier later u own there =
-    let (front, back, whole, first, left) =
-    own_stands f.front statements before s after f.viable p in
+    let (front, back, whole, first, left) = own_stands f.front _ before s after f.viable p in
     let stands = front_run_stands files statements f front back s.first others
     (whole ∙ ap (λ (l : List PlainToken). front ++ (map Plain l ++ back)) own) in
     run_home files s.first others (s.first ∷ earlier) u later stands
@@ -46,8 +48,7 @@ ends_home files statements before after f s p k =
     let own : p.own ≡ s.first ∷ others =
     h.whole ∙ ap (λ (l : List PlainToken). (l ++ s.symbols) ++ h.tail) h.first.1
     ∙ ap (λ (l : List PlainToken). s.first ∷ (stated ++ l)) k.tokens in
-    let split : others ≡ (stated ++ k.equals ∷ s.proof) ++ k.stop ∷ [] =
-    sym (append_assoc stated (k.equals ∷ s.proof) (k.stop ∷ [])) in (
+    let split = sym (append_assoc stated (k.equals ∷ s.proof) (k.stop ∷ [])) in (
       one_home files statements before after f s p others stated (s.proof ++ k.stop ∷ []) k.equals
           own refl,
       one_home files statements before after f s p others (stated ++ k.equals ∷ s.proof) [] k.stop

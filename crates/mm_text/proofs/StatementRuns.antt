@@ -21,8 +21,7 @@ use Rattle.mm_text.proofs.ReaderRuns.{Runs, with_first, with_all, with_all-runs,
 use Rattle.mm_text.proofs.Lists.{cons_parts}
 use Rattle.mm_text.proofs.StepLaws.{step_opens, step_closes, start_by, start_keyword, step_label}
 use Rattle.mm_text.proofs.StepLaws.{labelled_by, label_keyword, step_too_few, step_whole}
-use Rattle.mm_text.proofs.StepLaws.{step_to_proof}
-use Rattle.mm_text.proofs.StepLaws.{step_symbol, step_proof_token, step_ends_proof}
+use Rattle.mm_text.proofs.StepLaws.{step_to_proof, step_symbol, step_proof_token, step_ends_proof}
 
 -- ---- the keyword that closes symbols
 
@@ -148,8 +147,7 @@ proving_run s tokens rest d =
     (step_to_proof stated d.equals keyword.Equals d.sign
     (ap (λ (k : Kind). ends_symbols k keyword.Equals) d.kind)
     (has_count_from s.kind (length s.symbols) (subst (λ (k : Kind). FitsCount k (length s.symbols)) (sym d.kind) d.some)) (ap is_provable d.kind))
-    ∙ proof_run proving s.proof rest d.steps
-    ∙ (λ i. run (InProof (record s { span = sym d.span i })) rest)
+    ∙ proof_run proving _ _ d.steps ∙ (λ i. run (InProof (record s { span = sym d.span i })) rest)
 
 -- the reader has what the tokens are
 pub part_run : (part : Part) (tokens : List PlainToken) (rest : List PlainToken) → Describes part tokens → run Between (tokens ++ rest) ≡ run part rest
@@ -272,8 +270,7 @@ statements_run tokens [] rest h = ap (λ (x : List PlainToken). run Between (x +
 statements_run tokens (s ∷ statements) rest h =
     ap (λ (x : List PlainToken). run Between (x ++ rest)) h.2
     ∙ ap (run Between) (append_assoc h.0 h.1 rest)
-    ∙ statement_run h.0 s (h.1 ++ rest) h.3
-    ∙ ap (with_first s) (statements_run h.1 statements rest h.4)
+    ∙ statement_run h.0 s _ h.3 ∙ ap (with_first s) (statements_run h.1 statements rest h.4)
 
 -- ---- whole statements and a part
 

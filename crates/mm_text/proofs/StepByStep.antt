@@ -54,11 +54,10 @@ module _ (P : List PlainToken → List Shown → Type 0) (nothing : P [] [])
   shown_by None (t ∷ tokens) =
       let So : List Shown → Type 0 = P (t ∷ tokens) in
       let inside = comment t tokens _ (shown_by (Some t) tokens) in
-      let outside = clear t tokens _ (shown_by None tokens) in
       cond_both (not (list_all is_printable t.text)) _ _ So (λ _. broken (t ∷ tokens) X1 t)
       (λ _. cond_both (spells t.text (codes "$(")) _ _ So (λ _. inside)
       (λ _. cond_both (spells t.text (codes "$)")) _ _ So (λ _. broken (t ∷ tokens) X4 t)
-      (λ _. outside)))
+      (λ _. clear t tokens _ (shown_by None tokens))))
   shown_by (Some begin) (t ∷ tokens) =
       let So : List Shown → Type 0 = P (t ∷ tokens) in
       let inside = comment t tokens _ (shown_by (Some begin) tokens) in
@@ -84,14 +83,10 @@ module _ (file : ℕ) (P : List Shown → List Piece → Type 0) (end : P [] (Me
   pieces_by Outside [] = end
   pieces_by (Naming begin) [] = wrong [] X5 begin
   pieces_by (Closing begin called) [] = wrong [] X5 begin
-  pieces_by Outside (Broken rule t ∷ rest) = wrong (Broken rule t ∷ rest) rule t
-  pieces_by (Naming begin) (Broken rule t ∷ rest) = wrong (Broken rule t ∷ rest) rule t
-  pieces_by (Closing begin called) (Broken rule t ∷ rest) = wrong (Broken rule t ∷ rest) rule t
   pieces_by Outside (Clear t ∷ rest) =
       let naming = inclusion t rest _ (pieces_by (Naming t) rest) in
-      let outside = plain t rest _ (pieces_by Outside rest) in
       cond_both (spells t.text (codes "$[")) _ _ (P (Clear t ∷ rest)) (λ _. naming)
-      (λ _. go outside (broken_outside t.text))
+      (λ _. go (plain t rest _ (pieces_by Outside rest)) (broken_outside t.text))
     where
       go : P (Clear t ∷ rest) (Met (Plain t) ∷ pieces file Outside rest) → (o : Option TextRule)
           → P (Clear t ∷ rest) (elim o [
@@ -101,13 +96,12 @@ module _ (file : ℕ) (P : List Shown → List Piece → Type 0) (end : P [] (Me
       go inner None = inner
       go inner (Some rule) = wrong (Clear t ∷ rest) rule t
   pieces_by (Naming begin) (Clear t ∷ rest) =
-      let closing = name t rest _ (pieces_by (Closing begin t) rest) in
       cond_both (holds_dollar t.text) _ _ (P (Clear t ∷ rest))
-      (λ _. wrong (Clear t ∷ rest) X5 t) (λ _. closing)
+      (λ _. wrong (Clear t ∷ rest) X5 t) (λ _. name t rest _ (pieces_by (Closing begin t) rest))
   pieces_by (Closing begin called) (Clear t ∷ rest) =
-      let outside = named t called rest _ (pieces_by Outside rest) in
       cond_both (spells t.text (codes "$]")) _ _ (P (Clear t ∷ rest))
-      (λ _. outside) (λ _. wrong (Clear t ∷ rest) X5 t)
+      (λ _. named t called rest _ (pieces_by Outside rest)) (λ _. wrong (Clear t ∷ rest) X5 t)
+  pieces_by _ (Broken rule t ∷ rest) = wrong (Broken rule t ∷ rest) rule t
 
 -- pieces before which a file is put
 pub put_before_by : (P : List Piece → Type 0) (files : List PlainFile) (n : ℕ) (rest : List Piece)

@@ -1,7 +1,7 @@
 -- The plain reader, one token at a time.
-use Rattle.std.proofs.Common.{◌≡◌, ℕ, ◌+◌, List, [], ◌∷◌, ◌++◌, length, true, false, cond, if◌then◌else◌, Option, Some, None, refl, sym, ap, ◌∙◌, codes}
+use Rattle.std.proofs.Common.{◌≡◌, ℕ, ◌+◌, List, [], ◌∷◌, ◌++◌, length, true, false, cond, if◌then◌else◌, Option, Some, None, refl, sym, ◌∙◌, codes}
 use Rattle.std.proofs.lemmas.Bool.{cond_both, false≢true}
-use Rattle.mm_text.specs.Items.{spells}
+use Rattle.mm_text.specs.Items.{spells, Item, Plain, Wrong, Inclusion, End}
 use Rattle.mm_text.specs.declared.fault.TextRule.{TextRule}
 use Rattle.mm_text.specs.declared.fault.TextRule.TheVariants.{S1, S2, S3, S4, S5, S6}
 use Rattle.mm_text.specs.declared.statement.Kind.{Kind}
@@ -9,13 +9,11 @@ use Rattle.mm_text.specs.declared.statement.Kind.TheVariants.{Opening, Closing}
 use Rattle.mm_text.specs.declared.class.Keyword.{Keyword}
 use Rattle.mm_text.specs.declared.class.Keyword.TheVariants as keyword
 use Rattle.mm_text.specs.Token.{PlainToken, HoldsNoDollar, IsLabel, is_label}
-use Rattle.mm_text.specs.Statement.{PlainStatement, HasBody}
-use Rattle.mm_text.specs.Items.{Item, Plain, Wrong, Inclusion, End}
+use Rattle.mm_text.specs.Statement.{PlainStatement, HasBody, is_provable}
 use Rattle.mm_text.specs.Mirror.Class.{keyword_bytes}
 use Rattle.mm_text.specs.Mirror.Reader.{is_keyword, bare_statement, Part, Between, Labelled, InBody, InProof, Step, More, Whole, Opened, Closed, Faulty, has_count, is_full, step, PlainScope, scope_after_statement, scope_after_opening, scope_after_closing, has_none, fault_in, unfinished_fault, end_fault, inclusion_fault, unless, PlainReading, only_ending, with_statement, reading_of}
-use Rattle.mm_text.specs.Statement.{is_provable}
 use Rattle.mm_text.specs.Mirror.Steps.{is_block_sign, bare_kind, labelled_kind, ends_symbols}
-use Rattle.mm_text.proofs.TextFacts.{other_sign, symbol-is_keyword, label-is_keyword}
+use Rattle.mm_text.proofs.TextFacts.{other_sign, no_keyword, symbol-is_keyword, label-begins}
 
 -- ---- the reading of items, by the first
 
@@ -97,13 +95,11 @@ start_other t none =
 
 pub step_label : (t : PlainToken) → IsLabel t.text → step Between t ≡ More (Labelled t)
 step_label t named =
-    start_other t (label-is_keyword t.text named)
-    ∙ ap (λ b. cond b (More (Labelled t)) (Faulty S2)) named
+    start_other t (no_keyword t.text (label-begins t.text named)) ∙ rw named refl
 
 pub step_no_label : (t : PlainToken) → is_keyword t.text ≡ false → is_label t.text ≡ false
     → step Between t ≡ Faulty S2
-step_no_label t none named =
-    start_other t none ∙ ap (λ b. cond b (More (Labelled t)) (Faulty S2)) named
+step_no_label t none named = start_other t none ∙ rw named refl
 
 -- ---- the token after a label
 

@@ -36,9 +36,6 @@ is_keyword_from text (k, lt, e) =
 pub is_keyword-false : (text : List ℕ) → is_keyword text ≡ false → ¬ (IsKeyword text)
 is_keyword-false text e h = both_ways _ e (is_keyword_from text h)
 
-pub is_keyword-ne : (text : List ℕ) → ¬ (IsKeyword text) → is_keyword text ≡ false
-is_keyword-ne text none = false_from_ne_true _ (λ e. none (is_keyword-true text e))
-
 -- ---- the first byte
 
 abbrev begins_dollar : List ℕ → Bool
@@ -52,7 +49,7 @@ any_of_dollars text (x ∷ xs) all none =
     let here : spells text x ≡ false = same_text-ne text x (λ e. both_ways _ none (ap begins_dollar e ∙ parts.0)) in
     rw here (any_of_dollars text xs parts.1 none)
 
-no_keyword : (text : List ℕ) → begins_dollar text ≡ false → is_keyword text ≡ false
+pub no_keyword : (text : List ℕ) → begins_dollar text ≡ false → is_keyword text ≡ false
 no_keyword text none = any_of_dollars text keywords refl none
 
 no_dollar-begins : (text : List ℕ) → HoldsNoDollar text → begins_dollar text ≡ false
@@ -69,7 +66,7 @@ pub label_bytes : (text : List ℕ) → IsLabel text → list_all is_label_byte 
 label_bytes [] h = refl
 label_bytes (b ∷ bytes) h = h
 
-label-begins : (text : List ℕ) → IsLabel text → begins_dollar text ≡ false
+pub label-begins : (text : List ℕ) → IsLabel text → begins_dollar text ≡ false
 label-begins [] h = refl
 label-begins (b ∷ bytes) h =
     let byte = (and_parts (is_label_byte b) (list_all is_label_byte bytes) h).0 in
@@ -78,10 +75,6 @@ label-begins (b ∷ bytes) h =
 -- a text that holds no `$` is no keyword
 pub symbol-is_keyword : (text : List ℕ) → HoldsNoDollar text → is_keyword text ≡ false
 symbol-is_keyword text h = no_keyword text (no_dollar-begins text h)
-
--- nor is a label
-pub label-is_keyword : (text : List ℕ) → IsLabel text → is_keyword text ≡ false
-label-is_keyword text h = no_keyword text (label-begins text h)
 
 -- and what is no keyword is none of them
 pub other_sign : (text key : List ℕ) → is_keyword text ≡ false → is_keyword key ≡ true

@@ -1,10 +1,9 @@
 -- How the tokens of a file come from its bytes: white space is skipped, and a run of other bytes is one token.
-use Rattle.std.proofs.Common.{◌≡◌, ℕ, ◌+◌, ◌-◌, ◌<◌, ◌≤◌, ◌==◌, ⊎_elim, List, [], ◌∷◌, ◌++◌, length, get_or, drop, true, false, refl, sym, ap, ◌∙◌, subst, arith, eq-eqb, add-zero}
+use Rattle.std.proofs.Common.{◌≡◌, ℕ, ◌+◌, ◌-◌, ◌<◌, ◌≤◌, ◌==◌, List, [], ◌∷◌, ◌++◌, length, get_or, drop, true, false, refl, sym, ap, ◌∙◌, subst, arith, eq-eqb, add-zero}
 use Rattle.std.specs.Prelude.{slice_range}
 use Rattle.std.specs.List.{AllByRecursion}
 use Rattle.std.proofs.lemmas.List.{drop_more, drop_all, drop-drop, take-append-drop, get_or-drop, get_or-take, length-drop, length-take-le}
-use Rattle.std.proofs.lemmas.Bool.{ne_eqb, both_ways}
-use Rattle.std.proofs.str.Laws.{order}
+use Rattle.std.proofs.lemmas.Bool.{ne_eqb}
 use Rattle.mm_text.specs.Token.{PlainToken, is_space, with_byte, tokens_from}
 use Rattle.mm_text.proofs.StepByStep.{tokens_by}
 use Rattle.mm_text.proofs.Lists.{all_places}
@@ -117,9 +116,4 @@ tokens_from-token bytes file start stop some within run after =
 -- white space from the first byte of a token on comes after it
 pub space_after : (bytes : List ℕ) (start at : ℕ) → start ≤ at
     → is_space (get_or bytes start 0) ≡ false → is_space (get_or bytes at 0) ≡ true → start < at
-space_after bytes start at from ink space = ⊎_elim
-    (λ (less : start < at). less)
-    (λ (back : at ≤ start).
-    let same : at ≡ start = omega arith in
-    absurd (both_ways _ (ap (λ k. is_space (get_or bytes k 0)) same ∙ ink) space))
-    (order start at)
+space_after bytes start at from ink space = grind arith

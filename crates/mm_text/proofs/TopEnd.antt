@@ -1,10 +1,10 @@
 -- Nothing comes after the top file's end.
-use Rattle.std.proofs.Common.{◌≡◌, ℕ, List, [], ◌∷◌, ◌++◌, length, Bool, true, false, refl, ap, ◌∙◌, subst, None, replicate, append-nil}
+use Rattle.std.proofs.Common.{◌≡◌, ℕ, List, [], ◌∷◌, ◌++◌, length, Bool, true, false, refl, subst, None, replicate, append-nil}
 use Rattle.std.specs.Prelude.{slice_index_or}
 use Rattle.std.proofs.lemmas.Bool.{both_ways}
 use Rattle.mm_text.specs.Token.{tokens_from}
 use Rattle.mm_text.specs.Files.{PlainFile}
-use Rattle.mm_text.specs.Items.{Item, End, Shown, without_comments, Spot, Outside, Piece, Met, pieces, pieces_of, put_before, put_in, items}
+use Rattle.mm_text.specs.Items.{Item, End, Shown, without_comments, Spot, Outside, Piece, Met, pieces, pieces_of, put_in, items}
 use Rattle.mm_text.specs.ItemLaws.{TopFileEndsLast}
 use Rattle.mm_text.proofs.StepByStep.{pieces_by, put_before_by, put_in_by}
 use Rattle.mm_text.proofs.AlteredItems.{still_named}
@@ -25,11 +25,6 @@ pieces_last n after e h spot shown =
     (λ t rest ps inner. inner) (λ t rest ps inner. inner) (λ t rest ps inner. inner)
     (λ t name rest ps inner. inner) spot shown
 
-before_last : (files : List PlainFile) (n : ℕ) (rest : List Piece) → ¬ (n ≡ 0) → LastPiece rest → LastPiece (put_before files n rest)
-before_last files n rest other h =
-    put_before_by LastPiece files n rest h (λ f _. pieces_last n rest (λ e. absurd (other e)) h
-    Outside (without_comments None (tokens_from n 0 f.bytes)))
-
 put_in_last : (files : List PlainFile) (left : ℕ) (named : List Bool) (ps : List Piece) → slice_index_or named 0 true ≡ true → LastPiece ps → LastEnd (put_in files left named ps)
 put_in_last files left named ps top h = (put_in_by files (λ _ flags qs its.
     slice_index_or flags 0 true ≡ true → LastPiece qs → (qs ≡ [] → its ≡ []) × LastEnd its)
@@ -42,8 +37,9 @@ put_in_last files left named ps top h = (put_in_by files (λ _ flags qs its.
     (λ flags name n qs new on last. (λ e. absurd cc, tt))
     (λ _ flags name n qs its new inner on last. (
       λ e. absurd cc,
-      (inner (still_named flags n 0 on) (before_last files n qs
-          (λ zeroth. both_ways _ new (ap (λ m. slice_index_or flags m true) zeroth ∙ on)) last)).1,
+      (inner (still_named flags n 0 on) (put_before_by LastPiece files n qs last (λ f _.
+          pieces_last n qs (λ zeroth. absurd (both_ways _ new (rw zeroth on))) last
+          Outside (without_comments None (tokens_from n 0 f.bytes))))).1,
     ))
     left named ps top h).1
 

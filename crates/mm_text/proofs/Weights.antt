@@ -1,6 +1,6 @@
 -- What is counted of the items of all files is at most what is counted of each file once.
 use Rattle.std.proofs.Common.{add-zero}
-use Rattle.std.proofs.Common.{◌≡◌, ℕ, zero, suc, ◌+◌, ◌≤◌, List, [], ◌∷◌, ◌++◌, length, Bool, true, false, cond, refl, sym, ap, ◌∙◌, Some, replicate, arith}
+use Rattle.std.proofs.Common.{◌≡◌, ℕ, zero, suc, ◌+◌, ◌≤◌, List, [], ◌∷◌, ◌++◌, length, Bool, true, false, cond, refl, ap, Some, replicate, arith}
 use Rattle.std.specs.Prelude.{slice_index_or, slice_set, slice_get}
 use Rattle.mm_text.specs.declared.fault.TextRule.{TextRule}
 use Rattle.mm_text.specs.Token.{PlainToken}
@@ -40,24 +40,19 @@ module _ (w : Item → ℕ) where
 
   unnamed_set : (k : ℕ) (files : List PlainFile) (named : List Bool) (n : ℕ) (f : PlainFile) → slice_get files n ≡ Some f → slice_index_or named n true ≡ false
       → weigh_pieces (pieces_of (k + n) f) + unnamed k files (slice_set named n true) ≡ unnamed k files named
-  unnamed_set k [] named n f e h = absurd cc
-  unnamed_set k (g ∷ files) [] n f e h = absurd cc
   unnamed_set k (g ∷ files) (b ∷ named) zero f e h =
-      let same : g ≡ f = cc in
-      let here : weigh_pieces (pieces_of (k + 0) f) ≡ weigh_pieces (pieces_of k g) = ap (λ m. weigh_pieces (pieces_of m f)) (add-zero k) ∙ ap (λ x. weigh_pieces (pieces_of k x)) (sym same) in
-      let there : cond b 0 (weigh_pieces (pieces_of k g)) ≡ weigh_pieces (pieces_of k g) = ap (λ c. cond c 0 (weigh_pieces (pieces_of k g))) h in
-      omega (arith, here, there)
+      let same : f ≡ g = cc in
+      rw (add-zero k, same, h) (omega arith)
   unnamed_set k (g ∷ files) (b ∷ named) (suc n) f e h =
       let inner = unnamed_set (k + 1) files named n f e h in
       let step : k + suc n ≡ k + 1 + n = omega arith in
       let here = ap (λ m. weigh_pieces (pieces_of m f)) step in
       omega arith
+  unnamed_set k files named n f e h = absurd cc
 
   unnamed_less : (k : ℕ) (files : List PlainFile) (named : List Bool) (n : ℕ) → unnamed k files (slice_set named n true) ≤ unnamed k files named
-  unnamed_less k [] named n = omega arith
-  unnamed_less k (f ∷ files) [] n = omega arith
-  unnamed_less k (f ∷ files) (b ∷ named) zero = omega arith
   unnamed_less k (f ∷ files) (b ∷ named) (suc n) = omega (arith, unnamed_less (k + 1) files named n)
+  unnamed_less k files named n = omega arith
 
   -- a file that is put in is counted no longer as one that wasn't named
   put_before_weight : (files : List PlainFile) (named : List Bool) (n : ℕ) (rest : List Piece) → slice_index_or named n true ≡ false

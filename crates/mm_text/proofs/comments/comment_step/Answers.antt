@@ -1,7 +1,7 @@
-use Rattle.std.proofs.Common.{refl, sym, ap, ◌∙◌, ◌+◌, arith}
-use Rattle.std.specs.List.{list_all}
-use Rattle.mm_text.specs.Token.{PlainToken, plain_token, is_printable}
-use Rattle.mm_text.proofs.CommentLaws.{comment_token, passed_all, in_comment-illegal, in_comment-close, in_comment-mark, in_comment-more, token_printable, token_illegal, later_place, legal_behind_mark, quiet_legal, closed_at}
+use Rattle.std.proofs.Common.{refl, sym, ◌∙◌, ◌+◌, arith}
+use Rattle.std.proofs.lemmas.Bool.{and_parts}
+use Rattle.mm_text.specs.Token.{plain_token}
+use Rattle.mm_text.proofs.CommentLaws.{comment_token, passed_all, in_comment-illegal, in_comment-close, in_comment-mark, in_comment-more, token_printable, token_illegal, later_place, legal_behind_mark, closed_at}
 use Rattle.mm_text.proofs.comments.comment_step.Goals as goal
 
 -- no `$)` is left
@@ -22,48 +22,39 @@ returns-then-is_closed_at c =
     let quiet = c.comment_stop-stop.ensures.quiet in
     let closed = c.is_closed_at.ensures c.if-is_closed_at.true in
     let front = legal_behind_mark p.bytes.now 41 p.at stop p.legal legal refl closed.mark c.requires.place.front c.requires.place.within
-    (λ k low high. quiet_legal _ _ (quiet k low high)) (omega (arith, c.max-legal.ensures, c.requires.place.front.within, closed.mark.within)) (λ more. omega (arith, c.max-legal.ensures, more)) in (
+    (λ k low high. (and_parts _ _ (quiet k low high)).0) (omega (arith, c.max-legal.ensures, c.requires.place.front.within, closed.mark.within)) (λ more. omega (arith, c.max-legal.ensures, more)) in (
       later_place p (stop + 2) legal front (omega (arith, c.max-legal.ensures)) (omega arith) c.requires.place.small,
       closed_at (plain_token c.args.begin) p stop legal (omega arith) quiet closed,
     )
 
 pub returns-then-place-end : goal.returns-then-place-end
 returns-then-place-end c =
-    let p = c.args.place in
-    let start = c.token_start-start.result in
-    let end = c.token_end-end.result.0 in
-    let t = plain_token c.make_token-token.result in
-    let illegal = token_illegal p.bytes.now c.legal_front.result start end (c.legal_front.ensures.judged.stops (omega arith)) (omega arith) (omega arith) (omega arith) c.token_end-end.ensures.ink in (
-      comment_token (plain_token c.args.begin) p c.comment_stop-stop.result start end t (omega arith) (omega arith) (omega arith)
+    let begin = plain_token c.args.begin in
+    let illegal = token_illegal _ _ _ _ _ _ c.make_token-token.ensures.token (c.legal_front.ensures.judged.stops (omega arith)) (omega arith) (omega arith) (omega arith) c.token_end-end.ensures.ink in (
+      comment_token begin c.args.place _ _ _ _ (omega arith) (omega arith) (omega arith)
           c.comment_stop-stop.ensures.quiet c.token_start-start.ensures.apart c.token_end-end.ensures.token c.make_token-token.ensures.token
-          ∙ in_comment-illegal (plain_token c.args.begin) t _ (ap (λ (u : PlainToken). list_all is_printable u.text) c.make_token-token.ensures.token ∙ illegal),
+          ∙ in_comment-illegal begin _ _ illegal,
       c.make_token-token.ensures.at,
     )
 
 pub returns-then-is_close : goal.returns-then-is_close
 returns-then-is_close c =
     let p = c.args.place in
-    let start = c.token_start-start.result in
-    let end = c.token_end-end.result.0 in
-    let t = plain_token c.make_token-token.result in
-    let printable = token_printable p.bytes.now c.legal_front.result start end c.legal_front.ensures.judged.front (omega arith) (omega arith) c.token_end-end.ensures.ink in (
-      later_place p end c.legal_front.result c.legal_front.ensures.judged.front (omega arith) (omega arith) c.requires.place.small,
-      comment_token (plain_token c.args.begin) p c.comment_stop-stop.result start end t (omega arith) (omega arith) (omega arith)
+    let begin = plain_token c.args.begin in
+    let printable = token_printable _ _ _ _ _ _ c.make_token-token.ensures.token c.legal_front.ensures.judged.front (omega arith) (omega arith) c.token_end-end.ensures.ink in (
+      later_place p _ _ c.legal_front.ensures.judged.front (omega arith) (omega arith) c.requires.place.small,
+      comment_token begin p _ _ _ _ (omega arith) (omega arith) (omega arith)
           c.comment_stop-stop.ensures.quiet c.token_start-start.ensures.apart c.token_end-end.ensures.token c.make_token-token.ensures.token
-          ∙ in_comment-close (plain_token c.args.begin) t _ (ap (λ (u : PlainToken). list_all is_printable u.text) c.make_token-token.ensures.token ∙ printable)
-          (sym c.is_close.ensures ∙ c.if-is_close.true),
+          ∙ in_comment-close begin _ _ printable (sym c.is_close.ensures ∙ c.if-is_close.true),
     )
 
 pub returns-then-holds_mark : goal.returns-then-holds_mark
 returns-then-holds_mark c =
-    let p = c.args.place in
-    let start = c.token_start-start.result in
-    let end = c.token_end-end.result.0 in
-    let t = plain_token c.make_token-token.result in
-    let printable = token_printable p.bytes.now c.legal_front.result start end c.legal_front.ensures.judged.front (omega arith) (omega arith) c.token_end-end.ensures.ink in (
-      comment_token (plain_token c.args.begin) p c.comment_stop-stop.result start end t (omega arith) (omega arith) (omega arith)
+    let begin = plain_token c.args.begin in
+    let printable = token_printable _ _ _ _ _ _ c.make_token-token.ensures.token c.legal_front.ensures.judged.front (omega arith) (omega arith) c.token_end-end.ensures.ink in (
+      comment_token begin c.args.place _ _ _ _ (omega arith) (omega arith) (omega arith)
           c.comment_stop-stop.ensures.quiet c.token_start-start.ensures.apart c.token_end-end.ensures.token c.make_token-token.ensures.token
-          ∙ in_comment-mark (plain_token c.args.begin) t _ (ap (λ (u : PlainToken). list_all is_printable u.text) c.make_token-token.ensures.token ∙ printable)
+          ∙ in_comment-mark begin _ _ printable
           (sym c.is_close.ensures ∙ c.if-is_close.false) (sym c.holds_mark.ensures ∙ c.if-holds_mark.true),
       c.make_token-token.ensures.at,
     )
@@ -71,13 +62,11 @@ returns-then-holds_mark c =
 pub returns : goal.returns
 returns c =
     let p = c.args.place in
-    let start = c.token_start-start.result in
-    let end = c.token_end-end.result.0 in
-    let t = plain_token c.make_token-token.result in
-    let printable = token_printable p.bytes.now c.legal_front.result start end c.legal_front.ensures.judged.front (omega arith) (omega arith) c.token_end-end.ensures.ink in (
-      later_place p end c.legal_front.result c.legal_front.ensures.judged.front (omega arith) (omega arith) c.requires.place.small,
-      comment_token (plain_token c.args.begin) p c.comment_stop-stop.result start end t (omega arith) (omega arith) (omega arith)
+    let begin = plain_token c.args.begin in
+    let printable = token_printable _ _ _ _ _ _ c.make_token-token.ensures.token c.legal_front.ensures.judged.front (omega arith) (omega arith) c.token_end-end.ensures.ink in (
+      later_place p _ _ c.legal_front.ensures.judged.front (omega arith) (omega arith) c.requires.place.small,
+      comment_token begin p _ _ _ _ (omega arith) (omega arith) (omega arith)
           c.comment_stop-stop.ensures.quiet c.token_start-start.ensures.apart c.token_end-end.ensures.token c.make_token-token.ensures.token
-          ∙ in_comment-more (plain_token c.args.begin) t _ (ap (λ (u : PlainToken). list_all is_printable u.text) c.make_token-token.ensures.token ∙ printable)
+          ∙ in_comment-more begin _ _ printable
           (sym c.is_close.ensures ∙ c.if-is_close.false) (sym c.holds_mark.ensures ∙ c.if-holds_mark.false),
     )

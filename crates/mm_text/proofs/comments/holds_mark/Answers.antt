@@ -1,4 +1,4 @@
-use Rattle.std.proofs.Common.{◌-◌, ◌||◌, ◌≡◌, ◌+◌, ◌≤◌, length, drop, sym, ap, ◌∙◌, arith}
+use Rattle.std.proofs.Common.{◌-◌, ◌≡◌, ◌+◌, ◌≤◌, false, length, drop, sym, ap, ◌∙◌, arith}
 use Rattle.std.proofs.lemmas.List.{length-drop}
 use Rattle.mm_text.specs.Items.{holds_mark}
 use Rattle.mm_text.proofs.CommentLaws.{holds_mark-step, holds_mark-short}
@@ -10,16 +10,7 @@ loop-at-preserved c =
     let at = c.loop-at.at in
     let back : at + 1 - 1 ≡ at = omega arith in
     ap (λ n. holds_mark (drop n text)) back
-    ∙ ap (λ m. m || holds_mark (drop at text)) (sym (sym c.are_mark.ensures ∙ c.if-are_mark.false))
-    ∙ sym (holds_mark-step text at (omega arith) (omega arith))
-    ∙ c.loop-at.invariant
-
-pub returns-then-are_mark : goal.returns-then-are_mark
-returns-then-are_mark c =
-    let text = c.args.text.now in
-    let at = c.loop-at.at in
-    ap (λ m. m || holds_mark (drop at text)) (sym (sym c.are_mark.ensures ∙ c.if-are_mark.true))
-    ∙ sym (holds_mark-step text at (omega arith) (omega arith))
+    ∙ sym (holds_mark-step text at false (sym c.are_mark.ensures ∙ c.if-are_mark.false) (omega arith) (omega arith))
     ∙ c.loop-at.invariant
 
 pub returns : goal.returns

@@ -1,6 +1,7 @@
-use Rattle.std.proofs.Common.{get_or, refl, ◌+◌, arith}
+use Rattle.std.proofs.Common.{refl, ◌+◌, arith}
+use Rattle.std.proofs.lemmas.Bool.{or_right}
 use Rattle.mm_text.specs.Token.{plain_token}
-use Rattle.mm_text.proofs.CommentLaws.{begins_at, later_place, legal_behind_mark, space_legal}
+use Rattle.mm_text.proofs.CommentLaws.{begins_at, later_place, legal_behind_mark}
 use Rattle.mm_text.proofs.comments.next_begin.Goals as goal
 
 -- a `$(` is told at once
@@ -11,7 +12,7 @@ returns-then-is_mark_at c =
     let legal = c.max-legal.result in
     let mark = c.is_mark_at.ensures c.if-is_mark_at.true in
     let front = legal_behind_mark p.bytes.now 40 p.at start p.legal legal refl mark c.requires.front c.requires.within
-    (λ k low high. space_legal (get_or p.bytes.now k 0) (c.skip_space-start.ensures.space k low high)) (omega (arith, c.max-legal.ensures, c.requires.front.within, mark.within)) (λ more. omega (arith, c.max-legal.ensures, more)) in (
+    (λ k low high. or_right _ _ (c.skip_space-start.ensures.space k low high)) (omega (arith, c.max-legal.ensures, c.requires.front.within, mark.within)) (λ more. omega (arith, c.max-legal.ensures, more)) in (
       later_place p (start + 2) legal front (omega (arith, c.max-legal.ensures)) (omega arith) c.requires.small,
       begins_at p start legal (plain_token c.make_token-begin.result) c.skip_space-start.ensures.same_tokens mark
           c.make_token-begin.ensures.token,

@@ -1,6 +1,5 @@
 use Rattle.std.proofs.Common.{◌≡◌, ◌∷◌, None, false, sym, ap, ◌∙◌, arith}
-use Rattle.std.specs.List.{list_all}
-use Rattle.mm_text.specs.Token.{PlainToken, plain_token, is_printable}
+use Rattle.mm_text.specs.Token.{PlainToken, plain_token}
 use Rattle.mm_text.specs.Items.{Clear, without_comments, holds_dollar}
 use Rattle.mm_text.proofs.CommentLaws.{outside_token, outside-clear, no_dollar-spells, token_printable}
 use Rattle.mm_text.proofs.comments.take_word.Goals as goal
@@ -9,19 +8,15 @@ use Rattle.mm_text.proofs.comments.take_word.Goals as goal
 pub returns-clause-takes : goal.returns-clause-takes
 returns-clause-takes c =
     let p = c.args.place.now in
-    let start = c.skip_space-start.result in
-    let end = c.token_end-end.result.0 in
     let t = plain_token c.make_token.result in
-    let printable = token_printable p.bytes.now p.legal start end c.requires.front
+    let printable = token_printable _ _ _ _ _ _ c.make_token.ensures.token c.requires.front
     (omega arith) (omega arith) c.token_end-end.ensures.ink in
     let lacks : holds_dollar t.text ≡ false =
     ap (λ (u : PlainToken). holds_dollar u.text) c.make_token.ensures.token
     ∙ sym c.token_end-end.ensures.dollar ∙ c.if-has_dollar.false in (
-      outside_token p start end t c.skip_space-start.ensures.same_tokens
+      outside_token p _ _ t c.skip_space-start.ensures.same_tokens
           c.token_end-end.ensures.token c.make_token.ensures.token
-          ∙ outside-clear t _
-          (ap (λ (u : PlainToken). list_all is_printable u.text) c.make_token.ensures.token
-          ∙ printable)
+          ∙ outside-clear t _ printable
           (no_dollar-spells t.text 40 lacks) (no_dollar-spells t.text 41 lacks)
           ∙ ap (λ tokens. Clear t ∷ without_comments None tokens) (c.after_blank-place.ensures.same_tokens p.file),
       record {

@@ -9,8 +9,7 @@ pub returns-then-count-max-clause-over : goal.returns-then-count-max-clause-over
 returns-then-count-max-clause-over g c = λ answered.
     let (within, before, kept, later) = c.loop-bytes.invariant in
     let piece = take c.in-Ok.count c.read.new.buf in
-    let fits : c.in-Ok.count ≤ length c.read.new.buf = search rules in
-    let long : length piece ≡ c.in-Ok.count = length-take-le c.in-Ok.count c.read.new.buf fits in
+    let long : length piece ≡ c.in-Ok.count = length-take-le c.in-Ok.count _ (search rules) in
     let so_far : vec_len c.loop-bytes.bytes ≡ length c.loop-bytes.bytes.items = search rules in
     let over : c.args.max < length (c.loop-bytes.bytes.items ++ piece) = omega (arith, length-append c.loop-bytes.bytes.items piece) in
     (c.loop-bytes.bytes.items ++ piece, over, Consumes-trans _ _ _ _ _ before c.in-Ok.ensures.bytes.0)
@@ -20,8 +19,7 @@ pub returns-in_err-extend_from_slice-clause-memory : goal.returns-in_err-extend_
 returns-in_err-extend_from_slice-clause-memory g c = λ answered.
     let (within, before, kept, later) = c.loop-bytes.invariant in
     let piece = take c.in-Ok.count c.read.new.buf in
-    let fits : c.in-Ok.count ≤ length c.read.new.buf = search rules in
-    let long : length piece ≡ c.in-Ok.count = length-take-le c.in-Ok.count c.read.new.buf fits in
+    let long : length piece ≡ c.in-Ok.count = length-take-le c.in-Ok.count _ (search rules) in
     let so_far : vec_len c.loop-bytes.bytes ≡ length c.loop-bytes.bytes.items = search rules in
     let some : 0 < length (c.loop-bytes.bytes.items ++ piece) = omega (arith, length-append c.loop-bytes.bytes.items piece) in
     let few : length (c.loop-bytes.bytes.items ++ piece) ≤ c.args.max = omega (arith, length-append c.loop-bytes.bytes.items piece) in

@@ -8,8 +8,7 @@ pub returns-then-more-max-clause-over : goal.returns-then-more-max-clause-over
 returns-then-more-max-clause-over g c = λ answered.
     let (within, (came, size, before, hollow), calm, kept, later) = c.loop-more.invariant in
     let piece = take c.in-Ok.more c.read.new.buf in
-    let fits : c.in-Ok.more ≤ length c.read.new.buf = search rules in
-    let long : length piece ≡ c.in-Ok.more = length-take-le c.in-Ok.more c.read.new.buf fits in
+    let long : length piece ≡ c.in-Ok.more = length-take-le c.in-Ok.more _ (search rules) in
     let over : c.args.max < length (came ++ piece) = omega (arith, size, long, length-append came piece, c.if-more-max.true) in
     (came ++ piece, over, Consumes-trans _ _ _ _ _ before c.in-Ok.ensures.bytes.0)
 
@@ -17,8 +16,7 @@ pub loop-more-preserved : goal.loop-more-preserved
 loop-more-preserved g c =
     let (within, (came, size, before, hollow), calm, kept, later) = c.loop-more.invariant in
     let piece = take c.in-Ok.more c.read.new.buf in
-    let fits : c.in-Ok.more ≤ length c.read.new.buf = search rules in
-    let long : length piece ≡ c.in-Ok.more = length-take-le c.in-Ok.more c.read.new.buf fits in
+    let long : length piece ≡ c.in-Ok.more = length-take-le c.in-Ok.more _ (search rules) in
     let some : 0 < c.in-Ok.more = search rules in (
       omega (arith, c.if-more-max.false),
       (came ++ piece, omega (arith, size, long, length-append came piece), Consumes-trans _ _ _ _ _ before c.in-Ok.ensures.bytes.0, c.in_ok-take.ensures came hollow),
@@ -32,8 +30,7 @@ pub returns-in_err-take-clause-memory : goal.returns-in_err-take-clause-memory
 returns-in_err-take-clause-memory g c = λ answered.
     let (within, (came, size, before, hollow), calm, kept, later) = c.loop-more.invariant in
     let piece = take c.in-Ok.more c.read.new.buf in
-    let fits : c.in-Ok.more ≤ length c.read.new.buf = search rules in
-    let long : length piece ≡ c.in-Ok.more = length-take-le c.in-Ok.more c.read.new.buf fits in
+    let long : length piece ≡ c.in-Ok.more = length-take-le c.in-Ok.more _ (search rules) in
     let more : 0 < c.in-Ok.more = search rules in
     let some : 0 < length (came ++ piece) = omega (arith, more, long, length-append came piece) in
     let few : length (came ++ piece) ≤ c.args.max = omega (arith, size, long, length-append came piece, c.if-more-max.false) in

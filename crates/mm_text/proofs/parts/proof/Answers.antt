@@ -5,13 +5,8 @@ use Rattle.mm_text.specs.Mirror.Reader.{InProof}
 use Rattle.mm_text.specs.Mirror.Steps.{plain_scope}
 use Rattle.mm_text.proofs.StepLaws.{step_ends_proof, step_in_proof}
 use Rattle.mm_text.proofs.PartLaws.{gives_same, gives_faulty, gives_err, answers_refused}
-use Rattle.mm_text.proofs.PartLaws.{same_more, gives_whole}
+use Rattle.mm_text.proofs.PartLaws.{gives_whole}
 use Rattle.mm_text.proofs.parts.proof.Goals as goal
-
-pub returns-in_err-words_of_proof : goal.returns-in_err-words_of_proof
-returns-in_err-words_of_proof c =
-    gives_err (plain_scope c.args.scope.now) _ _ _ _ _ _ c.from_residual.ensures.1
-    c.loop-cursor.invariant c.in_err-words_of_proof.ensures.reads
 
 pub returns-in_err-token : goal.returns-in_err-token
 returns-in_err-token c =
@@ -37,17 +32,10 @@ returns-in-Some c =
     gives_same _ _ _ _ _ _ (c.loop-cursor.invariant ∙ c.in_ok-words_of_proof.ensures.reads)
     (gives_whole (plain_scope c.args.scope.now) (InProof s) c.words_of_proof.new.cursor c.token_within.new.cursor t _ taken.first (step_ends_proof s t c.in-Some.keyword taken.text (sym c.is_stop.ensures ∙ c.if-not-is_stop.false)))
 
-pub loop-cursor-preserved : goal.loop-cursor-preserved
-loop-cursor-preserved c =
-    let taken = rw c.in-None.is at c.in_ok-token.ensures in
-    (c.loop-cursor.invariant ∙ c.in_ok-words_of_proof.ensures.reads)
-    ∙ same_more (plain_scope c.args.scope.now) (InProof (plain_statement c.words_of_proof.new.into)) _ c.words_of_proof.new.cursor c.token_within.new.cursor (plain_token c.in_ok-token.token) taken.first c.in_ok-add_to_proof-in-None.ensures
-
 pub returns-in_err-add_to_proof-in-None : goal.returns-in_err-add_to_proof-in-None
 returns-in_err-add_to_proof-in-None c =
-    let taken = rw c.in-None.is at c.in_ok-token.ensures in
     gives_err (plain_scope c.args.scope.now) _ _ _ _ _ _
     c.from_residual-in_err-add_to_proof-in-None.ensures.1
     (c.loop-cursor.invariant ∙ c.in_ok-words_of_proof.ensures.reads)
     (answers_refused _ (InProof (plain_statement c.words_of_proof.new.into)) _ _ _ _ _ tt
-    taken.first c.in_err-add_to_proof-in-None.ensures)
+    (rw c.in-None.is at c.in_ok-token.ensures).first c.in_err-add_to_proof-in-None.ensures)

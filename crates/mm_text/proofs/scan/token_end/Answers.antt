@@ -16,8 +16,7 @@ returns-then-at-bytes-clause-token c file =
 
 pub returns-then-at-bytes-clause-ink : goal.returns-then-at-bytes-clause-ink
 returns-then-at-bytes-clause-ink c =
-    run_on _ _ c.words.from _ is_space high_ink c.words.invariant.ink
-    c.first_sought-at.ensures.passed
+    run_on _ _ _ _ is_space high_ink c.words.invariant.ink c.first_sought-at.ensures.passed
 
 pub returns-then-at-bytes-clause-dollar : goal.returns-then-at-bytes-clause-dollar
 returns-then-at-bytes-clause-dollar c =
@@ -37,8 +36,7 @@ returns-then-is_space-clause-token c file =
 
 pub returns-then-is_space-clause-ink : goal.returns-then-is_space-clause-ink
 returns-then-is_space-clause-ink c =
-    run_on _ _ c.words.from _ is_space high_ink c.words.invariant.ink
-    c.first_sought-at.ensures.passed
+    run_on _ _ _ _ is_space high_ink c.words.invariant.ink c.first_sought-at.ensures.passed
 
 pub returns-then-is_space-clause-dollar : goal.returns-then-is_space-clause-dollar
 returns-then-is_space-clause-dollar c =

@@ -1,5 +1,4 @@
-use Rattle.std.proofs.Common.{◌≡◌, ◌+◌, ◌-◌, ◌++◌, take, drop, length, sym, ap, subst, ◌∙◌, append_assoc, take-add, arith}
-use Rattle.std.proofs.Math.Seq.{take-length}
+use Rattle.std.proofs.Common.{◌≡◌, ◌+◌, ◌-◌, ◌++◌, take, drop, sym, ap, subst, ◌∙◌, append_assoc, take-add, arith}
 use Rattle.mm_text.specs.Mirror.Hollow.{IsHollow}
 use Rattle.mm_text.proofs.hollow.Hollow.take.Goals as goal
 
@@ -15,8 +14,3 @@ loop-at-preserved c = (
       subst (λ l. IsHollow l c.take_some.new.self.kept.items c.take_some.new.self.state) whole
       (c.in_ok-at.ensures.hollow (bytes ++ take at piece) (c.loop-at.invariant.1 bytes hollow)),
 )
-
-pub returns : goal.returns
-returns c = λ bytes hollow.
-    let end : c.loop-at.at ≡ length c.args.piece.now = omega (arith, c.loop-at.invariant.0, c.loop-at-test.false) in
-    subst (λ l. IsHollow (bytes ++ l) c.loop-at.self.kept.items c.loop-at.self.state) (ap (λ m. take m c.args.piece.now) end ∙ take-length c.args.piece.now) (c.loop-at.invariant.1 bytes hollow)

@@ -1,6 +1,6 @@
-use Rattle.std.proofs.Common.{◌≡◌, ◌++◌, sym, subst, arith}
+use Rattle.std.proofs.Common.{◌≡◌, ◌-◌, ◌++◌, take, drop, sym, ap, subst, ◌∙◌, append-nil, arith}
 use Rattle.mm_text.specs.Mirror.Hollow.{IsHollow}
-use Rattle.mm_text.proofs.Hollowing.{one_of, none_of}
+use Rattle.mm_text.proofs.Hollowing.{one_of}
 use Rattle.mm_text.proofs.hollow.Hollow.take_some.Goals.{in-Outside+else-end-at, in-Inside+in_ok-end-in-Inside+else-end-at-2, in_default}
 use Rattle.mm_text.proofs.hollow.Hollow.take_some.Goals as goal
 
@@ -9,9 +9,9 @@ returns-clause-hollow c = λ bytes hollow.
     let so_far : IsHollow bytes c.match-self.self.kept.items c.match-self.self.state = elim c.match-self.branch [
       | in-Outside+else-end-at w ↦ rw w.self-is hollow
       | in-Inside+in_ok-end-in-Inside+else-end-at-2 w ↦
-          let none : w.in_ok-end-in-Inside.end ≡ c.args.at = omega (arith, w.in_ok-end-in-Inside.ensures.from, w.if-end-at-2.false) in
+          let none : w.in_ok-end-in-Inside.end - c.args.at ≡ 0 = omega (arith, w.in_ok-end-in-Inside.ensures.from, w.if-end-at-2.false) in
           rw w.self-is (subst (λ l. IsHollow l w.leave_out_lines.new.self.kept.items w.leave_out_lines.new.self.state)
-          (none_of bytes c.args.piece.now c.args.at w.in_ok-end-in-Inside.end none) (w.in_ok-end-in-Inside.ensures.hollow bytes hollow))
+          (ap (λ m. bytes ++ take m (drop c.args.at c.args.piece.now)) none ∙ append-nil bytes) (w.in_ok-end-in-Inside.ensures.hollow bytes hollow))
       | in_default w ↦ rw w.self-is hollow
     ] in
     subst (λ l. IsHollow (bytes ++ l) c.take_one.new.self.kept.items c.take_one.new.self.state) (sym (one_of c.args.piece.now c.args.at c.requires)) (c.in_ok-take_one.ensures bytes so_far)
