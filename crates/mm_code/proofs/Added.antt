@@ -21,10 +21,6 @@ rest_ends room = refl
 
 -- ---- the steps of the code
 
-pub fitting_added : (old new token : List ℕ) (room : ℕ) → new ≡ (old ++ 32 ∷ []) ++ token → length token < room → (more : List (List ℕ)) → new ++ rest_of (room - length token - 1) more ≡ old ++ rest_of room (token ∷ more)
-fitting_added old new token room is lt more =
-    rw (is, rest_fits room token more lt) (simp append_assoc)
-
 pub begun_adds : {E : Type 0} (result : Result ℕ E) (old between new token : List ℕ) (room : ℕ) → between ≡ old ++ 10 ∷ [] → OnOk result (new ≡ between ++ (indent ++ token))
     → IfOk result (λ left. left ≡ room_after (length token)) → room ≤ length token → IfOk result (λ left. (more : List (List ℕ)) → new ++ rest_of left more ≡ old ++ rest_of room (token ∷ more))
 begun_adds (Ok left) old between new token room was is after le = λ more.
@@ -54,15 +50,13 @@ line_length line (inr more) = omega (arith, more.0)
 
 -- one more line before those of a text
 laid-cons : (line tokens : List (List ℕ)) (text : List ℕ) → IsLine line → IsFull line tokens → LaidOut tokens text → LaidOut (line ++ tokens) ((token_line line ++ 10 ∷ []) ++ text)
-laid-cons line tokens text is full laid =
-    let Full : List (List ℕ) → Type 0 = IsFull line in
-    record {
-      lines = line ∷ laid.lines;
-      in_order = ap (λ (ts : List (List ℕ)). line ++ ts) laid.in_order;
-      each = (is, laid.each);
-      greedy = (subst Full (sym laid.in_order) full, laid.greedy);
-      printed = ap (λ (t : List ℕ). (token_line line ++ 10 ∷ []) ++ t) laid.printed;
-    }
+laid-cons line tokens text is full laid = record {
+  lines = line ∷ laid.lines;
+  in_order = ap (λ (ts : List (List ℕ)). line ++ ts) laid.in_order;
+  each = (is, laid.each);
+  greedy = (subst (IsFull line) (sym laid.in_order) full, laid.greedy);
+  printed = ap (λ (t : List ℕ). (token_line line ++ 10 ∷ []) ++ t) laid.printed;
+}
 
 pub laid-nil : LaidOut [] []
 laid-nil = record { lines = []; in_order = refl; each = tt; greedy = tt; printed = refl }

@@ -43,10 +43,6 @@ other-tested (byte ∷ text) e =
       | inr fails ↦ (0, byte, omega arith, refl, not_from_Decides _ (letter_decides byte) fails)
     ]
 
-other-test : (text : List ℕ) → HasOther text → are_letters text ≡ false
-other-test text (k, x, lt, there, not) =
-    false_from_ne_true _ (λ e. not (rw there at ((letters_decide text).0 e k x lt)))
-
 -- ---- the rule, by the test of all bytes
 
 rule_behind-is : (text : List ℕ) (all : Bool) → are_letters text ≡ all
@@ -175,8 +171,9 @@ answered text (Ok codes) all e tells fails = absurd (cc (fails (sym e ∙ tells)
 answered text (Err rule) all e tells fails = ap Err (tells ∙ rule_behind-is text all e)
 
 pub breaks_read : (rule : CodeRule) (text : List ℕ) → LettersBreak rule text → reading 0 text ≡ Err rule
-breaks_read P4 text broken =
-    answered text (reading 0 text) false (other-test text broken) (reads 0 text) (λ is. absurd cc)
+breaks_read P4 text (k, x, lt, there, not) =
+    let other = false_from_ne_true _ (λ e. not (rw there at ((letters_decide text).0 e k x lt))) in
+    answered text (reading 0 text) false other (reads 0 text) (λ is. absurd cc)
 breaks_read P5 text (all, inside) =
     answered text (reading 0 text) true ((letters_decide text).1 all) (reads 0 text)
     (λ is. rw inside.whole (cut_fails inside.before 0 _ _ inside.is_leading inside.stops))

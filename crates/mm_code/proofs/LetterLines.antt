@@ -1,5 +1,5 @@
 -- The lines of letters, and the whole layouts.
-use Rattle.std.proofs.Common.{◌≡◌, ℕ, ◌<◌, ◌≤◌, ◌⊎◌, inl, inr, min, List, [], ◌∷◌, ◌++◌, length, take, drop, refl, sym, ap, ◌∙◌, append_assoc, arith}
+use Rattle.std.proofs.Common.{◌≡◌, ℕ, ◌<◌, ◌≤◌, ◌⊎◌, inl, inr, min, List, [], ◌∷◌, ◌++◌, length, take, drop, refl, ap, ◌∙◌, arith}
 use Rattle.std.specs.List.{flat_map}
 use Rattle.std.proofs.lemmas.Bool.{cases_lt}
 use Rattle.std.proofs.lemmas.List.{length-append, append-nil, length-take, length-drop, take-append-drop, nil_from_length}
@@ -45,19 +45,6 @@ letters_laid-begun letters block n some is laid =
       printed = ap (λ (t : List ℕ). ((indent ++ line) ++ 10 ∷ []) ++ t) laid.printed;
     }
 
--- the step of the loop: a line of at most 73 letters is taken from those that are left
-pub line_taken : (first now next rest line after letters : List ℕ) (n : ℕ) → 0 < length rest → n ≡ min (length rest) 73 → line ≡ take n rest → after ≡ drop n rest → next ≡ now ++ ((indent ++ line) ++ 10 ∷ [])
-    → ((block : List ℕ) → LettersLaidOut rest block → AppendsLetters first (now ++ block) letters)
-    → (block : List ℕ) → LettersLaidOut after block → AppendsLetters first (next ++ block) letters
-line_taken first now next rest line after letters n some is front back text so_far block laid =
-    rw (text, front, append_assoc)
-    (so_far _ (letters_laid-begun rest block n some is (rw back at laid)))
-
--- no letters are left
-pub letters_done : (first now rest letters : List ℕ) → length rest ≡ 0 → ((block : List ℕ) → LettersLaidOut rest block → AppendsLetters first (now ++ block) letters) → AppendsLetters first now letters
-letters_done first now rest letters none so_far =
-    rw append-nil at (so_far [] (rw (nil_from_length rest none) letters_laid-nil))
-
 -- ---- whole layouts
 
 -- a first token, further ones, and the end of the last line
@@ -67,12 +54,6 @@ tokens_laid_out empty begun added text token room left tokens none first after o
     let ends : added ++ 10 ∷ [] ≡ begun ++ rest_of room tokens =
     rw (← rest_ends left, others [], append-nil) refl in
     rw (is, ends, first, none, after) (laid_out_begun token tokens)
-
--- labels, and one more token behind them
-pub list_closed : (begun added text token : List ℕ) (room left last : ℕ) (labels : List (List ℕ)) → ((more : List (List ℕ)) → added ++ rest_of left more ≡ begun ++ rest_of room (labels ++ more))
-    → ((more : List (List ℕ)) → text ++ rest_of last more ≡ added ++ rest_of left (token ∷ more)) → (more : List (List ℕ)) → text ++ rest_of last more ≡ begun ++ rest_of room ((labels ++ token ∷ []) ++ more)
-list_closed begun added text token room left last labels listed ends more =
-    ends more ∙ listed (token ∷ more) ∙ ap (λ (ts : List (List ℕ)). begun ++ rest_of room ts) (sym (append_assoc labels (token ∷ []) more))
 
 pub compressed_laid_out : (labels : List (List ℕ)) (letters list text : List ℕ) → LaidOut (in_parentheses labels) list → AppendsLetters list text letters → CompressedLaidOut labels letters text
 compressed_laid_out labels letters list text laid more = record { list = list; block = more.block; list_laid_out = laid; letters_laid_out = more.laid_out; whole = more.text }

@@ -88,9 +88,8 @@ is_read (byte ∷ text) digits codes ok e =
           let longer = digits ++ digit ∷ [] in
           let are = all_push IsLeadingDigit digits digit ok (omega arith, omega arith) in
           let is_byte : leading_letter digit ≡ byte = omega arith in
-          let worth = leading_value-push digits digit in
           let next : leading_after value byte ≡ min (leading_value longer) largest =
-          omega (arith, worth) in
+          omega (arith, leading_value-push digits digit) in
           let letters = is_read text longer codes are (rw (← next) (sym is ∙ e)) in
           rw (map-append, append_assoc, is_byte) at letters
       | cut_off tagged some is ↦ absurd (cc (is, e))

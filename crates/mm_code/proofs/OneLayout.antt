@@ -1,5 +1,5 @@
 -- Tokens have one layout, and letters have one.
-use Rattle.std.proofs.Common.{◌≡◌, ℕ, suc, ◌+◌, ◌<◌, ◌≤◌, inl, inr, List, [], ◌∷◌, ◌++◌, length, refl, sym, ap, subst, ◌∙◌, append_assoc, arith}
+use Rattle.std.proofs.Common.{◌≡◌, ℕ, suc, ◌+◌, ◌<◌, ◌≤◌, inl, inr, List, [], ◌∷◌, ◌++◌, length, refl, sym, ap, ◌∙◌, append_assoc, arith}
 use Rattle.std.specs.List.{flat_map, join_with_byte, AllByRecursion}
 use Rattle.std.proofs.lemmas.List.{length-append}
 use Rattle.mm_code.specs.Layout.{indent, token_line, width, IsLine, IsFull, IsGreedy, LaidOut, AreLetterLines, LettersLaidOut, in_parentheses, CompressedLaidOut}
@@ -33,11 +33,10 @@ no_items line lines some e =
 
 -- a line grows with its tokens
 join-grows : (a b : List (List ℕ)) → length (join_with_byte 32 a) ≤ length (join_with_byte 32 (a ++ b))
-join-grows [] b = omega arith
-join-grows (x ∷ []) [] = omega arith
 join-grows (x ∷ []) (y ∷ b) = omega (arith, length-append x (32 ∷ join_with_byte 32 (y ∷ b)))
 join-grows (x ∷ y ∷ a) b =
     omega (arith, join-grows (y ∷ a) b, length-append x (32 ∷ join_with_byte 32 (y ∷ a)), length-append x (32 ∷ join_with_byte 32 ((y ∷ a) ++ b)))
+join-grows a b = omega arith
 
 narrow : (line : List (List ℕ)) → IsLine line → 1 < length line → width line ≤ 79
 narrow line (inl one) lt = absurd (omega (arith, one))
@@ -50,8 +49,7 @@ not_longer line following other rest more token is full is_other whole next =
     let some = line_length line is in
     let count = ap length whole ∙ length-append line (token ∷ more) in
     let slim : width ((line ++ token ∷ []) ++ more) ≤ 79 =
-    subst (λ (ts : List (List ℕ)). width ts ≤ 79)
-    (whole ∙ sym (append_assoc line (token ∷ []) more)) (narrow other is_other (omega arith)) in
+    rw (append_assoc line (token ∷ []) more, ← whole) (narrow other is_other (omega arith)) in
     omega (arith, join-grows (line ++ token ∷ []) more)
 
 one_lines : (a b : List (List (List ℕ))) → AllByRecursion IsLine a → AllByRecursion IsLine b → IsGreedy a → IsGreedy b → flat_map (λ l. l) a ≡ flat_map (λ l. l) b → a ≡ b

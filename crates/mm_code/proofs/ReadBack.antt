@@ -68,14 +68,12 @@ tokens_in-letters (line ∷ lines) each dark =
     ap tokens_in (append_assoc (indent ++ line) (10 ∷ []) others) ∙ tokens_in-indent (line ++ 10 ∷ others) ∙ tokens_in-token line 10 others is refl
     ∙ ap (λ (ws : List (List ℕ)). line ∷ ws) (tokens_in-letters lines (other_letters line lines each) (all_back is_dark line (flat_map (λ l. l) lines) dark))
 
-tokens_in-parentheses : (labels : List (List ℕ)) → AllByRecursion IsOneToken labels → AllByRecursion IsOneToken (in_parentheses labels)
-tokens_in-parentheses labels are = ((omega arith, (refl, tt)), all_append IsOneToken labels ((41 ∷ []) ∷ []) are ((omega arith, (refl, tt)), tt))
-
 pub compressed_read_back : (labels : List (List ℕ)) (letters text : List ℕ) → AllByRecursion IsOneToken labels → LacksWhiteSpace letters → CompressedLaidOut labels letters text
     → (pieces : List (List ℕ)) × (tokens_in text ≡ in_parentheses labels ++ pieces) × (flat_map (λ piece. piece) pieces ≡ letters)
 compressed_read_back labels letters text are dark laid =
     let block = laid.letters_laid_out in
     let found = tokens_in-letters block.lines block.each (rw block.in_order dark) in
+    let end = all_append IsOneToken labels ((41 ∷ []) ∷ []) are ((omega arith, (refl, tt)), tt) in
     let listed = tokens_in-laid_out (in_parentheses labels) laid.list laid.block
-    (tokens_in-parentheses labels are) laid.list_laid_out in
+    ((omega arith, (refl, tt)), end) laid.list_laid_out in
     (block.lines, rw (laid.whole, listed, block.printed, found), block.in_order)

@@ -54,11 +54,9 @@ few_lines (line ∷ lines) each greedy = omega (arith, many_lines line lines eac
 
 pub normal_size : (tokens : List (List ℕ)) (text : List ℕ) → LaidOut tokens text → length text ≤ lines_bound (size_of tokens)
 normal_size tokens text laid =
-    let text_length = ap length laid.printed ∙ lines-length laid.lines laid.each in
     let size : size_of (flat_map (λ l. l) laid.lines) ≡ size_of tokens = ap size_of laid.in_order in
     let few = few_lines laid.lines laid.each laid.greedy in
-    let known : 6 * length laid.lines ≤ size_of tokens / 6 + 6 = rw (← size) few in
-    omega (arith, text_length, size, known)
+    omega (arith, ap length laid.printed ∙ lines-length laid.lines laid.each, size, rw size at few)
 
 -- ---- letters
 
@@ -83,10 +81,13 @@ letter-lines-few (line ∷ lines) each = omega (arith, letter-lines-count line l
 
 pub letters_size : (letters text : List ℕ) → LettersLaidOut letters text → length text ≤ letters_bound (length letters)
 letters_size letters text laid =
-    let text_length = ap length laid.printed ∙ letter-lines-length laid.lines in
     let size = ap length laid.in_order in
-    let few : length laid.lines ≤ length letters / 73 + min 1 (length letters % 73) = rw (← size) (letter-lines-few laid.lines laid.each) in
-    omega (arith, text_length, size, few)
+    omega (
+      arith,
+      ap length laid.printed ∙ letter-lines-length laid.lines,
+      size,
+      rw size at (letter-lines-few laid.lines laid.each),
+    )
 
 pub compressed_size : (labels : List (List ℕ)) (letters text : List ℕ) → CompressedLaidOut labels letters text → length text ≤ lines_bound (size_of labels + 4) + letters_bound (length letters)
 compressed_size labels letters text laid =

@@ -38,10 +38,9 @@ one_worth (x ∷ a) (y ∷ b) p q e =
 
 pub one_leading : (a b : List ℕ) → AllByRecursion IsLeadingDigit a → AllByRecursion IsLeadingDigit b → leading_value a ≡ leading_value b → a ≡ b
 one_leading a b p q e =
-    let same : reverse a ≡ reverse b =
-    one_worth (reverse a) (reverse b) (leading-reverse a p) (leading-reverse b q)
+    let same = one_worth (reverse a) (reverse b) (leading-reverse a p) (leading-reverse b q)
     (rw (reverse-reverse a, reverse-reverse b) e) in
-    sym (reverse-reverse a) ∙ ap reverse same ∙ reverse-reverse b
+    cc (same, reverse-reverse a, reverse-reverse b)
 
 pub one_spelling_only : (a b : List ℕ) (number : ℕ) → IsSpelling a number → IsSpelling b number → a ≡ b
 one_spelling_only a b number p q =
@@ -152,15 +151,11 @@ exact_code (Number n) (Number m) exact e =
 exact_code Tag Tag exact e = refl
 exact_code code spelled exact e = cc
 
-exact_codes : (codes spelled : List Code) → All IsExact codes → codes ≡ map code_for spelled → codes ≡ spelled
+-- codes below the largest number are what their letters spell
+pub exact_codes : (codes spelled : List Code) → All IsExact codes → codes ≡ map code_for spelled → codes ≡ spelled
 exact_codes [] [] exact e = refl
 exact_codes (c ∷ codes) (s ∷ spelled) exact e =
     let first : c ≡ s = exact_code c s (All-head IsExact c codes exact) (cc) in
     let others = exact_codes codes spelled (All-tail IsExact c codes exact) (cc) in
     cc
 exact_codes codes spelled exact e = cc
-
--- codes below the largest number are what their letters spell
-pub exact_spelled : (text : List ℕ) (codes : List Code) → All IsExact codes → Letters text codes → SpellsCodes text codes
-exact_spelled text codes exact letters =
-    rw (exact_codes codes letters.spelled exact letters.are_codes) letters.spells

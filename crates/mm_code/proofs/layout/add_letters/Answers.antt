@@ -1,15 +1,19 @@
 -- Each line is taken from the letters that are left, until none are.
-use Rattle.std.proofs.Common.{◌<◌, length, arith}
+use Rattle.std.proofs.Common.{◌≡◌, ◌<◌, [], length, append_assoc, arith}
+use Rattle.std.proofs.lemmas.List.{append-nil, nil_from_length}
 use Rattle.std.proofs.lemmas.Bool.Decides.{nat_tests}
-use Rattle.mm_code.proofs.LetterLines.{line_taken, letters_done}
+use Rattle.mm_code.proofs.LetterLines.{letters_laid-nil, letters_laid-begun}
 use Rattle.mm_code.proofs.layout.add_letters.Goals as goal
 
 pub loop-rest-preserved : goal.loop-rest-preserved
-loop-rest-preserved c =
+loop-rest-preserved c block laid =
     let some : 0 < length c.loop-rest.rest.now = grind (arith, nat_tests) in
-    line_taken c.args.text.now.items c.loop-rest.text.items c.add_letter_line.new.text.items c.loop-rest.rest.now c.split_at.result.0.now c.split_at.result.1.now c.args.letters.now c.min.result
-    some c.min.ensures c.split_at.ensures.front c.split_at.ensures.back c.in_ok-add_letter_line.ensures c.loop-rest.invariant
+    rw (c.in_ok-add_letter_line.ensures, c.split_at.ensures.front, append_assoc)
+    (c.loop-rest.invariant _ (letters_laid-begun c.loop-rest.rest.now block c.min.result some
+    c.min.ensures (rw c.split_at.ensures.back at laid)))
 
+-- no letters are left
 pub returns : goal.returns
 returns c =
-    letters_done c.args.text.now.items c.loop-rest.text.items c.loop-rest.rest.now c.args.letters.now (grind (arith, nat_tests)) c.loop-rest.invariant
+    let none : length c.loop-rest.rest.now ≡ 0 = grind (arith, nat_tests) in
+    rw append-nil at (c.loop-rest.invariant [] (rw (nil_from_length _ none) letters_laid-nil))

@@ -1,11 +1,12 @@
 -- A token on the open line, and one on the next, are each a step of `rest_of`.
-use Rattle.std.proofs.Common.{arith}
-use Rattle.mm_code.proofs.Added.{fitting_added, begun_adds}
+use Rattle.std.proofs.Common.{append_assoc, arith}
+use Rattle.mm_code.proofs.Added.{rest_fits, begun_adds}
 use Rattle.mm_code.proofs.layout.add_token.Goals as goal
 
 pub returns-then-token-room : goal.returns-then-token-room
-returns-then-token-room c =
-    fitting_added c.args.text.now.items c.extend_from_slice.new.self.items c.args.token.now c.args.room (cc (c.in_ok-push.ensures.items, c.in_ok-extend_from_slice.ensures.items)) (omega arith)
+returns-then-token-room c more =
+    rw (c.in_ok-extend_from_slice.ensures.items, c.in_ok-push.ensures.items)
+    (rw (rest_fits c.args.room c.args.token.now more (omega arith)) (simp append_assoc))
 
 pub returns : goal.returns
 returns c =

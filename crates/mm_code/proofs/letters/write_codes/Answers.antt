@@ -1,6 +1,6 @@
 use Rattle.std.proofs.Common.{arith}
 use Rattle.mm_code.proofs.LettersWritten.{code-written, code_for-more, all_spelled, all_letters}
-use Rattle.mm_code.proofs.Unique.{exact_spelled, one_text_only}
+use Rattle.mm_code.proofs.Unique.{exact_codes, one_text_only}
 use Rattle.mm_code.proofs.letters.write_codes.Goals as goal
 
 pub loop-code-preserved : goal.loop-code-preserved
@@ -16,5 +16,6 @@ pub returns-clause-only : goal.returns-clause-only
 returns-clause-only c exact other letters =
     let text = c.loop-code.text.items in
     let codes = c.args.codes.now in
-    one_text_only other text codes (exact_spelled other codes exact letters)
+    one_text_only other text codes
+    (rw (exact_codes codes letters.spelled exact letters.are_codes) letters.spells)
     (all_spelled text codes c.loop-code.code-index (omega arith) c.loop-code.invariant.spelled)
