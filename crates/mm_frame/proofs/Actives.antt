@@ -1,8 +1,6 @@
 -- What is active at each place, by the blocks' numbers; and what stays active as statements are added.
-use Rattle.std.proofs.Common.{◌≡◌, ◌↔◌, ℕ, zero, suc, ◌<◌, ◌≤◌, inl, inr, length, take, List, Some, sym, subst, arith}
-use Rattle.std.specs.List.{slice_get}
+use Rattle.std.proofs.Common.{◌≡◌, ◌↔◌, ℕ, zero, suc, ◌<◌, ◌≤◌, inl, inr, length, take, List, Some, subst, arith, slice_get, take-take, length-take-le}
 use Rattle.std.proofs.lemmas.Bool.{cases_lt}
-use Rattle.std.proofs.lemmas.List.{take-take, length-take-le}
 use Rattle.mm_frame.specs.Sentence.{Sentence}
 use Rattle.mm_frame.specs.Active.{IsOpen, Holds, IsActive}
 use Rattle.mm_frame.specs.Mirror.Scopes.{IsUnclosed, AreScopes}
@@ -46,37 +44,35 @@ pub holds_back : (st : List Sentence) (q p outer : ℕ) → p < q → Holds st o
 holds_back st q p outer lt (before, still) = (before, rw (take-take (suc p) q st (omega arith)) still)
 
 -- the statement is active, while the block that directly holds it is open
-active_while : (never : ℕ) (st : List Sentence) (blocks ends stack : List ℕ) → AreScopes never st blocks ends stack → (p q b c : ℕ) → slice_get blocks p ≡ Some b → slice_get ends b ≡ Some c
+pub active_while : (never : ℕ) (st : List Sentence) (blocks ends stack : List ℕ) → AreScopes never st blocks ends stack → (p q b c : ℕ) → slice_get blocks p ≡ Some b → slice_get ends b ≡ Some c
     → p < q → q ≤ length st → q ≤ c → IsActive (take q st) p
 active_while never st blocks ends stack a p q b c holder ends_at lt le until =
     let h = a.holders p b holder in
     let x = h.start in
-    let still = unclosed_until never st blocks ends stack a b x c q h.there ends_at le until in
     record {
       within = let e = length-take-le q st le in omega arith;
       kept = λ outer holds.
           let held = holds_kept st q p outer lt holds in
-          let near = h.nearest outer held in
           let opened = held.1 in
           let there = get_from_front st (suc p) outer opened.opening opened.there in
           open_in opened (get_in_front st q outer opened.opening (omega arith) there)
-          (unclosed_outer (take q st) x (suc outer) near
-          (subst (λ ys. IsUnclosed ys (suc outer)) (sym (take-take x q st (omega arith))) (unclosed_shorter st x (suc p) (suc outer) (omega arith) opened.unclosed))
-          still);
+          (unclosed_outer (take q st) x (suc outer) (h.nearest outer held)
+          (rw (take-take x q st (omega arith)) (unclosed_shorter st x (suc p) (suc outer) (omega arith) opened.unclosed))
+          (unclosed_until _ _ _ _ _ a b x c q h.there ends_at le until));
     }
 
-while_active : (never : ℕ) (st : List Sentence) (blocks ends stack : List ℕ) → AreScopes never st blocks ends stack → length st ≤ never → (p q b c : ℕ) → slice_get blocks p ≡ Some b → slice_get ends b ≡ Some c
+pub while_active : (never : ℕ) (st : List Sentence) (blocks ends stack : List ℕ) → AreScopes never st blocks ends stack → length st ≤ never → (p q b c : ℕ) → slice_get blocks p ≡ Some b → slice_get ends b ≡ Some c
     → p < q → q ≤ length st → IsActive (take q st) p → q ≤ c
 while_active never st blocks ends stack a room p q b c holder ends_at lt le active =
     let h = a.holders p b holder in
-    until_unclosed never st blocks ends stack a b h.start c q h.there ends_at le room (still never st blocks ends stack a p q b h.start h.there lt le h.before h.unclosed active)
+    until_unclosed _ _ _ _ _ a b h.start c q h.there ends_at le room (still never st blocks ends stack a p q b h.start h.there lt le h.before h.unclosed active)
   where
     still : (never : ℕ) (st : List Sentence) (blocks ends stack : List ℕ) → (a : AreScopes never st blocks ends stack) → (p q b x : ℕ) → slice_get a.starts b ≡ Some x
         → p < q → q ≤ length st → x ≤ p → IsUnclosed (take (suc p) st) x → IsActive (take q st) p → IsUnclosed (take q st) x
     still never st blocks ends stack a p q zero x begins lt le before unclosed active =
         let h = a.on_stack 0 0 a.bottom in
         let same : h.start ≡ x = let there = h.there in cc in
-        unclosed_front st q x (subst (λ y. IsUnclosed st y) same h.unclosed)
+        unclosed_front st q x (rw same at h.unclosed)
     still never st blocks ends stack a p q (suc b) x begins lt le before unclosed active =
         let begun = a.begun b x begins in
         let next = begun.next in
@@ -85,13 +81,6 @@ while_active never st blocks ends stack a room p q b c holder ends_at lt le acti
           opening = begun.opening;
           there = get_in_front st (suc p) outer begun.opening (omega arith) begun.there;
           opened = begun.opened;
-          unclosed = subst (λ y. IsUnclosed (take (suc p) st) y) next unclosed;
+          unclosed = rw next at unclosed;
         } in
-        let kept = active.kept outer (holds_back st q p outer lt (omega arith, opened)) in
-        subst (λ y. IsUnclosed (take q st) y) (sym next) kept.unclosed
-
--- A statement is active at a later place exactly if the block that directly holds it has its `$}` there or later.
-pub scope_active : (never : ℕ) (st : List Sentence) (blocks ends stack : List ℕ) → AreScopes never st blocks ends stack → length st ≤ never → (p q b c : ℕ) → slice_get blocks p ≡ Some b → slice_get ends b ≡ Some c
-    → p < q → q ≤ length st → (q ≤ c) ↔ IsActive (take q st) p
-scope_active never st blocks ends stack a room p q b c holder ends_at lt le =
-    ((λ until. active_while never st blocks ends stack a p q b c holder ends_at lt le until), (λ active. while_active never st blocks ends stack a room p q b c holder ends_at lt le active))
+        rw next (active.kept outer (holds_back st q p outer lt (omega arith, opened))).unclosed

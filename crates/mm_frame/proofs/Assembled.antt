@@ -1,6 +1,5 @@
 -- A book's lists after one statement more, from what holds of each of them.
-use Rattle.std.proofs.Common.{◌≡◌, ℕ, ◌+◌, ◌<◌, ◌≤◌, length, List, [], ◌∷◌, ◌++◌, Some, ap, ◌∙◌, length-append, arith}
-use Rattle.std.specs.List.{slice_get}
+use Rattle.std.proofs.Common.{◌≡◌, ℕ, ◌+◌, ◌<◌, ◌≤◌, length, List, [], ◌∷◌, ◌++◌, Some, ap, ◌∙◌, length-append, arith, slice_get}
 use Rattle.mm_text.specs.Files.{most_bytes}
 use Rattle.mm_frame.specs.declared.number.Sym.{Sym}
 use Rattle.mm_frame.specs.declared.number.LabelId.{LabelId}
@@ -13,7 +12,8 @@ use Rattle.mm_frame.specs.Mirror.ScopesOf.{HaveScopes}
 use Rattle.mm_frame.specs.FramePlace.{HaveTypings}
 use Rattle.mm_frame.specs.Mirror.Layout.{AreTables, AreInfos, AreLabelInfos, AreEssentials, AreFrames, AreStated, IsPartWithin, sentence_by, statements_of}
 use Rattle.mm_frame.specs.Mirror.Grows.{Grows}
-use Rattle.mm_frame.proofs.Meant.{allmeant_push, allformed_push}
+use Rattle.mm_frame.proofs.Meant.{allmeant_push}
+use Rattle.mm_frame.proofs.NameLists.{each_pushed}
 use Rattle.mm_frame.proofs.Entries.{sentences_push, entries_push}
 
 -- the lists that are looked up by statement, once they hold one statement more
@@ -40,24 +40,21 @@ pub record AreAppended (t v : Tables) (a b : List (List ℕ)) (c : List Sym) (ne
 pub assembled : (t v : Tables) (s : Sentence) (new : Entry) (a b : List (List ℕ)) (c : List Sym) (bytes : ℕ) → AreTables t → IsMeant (statements_of t) s → IsFormedSentence s
     → AreAppended t v a b c new s → AreGrown t v s → v.bytes ≡ t.bytes + bytes → 1 + length c ≤ bytes → t.bytes + bytes ≤ most_bytes → Grows t v s bytes
 assembled t v s new a b c bytes tables meant formed app grown counted enough room =
-    let pushed = sentences_push t.symbols.names t.labels.names t.flat.items t.log.items a b c new tables.entries in
+    let pushed = sentences_push _ _ _ _ a b c new tables.entries in
     let st : statements_of v ≡ statements_of t ++ s ∷ [] =
     rw (app.symbols, app.labels, app.flat, app.log) (pushed ∙ ap (λ (x : Sentence). statements_of t ++ x ∷ []) app.said) in
     let logs = length-append t.log.items (new ∷ []) in
-    let flats = length-append t.flat.items c in
-    let sum : length v.log.items + length v.flat.items ≤ v.bytes = rw (app.log, app.flat, counted, logs, flats) (omega arith) in
     record {
       tables = record {
         sound = rw st (
           allmeant_push (statements_of t) s tables.sound.0 meant,
-          allformed_push (statements_of t) s tables.sound.1 formed,
+          each_pushed IsFormedSentence (statements_of t) _ tables.sound.1 formed,
         );
-        counted = sum;
+        counted = rw (app.log, app.flat, counted, logs, length-append t.flat.items c) (omega arith);
         small = rw counted room;
         infos = rw st grown.infos;
         labels = rw st grown.labels;
-        entries = rw (app.symbols, app.labels, app.flat, app.log)
-            (entries_push t.symbols.names t.labels.names t.flat.items t.log.items a b c new
+        entries = rw (app.symbols, app.labels, app.flat, app.log) (entries_push _ _ _ _ a b c new
             tables.entries app.within app.numbers app.label);
         scopes = rw st grown.scopes;
         essentials = rw st grown.essentials;

@@ -1,6 +1,5 @@
 -- A book's lists after a `${` or a `$}`.
-use Rattle.std.proofs.Common.{◌≡◌, ℕ, suc, ◌+◌, ◌-◌, ◌<◌, ◌≤◌, length, List, [], ◌∷◌, ◌++◌, Option, Some, None, refl, sym, ap, ◌∙◌, subst, append-nil, arith}
-use Rattle.std.specs.List.{slice_get, slice_range}
+use Rattle.std.proofs.Common.{◌≡◌, ℕ, suc, ◌+◌, ◌-◌, ◌<◌, ◌≤◌, length, List, [], ◌∷◌, ◌++◌, Option, Some, None, refl, sym, ap, ◌∙◌, subst, append-nil, arith, slice_get, slice_range}
 use Rattle.mm_text.specs.declared.statement.Kind.{Kind}
 use Rattle.mm_text.specs.declared.statement.Kind.TheVariants.{Opening, Closing, Floating, Distinct}
 use Rattle.mm_text.specs.Files.{most_bytes}
@@ -63,10 +62,6 @@ adds_block t u w kind start bytes same e begins = record {
   counted = e.counted ∙ ap (λ n. n + bytes) same.bytes;
 }
 
--- nothing is read between a place and itself
-no_range : {X : Type 0} (xs : List X) (n : ℕ) → slice_range xs n n ≡ []
-no_range xs n = let none : n - n ≡ 0 = omega arith in rw none refl
-
 -- what a statement of these parts says
 abbrev said_of : Kind → Option (List ℕ) → List (List ℕ) → Sentence
 said_of kind label symbols = record { kind = kind; label = label; symbols = symbols }
@@ -75,7 +70,8 @@ said_of kind label symbols = record { kind = kind; label = label; symbols = symb
 block_said : (symbols labels : List (List ℕ)) (flat : List Sym) (kind : Kind) (n : ℕ) (s : Sentence) → s.kind ≡ kind → s.label ≡ None → s.symbols ≡ []
     → sentence_by symbols labels flat (entry_of kind None n n) ≡ s
 block_said symbols labels flat kind n s is unlabelled bare =
-    ap (λ (part : List Sym). said_of kind None (names_by symbols part)) (no_range flat n)
+    let nothing : slice_range flat n n ≡ [] = let none : n - n ≡ 0 = omega arith in rw none refl in
+    ap (λ (part : List Sym). said_of kind None (names_by symbols part)) nothing
     ∙ ap (λ k. said_of k None []) (sym is) ∙ ap (λ l. said_of s.kind l []) (sym unlabelled) ∙ ap (λ xs. said_of s.kind s.label xs) (sym bare)
 
 pub block_grows : (t v : Tables) (s : Sentence) (kind : Kind) (bytes : ℕ) → AreTables t → AddsBlock t v kind bytes → s.kind ≡ kind → s.label ≡ None → s.symbols ≡ []
@@ -88,19 +84,16 @@ block_grows t v s kind bytes tables adds is unlabelled bare none no_float no_dis
     let new = entry_of kind None n n in
     let size : length t.log.items ≡ length st = sym (length-sentences t.symbols.names t.labels.names t.flat.items t.log.items) in
     let a : v.symbols.names ≡ t.symbols.names ++ [] = adds.symbols ∙ sym (append-nil t.symbols.names) in
-    let b : v.labels.names ≡ t.labels.names ++ [] = adds.labels ∙ sym (append-nil t.labels.names) in
-    let c : v.flat.items ≡ t.flat.items ++ [] = adds.flat ∙ sym (append-nil t.flat.items) in
     let hs : v.hypotheses.items ≡ t.hypotheses.items ++ [] = adds.hypotheses ∙ sym (append-nil t.hypotheses.items) in
     let ps : v.pairs.items ≡ t.pairs.items ++ [] = adds.pairs ∙ sym (append-nil t.pairs.items) in
     let qs : v.pieces.items ≡ t.pieces.items ++ [] = adds.pieces ∙ sym (append-nil t.pieces.items) in
     let flat_size : length (t.flat.items ++ []) ≡ n = ap length (append-nil t.flat.items) in
     let all : t.symbols.names ++ [] ≡ symbols_of (st ++ s ∷ []) = append-nil t.symbols.names
-    ∙ (infos_other st t.symbols.names t.infos.items s tables.infos none no_float).all in
-    assembled t v s new [] [] [] bytes tables meant formed
-    (record {
+    ∙ (infos_other _ _ _ s tables.infos none no_float).all in
+    assembled _ v _ new [] [] [] bytes tables meant formed (record {
       symbols = a;
-      labels = b;
-      flat = c;
+      labels = adds.labels ∙ sym (append-nil t.labels.names);
+      flat = adds.flat ∙ sym (append-nil t.flat.items);
       log = adds.log;
       said = block_said (t.symbols.names ++ []) (t.labels.names ++ []) (t.flat.items ++ []) kind n s is unlabelled bare;
       within = record { ordered = omega arith; within = omega arith };
@@ -108,17 +101,15 @@ block_grows t v s kind bytes tables adds is unlabelled bare none no_float no_dis
       label = λ id there. absurd (cc);
     })
     (record {
-      infos = rw (adds.symbols, adds.infos)
-          (infos_other st t.symbols.names t.infos.items s tables.infos none no_float);
-      labels = rw (adds.labels, adds.named, adds.log) (labels_none st t.labels.names t.named.items
-          t.log.items s new tables.labels unlabelled refl size);
+      infos = rw (adds.symbols, adds.infos) (infos_other _ _ _ s tables.infos none no_float);
+      labels = rw (adds.labels, adds.named, adds.log) (labels_none _ _ _
+          _ s new tables.labels unlabelled refl size);
       scopes = adds.scopes st s tables.scopes is more;
       essentials = essentials;
       frames = rw (hs, ps, qs, adds.named) (frames_other st s t.hypotheses.items [] t.pairs.items []
-          t.pieces.items [] t.named.items (placed st t.labels.names t.named.items t.log.items
-          tables.labels) tables.frames);
+          t.pieces.items [] t.named.items (placed _ _ _ _ tables.labels) tables.frames);
       typed = rw adds.hypotheses (typings_grow st (s ∷ []) t.hypotheses.items tables.typed);
-      stated = rw (a, adds.stated) (stated_other st s t.symbols.names [] t.distinct.stated
+      stated = rw (a, adds.stated) (stated_other _ s _ [] _
           tables.sound.0 tables.infos.all all tables.stated no_distinct);
     })
     adds.counted (omega arith) room

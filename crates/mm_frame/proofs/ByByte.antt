@@ -1,8 +1,5 @@
 -- The table of the numbers of names that are one byte long, as names are added.
-use Rattle.std.proofs.Common.{◌≡◌, ◌≢◌, ℕ, ◌<◌, ◌≤◌, ◌⊎◌, inl, inr, length, get_or, List, [], ◌∷◌, Contains, Option, None, Some, is_some, true, false, refl, sym, ap, ◌∙◌, subst, arith}
-use Rattle.std.specs.List.{slice_get}
-use Rattle.std.specs.Option.{MatchOption}
-use Rattle.std.proofs.Math.ListN.{set, replicate}
+use Rattle.std.proofs.Common.{◌≡◌, ◌≢◌, ℕ, ◌<◌, ◌≤◌, ◌⊎◌, inl, inr, length, get_or, List, [], ◌∷◌, Contains, Option, None, Some, is_some, false, refl, sym, ap, ◌∙◌, subst, arith, slice_get, MatchOption, set, replicate}
 use Rattle.std.proofs.lemmas.Bool.{cases_lt}
 use Rattle.std.proofs.lemmas.List.{length-replicate, get_or-replicate, get_or-set_same, get_or-set_other, length-set}
 use Rattle.std.proofs.lemmas.Option.{slice_get_within, get_or_from_slice_get, slice_get-get_or}
@@ -19,10 +16,6 @@ IsTold names text number = MatchOption number (¬ (Contains names text)) (λ n. 
 pub none_if : (number : Option ℕ) → is_some number ≡ false → number ≡ None
 none_if None is = refl
 none_if (Some n) is = absurd (cc)
-
--- and one that is isn't
-pub not_none : (number : Option ℕ) → is_some number ≡ true → number ≢ None
-not_none number is none = absurd (let e = ap is_some none in cc (e, is))
 
 abbrev no_number : Option ℕ
 no_number = None

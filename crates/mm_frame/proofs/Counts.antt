@@ -1,6 +1,5 @@
 -- How many blocks the parts of a list of statements open and close, and which blocks stay open as statements are appended.
-use Rattle.std.proofs.Common.{◌≡◌, ℕ, zero, suc, ◌+◌, ◌-◌, ◌≤◌, ◌⊎◌, inl, inr, Bool, cond, length, take, drop, count_by, List, [], ◌∷◌, ◌++◌, refl, sym, ap, ◌∙◌, subst, drop_of_length-le, arith}
-use Rattle.std.proofs.Common.{Some}
+use Rattle.std.proofs.Common.{◌≡◌, ℕ, zero, suc, ◌+◌, ◌-◌, ◌≤◌, ◌⊎◌, inl, inr, Bool, cond, length, take, drop, count_by, List, [], ◌∷◌, ◌++◌, refl, sym, ap, ◌∙◌, subst, drop_of_length-le, arith, Some, slice_get}
 use Rattle.std.proofs.lemmas.List.{drop-append-le, take-take, drop-drop, drop-take}
 use Rattle.std.proofs.Math.Seq.{take-append_seam, take-add, take-length, take-nil}
 use Rattle.std.proofs.lemmas.List.Sums.{sum_by-append}
@@ -9,7 +8,6 @@ use Rattle.mm_frame.specs.Sentence.{Sentence}
 use Rattle.mm_frame.specs.Active.{open_marks, close_marks, IsOpen}
 use Rattle.mm_text.specs.Blocks.{is_closing, is_opening}
 use Rattle.mm_frame.specs.Mirror.Scopes.{IsUnclosed}
-use Rattle.std.specs.List.{slice_get}
 
 pub count_append : {X : Type 0} (p : X → Bool) (xs ys : List X) → count_by p (xs ++ ys) ≡ count_by p xs + count_by p ys
 count_append p xs ys = sum_by-append (λ x. cond (p x) 1 0) xs ys
@@ -29,8 +27,7 @@ front_of_front n x p xs = (0, refl)
 pub unclosed_front : (xs : List Sentence) (p x : ℕ) → IsUnclosed xs x → IsUnclosed (take p xs) x
 unclosed_front xs p x open_still n =
     let (m, e) = front_of_front n x p xs in
-    let h = open_still m in
-    subst (λ (ys : List Sentence). close_marks ys ≤ open_marks ys) (sym e) h
+    rw e (open_still m)
 
 -- a front of a list and one more is a front of the list, or is all
 front_cases : {X : Type 0} (xs : List X) (y : X) (n : ℕ) → (take n (xs ++ y ∷ []) ≡ take n xs) ⊎ (take n (xs ++ y ∷ []) ≡ xs ++ y ∷ [])
@@ -56,24 +53,19 @@ unclosed_before xs ys x open_still = subst (λ zs. IsUnclosed zs x) (take-append
 
 -- all that lies past the place where an open block begins has no more `$}` than `${`
 pub unclosed_all : (xs : List Sentence) (x : ℕ) → IsUnclosed xs x → close_marks (drop x xs) ≤ open_marks (drop x xs)
-unclosed_all xs x open_still =
-    subst (λ (ys : List Sentence). close_marks ys ≤ open_marks ys) (take-length (drop x xs))
-    (open_still (length (drop x xs)))
+unclosed_all xs x open_still = rw (take-length (drop x xs)) at (open_still (length (drop x xs)))
 
 -- what begins at the end is open
 pub unclosed_new : (xs : List Sentence) (x : ℕ) → length xs ≤ x → IsUnclosed xs x
-unclosed_new xs x le n =
-    let none = ap (take n) (drop_of_length-le xs le) ∙ take-nil n in
-    subst (λ (ys : List Sentence). close_marks ys ≤ open_marks ys) (sym none) (omega arith)
+unclosed_new xs x le n = rw (ap (take n) (drop_of_length-le xs le) ∙ take-nil n) (omega arith)
 
 -- the fronts past a place that go past a further place
 front_past : {X : Type 0} (xs : List X) (y d m : ℕ) → take (d + m) (drop y xs) ≡ take d (drop y (take (y + d) xs)) ++ take m (drop (y + d) xs)
 front_past xs y d m =
+    let whole : take d (drop y (take (y + d) xs)) ≡ drop y (take (y + d) xs) =
+    ap (take d) (drop-take y d xs) ∙ take-take d d (drop y xs) (omega arith) ∙ sym (drop-take y d xs) in
     take-add d m (drop y xs) ∙ ap (λ ys. ys ++ take m (drop d (drop y xs))) (sym (drop-take y d xs) ∙ sym (whole))
     ∙ ap (λ ys. take d (drop y (take (y + d) xs)) ++ take m ys) (drop-drop d y xs)
-  where
-    whole : take d (drop y (take (y + d) xs)) ≡ drop y (take (y + d) xs)
-    whole = ap (take d) (drop-take y d xs) ∙ take-take d d (drop y xs) (omega arith) ∙ sym (drop-take y d xs)
 
 -- a block that was open where another began inside it, which is open, is open
 pub unclosed_outer : (xs : List Sentence) (x y : ℕ) → y ≤ x → IsUnclosed (take x xs) y → IsUnclosed xs x → IsUnclosed xs y

@@ -1,12 +1,8 @@
 -- What can be decided of statements: kinds, what lists hold, what is open and active, mandatory hypotheses and active pairs.
-use Rattle.std.proofs.Common.{◌≡◌, ℕ, zero, suc, ◌<◌, ◌≤◌, ◌⊎◌, List, [], ◌∷◌, length, take, drop, Contains, Option, Some, None, inl, inr, refl, sym, ap, subst, ◌∙◌, arith}
-use Rattle.std.proofs.Common.{true, rules}
-use Rattle.std.specs.List.{slice_get}
+use Rattle.std.proofs.Common.{◌≡◌, ℕ, zero, suc, ◌<◌, ◌≤◌, ◌⊎◌, List, [], ◌∷◌, length, take, drop, Contains, Option, Some, None, inl, inr, refl, sym, ap, subst, ◌∙◌, arith, true, rules, slice_get, take_all}
 use Rattle.std.proofs.lemmas.Option.{same_Some, none-some}
 use Rattle.std.proofs.lemmas.Bool.{cases_lt, cases_Bool, false≢true}
-use Rattle.std.proofs.lemmas.List.{take_all}
-use Rattle.std.proofs.Math.Decide.{ℕ_discrete}
-use Rattle.std.proofs.Math.Decide.{dec_le}
+use Rattle.std.proofs.Math.Decide.{ℕ_discrete, dec_le}
 use mathlib.Core.List.{List-discrete}
 use Rattle.mm_text.specs.declared.statement.Kind.{Kind}
 use Rattle.mm_text.specs.declared.statement.Kind.TheVariants.{Constants, Variables, Distinct, Floating, Essential, Opening}
@@ -140,9 +136,6 @@ pub mandatory_dec : (before : List Sentence) (s : Sentence) (x : List ℕ) → D
 mandatory_dec before s x = dec_both (variable_dec before x)
     (dec_or (contains_dec s.symbols x) (some_active_dec before (λ e. (e.kind ≡ Essential) × Contains e.symbols x) (λ e. dec_both (kind_dec e.kind Essential) (contains_dec e.symbols x))))
 
-two_heads : (a b c d : List ℕ) → a ∷ b ∷ [] ≡ c ∷ d ∷ [] → b ≡ d
-two_heads a b c d e = cc
-
 -- a `$f` whose variable is so
 pub typing_so_dec : (h : Sentence) (P : List ℕ → Type 0) → ((x : List ℕ) → Dec (P x)) → Dec ((code : List ℕ) × (x : List ℕ) × Types code x h × P x)
 typing_so_dec h P each = go (kind_dec h.kind Floating) h.symbols refl
@@ -151,7 +144,7 @@ typing_so_dec h P each = go (kind_dec h.kind Floating) h.symbols refl
     go (no n) symbols e = no (λ t. n t.2.0)
     go (yes k) (a ∷ b ∷ []) e = elim (each b) [
       | yes s ↦ yes (a, b, (k, e), s)
-      | no n ↦ no (λ t. n (subst P (sym (two_heads a b t.0 t.1 (sym e ∙ t.2.1))) t.3))
+      | no n ↦ no (λ t. let same : t.1 ≡ b = cc (e, t.2.1) in n (subst P same t.3))
     ]
     go (yes k) symbols e =
         no (λ t. let p : symbols ≡ t.0 ∷ t.1 ∷ [] = sym e ∙ t.2.1 in absurd cc)

@@ -1,7 +1,5 @@
 -- A book's lists once a `$c` or `$v` was taken in.
-use Rattle.std.proofs.Common.{◌≡◌, ℕ, ◌+◌, ◌<◌, ◌≤◌, ◌⊎◌, inl, inr, length, List, [], ◌∷◌, ◌++◌, Contains, Some, None, refl, sym, ap, ◌∙◌, subst, append-nil, length-append, arith}
-use Rattle.std.specs.List.{slice_get, slice_range}
-use Rattle.std.specs.Option.{unwrap_or, option_map}
+use Rattle.std.proofs.Common.{◌≡◌, ℕ, ◌+◌, ◌<◌, ◌≤◌, ◌⊎◌, inl, inr, length, List, [], ◌∷◌, ◌++◌, Contains, Some, None, refl, sym, ap, ◌∙◌, subst, append-nil, length-append, arith, slice_get, slice_range, unwrap_or, option_map}
 use Rattle.std.proofs.lemmas.Bool.{cases_lt}
 use Rattle.std.proofs.lemmas.List.{length-map}
 use Rattle.std.proofs.lemmas.Option.{slice_get_within}
@@ -16,7 +14,6 @@ use Rattle.mm_text.specs.Token.{PlainToken}
 use Rattle.mm_text.specs.Statement.{PlainStatement, HasForm, HasLabel, bytes_in}
 use Rattle.mm_frame.specs.Sentence.{Sentence, sentence_of}
 use Rattle.mm_frame.specs.Active.{IsConstant, IsVariable}
-use Rattle.mm_frame.specs.Numbers.{symbols_of}
 use Rattle.mm_frame.specs.Database.{Database}
 use Rattle.mm_frame.specs.Rules.{IsMeant}
 use Rattle.mm_frame.specs.Form.{IsFormedSentence}
@@ -34,6 +31,7 @@ use Rattle.mm_frame.proofs.NameLists.{get_unmapped}
 use Rattle.mm_frame.proofs.Numbered.{declared_from_number, symbols_unique}
 use Rattle.mm_frame.proofs.Labels.{labels_none, essentials_other}
 use Rattle.mm_frame.proofs.FrameLaws.{placed, frames_other, stated_other}
+use Rattle.mm_frame.specs.Numbers.{symbols_of}
 use Rattle.mm_frame.proofs.Uses.{bytes_enough, formed_said}
 
 -- such a kind is no other
@@ -102,19 +100,17 @@ declared : (t d v : Tables) (s : Sentence) (bytes : ℕ) → AreTables t → IsM
     → TakesSymbols t d s.kind s.symbols → Entered d v s.kind None (length t.flat.items) bytes → 1 + length s.symbols ≤ bytes → t.bytes + bytes ≤ most_bytes → Grows t v s bytes
 declared t d v s bytes tables meant formed which none taken entered enough room =
     let size : length taken.numbers ≡ length s.symbols = sym (length-map taken.numbers _) ∙ ap length taken.named in
-    let counted : v.bytes ≡ t.bytes + bytes = entered.counted ∙ ap (λ (u : Tables). u.bytes + bytes) taken.others in
-    assembled t v s _ taken.added [] taken.numbers bytes tables meant formed (appended t d v s bytes none taken entered) (grown t d v s bytes tables which none taken entered)
-    counted (omega arith) room
+    assembled _ _ _ _ _ _ _ bytes tables meant formed (appended t d v s bytes none taken entered) (grown t d v s bytes tables which none taken entered)
+    (entered.counted ∙ ap (λ (u : Tables). u.bytes + bytes) taken.others) (omega arith) room
 
 -- the same, where the lists before had less room
 grows_from : (t u v : Tables) (s : Sentence) (bytes : ℕ) → IsSame t u → Grows u v s bytes → Grows t v s bytes
 grows_from t u v s bytes same grows =
     let st : statements_of u ≡ statements_of t = ap (λ (d : Database). d.statements) same.same in
-    let count : u.bytes ≡ t.bytes = ap (λ (d : Database). d.bytes) same.same in
     record {
       tables = grows.tables;
       statements = grows.statements ∙ ap (λ (xs : List Sentence). xs ++ s ∷ []) st;
-      counted = grows.counted ∙ ap (λ n. n + bytes) count;
+      counted = grows.counted ∙ ap (λ n. n + bytes) (ap (λ (d : Database). d.bytes) same.same);
     }
 
 -- a symbol stands where its number stands

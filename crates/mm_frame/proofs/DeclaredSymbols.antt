@@ -1,11 +1,8 @@
 -- Taking the symbols of a `$c` or `$v` in, one after the other.
-use Rattle.std.proofs.Common.{◌≡◌, ℕ, suc, ◌+◌, ◌<◌, ◌≤◌, inl, inr, length, take, List, [], ◌∷◌, ◌++◌, Option, Some, None, refl, sym, ap, ◌∙◌, subst, append-nil, arith}
-use Rattle.std.specs.List.{slice_get}
-use Rattle.std.specs.Option.{unwrap_or}
-use Rattle.std.proofs.lemmas.List.{append_assoc}
+use Rattle.std.proofs.Common.{◌≡◌, ℕ, suc, ◌+◌, ◌<◌, ◌≤◌, inl, inr, length, take, List, [], ◌∷◌, ◌++◌, Option, Some, None, refl, sym, ap, ◌∙◌, subst, append-nil, arith, slice_get, unwrap_or, append_assoc}
 use Rattle.std.proofs.lemmas.Option.{slice_get_within}
 use Rattle.mm_text.specs.declared.statement.Kind.{Kind}
-use Rattle.mm_text.specs.declared.statement.Kind.TheVariants.{Constants, Variables}
+use Rattle.mm_text.specs.declared.statement.Kind.TheVariants.{Variables}
 use Rattle.mm_frame.specs.declared.number.Sym.{Sym}
 use Rattle.mm_frame.specs.declared.tables.SymbolInfo.{SymbolInfo}
 use Rattle.mm_frame.specs.declared.tables.Tables.{Tables}
@@ -16,25 +13,21 @@ use Rattle.mm_text.proofs.Lists.{get_pushed, get_within, pushed_cases, take_next
 use Rattle.mm_frame.proofs.NameLists.{map_snoc}
 use Rattle.mm_frame.proofs.ScopeLaws.{length_pushed}
 use Rattle.mm_frame.proofs.Entries.{length-sentences, names_same}
-use Rattle.mm_frame.proofs.Infos.{of_kind, infos_begin, infos_known, infos_known_constant}
-use Rattle.mm_frame.proofs.Infos.{infos_fresh, latest_declared}
+use Rattle.mm_frame.proofs.Infos.{of_kind, infos_known, infos_known_constant, infos_other, declaring_all, infos_fresh, latest_declared}
 
 -- what is known of all symbols, once one more is taken in that has a number already
 infos_noted : (st : List Sentence) (kind : Kind) (symbols xs : List (List ℕ)) (infos new : List SymbolInfo) (x : List ℕ) (n : ℕ) → IsDeclaration kind → slice_get symbols n ≡ Some x
     → AreInfos (st ++ of_kind kind xs ∷ []) symbols infos → AreNoted infos new n (latest_by kind (length st)) → AreInfos (st ++ of_kind kind (xs ++ x ∷ []) ∷ []) symbols new
-infos_noted st kind symbols xs infos new x n which there = elim which [ inl c ↦ subst Step (sym c) constant | inr v ↦ subst Step (sym v) variable ]
+infos_noted st kind symbols xs infos new x n which there = elim which [
+  | inl c ↦ subst Step (sym c) (λ are same. rw same (infos_known_constant st _ xs _ x n are there))
+  | inr v ↦ subst Step (sym v) (λ are noted.
+      let lt = slice_get_within symbols n x there in
+      let (info, at) = get_within infos n (omega arith) in
+      rw (noted info at) (infos_known st symbols xs infos x n info are there at))
+]
   where
     Step : Kind → Type 0
     Step k = AreInfos (st ++ of_kind k xs ∷ []) symbols infos → AreNoted infos new n (latest_by k (length st)) → AreInfos (st ++ of_kind k (xs ++ x ∷ []) ∷ []) symbols new
-
-    constant : Step Constants
-    constant are same = subst (λ (is : List SymbolInfo). AreInfos (st ++ of_kind Constants (xs ++ x ∷ []) ∷ []) symbols is) (sym same) (infos_known_constant st symbols xs infos x n are there)
-
-    variable : Step Variables
-    variable are noted =
-        let lt = slice_get_within symbols n x there in
-        let (info, at) = get_within infos n (omega arith) in
-        subst (λ (is : List SymbolInfo). AreInfos (st ++ of_kind Variables (xs ++ x ∷ []) ∷ []) symbols is) (sym (noted info at)) (infos_known st symbols xs infos x n info are there at)
 
 -- the names of numbers, with one more
 names_pushed : (names : List (List ℕ)) (numbers : List Sym) (n : Sym) (x : List ℕ) → slice_get names n.0 ≡ Some x → names_by names (numbers ++ n ∷ []) ≡ names_by names numbers ++ x ∷ []
@@ -50,7 +43,8 @@ taken_none old kind tables which = record {
   flat = sym (append-nil old.flat.items);
   named = refl;
   within = λ i n there. absurd (cc);
-  infos = infos_begin (statements_of old) old.symbols.names old.infos.items kind tables.infos which;
+  infos = infos_other _ _ _ (of_kind kind []) tables.infos (declaring_all kind [] which)
+      (λ floats. elim which [ inl c ↦ absurd (cc) | inr w ↦ absurd (cc) ]);
   others = refl;
 }
 
@@ -76,21 +70,21 @@ taken_more old now new kind xs x variable tables which is taken one = elim one.k
         → (i : ℕ) (n : Sym) → slice_get (taken.numbers ++ one.number ∷ []) i ≡ Some n → n.0 < length names
     within names more lt i n there = elim (pushed_cases taken.numbers one.number i n there) [
       | inl before ↦ let less = taken.within i n before in omega arith
-      | inr (last, same) ↦ subst (λ (m : Sym). m.0 < length names) same lt
+      | inr (last, same) ↦ rw same at lt
     ]
 
     again : IsNoted now new x one.number.0 variable → TakesSymbols old new kind (xs ++ x ∷ [])
     again noted =
         let lt = slice_get_within now.symbols.names one.number.0 x noted.there in
-        let infos = infos_noted st kind now.symbols.names xs now.infos.items new.infos.items x one.number.0 which noted.there taken.infos (subst (λ v. AreNoted now.infos.items new.infos.items one.number.0 v) latest noted.infos) in
+        let infos = infos_noted st kind _ xs _ new.infos.items x one.number.0 which noted.there taken.infos (rw latest at noted.infos) in
         record {
           added = taken.added;
           numbers = taken.numbers ++ one.number ∷ [];
           names = noted.names ∙ taken.names;
           flat = flat;
           named = ap (λ names. names_by names (taken.numbers ++ one.number ∷ [])) noted.names ∙ names_pushed now.symbols.names taken.numbers one.number x noted.there ∙ ap (λ ys. ys ++ x ∷ []) taken.named;
-          within = subst (λ (names : List (List ℕ)). (i : ℕ) (n : Sym) → slice_get (taken.numbers ++ one.number ∷ []) i ≡ Some n → n.0 < length names) (sym noted.names) (within now.symbols.names (omega arith) lt);
-          infos = subst (λ names. AreInfos (st ++ of_kind kind (xs ++ x ∷ []) ∷ []) names new.infos.items) (sym noted.names) infos;
+          within = rw noted.names (within now.symbols.names (omega arith) lt);
+          infos = rw noted.names infos;
           others = changed_twice old now new taken.others one.others;
         }
 
@@ -98,8 +92,8 @@ taken_more old now new kind xs x variable tables which is taken one = elim one.k
     first added =
         let size = length_pushed now.symbols.names x in
         let next = added.next in
-        let there : slice_get (now.symbols.names ++ x ∷ []) one.number.0 ≡ Some x = subst (λ k. slice_get (now.symbols.names ++ x ∷ []) k ≡ Some x) (sym next) (get_pushed now.symbols.names x) in
-        let infos = infos_fresh st kind now.symbols.names xs now.infos.items x _ tables.sound.0 which
+        let there : slice_get (now.symbols.names ++ x ∷ []) one.number.0 ≡ Some x = rw next (get_pushed now.symbols.names x) in
+        let infos = infos_fresh st kind _ xs _ x _ tables.sound.0 which
         taken.infos added.fresh (latest_declared st kind _ xs _ x which taken.infos added.fresh) in
         let news : now.infos.items ++ record { variable = latest_by kind (length st); floating = None } ∷ [] ≡ new.infos.items =
         sym (added.infos ∙ ap (λ v. now.infos.items ++ record { variable = v; floating = None } ∷ []) latest) in
@@ -110,9 +104,8 @@ taken_more old now new kind xs x variable tables which is taken one = elim one.k
           flat = flat;
           named = ap (λ names. names_by names (taken.numbers ++ one.number ∷ [])) added.names ∙ names_pushed (now.symbols.names ++ x ∷ []) taken.numbers one.number x there
               ∙ ap (λ ys. ys ++ x ∷ []) (names_same now.symbols.names (x ∷ []) taken.numbers taken.within ∙ taken.named);
-          within = subst (λ (names : List (List ℕ)). (i : ℕ) (n : Sym) → slice_get (taken.numbers ++ one.number ∷ []) i ≡ Some n → n.0 < length names) (sym added.names) (within (now.symbols.names ++ x ∷ []) (omega arith) (omega arith));
-          infos = subst (λ (is : List SymbolInfo). AreInfos (st ++ of_kind kind (xs ++ x ∷ []) ∷ []) new.symbols.names is) news
-              (subst (λ names. AreInfos (st ++ of_kind kind (xs ++ x ∷ []) ∷ []) names (now.infos.items ++ record { variable = latest_by kind (length st); floating = None } ∷ [])) (sym added.names) infos);
+          within = rw added.names (within (now.symbols.names ++ x ∷ []) (omega arith) (omega arith));
+          infos = rw (← news) (rw added.names infos);
           others = changed_twice old now new taken.others one.others;
         }
 

@@ -1,6 +1,5 @@
 -- The distinct pairs at a place, by the pairs that `$d` state.
-use Rattle.std.proofs.Common.{◌≡◌, ◌↔◌, ℕ, suc, ◌+◌, ◌<◌, ◌≤◌, ◌⊎◌, inl, inr, length, take, List, [], ◌∷◌, ◌++◌, Contains, Some, None, sym, ap, ◌∙◌, subst, arith}
-use Rattle.std.specs.List.{slice_get}
+use Rattle.std.proofs.Common.{◌≡◌, ◌↔◌, ℕ, suc, ◌+◌, ◌<◌, ◌≤◌, ◌⊎◌, inl, inr, length, take, List, [], ◌∷◌, ◌++◌, Contains, Some, None, sym, ap, ◌∙◌, subst, arith, slice_get}
 use Rattle.std.proofs.lemmas.Option.{slice_get_within}
 use Rattle.std.proofs.lemmas.Bool.{cases_order}
 use Rattle.std.proofs.lemmas.List.{take-append-le, append-nil}
@@ -13,8 +12,7 @@ use Rattle.mm_frame.specs.Numbers.{symbols_of}
 use Rattle.mm_frame.specs.Mirror.Stated.{Stated, AllStated, HasSpan, IsLatestStated}
 use Rattle.mm_frame.specs.Mirror.Wide.{AreWide, IsHeld}
 use Rattle.mm_frame.specs.Mirror.Layout.{AreStated, IsStatedThere, AreCovered}
-use Rattle.mm_text.proofs.Lists.{get_kept, get_pushed, pushed_cases, get_before, get_in_front, get_after, append_cases}
-use Rattle.mm_text.proofs.Lists.{get_from_take}
+use Rattle.mm_text.proofs.Lists.{get_kept, get_pushed, pushed_cases, get_before, get_in_front, get_after, append_cases, get_from_take}
 use Rattle.mm_frame.proofs.WideDistinct.{active_shorter, wide_grow}
 use Rattle.mm_frame.proofs.Stays.{active_last, active_stays, active_nest}
 use Rattle.mm_frame.proofs.Numbered.{symbols_unique}
@@ -25,10 +23,9 @@ active_then : (st : List Sentence) (s p q : ℕ) → s ≤ p → p < q → IsAct
     → IsActive (take q st) p → IsActive (take q st) s
 active_then st s p q le lt at_p at_q =
     let next : p + 1 ≡ suc p = omega arith in
-    let early : IsActive (take (suc p) st) s = subst (λ n. IsActive (take n st) s) next at_p in
     elim (cases_order s p) [
       | inl same ↦ subst (IsActive (take q st)) (sym same) at_q
-      | inr (inl before) ↦ active_nest st s p q before lt early at_q
+      | inr (inl before) ↦ active_nest st _ _ q before lt (rw next at at_p) at_q
       | inr (inr after) ↦ absurd (omega arith)
     ]
 
@@ -39,7 +36,7 @@ pub distinct_stated : (st : List Sentence) (symbols : List (List ℕ)) (stated :
     → IsDistinct (take q st) x y → HasSpan st stated.pairs (a, b) q ⊎ IsHeld st stated.wide q a b
 distinct_stated st symbols stated a b q x y are at_a at_b lt
     (apart, (p, d, there, active, (kind, in_x, in_y))) =
-    let (p_before, at_d) = get_from_take st q p d there in
+    let (p_before, at_d) = get_from_take st q _ _ there in
     elim (are.each p a b d x y at_d kind at_a at_b lt in_x in_y) [
       | inl (i, span, at, pair, le, at_p) ↦
           inl (record {
@@ -48,20 +45,10 @@ distinct_stated st symbols stated a b q x y are at_a at_b lt
             there = at;
             same = pair;
             early = omega arith;
-            active = active_then st span.place p q le p_before at_p active;
+            active = active_then st _ _ q le p_before at_p active;
           })
       | inr (i, w, at, in_a, in_b, le, at_p) ↦
-          inr (
-            i,
-            w,
-            at,
-            (
-              omega arith,
-              in_a,
-              in_b,
-              active_then st w.place p q le p_before at_p active,
-            ),
-          )
+          inr (i, w, at, (omega arith, in_a, in_b, active_then st _ _ q le p_before at_p active))
     ]
 
 -- an active `$d` states active pairs
@@ -84,7 +71,7 @@ span_distinct st symbols stated a b q x y all are at_a at_b lt has =
         d,
         get_in_front st q has.span.place d has.early there,
         has.active,
-        (kind, subst (Contains d.symbols) same_x in_u, subst (Contains d.symbols) same_y in_v),
+        (kind, rw same_x at in_u, rw same_y at in_v),
       ),
     )
 
@@ -101,20 +88,18 @@ latest_has st symbols stated pair q place are within (i, span, there, same, is, 
       span = span;
       there = there;
       same = same;
-      early = subst (λ (p : ℕ). p < q) (sym is) before;
+      early = rw is before;
       active = subst (IsActive (take q st)) (sym is) active;
     }),
     (λ has.
         elim (cases_order has.i i) [
           | inl one ↦
-              let e : has.span ≡ span = let at = subst
-              (λ n. slice_get stated.pairs n ≡ Some has.span) one has.there in cc in
-              subst (IsActive (take q st)) is
-              (subst (λ (s : Stated). IsActive (take q st) s.place) e has.active)
+              let e : has.span ≡ span = let at = rw one at has.there in cc in
+              subst (IsActive (take q st)) is (rw e at has.active)
           | inr (inl older) ↦
-              let (less, inactive) = are.apart has.i i has.span span older has.there there
+              let (less, inactive) = are.apart _ _ _ _ older has.there there
               (has.same ∙ sym same) in
-              absurd (inactive (active_shorter st has.span.place span.place q less
+              absurd (inactive (active_shorter st _ span.place q less
               (omega (arith, is, before)) within has.active))
           | inr (inr newer) ↦ absurd (let h = last has.i has.span newer has.there has.same in
               let g = has.early in omega arith)
@@ -182,20 +167,15 @@ stated_kept st e symbols more stated old are = record {
       let front = take-append-le (place + 1) st (e ∷ []) (omega arith) in
       elim (are.each place a b d x y there kind (old d place a x there kind in_x at_a)
       (old d place b y there kind in_y at_b) lt in_x in_y) [
-        | inl (i, span, at, pair, le, active) ↦
-            inl (i, span, at, pair, le, subst (λ ys. IsActive ys span.place) (sym front) active)
-        | inr (i, w, at, in_a, in_b, le, active) ↦
-            inr (i, w, at, in_a, in_b, le, subst (λ ys. IsActive ys w.place) (sym front) active)
+        | inl (i, span, at, pair, le, active) ↦ inl (i, span, at, pair, le, rw front active)
+        | inr (i, w, at, in_a, in_b, le, active) ↦ inr (i, w, at, in_a, in_b, le, rw front active)
       ];
   apart = λ i j older newer lt at_i at_j same.
       let (less, inactive) = are.apart i j older newer lt at_i at_j same in
       let stated_at = are.only j newer at_j in
-      let within = slice_get_within st newer.place stated_at.0 stated_at.1 in (
-        less,
-        subst (λ ys. ¬ (IsActive ys older.place))
-            (sym (take-append-le newer.place st (e ∷ []) (omega arith))) inactive,
-      );
-  wide = wide_grow st e symbols more stated.wide old are.wide;
+      let within = slice_get_within st newer.place stated_at.0 stated_at.1 in
+      (less, rw (take-append-le newer.place st (e ∷ []) (omega arith)) inactive);
+  wide = wide_grow _ e _ more _ old are.wide;
 }
 
 -- the same where no symbol is added
@@ -203,10 +183,7 @@ pub stated_more : (st : List Sentence) (e : Sentence) (symbols : List (List ℕ)
     → AreStated st symbols stated → AreKept st e symbols stated
 stated_more st e symbols stated are =
     let none = append-nil symbols in
-    subst (λ names. AreKept st e names stated) none
-    (stated_kept st e symbols [] stated
-    (λ d place n x there kind in_it at. subst (λ names. slice_get names n ≡ Some x) none at)
-    are)
+    rw none at (stated_kept _ e _ [] _ (λ d place n x there kind in_it at. rw none at (at)) are)
 
 -- A `$d`, with its new spans.
 pub stated_push : (st : List Sentence) (e : Sentence) (symbols : List (List ℕ)) (stated : AllStated)
@@ -214,15 +191,14 @@ pub stated_push : (st : List Sentence) (e : Sentence) (symbols : List (List ℕ)
     → AreNew st e symbols new
     → AreStated (st ++ e ∷ []) symbols (record { pairs = stated.pairs ++ new; wide = stated.wide })
 stated_push st e symbols stated new all are kind news =
-    let kept = stated_more st e symbols stated are in
+    let kept = stated_more _ e _ _ are in
     let spans = stated.pairs in
-    let whole : take (length st) st ≡ st = take-length st in
     record {
       only = λ i span there. elim (append_cases spans new i span there) [
         | inl before ↦ kept.only i span before
         | inr (j, is, at) ↦
             let (place, lt, x, y, at_x, at_y, in_x, in_y, apart) = news.only j span at in
-            (e, subst (λ n. slice_get (st ++ e ∷ []) n ≡ Some e) (sym place) (get_pushed st e), kind, lt, x, y, at_x, at_y, in_x, in_y)
+            (e, rw place (get_pushed st e), kind, lt, x, y, at_x, at_y, in_x, in_y)
       ];
       each = λ place a b d x y there is at_a at_b lt in_x in_y. elim (pushed_cases st e place d there) [
         | inl before ↦ elim (kept.each place a b d x y before is at_a at_b lt in_x in_y) [
@@ -231,9 +207,7 @@ stated_push st e symbols stated new all are kind news =
           | inr held ↦ inr held
         ]
         | inr (last, same) ↦
-            let in_x' = subst (λ (s : Sentence). Contains s.symbols x) (sym same) in_x in
-            let in_y' = subst (λ (s : Sentence). Contains s.symbols y) (sym same) in_y in
-            elim (news.each a b x y at_a at_b lt in_x' in_y') [
+            elim (news.each a b x y at_a at_b lt (rw (← same) at in_x) (rw (← same) at in_y)) [
               | inl (j, span, at, pair) ↦
                   let here : span.place ≡ length st = (news.only j span at).0 in
                   inl (
@@ -242,11 +216,10 @@ stated_push st e symbols stated new all are kind news =
                     get_after spans new j span at,
                     pair,
                     omega arith,
-                    subst (λ ys. IsActive ys span.place) (sym (taken_at st e place last))
-                        (subst (IsActive (st ++ e ∷ [])) (sym here) (active_last st e)),
+                    rw (taken_at st e place last, here) (active_last st e),
                   )
-              | inr distinct ↦ elim (distinct_stated st symbols stated a b (length st) x y are at_a
-                  at_b lt (subst (λ ys. IsDistinct ys x y) (sym whole) distinct)) [
+              | inr distinct ↦ elim (distinct_stated _ _ _ a b (length st) x y are at_a
+                  at_b lt (rw (take-length st) distinct)) [
                     | inl has ↦
                         inl (
                           has.i,
@@ -257,15 +230,7 @@ stated_push st e symbols stated new all are kind news =
                           still place has.span.place last has.active,
                         )
                     | inr (i, w, at, (early, in_a, in_b, active)) ↦
-                        inr (
-                          i,
-                          w,
-                          at,
-                          in_a,
-                          in_b,
-                          omega arith,
-                          still place w.place last active,
-                        )
+                        inr (i, w, at, in_a, in_b, omega arith, still place _ last active)
                   ]
             ]
       ];
@@ -284,8 +249,8 @@ stated_push st e symbols stated new all are kind news =
     -- what was active stays so at the `$d`
     still : (place p : ℕ) → place ≡ length st → IsActive (take (length st) st) p
         → IsActive (take (place + 1) (st ++ e ∷ [])) p
-    still place p last active = subst (λ ys. IsActive ys p) (sym (taken_at st e place last))
-        (active_stays st e p (λ closes. cc) (subst (λ ys. IsActive ys p) (take-length st) active))
+    still place p last active = rw (taken_at st e place last)
+        (active_stays _ e _ (λ closes. cc) (rw (take-length st) at active))
 
     old_new : (i k : ℕ) (older newer : Stated) → slice_get stated.pairs i ≡ Some older
         → slice_get new k ≡ Some newer → older.pair ≡ newer.pair → (older.place < newer.place)
@@ -297,16 +262,13 @@ stated_push st e symbols stated new all are kind news =
         let whole : take (length st) st ≡ st = take-length st in
         let front : take newer.place (st ++ e ∷ []) ≡ st = ap (λ n. take n (st ++ e ∷ [])) place ∙ take-append-le (length st) st (e ∷ []) (omega arith) ∙ whole in (
           omega arith,
-          λ active. apart (subst (λ ys. IsDistinct ys x y) whole
-              (span_distinct st symbols stated newer.pair.0 newer.pair.1 (length st) x y all are
-              at_x at_y lt
-              (record {
+          λ active. apart (rw whole at (span_distinct _ _ _ newer.pair.0 newer.pair.1 (length st)
+              x y all are at_x at_y lt (record {
                 i = i;
                 span = older;
                 there = at_i;
                 same = same;
                 early = within;
-                active = subst (λ ys. IsActive ys older.place) (sym whole)
-                    (subst (λ ys. IsActive ys older.place) front active);
+                active = rw whole (rw front at active);
               }))),
         )

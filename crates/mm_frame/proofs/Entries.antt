@@ -1,18 +1,13 @@
 -- A book's lists say the same statements as more is appended to them.
-use Rattle.std.proofs.Common.{◌≡◌, ℕ, suc, ◌+◌, ◌-◌, ◌<◌, ◌≤◌, inl, inr, length, take, drop, List, [], ◌∷◌, ◌++◌, map, Option, Some, None, refl, ap, ◌∙◌, subst, length-append, arith}
-use Rattle.std.proofs.Common.{sym}
-use Rattle.std.specs.List.{slice_get, slice_range}
-use Rattle.std.specs.Option.{unwrap_or, option_map}
+use Rattle.std.proofs.Common.{◌≡◌, ℕ, suc, ◌+◌, ◌-◌, ◌<◌, ◌≤◌, inl, inr, length, take, drop, List, [], ◌∷◌, ◌++◌, map, Option, Some, None, refl, ap, ◌∙◌, subst, length-append, arith, sym, slice_get, slice_range, unwrap_or, option_map}
 use Rattle.std.proofs.lemmas.Option.{slice_get_within, slice_get-map}
 use Rattle.std.proofs.lemmas.List.{drop-append-le, take-append-le, length-drop, map-append, length-map}
 use Rattle.mm_frame.specs.declared.number.LabelId.{LabelId}
 use Rattle.mm_frame.specs.declared.number.Sym.{Sym}
 use Rattle.mm_frame.specs.declared.tables.Entry.{Entry}
 use Rattle.mm_frame.specs.Sentence.{Sentence}
-use Rattle.mm_frame.specs.Mirror.Layout.{names_by, label_by, sentence_by, sentences_by, IsPartWithin, AreEntries}
-use Rattle.mm_frame.specs.Mirror.Layout.{AreTables, statements_of}
-use Rattle.mm_text.proofs.Lists.{pushed_cases, get_from_front, get_within, get_dropped, append_cases}
-use Rattle.mm_text.proofs.Lists.{get_kept}
+use Rattle.mm_frame.specs.Mirror.Layout.{names_by, label_by, sentence_by, sentences_by, IsPartWithin, AreEntries, AreTables, statements_of}
+use Rattle.mm_text.proofs.Lists.{pushed_cases, get_from_front, get_within, get_dropped, append_cases, get_kept}
 use Rattle.mm_frame.proofs.Written.{same_sentence}
 use Rattle.mm_frame.specs.declared.tables.Tables.{Tables}
 use Rattle.mm_frame.specs.declared.scopes.TheConstants.{NEVER}
@@ -68,10 +63,6 @@ sentences_push symbols labels flat log a b c new entries =
     map-append (sentence_by (symbols ++ a) (labels ++ b) (flat ++ c)) log (new ∷ [])
     ∙ ap (λ ys. ys ++ sentence_by (symbols ++ a) (labels ++ b) (flat ++ c) new ∷ [])
     (map_agree (sentence_by (symbols ++ a) (labels ++ b) (flat ++ c)) (sentence_by symbols labels flat) log (λ i e there. sentence_same symbols labels flat log a b c i e entries there))
-
-pub sentences_none : sentences_by [] [] [] [] ≡ []
-unfolding sentences_by
-sentences_none = refl
 
 pub length-sentences : (symbols labels : List (List ℕ)) (flat : List Sym) (log : List Entry) → length (sentences_by symbols labels flat log) ≡ length log
 unfolding sentences_by

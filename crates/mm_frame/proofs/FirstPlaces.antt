@@ -1,7 +1,6 @@
 -- Places of variables' `$f` among hypotheses, noted by the variables' numbers.
-use Rattle.std.proofs.Common.{◌≡◌, ℕ, zero, suc, ◌+◌, ◌<◌, ◌⊎◌, inl, inr, length, get_or, take, set, List, [], ◌∷◌, ◌++◌, Bool, true, false, Option, option_map, Some, None, refl, sym, ap, ◌∙◌, subst, length-append, arith}
+use Rattle.std.proofs.Common.{◌≡◌, ℕ, zero, suc, ◌+◌, ◌<◌, ◌⊎◌, inl, inr, length, get_or, take, set, List, [], ◌∷◌, ◌++◌, Bool, true, false, Option, option_map, Some, None, refl, sym, ap, ◌∙◌, subst, length-append, arith, MatchOption, is_some}
 use Rattle.std.specs.List.{slice_get, position_or_len}
-use Rattle.std.specs.Option.{MatchOption, is_some}
 use Rattle.std.proofs.lemmas.Bool.{false≢true, cases_lt}
 use Rattle.std.proofs.lemmas.Bool.Decides.{Decides-eqb}
 use Rattle.std.proofs.lemmas.List.{map_more, get_or_append_left, get_or_push, get_or_past}
@@ -28,8 +27,7 @@ first_before n k variables is = elim (cases_lt k (length variables)) [
       },
     )
     | inr past ↦
-        let none = fails_before_first (is_of n) variables k None (omega arith) in
-        absurd (false≢true (sym none ∙ is))
+        absurd (false≢true (sym (fails_before_first (is_of n) variables k None (omega arith)) ∙ is))
   ]
   | inr outside ↦
       absurd (false≢true (sym (ap (is_of n) (get_or_past variables k None outside)) ∙ is))
@@ -39,11 +37,10 @@ first_before n k variables is = elim (cases_lt k (length variables)) [
 pub noted_at : (places : List ℕ) (variables : List (Option ℕ)) (n place : ℕ) → slice_get places n ≡ Some place → is_of n (get_or variables place None) ≡ true → AreNoted places variables → IsFirstAt n variables place
 noted_at places variables n place there is noted =
     let (q, first) = first_before n place variables is in
-    let same : q ≡ place = same_Some q place (sym (noted n q first) ∙ there) in
-    subst (IsFirstAt n variables) same first
+    subst (IsFirstAt n variables) (same_Some q place (sym (noted n q first) ∙ there)) first
 
 -- what stands there is another: so there is none
-noted_nowhere : (places : List ℕ) (variables : List (Option ℕ)) (n : ℕ) → ((place : ℕ) → slice_get places n ≡ Some place → is_of n (get_or variables place None) ≡ false) → AreNoted places variables → IsNowhere n variables
+pub noted_nowhere : (places : List ℕ) (variables : List (Option ℕ)) (n : ℕ) → ((place : ℕ) → slice_get places n ≡ Some place → is_of n (get_or variables place None) ≡ false) → AreNoted places variables → IsNowhere n variables
 noted_nowhere places variables n other noted k = by (is_of n (get_or variables k None)) refl
   where
     by : (b : Bool) → is_of n (get_or variables k None) ≡ b → is_of n (get_or variables k None) ≡ false
@@ -51,14 +48,6 @@ noted_nowhere places variables n other noted k = by (is_of n (get_or variables k
     by true is =
         let (q, first) = first_before n k variables is in
         absurd (false≢true (sym (other q (noted n q first)) ∙ first.is))
-
-pub noted_other : (places : List ℕ) (variables : List (Option ℕ)) (n place : ℕ) → slice_get places n ≡ Some place → is_of n (get_or variables place None) ≡ false → AreNoted places variables → IsNowhere n variables
-noted_other places variables n place there none =
-    noted_nowhere places variables n (λ q at. subst (λ k. is_of n (get_or variables k None) ≡ false) (same_Some place q (sym there ∙ at)) none)
-
--- none is noted
-pub noted_past : (places : List ℕ) (variables : List (Option ℕ)) (n : ℕ) → slice_get places n ≡ None → AreNoted places variables → IsNowhere n variables
-noted_past places variables n none = noted_nowhere places variables n (λ q at. absurd (let e : None ≡ Some q = sym none ∙ at in cc))
 
 -- ---- one variable more
 

@@ -1,11 +1,9 @@
 -- Places that aren't active are dropped from the end of a list, one by one.
-use Rattle.std.proofs.Common.{◌≡◌, ℕ, zero, suc, ◌<◌, IsSome, length, List, [], ◌∷◌, ◌++◌, Option, Some, None, sym, ap, ◌∙◌, subst, append_assoc, append-nil, arith}
-use Rattle.std.specs.List.{slice_get}
-use Rattle.std.specs.Option.{option_to_list}
+use Rattle.std.proofs.Common.{◌≡◌, ℕ, zero, suc, ◌<◌, IsSome, length, List, [], ◌∷◌, ◌++◌, Option, Some, None, sym, ap, ◌∙◌, subst, append_assoc, append-nil, slice_get, option_to_list}
 use Rattle.mm_frame.specs.Sentence.{Sentence}
 use Rattle.mm_frame.specs.Active.{IsActive}
 use Rattle.mm_frame.specs.Mirror.Forgotten.{AreForgotten}
-use Rattle.mm_text.proofs.Lists.{get_pushed, get_kept}
+use Rattle.mm_text.proofs.Lists.{get_pushed}
 use Rattle.mm_frame.proofs.ScopeLaws.{length_pushed}
 
 -- places that aren't active were dropped from the end
@@ -13,9 +11,6 @@ pub record AreDropped (statements : List Sentence) (before after : List ℕ) : T
   pub gone : List ℕ
   pub parted : before ≡ after ++ gone
   pub inactive : (i p : ℕ) → slice_get gone i ≡ Some p → ¬ (IsActive statements p)
-
-pub dropped_none : (st : List Sentence) (places : List ℕ) → AreDropped st places places
-dropped_none st places = record { gone = []; parted = sym (append-nil places); inactive = λ i p there. absurd (cc) }
 
 pub dropped_more : (st : List Sentence) (before mid after : List ℕ) (popped : Option ℕ) → AreDropped st before mid → mid ≡ after ++ option_to_list popped
     → ((k p : ℕ) → length mid ≡ suc k → slice_get mid k ≡ Some p → ¬ (IsActive st p)) → AreDropped st before after
@@ -35,19 +30,9 @@ dropped_more st before mid after (Some p) dropped parted last = record {
         subst (λ n. ¬ (IsActive st n)) is (last (length after) p size (subst (λ ys. slice_get ys (length after) ≡ Some p) (sym parted) (get_pushed after p)))
     more gone none (suc i) q there = none i q there
 
-pub forgotten_all : (st : List Sentence) (before after : List ℕ) → AreDropped st before after → length after ≡ 0 → AreForgotten st before after
-forgotten_all st before after dropped none = record { gone = dropped.gone; parted = dropped.parted; inactive = dropped.inactive; last_active = λ k p size there. absurd (omega arith) }
-
 pub forgotten_last : (st : List Sentence) (before after : List ℕ) → AreDropped st before after → ((k p : ℕ) → length after ≡ suc k → slice_get after k ≡ Some p → IsActive st p)
     → AreForgotten st before after
 forgotten_last st before after dropped last = record { gone = dropped.gone; parted = dropped.parted; inactive = dropped.inactive; last_active = last }
-
--- what is left lies within what was there
-pub left_within : (before after gone : List ℕ) (n : ℕ) → before ≡ after ++ gone
-    → ((i p : ℕ) → slice_get before i ≡ Some p → p < n)
-    → (i p : ℕ) → slice_get after i ≡ Some p → p < n
-left_within before after gone n parted within i p there =
-    within i p (subst (λ ys. slice_get ys i ≡ Some p) (sym parted) (get_kept after gone i p there))
 
 pub popped_size : (mid after : List ℕ) (popped : Option ℕ) → mid ≡ after ++ option_to_list popped → IsSome popped → length mid ≡ suc (length after)
 popped_size mid after None parted some = absurd (cc some)

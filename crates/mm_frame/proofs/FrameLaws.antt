@@ -1,6 +1,5 @@
 -- Frames stay what they are as statements are added.
-use Rattle.std.proofs.Common.{◌≡◌, ℕ, ◌<◌, inl, inr, length, take, List, [], ◌∷◌, ◌++◌, Contains, Some, sym, ap, ◌∙◌, subst, arith}
-use Rattle.std.specs.List.{slice_get}
+use Rattle.std.proofs.Common.{◌≡◌, ℕ, ◌<◌, inl, inr, length, take, List, [], ◌∷◌, ◌++◌, Contains, Some, sym, ap, ◌∙◌, arith, slice_get, subst}
 use Rattle.std.proofs.lemmas.Option.{slice_get_within}
 use Rattle.std.proofs.lemmas.List.{take-append-le}
 use Rattle.mm_text.specs.declared.statement.Kind.TheVariants.{Distinct}
@@ -11,18 +10,17 @@ use Rattle.mm_frame.specs.declared.part.Part.{Part}
 use Rattle.mm_frame.specs.declared.tables.LabelInfo.{LabelInfo}
 use Rattle.mm_frame.specs.Sentence.{Sentence, IsAssertion}
 use Rattle.mm_frame.specs.Rules.{AllMeant}
-use Rattle.mm_frame.specs.Frame.{AreMandatory, IsMandatoryPair}
 use Rattle.mm_frame.specs.Numbers.{symbols_of}
 use Rattle.mm_frame.specs.FramePlace.{FramePlace, AreHypotheses, ArePairs}
 use Rattle.mm_frame.specs.Mirror.Layout.{IsPartWithin, IsFrameInfo, AreFrames, AreLabelInfos, AreStated}
 use Rattle.mm_frame.specs.Mirror.Stated.{AllStated}
-use Rattle.mm_text.proofs.Lists.{get_kept, get_pushed, pushed_cases, get_before}
+use Rattle.mm_text.proofs.Lists.{get_kept, get_pushed, pushed_cases, get_before, zip_mapped, mapped_zip}
 use Rattle.mm_frame.proofs.Numbered.{symbols_grow, symbols_unique, number_from_declared}
-use Rattle.mm_frame.proofs.Labelled.{labels_grow}
 use Rattle.mm_frame.proofs.Entries.{slice_left, longer}
 use Rattle.mm_frame.proofs.Meant.{meant_at}
 use Rattle.mm_frame.proofs.DistinctAt.{stated_kept}
-use Rattle.mm_frame.proofs.Patterns.{its_pieces_grow, patterns_grow}
+use Rattle.mm_frame.proofs.Patterns.{its_pieces_grow, pattern_grow, pattern_longer}
+use Rattle.mm_frame.proofs.Labelled.{labelled_grow}
 use Rattle.mm_frame.proofs.Needed.{used_declared, some_later}
 
 abbrev pub at_place : List Sentence → ℕ → FramePlace
@@ -35,8 +33,8 @@ hypotheses_grow st more place numbers are =
       assertion = are.assertion;
       there = get_kept st more place are.assertion are.there;
       hypotheses = are.hypotheses;
-      mandatory = subst (λ ys. AreMandatory ys are.assertion are.hypotheses) (sym (take-append-le place st more (omega arith))) are.mandatory;
-      numbered = labels_grow st more numbers are.hypotheses are.numbered;
+      mandatory = rw (take-append-le place st more (omega arith)) are.mandatory;
+      numbered = zip_mapped _ _ _ _ (mapped_zip _ _ _ (labelled_grow st more) _ _ are.numbered);
     }
 
 pub pairs_grow : (st more : List Sentence) (place : ℕ) (pairs : List (ℕ × ℕ)) → ArePairs (at_place st place) pairs → ArePairs (at_place (st ++ more) place) pairs
@@ -47,10 +45,15 @@ pairs_grow st more place pairs are =
       assertion = are.assertion;
       there = get_kept st more place are.assertion are.there;
       only = λ pair in_it.
-          let (x, y, at_x, at_y, mandatory) = are.only pair in_it in
-          (x, y, symbols_grow st more pair.0 x at_x, symbols_grow st more pair.1 y at_y, subst (λ ys. IsMandatoryPair ys are.assertion x y) (sym same) mandatory);
+          let (x, y, at_x, at_y, mandatory) = are.only pair in_it in (
+            x,
+            y,
+            symbols_grow st more pair.0 x at_x,
+            symbols_grow st more pair.1 y at_y,
+            rw same mandatory,
+          );
       each = λ x y mandatory.
-          let (pair, at_x, at_y, in_it) = are.each x y (subst (λ ys. IsMandatoryPair ys are.assertion x y) same mandatory) in
+          let (pair, at_x, at_y, in_it) = are.each x y (rw same at mandatory) in
           (pair, symbols_grow st more pair.0 x at_x, symbols_grow st more pair.1 y at_y, in_it);
       once = are.once;
     }
@@ -79,7 +82,9 @@ frame_grow st more hs a pairs b pieces c info is =
         get_kept st more info.place s there,
         rw (all_h, all_q) (its_pieces_grow st more _ s _ says),
       );
-      patterned = rw all_h (patterns_grow st more _ pieces c _ is.patterned);
+      patterned = rw all_h (λ i h at.
+          pattern_longer (st ++ more) _ pieces c h
+          (pattern_grow st more _ pieces h (is.patterned i h at)));
     }
 
 -- each label's statement is one of the statements
@@ -102,8 +107,8 @@ frames_hypothesis st e hs a pairs b pieces c named new within are place other id
   | inl before ↦ frames_other st e hs a pairs b pieces c named within are id info s before at is
   | inr (last, same) ↦
       let here : info.place ≡ length st = ap (λ (i : LabelInfo). i.place) (sym same) ∙ place in
-      let e_is : e ≡ s = let one = get_pushed st e in let two = subst (λ n. slice_get (st ++ e ∷ []) n ≡ Some s) here at in cc in
-      absurd (other (subst (λ (t : Sentence). IsAssertion t.kind) (sym e_is) is))
+      let e_is : e ≡ s = let one = get_pushed st e in cc in
+      absurd (other (rw e_is is))
 ]
 
 -- an assertion
@@ -111,7 +116,7 @@ pub frames_assertion : (st : List Sentence) (e : Sentence) (hs a : List Hypothes
     → IsFrameInfo (st ++ e ∷ []) (hs ++ a) (pairs ++ b) (pieces ++ c) new → AreFrames (st ++ e ∷ []) (hs ++ a) (pairs ++ b) (pieces ++ c) (named ++ new ∷ [])
 frames_assertion st e hs a pairs b pieces c named new within are frame id info s there at is = elim (pushed_cases named new id info there) [
   | inl before ↦ frames_other st e hs a pairs b pieces c named within are id info s before at is
-  | inr (last, same) ↦ subst (λ i. IsFrameInfo (st ++ e ∷ []) (hs ++ a) (pairs ++ b) (pieces ++ c) i) same frame
+  | inr (last, same) ↦ rw same at frame
 ]
 
 -- ---- the pairs that `$d` state

@@ -1,12 +1,11 @@
 -- The mandatory hypotheses of an assertion, as they are gathered from what is known of symbols and from the active `$e`.
-use Rattle.std.proofs.Common.{◌≡◌, ◌↔◌, ℕ, suc, inl, inr, true, length, take, List, [], ◌∷◌, ◌++◌, map, is_some, Some, refl, sym, ap, ◌∙◌, subst}
-use Rattle.std.specs.List.{slice_get}
+use Rattle.std.proofs.Common.{◌≡◌, ◌↔◌, ℕ, suc, inl, inr, true, length, take, List, [], ◌∷◌, ◌++◌, map, is_some, Some, refl, ap, ◌∙◌, subst, slice_get}
 use Rattle.std.proofs.lemmas.Option.{slice_get_within}
 use Rattle.std.proofs.Math.Seq.{take-append_seam}
 use Rattle.mm_frame.specs.Sentence.{Sentence, IsStated}
 use Rattle.mm_frame.specs.Rules.{IsMeant, AllMeant}
 use Rattle.mm_frame.specs.Form.{AllFormed, HasItsLabel}
-use Rattle.mm_frame.specs.Frame.{IsMandatoryAt, AreMandatory}
+use Rattle.mm_frame.specs.Frame.{IsMandatoryAt}
 use Rattle.mm_frame.specs.Numbers.{labelled_sentences}
 use Rattle.mm_frame.specs.FramePlace.{AreHypotheses}
 use Rattle.mm_frame.specs.Mirror.Layout.{AreEssentials}
@@ -100,11 +99,10 @@ place_named st s places i p h formed are there at = hypothesis_named st s p h fo
 pub hypotheses_from_places : (st : List Sentence) (places : List ℕ) (s : Sentence) (more : List Sentence) → AllFormed st → ArePlaces st s places → AreHypotheses (at_place (st ++ s ∷ more) (length st)) (numbers_at st places)
 hypotheses_from_places st places s more formed are =
     let (hs, those, values) = those_by_places (IsMandatoryAt st s) st places are.rising are.within are.exact in
-    let front : take (length st) (st ++ s ∷ more) ≡ st = take-append_seam st (s ∷ more) in
     record {
       assertion = s;
       there = get_parted st more s;
       hypotheses = hs;
-      mandatory = subst (λ ys. AreMandatory ys s hs) (sym front) those;
-      numbered = numbered_all st (s ∷ more) places hs values (λ i p h there at. place_named st s places i p h formed are there at);
+      mandatory = rw (take-append_seam st (s ∷ more)) those;
+      numbered = numbered_all st (s ∷ more) places hs values (λ i p h there at. place_named _ _ _ i p h formed are there at);
     }

@@ -1,10 +1,8 @@
 -- Gathering the places of the mandatory hypotheses.
-use Rattle.std.proofs.Common.{eqb, ◌≡◌, ◌↔◌, ℕ, zero, suc, ◌+◌, ◌<◌, inl, inr, length, take, get_or, List, [], ◌∷◌, ◌++◌, map, Contains, Option, Some, None, refl, sym, ap, ◌∙◌, subst, append_assoc, arith}
+use Rattle.std.proofs.Common.{eqb, ◌≡◌, ◌↔◌, ℕ, zero, suc, ◌+◌, ◌<◌, inl, inr, length, take, get_or, List, [], ◌∷◌, ◌++◌, map, Contains, Option, Some, None, refl, sym, ap, ◌∙◌, subst, append_assoc, arith, option_and_then, nat_cmp}
 use Rattle.std.specs.List.{slice_get, cons_option, dedup}
-use Rattle.std.specs.Option.{option_and_then}
 use Rattle.std.proofs.lemmas.Option.{slice_get_within, slice_get-get_or, get_or_from_slice_get}
 use Rattle.std.specs.List.Sorted.{IsPermutation, IsSorted, IsStrictlyIncreasing}
-use Rattle.std.specs.Ordering.{nat_cmp}
 use Rattle.std.proofs.lemmas.List.Kept.{AllPairs-from_increasing, Contains-dedup_nat, Contains-from_dedup}
 use Rattle.std.proofs.lemmas.List.Sorted.{IsPermutation-sym, Contains-permutation}
 use Rattle.std.proofs.lemmas.Map.Keys.{IsStrictlyIncreasing-dedup}
@@ -27,9 +25,8 @@ pub floatings_more : (infos : List SymbolInfo) (xs : List Sym) (i : ℕ) (d : Sy
     → now ≡ old ++ floatings infos (take i xs)
     → now ++ cons_option o [] ≡ old ++ floatings infos (take (i + 1) xs)
 floatings_more infos xs i d o old now lt is so_far =
-    let x = get_or xs i d in
     let more = ap (floatings infos) (take_more xs i d lt)
-    ∙ filter_map-append (floating_of infos) (take i xs) (x ∷ []) in
+    ∙ filter_map-append (floating_of infos) (take i xs) ((get_or xs i d) ∷ []) in
     let one = ap (λ o. cons_option o []) is in
     ap (λ ys. ys ++ cons_option o []) so_far ∙ (rw append_assoc)
     ∙ ap (λ ys. old ++ ys) (sym (more ∙ ap (λ ys. floatings infos (take i xs) ++ ys) one))
@@ -80,9 +77,6 @@ floating_latest : (P : Sentence → Type 0) (st : List Sentence) (o : Option ℕ
 floating_latest P st None p none latest = absurd (none (p, latest.statement, latest.there, latest.holds))
 floating_latest P st (Some q) p there latest = ap (λ n. Some n) (one_latest P st q p there latest)
 
-latest_floating : (P : Sentence → Type 0) (st : List Sentence) (o : Option ℕ) (p : ℕ) → IsLatestIn P st o → o ≡ Some p → IsLatest P st p
-latest_floating P st o p there is = subst (λ o. IsLatestIn P st o) is there
-
 -- The places are those of the latest `$f` of the symbols.
 pub floatings_tell : (st : List Sentence) (names : List (List ℕ)) (infos : List SymbolInfo) (ns : List Sym) (symbols : List (List ℕ)) (p : ℕ) → AreInfos st names infos → AreNumbers st (map (λ n. n.0) ns) symbols
     → IsIn (floatings infos ns) p ↔ ((x : List ℕ) × Contains symbols x × IsLatest (GivesType x) st p)
@@ -92,7 +86,7 @@ floatings_tell st names infos ns symbols p are numbers = (
       let (x, at_x, number) = member_name (symbols_of st) ns symbols j n numbers at_n in
       let (info, at_info, latest) = info_of st names infos n.0 x are number in
       let floats : info.floating ≡ Some p = sym (ap (option_and_then (λ info. info.floating)) at_info) ∙ says in
-      (x, contains_from_at symbols x (j, at_x), latest_floating (GivesType x) st info.floating p latest floats)),
+      (x, contains_from_at symbols x (j, at_x), rw floats at latest)),
   (λ (x, in_it, latest).
       let (j, at_x) = at_from_contains symbols x in_it in
       let (n, at_n, number) = name_member (symbols_of st) ns symbols j x numbers at_x in

@@ -1,6 +1,5 @@
 -- What is known of each symbol, as a statement is added.
-use Rattle.std.proofs.Common.{◌≡◌, ◌≢◌, ℕ, suc, ◌⊎◌, inl, inr, length, take, set, List, [], ◌∷◌, ◌++◌, Contains, Option, Some, None, refl, sym, ap, ◌∙◌, subst, length-set, arith}
-use Rattle.std.specs.List.{slice_get, fold}
+use Rattle.std.proofs.Common.{◌≡◌, ◌≢◌, ℕ, suc, ◌⊎◌, inl, inr, length, take, set, List, [], ◌∷◌, ◌++◌, Contains, Option, Some, None, refl, sym, ap, ◌∙◌, subst, length-set, arith, slice_get, fold}
 use Rattle.std.proofs.lemmas.Option.{slice_get_within}
 use Rattle.std.proofs.lemmas.List.Sums.{fold-append}
 use Rattle.mm_text.specs.declared.statement.Kind.{Kind}
@@ -9,14 +8,13 @@ use Rattle.mm_frame.specs.declared.tables.SymbolInfo.{SymbolInfo}
 use Rattle.mm_frame.specs.Sentence.{Sentence, SomeSentence, Declares}
 use Rattle.mm_frame.specs.Rules.{AllMeant}
 use Rattle.mm_frame.specs.Numbers.{declared_by, declared_in, with_name, symbols_of}
-use Rattle.mm_frame.specs.Mirror.Latest.{IsLatest}
-use Rattle.mm_frame.specs.Mirror.Layout.{IsLatestIn, GivesType, IsInfo, AreInfos}
+use Rattle.mm_frame.specs.Mirror.Layout.{IsLatestIn, GivesType, AreInfos}
 use Rattle.mm_text.proofs.Lists.{get_kept, get_pushed, pushed_cases, get_before, get_set_cases}
 use Rattle.mm_frame.proofs.ScopeLaws.{length_pushed}
 use Rattle.mm_frame.proofs.Meant.{meant_at}
 use Rattle.mm_frame.proofs.Needed.{typed_variable, some_later}
 use Rattle.mm_text.proofs.Lists.{at_from_contains, contains_from_at}
-use Rattle.mm_frame.proofs.Numbered.{At, symbols_push, symbols_unique, symbols_none, number_from_declared, with_name_cases}
+use Rattle.mm_frame.proofs.Numbered.{At, symbols_push, symbols_unique, number_from_declared, with_name_cases}
 use Rattle.mm_frame.specs.Mirror.Declaring.{IsDeclaration, latest_by}
 
 -- the latest statement that is so, with one statement more
@@ -59,16 +57,15 @@ latest_replaced P st e d (Some p) there back latest = elim (pushed_cases st e p 
     holds = latest.holds;
     last = λ k s after at holds. elim (pushed_cases st d k s at) [
       | inl k_before ↦ latest.last k s after (get_kept st (e ∷ []) k s k_before) holds
-      | inr (last, same) ↦ latest.last k e after (subst (λ n. slice_get (st ++ e ∷ []) n ≡ Some e) (sym last) (get_pushed st e)) (back (subst P (sym same) holds))
+      | inr (last, same) ↦ latest.last k e after (rw last (get_pushed st e)) (back (subst P (sym same) holds))
     ];
   }
-  | inr (at_end, same) ↦ subst (λ n. IsLatest P (st ++ d ∷ []) n) (sym at_end) (latest_new P st d (there (subst P (sym same) latest.holds)))
+  | inr (at_end, same) ↦ rw at_end (latest_new P st d (there (subst P (sym same) latest.holds)))
 ]
 
 undeclaring : (e : Sentence) (x : List ℕ) → declared_by e ≡ [] → ¬ (Declares Variables x e)
 undeclaring e x none (kind, in_it) =
-    let empty : e.symbols ≡ [] = sym (ap (λ k. declared_in k e.symbols) kind) ∙ none in
-    let (k, lt, is) = subst (λ xs. Contains xs x) empty in_it in
+    let (k, lt, is) = rw (sym (ap (λ k. declared_in k e.symbols) kind) ∙ none) at in_it in
     omega arith
 
 -- no symbols of its own, and no type
@@ -84,7 +81,7 @@ infos_other st symbols infos e are none other = record {
 
 same_number : (st : List Sentence) (symbols : List (List ℕ)) (m n : ℕ) (x : List ℕ) → symbols ≡ symbols_of st → slice_get symbols m ≡ Some x → slice_get symbols n ≡ Some x → m ≡ n
 same_number st symbols m n x all at_m at_n =
-    symbols_unique st m n x (subst (λ xs. slice_get xs m ≡ Some x) all at_m) (subst (λ xs. slice_get xs n ≡ Some x) all at_n)
+    symbols_unique st m n x (rw all at at_m) (rw all at at_n)
 
 -- a `$f`
 pub infos_floating : (st : List Sentence) (symbols : List (List ℕ)) (infos : List SymbolInfo) (e : Sentence) (code x : List ℕ) (n : ℕ) (info : SymbolInfo) → AreInfos st symbols infos
@@ -97,9 +94,9 @@ infos_floating st symbols infos e code x n info are kind says named there =
       informed = length-set infos n (record info { floating = Some (length st) }) ∙ are.informed;
       each = λ m y other at found. elim (get_set_cases infos n m (record info { floating = Some (length st) }) other found) [
         | inl (same, is) ↦
-            let same_name : x ≡ y = let at_n = subst (λ k. slice_get symbols k ≡ Some y) same at in cc in
+            let same_name : x ≡ y = cc in
             let old = are.each n x info named there in
-            subst (λ i. IsInfo (st ++ e ∷ []) y i) is (subst (λ z. IsInfo (st ++ e ∷ []) z (record info { floating = Some (length st) })) same_name (record {
+            rw (← is) (rw (← same_name) (record {
               variable = latest_kept (Declares Variables x) st e info.variable (undeclaring e x none) old.variable;
               floating = latest_new (GivesType x) st e (code, (kind, says));
             }))
@@ -108,7 +105,7 @@ infos_floating st symbols infos e code x n info are kind says named there =
             record {
               variable = latest_kept (Declares Variables y) st e other.variable (undeclaring e y none) old.variable;
               floating = latest_kept (GivesType y) st e other.floating
-                  (λ (c, types). apart (same_number st symbols m n x are.all (let h = types.1 in let g : y ≡ x = cc in subst (λ z. slice_get symbols m ≡ Some z) g at) named)) old.floating;
+                  (λ (c, types). apart (same_number st symbols m n x are.all (let h = types.1 in let g : y ≡ x = cc in rw g at (at)) named)) old.floating;
             }
       ];
     }
@@ -129,7 +126,7 @@ contains_last : (xs : List (List ℕ)) (x : List ℕ) → Contains (xs ++ x ∷ 
 contains_last xs x = contains_from_at (xs ++ x ∷ []) x (length xs, get_pushed xs x)
 
 -- the names, with one symbol more of a `$c` or `$v`
-declaring_all : (kind : Kind) (xs : List (List ℕ)) → (kind ≡ Constants) ⊎ (kind ≡ Variables) → declared_in kind xs ≡ xs
+pub declaring_all : (kind : Kind) (xs : List (List ℕ)) → (kind ≡ Constants) ⊎ (kind ≡ Variables) → declared_in kind xs ≡ xs
 declaring_all kind xs which = elim which [ inl is ↦ ap (λ k. declared_in k xs) is | inr is ↦ ap (λ k. declared_in k xs) is ]
 
 names_more : (st : List Sentence) (kind : Kind) (xs : List (List ℕ)) (x : List ℕ) → (kind ≡ Constants) ⊎ (kind ≡ Variables)
@@ -155,15 +152,15 @@ pub infos_known : (st : List Sentence) (symbols xs : List (List ℕ)) (infos : L
 infos_known st symbols xs infos x n info are named there =
     let e = of_kind Variables xs in
     let d = of_kind Variables (xs ++ x ∷ []) in
-    let at_names : At (symbols_of (st ++ e ∷ [])) x = (n, subst (λ names. slice_get names n ≡ Some x) are.all named) in
+    let at_names : At (symbols_of (st ++ e ∷ [])) x = (n, rw are.all at named) in
     record {
       all = are.all ∙ sym (names_more st Variables xs x (inr refl) ∙ known_name (symbols_of (st ++ e ∷ [])) x at_names);
       informed = length-set infos n (record info { variable = Some (length st) }) ∙ are.informed;
       each = λ m y other at found. elim (get_set_cases infos n m (record info { variable = Some (length st) }) other found) [
         | inl (same, is) ↦
-            let same_name : x ≡ y = let at_n = subst (λ k. slice_get symbols k ≡ Some y) same at in cc in
+            let same_name : x ≡ y = cc in
             let old = are.each n x info named there in
-            subst (λ i. IsInfo (st ++ d ∷ []) y i) is (subst (λ z. IsInfo (st ++ d ∷ []) z (record info { variable = Some (length st) })) same_name (record {
+            rw (← is) (rw (← same_name) (record {
               variable = latest_new (Declares Variables x) st d (refl, contains_last xs x);
               floating = latest_replaced (GivesType x) st e d info.floating (λ h. absurd (no_type_first Variables xs x (inr refl) h)) (λ h. absurd (no_type_first Variables (xs ++ x ∷ []) x (inr refl) h)) old.floating;
             }))
@@ -185,7 +182,7 @@ pub infos_known_constant : (st : List Sentence) (symbols xs : List (List ℕ)) (
 infos_known_constant st symbols xs infos x n are named =
     let e = of_kind Constants xs in
     let d = of_kind Constants (xs ++ x ∷ []) in
-    let at_names : At (symbols_of (st ++ e ∷ [])) x = (n, subst (λ names. slice_get names n ≡ Some x) are.all named) in
+    let at_names : At (symbols_of (st ++ e ∷ [])) x = (n, rw are.all at named) in
     record {
       all = are.all ∙ sym (names_more st Constants xs x (inl refl) ∙ known_name (symbols_of (st ++ e ∷ [])) x at_names);
       informed = are.informed;
@@ -212,14 +209,13 @@ infos_fresh st kind symbols xs infos x v meant which are unknown latest =
     let e = of_kind kind xs in
     let d = of_kind kind (xs ++ x ∷ []) in
     let new : SymbolInfo = record { variable = v; floating = None } in
-    let informed = are.informed in
     let absent : ¬ (At symbols x) = λ at. unknown (contains_from_at symbols x at) in
-    let absent_before : ¬ (At (symbols_of (st ++ e ∷ [])) x) = λ (i, at). absent (i, subst (λ names. slice_get names i ≡ Some x) (sym are.all) at) in
+    let absent_before : ¬ (At (symbols_of (st ++ e ∷ [])) x) = λ (i, at). absent (i, rw are.all (at)) in
     let all : symbols ++ x ∷ [] ≡ symbols_of (st ++ d ∷ []) =
     ap (λ names. names ++ x ∷ []) are.all ∙ sym (names_more st kind xs x which ∙ fresh_name (symbols_of (st ++ e ∷ [])) x absent_before) in
     record {
       all = all;
-      informed = length_pushed infos new ∙ ap suc informed ∙ sym (length_pushed symbols x);
+      informed = length_pushed infos new ∙ ap suc are.informed ∙ sym (length_pushed symbols x);
       each = λ m y info at found. elim (pushed_cases symbols x m y at) [
         | inl before ↦
             let lt = slice_get_within symbols m y before in
@@ -231,21 +227,17 @@ infos_fresh st kind symbols xs infos x v meant which are unknown latest =
             }
         | inr (last, same) ↦ elim (pushed_cases infos new m info found) [
           | inl before ↦ absurd (let lt = slice_get_within infos m info before in omega arith)
-          | inr (at_end, is) ↦
-              subst (λ i. IsInfo (st ++ d ∷ []) y i) is (subst (λ z. IsInfo (st ++ d ∷ []) z new) same (record {
-                variable = latest;
-                floating = untyped st e d x meant which absent_before refl;
-              }))
+          | inr (at_end, is) ↦ rw (← is) (rw (← same) (record {
+            variable = latest;
+            floating = λ (p, f, there, types). elim (pushed_cases st d p f there) [
+              | inl before ↦ unknown_untyped st e x meant (λ floats. elim which [ inl c ↦ absurd (cc) | inr w ↦ absurd (cc) ])
+                  absent_before (p, f, get_kept st (e ∷ []) p f before, types)
+              | inr (last, same) ↦ no_type_first kind (xs ++ x ∷ []) x which (subst (GivesType x) (sym same) types)
+            ];
+          }))
         ]
       ];
     }
-  where
-    untyped : (st : List Sentence) (e d : Sentence) (x : List ℕ) → AllMeant st → (kind ≡ Constants) ⊎ (kind ≡ Variables) → ¬ (At (symbols_of (st ++ of_kind kind xs ∷ [])) x) → d ≡ of_kind kind (xs ++ x ∷ [])
-        → ¬ (SomeSentence (st ++ d ∷ []) (GivesType x))
-    untyped st e d x meant which absent is (p, f, there, types) = elim (pushed_cases st d p f there) [
-      | inl before ↦ unknown_untyped st (of_kind kind xs) x meant (λ floats. elim which [ inl c ↦ absurd (cc) | inr w ↦ absurd (cc) ]) absent (p, f, get_kept st (of_kind kind xs ∷ []) p f before, types)
-      | inr (last, same) ↦ no_type_first kind (xs ++ x ∷ []) x which (subst (GivesType x) (sym same ∙ is) types)
-    ]
 
 -- its latest `$v`, if it has one, is this one
 pub latest_declared : (st : List Sentence) (kind : Kind) (symbols xs : List (List ℕ))
@@ -273,10 +265,6 @@ latest_declared st kind symbols xs infos x which are unknown = elim which [
     LatestBy k = IsLatestIn (Declares Variables x) (st ++ of_kind k (xs ++ x ∷ []) ∷ [])
         (latest_by k (length st))
 
--- before its symbols are taken, a `$c` or `$v` says nothing of them
-pub infos_begin : (st : List Sentence) (symbols : List (List ℕ)) (infos : List SymbolInfo) (kind : Kind) → AreInfos st symbols infos → (kind ≡ Constants) ⊎ (kind ≡ Variables) → AreInfos (st ++ of_kind kind [] ∷ []) symbols infos
-infos_begin st symbols infos kind are which =
-    infos_other st symbols infos (of_kind kind []) are (declaring_all kind [] which) (λ floats. elim which [ inl c ↦ absurd (cc) | inr w ↦ absurd (cc) ])
-
 pub infos_none : AreInfos [] [] []
-infos_none = record { all = sym symbols_none; informed = refl; each = λ n x info at found. absurd (cc) }
+unfolding symbols_of
+infos_none = record { all = refl; informed = refl; each = λ n x info at found. absurd (cc) }

@@ -1,7 +1,5 @@
 -- The mandatory hypotheses at their places, by the numbers of their labels.
-use Rattle.std.proofs.Common.{◌≡◌, ℕ, ◌+◌, ◌<◌, true, length, take, get_or, List, [], ◌∷◌, ◌++◌, map, is_some, Option, Some, None, refl, sym, ap, ◌∙◌}
-use Rattle.std.specs.List.{slice_get}
-use Rattle.std.specs.Option.{option_and_then}
+use Rattle.std.proofs.Common.{◌≡◌, ℕ, ◌+◌, ◌<◌, true, length, take, get_or, List, [], ◌∷◌, ◌++◌, map, is_some, Option, Some, None, refl, sym, ap, ◌∙◌, slice_get, option_and_then}
 use Rattle.std.proofs.lemmas.Option.{slice_get-get_or}
 use Rattle.std.proofs.lemmas.List.{take_more, map-append}
 use Rattle.mm_frame.specs.declared.hypothesis.Hypothesis.{Hypothesis}
@@ -12,13 +10,14 @@ use Rattle.mm_frame.specs.declared.tables.LabelInfo.{LabelInfo}
 use Rattle.mm_frame.specs.Sentence.{Sentence, IsHypothesis}
 use Rattle.mm_frame.specs.Form.{AllFormed}
 use Rattle.mm_frame.specs.Numbers.{labelled_sentences}
-use Rattle.mm_frame.specs.FramePlace.{IsTypingOf}
+use Rattle.mm_frame.specs.FramePlace.{IsTypingOf, HasTyping}
 use Rattle.mm_frame.specs.Mirror.Layout.{sentences_by, label_by, AreLabelInfos}
 use Rattle.mm_frame.specs.Mirror.Gathered.{ArePlaces, AreThoseAt}
 use Rattle.mm_text.proofs.Lists.{get_within}
 use Rattle.mm_frame.proofs.Entries.{entry_at}
 use Rattle.mm_frame.proofs.FrameOf.{place_named}
-use Rattle.mm_frame.proofs.Typings.{typings_push, typing_at}
+use Rattle.mm_frame.proofs.NameLists.{each_pushed}
+use Rattle.mm_frame.proofs.Typings.{typing_at}
 
 -- an entry that says a labelled statement has a label
 entry_labelled : (labels : List (List ℕ)) (label : Option LabelId) → is_some (label_by labels label) ≡ true → (id : LabelId) × (label ≡ Some id)
@@ -54,12 +53,5 @@ those_step symbols labels flat log named s places i new hs are formed are_places
     record {
       numbers = map-append (λ (h : Hypothesis). h.id.0) hs (new ∷ []) ∙ ap (λ ns. ns ++ new.id.0 ∷ []) so_far.numbers ∙ ap (λ n. map number (take i places) ++ n ∷ []) same
           ∙ sym (ap (map number) (take_more places i 0 lt) ∙ map-append number (take i places) (p ∷ []));
-      typed = typings_push st hs new so_far.typed (typing_at st s places i p new formed are_places there same says);
+      typed = each_pushed (HasTyping st) hs new so_far.typed (typing_at st s places i p new formed are_places there same says);
     }
-
-pub ids_never : (symbols labels : List (List ℕ)) (flat : List Sym) (log : List Entry) (named : List LabelInfo) (s : Sentence) (places : List ℕ) (i : ℕ)
-    → AreLabelInfos (sentences_by symbols labels flat log) labels named log → AllFormed (sentences_by symbols labels flat log) → ArePlaces (sentences_by symbols labels flat log) s places → i < length places
-    → option_and_then (λ e. e.label) (slice_get log (get_or places i 0)) ≡ None → ⊥
-ids_never symbols labels flat log named s places i are formed are_places lt none =
-    let (other, is, value) = id_at symbols labels flat log named s places i (get_or places i 0) are formed are_places (slice_get-get_or places i 0 lt) in
-    absurd (cc)

@@ -1,7 +1,5 @@
 -- Numbers of labelled statements: their places among the labelled ones, which stay as statements are added.
-use Rattle.std.proofs.Common.{◌≡◌, ℕ, zero, suc, ◌<◌, ◌≤◌, inl, inr, Bool, true, false, cond, length, take, drop, List, [], ◌∷◌, ◌++◌, map, is_some, Some, refl, sym, ap, ◌∙◌, subst, append-nil, arith}
-use Rattle.std.proofs.Common.{not}
-use Rattle.std.specs.List.{slice_get}
+use Rattle.std.proofs.Common.{◌≡◌, ℕ, zero, suc, ◌<◌, ◌≤◌, inl, inr, Bool, true, false, cond, length, take, drop, List, [], ◌∷◌, ◌++◌, is_some, Some, refl, sym, ap, ◌∙◌, subst, append-nil, arith, not, slice_get}
 use Rattle.std.proofs.lemmas.Option.{slice_get_within}
 use Rattle.std.proofs.lemmas.Bool.{cases_order}
 use Rattle.std.proofs.lemmas.List.Elements.{filter-append}
@@ -10,7 +8,6 @@ use Rattle.std.proofs.Math.Seq.{take-append_seam}
 use Rattle.mm_frame.specs.Sentence.{Sentence}
 use Rattle.mm_frame.specs.Numbers.{labelled_sentences, IsNumbered}
 use Rattle.mm_text.proofs.Lists.{get_kept, get_pushed, get_before, get_in_front, get_parted, split_at}
-use Rattle.mm_text.proofs.Lists.{zip_mapped, mapped_zip}
 use Rattle.std.proofs.lemmas.List.Filters.{length-filter_both}
 
 pub labelled_append : (st more : List Sentence) → labelled_sentences (st ++ more) ≡ labelled_sentences st ++ labelled_sentences more
@@ -129,9 +126,3 @@ labelled_few st =
     let both = length-filter_both (λ (s : Sentence). is_some s.label)
     (λ s. not (is_some s.label)) (λ s. refl) st in
     omega arith
-
--- numbers of labelled statements stay theirs
-pub labels_grow : (st more : List Sentence) (numbers : List ℕ) (hs : List Sentence) → map (slice_get (labelled_sentences st)) numbers ≡ map (λ h. Some h) hs → map (slice_get (labelled_sentences (st ++ more))) numbers ≡ map (λ h. Some h) hs
-labels_grow st more numbers hs are =
-    zip_mapped (slice_get (labelled_sentences (st ++ more))) Some numbers hs (mapped_zip
-    (slice_get (labelled_sentences st)) Some _ (labelled_grow st more) numbers hs are)

@@ -1,6 +1,5 @@
 -- What is known of each label, and the active `$e`, as a statement is added.
-use Rattle.std.proofs.Common.{◌≡◌, ℕ, zero, suc, ◌<◌, ◌≤◌, inl, inr, length, take, List, [], ◌∷◌, ◌++◌, map, is_some, Some, None, refl, sym, ap, ◌∙◌, subst, arith}
-use Rattle.std.specs.List.{slice_get}
+use Rattle.std.proofs.Common.{◌≡◌, ℕ, zero, suc, ◌<◌, ◌≤◌, inl, inr, length, take, List, [], ◌∷◌, ◌++◌, map, is_some, Some, None, refl, sym, ap, ◌∙◌, subst, arith, slice_get}
 use Rattle.std.proofs.lemmas.Option.{slice_get_within}
 use Rattle.std.proofs.lemmas.Bool.{cases_lt}
 use Rattle.std.proofs.lemmas.List.{map-append, take-append-le}
@@ -13,12 +12,10 @@ use Rattle.mm_frame.specs.Sentence.{Sentence}
 use Rattle.mm_frame.specs.Active.{IsActive}
 use Rattle.mm_frame.specs.Numbers.{labelled_sentences, IsNumbered}
 use Rattle.mm_frame.specs.Mirror.Layout.{AreLabelInfos, IsEntered, AreEssentials}
-use Rattle.mm_text.proofs.Lists.{get_kept, get_pushed, pushed_cases, get_before, get_within, append_cases}
-use Rattle.mm_text.proofs.Lists.{same_length}
+use Rattle.mm_text.proofs.Lists.{get_kept, get_pushed, pushed_cases, get_before, get_within, append_cases, same_length}
 use Rattle.mm_frame.proofs.ScopeLaws.{length_pushed}
 use Rattle.mm_frame.proofs.Stays.{active_last, active_stays, active_falls, active_nest}
 use Rattle.mm_frame.proofs.Meant.{active_in_front}
-use Rattle.mm_frame.proofs.Needed.{not_closing_essential}
 use Rattle.mm_frame.proofs.Labelled.{labelled_push, labelled_pass, numbered_grow, numbered_last}
 
 -- how many labels there are
@@ -96,9 +93,6 @@ labels_some st labels named log e new l id info are has has_id number placed kin
 
 -- ---- the active `$e`
 
-pub essentials_none : AreEssentials [] []
-essentials_none = record { rising = λ i j p q lt at_i at_j. absurd (cc); only = λ i p there. absurd (cc); each = λ p s there kind active. absurd (cc) }
-
 pub essentials_other : (st : List Sentence) (places : List ℕ) (e : Sentence) → AreEssentials st places → ¬ (e.kind ≡ Essential) → ¬ (e.kind ≡ Closing) → AreEssentials (st ++ e ∷ []) places
 essentials_other st places e are other stays = record {
   rising = are.rising;
@@ -120,7 +114,7 @@ essentials_essential st places e are kind = record {
         omega arith
   ];
   only = λ i p there. elim (pushed_cases places (length st) i p there) [
-    | inl before ↦ let (s, at, is, active) = are.only i p before in (s, get_kept st (e ∷ []) p s at, is, active_stays st e p (not_closing_essential e kind) active)
+    | inl before ↦ let (s, at, is, active) = are.only i p before in (s, get_kept st (e ∷ []) p s at, is, active_stays st e p (λ closes. absurd (cc)) active)
     | inr (last, same) ↦ (e, subst (λ n. slice_get (st ++ e ∷ []) n ≡ Some e) same (get_pushed st e), kind, subst (λ n. IsActive (st ++ e ∷ []) n) same (active_last st e))
   ];
   each = λ p s there is active. elim (pushed_cases st e p s there) [

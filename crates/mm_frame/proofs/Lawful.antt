@@ -2,10 +2,9 @@
 use Rattle.std.proofs.Common.{sym, ◌∙◌}
 use Rattle.mm_text.proofs.Lists.{one_there}
 use Rattle.mm_frame.specs.Numbers.{symbols_of}
-use Rattle.mm_frame.specs.Laws.{OneNumber, OneLabelNumber, OneFrame}
+use Rattle.mm_frame.specs.Laws.{OneNumber, OneLabelNumber}
 use Rattle.mm_frame.proofs.Numbered.{symbols_unique, symbols_grow, number_from_declared, declared_from_number}
 use Rattle.mm_frame.proofs.Labelled.{numbered_at, numbered_get, numbered_from_get, numbered_unique, numbered_grow}
-use Rattle.mm_frame.proofs.Those.{mandatory_unique}
 
 pub one_number_holds : OneNumber
 one_number_holds st more x = (
@@ -23,6 +22,3 @@ one_label_number_holds st more p s = (
   (λ n one. numbered_grow st more n p s one),
   (λ n. ((λ there. numbered_from_get st n s there), (λ (q, is). numbered_get st n q s is))),
 )
-
-pub one_frame_holds : OneFrame
-one_frame_holds before s hypotheses others one other = mandatory_unique before s hypotheses others one other

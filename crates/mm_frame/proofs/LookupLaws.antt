@@ -1,8 +1,6 @@
 -- What is known of a name, in the words of the rules of meaning.
-use Rattle.std.proofs.Common.{◌≡◌, ◌≢◌, ℕ, ◌<◌, ◌⊎◌, inl, inr, ◌↔◌, IsTrue, Bool, true, false, length, take, List, map, Option, Some, None, Contains, is_some, not, refl, sym, ◌∙◌, subst, arith, rules}
-use Rattle.std.specs.List.{slice_get}
-use Rattle.std.specs.Option.{MatchOption}
-use Rattle.mm_text.specs.declared.statement.Kind.TheVariants.{Constants, Variables}
+use Rattle.std.proofs.Common.{◌≡◌, ◌≢◌, ℕ, ◌<◌, ◌⊎◌, inl, inr, ◌↔◌, IsTrue, Bool, true, false, length, take, List, map, Option, Some, None, Contains, is_some, not, refl, sym, ◌∙◌, subst, arith, rules, slice_get, MatchOption}
+use Rattle.mm_text.specs.declared.statement.Kind.TheVariants.{Variables}
 use Rattle.mm_frame.specs.declared.tables.SymbolInfo.{SymbolInfo}
 use Rattle.mm_frame.specs.Sentence.{Sentence, SomeSentence, Declares, Types, IsLabelled}
 use Rattle.mm_frame.specs.Active.{IsActive, SomeActive, IsConstant, IsVariable, IsActiveSymbol, IsTyped}
@@ -59,11 +57,10 @@ active_symbol st x meant = (to, from)
     to (p, s, there, active, inl c) = inl (p, s, there, c)
     to (p, s, there, active, inr v) = inr (p, s, there, active, v)
 
-    from_constant : SomeActive st (Declares Constants x) → IsActiveSymbol st x
-    from_constant (p, s, there, active, c) = (p, s, there, active, inl c)
-
     from : IsConstant st x ⊎ SomeActive st (Declares Variables x) → IsActiveSymbol st x
-    from (inl c) = from_constant (constant_active st x meant c)
+    from (inl c) =
+        let (p, s, there, active, is) = constant_active st x meant c in
+        (p, s, there, active, inl is)
     from (inr (p, s, there, active, v)) = (p, s, there, active, inr v)
 
 -- what isn't declared has no `$f`
@@ -74,25 +71,20 @@ untyped st x meant missing (p, f, there, (code, types)) =
 -- a label is one of the names of the labelled statements
 pub label_number : (st : List Sentence) (labels : List (List ℕ)) (label : List ℕ) → map (λ s. s.label) (labelled_sentences st) ≡ map (λ l. Some l) labels
     → SomeSentence st (IsLabelled label) ↔ Contains labels label
-label_number st labels label all = (to, from)
-  where
-    to : SomeSentence st (IsLabelled label) → Contains labels label
-    to (p, s, there, named) =
-        let some : is_some s.label ≡ true = rw named refl in
-        let numbered = numbered_at st p s there some in
-        let n : ℕ = length (labelled_sentences (take p st)) in
-        let (l, at, same) = get_alike (λ (t : Sentence). t.label) Some (labelled_sentences st) labels
-        n s all (numbered_get st n p s numbered) in
-        let is : l ≡ label = cc in
-        contains_from_at labels label (n, subst (λ (x : List ℕ). slice_get labels n ≡ Some x) is at)
-
-    from : Contains labels label → SomeSentence st (IsLabelled label)
-    from c =
-        let (n, at) = at_from_contains labels label c in
-        let (s, there, same) = get_alike Some (λ (t : Sentence). t.label) labels
-        (labelled_sentences st) n label (sym all) at in
-        let (p, numbered) = numbered_from_get st n s there in
-        (p, s, numbered.there, same)
+label_number st labels label all = (
+  (λ (p, s, there, named).
+      let n : ℕ = length (labelled_sentences (take p st)) in
+      let (l, at, same) = get_alike (λ (t : Sentence). t.label) Some (labelled_sentences st) labels
+      n s all (numbered_get _ _ _ _ (numbered_at st p s there (rw named refl))) in
+      let is : l ≡ label = cc in
+      contains_from_at labels label (n, rw is at (at))),
+  (λ c.
+      let (n, at) = at_from_contains labels label c in
+      let (s, there, same) = get_alike Some (λ (t : Sentence). t.label) labels
+      (labelled_sentences st) n label (sym all) at in
+      let (p, numbered) = numbered_from_get st n s there in
+      (p, s, numbered.there, same)),
+)
 
 -- whether a look-up gave a number says whether the name is one
 pub found_says : (names : List (List ℕ)) (name : List ℕ) (o : Option ℕ) → MatchOption o (¬ (Contains names name)) (λ n. slice_get names n ≡ Some name) → IsTrue (is_some o) ↔ Contains names name
@@ -142,15 +134,13 @@ pub variable_says : (st : List Sentence) (x : List ℕ) (info : SymbolInfo) (p :
     → AllMeant st → IsKnown st x info → info.variable ≡ Some p → (IsTrue r ↔ IsActive st p)
     → IsTrue r ↔ SomeActive st (Declares Variables x)
 variable_says st x info p r meant k is h =
-    let latest : IsLatest (Declares Variables x) st p = rw is at k.known.variable in
-    both_ways h (turned (latest_variable st x p meant latest))
+    both_ways h (turned (latest_variable st x p meant (rw is at k.known.variable)))
 
 pub typed_says : (st : List Sentence) (x : List ℕ) (info : SymbolInfo) (p : ℕ) (r : Bool)
     → AllMeant st → IsKnown st x info → info.floating ≡ Some p → (IsTrue r ↔ IsActive st p)
     → IsTrue r ↔ IsTyped st x
 typed_says st x info p r meant k is h =
-    let latest : IsLatest (GivesType x) st p = rw is at k.known.floating in
-    both_ways h (turned (latest_typed st x p meant latest))
+    both_ways h (turned (latest_typed _ x _ meant (rw is at k.known.floating)))
 
 -- the latest `$f` of a known variable
 pub known_latest : (st : List Sentence) (x : List ℕ) (info : SymbolInfo) (p : ℕ) → IsKnown st x info → info.floating ≡ Some p → IsLatest (GivesType x) st p

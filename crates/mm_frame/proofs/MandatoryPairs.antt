@@ -1,7 +1,5 @@
 -- The mandatory distinct pairs of an assertion, as they are found among its mandatory variables.
-use Rattle.std.proofs.Common.{◌≡◌, ◌↔◌, ℕ, ◌+◌, ◌<◌, inl, inr, Bool, true, false, IsTrue, length, take, get_or, List, [], ◌∷◌, ◌++◌, map, Contains, Option, Some, None, refl, sym, ap, ◌∙◌, subst, arith}
-use Rattle.std.specs.List.{slice_get}
-use Rattle.std.specs.Option.{MatchOption}
+use Rattle.std.proofs.Common.{◌≡◌, ◌↔◌, ℕ, ◌+◌, ◌<◌, inl, inr, Bool, true, false, IsTrue, length, take, get_or, List, [], ◌∷◌, ◌++◌, map, Contains, Option, Some, None, refl, sym, ap, ◌∙◌, subst, arith, slice_get, MatchOption}
 use Rattle.std.proofs.lemmas.Option.{slice_get_within, slice_get-get_or, slice_get_read}
 use Rattle.std.proofs.lemmas.Bool.{cases_order}
 use Rattle.std.proofs.lemmas.List.{take_more, length-take-le}
@@ -11,31 +9,28 @@ use Rattle.mm_frame.specs.declared.number.Sym.{Sym}
 use Rattle.mm_frame.specs.Sentence.{Sentence, Types, IsStated}
 use Rattle.mm_frame.specs.Rules.{IsMeant, AllMeant}
 use Rattle.mm_frame.specs.Frame.{IsMandatory, IsDistinct, IsMandatoryPair}
-use Rattle.mm_frame.specs.FramePlace.{ArePairs, IsSamePair}
-use Rattle.mm_frame.specs.Numbers.{symbols_of, IsNumberOf}
+use Rattle.mm_frame.specs.FramePlace.{ArePairs}
+use Rattle.mm_frame.specs.Numbers.{IsNumberOf}
 use Rattle.mm_frame.specs.Mirror.Gathered.{ArePlaces, IsTypedBy, AreVariables, AreApart, AreFound}
-use Rattle.mm_text.proofs.Lists.{get_kept, get_pushed, get_parted, pushed_cases, get_from_front, get_within, one_there}
-use Rattle.mm_text.proofs.Lists.{at_from_contains, contains_from_at}
+use Rattle.mm_text.proofs.Lists.{get_kept, get_pushed, get_parted, pushed_cases, get_from_front, get_within, one_there, at_from_contains, contains_from_at}
 use Rattle.mm_frame.proofs.Numbered.{symbols_grow}
 use Rattle.mm_frame.proofs.Needed.{latest_from_active, mandatory_typed}
 use Rattle.mm_frame.proofs.Those.{distinct_other}
 use Rattle.mm_frame.proofs.FrameLaws.{at_place}
-use Rattle.mm_frame.proofs.NameLists.{get_mapped, get_unmapped}
+use Rattle.mm_frame.proofs.NameLists.{get_mapped, get_unmapped, each_pushed}
 use Rattle.mm_frame.proofs.Gather.{one_latest}
-use Rattle.mm_frame.specs.Mirror.Layout.{GivesType}
 
 one_name : (st : List Sentence) (n m : ℕ) (x y : List ℕ) → IsNumberOf st x n → IsNumberOf st y m → n ≡ m → x ≡ y
-one_name st n m x y at_n at_m same = let at = subst (λ k. slice_get (symbols_of st) k ≡ Some x) same at_n in cc
+one_name st n m x y at_n at_m same = cc
 
 -- two mandatory places whose `$f` type one variable are one
 one_type : (st : List Sentence) (s : Sentence) (places : List ℕ) (i j p q : ℕ) (f g : Sentence) (c d x : List ℕ) → AllMeant st → ArePlaces st s places → slice_get places i ≡ Some p → slice_get places j ≡ Some q
     → slice_get st p ≡ Some f → slice_get st q ≡ Some g → Types c x f → Types d x g → p ≡ q
 one_type st s places i j p q f g c d x meant are at_i at_j at_p at_q types_f types_g =
-    let mandatory_p = (are.exact p f at_p).1 (contains_from_at places p (i, at_i)) in
-    let mandatory_q = (are.exact q g at_q).1 (contains_from_at places q (j, at_j)) in
-    one_latest (GivesType x) st p q
-    (latest_from_active st x p f meant at_p mandatory_p.0 (c, types_f))
-    (latest_from_active st x q g meant at_q mandatory_q.0 (d, types_g))
+    let mandatory_p = (are.exact _ _ at_p).1 (contains_from_at places p (i, at_i)) in
+    let mandatory_q = (are.exact _ _ at_q).1 (contains_from_at places q (j, at_j)) in
+    one_latest _ _ _ _ (latest_from_active _ x _ _ meant at_p mandatory_p.0 (c, types_f))
+    (latest_from_active _ x _ _ meant at_q mandatory_q.0 (d, types_g))
 
 typed_longer : (st : List Sentence) (places more : List ℕ) (n : Sym) → IsTypedBy st places n → IsTypedBy st (places ++ more) n
 typed_longer st places more n is = record {
@@ -70,20 +65,18 @@ second_of a b c d symbols one other = cc
 variables_more : (st : List Sentence) (places : List ℕ) (p : ℕ) (f : Sentence) (code x : List ℕ) (n : Sym) (variables : List Sym) → slice_get st p ≡ Some f → Types code x f → IsNumberOf st x n.0
     → ((i : ℕ) (m : Sym) → slice_get variables i ≡ Some m → ¬ (m.0 ≡ n.0)) → AreVariables st places variables → AreVariables st (places ++ p ∷ []) (variables ++ n ∷ [])
 variables_more st places p f code x n variables there types number new are = record {
-  only = λ i m at. elim (pushed_cases variables n i m at) [
-    | inl before ↦ typed_longer st places (p ∷ []) m (are.only i m before)
-    | inr (last, same) ↦ subst (IsTypedBy st (places ++ p ∷ [])) same (record {
-      k = length places;
-      place = p;
-      in_places = get_pushed places p;
-      floating = f;
-      there = there;
-      code = code;
-      variable = x;
-      types = types;
-      number = number;
-    })
-  ];
+  only = each_pushed (IsTypedBy st (places ++ p ∷ [])) variables n
+      (λ i m at. typed_longer st places (p ∷ []) m (are.only i m at)) (record {
+        k = length places;
+        place = p;
+        in_places = get_pushed places p;
+        floating = f;
+        there = there;
+        code = code;
+        variable = x;
+        types = types;
+        number = number;
+      });
   each = λ k q g c y at_k at_q types_g. elim (pushed_cases places p k q at_k) [
     | inl before ↦ let (i, m, at, is) = are.each k q g c y before at_q types_g in (i, m, get_kept variables (n ∷ []) i m at, is)
     | inr (last, same) ↦
@@ -185,10 +178,7 @@ found_more st places variables i count a b pairs are at_a at_b lt_i apart_ab fou
   each = λ j k c d at_j at_k lt reached apart. elim reached [
     | inl below ↦ let (m, there) = found.each j k c d at_j at_k lt (inl below) apart in (m, get_kept pairs ((a, b) ∷ []) m (c, d) there)
     | inr (same, below) ↦ elim (cases_order j count) [
-      | inl here ↦
-          let first : a ≡ c = let at = subst (λ n. slice_get variables n ≡ Some c) here at_j in cc in
-          let second : b ≡ d = let at = subst (λ n. slice_get variables n ≡ Some d) same at_k in cc in
-          (length pairs, get_pushed pairs (a, b) ∙ ap (λ (n : Sym). Some (n, b)) first ∙ ap (λ (n : Sym). Some (c, n)) second)
+      | inl here ↦ (length pairs, cc (get_pushed pairs (a, b)))
       | inr (inl less) ↦ let (m, there) = found.each j k c d at_j at_k lt (inr (same, less)) apart in (m, get_kept pairs ((a, b) ∷ []) m (c, d) there)
       | inr (inr more) ↦ absurd (omega arith)
     ]
@@ -268,9 +258,9 @@ pairs_from_found st s more places variables n pairs meant last stated are vars s
           let second : q.1.0 ≡ pair.1 = ap (λ (r : ℕ × ℕ). r.1) same in (
             x,
             y,
-            symbols_grow st (s ∷ more) pair.0 x (subst (IsNumberOf st x) first number_x),
-            symbols_grow st (s ∷ more) pair.1 y (subst (IsNumberOf st y) second number_y),
-            subst (λ ys. IsMandatoryPair ys s x y) (sym front) (distinct, x_is, y_is),
+            symbols_grow st (s ∷ more) pair.0 x (rw first at number_x),
+            symbols_grow st (s ∷ more) pair.1 y (rw second at number_y),
+            rw front (distinct, x_is, y_is),
           );
       each = λ x y mandatory.
           let (distinct, x_is, y_is) = subst (λ ys. IsMandatoryPair ys s x y) front mandatory in
@@ -290,27 +280,24 @@ pairs_from_found st s more places variables n pairs meant last stated are vars s
                   inr (pair_there pairs m (b, a) there)
             ],
           );
-      once = λ i j p q at_i at_j same. one_pair i j p q at_i at_j same;
+      once = λ i j p q at_i at_j same.
+          let (u, at_u, p_is) = get_unmapped named pairs i p at_i in
+          let (v, at_v, q_is) = get_unmapped named pairs j q at_j in
+          elim same [
+            | inl straight ↦
+                let e : ◌≡◌ {A = ℕ × ℕ} (u.0.0, u.1.0) (v.0.0, v.1.0) =
+                p_is ∙ straight ∙ sym q_is in
+                found.once i j u v at_u at_v (ap (λ (r : ℕ × ℕ). r.0) e) (ap (λ (r : ℕ × ℕ). r.1) e)
+            | inr turned ↦
+                let e : ◌≡◌ {A = ℕ × ℕ} (u.0.0, u.1.0) (v.1.0, v.0.0) =
+                p_is ∙ turned ∙ sym (ap (λ (r : ℕ × ℕ). (r.1, r.0)) q_is) in
+                let (j1, k1, at_j1, at_k1, less1, reached1, apart1) = found.only i u at_u in
+                let (j2, k2, at_j2, at_k2, less2, reached2, apart2) = found.only j v at_v in
+                let a = vars.once j1 k2 u.0 v.1 at_j1 at_k2 (ap (λ (r : ℕ × ℕ). r.0) e) in
+                let b = vars.once k1 j2 u.1 v.0 at_k1 at_j2 (ap (λ (r : ℕ × ℕ). r.1) e) in
+                absurd (omega arith)
+          ];
     }
-  where
-    one_pair : (i j : ℕ) (p q : ℕ × ℕ) → slice_get (map (λ (pair : Sym × Sym). (pair.0.0, pair.1.0)) pairs) i ≡ Some p → slice_get (map (λ (pair : Sym × Sym). (pair.0.0, pair.1.0)) pairs) j ≡ Some q → IsSamePair p q → i ≡ j
-    one_pair i j p q at_i at_j same =
-        let named : Sym × Sym → ℕ × ℕ = λ pair. (pair.0.0, pair.1.0) in
-        let (u, at_u, p_is) = get_unmapped named pairs i p at_i in
-        let (v, at_v, q_is) = get_unmapped named pairs j q at_j in
-        elim same [
-          | inl straight ↦
-              let e : ◌≡◌ {A = ℕ × ℕ} (u.0.0, u.1.0) (v.0.0, v.1.0) = p_is ∙ straight ∙ sym q_is in
-              found.once i j u v at_u at_v (ap (λ (r : ℕ × ℕ). r.0) e) (ap (λ (r : ℕ × ℕ). r.1) e)
-          | inr turned ↦
-              let e : ◌≡◌ {A = ℕ × ℕ} (u.0.0, u.1.0) (v.1.0, v.0.0) =
-              p_is ∙ turned ∙ sym (ap (λ (r : ℕ × ℕ). (r.1, r.0)) q_is) in
-              let (j1, k1, at_j1, at_k1, less1, reached1, apart1) = found.only i u at_u in
-              let (j2, k2, at_j2, at_k2, less2, reached2, apart2) = found.only j v at_v in
-              let a = vars.once j1 k2 u.0 v.1 at_j1 at_k2 (ap (λ (r : ℕ × ℕ). r.0) e) in
-              let b = vars.once k1 j2 u.1 v.0 at_k1 at_j2 (ap (λ (r : ℕ × ℕ). r.1) e) in
-              absurd (omega arith)
-        ]
 
 -- ---- the steps of the loops
 

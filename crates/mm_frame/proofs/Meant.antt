@@ -1,8 +1,5 @@
 -- What it gives that no statement breaks a rule after those before it.
-use Rattle.std.proofs.Common.{◌≡◌, ◌≢◌, ◌↔◌, ℕ, suc, ◌<◌, ◌≤◌, inl, inr, length, take, drop, List, [], ◌∷◌, ◌++◌, Some, sym, ap, ◌∙◌, subst, append_assoc, arith}
-use Rattle.std.specs.List.{slice_get}
-use Rattle.std.specs.Bool.{Decides}
-use Rattle.std.specs.Str.{bytes_eq}
+use Rattle.std.proofs.Common.{◌≡◌, ◌≢◌, ◌↔◌, ℕ, suc, ◌<◌, ◌≤◌, inl, inr, length, take, drop, List, [], ◌∷◌, ◌++◌, Some, sym, ap, ◌∙◌, subst, append_assoc, arith, slice_get, Decides, bytes_eq}
 use Rattle.std.proofs.lemmas.Option.{slice_get_within}
 use Rattle.std.proofs.lemmas.Bool.{cases_order, cases_Bool}
 use Rattle.std.proofs.lemmas.Slice.Eq.{bytes_eq-Decides}
@@ -13,7 +10,7 @@ use Rattle.mm_frame.specs.declared.rule.MeaningRule.TheVariants.{M1, M2, M3, M5,
 use Rattle.mm_frame.specs.Sentence.{Sentence, SomeSentence, Declares, IsLabelled, Types}
 use Rattle.mm_frame.specs.Active.{IsActive, SomeActive, IsConstant, IsVariable, IsTyped}
 use Rattle.mm_frame.specs.Rules.{IsMeant, AllMeant}
-use Rattle.mm_frame.specs.Form.{IsFormedSentence, AllFormed}
+use Rattle.mm_frame.specs.Form.{AllFormed}
 use Rattle.mm_frame.specs.Mirror.Latest.{IsLatest}
 use Rattle.mm_text.proofs.Lists.{pushed_cases, get_from_front, get_in_front, get_parted, split_at}
 use Rattle.mm_frame.proofs.Actives.{unclosed_shorter}
@@ -30,9 +27,6 @@ meant_from_places st each before after s parts =
     let front : take (length before) st ≡ before = ap (take (length before)) parts ∙ take-append_seam before (s ∷ after) in
     subst (λ ys. IsMeant ys s) front (each (length before) s at)
 
-pub allmeant_none : AllMeant []
-allmeant_none = meant_from_places [] (λ p s there. absurd (cc))
-
 pub allmeant_push : (st : List Sentence) (e : Sentence) → AllMeant st → IsMeant st e → AllMeant (st ++ e ∷ [])
 allmeant_push st e meant last = meant_from_places (st ++ e ∷ []) (λ p s there. elim (pushed_cases st e p s there) [
   | inl before ↦
@@ -46,15 +40,6 @@ allmeant_push st e meant last = meant_from_places (st ++ e ∷ []) (λ p s there
 pub allmeant_front : (st : List Sentence) (n : ℕ) → AllMeant st → AllMeant (take n st)
 allmeant_front st n meant before after s parts =
     meant before (after ++ drop n st) s (sym (take-append-drop n st) ∙ ap (λ ys. ys ++ drop n st) parts ∙ rw append_assoc)
-
-pub allformed_none : AllFormed []
-allformed_none p s there = absurd (cc)
-
-pub allformed_push : (st : List Sentence) (e : Sentence) → AllFormed st → IsFormedSentence e → AllFormed (st ++ e ∷ [])
-allformed_push st e formed last p s there = elim (pushed_cases st e p s there) [
-  | inl before ↦ formed p s before
-  | inr (at_end, same) ↦ subst IsFormedSentence same last
-]
 
 pub allformed_front : (st : List Sentence) (n : ℕ) → AllFormed st → AllFormed (take n st)
 allformed_front st n formed p s there = formed p s (get_from_front st n p s there)
@@ -122,12 +107,11 @@ constant_active st x meant (p, s, there, declares) = (
   s,
   there,
   record {
-    within = slice_get_within st p s there;
-    kept = λ outer (before, still). absurd (meant_at st p s meant there M1 (
+    within = slice_get_within _ _ _ there;
+    kept = λ outer (before, still). absurd (meant_at _ _ _ meant there M1 (
       declares.0,
       outer,
-      let there = get_from_front st (suc p) outer still.opening still.there in
-          open_in still (get_in_front st p outer still.opening before there)
+      open_in still (get_in_front _ p _ _ before (get_from_front st (suc p) _ _ still.there))
           (unclosed_shorter st p (suc p) (suc outer) (omega arith) still.unclosed),
     ));
   },

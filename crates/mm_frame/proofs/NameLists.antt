@@ -1,15 +1,12 @@
 -- Names in lists of keys, by their bytes.
-use Rattle.std.proofs.Common.{◌≡◌, ℕ, zero, suc, ◌<◌, inl, inr, List, [], ◌∷◌, ◌++◌, map, length, Option, Some, None, Contains, refl, sym, ap, ◌∙◌, subst, arith}
+use Rattle.std.proofs.Common.{◌≡◌, ℕ, zero, suc, ◌<◌, inl, inr, List, [], ◌∷◌, ◌++◌, map, length, Option, Some, None, Contains, refl, sym, ap, ◌∙◌, subst, arith, MatchOption, Result, Ok, Err, IsOk, IfOk, bytes_eq, ◌++◌, [], ◌∷◌}
 use Rattle.std.specs.List.{slice_get, position, position_or_len}
-use Rattle.std.specs.Option.{MatchOption}
-use Rattle.std.proofs.Common.{Result, Ok, Err, IsOk}
-use Rattle.std.specs.Result.{IfOk}
-use Rattle.std.specs.Str.{bytes_eq}
 use Rattle.std.proofs.lemmas.Slice.Eq.{bytes_eq-Decides}
 use Rattle.std.proofs.lemmas.Option.{slice_get_within, slice_get-get_or}
 use Rattle.std.proofs.lemmas.Bool.{cases_lt, false≢true, lt-ltb}
 use Rattle.mm_frame.specs.declared.number.Sym.{Sym}
 use Rattle.std.proofs.lemmas.List.Quantifiers.{position-Some}
+use Rattle.mm_text.proofs.Lists.{pushed_cases}
 use Rattle.std.proofs.lemmas.List.Sums.{fails_before_first}
 
 pub map_snoc : {X Y : Type 0} (f : X → Y) (xs : List X) (x : X) → map f (xs ++ x ∷ []) ≡ map f xs ++ f x ∷ []
@@ -78,3 +75,12 @@ pub numbers_within : (names : List (List ℕ)) (members : List Sym) (symbols : L
 numbers_within names members symbols are i n there =
     let (x, in_it, at) = member_name names members symbols i n are there in
     slice_get_within names n.0 x at
+
+-- what holds of each element, and of the one that is added
+pub each_pushed : {X : Type 0} (P : X → Type 0) (xs : List X) (y : X)
+    → ((i : ℕ) (x : X) → slice_get xs i ≡ Some x → P x) → P y
+    → (i : ℕ) (x : X) → slice_get (xs ++ y ∷ []) i ≡ Some x → P x
+each_pushed P xs y each last i x there = elim (pushed_cases xs y i x there) [
+  | inl before ↦ each i x before
+  | inr (at_end, same) ↦ subst P same last
+]

@@ -1,8 +1,5 @@
 -- A book's lists once a label and its statement are written.
-use Rattle.std.proofs.Common.{◌≡◌, ℕ, ◌+◌, ◌<◌, ◌≤◌, inl, inr, length, set, List, [], ◌∷◌, ◌++◌, map, Some, refl, sym, ap, ◌∙◌, subst, length-append, arith}
-use Rattle.std.specs.List.{slice_get, fold}
-use Rattle.std.proofs.lemmas.Option.{slice_get_within}
-use Rattle.std.proofs.lemmas.List.{append-nil}
+use Rattle.std.proofs.Common.{◌≡◌, ℕ, ◌+◌, ◌<◌, ◌≤◌, inl, inr, length, set, List, [], ◌∷◌, ◌++◌, map, Some, refl, sym, ap, ◌∙◌, subst, length-append, arith, slice_get, fold, append-nil}
 use Rattle.mm_text.specs.declared.statement.Kind.{Kind}
 use Rattle.mm_text.specs.declared.statement.Kind.TheVariants.{Floating, Essential, Distinct, Closing}
 use Rattle.mm_text.specs.Files.{most_bytes}
@@ -32,7 +29,7 @@ use Rattle.mm_frame.specs.Mirror.Gathered.{ArePlaces, AreThoseAt}
 use Rattle.mm_frame.specs.Pieces.{variables_of, HavePlaces}
 use Rattle.mm_frame.specs.Mirror.Patterned.{ArePatterned}
 use Rattle.mm_frame.proofs.FrameOf.{hypotheses_from_places}
-use Rattle.mm_text.proofs.Lists.{get_pushed, get_within, contains_from_at}
+use Rattle.mm_text.proofs.Lists.{get_pushed, contains_from_at, get_within}
 use Rattle.mm_frame.proofs.LookupLaws.{label_number}
 use Rattle.mm_frame.proofs.Numbered.{with_name_cases, symbols_push}
 use Rattle.mm_frame.proofs.Labelled.{labelled_few}
@@ -40,11 +37,12 @@ use Rattle.mm_frame.proofs.Labels.{labels_counted, labels_some, essentials_essen
 use Rattle.mm_frame.proofs.Infos.{infos_other, infos_floating}
 use Rattle.mm_frame.proofs.Entries.{length-sentences, longer}
 use Rattle.mm_frame.proofs.FrameLaws.{at_place, stated_other, placed, frames_hypothesis, frames_assertion}
-use Rattle.mm_frame.proofs.Typings.{typings_grow, typings_join, typings_none}
-use Rattle.mm_frame.proofs.Patterns.{its_pieces_grow, patterns_more}
+use Rattle.mm_frame.proofs.Typings.{typings_grow, typings_join}
+use Rattle.mm_frame.proofs.Patterns.{its_pieces_grow, pattern_grow}
 use Rattle.mm_frame.proofs.Patterned.{ids_same}
 use Rattle.mm_frame.proofs.Written.{added_part, names_numbered, same_sentence}
 use Rattle.mm_frame.proofs.Assembled.{AreAppended, AreGrown, assembled}
+use Rattle.std.proofs.lemmas.Option.{slice_get_within}
 use Rattle.mm_frame.proofs.NameLists.{numbers_within}
 
 -- there are fewer labels than numbers for them
@@ -99,14 +97,11 @@ pub record IsWritten (t : Tables) (s : Sentence) (kind : Kind) (l : List ℕ) (n
   pub meant : IsMeant (statements_of t) s
   pub formed : IsFormedSentence s
 
-by_names : (t : Tables) (numbers : List Sym) (xs : List (List ℕ)) → AreTables t → AreNumbers (statements_of t) (map (λ n. n.0) numbers) xs → map (slice_get t.symbols.names) (map (λ n. n.0) numbers) ≡ map (λ x. Some x) xs
-by_names t numbers xs are numbered = subst (λ (names : List (List ℕ)). map (slice_get names) (map (λ n. n.0) numbers) ≡ map (λ x. Some x) xs) (sym are.infos.all) numbered
-
 appended : (t u v : Tables) (s : Sentence) (kind : Kind) (l : List ℕ) (numbers : List Sym) (frame : FrameParts) (id : LabelId) (a : List Hypothesis) (b : List DistinctPair) (c : List Piece) (bytes : ℕ)
     → AreTables t → Before t u a b c → Named u v kind l numbers frame id bytes → id.0 ≡ length u.labels.names → IsWritten t s kind l numbers
     → AreAppended t v [] (l ∷ []) numbers (entry_of kind (Some id) (length t.flat.items) (length (t.flat.items ++ numbers))) s
 appended t u v s kind l numbers frame id a b c bytes are before named number is =
-    let names = by_names t numbers s.symbols are is.numbered in
+    let names = rw (← are.infos.all) at is.numbered in
     let more : t.symbols.names ++ [] ≡ t.symbols.names = append-nil t.symbols.names in
     let number' : id.0 ≡ length t.labels.names = number ∙ ap length before.labels in
     let new = label_new (statements_of t) t.labels.names t.named.items t.log.items s l are.labels is.meant is.label in
@@ -141,7 +136,7 @@ grown t u v s kind l numbers frame id a b c bytes are before named number is non
     let new = entry_of kind (Some id) (length t.flat.items) (length (t.flat.items ++ numbers)) in
     let app = appended t u v s kind l numbers frame id a b c bytes are before named number is in
     let size = length-sentences t.symbols.names t.labels.names t.flat.items t.log.items in
-    let labels = labels_some st t.labels.names t.named.items t.log.items s new l id (label_info (length t.log.items) new frame) are.labels
+    let labels = labels_some _ _ _ _ s new l id (label_info (length t.log.items) new frame) are.labels
     is.label refl (number ∙ ap length before.labels) (sym size) refl refl (sym size) in
     let held : HaveScopes st u.scopes = rw (before.scopes.blocks, before.scopes.ends, before.scopes.open_blocks) are.scopes in
     let old = entry_of kind (Some id) (length u.flat.items) (length (u.flat.items ++ numbers)) in
@@ -149,11 +144,10 @@ grown t u v s kind l numbers frame id a b c bytes are before named number is non
     named.named ∙ ap (λ (ys : List LabelInfo). ys ++ label_info (length u.log.items) old frame ∷ []) before.named
     ∙ ap (λ (ys : List Entry). t.named.items ++ label_info (length ys) old frame ∷ []) before.log
     ∙ ap (λ (fs : List Sym). t.named.items ++ label_info (length t.log.items) (entry_of kind (Some id) (length fs) (length (fs ++ numbers))) frame ∷ []) before.flat in
-    let same : v.symbols.names ≡ t.symbols.names = named.symbols ∙ before.symbols in
-    let kept = stated_other st s t.symbols.names [] t.distinct.stated are.sound.0 are.infos.all (same_symbols t s are none) are.stated
+    let kept = stated_other _ s _ [] _ are.sound.0 are.infos.all (same_symbols _ s are none) are.stated
     (λ distinct. together (sym is.kinds ∙ distinct)) in
     record {
-      infos = rw (same, named.infos) infos;
+      infos = rw (named.symbols ∙ before.symbols, named.infos) infos;
       labels = rw (app.labels, names, app.log) labels;
       scopes = named.scopes st s held is.kinds (λ closes. absurd (unclosed closes));
       essentials = rw named.essentials essentials;
@@ -196,11 +190,10 @@ supposed t u v s l numbers frame id bytes are before infos essentials named numb
     let st = statements_of t in
     let none : declared_by s ≡ [] = ap (λ k. declared_in k s.symbols) is.kinds in
     let size = length-sentences t.symbols.names t.labels.names t.flat.items t.log.items in
-    let known = infos_other st t.symbols.names t.infos.items s are.infos none (λ floats. let e = is.kinds in absurd (cc)) in
-    let active : AreEssentials (st ++ s ∷ []) (t.essentials.items ++ length t.log.items ∷ []) =
-    subst (λ n. AreEssentials (st ++ s ∷ []) (t.essentials.items ++ n ∷ [])) size (essentials_essential st t.essentials.items s are.essentials is.kinds) in
-    named_grows t u v s Essential l numbers frame id [] [] [] bytes are before named number is none (λ e. absurd (cc)) (λ e. absurd (cc))
-    (rw infos known) (rw essentials active) (hypothesis_frames t s (entry_of Essential (Some id) (length t.flat.items) (length (t.flat.items ++ numbers))) frame are (no_assertion s (inr is.kinds))) (typings_none st) enough room
+    let known = infos_other _ _ _ s are.infos none (λ floats. let e = is.kinds in absurd (cc)) in
+    let active = rw size at (essentials_essential _ _ s are.essentials is.kinds) in
+    named_grows _ _ _ _ _ _ _ _ _ _ _ _ _ are before named number is none (λ e. absurd (cc)) (λ e. absurd (cc))
+    (rw infos known) (rw essentials active) (hypothesis_frames _ s (entry_of Essential (Some id) (length t.flat.items) (length (t.flat.items ++ numbers))) frame are (no_assertion s (inr is.kinds))) (λ i h at. absurd (cc)) enough room
 
 -- a `$f`
 pub typed : (t u v : Tables) (s : Sentence) (code x : List ℕ) (n : Sym) (info : SymbolInfo) (l : List ℕ) (numbers : List Sym) (frame : FrameParts) (id : LabelId) (bytes : ℕ)
@@ -213,11 +206,10 @@ typed t u v s code x n info l numbers frame id bytes are before says at there in
     let none : declared_by s ≡ [] = ap (λ k. declared_in k s.symbols) is.kinds in
     let size = length-sentences t.symbols.names t.labels.names t.flat.items t.log.items in
     let known : AreInfos (st ++ s ∷ []) t.symbols.names (set t.infos.items n.0 (record info { floating = Some (length t.log.items) })) =
-    subst (λ k. AreInfos (st ++ s ∷ []) t.symbols.names (set t.infos.items n.0 (record info { floating = Some k }))) size
-    (infos_floating st t.symbols.names t.infos.items s code x n.0 info are.infos is.kinds says at there) in
-    let active = essentials_other st t.essentials.items s are.essentials (λ e. let k = is.kinds in absurd (cc)) (λ e. let k = is.kinds in absurd (cc)) in
-    named_grows t u v s Floating l numbers frame id [] [] [] bytes are before named number is none (λ e. absurd (cc)) (λ e. absurd (cc))
-    (rw infos known) (rw essentials active) (hypothesis_frames t s (entry_of Floating (Some id) (length t.flat.items) (length (t.flat.items ++ numbers))) frame are (no_assertion s (inl is.kinds))) (typings_none st) enough room
+    rw size at (infos_floating _ _ _ s code x n.0 info are.infos is.kinds says at there) in
+    let active = essentials_other _ _ s are.essentials (λ e. let k = is.kinds in absurd (cc)) (λ e. let k = is.kinds in absurd (cc)) in
+    named_grows _ _ _ _ _ _ _ _ _ _ _ _ _ are before named number is none (λ e. absurd (cc)) (λ e. absurd (cc))
+    (rw infos known) (rw essentials active) (hypothesis_frames _ s (entry_of Floating (Some id) (length t.flat.items) (length (t.flat.items ++ numbers))) frame are (no_assertion s (inl is.kinds))) (λ i h at. absurd (cc)) enough room
 
 -- a `$a` or `$p`
 pub asserted : (t u v : Tables) (s : Sentence) (kind : Kind) (l : List ℕ) (numbers : List Sym) (frame : FrameParts) (id : LabelId) (a : List Hypothesis) (b : List DistinctPair) (c : List Piece) (bytes : ℕ)
@@ -233,12 +225,11 @@ asserted t u v s kind l numbers frame id a b c bytes are which before infos esse
     let apart : ¬ (kind ≡ Distinct) = λ e. elim which [ inl f ↦ absurd (cc) | inr f ↦ absurd (cc) ] in
     let typeless : ¬ (s.kind ≡ Floating) = λ e. let k = is.kinds in elim which [ inl f ↦ absurd (cc) | inr f ↦ absurd (cc) ] in
     let unsupposed : ¬ (s.kind ≡ Essential) = λ e. let k = is.kinds in elim which [ inl f ↦ absurd (cc) | inr f ↦ absurd (cc) ] in
-    let known = infos_other st t.symbols.names t.infos.items s are.infos none typeless in
-    let active = essentials_other st t.essentials.items s are.essentials unsupposed (λ e. unclosed (sym is.kinds ∙ e)) in
-    named_grows t u v s kind l numbers frame id a b c bytes are before named number is none unclosed apart
-    (rw infos known) (rw essentials active)
-    (frames_assertion st s t.hypotheses.items a t.pairs.items b t.pieces.items c t.named.items (label_info (length t.log.items) (entry_of kind (Some id) (length t.flat.items) (length (t.flat.items ++ numbers))) frame)
-    (placed st t.labels.names t.named.items t.log.items are.labels) are.frames framed) typings enough room
+    let active = essentials_other _ _ s are.essentials unsupposed (λ e. unclosed (sym is.kinds ∙ e)) in
+    named_grows _ _ _ _ _ _ _ _ _ _ _ _ _ are before named number is none unclosed apart
+    (rw infos (infos_other _ _ _ s are.infos none typeless)) (rw essentials active)
+    (frames_assertion st s t.hypotheses.items a t.pairs.items b t.pieces.items c t.named.items _
+    (placed _ _ _ _ are.labels) are.frames framed) typings enough room
 
 -- what is known of a symbol that has a number
 pub known_info : (t : Tables) (n : Sym) (x : List ℕ) → AreTables t → slice_get t.symbols.names n.0 ≡ Some x → (info : SymbolInfo) × (slice_get t.infos.items n.0 ≡ Some info)
@@ -280,7 +271,7 @@ framed t s e places numbers old a b c conclusion are at those pairs placed numbe
         rw (← size) (get_pushed st s),
         rw all_h (its_pieces_grow st (s ∷ []) _ s _ (numbers, numbered, concluded.says)),
       );
-      patterned = rw all_h (patterns_more st (s ∷ []) _ _ a patterned.patterned);
+      patterned = rw all_h (λ i h at. pattern_grow st (s ∷ []) _ _ h (patterned.patterned i h at));
     }
 
 -- what an assertion is taken as

@@ -1,9 +1,7 @@
 -- Which hypotheses an assertion needs that breaks no rule of meaning: the active `$e`, and the latest `$f` of each mandatory
 -- variable.
-use Rattle.std.proofs.Common.{◌≡◌, ◌↔◌, ℕ, suc, ◌⊎◌, inl, inr, length, take, List, [], ◌∷◌, Contains, Some, refl, sym, subst, arith}
-use Rattle.std.specs.List.{slice_get}
+use Rattle.std.proofs.Common.{◌≡◌, ◌↔◌, ℕ, suc, ◌⊎◌, inl, inr, length, take, List, [], Contains, Some, refl, subst, arith, slice_get, length-take-le}
 use Rattle.std.proofs.lemmas.Option.{slice_get_within}
-use Rattle.std.proofs.lemmas.List.{length-take-le}
 use Rattle.std.proofs.Math.Seq.{take-length}
 use Rattle.mm_text.specs.declared.statement.Kind.TheVariants.{Constants, Variables, Essential, Closing}
 use Rattle.mm_frame.specs.declared.rule.MeaningRule.TheVariants.{M7, M11, M12, M15}
@@ -30,13 +28,10 @@ pub used_declared : (before : List Sentence) (s : Sentence) (x : List ℕ) → I
 used_declared before s x meant in_use in_it =
     unless_not (dec_or (constant_dec before x) (variable_dec before x)) (λ none. meant M7 (in_use, (x, in_it, λ active. none (declared_by_active before x active))))
 
-second_of_two : (symbols : List (List ℕ)) (code x : List ℕ) → symbols ≡ code ∷ x ∷ [] → Contains symbols x
-second_of_two symbols code x e = subst (λ l. Contains l x) (sym e) (1, omega arith, refl)
-
 -- what a `$f` types is a variable (by M7 and M11), and its type code a constant (by M7 and M10)
 pub typed_variable : (before : List Sentence) (f : Sentence) (code x : List ℕ) → IsMeant before f → Types code x f → IsVariable before x
 typed_variable before f code x meant types =
-    elim (used_declared before f x meant (inr (inl types.0)) (second_of_two f.symbols code x types.1)) [
+    elim (used_declared before f x meant (inr (inl types.0)) (rw types.1 (1, omega arith, refl))) [
       | inl constant ↦ absurd (meant M11 (code, x, types, constant))
       | inr variable ↦ variable
     ]
@@ -55,14 +50,10 @@ stated_typed before s x meant stated in_it variable =
 -- what was active where an active statement stands, no `$}`, is active
 pub active_after : (st : List Sentence) (k p : ℕ) (e : Sentence) → slice_get st p ≡ Some e → ¬ (e.kind ≡ Closing) → IsActive (take p st) k → IsActive st p → IsActive st k
 active_after st k p e there other at active =
-    let lt = active.within in
     let size = length-take-le p st (omega arith) in
-    let next : IsActive (take (suc p) st) k = subst (λ ys. IsActive ys k) (sym (take_next st p e there)) (active_stays (take p st) e k other at) in
+    let next : IsActive (take (suc p) st) k = rw (take_next _ _ _ there) (active_stays (take p st) e k other at) in
     let all : take (length st) st ≡ st = take-length st in
-    subst (λ ys. IsActive ys k) all (active_nest st k p (length st) (omega arith) lt next (subst (λ ys. IsActive ys p) (sym all) active))
-
-pub not_closing_essential : (e : Sentence) → e.kind ≡ Essential → ¬ (e.kind ≡ Closing)
-not_closing_essential e kind closes = absurd (cc)
+    rw all at (active_nest st _ p (length st) (omega arith) active.within next (rw all active))
 
 -- a variable of a statement is a variable before it (by M7)
 used_before : (st : List Sentence) (p : ℕ) (e : Sentence) (x : List ℕ) → AllMeant st → slice_get st p ≡ Some e → IsUse e.kind → Contains e.symbols x → IsVariable st x → IsVariable (take p st) x
@@ -76,7 +67,7 @@ essential_typed : (st : List Sentence) (x : List ℕ) (p : ℕ) (e : Sentence) �
 essential_typed st x p e meant variable there kind active in_it =
     let before = used_before st p e x meant there (inr (inr (inl kind))) in_it variable in
     let (k, f, at, active_f, types) = stated_typed (take p st) e x (meant_at st p e meant there) (inl kind) in_it before in
-    (k, f, get_from_front st p k f at, active_after st k p e there (not_closing_essential e kind) active_f active, types)
+    (k, f, get_from_front st p k f at, active_after st k p e there (λ closes. absurd (cc)) active_f active, types)
 
 -- a mandatory variable has an active `$f`
 pub mandatory_typed : (st : List Sentence) (s : Sentence) (x : List ℕ) → AllMeant st → IsMeant st s → IsStated s.kind → IsMandatory st s x → IsTyped st x

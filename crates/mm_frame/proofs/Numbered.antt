@@ -1,9 +1,6 @@
 -- Numbers of symbols: each name stands once among the declared symbols, and keeps its place as statements are added.
-use Rattle.std.proofs.Common.{◌≡◌, ℕ, zero, suc, ◌⊎◌, inl, inr, true, length, List, [], ◌∷◌, ◌++◌, map, Some, refl, sym, ap, ◌∙◌, subst, append-nil}
-use Rattle.std.proofs.Common.{◌+◌, get_or}
-use Rattle.std.specs.Prelude.{if◌then◌else◌}
+use Rattle.std.proofs.Common.{◌≡◌, ℕ, zero, suc, ◌⊎◌, inl, inr, true, length, List, [], ◌∷◌, ◌++◌, map, Some, refl, sym, ap, ◌∙◌, subst, append-nil, ◌+◌, get_or, if◌then◌else◌, bytes_eq}
 use Rattle.std.specs.List.{slice_get, fold, flat_map, list_any}
-use Rattle.std.specs.Str.{bytes_eq}
 use Rattle.std.proofs.lemmas.Bool.{cases_Bool}
 use Rattle.std.proofs.lemmas.Slice.Eq.{bytes_eq-Decides}
 use Rattle.std.proofs.lemmas.List.Concat.{flat_map-append}
@@ -12,9 +9,9 @@ use Rattle.mm_text.specs.declared.statement.Kind.{Kind}
 use Rattle.mm_text.specs.declared.statement.Kind.TheVariants.{Constants, Variables}
 use Rattle.mm_frame.specs.Sentence.{Sentence, SomeSentence, Declares}
 use Rattle.mm_frame.specs.Active.{IsConstant, IsVariable}
-use Rattle.mm_frame.specs.Numbers.{declared_in, declared_by, with_name, symbols_of, AreNumbers}
+use Rattle.mm_frame.specs.Numbers.{declared_in, declared_by, with_name, symbols_of}
 use Rattle.mm_text.proofs.Lists.{get_kept, get_pushed, pushed_cases, append_cases, get_after}
-use Rattle.mm_text.proofs.Lists.{at_from_contains, contains_from_at, zip_mapped, mapped_zip}
+use Rattle.mm_text.proofs.Lists.{at_from_contains, contains_from_at}
 use Rattle.std.proofs.lemmas.List.Folds.{Any-from_list_any, list_any_at}
 use Rattle.std.proofs.lemmas.Option.{slice_get_within, get_or_from_slice_get}
 
@@ -114,10 +111,6 @@ pub symbols_append : (st more : List Sentence) → symbols_of (st ++ more) ≡ f
 unfolding symbols_of
 symbols_append st more = ap (fold with_name []) (flat_map-append declared_by st more) ∙ fold-append with_name [] (flat_map declared_by st) (flat_map declared_by more)
 
-pub symbols_none : symbols_of [] ≡ []
-unfolding symbols_of
-symbols_none = refl
-
 pub symbols_push : (st : List Sentence) (e : Sentence) → symbols_of (st ++ e ∷ []) ≡ fold with_name (symbols_of st) (declared_by e)
 symbols_push st e = symbols_append st (e ∷ []) ∙ ap (fold with_name (symbols_of st)) (append-nil (declared_by e))
 
@@ -133,9 +126,6 @@ in_declared : (kind : Kind) (symbols : List (List ℕ)) (x : List ℕ) → At (d
 in_declared Constants symbols x at = (inl refl, at)
 in_declared Variables symbols x at = (inr refl, at)
 in_declared kind symbols x (i, there) = absurd (cc)
-
-append_right : {X : Type 0} (xs ys : List X) (x : X) → At ys x → At (xs ++ ys) x
-append_right xs ys x (i, there) = (length xs + i, get_after xs ys i x there)
 
 -- one statement more to the left
 further : (s : Sentence) (st : List Sentence) (P : Sentence → Type 0) → SomeSentence st P → SomeSentence (s ∷ st) P
@@ -162,7 +152,9 @@ declared_at [] x p s there at = absurd (cc)
 declared_at (t ∷ st) x zero s there (i, at) =
     let same : t ≡ s = cc in
     (i, get_kept (declared_by t) (flat_map declared_by st) i x (subst (λ u. slice_get (declared_by u) i ≡ Some x) (sym same) at))
-declared_at (t ∷ st) x (suc p) s there at = append_right (declared_by t) (flat_map declared_by st) x (declared_at st x p s there at)
+declared_at (t ∷ st) x (suc p) s there at =
+    let (i, put) = declared_at st x p s there at in
+    (length (declared_by t) + i, get_after (declared_by t) (flat_map declared_by st) i x put)
 
 -- the numbers are those of the declared symbols
 pub number_from_declared : (st : List Sentence) (x : List ℕ) → IsConstant st x ⊎ IsVariable st x → At (symbols_of st) x
@@ -183,18 +175,11 @@ declared_from_number st x i there = elim (from_fold [] (flat_map declared_by st)
   | inr (j, at) ↦ declared_from st x j at
 ]
 
--- numbers of symbols stay theirs
-pub numbers_grow : (st more : List Sentence) (numbers : List ℕ) (symbols : List (List ℕ)) → AreNumbers st numbers symbols → AreNumbers (st ++ more) numbers symbols
-numbers_grow st more numbers symbols are =
-    zip_mapped (slice_get (symbols_of (st ++ more))) Some numbers symbols (mapped_zip
-    (slice_get (symbols_of st)) Some _ (symbols_grow st more) numbers symbols are)
-
 -- the same numbers are those of the same symbols, and the same symbols have the same numbers
 pub same_somes : {X : Type 0} (xs ys : List X) → map (λ x. Some x) xs ≡ map (λ x. Some x) ys
     → xs ≡ ys
 same_somes [] [] e = refl
 same_somes (x ∷ xs) (y ∷ ys) e =
-    let rest : map (λ x. Some x) xs ≡ map (λ x. Some x) ys = cc in
-    let more = same_somes xs ys rest in
+    let more = same_somes xs ys cc in
     cc
 same_somes xs ys e = absurd cc

@@ -1,6 +1,5 @@
 -- What one statement more opens and closes, by the innermost open block.
-use Rattle.std.proofs.Common.{◌≡◌, ◌↔◌, ℕ, zero, suc, ◌+◌, ◌-◌, ◌<◌, ◌≤◌, ◌⊎◌, inl, inr, true, false, length, take, drop, List, [], ◌∷◌, ◌++◌, Some, sym, ap, ◌∙◌, subst, arith}
-use Rattle.std.specs.List.{slice_get}
+use Rattle.std.proofs.Common.{◌≡◌, ◌↔◌, ℕ, zero, suc, ◌+◌, ◌-◌, ◌<◌, ◌≤◌, ◌⊎◌, inl, inr, true, false, length, take, drop, List, [], ◌∷◌, ◌++◌, Some, sym, ap, ◌∙◌, subst, arith, slice_get}
 use Rattle.std.proofs.lemmas.Bool.{cases_lt}
 use Rattle.std.proofs.lemmas.Option.{slice_get_within}
 use Rattle.std.proofs.lemmas.List.{drop-append-le, drop-drop}
@@ -8,20 +7,14 @@ use Rattle.mm_text.specs.declared.statement.Kind.TheVariants.{Opening, Closing}
 use Rattle.mm_frame.specs.Sentence.{Sentence}
 use Rattle.mm_frame.specs.Active.{open_marks, close_marks, IsOpen, Holds, IsActive}
 use Rattle.mm_text.specs.Blocks.{is_closing, is_opening}
-use Rattle.mm_frame.specs.Mirror.Scopes.{IsUnclosed}
-use Rattle.mm_frame.specs.Laws.{IsInnermostOpen, OpenBlocks, ActiveStatements}
+use Rattle.mm_frame.specs.Laws.{IsInnermostOpen, ActiveStatements}
 use Rattle.mm_text.proofs.Lists.{get_kept, get_pushed, get_in_front, get_dropped, split_at}
-use Rattle.mm_frame.proofs.Counts.{openings-append, closings-append, unclosed_pushed, unclosed_all, unclosed_new, unclosed_front}
-use Rattle.mm_frame.proofs.Counts.{open_in}
+use Rattle.mm_frame.proofs.Counts.{openings-append, closings-append, unclosed_pushed, unclosed_all, unclosed_new, unclosed_front, open_in}
 use Rattle.mm_frame.proofs.ScopeLaws.{openings_one, closings_one, length_pushed, open_before}
 use Rattle.mm_frame.proofs.ScopeLaws.{opened_last}
 use Rattle.mm_frame.proofs.Stays.{open_stays, active_last, active_stays, active_falls, holds_less}
 use Rattle.mm_frame.proofs.Stays.{holds_more}
 use Rattle.mm_frame.proofs.Surplus.{some_open}
-
--- what is open comes before the end
-open_within : (st : List Sentence) (p : ℕ) → IsOpen st p → p < length st
-open_within st p still = slice_get_within st p still.opening still.there
 
 -- the statement more is open exactly if it opens
 open_last : (st : List Sentence) (e : Sentence) → e.kind ≡ Opening → IsOpen (st ++ e ∷ []) (length st)
@@ -82,18 +75,14 @@ outer_counts st p m lt outer inner =
 -- a block that is open inside what lies past a place is open
 open_past : (st : List Sentence) (n k : ℕ) → IsOpen (drop n st) k → IsOpen st (n + k)
 open_past st n k still =
-    open_in still (get_dropped n st k still.opening still.there)
-    (subst (λ x. IsUnclosed st x) e (λ j.
-    let same : drop (suc k) (drop n st) ≡ drop (n + suc k) st = drop-drop (suc k) n st in
-    subst (λ (ys : List Sentence). close_marks (take j ys) ≤ open_marks (take j ys)) same (still.unclosed j)))
-  where
-    e : n + suc k ≡ suc (n + k)
-    e = omega arith
+    let e : n + suc k ≡ suc (n + k) = omega arith in
+    open_in still (get_dropped n st k still.opening still.there) (rw (← e) (λ j.
+    rw (drop-drop (suc k) n st) at (still.unclosed j)))
 
 -- a `$}` closes the innermost block
 innermost_closed : (st : List Sentence) (e : Sentence) (m : ℕ) → e.kind ≡ Closing → IsInnermostOpen st m → ¬ (IsOpen (st ++ e ∷ []) m)
 innermost_closed st e m kind innermost still =
-    let lt = open_within st m innermost.still in
+    let lt = slice_get_within st m innermost.still.opening innermost.still.there in
     let same : drop (suc m) (st ++ e ∷ []) ≡ drop (suc m) st ++ e ∷ [] = drop-append-le (suc m) st (e ∷ []) (omega arith) in
     let all = subst (λ (ys : List Sentence). close_marks ys ≤ open_marks ys) same (unclosed_all (st ++ e ∷ []) (suc m) still.unclosed) in
     let os = openings-append (drop (suc m) st) (e ∷ []) in
@@ -124,16 +113,13 @@ closing_law st e p m kind innermost = (
   where
     kept : IsOpen st p → p < m → IsOpen (st ++ e ∷ []) p
     kept before lt =
-        let within = open_within st p before in
+        let within = slice_get_within st p before.opening before.there in
         let counts = outer_counts st p m lt before innermost.still in
         let os = openings-append (drop (suc p) st) (e ∷ []) in
         let cs = closings-append (drop (suc p) st) (e ∷ []) in
         let c1 = closings_one e true (ap is_closing kind) in
         open_in before (get_kept st (e ∷ []) p before.opening before.there)
         (unclosed_pushed st e (suc p) (omega arith) before.unclosed (omega arith))
-
-pub open_blocks_hold : OpenBlocks
-open_blocks_hold st e p = ((λ other. opening_law st e p other), (λ m kind innermost. closing_law st e p m kind innermost))
 
 -- an open block holds what comes after its `${`
 holds_open : (st : List Sentence) (p outer : ℕ) → outer < p → IsOpen st outer → Holds st outer p
@@ -149,9 +135,6 @@ active_kept st e p active = elim (cases_lt p (length st)) [
   | inr ge ↦ inr (let h = length_pushed st e in let lt = active.within in omega arith)
 ]
 
-active_again : (st : List Sentence) (e : Sentence) (p : ℕ) → p ≡ length st → IsActive (st ++ e ∷ []) p
-active_again st e p last = subst (λ q. IsActive (st ++ e ∷ []) q) (sym last) (active_last st e)
-
 active_closed : (st : List Sentence) (e : Sentence) (p m : ℕ) → e.kind ≡ Closing → IsInnermostOpen st m → IsActive st p → p ≤ m → IsActive (st ++ e ∷ []) p
 active_closed st e p m kind innermost active le = record {
   within = let h = length_pushed st e in let lt = active.within in omega arith;
@@ -166,7 +149,7 @@ active_statements_hold st e p = (
     (λ active. active_kept st e p active),
     (λ either. elim either [
       | inl active ↦ active_stays st e p other active
-      | inr last ↦ active_again st e p last
+      | inr last ↦ rw last (active_last st e)
     ]),
   )),
   (λ m kind innermost. (
@@ -176,7 +159,7 @@ active_statements_hold st e p = (
     ]),
     (λ either. elim either [
       | inl (active, le) ↦ active_closed st e p m kind innermost active le
-      | inr last ↦ active_again st e p last
+      | inr last ↦ rw last (active_last st e)
     ]),
   )),
 )

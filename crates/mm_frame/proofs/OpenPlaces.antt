@@ -1,18 +1,15 @@
 -- The places of the open blocks, and how many they are.
-use Rattle.std.proofs.Common.{◌≡◌, ℕ, zero, suc, ◌+◌, ◌-◌, ◌<◌, ◌≤◌, inl, inr, true, false, length, take, List, [], ◌∷◌, ◌++◌, Some, sym, ap, ◌∙◌, subst, arith}
-use Rattle.std.specs.List.{slice_get}
+use Rattle.std.proofs.Common.{◌≡◌, ℕ, zero, suc, ◌+◌, ◌-◌, ◌<◌, ◌≤◌, inl, inr, true, false, length, take, List, [], ◌∷◌, ◌++◌, Some, sym, ap, ◌∙◌, subst, arith, slice_get, length-take-le}
 use Rattle.std.proofs.lemmas.Bool.{cases_lt}
 use Rattle.std.proofs.lemmas.Option.{slice_get_within}
-use Rattle.std.proofs.lemmas.List.{length-take-le}
 use Rattle.std.proofs.Math.Seq.{take-length}
 use Rattle.mm_text.specs.declared.statement.Kind.TheVariants.{Opening, Closing}
 use Rattle.mm_frame.specs.Sentence.{Sentence}
 use Rattle.mm_frame.specs.Active.{open_marks, close_marks}
 use Rattle.mm_frame.specs.Laws.{IsInnermostOpen, AreOpen, OpenCount}
-use Rattle.mm_text.proofs.Lists.{get_kept, get_pushed, get_within, get_from_front, get_in_front, pushed_cases, take_next}
+use Rattle.mm_text.proofs.Lists.{get_kept, get_pushed, get_within, get_from_front, get_in_front, pushed_cases, take_next, at_from_contains, contains_from_at}
 use Rattle.mm_frame.proofs.Counts.{openings-append, closings-append}
 use Rattle.mm_frame.proofs.ScopeLaws.{openings_one, closings_one, length_pushed}
-use Rattle.mm_text.proofs.Lists.{at_from_contains, contains_from_at}
 use Rattle.mm_frame.proofs.Surplus.{block_cases}
 use Rattle.mm_frame.proofs.OpenLaws.{opening_law, closing_law}
 

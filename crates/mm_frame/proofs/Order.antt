@@ -87,9 +87,6 @@ asked M15 before s broken = asked_stated M15 s.kind (4, omega arith, refl) (4, o
 pub record NoneOfFirst (n : ℕ) (before : List Sentence) (s : Sentence) : Type 0 where
   pub kept : (i : ℕ) (d : MeaningRule) → i < n → i < length (rules_of s.kind) → ¬ (Breaks (get_or (rules_of s.kind) i d) before s)
 
-pub none_at_first : (before : List Sentence) (s : Sentence) → NoneOfFirst 0 before s
-none_at_first before s = record { kept = λ i d lt within broken. absurd (omega arith) }
-
 pub none_of_more : (n : ℕ) (before : List Sentence) (s : Sentence) (rule d : MeaningRule) → NoneOfFirst n before s → rule ≡ get_or (rules_of s.kind) n d → ¬ (Breaks rule before s) → NoneOfFirst (n + 1) before s
 none_of_more n before s rule d none is unbroken = record {
   kept = λ i e lt within.
@@ -97,8 +94,7 @@ none_of_more n before s rule d none is unbroken = record {
         | inl below ↦ none.kept i e below within
         | inr beyond ↦
             let k : n ≡ i = omega arith in
-            let same : rule ≡ get_or (rules_of s.kind) i e = subst (λ (j : ℕ). rule ≡ get_or (rules_of s.kind) j d) k is ∙ get_or_default (rules_of s.kind) i d e within in
-            subst (λ r. ¬ (Breaks r before s)) same unbroken
+            rw (rw k at is ∙ get_or_default (rules_of s.kind) i d e within) at unbroken
       ];
 }
 

@@ -1,6 +1,5 @@
 -- The variables that `$f` type, and their distinct pairs, by numbers.
-use Rattle.std.proofs.Common.{◌≡◌, ◌≢◌, ◌↔◌, ℕ, ◌<◌, ◌⊎◌, inl, inr, length, take, List, [], ◌∷◌, Some, None, refl, sym, ap, subst, arith}
-use Rattle.std.specs.List.{slice_get}
+use Rattle.std.proofs.Common.{◌≡◌, ◌≢◌, ◌↔◌, ℕ, ◌<◌, ◌⊎◌, inl, inr, length, take, List, [], ◌∷◌, Some, None, refl, sym, ap, arith, slice_get}
 use Rattle.mm_frame.specs.declared.number.Sym.{Sym}
 use Rattle.mm_frame.specs.Sentence.{Sentence}
 use Rattle.mm_frame.specs.Numbers.{symbols_of, IsNumberOf}
@@ -38,16 +37,13 @@ some_entry symbols labels flat log place f said none =
 
 -- ---- whether two numbers' symbols are distinct, by the pairs that `$d` state
 
-names_number : (st : List Sentence) (names : List (List ℕ)) (x : List ℕ) (n : ℕ) → names ≡ symbols_of st → IsNumberOf st x n → slice_get names n ≡ Some x
-names_number st names x n all at = subst (λ ys. slice_get ys n ≡ Some x) (sym all) at
-
 stated_below : (st : List Sentence) (names : List (List ℕ)) (stated : AllStated) (a b q : ℕ)
     (x y : List ℕ) → names ≡ symbols_of st → AreStated st names stated → IsNumberOf st x a
     → IsNumberOf st y b → a < b
     → (HasSpan st stated.pairs (a, b) q ⊎ IsHeld st stated.wide q a b) ↔ IsDistinct (take q st) x y
 stated_below st names stated a b q x y all are at_a at_b lt =
-    let here_a = names_number st names x a all at_a in
-    let here_b = names_number st names y b all at_b in (
+    let here_a : slice_get names a ≡ Some x = rw all at_a in
+    let here_b : slice_get names b ≡ Some y = rw all at_b in (
       (λ either. elim either [
         | inl has ↦ span_distinct st names stated a b q x y all are here_a here_b lt has
         | inr held ↦ held_distinct st names stated.wide a b q x y all are.wide here_a here_b
@@ -70,18 +66,16 @@ pub stated_tells : (st : List Sentence) (names : List (List ℕ)) (stated : AllS
     ↔ IsDistinct (take q st) x y
 stated_tells st names stated a b q x y all are at_a at_b apart = elim (cases_order a b) [
   | inl same ↦ absurd (apart same)
-  | inr (inl lt) ↦ subst (λ p. (HasSpan st stated.pairs p q ⊎ IsHeld st stated.wide q a b)
-      ↔ IsDistinct (take q st) x y) (sym (ordered_less a b lt))
-      (stated_below st names stated a b q x y all are at_a at_b lt)
+  | inr (inl lt) ↦ rw (ordered_less a b lt) (stated_below _ _ _ a b q x y all are at_a at_b lt)
   | inr (inr gt) ↦
-      let tell = stated_below st names stated b a q y x all are at_b at_a gt in
+      let tell = stated_below _ _ _ b a q y x all are at_b at_a gt in
       let is = ordered_more a b (omega arith) in (
         (λ either. distinct_other (take q st) y x (tell.0 (elim either [
-          | inl has ↦ inl (subst (λ p. HasSpan st stated.pairs p q) is has)
+          | inl has ↦ inl (rw is at has)
           | inr held ↦ inr (held_other st stated.wide q a b held)
         ]))),
         (λ distinct. elim (tell.1 (distinct_other (take q st) x y distinct)) [
-          | inl has ↦ inl (subst (λ p. HasSpan st stated.pairs p q) (sym is) has)
+          | inl has ↦ inl (rw is has)
           | inr held ↦ inr (held_other st stated.wide q b a held)
         ]),
       )

@@ -1,8 +1,5 @@
 -- The patterns of an assertion and of its `$e` are made.
-use Rattle.std.proofs.Common.{◌≡◌, ℕ, zero, suc, ◌+◌, ◌<◌, ◌≤◌, inl, inr, false, length, get_or, take, set, List, [], ◌∷◌, ◌++◌, map, Option, option_map, Some, None, refl, sym, ap, ◌∙◌, subst, Result, append-nil, append_assoc, arith}
-use Rattle.std.specs.List.{slice_get}
-use Rattle.std.specs.Option.{is_none}
-use Rattle.std.specs.Result.{IfOk}
+use Rattle.std.proofs.Common.{◌≡◌, ℕ, zero, suc, ◌+◌, ◌<◌, ◌≤◌, inl, inr, false, length, get_or, take, set, List, [], ◌∷◌, ◌++◌, map, Option, option_map, Some, sym, ap, ◌∙◌, subst, Result, append-nil, append_assoc, arith, slice_get, is_none, IfOk}
 use Rattle.std.proofs.lemmas.List.{length-map, take_more, map-append}
 use Rattle.std.proofs.lemmas.Option.{slice_get_within, get_or_from_slice_get}
 use Rattle.mm_frame.specs.declared.hypothesis.Hypothesis.{Hypothesis}
@@ -14,7 +11,7 @@ use Rattle.mm_frame.specs.declared.part.Part.{Part}
 use Rattle.mm_frame.specs.declared.tables.Tables.{Tables}
 use Rattle.mm_frame.specs.Sentence.{Sentence}
 use Rattle.mm_frame.specs.Numbers.{labelled_sentences, AreNumbers}
-use Rattle.mm_frame.specs.FramePlace.{IsTypingOf, HasTyping, HaveTypings}
+use Rattle.mm_frame.specs.FramePlace.{IsTypingOf, HaveTypings}
 use Rattle.mm_frame.specs.Pieces.{variables_of, IsPieceOf, ArePieces, HasPattern}
 use Rattle.mm_frame.specs.Mirror.Gathered.{AreRisingPlaces}
 use Rattle.mm_frame.specs.Mirror.Layout.{statements_of}
@@ -41,17 +38,10 @@ ids_same old new same = told_agree (λ p. p.0.0) old new same
 pub variables_same : (old new : List Hypothesis) → AreSameButPatterns old new → variables_of new ≡ variables_of old
 variables_same old new same = told_agree (λ p. option_map (λ typing. typing.1.0) p.1) old new same
 
-typing_same : (st : List Sentence) (g h : Hypothesis) → told g ≡ told h → HasTyping st g → HasTyping st h
-typing_same st g h same has = subst (λ (p : LabelId × Option (Sym × Sym)). (e : Sentence) × (slice_get (labelled_sentences st) p.0.0 ≡ Some e) × IsTypingOf st p.1 e) same has
-
 pub typings_same : (st : List Sentence) (old new : List Hypothesis) → AreSameButPatterns old new → HaveTypings st old → HaveTypings st new
 typings_same st old new same have i h there =
     let (g, at, is) = get_alike told told new old i h same there in
-    typing_same st g h is (have i g at)
-
-set_kept : (hs : List Hypothesis) (i : ℕ) (h : Hypothesis) (part : Part) → slice_get hs i ≡ Some h → map told (set hs i (record h { pattern = part })) ≡ map told hs
-set_kept hs i h part there = map-set_same told hs i (record h { pattern = part }) h
-    (ap told (sym (get_or_from_slice_get hs i h h there)))
+    subst (λ (p : LabelId × Option (Sym × Sym)). (e : Sentence) × (slice_get (labelled_sentences st) p.0.0 ≡ Some e) × IsTypingOf st p.1 e) is (have i g at)
 
 -- a rising list has at each place at least its place
 rising_least : (places : List ℕ) → AreRisingPlaces places → (i p : ℕ) → slice_get places i ≡ Some p → i ≤ p
@@ -120,18 +110,12 @@ pattern_has t log flat places numbers old hs pieces i place h part of same there
       says = λ untyped. (e, subst (λ k. slice_get (labelled_sentences st) k ≡ Some e) id numbered, (numbers, says e at_e, is.says));
     }
 
--- a `$f` has none
-pub typed_has : (st : List Sentence) (variables : List (Option ℕ)) (pieces : List Piece) (h : Hypothesis) → ¬ (h.typing ≡ None) → HasPattern st variables pieces (record h { pattern = record { start = 0; end = 0 } })
-typed_has st variables pieces h typed = record { ordered = omega arith; within = omega arith; says = λ untyped. absurd (typed untyped) }
-
-pub first_none : (st : List Sentence) (hs : List Hypothesis) (pieces : List Piece) → HaveFirstPatterns st hs hs pieces 0
-first_none st hs pieces = record { same = refl; each = λ i h lt at. absurd (omega arith) }
-
 -- one hypothesis more
 pub first_step : (st : List Sentence) (old hs : List Hypothesis) (pieces c : List Piece) (i : ℕ) (h : Hypothesis) (part : Part) → HaveFirstPatterns st old hs pieces i → slice_get hs i ≡ Some h
     → HasPattern st (variables_of old) (pieces ++ c) (record h { pattern = part }) → HaveFirstPatterns st old (set hs i (record h { pattern = part })) (pieces ++ c) (i + 1)
 first_step st old hs pieces c i h part have at has = record {
-  same = set_kept hs i h part at ∙ have.same;
+  same = map-set_same told hs i (record h { pattern = part }) h
+      (ap told (sym (get_or_from_slice_get hs i h h at))) ∙ have.same;
   each = λ j g lt there. elim (get_set_cases hs i j (record h { pattern = part }) g there) [
     | inl (is, same) ↦ subst (HasPattern st (variables_of old) (pieces ++ c)) same has
     | inr (other, kept) ↦ pattern_longer st (variables_of old) pieces c g (have.each j g (omega (arith, other)) kept)
@@ -152,9 +136,6 @@ first_all st numbers old hs pieces c count part have all is =
     }
 
 -- ---- what the code does at each step
-
-pub longer_none : {X : Type 0} (xs : List X) → IsLonger xs xs
-longer_none xs = ([], sym (append-nil xs))
 
 pub longer_more : {X : Type 0} (xs ys zs : List X) → IsLonger xs ys → IsLonger ys zs → IsLonger xs zs
 longer_more xs ys zs (a, first) (b, second) = (a ++ b, second ∙ ap (λ ws. ws ++ b) first ∙ append_assoc xs a b)
@@ -187,23 +168,19 @@ pub essential_step : (t : Tables) (log : List Entry) (flat : List Sym) (places n
     → (length hs < 4294967296 → IsPatternAt (variables_of hs) numbers pieces' part) → IsLonger pieces pieces' → new ≡ set hs i (record h { pattern = part })
     → HaveFirstPatterns (statements_of t) old new pieces' (i + 1)
 essential_step t log flat places numbers old hs new pieces pieces' i place h part of have there at says is (c, more) set_is =
-    let st = statements_of t in
     let few = few_hypotheses t log flat places old of in
     let size = same_counted old hs have.same in
-    let pattern = subst (λ vs. IsPatternAt vs numbers pieces' part) (variables_same old hs have.same) (is (omega arith)) in
-    let has = subst (λ ps. HasPattern st (variables_of old) ps (record h { pattern = part })) more (pattern_has t log flat places numbers old hs pieces' i place h part of have.same there at says pattern) in
-    subst (λ ks. HaveFirstPatterns st old ks pieces' (i + 1)) (sym set_is)
-    (subst (λ ps. HaveFirstPatterns st old (set hs i (record h { pattern = part })) ps (i + 1)) (sym more) (first_step st old hs pieces c i h part have at has))
+    let pattern = rw (variables_same old hs have.same) at (is (omega arith)) in
+    let has = rw more at (pattern_has _ _ _ _ numbers _ hs pieces' i place h part of have.same there at says pattern) in
+    rw set_is (rw more (first_step _ _ _ _ c _ h part have at has))
 
 -- a `$f` gets none
 pub typed_step : (st : List Sentence) (old hs new : List Hypothesis) (pieces : List Piece) (i : ℕ) (h : Hypothesis) → HaveFirstPatterns st old hs pieces i → slice_get hs i ≡ Some h → is_none h.typing ≡ false
     → new ≡ set hs i (record h { pattern = record { start = 0; end = 0 } }) → HaveFirstPatterns st old new pieces (i + 1)
 typed_step st old hs new pieces i h have at typed set_is =
-    let whole = append-nil pieces in
     let none : Part = record { start = 0; end = 0 } in
-    subst (λ ks. HaveFirstPatterns st old ks pieces (i + 1)) (sym set_is)
-    (subst (λ ps. HaveFirstPatterns st old (set hs i (record h { pattern = none })) ps (i + 1)) whole
-    (first_step st old hs pieces [] i h none have at (typed_has st (variables_of old) (pieces ++ []) h (λ untyped. absurd cc))))
+    rw set_is (rw (append-nil pieces) at
+    (first_step _ _ _ _ [] _ h none have at (record { ordered = omega arith; within = omega arith; says = λ untyped. absurd cc })))
 
 -- the patterns of the `$e` were added, and then that of the assertion
 pub all_step : {E : Type 0} (t : Tables) (log : List Entry) (flat : List Sym) (places numbers : List ℕ) (old hs shown : List Hypothesis) (pieces pieces' : List Piece) → AreMandatoryOf t log flat places old
@@ -213,8 +190,7 @@ all_step t log flat places numbers old hs shown pieces pieces' of have is (c, mo
     let few = few_hypotheses t log flat places old of in
     let size = same_counted old hs have.same in
     let shown_size = ap length is in
-    let all = hypotheses_counted t log flat places old of in
-    IfOk-weaker result _ _
-    (λ part at. subst (λ ps. ArePatterned (statements_of t) numbers old hs ps part) (sym more)
-    (first_all (statements_of t) numbers old hs pieces c (length places) part have (sym all) (subst (λ ps. IsPatternAt (variables_of hs) numbers ps part) more (subst (λ ks. IsPatternAt (variables_of ks) numbers pieces' part) is at))))
+    let all = hypotheses_counted _ _ _ _ _ of in
+    IfOk-weaker result _ _ (λ part at. rw more
+    (first_all _ _ _ _ _ c _ _ have (sym all) (rw (← more) (rw is at (at)))))
     (pattern (omega arith))

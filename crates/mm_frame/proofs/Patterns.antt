@@ -1,13 +1,13 @@
 -- Places of variables among hypotheses, and patterns by them.
-use Rattle.std.proofs.Common.{◌≡◌, ℕ, zero, suc, ◌<◌, ◌≤◌, length, get_or, List, [], ◌∷◌, ◌++◌, Option, option_map, None, false, refl, sym, subst, arith}
-use Rattle.std.specs.List.{slice_index_or}
+use Rattle.std.proofs.Common.{◌≡◌, ℕ, zero, suc, ◌<◌, ◌≤◌, length, get_or, List, [], ◌∷◌, ◌++◌, Option, option_map, None, false, refl, sym, subst, arith, slice_index_or}
 use Rattle.mm_frame.specs.declared.hypothesis.Hypothesis.{Hypothesis}
 use Rattle.mm_frame.specs.declared.piece.Piece.{Piece}
 use Rattle.mm_frame.specs.Sentence.{Sentence}
-use Rattle.mm_frame.specs.Pieces.{variables_of, is_of, AreItsPieces, HasPattern, HavePatterns}
+use Rattle.mm_frame.specs.Pieces.{variables_of, is_of, AreItsPieces, HasPattern}
 use Rattle.mm_frame.proofs.Entries.{slice_left, longer}
-use Rattle.mm_frame.proofs.Numbered.{numbers_grow}
 use Rattle.mm_frame.proofs.Labelled.{labelled_grow}
+use Rattle.mm_frame.proofs.Numbered.{symbols_grow}
+use Rattle.mm_text.proofs.Lists.{zip_mapped, mapped_zip}
 use Rattle.std.proofs.lemmas.List.{get_or-map, length-map}
 
 -- the variable of the hypothesis at a place
@@ -28,9 +28,11 @@ variables_counted hs = length-map hs _
 
 -- the pieces of a statement
 pub its_pieces_grow : (st more : List Sentence) (variables : List (Option ℕ)) (s : Sentence) (pieces : List Piece) → AreItsPieces st variables s pieces → AreItsPieces (st ++ more) variables s pieces
-its_pieces_grow st more variables s pieces (numbers, are, says) = (numbers, numbers_grow st more numbers s.symbols are, says)
+its_pieces_grow st more variables s pieces (numbers, are, says) =
+    let known = mapped_zip _ _ _ (symbols_grow st more) numbers _ are in
+    (numbers, zip_mapped _ _ numbers s.symbols known, says)
 
-pattern_grow : (st more : List Sentence) (variables : List (Option ℕ)) (pieces : List Piece) (h : Hypothesis) → HasPattern st variables pieces h → HasPattern (st ++ more) variables pieces h
+pub pattern_grow : (st more : List Sentence) (variables : List (Option ℕ)) (pieces : List Piece) (h : Hypothesis) → HasPattern st variables pieces h → HasPattern (st ++ more) variables pieces h
 pattern_grow st more variables pieces h has = record {
   ordered = has.ordered;
   within = has.within;
@@ -49,9 +51,3 @@ pattern_longer st variables pieces c h has =
           let (e, at, are) = has.says untyped in
           (e, at, subst (AreItsPieces st variables e) (sym (slice_left pieces c h.pattern.start h.pattern.end has.ordered has.within)) are);
     }
-
-pub patterns_more : (st more : List Sentence) (variables : List (Option ℕ)) (pieces : List Piece) (hs : List Hypothesis) → HavePatterns st variables pieces hs → HavePatterns (st ++ more) variables pieces hs
-patterns_more st more variables pieces hs have i h there = pattern_grow st more variables pieces h (have i h there)
-
-pub patterns_grow : (st more : List Sentence) (variables : List (Option ℕ)) (pieces c : List Piece) (hs : List Hypothesis) → HavePatterns st variables pieces hs → HavePatterns (st ++ more) variables (pieces ++ c) hs
-patterns_grow st more variables pieces c hs have i h there = pattern_longer (st ++ more) variables pieces c h (pattern_grow st more variables pieces h (have i h there))

@@ -1,8 +1,6 @@
 -- Between the elements that code walks over and what is said by them, place by place.
-use Rattle.std.proofs.Common.{◌≡◌, ◌↔◌, IsTrue, Any, ℕ, ◌<◌, length, Bool, true, false, List, map, Option, Some, inl, inr, refl, sym, ◌∙◌, ap, subst, arith}
+use Rattle.std.proofs.Common.{◌≡◌, ◌↔◌, IsTrue, Any, ℕ, ◌<◌, length, Bool, true, false, List, map, Option, Some, inl, inr, refl, sym, ◌∙◌, ap, subst, arith, MatchBool, MatchOption, option_map}
 use Rattle.std.specs.List.{slice_get, slice_index_or, FoldsTo, HoldsAt, AllWithin}
-use Rattle.std.specs.Bool.{MatchBool}
-use Rattle.std.specs.Option.{MatchOption, option_map}
 use Rattle.std.specs.Iterator.{YieldsThen}
 use Rattle.std.specs.Fn.{Called}
 use denote.Param.Members.{Mut}

@@ -1,6 +1,5 @@
 -- What is read under a label's number, in terms of the statements.
-use Rattle.std.proofs.Common.{◌≡◌, ◌↔◌, ℕ, ◌+◌, ◌<◌, ◌≤◌, inl, inr, length, take, List, [], ◌∷◌, map, Option, Some, None, slice_range, refl, sym, ap, ◌∙◌, subst, arith}
-use Rattle.std.specs.List.{slice_get}
+use Rattle.std.proofs.Common.{◌≡◌, ◌↔◌, ℕ, ◌+◌, ◌<◌, ◌≤◌, inl, inr, length, take, List, [], ◌∷◌, map, Option, Some, None, slice_range, refl, sym, ap, ◌∙◌, subst, arith, slice_get}
 use Rattle.mm_text.specs.declared.statement.Kind.{Kind}
 use Rattle.mm_text.specs.declared.statement.Kind.TheVariants.{Floating, Essential, Axiom, Provable}
 use Rattle.mm_text.specs.Token.{IsLabel}
@@ -24,9 +23,8 @@ use Rattle.mm_text.proofs.Lists.{get_within, same_length}
 use Rattle.mm_frame.proofs.NameLists.{get_alike}
 use Rattle.mm_frame.proofs.Labelled.{numbered_get, numbered_within, numbered_unique, numbered_from_get}
 use Rattle.mm_frame.proofs.Labels.{labels_counted}
-use Rattle.mm_frame.proofs.Entries.{length-sentences}
+use Rattle.mm_frame.proofs.Entries.{length-sentences, get_sliced}
 use Rattle.mm_frame.proofs.FrameLaws.{at_place}
-use Rattle.mm_frame.proofs.Typings.{typings_part}
 use Rattle.mm_frame.proofs.PairsOf.{kind_at}
 use Rattle.mm_frame.specs.declared.part.Part.{Part}
 
@@ -97,23 +95,22 @@ module _ (t : Tables) (id place : ℕ) (s : Sentence) (tables : AreTables t)
   -- its label
   pub label_at : (l : List ℕ) × (slice_get t.labels.names id ≡ Some l) × IsLabelled l s
   label_at =
-      let st = statements_of t in
-      let (l, at, same) = get_alike (λ (s : Sentence). s.label) Some (labelled_sentences st)
-      t.labels.names id s tables.labels.all (numbered_get st id place s numbered) in
+      let (l, at, same) = get_alike (λ (s : Sentence). s.label) Some _
+      t.labels.names _ _ tables.labels.all (numbered_get _ _ _ _ numbered) in
       (l, at, sym same)
 
   -- something is known of it
   pub no_info : None ≡ slice_get t.named.items id → ⊥
   no_info none =
       let (info, there) = get_within t.named.items id
-      ((label_known t id tables).1 (place, s, numbered)) in
+      ((label_known _ id tables).1 (place, s, numbered)) in
       absurd (let bad : None ≡ Some info = none ∙ there in cc)
 
   -- what is known of it has its place
   pub same_place : (info : LabelInfo) → Some info ≡ slice_get t.named.items id → info.place ≡ place
   same_place info told =
       let (u, other) = tables.labels.each id info (sym told) in
-      (numbered_unique (statements_of t) id info.place place u s other numbered).0
+      (numbered_unique _ _ _ _ _ _ other numbered).0
 
   -- and its entry has the kind and the symbols that are known of it
   pub info_entry : (info : LabelInfo) → Some info ≡ slice_get t.named.items id
@@ -151,11 +148,8 @@ module _ (t : Tables) (id place : ℕ) (s : Sentence) (info : LabelInfo) (tables
   frame_there : IsFrameInfo (statements_of t) t.hypotheses.items t.pairs.items t.pieces.items
       (record info { place = place })
   frame_there =
-      let st = statements_of t in
       let same = same_place t id place s tables numbered info told in
-      subst (λ (p : ℕ). IsFrameInfo st t.hypotheses.items t.pairs.items t.pieces.items
-      (record info { place = p })) same (tables.frames id info s (sym told)
-      (subst (λ (p : ℕ). slice_get st p ≡ Some s) (sym same) numbered.there) asserts)
+      rw same at (tables.frames id info s (sym told) (rw same numbered.there) asserts)
 
   -- a part of the hypotheses of all assertions
   pub frame_hypotheses : (part : List Hypothesis) → IsRead t.hypotheses.items info.hypotheses part
@@ -166,10 +160,11 @@ module _ (t : Tables) (id place : ℕ) (s : Sentence) (info : LabelInfo) (tables
 
   pub frame_typings : (part : List Hypothesis) → IsRead t.hypotheses.items info.hypotheses part
       → HaveTypings (statements_of t) part
-  frame_typings part is =
+  frame_typings part is i h there =
       let within = frame_there.hypotheses_in in
-      typings_part (statements_of t) t.hypotheses.items part _ _ (is within.ordered within.within)
-      tables.typed
+      let (j, at) = get_sliced t.hypotheses.items info.hypotheses.start info.hypotheses.end i h
+      (rw (is within.ordered within.within) at there) in
+      tables.typed j h at
 
   -- a part of the distinct pairs of all assertions
   pub frame_pairs : (part : List DistinctPair) → IsRead t.pairs.items info.pairs part

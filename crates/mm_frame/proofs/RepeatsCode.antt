@@ -1,7 +1,5 @@
 -- Names that are read one after the other, until one comes again.
-use Rattle.std.proofs.Common.{◌≡◌, ℕ, suc, ◌+◌, ◌<◌, inl, inr, ◌↔◌, IsTrue, Bool, true, false, is_some, get_or, length, take, List, [], ◌∷◌, ◌++◌, map, Contains, Option, Some, None, sym, ap, ◌∙◌, subst, arith}
-use Rattle.std.specs.List.{slice_get}
-use Rattle.std.specs.Option.{MatchOption}
+use Rattle.std.proofs.Common.{◌≡◌, ℕ, suc, ◌+◌, ◌<◌, inl, inr, ◌↔◌, IsTrue, Bool, true, false, is_some, get_or, length, take, List, [], ◌∷◌, ◌++◌, map, Contains, Option, Some, None, sym, ap, ◌∙◌, subst, arith, slice_get, MatchOption}
 use Rattle.mm_text.specs.declared.token.Token.{Token}
 use Rattle.mm_text.specs.Token.{plain_token}
 use Rattle.mm_frame.specs.Sentence.{StandsTwice}
@@ -27,8 +25,7 @@ pub found_again : (tokens : List Token) (i : ℕ) (d : Token) (names : List (Lis
 found_again tokens i d names None r lt are is so h = absurd (cc)
 found_again tokens i d names (Some n) r lt are is so h =
     let x = (get_or tokens i d).text.now in
-    let there : slice_get (take i (texts_of tokens)) n ≡ Some x = subst (λ (ns : List (List ℕ)). slice_get ns n ≡ Some x) are h in
-    let (apart, at) = get_from_take (texts_of tokens) i n x there in
+    let (apart, at) = get_from_take (texts_of tokens) i _ _ (rw are at h) in
     (x, record { i = n; j = i; apart = apart; at_i = at; at_j = text_at tokens i d lt })
 
 -- a new name goes last

@@ -1,6 +1,5 @@
 -- Lists that stay the same hold the same statements.
-use Rattle.std.proofs.Common.{◌≡◌, ◌∙◌, refl, Result, Ok, Err}
-use Rattle.std.specs.Result.{OnErr}
+use Rattle.std.proofs.Common.{◌≡◌, ◌∙◌, refl, Result, Ok, Err, OnErr}
 use Rattle.mm_frame.specs.declared.tables.Tables.{Tables}
 use Rattle.mm_frame.specs.Mirror.Layout.{AreTables, statements_of}
 use Rattle.mm_frame.specs.Mirror.Grows.{SameLists, IsSame}

@@ -1,36 +1,31 @@
 -- What the scopes' code does, in terms of the laws of blocks by numbers.
-use Rattle.std.proofs.Common.{◌≡◌, ℕ, suc, ◌+◌, ◌<◌, ◌≤◌, ◌↔◌, IsTrue, IsSome, false, leb, length, take, set, List, [], ◌∷◌, ◌++◌, Option, Some, None, refl, sym, ap, ◌∙◌, subst, arith, rules}
-use Rattle.std.proofs.Common.{◌-◌}
-use Rattle.std.specs.List.{slice_get}
+use Rattle.std.proofs.Common.{◌≡◌, ℕ, suc, ◌+◌, ◌<◌, ◌≤◌, ◌↔◌, IsTrue, IsSome, false, leb, length, take, set, List, [], ◌∷◌, ◌++◌, Option, Some, None, refl, sym, ap, ◌∙◌, arith, rules, ◌-◌, slice_get, option_to_list, subst}
 use Rattle.mm_text.specs.declared.statement.Kind.{Kind}
 use Rattle.mm_text.specs.declared.statement.Kind.TheVariants.{Opening, Closing}
 use Rattle.mm_frame.specs.Sentence.{Sentence}
 use Rattle.mm_frame.specs.Active.{IsActive, open_marks, close_marks}
 use Rattle.mm_text.specs.Blocks.{is_opening}
 use Rattle.mm_frame.specs.Mirror.Scopes.{AreScopes}
-use Rattle.mm_frame.proofs.Actives.{scope_active}
 use Rattle.mm_frame.proofs.Depth.{scope_depth}
 use Rattle.mm_frame.proofs.Stays.{not_closing}
 use Rattle.mm_text.proofs.Lists.{get_within, get_pushed}
-use Rattle.std.specs.Option.{option_to_list}
 use Rattle.mm_frame.proofs.ScopeLaws.{length_pushed, scopes_ordinary, scopes_opening, scopes_closing}
+use Rattle.mm_frame.proofs.Actives.{active_while, while_active}
 use Rattle.std.proofs.lemmas.Option.{slice_get_within}
-
--- a list that isn't empty has a last element, at the place before its length
-pub last_place : (stack : List ℕ) → 1 ≤ length stack → (k : ℕ) × (length stack ≡ suc k)
-last_place stack some = (length stack - 1, omega arith)
 
 -- the stack has a block
 pub stack_some : (never : ℕ) (st : List Sentence) (blocks ends stack : List ℕ) → AreScopes never st blocks ends stack → (k : ℕ) × (length stack ≡ suc k)
-stack_some never st blocks ends stack a = last_place stack (let d = scope_depth never st blocks ends stack a in omega (arith, d.0))
-
-leb_says : (m n : ℕ) (P : Type 0) → (m ≤ n) ↔ P → IsTrue (leb m n) ↔ P
-leb_says m n P h = ((λ t. h.0 (search (rules))), (λ p. let le : m ≤ n = h.1 p in search (rules)))
+stack_some never st blocks ends stack a = (length stack - 1, let d = scope_depth never st blocks ends stack a in omega (arith, d.0))
 
 -- what a look-up of a block and its end says
 pub active_by_end : (never : ℕ) (st : List Sentence) (blocks ends stack : List ℕ) (p q b c : ℕ) → slice_get blocks p ≡ Some b → slice_get ends b ≡ Some c
     → AreScopes never st blocks ends stack → length st ≤ never → p < q → q ≤ length st → IsTrue (leb q c) ↔ IsActive (take q st) p
-active_by_end never st blocks ends stack p q b c there end a small lt le = leb_says q c _ (scope_active never st blocks ends stack a small p q b c there end lt le)
+active_by_end never st blocks ends stack p q b c there end a small lt le = (
+  (λ t. active_while never st blocks ends stack a p q b c there end lt le (search rules)),
+  (λ active.
+      let until : q ≤ c = while_active _ _ _ _ _ a small p q b c there end lt le active in
+      search rules),
+)
 
 -- each block that holds a statement has an end
 pub no_end : (never : ℕ) (st : List Sentence) (blocks ends stack : List ℕ) (p b : ℕ)
@@ -85,10 +80,10 @@ closed never st e blocks ends stack below popped top under inner outer split len
     let (t, whole, at_end, shorter) = split_last stack below popped (len (omega arith)) split in
     let same : Some top ≡ Some t = sym (inner (length below) (omega arith)) ∙ at_end in
     let top_is : top ≡ t = cc in
-    let (k, below_is) = last_place below (omega arith) in
+    let below_is : length below ≡ suc (length below - 1) = omega arith in
     let h = a.on_stack (length below) top (inner (length below) (omega arith)) in
     let lt = slice_get_within a.starts top h.start h.there in
     let within : top < length ends = let sized = a.sized in omega arith in
     let b : AreScopes never st blocks ends (below ++ top ∷ []) = subst (λ (xs : List ℕ). AreScopes never st blocks ends xs) (whole ∙ ap (λ x. below ++ x ∷ []) (sym top_is)) a in
     let held : length blocks ≡ length st = a.held in
-    (within, rw held (scopes_closing never st e blocks ends below k top under b below_is (outer k below_is) is_close))
+    (within, rw held (scopes_closing never st e blocks ends below _ top under b below_is (outer _ below_is) is_close))

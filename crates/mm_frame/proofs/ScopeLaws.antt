@@ -1,6 +1,5 @@
 -- Blocks by number, as statements are added one by one.
-use Rattle.std.proofs.Common.{◌≡◌, ℕ, zero, suc, ◌+◌, ◌<◌, ◌≤◌, ◌⊎◌, inl, inr, Bool, true, false, cond, length, take, drop, set, List, [], ◌∷◌, ◌++◌, Some, sym, ap, ◌∙◌, subst, drop_of_length-le, length-append, length-set, arith}
-use Rattle.std.specs.List.{slice_get}
+use Rattle.std.proofs.Common.{◌≡◌, ℕ, zero, suc, ◌+◌, ◌<◌, ◌≤◌, ◌⊎◌, inl, inr, Bool, true, false, cond, length, take, drop, set, List, [], ◌∷◌, ◌++◌, Some, sym, ap, ◌∙◌, subst, drop_of_length-le, length-append, length-set, arith, slice_get}
 use Rattle.std.proofs.lemmas.Option.{slice_get_within}
 use Rattle.std.proofs.lemmas.Bool.{cases_lt, cases_order}
 use Rattle.std.proofs.lemmas.List.{drop-append-le, take-append-le, take_all}
@@ -11,8 +10,7 @@ use Rattle.mm_frame.specs.Active.{open_marks, close_marks, IsOpen}
 use Rattle.mm_text.specs.Blocks.{is_closing, is_opening}
 use Rattle.mm_frame.specs.Mirror.Scopes.{IsUnclosed, IsBegun, IsEnd, IsOnStack, DirectlyHolds, AreScopes}
 use Rattle.mm_text.proofs.Lists.{get_kept, get_pushed, pushed_cases, get_before, get_set_cases}
-use Rattle.mm_frame.proofs.Counts.{openings-append, closings-append, unclosed_pushed, unclosed_before, unclosed_all, unclosed_new}
-use Rattle.mm_frame.proofs.Counts.{open_in}
+use Rattle.mm_frame.proofs.Counts.{openings-append, closings-append, unclosed_pushed, unclosed_before, unclosed_all, unclosed_new, open_in}
 
 -- what one statement opens and closes
 pub openings_one : (e : Sentence) (b : Bool) → is_opening e.kind ≡ b → open_marks (e ∷ []) ≡ cond b 1 0
@@ -69,8 +67,8 @@ holder_grown xs e starts others b i kept lt h =
       start = h.start;
       there = kept b h.start h.there;
       before = h.before;
-      unclosed = subst (λ ys. IsUnclosed ys h.start) (sym same) h.unclosed;
-      nearest = λ outer (before, still). h.nearest outer (before, subst (λ ys. IsOpen ys outer) same still);
+      unclosed = rw same h.unclosed;
+      nearest = λ outer (before, still). h.nearest outer (before, rw same at still);
     }
 
 -- a block on the stack stays there, where the statement's opening and closing is what the stack grows by
@@ -80,14 +78,12 @@ on_stack_grown xs e starts others stack next k b h le kept balance lt =
     let x = h.start in
     let o = openings-append (drop x xs) (e ∷ []) in
     let c = closings-append (drop x xs) (e ∷ []) in
-    let same : drop x (xs ++ e ∷ []) ≡ drop x xs ++ e ∷ [] = drop-append-le x xs (e ∷ []) le in
     let above = h.above in
-    let sum : open_marks (drop x xs ++ e ∷ []) + suc k ≡ close_marks (drop x xs ++ e ∷ []) + length next = omega arith in
     record {
       start = x;
       there = kept b x h.there;
       unclosed = unclosed_pushed xs e x le h.unclosed (omega arith);
-      above = subst (λ ys. open_marks ys + suc k ≡ close_marks ys + length next) (sym same) sum;
+      above = rw (drop-append-le x xs (e ∷ []) le) (omega arith);
     }
 
 -- each start lies within
@@ -105,10 +101,7 @@ innermost : (starts stack : List ℕ) (k top x j b outer : ℕ) → ((a b x y : 
 innermost starts stack k top x j b outer rising stacked size last there on begins =
     let lt = slice_get_within stack j b on in
     elim (cases_order j k) [
-      | inl same ↦
-          let e : b ≡ top = let at = subst (λ i. slice_get stack i ≡ Some b) same on in cc in
-          let f : suc outer ≡ x = let at = subst (λ i. slice_get starts i ≡ Some (suc outer)) e begins in cc in
-          omega arith
+      | inl same ↦ let f : suc outer ≡ x = cc in omega arith
       | inr (inl before) ↦ let h = rising b top (suc outer) x begins there (stacked j k b top on last before) in omega arith
       | inr (inr after) ↦ absurd (omega arith)
     ]
@@ -131,16 +124,8 @@ holders_grown : (xs : List Sentence) (e : Sentence) (starts others blocks : List
 holders_grown xs e starts others blocks new size kept old last i b there =
     elim (pushed_cases blocks new i b there) [
       | inl before ↦ let lt = slice_get_within blocks i b before in holder_grown xs e starts others b i kept (omega arith) (old i b before)
-      | inr (at_end, same) ↦
-          let at : length xs ≡ i = sym (at_end ∙ size) in
-          subst (λ c. DirectlyHolds (xs ++ e ∷ []) others c i) same (subst (λ j. DirectlyHolds (xs ++ e ∷ []) others new j) at last)
+      | inr (at_end, same) ↦ rw (← same, at_end ∙ size) last
     ]
-
--- how each block ends, with one statement more that ends none
-ended_grown : (never : ℕ) (xs : List Sentence) (e : Sentence) (blocks ends stack : List ℕ) (a : AreScopes never xs blocks ends stack) (b x c : ℕ) → slice_get a.starts b ≡ Some x → slice_get ends b ≡ Some c
-    → ((c ≡ never) × (k : ℕ) × (slice_get stack k ≡ Some b)) ⊎ IsEnd (xs ++ e ∷ []) x c
-ended_grown never xs e blocks ends stack a b x c begins ends_at =
-    elim (a.ended b x c begins ends_at) [ inl still ↦ inl still | inr end ↦ inr (end_grown xs e x c end) ]
 
 held_grown : (xs : List Sentence) (e : Sentence) (blocks : List ℕ) (b : ℕ) → length blocks ≡ length xs → length (blocks ++ b ∷ []) ≡ length (xs ++ e ∷ [])
 held_grown xs e blocks b size = length_pushed blocks b ∙ ap suc size ∙ sym (length_pushed xs e)
@@ -159,8 +144,7 @@ scopes_ordinary never xs e blocks ends stack k top a size last not_opening not_c
     on_stack_grown xs e a.starts a.starts stack stack k b h (within b h.start h.there) same balance (slice_get_within stack k b there) in
     let earlier : (outer : ℕ) → IsOpen (xs ++ e ∷ []) outer → IsOpen xs outer = λ outer still. elim (cases_lt outer (length xs)) [
       | inl lt ↦ open_before xs e outer still lt
-      | inr ge ↦
-          absurd (let opens = ap is_opening (opened_last xs e outer still (λ lt. omega arith)).1 in cc)
+      | inr ge ↦ absurd (cc (ap is_opening (opened_last xs e outer still (λ lt. omega arith)).1))
     ] in
     let holder = grown k top last in
     record {
@@ -174,7 +158,10 @@ scopes_ordinary never xs e blocks ends stack k top a size last not_opening not_c
       stacked = a.stacked;
       on_stack = grown;
       complete = λ place still. a.complete place (earlier place still);
-      ended = ended_grown never xs e blocks ends stack a;
+      ended = λ b x c begins ends_at. elim (a.ended b x c begins ends_at) [
+        | inl still ↦ inl still
+        | inr end ↦ inr (end_grown xs e x c end)
+      ];
       holders = holders_grown xs e a.starts a.starts blocks top a.held same a.holders
           (holder_new xs e a.starts top holder.start holder.there (within top holder.start holder.there) holder.unclosed
           (λ outer before still.
@@ -194,10 +181,6 @@ rising_grown xs y rising below j k a b at_j at_k lt =
           let h = below j a (get_before xs (y ∷ []) j a (omega arith) at_j) in
           omega arith
     ]
-
--- the place in a list of the same length
-within_sized : (xs ys : List ℕ) (i x : ℕ) → length xs ≡ length ys → slice_get ys i ≡ Some x → i < length xs
-within_sized xs ys i x size there = let h = slice_get_within ys i x there in omega arith
 
 on_stack_new : (xs : List Sentence) (e : Sentence) (starts next : List ℕ) (k b : ℕ) → slice_get starts b ≡ Some (suc (length xs)) → length next ≡ suc k → IsOnStack (xs ++ e ∷ []) starts next k b
 on_stack_new xs e starts next k b there size =
@@ -239,48 +222,50 @@ scopes_opening never xs e blocks ends stack k top a size last opens =
     let c = closings_one e false (ap is_closing opens) in
     let more = length_pushed stack (length ends) in
     let longer = length_pushed xs e in
-    let within = start_within never xs blocks ends stack a in
-    let new_start : slice_get starts (length ends) ≡ Some (suc n) = subst (λ i. slice_get starts i ≡ Some (suc n)) (sym sized) (get_pushed a.starts (suc n)) in
+    let within = start_within _ _ _ _ _ a in
+    let new_start : slice_get starts (length ends) ≡ Some (suc n) = rw sized (get_pushed a.starts (suc n)) in
     let balance : open_marks (e ∷ []) + length stack ≡ close_marks (e ∷ []) + length next = omega arith in
     let old : (k b : ℕ) → slice_get stack k ≡ Some b → IsOnStack (xs ++ e ∷ []) starts next k b = λ k b there.
     let h = a.on_stack k b there in
     let lt = slice_get_within stack k b there in
-    on_stack_grown xs e a.starts starts stack next k b h (within b h.start h.there) kept balance (omega arith) in
+    on_stack_grown _ e _ _ _ next _ _ h (within b h.start h.there) kept balance (omega arith) in
     let holder = old k top last in
     let begins = a.on_stack k top last in
     let same_start : holder.start ≡ begins.start = let one = holder.there in let other = kept top begins.start begins.there in cc in
-    let still_open : IsUnclosed (xs ++ e ∷ []) begins.start = subst (λ x. IsUnclosed (xs ++ e ∷ []) x) same_start holder.unclosed in
+    let still_open = rw same_start at holder.unclosed in
     record {
       starts = starts;
       held = held_grown xs e blocks top a.held;
       sized = length_pushed ends never ∙ ap suc sized ∙ sym (length_pushed a.starts (suc n));
       outermost = kept 0 0 a.outermost;
       bottom = get_kept stack (length ends ∷ []) 0 0 a.bottom;
-      rising = λ b c x y at_b at_c lt.
-          rising_grown a.starts (suc n) (λ j k a' b' at_j at_k before. a.rising j k a' b' at_j at_k before) (λ b x there. let le = within b x there in omega arith) b c x y at_b at_c lt;
+      rising = rising_grown a.starts (suc n) a.rising
+          (λ b x there. let le = within b x there in omega arith);
       begun = λ b x there. elim (pushed_cases a.starts (suc n) (suc b) x there) [
-        | inl before ↦ begun_grown xs e x (a.begun b x before)
+        | inl before ↦ begun_grown _ e _ (a.begun b x before)
         | inr (at_end, same) ↦ record { place = n; opening = e; next = sym same; there = get_pushed xs e; opened = opens }
       ];
-      stacked = rising_grown stack (length ends) a.stacked (λ k b there. let h = a.on_stack k b there in within_sized ends a.starts b h.start sized h.there);
+      stacked = rising_grown stack (length ends) a.stacked (λ k b there.
+          let h = a.on_stack k b there in
+          let lt = slice_get_within a.starts b h.start h.there in omega arith);
       on_stack = λ k b there. elim (pushed_cases stack (length ends) k b there) [
         | inl before ↦ old k b before
         | inr (at_end, same) ↦
-            on_stack_new xs e starts next k b (subst (λ m. slice_get starts m ≡ Some (suc n)) same new_start) (omega arith)
+            on_stack_new xs e starts next k b (rw same at new_start) (omega arith)
       ];
       complete = λ place still. elim (cases_lt place n) [
         | inl lt ↦
-            let (k, b, on, begins) = a.complete place (open_before xs e place still lt) in
+            let (k, b, on, begins) = a.complete _ (open_before xs e _ still lt) in
             (k, b, get_kept stack (length ends ∷ []) k b on, kept b (suc place) begins)
         | inr ge ↦
-            let (at_end, opened) = opened_last xs e place still (λ lt. omega arith) in
+            let (at_end, opened) = opened_last xs e _ still (λ lt. omega arith) in
             (length stack, length ends, get_pushed stack (length ends), new_start ∙ ap (λ m. Some (suc m)) (sym at_end))
       ];
-      ended = ended_new never xs e blocks ends stack a (suc n);
-      holders = holders_grown xs e a.starts starts blocks top a.held kept a.holders
+      ended = ended_new _ _ e _ _ _ a (suc n);
+      holders = holders_grown xs e _ _ blocks _ a.held kept a.holders
           (holder_new xs e starts top begins.start (kept top begins.start begins.there) (within top begins.start begins.there) still_open
           (λ outer before still.
-          let (j, b, on, starting) = a.complete outer (open_before xs e outer still before) in
+          let (j, b, on, starting) = a.complete _ (open_before xs e _ still before) in
           innermost a.starts stack k top begins.start j b outer a.rising a.stacked size last begins.there on starting));
     }
 
@@ -289,9 +274,7 @@ closed_by : (xs : List Sentence) (e : Sentence) (starts stack : List ℕ) (k b :
     → ¬ (IsUnclosed (xs ++ e ∷ []) h.start)
 closed_by xs e starts stack k b h le size closes still =
     let x = h.start in
-    let all = unclosed_all (xs ++ e ∷ []) x still in
-    let same : drop x (xs ++ e ∷ []) ≡ drop x xs ++ e ∷ [] = drop-append-le x xs (e ∷ []) le in
-    let all' : close_marks (drop x xs ++ e ∷ []) ≤ open_marks (drop x xs ++ e ∷ []) = subst (λ ys. close_marks ys ≤ open_marks ys) same all in
+    let all' = rw (drop-append-le x xs (e ∷ []) le) at (unclosed_all (xs ++ e ∷ []) x still) in
     let o = openings_one e false (ap is_opening closes) in
     let c = closings_one e true (ap is_closing closes) in
     let os = openings-append (drop x xs) (e ∷ []) in
@@ -315,27 +298,26 @@ scopes_closing never xs e blocks ends below k top under a size last closes =
     let same : AreKept a.starts a.starts = λ b x there. there in
     let o = openings_one e false (ap is_opening closes) in
     let c = closings_one e true (ap is_closing closes) in
-    let within = start_within never xs blocks ends stack a in
+    let within = start_within _ _ _ _ _ a in
     let up : (k b : ℕ) → slice_get below k ≡ Some b → slice_get stack k ≡ Some b = λ k b there. get_kept below (top ∷ []) k b there in
     let balance : open_marks (e ∷ []) + length stack ≡ close_marks (e ∷ []) + length below = omega arith in
     let grown : (k b : ℕ) → slice_get below k ≡ Some b → IsOnStack (xs ++ e ∷ []) a.starts below k b = λ k b there.
     let h = a.on_stack k b (up k b there) in
-    on_stack_grown xs e a.starts a.starts stack below k b h (within b h.start h.there) same balance (slice_get_within below k b there) in
+    on_stack_grown _ e _ _ _ below _ _ h (within b h.start h.there) same balance (slice_get_within below k b there) in
     let ending = a.on_stack (length below) top (get_pushed below top) in
-    let ended = closed_by xs e a.starts stack (length below) top ending (within top ending.start ending.there) more closes in
+    let ended = closed_by _ e _ _ _ _ ending (within top ending.start ending.there) more closes in
     let earlier : (outer : ℕ) → IsOpen (xs ++ e ∷ []) outer → IsOpen xs outer = λ outer still. elim (cases_lt outer n) [
-      | inl lt ↦ open_before xs e outer still lt
-      | inr ge ↦ absurd (let h = ap is_opening (opened_last xs e outer still (λ lt. omega arith)).1 in let g = ap is_opening closes in cc)
+      | inl lt ↦ open_before xs e _ still lt
+      | inr ge ↦ absurd (let h = ap is_opening (opened_last xs e _ still (λ lt. omega arith)).1 in let g = ap is_opening closes in cc)
     ] in
     let complete : (place : ℕ) → IsOpen (xs ++ e ∷ []) place → (k : ℕ) × (b : ℕ) × (slice_get below k ≡ Some b) × (slice_get a.starts b ≡ Some (suc place)) = λ place still.
-    let (k, b, on, begins) = a.complete place (earlier place still) in
+    let (k, b, on, begins) = a.complete _ (earlier place still) in
     elim (pushed_cases below top k b on) [
       | inl before ↦ (k, b, before, begins)
       | inr (at_end, is_top) ↦ absurd (ended (
-          let start_is : suc place ≡ ending.start = let at = subst (λ m. slice_get a.starts m ≡ Some (suc place)) (sym is_top) begins in cc in
-          subst (λ x. IsUnclosed (xs ++ e ∷ []) x) start_is still.unclosed))
+          let start_is : suc place ≡ ending.start = cc in
+          rw start_is at still.unclosed))
     ] in
-    let new_end = end_new xs e ending.start ending.unclosed ended in
     let holder = grown k under last in
     record {
       starts = a.starts;
@@ -344,23 +326,23 @@ scopes_closing never xs e blocks ends below k top under a size last closes =
       outermost = a.outermost;
       bottom = get_before below (top ∷ []) 0 0 (omega arith) a.bottom;
       rising = a.rising;
-      begun = λ b x there. begun_grown xs e x (a.begun b x there);
+      begun = λ b x there. begun_grown _ e _ (a.begun b x there);
       stacked = λ j k b c at_j at_k lt. a.stacked j k b c (up j b at_j) (up k c at_k) lt;
       on_stack = grown;
       complete = complete;
       ended = λ b x c begins ends_at. elim (get_set_cases ends top b n c ends_at) [
         | inl (is_top, is_end) ↦
-            let start_is : ending.start ≡ x = let there = ending.there in let at = subst (λ m. slice_get a.starts m ≡ Some x) is_top begins in cc in
-            inr (subst (λ m. IsEnd (xs ++ e ∷ []) x m) is_end (subst (λ y. IsEnd (xs ++ e ∷ []) y n) start_is new_end))
+            let start_is : ending.start ≡ x = let there = ending.there in cc in
+            inr (rw (← is_end) (rw start_is at (end_new xs e ending.start ending.unclosed ended)))
         | inr (apart, old) ↦ elim (a.ended b x c begins old) [
           | inl (is_never, k, on) ↦ elim (pushed_cases below top k b on) [
             | inl before ↦ inl (is_never, k, before)
             | inr (at_end, is_top) ↦ absurd (apart (sym is_top))
           ]
-          | inr end ↦ inr (end_grown xs e x c end)
+          | inr end ↦ inr (end_grown _ e _ _ end)
         ]
       ];
-      holders = holders_grown xs e a.starts a.starts blocks under a.held same a.holders
+      holders = holders_grown xs e _ _ blocks _ a.held same a.holders
           (holder_new xs e a.starts under holder.start holder.there (within under holder.start holder.there) holder.unclosed
           (λ outer before still.
           let (j, b, on, begins) = complete outer still in

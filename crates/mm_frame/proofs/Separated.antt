@@ -1,7 +1,5 @@
 -- The pairs that a `$d` adds.
-use Rattle.std.proofs.Common.{◌≡◌, ℕ, ◌+◌, ◌<◌, ◌≤◌, ◌⊎◌, inl, inr, ◌↔◌, Bool, true, false, IsTrue, take, List, [], ◌∷◌, ◌++◌, map, length, Contains, Some, refl, sym, ap, ◌∙◌, subst, arith}
-use Rattle.std.specs.List.{slice_get}
-use Rattle.std.specs.Bool.{if◌then◌else◌}
+use Rattle.std.proofs.Common.{◌≡◌, ℕ, ◌+◌, ◌<◌, ◌≤◌, ◌⊎◌, inl, inr, ◌↔◌, Bool, true, false, IsTrue, take, List, [], ◌∷◌, ◌++◌, map, length, Contains, Some, refl, sym, ap, ◌∙◌, subst, arith, slice_get, if◌then◌else◌}
 use Rattle.std.proofs.lemmas.Option.{slice_get_within}
 use Rattle.std.proofs.lemmas.Bool.{cases_lt, cases_order, le-ltb, lt-ltb}
 use Rattle.std.proofs.Math.Seq.{take-length}
@@ -133,16 +131,14 @@ pub is_old : (st : List Sentence) (a b n : ℕ) (r : Bool) → n ≡ length st
     → ((x y : List ℕ) → IsNumberOf st x a → IsNumberOf st y b
     → (IsTrue r ↔ IsDistinct (take n st) x y)) → r ≡ true → IsOld st a b
 is_old st a b n r all says holds x y at_x at_y =
-    let whole : take n st ≡ st = ap (λ m. take m st) all ∙ take-length st in
-    subst (λ ys. IsDistinct ys x y) whole ((says x y at_x at_y).0 holds)
+    rw (ap (λ m. take m st) all ∙ take-length st) at ((says x y at_x at_y).0 holds)
 
 pub is_fresh : (st : List Sentence) (a b n : ℕ) (r : Bool) → n ≡ length st
     → ((x y : List ℕ) → IsNumberOf st x a → IsNumberOf st y b
     → (IsTrue r ↔ IsDistinct (take n st) x y)) → r ≡ false → IsFresh st a b
 is_fresh st a b n r all says fails x y at_x at_y distinct =
     let whole : take n st ≡ st = ap (λ m. take m st) all ∙ take-length st in
-    let holds : r ≡ true = (says x y at_x at_y).1
-    (subst (λ ys. IsDistinct ys x y) (sym whole) distinct) in
+    let holds : r ≡ true = (says x y at_x at_y).1 (rw whole distinct) in
     absurd (cc)
 
 -- no member of a `$d` that breaks no rule stands twice
@@ -168,12 +164,11 @@ added st s symbols members u v a b all numbers stand lt at_u at_v fresh =
     let (y, in_v, name_v) = member_name (symbols_of st) members s.symbols v b numbers at_v in
     let has_x = contains_from_at s.symbols x (u, in_u) in
     let has_y = contains_from_at s.symbols y (v, in_v) in
-    let here_x : slice_get symbols a.0 ≡ Some x = subst (λ xs. slice_get xs a.0 ≡ Some x) (sym all) name_u in
-    let here_y : slice_get symbols b.0 ≡ Some y = subst (λ xs. slice_get xs b.0 ≡ Some y) (sym all) name_v in
+    let here_x : slice_get symbols a.0 ≡ Some x = rw all name_u in
+    let here_y : slice_get symbols b.0 ≡ Some y = rw all name_v in
     elim (cases_order a.0 b.0) [
       | inl is ↦
-          let same : a ≡ b = same_number a b is in
-          let e = stand u v a at_u (at_v ∙ ap (λ z. Some z) (sym same)) in
+          let e = stand u v a at_u (at_v ∙ ap (λ z. Some z) (sym (same_number a b is))) in
           absurd (omega arith)
       | inr (inl less) ↦ subst (IsAdded st s symbols) (sym (ordered_more b.0 a.0 (omega arith))) (less, x, y, here_x, here_y, has_x, has_y, λ d. fresh y x name_v name_u (distinct_other st x y d))
       | inr (inr more) ↦ subst (IsAdded st s symbols) (sym (ordered_less b.0 a.0 more)) (more, y, x, here_y, here_x, has_y, has_x, fresh y x name_v name_u)

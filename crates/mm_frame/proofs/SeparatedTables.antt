@@ -1,7 +1,5 @@
 -- A book's lists once a `$d` is written.
-use Rattle.std.proofs.Common.{◌≡◌, ℕ, ◌+◌, ◌<◌, ◌≤◌, length, List, [], ◌∷◌, ◌++◌, map, Some, None, refl, sym, ap, ◌∙◌, subst, length-append, arith}
-use Rattle.std.specs.List.{slice_get, slice_range}
-use Rattle.std.proofs.lemmas.List.{append-nil}
+use Rattle.std.proofs.Common.{◌≡◌, ℕ, ◌+◌, ◌≤◌, length, List, [], ◌∷◌, ◌++◌, map, Some, None, refl, sym, ap, ◌∙◌, length-append, arith, slice_get, slice_range, append-nil}
 use Rattle.mm_text.specs.declared.statement.Kind.TheVariants.{Floating, Essential, Distinct, Closing}
 use Rattle.mm_text.specs.Files.{most_bytes}
 use Rattle.mm_frame.specs.declared.number.Sym.{Sym}
@@ -9,7 +7,7 @@ use Rattle.mm_frame.specs.declared.tables.Tables.{Tables}
 use Rattle.mm_frame.specs.Sentence.{Sentence}
 use Rattle.mm_frame.specs.Rules.{IsMeant}
 use Rattle.mm_frame.specs.Form.{IsFormedSentence}
-use Rattle.mm_frame.specs.Numbers.{AreNumbers, declared_by, declared_in}
+use Rattle.mm_frame.specs.Numbers.{AreNumbers, declared_in}
 use Rattle.mm_frame.specs.Mirror.ScopesOf.{HaveScopes}
 use Rattle.mm_frame.specs.Mirror.Layout.{AreTables, AreStated, names_by, statements_of}
 use Rattle.mm_frame.specs.Mirror.Grows.{Grows, HaveRoom, SameLists, entry_of}
@@ -55,7 +53,7 @@ appended t v s members bytes tables are new =
     let names = t.symbols.names in
     let whole : names ++ [] ≡ names = append-nil names in
     let numbers : map (slice_get names) (map (λ n. n.0) members) ≡ map Some s.symbols =
-    subst (λ (ns : List (List ℕ)). map (slice_get ns) (map (λ n. n.0) members) ≡ map Some s.symbols) (sym tables.infos.all) new.numbered in
+    rw tables.infos.all new.numbered in
     let flat = t.flat.items ++ members in
     let part : slice_range flat (length t.flat.items) (length flat) ≡ members = added_part t.flat.items members in
     let size = length-append t.flat.items members in
@@ -67,8 +65,7 @@ appended t v s members bytes tables are new =
       said = same_sentence s Distinct None _ (sym new.kind) (sym new.label)
           (ap (λ ns. names_by ns (slice_range flat (length t.flat.items) (length flat))) whole ∙ ap (names_by names) part ∙ names_numbered names members s.symbols numbers);
       within = record { ordered = omega arith; within = omega arith };
-      numbers = λ i n there. subst (λ ns. n.0 < length ns) (sym whole)
-          (numbers_within names members s.symbols numbers i n there);
+      numbers = λ i n there. rw whole (numbers_within names members s.symbols numbers i n there);
       label = λ id is. absurd (cc);
     }
 
@@ -77,23 +74,22 @@ grown : (t v : Tables) (s : Sentence) (members : List Sym) (bytes : ℕ) → Are
     → AreStated (statements_of t ++ s ∷ []) t.symbols.names v.distinct.stated → AreGrown t v s
 grown t v s members bytes tables are new added =
     let st = statements_of t in
-    let declares : declared_by s ≡ [] = ap (λ k. declared_in k s.symbols) new.kind in
     let none : (kind : Kind) → ¬ (Distinct ≡ kind) → ¬ (s.kind ≡ kind) =
     λ kind apart is. apart (sym new.kind ∙ is) in
     let hypotheses = are.hypotheses ∙ sym (append-nil t.hypotheses.items) in
     let pairs = are.pairs ∙ sym (append-nil t.pairs.items) in
     let pieces = are.pieces ∙ sym (append-nil t.pieces.items) in
     record {
-      infos = rw (are.symbols, are.infos) (infos_other st t.symbols.names t.infos.items s
-          tables.infos declares (none Floating (λ e. cc)));
-      labels = rw (are.labels, are.named, are.log) (labels_none st t.labels.names t.named.items
-          t.log.items s _ tables.labels new.label refl (sym (all_statements t)));
+      infos = rw (are.symbols, are.infos) (infos_other _ _ _ s
+          tables.infos (ap (λ k. declared_in k s.symbols) new.kind) (none Floating (λ e. cc)));
+      labels = rw (are.labels, are.named, are.log) (labels_none _ _ _
+          _ s _ tables.labels new.label refl (sym (all_statements t)));
       scopes = are.scopes s new.kind;
-      essentials = rw are.essentials (essentials_other st t.essentials.items s tables.essentials
+      essentials = rw are.essentials (essentials_other _ _ s tables.essentials
           (none Essential (λ e. cc)) (none Closing (λ e. cc)));
       frames = rw (hypotheses, pairs, pieces, are.named) (frames_other st s t.hypotheses.items []
           t.pairs.items [] t.pieces.items [] t.named.items
-          (placed st t.labels.names t.named.items t.log.items tables.labels) tables.frames);
+          (placed _ _ _ _ tables.labels) tables.frames);
       typed = rw are.hypotheses (typings_grow st (s ∷ []) t.hypotheses.items tables.typed);
       stated = rw are.symbols added;
     }

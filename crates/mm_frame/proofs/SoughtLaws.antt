@@ -1,23 +1,21 @@
 -- Symbols that were looked up: what is said of their numbers is said of them.
-use Rattle.std.proofs.Common.{◌≡◌, ◌↔◌, IsTrue, ℕ, suc, ◌+◌, ◌<◌, inl, inr, Bool, true, false, length, take, get_or, List, [], ◌∷◌, ◌++◌, map, Contains, Option, Some, None, refl, sym, ap, ◌∙◌, subst, length-append, arith}
+use Rattle.std.proofs.Common.{◌≡◌, ◌↔◌, IsTrue, ℕ, suc, ◌+◌, ◌<◌, inl, inr, Bool, true, false, length, take, get_or, List, [], ◌∷◌, ◌++◌, map, Contains, Option, Some, None, refl, sym, ap, ◌∙◌, subst, length-append, arith, MatchOption}
 use Rattle.std.specs.List.{slice_get, FoldsTo}
-use Rattle.std.specs.Option.{MatchOption}
 use Rattle.std.specs.Iterator.{YieldsThen}
 use Rattle.std.specs.Fn.{Called}
 use denote.Param.Members.{Mut}
 use Rattle.std.proofs.lemmas.Option.{slice_get_within, slice_get_cases}
 use Rattle.std.proofs.lemmas.Iterator.{YieldsList}
 use Rattle.mm_text.specs.declared.token.Token.{Token}
-use Rattle.mm_text.specs.declared.statement.Kind.TheVariants.{Variables}
 use Rattle.mm_frame.specs.declared.number.Sym.{Sym}
 use Rattle.mm_frame.specs.declared.tables.SymbolInfo.{SymbolInfo}
-use Rattle.mm_frame.specs.Sentence.{Sentence, Declares, IsUse}
-use Rattle.mm_frame.specs.Active.{SomeActive, IsConstant, IsVariable, IsActiveSymbol, IsTyped}
+use Rattle.mm_frame.specs.Sentence.{Sentence, IsUse}
+use Rattle.mm_frame.specs.Active.{IsConstant, IsVariable, IsActiveSymbol, IsTyped}
 use Rattle.mm_frame.specs.Rules.{AllMeant, IsMeant}
 use Rattle.mm_frame.specs.Numbers.{symbols_of, IsNumberOf, AreNumbers}
 use Rattle.mm_frame.specs.Mirror.Layout.{AreInfos, IsKnown, IsDeclared, GivesType}
 use Rattle.mm_frame.specs.Mirror.Sought.{IsOfNumber, IsSought, AreSought, HasNumbers}
-use Rattle.mm_frame.proofs.LookupLaws.{known_number, unknown, untyped, some_of_active, active_symbol, both_ways}
+use Rattle.mm_frame.proofs.LookupLaws.{known_number, unknown, untyped, some_of_active, both_ways}
 use Rattle.mm_frame.proofs.NameLists.{map_snoc}
 use Rattle.mm_frame.proofs.Needed.{used_declared, declared_by_active}
 use Rattle.mm_text.proofs.Lists.{at_from_contains, contains_from_at}
@@ -27,10 +25,8 @@ use Rattle.mm_frame.proofs.RepeatsCode.{texts_of, text_at}
 
 -- one symbol with a number is all symbols with it
 pub of_number : (st : List Sentence) (x : List ℕ) (n : ℕ) (P : List ℕ → Type 0) (r : Bool) → IsNumberOf st x n → (IsTrue r ↔ P x) → IsTrue r ↔ IsOfNumber st n P
-of_number st x n P r is h = ((λ t. (x, is, h.0 t)), from)
-  where
-    from : IsOfNumber st n P → IsTrue r
-    from (y, there, p) = let same : y ≡ x = cc in h.1 (subst P same p)
+of_number st x n P r is h =
+    ((λ t. (x, is, h.0 t)), (λ (y, there, p). let same : y ≡ x = cc in h.1 (subst P same p)))
 
 -- nothing is said by a number that no symbol has
 pub no_number : (st : List Sentence) (n : ℕ) (P : List ℕ → Type 0) (r : Bool) → slice_get (symbols_of st) n ≡ None → r ≡ false → IsTrue r ↔ IsOfNumber st n P
@@ -65,10 +61,8 @@ sought_missing st names infos x n a missing is =
 
 -- what holds of declared symbols alone holds of a symbol if it does of the number that its look-up gave
 pub same_by_number : (st : List Sentence) (P : List ℕ → Type 0) (x : List ℕ) (n : ℕ) → IsSought st x n → (¬ (IsDeclared st x) → ¬ (P x)) → IsOfNumber st n P ↔ P x
-same_by_number st P x n (inl is) never = (to, (λ p. (x, is, p)))
-  where
-    to : IsOfNumber st n P → P x
-    to (y, there, p) = let same : y ≡ x = cc in subst P same p
+same_by_number st P x n (inl is) never =
+    ((λ (y, there, p). let same : y ≡ x = cc in subst P same p), (λ p. (x, is, p)))
 same_by_number st P x n (inr (missing, none)) never = ((λ (y, there, p). absurd (cc)), (λ p. absurd (never missing p)))
 
 pub constant_by_number : (st : List Sentence) (x : List ℕ) (n : ℕ) → IsSought st x n → IsOfNumber st n (λ y. IsConstant st y) ↔ IsConstant st x
@@ -94,20 +88,17 @@ both h k = ((λ (a, c). (h.0 a, k.0 c)), (λ (b, d). (h.1 b, k.1 d)))
 -- some number is so if some symbol is
 some_sought : (st : List Sentence) (ns : List ℕ) (xs : List (List ℕ)) (Q : ℕ → Type 0) (P : List ℕ → Type 0) → AreSought st ns xs → ((x : List ℕ) (n : ℕ) → IsSought st x n → Q n ↔ P x)
     → SomeAt ns Q ↔ ((x : List ℕ) × Contains xs x × P x)
-some_sought st ns xs Q P are same = (to, from)
-  where
-    to : SomeAt ns Q → (x : List ℕ) × Contains xs x × P x
-    to (k, n, there, q) =
-        let lt = slice_get_within ns k n there in
-        let (x, at) = get_within xs k (let e = are.count in omega (arith, e)) in
-        (x, contains_from_at xs x (k, at), (same x n (are.each k n x there at)).0 q)
-
-    from : (x : List ℕ) × Contains xs x × P x → SomeAt ns Q
-    from (x, c, p) =
-        let (k, at) = at_from_contains xs x c in
-        let lt = slice_get_within xs k x at in
-        let (n, there) = get_within ns k (let e = are.count in omega (arith, e)) in
-        (k, n, there, (same x n (are.each k n x there at)).1 p)
+some_sought st ns xs Q P are same = (
+  (λ (k, n, there, q).
+      let lt = slice_get_within ns k n there in
+      let (x, at) = get_within xs k (let e = are.count in omega (arith, e)) in
+      (x, contains_from_at xs x (k, at), (same x n (are.each k n x there at)).0 q)),
+  (λ (x, c, p).
+      let (k, at) = at_from_contains xs x c in
+      let lt = slice_get_within xs k x at in
+      let (n, there) = get_within ns k (let e = are.count in omega (arith, e)) in
+      (k, n, there, (same x n (are.each k n x there at)).1 p)),
+)
 
 -- what `any` answers over the numbers of symbols, where the closure answers by the number whether P holds of the symbol
 pub number_says : {S A F : Type 0} {steps : S → Option A → S → Type 0} {v : A → Sym} {g : Mut F (A × Unit {0}) Bool} {s : S} {all : List Sym} (st : List Sentence) (symbols : List (List ℕ)) (Q : ℕ → Type 0) (P : List ℕ → Type 0) (u : S) (f : F) (r : Bool)
@@ -116,16 +107,6 @@ pub number_says : {S A F : Type 0} {steps : S → Option A → S → Type 0} {v 
     → ((x : A) (b : Bool) (q : F) → Called g f (x, tt) b q → (q ≡ f) × (IsTrue b ↔ Q ((v x).0))) → IsTrue r ↔ ((x : List ℕ) × Contains symbols x × P x)
 number_says {all = all} st symbols Q P u f r ran list are same calls =
     both_ways (some_says (λ (n : Sym). n.0) Q u f r ran list calls) (some_sought st _ symbols Q P are same)
-
--- a variable is active if its `$v` is
-pub active_variable : (st : List Sentence) (x : List ℕ) (r : Bool) → AllMeant st → ¬ (IsConstant st x) → (IsTrue r ↔ SomeActive st (Declares Variables x)) → IsTrue r ↔ IsActiveSymbol st x
-active_variable st x r meant other h =
-    let either = active_symbol st x meant in
-    ((λ t. either.1 (inr (h.0 t))), (λ a. elim (either.0 a) [ inl c ↦ absurd (other c) | inr v ↦ h.1 v ]))
-
--- nothing was looked up yet
-pub sought_none_yet : (st : List Sentence) → AreSought st [] []
-sought_none_yet st = record { count = refl; each = λ i n x there at. absurd (cc) }
 
 -- one more was looked up
 sought_pushed : (st : List Sentence) (ns : List ℕ) (xs : List (List ℕ)) (n : ℕ) (x : List ℕ) → AreSought st ns xs → IsSought st x n → AreSought st (ns ++ n ∷ []) (xs ++ x ∷ [])
@@ -152,9 +133,7 @@ sought_more st numbers n tokens i d lt are is =
     let one : i + 1 ≡ suc i = omega arith in
     let next : take (i + 1) (texts_of tokens) ≡ take i (texts_of tokens) ++ x ∷ [] =
     ap (λ k. take k (texts_of tokens)) one ∙ take_next (texts_of tokens) i x (text_at tokens i d lt) in
-    let longer = map_snoc (λ (m : Sym). m.0) numbers n in
-    let pushed = sought_pushed st (map (λ (m : Sym). m.0) numbers) (take i (texts_of tokens)) n.0 x are is in
-    subst (λ (ns : List ℕ). AreSought st ns (take (i + 1) (texts_of tokens))) (sym longer) (subst (λ (xs : List (List ℕ)). AreSought st (map (λ (m : Sym). m.0) numbers ++ n.0 ∷ []) xs) (sym next) pushed)
+    rw (map_snoc (λ (m : Sym). m.0) numbers n) (rw next (sought_pushed _ _ _ n.0 x are is))
 
 -- the numbers of declared symbols
 numbers_each : (st : List Sentence) (ns : List ℕ) (xs : List (List ℕ)) → length ns ≡ length xs
@@ -185,11 +164,10 @@ first_says st [] xs n r are there h = absurd (cc)
 first_says st (m ∷ numbers) [] n r are there h = absurd (let e = are.count in omega (arith, e))
 first_says st (m ∷ numbers) (x ∷ xs) n r are there h =
     let is : m ≡ n = cc in
-    let one = both_ways h (variable_by_number st x n.0 (subst (λ (k : Sym). IsSought st x k.0) is (are.each 0 m.0 x refl refl))) in
-    ((λ t. (x, xs, refl, one.0 t)), from one)
-  where
-    from : (IsTrue r ↔ IsVariable st x) → ((first : List ℕ) × (others : List (List ℕ)) × (x ∷ xs ≡ first ∷ others) × IsVariable st first) → IsTrue r
-    from one (first, others, same, v) = let is : first ≡ x = cc in one.1 (subst (λ y. IsVariable st y) is v)
+    let one = both_ways h (variable_by_number st x n.0 (rw is at (are.each 0 m.0 x refl refl))) in (
+      (λ t. (x, xs, refl, one.0 t)),
+      (λ (first, others, same, v). let e : first ≡ x = cc in one.1 (rw e at v)),
+    )
 
 pub no_first : (st : List Sentence) (numbers : List Sym) (xs : List (List ℕ)) → AreSought st (map (λ n. n.0) numbers) xs → slice_get numbers 0 ≡ None
     → ¬ ((first : List ℕ) × (others : List (List ℕ)) × (xs ≡ first ∷ others) × IsVariable st first)

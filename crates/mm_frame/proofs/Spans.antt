@@ -1,7 +1,5 @@
 -- The spans of pairs, one after the other and linked.
-use Rattle.std.proofs.Common.{◌≡◌, ◌≢◌, ℕ, suc, ◌+◌, ◌<◌, ◌≤◌, inl, inr, true, cond, ◌==◌, length, length-append, List, [], ◌∷◌, ◌++◌, map, Option, Some, None, refl, sym, ap, ◌∙◌, subst, arith}
-use Rattle.std.specs.List.{slice_get}
-use Rattle.std.specs.Option.{option_and_then}
+use Rattle.std.proofs.Common.{◌≡◌, ◌≢◌, ℕ, suc, ◌+◌, ◌<◌, ◌≤◌, inl, inr, true, cond, ◌==◌, length, length-append, List, [], ◌∷◌, ◌++◌, map, Option, Some, None, refl, sym, ap, ◌∙◌, subst, arith, slice_get, option_and_then}
 use Rattle.std.proofs.lemmas.Option.{slice_get_within}
 use Rattle.std.proofs.lemmas.Bool.{cases_lt, cases_order, cases_Bool, and_parts, and_from, eqb-true, eq-eqb}
 use Rattle.std.specs.Map.{update}
@@ -16,11 +14,6 @@ pub record IsLeft (spans : List Span) (newest next : Option ℕ) (before steps :
   pub left : (pair : ℕ × ℕ) → IsLastSpan spans (length spans) pair newest
       → (n : ℕ) × (n + steps ≤ length spans) × IsLastSpan spans n pair next
       × ((j : ℕ) (span : Span) → n ≤ j → slice_get spans j ≡ Some span → span.pair ≡ pair → before ≤ span.place)
-
-pub left_first : (spans : List Span) (newest : Option ℕ) (before : ℕ) → IsLeft spans newest newest before 0
-left_first spans newest before = record {
-  left = λ pair last. (length spans, omega arith, last, λ j span le there same. absurd (let lt = slice_get_within spans j span there in omega arith));
-}
 
 -- the one further back
 pub step_next : (spans : List Span) (newest next : Option ℕ) (before steps : ℕ) (span : Span) → AreOlder spans → IsLeft spans newest next before steps → option_and_then (λ n. slice_get spans n) next ≡ Some span → before ≤ span.place
@@ -123,15 +116,10 @@ last_passed spans n pair (Some k) s there other (lt, found, after) = (
   ],
 )
 
-last_here : (spans : List Span) (n : ℕ) (pair : ℕ × ℕ) (s : Span) → slice_get spans n ≡ Some s → s.pair ≡ pair → IsLastSpan spans (suc n) pair (Some n)
-last_here spans n pair s there same = (omega arith, (s, there, same), λ j span above below at. absurd (omega arith))
-
 same_key : (p q : ℕ × ℕ) → is_same_key p q ≡ true → p ≡ q
 same_key p q is =
     let (first, second) = and_parts (p.0 == q.0) (p.1 == q.1) is in
-    let e : p.0 ≡ q.0 = eqb-true p.0 q.0 first in
-    let f : p.1 ≡ q.1 = eqb-true p.1 q.1 second in
-    ap (λ a. (a, p.1)) e ∙ ap (λ b. (q.0, b)) f
+    ap (λ a. (a, p.1)) (eqb-true p.0 q.0 first) ∙ ap (λ b. (q.0, b)) (eqb-true p.1 q.1 second)
 
 key_same : (p q : ℕ × ℕ) → p ≡ q → is_same_key p q ≡ true
 key_same p q same = and_from (p.0 == q.0) (p.1 == q.1) (eq-eqb p.0 q.0 (ap (λ r. r.0) same)) (eq-eqb p.1 q.1 (ap (λ r. r.1) same))
@@ -145,22 +133,20 @@ linked_push spans old new pair place linked updates =
     let size = length-append spans (s ∷ []) in
     let next : suc (length spans) ≡ length (spans ++ s ∷ []) = omega arith in
     record {
-      last = λ p. subst (λ n. IsLastSpan (spans ++ s ∷ []) n p (new p)) next (elim (cases_Bool (is_same_key pair p)) [
+      last = λ p. rw (← next) (elim (cases_Bool (is_same_key pair p)) [
         | inl is ↦
             let value : new p ≡ Some (length spans) = updates p ∙ ap (λ b. cond b (Some (length spans)) (old p)) is in
-            subst (λ o. IsLastSpan (spans ++ s ∷ []) (suc (length spans)) p o) (sym value) (last_here (spans ++ s ∷ []) (length spans) p s here (same_key pair p is))
+            rw value (omega arith, (_, here, same_key pair p is), λ j span above below at. absurd (omega arith))
         | inr is_not ↦
-            let value : new p ≡ old p = updates p ∙ ap (λ b. cond b (Some (length spans)) (old p)) is_not in
-            let other : pair ≢ p = λ same. let t = key_same pair p same in absurd (cc) in
-            subst (λ o. IsLastSpan (spans ++ s ∷ []) (suc (length spans)) p o) (sym value)
+            let other : pair ≢ p = λ same. let t = key_same _ _ same in absurd (cc) in
+            rw (updates p ∙ ap (λ b. cond b (Some (length spans)) (old p)) is_not)
             (last_passed (spans ++ s ∷ []) (length spans) p (old p) s here other (last_grow spans (s ∷ []) (length spans) p (old p) (omega arith) (linked.last p)))
       ]);
       older = λ i span there. elim (pushed_cases spans s i span there) [
         | inl before ↦
             let lt = slice_get_within spans i span before in
             last_grow spans (s ∷ []) i span.pair span.older (omega arith) (linked.older i span before)
-        | inr (at_end, same) ↦
-            subst (λ (t : Span). IsLastSpan (spans ++ s ∷ []) i t.pair t.older) same
-            (subst (λ n. IsLastSpan (spans ++ s ∷ []) n pair (old pair)) (sym at_end) (last_grow spans (s ∷ []) (length spans) pair (old pair) (omega arith) (linked.last pair)))
+        | inr (at_end, same) ↦ rw (← same)
+            (rw at_end (last_grow spans (s ∷ []) (length spans) pair (old pair) (omega arith) (linked.last pair)))
       ];
     }

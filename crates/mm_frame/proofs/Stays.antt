@@ -8,8 +8,7 @@ use Rattle.mm_frame.specs.Sentence.{Sentence}
 use Rattle.mm_frame.specs.Active.{IsOpen, Holds, IsActive}
 use Rattle.mm_text.specs.Blocks.{is_closing}
 use Rattle.mm_text.proofs.Lists.{get_kept, get_before}
-use Rattle.mm_frame.proofs.Counts.{openings-append, closings-append, unclosed_pushed, unclosed_before, unclosed_all}
-use Rattle.mm_frame.proofs.Counts.{open_in}
+use Rattle.mm_frame.proofs.Counts.{openings-append, closings-append, unclosed_pushed, unclosed_before, unclosed_all, open_in}
 use Rattle.mm_frame.proofs.ScopeLaws.{closings_one, length_pushed, all_taken}
 use Rattle.mm_frame.proofs.Actives.{holds_kept, holds_back}
 

@@ -1,7 +1,6 @@
 -- The symbols of a statement, as its tokens spell them.
-use Rattle.std.proofs.Common.{◌≡◌, ◌⊎◌, inl, inr, ◌↔◌, IsTrue, Contains, ℕ, length, Bool, true, false, List, [], ◌∷◌, map, Option, refl, sym, ap, subst}
+use Rattle.std.proofs.Common.{◌≡◌, ◌⊎◌, inl, inr, ◌↔◌, IsTrue, Contains, ℕ, length, Bool, true, false, List, [], ◌∷◌, map, Option, refl, sym, ap, subst, MatchOption}
 use Rattle.std.specs.List.{FoldsTo}
-use Rattle.std.specs.Option.{MatchOption}
 use Rattle.std.specs.Iterator.{YieldsThen}
 use Rattle.std.specs.Fn.{Called}
 use denote.Param.Members.{Mut}

@@ -1,12 +1,10 @@
 -- The elements of a list at given places are those of which something holds.
-use Rattle.std.proofs.Common.{◌≡◌, ◌↔◌, ℕ, zero, suc, ◌+◌, ◌<◌, ◌≤◌, inl, inr, length, drop, List, [], ◌∷◌, map, Contains, Some, refl, sym, ap, ◌∙◌, subst, arith}
-use Rattle.std.specs.List.{slice_get}
+use Rattle.std.proofs.Common.{◌≡◌, ◌↔◌, ℕ, zero, suc, ◌+◌, ◌<◌, ◌≤◌, inl, inr, length, drop, List, [], ◌∷◌, map, Contains, Some, refl, sym, ap, ◌∙◌, arith, slice_get, length-drop}
 use Rattle.std.proofs.lemmas.Bool.{cases_eq}
 use Rattle.mm_frame.specs.Sentence.{Sentence}
 use Rattle.mm_frame.specs.Frame.{AreThose, AreMandatory, IsMandatoryAt, IsDistinct}
 use Rattle.mm_text.proofs.Lists.{at_from_contains, contains_from_at}
 use Rattle.mm_frame.proofs.Numbered.{At}
-use Rattle.std.proofs.lemmas.List.{length-drop}
 
 -- there is one list of those only
 pub those_unique : {X : Type 0} (P : ℕ → X → Type 0) (n : ℕ) (xs ys zs : List X) → AreThose P n xs ys → AreThose P n xs zs → ys ≡ zs
@@ -40,9 +38,6 @@ rest_first [] zero x xs e = absurd (cc)
 rest_first [] (suc n) x xs e = absurd (cc)
 rest_first (y ∷ whole) zero x xs e = (cc, cc)
 rest_first (y ∷ whole) (suc n) x xs e = rest_first whole n x xs e
-
-rest_none : {X : Type 0} (whole : List X) (n : ℕ) → drop n whole ≡ [] → length whole ≤ n
-rest_none whole n e = omega (arith, length-drop n whole, ap length e)
 
 -- places rise, lie from a place on within the list, and are those where P holds
 record AreAll {X : Type 0} (P : ℕ → X → Type 0) (whole : List X) (n : ℕ) (places : List ℕ) : Type 0 where
@@ -79,31 +74,30 @@ those_from : {X : Type 0} (P : ℕ → X → Type 0) (whole : List X) (n : ℕ) 
     → (ys : List X) × AreThose P n xs ys × (map (slice_get whole) places ≡ map (λ y. Some y) ys)
 those_from P whole n [] [] is all = ([], refl, refl)
 those_from P whole n [] (p ∷ places) is all =
-    let h = rest_none whole n is in
+    let h : length whole ≤ n = omega (arith, length-drop n whole, ap length is) in
     let inside = all.within 0 p refl in
     absurd (let ge = inside.0 in let lt = inside.1 in omega arith)
 those_from {X} P whole n (x ∷ xs) [] is all =
     let (here, rest) = rest_first whole n x xs is in
     let more : n + 1 ≡ suc n = omega arith in
     let absent : ¬ (P n x) = λ holds. let (i, there) = all.each n x (omega arith) here holds in cc in
-    let (ys, those, same) = those_from P whole (suc n) xs [] rest (all_past P whole n [] (λ i p there. absurd (cc)) all) in
-    (ys, inr (absent, subst (λ m. AreThose P m xs ys) (sym more) those), same)
+    let (ys, those, same) = those_from _ _ _ xs _ rest (all_past _ _ _ _ (λ i p there. absurd (cc)) all) in
+    (ys, inr (absent, rw more those), same)
 those_from {X} P whole n (x ∷ xs) (p ∷ places) is all =
     let (here, rest) = rest_first whole n x xs is in
     let more : n + 1 ≡ suc n = omega arith in
     elim (cases_eq p n) [
       | inl same ↦
-          let holds : P n x = subst (λ m. P m x) same (all.only 0 p x refl (subst (λ m. slice_get whole m ≡ Some x) (sym same) here)) in
-          let (ys, those, values) = those_from P whole (suc n) xs places rest (all_after P whole n p places same all) in
-          let first : slice_get whole p ≡ Some x = subst (λ m. slice_get whole m ≡ Some x) (sym same) here in
-          (x ∷ ys, inl (holds, ys, refl, subst (λ m. AreThose P m xs ys) (sym more) those), cc)
+          let holds = rw same at (all.only 0 p x refl (rw same here)) in
+          let (ys, those, values) = those_from _ _ _ xs _ rest (all_after _ _ _ _ places same all) in
+          let first : slice_get whole p ≡ Some x = rw same here in
+          (x ∷ ys, inl (holds, ys, refl, rw more those), cc)
       | inr apart ↦
-          let inside = all.within 0 p refl in
-          let lt : n < p = let ge = inside.0 in omega arith in
+          let lt : n < p = let ge = (all.within 0 p refl).0 in omega arith in
           let above : (i q : ℕ) → slice_get (p ∷ places) i ≡ Some q → n < q = above_first n p places lt all.rise in
           let absent : ¬ (P n x) = λ holds. let (i, there) = all.each n x (omega arith) here holds in let h = above i n there in omega arith in
-          let (ys, those, values) = those_from P whole (suc n) xs (p ∷ places) rest (all_past P whole n (p ∷ places) above all) in
-          (ys, inr (absent, subst (λ m. AreThose P m xs ys) (sym more) those), values)
+          let (ys, those, values) = those_from _ _ _ xs _ rest (all_past _ _ _ _ above all) in
+          (ys, inr (absent, rw more those), values)
     ]
   where
     above_first : (n p : ℕ) (places : List ℕ) → n < p → Rise (p ∷ places) → (i q : ℕ) → slice_get (p ∷ places) i ≡ Some q → n < q

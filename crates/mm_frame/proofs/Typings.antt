@@ -1,7 +1,5 @@
 -- What stands with the labels of mandatory hypotheses stays so as statements are added.
-use Rattle.std.proofs.Common.{◌≡◌, ℕ, inl, inr, length, take, List, [], ◌∷◌, ◌++◌, map, Option, Some, None, refl, sym, subst}
-use Rattle.std.specs.List.{slice_get, slice_range}
-use Rattle.mm_text.specs.Statement.{FitsCount}
+use Rattle.std.proofs.Common.{◌≡◌, ℕ, inl, inr, length, take, List, [], ◌∷◌, ◌++◌, map, Option, Some, None, refl, sym, subst, slice_get}
 use Rattle.mm_text.specs.declared.statement.Kind.TheVariants.{Floating}
 use Rattle.mm_frame.specs.declared.hypothesis.Hypothesis.{Hypothesis}
 use Rattle.mm_frame.specs.declared.number.Sym.{Sym}
@@ -10,8 +8,7 @@ use Rattle.mm_frame.specs.Form.{AllFormed, IsFormedSentence}
 use Rattle.mm_frame.specs.Numbers.{labelled_sentences, AreNumbers, IsNumberOf}
 use Rattle.mm_frame.specs.FramePlace.{IsTypingOf, HasTyping, HaveTypings}
 use Rattle.mm_frame.specs.Mirror.Gathered.{ArePlaces}
-use Rattle.mm_text.proofs.Lists.{pushed_cases, get_within, contains_from_at, append_cases}
-use Rattle.mm_frame.proofs.Entries.{get_sliced}
+use Rattle.mm_text.proofs.Lists.{get_within, contains_from_at, append_cases}
 use Rattle.mm_frame.proofs.Numbered.{symbols_grow}
 use Rattle.mm_frame.proofs.Labelled.{labelled_grow, numbered_at, numbered_get}
 use Rattle.mm_frame.proofs.FrameOf.{place_named}
@@ -34,21 +31,6 @@ typings_join st xs ys first second i hypothesis there = elim (append_cases xs ys
   | inr (j, is, after) ↦ second j hypothesis after
 ]
 
-pub typings_none : (st : List Sentence) → HaveTypings st []
-typings_none st i hypothesis there = absurd (cc)
-
-pub typings_part : (st : List Sentence) (hs part : List Hypothesis) (a b : ℕ) → part ≡ slice_range hs a b → HaveTypings st hs → HaveTypings st part
-typings_part st hs part a b is have i hypothesis there =
-    let (j, at) = get_sliced hs a b i hypothesis (subst (λ ys. slice_get ys i ≡ Some hypothesis) is there) in
-    have j hypothesis at
-
--- one hypothesis more
-pub typings_push : (st : List Sentence) (hs : List Hypothesis) (new : Hypothesis) → HaveTypings st hs → HasTyping st new → HaveTypings st (hs ++ new ∷ [])
-typings_push st hs new have is i hypothesis there = elim (pushed_cases hs new i hypothesis there) [
-  | inl before ↦ have i hypothesis before
-  | inr (last, same) ↦ subst (HasTyping st) same is
-]
-
 -- the numbers of the two symbols of a `$f`
 two_numbers : (st : List Sentence) (ns : List Sym) (code x : List ℕ) → AreNumbers st (map (λ n. n.0) ns) (code ∷ x ∷ []) → (a : Sym) × (b : Sym) × (ns ≡ a ∷ b ∷ []) × IsNumberOf st code a.0 × IsNumberOf st x b.0
 two_numbers st (a ∷ b ∷ []) code x are = (a, b, refl, cc, cc)
@@ -57,8 +39,7 @@ two_numbers st ns code x are = absurd cc
 pub typing_says : (st : List Sentence) (f : Sentence) (ns : List Sym) → IsFormedSentence f → f.kind ≡ Floating → AreNumbers st (map (λ n. n.0) ns) f.symbols
     → (a : Sym) × (b : Sym) × (ns ≡ a ∷ b ∷ []) × IsTypingOf st (Some (a, b)) f
 typing_says st f ns formed kind are =
-    let count : length f.symbols ≡ 2 = subst (λ k. FitsCount k (length f.symbols)) kind formed.count in
-    let (code, x, parts) = two_parts f.symbols count in
+    let (code, x, parts) = two_parts f.symbols (rw kind at formed.count) in
     let (a, b, is, first, second) = two_numbers st ns code x (subst (AreNumbers st (map (λ n. n.0) ns)) parts are) in
     (a, b, is, (code, x, (kind, parts), first, second))
 

@@ -1,9 +1,6 @@
 -- Statements that used symbols, and what they say by numbers.
-use Rattle.std.proofs.Common.{◌≡◌, ℕ, ◌+◌, ◌≤◌, inl, inr, length, List, map, Option, Some, None, Result, refl, sym, ap, subst, arith}
-use Rattle.std.proofs.Common.{◌∷◌, []}
+use Rattle.std.proofs.Common.{◌≡◌, ℕ, ◌+◌, ◌≤◌, inl, inr, length, List, map, Option, Some, None, Result, refl, sym, ap, subst, arith, ◌∷◌, [], option_map, IfOk}
 use Rattle.std.specs.List.{slice_get, AllByRecursion, sum_by}
-use Rattle.std.specs.Option.{option_map}
-use Rattle.std.specs.Result.{IfOk}
 use Rattle.std.proofs.lemmas.Result.{IfOk-weaker}
 use Rattle.std.proofs.lemmas.List.{length-map}
 use Rattle.mm_text.specs.declared.token.Token.{Token}

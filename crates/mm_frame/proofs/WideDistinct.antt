@@ -1,7 +1,5 @@
 -- The `$d` of many variables that are kept as they are written.
-use Rattle.std.proofs.Common.{◌≡◌, ◌≢◌, ℕ, zero, suc, ◌-◌, ◌<◌, ◌≤◌, inl, inr, length, take, get_or, List, [], ◌∷◌, ◌++◌, Contains, Some, refl, sym, ap, ◌∙◌, subst, arith}
-use Rattle.std.proofs.Common.{◌+◌}
-use Rattle.std.specs.List.{slice_get}
+use Rattle.std.proofs.Common.{◌≡◌, ◌≢◌, ℕ, ◌-◌, ◌<◌, ◌≤◌, inl, inr, length, take, get_or, List, [], ◌∷◌, ◌++◌, Contains, Some, refl, sym, ap, ◌∙◌, subst, arith, ◌+◌, slice_get}
 use Rattle.std.proofs.lemmas.Bool.{cases_lt}
 use Rattle.std.proofs.lemmas.List.{take-append-le, length-take-le, take-take}
 use Rattle.std.proofs.Math.Seq.{take-length}
@@ -17,10 +15,6 @@ use Rattle.mm_text.proofs.Lists.{get_kept, get_in_front}
 use Rattle.mm_frame.proofs.Meant.{active_in_front}
 use Rattle.mm_frame.proofs.Numbered.{symbols_unique}
 
-pub positive : (n : ℕ) → n ≢ 0 → 0 < n
-positive zero apart = absurd (apart refl)
-positive (suc n) apart = omega arith
-
 -- the last of the first so many, as it is read
 pub wide_at : (wide read : List WideDistinct) (n m : ℕ) (w : WideDistinct) → read ≡ wide → n ≢ 0
     → n + m ≤ length wide → w ≡ get_or read (n - 1) w → slice_get wide (n - 1) ≡ Some w
@@ -35,8 +29,7 @@ pub none_next : (P : WideDistinct → Type 0) (wide : List WideDistinct) (n : �
 none_next P wide n w some there other none k v le at = elim (cases_lt k n) [
   | inl before ↦
       let same : k ≡ n - 1 = omega arith in
-      let e : v ≡ w = let h = subst (λ m. slice_get wide m ≡ Some v) same at in cc in
-      λ holds. other (subst P e holds)
+      λ holds. let e : v ≡ w = cc in other (subst P e holds)
   | inr after ↦ none k v after at
 ]
 
@@ -54,8 +47,7 @@ pub active_shorter : (st : List Sentence) (k n q : ℕ) → k < n → n ≤ q �
     → IsActive (take q st) k → IsActive (take n st) k
 active_shorter st k n q lt le within active =
     let size = length-take-le q st within in
-    subst (λ ys. IsActive ys k) (take-take n q st le)
-    (active_in_front (take q st) k n lt (omega arith) active)
+    rw (take-take n q st le) at (active_in_front _ _ n lt (omega arith) active)
 
 -- one that stands before a place passes none that is active there
 pub passes_none : (st : List Sentence) (symbols : List (List ℕ)) (wide : List WideDistinct)
@@ -104,18 +96,14 @@ held_distinct st symbols wide a b q x y all are at_a at_b apart
     let (v, at_v, in_v) = is.only b in_b in
     let same_x : u ≡ x = cc in
     let same_y : v ≡ y = cc in (
-      (λ same. apart (symbols_unique st a b x (subst (λ xs. slice_get xs a ≡ Some x) all at_a)
-          (subst (λ xs. slice_get xs b ≡ Some x) all (at_b ∙ ap (λ z. Some z) (sym same))))),
+      (λ same. apart (symbols_unique st a b x (rw all at at_a)
+          (rw all at (at_b ∙ ap (λ z. Some z) (sym same))))),
       (
         w.place,
         is.d,
         get_in_front st q w.place is.d before is.there,
         active,
-        (
-          is.kind,
-          subst (Contains is.d.symbols) same_x in_u,
-          subst (Contains is.d.symbols) same_y in_v,
-        ),
+        (is.kind, rw same_x at in_u, rw same_y at in_v),
       ),
     )
 
@@ -140,10 +128,6 @@ wide_grow st e symbols more wide old are = record {
   older = are.older;
   passed = λ i k w v at_i at_k le lt.
       let (less, inactive) = are.passed i k w v at_i at_k le lt in
-      let is = are.each i w at_i in
-      let within = slice_get_within st w.place is.d is.there in (
-        less,
-        subst (λ ys. ¬ (IsActive ys v.place))
-            (sym (take-append-le w.place st (e ∷ []) (omega arith))) inactive,
-      );
+      let within = slice_get_within st w.place (are.each i w at_i).d (are.each i w at_i).there in
+      (less, rw (take-append-le w.place st (e ∷ []) (omega arith)) inactive);
 }

@@ -1,6 +1,5 @@
 -- What was written at the end of a book's lists, and what it says.
-use Rattle.std.proofs.Common.{◌≡◌, ℕ, ◌-◌, length, take, List, [], ◌∷◌, ◌++◌, map, unwrap_or, Option, Some, refl, ap, ◌∙◌, length-append, arith}
-use Rattle.std.specs.List.{slice_get, slice_range}
+use Rattle.std.proofs.Common.{◌≡◌, ℕ, ◌-◌, length, take, List, [], ◌∷◌, ◌++◌, map, unwrap_or, Option, Some, refl, ap, ◌∙◌, length-append, arith, slice_get, slice_range}
 use Rattle.std.proofs.Math.Seq.{drop-append_seam, take-length}
 use Rattle.mm_text.specs.declared.statement.Kind.{Kind}
 use Rattle.mm_frame.specs.declared.number.Sym.{Sym}
@@ -20,9 +19,7 @@ names_numbered names [] [] are = refl
 names_numbered names (n ∷ numbers) (x ∷ xs) are =
     let here : slice_get names n.0 ≡ Some x = cc in
     let rest : map (slice_get names) (map (λ n. n.0) numbers) ≡ map Some xs = cc in
-    let head : unwrap_or (slice_get names n.0) [] ≡ x = ap (λ o. unwrap_or o []) here in
-    let tail = names_numbered names numbers xs rest in
-    cc (head, tail)
+    cc (ap (λ o. unwrap_or o []) here, names_numbered names numbers xs rest)
 names_numbered names numbers xs are = absurd cc
 
 -- a sentence of the same kind, label and symbols is the same

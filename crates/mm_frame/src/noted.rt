@@ -77,6 +77,7 @@ impl NotedPlaces {
     }
 
     /// Notes the places of the variables' `$f` among some hypotheses.
+    #[tactic(auto, using(std::proofs::lemmas::List::take_all, crate::proofs::FirstPlaces::noted_untyped, crate::proofs::FirstPlaces::noted_more,))]
     pub(crate) fn note(&mut self, hypotheses: &[Hypothesis]) -> Result<(), AllocError>
         ensures { OnOk result (AreNoted self.new.places.items (variables_of hypotheses.now)) }
     {

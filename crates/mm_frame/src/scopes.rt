@@ -119,6 +119,7 @@ impl Scopes {
     }
 
     // Takes a `${` in.
+    #[tactic(auto, using(crate::proofs::ScopeCode::begun))]
     fn begin(&mut self)
         requires room { HasRoom self.old }
         requires scopes { (statements : List Sentence) × HaveScopes statements self.old }
@@ -132,6 +133,7 @@ impl Scopes {
     }
 
     // Takes another statement in.
+    #[tactic(auto, using(crate::proofs::ScopeCode::stayed))]
     fn stay(&mut self)
         requires room { HasRoom self.old }
         requires scopes { (statements : List Sentence) × HaveScopes statements self.old }

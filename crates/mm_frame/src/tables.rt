@@ -53,6 +53,7 @@ pub(crate) struct LabelInfo {
 }
 
 /// The symbols of the statement at a place, by the statements and the symbols of a book.
+#[tactic(auto, using(crate::proofs::SymbolsAt::numbers_at))]
 pub(crate) fn symbols_in<'b>(log: &[Entry], flat: &'b [Sym], place: usize) -> &'b [Sym]
     requires { place < length log.now }
     ensures { (t : Tables) (s : Sentence) → AreTables t → t.log.items ≡ log.now
@@ -148,6 +149,7 @@ impl<'a> Tables<'a> {
     }
 
     /// What is known of a symbol by its name.
+    #[tactic(auto, using(crate::proofs::LookupLaws::known_match, crate::proofs::LookupLaws::unknown,))]
     pub(crate) fn symbol_info(&self, symbol: &[u8]) -> Option<SymbolInfo>
         requires { AreTables self.now }
         ensures { MatchOption
@@ -179,6 +181,7 @@ impl<'a> Tables<'a> {
     }
 
     /// The variable of the `$f` at a place.
+    #[tactic(auto, using(crate::proofs::PairsOf::kind_at, crate::proofs::PairsOf::some_entry, crate::proofs::Typings::typing_says,))]
     pub(crate) fn floating_variable(&self, place: usize) -> Option<Sym>
         requires { AreTables self.now }
         ensures { (f : Sentence) → slice_get (statements_of self.now) place ≡ Some f → MatchOption
@@ -200,6 +203,7 @@ impl<'a> Tables<'a> {
     }
 
     /// The type code and the variable of the `$f` at a place.
+    #[tactic(auto, using(crate::proofs::PairsOf::kind_at, crate::proofs::PairsOf::some_entry, crate::proofs::Typings::typing_says,))]
     pub(crate) fn typing(&self, place: usize) -> Option<(Sym, Sym)>
         requires { AreTables self.now }
         ensures { (f : Sentence) → slice_get (statements_of self.now) place ≡ Some f
@@ -218,6 +222,7 @@ impl<'a> Tables<'a> {
     }
 
     /// Whether the statement at a place is active now.
+    #[tactic(auto, using(crate::proofs::LookupLaws::at_end, crate::proofs::Entries::few_statements, crate::proofs::Entries::all_statements,))]
     pub(crate) fn is_active_now(&self, place: usize) -> bool
         requires tables { AreTables self.now }
         requires place { place < length (statements_of self.now) }

@@ -1,5 +1,4 @@
-use Rattle.std.proofs.Common.{◌≡◌, length, take}
-use Rattle.std.specs.List.{sum_by}
+use Rattle.std.proofs.Common.{◌≡◌, length, take, sum_by}
 use Rattle.mm_frame.proofs.book.bytes_of_all.Given as goal
 
 abbrev pub invariant-loop-token : goal.invariant-loop-token

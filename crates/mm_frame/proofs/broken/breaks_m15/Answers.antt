@@ -1,6 +1,5 @@
-use Rattle.std.proofs.Common.{rules, inr}
+use Rattle.std.proofs.Common.{rules, inr, tests}
 use Rattle.std.proofs.lemmas.Iterator.{YieldsList-from_slice}
-use borrow.Author.Tests.{tests}
 use Rattle.mm_frame.specs.Mirror.Layout.{statements_of}
 use Rattle.mm_frame.specs.Sentence.{sentence_in}
 use Rattle.mm_frame.proofs.Symbols.{with_test}

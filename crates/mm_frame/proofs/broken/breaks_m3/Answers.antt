@@ -1,6 +1,5 @@
-use Rattle.std.proofs.Common.{rules, inl, inr}
+use Rattle.std.proofs.Common.{rules, inl, inr, tests}
 use Rattle.std.proofs.lemmas.Iterator.{YieldsList-from_slice}
-use borrow.Author.Tests.{tests}
 use Rattle.mm_frame.specs.Sentence.{sentence_in, StandsTwice}
 use Rattle.mm_frame.proofs.Symbols.{symbol_says, with_test, none_twice, not_so}
 use Rattle.mm_frame.proofs.broken.breaks_m3.Goals as goal

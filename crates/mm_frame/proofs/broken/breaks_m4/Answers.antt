@@ -1,6 +1,5 @@
-use Rattle.std.proofs.Common.{rules}
+use Rattle.std.proofs.Common.{rules, tests}
 use Rattle.std.proofs.lemmas.Iterator.{YieldsList-from_slice}
-use borrow.Author.Tests.{tests}
 use Rattle.mm_frame.proofs.Symbols.{symbol_says, with_test}
 use Rattle.mm_frame.proofs.broken.breaks_m4.Goals as goal
 

@@ -2,11 +2,11 @@ use Rattle.std.proofs.Common.{length, ap, get_or, arith}
 use Rattle.mm_frame.specs.declared.rule.MeaningRule.TheVariants.{M1}
 use Rattle.mm_frame.specs.Mirror.Layout.{statements_of}
 use Rattle.mm_frame.specs.Sentence.{sentence_in}
-use Rattle.mm_frame.proofs.Order.{none_of_more, first_at, all_kept, none_at_first}
+use Rattle.mm_frame.proofs.Order.{none_of_more, first_at, all_kept}
 use Rattle.mm_frame.proofs.broken.first_among.Goals as goal
 
 pub loop-rule-init : goal.loop-rule-init
-loop-rule-init c = none_at_first _ _
+loop-rule-init c = record { kept = λ i d lt within broken. absurd (omega arith) }
 
 pub loop-rule-preserved : goal.loop-rule-preserved
 loop-rule-preserved c =

@@ -1,12 +1,8 @@
 use Rattle.std.proofs.Common.{rules}
 use Rattle.mm_frame.specs.Mirror.Layout.{statements_of}
-use Rattle.mm_frame.proofs.SoughtLaws.{first_says, no_first}
+use Rattle.mm_frame.proofs.SoughtLaws.{first_says}
 use Rattle.mm_frame.proofs.broken.is_first_variable.Goals as goal
 
 pub returns-in-Some : goal.returns-in-Some
 returns-in-Some c symbols are =
     first_says (statements_of c.args.tables.now) c.args.numbers.now symbols c.in-Some.first.now c.is_variable_number.result are (search rules) c.is_variable_number.ensures
-
-pub returns-in-None : goal.returns-in-None
-returns-in-None c symbols are =
-    ((λ t. absurd (cc t)), (λ h. absurd (no_first (statements_of c.args.tables.now) c.args.numbers.now symbols are (search rules) h)))

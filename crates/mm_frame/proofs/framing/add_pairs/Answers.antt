@@ -1,9 +1,9 @@
-use Rattle.std.proofs.Common.{◌≡◌, ◌+◌, length, sym, ◌∙◌, ap, subst, arith}
+use Rattle.std.proofs.Common.{◌≡◌, ◌+◌, length, ◌∙◌, ap, arith, sym, subst}
 use Rattle.mm_frame.specs.Mirror.Layout.{statements_of}
-use Rattle.mm_frame.specs.Mirror.Gathered.{AreFound}
-use Rattle.mm_frame.proofs.MandatoryPairs.{pairs_step, found_next}
+use Rattle.mm_frame.proofs.MandatoryPairs.{pairs_step}
 use Rattle.mm_frame.proofs.framing.add_pairs.Goals as goal
 use Rattle.mm_frame.proofs.framing.add_pairs.Goals.{then-is_distinct+in_ok-push, else-is_distinct}
+use Rattle.mm_frame.specs.Mirror.Gathered.{AreFound}
 use Rattle.mm_frame.proofs.Entries.{all_statements}
 
 pub loop-other-preserved : goal.loop-other-preserved
@@ -20,12 +20,3 @@ loop-other-preserved c places variables are same at_b first =
           subst (λ ps. AreFound st variables (length others) (i + 1) ps) (sym (ap (λ v. v.items) w.pairs-is ∙ w.in_ok-push.ensures.items)) (step.0 w.if-is_distinct.true)
       | else-is_distinct w ↦ subst (λ ps. AreFound st variables (length others) (i + 1) ps) (sym (ap (λ v. v.items) w.pairs-is)) (step.1 w.if-is_distinct.false)
     ]
-
-pub returns : goal.returns
-returns c places variables are same at_b first =
-    let others = c.args.others.now in
-    let all : c.loop-other.other-index ≡ length others = omega (arith, c.loop-other.auto.other-index-end) in
-    found_next _ _ _ _ (rw all at (c.loop-other.invariant places variables are same at_b first))
-
-pub is_distinct-requires-clause-within : goal.is_distinct-requires-clause-within
-is_distinct-requires-clause-within c = omega (arith, all_statements c.args.tables.now)

@@ -1,9 +1,9 @@
-use Rattle.std.proofs.Common.{◌+◌, sym, ◌∙◌, ap, subst, take}
-use Rattle.std.proofs.lemmas.List.{take_all}
+use Rattle.std.proofs.Common.{◌+◌, sym, ◌∙◌, ap, subst, take, take_all}
 use Rattle.mm_frame.specs.Mirror.Layout.{statements_of}
 use Rattle.mm_frame.specs.Mirror.Gathered.{AreThoseAt}
-use Rattle.mm_frame.proofs.LabelIds.{those_step, ids_never}
+use Rattle.mm_frame.proofs.LabelIds.{those_step, id_at}
 use Rattle.mm_frame.proofs.framing.find_hypotheses.Goals as goal
+use Rattle.std.proofs.lemmas.Option.{slice_get-get_or}
 use Rattle.mm_frame.proofs.framing.find_hypotheses.Goals.{in-Some+in_ok-push-in-Some, in-None}
 
 pub loop-place-preserved : goal.loop-place-preserved
@@ -18,8 +18,10 @@ loop-place-preserved c s are =
           (those_step t.symbols.names t.labels.names t.flat.items t.log.items t.named.items s places i (record { id = w.in-Some.id; typing = w.typing.result; pattern = record { start = 0; end = 0 } }) c.loop-place.hypotheses.items
           c.requires.labels c.requires.sound.1 are c.loop-place-test.true (sym c.label_at.ensures ∙ w.in-Some.is) w.typing.ensures (c.loop-place.invariant s are))
       | in-None w ↦
-          absurd (ids_never t.symbols.names t.labels.names t.flat.items t.log.items t.named.items s places i c.requires.labels c.requires.sound.1 are
-          c.loop-place-test.true (sym c.label_at.ensures ∙ w.in-None.is))
+          let place = slice_get-get_or places i 0 c.loop-place-test.true in
+          let (id, is, value) = id_at t.symbols.names t.labels.names t.flat.items t.log.items
+          t.named.items s places i _ c.requires.labels c.requires.sound.1 are place in
+          absurd (cc (is, sym c.label_at.ensures ∙ w.in-None.is))
     ]
 
 pub returns : goal.returns

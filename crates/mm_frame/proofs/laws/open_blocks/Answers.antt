@@ -1,5 +1,5 @@
-use Rattle.mm_frame.proofs.OpenLaws.{open_blocks_hold}
+use Rattle.mm_frame.proofs.OpenLaws.{opening_law, closing_law}
 use Rattle.mm_frame.proofs.laws.open_blocks.Goals as goal
 
 pub returns : goal.returns
-returns c = open_blocks_hold
+returns c st e p = (opening_law st e p, closing_law st e p)

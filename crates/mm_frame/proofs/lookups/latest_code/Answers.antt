@@ -1,15 +1,9 @@
 use Rattle.std.proofs.Common.{rules}
 use Rattle.mm_frame.specs.Sentence.{SomeSentence, Types}
 use Rattle.mm_frame.specs.Mirror.Layout.{statements_of}
-use Rattle.mm_frame.proofs.SymbolsAt.{entry_within, latest_code_says, no_first, code_match}
+use Rattle.mm_frame.proofs.SymbolsAt.{latest_code_says, code_match}
 use Rattle.mm_frame.proofs.LookupLaws.{untyped, known_latest}
 use Rattle.mm_frame.proofs.lookups.latest_code.Goals as goal
-
-pub symbols_at-requires-clause-within : goal.symbols_at-requires-clause-within
-symbols_at-requires-clause-within c =
-    let latest = known_latest _ c.args.variable.now c.in-Some.info _
-    (rw c.in-Some.is at c.symbol_info.ensures) c.in-Some-floating.is in
-    entry_within c.args.tables.now _ latest.statement latest.there
 
 pub returns-in-Some-at : goal.returns-in-Some-at
 returns-in-Some-at c =
@@ -20,12 +14,6 @@ returns-in-Some-at c =
     code_match (λ text. text.now) _ (λ code. SomeSentence st (Types code x)) c.name.result
     (latest_code_says st _ c.symbols_at.result.now x _ c.in-Some-at.code _ c.requires.infos.all
     latest c.symbols_at.ensures (search rules) c.name.ensures)
-
-pub returns-in-None-at : goal.returns-in-None-at
-returns-in-None-at c =
-    let latest = known_latest _ c.args.variable.now c.in-Some.info _
-    (rw c.in-Some.is at c.symbol_info.ensures) c.in-Some-floating.is in
-    absurd (no_first _ c.symbols_at.result.now _ _ latest c.symbols_at.ensures (search rules))
 
 pub returns-in-None : goal.returns-in-None
 returns-in-None c = untyped _ _ c.requires.sound.0 (rw c.in-None.is at c.symbol_info.ensures)

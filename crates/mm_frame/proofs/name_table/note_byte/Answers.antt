@@ -1,6 +1,5 @@
-use Rattle.std.proofs.Common.{not, ◌≡◌, length, ap, ◌∙◌, ◌<◌, ◌≤◌, rules, arith}
-use borrow.Author.Tests.{tests}
-use Rattle.mm_frame.proofs.ByByte.{none_if, not_none, by_byte_of_longer, by_byte_of_known, by_byte_of_new}
+use Rattle.std.proofs.Common.{not, ◌≡◌, length, ap, ◌∙◌, ◌<◌, ◌≤◌, rules, arith, is_some, tests}
+use Rattle.mm_frame.proofs.ByByte.{none_if, by_byte_of_longer, by_byte_of_known, by_byte_of_new}
 use Rattle.mm_frame.proofs.name_table.note_byte.Goals as goal
 
 pub returns-then-name-lt1 : goal.returns-then-name-lt1
@@ -15,7 +14,8 @@ returns-then-is_none c = λ names are count.
 
 pub returns-else-is_none : goal.returns-else-is_none
 returns-else-is_none c = λ names are count.
-    by_byte_of_known names c.args.by_byte.now c.args.name.now (not_none _ (c.is_none.ensures ∙ ap not c.if-is_none.false)) are
+    by_byte_of_known names c.args.by_byte.now c.args.name.now
+    (λ none. absurd (cc (ap is_some none, c.is_none.ensures ∙ ap not c.if-is_none.false))) are
 
 pub returns-else-name-lt2 : goal.returns-else-name-lt2
 returns-else-name-lt2 c = λ names are count.

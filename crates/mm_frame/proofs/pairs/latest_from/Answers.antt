@@ -1,9 +1,18 @@
 use Rattle.std.proofs.Common.{ℕ, arith, subst, sym, ◌∙◌, length, ◌≡◌}
-use Rattle.mm_frame.proofs.Spans.{IsLeft, left_first, step_next, step_found, step_none, left_all}
+use Rattle.mm_frame.proofs.Spans.{IsLeft, step_next, step_found, step_none, left_all}
+use Rattle.std.proofs.lemmas.Option.{slice_get_within}
 use Rattle.mm_frame.proofs.pairs.latest_from.Goals as goal
 
 pub loop-init : goal.loop-init
-loop-init c = left_first c.args.spans.now c.args.newest c.args.before
+loop-init c = record {
+  left = λ pair last. (
+    length c.args.spans.now,
+    omega arith,
+    last,
+    λ j span le there same.
+        absurd (let lt = slice_get_within c.args.spans.now j span there in omega arith),
+  );
+}
 
 pub returns-in-Some : goal.returns-in-Some
 returns-in-Some c =

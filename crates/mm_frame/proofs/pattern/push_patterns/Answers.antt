@@ -1,50 +1,50 @@
-use Rattle.std.proofs.Common.{◌≡◌, ◌+◌, Vec, Global, Some, length, set, refl, sym, ap, ◌∙◌, subst, arith}
+use Rattle.std.proofs.Common.{◌≡◌, ◌+◌, Some, length, set, refl, sym, ap, ◌∙◌, subst, arith, [], append-nil}
 use Rattle.std.specs.List.{slice_get}
-use Rattle.mm_frame.specs.declared.piece.Piece.{Piece}
 use Rattle.mm_frame.specs.declared.part.Part.{Part}
-use Rattle.mm_frame.specs.Mirror.Patterned.{IsLonger, HaveFirstPatterns, AreNoted}
+use Rattle.mm_frame.specs.Mirror.Patterned.{HaveFirstPatterns, AreNoted}
 use Rattle.std.proofs.lemmas.Option.{slice_get-get_or}
 use Rattle.mm_frame.specs.Mirror.Layout.{statements_of}
 use Rattle.mm_frame.proofs.Entries.{length-sentences}
 use Rattle.mm_text.proofs.Lists.{get_within}
-use Rattle.mm_frame.proofs.Patterned.{longer_none, longer_more, first_none, counted, essential_step, typed_step, variables_same, few_hypotheses}
+use Rattle.mm_frame.proofs.Patterned.{longer_more, counted, essential_step, typed_step, variables_same, few_hypotheses}
 use Rattle.mm_frame.proofs.pattern.push_patterns.Goals as goal
 use Rattle.mm_frame.proofs.pattern.push_patterns.Goals.{then-is_essential+in_ok-pattern, else-is_essential}
 
 pub loop-i-init : goal.loop-i-init
-loop-i-init c = record { longer = longer_none c.args.pieces.now.items; count = refl; patterned = λ t of. first_none (statements_of t) c.args.hypotheses.now.items c.args.pieces.now.items }
+loop-i-init c = record {
+  longer = ([], sym (append-nil c.args.pieces.now.items));
+  count = refl;
+  patterned = λ t of. record { same = refl; each = λ i h lt at. absurd (omega arith) };
+}
 
 pub loop-i-preserved : goal.loop-i-preserved
 loop-i-preserved c =
-    let old = c.args.hypotheses.now.items in
     let hs = c.loop-i.hypotheses.items in
     let i = c.loop-i.i in
     let so_far = c.loop-i.invariant.longer in
     elim c.if-is_essential.branch [
       | then-is_essential+in_ok-pattern w ↦ record {
-        longer = subst (λ (v : Vec Piece Global). IsLonger c.args.pieces.now.items v.items) (sym w.pieces-is) (longer_more _ _ _ so_far w.push_pattern.ensures.longer);
+        longer = rw w.pieces-is (longer_more _ _ _ so_far w.push_pattern.ensures.longer);
         count = c.set_pattern.ensures.count ∙ c.loop-i.invariant.count;
         patterned = λ t of.
             let have = c.loop-i.invariant.patterned t of in
             let there = slice_get-get_or c.args.places.now i 0 c.loop-i-test.true in
-            let (h, at) = get_within hs i (counted t _ _ c.args.places.now old hs i of have.same c.loop-i-test.true) in
+            let (h, at) = get_within hs i (counted _ _ _ _ _ hs i of have.same c.loop-i-test.true) in
             let part = rw w.deref-then-is_essential.ensures.value at w.in_ok-pattern.ensures.part in
-            let step = essential_step t c.args.log.now c.args.flat.now c.args.places.now _ old hs c.set_pattern.new.hypotheses.items c.loop-i.pieces.items w.push_pattern.new.pieces.items i _ h w.in_ok-pattern.pattern of have there at
+            rw w.pieces-is (essential_step _ _ _ _ _ _ _ c.set_pattern.new.hypotheses.items _ w.push_pattern.new.pieces.items _ _ h w.in_ok-pattern.pattern of have there at
             (λ e at_e. w.symbols_in.ensures t e of.tables of.log_is of.flat_is at_e)
             (λ few. part) w.push_pattern.ensures.longer
-            (c.set_pattern.ensures.noted h at ∙ ap (λ (part : Part). set hs i (record h { pattern = part })) w.pattern-is) in
-            subst (λ (v : Vec Piece Global). HaveFirstPatterns (statements_of t) old c.set_pattern.new.hypotheses.items v.items (i + 1)) (sym w.pieces-is) step;
+            (c.set_pattern.ensures.noted h at ∙ ap (λ (part : Part). set hs i (record h { pattern = part })) w.pattern-is));
       }
       | else-is_essential w ↦ record {
-        longer = subst (λ (v : Vec Piece Global). IsLonger c.args.pieces.now.items v.items) (sym w.pieces-is) so_far;
+        longer = rw w.pieces-is so_far;
         count = c.set_pattern.ensures.count ∙ c.loop-i.invariant.count;
         patterned = λ t of.
             let have = c.loop-i.invariant.patterned t of in
-            let (h, at) = get_within hs i (counted t _ _ c.args.places.now old hs i of have.same c.loop-i-test.true) in
+            let (h, at) = get_within hs i (counted _ _ _ _ _ hs i of have.same c.loop-i-test.true) in
             let seen : slice_get c.deref.result.now i ≡ Some h = ap (λ ks. slice_get ks i) c.deref.ensures.value ∙ at in
-            let step = typed_step (statements_of t) old hs c.set_pattern.new.hypotheses.items c.loop-i.pieces.items i h have at (sym (c.is_essential.ensures h seen) ∙ w.if-is_essential.false)
-            (c.set_pattern.ensures.noted h at ∙ ap (λ (part : Part). set hs i (record h { pattern = part })) w.pattern-is) in
-            subst (λ (v : Vec Piece Global). HaveFirstPatterns (statements_of t) old c.set_pattern.new.hypotheses.items v.items (i + 1)) (sym w.pieces-is) step;
+            rw w.pieces-is (typed_step _ _ _ c.set_pattern.new.hypotheses.items _ _ h have at (sym (c.is_essential.ensures h seen) ∙ w.if-is_essential.false)
+            (c.set_pattern.ensures.noted h at ∙ ap (λ (part : Part). set hs i (record h { pattern = part })) w.pattern-is));
       }
     ]
 
@@ -57,8 +57,7 @@ pub is_essential-requires : goal.is_essential-requires
 is_essential-requires c =
     let (t, of) = c.requires.mandatory in
     let have = c.loop-i.invariant.patterned t of in
-    let lt = counted t _ _ c.args.places.now c.args.hypotheses.now.items c.loop-i.hypotheses.items c.loop-i.i of have.same c.loop-i-test.true in
-    rw c.deref.ensures.value lt
+    rw c.deref.ensures.value (counted _ _ _ _ _ _ _ of have.same c.loop-i-test.true)
 
 pub symbols_in-requires : goal.symbols_in-requires
 symbols_in-requires c =
@@ -83,5 +82,4 @@ push_pattern-requires-clause-noted c =
 pub set_pattern-requires : goal.set_pattern-requires
 set_pattern-requires c =
     let (t, of) = c.requires.mandatory in
-    let have = c.loop-i.invariant.patterned t of in
-    counted t _ _ c.args.places.now c.args.hypotheses.now.items c.loop-i.hypotheses.items c.loop-i.i of have.same c.loop-i-test.true
+    counted _ _ _ _ _ _ _ of (c.loop-i.invariant.patterned t of).same c.loop-i-test.true

@@ -24,6 +24,5 @@ returns-clause-patterns c place s numbered asserts =
     (rw c.in-Some.is at c.label_info.ensures) _ (rw c.deref.ensures.value at c.part_of.ensures)
 
 pub unreachable-requires : goal.unreachable-requires
-unreachable-requires c =
-    let (place, s, numbered, asserts) = c.requires.assertion in
-    no_info _ _ _ _ c.requires.tables numbered (rw c.in-None.is at c.label_info.ensures)
+unreachable-requires c = no_info _ _ _ _ c.requires.tables c.requires.assertion.2
+    (rw c.in-None.is at c.label_info.ensures)

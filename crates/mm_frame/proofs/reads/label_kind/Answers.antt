@@ -4,8 +4,7 @@ use Rattle.mm_frame.proofs.reads.label_kind.Goals as goal
 
 pub kind_of-requires : goal.kind_of-requires
 kind_of-requires c =
-    let (place, s, numbered) = c.requires.known in
-    let (l, same, has) = info_kind _ _ _ _ c.requires.tables numbered _
+    let (l, same, has) = info_kind _ _ _ _ c.requires.tables c.requires.known.2 _
     (rw c.in-Some.is at c.label_info.ensures) in
     (l, has)
 
@@ -17,5 +16,4 @@ returns c place s numbered =
 
 pub unreachable-requires : goal.unreachable-requires
 unreachable-requires c =
-    let (place, s, numbered) = c.requires.known in
-    no_info _ _ _ _ c.requires.tables numbered (rw c.in-None.is at c.label_info.ensures)
+    no_info _ _ _ _ c.requires.tables c.requires.known.2 (rw c.in-None.is at c.label_info.ensures)

@@ -7,5 +7,4 @@ returns c place s numbered =
 
 pub unreachable-requires : goal.unreachable-requires
 unreachable-requires c =
-    let (place, s, numbered) = c.requires.known in
-    no_info _ _ _ _ c.requires.tables numbered (rw c.in-None.is at c.label_info.ensures)
+    no_info _ _ _ _ c.requires.tables c.requires.known.2 (rw c.in-None.is at c.label_info.ensures)

@@ -1,6 +1,3 @@
-use Rattle.std.proofs.Common.{sym, subst}
-use Rattle.mm_frame.specs.Pieces.{variables_of, HavePatterns}
-use Rattle.mm_frame.specs.Mirror.Layout.{statements_of}
 use Rattle.mm_frame.proofs.ReadLaws.{frame_hypotheses, frame_typings, frame_pairs, no_info}
 use Rattle.mm_frame.proofs.ReadLaws.{frame_places, frame_concluded, frame_patterns}
 use Rattle.mm_frame.proofs.reads.label_scheme.Goals as goal
@@ -15,20 +12,17 @@ returns c place s numbered asserts =
     let hs = c.part_of.result.now in
     let hypotheses = rw c.deref.ensures.value at c.part_of.ensures in
     let pairs = rw c.deref-in-Some.ensures.value at c.part_of-in-Some.ensures in
-    let pieces = rw c.deref-in-Some-2.ensures.value at c.part_of-in-Some-2.ensures in
     record {
       ids = frame_hypotheses t id place s info tables numbered asserts told hs hypotheses;
       typed = frame_typings t id place s info tables numbered asserts told hs hypotheses;
       pairs = frame_pairs t id place s info tables numbered asserts told _ pairs;
       places = frame_places t id place s info tables numbered asserts told hs _ hypotheses pairs;
       conclusion = frame_concluded t id place s info tables numbered asserts told hs _ hypotheses
-          pieces;
-      patterns = subst (λ ps. HavePatterns (statements_of t) (variables_of hs) ps hs)
-          (sym c.deref-in-Some-3.ensures.value)
+          rw c.deref-in-Some-2.ensures.value at c.part_of-in-Some-2.ensures;
+      patterns = rw c.deref-in-Some-3.ensures.value
           (frame_patterns t id place s info tables numbered asserts told hs hypotheses);
     }
 
 pub unreachable-requires : goal.unreachable-requires
-unreachable-requires c =
-    let (place, s, numbered, asserts) = c.requires.assertion in
-    no_info _ _ _ _ c.requires.tables numbered (rw c.in-None.is at c.label_info.ensures)
+unreachable-requires c = no_info _ _ _ _ c.requires.tables c.requires.assertion.2
+    (rw c.in-None.is at c.label_info.ensures)

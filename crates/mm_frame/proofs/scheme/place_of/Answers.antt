@@ -1,6 +1,5 @@
-use Rattle.std.proofs.Common.{sym, ap, ◌∙◌, ◌≡◌, None, ⊎_elim, arith}
+use Rattle.std.proofs.Common.{sym, ap, ◌∙◌, ◌≡◌, None, ⊎_elim, arith, slice_index_or}
 use Rattle.std.proofs.str.Laws.{order}
-use Rattle.std.specs.List.{slice_index_or}
 use Rattle.mm_frame.specs.Pieces.{is_of, variables_of}
 use Rattle.mm_frame.proofs.Patterns.{variable_at, variables_counted, none_behind}
 use Rattle.mm_frame.proofs.scheme.place_of.Goals as goal

@@ -1,5 +1,4 @@
-use Rattle.std.proofs.Common.{◌≡◌, ◌<◌, ℕ, None, false}
-use Rattle.std.specs.List.{slice_index_or}
+use Rattle.std.proofs.Common.{◌≡◌, ◌<◌, ℕ, None, false, slice_index_or}
 use Rattle.mm_frame.specs.Pieces.{variables_of, is_of}
 use Rattle.mm_frame.proofs.scheme.place_of.Given as goal
 

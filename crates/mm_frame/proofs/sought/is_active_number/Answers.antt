@@ -1,11 +1,11 @@
-use Rattle.std.proofs.Common.{refl, inl}
+use Rattle.std.proofs.Common.{refl, inl, inr}
 use Rattle.mm_text.specs.declared.statement.Kind.TheVariants.{Variables}
 use Rattle.mm_frame.specs.Sentence.{Declares}
 use Rattle.mm_frame.specs.Active.{IsActiveSymbol}
 use Rattle.mm_frame.specs.Mirror.Latest.{IsLatest}
 use Rattle.mm_frame.specs.Mirror.Layout.{statements_of}
 use Rattle.mm_frame.proofs.LookupLaws.{variable_says, has_constant, active_symbol}
-use Rattle.mm_frame.proofs.SoughtLaws.{of_number, no_number, number_info, active_variable}
+use Rattle.mm_frame.proofs.SoughtLaws.{of_number, no_number, number_info}
 use Rattle.mm_frame.proofs.sought.is_active_number.Goals as goal
 use Rattle.std.proofs.lemmas.Option.{slice_get_within}
 
@@ -15,7 +15,11 @@ returns-in-Some-variable c =
     let (x, is, known) = rw c.in-Some.is at (number_info _ _ c.requires.infos c.info.ensures) in
     let other = rw c.in-Some-variable.is at (has_constant st x c.in-Some.info c.requires.sound.0 known) in
     let says = variable_says st x c.in-Some.info c.in-Some-variable.place c.is_active_now.result c.requires.sound.0 known c.in-Some-variable.is c.is_active_now.ensures in
-    of_number st x c.args.symbol.0 (λ y. IsActiveSymbol st y) c.is_active_now.result is (active_variable st x c.is_active_now.result c.requires.sound.0 other says)
+    let either = active_symbol st x c.requires.sound.0 in
+    of_number st x c.args.symbol.0 (λ y. IsActiveSymbol st y) c.is_active_now.result is (
+      (λ t. either.1 (inr (says.0 t))),
+      (λ a. elim (either.0 a) [ inl k ↦ absurd (other k) | inr v ↦ says.1 v ]),
+    )
 
 pub returns-in-None-variable : goal.returns-in-None-variable
 returns-in-None-variable c =

@@ -1,7 +1,7 @@
 use Rattle.std.proofs.Common.{refl}
 use Rattle.mm_frame.specs.Active.{IsTyped}
-use Rattle.mm_frame.specs.Mirror.Layout.{statements_of, GivesType}
-use Rattle.mm_frame.proofs.LookupLaws.{typed_says, some_of_active, known_latest}
+use Rattle.mm_frame.specs.Mirror.Layout.{statements_of}
+use Rattle.mm_frame.proofs.LookupLaws.{typed_says, known_latest}
 use Rattle.mm_frame.proofs.SoughtLaws.{of_number, no_number, number_info}
 use Rattle.mm_frame.proofs.sought.is_typed_number.Goals as goal
 use Rattle.std.proofs.lemmas.Option.{slice_get_within}
@@ -12,13 +12,6 @@ returns-in-Some-floating c =
     let (x, is, known) = rw c.in-Some.is at (number_info _ _ c.requires.infos c.info.ensures) in
     of_number st x c.args.variable.0 (λ y. IsTyped st y) c.is_active_now.result is
     (typed_says st x c.in-Some.info c.in-Some-floating.place c.is_active_now.result c.requires.sound.0 known c.in-Some-floating.is c.is_active_now.ensures)
-
-pub returns-in-None-floating : goal.returns-in-None-floating
-returns-in-None-floating c =
-    let st = statements_of c.args.tables.now in
-    let (x, is, known) = rw c.in-Some.is at (number_info _ _ c.requires.infos c.info.ensures) in
-    let never = rw c.in-None-floating.is at known.known.floating in
-    of_number st x c.args.variable.0 (λ y. IsTyped st y) _ is ((λ h. absurd (cc h)), (λ typed. absurd (never (some_of_active st (GivesType x) typed))))
 
 pub returns-in-None : goal.returns-in-None
 returns-in-None c =

@@ -1,9 +1,11 @@
 use Rattle.mm_frame.specs.Mirror.Layout.{statements_of}
-use Rattle.mm_frame.proofs.SoughtLaws.{sought_none_yet, sought_more}
+use Rattle.mm_frame.proofs.SoughtLaws.{sought_more}
+use Rattle.std.proofs.Common.{refl}
 use Rattle.mm_frame.proofs.sought.look_up_each.Goals as goal
 
 pub loop-token-init : goal.loop-token-init
-loop-token-init c = rw c.clear.ensures.items (sought_none_yet (statements_of c.args.tables.now))
+loop-token-init c =
+    rw c.clear.ensures.items (record { count = refl; each = λ i n x there at. absurd (cc) })
 
 pub loop-token-preserved : goal.loop-token-preserved
 loop-token-preserved c =

@@ -1,9 +1,5 @@
-use Rattle.mm_frame.proofs.SoughtLaws.{sought_found, sought_missing}
+use Rattle.mm_frame.proofs.SoughtLaws.{sought_missing}
 use Rattle.mm_frame.proofs.sought.number_of.Goals as goal
-
-pub returns-in-Some : goal.returns-in-Some
-returns-in-Some c = sought_found _ _ _ _ c.in-Some.number c.requires.infos
-    (rw c.in-Some.is at c.find.ensures)
 
 pub returns-in-None : goal.returns-in-None
 returns-in-None c = sought_missing _ _ _ _ _ c.requires.infos

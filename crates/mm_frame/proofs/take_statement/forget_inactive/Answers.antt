@@ -1,13 +1,17 @@
-use Rattle.std.proofs.Common.{arith}
-use Rattle.std.specs.Option.{option_to_list}
-use Rattle.mm_frame.proofs.Forgotten.{dropped_none, dropped_more, forgotten_all, forgotten_last, left_within, popped_size}
+use Rattle.std.proofs.Common.{arith, option_to_list, sym, append-nil, []}
+use Rattle.mm_frame.proofs.Forgotten.{dropped_more, forgotten_last, popped_size}
+use Rattle.mm_text.proofs.Lists.{get_kept}
 use Rattle.mm_frame.proofs.take_statement.forget_inactive.Goals as goal
 
 pub loop-init : goal.loop-init
 loop-init c = record {
   sized = omega arith;
   within = c.requires.within;
-  dropped = λ st have small. dropped_none st _;
+  dropped = λ st have small. record {
+    gone = [];
+    parted = sym (append-nil _);
+    inactive = λ i p at. absurd cc;
+  };
 }
 
 pub returns-then-is_last_active : goal.returns-then-is_last_active
@@ -23,10 +27,9 @@ loop-preserved c =
     in
     record {
       sized = omega arith;
-      within = left_within c.loop.places.items c.pop.new.self.items (option_to_list c.pop.result)
-          c.args.at c.pop.ensures.items c.loop.invariant.within;
-      dropped = λ st have small.
-          dropped_more st _ _ c.pop.new.self.items c.pop.result
+      within = λ i p at. c.loop.invariant.within i p (rw c.pop.ensures.items
+          (get_kept c.pop.new.self.items (option_to_list c.pop.result) i p at));
+      dropped = λ st have small. dropped_more _ _ _ c.pop.new.self.items c.pop.result
           (c.loop.invariant.dropped st have small) c.pop.ensures.items (λ k p len there active.
           let now = (c.is_last_active.ensures st k p have small (rw c.deref.ensures.value len)
           (rw c.deref.ensures.value there)).1 active in
@@ -35,4 +38,5 @@ loop-preserved c =
 
 pub returns : goal.returns
 returns c st have small =
-    forgotten_all st _ _ (c.loop.invariant.dropped st have small) (omega arith)
+    forgotten_last st _ _ (c.loop.invariant.dropped st have small)
+    (λ k p len at. absurd (omega arith))

@@ -4,9 +4,8 @@ use Rattle.mm_frame.proofs.frame.Frame.expression.Goals as goal
 pub returns : goal.returns
 returns c =
     let (s, numbered, is) = c.self.invariant in
-    let f = c.self.inside in
     rw (← c.self.view_is) record {
       assertion = s;
       there = numbered.there;
-      numbered = c.expression.ensures s (numbered_get f.book.now.statements f.id.0 f.place s numbered);
+      numbered = c.expression.ensures s (numbered_get _ _ _ _ numbered);
     }

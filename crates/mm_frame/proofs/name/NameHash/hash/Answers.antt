@@ -1,5 +1,4 @@
-use Rattle.std.proofs.Common.{◌≡◌, ◌<◌, ◌≤◌, length, refl, ap, arith}
-use Rattle.std.proofs.lemmas.Bool.{lt-ltb, le-ltb}
+use Rattle.std.proofs.Common.{◌≡◌, ◌<◌, ◌≤◌, length, refl, ap, arith, lt-ltb, le-ltb}
 use Rattle.mm_frame.specs.Mirror.NameKey.{ends_of, hashed}
 use Rattle.mm_frame.proofs.name.NameHash.hash.Goals as goal
 

@@ -1,5 +1,4 @@
-use Rattle.std.proofs.Common.{◌≡◌, ◌<◌, ◌≤◌, ◌+◌, List, [], ◌∷◌, ℕ, inl, inr, length, length-append, sym, ◌∙◌, subst, arith, ap}
-use Rattle.mm_frame.specs.Mirror.NameTable.{AreByByte}
+use Rattle.std.proofs.Common.{◌≡◌, ◌<◌, ◌≤◌, ◌+◌, List, [], ◌∷◌, ℕ, inl, inr, length, length-append, sym, ◌∙◌, arith, ap}
 use Rattle.mm_frame.specs.Numbers.{with_name}
 use Rattle.indexmap.specs.IndexSet.{spare}
 use Rattle.mm_frame.proofs.NameLists.{holds_if_ok}
@@ -12,21 +11,13 @@ length_with_name names name = elim (with_name_cases names name) [
   | inr (absent, longer) ↦ let e = ap length longer ∙ length-append names (name ∷ []) in omega arith
 ]
 
-pub returns-clause-names : goal.returns-clause-names
-returns-clause-names c =
-    let room : spare c.self.inside.table ≡ c.args.self.now.room = ap (λ t. t.room) c.self.view_is in
-    let names : c.self.inside.table.keys ≡ c.args.self.now.names = ap (λ t. t.names) c.self.view_is in
-    let keys : c.insert.new.self.keys ≡ with_name c.self.inside.table.keys c.new.result = holds_if_ok c.insert.result _ (c.insert.ensures.succeeds (omega arith)) c.insert.ensures.keys in
-    keys ∙ ap (with_name c.self.inside.table.keys) c.new.ensures ∙ ap (λ ns. with_name ns c.args.name.now) names
-
 pub invariant_of-self : goal.invariant_of-self
 invariant_of-self c =
     let room : spare c.self.inside.table ≡ c.args.self.now.room = ap (λ t. t.room) c.self.view_is in
     let names : c.self.inside.table.keys ≡ c.args.self.now.names = ap (λ t. t.names) c.self.view_is in
     let keys : c.insert.new.self.keys ≡ with_name c.self.inside.table.keys c.new.result = holds_if_ok c.insert.result _ (c.insert.ensures.succeeds (omega arith)) c.insert.ensures.keys in
     let all : c.insert.new.self.keys ≡ with_name c.self.inside.table.keys c.args.name.now = keys ∙ ap (with_name c.self.inside.table.keys) c.new.ensures in
-    let told = c.note_byte.ensures _ c.self.invariant.1 (sym c.len-number.ensures.len) in
     let long = ap length all in
     let more = length_with_name c.self.inside.table.keys c.args.name.now in
     let few : length c.self.inside.table.keys + 1 < 4294967296 = rw names (c.requires.few) in
-    (omega arith, subst (λ (ns : List (List ℕ)). AreByByte ns c.note_byte.new.by_byte) (sym all) told)
+    (omega arith, rw all (c.note_byte.ensures _ c.self.invariant.1 (sym c.len-number.ensures.len)))

@@ -1,8 +1,5 @@
-use Rattle.std.proofs.Common.{◌+◌, take, sym, subst}
-use Rattle.std.proofs.lemmas.List.{take_all}
-use Rattle.mm_frame.specs.declared.noted.NotedPlaces.{NotedPlaces}
+use Rattle.std.proofs.Common.{◌+◌, take}
 use Rattle.mm_frame.specs.Pieces.{variables_of}
-use Rattle.mm_frame.specs.Mirror.Patterned.{AreNoted}
 use Rattle.mm_frame.proofs.FirstPlaces.{noted_untyped, noted_more}
 use Rattle.mm_frame.proofs.noted.NotedPlaces.note.Goals as goal
 use Rattle.mm_frame.proofs.noted.NotedPlaces.note.Goals.{in-Some+in_ok-note_behind, in_default}
@@ -12,13 +9,8 @@ loop-place-preserved c =
     let hs = c.args.hypotheses.now in
     let i = c.loop-place.place in
     elim c.match-hypothesis.branch [
-      | in-Some+in_ok-note_behind w ↦
-          subst (λ (noted : NotedPlaces). AreNoted noted.places.items (variables_of (take (i + 1) hs))) (sym w.self-is)
+      | in-Some+in_ok-note_behind w ↦ rw w.self-is
           (noted_more w.note_behind.new.self.places.items hs i _ _ c.loop-place-test.true w.in-Some.is (w.in_ok-note_behind.ensures c.loop-place.invariant))
-      | in_default w ↦
-          subst (λ (noted : NotedPlaces). AreNoted noted.places.items (variables_of (take (i + 1) hs))) (sym w.self-is)
+      | in_default w ↦ rw w.self-is
           (noted_more c.loop-place.self.places.items hs i _ _ c.loop-place-test.true w.in_default.is (noted_untyped c.loop-place.self.places.items (variables_of (take i hs)) c.loop-place.invariant))
     ]
-
-pub returns : goal.returns
-returns c = rw (take_all _ _ c.loop-place-test.false) at c.loop-place.invariant

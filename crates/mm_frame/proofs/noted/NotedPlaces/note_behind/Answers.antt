@@ -1,6 +1,5 @@
-use Rattle.std.proofs.Common.{◌++◌, ◌∷◌, [], Some, not, set, ap, ◌∙◌, subst}
+use Rattle.std.proofs.Common.{[], not, ap, ◌∙◌}
 use Rattle.mm_frame.specs.Pieces.{variables_of}
-use Rattle.mm_frame.specs.Mirror.Patterned.{AreNoted}
 use Rattle.mm_frame.proofs.Patterns.{variables_counted}
 use Rattle.mm_frame.proofs.FirstPlaces.{noted_longer, noted_by_some, noted_by_none}
 use Rattle.mm_frame.proofs.noted.NotedPlaces.note_behind.Goals as goal
@@ -10,7 +9,7 @@ returns-then-is_none c noted =
     let variables = variables_of c.args.before.now in
     let places = c.make_room.new.self.places.items in
     let longer = noted_longer c.args.self.now.places.items places variables c.in_ok-make_room.ensures.longer noted in
-    subst (λ n. AreNoted (set places c.args.variable.0 n) (variables ++ Some c.args.variable.0 ∷ [])) (variables_counted c.args.before.now)
+    rw (variables_counted c.args.before.now) at
     (noted_by_none places variables c.args.variable.0 c.place_of.result (c.is_none.ensures ∙ ap not c.if-is_none.true) (c.place_of.ensures longer) c.in_ok-make_room.ensures.room longer)
 
 pub returns-else-is_none : goal.returns-else-is_none

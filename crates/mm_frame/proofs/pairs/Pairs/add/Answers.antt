@@ -1,9 +1,7 @@
-use Rattle.std.proofs.Common.{◌≡◌, ◌<◌, ℕ, ap, sym, subst, ◌∙◌, length, arith, Option, Some, [], ◌∷◌, ◌++◌}
-use Rattle.std.specs.Bool.{if◌then◌else◌}
+use Rattle.std.proofs.Common.{◌≡◌, ◌<◌, ap, ◌∙◌, length, arith, [], ◌∷◌, ◌++◌, if◌then◌else◌}
 use Rattle.std.specs.Vec.{vec_len, vec_capacity}
-use Rattle.std.specs.Map.{update}
 use Rattle.mm_frame.specs.declared.pairs.Span.{Span}
-use Rattle.mm_frame.specs.Mirror.Stated.{is_same_key, newest_of, AreLinked}
+use Rattle.mm_frame.specs.Mirror.Stated.{newest_of}
 use Rattle.mm_frame.proofs.Spans.{linked_push}
 use Rattle.mm_frame.proofs.pairs.Pairs.add.Goals as goal
 
@@ -20,9 +18,5 @@ invariant_of-self c =
     let older : c.newest_of-older.result ≡ before c.args.pair =
     c.newest_of-older.ensures ∙ ap (λ near. newest_of near c.self.inside.newest c.args.pair) c.deref.ensures.value in
     let number : c.len-number.result ≡ length spans = c.len-number.ensures ∙ c.self.inside.spans.ok.0 in
-    let values : (q : ℕ × ℕ) → after q ≡ update is_same_key before c.args.pair (Some (length spans)) q =
-    subst (λ n. (q : ℕ × ℕ) → after q ≡ update is_same_key before c.args.pair (Some n) q) number c.note_newest.ensures.noted in
-    let linked : AreLinked (spans ++ record { pair = c.args.pair; place = c.args.place; older = before c.args.pair } ∷ []) after =
-    linked_push spans before after c.args.pair c.args.place c.self.invariant values in
-    subst (λ xs. AreLinked xs after) (sym pushed)
-    (subst (λ (o : Option ℕ). AreLinked (spans ++ record { pair = c.args.pair; place = c.args.place; older = o } ∷ []) after) (sym older) linked)
+    let values = rw number at c.note_newest.ensures.noted in
+    rw pushed (rw older (linked_push _ _ after c.args.pair c.args.place c.self.invariant values))

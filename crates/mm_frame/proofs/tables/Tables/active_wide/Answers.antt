@@ -1,10 +1,10 @@
-use Rattle.std.proofs.Common.{◌≡◌, ◌-◌, ◌<◌, ◌≤◌, length, take, ap, sym, ◌∙◌, subst, arith}
+use Rattle.std.proofs.Common.{◌≡◌, ◌-◌, ◌<◌, ◌≤◌, length, take, ap, sym, ◌∙◌, arith, subst}
 use Rattle.std.proofs.lemmas.Option.{slice_get_within}
 use Rattle.std.proofs.Math.Seq.{take-length}
 use Rattle.mm_frame.specs.declared.scopes.TheConstants.{NEVER}
 use Rattle.mm_frame.specs.Active.{IsActive}
 use Rattle.mm_frame.specs.Mirror.Layout.{statements_of}
-use Rattle.mm_frame.proofs.WideDistinct.{positive, wide_at, active_next}
+use Rattle.mm_frame.proofs.WideDistinct.{wide_at, active_next}
 use Rattle.mm_frame.proofs.tables.Tables.active_wide.Goals as goal
 use Rattle.mm_frame.proofs.Entries.{all_statements}
 
@@ -29,7 +29,7 @@ loop-preserved c =
     let w = c.index-wide-left.result in
     let n = c.loop.left in
     let within = c.loop.invariant.within in
-    let some : 0 < n = positive n c.if-left-eq0.false in
+    let some : 0 < n = omega (arith, c.if-left-eq0.false) in
     let there = wide_at _ _ _ _ _ c.wide-wide.ensures c.if-left-eq0.false
     c.loop.invariant.within c.index-wide-left.is in
     let older = c.requires.stated.wide.older (n - 1) w there in

@@ -6,10 +6,10 @@ use Rattle.mm_frame.specs.Sentence.{Sentence, IsStated, IsAssertion}
 use Rattle.mm_frame.specs.Numbers.{AreNumbers}
 use Rattle.mm_frame.specs.Rules.{IsMeant}
 use Rattle.mm_frame.specs.Mirror.Layout.{IsFrameInfo, statements_of}
-use Rattle.mm_frame.specs.Mirror.Gathered.{ArePlaces, AreThoseAt}
+use Rattle.mm_frame.specs.Mirror.Gathered.{ArePlaces}
 use Rattle.mm_frame.specs.Pieces.{variables_of, HavePlaces}
 use Rattle.mm_frame.specs.FramePlace.{ArePairs}
-use Rattle.mm_frame.specs.Mirror.Patterned.{AreMandatoryOf, ArePatterned, AreNoted}
+use Rattle.mm_frame.specs.Mirror.Patterned.{AreMandatoryOf}
 use Rattle.mm_frame.specs.Mirror.Grows.{entry_of}
 use Rattle.mm_frame.specs.Mirror.Naming.{label_info}
 use Rattle.mm_frame.proofs.SameTables.{on_err, same_tables}
@@ -67,8 +67,7 @@ found c s kind numbered meant =
       flat_is = refl;
       assertion = s;
       are_places = places;
-      those = subst (λ ps. AreThoseAt st ps c.find_hypotheses.new.hypotheses.items)
-          c.deref.ensures.value (c.in_ok-find_hypotheses.ensures s first);
+      those = rw c.deref.ensures.value at (c.in_ok-find_hypotheses.ensures s first);
     }
 
 -- they are read from the lists as room was made in them
@@ -95,15 +94,12 @@ find_places-requires-clause-few c =
 
 pub find_places-requires-clause-among : goal.find_places-requires-clause-among
 find_places-requires-clause-among c =
-    let st = statements_of c.args.self.now in
     let (s, kind, numbered, meant) = c.requires.meant in
     let stated : IsStated s.kind = inr (subst IsAssertion (sym kind) c.requires.kind) in
-    let here = goal.at.find_places-requires-clause-among c in
-    let of = found here.After-note s kind numbered meant in
-    let second : ArePlaces st s c.deref-3.result.now = rw c.deref-3.ensures.value of.are_places in
+    let of = found (goal.at.find_places-requires-clause-among c).After-note s kind numbered meant in
     rw (c.deref-4.ensures.value, c.deref-5.ensures.value)
-    (pairs_among st s _ _ _ c.requires.tables.sound meant stated of.are_places of.those
-    (c.in_ok-find_pairs.ensures s [] meant stated second))
+    (pairs_among _ _ _ _ _ c.requires.tables.sound meant stated of.are_places of.those
+    (c.in_ok-find_pairs.ensures s [] meant stated (rw c.deref-3.ensures.value of.are_places)))
 
 pub add_patterns-requires-clause-mandatory : goal.add_patterns-requires-clause-mandatory
 add_patterns-requires-clause-mandatory c =
@@ -112,9 +108,7 @@ add_patterns-requires-clause-mandatory c =
     (c.args.self.now, read c (found here.After-note s kind numbered meant))
 
 pub add_patterns-requires-clause-noted : goal.add_patterns-requires-clause-noted
-add_patterns-requires-clause-noted c =
-    subst (λ hs. AreNoted c.note.new.self.places.items (variables_of hs)) c.deref-2.ensures.value
-    c.in_ok-note.ensures
+add_patterns-requires-clause-noted c = rw c.deref-2.ensures.value at c.in_ok-note.ensures
 
 pub returns-clause-ok : goal.returns-clause-ok
 returns-clause-ok c =
@@ -132,7 +126,7 @@ returns-clause-ok c =
     let new_hypotheses : c.add_part-hypotheses.new.list.items ≡ t.hypotheses.items ++ hs = rw (c.add_part-hypotheses.ensures.items, old_hypotheses, c.deref-9.ensures.value) refl in
     let new_pairs : c.add_part-pairs.new.list.items ≡ t.pairs.items ++ pairs = rw (c.add_part-pairs.ensures.items, old_pairs, c.deref-10.ensures.value) refl in
     let new_pieces : c.add_patterns.new.pieces.items ≡ t.pieces.items ++ more = longer ∙ ap (λ ps. ps ++ more) same.pieces in (
-      assertion_taken t c.args.kind c.name-id.result c.requires.tables c.requires.kind (c.name-id.ensures.id ∙ ap length same.labels),
+      assertion_taken _ c.args.kind c.name-id.result c.requires.tables c.requires.kind (c.name-id.ensures.id ∙ ap length same.labels),
       λ s kind label numbered meant formed.
           let stated : IsStated s.kind = inr (subst IsAssertion (sym kind) c.requires.kind) in
           let here = goal.at.returns-clause-ok c in
@@ -140,29 +134,27 @@ returns-clause-ok c =
           let second : ArePlaces st s c.deref-3.result.now =
           rw c.deref-3.ensures.value of.are_places in
           let patterned = c.in_ok-conclusion.ensures.patterned t (read here.After-deref-8 of) in
-          let patterns : ArePatterned st numbers bare hs (t.pieces.items ++ more) conclusion = subst (λ ps. ArePatterned st numbers bare hs ps conclusion) new_pieces patterned in
+          let patterns = rw new_pieces at patterned in
           let of_pairs = c.in_ok-find_pairs.ensures s [] meant stated second in
           let variables : map (λ (pair : DistinctPair). pair.variables) pairs ≡ c.find_pairs.new.pairs.items = c.in_ok-find_places.ensures.variables ∙ c.deref-5.ensures.value in
           let are_pairs : ArePairs (at_place (st ++ s ∷ []) (length st)) (map (λ pair. (pair.variables.0.0, pair.variables.1.0)) pairs) =
-          pairs_named (at_place (st ++ s ∷ []) (length st)) c.find_pairs.new.pairs.items pairs variables of_pairs in
-          let placed_first : HavePlaces (variables_of bare) pairs = subst (λ ks. HavePlaces (variables_of ks) pairs) c.deref-4.ensures.value c.in_ok-find_places.ensures.places in
-          let placed : HavePlaces (variables_of hs) pairs = subst (λ vs. HavePlaces vs pairs) (sym (variables_same bare hs patterns.same)) placed_first in
+          pairs_named _ c.find_pairs.new.pairs.items pairs variables of_pairs in
+          let placed_first = rw c.deref-4.ensures.value at c.in_ok-find_places.ensures.places in
+          let placed : HavePlaces (variables_of hs) pairs = rw (variables_same bare hs patterns.same) placed_first in
           let new = entry_of c.args.kind (Some c.name-id.result) (length t.flat.items) (length (t.flat.items ++ c.args.numbers.now)) in
           let framed_at : IsFrameInfo (st ++ s ∷ []) (t.hypotheses.items ++ hs) (t.pairs.items ++ pairs) (t.pieces.items ++ more)
           (label_info (length t.log.items) new (c.add_part-hypotheses.result, c.add_part-pairs.result, conclusion)) =
           rw (c.add_part-hypotheses.ensures.part, c.add_part-pairs.ensures.part, old_hypotheses, old_pairs, c.deref-9.ensures.value, c.deref-10.ensures.value)
-          (framed t s new c.find_mandatory.new.places.items numbers bare hs pairs more conclusion c.requires.tables of.are_places of.those are_pairs placed numbered patterns) in
+          (framed _ _ new _ _ _ _ pairs more _ c.requires.tables of.are_places of.those are_pairs placed numbered patterns) in
           let before : Tables = record c.reserve.new.self {
             hypotheses = c.add_part-hypotheses.new.list;
             pairs = c.add_part-pairs.new.list;
             pieces = c.add_patterns.new.pieces;
           } in
-          asserted t before c.name-id.new.self s c.args.kind c.args.label.now c.args.numbers.now (c.add_part-hypotheses.result, c.add_part-pairs.result, conclusion) c.name-id.result hs pairs more c.args.bytes
-          c.requires.tables c.requires.kind
+          asserted _ before _ s _ _ _ _ _ hs pairs more _ c.requires.tables c.requires.kind
           (search (new_hypotheses, new_pairs, new_pieces))
           same.infos same.essentials
-          c.name-id.ensures.named
-          c.name-id.ensures.id
+          c.name-id.ensures.named c.name-id.ensures.id
           (record { kinds = kind; label = label; numbered = numbered; meant = meant; formed = formed })
           framed_at
           (typings_same st bare hs patterns.same of.those.typed)

@@ -1,4 +1,4 @@
-use Rattle.std.proofs.Common.{refl, ◌∙◌, [], ◌∷◌, ◌++◌, None, arith, ◌≤◌, length, subst}
+use Rattle.std.proofs.Common.{refl, ◌∙◌, [], ◌∷◌, ◌++◌, None, arith, ◌≤◌, length}
 use Rattle.mm_text.specs.declared.statement.Kind.TheVariants.{Closing}
 use Rattle.mm_frame.specs.Sentence.{Sentence}
 use Rattle.mm_frame.specs.Mirror.Layout.{statements_of}
@@ -8,17 +8,15 @@ use Rattle.mm_frame.proofs.SameTables.{on_err, same_tables}
 use Rattle.mm_frame.proofs.Entries.{all_statements}
 use Rattle.mm_frame.proofs.ScopeLaws.{length_pushed}
 use Rattle.mm_frame.specs.declared.scopes.TheConstants.{NEVER}
-use Rattle.mm_frame.specs.Mirror.Forgotten.{AreForgotten}
 
 pub returns-in_err-reserve-clause-err : goal.returns-in_err-reserve-clause-err
 returns-in_err-reserve-clause-err c = on_err _ (same_tables _ _ c.requires.tables c.reserve.ensures.same)
 
 pub forget_inactive-requires-clause-scopes : goal.forget_inactive-requires-clause-scopes
 forget_inactive-requires-clause-scopes c =
-    let t = c.args.self.now in
-    let st = statements_of t in
+    let st = statements_of c.args.self.now in
     let s : Sentence = record { kind = Closing; label = None; symbols = [] } in
-    let held = same_scopes t c.reserve.new.self st c.reserve.ensures.same c.requires.tables.scopes in
+    let held = same_scopes _ _ st c.reserve.ensures.same c.requires.tables.scopes in
     (st ++ s ∷ [], c.enter.ensures.scopes st s held refl (λ is. c.requires.closes))
 
 pub forget_inactive-requires-clause-all : goal.forget_inactive-requires-clause-all
@@ -35,16 +33,14 @@ pub returns-clause-ok : goal.returns-clause-ok
 returns-clause-ok c = (
   refl,
   λ s is unlabelled bare meant formed.
-      let adds = adds_block c.args.self.now c.reserve.new.self c.enter.new.self Closing c.len-start.result c.args.bytes c.reserve.ensures.same c.enter.ensures (omega arith) in
+      let adds = adds_block _ _ _ _ _ _ c.reserve.ensures.same c.enter.ensures (omega arith) in
       let st = statements_of c.args.self.now in
       let size = all_statements c.args.self.now in
       let longer = length_pushed st s in
       let small : length (st ++ s ∷ []) ≤ NEVER = omega (arith, c.requires.tables.small) in
-      let left = subst (λ ys. AreForgotten (st ++ s ∷ []) ys c.forget_inactive.new.places.items)
-      (c.enter.ensures.essentials ∙ c.reserve.ensures.same.essentials)
+      let left = rw (c.enter.ensures.essentials ∙ c.reserve.ensures.same.essentials) at
       (c.forget_inactive.ensures (st ++ s ∷ [])
       (adds.scopes st s c.requires.tables.scopes is (λ k. c.requires.closes)) small) in
-      close_grows c.args.self.now _ s c.args.bytes c.requires.tables
-      (search adds)
+      close_grows _ _ _ c.args.bytes c.requires.tables (search adds)
       left is unlabelled bare c.requires.closes c.requires.some c.requires.room meant formed,
 )

@@ -1,13 +1,12 @@
-use Rattle.std.proofs.Common.{◌≡◌, ℕ, List, Some, sym, ◌∙◌, ap, subst, rules, MatchOption}
-use Rattle.std.specs.List.{slice_get}
-use denote.Enum.Bare.{same_true, sameb}
+use Rattle.std.proofs.Common.{◌≡◌, sym, ◌∙◌, ap, rules, slice_get, ℕ, List, Some, subst, MatchOption}
+use denote.Enum.Bare.{same_true}
 use Rattle.mm_text.specs.contracts.statement.Kind.{the_type}
 use Rattle.mm_text.specs.declared.statement.Kind.TheVariants.{Floating}
+use Rattle.mm_frame.proofs.PairsOf.{kind_at}
+use Rattle.mm_frame.proofs.tables.Tables.floating_variable.Goals as goal
 use Rattle.mm_frame.specs.Sentence.{Types}
 use Rattle.mm_frame.specs.Numbers.{IsNumberOf}
 use Rattle.mm_frame.specs.Mirror.Layout.{statements_of}
-use Rattle.mm_frame.proofs.PairsOf.{kind_at, some_entry}
-use Rattle.mm_frame.proofs.tables.Tables.floating_variable.Goals as goal
 use Rattle.mm_frame.proofs.Typings.{typing_says}
 
 pub returns-then-eq : goal.returns-then-eq
@@ -21,16 +20,3 @@ returns-then-eq c f said =
     (c.requires.sound.1 _ f said) floats (c.symbols_at.ensures f said) in
     let found = c.at-then-eq.ensures ∙ ap (λ ns. slice_get ns 1) is in
     subst (λ o. MatchOption o (¬ (f.kind ≡ Floating)) (λ n. (code : List ℕ) × (x : List ℕ) × Types code x f × IsNumberOf st x n.0)) (sym found) (code, x, types, number)
-
-pub returns-else-eq : goal.returns-else-eq
-returns-else-eq c f said floats =
-    let t = c.args.self.now in
-    let there : slice_get t.log.items c.args.place ≡ Some c.in-Some.entry = ap (λ xs. slice_get xs c.args.place) (sym c.deref.ensures.value) ∙ sym c.at.ensures ∙ c.in-Some.is in
-    let kind : c.in-Some.entry.kind ≡ Floating = sym (kind_at t.symbols.names t.labels.names t.flat.items t.log.items c.args.place c.in-Some.entry f there said) ∙ floats in
-    let same = ap (λ k. sameb the_type k Floating) kind in
-    absurd (cc)
-
-pub returns-in-None : goal.returns-in-None
-returns-in-None c f said floats =
-    let t = c.args.self.now in
-    some_entry t.symbols.names t.labels.names t.flat.items t.log.items c.args.place f said (ap (λ xs. slice_get xs c.args.place) (sym c.deref.ensures.value) ∙ sym c.at.ensures ∙ c.in-None.is)

@@ -1,9 +1,8 @@
-use Rattle.std.proofs.Common.{sym, ap, ◌∙◌, subst, ◌≡◌, length, [], Some, None, arith}
-use Rattle.std.specs.List.{slice_get}
+use Rattle.std.proofs.Common.{sym, ap, ◌∙◌, ◌≡◌, length, [], Some, None, arith, slice_get, subst}
 use Rattle.mm_text.specs.declared.statement.Kind.TheVariants.{Floating}
 use Rattle.mm_frame.specs.declared.answer.Taken.TheVariants.{Hypothesis}
 use Rattle.mm_frame.proofs.SameTables.{on_err, same_tables}
-use Rattle.mm_frame.proofs.NamedTables.{Before, IsWritten, few_labels, next_number, before_same, typed, known_info, noted}
+use Rattle.mm_frame.proofs.NamedTables.{IsWritten, few_labels, next_number, before_same, typed, noted, known_info, Before}
 use Rattle.mm_frame.proofs.tables.Tables.give_type.Goals as goal
 use Rattle.mm_frame.proofs.tables.Tables.give_type.Goals.{in-Some, in-None}
 use Rattle.mm_frame.proofs.Typings.{typing_says}

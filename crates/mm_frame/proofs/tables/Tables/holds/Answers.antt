@@ -1,4 +1,4 @@
-use Rattle.std.proofs.Common.{◌<◌, arith}
+use Rattle.std.proofs.Common.{arith}
 use Rattle.mm_frame.specs.Mirror.Layout.{statements_of}
 use Rattle.mm_frame.proofs.tables.Tables.holds.Goals as goal
 use Rattle.mm_frame.proofs.Entries.{few_statements}
@@ -6,12 +6,10 @@ use Rattle.mm_frame.proofs.Entries.{few_statements}
 pub returns : goal.returns
 returns c =
     let t = c.args.self.now in
-    let st = statements_of t in
     let tables = c.requires.tables in
-    let before : c.args.wide.now.place < c.args.at = omega (arith, c.if-wide-at.false) in
-    let active = c.is_active.ensures st tables.scopes (few_statements t tables) in
+    let active = c.is_active.ensures (statements_of t) tables.scopes (few_statements _ tables) in
     let (in_a, in_b) = rw c.deref.ensures.value at (c.are_among.ensures.0 c.if-not-are_among.false)
     in (
-      (λ is. (before, in_a, in_b, active.0 is)),
+      (λ is. (omega (arith, c.if-wide-at.false), in_a, in_b, active.0 is)),
       (λ (early, has_a, has_b, still). active.1 still),
     )

@@ -4,14 +4,6 @@ use Rattle.mm_frame.proofs.LookupLaws.{at_end}
 use Rattle.mm_frame.proofs.tables.Tables.is_active_now.Goals as goal
 use Rattle.mm_frame.proofs.Entries.{few_statements, all_statements}
 
-pub is_active-requires-clause-place : goal.is_active-requires-clause-place
-is_active-requires-clause-place c =
-    omega (arith, all_statements c.args.self.now, c.requires.place)
-
-pub is_active-requires-clause-within : goal.is_active-requires-clause-within
-is_active-requires-clause-within c =
-    omega (arith, all_statements c.args.self.now, c.requires.tables.scopes.held)
-
 pub returns : goal.returns
 returns c =
     let t = c.args.self.now in

@@ -7,10 +7,7 @@ use Rattle.mm_frame.specs.Mirror.Separated.{ordered_pair}
 
 pub returns-then-is_stated : goal.returns-then-is_stated
 returns-then-is_stated c x y at_a at_b =
-    let t = c.args.self.now in
-    let st = statements_of t in
-    let stated = t.distinct.stated in
-    let tell = stated_tells st t.symbols.names stated c.args.a.0 c.args.b.0 c.args.at x y
+    let tell = stated_tells _ _ _ c.args.a.0 c.args.b.0 c.args.at x y
     c.requires.tables.infos.all c.requires.tables.stated at_a at_b c.if-a-b.false in
     let has = rw c.in_order.ensures at (c.is_stated.ensures.0 c.if-is_stated.true) in
     ((λ yes. tell.0 (inl has)), (λ distinct. cc))

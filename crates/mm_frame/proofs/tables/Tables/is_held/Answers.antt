@@ -1,7 +1,7 @@
-use Rattle.std.proofs.Common.{◌-◌, ◌<◌, subst, sym, arith}
+use Rattle.std.proofs.Common.{◌-◌, subst, sym, arith, ◌<◌}
 use Rattle.mm_frame.specs.Mirror.Layout.{statements_of}
 use Rattle.mm_frame.specs.Mirror.Wide.{HoldsPair, NoneFrom}
-use Rattle.mm_frame.proofs.WideDistinct.{positive, wide_at, none_next, held_next}
+use Rattle.mm_frame.proofs.WideDistinct.{wide_at, none_next, held_next}
 use Rattle.mm_frame.proofs.tables.Tables.is_held.Goals as goal
 use Rattle.mm_frame.proofs.tables.Tables.is_held.Goals.{then-last-at, else-last-at}
 
@@ -25,15 +25,14 @@ loop-preserved c =
     let w = c.index-wide-left.result in
     let n = c.loop.left in
     let within = c.loop.invariant.within in
-    let some : 0 < n = positive n c.if-left-eq0.false in
+    let some : 0 < n = omega (arith, c.if-left-eq0.false) in
     let there = wide_at _ _ _ _ _ c.wide-wide.ensures c.if-left-eq0.false
     c.loop.invariant.within c.index-wide-left.is in
     let wides = c.requires.tables.stated.wide in
     let older = wides.older (n - 1) w there in
     let P = HoldsPair st c.args.at c.args.a.0 c.args.b.0 in
     let no : ¬ (P w) =
-    λ holds. absurd (let yes = c.holds.ensures.1 holds in let not = c.if-holds.false in cc)
-    in
+    λ holds. absurd (let yes = c.holds.ensures.1 holds in let not = c.if-holds.false in cc) in
     elim c.if-last-at.branch [
       | then-last-at x ↦ record {
         within = let is = x.left-is in omega arith;

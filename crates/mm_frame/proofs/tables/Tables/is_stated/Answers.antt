@@ -6,12 +6,11 @@ use Rattle.mm_frame.proofs.Entries.{few_statements}
 pub returns-in-Some : goal.returns-in-Some
 returns-in-Some c =
     let t = c.args.self.now in
-    let st = statements_of t in
     let tables = c.requires.tables in
     let (before, tell) =
-    latest_has st t.symbols.names t.distinct.stated c.args.pair c.args.at c.in-Some.place
+    latest_has _ _ _ c.args.pair c.args.at c.in-Some.place
     tables.stated c.requires.within c.in-Some.ensures in
-    let active = c.is_active.ensures st tables.scopes (few_statements t tables) in
+    let active = c.is_active.ensures (statements_of t) tables.scopes (few_statements _ tables) in
     ((λ is. tell.0 (active.0 is)), (λ has. active.1 (tell.1 has)))
 
 pub returns-in-None : goal.returns-in-None

@@ -1,5 +1,4 @@
 use Rattle.std.proofs.Common.{refl, ◌∙◌, arith}
-use Rattle.mm_text.specs.declared.statement.Kind.TheVariants.{Opening}
 use Rattle.mm_frame.proofs.Blocks.{adds_block, open_grows}
 use Rattle.mm_frame.proofs.tables.Tables.open.Goals as goal
 use Rattle.mm_frame.proofs.SameTables.{on_err, same_tables}
@@ -10,8 +9,7 @@ returns-in_err-reserve-clause-err c = on_err _ (same_tables _ _ c.requires.table
 pub returns-clause-ok : goal.returns-clause-ok
 returns-clause-ok c = (
   refl,
-  λ s is unlabelled bare meant formed.
-      open_grows c.args.self.now c.enter.new.self s c.args.bytes c.requires.tables
-      (adds_block c.args.self.now c.reserve.new.self c.enter.new.self Opening c.len-start.result c.args.bytes c.reserve.ensures.same c.enter.ensures (omega arith))
+  λ s is unlabelled bare meant formed. open_grows _ _ _ _ c.requires.tables
+      (adds_block _ _ _ _ _ _ c.reserve.ensures.same c.enter.ensures (omega arith))
       (c.enter.ensures.essentials ∙ c.reserve.ensures.same.essentials) is unlabelled bare c.requires.some c.requires.room meant formed,
 )

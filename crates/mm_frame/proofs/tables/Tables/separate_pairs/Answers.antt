@@ -27,26 +27,23 @@ returns-clause-ok c = (
       let t = c.args.self.now in
       let st = statements_of t in
       let u = c.reserve.new.self in
-      let v = c.enter_members.new.self in
-      let members = c.args.numbers.now in
-      let pairs = c.in_ok-pairs.pairs.items in
       let before = t.distinct.stated in
       let e = c.enter_members.ensures.entered in
       let same = c.reserve.ensures.same in
       let place : c.len-place.result ≡ length st =
       c.len-place.ensures ∙ u.log.ok.0 ∙ ap length same.log ∙ sym (all_statements t) in
-      let stated : v.distinct.stated ≡ record {
-        pairs = before.pairs ++ map (stated_at (length st)) pairs;
+      let stated : c.enter_members.new.self.distinct.stated ≡ record {
+        pairs = before.pairs ++ map (stated_at (length st)) c.in_ok-pairs.pairs.items;
         wide = before.wide;
       } = e.stated ∙ c.state.ensures
       ∙ rw (c.reserve-2.ensures.stated, same.stated, c.deref.ensures.value, place) refl in
-      let new : IsNewDistinct t s members =
+      let new : IsNewDistinct t s c.args.numbers.now =
       record { kind = kind; label = label; numbered = numbers; meant = meant; formed = formed } in
-      separated t v s members c.args.bytes c.requires.tables c.requires.room c.requires.enough
-      (separated_after t u v _ members c.args.bytes c.requires.tables same e)
+      separated _ _ _ _ _ c.requires.tables c.requires.room c.requires.enough
+      (separated_after _ _ _ _ _ _ c.requires.tables same e)
       (subst (AreStated (st ++ s ∷ []) t.symbols.names) (sym stated)
-      (stated_push st s t.symbols.names before _ c.requires.tables.infos.all
-      c.requires.tables.stated kind (new_from_paired st s t.symbols.names members pairs
+      (stated_push _ _ _ _ _ c.requires.tables.infos.all
+      c.requires.tables.stated kind (new_from_paired _ s t.symbols.names _ _
       c.requires.tables.infos.all kind meant numbers c.in_ok-pairs.ensures)))
       new,
 )

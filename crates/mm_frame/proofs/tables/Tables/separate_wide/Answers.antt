@@ -23,21 +23,17 @@ returns-clause-ok c = (
   c.enter_members.ensures.taken,
   λ s kind label numbers meant formed.
       let t = c.args.self.now in
-      let st = statements_of t in
-      let u = c.reserve.new.self in
-      let v = c.enter_members.new.self in
-      let members = c.args.numbers.now in
       let w = c.in_ok-wide.wide in
       let e = c.enter_members.ensures.entered in
       let same = c.reserve.ensures.same in
       let stated = e.stated ∙ c.in_ok-widen.ensures.ok
       ∙ ap (λ (x : AllStated). record { pairs = x.pairs; wide = x.wide ++ w ∷ [] }) same.stated in
-      let new : IsNewDistinct t s members =
+      let new : IsNewDistinct t s c.args.numbers.now =
       record { kind = kind; label = label; numbered = numbers; meant = meant; formed = formed } in
-      separated t v s members c.args.bytes c.requires.tables c.requires.room c.requires.enough
-      (separated_after t u v _ members c.args.bytes c.requires.tables same e)
-      (subst (AreStated (st ++ s ∷ []) t.symbols.names) (sym stated)
-      (stated_wide st s t.symbols.names members t.distinct.stated w c.requires.tables.infos.all
+      separated _ _ _ _ _ c.requires.tables c.requires.room c.requires.enough
+      (separated_after _ _ _ _ _ _ c.requires.tables same e)
+      (subst (AreStated ((statements_of t) ++ s ∷ []) t.symbols.names) (sym stated)
+      (stated_wide _ s _ _ _ _ c.requires.tables.infos.all
       c.requires.tables.stated kind numbers c.in_ok-wide.ensures))
       new,
 )

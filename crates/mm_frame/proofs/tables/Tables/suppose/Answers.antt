@@ -15,13 +15,11 @@ returns-clause-ok c =
     let t = c.args.self.now in
     let same = c.reserve.ensures.same in
     let place : c.len.result ≡ length t.log.items = let size = ap length same.log in omega arith in
-    let b = before_same t c.reserve.new.self same in (
-      ap Hypothesis (next_number t c.name-id.result c.requires.tables (c.name-id.ensures.id ∙ ap length same.labels)),
+    let b = before_same _ _ same in (
+      ap Hypothesis (next_number _ c.name-id.result c.requires.tables (c.name-id.ensures.id ∙ ap length same.labels)),
       λ s kind label numbered meant formed.
-          supposed t (record c.reserve.new.self { essentials = c.put.new.list })
-          c.name-id.new.self s c.args.label.now c.args.numbers.now _ c.name-id.result c.args.bytes
-          c.requires.tables (search b)
-          same.infos
+          supposed _ (record c.reserve.new.self { essentials = c.put.new.list }) _ s _ _ _ _ _
+          c.requires.tables (search b) same.infos
           (c.put.ensures ∙ ap (λ ys. ys ++ c.len.result ∷ []) same.essentials ∙ ap (λ n. t.essentials.items ++ n ∷ []) place)
           c.name-id.ensures.named c.name-id.ensures.id
           (record { kinds = kind; label = label; numbered = numbered; meant = meant; formed = formed })

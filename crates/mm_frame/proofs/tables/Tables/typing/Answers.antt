@@ -1,12 +1,11 @@
-use Rattle.std.proofs.Common.{◌≡◌, Some, inl, inr, sym, ◌∙◌, ap, subst, rules}
-use Rattle.std.specs.List.{slice_get}
-use denote.Enum.Bare.{same_true, sameb}
+use Rattle.std.proofs.Common.{◌≡◌, sym, ◌∙◌, ap, rules, Some, subst, slice_get}
+use denote.Enum.Bare.{same_true}
 use Rattle.mm_text.specs.contracts.statement.Kind.{the_type}
 use Rattle.mm_text.specs.declared.statement.Kind.TheVariants.{Floating}
+use Rattle.mm_frame.proofs.PairsOf.{kind_at}
+use Rattle.mm_frame.proofs.Typings.{typing_says}
 use Rattle.mm_frame.specs.FramePlace.{IsTypingOf}
 use Rattle.mm_frame.specs.Mirror.Layout.{statements_of}
-use Rattle.mm_frame.proofs.PairsOf.{kind_at, some_entry}
-use Rattle.mm_frame.proofs.Typings.{typing_says}
 use Rattle.mm_frame.proofs.tables.Tables.typing.Goals as goal
 
 pub returns-then-eq : goal.returns-then-eq
@@ -18,20 +17,3 @@ returns-then-eq c f said hypothesis =
     let floats = kind_at t.symbols.names t.labels.names t.flat.items t.log.items c.args.place c.in-Some.entry f there said ∙ kind in
     let (a, b, is, types) = typing_says st f c.symbols_at.result.now (c.requires.sound.1 _ f said) floats (c.symbols_at.ensures f said) in
     subst (λ o. IsTypingOf st o f) (sym (c.first_two.ensures a b is)) types
-
-pub returns-else-eq : goal.returns-else-eq
-returns-else-eq c f said hypothesis =
-    let t = c.args.self.now in
-    let there : slice_get t.log.items c.args.place ≡ Some c.in-Some.entry = ap (λ xs. slice_get xs c.args.place) (sym c.deref.ensures.value) ∙ sym c.at.ensures ∙ c.in-Some.is in
-    elim hypothesis [
-      | inl floats ↦
-          let kind : c.in-Some.entry.kind ≡ Floating = sym (kind_at t.symbols.names t.labels.names t.flat.items t.log.items c.args.place c.in-Some.entry f there said) ∙ floats in
-          let same = ap (λ k. sameb the_type k Floating) kind in
-          absurd (cc)
-      | inr essential ↦ essential
-    ]
-
-pub returns-in-None : goal.returns-in-None
-returns-in-None c f said hypothesis =
-    let t = c.args.self.now in
-    absurd (some_entry t.symbols.names t.labels.names t.flat.items t.log.items c.args.place f said (ap (λ xs. slice_get xs c.args.place) (sym c.deref.ensures.value) ∙ sym c.at.ensures ∙ c.in-None.is))
