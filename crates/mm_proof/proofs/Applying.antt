@@ -6,7 +6,7 @@ use Rattle.std.proofs.lemmas.Option.{same_Some, slice_get_within, get_or_from_sl
 use Rattle.std.proofs.lemmas.List.{map-append, length-map, take-append-drop, take-take}
 use Rattle.mm_frame.specs.declared.rule.MeaningRule.TheVariants.{M7}
 use Rattle.mm_frame.specs.Sentence.{Sentence, IsAssertion, IsHypothesis, IsUse, IsLabelled}
-use Rattle.mm_frame.specs.Active.{IsConstant, IsVariable, IsActiveSymbol}
+use Rattle.mm_frame.specs.Active.{IsConstant, IsVariable}
 use Rattle.mm_frame.specs.Frame.{AreMandatory, IsMandatoryPair}
 use Rattle.mm_frame.specs.Rules.{AllMeant}
 use Rattle.mm_frame.specs.Numbers.{symbols_of, IsNumbered, IsNumberOf, AreNumbers}
@@ -27,8 +27,7 @@ use Rattle.mm_proof.specs.Moves.{name}
 use Rattle.mm_proof.specs.Proof.{MeetsHypotheses, SomePair, Passed, IsWithin}
 use Rattle.mm_proof.specs.Steps.{IsNumberedMove}
 use Rattle.mm_proof.specs.Stores.{all_said_by}
-use Rattle.mm_proof.specs.Mirror.CodeVerify.{name_at, names_at, all_names_at, value_of, replaced_in, pairs_in, IsSymbol, AreDeclaredSymbols, AreStackEntries, AreBelow, IsRightCode, IsWrongCode, IsEqual, IsUnequal, EachEntry, EachPairValues, SomePairValues, Replaces, AreVariablesOf}
-use Rattle.mm_proof.specs.Mirror.CodeVerify.{IsVariableOf}
+use Rattle.mm_proof.specs.Mirror.CodeVerify.{name_at, names_at, all_names_at, value_of, replaced_in, pairs_in, IsSymbol, AreDeclaredSymbols, AreStackEntries, AreBelow, IsRightCode, IsWrongCode, IsEqual, IsUnequal, EachEntry, EachPairValues, SomePairValues, Replaces, AreVariablesOf, IsVariableOf}
 use Rattle.mm_proof.specs.Plain.{label_ids}
 use Rattle.mm_proof.specs.Mirror.CodeSteps.{MayBeUsed}
 use Rattle.mm_proof.specs.Mirror.CodeRun.{CarriesOn, StopsAt}
@@ -43,7 +42,7 @@ use Rattle.mm_proof.proofs.Values.{pattern_says}
 use Rattle.mm_proof.proofs.Shared.{value_symbols, symbols_below}
 use Rattle.mm_proof.proofs.Turned.{share_turned, distinct_share_none, apart_turned}
 use Rattle.mm_proof.proofs.Judged.{below_P8, step_of_hypothesis}
-use Rattle.mm_proof.proofs.Firsts.{EachPair, below_P9, below_P10, below_P11, below_P12, first_L1, step_of_meets}
+use Rattle.mm_proof.proofs.Firsts.{EachPair, below, first_L1}
 use Rattle.mm_proof.proofs.Forward.{passed_name}
 use Rattle.mm_proof.proofs.Running.{named_push}
 
@@ -52,9 +51,8 @@ use Rattle.mm_proof.proofs.Running.{named_push}
 -- the label of a move is that of the statement with its number
 label_of : (st : List Sentence) (id at : ℕ) (s : Sentence) (label : List ℕ) → IsNumbered st id at s → IsNumberedMove st (name id) (name label) → IsLabelled label s
 label_of st id at s label n move =
-    let same : move.0 ≡ s = same_Some move.0 s (sym move.2 ∙ numbered_get st id at s n) in
-    let label_is : move.1 ≡ label = (let e : name label ≡ name move.1 = move.4 in cc) in
-    subst (λ (t : Sentence). IsLabelled label t) same (subst (λ (l : List ℕ). IsLabelled l move.0) label_is move.3)
+    let e : name label ≡ name move.1 = move.4 in
+    cc (numbered_get st id at s n, move.2, move.3)
 
 pub names_of : (st : List Sentence) (place id at : ℕ) (ids : List ℕ) (hs : List Sentence) (label : List ℕ) → (c : IsAppliedAssertion st place id at ids hs)
     → IsNumberedMove st (name id) (name label) → Names (take place st) label at c.s hs
@@ -66,9 +64,6 @@ names_of st place id at ids hs label c move =
       mandatory = subst (λ (l : List Sentence). AreMandatory l c.s hs) (sym (take-take at place st (omega (arith, c.before)))) c.mandatory;
     }
 
-named_count : (st : List Sentence) (entries : List (List ℕ)) → length (all_names_at st entries) ≡ length entries
-named_count st entries = length-map entries (λ (e : List ℕ). map (name_at st) e)
-
 -- what the step meets
 abbrev met : (st : List Sentence) (place id at : ℕ) (ids : List ℕ) (hs : List Sentence) (label : List ℕ) (stack : List (List ℕ)) (base : ℕ) → AllMeant st
     → IsAppliedAssertion st place id at ids hs → IsNumberedMove st (name id) (name label) → length (drop base stack) ≡ length hs → MeetsHypotheses (take place st) (all_names_at st stack) label
@@ -77,7 +72,7 @@ met st place id at ids hs label stack base all c move paired =
     (names_of st place id at ids hs label c move)
     (ap (all_names_at st) (sym (take-append-drop base stack))
     ∙ map-append (names_at st) (take base stack) (drop base stack))
-    (named_count st (drop base stack) ∙ paired)
+    (length-map (drop base stack) (λ (e : List ℕ). map (name_at st) e) ∙ paired)
 
 -- ---- pairs
 
@@ -93,8 +88,9 @@ pub stops_P8 : (limit : ℕ) (st : List Sentence) (place id at : ℕ) (ids : Lis
     → StopsAt limit st place id stack P8
 stops_P8 limit st place id at ids hs stack c short label kept move =
     let names = names_of st place id at ids hs label c move in
+    let many = length-map stack (λ (e : List ℕ). map (name_at st) e) in
     record {
-      broken = (at, c.s, hs, names, omega (arith, short, named_count st stack));
+      broken = (at, c.s, hs, names, omega (arith, short, many));
       first = below_P8 (IsWithin limit) (take place st) (all_names_at st stack) label;
     }
 
@@ -103,7 +99,11 @@ pub stops_P9 : (limit : ℕ) (st : List Sentence) (place id at : ℕ) (ids : Lis
 stops_P9 limit st place id at ids hs stack base all c paired pair label kept move =
     let m = met st place id at ids hs label stack base all c move paired in
     let front = allmeant_front st place all in
-    record { broken = (m, pair); first = below_P9 (IsWithin limit) _ _ _ m front }
+    record {
+      broken = (m, pair);
+      first = below (IsWithin limit) _ _ _ m front P9 (omega arith)
+          (λ l. absurd (omega arith)) (λ l. absurd (omega arith)) (λ l. absurd (omega arith));
+    }
 
 pub stops_P10 : (limit : ℕ) (st : List Sentence) (place id at : ℕ) (ids : List ℕ) (hs : List Sentence) (stack : List (List ℕ)) (base : ℕ) → AllMeant st → IsAppliedAssertion st place id at ids hs
     → length (drop base stack) ≡ length hs → EachEntry hs (all_names_at st (drop base stack)) IsRightCode
@@ -111,7 +111,11 @@ pub stops_P10 : (limit : ℕ) (st : List Sentence) (place id at : ℕ) (ids : Li
 stops_P10 limit st place id at ids hs stack base all c paired codes pair label kept move =
     let m = met st place id at ids hs label stack base all c move paired in
     let front = allmeant_front st place all in
-    record { broken = (m, pair); first = below_P10 (IsWithin limit) _ _ _ m front codes }
+    record {
+      broken = (m, pair);
+      first = below (IsWithin limit) _ _ _ m front P10 (omega arith)
+          (λ l. codes) (λ l. absurd (omega arith)) (λ l. absurd (omega arith));
+    }
 
 -- the pair of names behind a pair of numbers, with what replaces it
 pair_found : (st : List Sentence) (place id at : ℕ) (ids : List ℕ) (hs : List Sentence) (pairs : List (ℕ × ℕ)) → (c : IsAppliedAssertion st place id at ids hs)
@@ -167,7 +171,8 @@ stops_P11 limit one st place id at ids hs stack base vs pairs all c paired typed
     let at_y = value_at st σ vs (drop base stack) p.1 found.1.1 found.3.1 r p.3 found.3.3 in
     record {
       broken = (m, p.0, p.1, _, _, p.4, at_x, at_y, found.3.4);
-      first = below_P11 (IsWithin limit) _ _ _ m (allmeant_front st place all) codes equal;
+      first = below (IsWithin limit) _ _ _ m (allmeant_front st place all) P11 (omega arith)
+          (λ l. codes) (λ l. equal) (λ l. absurd (omega arith));
     }
 
 pub stops_P12 : (limit : ℕ) → OneNumber → (st : List Sentence) (place id at : ℕ) (ids : List ℕ) (hs : List Sentence) (stack : List (List ℕ)) (base : ℕ) (vs : List (Option ℕ)) (pairs : List (ℕ × ℕ)) → AllMeant st
@@ -186,7 +191,8 @@ stops_P12 limit one st place id at ids hs stack base vs pairs all c paired typed
     let at_y = value_at st σ vs (drop base stack) p.1 found.1.1 found.3.1 r p.3 found.3.3 in
     record {
       broken = (m, p.0, p.1, _, _, p.4, at_x, at_y, found.3.4);
-      first = below_P12 (IsWithin limit) _ _ _ m (allmeant_front st place all) codes equal apart;
+      first = below (IsWithin limit) _ _ _ m (allmeant_front st place all) P12 (omega arith)
+          (λ l. codes) (λ l. equal) (λ l. apart);
     }
 
 -- ---- what the step makes
@@ -205,9 +211,16 @@ step_to one st place id at label stack base vs conclusion all ready as_many move
     let paired = as_many ∙ zip_length (IsVariableOf st) vs ready.hs ready.typed in
     let r = replaces_by one st vs ready.hs (drop base stack) ready.typed in
     let apart = each_pair one st place id at ready.ids ready.hs label stack base vs ready.pairs (AreDistinct (take place st)) (apart_turned (take place st)) all ready.called move paired ready.typed ready.mandatory ready.matched.apart in
-    step_of_meets (take place st) (all_names_at st stack) label (met st place id at ready.ids ready.hs label stack base all ready.called move paired)
-    ready.matched.codes (ready.matched.equal (replaced_by ready.hs (all_names_at st (drop base stack))) r)
-    (λ x y e f pair at_x at_y. distinct_share_none (take place st) e f (apart x y e f pair at_x at_y)) apart
+    inr (record {
+      meets = met st place id at ready.ids ready.hs label stack base all ready.called move paired;
+      kept = refl;
+      typed = ready.matched.codes;
+      equal = ready.matched.equal (replaced_by ready.hs (all_names_at st (drop base stack))) r;
+      apart = λ x y e f pair at_x at_y.
+          let near = apart x y e f pair at_x at_y in
+          (distinct_share_none (take place st) e f near, near);
+      made = refl;
+    })
 
 -- what the pattern of the assertion says is what is made
 made_is : (st : List Sentence) (place id at : ℕ) (vs : List (Option ℕ)) (es : List (List ℕ)) (conclusion : List Piece) → length es ≡ length vs → (ready : IsReady st place id at vs es conclusion)
@@ -240,13 +253,6 @@ carries limit one st place id at stack base vs conclusion made all ready as_many
 
 -- ---- the symbols of what is made
 
--- an active symbol was declared
-declared_here : (st : List Sentence) (place at : ℕ) (x : List ℕ) → at < place → IsActiveSymbol (take at st) x → IsConstant (take place st) x ⊎ IsVariable (take place st) x
-declared_here st place at x less a =
-    let less_more = sym (take-take at place st (omega (arith, less))) in
-    let there = (get_from_take (take place st) at a.0 a.1 (subst (λ (l : List Sentence). slice_get l a.0 ≡ Some a.1) less_more a.2)).1 in
-    ⊎_elim (λ c. inl (a.0, a.1, there, c)) (λ v. inr (a.0, a.1, there, v)) a.4
-
 known_from : (st : List Sentence) (place : ℕ) (ns : List ℕ) (xs : List (List ℕ)) → AreNumbers st ns xs
     → ((x : List ℕ) → Contains xs x → ¬ (¬ (IsConstant (take place st) x ⊎ IsVariable (take place st) x))) → AreDeclaredSymbols st (take place st) ns
 known_from st place [] xs are known = tt
@@ -265,7 +271,18 @@ known_from st place (n ∷ ns) (x ∷ xs) are known =
 pub known_symbols : (st : List Sentence) (place at : ℕ) (s : Sentence) (pattern : List ℕ) → AllMeant st → slice_get st at ≡ Some s → at < place → IsUse s.kind → AreNumbers st pattern s.symbols
     → AreDeclaredSymbols st (take place st) pattern
 known_symbols st place at s pattern all there less in_use numbers =
-    known_from st place pattern s.symbols numbers (λ x has none. meant_at st at s all there M7 (in_use, (x, has, (λ active. none (declared_here st place at x less active)))))
+    known_from st place pattern s.symbols numbers (λ x has none. meant_at st at s all there M7 (
+      in_use,
+      (
+        x,
+        has,
+        (λ a.
+            let front = sym (take-take at place st (omega (arith, less))) in
+            let held = subst (λ (l : List Sentence). slice_get l a.0 ≡ Some a.1) front a.2 in
+            let found = (get_from_take (take place st) at a.0 a.1 held).1 in
+            none (⊎_elim (λ c. inl (a.0, a.1, found, c)) (λ v. inr (a.0, a.1, found, v)) a.4)),
+      ),
+    ))
 
 piece_symbols : (st before : List Sentence) (n : ℕ) (o : Option (List ℕ)) → IsSymbol st before n → ((v : List ℕ) → o ≡ Some v → AreDeclaredSymbols st before v) → AreDeclaredSymbols st before (unwrap_or o (n ∷ []))
 piece_symbols st before n None is some = (is, tt)

@@ -2,7 +2,7 @@
 use Rattle.std.proofs.Common.{◌≡◌, ℕ, ◌+◌, ◌-◌, ◌<◌, ◌≤◌, List, [], ◌∷◌, ◌++◌, length, take, drop, slice_get, get_or, Some, Result, IfErr, refl, sym, ap, subst, ◌∙◌, arith}
 use Rattle.std.specs.List.{AllZip, AllByRecursion}
 use Rattle.std.specs.Result.{IsErrAnd}
-use Rattle.std.proofs.lemmas.Option.{same_Some, slice_get_within, get_or_from_slice_get}
+use Rattle.std.proofs.lemmas.Option.{same_Some, slice_get_within, slice_get_read, get_or_from_slice_get}
 use Rattle.std.proofs.lemmas.Result.{err_from_is_err_and}
 use Rattle.std.proofs.lemmas.Slice.Zip.{AllZip-long}
 use Rattle.std.proofs.lemmas.List.{length-map, length-append, length-drop, take-append-drop}
@@ -118,8 +118,7 @@ next_make {X} held st moves m i stack shelf d x id h less is e =
       used = same_use st m.place id n.usable.0 by.1 by.0 n.usable.1 named;
       stands = one.3;
       was = one.2;
-      others = subst (λ k. Makes (take m.place st) (drop (i + 1) m.names) (beside one.0 (tree by.1 one.1 none)) k (tree m.label m.below none) m.makes.kept) one.5
-          (subst (λ r. Makes (take m.place st) (drop (i + 1) m.names) r n.kept' (tree m.label m.below none) m.makes.kept) one.4 n.others);
+      others = rw (one.5, one.4) at n.others;
     }
 
 -- so many trees are there
@@ -183,8 +182,10 @@ one_tree (tree l x none) one = (l, x, refl)
 one_tree t one = absurd (omega arith)
 
 pub next_repeat : {X : Type 0} (held : Holding X) (st : List Sentence) (moves : List NumberedMove) (m : MakeTreeAt st (moves_in moves)) (i : ℕ) (stack shelf : List X) (item : X) (d x : NumberedMove) (tag : ℕ) (h : At held st moves m i stack shelf)
-    → i < length moves → get_or moves i d ≡ x → move_in x ≡ again tag → slice_get shelf tag ≡ Some item → NextRepeat held st moves m i stack shelf item h
-next_repeat {X} held st moves m i stack shelf item d x tag h less is e there =
+    → i < length moves → get_or moves i d ≡ x → move_in x ≡ again tag → item ≡ get_or shelf tag item → NextRepeat held st moves m i stack shelf item h
+next_repeat {X} held st moves m i stack shelf item d x tag h less is e read =
+    let there = slice_get_read shelf (length shelf) tag item refl
+    (repeat_within held st moves m i stack shelf d x tag h less is e) read in
     let n = subst (λ y. Next held st moves m i stack shelf y h) e (next held st moves m i stack shelf d x h less is) in
     let one = subst (λ y. MakesOne (take m.place st) y h.row h.kept n.row' n.kept') n.numbered n.one in
     let found = zip_right (λ (x : X) (t : Trees). roots t ≡ 1) shelf h.kept tag one.0 h.ones one.1 in
@@ -193,9 +194,7 @@ next_repeat {X} held st moves m i stack shelf item d x tag h less is e there =
       label = single.0;
       below = single.1;
       has = record { tag = tag; item_there = there; tree_there = one.1 ∙ ap Some single.2 };
-      others = subst (λ t. Makes (take m.place st) (drop (i + 1) m.names) (beside h.row t) h.kept (tree m.label m.below none) m.makes.kept) single.2
-          (subst (λ k. Makes (take m.place st) (drop (i + 1) m.names) (beside h.row one.0) k (tree m.label m.below none) m.makes.kept) one.3
-          (subst (λ r. Makes (take m.place st) (drop (i + 1) m.names) r n.kept' (tree m.label m.below none) m.makes.kept) one.2 n.others));
+      others = rw (one.3, one.2, single.2) at n.others;
     }
 
 pub at_repeat : {X : Type 0} (old new : Holding X) (st : List Sentence) (moves : List NumberedMove) (m : MakeTreeAt st (moves_in moves)) (i : ℕ) (stack shelf : List X) (item more : X) (h : At old st moves m i stack shelf)

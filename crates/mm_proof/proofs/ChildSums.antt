@@ -1,10 +1,10 @@
 -- How many steps make trees, and that all their subtrees are made.
-use Rattle.std.proofs.Common.{◌≡◌, ℕ, ◌+◌, ◌<◌, ◌≤◌, List, [], ◌∷◌, ◌++◌, cond, ◌⊎◌, inl, inr}
-use Rattle.std.proofs.Common.{⊎_elim, refl, sym, ap, subst, ◌∙◌, arith}
+use Rattle.std.proofs.Common.{◌≡◌, ℕ, ◌+◌, ◌<◌, ◌≤◌, List, [], ◌∷◌, ◌++◌, take, drop, suc, cond, ◌⊎◌, inl, inr, ⊎_elim, refl, sym, ap, subst, ◌∙◌, arith}
 use Rattle.std.specs.List.{AllZip, sum_by}
 use Rattle.std.proofs.lemmas.Bool.{cases_lt}
 use Rattle.std.proofs.lemmas.List.{length-append}
 use Rattle.std.proofs.lemmas.List.Sums.{sum_by-cons, sum_by-append}
+use Rattle.mm_text.proofs.Lists.{split_at}
 use Rattle.mm_code.specs.declared.code.Code.{Code}
 use Rattle.mm_code.specs.declared.code.Code.TheVariants.{Number, Tag}
 use Rattle.mm_frame.specs.Sentence.{Sentence}
@@ -15,7 +15,7 @@ use Rattle.mm_proof.specs.BigSubtrees.{nodes, IsBig, children, IsSubtree}
 use Rattle.mm_proof.specs.Visits.{Visit, makes, keeps, visits, trees_made}
 use Rattle.mm_proof.specs.Sharing.{is_number, steps_of}
 use Rattle.mm_proof.proofs.Making.{roots-beside}
-use Rattle.mm_proof.proofs.Members.{In, get_in, in_left, in_right, in_apart, in_push, Once}
+use Rattle.mm_proof.proofs.Members.{In, in_get, get_in, in_left, in_right, in_apart, in_push, Once}
 use Rattle.mm_proof.proofs.Covers.{AreOnes, ones_push}
 use Rattle.mm_proof.proofs.Tidy.{Tidy}
 
@@ -41,12 +41,8 @@ pub said_steps : (labels : List (List ℕ)) (codes : List Code) (moves : List (M
     → AllZip (Says labels) codes moves → steps_of codes ≡ steps_in moves
 said_steps labels [] [] p = refl
 said_steps labels (code ∷ codes) (move ∷ moves) p =
-    rw (
-      codes_more code codes,
-      steps_more move moves,
-      code_steps labels code move p.0,
-      said_steps labels codes moves p.1,
-    ) refl
+    let ih = said_steps labels codes moves p.1 in
+    cc (codes_more code codes, steps_more move moves, code_steps labels code move p.0, ih)
 said_steps labels codes moves p = absurd p
 
 -- each step adds a tree, and takes the children of what it makes
@@ -233,22 +229,19 @@ tidy_big_once (x ∷ v) done c = tidy_big_once v (x ∷ done) (tidy_later x v do
 -- ---- sums
 
 -- a list with no member twice, within another, has no greater sum
-in_split : {X : Type 0} (ys : List X) (x : X) → In ys x → (a : List X) × (b : List X)
-    × (ys ≡ a ++ x ∷ b)
-in_split [] x h = absurd h
-in_split (y ∷ ys) x (inl e) = ([], ys, ap (λ z. z ∷ ys) e)
-in_split (y ∷ ys) x (inr h) = let g = in_split ys x h in (y ∷ g.0, g.1, ap (λ l. y ∷ l) g.2)
-
 pub sum_within : {X : Type 0} (f : X → ℕ) (xs ys : List X) → Once xs → ((x : X) → In xs x → In ys x)
     → sum_by f xs ≤ sum_by f ys
 sum_within f [] ys once within = let e : sum_by f [] ≡ 0 = refl in omega arith
 sum_within {X} f (x ∷ xs) ys once within =
-    let s = in_split ys x (within x (inl refl)) in
-    let rest : (u : X) → In xs u → In (s.0 ++ s.1) u = λ u h. ⊎_elim
-    (λ a. in_left s.0 s.1 u a)
+    let (i, at) = in_get ys x (within x (inl refl)) in
+    let front = take i ys in
+    let back = drop (suc i) ys in
+    let parts = split_at ys i x at in
+    let rest : (u : X) → In xs u → In (front ++ back) u = λ u h. ⊎_elim
+    (λ a. in_left front back u a)
     (λ b. ⊎_elim
     (λ e. absurd (once.0 (subst (In xs) (sym e) h)))
-    (λ k. in_right s.0 s.1 u k) b)
-    (in_apart s.0 (x ∷ s.1) u (subst (λ l. In l u) s.2 (within u (inr h)))) in
-    let ih = simp (sum_by-append f) at (sum_within f xs (s.0 ++ s.1) once.1 rest) in
-    rw s.2 (simp (sum_by-append f, sum_by-cons f) (omega arith))
+    (λ k. in_right front back u k) b)
+    (in_apart front (x ∷ back) u (subst (λ l. In l u) parts (within u (inr h)))) in
+    let ih = simp (sum_by-append f) at (sum_within f xs (front ++ back) once.1 rest) in
+    rw parts (simp (sum_by-append f, sum_by-cons f) (omega arith))

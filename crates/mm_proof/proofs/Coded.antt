@@ -1,8 +1,8 @@
 -- The codes of a proof, one after the other, and what their entries stand for.
-use Rattle.std.proofs.Common.{◌≡◌, ℕ, zero, suc, ◌+◌, ◌-◌, ◌<◌, ◌≤◌, List, [], ◌∷◌, ◌++◌, length, take, slice_get, get_or, Some, Result, Ok, Err, refl, sym, ap, ◌∙◌, arith}
+use Rattle.std.proofs.Common.{◌≡◌, ℕ, zero, suc, ◌+◌, ◌-◌, ◌<◌, ◌≤◌, List, [], ◌∷◌, ◌++◌, length, take, slice_get, get_or, Some, Result, Ok, Err, sym, ap, ◌∙◌, arith}
 use Rattle.std.specs.Prelude.{All, OnOk}
 use Rattle.std.specs.List.{AllZip}
-use Rattle.std.proofs.lemmas.Option.{slice_get-get_or, slice_get_past}
+use Rattle.std.proofs.lemmas.Option.{slice_get-get_or, slice_get-map, slice_get_past}
 use Rattle.std.proofs.lemmas.List.{map_more, take-map}
 use Rattle.std.proofs.lemmas.Slice.Zip.{AllZip-long}
 use Rattle.mm_text.proofs.Lists.{zip_push, zip_right}
@@ -21,15 +21,17 @@ use Rattle.mm_proof.proofs.Compressed.{codes_say}
 pub codes_front_with : (ids : List ℕ) (said : List Code) (i : ℕ) (d c : Code) → i < length said → get_or said i d ≡ c
     → take (i + 1) (code_moves ids said) ≡ take i (code_moves ids said) ++ code_move ids c ∷ []
 codes_front_with ids said i d c less is =
-    take-map (code_move ids) (i + 1) said ∙ map_more (code_move ids) said i d less
-    ∙ ap (λ front. front ++ code_move ids (get_or said i d) ∷ []) (sym (take-map (code_move ids) i said))
-    ∙ ap (λ x. take i (code_moves ids said) ++ code_move ids x ∷ []) is
+    rw (
+      take-map (code_move ids) (i + 1) said,
+      take-map (code_move ids) i said,
+      map_more (code_move ids) said i d less,
+      is,
+    )
 
 -- the move of the code at a place
 pub code_there : (ids : List ℕ) (said : List Code) (i : ℕ) (d : Code) → i < length said → slice_get (code_moves ids said) i ≡ Some (code_move ids (get_or said i d))
-code_there ids [] i d less = absurd (omega arith)
-code_there ids (c ∷ said) zero d less = refl
-code_there ids (c ∷ said) (suc i) d less = code_there ids said i d (omega arith)
+code_there ids said i d less =
+    rw (slice_get-map (code_move ids) said i, slice_get-get_or said i d less)
 
 pub calls_long : (st : List Sentence) (at : ℕ) (ids : List ℕ) (calls : List Call) → AllZip (IsCallOf st at) ids calls → length ids ≡ length calls
 calls_long st at ids calls all = sym (AllZip-long (IsCallOf st at) ids calls all)

@@ -1,5 +1,5 @@
 -- Compressed proofs: their list, their letters, and the moves that their codes say.
-use Rattle.std.proofs.Common.{◌≡◌, ℕ, suc, ◌+◌, ◌-◌, ◌<◌, ◌≤◌, ◌⊎◌, List, [], ◌∷◌, ◌++◌, length, map, take, drop, get_or, slice_get, Contains, All, Bor, Some, None, Result, Ok, Err, inl, inr, ⊎_elim, refl, sym, ap, subst, ◌∙◌, arith}
+use Rattle.std.proofs.Common.{◌≡◌, ℕ, suc, ◌+◌, ◌-◌, ◌<◌, ◌≤◌, ◌⊎◌, List, [], ◌∷◌, ◌++◌, length, map, take, drop, get_or, slice_get, Contains, All, Bor, Some, Result, Ok, Err, inl, inr, ⊎_elim, refl, sym, ap, subst, ◌∙◌, arith}
 use Rattle.std.specs.Prelude.{OnOk}
 use Rattle.std.specs.List.{AllZip, AllByRecursion, flat_map}
 use Rattle.std.proofs.lemmas.Option.{same_Some, slice_get_cases}
@@ -15,7 +15,6 @@ use Rattle.mm_code.specs.declared.code.CodeFault.{CodeFault}
 use Rattle.mm_code.specs.declared.code.CodeFault.TheVariants as code_fault
 use Rattle.mm_text.specs.declared.token.Token.{Token}
 use Rattle.mm_text.proofs.Lists.{zip_push, zip_append, zip_left, split_at, get_from_take, all_there}
-use Rattle.mm_text.proofs.Lists.{two_cuts}
 use Rattle.mm_frame.specs.Sentence.{Sentence, IsLabelled, IsHypothesis}
 use Rattle.mm_frame.specs.Active.{IsActive}
 use Rattle.mm_frame.specs.Rules.{AllMeant}
@@ -24,9 +23,9 @@ use Rattle.mm_frame.specs.Frame.{AreMandatory, IsMandatoryAt}
 use Rattle.mm_frame.specs.Numbers.{labelled_sentences}
 use Rattle.mm_frame.specs.FramePlace.{AreHypotheses}
 use Rattle.mm_proof.specs.declared.fault.ProofRule.{ProofRule}
-use Rattle.mm_proof.specs.declared.fault.ProofRule.TheVariants.{P1, P2, P3, P4, P5}
+use Rattle.mm_proof.specs.declared.fault.ProofRule.TheVariants.{P4, P5}
 use Rattle.mm_proof.specs.declared.moves.NumberedMove.{NumberedMove}
-use Rattle.mm_proof.specs.Moves.{Move, name, again}
+use Rattle.mm_proof.specs.Moves.{Move}
 use Rattle.mm_proof.specs.Tokens.{IsCompressed, AreLetters, opening_token, closing_token}
 use Rattle.mm_proof.specs.Proof.{proof_rank, BreaksWhole, IsWholeFault}
 use Rattle.mm_proof.specs.Steps.{IsUsable}
@@ -37,6 +36,7 @@ use Rattle.mm_proof.specs.Answer.{OnRule}
 use Rattle.mm_proof.proofs.Frames.{those_hold}
 use Rattle.mm_proof.proofs.Ending.{may_be_used}
 use Rattle.mm_proof.proofs.Letters.{from_one}
+use Rattle.mm_proof.proofs.SaidMoves.{compressed_once, letters_once}
 use Rattle.mm_proof.proofs.TokenFacts.{HasLabels, labels_pass}
 use Rattle.mm_proof.proofs.Readings.{Stands, for_stands, codes_named, whole_of}
 
@@ -55,16 +55,8 @@ letters_spelled text codes l = All-from_recursion HasSpelling codes (from_one te
 
 -- ---- the one list of a compressed proof
 
--- the part before the first of a token is one
-one_front : (c : List ℕ) (xs es ys fs : List (List ℕ)) → xs ++ c ∷ es ≡ ys ++ c ∷ fs → ¬ (Contains xs c) → ¬ (Contains ys c) → (xs ≡ ys) × (es ≡ fs)
-one_front c xs es ys fs e p q = elim (two_cuts xs c es ys c fs e) [
-  | inl h ↦ (h.0, h.2)
-  | inr (inl h) ↦ absurd (q (rw h.1 (Contains-append_right xs (c ∷ h.0) c (0, omega arith, refl))))
-  | inr (inr h) ↦ absurd (p (rw h.1 (Contains-append_right ys (c ∷ h.0) c (0, omega arith, refl))))
-]
-
 pub one_compressed : (tokens a es b fs : List (List ℕ)) → IsCompressed tokens a es → IsCompressed tokens b fs → (a ≡ b) × (es ≡ fs)
-one_compressed tokens a es b fs c d = one_front closing_token a es b fs (ap (drop 1) (sym c.whole ∙ d.whole)) c.first d.first
+one_compressed tokens a es b fs c d = compressed_once tokens a b es fs c d
 
 pub compressed_labels : (tokens listed letters : List (List ℕ)) → IsCompressed tokens listed letters → HasLabels tokens listed
 compressed_labels tokens listed letters c = record {
@@ -75,34 +67,19 @@ compressed_labels tokens listed letters c = record {
 
 -- ---- letters at fault
 
-pub letters_fault : (statements : List Sentence) (place : ℕ) (tokens : List (List ℕ)) (ids : List ℕ) (listed letters : List (List ℕ)) → AllMeant statements
-    → IsCompressed tokens listed letters → AreFor statements place ids listed → Breaks code.P4 (flat_map (λ p. p) letters)
-    → IsWholeFault (take place statements) tokens P4
-letters_fault statements place tokens ids listed letters all c each b =
-    record { broken = (flat_map (λ p. p) letters, (listed, letters, c, refl), b); first = labels_pass statements place tokens ids listed all (compressed_labels tokens listed letters c) each }
-
--- the joined letters of a compressed proof are one text
-one_text : (tokens listed letters : List (List ℕ)) (text : List ℕ) → IsCompressed tokens listed letters → AreLetters tokens text → text ≡ flat_map (λ p. p) letters
-one_text tokens listed letters text c a = a.3 ∙ ap (λ l. flat_map (λ p. p) l) (one_compressed tokens a.0 a.1 listed letters a.2 c).1
-
-no_odd_letter : (text : List ℕ) → All letter.IsLetter text → ¬ (Breaks code.P4 text)
-no_odd_letter text all b = b.4 (subst letter.IsLetter b.3 (all b.0 b.1 b.2))
-
 pub cut_fault : (statements : List Sentence) (place : ℕ) (tokens : List (List ℕ)) (ids : List ℕ) (listed letters : List (List ℕ)) → AllMeant statements
     → IsCompressed tokens listed letters → AreFor statements place ids listed → Breaks code.P5 (flat_map (λ p. p) letters)
     → IsWholeFault (take place statements) tokens P5
 cut_fault statements place tokens ids listed letters all c each b =
     record { broken = (flat_map (λ p. p) letters, (listed, letters, c, refl), b); first = first }
   where
-    low : (other : ProofRule) → proof_rank other < proof_rank P4 → ¬ (BreaksWhole other (take place statements) tokens)
-    low = labels_pass statements place tokens ids listed all (compressed_labels tokens listed letters c) each
-
     first : (other : ProofRule) → proof_rank other < proof_rank P5 → ¬ (BreaksWhole other (take place statements) tokens)
-    first P1 less = low P1 (omega arith)
-    first P2 less = low P2 (omega arith)
-    first P3 less = low P3 (omega arith)
-    first P4 less = λ broken. no_odd_letter (flat_map (λ p. p) letters) b.0 (subst (Breaks code.P4) (one_text tokens listed letters broken.0 c broken.1) broken.2)
-    first other less = absurd (omega arith)
+    first P4 less = λ broken.
+        let same = letters_once tokens broken.0 _ broken.1 (listed, letters, c, refl) in
+        let odd = subst (Breaks code.P4) same broken.2 in
+        odd.4 (subst letter.IsLetter odd.3 (b.0 odd.0 odd.1 odd.2))
+    first other less = labels_pass statements place tokens ids listed all
+        (compressed_labels tokens listed letters c) each other (omega arith)
 
 -- ---- the mandatory hypotheses by their numbers
 
@@ -120,8 +97,7 @@ hypotheses_labels statements place [] [] numbered each = record { labels = []; a
 hypotheses_labels statements place (id ∷ ids) (h ∷ hypotheses) numbered each =
     let first = each 0 h refl in
     let there : slice_get (labelled_sentences statements) id ≡ Some h = cc in
-    let others : map (slice_get (labelled_sentences statements)) ids ≡ map Some hypotheses = cc in
-    let rest = hypotheses_labels statements place ids hypotheses others (λ i g at. each (suc i) g at) in
+    let rest = hypotheses_labels statements place ids hypotheses (cc) (λ i g at. each (suc i) g at) in
     let label = first.1 in
     let tail = rest.are in
     record {
@@ -160,9 +136,11 @@ reading_compressed statements place own tokens ids hypothesis_ids listed letters
     let hl = hypotheses_labels statements place hypothesis_ids h.hypotheses h.numbered (mandatory_usable statements place h.assertion h.hypotheses formed h.mandatory) in
     let stand = zip_append (Stands statements place) hypothesis_ids hl.labels ids listed hl.stand (for_stands statements place ids listed each) in
     let named = codes_named statements place (hypothesis_ids ++ ids) (hl.labels ++ listed) stand cs steps says in
+    let joined : (text : List ℕ) → AreLetters tokens text → text ≡ flat_map (λ p. p) letters =
+    λ text a. letters_once tokens text _ a (listed, letters, c, refl) in
     record {
       whole = whole_of (take place statements) tokens (labels_pass statements place tokens ids listed all (compressed_labels tokens listed letters c) each)
-          (λ b. p4 (subst (Breaks code.P4) (one_text tokens listed letters b.0 c b.1) b.2)) (λ b. p5 (subst (Breaks code.P5) (one_text tokens listed letters b.0 c b.1) b.2));
+          (λ b. p4 (subst (Breaks code.P4) (joined b.0 b.1) b.2)) (λ b. p5 (subst (Breaks code.P5) (joined b.0 b.1) b.2));
       own = own;
       there = there;
       moves = named.moves;
@@ -197,13 +175,18 @@ entries_usable statements place ids hypothesis_ids listed all formed each h =
 -- a code with a spelling says its move
 code_says : (ids : List ℕ) (c : Code) → HasSpelling c → NumberSays ids c (code_move ids c)
 code_says ids Tag spelled = refl
-code_says ids (Number n) spelled = (n - 1, (let one : 1 ≤ n = spelled in omega arith), go (slice_get_cases ids (n - 1)).1)
-  where
-    go : ((id : ℕ) × (n - 1 < length ids) × (slice_get ids (n - 1) ≡ Some id) × (get_or ids (n - 1) id ≡ id)) ⊎ ((length ids ≤ n - 1) × (slice_get ids (n - 1) ≡ None))
-        → ((id : ℕ) × (slice_get ids (n - 1) ≡ Some id) × (code_move ids (Number n) ≡ name id))
-        ⊎ ((tag : ℕ) × (n - 1 ≡ length ids + tag) × (code_move ids (Number n) ≡ again tag))
-    go (inl h) = inl (h.0, h.2, ap (λ o. move_by o (n - 1 - length ids)) h.2)
-    go (inr h) = inr (n - 1 - length ids, omega (arith, h.0), ap (λ o. move_by o (n - 1 - length ids)) h.1)
+code_says ids (Number n) spelled = (
+  n - 1,
+  (let one : 1 ≤ n = spelled in omega arith),
+  ⊎_elim
+      (λ h. inl (h.0, h.2, ap (λ o. move_by o (n - 1 - length ids)) h.2))
+      (λ h. inr (
+        n - 1 - length ids,
+        omega (arith, h.0),
+        ap (λ o. move_by o (n - 1 - length ids)) h.1,
+      ))
+      (slice_get_cases ids (n - 1)).1,
+)
 
 -- codes with spellings say their moves
 each_says : (ids : List ℕ) (said : List Code) → AllByRecursion HasSpelling said → AllZip (NumberSays ids) said (code_moves ids said)
@@ -237,7 +220,8 @@ pub letter_broken : (statements : List Sentence) (place : ℕ) (tokens : List (L
     → IsCompressed tokens listed letters → AreFor statements place ids listed
     → ((rule : CodeRule) → fault ≡ code_fault.Rule rule → Breaks rule (flat_map (λ p. p) letters))
     → OnRule (fault_behind fault) (λ rule step. (step ≡ 0) × IsWholeFault (take place statements) tokens rule)
-letter_broken statements place tokens ids listed letters (code_fault.Rule code.P4) all c each broken = (refl, letters_fault statements place tokens ids listed letters all c each (broken code.P4 refl))
+letter_broken statements place tokens ids listed letters (code_fault.Rule code.P4) all c each broken =
+    (refl, record { broken = (flat_map (λ p. p) letters, (listed, letters, c, refl), broken code.P4 refl); first = labels_pass statements place tokens ids listed all (compressed_labels tokens listed letters c) each })
 letter_broken statements place tokens ids listed letters (code_fault.Rule code.P5) all c each broken = (refl, cut_fault statements place tokens ids listed letters all c each (broken code.P5 refl))
 letter_broken statements place tokens ids listed letters code_fault.Memory all c each broken = tt
 

@@ -51,11 +51,9 @@ pub covers_one : (label : List ℕ) (below : Trees)
 covers_one label below = (repeats (tree label below none) ∷ [], [], refl, refl, inl refl)
 
 -- a kept tree is one tree
-abbrev pub IsOne : Trees → Type 0
-IsOne t = (label : List ℕ) × (below : Trees) × (t ≡ tree label below none)
-
 abbrev pub AreOnes : List Trees → Type 0
-AreOnes kept = (t : Trees) → In kept t → IsOne t
+AreOnes kept =
+    (t : Trees) → In kept t → (label : List ℕ) × (below : Trees) × (t ≡ tree label below none)
 
 pub ones_push : (kept : List Trees) (label : List ℕ) (below : Trees) → AreOnes kept
     → AreOnes (kept ++ tree label below none ∷ [])
@@ -124,8 +122,7 @@ careful_join made (keeps u ∷ v) w c d = careful_join made v w c d
 repeated_or_made : (made : List Trees) (inner : List Visit) (t : Trees)
     → Careful made (repeats t ∷ []) → Careful made (inner ++ makes t ∷ []) → ⊥
 repeated_or_made made inner t c d =
-    let h = careful_apart made inner (makes t ∷ []) d in
-    h.1.0 (c.0.0, after_has made inner t c.0.1)
+    (careful_apart made inner (makes t ∷ []) d).1.0 (c.0.0, after_has made inner t c.0.1)
 
 -- such steps are determined by what they cover
 pub one_cover : (trees : Trees) (made : List Trees) (v w : List Visit) → Covers trees v

@@ -18,8 +18,7 @@ names_spell before [] a b k l m = ap spelling m.0 ∙ sym (append-nil (spelling 
 names_spell before (label ∷ labels) a b k l m =
     let step = m.2 in
     let next : spelling m.0 ≡ spelling a ++ label ∷ [] =
-    ap spelling step.4 ∙ spelling-beside step.0 (tree label step.1 none) ∙ sym (append_assoc (spelling step.0) (spelling step.1) (label ∷ []))
-    ∙ ap (λ x. x ++ label ∷ []) (sym (spelling-beside step.0 step.1) ∙ ap spelling (sym step.2)) in
+    rw (step.4, step.2) (simp (spelling-beside, append_assoc)) in
     names_spell before labels m.0 b m.1 l m.3 ∙ ap (λ x. x ++ labels) next ∙ append_assoc (spelling a) (label ∷ []) labels
 
 -- and keeps nothing more

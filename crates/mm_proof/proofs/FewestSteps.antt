@@ -63,8 +63,7 @@ fewest_steps_holds before s label below listed codes p =
     said_steps _ codes p.moves p.says.each
     ∙ steps_count before trees p.moves p.shared.kept p.shared.made
     ∙ ap (λ n. 1 + n) (sym b.same) in
-    let are : AreBigSubtrees trees b.list = big_subtrees before trees p.moves p.shared.kept
-    p.shared.made b once in (
+    let are = big_subtrees before trees p.moves p.shared.kept p.shared.made b once in (
       (b.list, are),
       λ list other.
           let most = sum_within children b.list list once

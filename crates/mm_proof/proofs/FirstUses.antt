@@ -87,14 +87,6 @@ sub_spelled (tree label below right) t x (inr (inr s)) h = in_right (spelling be
 abbrev pub AreKnown : List Trees → List (List ℕ) → Type 0
 AreKnown made seen = (t : Trees) → In made t → (x : List ℕ) → In (spelling t) x → In seen x
 
--- they still are after more steps
-known_after : (t : Trees) (made : List Trees) (here : List Visit) (seen mid : List (List ℕ)) → AreKnown made seen → Covers t here → AreFirstUses seen (spelling t) mid → AreKnown (after made here) (upon mid seen)
-known_after t made here seen mid known covers uses u h x k =
-    ⊎_elim
-    (λ old. in_upon mid seen x (known u old x k))
-    (λ sub. uses_known (spelling t) seen mid x uses (sub_spelled t u x sub k))
-    (covered_made t made here u covers h)
-
 pub spelled_uses : (trees : Trees) (made : List Trees) (v : List Visit) (seen listed : List (List ℕ)) → AreKnown made seen → Covers trees v → Careful made v → AreFirstUses seen (labels_in v) listed
     → AreFirstUses seen (spelling trees) listed
 spelled_uses none made v seen listed known p c u = subst (λ x. AreFirstUses seen (labels_in x) listed) p u
@@ -117,6 +109,9 @@ spelled_uses (tree label below right) made v seen listed known p c u =
     p.4 in
     let covers : Covers t p.0 = (p.0, [], sym (append-nil p.0), refl, p.4) in
     let second : AreFirstUses (upon s.mid seen) (spelling right) s.others =
-    spelled_uses right (after made p.0) p.1 (upon s.mid seen) s.others (known_after t made p.0 seen s.mid known covers first) p.3 parts.1 s.second in
+    spelled_uses right (after made p.0) p.1 (upon s.mid seen) s.others (λ u h x k. ⊎_elim
+    (λ old. in_upon s.mid seen x (known u old x k))
+    (λ sub. uses_known (spelling t) seen s.mid x first (sub_spelled t u x sub k))
+    (covered_made t made p.0 u covers h)) p.3 parts.1 s.second in
     rw (s.parts, ← append_assoc (spelling below) (label ∷ []) (spelling right))
     (uses_join (spelling below ++ label ∷ []) (spelling right) seen s.mid s.others first second)

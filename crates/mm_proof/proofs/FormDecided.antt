@@ -109,13 +109,10 @@ marks_from before moves tight front after parts = elim (after_dec before moves (
   | no none ↦ absurd (tight (length front, mark, ap (λ l. slice_get l (length front)) parts ∙ get_parted front after mark, (refl, none)))
 ]
 
-tight_from : (before : List Sentence) (moves : List (Move (List ℕ))) → MarkAssertions before moves → ¬ (Loose before moves)
-tight_from before moves strict (k, move, at, same) =
-    let m = step_before before moves k strict (at ∙ ap Some same.0) in
-    same.1 (m.0, name m.1, m.3, (m.2, m.4))
-
 marks_dec : (before : List Sentence) (moves : List (Move (List ℕ))) → Dec (MarkAssertions before moves)
-marks_dec before moves = dec_as (marks_from before moves) (tight_from before moves) (dec_not
+marks_dec before moves = dec_as (marks_from before moves) (λ strict. λ (k, move, at, same).
+    let m = step_before before moves k strict (at ∙ ap Some same.0) in
+    same.1 (m.0, name m.1, m.3, (m.2, m.4))) (dec_not
     (dec_some _ (λ k m. dec_both (mark_dec m) (dec_not (after_dec before moves k))) moves))
 
 -- ---- the form

@@ -1,6 +1,5 @@
 -- The strict form of a proof, by the numbers of its labels and of its moves.
-use Rattle.std.proofs.Common.{◌≡◌, ℕ, zero, suc, ◌+◌, List, [], ◌∷◌, ◌++◌, length, map, take, drop, slice_get, Contains, Some, inl, inr, refl, sym, ap, subst, ◌∙◌, arith}
-use Rattle.std.proofs.Common.{Option, ⊎_elim}
+use Rattle.std.proofs.Common.{◌≡◌, ℕ, zero, suc, ◌+◌, List, [], ◌∷◌, ◌++◌, length, map, take, drop, slice_get, Contains, Some, inl, inr, refl, sym, ap, subst, ◌∙◌, arith, Option, ⊎_elim}
 use Rattle.std.specs.List.{AllByRecursion, AllZip}
 use Rattle.std.proofs.lemmas.Option.{same_Some, none-some, slice_get_within}
 use Rattle.std.proofs.lemmas.Bool.{cases_order}
@@ -36,23 +35,10 @@ number_once : (st : List Sentence) (p q a b : ℕ) (s t : Sentence) (label : Lis
 number_once st p q a b s t label all n m ls lt =
     sym n.number ∙ ap (λ k. length (labelled_sentences (take k st))) (one_label st p q s t label all n.there m.there ls lt) ∙ m.number
 
--- one label for one number
-label_once : (st : List Sentence) (place id : ℕ) (k l : List ℕ) → MayBeUsed st place k id → MayBeUsed st place l id → k ≡ l
-label_once st place id k l m n =
-    let same = (numbered_unique st id m.at n.at m.s n.s m.numbered n.numbered).1 in
-    same_Some k l (sym (subst (IsLabelled k) same m.named) ∙ n.named)
-
 -- what a list tells, place by place
 pub told_each : {X Y : Type 0} (f : X → Option Y) (xs : List X) (ys : List Y)
     → map f xs ≡ map Some ys → AllZip (λ x y. f x ≡ Some y) xs ys
 told_each f xs ys is = mapped_zip f Some (λ x y. f x ≡ Some y) (λ x y same. same) xs ys is
-
--- the hypotheses by their numbers
-numbered_each : (st : List Sentence) (place : ℕ) (hids : List ℕ)
-    (h : AreHypotheses (record { statements = st; place = place }) hids)
-    → AllZip (λ id g. slice_get (labelled_sentences st) id ≡ Some g) hids h.hypotheses
-numbered_each st place hids h =
-    told_each (slice_get (labelled_sentences st)) hids h.hypotheses h.numbered
 
 -- ---- the list
 
@@ -68,27 +54,25 @@ once_from xs new i j x p q = elim (cases_order i j) [
 
 strict_list : (st : List Sentence) (place : ℕ) (s : Sentence) (hids ids : List ℕ) (labels : List (List ℕ)) → AllMeant st → slice_get st place ≡ Some s
     → AreHypotheses (record { statements = st; place = place }) hids → AreFor st place ids labels → AllNew hids ids → IsStrictList (take place st) s labels
-strict_list st place s hids ids labels all there h each new = record { once = once; optional = optional }
-  where
-    once : (i j : ℕ) (label : List ℕ) → slice_get labels i ≡ Some label → slice_get labels j ≡ Some label → i ≡ j
-    once i j label p q =
-        let a = zip_right (λ id l. MayBeUsed st place l id) ids labels i label each p in
-        let b = zip_right (λ id l. MayBeUsed st place l id) ids labels j label each q in
-        let same : a.0 ≡ b.0 = number_once st a.2.at b.2.at a.0 b.0 a.2.s b.2.s label all a.2.numbered b.2.numbered a.2.named b.2.named in
-        once_from ids (λ k id at. (new k id at).1) i j b.0 (a.1 ∙ ap Some same) b.1
-
-    optional : (hypotheses : List Sentence) (g : Sentence) (label : List ℕ) → AreMandatory (take place st) s hypotheses → Contains hypotheses g → IsLabelled label g → ¬ (Contains labels label)
-    optional hypotheses g label mandatory has named among =
-        let own : h.assertion ≡ s = same_Some h.assertion s (sym h.there ∙ there) in
-        let mine = subst (λ (a : Sentence). AreMandatory (take place st) a h.hypotheses) own h.mandatory in
-        let same : hypotheses ≡ h.hypotheses = mandatory_unique (take place st) s hypotheses h.hypotheses mandatory mine in
-        let at = at_from_contains h.hypotheses g (subst (λ (l : List Sentence). Contains l g) same has) in
-        let n = zip_right _ hids h.hypotheses at.0 g (numbered_each st place hids h) at.1 in
-        let p = numbered_from_get st n.0 g n.2 in
-        let l = at_from_contains labels label among in
-        let b = zip_right (λ id k. MayBeUsed st place k id) ids labels l.0 label each l.1 in
-        let one : n.0 ≡ b.0 = number_once st p.0 b.2.at n.0 b.0 g b.2.s label all p.1 b.2.numbered named b.2.named in
-        (new l.0 b.0 b.1).0 (subst (Contains hids) one (contains_from_at hids n.0 (at.0, n.1)))
+strict_list st place s hids ids labels all there h each new = record {
+  once = λ i j label p q.
+      let a = zip_right (λ id l. MayBeUsed st place l id) ids labels i label each p in
+      let b = zip_right (λ id l. MayBeUsed st place l id) ids labels j label each q in
+      let same : a.0 ≡ b.0 = number_once st a.2.at b.2.at a.0 b.0 a.2.s b.2.s label all a.2.numbered b.2.numbered a.2.named b.2.named in
+      once_from ids (λ k id at. (new k id at).1) i j b.0 (a.1 ∙ ap Some same) b.1;
+  optional = λ hypotheses g label mandatory has named among.
+      let own : h.assertion ≡ s = same_Some h.assertion s (sym h.there ∙ there) in
+      let mine = subst (λ (a : Sentence). AreMandatory (take place st) a h.hypotheses) own h.mandatory in
+      let same : hypotheses ≡ h.hypotheses = mandatory_unique (take place st) s hypotheses h.hypotheses mandatory mine in
+      let at = at_from_contains h.hypotheses g (subst (λ (l : List Sentence). Contains l g) same has) in
+      let told = told_each (slice_get (labelled_sentences st)) hids h.hypotheses h.numbered in
+      let n = zip_right _ hids h.hypotheses at.0 g told at.1 in
+      let p = numbered_from_get st n.0 g n.2 in
+      let l = at_from_contains labels label among in
+      let b = zip_right (λ id k. MayBeUsed st place k id) ids labels l.0 label each l.1 in
+      let one : n.0 ≡ b.0 = number_once st p.0 b.2.at n.0 b.0 g b.2.s label all p.1 b.2.numbered named b.2.named in
+      (new l.0 b.0 b.1).0 (subst (Contains hids) one (contains_from_at hids n.0 (at.0, n.1)));
+}
 
 loose_list : (st : List Sentence) (place : ℕ) (s : Sentence) (hids ids : List ℕ) (labels : List (List ℕ)) → slice_get st place ≡ Some s
     → AreHypotheses (record { statements = st; place = place }) hids → AreFor st place ids labels → SomeOld hids ids → ¬ (IsStrictList (take place st) s labels)
@@ -97,7 +81,8 @@ loose_list st place s hids ids labels there h each (j, id, at, inl among) strict
     let mine = subst (λ (a : Sentence). AreMandatory (take place st) a h.hypotheses) own h.mandatory in
     let l = zip_left (λ n k. MayBeUsed st place k n) ids labels j id each at in
     let k = at_from_contains hids id among in
-    let g = zip_left _ hids h.hypotheses k.0 id (numbered_each st place hids h) k.1 in
+    let told = told_each (slice_get (labelled_sentences st)) hids h.hypotheses h.numbered in
+    let g = zip_left _ hids h.hypotheses k.0 id told k.1 in
     let same : l.2.s ≡ g.0 = same_Some l.2.s g.0 (sym (numbered_get st id l.2.at l.2.s l.2.numbered) ∙ g.2) in
     strict.optional h.hypotheses g.0 l.0 mine (contains_from_at h.hypotheses g.0 (k.0, g.1)) (subst (IsLabelled l.0) same l.2.named) (contains_from_at labels l.0 (j, l.1))
 loose_list st place s hids ids labels there h each (j, id, at, inr before) strict =
@@ -105,7 +90,8 @@ loose_list st place s hids ids labels there h each (j, id, at, inr before) stric
     let f = get_from_take ids j k.0 id k.1 in
     let a = zip_left (λ n l. MayBeUsed st place l n) ids labels k.0 id each f.1 in
     let b = zip_left (λ n l. MayBeUsed st place l n) ids labels j id each at in
-    let same : a.0 ≡ b.0 = label_once st place id a.0 b.0 a.2 b.2 in
+    let one = (numbered_unique st id _ _ _ _ a.2.numbered b.2.numbered).1 in
+    let same = same_Some a.0 b.0 (sym (subst (IsLabelled a.0) one a.2.named) ∙ b.2.named) in
     absurd (omega (arith, f.0, strict.once k.0 j b.0 (a.1 ∙ ap Some same) b.1))
 
 -- ---- the marks

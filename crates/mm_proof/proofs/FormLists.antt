@@ -37,8 +37,7 @@ added_has old n true new a x = rw a.1 (push_has old n x)
 pub ids_more : (ids : List LabelId) (i : ℕ) (d : LabelId) → i < length ids → take (i + 1) (ids_in ids) ≡ take i (ids_in ids) ++ (get_or ids i d).0 ∷ []
 ids_more ids i d less =
     let label : LabelId → ℕ = λ l. l.0 in
-    take-map label (i + 1) ids ∙ map_more label ids i d less
-    ∙ ap (λ front. front ++ (get_or ids i d).0 ∷ []) (sym (take-map label i ids))
+    rw (take-map label (i + 1) ids, take-map label i ids, map_more label ids i d less)
 
 -- so far each is new, and these are seen
 pub record NewSoFar (first seen ids : List ℕ) (i : ℕ) : Type 0 where
@@ -54,35 +53,28 @@ new_none first ids = record {
 -- one more that is new
 pub new_one : (first seen next : List ℕ) (ids : List LabelId) (i : ℕ) (d : LabelId) (b : Bool) → i < length ids → NewSoFar first seen (ids_in ids) i → AddsNew seen (get_or ids i d).0 b next → b ≡ true
     → NewSoFar first next (ids_in ids) (i + 1)
-new_one first seen next ids i d b less so added is = record { new = new; has = has }
-  where
-    a : AddsNew seen (get_or ids i d).0 true next
-    a = subst (λ (c : Bool). AddsNew seen (get_or ids i d).0 c next) is added
-
-    here : slice_get (ids_in ids) i ≡ Some (get_or ids i d).0
-    here = entry_at ids i d less
-
-    new : (j id : ℕ) → j < i + 1 → slice_get (ids_in ids) j ≡ Some id → ¬ (Contains first id) × ¬ (Contains (take j (ids_in ids)) id)
-    new j id below at = elim (cases_lt j i) [
-      | inl l ↦ so.new j id l at
-      | inr m ↦
-          let same : j ≡ i = omega arith in
-          let one : (get_or ids i d).0 ≡ id = same_Some (get_or ids i d).0 id (sym here ∙ ap (slice_get (ids_in ids)) (sym same) ∙ at) in
-          let none = λ (h : Contains seen id). a.0 (subst (Contains seen) (sym one) h) in
-          ((λ f. none ((so.has id).1 (inl f))), λ t. none ((so.has id).1 (inr (subst (λ k. Contains (take k (ids_in ids)) id) same t))))
-    ]
-
-    has : (x : ℕ) → Contains next x ↔ (Contains first x ⊎ Contains (take (i + 1) (ids_in ids)) x)
-    has x =
-        let grown = added_has seen (get_or ids i d).0 true next a x in
-        let pushed = push_has (take i (ids_in ids)) (get_or ids i d).0 x in
-        rw (ids_more ids i d less) (
-          λ h. ⊎_elim
-              (λ s. ⊎_elim (λ f. inl f) (λ t. inr (pushed.1 (inl t))) ((so.has x).0 s))
-              (λ e. inr (pushed.1 (inr e))) (grown.0 h),
-          λ h. grown.1 (⊎_elim (λ f. inl ((so.has x).1 (inl f)))
-              (λ t. ⊎_elim (λ b. inl ((so.has x).1 (inr b))) (λ e. inr e) (pushed.0 t)) h),
-        )
+new_one first seen next ids i d b less so added is =
+    let a = subst (λ (c : Bool). AddsNew seen (get_or ids i d).0 c next) is added in
+    record {
+      new = λ j id below at. elim (cases_lt j i) [
+        | inl l ↦ so.new j id l at
+        | inr m ↦
+            let same : j ≡ i = omega arith in
+            let one : (get_or ids i d).0 ≡ id = same_Some (get_or ids i d).0 id (sym (entry_at ids i d less) ∙ ap (slice_get (ids_in ids)) (sym same) ∙ at) in
+            let none = λ (h : Contains seen id). a.0 (subst (Contains seen) (sym one) h) in
+            ((λ f. none ((so.has id).1 (inl f))), λ t. none ((so.has id).1 (inr (subst (λ k. Contains (take k (ids_in ids)) id) same t))))
+      ];
+      has = λ x.
+          let grown = added_has seen (get_or ids i d).0 true next a x in
+          let pushed = push_has (take i (ids_in ids)) (get_or ids i d).0 x in
+          rw (ids_more ids i d less) (
+            λ h. ⊎_elim
+                (λ s. ⊎_elim (λ f. inl f) (λ t. inr (pushed.1 (inl t))) ((so.has x).0 s))
+                (λ e. inr (pushed.1 (inr e))) (grown.0 h),
+            λ h. grown.1 (⊎_elim (λ f. inl ((so.has x).1 (inl f)))
+                (λ t. ⊎_elim (λ b. inl ((so.has x).1 (inr b))) (λ e. inr e) (pushed.0 t)) h),
+          );
+    }
 
 pub new_all : (first seen : List ℕ) (ids : List LabelId) (i : ℕ) → length ids ≤ i → NewSoFar first seen (ids_in ids) i → AllNew first (ids_in ids)
 new_all first seen ids i past so j id at =

@@ -17,13 +17,13 @@ token_room : (text : List ℕ) → sum_by length (token_of text) ≤ length text
 token_room [] = omega arith
 token_room (b ∷ text) = omega (arith, sum_by-append length ((b ∷ text) ∷ []) [])
 
-piece_room : (t : List ℕ) → sum_by length (known_piece (Some t)) ≤ length t
-piece_room t = omega (arith, token_room (before_first is_question t), length-take (position_or_len is_question t) t)
-
 cut_room : (tokens : List (List ℕ)) (n : ℕ) → sum_by length (take n tokens ++ known_piece (slice_get tokens n)) ≤ sum_by length tokens
 cut_room [] zero = omega arith
 cut_room [] (suc n) = omega arith
-cut_room (t ∷ tokens) zero = omega (arith, piece_room t, sum_by-append length (t ∷ []) tokens)
+cut_room (t ∷ tokens) zero =
+    let most = token_room (before_first is_question t) in
+    let taken = length-take (position_or_len is_question t) t in
+    omega (arith, most, taken, sum_by-append length (t ∷ []) tokens)
 cut_room (t ∷ tokens) (suc n) =
     omega (arith, cut_room tokens n, sum_by-append length (t ∷ []) tokens, sum_by-append length (t ∷ []) (take n tokens ++ known_piece (slice_get tokens n)))
 
@@ -81,10 +81,15 @@ pub piece_some : (tokens held out : List Token) (place n : ℕ) (t put : Token) 
     → n ≡ position_or_len is_question t.text.now → false ≡ (length (take n t.text.now) == 0) → put.text.now ≡ take n t.text.now
     → token_texts out ≡ take place (token_texts tokens) ++ known_piece (slice_get (token_texts tokens) place)
 piece_some tokens held out place n t put is front less there first filled text =
-    ap token_texts is ∙ map-append (λ t. t.text.now) held (put ∷ [])
-    ∙ ap (λ (l : List Token). token_texts l ++ put.text.now ∷ []) front
-    ∙ ap (λ (l : List (List ℕ)). l ++ put.text.now ∷ []) (texts_take tokens place) ∙ ap (λ (p : List ℕ). take place (token_texts tokens) ++ p ∷ []) text
-    ∙ ap (λ l. take place (token_texts tokens) ++ l) (sym (at_place tokens place n t less there first ∙ token_some (take n t.text.now) filled))
+    rw (
+      is,
+      map-append (λ t. t.text.now) held (put ∷ []),
+      front,
+      texts_take tokens place,
+      text,
+      at_place tokens place n t less there first,
+      token_some (take n t.text.now) filled,
+    )
 
 -- ---- the tokens before the first that is unknown
 

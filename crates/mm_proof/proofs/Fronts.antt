@@ -78,12 +78,8 @@ pub one_stood : (Fits : List (List ℕ) → Type 0) (before : List Sentence) (mo
     → MakesOne before move a k b l → Stood Fits before b l → Stood Fits before a k
 one_stood Fits before (name label) a b k l all m s =
     let t = step_of_tree Fits before m.0 label m.1 s.stack all (subst (λ x. DeriveAll Fits before x s.stack) m.4 s.derived) in
-    record {
-      stack = t.stack;
-      kept = s.kept;
-      derived = subst (λ x. DeriveAll Fits before x t.stack) (sym m.2) t.derived;
-      kept_derived = subst (λ x. KeepAll Fits before x s.kept) m.5 s.kept_derived;
-    }
+    let held = rw m.5 at s.kept_derived in
+    record { stack = t.stack; kept = s.kept; derived = rw m.2 t.derived; kept_derived = held }
 one_stood Fits before (again tag) a b k l all m s =
     let parts = derive_apart Fits before a m.0 s.stack (subst (λ x. DeriveAll Fits before x s.stack) m.2 s.derived) in
     record { stack = parts.0; kept = s.kept; derived = parts.3; kept_derived = subst (λ x. KeepAll Fits before x s.kept) m.3 s.kept_derived }
@@ -93,21 +89,10 @@ one_stood Fits before mark a b k l all m s =
 
 pub all_stood : (Fits : List (List ℕ) → Type 0) (before : List Sentence) (moves : List (Move (List ℕ))) (a b : Trees) (k l : List Trees) → AllMeant before
     → Makes before moves a k b l → Stood Fits before b l → Stood Fits before a k
-all_stood Fits before [] a b k l all m s = record {
-  stack = s.stack;
-  kept = s.kept;
-  derived = subst (λ x. DeriveAll Fits before x s.stack) m.0 s.derived;
-  kept_derived = subst (λ x. KeepAll Fits before x s.kept) m.1 s.kept_derived;
-}
+all_stood Fits before [] a b k l all m s = rw (m.0, m.1) at s
 all_stood Fits before (move ∷ moves) a b k l all m s = one_stood Fits before move a m.0 k m.1 all m.2 (all_stood Fits before moves m.0 b m.1 l all m.3 s)
 
 -- ---- the stack is one
-
-pub kept_once : (Fits Gits : List (List ℕ) → Type 0) (before : List Sentence) (shelf : List Trees) (es fs : List (List (List ℕ))) → AllMeant before
-    → KeepAll Fits before shelf es → KeepAll Gits before shelf fs → es ≡ fs
-kept_once Fits Gits before shelf es fs all p q =
-    zip_once (λ t e. DeriveAll Fits before t (e ∷ [])) (λ t e. DeriveAll Gits before t (e ∷ [])) shelf es fs
-    (λ t e f d g. let one : e ∷ [] ≡ f ∷ [] = derived_once Fits Gits before t t (e ∷ []) (f ∷ []) all d g refl in cc) p q
 
 -- what the same moves leave is the same
 pub passed_once : (Fits Gits : List (List ℕ) → Type 0) (before : List Sentence) (moves : List (Move (List ℕ))) (stack stack' kept kept' : List (List (List ℕ))) → AllMeant before
@@ -115,7 +100,9 @@ pub passed_once : (Fits Gits : List (List ℕ) → Type 0) (before : List Senten
 passed_once Fits Gits before moves stack stack' kept kept' all p q =
     let one = makes_once before moves none p.trees q.trees [] p.shelf q.shelf all p.made q.made in (
       derived_once Fits Gits before q.trees q.trees stack stack' all (subst (λ x. DeriveAll Fits before x stack) one.0 p.derived) q.derived refl,
-      kept_once Fits Gits before q.shelf kept kept' all (subst (λ x. KeepAll Fits before x kept) one.1 p.kept_derived) q.kept_derived,
+      zip_once (λ t e. DeriveAll Fits before t (e ∷ [])) (λ t e. DeriveAll Gits before t (e ∷ [])) q.shelf kept kept'
+          (λ t e f d g. let same : e ∷ [] ≡ f ∷ [] = derived_once Fits Gits before t t (e ∷ []) (f ∷ []) all d g refl in cc)
+          (subst (λ x. KeepAll Fits before x kept) one.1 p.kept_derived) q.kept_derived,
     )
 
 -- ---- a move that goes on breaks no rule
@@ -212,16 +199,12 @@ all_back Fits before (move ∷ moves) a b k l es all m d =
     let one = one_back Fits before move a m.0 k m.1 next.0 all m.2 next.1 in
     (one.0, one.1, λ ks h. let more = one.2 ks h in next.2 more.0 more.1)
 
--- moves whose row derives have passed
-pub made_passed : (Fits : List (List ℕ) → Type 0) (before : List Sentence) (moves : List (Move (List ℕ))) (row : Trees) (shelf : List Trees) (es : List (List (List ℕ))) → AllMeant before
-    → Makes before moves none [] row shelf → DeriveAll Fits before row es → (kept : List (List (List ℕ))) × Passed Fits before moves es kept
-made_passed Fits before moves row shelf es all made derived =
-    let k = (all_back Fits before moves none row [] shelf es all made derived).2 [] tt in
-    (k.0, record { trees = row; shelf = shelf; made = made; derived = derived; kept_derived = k.1 })
-
+-- moves that prove the statement have passed
 pub proof_passed : (Fits : List (List ℕ) → Type 0) (before : List Sentence) (s : Sentence) (moves : List (Move (List ℕ))) → AllMeant before → Prove Fits before s moves
     → (kept : List (List (List ℕ))) × Passed Fits before moves (s.symbols ∷ []) kept
-proof_passed Fits before s moves all p = made_passed Fits before moves (tree p.label p.below none) p.kept (s.symbols ∷ []) all p.made p.derived
+proof_passed Fits before s moves all p =
+    let k = (all_back Fits before moves none (tree p.label p.below none) [] p.kept (s.symbols ∷ []) all p.made p.derived).2 [] tt in
+    (k.0, record { trees = tree p.label p.below none; shelf = p.kept; made = p.made; derived = p.derived; kept_derived = k.1 })
 
 -- no move of moves that passed breaks a rule
 pub no_fault_within : (Fits : List (List ℕ) → Type 0) (before : List Sentence) (earlier : List (Move (List ℕ))) (move : Move (List ℕ)) (later : List (Move (List ℕ)))

@@ -1,19 +1,18 @@
 -- Each proof has a verdict: the rules that it breaks can be found, and where it breaks none it is proved.
 use Rattle.std.proofs.Common.{◌≡◌, ◌≢◌, ℕ, zero, suc, ◌+◌, ◌-◌, ◌<◌, List, [], ◌∷◌, ◌++◌, length, take, drop, slice_get, get_or, Option, Some, None, ◌⊎◌, inl, inr, ⊎_elim, refl, sym, ap, subst, ◌∙◌, append_assoc, append-nil, lt_irrefl, arith}
 use Rattle.std.specs.List.{AllByRecursion}
-use Rattle.std.proofs.lemmas.Option.{same_Some, none-some, slice_get-get_or}
+use Rattle.std.proofs.lemmas.Option.{same_Some, none-some, slice_get-get_or, slice_get_within}
 use Rattle.std.proofs.lemmas.Bool.{cases_lt}
 use Rattle.std.proofs.lemmas.List.{length-drop, take-append-drop}
 use Rattle.std.proofs.Math.Decide.{ℕ_discrete}
 use Rattle.mm_text.specs.declared.statement.Kind.TheVariants.{Floating, Essential}
 use Rattle.mm_frame.specs.Sentence.{Sentence, IsHypothesis, IsLabelled}
 use Rattle.mm_frame.specs.Active.{IsActive}
-use Rattle.mm_frame.specs.Frame.{IsMandatoryAt, AreMandatory, IsMandatoryPair}
+use Rattle.mm_frame.specs.Frame.{IsMandatoryAt, AreMandatory}
 use Rattle.mm_frame.specs.Rules.{AllMeant}
-use Rattle.mm_frame.proofs.Decided.{dec_both, dec_as, dec_some, kind_dec, symbol_dec, dec_not, unless_not}
-use Rattle.mm_frame.proofs.Decided.{mandatory_at_dec, expression_dec}
+use Rattle.mm_frame.proofs.Decided.{dec_both, dec_as, dec_some, kind_dec, symbol_dec, dec_not, unless_not, mandatory_at_dec, expression_dec}
 use Rattle.mm_proof.specs.declared.fault.ProofRule.{ProofRule}
-use Rattle.mm_proof.specs.declared.fault.ProofRule.TheVariants.{P1, P6, P7, P8, P9, P10, P11, P12, P13, P14, L1}
+use Rattle.mm_proof.specs.declared.fault.ProofRule.TheVariants.{P6, P7, P8, P9, P10, P11, P12, P13, P14, L1}
 use Rattle.mm_proof.specs.Substitution.{instance_of}
 use Rattle.mm_proof.specs.Tree.{Names, ShareNoVariable, AreDistinct}
 use Rattle.mm_proof.specs.Moves.{Move, name, again, mark, steps_in}
@@ -21,17 +20,13 @@ use Rattle.mm_proof.specs.Steps.{IsUsable, IsUsableMove}
 use Rattle.mm_proof.specs.Proof.{IsWithin, proof_rank, BreaksWhole, Prove, MeetsHypotheses, SomePair, SomeReplacedPair, BreaksStep, BreaksMove, FirstAtMove, Passed, IsMovesFault}
 use Rattle.mm_proof.specs.Laws.{SomeProofVerdict}
 use Rattle.mm_proof.proofs.OneStep.{StepTo, hypothesis_or_assertion, meets_enough, Agree, agree, same_substituted, step_breaks_none, step_breaks_limit}
-use Rattle.mm_proof.proofs.Searches.{those_of, share_dec, apart_dec, BothReplaced, some_pair_dec}
+use Rattle.mm_proof.proofs.Searches.{those_of, share_dec, apart_dec, some_pair_dec}
 use Rattle.mm_proof.proofs.Replacements.{meets_of}
 use Rattle.mm_proof.proofs.Forward.{passed_none, passed_name, passed_again, passed_mark, prove_at_end}
 use Rattle.mm_proof.proofs.SaidMoves.{whole_dec, some_moves, moves_usable}
 use Rattle.mm_proof.proofs.Verdicts.{ranked, at_rank}
 
 -- ---- the first of the rules that are broken
-
-rank_below : (rule : ProofRule) → proof_rank rule < 17
-rank_below P1 = omega arith
-rank_below rule = omega arith
 
 pub record First (Broken : ProofRule → Type 0) : Type 0 where
   pub rule : ProofRule
@@ -55,7 +50,7 @@ first_below Broken each (suc n) = elim (first_below Broken each n) [
 ]
 
 pub first_or_none : (Broken : ProofRule → Type 0) → ((rule : ProofRule) → Dec (Broken rule)) → First Broken ⊎ ((rule : ProofRule) → ¬ (Broken rule))
-first_or_none Broken each = ⊎_elim (λ f. inl f) (λ none. inr (λ rule. none rule (rank_below rule))) (first_below Broken each 17)
+first_or_none Broken each = ⊎_elim (λ f. inl f) (λ none. inr (λ rule. none rule (slice_get_within ranked _ rule (at_rank rule)))) (first_below Broken each 17)
 
 -- ---- the rules at a step by a label
 
@@ -91,16 +86,13 @@ pair_moved : (before : List Sentence) (stack : List (List (List ℕ))) (label : 
     → SomePair n.hypotheses n.entries P → SomePair m.hypotheses m.entries P
 pair_moved before stack label m n P a x = (x.0, x.1, x.2, rw a.hypotheses x.3, rw a.entries x.4, x.5)
 
-replaced_moved : (before : List Sentence) (stack : List (List (List ℕ))) (label : List ℕ) (m : MeetsHypotheses before stack label) (P : List (List ℕ) → List (List ℕ) → Type 0) → AllMeant before
-    → SomeReplacedPair before stack label P → (x : List ℕ) × (y : List ℕ) × IsMandatoryPair (take m.place before) m.assertion x y × BothReplaced m.σ P x y
-replaced_moved before stack label m P all b =
-    let a = agree before stack label all m b.0 in
-    let pair = rw (← a.place, ← a.assertion) at b.5 in
-    (b.1, b.2, pair, (b.3, b.4, a.replacement b.1 ∙ b.6, a.replacement b.2 ∙ b.7, b.8))
-
 replaced_dec : (before : List Sentence) (stack : List (List (List ℕ))) (label : List ℕ) (m : MeetsHypotheses before stack label) (P : List (List ℕ) → List (List ℕ) → Type 0) → AllMeant before
     → ((e f : List (List ℕ)) → Dec (P e f)) → Dec (SomeReplacedPair before stack label P)
-replaced_dec before stack label m P all each = dec_as (λ h. (m, h.0, h.1, h.3.0, h.3.1, h.2, h.3.2, h.3.3, h.3.4)) (replaced_moved before stack label m P all)
+replaced_dec before stack label m P all each = dec_as (λ h. (m, h.0, h.1, h.3.0, h.3.1, h.2, h.3.2, h.3.3, h.3.4))
+    (λ b.
+    let a = agree before stack label all m b.0 in
+    let pair = rw (← a.place, ← a.assertion) at b.5 in
+    (b.1, b.2, pair, (b.3, b.4, a.replacement b.1 ∙ b.6, a.replacement b.2 ∙ b.7, b.8)))
     (some_pair_dec (take m.place before) m.assertion m.σ P each)
 
 over_of : (Fits : List (List ℕ) → Type 0) (before : List Sentence) (stack : List (List (List ℕ))) (label : List ℕ) → AllMeant before → (m : MeetsHypotheses before stack label) → BreaksStep Fits L1 before stack label
@@ -166,12 +158,6 @@ made_outcome Fits each before stack label rest e all step = elim (each e) [
   | no over ↦ inr (L1, limit_first Fits before stack label rest e all over step)
 ]
 
--- an assertion's step with entries for all its hypotheses
-meets_outcome : (Fits : List (List ℕ) → Type 0) (each : (e : List (List ℕ)) → Dec (Fits e)) (before : List Sentence) (stack : List (List (List ℕ))) (label : List ℕ) → AllMeant before → MeetsHypotheses before stack label → Outcome Fits before stack label
-meets_outcome Fits each before stack label all m = ⊎_elim (λ f. inr (f.rule, (f.broken, f.first)))
-    (λ none. made_outcome Fits each before stack label m.rest (instance_of m.σ m.assertion.symbols) all (step_of Fits before stack label m none))
-    (first_or_none (λ rule. BreaksStep Fits rule before stack label) (meets_dec Fits each before stack label all m))
-
 -- below the entries that an assertion wants, P8 is the first rule broken
 pub below_P8 : (Fits : List (List ℕ) → Type 0) (before : List Sentence) (stack : List (List (List ℕ))) (label : List ℕ) (other : ProofRule) → proof_rank other < proof_rank P8 → ¬ (BreaksStep Fits other before stack label)
 below_P8 Fits before stack label P8 less = absurd (omega arith)
@@ -183,8 +169,11 @@ named_outcome Fits each before stack label place assertion hypotheses all names 
   | inl short ↦ inr (P8, ((place, assertion, hypotheses, names, short), below_P8 Fits before stack label))
   | inr enough ↦
       let n : ℕ = length stack - length hypotheses in
-      meets_outcome Fits each before stack label all (meets_of before stack label place assertion hypotheses (take n stack) (drop n stack) all names (sym (take-append-drop n stack))
-      (omega (arith, length-drop n stack)))
+      let long : length (drop n stack) ≡ length hypotheses = omega (arith, length-drop n stack) in
+      let m = meets_of before stack label place assertion hypotheses (take n stack) (drop n stack) all names (sym (take-append-drop n stack)) long in
+      ⊎_elim (λ f. inr (f.rule, (f.broken, f.first)))
+      (λ none. made_outcome Fits each before stack label m.rest (instance_of m.σ m.assertion.symbols) all (step_of Fits before stack label m none))
+      (first_or_none (λ rule. BreaksStep Fits rule before stack label) (meets_dec Fits each before stack label all m))
 ]
 
 label_outcome : (Fits : List (List ℕ) → Type 0) (each : (e : List (List ℕ)) → Dec (Fits e)) (before : List Sentence) (stack : List (List (List ℕ))) (label : List ℕ) → AllMeant before

@@ -2,7 +2,6 @@
 use Rattle.std.proofs.Common.{ℕ, List, [], ◌∷◌, ◌⊎◌, inl, inr, ⊎_elim, refl, sym, subst, ◌∙◌}
 use Rattle.mm_frame.specs.Sentence.{Sentence}
 use Rattle.mm_frame.specs.Rules.{AllMeant}
-use Rattle.mm_frame.specs.Form.{AllFormed}
 use Rattle.mm_proof.specs.declared.fault.ProofRule.{ProofRule}
 use Rattle.mm_proof.specs.Moves.{Move}
 use Rattle.mm_proof.specs.Tokens.{SayMoves}
@@ -29,15 +28,6 @@ moves_judged limit before s tokens moves all whole said (inr (rule, step, inl f)
 moves_judged limit before s tokens moves all whole said (inr (rule, step, inr e)) =
     inl (record { whole = whole; moves = moves; said = said; pass = (e.stack, e.kept, e.passed) })
 
-some_front_verdict : (limit : ℕ) (before : List Sentence) (s : Sentence) (tokens : List (List ℕ)) → AllMeant before → AllFormed before → FrontVerdict limit before s tokens
-some_front_verdict limit before s tokens all formed = ⊎_elim
-    (λ f. inr (f.rule, 0, inl (refl, record { broken = f.broken; first = f.first })))
-    (λ whole.
-    let said = some_moves before s (known_front tokens) formed whole in
-    moves_judged limit before s tokens said.0 all whole said.1
-    (moves_verdict (IsWithin limit) (within_dec limit) before s said.0 all (moves_usable before s (known_front tokens) said.0 formed whole said.1)))
-    (first_or_none (λ rule. BreaksWhole rule before (known_front tokens)) (whole_dec before (known_front tokens)))
-
 -- the moves of a front that is allowed have no fault
 pub allowed_no_fault : (limit : ℕ) (before : List Sentence) (s : Sentence) (tokens : List (List ℕ)) (rule : ProofRule) (step : ℕ) → AllMeant before
     → IsFrontAllowed (IsWithin limit) before s tokens → IsFrontFault (IsWithin limit) before s tokens rule step → ⊥
@@ -58,7 +48,13 @@ one_front_fault limit before s tokens rule rule' step step' all (inr f) (inr g) 
 
 pub one_front_verdict_holds : OneFrontVerdict
 one_front_verdict_holds limit before s tokens all formed = (
-  some_front_verdict limit before s tokens all formed,
+  ⊎_elim
+      (λ f. inr (f.rule, 0, inl (refl, record { broken = f.broken; first = f.first })))
+      (λ whole.
+      let said = some_moves before s (known_front tokens) formed whole in
+      moves_judged limit before s tokens said.0 all whole said.1
+      (moves_verdict (IsWithin limit) (within_dec limit) before s said.0 all (moves_usable before s (known_front tokens) said.0 formed whole said.1)))
+      (first_or_none (λ rule. BreaksWhole rule before (known_front tokens)) (whole_dec before (known_front tokens))),
   λ a rule step f. allowed_no_fault limit before s tokens rule step all a f,
   λ rule rule' step step'. one_front_fault limit before s tokens rule rule' step step' all,
 )

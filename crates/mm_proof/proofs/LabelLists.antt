@@ -29,9 +29,6 @@ pub known_push : (P : List ℕ → Type 0) (labels : List (List ℕ)) (label : L
     → (l : List ℕ) → Contains (labels ++ label ∷ []) l → ¬ (P l)
 known_push P labels label all here l has = ⊎_elim (all l) (λ same. subst (λ k. ¬ (P k)) same here) (Contains-push_cases labels label l has)
 
-used_known : (statements : List Sentence) (place : ℕ) (label : List ℕ) (id : ℕ) → MayBeUsed statements place label id → ¬ (IsUnknown statements place label)
-used_known statements place label id m unknown = unknown (m.at, m.s, get_take statements place m.at m.before ∙ m.numbered.there, m.named)
-
 or_push : (statements : List Sentence) (place : ℕ) (idle : Bool) (ids : List ℕ) (id : ℕ) (labels : List (List ℕ)) (label : List ℕ)
     → IdleOr statements place idle ids labels → MayBeUsed statements place label id → IdleOr statements place idle (ids ++ id ∷ []) (labels ++ label ∷ [])
 or_push statements place true ids id labels label so here = (so.0, Contains-append_left labels (label ∷ []) so.0 so.1, so.2)
@@ -43,7 +40,7 @@ pub sofar_number : (statements : List Sentence) (place : ℕ) (idle : Bool) (ids
     → SoFar statements place idle (ids_in (ids ++ id ∷ [])) (take (i + 1) (token_texts labels))
 sofar_number statements place idle ids id labels i d less so here =
     rw (texts_more (λ t. t.text.now) labels i d less, map-append (λ n. n.0) ids (id ∷ [])) (
-      known_push (IsUnknown statements place) (take i (token_texts labels)) (get_or labels i d).text.now so.0 (used_known statements place _ id.0 here),
+      known_push (IsUnknown statements place) (take i (token_texts labels)) (get_or labels i d).text.now so.0 (λ unknown. unknown (here.at, here.s, get_take statements place here.at here.before ∙ here.numbered.there, here.named)),
       or_push statements place idle (ids_in ids) id.0 (take i (token_texts labels)) (get_or labels i d).text.now so.1 here,
     )
 

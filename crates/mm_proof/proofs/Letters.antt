@@ -1,5 +1,5 @@
 -- The codes of letters: letters say one list of codes, or break one rule.
-use Rattle.std.proofs.Common.{◌≡◌, ℕ, List, [], ◌∷◌, map, Result, Ok, Err, ◌⊎◌, inl, inr, refl, sym, subst, ◌∙◌, arith}
+use Rattle.std.proofs.Common.{◌≡◌, ℕ, List, [], ◌∷◌, map, Result, Ok, Err, ◌⊎◌, inl, inr, refl, sym, subst, ◌∙◌, arith, ⊎_elim}
 use Rattle.std.specs.List.{AllByRecursion, AllZip}
 use Rattle.mm_code.specs.declared.code.Code.{Code}
 use Rattle.mm_code.specs.declared.code.Code.TheVariants.{Number, Tag}
@@ -31,12 +31,9 @@ rule_dec P5 P5 = yes refl
 rule_dec a b = no (λ e. absurd cc)
 
 pub breaks_dec : (rule : CodeRule) (text : List ℕ) → Dec (Breaks rule text)
-breaks_dec rule text = elim (coded_or_broken text) [
-  | inl c ↦ no (coded_not_broken text c.0 rule c.1)
-  | inr b ↦ dec_as (λ e. subst (λ r. Breaks r text) e b.1)
-      (λ q. let e = sym (breaks_read b.0 text b.1) ∙ breaks_read rule text q in cc)
-      (rule_dec b.0 rule)
-]
+breaks_dec rule text = ⊎_elim (λ c. no (coded_not_broken text c.0 rule c.1))
+    (λ b. dec_as (λ e. rw e at b.1) (λ q. cc (breaks_read b.0 text b.1, breaks_read rule text q))
+    (rule_dec b.0 rule)) (coded_or_broken text)
 
 -- ---- a number that letters say is at least 1
 

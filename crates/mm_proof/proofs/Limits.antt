@@ -1,14 +1,10 @@
 -- What the limit on expressions changes, and that it changes nothing else.
-use Rattle.std.proofs.Common.{◌≡◌, ℕ, ◌+◌, List, [], ◌∷◌, ◌++◌, take, map, Option, ◌⊎◌, inl, inr, ⊎_elim, refl, sym, subst, ◌∙◌, append_assoc, append-nil}
+use Rattle.std.proofs.Common.{◌≡◌, ℕ, ◌+◌, List, [], ◌∷◌, ◌++◌, ◌⊎◌, inl, inr, ⊎_elim, refl, sym, subst, ◌∙◌, append_assoc, append-nil}
 use Rattle.mm_text.proofs.Lists.{zip_left}
-use Rattle.mm_frame.specs.Sentence.{Sentence, IsHypothesis, IsLabelled}
-use Rattle.mm_frame.specs.Active.{SomeActive}
-use Rattle.mm_frame.specs.Frame.{IsMandatory}
+use Rattle.mm_frame.specs.Sentence.{Sentence}
 use Rattle.mm_frame.specs.Rules.{AllMeant}
-use Rattle.mm_proof.specs.declared.fault.ProofRule.{ProofRule}
 use Rattle.mm_proof.specs.declared.fault.ProofRule.TheVariants.{L1}
-use Rattle.mm_proof.specs.Substitution.{IsOn, instance_of}
-use Rattle.mm_proof.specs.Tree.{Trees, none, tree, Names, KeepsApart, DeriveAll, AnyExpression}
+use Rattle.mm_proof.specs.Tree.{Trees, none, tree, DeriveAll, AnyExpression}
 use Rattle.mm_proof.specs.Moves.{Move, name, again, mark, steps_in, Makes}
 use Rattle.mm_proof.specs.Proof.{IsWithin, Prove, IsProvedWithin, IsProved, FirstAtMove, Passed, IsMovesFault, IsFault}
 use Rattle.mm_proof.specs.Laws.{LimitsAside}
@@ -17,27 +13,29 @@ use Rattle.mm_proof.proofs.Fronts.{Went, went_on, went_step, nothing_left, passe
 use Rattle.mm_proof.proofs.Verdicts.{proved_no_fault, one_fault}
 use Rattle.mm_proof.proofs.Judged.{limit_first, last_entry, within_dec}
 
--- What is said of one tree where trees derive expressions: it is a leaf or an assertion's.
-abbrev DeriveOne : (List (List ℕ) → Type 0) → List Sentence → List ℕ → Trees → List (List ℕ) → Type 0
-DeriveOne Fits before label below e =
-    ((below ≡ none) × SomeActive before (λ h. IsLabelled label h × IsHypothesis h.kind × (e ≡ h.symbols)))
-    ⊎ ((place : ℕ) × (assertion : Sentence) × (hypotheses : List Sentence) × (σ : List ℕ → Option (List (List ℕ)))
-    × Names before label place assertion hypotheses
-    × IsOn (IsMandatory (take place before) assertion) σ
-    × DeriveAll Fits before below (map (λ h. instance_of σ h.symbols) hypotheses)
-    × KeepsApart before place assertion σ
-    × (e ≡ instance_of σ assertion.symbols))
-
 -- what trees derive where expressions fit they derive where more of them do
 derive_looser : (Fits More : List (List ℕ) → Type 0) → ((e : List (List ℕ)) → Fits e → More e)
     → (before : List Sentence) (trees : Trees) (es : List (List (List ℕ)))
     → DeriveAll Fits before trees es → DeriveAll More before trees es
 derive_looser Fits More more before none es d = d
-derive_looser Fits More more before (tree label below right) es d =
-    let one : DeriveOne More before label below d.0 = ⊎_elim (λ leaf. inl leaf)
-    (λ n. let under = derive_looser Fits More more before below _ n.6 in
-    inr (n.0, n.1, n.2, n.3, n.4, n.5, under, n.7, n.8)) d.4 in
-    (d.0, d.1, d.2, more d.0 d.3, one, derive_looser Fits More more before right d.1 d.5)
+derive_looser Fits More more before (tree label below right) es d = (
+  d.0,
+  d.1,
+  d.2,
+  more d.0 d.3,
+  ⊎_elim (λ leaf. inl leaf) (λ n. inr (
+    n.0,
+    n.1,
+    n.2,
+    n.3,
+    n.4,
+    n.5,
+    derive_looser Fits More more before below _ n.6,
+    n.7,
+    n.8,
+  )) d.4,
+  derive_looser Fits More more before right d.1 d.5,
+)
 
 -- and they derive them without a limit
 pub derive_any : (Fits : List (List ℕ) → Type 0) (before : List Sentence) (trees : Trees) (es : List (List (List ℕ))) → DeriveAll Fits before trees es → DeriveAll AnyExpression before trees es
@@ -107,9 +105,6 @@ prove_or_over Fits each before s moves all p =
 
 -- ---- the law
 
-within_proved : (limit : ℕ) (before : List Sentence) (s : Sentence) (tokens : List (List ℕ)) → IsProvedWithin (IsWithin limit) before s tokens → IsProved before s tokens
-within_proved limit before s tokens p = record { whole = p.whole; moves = p.moves; said = p.said; proves = prove_looser (IsWithin limit) AnyExpression (λ e fits. tt) before s p.moves p.proves }
-
 proved_or_over : (limit : ℕ) (before : List Sentence) (s : Sentence) (tokens : List (List ℕ)) → AllMeant before → IsProved before s tokens
     → IsProvedWithin (IsWithin limit) before s tokens ⊎ ((step : ℕ) × IsFault (IsWithin limit) before s tokens L1 step)
 proved_or_over limit before s tokens all p = ⊎_elim
@@ -117,12 +112,11 @@ proved_or_over limit before s tokens all p = ⊎_elim
     (λ o. inr (o.0, inr (p.whole, p.moves, p.said, o.1)))
     (prove_or_over (IsWithin limit) (within_dec limit) before s p.moves all p.proves)
 
-only_limit : (limit : ℕ) (before : List Sentence) (s : Sentence) (tokens : List (List ℕ)) (rule : ProofRule) (step : ℕ) → AllMeant before → IsProved before s tokens
-    → IsFault (IsWithin limit) before s tokens rule step → rule ≡ L1
-only_limit limit before s tokens rule step all p f = ⊎_elim
-    (λ within. absurd (proved_no_fault (IsWithin limit) before s tokens rule step all within f))
-    (λ over. (one_fault (IsWithin limit) before s tokens rule L1 step over.0 all f over.1).0) (proved_or_over limit before s tokens all p)
-
 pub limits_aside_holds : LimitsAside
-limits_aside_holds limit before s tokens all =
-    (within_proved limit before s tokens, proved_or_over limit before s tokens all, λ p rule step. only_limit limit before s tokens rule step all p)
+limits_aside_holds limit before s tokens all = (
+  λ p. record { whole = p.whole; moves = p.moves; said = p.said; proves = prove_looser (IsWithin limit) AnyExpression (λ e fits. tt) before s p.moves p.proves },
+  proved_or_over limit before s tokens all,
+  λ p rule step f. ⊎_elim
+      (λ within. absurd (proved_no_fault (IsWithin limit) before s tokens rule step all within f))
+      (λ over. (one_fault (IsWithin limit) before s tokens rule L1 step over.0 all f over.1).0) (proved_or_over limit before s tokens all p),
+)

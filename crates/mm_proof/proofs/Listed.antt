@@ -1,9 +1,9 @@
 -- One move more in a listing.
-use Rattle.std.proofs.Common.{◌≡◌, ℕ, suc, ◌+◌, ◌<◌, List, [], ◌∷◌, ◌++◌, length, take, drop, slice_get, Some, true, ◌⊎◌, inl, inr, refl, sym, ap, subst, ◌∙◌, arith}
+use Rattle.std.proofs.Common.{◌≡◌, ℕ, suc, ◌+◌, ◌<◌, List, [], ◌∷◌, ◌++◌, length, take, drop, slice_get, Some, true, ◌⊎◌, inl, inr, refl, sym, ap, subst, ◌∙◌, arith, ⊎_elim}
 use Rattle.std.proofs.lemmas.Bool.{false≢true}
 use Rattle.std.proofs.lemmas.Option.{slice_get_within}
 use Rattle.std.proofs.lemmas.List.{take-append-le, take_at, length-append}
-use Rattle.mm_text.proofs.Lists.{split_at, get_kept, get_pushed, pushed_cases}
+use Rattle.mm_text.proofs.Lists.{split_at, get_kept, pushed_cases}
 use Rattle.mm_frame.specs.Sentence.{Sentence}
 use Rattle.mm_proof.specs.Tree.{none, tree, beside, roots, DeriveAll}
 use Rattle.mm_proof.specs.Moves.{Move, name, mark, is_step, steps_in, Makes}
@@ -19,10 +19,8 @@ use Rattle.mm_proof.proofs.Firsts.{steps_in-append}
 -- an element is an old one or the new one
 pub old_or_new : {X : Type 0} (xs : List X) (x y : X) (i : ℕ) → slice_get (xs ++ x ∷ []) i ≡ Some y
     → ((i < length xs) × (slice_get xs i ≡ Some y)) ⊎ ((i ≡ length xs) × (x ≡ y))
-old_or_new xs x y i e = elim (pushed_cases xs x i y e) [
-  | inl there ↦ inl (slice_get_within xs i y there, there)
-  | inr last ↦ inr last
-]
+old_or_new xs x y i e =
+    ⊎_elim (λ there. inl (slice_get_within xs i y there, there)) inr (pushed_cases xs x i y e)
 
 -- ---- steps
 
@@ -48,11 +46,6 @@ stands_later {X} moves more tag step s =
     let within : step + tag < length moves = slice_get_within moves (step + tag) mark s.0 in
     (get_kept moves more (step + tag) mark s.0, ap steps_in (take-append-le (step + tag) moves more (omega arith)) ∙ s.1)
 
--- the tag of a new mark stands after the last step
-pub stands_new : {X : Type 0} (moves : List (Move X)) (tag step : ℕ) → steps_in moves ≡ step → step + tag ≡ length moves → StandsAfter (moves ++ mark ∷ []) tag step
-stands_new {X} moves tag step count all =
-    (rw all (get_pushed moves mark), ap steps_in (take_at moves (mark ∷ []) (step + tag) (sym all)) ∙ count)
-
 -- ---- what is listed
 
 -- a step more
@@ -62,46 +55,34 @@ listed_step before moves move steps step listed is new = record {
   count =
       let more = steps_in-append moves (move ∷ []) in
       omega (arith, listed.count, length-append steps (step ∷ []), more, one_step move is);
-  each = λ place m s there is_one at. each place m s there is_one at (old_or_new moves move m place there);
+  each = λ place m s there is_one is. ⊎_elim
+      (λ old.
+      let front = take-append-le place moves (move ∷ []) (let l = old.0 in omega arith) in
+      let less = step_before moves place m old.1 is_one in
+      rw front (elim (old_or_new steps step s (steps_in (take place moves)) (rw front at is)) [
+        | inl h ↦ listed.each place m s old.1 is_one h.1
+        | inr h ↦ absurd (omega (arith, h.0, less, listed.count))
+      ]))
+      (λ last.
+      let front = take_at moves (move ∷ []) place (sym last.0) in
+      rw (front, ← last.1) (elim (old_or_new steps step s (steps_in moves) (rw front at is)) [
+        | inl h ↦ absurd (omega (arith, h.0, listed.count))
+        | inr h ↦ rw (← h.1) new
+      ]))
+      (old_or_new moves move m place there);
 }
-  where
-    each : (place : ℕ) (m : Move (List ℕ)) (s : ListedStep) → slice_get (moves ++ move ∷ []) place ≡ Some m → is_step m ≡ true
-        → slice_get (steps ++ step ∷ []) (steps_in (take place (moves ++ move ∷ []))) ≡ Some s
-        → ((place < length moves) × (slice_get moves place ≡ Some m)) ⊎ ((place ≡ length moves) × (move ≡ m))
-        → IsListed before (take place (moves ++ move ∷ [])) m s
-    each place m s there is_one at (inl old) =
-        let front : take place (moves ++ move ∷ []) ≡ take place moves = (let l = old.0 in take-append-le place moves (move ∷ []) (omega arith)) in
-        let less : steps_in (take place moves) < length steps = (let l = step_before moves place m old.1 is_one in let d : length steps ≡ steps_in moves = listed.count in omega arith) in
-        let here : slice_get (steps ++ step ∷ []) (steps_in (take place moves)) ≡ Some s = subst (λ l. slice_get (steps ++ step ∷ []) (steps_in l) ≡ Some s) front at in
-        subst (λ l. IsListed before l m s) (sym front) (elim (old_or_new steps step s (steps_in (take place moves)) here) [
-          | inl h ↦ listed.each place m s old.1 is_one h.1
-          | inr h ↦ absurd (let e = h.0 in omega arith)
-        ])
-    each place m s there is_one at (inr new_one) =
-        let front : take place (moves ++ move ∷ []) ≡ moves = take_at moves (move ∷ []) place (sym new_one.0) in
-        let here : slice_get (steps ++ step ∷ []) (steps_in moves) ≡ Some s = subst (λ l. slice_get (steps ++ step ∷ []) (steps_in l) ≡ Some s) front at in
-        let same : step ≡ s = elim (old_or_new steps step s (steps_in moves) here) [
-          | inl h ↦ absurd (let l = h.0 in let d : length steps ≡ steps_in moves = listed.count in omega arith)
-          | inr h ↦ h.1
-        ] in
-        subst (λ l. IsListed before l m s) (sym front) (subst (λ t. IsListed before moves m t) same (subst (λ t. IsListed before moves t step) new_one.1 new))
 
 -- a mark more
 pub listed_mark : (before : List Sentence) (moves : List (Move (List ℕ))) (steps : List ListedStep) → AreListed before moves steps → AreListed before (moves ++ mark ∷ []) steps
 listed_mark before moves steps listed = record {
   count = omega (arith, listed.count, steps_in-append moves (mark ∷ []));
-  each = λ place m s there is_one at. each place m s is_one at (old_or_new moves mark m place there);
+  each = λ place m s there is_one is. ⊎_elim
+      (λ old.
+      let front = take-append-le place moves (mark ∷ []) (let l = old.0 in omega arith) in
+      rw front (listed.each place m s old.1 is_one (rw front at is)))
+      (λ new. absurd (false≢true (rw (← new.1) at is_one)))
+      (old_or_new moves mark m place there);
 }
-  where
-    each : (place : ℕ) (m : Move (List ℕ)) (s : ListedStep) → is_step m ≡ true
-        → slice_get steps (steps_in (take place (moves ++ mark ∷ []))) ≡ Some s
-        → ((place < length moves) × (slice_get moves place ≡ Some m)) ⊎ ((place ≡ length moves) × (mark ≡ m))
-        → IsListed before (take place (moves ++ mark ∷ [])) m s
-    each place m s is_one at (inl old) =
-        let front : take place (moves ++ mark ∷ []) ≡ take place moves = (let l = old.0 in take-append-le place moves (mark ∷ []) (omega arith)) in
-        subst (λ l. IsListed before l m s) (sym front) (listed.each place m s old.1 is_one (subst (λ l. slice_get steps (steps_in l) ≡ Some s) front at))
-    each place m s is_one at (inr new) =
-        absurd (false≢true (subst (λ (t : Move (List ℕ)). is_step t ≡ true) (sym new.1) is_one))
 
 -- ---- what moves that passed leave
 

@@ -1,9 +1,9 @@
 -- The lines of the steps so far, by numbers.
-use Rattle.std.proofs.Common.{◌≡◌, ℕ, ◌+◌, ◌-◌, ◌<◌, ◌≤◌, List, [], ◌∷◌, ◌++◌, length, take, slice_get, get_or, Some, true, inl, inr, refl, sym, ap, subst, ◌∙◌, arith}
+use Rattle.std.proofs.Common.{◌≡◌, ℕ, ◌+◌, ◌-◌, ◌<◌, List, [], ◌∷◌, ◌++◌, length, take, slice_get, get_or, Some, true, inl, inr, refl, sym, ap, subst, ◌∙◌, arith}
 use Rattle.std.proofs.lemmas.Option.{same_Some, slice_get_within}
-use Rattle.std.proofs.lemmas.List.{map-append, length-map, length-append, length-take-le, take_all}
+use Rattle.std.proofs.lemmas.List.{length-map, length-append, length-take-le, take_at}
 use Rattle.std.proofs.lemmas.Slice.Zip.{AllZip-long}
-use Rattle.mm_text.proofs.Lists.{zip_push, zip_front, all_at, zip_take, all_weaker}
+use Rattle.mm_text.proofs.Lists.{zip_push, zip_front, all_at, zip_take, all_weaker, get_pushed}
 use Rattle.mm_frame.specs.declared.number.LabelId.{LabelId}
 use Rattle.mm_frame.specs.Sentence.{Sentence}
 use Rattle.mm_frame.specs.Numbers.{symbols_of, AreNumbers}
@@ -21,8 +21,8 @@ use Rattle.mm_proof.specs.Mirror.CodeVerify.{IsSymbol, AreDeclaredSymbols, AreSt
 use Rattle.mm_proof.specs.Mirror.CodeRun.{CarriesOn, HasRun}
 use Rattle.mm_proof.specs.Mirror.CodeLines.{AreLinesAt}
 use Rattle.mm_proof.proofs.Named.{number_of_name}
-use Rattle.mm_proof.proofs.Running.{Turn, front_more, last_split, same_steps, run_none, more_name, more_again, more_mark}
-use Rattle.mm_proof.proofs.Listed.{old_or_new, stands_later, stands_new, listed_step, listed_mark, last_made, name_leaves}
+use Rattle.mm_proof.proofs.Running.{Turn, front_more, last_split, same_steps, run_none, more_name, more_again, more_mark, named_push, same_kind}
+use Rattle.mm_proof.proofs.Listed.{old_or_new, stands_later, listed_step, listed_mark, last_made, name_leaves}
 
 -- ---- numbers and names
 
@@ -33,11 +33,6 @@ numbers_named st (n ∷ ns) below =
     let here = number_of_name st n below.0 in
     let rest : AreNumbers st ns (names_at st ns) = numbers_named st ns below.1 in
     cc
-
-step_kind : (st : List Sentence) (x : Move ℕ) (move : Move (List ℕ)) → IsNumberedMove st x move → is_step x ≡ true → is_step move ≡ true
-step_kind st (name id) move n is = ap (λ (m : Move (List ℕ)). is_step m) n.4
-step_kind st (again tag) move n is = ap (λ (m : Move (List ℕ)). is_step m) n
-step_kind st mark move n is = ap (λ (m : Move (List ℕ)). is_step m) n ∙ is
 
 -- ---- tags
 
@@ -63,7 +58,10 @@ tags_more st front tags new count all are moves numbered tag step there =
           let same : steps_in h.0 ≡ step = sym (same_steps st front h.0 h.3) ∙ sym count ∙ last.1 in
           let long : length h.0 ≡ length front = AllZip-long (IsNumberedMove st) front h.0 h.3 in
           let number : step + tag ≡ length h.0 = (let a = last.0 in let b = last.1 in omega arith) in
-          subst (λ m. StandsAfter (h.0 ++ m ∷ []) tag step) (sym h.4) (stands_new h.0 tag step same number)
+          rw h.4 (
+            rw number (get_pushed h.0 mark),
+            ap steps_in (take_at h.0 (mark ∷ []) (step + tag) (sym number)) ∙ same,
+          )
     ])
 
 -- ---- lines
@@ -86,11 +84,8 @@ line_more limit st place front x stack kept count lines line run last is calls o
     let within : length stack - 1 < length stack = slice_get_within stack (length stack - 1) e last in
     let parts = last_split stack (omega arith) in
     let top : parts.1 ≡ e = same_Some parts.1 e (sym parts.3 ∙ last) in
-    let split : stack ≡ parts.0 ++ e ∷ [] = parts.2 ∙ ap (λ x. parts.0 ++ x ∷ []) top in
-    let names : all_names_at st stack ≡ all_names_at st parts.0 ++ names_at st e ∷ [] = ap (all_names_at st) split ∙ map-append (names_at st) parts.0 (e ∷ []) in
-    let passed : Passed (IsWithin limit) before moves (all_names_at st parts.0 ++ names_at st e ∷ []) (all_names_at st kept) =
-    subst (λ l. Passed (IsWithin limit) before moves l (all_names_at st kept)) names (run.passed moves numbered) in
-    let made : MakeLast before moves (names_at st e) = last_made (IsWithin limit) before moves (all_names_at st parts.0) (all_names_at st kept) (names_at st e) passed in
+    let made : MakeLast before moves (names_at st e) = last_made (IsWithin limit) before moves (all_names_at st parts.0) (all_names_at st kept) (names_at st e)
+    (rw (parts.2, named_push st parts.0 parts.1, top) at (run.passed moves numbered)) in
     let entry : AreDeclaredSymbols st before e = all_at (AreDeclaredSymbols st before) stack (length stack - 1) e run.entries last in
     let below : AreBelow st e = all_weaker (IsSymbol st before) (λ k. k < length (symbols_of st)) (λ k i. i.below) e entry in
     let call = calls h.0 h.1 h.3 h.4 in
@@ -98,7 +93,7 @@ line_more limit st place front x stack kept count lines line run last is calls o
     let was = old h.0 h.3 in (
       was.0 ++ new ∷ [],
       subst (λ l. AreListed before l (was.0 ++ new ∷ [])) (sym h.2)
-          (listed_step before h.0 h.1 was.0 new was.1 (step_kind st x h.1 h.4 is)
+          (listed_step before h.0 h.1 was.0 new was.1 (sym (same_kind st x h.1 h.4) ∙ is)
           (record { called = call.2; pushed = subst (λ l. MakeLast before l (names_at st e)) h.2 made })),
       zip_push (TellsStep st) lines was.0 line new was.2 (record { called = call.1; pushed = numbers_named st e below }),
     )
@@ -202,10 +197,3 @@ tag_stands limit st place moves i stack kept stack' lines tags tag l pushed =
     let same : length tags ≡ length kept = l.turn.1 in
     let long : length stack' ≡ length stack + 1 = ap length pushed.2 ∙ length-append stack (pushed.0 ∷ []) in
     (omega arith, omega arith)
-
--- at the end
-pub listing_end : (limit : ℕ) (st : List Sentence) (place : ℕ) (moves : List NumberedMove) (i : ℕ) (stack kept : List (List ℕ)) (lines : List Line) (tags : List ℕ) → Listing limit st place moves i stack kept lines tags
-    → length moves ≤ i → HasRun limit st place (moves_in moves) stack kept (length lines) × AreLinesAt st place (moves_in moves) lines
-listing_end limit st place moves i stack kept lines tags l over =
-    let all : take i (moves_in moves) ≡ moves_in moves = take_all i (moves_in moves) (omega (arith, length-map moves move_in)) in
-    (subst (λ f. HasRun limit st place f stack kept (length lines)) all l.turn.0, subst (λ f. AreLinesAt st place f lines) all l.listed)

@@ -33,10 +33,7 @@ spelling-beside (tree label below right) b =
 one_row_split : (a b c d : Trees) → beside a b ≡ beside c d → roots a ≡ roots c → (a ≡ c) × (b ≡ d)
 one_row_split none b none d e n = (refl, e)
 one_row_split (tree l a r) b (tree m c s) d e n =
-    let f : tree l a (beside r b) ≡ tree m c (beside s d) = e in
-    let h : (l ≡ m) × (a ≡ c) × (beside r b ≡ beside s d) = (cc, cc, cc) in
-    let k = one_row_split r b s d h.2 (omega arith) in
-    (ap (λ x. tree x a r) h.0 ∙ ap (λ x. tree m x r) h.1 ∙ ap (λ x. tree m c x) k.0, k.1)
+    let k = one_row_split r b s d (cc e) (omega arith) in (cc (e, k.0), k.1)
 one_row_split a b c d e n = absurd (omega arith)
 
 pub one_row_end : (a b c d : Trees) → beside a b ≡ beside c d → roots b ≡ roots d → (a ≡ c) × (b ≡ d)
@@ -139,9 +136,3 @@ derive_fits Fits before (tree label below right) es d = ⊎_elim
       derive_fits Fits before below (map (λ (h : Sentence). instance_of n.3 h.symbols) n.2) n.6,
       derive_fits Fits before right d.1 d.5,
     )) d.4
-
--- trees that derive and have one spelling are equal
-pub one_row : (Fits Gits : List (List ℕ) → Type 0) (before : List Sentence) (t u : Trees) (es fs : List (List (List ℕ))) → AllMeant before
-    → DeriveAll Fits before t es → DeriveAll Gits before u fs → spelling t ≡ spelling u → t ≡ u
-one_row Fits Gits before t u es fs all d g same =
-    one_fit_holds before t u all (derive_fits Fits before t es d) (derive_fits Gits before u fs g) same

@@ -1,5 +1,5 @@
 -- Marks before any step, and tags over the marks.
-use Rattle.std.proofs.Common.{◌≡◌, ℕ, ◌+◌, ◌≤◌, List, [], ◌∷◌, ◌++◌, length, cond, not, slice_get, Some, ◌⊎◌, inl, inr, refl, sym, ap, subst, ◌∙◌, arith}
+use Rattle.std.proofs.Common.{◌≡◌, ℕ, ◌+◌, ◌≤◌, List, [], ◌∷◌, ◌++◌, length, cond, not, ◌⊎◌, inl, inr, refl, sym, ap, subst, ◌∙◌, arith}
 use Rattle.std.proofs.lemmas.List.{length-append}
 use Rattle.std.proofs.lemmas.List.Sums.{sum_by-cons}
 use Rattle.std.proofs.lemmas.Slice.Zip.{AllZip-long}
@@ -23,8 +23,7 @@ leaves_one before (name label) row next kept more made was =
 leaves_one before (again tag) row next kept more made (inl one) =
     rw (made.2, roots-beside) (omega (arith, one))
 leaves_one before (again tag) row next kept more made (inr bare) =
-    let there : slice_get [] tag ≡ Some made.0 = subst (λ (ts : List Trees). slice_get ts tag ≡ Some made.0) bare made.1 in
-    absurd cc
+    let there = rw bare at made.1 in absurd cc
 leaves_one before mark row next kept more made was =
     rw (made.4, made.3, roots-beside) (omega arith)
 

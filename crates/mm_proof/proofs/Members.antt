@@ -1,6 +1,6 @@
 -- Members of lists, by recursion on the list.
 use Rattle.std.proofs.Common.{◌≡◌, ℕ, zero, suc, List, [], ◌∷◌, ◌++◌, slice_get, Contains, Some}
-use Rattle.std.proofs.Common.{◌⊎◌, inl, inr, ⊎_elim, refl, sym, ap, ◌∙◌, arith}
+use Rattle.std.proofs.Common.{◌⊎◌, inl, inr, refl, sym, ap, ◌∙◌, arith}
 pub use Rattle.mm_proof.specs.Mirror.SharedSteps.{In}
 use Rattle.std.proofs.lemmas.Option.{same_Some, none-some, slice_get_within, get_or_from_slice_get}
 use Rattle.std.proofs.lemmas.Option.{slice_get-get_or}
@@ -25,8 +25,7 @@ contains_in xs x c = get_in xs c.0 x (slice_get-get_or xs c.0 x c.1 ∙ ap Some 
 
 pub in_left : {X : Type 0} (xs ys : List X) (x : X) → In xs x → In (xs ++ ys) x
 in_left [] ys x h = absurd h
-in_left (y ∷ xs) ys x (inl e) = inl e
-in_left (y ∷ xs) ys x (inr h) = inr (in_left xs ys x h)
+in_left (y ∷ xs) ys x h = let i = in_left xs ys x in grind arith
 
 pub in_right : {X : Type 0} (xs ys : List X) (x : X) → In ys x → In (xs ++ ys) x
 in_right [] ys x h = h
@@ -34,14 +33,11 @@ in_right (y ∷ xs) ys x h = inr (in_right xs ys x h)
 
 pub in_apart : {X : Type 0} (xs ys : List X) (x : X) → In (xs ++ ys) x → In xs x ⊎ In ys x
 in_apart [] ys x h = inr h
-in_apart (y ∷ xs) ys x (inl e) = inl (inl e)
-in_apart (y ∷ xs) ys x (inr h) = ⊎_elim (λ a. inl (inr a)) (λ b. inr b) (in_apart xs ys x h)
+in_apart (y ∷ xs) ys x h = let i = in_apart xs ys x in grind arith
 
 pub in_push : {X : Type 0} (xs : List X) (y x : X) → In (xs ++ y ∷ []) x → In xs x ⊎ (y ≡ x)
-in_push [] y x (inl e) = inr e
-in_push [] y x (inr z) = absurd z
-in_push (z ∷ xs) y x (inl e) = inl (inl e)
-in_push (z ∷ xs) y x (inr h) = ⊎_elim (λ a. inl (inr a)) (λ b. inr b) (in_push xs y x h)
+in_push [] y x h = grind arith
+in_push (z ∷ xs) y x h = let i = in_push xs y x in grind arith
 
 -- no member stands twice
 abbrev pub Once : {X : Type 0} → List X → Type 0

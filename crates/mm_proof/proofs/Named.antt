@@ -23,19 +23,15 @@ name_is st n x there = get_or_from_slice_get (symbols_of st) n x [] there
 pub named_is : (st : List Sentence) (ns : List ℕ) (xs : List (List ℕ)) → AreNumbers st ns xs → names_at st ns ≡ xs
 named_is st [] [] are = refl
 named_is st (n ∷ ns) (x ∷ xs) are =
-    let here : slice_get (symbols_of st) n ≡ Some x = cc in
-    let rest : AreNumbers st ns xs = cc in
-    let first = name_is st n x here in
-    let others = named_is st ns xs rest in
+    let first = name_is st n x (cc) in
+    let others = named_is st ns xs (cc) in
     cc
 named_is st ns xs are = absurd cc
 
 pub below_is : (st : List Sentence) (ns : List ℕ) (xs : List (List ℕ)) → AreNumbers st ns xs → AreBelow st ns
 below_is st [] [] are = tt
 below_is st (n ∷ ns) (x ∷ xs) are =
-    let here : slice_get (symbols_of st) n ≡ Some x = cc in
-    let rest : AreNumbers st ns xs = cc in
-    (slice_get_within (symbols_of st) n x here, below_is st ns xs rest)
+    (slice_get_within (symbols_of st) n x (cc), below_is st ns xs (cc))
 below_is st ns xs are = absurd cc
 
 pub number_of_name : (st : List Sentence) (n : ℕ) → n < length (symbols_of st) → IsNumberOf st (name_at st n) n
@@ -49,10 +45,8 @@ one_name one st m n bm bn same =
 pub named_once : OneNumber → (st : List Sentence) (ms ns : List ℕ) → AreBelow st ms → AreBelow st ns → names_at st ms ≡ names_at st ns → ms ≡ ns
 named_once one st [] [] bm bn same = refl
 named_once one st (m ∷ ms) (n ∷ ns) bm bn same =
-    let first : name_at st m ≡ name_at st n = cc in
-    let rest : names_at st ms ≡ names_at st ns = cc in
-    let head = one_name one st m n bm.0 bn.0 first in
-    let tail = named_once one st ms ns bm.1 bn.1 rest in
+    let head = one_name one st m n bm.0 bn.0 (cc) in
+    let tail = named_once one st ms ns bm.1 bn.1 (cc) in
     cc
 named_once one st ms ns bm bn same = absurd cc
 
@@ -76,10 +70,6 @@ pub code_judged : (b : Bool) (h : Sentence) (entry : List (List ℕ)) → h.kind
     → (slice_get entry 0 ≡ slice_get h.symbols 0 → IsTrue b) → MatchBool b (IsRightCode h entry) (IsWrongCode h entry)
 code_judged true h entry floating to from = λ floats. to refl
 code_judged false h entry floating to from = (floating, λ same. false≢true (from same))
-
--- a `$e` has no type code
-pub no_code : (h : Sentence) (entry : List (List ℕ)) → h.kind ≡ Essential → IsRightCode h entry
-no_code h entry essential floats = absurd (let both : Floating ≡ Essential = sym floats ∙ essential in cc)
 
 pub no_variable : (st : List Sentence) (h : Sentence) → h.kind ≡ Essential → IsVariableOf st None h
 no_variable st h essential floats = let both : Floating ≡ Essential = sym floats ∙ essential in cc
@@ -114,10 +104,9 @@ pub typed_variables : (st : List Sentence) (xs : List Hypothesis) (hs : List Sen
 typed_variables st [] [] have are = tt
 typed_variables st (x ∷ xs) (h ∷ hs) have are =
     let there : slice_get (labelled_sentences st) x.id.0 ≡ Some h = cc in
-    let rest : AreHypothesesOf st (label_ids xs) hs = cc in
     let (g, at, is) = have 0 x refl in (
       typing_variable st x.typing h (subst (IsTypingOf st x.typing) (same_Some g h (sym at ∙ there)) is),
-      typed_variables st xs hs (λ i y y_there. have (suc i) y y_there) rest,
+      typed_variables st xs hs (λ i y y_there. have (suc i) y y_there) (cc),
     )
 typed_variables st xs hs have are = absurd cc
 

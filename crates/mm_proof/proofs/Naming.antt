@@ -34,9 +34,6 @@ front_new : (front : List LabelId) (id : LabelId) (n : ℕ) → id.0 ≡ n → C
 front_new front id n same =
     subst (λ l. Contains l n) (sym (map-append (λ (i : LabelId). i.0) front (id ∷ []))) (subst (Contains (ids_in front ++ id.0 ∷ [])) same (Contains-push (ids_in front) id.0))
 
-pub gathered_empty : (st : List Sentence) → Gathered st [] []
-gathered_empty st n = ((λ c. absurd (let less : c.0 < 0 = c.1 in omega arith)), λ h. h.0)
-
 gather_more : (st : List Sentence) (front ids : List LabelId) (id : LabelId) → IsAssertionNumber st id.0 → Gathered st front ids → Gathered st (front ++ id ∷ []) (ids ++ id ∷ [])
 gather_more st front ids id assertion old n = (
   (λ h. ⊎_elim (λ c. let o = (old n).0 c in (front_old front id n o.0, o.1)) (λ same. (front_new front id n same, subst (IsAssertionNumber st) same assertion)) (front_cases ids id n h)),
@@ -89,11 +86,7 @@ listed_at xs i d less = (
 -- ---- in order, each once
 
 contains_number_at : (xs : List LabelId) (x : LabelId) (k : ℕ) → k < length xs → get_or xs k x ≡ x → Contains (ids_in xs) x.0
-contains_number_at xs x k l e = (
-  k,
-  omega (arith, length-map xs (λ (y : LabelId). y.0)),
-  get_or-map (λ (y : LabelId). y.0) xs k x x.0 l ∙ ap (λ (y : LabelId). y.0) e,
-)
+contains_number_at xs x k l e = rw e at (listed_at xs k x l)
 
 contains_id_at : (xs : List LabelId) (n k : ℕ) → k < length (ids_in xs) → get_or (ids_in xs) k n ≡ n → Contains xs (record { 0 = n })
 contains_id_at xs n k l e =

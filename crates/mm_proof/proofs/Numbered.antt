@@ -1,7 +1,5 @@
 -- Labels by their numbers, which rise with the places of their statements, and moves by theirs.
-use Rattle.std.proofs.Common.{◌≡◌, ℕ, ◌<◌, ◌≤◌, List, length, take, inl, inr, sym, ap, subst, ◌∙◌, arith}
-use Rattle.std.proofs.lemmas.Bool.{cases_order, cases_lt}
-use Rattle.std.proofs.lemmas.Option.{same_Some}
+use Rattle.std.proofs.Common.{◌≡◌, ℕ, ◌<◌, ◌≤◌, List, length, take, sym, ap, ◌∙◌, arith}
 use Rattle.mm_frame.specs.Sentence.{Sentence, IsLabelled}
 use Rattle.mm_frame.specs.Numbers.{labelled_sentences, IsNumbered}
 use Rattle.mm_frame.specs.Rules.{AllMeant}
@@ -12,22 +10,18 @@ use Rattle.mm_proof.specs.Mirror.CodeSteps.{IsUnknown}
 use Rattle.mm_text.proofs.Lists.{get_from_take}
 use Rattle.mm_proof.proofs.Meaning.{one_label}
 
--- a lesser number is that of an earlier statement
-pub numbers_order : (statements : List Sentence) (i j p q : ℕ) (s t : Sentence) → IsNumbered statements i p s → IsNumbered statements j q t → i < j → p < q
-numbers_order statements i j p q s t n m less = elim (cases_order p q) [
-  | inl same ↦ absurd (let e : i ≡ j = sym n.number ∙ ap (λ k. length (labelled_sentences (take k statements))) same ∙ m.number in omega arith)
-  | inr (inl before) ↦ before
-  | inr (inr after) ↦
-      absurd (let r = numbered_rise statements j i q p t s m n after in omega (arith, r, less))
-]
-
 -- a number that isn't less is that of no earlier statement
 pub numbers_order_back : (statements : List Sentence) (i j p q : ℕ) (s t : Sentence) → IsNumbered statements i p s → IsNumbered statements j q t → j ≤ i → q ≤ p
-numbers_order_back statements i j p q s t n m le = elim (cases_lt p q) [
-  | inl before ↦
-      absurd (let r = numbered_rise statements i j p q s t n m before in omega (arith, r, le))
-  | inr after ↦ after
-]
+numbers_order_back statements i j p q s t n m le =
+    let before = numbered_rise statements i j p q s t n m in grind arith
+
+-- a lesser number is that of an earlier statement
+pub numbers_order : (statements : List Sentence) (i j p q : ℕ) (s t : Sentence) → IsNumbered statements i p s → IsNumbered statements j q t → i < j → p < q
+numbers_order statements i j p q s t n m less =
+    let le = numbers_order_back statements j i q p t s m n (omega arith) in
+    let same : p ≡ q → i ≡ j =
+    λ e. sym n.number ∙ ap (λ k. length (labelled_sentences (take k statements))) e ∙ m.number in
+    grind arith
 
 -- the statement with a number that isn't less has the label, so no statement before has it
 pub not_earlier : (statements : List Sentence) (found at : ℕ) (s : Sentence) (id place : ℕ) (own : Sentence) (label : List ℕ) → AllMeant statements
@@ -46,9 +40,8 @@ one_place statements id p q s t n m =
 -- a move by a number is that of one label
 pub one_move : (st : List Sentence) (x : Move ℕ) (y z : Move (List ℕ)) → IsNumberedMove st x y → IsNumberedMove st x z → y ≡ z
 one_move st (name id) y z a b =
-    let same : a.0 ≡ b.0 = same_Some a.0 b.0 (sym a.2 ∙ b.2) in
-    let labelled_so : IsLabelled a.1 b.0 = subst (IsLabelled a.1) same a.3 in
-    let label : a.1 ≡ b.1 = same_Some a.1 b.1 (sym labelled_so ∙ b.3) in
-    a.4 ∙ ap name label ∙ sym b.4
+    let same : a.0 ≡ b.0 = cc (a.2, b.2) in
+    let named = rw same at a.3 in
+    cc (named, b.3, a.4, b.4)
 one_move st (again tag) y z a b = a ∙ sym b
 one_move st mark y z a b = a ∙ sym b

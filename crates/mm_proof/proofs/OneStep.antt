@@ -72,12 +72,6 @@ typing_among before label place assertion hypotheses x names mandatory f =
     (subst (λ k. IsMandatoryAt (take place before) assertion k f.1) at (f.3, inr (f.4.0, x, f.4.1, mandatory))) in
     (h.0, f.1, f.4.0, h.1, f.4.1)
 
-one_entry : (hypotheses : List Sentence) (entries : List (List (List ℕ))) (σ τ : List ℕ → Option (List (List ℕ))) (i : ℕ) (f : Sentence) (code x : List ℕ)
-    → length entries ≡ length hypotheses → Replaces hypotheses entries σ → Replaces hypotheses entries τ → slice_get hypotheses i ≡ Some f → Types code x f → σ x ≡ τ x
-one_entry hypotheses entries σ τ i f code x l s t there types =
-    let e = get_beside hypotheses entries i f l there in
-    s i f e.0 code x there e.1 types ∙ sym (t i f e.0 code x there e.1 types)
-
 one_replacement : (before : List Sentence) (label : List ℕ) (place : ℕ) (assertion : Sentence) (hypotheses : List Sentence) (entries : List (List (List ℕ)))
     (σ τ : List ℕ → Option (List (List ℕ))) → AllMeant before → Names before label place assertion hypotheses → length entries ≡ length hypotheses
     → IsOn (IsMandatory (take place before) assertion) σ → IsOn (IsMandatory (take place before) assertion) τ
@@ -90,7 +84,8 @@ one_replacement before label place assertion hypotheses entries σ τ all names 
         let meant = meant_at before place assertion all names.there in
         let typed = mandatory_typed (take place before) assertion x front meant (inr names.kind) m in
         let f = typing_among before label place assertion hypotheses x names m typed in
-        one_entry hypotheses entries σ τ f.0 f.1 f.2 x l s t f.3 f.4
+        let e = get_beside hypotheses entries f.0 f.1 l f.3 in
+        s f.0 f.1 e.0 f.2 x f.3 e.1 f.4 ∙ sym (t f.0 f.1 e.0 f.2 x f.3 e.1 f.4)
 
     go : (a b : Option (List (List ℕ))) → σ x ≡ a → τ x ≡ b → σ x ≡ τ x
     go None None p q = p ∙ sym q
@@ -186,9 +181,7 @@ same_meets before stack label rest e m all (inr p) = (p, agree before stack labe
 apart_of : (before : List Sentence) (stack : List (List (List ℕ))) (label : List ℕ) (rest : List (List (List ℕ))) (e : List (List ℕ)) (m : MeetsHypotheses before stack label) → AllMeant before
     → StepTo before stack label rest e → KeepsApart before m.place m.assertion m.σ
 apart_of before stack label rest e m all step x y e' f pair at_x at_y =
-    let s = same_meets before stack label rest e m all step in
-    let p = s.0 in
-    let a = s.1 in
+    let (p, a) = same_meets before stack label rest e m all step in
     let pair' : IsMandatoryPair (take p.meets.place before) p.meets.assertion x y =
     subst (λ b. IsMandatoryPair (take p.meets.place before) b x y) (sym a.assertion) (subst (λ k. IsMandatoryPair (take k before) m.assertion x y) (sym a.place) pair) in
     p.apart x y e' f pair' (a.replacement x ∙ at_x) (a.replacement y ∙ at_y)

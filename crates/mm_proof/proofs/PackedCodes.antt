@@ -1,11 +1,11 @@
 -- The codes of steps say the moves that do what the steps do.
-use Rattle.std.proofs.Common.{◌≡◌, ℕ, ◌+◌, ◌<◌, List, [], ◌∷◌, ◌++◌, length, slice_get, Contains, Some, ◌↔◌, inl, inr, ⊎_elim, refl, sym, ap, subst, ◌∙◌, arith}
+use Rattle.std.proofs.Common.{◌≡◌, ℕ, ◌+◌, ◌<◌, List, [], ◌∷◌, ◌++◌, length, slice_get, Contains, Some, ◌↔◌, inl, inr, ⊎_elim, refl, sym, ap, ◌∙◌, arith}
 use Rattle.std.specs.List.{AllZip}
 use Rattle.std.proofs.lemmas.Option.{slice_get_within, slice_get-get_or}
 use Rattle.std.proofs.lemmas.Slice.Zip.{AllZip-long}
-use Rattle.mm_text.proofs.Lists.{zip_push, zip_left, zip_right, get_kept, get_pushed, cons_parts}
+use Rattle.mm_text.proofs.Lists.{zip_push, zip_left, get_kept, get_pushed}
 use Rattle.mm_code.specs.declared.code.Code.{Code}
-use Rattle.mm_code.specs.declared.code.Code.TheVariants.{Number, Tag}
+use Rattle.mm_code.specs.declared.code.Code.TheVariants.{Number}
 use Rattle.mm_frame.specs.Sentence.{Sentence}
 use Rattle.mm_frame.specs.Rules.{AllMeant}
 use Rattle.mm_proof.specs.declared.subtrees.Subtree.{Subtree}
@@ -15,10 +15,10 @@ use Rattle.mm_proof.specs.declared.sharing.SharedStep.TheVariants.{Make, Repeat}
 use Rattle.mm_proof.specs.Tree.{Trees, none, tree}
 use Rattle.mm_proof.specs.Moves.{Move, name, again, mark}
 use Rattle.mm_proof.specs.Tokens.{Says}
-use Rattle.mm_proof.specs.Visits.{Visit, makes, repeats, keeps, visit, visits}
+use Rattle.mm_proof.specs.Visits.{Visit, makes, repeats, keeps}
 use Rattle.mm_proof.specs.Spelled.{IsNumberOfLabel}
 use Rattle.mm_proof.specs.Mirror.Subtrees.{AreOnce, IsTreeOf, IsSubtreeOf}
-use Rattle.mm_proof.specs.Mirror.CodeSharing.{Adds, IsStepOf, IsEncoded, AreEncoded}
+use Rattle.mm_proof.specs.Mirror.CodeSharing.{IsStepOf, IsEncoded, AreEncoded}
 use Rattle.mm_proof.proofs.Members.{In, Once, once_places}
 use Rattle.mm_proof.proofs.Tidy.{Marked}
 use Rattle.mm_proof.proofs.SharedOnce.{kept_stays}
@@ -38,41 +38,34 @@ led_makes : (before : List Sentence) (moves : List (Move (List ℕ))) (row : Tre
     → Led before moves row kept last end (makes (tree label below none) ∷ v) → First before moves (name label) kept last end v
 led_makes before (name m ∷ moves) row kept last end label below v l =
     let s = l.0 in
-    let h = cons_parts (makes (tree m s.2.1 none)) (makes (tree label below none)) (visits before moves s.0 s.1 last end s.3) v l.1 in
-    let same : m ≡ label = (let e : makes (tree m s.2.1 none) ≡ makes (tree label below none) = h.0 in cc) in
-    record { others = moves; parts = ap (λ x. name x ∷ moves) same; row = s.0; led = subst (λ k. Led before moves s.0 k last end v) s.2.5 (s.3, h.1) }
-led_makes before moves row kept last end label below v l = absurd (let e = l.1 in cc)
+    record { others = moves; parts = cc l.1; row = s.0; led = rw (← s.2.5) (s.3, cc l.1) }
+led_makes before moves row kept last end label below v l = absurd (cc l.1)
 
 led_keeps : (before : List Sentence) (moves : List (Move (List ℕ))) (row : Trees) (kept : List Trees) (last : Trees) (end : List Trees) (t : Trees) (v : List Visit)
     → Led before moves row kept last end (keeps t ∷ v) → First before moves mark (kept ++ t ∷ []) last end v
 led_keeps before (mark ∷ moves) row kept last end t v l =
     let s = l.0 in
-    let h = cons_parts (keeps (tree s.2.1 s.2.2 none)) (keeps t) (visits before moves s.0 s.1 last end s.3) v l.1 in
-    let same : tree s.2.1 s.2.2 none ≡ t = (let e : keeps (tree s.2.1 s.2.2 none) ≡ keeps t = h.0 in cc) in
-    record { others = moves; parts = refl; row = s.0; led = subst (λ k. Led before moves s.0 k last end v) (s.2.5 ∙ ap (λ x. kept ++ x ∷ []) same) (s.3, h.1) }
-led_keeps before moves row kept last end t v l = absurd (let e = l.1 in cc)
+    let same : s.1 ≡ kept ++ t ∷ [] = cc (s.2.5, l.1) in
+    record { others = moves; parts = refl; row = s.0; led = rw (← same) (s.3, cc l.1) }
+led_keeps before moves row kept last end t v l = absurd (cc l.1)
 
 led_repeats : (before : List Sentence) (moves : List (Move (List ℕ))) (row : Trees) (kept : List Trees) (last : Trees) (end : List Trees) (t : Trees) (v : List Visit)
     → Led before moves row kept last end (repeats t ∷ v) → (tag : ℕ) × (slice_get kept tag ≡ Some t) × First before moves (again tag) kept last end v
 led_repeats before (again tag ∷ moves) row kept last end t v l =
     let s = l.0 in
-    let h = cons_parts (repeats s.2.0) (repeats t) (visits before moves s.0 s.1 last end s.3) v l.1 in
-    let same : s.2.0 ≡ t = (let e : repeats s.2.0 ≡ repeats t = h.0 in cc) in
-    (tag, s.2.1 ∙ ap Some same, record { others = moves; parts = refl; row = s.0; led = subst (λ k. Led before moves s.0 k last end v) s.2.3 (s.3, h.1) })
-led_repeats before moves row kept last end t v l = absurd (let e = l.1 in cc)
+    (tag, cc (s.2.1, l.1), record { others = moves; parts = refl; row = s.0; led = rw (← s.2.3) (s.3, cc l.1) })
+led_repeats before moves row kept last end t v l = absurd (cc l.1)
 
 led_none : (before : List Sentence) (moves : List (Move (List ℕ))) (row : Trees) (kept : List Trees) (last : Trees) (end : List Trees) → Led before moves row kept last end [] → moves ≡ []
 led_none before [] row kept last end l = refl
-led_none before (move ∷ moves) row kept last end l =
-    absurd (let e : visit before move row kept l.0.0 l.0.1 l.0.2 ∷ visits before moves l.0.0 l.0.1 last end l.0.3 ≡ [] = l.1 in cc)
+led_none before (move ∷ moves) row kept last end l = absurd (cc l.1)
 
 -- ---- trees that are tagged
 
 tree_of_number : (st : List Sentence) (rows : List Row) (t : Subtree) (label : List ℕ) (below u : Trees) → IsTreeOf st rows t label below → IsSubtreeOf st rows t u → u ≡ tree label below none
 tree_of_number st rows t label below none is is' = absurd is'
 tree_of_number st rows t label below (tree m c none) is is' =
-    let same = tree_once st rows t m label c below is'.0 is in
-    ap (λ x. tree x c none) same.0 ∙ ap (λ x. tree label x none) same.1
+    let same = tree_once st rows t m label c below is'.0 is in cc
 tree_of_number st rows t label below (tree m c (tree n d r)) is is' = absurd is'.1
 
 -- the tagged trees, and those that are kept, one by one
@@ -100,9 +93,6 @@ label_said st numbers labels n place label z is there =
     let same : at.0 ≡ label = one_label_of st n at.0 label at.2 is in
     (place, refl, inl (label, at.1 ∙ ap Some same, refl))
 
-tag_said : (labels : List (List ℕ)) (many tag : ℕ) → many ≡ length labels → Says labels (Number (many + tag + 1)) (again tag)
-tag_said labels many tag e = (many + tag, refl, inr (tag, ap (λ k. k + tag) e, refl))
-
 -- ---- the codes
 
 -- what the whole of the steps is: which trees are repeated, and what is kept at the end
@@ -118,61 +108,17 @@ abbrev SaidLater : List Sentence → List Sentence → List Row → List (List �
 SaidLater st before rows labels tagged kept last end rest codes =
     (moves : List (Move (List ℕ))) (row : Trees) → Led before moves row kept last end rest → AreTagged st rows tagged kept → AllZip (Says labels) codes moves
 
--- a step by a label whose tree isn't repeated
-made_bare : (st before : List Sentence) (rows : List Row) (labels : List (List ℕ)) (tagged next : List Subtree) (kept : List Trees) (last : Trees) (end : List Trees) (rest w : List Visit)
-    (label : List ℕ) (below : Trees) (here others codes : List Code) (number : Code) (moves : List (Move (List ℕ))) (row : Trees) → Says labels number (name label)
-    → w ≡ makes (tree label below none) ∷ rest → here ≡ number ∷ [] → codes ≡ here ++ others → next ≡ tagged
-    → Led before moves row kept last end w → AreTagged st rows tagged kept → SaidLater st before rows labels next kept last end rest others → AllZip (Says labels) codes moves
-made_bare st before rows labels tagged next kept last end rest w label below here others codes number moves row said is one parts same l tags later =
-    let f = led_makes before moves row kept last end label below rest (subst (Led before moves row kept last end) is l) in
-    rw (parts, one, f.parts) (said, later f.others f.row f.led (rw same tags))
-
--- a step by a label whose tree is
-made_tagged : (st before : List Sentence) (rows : List Row) (labels : List (List ℕ)) (tagged next : List Subtree) (kept : List Trees) (last : Trees) (end : List Trees) (rest w : List Visit)
-    (t : Subtree) (label : List ℕ) (below : Trees) (here others codes : List Code) (number : Code) (moves : List (Move (List ℕ))) (row : Trees) → Says labels number (name label) → IsTreeOf st rows t label below → Once end
-    → w ≡ makes (tree label below none) ∷ keeps (tree label below none) ∷ rest → here ≡ number ∷ Tag ∷ [] → codes ≡ here ++ others → Adds tagged t next
-    → Led before moves row kept last end w → AreTagged st rows tagged kept → SaidLater st before rows labels next (kept ++ tree label below none ∷ []) last end rest others → AllZip (Says labels) codes moves
-made_tagged st before rows labels tagged next kept last end rest w t label below here others codes number moves row said of once is two parts adds l tags later =
-    let tr : Trees = tree label below none in
-    let f = led_makes before moves row kept last end label below (keeps tr ∷ rest) (subst (Led before moves row kept last end) is l) in
-    let g = led_keeps before f.others f.row kept last end tr rest f.led in
-    let stays : (i : ℕ) (u : Trees) → slice_get (kept ++ tr ∷ []) i ≡ Some u → slice_get end i ≡ Some u = λ i u h. kept_stays before g.others g.row (kept ++ tr ∷ []) last end g.led.0 i u h in
-    let fresh = not_tagged st rows tagged kept end t label below tags of once stays in
-    let added : next ≡ tagged ++ t ∷ [] = ⊎_elim (λ p. absurd (fresh p.0)) (λ p. p.1) adds in
-    let more : AreTagged st rows next (kept ++ tr ∷ []) =
-    rw added (zip_push (IsSubtreeOf st rows) tagged kept t tr tags (of, tt)) in
-    rw (parts, two, f.parts, g.parts) (said, (refl, later g.others g.row g.led more))
-
--- a step that repeats a tree
-repeated_one : (st before : List Sentence) (rows : List Row) (many : ℕ) (labels : List (List ℕ)) (tagged next : List Subtree) (kept : List Trees) (last : Trees) (end : List Trees) (rest w : List Visit)
-    (t : Subtree) (label : List ℕ) (below : Trees) (place : ℕ) (here others codes : List Code) (moves : List (Move (List ℕ))) (row : Trees) → AllMeant st → AreOnce rows → many ≡ length labels → IsTreeOf st rows t label below → Once end
-    → w ≡ repeats (tree label below none) ∷ rest → slice_get tagged place ≡ Some t → here ≡ Number (many + place + 1) ∷ [] → codes ≡ here ++ others → next ≡ tagged
-    → Led before moves row kept last end w → AreTagged st rows tagged kept → SaidLater st before rows labels next kept last end rest others → AllZip (Says labels) codes moves
-repeated_one st before rows many labels tagged next kept last end rest w t label below place here others codes moves row all rows_once long of once is there one parts same l tags later =
-    let tr : Trees = tree label below none in
-    let led = subst (Led before moves row kept last end) is l in
-    let f = led_repeats before moves row kept last end tr rest led in
-    let tag : ℕ = f.0 in
-    let beside = zip_right (IsSubtreeOf st rows) tagged kept tag tr tags f.1 in
-    let found = zip_left (IsSubtreeOf st rows) tagged kept place t tags there in
-    let again_there : slice_get kept place ≡ Some tr = found.1 ∙ ap Some (tree_of_number st rows t label below found.0 of found.2) in
-    let stays : (i : ℕ) (u : Trees) → slice_get kept i ≡ Some u → slice_get end i ≡ Some u = λ i u h. kept_stays before moves row kept last end led.0 i u h in
-    let at : place ≡ tag = once_places end place tag tr once (stays place tr again_there) (stays tag tr f.1) in
-    rw (parts, one, f.2.parts, at)
-    (tag_said labels many tag long, later f.2.others f.2.row f.2.led (rw same tags))
-
 pub codes_said : (st before : List Sentence) (rows : List Row) (numbers : List ℕ) (labels : List (List ℕ)) (repeated : List Subtree) (whole : List Visit) (last : Trees) (end : List Trees)
     → Whole st rows numbers labels repeated whole end
     → (steps : List SharedStep) (v w : List Visit) (tagged : List Subtree) (kept : List Trees) (codes : List Code) (tagged' : List Subtree) (moves : List (Move (List ℕ))) (row : Trees)
     → AllZip (IsStepOf st rows) steps v → Marked whole v w → Led before moves row kept last end w → AreTagged st rows tagged kept
     → AreEncoded numbers repeated tagged steps codes tagged' → AllZip (Says labels) codes moves
 codes_said st before rows numbers labels repeated whole last end a [] [] w tagged kept codes tagged' moves row z m l tags e =
-    let none_left : moves ≡ [] = led_none before moves row kept last end (subst (λ x. Led before moves row kept last end x) m l) in
-    rw (e.0, none_left) tt
+    rw (e.0, led_none before moves row kept last end (rw m at l)) tt
 codes_said st before rows numbers labels repeated whole last end a (Make t ∷ steps) (x ∷ v) w tagged kept codes tagged' moves row z m l tags e =
     let o : (label : List ℕ) × (below : Trees) × IsTreeOf st rows t label below × (x ≡ makes (tree label below none)) = z.0 in
     let tr : Trees = tree o.0 o.1 none in
-    let here : Marked whole (makes tr ∷ v) w = subst (λ y. Marked whole (y ∷ v) w) o.3 m in
+    let here : Marked whole (makes tr ∷ v) w = rw o.3 at m in
     let i : IsEncoded numbers repeated tagged (Make t) e.0 e.1 = e.4 in
     let said : Says labels (Number (i.0 + 1)) (name o.0) = label_said st numbers labels t.label i.0 o.0 a.labelled o.2.named i.1 in
     let among = a.repeats_are t o.0 o.1 o.2 in
@@ -180,20 +126,41 @@ codes_said st before rows numbers labels repeated whole last end a (Make t ∷ s
     codes_said st before rows numbers labels repeated whole last end a steps v here.0 e.1 kept' e.2 tagged' moves' row' z.1 here.1 l' tags' e.5 in
     ⊎_elim
     (λ p. ⊎_elim
-    (λ q. made_tagged st before rows labels tagged e.1 kept last end here.0 w t o.0 o.1 e.0 e.2 codes (Number (i.0 + 1)) moves row said o.2 a.end_once q.1 p.1 e.3 p.2 l tags (later (kept ++ tr ∷ [])))
+    -- its tree is repeated, so it is tagged
+    (λ q.
+    let f = led_makes before moves row kept last end o.0 o.1 (keeps tr ∷ here.0) (rw q.1 at l) in
+    let g = led_keeps before f.others f.row kept last end tr here.0 f.led in
+    let fresh = not_tagged st rows tagged kept end t o.0 o.1 tags o.2 a.end_once
+    (kept_stays before g.others g.row (kept ++ tr ∷ []) last end g.led.0) in
+    let added : e.1 ≡ tagged ++ t ∷ [] = ⊎_elim (λ k. absurd (fresh k.0)) (λ k. k.1) p.2 in
+    let more : AreTagged st rows e.1 (kept ++ tr ∷ []) =
+    rw added (zip_push (IsSubtreeOf st rows) tagged kept t tr tags (o.2, tt)) in
+    rw (e.3, p.1, f.parts, g.parts)
+    (said, (refl, later (kept ++ tr ∷ []) g.others g.row g.led more)))
     (λ q. absurd (q.0 (among.0 p.0))) here.2)
     (λ p. ⊎_elim
     (λ q. absurd (p.0 (among.1 q.0)))
-    (λ q. made_bare st before rows labels tagged e.1 kept last end here.0 w o.0 o.1 e.0 e.2 codes (Number (i.0 + 1)) moves row said q.1 p.1 e.3 p.2 l tags (later kept)) here.2)
+    (λ q.
+    let f = led_makes before moves row kept last end o.0 o.1 here.0 (rw q.1 at l) in
+    rw (e.3, p.1, f.parts) (said, later kept f.others f.row f.led (rw p.2 tags))) here.2)
     i.2
 codes_said st before rows numbers labels repeated whole last end a (Repeat t ∷ steps) (x ∷ v) w tagged kept codes tagged' moves row z m l tags e =
     let o : (label : List ℕ) × (below : Trees) × IsTreeOf st rows t label below × (x ≡ repeats (tree label below none)) = z.0 in
     let tr : Trees = tree o.0 o.1 none in
-    let here : Marked whole (repeats tr ∷ v) w = subst (λ y. Marked whole (y ∷ v) w) o.3 m in
+    let here : Marked whole (repeats tr ∷ v) w = rw o.3 at m in
     let i : IsEncoded numbers repeated tagged (Repeat t) e.0 e.1 = e.4 in
     let later : SaidLater st before rows labels e.1 kept last end here.0 e.2 = λ moves' row' l' tags'.
     codes_said st before rows numbers labels repeated whole last end a steps v here.0 e.1 kept e.2 tagged' moves' row' z.1 here.1 l' tags' e.5 in
-    repeated_one st before rows (length numbers) labels tagged e.1 kept last end here.0 w t o.0 o.1 i.0 e.0 e.2 codes moves row a.meant a.rows_once (sym (AllZip-long (IsNumberOfLabel st) numbers labels a.labelled)) o.2 a.end_once
-    here.2 i.1 i.2 e.3 i.3 l tags later
+    let led = rw here.2 at l in
+    let f = led_repeats before moves row kept last end tr here.0 led in
+    let found = zip_left (IsSubtreeOf st rows) tagged kept i.0 t tags i.1 in
+    let there : slice_get kept i.0 ≡ Some tr = found.1 ∙ ap Some (tree_of_number st rows t o.0 o.1 found.0 o.2 found.2) in
+    let stays = kept_stays before moves row kept last end led.0 in
+    let at : i.0 ≡ f.0 = once_places end i.0 f.0 tr a.end_once (stays i.0 tr there) (stays f.0 tr f.1) in
+    let long = sym (AllZip-long (IsNumberOfLabel st) numbers labels a.labelled) in
+    rw (e.3, i.2, f.2.parts, at) (
+      (length numbers + f.0, refl, inr (f.0, ap (λ k. k + f.0) long, refl)),
+      later f.2.others f.2.row f.2.led (rw i.3 tags),
+    )
 codes_said st before rows numbers labels repeated whole last end a steps v w tagged kept codes
     tagged' moves row z m l tags e = absurd z

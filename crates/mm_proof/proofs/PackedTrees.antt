@@ -1,5 +1,5 @@
 -- The listed labels and the codes of the steps of a tree are its fully shared proof.
-use Rattle.std.proofs.Common.{◌≡◌, ℕ, List, [], ◌∷◌, ◌++◌, map, take, slice_get, Contains, Some, ◌↔◌, inl, inr, ⊎_elim, refl, sym, ap, subst, ◌∙◌}
+use Rattle.std.proofs.Common.{◌≡◌, ℕ, List, [], ◌∷◌, ◌++◌, map, take, slice_get, Contains, Some, ◌↔◌, inl, inr, refl, sym, ap, ◌∙◌, arith}
 use Rattle.std.specs.List.{AllZip}
 use Rattle.std.proofs.lemmas.Option.{same_Some}
 use Rattle.mm_text.proofs.Lists.{zip_left, zip_right, zip_append, zip_on, mapped_zip, get_from_take}
@@ -19,13 +19,13 @@ use Rattle.mm_proof.specs.declared.sharing.SharedStep.TheVariants.{Make, Repeat}
 use Rattle.mm_proof.specs.Tree.{Trees, none, tree, TreesFit}
 use Rattle.mm_proof.specs.Moves.{Move}
 use Rattle.mm_proof.specs.OneTree.{MakeTree}
-use Rattle.mm_proof.specs.Visits.{Visit, makes, repeats}
+use Rattle.mm_proof.specs.Visits.{Visit, repeats}
 use Rattle.mm_proof.specs.Sharing.{AreFirstUses}
 use Rattle.mm_proof.specs.Spelled.{IsNumberOfLabel, AreLabelsOf}
 use Rattle.mm_proof.specs.Packing.{ArePacked}
 use Rattle.mm_proof.specs.Mirror.Subtrees.{AreOnce, IsTreeOf}
 use Rattle.mm_proof.specs.Plain.{ids_in}
-use Rattle.mm_proof.specs.Mirror.CodeSharing.{IsStepOf, AreSharedSteps, labels_made, AreFirstNumbers, AreEncoded, AreStepsPacked}
+use Rattle.mm_proof.specs.Mirror.CodeSharing.{IsStepOf, AreSharedSteps, labels_made, AreFirstNumbers, AreStepsPacked}
 use Rattle.mm_proof.proofs.Expanded.{made_word}
 use Rattle.mm_proof.proofs.Numbered.{one_place}
 use Rattle.mm_proof.proofs.Members.{In, in_get, get_in, contains_in, in_contains, Once, once_places, places_once}
@@ -61,7 +61,7 @@ first_all seen [] listed once fresh u = u
 first_all seen (n ∷ numbers) listed once fresh (inl u) = absurd (fresh n (inl refl) (contains_in seen n u.0))
 first_all seen (n ∷ numbers) listed once fresh (inr u) =
     u.2 ∙ ap (λ l. n ∷ l) (first_all (n ∷ seen) numbers u.1 once.1
-    (λ m h k. ⊎_elim (λ e. once.0 (subst (In numbers) (sym e) h)) (λ old. fresh m (inr h) old) k) u.3)
+    (λ m h k. let old = fresh m (inr h) in grind arith) u.3)
 
 -- the labels of listed numbers are the listed labels
 record Named (st : List Sentence) (listed : List ℕ) (seen word : List (List ℕ)) : Type 0 where
@@ -83,7 +83,7 @@ seen_label st seen names n label all z is has =
 
 named_uses : (st : List Sentence) (seen numbers listed : List ℕ) (names word : List (List ℕ)) → AllMeant st → AllZip (IsNumberOfLabel st) seen names → AllZip (IsNumberOfLabel st) numbers word
     → AreFirstNumbers seen numbers listed → Named st listed names word
-named_uses st seen [] listed names [] all z y u = record { labels = []; are = subst (λ l. AllZip (IsNumberOfLabel st) l []) (sym u) tt; first = refl }
+named_uses st seen [] listed names [] all z y u = record { labels = []; are = rw u tt; first = refl }
 named_uses st seen (n ∷ numbers) listed names (l ∷ word) all z y (inl u) =
     let r = named_uses st seen numbers listed names word all z y.1 u.1 in
     record { labels = r.labels; are = r.are; first = inl (seen_number st seen names n l z y.0 u.0, r.first) }
@@ -91,7 +91,7 @@ named_uses st seen (n ∷ numbers) listed names (l ∷ word) all z y (inr u) =
     let r = named_uses st (n ∷ seen) numbers u.1 (l ∷ names) word all (y.0, z) y.1 u.3 in
     record {
       labels = l ∷ r.labels;
-      are = subst (λ x. AllZip (IsNumberOfLabel st) x (l ∷ r.labels)) (sym u.2) (y.0, r.are);
+      are = rw u.2 (y.0, r.are);
       first = inr (λ has. u.0 (seen_label st seen names n l all z y.0 has), r.labels, refl, r.first);
     }
 named_uses st seen numbers listed names word all z y u = absurd y
@@ -120,7 +120,7 @@ repeats_of st rows steps v repeated all once z each t label below is = (
       let beside = zip_left (IsStepOf st rows) steps v at.0 (Repeat t) z at.1 in
       let o : (label : List ℕ) × (below : Trees) × IsTreeOf st rows t label below × (beside.0 ≡ repeats (tree label below none)) = beside.2 in
       let same = tree_once st rows t o.0 label o.1 below o.2 is in
-      get_in v at.0 (repeats (tree label below none)) (beside.1 ∙ ap Some (o.3 ∙ ap (λ l. repeats (tree l o.1 none)) same.0 ∙ ap (λ b. repeats (tree label b none)) same.1)),
+      get_in v at.0 (repeats (tree label below none)) (cc (beside.1, o.3, same.0, same.1)),
   λ has.
       let at = in_get v (repeats (tree label below none)) has in
       let beside = zip_right (IsStepOf st rows) steps v at.0 (repeats (tree label below none)) z at.1 in
@@ -128,11 +128,11 @@ repeats_of st rows steps v repeated all once z each t label below is = (
 )
   where
     step_is : (s : SharedStep) → IsStepOf st rows s (repeats (tree label below none)) → s ≡ Repeat t
-    step_is (Make u) o = absurd (let e : repeats (tree label below none) ≡ makes (tree o.0 o.1 none) = o.3 in cc)
+    step_is (Make u) o = absurd (cc o.3)
     step_is (Repeat u) o =
-        let same_label : o.0 ≡ label = (let e : repeats (tree label below none) ≡ repeats (tree o.0 o.1 none) = o.3 in cc) in
-        let same_below : o.1 ≡ below = (let e : repeats (tree label below none) ≡ repeats (tree o.0 o.1 none) = o.3 in cc) in
-        ap (λ x. Repeat x) (subtree_once st rows u t label below all once (subst (λ l. IsTreeOf st rows u l below) same_label (subst (λ b. IsTreeOf st rows u o.0 b) same_below o.2)) is)
+        let l : o.0 ≡ label = cc o.3 in
+        let b : o.1 ≡ below = cc o.3 in
+        ap Repeat (subtree_once st rows u t label below all once (rw (l, b) at o.2) is)
 
 -- ---- the fully shared proof
 
@@ -145,12 +145,12 @@ packed_steps st place s rows label below steps hypotheses ids codes all formed o
     let before = take place st in
     let trees : Trees = tree label below none in
     let same : own.assertion ≡ s = same_Some own.assertion s (sym own.there ∙ there) in
-    let mandatory : AreMandatory before s own.hypotheses = subst (λ a. AreMandatory before a own.hypotheses) same own.mandatory in
+    let mandatory : AreMandatory before s own.hypotheses = rw same at own.mandatory in
     let named = labels_of before s own.hypotheses formed (λ i h e. let a = mandatory_active before s own.hypotheses i h mandatory e in (a.0, a.1, a.3)) in
     let numbers = own_labels st hypotheses own.hypotheses named.0 own.numbered named.1 in
     let apart : Once hypotheses = numbers_once st hypotheses named.0 numbers (mandatory_once before s own.hypotheses named.0 (allmeant_front st place all) mandatory named.1) in
     let given : packed.given ≡ hypotheses = first_all [] hypotheses packed.given apart (λ n h k. k) packed.own in
-    let others : AreFirstNumbers hypotheses (labels_made steps) (ids_in ids) = subst (λ g. AreFirstNumbers g (labels_made steps) (ids_in ids)) given packed.others in
+    let others : AreFirstNumbers hypotheses (labels_made steps) (ids_in ids) = rw given at packed.others in
     let uses = named_uses st hypotheses (labels_made steps) (ids_in ids) named.0 (labels_in shared.visits) all numbers (step_labels st rows steps shared.visits shared.said) others in
     let moves = shared_moves before trees shared.visits fit shared.covers shared.careful in
     let whole : Whole st rows (hypotheses ++ ids_in ids) (named.0 ++ uses.labels) packed.repeated shared.visits moves.kept = record {
@@ -172,7 +172,7 @@ packed_steps st place s rows label below steps hypotheses ids codes all formed o
           each =
               codes_said st before rows (hypotheses ++ ids_in ids) (named.0 ++ uses.labels) packed.repeated shared.visits trees moves.kept whole
               steps shared.visits moves.v [] [] codes packed.kept moves.moves none shared.said moves.marked moves.led tt
-              (subst (λ g. AreEncoded (g ++ ids_in ids) packed.repeated [] steps codes packed.kept) given packed.said);
+              (rw given at packed.said);
         };
         shared = moves.shared;
         uses = spelled_uses trees [] shared.visits named.0 uses.labels (λ t h. absurd h) shared.covers shared.careful uses.first;

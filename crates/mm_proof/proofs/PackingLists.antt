@@ -23,16 +23,16 @@ one_there xs i d x less is = in_contains xs x (get_in xs i x (slice_get-get_or x
 -- ---- what is added to a list
 
 adds_old : {X : Type 0} (old new : List X) (x y : X) → Adds old x new → Contains old y → Contains new y
-adds_old old new x y (inl p) h = subst (λ l. Contains l y) (sym p.1) h
-adds_old old new x y (inr p) h = subst (λ l. Contains l y) (sym p.1) (Contains-append_left old (x ∷ []) y h)
+adds_old old new x y (inl p) h = rw p.1 h
+adds_old old new x y (inr p) h = rw p.1 (Contains-append_left old (x ∷ []) y h)
 
 adds_new : {X : Type 0} (old new : List X) (x : X) → Adds old x new → Contains new x
-adds_new old new x (inl p) = subst (λ l. Contains l x) (sym p.1) p.0
-adds_new old new x (inr p) = subst (λ l. Contains l x) (sym p.1) (Contains-push old x)
+adds_new old new x (inl p) = rw p.1 p.0
+adds_new old new x (inr p) = rw p.1 (Contains-push old x)
 
 adds_only : {X : Type 0} (old new : List X) (x y : X) → Adds old x new → Contains new y → Contains old y ⊎ (x ≡ y)
-adds_only old new x y (inl p) h = inl (subst (λ l. Contains l y) p.1 h)
-adds_only old new x y (inr p) h = Contains-push_cases old x y (subst (λ l. Contains l y) p.1 h)
+adds_only old new x y (inl p) h = inl (rw p.1 at h)
+adds_only old new x y (inr p) h = Contains-push_cases old x y (rw p.1 at h)
 
 -- ---- the trees that are repeated
 
@@ -47,16 +47,14 @@ repeated_repeat trees trees' steps t adds are u = (
       (adds_only trees trees' t u adds h),
   λ h. ⊎_elim
       (λ old. adds_old trees trees' t u adds ((are u).1 old))
-      (λ e. let same : t ≡ u = (let f : Repeat t ≡ Repeat u = e in cc) in
-      subst (λ x. Contains trees' x) same (adds_new trees trees' t adds))
+      (λ e. let same : t ≡ u = cc in rw same at (adds_new trees trees' t adds))
       (Contains-push_cases steps (Repeat t) (Repeat u) h),
 )
 
 pub repeated_make : (trees : List Subtree) (steps : List SharedStep) (t : Subtree) → AreRepeated trees steps → AreRepeated trees (steps ++ Make t ∷ [])
 repeated_make trees steps t are u = (
   λ h. Contains-append_left steps (Make t ∷ []) (Repeat u) ((are u).0 h),
-  λ h. ⊎_elim (λ old. (are u).1 old) (λ e. let f : Make t ≡ Repeat u = e in absurd cc)
-      (Contains-push_cases steps (Make t) (Repeat u) h),
+  λ h. ⊎_elim (are u).1 (λ e. absurd cc) (Contains-push_cases steps (Make t) (Repeat u) h),
 )
 
 -- ---- first uses
@@ -64,27 +62,23 @@ repeated_make trees steps t are u = (
 -- a number that was seen or listed lists nothing more
 first_seen : (seen numbers listed : List ℕ) (n : ℕ) → AreFirstNumbers seen numbers listed → In seen n ⊎ In listed n → AreFirstNumbers seen (numbers ++ n ∷ []) listed
 first_seen seen [] listed n e (inl h) = inl (in_contains seen n h, e)
-first_seen seen [] listed n e (inr h) = absurd (subst (λ l. In l n) e h)
+first_seen seen [] listed n e (inr h) = absurd (rw e at h)
 first_seen seen (m ∷ numbers) listed n (inl u) h = inl (u.0, first_seen seen numbers listed n u.1 h)
-first_seen seen (m ∷ numbers) listed n (inr u) h = inr (
-  u.0,
-  u.1,
-  u.2,
-  first_seen (m ∷ seen) numbers u.1 n u.3 (⊎_elim (λ a. inl (inr a))
-      (λ b. ⊎_elim (λ e. inl (inl e)) (λ k. inr k) (subst (λ l. In l n) u.2 b)) h),
-)
+first_seen seen (m ∷ numbers) listed n (inr u) h =
+    let k = rw u.2 at h in
+    inr (u.0, u.1, u.2, first_seen (m ∷ seen) numbers u.1 n u.3 (grind arith))
 
 -- another is listed
 first_new : (seen numbers listed : List ℕ) (n : ℕ) → AreFirstNumbers seen numbers listed → ¬ (In seen n) → ¬ (In listed n) → AreFirstNumbers seen (numbers ++ n ∷ []) (listed ++ n ∷ [])
 first_new seen [] listed n e unseen other = inr (λ c. unseen (contains_in seen n c), [], ap (λ l. l ++ n ∷ []) e, refl)
 first_new seen (m ∷ numbers) listed n (inl u) unseen other = inl (u.0, first_new seen numbers listed n u.1 unseen other)
 first_new seen (m ∷ numbers) listed n (inr u) unseen other =
-    let apart : ¬ (m ≡ n) = λ e. other (subst (λ l. In l n) (sym u.2) (inl e)) in
+    let apart = rw u.2 at other in
     inr (
       u.0,
       u.1 ++ n ∷ [],
       ap (λ l. l ++ n ∷ []) u.2,
-      first_new (m ∷ seen) numbers u.1 n u.3 (λ h. ⊎_elim apart unseen h) (λ h. other (subst (λ l. In l n) (sym u.2) (inr h))),
+      first_new (m ∷ seen) numbers u.1 n u.3 (grind arith) (grind arith),
     )
 
 -- the numbers as far as they are listed behind those that were seen
@@ -95,12 +89,12 @@ pub record Listing (seen labels numbers listed : List ℕ) : Type 0 where
 pub listing_old : (seen labels labels' numbers listed : List ℕ) (n : ℕ) → Listing seen labels numbers listed → AddsNew labels n false labels' → Listing seen labels' (numbers ++ n ∷ []) listed
 listing_old seen labels labels' numbers listed n l a = record {
   all = a.1 ∙ l.all;
-  first = first_seen seen numbers listed n l.first (in_apart seen listed n (subst (λ x. In x n) l.all (contains_in labels n a.0)));
+  first = first_seen seen numbers listed n l.first (in_apart seen listed n (rw l.all at (contains_in labels n a.0)));
 }
 
 pub listing_new : (seen labels labels' numbers listed : List ℕ) (n : ℕ) → Listing seen labels numbers listed → AddsNew labels n true labels' → Listing seen labels' (numbers ++ n ∷ []) (listed ++ n ∷ [])
 listing_new seen labels labels' numbers listed n l a =
-    let fresh : ¬ (In (seen ++ listed) n) = λ h. a.0 (in_contains labels n (subst (λ x. In x n) (sym l.all) h)) in
+    let fresh : ¬ (In (seen ++ listed) n) = λ h. a.0 (in_contains labels n (rw l.all h)) in
     record {
       all = a.1 ∙ ap (λ x. x ++ n ∷ []) l.all ∙ append_assoc seen listed (n ∷ []);
       first = first_new seen numbers listed n l.first (λ h. fresh (in_left seen listed n h)) (λ h. fresh (in_right seen listed n h));
@@ -108,10 +102,8 @@ listing_new seen labels labels' numbers listed n l a =
 
 -- where nothing was seen, and whatever is new
 pub first_added : (numbers listed listed' : List ℕ) (n : ℕ) (is_new : Bool) → AreFirstNumbers [] numbers listed → AddsNew listed n is_new listed' → AreFirstNumbers [] (numbers ++ n ∷ []) listed'
-first_added numbers listed listed' n false f a =
-    subst (λ l. AreFirstNumbers [] (numbers ++ n ∷ []) l) (sym a.1) (listing_old [] listed listed' numbers listed n (record { all = refl; first = f }) a).first
-first_added numbers listed listed' n true f a =
-    subst (λ l. AreFirstNumbers [] (numbers ++ n ∷ []) l) (sym a.1) (listing_new [] listed listed' numbers listed n (record { all = refl; first = f }) a).first
+first_added numbers listed listed' n false f a = rw a.1 (listing_old [] listed _ numbers listed n (record { all = refl; first = f }) a).first
+first_added numbers listed listed' n true f a = rw a.1 (listing_new [] listed _ numbers listed n (record { all = refl; first = f }) a).first
 
 -- ---- the labels of steps
 
@@ -137,30 +129,23 @@ label_ids-more hypotheses h = map-append (λ (i : Hypothesis). i.id.0) hypothese
 -- each number was seen or is listed
 pub number_known : (seen numbers listed : List ℕ) (n : ℕ) → AreFirstNumbers seen numbers listed → In numbers n → In seen n ⊎ In listed n
 number_known seen [] listed n u h = absurd h
-number_known seen (m ∷ numbers) listed n (inl u) (inl e) = inl (subst (In seen) e (contains_in seen m u.0))
-number_known seen (m ∷ numbers) listed n (inl u) (inr h) = number_known seen numbers listed n u.1 h
-number_known seen (m ∷ numbers) listed n (inr u) (inl e) = inr (subst (λ l. In l n) (sym u.2) (inl e))
-number_known seen (m ∷ numbers) listed n (inr u) (inr h) =
-    elim (number_known (m ∷ seen) numbers u.1 n u.3 h) [
-      | inl (inl e) ↦ inr (subst (λ l. In l n) (sym u.2) (inl e))
-      | inl (inr old) ↦ inl old
-      | inr k ↦ inr (subst (λ l. In l n) (sym u.2) (inr k))
-    ]
+number_known seen (m ∷ numbers) listed n (inl u) h =
+    let old = contains_in seen m u.0 in
+    let later = number_known seen numbers listed n u.1 in grind arith
+number_known seen (m ∷ numbers) listed n (inr u) h =
+    let later = number_known (m ∷ seen) numbers u.1 n u.3 in rw u.2 (grind arith)
 
 -- the label of a tree that is made is among those
 made_labelled : (steps : List SharedStep) (t : Subtree) → In steps (Make t) → In (labels_made steps) t.label
 made_labelled [] t h = absurd h
-made_labelled (Make u ∷ steps) t (inl e) = inl (let f : Make u ≡ Make t = e in cc)
-made_labelled (Make u ∷ steps) t (inr h) = inr (made_labelled steps t h)
-made_labelled (Repeat u ∷ steps) t (inl e) = absurd (let f : Repeat u ≡ Make t = e in cc)
-made_labelled (Repeat u ∷ steps) t (inr h) = made_labelled steps t h
+made_labelled (Make u ∷ steps) t h = let later = made_labelled steps t in grind arith
+made_labelled (Repeat u ∷ steps) t h = let later = made_labelled steps t in grind arith
 
 -- so it was known or is listed
 pub label_known : (known listed labels : List ℕ) (steps : List SharedStep) (t : Subtree) → labels ≡ known ++ listed → AreFirstNumbers known (labels_made steps) listed → Contains steps (Make t) → Contains labels t.label
 label_known known listed labels steps t whole first has =
     let among = number_known known (labels_made steps) listed t.label first (made_labelled steps t (contains_in steps (Make t) has)) in
-    subst (λ l. Contains l t.label) (sym whole)
-    (in_contains (known ++ listed) t.label (⊎_elim (λ a. in_left known listed t.label a) (λ b. in_right known listed t.label b) among))
+    rw whole (in_contains (known ++ listed) t.label (⊎_elim (in_left known listed t.label) (in_right known listed t.label) among))
 
 -- ---- codes
 
@@ -200,26 +185,21 @@ AreTaggedSo repeated kept steps = (t : Subtree) → Contains steps (Make t) → 
 tagged_one : (labels : List ℕ) (repeated kept : List Subtree) (steps : List SharedStep) (one : SharedStep) (codes : List Code) (kept' : List Subtree)
     → AreTaggedSo repeated kept steps → IsEncoded labels repeated kept one codes kept' → AreTaggedSo repeated kept' (steps ++ one ∷ [])
 tagged_one labels repeated kept steps (Repeat u) codes kept' are is t h among =
-    subst (λ k. Contains k t) (sym is.3)
-    (⊎_elim (λ old. are t old among) (λ e. let f : Repeat u ≡ Make t = e in absurd cc)
-    (Contains-push_cases steps (Repeat u) (Make t) h))
-tagged_one labels repeated kept steps (Make u) codes kept' are is t h among = ⊎_elim
-    (λ p. ⊎_elim
-    (λ old. adds_old kept kept' u t p.2 (are t old among))
-    (λ e. let same : u ≡ t = (let f : Make u ≡ Make t = e in cc) in
-    subst (λ x. Contains kept' x) same (adds_new kept kept' u p.2))
-    (Contains-push_cases steps (Make u) (Make t) h))
-    (λ p. ⊎_elim
-    (λ old. subst (λ k. Contains k t) (sym p.2) (are t old among))
-    (λ e. let same : t ≡ u = (let f : Make u ≡ Make t = e in cc) in
-    absurd (p.0 (subst (λ x. Contains repeated x) same among)))
-    (Contains-push_cases steps (Make u) (Make t) h))
-    is.2
+    let cases = Contains-push_cases steps (Repeat u) (Make t) h in
+    let old = are t in rw is.3 (grind arith)
+tagged_one labels repeated kept steps (Make u) codes kept' are is t h among =
+    let cases = Contains-push_cases steps (Make u) (Make t) h in
+    let old = are t in
+    ⊎_elim
+    (λ p.
+    let stays = adds_old kept kept' u t p.2 in
+    let new = adds_new kept kept' u p.2 in grind arith)
+    (λ p. rw p.2 (grind arith)) is.2
 
 pub tagged_next : (labels : List ℕ) (repeated : List Subtree) (steps : List SharedStep) (i : ℕ) (d : SharedStep) (codes : List Code) (kept kept' : List Subtree) → i < length steps → AreTaggedSo repeated kept (take i steps)
     → IsEncoded labels repeated kept (get_or steps i d) codes kept' → AreTaggedSo repeated kept' (take (i + 1) steps)
 tagged_next labels repeated steps i d codes kept kept' less are is =
-    subst (λ s. AreTaggedSo repeated kept' s) (sym (one_more steps i d (get_or steps i d) less refl))
+    rw (one_more steps i d _ less refl)
     (tagged_one labels repeated kept (take i steps) (get_or steps i d) codes kept' are is)
 
 -- a tree that is repeated at a place was tagged before

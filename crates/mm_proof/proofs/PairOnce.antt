@@ -1,8 +1,7 @@
 -- A tree has one fully shared proof at most, and is told by it.
-use Rattle.std.proofs.Common.{◌≡◌, ℕ, ◌+◌, ◌<◌, List, [], ◌∷◌, ◌++◌, length, map, slice_get, Some}
+use Rattle.std.proofs.Common.{◌≡◌, ℕ, ◌+◌, ◌<◌, List, [], ◌∷◌, ◌++◌, map, slice_get, Some}
 use Rattle.std.proofs.Common.{◌⊎◌, inl, inr, ⊎_elim, refl, sym, ap, subst, ◌∙◌, arith}
 use Rattle.std.specs.List.{AllZip}
-use Rattle.std.proofs.lemmas.Bool.{cases_order}
 use Rattle.mm_code.specs.declared.code.Code.{Code}
 use Rattle.mm_code.specs.declared.code.Code.TheVariants.{Number, Tag}
 use Rattle.mm_frame.specs.Sentence.{Sentence}
@@ -10,7 +9,7 @@ use Rattle.mm_frame.specs.Frame.{AreMandatory, IsMandatoryAt}
 use Rattle.mm_frame.specs.Rules.{AllMeant}
 use Rattle.mm_frame.proofs.Those.{mandatory_unique}
 use Rattle.mm_proof.specs.Tree.{Trees, none, tree, spelling}
-use Rattle.mm_proof.specs.Moves.{Move, name, again, mark, Makes}
+use Rattle.mm_proof.specs.Moves.{Move, again, Makes}
 use Rattle.mm_proof.specs.Tokens.{Says}
 use Rattle.mm_proof.specs.Sharing.{PairSays, AreFirstUses, IsPacked}
 use Rattle.mm_proof.specs.SharingLaws.{OnePacked, ToldByPacked}
@@ -42,11 +41,11 @@ uses_apart [] seen listed p = (rw p tt, λ label h. absurd (rw p at h))
 uses_apart (label ∷ word) seen listed (inl p) = uses_apart word seen listed p.1
 uses_apart (label ∷ word) seen listed (inr p) =
     let h = uses_apart word (label ∷ seen) p.1 p.3 in (
-      subst Once (sym p.2) (λ again. h.1 label again (inl refl), h.0),
-      λ other has. ⊎_elim
-          (λ e. subst (λ x. ¬ (In seen x)) e (λ s. p.0 (in_contains seen label s)))
-          (λ later s. h.1 other later (inr s))
-          (let d : In (label ∷ p.1) other = subst (λ l. In l other) p.2 has in d),
+      rw p.2 (λ again. h.1 label again (inl refl), h.0),
+      λ other has old.
+          let d = rw p.2 at has in
+          let later = h.1 other in
+          let seen_so = in_contains seen label in grind arith,
     )
 
 -- ---- the labels of mandatory hypotheses
@@ -68,14 +67,9 @@ not_twice before s hypotheses labels i j label all mandatory labelled p q less =
 pub mandatory_once : (before : List Sentence) (s : Sentence) (hypotheses : List Sentence)
     (labels : List (List ℕ)) → AllMeant before → AreMandatory before s hypotheses
     → map (λ (h : Sentence). h.label) hypotheses ≡ map Some labels → Once labels
-mandatory_once before s hypotheses labels all mandatory labelled = places_once labels
-    (λ i j label p q. elim (cases_order i j) [
-      | inl same ↦ same
-      | inr (inl less) ↦
-          absurd (not_twice before s hypotheses labels i j label all mandatory labelled p q less)
-      | inr (inr more) ↦
-          absurd (not_twice before s hypotheses labels j i label all mandatory labelled q p more)
-    ])
+mandatory_once before s hypotheses labels all mandatory labelled = places_once labels (λ i j l p q.
+    let less = not_twice before s hypotheses labels i j l all mandatory labelled p q in
+    let more = not_twice before s hypotheses labels j i l all mandatory labelled q p in omega arith)
 
 once_joined : {X : Type 0} (xs ys : List X) → Once xs → Once ys → ((x : X) → In ys x → ¬ (In xs x))
     → Once (xs ++ ys)
@@ -90,29 +84,17 @@ once_joined (x ∷ xs) ys o p apart = (
 one_code : (labels : List (List ℕ)) (move : Move (List ℕ)) (c d : Code) → Once labels
     → Says labels c move → Says labels d move → c ≡ d
 one_code labels move Tag Tag once p q = refl
-one_code labels move Tag (Number n) once p q = absurd (⊎_elim
-    (λ a. let f : mark ≡ name a.0 = sym p ∙ a.2 in cc)
-    (λ a. let f : ◌≡◌ {A = Move (List ℕ)} mark (again a.0) = sym p ∙ a.2 in cc) q.2)
-one_code labels move (Number n) Tag once p q = absurd (⊎_elim
-    (λ a. let f : mark ≡ name a.0 = sym q ∙ a.2 in cc)
-    (λ a. let f : ◌≡◌ {A = Move (List ℕ)} mark (again a.0) = sym q ∙ a.2 in cc) p.2)
-one_code labels move (Number n) (Number k) once p q = ap Number
-    (omega (arith, p.1, q.1, place p.2 q.2))
-  where
-    place : ((label : List ℕ) × (slice_get labels p.0 ≡ Some label) × (move ≡ name label))
-        ⊎ ((tag : ℕ) × (p.0 ≡ length labels + tag) × (move ≡ again tag))
-        → ((label : List ℕ) × (slice_get labels q.0 ≡ Some label) × (move ≡ name label))
-        ⊎ ((tag : ℕ) × (q.0 ≡ length labels + tag) × (move ≡ again tag))
-        → p.0 ≡ q.0
-    place (inl a) (inl b) =
-        let same : a.0 ≡ b.0 = (let f : name a.0 ≡ name b.0 = sym a.2 ∙ b.2 in cc) in
-        once_places labels p.0 q.0 b.0 once (a.1 ∙ ap Some same) b.1
-    place (inl a) (inr b) = absurd (let f : name a.0 ≡ again b.0 = sym a.2 ∙ b.2 in cc)
-    place (inr a) (inl b) = absurd (let f : name b.0 ≡ again a.0 = sym b.2 ∙ a.2 in cc)
-    place (inr a) (inr b) =
-        let f : ◌≡◌ {A = Move (List ℕ)} (again a.0) (again b.0) = sym a.2 ∙ b.2 in
-        let same : a.0 ≡ b.0 = cc in
-        a.1 ∙ ap (λ t. length labels + t) same ∙ sym b.1
+one_code labels move Tag (Number n) once p q = absurd
+    (⊎_elim (λ a. cc (p, a.2)) (λ a. cc (p, a.2)) q.2)
+one_code labels move (Number n) Tag once p q = absurd
+    (⊎_elim (λ a. cc (q, a.2)) (λ a. cc (q, a.2)) p.2)
+one_code labels move (Number n) (Number k) once p q =
+    let place : p.0 ≡ q.0 = ⊎_elim
+    (λ a. ⊎_elim
+    (λ b. once_places labels p.0 q.0 b.0 once (cc (a.1, a.2, b.2)) b.1)
+    (λ b. absurd (cc (a.2, b.2))) q.2)
+    (λ a. ⊎_elim (λ b. absurd (cc (a.2, b.2))) (λ b. cc (a.1, a.2, b.1, b.2)) q.2) p.2 in
+    ap Number (omega (arith, p.1, q.1, place))
 
 pub codes_once : (labels : List (List ℕ)) (codes codes' : List Code) (moves : List (Move (List ℕ)))
     → Once labels → AllZip (Says labels) codes moves → AllZip (Says labels) codes' moves

@@ -3,8 +3,8 @@ use Rattle.std.proofs.Common.{◌≡◌, ℕ, zero, suc, ◌+◌, ◌<◌, ◌�
 use Rattle.std.specs.List.{AllZip}
 use Rattle.std.proofs.lemmas.Bool.{false≢true, cases_lt}
 use Rattle.std.proofs.lemmas.Bool.Decides.{Decides-eqb}
-use Rattle.std.proofs.lemmas.Option.{same_Some, none-some, slice_get_within, slice_get-get_or}
-use Rattle.std.proofs.lemmas.List.{map-append, take_all, length-map, get_or-set_same, get_or-set_other}
+use Rattle.std.proofs.lemmas.Option.{same_Some, none-some, slice_get_within, slice_get-get_or, slice_get-map}
+use Rattle.std.proofs.lemmas.List.{map-append, length-map, get_or-set_same, get_or-set_other}
 use Rattle.std.proofs.lemmas.List.Elements.{Contains-push, Contains-push_cases, Contains-append_left}
 use Rattle.mm_text.proofs.Lists.{zip_left, zip_right, get_kept, get_pushed, pushed_cases}
 use Rattle.mm_frame.specs.Sentence.{Sentence}
@@ -22,22 +22,13 @@ use Rattle.mm_proof.proofs.Running.{front_more}
 -- ---- one more at the end of a list
 
 get_push : {X : Type 0} (xs : List X) (x y : X) (i : ℕ) → slice_get (xs ++ x ∷ []) i ≡ Some y → (slice_get xs i ≡ Some y) ⊎ (x ≡ y)
-get_push xs x y i e = elim (pushed_cases xs x i y e) [
-  | inl there ↦ inl there
-  | inr last ↦ inr last.1
-]
-
-pub same_number : (a b : ℕ) → ◌≡◌ {A = Move ℕ} (name a) (name b) → a ≡ b
-same_number a b e = cc
+get_push xs x y i e = ⊎_elim inl (λ last. inr last.1) (pushed_cases xs x i y e)
 
 no_name : (m : NumberedMove) → ((id : LabelId) → m ≡ code.Name id → ⊥) → (n : ℕ) → move_in m ≡ name n → ⊥
 no_name (code.Name id) not n e = not id refl
 no_name m not n e = absurd cc
 
 -- ---- one move more
-
-pub picked_none : ArePicked [] []
-picked_none n = ((λ c. absurd (let less : c.0 < 0 = c.1 in omega arith)), λ h. absurd (none-some (name n) h.1))
 
 pub picked_more : (front : List (Move ℕ)) (ids : List LabelId) (id : LabelId) → ArePicked front (ids_in ids) → ArePicked (front ++ name id.0 ∷ []) (ids_in (ids ++ id ∷ []))
 picked_more front ids id old n = let more = map-append (λ (i : LabelId). i.0) ids (id ∷ []) in (
@@ -47,8 +38,7 @@ picked_more front ids id old n = let more = map-append (λ (i : LabelId). i.0) i
   ],
   λ h. rw more (elim (get_push front (name id.0) (name n) h.0 h.1) [
     | inl there ↦ Contains-append_left (ids_in ids) (id.0 ∷ []) n ((old n).1 (h.0, there))
-    | inr same ↦
-        rw (← same_number id.0 n same) (Contains-push (ids_in ids) id.0)
+    | inr same ↦ let e : id.0 ≡ n = cc in rw (← e) (Contains-push (ids_in ids) id.0)
   ]),
 )
 
@@ -69,9 +59,6 @@ picked_named moves i d id ids less is old = rw (front_more moves i d less, is) (
 pub picked_unnamed : (moves : List NumberedMove) (i : ℕ) (d : NumberedMove) (ids : List LabelId) → i < length moves → ((id : LabelId) → get_or moves i d ≡ code.Name id → ⊥)
     → ArePicked (take i (moves_in moves)) (ids_in ids) → ArePicked (take (i + 1) (moves_in moves)) (ids_in ids)
 picked_unnamed moves i d ids less not old = rw (front_more moves i d less) (picked_other (take i (moves_in moves)) ids (get_or moves i d) not old)
-
-pub picked_all : (moves : List NumberedMove) (i : ℕ) (ids : List ℕ) → length moves ≤ i → ArePicked (take i (moves_in moves)) ids → ArePicked (moves_in moves) ids
-picked_all moves i ids past all = subst (λ front. ArePicked front ids) (take_all i (moves_in moves) (omega (arith, length-map moves move_in))) all
 
 -- ---- marks
 
@@ -99,7 +86,7 @@ pub marked_more : (entries : List ℕ) (front : List (Move ℕ)) (place id : ℕ
 marked_more entries front place id marks there within old = record {
   named = λ p t. back p t (eqb p place) refl;
   marked = λ i n e. ⊎_elim (λ before. let o = old.marked i n before in (o.0, o.1, stays o.0 o.2 (eqb o.0 place) refl))
-      (λ same. (place, there ∙ ap Some (same_number id n same), here)) (get_push front (name id) (name n) i e);
+      (λ same. (place, cc (there, same), here)) (get_push front (name id) (name n) i e);
 }
   where
     here : IsTrue (get_or (set marks place true) place false)
@@ -133,9 +120,7 @@ abbrev pub IsCalledAt : List Call → List Bool → ℕ → Type 0
 IsCalledAt calls marks place = IsTrue (get_or marks place false) × (call : Call) × (slice_get calls place ≡ Some call) × IsOfAssertion call
 
 pub entry_at : (entries : List LabelId) (place : ℕ) (d : LabelId) → place < length entries → slice_get (ids_in entries) place ≡ Some (get_or entries place d).0
-entry_at [] place d less = absurd (omega arith)
-entry_at (x ∷ entries) zero d less = refl
-entry_at (x ∷ entries) (suc place) d less = entry_at entries place d (omega arith)
+entry_at entries place d less = rw (slice_get-map, slice_get-get_or entries place d less)
 
 pub first_none : (P : ℕ → Type 0) (entries : List LabelId) → AreFirst P entries 0 []
 first_none P entries n = ((λ c. absurd (let less : c.0 < 0 = c.1 in omega arith)), λ place less e t. absurd (omega arith))

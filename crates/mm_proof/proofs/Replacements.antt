@@ -1,7 +1,7 @@
 -- The entries of an assertion's hypotheses give the replacement of its variables: what a step meets.
-use Rattle.std.proofs.Common.{◌≡◌, ℕ, zero, suc, ◌+◌, ◌<◌, List, [], ◌∷◌, ◌++◌, length, take, drop, slice_get, Option, Some, None, IsSome, inl, inr, refl, sym, ap, subst, ◌∙◌, arith}
+use Rattle.std.proofs.Common.{◌≡◌, ℕ, zero, suc, ◌+◌, ◌<◌, List, [], ◌∷◌, ◌++◌, length, take, drop, slice_get, Option, Some, None, IsSome, inl, inr, refl, sym, ap, subst, ◌∙◌, arith, ⊎_elim}
 use Rattle.std.proofs.lemmas.Option.{same_Some, none-some}
-use Rattle.std.proofs.lemmas.Bool.{cases_order, cases_lt}
+use Rattle.std.proofs.lemmas.Bool.{cases_lt}
 use Rattle.std.proofs.lemmas.List.{take_all}
 use Rattle.mm_frame.specs.declared.rule.MeaningRule.TheVariants.{M12}
 use Rattle.mm_frame.specs.Sentence.{Sentence, Types}
@@ -93,10 +93,9 @@ those_order P place (y ∷ xs) those i j a b (inr t) less p q =
 -- what is active was so in each front that has it
 active_earlier : (before : List Sentence) (i place : ℕ) → place < i → IsActive before place
     → IsActive (take i before) place
-active_earlier before i place less active = elim (cases_lt i (length before)) [
-  | inl within ↦ active_in_front before place i less (omega arith) active
-  | inr past ↦ subst (λ l. IsActive l place) (sym (take_all i before past)) active
-]
+active_earlier before i place less active = ⊎_elim
+    (λ within. active_in_front before place i less (omega arith) active)
+    (λ past. rw (take_all i before past) active) (cases_lt i (length before))
 
 not_typed_twice : (before : List Sentence) (s : Sentence) (hypotheses : List Sentence) (i j : ℕ) (f g : Sentence) (code code' x : List ℕ) → AllMeant before
     → AreMandatory before s hypotheses → slice_get hypotheses i ≡ Some f → slice_get hypotheses j ≡ Some g → Types code x f → Types code' x g → i < j → ⊥
@@ -107,11 +106,10 @@ not_typed_twice before s hypotheses i j f g code code' x all mandatory p q t u l
     meant_at before h.1 g all h.4 M12 (code', x, u, (h.0, f, get_take before h.1 h.0 h.2 ∙ h.3, active_earlier before h.1 h.0 h.2 at_f.0, (code, t)))
 
 typed_once : (before : List Sentence) (s : Sentence) (hypotheses : List Sentence) → AllMeant before → AreMandatory before s hypotheses → IsTypedOnce hypotheses
-typed_once before s hypotheses all mandatory i j f g code code' x p q t u = elim (cases_order i j) [
-  | inl same ↦ same
-  | inr (inl less) ↦ absurd (not_typed_twice before s hypotheses i j f g code code' x all mandatory p q t u less)
-  | inr (inr more) ↦ absurd (not_typed_twice before s hypotheses j i g f code' code x all mandatory q p u t more)
-]
+typed_once before s hypotheses all mandatory i j f g code code' x p q t u =
+    let less = not_typed_twice before s hypotheses i j f g code code' x all mandatory p q t u in
+    let more = not_typed_twice before s hypotheses j i g f code' code x all mandatory q p u t in
+    omega arith
 
 -- ---- what a step meets
 

@@ -1,7 +1,7 @@
 -- Replacement by numbers is replacement by names.
-use Rattle.std.proofs.Common.{◌≡◌, ℕ, ◌<◌, List, [], ◌∷◌, ◌++◌, length, drop, Bool, true, false, eqb, cond, Option, option_map, unwrap_or, Some, None, IsTrue, MatchBool, refl, sym, ap, subst, ◌∙◌}
+use Rattle.std.proofs.Common.{◌≡◌, ℕ, ◌<◌, List, [], ◌∷◌, ◌++◌, length, drop, Bool, true, false, eqb, cond, Option, option_map, unwrap_or, Some, None, IsTrue, MatchBool, refl, sym, ap, subst, ◌∙◌, ⊎_elim}
 use Rattle.std.specs.List.{AllByRecursion}
-use Rattle.std.proofs.lemmas.Bool.{false≢true}
+use Rattle.std.proofs.lemmas.Bool.{false≢true, cases_Bool}
 use Rattle.std.proofs.lemmas.Bool.Decides.{Decides-eqb}
 use Rattle.std.proofs.lemmas.List.{map-append, drop-map}
 use Rattle.mm_text.specs.declared.statement.Kind.TheVariants.{Essential}
@@ -17,28 +17,20 @@ use Rattle.mm_proof.proofs.Replacements.{replaced_by, first_of}
 use Rattle.mm_proof.proofs.Values.{value_all}
 use Rattle.mm_proof.proofs.Named.{name_is, named_is, below_is, number_of_name, named_once}
 
--- one `$f` has one variable
-same_variable : (h : Sentence) (code x code' y : List ℕ) → Types code x h → Types code' y h → x ≡ y
-same_variable h code x code' y t u =
-    let e : code ∷ x ∷ [] ≡ code' ∷ y ∷ [] = sym t.1 ∙ u.1 in
-    cc
-
 -- the hypothesis types the symbol exactly if its variable has the symbol's number
 variable_is : OneNumber → (st : List Sentence) (v : Option ℕ) (h : Sentence) (n : ℕ) → IsVariableOf st v h → n < length (symbols_of st)
     → (code : List ℕ) × Types code (name_at st n) h → is_of n v ≡ true
 variable_is one st None h n is below t = absurd (is t.1.0)
 variable_is one st (Some m) h n is below t =
-    let same : is.1 ≡ name_at st n = same_variable h is.0 is.1 t.0 (name_at st n) is.2 t.1 in
+    let same : is.1 ≡ name_at st n = cc (is.2.1, t.1.1) in
     let number : m ≡ n = (one st [] (name_at st n)).1 m n (subst (λ x. IsNumberOf st x m) same is.3) (number_of_name st n below) in
     (Decides-eqb m n).1 number
 
 variable_not : (st : List Sentence) (v : Option ℕ) (h : Sentence) (n : ℕ) → IsVariableOf st v h → ¬ ((code : List ℕ) × Types code (name_at st n) h) → is_of n v ≡ false
 variable_not st None h n is none = refl
-variable_not st (Some m) h n is none = go (eqb m n) refl
-  where
-    go : (b : Bool) → eqb m n ≡ b → eqb m n ≡ false
-    go false e = e
-    go true e = absurd (none (is.0, subst (λ (y : List ℕ). Types is.0 y h) (sym (name_is st m is.1 is.3) ∙ ap (name_at st) ((Decides-eqb m n).0 e)) is.2))
+variable_not st (Some m) h n is none = ⊎_elim
+    (λ e. absurd (none (is.0, subst (λ (y : List ℕ). Types is.0 y h) (sym (name_is st m is.1 is.3) ∙ ap (name_at st) ((Decides-eqb m n).0 e)) is.2)))
+    (λ e. e) (cases_Bool (eqb m n))
 
 -- what replaces a symbol
 pub value_named : OneNumber → (st : List Sentence) (vs : List (Option ℕ)) (hs : List Sentence) (es : List (List ℕ)) (n : ℕ) → AreVariablesOf st vs hs → n < length (symbols_of st)

@@ -1,4 +1,5 @@
 -- The moves of a proof, one after the other.
+use Rattle.std.proofs.lemmas.Option.{slice_get-map, slice_get-get_or}
 use Rattle.std.proofs.Common.{◌≡◌, ℕ, zero, suc, ◌+◌, ◌<◌, ◌≤◌, ◌-◌, List, [], ◌∷◌, ◌++◌, length, Result, Err, take, drop, slice_get, get_or, Some, cond, refl, sym, ap, subst, ◌∙◌, arith}
 use Rattle.std.specs.Result.{IsErrAnd}
 use Rattle.std.proofs.lemmas.Result.{err_from_is_err_and}
@@ -31,11 +32,9 @@ front_more moves i d less =
 
 -- the move at a place
 pub move_at : (moves : List NumberedMove) (i : ℕ) (d : NumberedMove) → i < length moves → slice_get (moves_in moves) i ≡ Some (move_in (get_or moves i d))
-move_at [] i d less = absurd (omega arith)
-move_at (m ∷ moves) zero d less = refl
-move_at (m ∷ moves) (suc i) d less = move_at moves i d (omega arith)
+move_at moves i d less = rw (slice_get-map, slice_get-get_or moves i d less)
 
-same_kind : (st : List Sentence) (x : Move ℕ) (move : Move (List ℕ)) → IsNumberedMove st x move → is_step x ≡ is_step move
+pub same_kind : (st : List Sentence) (x : Move ℕ) (move : Move (List ℕ)) → IsNumberedMove st x move → is_step x ≡ is_step move
 same_kind st (name id) move n = sym (ap (λ (m : Move (List ℕ)). is_step m) n.4)
 same_kind st (again tag) move n = sym (ap (λ (m : Move (List ℕ)). is_step m) n)
 same_kind st mark move n = sym (ap (λ (m : Move (List ℕ)). is_step m) n)

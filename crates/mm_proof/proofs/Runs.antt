@@ -2,10 +2,8 @@
 use Rattle.std.proofs.Common.{◌≡◌, ℕ, List, [], ◌∷◌, ◌++◌, take, drop, map, slice_get, Option, Some, None, IsSome, inl, inr, ⊎_elim, refl, sym, ap, subst, ◌∙◌, append_assoc, append-nil}
 use Rattle.std.proofs.lemmas.Option.{same_Some, slice_get-map}
 use Rattle.std.proofs.lemmas.List.{length-map}
-use Rattle.mm_text.specs.declared.statement.Kind.{Kind}
-use Rattle.mm_text.specs.declared.statement.Kind.TheVariants.{Floating, Essential}
-use Rattle.mm_frame.specs.Sentence.{Sentence, IsHypothesis, IsLabelled, Types}
-use Rattle.mm_frame.specs.Active.{SomeActive}
+use Rattle.mm_text.specs.declared.statement.Kind.TheVariants.{Floating}
+use Rattle.mm_frame.specs.Sentence.{Sentence, Types}
 use Rattle.mm_frame.specs.Frame.{IsMandatory, IsMandatoryAt}
 use Rattle.mm_frame.specs.Rules.{AllMeant}
 use Rattle.mm_frame.proofs.Meant.{allmeant_front}
@@ -57,16 +55,13 @@ pub record IsTypingEntry (σ : List ℕ → Option (List (List ℕ))) (code x : 
 pub same_typing : (f : Sentence) (code x code' x' : List ℕ) → Types code x f → Types code' x' f → (code ≡ code') × (x ≡ x')
 same_typing f code x code' x' t t' = let e : code ∷ x ∷ [] ≡ code' ∷ x' ∷ [] = sym t.1 ∙ t'.1 in (cc, cc)
 
-pub not_essential : (k : Kind) → k ≡ Essential → k ≡ Floating → ⊥
-not_essential k e f = let g : Essential ≡ Floating = sym e ∙ f in absurd cc
-
 -- the `$f` among the mandatory hypotheses
 pub typing_of : (before : List Sentence) (label : List ℕ) (place : ℕ) (assertion : Sentence) (hypotheses : List Sentence) (i : ℕ) (f : Sentence)
     → Names before label place assertion hypotheses → slice_get hypotheses i ≡ Some f → f.kind ≡ Floating
     → (code : List ℕ) × (x : List ℕ) × Types code x f × IsMandatory (take place before) assertion x × (j : ℕ) × (slice_get (take place before) j ≡ Some f)
 typing_of before label place assertion hypotheses i f names there floating =
     let h = those_hold (IsMandatoryAt (take place before) assertion) 0 (take place before) hypotheses i f names.mandatory there in
-    ⊎_elim (λ essential. absurd (not_essential f.kind essential floating)) (λ t. (t.0, t.1, t.2, t.3, h.0, h.1)) h.2.1
+    ⊎_elim (λ essential. absurd (cc (essential, floating))) (λ t. (t.0, t.1, t.2, t.3, h.0, h.1)) h.2.1
 
 -- what the trees below leave for the mandatory `$f`
 entry_of : (before : List Sentence) (label : List ℕ) (place : ℕ) (assertion : Sentence) (hypotheses : List Sentence) (σ : List ℕ → Option (List (List ℕ)))
@@ -120,20 +115,14 @@ tree_step before label place assertion hypotheses σ stack e all names on apart 
 
 -- ---- what trees derive, their spelling pushes
 
-leaf_runs : (Fits : List (List ℕ) → Type 0) (before : List Sentence) (label : List ℕ) (below : Trees) (e : List (List ℕ)) (stack : List (List (List ℕ))) → Fits e
-    → below ≡ none → SomeActive before (λ h. IsLabelled label h × IsHypothesis h.kind × (e ≡ h.symbols))
-    → Runs Fits before (spelling below ++ label ∷ []) stack (stack ++ e ∷ [])
-leaf_runs Fits before label below e stack fits bare h =
-    subst (λ b. Runs Fits before (spelling b ++ label ∷ []) stack (stack ++ e ∷ [])) (sym bare)
-    (stack, e, inl (record { kept = refl; place = h.0; hypothesis = h.1; there = h.2; active = h.3; named = h.4.0; kind = h.4.1; made = h.4.2 }), fits, refl)
-
 -- on any stack
 pub derive_runs : (Fits : List (List ℕ) → Type 0) (before : List Sentence) (trees : Trees) (es stack : List (List (List ℕ))) → AllMeant before
     → DeriveAll Fits before trees es → Runs Fits before (spelling trees) stack (stack ++ es)
 derive_runs Fits before none es stack all d = ap (λ l. stack ++ l) d ∙ append-nil stack
 derive_runs Fits before (tree label below right) es stack all d =
     let one : Runs Fits before (spelling below ++ label ∷ []) stack (stack ++ d.0 ∷ []) = ⊎_elim
-    (λ leaf. leaf_runs Fits before label below d.0 stack d.3 leaf.0 leaf.1)
+    (λ (bare, h). rw bare
+    (stack, d.0, inl (record { kept = refl; place = h.0; hypothesis = h.1; there = h.2; active = h.3; named = h.4.0; kind = h.4.1; made = h.4.2 }), d.3, refl))
     (λ n.
     let entries : List (List (List ℕ)) = map (λ (h : Sentence). instance_of n.3 h.symbols) n.2 in
     let children : Runs Fits before (spelling below) stack (stack ++ entries) = derive_runs Fits before below entries stack all n.6 in

@@ -95,7 +95,7 @@ form_of before (t ∷ tokens) = go (symbol_dec t opening_token) (some_first clos
 -- what has no end has no labels and letters
 endless_compressed : (before : List Sentence) (tokens labels letters : List (List ℕ)) → BreaksWhole P1 before tokens → IsCompressed tokens labels letters → ⊥
 endless_compressed before tokens labels letters b c =
-    b.1 (subst (λ l. Contains (drop 1 l) closing_token) (sym c.whole) (contains_middle labels closing_token letters))
+    b.1 (rw c.whole (contains_middle labels closing_token letters))
 
 endless_labels : (before : List Sentence) (tokens labels : List (List ℕ)) → BreaksWhole P1 before tokens → AreLabels tokens labels → ⊥
 endless_labels before tokens labels b (inl p) = p.0 b.0
@@ -103,17 +103,19 @@ endless_labels before tokens labels b (inr p) = endless_compressed before tokens
 
 -- ---- the rules over the whole proof can be decided
 
--- something about the labels
-some_labels_dec : (before : List Sentence) (tokens : List (List ℕ)) (P : List (List ℕ) → Type 0) → ((labels : List (List ℕ)) → Dec (P labels))
-    → Dec ((labels : List (List ℕ)) × AreLabels tokens labels × P labels)
-some_labels_dec before tokens P each = elim (form_of before tokens) [
+-- something about a label
+some_label_dec : (before : List Sentence) (tokens : List (List ℕ)) (P : List ℕ → Type 0) → ((label : List ℕ) → Dec (P label))
+    → Dec ((labels : List (List ℕ)) × AreLabels tokens labels × (label : List ℕ) × Contains labels label × P label)
+some_label_dec before tokens P each = elim (form_of before tokens) [
   | normal n ↦ of_labels tokens (inl (n, refl))
   | compressed labels letters c ↦ of_labels labels (inr (letters, c))
   | endless b ↦ no (λ h. endless_labels before tokens h.0 b h.1)
 ]
   where
-    of_labels : (labels : List (List ℕ)) → AreLabels tokens labels → Dec ((labels : List (List ℕ)) × AreLabels tokens labels × P labels)
-    of_labels labels are = dec_as (λ p. (labels, are, p)) (λ h. subst P (labels_once tokens h.0 labels h.1 are) h.2) (each labels)
+    of_labels : (labels : List (List ℕ)) → AreLabels tokens labels
+        → Dec ((labels : List (List ℕ)) × AreLabels tokens labels × (label : List ℕ) × Contains labels label × P label)
+    of_labels labels are = dec_as (λ p. (labels, are, p.0, p.1, p.2))
+        (λ h. (h.2, rw (labels_once tokens h.0 labels h.1 are) at h.3, h.4)) (dec_member P each labels)
 
 some_letters_dec : (before : List Sentence) (tokens : List (List ℕ)) (rule : CodeRule) → Dec ((text : List ℕ) × AreLetters tokens text × Breaks rule text)
 some_letters_dec before tokens rule = elim (form_of before tokens) [
@@ -131,17 +133,12 @@ first_dec (t ∷ tokens) = dec_as (λ e. ap Some e) (λ e. same_Some t opening_t
 
 pub whole_dec : (before : List Sentence) (tokens : List (List ℕ)) (rule : ProofRule) → Dec (BreaksWhole rule before tokens)
 whole_dec before tokens P1 = dec_both (first_dec tokens) (dec_not (contains_dec (drop 1 tokens) closing_token))
-whole_dec before tokens P2 = dec_as (λ h. (h.0, h.1, h.2.0, h.2.1, h.2.2)) (λ h. (h.0, h.1, (h.2, h.3, h.4)))
-    (some_labels_dec before tokens (λ labels. (label : List ℕ) × Contains labels label × ¬ (SomeSentence before (IsLabelled label)))
-    (λ labels. dec_member (λ label. ¬ (SomeSentence before (IsLabelled label))) (λ label. dec_not (sentence_dec before (IsLabelled label) (label_dec label))) labels))
-whole_dec before tokens P3 = dec_as (λ h. (h.0, h.1, h.2.0, h.2.1, h.2.2, h.2.3, h.2.4, h.2.5, h.2.6, h.2.7)) (λ h. (h.0, h.1, (h.2, h.3, h.4, h.5, h.6, h.7, h.8, h.9)))
-    (some_labels_dec before tokens
-    (λ labels. (label : List ℕ) × Contains labels label × (place : ℕ) × (h : Sentence) × (slice_get before place ≡ Some h) × IsLabelled label h × IsHypothesis h.kind × ¬ (IsActive before place))
-    (λ labels. dec_as
-    (λ h. (h.0, h.1, h.2.0, h.2.1, h.2.2, h.2.3.0.0, h.2.3.0.1, h.2.3.1)) (λ h. (h.0, h.1, (h.2, h.3, h.4, ((h.5, h.6), h.7))))
-    (dec_member (λ label. (place : ℕ) × (h : Sentence) × (slice_get before place ≡ Some h) × ((IsLabelled label h × IsHypothesis h.kind) × ¬ (IsActive before place)))
+whole_dec before tokens P2 = some_label_dec before tokens (λ label. ¬ (SomeSentence before (IsLabelled label)))
+    (λ label. dec_not (sentence_dec before (IsLabelled label) (label_dec label)))
+whole_dec before tokens P3 = dec_as (λ h. (h.0, h.1, h.2, h.3, h.4.0, h.4.1, h.4.2, h.4.3.0.0, h.4.3.0.1, h.4.3.1)) (λ h. (h.0, h.1, h.2, h.3, (h.4, h.5, h.6, ((h.7, h.8), h.9))))
+    (some_label_dec before tokens (λ label. (place : ℕ) × (h : Sentence) × (slice_get before place ≡ Some h) × ((IsLabelled label h × IsHypothesis h.kind) × ¬ (IsActive before place)))
     (λ label. dec_some (λ place (h : Sentence). (IsLabelled label h × IsHypothesis h.kind) × ¬ (IsActive before place))
-    (λ place h. dec_both (dec_both (label_dec label h) (dec_or (kind_dec h.kind Floating) (kind_dec h.kind Essential))) (dec_not (active_dec before place))) before) labels)))
+    (λ place h. dec_both (dec_both (label_dec label h) (dec_or (kind_dec h.kind Floating) (kind_dec h.kind Essential))) (dec_not (active_dec before place))) before))
 whole_dec before tokens P4 = some_letters_dec before tokens code.P4
 whole_dec before tokens P5 = some_letters_dec before tokens code.P5
 whole_dec before tokens rule = no (λ b. b)
@@ -153,16 +150,13 @@ pub says_once : (labels : List (List ℕ)) (c : Code) (a b : Move (List ℕ)) �
 says_once labels Tag a b p q = p ∙ sym q
 says_once labels (Number number) a b p q =
     let place : p.0 ≡ q.0 = omega (arith, p.1, q.1) in
-    go place p.2 q.2
-  where
-    go : p.0 ≡ q.0
-        → ((label : List ℕ) × (slice_get labels p.0 ≡ Some label) × (a ≡ name label)) ⊎ ((tag : ℕ) × (p.0 ≡ length labels + tag) × (a ≡ again tag))
-        → ((label : List ℕ) × (slice_get labels q.0 ≡ Some label) × (b ≡ name label)) ⊎ ((tag : ℕ) × (q.0 ≡ length labels + tag) × (b ≡ again tag))
-        → a ≡ b
-    go e (inl x) (inl y) = x.2 ∙ ap name (same_Some x.0 y.0 (sym x.1 ∙ ap (slice_get labels) e ∙ y.1)) ∙ sym y.2
-    go e (inl x) (inr y) = absurd (omega (arith, slice_get_within labels p.0 x.0 x.1, y.1))
-    go e (inr x) (inl y) = absurd (omega (arith, slice_get_within labels q.0 y.0 y.1, x.1))
-    go e (inr x) (inr y) = x.2 ∙ ap again (omega (arith, x.1, y.1)) ∙ sym y.2
+    ⊎_elim
+    (λ x. ⊎_elim
+    (λ y. cc (x.1, x.2, y.1, y.2))
+    (λ y. absurd (omega (arith, slice_get_within labels p.0 x.0 x.1, y.1))) q.2)
+    (λ x. ⊎_elim
+    (λ y. absurd (omega (arith, slice_get_within labels q.0 y.0 y.1, x.1)))
+    (λ y. let tag : x.0 ≡ y.0 = omega (arith, x.1, y.1) in cc (x.2, y.2)) q.2) p.2
 
 pub moves_once : (before : List Sentence) (s : Sentence) (tokens : List (List ℕ)) (a b : List (Move (List ℕ))) → SayMoves before s tokens a → SayMoves before s tokens b → a ≡ b
 moves_once before s tokens a b (inl p) (inl q) = p.1 ∙ sym q.1
@@ -221,21 +215,16 @@ codes_say labels (c ∷ codes) h =
     let others = codes_say labels codes h.1 in
     (m.0 ∷ others.0, (m.1, others.1))
 
-abbrev broken_rule : CodeRule → ProofRule
-broken_rule code.P4 = P4
-broken_rule code.P5 = P5
-
-letters_break : (before : List Sentence) (tokens : List (List ℕ)) (text : List ℕ) (rule : CodeRule) → AreLetters tokens text → Breaks rule text → BreaksWhole (broken_rule rule) before tokens
-letters_break before tokens text code.P4 are broken = (text, are, broken)
-letters_break before tokens text code.P5 are broken = (text, are, broken)
-
 pub some_moves : (before : List Sentence) (s : Sentence) (tokens : List (List ℕ)) → AllFormed before → IsWhole before tokens → (moves : List (Move (List ℕ))) × SayMoves before s tokens moves
 some_moves before s tokens formed whole = elim (form_of before tokens) [
   | normal n ↦ (map name tokens, inl (n, refl))
-  | compressed labels letters c ↦ ⊎_elim
-      (λ coded. of_codes labels letters c coded.0 coded.1)
-      (λ broken. absurd (whole (broken_rule broken.0) (letters_break before tokens (flat_map (λ piece. piece) letters) broken.0 (labels, letters, c, refl) broken.1)))
-      (coded_or_broken (flat_map (λ piece. piece) letters))
+  | compressed labels letters c ↦
+      let text = flat_map (λ piece. piece) letters in
+      elim (coded_or_broken text) [
+        | inl coded ↦ of_codes labels letters c coded.0 coded.1
+        | inr (code.P4, b) ↦ absurd (whole P4 (text, (labels, letters, c, refl), b))
+        | inr (code.P5, b) ↦ absurd (whole P5 (text, (labels, letters, c, refl), b))
+      ]
   | endless b ↦ absurd (whole P1 b)
 ]
   where
@@ -293,13 +282,12 @@ usable_names before (label ∷ labels) each =
 usable_codes : (before : List Sentence) (labels : List (List ℕ)) (codes : List Code) (moves : List (Move (List ℕ))) → ((i : ℕ) (label : List ℕ) → slice_get labels i ≡ Some label → IsUsable before label)
     → AllZip (Says labels) codes moves → AllByRecursion (IsUsableMove before) moves
 usable_codes before labels [] [] each z = tt
-usable_codes before labels (c ∷ codes) (m ∷ moves) each z = (one c m z.0, usable_codes before labels codes moves each z.1)
-  where
-    one : (c : Code) (m : Move (List ℕ)) → Says labels c m → IsUsableMove before m
-    one Tag m says = subst (IsUsableMove before) (sym says) tt
-    one (Number number) m says = ⊎_elim
-        (λ l. subst (IsUsableMove before) (sym l.2) (each says.0 l.0 l.1))
-        (λ t. subst (IsUsableMove before) (sym t.2) tt) says.2
+usable_codes before labels (Tag ∷ codes) (m ∷ moves) each z =
+    (rw z.0 tt, usable_codes before labels codes moves each z.1)
+usable_codes before labels (Number number ∷ codes) (m ∷ moves) each z = (
+  ⊎_elim (λ l. rw l.2 (each z.0.0 l.0 l.1)) (λ t. rw t.2 tt) z.0.2,
+  usable_codes before labels codes moves each z.1,
+)
 usable_codes before labels codes moves each z = absurd z
 
 pub labelled_at : (hypotheses : List Sentence) (labels : List (List ℕ)) (i : ℕ) (label : List ℕ) → map (λ (h : Sentence). h.label) hypotheses ≡ map Some labels → slice_get labels i ≡ Some label

@@ -1,20 +1,12 @@
 -- What is put behind the symbols that are used.
-use Rattle.std.proofs.Common.{◌≡◌, ℕ, ◌-◌, ◌≤◌, List, ◌++◌, take, length, sym, ap, subst, ◌∙◌, arith}
+use Rattle.std.proofs.Common.{◌≡◌, ℕ, ◌-◌, ◌≤◌, List, ◌++◌, take, length, sym, ap, ◌∙◌, arith}
 use Rattle.std.proofs.lemmas.List.{length-append, length-map, length-take, take-take}
 use Rattle.mm_frame.specs.declared.number.Sym.{Sym}
-use Rattle.mm_proof.specs.declared.entry.Entry.{Entry}
-use Rattle.mm_proof.specs.Mirror.Buffer.{AreParts}
 use Rattle.mm_proof.specs.Stores.{numbers_in}
 
 -- the first ones stay where more than them do
 pub front_stays : {X : Type 0} (n k : ℕ) (new old first : List X) → n ≤ k → take k new ≡ take k old → take n old ≡ take n first → take n new ≡ take n first
 front_stays n k new old first order same h = sym (take-take n k new order) ∙ ap (take n) same ∙ take-take n k old order ∙ h
-
--- entries within those that are used are within the list of these
-pub parts_used : {X : Type 0} (used : ℕ) (room : List X) (entries : List Entry) → used ≤ length room → AreParts used entries → AreParts (length (take used room)) entries
-parts_used used room entries within h =
-    let size : length (take used room) ≡ used = omega (arith, length-take used room, within) in
-    subst (λ n. AreParts n entries) (sym size) h
 
 -- what is put is as long as what is used more
 pub put_within : (used end limit : ℕ) (front new more : List Sym) (whole : List ℕ) → length front ≡ used → end ≤ length new → take end new ≡ front ++ more → numbers_in more ≡ whole → end - used ≤ limit → length whole ≤ limit

@@ -1,5 +1,5 @@
 -- What can be decided of frames, and of what replaces the members of their pairs.
-use Rattle.std.proofs.Common.{◌≡◌, ◌≢◌, ℕ, zero, suc, ◌+◌, ◌<◌, List, [], ◌∷◌, length, Contains, Option, Some, None, ◌⊎◌, inl, inr, refl, sym, subst, ◌∙◌, arith}
+use Rattle.std.proofs.Common.{◌≡◌, ◌≢◌, ℕ, zero, suc, ◌+◌, ◌<◌, List, [], ◌∷◌, length, Contains, Option, Some, None, ◌⊎◌, inl, inr, refl, sym, subst, ◌∙◌, arith, ⊎_elim}
 use Rattle.std.proofs.lemmas.Option.{same_Some, none-some}
 use Rattle.mm_text.specs.declared.statement.Kind.TheVariants.{Distinct}
 use Rattle.mm_frame.specs.Sentence.{Sentence}
@@ -26,14 +26,9 @@ contains_cases y xs x (suc k, less, e) =
 pub dec_member : (P : List ℕ → Type 0) → ((x : List ℕ) → Dec (P x)) → (xs : List (List ℕ)) → Dec ((x : List ℕ) × Contains xs x × P x)
 dec_member P each [] = no (λ h. absurd (let less : h.1.0 < 0 = h.1.1 in omega arith))
 dec_member P each (y ∷ xs) = dec_as
-    (λ h. elim h [
-      | inl p ↦ (y, contains_first y xs, p)
-      | inr b ↦ (b.0, contains_later y xs b.0 b.1, b.2)
-    ])
-    (λ h. elim (contains_cases y xs h.0 h.1) [
-      | inl e ↦ inl (subst P (sym e) h.2)
-      | inr c ↦ inr (h.0, c, h.2)
-    ])
+    (λ h. ⊎_elim (λ p. (y, contains_first y xs, p))
+    (λ b. (b.0, contains_later y xs b.0 b.1, b.2)) h)
+    (λ h. ⊎_elim (λ e. inl (rw e h.2)) (λ c. inr (h.0, c, h.2)) (contains_cases y xs h.0 h.1))
     (dec_or (each y) (dec_member P each xs))
 
 pub dec_each : (P : List ℕ → Type 0) → ((x : List ℕ) → Dec (P x)) → (xs : List (List ℕ)) → Dec ((x : List ℕ) → Contains xs x → P x)

@@ -1,16 +1,16 @@
 -- Moves that share all and make the same trees are the same.
 use Rattle.std.proofs.Common.{◌≡◌, ℕ, suc, ◌+◌, ◌<◌, List, [], ◌∷◌, ◌++◌, length, slice_get, Some}
-use Rattle.std.proofs.Common.{inl, inr, ⊎_elim, refl, sym, ap, subst, ◌∙◌, append_assoc, append-nil}
+use Rattle.std.proofs.Common.{inl, inr, refl, sym, ap, ◌∙◌, append_assoc, append-nil}
 use Rattle.std.proofs.Common.{arith}
 use Rattle.std.proofs.lemmas.Option.{same_Some, slice_get_within}
-use Rattle.mm_text.proofs.Lists.{get_kept, cons_parts}
+use Rattle.mm_text.proofs.Lists.{get_kept}
 use Rattle.mm_frame.specs.Sentence.{Sentence}
 use Rattle.mm_proof.specs.Tree.{Trees, none, tree}
 use Rattle.mm_proof.specs.Moves.{Move, name, again, mark, Makes}
 use Rattle.mm_proof.specs.BigSubtrees.{StandOnce}
 use Rattle.mm_proof.specs.Visits.{Visit, makes, repeats, keeps, visits}
 use Rattle.mm_proof.specs.Sharing.{MakeOnce, KeepMade, ShareAll}
-use Rattle.mm_proof.proofs.Members.{In, in_get, get_in, contains_in, in_apart, Once, once_places}
+use Rattle.mm_proof.proofs.Members.{In, in_get, get_in, contains_in, in_apart, once_places}
 use Rattle.mm_proof.proofs.Covers.{strip, Covers, covers_made, Careful, one_cover}
 use Rattle.mm_proof.proofs.Tidy.{Tidy, tidy_careful, Marked, marked_once, tidy_marked, trees_kept}
 use Rattle.mm_proof.proofs.Tidy.{visit_kept, tidy_once, bare_front}
@@ -21,14 +21,12 @@ use Rattle.mm_proof.proofs.Tidy.{visit_kept, tidy_once, bare_front}
 pub kept_stays : (before : List Sentence) (moves : List (Move (List ℕ))) (row : Trees)
     (kept : List Trees) (row' : Trees) (kept' : List Trees) → Makes before moves row kept row' kept'
     → (i : ℕ) (t : Trees) → slice_get kept i ≡ Some t → slice_get kept' i ≡ Some t
-kept_stays before [] row kept row' kept' m i t h = subst (λ k. slice_get k i ≡ Some t) (sym m.1) h
-kept_stays before (name label ∷ moves) row kept row' kept' m i t h =
-    kept_stays before moves m.0 m.1 row' kept' m.3 i t (rw m.2.5 h)
-kept_stays before (again tag ∷ moves) row kept row' kept' m i t h =
-    kept_stays before moves m.0 m.1 row' kept' m.3 i t (rw m.2.3 h)
+kept_stays before [] row kept row' kept' m i t h = rw m.1 h
 kept_stays before (mark ∷ moves) row kept row' kept' m i t h =
     kept_stays before moves m.0 m.1 row' kept' m.3 i t
     (rw m.2.5 (get_kept kept (tree m.2.1 m.2.2 none ∷ []) i t h))
+kept_stays before (move ∷ moves) row kept row' kept' m i t h =
+    kept_stays before moves m.0 m.1 row' kept' m.3 i t (let e : m.1 ≡ kept = cc in rw e h)
 
 -- the kept trees are those of the marks
 pub kept_are : (before : List Sentence) (moves : List (Move (List ℕ))) (row : Trees)
@@ -36,17 +34,12 @@ pub kept_are : (before : List Sentence) (moves : List (Move (List ℕ))) (row : 
     (m : Makes before moves row kept row' kept')
     → kept' ≡ kept ++ trees_kept (visits before moves row kept row' kept' m)
 kept_are before [] row kept row' kept' m = m.1 ∙ sym (append-nil kept)
-kept_are before (name label ∷ moves) row kept row' kept' m =
-    kept_are before moves m.0 m.1 row' kept' m.3
-    ∙ ap (λ k. k ++ trees_kept (visits before moves m.0 m.1 row' kept' m.3)) m.2.5
-kept_are before (again tag ∷ moves) row kept row' kept' m =
-    kept_are before moves m.0 m.1 row' kept' m.3
-    ∙ ap (λ k. k ++ trees_kept (visits before moves m.0 m.1 row' kept' m.3)) m.2.3
 kept_are before (mark ∷ moves) row kept row' kept' m =
-    kept_are before moves m.0 m.1 row' kept' m.3
-    ∙ ap (λ k. k ++ trees_kept (visits before moves m.0 m.1 row' kept' m.3)) m.2.5
-    ∙ append_assoc kept (tree m.2.1 m.2.2 none ∷ [])
-    (trees_kept (visits before moves m.0 m.1 row' kept' m.3))
+    let e = kept_are before moves m.0 m.1 row' kept' m.3 in
+    let a = append_assoc kept (tree m.2.1 m.2.2 none ∷ [])
+    (trees_kept (visits before moves m.0 m.1 row' kept' m.3)) in cc
+kept_are before (move ∷ moves) row kept row' kept' m =
+    let e = kept_are before moves m.0 m.1 row' kept' m.3 in cc
 
 -- a tag repeats what stands at its place in the end
 again_visit : (before : List Sentence) (moves : List (Move (List ℕ))) (row : Trees)
@@ -55,15 +48,15 @@ again_visit : (before : List Sentence) (moves : List (Move (List ℕ))) (row : T
     → In moves (again tag) → (t : Trees) × (slice_get kept' tag ≡ Some t)
     × In (visits before moves row kept row' kept' m) (repeats t)
 again_visit before [] row kept row' kept' m tag h = absurd h
+again_visit before (again k ∷ moves) row kept row' kept' m tag (inl e) =
+    let same : k ≡ tag = cc in (
+      m.2.0,
+      kept_stays before moves m.0 m.1 row' kept' m.3 tag m.2.0 (rw (m.2.3, ← same) m.2.1),
+      inl refl,
+    )
+again_visit before (move ∷ moves) row kept row' kept' m tag (inl e) = absurd cc
 again_visit before (move ∷ moves) row kept row' kept' m tag (inr h) =
     let g = again_visit before moves m.0 m.1 row' kept' m.3 tag h in (g.0, g.1, inr g.2)
-again_visit before (again k ∷ moves) row kept row' kept' m tag (inl e) =
-    let same : k ≡ tag = (let f : ◌≡◌ {A = Move (List ℕ)} (again k) (again tag) = e in cc) in
-    let there : slice_get m.1 tag ≡ Some m.2.0 = subst (λ l. slice_get l tag ≡ Some m.2.0)
-    (sym m.2.3) (subst (λ x. slice_get kept x ≡ Some m.2.0) same m.2.1) in
-    (m.2.0, kept_stays before moves m.0 m.1 row' kept' m.3 tag m.2.0 there, inl refl)
-again_visit before (move ∷ moves) row kept row' kept' m tag (inl e) =
-    absurd (let f : move ≡ again tag = e in cc)
 
 -- ---- what is said by places, said one visit after the other
 
@@ -74,17 +67,15 @@ onto (x ∷ done) v = onto done (x ∷ v)
 
 pub at_later : (done v : List Visit) (i : ℕ)
     → slice_get (onto done v) (length done + i) ≡ slice_get v i
-at_later [] v i = let e : 0 + i ≡ i = omega arith in ap (slice_get v) e
+at_later [] v i = ap (slice_get v) (omega arith)
 at_later (x ∷ done) v i =
-    let e : suc (length done) + i ≡ length done + suc i = omega arith in
-    ap (slice_get (onto done (x ∷ v))) e ∙ at_later done (x ∷ v) (suc i)
+    ap (slice_get (onto done (x ∷ v))) (omega arith) ∙ at_later done (x ∷ v) (suc i)
 
 pub at_earlier : (done v : List Visit) (x : Visit) → In done x → (i : ℕ) × (i < length done)
     × (slice_get (onto done v) i ≡ Some x)
 at_earlier [] v x h = absurd h
 at_earlier (y ∷ done) v x (inl e) =
-    let there = at_later done (y ∷ v) 0 in
-    (length done + 0, omega arith, there ∙ ap Some e)
+    (length done + 0, omega arith, at_later done (y ∷ v) 0 ∙ ap Some e)
 at_earlier (y ∷ done) v x (inr h) =
     let g = at_earlier done (y ∷ v) x h in (g.0, omega (arith, g.1), g.2)
 
@@ -98,14 +89,12 @@ just_done (y ∷ done) v j x long there =
     (sym (at_later done (y ∷ v) 0) ∙ ap (slice_get (onto done (y ∷ v))) at ∙ there) in
     (done, ap (λ z. z ∷ done) same)
 
--- what is kept so far was kept by a mark that is done
-abbrev AreDone : List Trees → List Visit → Type 0
-AreDone kept done = (t : Trees) → In kept t → In done (keeps t)
-
+-- where what is kept so far was kept by a mark that is done
 pub tidy_of : (before : List Sentence) (moves : List (Move (List ℕ))) (row : Trees)
     (kept : List Trees) (row' : Trees) (kept' : List Trees)
     (m : Makes before moves row kept row' kept') (done : List Visit)
-    → AreDone kept done → MakeOnce (onto done (visits before moves row kept row' kept' m))
+    → ((t : Trees) → In kept t → In done (keeps t))
+    → MakeOnce (onto done (visits before moves row kept row' kept' m))
     → KeepMade (onto done (visits before moves row kept row' kept' m))
     → Tidy done (visits before moves row kept row' kept' m)
 tidy_of before [] row kept row' kept' m done are once marked = tt
@@ -118,12 +107,12 @@ tidy_of before (name label ∷ moves) row kept row' kept' m done are once marked
           (at_later done (makes t ∷ later) 0) in
           absurd (omega (arith, g.1, same)),
       tidy_of before moves m.0 m.1 row' kept' m.3 (makes t ∷ done)
-          (λ u h. inr (are u (subst (λ k. In k u) m.2.5 h))) once marked,
+          (λ u h. inr (are u (rw m.2.5 at h))) once marked,
     )
 tidy_of before (again tag ∷ moves) row kept row' kept' m done are once marked = (
   are m.2.0 (get_in kept tag m.2.0 m.2.1),
   tidy_of before moves m.0 m.1 row' kept' m.3 (repeats m.2.0 ∷ done)
-      (λ u h. inr (are u (subst (λ k. In k u) m.2.3 h))) once marked,
+      (λ u h. inr (are u (rw m.2.3 at h))) once marked,
 )
 tidy_of before (mark ∷ moves) row kept row' kept' m done are once marked =
     let t : Trees = tree m.2.1 m.2.2 none in
@@ -132,10 +121,9 @@ tidy_of before (mark ∷ moves) row kept row' kept' m done are once marked =
       g.0,
       just_done done (keeps t ∷ later) g.1 (makes t) (omega (arith, g.2)) g.3,
       tidy_of before moves m.0 m.1 row' kept' m.3 (keeps t ∷ done)
-          (λ u h. ⊎_elim
-          (λ a. inr (are u a))
-          (λ b. ⊎_elim (λ e. inl (ap (λ x. keeps x) e)) (λ z. absurd z) b)
-          (in_apart kept (t ∷ []) u (subst (λ k. In k u) m.2.5 h))) once marked,
+          (λ u h.
+          let k = in_apart kept (t ∷ []) u (rw m.2.5 at h) in
+          let old = are u in grind arith) once marked,
     )
 
 -- ---- the moves are told by what they do
@@ -149,32 +137,22 @@ pub moves_once : (before : List Sentence) (moves moves' : List (Move (List ℕ))
 moves_once before [] [] row row₂ kept kept₂ row' row₂' kept' kept₂' m n k l once same = refl
 moves_once before (name x ∷ moves)
     (name y ∷ moves') row row₂ kept kept₂ row' row₂' kept' kept₂' m n k l once same =
-    let h = cons_parts _ _ _ _ same in
-    let label : x ≡ y =
-    (let f : makes (tree x m.2.1 none) ≡ makes (tree y n.2.1 none) = h.0 in cc) in
-    rw label (ap (λ z. name y ∷ z) (moves_once before moves moves' m.0 n.0 m.1 n.1 row' row₂' kept'
-    kept₂' m.3 n.3 (m.2.5 ∙ k ∙ sym n.2.5) l once h.1))
+    let rest = moves_once before moves moves' m.0 n.0 m.1 n.1 row' row₂' kept' kept₂' m.3 n.3
+    (cc) l once (cc) in cc
 moves_once before (again x ∷ moves)
     (again y ∷ moves') row row₂ kept kept₂ row' row₂' kept' kept₂' m n k l once same =
-    let h = cons_parts _ _ _ _ same in
-    let u : m.2.0 ≡ n.2.0 = (let f : repeats m.2.0 ≡ repeats n.2.0 = h.0 in cc) in
+    let u : m.2.0 ≡ n.2.0 = cc in
     let at_x : slice_get kept₂' x ≡ Some n.2.0 =
-    rw (← l) (kept_stays before moves m.0 m.1 row' kept' m.3 x n.2.0
-    (rw m.2.3 (m.2.1 ∙ ap Some u))) in
+    rw (← l) (kept_stays before moves m.0 m.1 row' kept' m.3 x n.2.0 (rw (m.2.3, ← u) m.2.1)) in
     let at_y : slice_get kept₂' y ≡ Some n.2.0 =
     kept_stays before moves' n.0 n.1 row₂' kept₂' n.3 y n.2.0 (rw n.2.3 n.2.1) in
     let tag : x ≡ y = once x y n.2.0 at_x at_y in
-    rw tag (ap (λ z. again y ∷ z) (moves_once before moves moves' m.0 n.0 m.1 n.1 row' row₂' kept'
-    kept₂' m.3 n.3 (m.2.3 ∙ k ∙ sym n.2.3) l once h.1))
+    let rest = moves_once before moves moves' m.0 n.0 m.1 n.1 row' row₂' kept' kept₂' m.3 n.3
+    (cc) l once (cc) in cc
 moves_once before (mark ∷ moves)
     (mark ∷ moves') row row₂ kept kept₂ row' row₂' kept' kept₂' m n k l once same =
-    let h = cons_parts _ _ _ _ same in
-    let t : tree m.2.1 m.2.2 none ≡ tree n.2.1 n.2.2 none =
-    (let f : keeps (tree m.2.1 m.2.2 none) ≡ keeps (tree n.2.1 n.2.2 none) = h.0 in cc) in
-    ap (λ z. mark ∷ z)
-    (moves_once before moves moves' m.0 n.0 m.1 n.1 row' row₂' kept' kept₂' m.3 n.3
-    (m.2.5 ∙ ap (λ q. q ++ tree m.2.1 m.2.2 none ∷ []) k ∙ ap (λ z. kept₂ ++ z ∷ []) t
-    ∙ sym n.2.5) l once h.1)
+    let rest = moves_once before moves moves' m.0 n.0 m.1 n.1 row' row₂' kept' kept₂' m.3 n.3
+    (cc) l once (cc) in cc
 moves_once before moves moves' row row₂ kept kept₂ row' row₂' kept' kept₂' m n k l once same =
     absurd cc
 
@@ -183,15 +161,11 @@ moves_once before moves moves' row row₂ kept kept₂ row' row₂' kept' kept�
 strip_repeats : (v : List Visit) (t : Trees) → In (strip v) (repeats t) → In v (repeats t)
 strip_repeats [] t h = absurd h
 strip_repeats (keeps u ∷ v) t h = inr (strip_repeats v t h)
-strip_repeats (x ∷ v) t (inl e) = inl e
-strip_repeats (x ∷ v) t (inr h) = inr (strip_repeats v t h)
+strip_repeats (x ∷ v) t h = let later = strip_repeats v t in grind arith
 
 repeats_strip : (v : List Visit) (t : Trees) → In v (repeats t) → In (strip v) (repeats t)
 repeats_strip [] t h = absurd h
-repeats_strip (keeps u ∷ v) t (inl e) = absurd (let f : keeps u ≡ repeats t = e in cc)
-repeats_strip (keeps u ∷ v) t (inr h) = repeats_strip v t h
-repeats_strip (x ∷ v) t (inl e) = inl e
-repeats_strip (x ∷ v) t (inr h) = inr (repeats_strip v t h)
+repeats_strip (x ∷ v) t h = let later = repeats_strip v t in grind arith
 
 pub made_covers : (before : List Sentence) (trees : Trees) (moves : List (Move (List ℕ)))
     (kept : List Trees) (m : Makes before moves none [] trees kept)
@@ -215,24 +189,24 @@ module _ (before : List Sentence) (trees : Trees) (moves : List (Move (List ℕ)
   -- what is kept is repeated
   shared_referred : (t : Trees) → In course (keeps t) → In course (repeats t)
   shared_referred t h =
-      let among : In s.kept t = subst (λ k. In k t)
-      (sym (kept_are before moves none [] trees s.kept s.made)) (visit_kept course t h) in
+      let among : In s.kept t =
+      rw (kept_are before moves none [] trees s.kept s.made) (visit_kept course t h) in
       let at = in_get s.kept t among in
       let tag = contains_in moves (again at.0)
       (s.referred at.0 (slice_get_within s.kept at.0 t at.1)) in
       let g = again_visit before moves none [] trees s.kept s.made at.0 tag in
-      subst (λ x. In course (repeats x)) (same_Some g.0 t (sym g.1 ∙ at.1)) g.2
+      let same : g.0 ≡ t = cc in rw same at g.2
 
   pub shared_marked : Marked (strip course) (strip course) course
-  shared_marked = subst (Marked (strip course) (strip course)) (bare_front course shared_tidy)
+  shared_marked = rw (bare_front course shared_tidy) at
       (tidy_marked (strip course) course [] (λ t h. absurd h) (λ t h. absurd h) shared_tidy
       (λ t h. inr (strip_repeats course t h))
       (λ t h. repeats_strip course t (shared_referred t h)))
 
   pub shared_kept_once : StandOnce s.kept
   shared_kept_once i j t =
-      once_places s.kept i j t (subst Once (sym (kept_are before moves none [] trees s.kept s.made))
-      (tidy_once course [] shared_tidy))
+      once_places s.kept i j t
+      (rw (kept_are before moves none [] trees s.kept s.made) (tidy_once course [] shared_tidy))
 
 pub shared_once : (before : List Sentence) (trees : Trees) (moves moves' : List (Move (List ℕ)))
     → ShareAll before trees moves → ShareAll before trees moves' → moves ≡ moves'
@@ -245,11 +219,10 @@ shared_once before trees moves moves' s s' =
     (shared_careful before trees moves s) (shared_careful before trees moves' s') in
     let same : v ≡ w =
     marked_once (strip w) (strip w) v w
-    (subst (λ x. Marked x x v) steps (shared_marked before trees moves s))
+    (rw steps at (shared_marked before trees moves s))
     (shared_marked before trees moves' s') in
     let kept : s.kept ≡ s'.kept =
-    kept_are before moves none [] trees s.kept s.made
-    ∙ ap (λ (x : List Visit). [] ++ trees_kept x) same
-    ∙ sym (kept_are before moves' none [] trees s'.kept s'.made) in
+    rw (kept_are before moves none [] trees s.kept s.made, same)
+    (sym (kept_are before moves' none [] trees s'.kept s'.made)) in
     moves_once before moves moves' none none [] [] trees trees s.kept s'.kept s.made s'.made refl
     kept (shared_kept_once before trees moves' s') same

@@ -1,7 +1,7 @@
 -- The steps so far of a fully shared proof, by the numbers of its subtrees.
-use Rattle.std.proofs.Common.{◌≡◌, ◌≢◌, ℕ, zero, suc, Some, slice_get, ◌+◌, ◌-◌, ◌≤◌, List, [], ◌∷◌, ◌++◌, length, take, Contains, ◌⊎◌, inl, inr, ⊎_elim, refl, sym, ap, subst, ◌∙◌, arith}
+use Rattle.std.proofs.Common.{◌≡◌, ◌≢◌, ℕ, zero, suc, Some, slice_get, ◌+◌, ◌-◌, ◌≤◌, List, [], ◌∷◌, ◌++◌, length, take, Contains, ◌⊎◌, inl, inr, ⊎_elim, refl, ap, ◌∙◌, arith, sym, subst}
 use Rattle.std.specs.List.{AllZip}
-use Rattle.std.proofs.lemmas.Option.{same_Some, none-some}
+use Rattle.std.proofs.lemmas.Option.{none-some}
 use Rattle.mm_proof.specs.Mirror.SharedSteps.{Careful}
 use Rattle.std.proofs.lemmas.List.{length-append, take_at, length-take}
 use Rattle.std.proofs.lemmas.List.Elements.{Contains-push, Contains-push_cases, Contains-append_left}
@@ -18,7 +18,7 @@ use Rattle.mm_proof.specs.Tree.{Trees, none, tree, beside, roots}
 use Rattle.mm_proof.specs.BigSubtrees.{IsBig}
 use Rattle.mm_proof.specs.Visits.{Visit, makes, repeats}
 use Rattle.mm_proof.specs.Mirror.Subtrees.{AreOnce, KeepNumbers, IsTreeOf, StandsFor}
-use Rattle.mm_proof.specs.Mirror.CodeSharing.{IsStepOf, AreSharedSteps, IsRepeat, Shares, Sharing, SharingSteps, ShareSteps, AreMadeBefore}
+use Rattle.mm_proof.specs.Mirror.CodeSharing.{IsStepOf, AreSharedSteps, IsRepeat, Shares, SharingSteps, ShareSteps, AreMadeBefore}
 use Rattle.mm_proof.proofs.Members.{In, in_contains}
 use Rattle.mm_proof.proofs.Covers.{after, after-append}
 use Rattle.mm_proof.proofs.SubtreeNumbers.{tree_later, tree_once, subtree_once}
@@ -55,7 +55,7 @@ steps_later st old new steps keys row kept keep h = record {
 }
 
 after_more : (v : List Visit) (t u : Trees) → In (after [] (v ++ makes t ∷ [])) u → (t ≡ u) ⊎ In (after [] v) u
-after_more v t u h = subst (λ x. In x u) (after-append [] v (makes t ∷ [])) h
+after_more v t u h = rw after-append at h
 
 -- fewer steps at the end
 zip_front_of : (st : List Sentence) (rows : List Row) (steps : List SharedStep) (v front back : List Visit) (count : ℕ) → AllZip (IsStepOf st rows) steps v → v ≡ front ++ back → length back ≡ count
@@ -64,8 +64,8 @@ zip_front_of st rows steps v front back count z parts long =
     let same = AllZip-long (IsStepOf st rows) steps v z in
     let n = length-append front back in
     let whole = ap length parts in
-    let at : length front ≡ length steps - count = omega arith in
-    subst (AllZip (IsStepOf st rows) (take (length steps - count) steps)) (ap (take (length steps - count)) parts ∙ take_at front back (length steps - count) at)
+    let same_long : length front ≡ length steps - count = omega arith in
+    rw (parts, take_at front back (length steps - count) same_long) at
     (zip_take (IsStepOf st rows) steps v (length steps - count) z)
 
 pub steps_make : (st : List Sentence) (rows : List Row) (t : Subtree) (count : ℕ) (steps steps' : List SharedStep) (keys keys' : List Subtree) (rest below : Trees) (kept : List Trees) (label : List ℕ)
@@ -82,7 +82,7 @@ steps_make st rows t count steps steps' keys keys' rest below kept label all onc
         → SharingSteps st rows new keys' (beside rest tr) kept
     made_one fresh new keys' e known only = record {
       v = h.v ++ makes tr ∷ [];
-      are = subst (λ x. AllZip (IsStepOf st rows) x (h.v ++ makes tr ∷ [])) (sym e) (zip_push (IsStepOf st rows) steps h.v (step.Make t) (makes tr) h.are (label, below, is, refl));
+      are = rw e (zip_push (IsStepOf st rows) steps h.v (step.Make t) (makes tr) h.are (label, below, is, refl));
       sharing = sharing_make rest kept h.v label below h.sharing fresh;
       known = known;
       only = only;
@@ -91,75 +91,70 @@ steps_make st rows t count steps steps' keys keys' rest below kept label all onc
     go : Shares t count steps keys steps' keys' → SharingSteps st rows steps' keys' (beside rest tr) kept
     go (inl leaf) =
         let bare : below ≡ none = leaf_below st rows t.below below is.stands leaf.0 in
-        let small : ¬ (IsBig tr) = subst (λ b. ¬ (IsBig (tree label b none))) (sym bare) (leaf_small label) in
+        let small : ¬ (IsBig tr) = rw bare (leaf_small label) in
         made_one (λ p. small p.0) steps' keys' leaf.1
         (λ l b big k. ⊎_elim
         (λ e. absurd (small (subst IsBig (sym e) big)))
-        (λ old. let g = h.known l b big old in (g.0, subst (λ x. Contains x g.0) (sym leaf.2) g.1, g.2))
+        (λ old. let g = h.known l b big old in (g.0, rw leaf.2 g.1, g.2))
         (after_more h.v tr (tree l b none) k))
-        (λ u k. let g = h.only u (subst (λ x. Contains x u) leaf.2 k) in (g.0, g.1, g.2, g.3, after_make h.v tr (tree g.0 g.1 none) g.4))
+        (λ u k. let g = h.only u (rw leaf.2 at k) in (g.0, g.1, g.2, g.3, after_make h.v tr (tree g.0 g.1 none) g.4))
     go (inr (inl cut)) =
         let big : IsBig tr = big_below st rows t.below label below is.stands cut.0 in
         let g = h.only t cut.1 in
         let same = tree_once st rows t g.0 label g.1 below g.2 is in
-        let made : In (after [] h.v) tr = subst (λ b. In (after [] h.v) (tree label b none)) same.1 (subst (λ l. In (after [] h.v) (tree l g.1 none)) same.0 g.4) in
+        let made : In (after [] h.v) tr = rw (same.0, same.1) at g.4 in
         let c = sharing_cut rest kept h.v label below h.sharing big made in
         record {
           v = c.front ++ repeats tr ∷ [];
-          are = subst (λ x. AllZip (IsStepOf st rows) x (c.front ++ repeats tr ∷ [])) (sym cut.2)
+          are = rw cut.2
               (zip_push (IsStepOf st rows) (take (length steps - count) steps) c.front (step.Repeat t) (repeats tr) (zip_front_of st rows steps h.v c.front c.back count h.are c.parts (c.long ∙ many)) (label, below, is, refl));
           sharing = c.sharing;
-          known = λ l b is k. let q = h.known l b is (c.only (tree l b none) k) in (q.0, subst (λ x. Contains x q.0) (sym cut.3) q.1, q.2);
-          only = λ u k. let q = h.only u (subst (λ x. Contains x u) cut.3 k) in (q.0, q.1, q.2, q.3, c.same (tree q.0 q.1 none) q.3 q.4);
+          known = λ l b is k. let q = h.known l b is (c.only (tree l b none) k) in (q.0, rw cut.3 q.1, q.2);
+          only = λ u k. let q = h.only u (rw cut.3 at k) in (q.0, q.1, q.2, q.3, c.same (tree q.0 q.1 none) q.3 q.4);
         }
     go (inr (inr new)) =
         let big : IsBig tr = big_below st rows t.below label below is.stands new.0 in
         let fresh : ¬ (IsBig tr × In (after [] h.v) tr) = λ p.
         let q = h.known label below p.0 p.1 in
-        new.1 (subst (λ x. Contains keys x) (subtree_once st rows q.0 t label below all once q.2 is) q.1) in
+        new.1 (rw (subtree_once st rows q.0 t label below all once q.2 is) at q.1) in
         made_one fresh steps' keys' new.2
         (λ l b is' k. ⊎_elim
         (λ e.
-        let q : (label ≡ l) × (below ≡ b) =
-        (let f : tree label below none ≡ tree l b none = e in (cc, cc)) in
-        (t, subst (λ x. Contains x t) (sym new.3) (Contains-push keys t), subst (λ y. IsTreeOf st rows t l y) q.1 (subst (λ y. IsTreeOf st rows t y below) q.0 is)))
-        (λ old. let q = h.known l b is' old in (q.0, subst (λ x. Contains x q.0) (sym new.3) (Contains-append_left keys (t ∷ []) q.0 q.1), q.2))
+        let p : label ≡ l = cc in
+        let q : below ≡ b = cc in
+        (t, rw new.3 (Contains-push keys t), rw (p, q) at is))
+        (λ old. let q = h.known l b is' old in (q.0, rw new.3 (Contains-append_left keys (t ∷ []) q.0 q.1), q.2))
         (after_more h.v tr (tree l b none) k))
         (λ u k. ⊎_elim
         (λ old. let q = h.only u old in (q.0, q.1, q.2, q.3, after_make h.v tr (tree q.0 q.1 none) q.4))
         (λ e. (label, below, rw e at is, big, rw after-append (inl refl)))
-        (Contains-push_cases keys t u (subst (λ x. Contains x u) new.3 k)))
+        (Contains-push_cases keys t u (rw new.3 at k)))
 
 pub steps_repeat : (st : List Sentence) (rows : List Row) (t : Subtree) (one : SharedStep) (steps : List SharedStep) (keys : List Subtree) (row : Trees) (kept : List Trees) (label : List ℕ) (below : Trees)
     → IsTreeOf st rows t label below → In kept (tree label below none) → IsRepeat t one → SharingSteps st rows steps keys row kept → SharingSteps st rows (steps ++ one ∷ []) keys (beside row (tree label below none)) kept
-steps_repeat st rows t one steps keys row kept label below of among is h = go is
-  where
-    tr : Trees
-    tr = tree label below none
-
-    go : IsRepeat t one → SharingSteps st rows (steps ++ one ∷ []) keys (beside row tr) kept
-    go (inl leaf) =
-        let bare : below ≡ none = leaf_below st rows t.below below of.stands leaf.0 in
-        let small : ¬ (IsBig tr) = subst (λ b. ¬ (IsBig (tree label b none))) (sym bare) (leaf_small label) in
-        record {
-          v = h.v ++ makes tr ∷ [];
-          are = zip_push (IsStepOf st rows) steps h.v one (makes tr) h.are (subst (λ x. IsStepOf st rows x (makes tr)) (sym leaf.1) (label, below, of, refl));
-          sharing = subst (λ b. Sharing (beside row (tree label b none)) kept (h.v ++ makes (tree label b none) ∷ [])) (sym bare) (sharing_leaf row kept h.v label h.sharing);
-          known = λ l b big k. ⊎_elim
-              (λ e. absurd (small (subst IsBig (sym e) big)))
-              (λ old. h.known l b big old)
-              (after_more h.v tr (tree l b none) k);
-          only = λ u k. let q = h.only u k in (q.0, q.1, q.2, q.3, after_make h.v tr (tree q.0 q.1 none) q.4);
-        }
-    go (inr more) =
-        let big : IsBig tr = big_below st rows t.below label below of.stands more.0 in
-        record {
-          v = h.v ++ repeats tr ∷ [];
-          are = zip_push (IsStepOf st rows) steps h.v one (repeats tr) h.are (subst (λ x. IsStepOf st rows x (repeats tr)) (sym more.1) (label, below, of, refl));
-          sharing = sharing_repeat row kept h.v label below h.sharing among big;
-          known = λ l b is k. h.known l b is (rw (after-append [] h.v (repeats tr ∷ [])) at k);
-          only = λ u k. let q = h.only u k in (q.0, q.1, q.2, q.3, rw (after-append [] h.v (repeats tr ∷ [])) q.4);
-        }
+steps_repeat st rows t one steps keys row kept label below of among (inl leaf) h =
+    let tr : Trees = tree label below none in
+    let bare : below ≡ none = leaf_below st rows t.below below of.stands leaf.0 in
+    let small : ¬ (IsBig tr) = rw bare (leaf_small label) in
+    record {
+      v = h.v ++ makes tr ∷ [];
+      are = zip_push (IsStepOf st rows) steps h.v one (makes tr) h.are (rw leaf.1 (label, below, of, refl));
+      sharing = rw bare (sharing_leaf row kept h.v label h.sharing);
+      known = λ l b big k. ⊎_elim
+          (λ e. absurd (small (subst IsBig (sym e) big)))
+          (h.known l b big) (after_more h.v tr (tree l b none) k);
+      only = λ u k. let q = h.only u k in (q.0, q.1, q.2, q.3, after_make h.v tr (tree q.0 q.1 none) q.4);
+    }
+steps_repeat st rows t one steps keys row kept label below of among (inr more) h =
+    let tr : Trees = tree label below none in
+    let big : IsBig tr = big_below st rows t.below label below of.stands more.0 in
+    record {
+      v = h.v ++ repeats tr ∷ [];
+      are = zip_push (IsStepOf st rows) steps h.v one (repeats tr) h.are (rw more.1 (label, below, of, refl));
+      sharing = sharing_repeat row kept h.v label below h.sharing among big;
+      known = λ l b is k. h.known l b is (rw (after-append [] h.v (repeats tr ∷ [])) at k);
+      only = λ u k. let q = h.only u k in (q.0, q.1, q.2, q.3, rw (after-append [] h.v (repeats tr ∷ [])) q.4);
+    }
 
 pub shared_keep : (first now : SharedSteps) (st : List Sentence) (stack shelf : List Subtree) (item : Subtree) (rest : Trees) (kept : List Trees) (steps : ℕ) (label : List ℕ) (below : Trees)
     → ShareSteps first now st (stack ++ item ∷ []) (beside rest (tree label below none)) shelf kept steps
@@ -181,33 +176,28 @@ made_before : (st : List Sentence) (rows : List Row) (made : List Trees) (steps 
     → In made (tree label below none) ⊎ In (take i steps) (step.Make t)
 made_before st rows made [] v i t label below all once z careful there is = absurd (none-some (step.Repeat t) there)
 made_before st rows made (x ∷ steps) [] i t label below all once z careful there is = absurd z
-made_before st rows made (step.Make u ∷ steps) (w ∷ v) zero t label below all once z careful there is =
-    absurd (let e = same_Some (step.Make u) (step.Repeat t) there in cc)
+made_before st rows made (step.Make u ∷ steps) (w ∷ v) zero t label below all once z careful there is = absurd cc
 made_before st rows made (step.Make u ∷ steps) (w ∷ v) (suc i) t label below all once z careful there is =
     let o : (l : List ℕ) × (b : Trees) × IsTreeOf st rows u l b × (w ≡ makes (tree l b none)) = z.0 in
-    let later = subst (λ x. Careful made (x ∷ v)) o.3 careful in
-    moved o.0 o.1 o.2 (made_before st rows (tree o.0 o.1 none ∷ made) steps v i t label below all once z.1 later.1 there is)
-  where
-    moved : (l : List ℕ) (b : Trees) → IsTreeOf st rows u l b → In (tree l b none ∷ made) (tree label below none) ⊎ In (take i steps) (step.Make t)
-        → In made (tree label below none) ⊎ In (step.Make u ∷ take i steps) (step.Make t)
-    moved l b its (inl (inl e)) =
-        let same : (l ≡ label) × (b ≡ below) =
-        (let f : tree l b none ≡ tree label below none = e in (cc, cc)) in
-        let there = subst (λ x. IsTreeOf st rows u label x) same.1 (subst (λ x. IsTreeOf st rows u x b) same.0 its) in
-        inr (inl (ap step.Make (subtree_once st rows u t label below all once there is)))
-    moved l b its (inl (inr h)) = inl h
-    moved l b its (inr h) = inr (inr h)
+    let later = rw o.3 at careful in
+    elim (made_before st rows (tree o.0 o.1 none ∷ made) steps v i t label below all once z.1 later.1 there is) [
+      | inl (inl e) ↦
+          let same : (o.0 ≡ label) × (o.1 ≡ below) = (cc, cc) in
+          let its = rw (same.0, same.1) at o.2 in
+          inr (inl (ap step.Make (subtree_once st rows u t label below all once its is)))
+      | inl (inr h) ↦ inl h
+      | inr h ↦ inr (inr h)
+    ]
 made_before st rows made (step.Repeat u ∷ steps) (w ∷ v) zero t label below all once z careful there is =
     let o : (l : List ℕ) × (b : Trees) × IsTreeOf st rows u l b × (w ≡ repeats (tree l b none)) = z.0 in
-    let now = subst (λ x. Careful made (x ∷ v)) o.3 careful in
-    let one : u ≡ t = (let e = same_Some (step.Repeat u) (step.Repeat t) there in cc) in
-    let its = subst (λ x. IsTreeOf st rows x o.0 o.1) one o.2 in
-    let same = tree_once st rows t o.0 label o.1 below its is in
-    inl (subst (λ x. In made (tree label x none)) same.1 (subst (λ x. In made (tree x o.1 none)) same.0 now.0.1))
+    let now = rw o.3 at careful in
+    let one : u ≡ t = cc in
+    let same = tree_once st rows t o.0 label o.1 below (rw one at o.2) is in
+    inl (rw (same.0, same.1) at now.0.1)
 made_before st rows made (step.Repeat u ∷ steps) (w ∷ v) (suc i) t label below all once z careful there is =
     let o : (l : List ℕ) × (b : Trees) × IsTreeOf st rows u l b × (w ≡ repeats (tree l b none)) = z.0 in
-    let later = subst (λ x. Careful made (x ∷ v)) o.3 careful in
-    ⊎_elim (λ h. inl h) (λ h. inr (inr h)) (made_before st rows made steps v i t label below all once z.1 later.1 there is)
+    let later = rw o.3 at careful in
+    ⊎_elim inl (λ h. inr (inr h)) (made_before st rows made steps v i t label below all once z.1 later.1 there is)
 
 pub steps_made_before : (st : List Sentence) (rows : List Row) (steps : List SharedStep) (keys : List Subtree) (row : Trees) (kept : List Trees) → AllMeant st → AreOnce rows
     → SharingSteps st rows steps keys row kept → AreMadeBefore steps

@@ -1,6 +1,5 @@
 -- A tree that fits has a fully shared proof.
-use Rattle.std.proofs.Common.{◌≡◌, ℕ, ◌+◌, List, [], ◌∷◌, ◌++◌, length, inl, inr, refl}
-use Rattle.std.proofs.Common.{⊎_elim, sym, ap, subst}
+use Rattle.std.proofs.Common.{ℕ, ◌+◌, List, [], ◌∷◌, ◌++◌, length, inl, inr, refl, arith}
 use Rattle.std.specs.List.{AllZip}
 use Rattle.mm_code.specs.declared.code.Code.{Code}
 use Rattle.mm_code.specs.declared.code.Code.TheVariants.{Number, Tag}
@@ -33,29 +32,26 @@ some_uses (label ∷ word) seen = elim (contains_dec seen label) [
 uses_have : (word seen listed : List (List ℕ)) (label : List ℕ) → AreFirstUses seen word listed
     → In word label → In (seen ++ listed) label
 uses_have [] seen listed label u h = absurd h
-uses_have (l ∷ word) seen listed label (inl u) (inl e) = subst (In (seen ++ listed)) e
-    (in_left seen listed l (contains_in seen l u.0))
-uses_have (l ∷ word) seen listed label (inl u) (inr h) = uses_have word seen listed label u.1 h
-uses_have (l ∷ word) seen listed label (inr u) (inl e) = in_right seen listed label
-    (subst (λ x. In x label) (sym u.2) (inl e))
-uses_have (l ∷ word) seen listed label (inr u) (inr h) = ⊎_elim
-    (λ a. ⊎_elim (λ e. in_right seen listed label (subst (λ x. In x label) (sym u.2) (inl e)))
-    (λ k. in_left seen listed label k) a)
-    (λ b. in_right seen listed label (subst (λ x. In x label) (sym u.2) (inr b)))
-    (in_apart (l ∷ seen) u.1 label (uses_have word (l ∷ seen) u.1 label u.3 h))
+uses_have (l ∷ word) seen listed label (inl u) h =
+    let old = contains_in seen l u.0 in
+    let left = in_left seen listed label in
+    let later = uses_have word seen listed label u.1 in grind arith
+uses_have (l ∷ word) seen listed label (inr u) h = rw u.2
+    (let left = in_left seen (l ∷ u.1) label in
+    let right = in_right seen (l ∷ u.1) label in
+    let parts = in_apart (l ∷ seen) u.1 label in
+    let later = uses_have word (l ∷ seen) u.1 label u.3 in grind arith)
 
 -- ---- the labels of moves
 
 sub_label : (trees : Trees) (label : List ℕ) (below : Trees)
     → IsSubtree trees (tree label below none) → In (spelling trees) label
 sub_label none label below h = absurd h
-sub_label (tree l b r) label below (inl e) =
-    let same : l ≡ label = (let f : tree label below none ≡ tree l b none = e in cc) in
-    in_right (spelling b) (l ∷ spelling r) label (inl same)
-sub_label (tree l b r) label below (inr (inl h)) = in_left (spelling b) (l ∷ spelling r) label
-    (sub_label b label below h)
-sub_label (tree l b r) label below (inr (inr h)) = in_right (spelling b) (l ∷ spelling r) label
-    (inr (sub_label r label below h))
+sub_label (tree l b r) label below h =
+    let left = in_left (spelling b) (l ∷ spelling r) label in
+    let right = in_right (spelling b) (l ∷ spelling r) label in
+    let i = sub_label b label below in
+    let j = sub_label r label below in grind arith
 
 -- a step by a label makes a tree with this label
 label_made : (before : List Sentence) (moves : List (Move (List ℕ))) (row : Trees)
@@ -65,12 +61,10 @@ label_made : (before : List Sentence) (moves : List (Move (List ℕ))) (row : Tr
     × In (trees_made (visits before moves row kept row' kept' m)) (tree label below none)
 label_made before [] row kept row' kept' m label h = absurd h
 label_made before (name l ∷ moves) row kept row' kept' m label (inl e) =
-    let same : l ≡ label = (let f : name l ≡ name label = e in cc) in
-    (m.2.1, inl (ap (λ x. tree x m.2.1 none) same))
+    (m.2.1, inl cc)
 label_made before (name l ∷ moves) row kept row' kept' m label (inr h) =
     let g = label_made before moves m.0 m.1 row' kept' m.3 label h in (g.0, inr g.1)
-label_made before (move ∷ moves) row kept row' kept' m label (inl e) =
-    absurd (let f : move ≡ name label = e in cc)
+label_made before (move ∷ moves) row kept row' kept' m label (inl e) = absurd cc
 label_made before (move ∷ moves) row kept row' kept' m label (inr h) =
     label_made before moves m.0 m.1 row' kept' m.3 label h
 

@@ -1,5 +1,5 @@
 -- The labels of a tree, and the tokens of a fully shared proof of it, are a proof of what it derives.
-use Rattle.std.proofs.Common.{◌≡◌, ℕ, ◌<◌, List, [], ◌∷◌, ◌++◌, map, drop, slice_get, Contains, Some, inl, inr, refl, sym, ap, subst, ◌∙◌, arith, append_assoc}
+use Rattle.std.proofs.Common.{◌≡◌, ℕ, ◌<◌, List, [], ◌∷◌, ◌++◌, map, drop, slice_get, Contains, Some, inl, inr, refl, sym, ap, subst, arith, append_assoc, ⊎_elim}
 use Rattle.std.specs.List.{flat_map}
 use Rattle.std.proofs.lemmas.List.Elements.{Contains-append_left, Contains-append_right, Contains-append_cases}
 use Rattle.mm_text.proofs.Lists.{contains_from_at}
@@ -34,14 +34,11 @@ no_member x (i, less, e) = let h : i < 0 = less in absurd (omega (arith, h))
 -- each label may stand over some trees
 pub label_fits : (before : List Sentence) (trees : Trees) (label : List ℕ) → TreesFit before trees → Contains (spelling trees) label → (below : Trees) × MayStandOver before label below
 label_fits before none label fit c = absurd (no_member label c)
-label_fits before (tree own below right) label fit c =
-    elim (Contains-append_cases (spelling below) (own ∷ spelling right) label c) [
-      | inl h ↦ label_fits before below label fit.1 h
-      | inr h ↦ elim (contains_cases own (spelling right) label h) [
-        | inl same ↦ (below, subst (λ (l : List ℕ). MayStandOver before l below) same fit.0)
-        | inr k ↦ label_fits before right label fit.2 k
-      ]
-    ]
+label_fits before (tree own below right) label fit c = ⊎_elim
+    (λ h. label_fits before below label fit.1 h)
+    (λ h. ⊎_elim (λ same. (below, subst (λ (l : List ℕ). MayStandOver before l below) same fit.0))
+    (λ k. label_fits before right label fit.2 k) (contains_cases own (spelling right) label h))
+    (Contains-append_cases (spelling below) (own ∷ spelling right) label c)
 
 -- it is that of a statement
 pub stands_known : (before : List Sentence) (label : List ℕ) (below : Trees) → MayStandOver before label below → SomeSentence before (IsLabelled label)
@@ -55,8 +52,7 @@ stands_active before label below meant (inl (bare, (at, g, there', active, (name
     subst (IsActive before) (one_label before label at place g h meant there' there named' named) active
 stands_active before label below meant (inr (at, assertion, hypotheses, names, many)) place h there named kind =
     let here : at ≡ place = one_label before label at place assertion h meant names.there there names.named named in
-    let one : Some assertion ≡ Some h = sym names.there ∙ ap (slice_get before) here ∙ there in
-    let same : assertion ≡ h = cc in
+    let same : assertion ≡ h = cc (names.there, here, there) in
     absurd (not_both_kinds h.kind kind (subst (λ (s : Sentence). IsAssertion s.kind) same names.kind))
 
 -- ---- proofs that break no rule over the whole of them
@@ -66,11 +62,9 @@ whole_of : (before : List Sentence) (tokens labels : List (List ℕ)) → AllMea
     → ((text : List ℕ) (rule : CodeRule) → AreLetters tokens text → ¬ (LettersBreak rule text)) → IsWhole before tokens
 whole_of before tokens labels meant ends only fits letters P1 broken = ends broken
 whole_of before tokens labels meant ends only fits letters P2 (others, are, label, used, unknown) =
-    let here : Contains labels label = subst (λ (ls : List (List ℕ)). Contains ls label) (only others are) used in
-    let f = fits label here in unknown (stands_known before label f.0 f.1)
+    let f = fits label (rw (only others are) at used) in unknown (stands_known before label f.0 f.1)
 whole_of before tokens labels meant ends only fits letters P3 (others, are, label, used, place, h, there, named, kind, closed) =
-    let here : Contains labels label = subst (λ (ls : List (List ℕ)). Contains ls label) (only others are) used in
-    let f = fits label here in closed (stands_active before label f.0 meant f.1 place h there named kind)
+    let f = fits label (rw (only others are) at used) in closed (stands_active before label f.0 meant f.1 place h there named kind)
 whole_of before tokens labels meant ends only fits letters P4 (text, are, broken) = letters text code.P4 are broken
 whole_of before tokens labels meant ends only fits letters P5 (text, are, broken) = letters text code.P5 are broken
 whole_of before tokens labels meant ends only fits letters rule broken = broken
@@ -108,10 +102,9 @@ first_used : (seen word listed : List (List ℕ)) (label : List ℕ) → AreFirs
 first_used seen [] listed label uses c = absurd (no_member label (subst (λ (ls : List (List ℕ)). Contains ls label) uses c))
 first_used seen (own ∷ word) listed label (inl (old, uses)) c = contains_later own word label (first_used seen word listed label uses c)
 first_used seen (own ∷ word) listed label (inr (new, others, e, uses)) c =
-    elim (contains_cases own others label (subst (λ (ls : List (List ℕ)). Contains ls label) e c)) [
-      | inl same ↦ subst (Contains (own ∷ word)) same (contains_first own word)
-      | inr h ↦ contains_later own word label (first_used (own ∷ seen) word others label uses h)
-    ]
+    ⊎_elim (λ same. subst (Contains (own ∷ word)) same (contains_first own word))
+    (λ h. contains_later own word label (first_used (own ∷ seen) word others label uses h))
+    (contains_cases own others label (rw e at c))
 
 pub packed_listed : (before : List Sentence) (s : Sentence) (trees : Trees) (listed : List (List ℕ)) (codes : List Code) (label : List ℕ) → IsPacked before s trees listed codes → Contains listed label → Contains (spelling trees) label
 packed_listed before s trees listed codes label p c = first_used p.says.labels (spelling trees) listed label p.uses c

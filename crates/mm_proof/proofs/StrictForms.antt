@@ -2,7 +2,6 @@
 use Rattle.std.proofs.Common.{◌≡◌, ℕ, zero, suc, ◌≤◌, List, [], ◌∷◌, ◌++◌, length, map, slice_get}
 use Rattle.std.proofs.Common.{Contains, Option, Some, inl, inr, refl, sym, ap, subst, ◌∙◌, arith}
 use Rattle.std.specs.List.{flat_map}
-use Rattle.std.proofs.lemmas.Option.{same_Some, none-some}
 use Rattle.mm_code.specs.declared.code.Code.{Code}
 use Rattle.mm_code.specs.Letters.{Letters}
 use Rattle.mm_code.specs.Layout.{in_parentheses}
@@ -10,8 +9,8 @@ use Rattle.mm_frame.specs.Sentence.{Sentence, SomeSentence, IsLabelled, IsAssert
 use Rattle.mm_frame.proofs.Those.{mandatory_unique}
 use Rattle.mm_proof.specs.Tree.{Trees, none, tree, spelling, MayStandOver}
 use Rattle.mm_proof.specs.BigSubtrees.{IsBig}
-use Rattle.mm_proof.specs.Moves.{Move, name, again, mark, Makes}
-use Rattle.mm_proof.specs.Visits.{makes, repeats, keeps, visits}
+use Rattle.mm_proof.specs.Moves.{Move, name, mark, Makes}
+use Rattle.mm_proof.specs.Visits.{makes, keeps, visits}
 use Rattle.mm_proof.specs.Tokens.{closing_token, IsNormal}
 use Rattle.mm_proof.specs.Sharing.{ShareAll, IsPacked}
 use Rattle.mm_proof.specs.Strict.{IsStrictList, MarkAssertions, IsStrict}
@@ -49,9 +48,9 @@ packed_list before s trees listed codes p =
       optional = λ hypotheses h label those has named among.
           let same : hypotheses ≡ p.says.hypotheses =
           mandatory_unique before s hypotheses p.says.hypotheses those p.says.mandatory in
-          let own = subst (λ (hs : List Sentence). In hs h) same (contains_in hypotheses h has) in
           u.1 label (contains_in listed label among)
-          (label_in p.says.hypotheses p.says.labels h label p.says.labelled own named);
+          (label_in p.says.hypotheses p.says.labels h label p.says.labelled
+          (rw same at (contains_in hypotheses h has)) named);
     }
 
 -- ---- the marks
@@ -61,11 +60,10 @@ kept_there : (before : List Sentence) (moves : List (Move (List ℕ))) (row : Tr
     (kept : List Trees) (row' : Trees) (kept' : List Trees)
     (made : Makes before moves row kept row' kept') (i : ℕ) → slice_get moves i ≡ Some mark
     → (t : Trees) × (slice_get (visits before moves row kept row' kept' made) i ≡ Some (keeps t))
-kept_there before [] row kept row' kept' made i at = absurd (none-some mark at)
+kept_there before [] row kept row' kept' made i at = absurd cc
 kept_there before (mark ∷ moves) row kept row' kept' made zero at =
     (tree made.2.1 made.2.2 none, refl)
-kept_there before (move ∷ moves) row kept row' kept' made zero at =
-    absurd (let e = same_Some {A = Move (List ℕ)} move mark at in cc)
+kept_there before (move ∷ moves) row kept row' kept' made zero at = absurd cc
 kept_there before (move ∷ moves) row kept row' kept' made (suc i) at =
     kept_there before moves made.0 made.1 row' kept' made.3 i at
 
@@ -82,16 +80,10 @@ made_there : (before : List Sentence) (moves : List (Move (List ℕ))) (row : Tr
     (made : Makes before moves row kept row' kept') (j : ℕ) (t : Trees)
     → slice_get (visits before moves row kept row' kept' made) j ≡ Some (makes t)
     → ByLabel before (slice_get moves j) t
-made_there before [] row kept row' kept' made j t at = absurd (none-some (makes t) at)
+made_there before [] row kept row' kept' made j t at = absurd cc
 made_there before (name label ∷ moves) row kept row' kept' made zero t at =
-    let e : makes (tree label made.2.1 none) ≡ makes t =
-    same_Some (makes (tree label made.2.1 none)) (makes t) at in
     record { label = label; below = made.2.1; whole = cc; there = refl; stands = made.2.3 }
-made_there before (again tag ∷ moves) row kept row' kept' made zero t at =
-    let e : repeats made.2.0 ≡ makes t = same_Some (repeats made.2.0) (makes t) at in absurd cc
-made_there before (mark ∷ moves) row kept row' kept' made zero t at =
-    let e : keeps (tree made.2.1 made.2.2 none) ≡ makes t =
-    same_Some (keeps (tree made.2.1 made.2.2 none)) (makes t) at in absurd cc
+made_there before (move ∷ moves) row kept row' kept' made zero t at = absurd cc
 made_there before (move ∷ moves) row kept row' kept' made (suc j) t at =
     made_there before moves made.0 made.1 row' kept' made.3 j t at
 
@@ -100,16 +92,14 @@ big_assertion : (before : List Sentence) (label : List ℕ) (below : Trees)
     → IsBig (tree label below none) → MayStandOver before label below
     → SomeSentence before (λ a. IsLabelled label a × IsAssertion a.kind)
 big_assertion before label below big (inl (bare, h)) =
-    let small : 2 ≤ 1 = subst (λ (t : Trees). IsBig (tree label t none)) bare big in
-    absurd (omega (arith, small))
+    absurd (let small : 2 ≤ 1 = rw bare at big in omega arith)
 big_assertion before label below big (inr (place, assertion, hypotheses, names, many)) =
     (place, assertion, names.there, (names.named, names.kind))
 
 shared_marks : (before : List Sentence) (trees : Trees) (moves : List (Move (List ℕ)))
     → ShareAll before trees moves → MarkAssertions before moves
 shared_marks before trees moves s front after parts =
-    let at : slice_get moves (length front) ≡ Some mark =
-    ap (λ l. slice_get l (length front)) parts ∙ get_parted front after mark in
+    let at : slice_get moves (length front) ≡ Some mark = rw parts (get_parted front after mark) in
     let k = kept_there before moves none [] trees s.kept s.made (length front) at in
     let m = s.marked (length front) k.0 k.1 in
     let l = made_there before moves none [] trees s.kept s.made m.1 k.0 m.3 in

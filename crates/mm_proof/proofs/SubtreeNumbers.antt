@@ -9,7 +9,7 @@ use Rattle.mm_proof.specs.declared.subtrees.Subtree.{Subtree}
 use Rattle.mm_proof.specs.declared.subtrees.Row.{Row}
 use Rattle.mm_proof.specs.Tree.{Trees, none, tree, beside, roots}
 use Rattle.mm_proof.specs.Spelled.{IsNumberOfLabel}
-use Rattle.mm_proof.specs.Mirror.Subtrees.{AreOnce, IsNumberOfRow, KeepNumbers, StandsFor, IsTreeOf, AreTreesOf}
+use Rattle.mm_proof.specs.Mirror.Subtrees.{AreOnce, KeepNumbers, StandsFor, IsTreeOf, AreTreesOf}
 use Rattle.mm_proof.proofs.Meaning.{one_label}
 
 -- ---- labels
@@ -28,25 +28,18 @@ one_number_of st i j label all a b =
 
 -- ---- rows
 
-one_row_at : (rows : List Row) (n : ℕ) (r s : Row) → IsNumberOfRow rows n r → IsNumberOfRow rows n s → r ≡ s
-one_row_at rows n r s a b =
-    let same : a.place ≡ b.place = omega (arith, a.next, b.next) in
-    same_Some r s (sym a.there ∙ ap (slice_get rows) same ∙ b.there)
-
 -- a number stands for one row of trees
 pub stands_once : (st : List Sentence) (rows : List Row) (t u : Trees) (n : ℕ) → StandsFor st rows n t → StandsFor st rows n u → t ≡ u
 stands_once st rows none none n a b = refl
 stands_once st rows none (tree m y s) n a b = absurd (let next = b.1.next in omega arith)
 stands_once st rows (tree l x r) none n a b = absurd (let next = a.1.next in omega arith)
 stands_once st rows (tree l x r) (tree m y s) n a b =
-    let same : a.0 ≡ b.0 = one_row_at rows n a.0 b.0 a.1 b.1 in
+    let place : a.1.place ≡ b.1.place = omega (arith, a.1.next, b.1.next) in
+    let same : a.0 ≡ b.0 = cc (a.1.there, b.1.there) in
     let label : l ≡ m = one_label_of st b.0.first.label l m (subst (λ (k : Row). IsNumberOfLabel st k.first.label l) same a.2) b.2 in
     let below : x ≡ y = stands_once st rows x y b.0.first.below (subst (λ (k : Row). StandsFor st rows k.first.below x) same a.3) b.3 in
     let right : r ≡ s = stands_once st rows r s b.0.right (subst (λ (k : Row). StandsFor st rows k.right r) same a.4) b.4 in
-    ap (λ z. tree z x r) label ∙ ap (λ z. tree m z r) below ∙ ap (λ z. tree m y z) right
-
-abbrev row_of : ℕ → ℕ → ℕ → Row
-row_of label below right = record { first = record { label = label; below = below }; right = right }
+    cc
 
 -- a row of trees has one number
 pub number_once : (st : List Sentence) (rows : List Row) (t : Trees) (n m : ℕ) → AllMeant st → AreOnce rows → StandsFor st rows n t → StandsFor st rows m t → n ≡ m
@@ -56,8 +49,7 @@ number_once st rows (tree l x r) n m all once a b =
     let below : a.0.first.below ≡ b.0.first.below = number_once st rows x a.0.first.below b.0.first.below all once a.3 b.3 in
     let right : a.0.right ≡ b.0.right = number_once st rows r a.0.right b.0.right all once a.4 b.4 in
     let row : a.0 ≡ b.0 =
-    ap (λ z. row_of z a.0.first.below a.0.right) label ∙ ap (λ z. row_of b.0.first.label z a.0.right) below
-    ∙ ap (λ z. row_of b.0.first.label b.0.first.below z) right in
+    λ i. record { first = record { label = label i; below = below i }; right = right i } in
     let place : a.1.place ≡ b.1.place =
     once a.1.place b.1.place b.0 (subst (λ (k : Row). slice_get rows a.1.place ≡ Some k) row a.1.there) b.1.there in
     omega (arith, a.1.next, b.1.next, place)
@@ -77,14 +69,11 @@ subtree_once st rows t u l x all once a b =
 
 -- ---- what stands for trees later on
 
-number_later : (old new : List Row) (n : ℕ) (r : Row) → KeepNumbers old new → IsNumberOfRow old n r → IsNumberOfRow new n r
-number_later old new n r keep a = record { place = a.place; next = a.next; there = keep a.place r a.there }
-
 pub stands_later : (st : List Sentence) (old new : List Row) (n : ℕ) (t : Trees) → KeepNumbers old new → StandsFor st old n t → StandsFor st new n t
 stands_later st old new n none keep a = a
 stands_later st old new n (tree l x r) keep a = (
   a.0,
-  number_later old new n a.0 keep a.1,
+  record { place = a.1.place; next = a.1.next; there = keep a.1.place a.0 a.1.there },
   a.2,
   stands_later st old new a.0.first.below x keep a.3,
   stands_later st old new a.0.right r keep a.4,

@@ -71,20 +71,12 @@ kept_is st first rows stack shelf t row kept label below is h =
 
 pub subtrees_repeat : (st : List Sentence) (first rows : List Row) (stack shelf : List Subtree) (t : Subtree) (row : Trees) (kept : List Trees) (label : List ℕ) (below : Trees) → IsKept shelf kept t label below
     → AreSubtreesOf first rows st stack row shelf kept → AreSubtreesOf first rows st (stack ++ t ∷ []) (beside row (tree label below none)) shelf kept
-subtrees_repeat st first rows stack shelf t row kept label below is h = record {
-  keep = h.keep;
-  once = h.once;
-  stands = trees_join st rows stack (t ∷ []) row (tree label below none) h.stands (kept_is st first rows stack shelf t row kept label below is h, tt);
-  shelved = h.shelved;
-}
+subtrees_repeat st first rows stack shelf t row kept label below is h =
+    assumption (trees_join st rows stack (t ∷ []) row (tree label below none) h.stands (kept_is st first rows stack shelf t row kept label below is h, tt))
 
 -- a mark
 pub subtrees_keep : (st : List Sentence) (first rows : List Row) (stack shelf : List Subtree) (t : Subtree) (rest below : Trees) (kept : List Trees) (label : List ℕ)
     → AreSubtreesOf first rows st (stack ++ t ∷ []) (beside rest (tree label below none)) shelf kept
     → AreSubtreesOf first rows st (stack ++ t ∷ []) (beside rest (tree label below none)) (shelf ++ t ∷ []) (kept ++ tree label below none ∷ [])
-subtrees_keep st first rows stack shelf t rest below kept label h = record {
-  keep = h.keep;
-  once = h.once;
-  stands = h.stands;
-  shelved = zip_push (IsSubtreeOf st rows) shelf kept t (tree label below none) h.shelved (last_made st first rows stack shelf t rest below kept label h, tt);
-}
+subtrees_keep st first rows stack shelf t rest below kept label h =
+    assumption (zip_push (IsSubtreeOf st rows) shelf kept t (tree label below none) h.shelved (last_made st first rows stack shelf t rest below kept label h, tt))

@@ -1,8 +1,8 @@
 -- The tokens of a proof: its parts, its labels, and what a list of labels that may be used tells.
-use Rattle.std.proofs.Common.{◌≡◌, ℕ, ◌+◌, ◌<◌, ◌≤◌, List, [], length, map, take, drop, get_or, slice_get, Contains, Some, inl, inr, ⊎_elim, refl, ap, subst, ◌∙◌, arith}
+use Rattle.std.proofs.Common.{◌≡◌, ℕ, ◌+◌, ◌<◌, ◌≤◌, List, [], length, map, take, drop, get_or, slice_get, Contains, Some, inl, ⊎_elim, refl, ap, subst, ◌∙◌, arith}
 use Rattle.std.proofs.lemmas.Option.{slice_get-map, slice_get-get_or}
 use Rattle.std.proofs.lemmas.List.{take_all, length-map}
-use Rattle.mm_frame.specs.Sentence.{Sentence, IsLabelled, IsHypothesis, IsAssertion}
+use Rattle.mm_frame.specs.Sentence.{Sentence, IsLabelled, IsHypothesis}
 use Rattle.mm_frame.specs.Active.{IsActive}
 use Rattle.mm_frame.specs.Rules.{AllMeant}
 use Rattle.mm_proof.specs.declared.fault.ProofRule.{ProofRule}
@@ -48,10 +48,8 @@ used_not_idle statements place label id all m at h there named kind idle =
     let here = m.numbered.there in
     let one : m.at ≡ at = one_label statements m.at at m.s h label all here front.1 m.named named in
     let same : m.s ≡ h = one_labelled statements m.at at m.s h label all here front.1 m.named named in
-    elim m.kind [
-      | inl active ↦ idle (subst (λ k. IsActive (take place statements) k) one active.1)
-      | inr assertion ↦ not_both_kinds h.kind kind (subst (λ (s : Sentence). IsAssertion s.kind) same assertion)
-    ]
+    ⊎_elim (λ active. idle (rw one at active.1))
+    (λ assertion. not_both_kinds h.kind kind (rw same at assertion)) m.kind
 
 -- ---- what the labels of a proof tell
 

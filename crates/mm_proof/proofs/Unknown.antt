@@ -1,12 +1,11 @@
 -- A proof that breaks no rule over the whole of it holds no `?`: no label and no letter has such a byte.
-use Rattle.std.proofs.Common.{◌≡◌, ℕ, ◌<◌, ◌≤◌, List, [], ◌∷◌, ◌++◌, take, get_or, Contains, Any, false, inl, inr, refl, sym, ap, subst, ◌∙◌, arith}
+use Rattle.std.proofs.Common.{◌≡◌, ℕ, ◌<◌, List, [], ◌∷◌, ◌++◌, take, get_or, Contains, inl, inr, refl, sym, ap, subst, arith, ⊎_elim}
 use Rattle.std.specs.List.{flat_map}
 use Rattle.std.proofs.lemmas.List.Elements.{Contains-append_left, Contains-append_right, Contains-append_cases}
 use Rattle.std.proofs.lemmas.List.Folds.{list_all_at, Any-from_list_any}
 use Rattle.std.proofs.lemmas.Bool.{eqb-true}
-use Rattle.mm_text.specs.Token.{IsLabel, is_label_byte}
+use Rattle.mm_text.specs.Token.{is_label_byte}
 use Rattle.mm_text.proofs.TextFacts.{label_bytes}
-use Rattle.mm_code.specs.Letters.{IsLetter}
 use Rattle.mm_frame.specs.Sentence.{Sentence}
 use Rattle.mm_frame.specs.Form.{AllFormed}
 use Rattle.mm_frame.proofs.Meant.{allformed_front}
@@ -14,7 +13,7 @@ use Rattle.mm_frame.proofs.ReadLaws.{label_named}
 use Rattle.mm_proof.specs.declared.fault.ProofRule.TheVariants.{P2, P4}
 use Rattle.mm_proof.specs.Tokens.{is_question, is_unknown, opening_token, closing_token, IsIncomplete, IsCompressed, AreLabels, SayMoves}
 use Rattle.mm_proof.specs.Moves.{Move}
-use Rattle.mm_proof.specs.Proof.{IsWhole, IsWithin, IsProvedWithin}
+use Rattle.mm_proof.specs.Proof.{IsWhole}
 use Rattle.mm_proof.specs.Steps.{IsProofNumber}
 use Rattle.mm_proof.specs.Parsed.{OfProof}
 use Rattle.mm_proof.specs.Verified.{TokensProve}
@@ -23,16 +22,20 @@ use Rattle.mm_proof.proofs.FormLists.{only_one}
 
 -- ---- labels
 
-formed_known : (l : List ℕ) → IsLabel l → ¬ (Contains l 63)
-formed_known l formed has =
-    let other : is_label_byte (get_or l has.0 63) ≡ false = ap is_label_byte has.2 in
-    absurd (let e = sym (label_bytes l formed) ∙ list_all_at is_label_byte l has.0 63 has.1 other in cc)
-
 -- each label is that of an earlier statement
 label_known : (before : List Sentence) (tokens labels : List (List ℕ)) (label : List ℕ) → AllFormed before → IsWhole before tokens → AreLabels tokens labels
     → Contains labels label → ¬ (Contains label 63)
 label_known before tokens labels label formed whole are has unknown =
-    whole P2 (labels, are, label, has, λ found. formed_known label (label_named before label formed found) unknown)
+    whole P2 (
+      labels,
+      are,
+      label,
+      has,
+      λ found.
+          let byte = list_all_at is_label_byte label unknown.0 63 unknown.1
+          (ap is_label_byte unknown.2) in
+          absurd (cc (label_bytes label (label_named before label formed found), byte)),
+    )
 
 -- ---- letters and parentheses
 
@@ -43,21 +46,10 @@ one_known b token same other unknown =
 -- a byte of a piece is one of what the pieces are joined to
 among_joined : (pieces : List (List ℕ)) (piece : List ℕ) (b : ℕ) → Contains pieces piece → Contains piece b → Contains (flat_map (λ p. p) pieces) b
 among_joined [] piece b has byte = absurd (let w : has.0 < 0 = has.1 in omega arith)
-among_joined (p ∷ pieces) piece b has byte = elim (contains_cases p pieces piece has) [
-  | inl same ↦ Contains-append_left p (flat_map (λ q. q) pieces) b (subst (λ q. Contains q b) (sym same) byte)
-  | inr later ↦ Contains-append_right p (flat_map (λ q. q) pieces) b (among_joined pieces piece b later byte)
-]
-
-no_letter : ¬ (IsLetter 63)
-no_letter letter = absurd (let l : 65 ≤ 63 = letter.0 in omega arith)
-
-other_byte : (text : List ℕ) → Contains text 63 → Any (λ byte. ¬ (IsLetter byte)) text
-other_byte text byte = (byte.0, 63, byte.1, byte.2, no_letter)
-
-letters_known : (before : List Sentence) (tokens labels letters : List (List ℕ)) (token : List ℕ) → IsWhole before tokens → IsCompressed tokens labels letters
-    → Contains letters token → ¬ (Contains token 63)
-letters_known before tokens labels letters token whole parts has unknown =
-    whole P4 (flat_map (λ p. p) letters, (labels, letters, parts, refl), other_byte (flat_map (λ p. p) letters) (among_joined letters token 63 has unknown))
+among_joined (p ∷ pieces) piece b has byte = ⊎_elim
+    (λ same. Contains-append_left p (flat_map (λ q. q) pieces) b (rw same byte))
+    (λ later. Contains-append_right p (flat_map (λ q. q) pieces) b (among_joined pieces piece b later byte))
+    (contains_cases p pieces piece has)
 
 -- ---- the tokens
 
@@ -70,7 +62,9 @@ compressed_known before tokens labels letters token formed whole parts has =
         | inl among ↦ label_known before tokens labels token formed whole (inr (letters, parts)) among
         | inr behind ↦ elim (contains_cases closing_token letters token behind) [
           | inl same ↦ one_known 41 token same (λ e. cc)
-          | inr among ↦ letters_known before tokens labels letters token whole parts among
+          | inr among ↦ λ unknown.
+              let byte = among_joined letters token 63 among unknown in
+              whole P4 (flat_map (λ p. p) letters, (labels, letters, parts, refl), (byte.0, 63, byte.1, byte.2, λ letter. absurd (omega (arith, letter.0))))
         ]
       ]
     ]
@@ -85,7 +79,7 @@ unknown_token tokens unknown =
     (token.1, (token.0, token.2, token.3), (byte.0, byte.2, subst (λ b. get_or token.1 byte.0 b ≡ b) is byte.3))
 
 -- tokens that break no rule over the whole proof, and say moves, hold no `?`
-said_known : (before : List Sentence) (s : Sentence) (tokens : List (List ℕ)) (moves : List (Move (List ℕ))) → AllFormed before → IsWhole before tokens
+pub said_known : (before : List Sentence) (s : Sentence) (tokens : List (List ℕ)) (moves : List (Move (List ℕ))) → AllFormed before → IsWhole before tokens
     → SayMoves before s tokens moves → ¬ (IsIncomplete tokens)
 said_known before s tokens moves formed whole said unknown = by_form said (unknown_token tokens unknown)
   where
@@ -93,10 +87,6 @@ said_known before s tokens moves formed whole said unknown = by_form said (unkno
     by_form (inl normal) (token, among, byte) = label_known before tokens tokens token formed whole (inl (normal.0, refl)) among byte
     by_form (inr compressed) (token, among, byte) =
         compressed_known before tokens compressed.listed compressed.letters token formed whole compressed.parts among byte
-
-pub within_known : (limit : ℕ) (st : List Sentence) (id : ℕ) (tokens : List (List ℕ)) → AllFormed st → IsIncomplete tokens
-    → OfProof st id (λ place s. ¬ (IsProvedWithin (IsWithin limit) (take place st) s tokens))
-within_known limit st id tokens formed unknown place s proof p = said_known (take place st) s tokens p.moves (allformed_front st place formed) p.whole p.said unknown
 
 -- what is proved has no unknown step
 pub proved_known : (limit : ℕ) (st : List Sentence) (id : ℕ) (tokens : List (List ℕ)) (used : List ℕ) → AllFormed st → (place : ℕ) × (s : Sentence) × IsProofNumber st id place s

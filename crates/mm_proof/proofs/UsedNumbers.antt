@@ -76,12 +76,10 @@ used_numbers statements place xs moves row kept all numbered usable made id = (u
     uses : ((i : ℕ) × (slice_get xs i ≡ Some (name id))) × IsAssertionNumber statements id → IsUsedNumber (take place statements) row id
     uses h =
         let z = zip_left (IsNumberedMove statements) xs moves h.0.0 (name id) numbered h.0.1 in
-        let p = h.1.0 in
-        let a = h.1.1 in
-        let n = h.1.2 in
+        let (p, a, n, kind) = h.1 in
         let same : z.2.0 ≡ a = same_Some z.2.0 a (sym z.2.2 ∙ numbered_get statements id p a n) in
         let named : IsLabelled z.2.1 a = subst (λ s. IsLabelled z.2.1 s) same z.2.3 in
         let may = rw z.2.4 at (all_at _ moves h.0.0 z.0 usable z.1) in
-        let less : p < place = of_usable p a z.2.1 n h.1.3 named may in
+        let less : p < place = of_usable p a z.2.1 n kind named may in
         let stands = (labels_of_moves (take place statements) moves row kept made z.2.1).1 (h.0.0, z.1 ∙ ap Some z.2.4) in
-        (p, a, z.2.1, numbered_front statements id p place a less n, h.1.3, named, stands)
+        (p, a, z.2.1, numbered_front statements id p place a less n, kind, named, stands)

@@ -1,8 +1,8 @@
 -- The labels in the trees that moves make are those of the moves; so the assertions that are used are those of the moves.
-use Rattle.std.proofs.Common.{◌≡◌, ℕ, zero, suc, List, [], ◌∷◌, ◌++◌, slice_get, Contains, Some, ◌⊎◌, inl, inr, ⊎_elim, ◌↔◌, refl, sym, ap, subst, ◌∙◌, ◌≤◌, arith}
+use Rattle.std.proofs.Common.{◌≡◌, ℕ, zero, suc, List, [], ◌∷◌, ◌++◌, slice_get, Contains, Some, ◌⊎◌, inl, inr, ⊎_elim, ◌↔◌, sym, ap, subst, ◌∙◌, ◌≤◌, arith}
 use Rattle.std.specs.List.{AllByRecursion}
 use Rattle.std.proofs.lemmas.Option.{same_Some, none-some}
-use Rattle.std.proofs.lemmas.List.Elements.{Contains-append_left, Contains-append_right, Contains-append_cases}
+use Rattle.std.proofs.lemmas.List.Elements.{Contains-append_left, Contains-append_right, Contains-append_cases, Contains-push, Contains-push_cases}
 use Rattle.mm_text.proofs.Lists.{all_push, all_at, all_weaker}
 use Rattle.mm_frame.specs.Sentence.{Sentence}
 use Rattle.mm_proof.specs.Tree.{Trees, none, tree, spelling}
@@ -13,13 +13,6 @@ use Rattle.mm_proof.proofs.WordSteps.{spelling_over}
 -- some move is a step by the label
 abbrev pub IsStepOf : List (Move (List ℕ)) → List ℕ → Type 0
 IsStepOf moves label = (i : ℕ) × (slice_get moves i ≡ Some (name label))
-
-one_of : (y x : List ℕ) → Contains (y ∷ []) x → y ≡ x
-one_of y x (zero, less, e) = e
-one_of y x (suc k, less, e) = absurd (let more : suc (suc k) ≤ 1 = less in omega arith)
-
-itself : (x : List ℕ) → Contains (x ∷ []) x
-itself x = (0, omega arith, refl)
 
 -- ---- rows
 
@@ -37,24 +30,21 @@ pub record RowGrows (move : Move (List ℕ)) (row row' : Trees) (kept' : List Tr
 row_grows : (before : List Sentence) (move : Move (List ℕ)) (a b : Trees) (k l : List Trees) → AllByRecursion (KeptInRow a) k → MakesOne before move a k b l → RowGrows move a b l
 row_grows before (name label) a b k l inside m =
     let word : spelling b ≡ spelling a ++ label ∷ [] = ap spelling m.4 ∙ spelling_over m.0 m.1 label ∙ ap (λ t. spelling t ++ label ∷ []) (sym m.2) in
-    let keeps : (x : List ℕ) → Contains (spelling a) x → Contains (spelling b) x =
-    λ x h. subst (λ w. Contains w x) (sym word) (Contains-append_left (spelling a) (label ∷ []) x h) in
+    let keeps : KeptInRow b a = λ x h. rw word (Contains-append_left (spelling a) (label ∷ []) x h) in
     record {
       keeps = keeps;
       gets = λ x e.
-          let same : x ≡ label = (let f : name label ≡ name x = e in cc) in
-          rw (word, same) (Contains-append_right (spelling a) (label ∷ []) label (itself label));
-      no_more = λ x h. ⊎_elim (λ c. inl c) (λ c. inr (ap name (one_of label x c))) (Contains-append_cases (spelling a) (label ∷ []) x (subst (λ w. Contains w x) word h));
-      kept_in = subst (AllByRecursion (KeptInRow b)) (sym m.5) (all_weaker (KeptInRow a) (KeptInRow b) (λ t p x h. keeps x (p x h)) k inside);
+          let same : label ≡ x = cc in rw (word, ← same) (Contains-push (spelling a) label);
+      no_more = λ x h. ⊎_elim inl (λ e. inr (ap name e)) (Contains-push_cases (spelling a) label x (rw word at h));
+      kept_in = rw m.5 (all_weaker (KeptInRow a) (KeptInRow b) (λ t p x h. keeps x (p x h)) k inside);
     }
 row_grows before (again tag) a b k l inside m =
     let word : spelling b ≡ spelling a ++ spelling m.0 = ap spelling m.2 ∙ spelling-beside a m.0 in
-    let keeps : (x : List ℕ) → Contains (spelling a) x → Contains (spelling b) x =
-    λ x h. subst (λ w. Contains w x) (sym word) (Contains-append_left (spelling a) (spelling m.0) x h) in
+    let keeps : KeptInRow b a = λ x h. rw word (Contains-append_left (spelling a) (spelling m.0) x h) in
     let inner : KeptInRow a m.0 = all_at (KeptInRow a) k tag m.0 inside m.1 in
     record {
       keeps = keeps;
-      gets = λ x e. absurd (let f : again tag ≡ name x = e in cc);
+      gets = λ x e. absurd cc;
       no_more = λ x h. inl (⊎_elim (λ c. c) (λ c. inner x c) (Contains-append_cases (spelling a) (spelling m.0) x (subst (λ w. Contains w x) word h)));
       kept_in = subst (AllByRecursion (KeptInRow b)) (sym m.3) (all_weaker (KeptInRow a) (KeptInRow b) (λ t p x h. keeps x (p x h)) k inside);
     }
@@ -65,7 +55,7 @@ row_grows before mark a b k l inside m =
     λ x h. keeps x (subst (λ w. Contains w x) (sym (ap spelling m.3 ∙ spelling-beside m.0 t)) (Contains-append_right (spelling m.0) (spelling t) x h)) in
     record {
       keeps = keeps;
-      gets = λ x e. absurd (let f : mark ≡ name x = e in cc);
+      gets = λ x e. absurd cc;
       no_more = λ x h. inl (subst (λ r. Contains (spelling r) x) m.4 h);
       kept_in = subst (AllByRecursion (KeptInRow b)) (sym m.5)
           (all_push (KeptInRow b) k t (all_weaker (KeptInRow a) (KeptInRow b) (λ u p x h. keeps x (p x h)) k inside) last);
@@ -77,16 +67,13 @@ labels_kept : (before : List Sentence) (moves : List (Move (List ℕ))) (a b : T
     → (x : List ℕ) → Contains (spelling a) x ⊎ IsStepOf moves x → Contains (spelling b) x
 labels_kept before [] a b k l inside m x (inl h) = subst (λ r. Contains (spelling r) x) (sym m.0) h
 labels_kept before [] a b k l inside m x (inr h) = absurd (none-some (name x) h.1)
-labels_kept before (move ∷ moves) a b k l inside m x (inl h) =
+labels_kept before (move ∷ moves) a b k l inside m x h =
     let g = row_grows before move a m.0 k m.1 inside m.2 in
-    labels_kept before moves m.0 b m.1 l g.kept_in m.3 x (inl (g.keeps x h))
-labels_kept before (move ∷ moves) a b k l inside m x (inr h) =
-    let g = row_grows before move a m.0 k m.1 inside m.2 in
-    labels_kept before moves m.0 b m.1 l g.kept_in m.3 x (go h.0 h.1)
-  where
-    go : (i : ℕ) → slice_get (move ∷ moves) i ≡ Some (name x) → Contains (spelling m.0) x ⊎ IsStepOf moves x
-    go zero e = inl ((row_grows before move a m.0 k m.1 inside m.2).gets x (same_Some move (name x) e))
-    go (suc i) e = inr (i, e)
+    labels_kept before moves m.0 b m.1 l g.kept_in m.3 x (elim h [
+      | inl c ↦ inl (g.keeps x c)
+      | inr (zero, e) ↦ inl (g.gets x (same_Some move (name x) e))
+      | inr (suc i, e) ↦ inr (i, e)
+    ])
 
 labels_from : (before : List Sentence) (moves : List (Move (List ℕ))) (a b : Trees) (k l : List Trees) → AllByRecursion (KeptInRow a) k → Makes before moves a k b l
     → (x : List ℕ) → Contains (spelling b) x → Contains (spelling a) x ⊎ IsStepOf moves x

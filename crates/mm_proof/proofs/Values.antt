@@ -1,10 +1,11 @@
 -- What replaces a symbol, by numbers: the entry of the hypothesis that types it.
-use Rattle.std.proofs.Common.{◌≡◌, ℕ, zero, suc, ◌+◌, ◌<◌, ◌≤◌, List, [], ◌∷◌, ◌++◌, length, take, drop, get_or, slice_get, Bool, eqb, ◌&&◌, Option, unwrap_or, Some, None, IsTrue, refl, sym, ap, ◌∙◌, arith}
-use Rattle.std.proofs.Common.{true, false, cond, subst}
+use Rattle.std.proofs.Common.{◌≡◌, ℕ, zero, suc, ◌+◌, ◌<◌, ◌≤◌, List, [], ◌∷◌, ◌++◌, length, take, drop, get_or, slice_get, Bool, eqb, ◌&&◌, Option, unwrap_or, Some, None, IsTrue, refl, sym, ap, ◌∙◌, arith, ⊎_elim}
+use Rattle.std.proofs.Common.{subst}
 use Rattle.std.specs.List.{flat_map, AllByRecursion}
 use Rattle.std.specs.Cmp.Lexicographic.{pointwise}
 use Rattle.std.specs.Str.{bytes_eq}
 use Rattle.std.proofs.lemmas.Slice.Eq.{bytes_eq-Decides}
+use Rattle.std.proofs.lemmas.Bool.{cases_Bool}
 use Rattle.std.proofs.lemmas.Option.{same_Some, none-some, slice_get-get_or}
 use Rattle.std.proofs.lemmas.List.{nil_from_length}
 use Rattle.std.proofs.lemmas.List.{length-map, take-map, take_more, append_assoc, append-nil, append_cancel_left, length-append, take_all, take_at, take-append-drop}
@@ -38,12 +39,9 @@ all_rest P (x ∷ xs) all = all.1
 -- what holds of each symbol of the entries holds of each that replaces one
 pub value_all : (P : ℕ → Type 0) (vs : List (Option ℕ)) (es : List (List ℕ)) (n : ℕ) (v : List ℕ)
     → AllByRecursion (AllByRecursion P) es → value_of vs es n ≡ Some v → AllByRecursion P v
-value_all P (x ∷ vs) (e ∷ es) n v all is = go (is_of n x) is (value_all P vs es n v all.1)
-  where
-    go : (b : Bool) → cond b (Some (drop 1 e)) (value_of vs es n) ≡ Some v
-        → (value_of vs es n ≡ Some v → AllByRecursion P v) → AllByRecursion P v
-    go true s later = subst (AllByRecursion P) (same_Some (drop 1 e) v s) (all_rest P e all.0)
-    go false s later = later s
+value_all P (x ∷ vs) (e ∷ es) n v all is = ⊎_elim
+    (λ t. subst (AllByRecursion P) (same_Some (drop 1 e) v (rw t at is)) (all_rest P e all.0))
+    (λ f. value_all P vs es n v all.1 (rw f at is)) (cases_Bool (is_of n x))
 value_all P vs es n v all is = absurd cc
 
 -- what replaces the variable whose `$f` stands at the place
@@ -132,8 +130,7 @@ no_piece = Symbol (record { 0 = 0 })
 piece_says : (vs : List (Option ℕ)) (es : List (List ℕ)) (n : ℕ) (p : Piece) → length vs ≡ length es → IsPieceOf vs n p → said_by es p ≡ unwrap_or (value_of vs es n) (n ∷ [])
 piece_says vs es n (Symbol symbol) size is = rw (value_nowhere n vs es is.1) (ap (λ m. m ∷ []) is.0)
 piece_says vs es n (Value place) size is =
-    let within = is.within in
-    let there = slice_get-get_or es place [] (omega (arith, within, size)) in
+    let there = slice_get-get_or es place [] (omega (arith, is.within, size)) in
     rw (value_first n vs es place (get_or es place []) is there) refl
 
 pub pattern_says : (vs : List (Option ℕ)) (es : List (List ℕ)) (ns : List ℕ) (pieces : List Piece) → length vs ≡ length es → ArePieces vs ns pieces → all_said_by es pieces ≡ replaced_in (value_of vs es) ns

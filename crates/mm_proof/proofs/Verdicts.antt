@@ -1,5 +1,5 @@
 -- The verdict on a proof is one: it is proved, or it has one first fault.
-use Rattle.std.proofs.Common.{◌≡◌, ◌≢◌, ℕ, ◌+◌, ◌<◌, List, [], ◌∷◌, ◌++◌, length, slice_get, Some, ◌⊎◌, inl, inr, ⊎_elim, refl, sym, ap, subst, ◌∙◌}
+use Rattle.std.proofs.Common.{◌≡◌, ◌≢◌, ℕ, ◌+◌, ◌<◌, List, [], ◌∷◌, ◌++◌, length, slice_get, Some, ◌⊎◌, inl, inr, ⊎_elim, refl, sym, ap, subst, ◌∙◌, arith}
 use Rattle.std.proofs.lemmas.Option.{same_Some}
 use Rattle.std.proofs.lemmas.Bool.{cases_order}
 use Rattle.mm_text.proofs.Lists.{two_cuts}
@@ -10,9 +10,9 @@ use Rattle.mm_proof.specs.declared.fault.ProofRule.TheVariants.{P1, P2, P3, P4, 
 use Rattle.mm_proof.specs.Tree.{AnyExpression}
 use Rattle.mm_proof.specs.Moves.{Move, steps_in}
 use Rattle.mm_proof.specs.Proof.{IsWithin, proof_rank, BreaksWhole, Prove, IsProvedWithin, BreaksMove, FirstAtMove, Passed, IsMoveFault, BreaksEnd, IsEndFault, IsMovesFault, IsFault}
-use Rattle.mm_proof.specs.Laws.{OneTree, OneFit, OneProofVerdict}
+use Rattle.mm_proof.specs.Laws.{OneTree, OneProofVerdict}
 use Rattle.mm_proof.proofs.Runs.{derived_once}
-use Rattle.mm_proof.proofs.Making.{one_fit_holds, one_row}
+use Rattle.mm_proof.proofs.Making.{one_fit_holds, derive_fits}
 use Rattle.mm_proof.proofs.Fronts.{passed_once, proof_passed, no_fault_within}
 use Rattle.mm_proof.proofs.SaidMoves.{moves_once}
 
@@ -45,9 +45,6 @@ end_rule P13 stack e b = inl (refl, b)
 end_rule P14 stack e b = inr (refl, ap length b.1, λ same. b.2 (let p : b.0 ∷ [] ≡ e ∷ [] = sym b.1 ∙ same in cc))
 end_rule rule stack e b = absurd b
 
-no_end_fault : (rule : ProofRule) (stack : List (List (List ℕ))) (e : List (List ℕ)) → stack ≡ e ∷ [] → ¬ (BreaksEnd rule stack e)
-no_end_fault rule stack e one b = ⊎_elim (λ p. p.1 (ap length one)) (λ q. q.2 one) (end_rule rule stack e b)
-
 pub proof_no_fault : (Fits : List (List ℕ) → Type 0) (before : List Sentence) (s : Sentence) (moves : List (Move (List ℕ))) (rule : ProofRule) (step : ℕ) → AllMeant before
     → Prove Fits before s moves → ¬ (IsMovesFault Fits before s moves rule step)
 proof_no_fault Fits before s moves rule step all p (inl f) =
@@ -56,7 +53,8 @@ proof_no_fault Fits before s moves rule step all p (inl f) =
     (subst (λ l. Passed Fits before l (s.symbols ∷ []) whole.0) f.parts whole.1) f.passed f.fault
 proof_no_fault Fits before s moves rule step all p (inr f) =
     let whole = proof_passed Fits before s moves all p in
-    no_end_fault rule f.stack s.symbols (passed_once Fits Fits before moves f.stack (s.symbols ∷ []) f.kept whole.0 all f.passed whole.1).0 f.broken
+    let one = (passed_once Fits Fits before moves f.stack (s.symbols ∷ []) f.kept whole.0 all f.passed whole.1).0 in
+    ⊎_elim (λ p. p.1 (ap length one)) (λ q. q.2 one) (end_rule rule f.stack s.symbols f.broken)
 
 pub proved_no_fault : (Fits : List (List ℕ) → Type 0) (before : List Sentence) (s : Sentence) (tokens : List (List ℕ)) (rule : ProofRule) (step : ℕ) → AllMeant before
     → IsProvedWithin Fits before s tokens → ¬ (IsFault Fits before s tokens rule step)
@@ -90,34 +88,21 @@ two_moves Fits before moves rule rule' step step' all f g = elim (two_cuts f.ear
   | inr (inr more) ↦ absurd (longer_passed Fits before g.earlier g.move more.0 f.earlier g.stack g.kept f.stack f.kept rule' all more.1 f.passed g.passed g.fault)
 ]
 
-move_and_end : (Fits : List (List ℕ) → Type 0) (before : List Sentence) (s : Sentence) (moves : List (Move (List ℕ))) (rule rule' : ProofRule) (step step' : ℕ) → AllMeant before
-    → IsMoveFault Fits before moves rule step → IsEndFault Fits before s moves rule' step' → ⊥
-move_and_end Fits before s moves rule rule' step step' all f g =
-    longer_passed Fits before f.earlier f.move f.later moves f.stack f.kept g.stack g.kept rule all f.parts g.passed f.passed f.fault
-
 two_ends : (Fits : List (List ℕ) → Type 0) (before : List Sentence) (s : Sentence) (moves : List (Move (List ℕ))) (rule rule' : ProofRule) (step step' : ℕ) → AllMeant before
     → IsEndFault Fits before s moves rule step → IsEndFault Fits before s moves rule' step' → Same rule step rule' step'
 two_ends Fits before s moves rule rule' step step' all f g =
     let stacks : f.stack ≡ g.stack = (passed_once Fits Fits before moves f.stack g.stack f.kept g.kept all f.passed g.passed).0 in
-    let lengths : length f.stack ≡ length g.stack = ap length stacks in (
-      one_end rule rule' (length f.stack) (length g.stack) lengths
-          (⊎_elim (λ p. inl (p.0, p.1)) (λ p. inr (p.0, p.1)) (end_rule rule f.stack s.symbols f.broken))
-          (⊎_elim (λ p. inl (p.0, p.1)) (λ p. inr (p.0, p.1)) (end_rule rule' g.stack s.symbols g.broken)),
-      f.number ∙ sym g.number,
-    )
-  where
-    one_end : (r q : ProofRule) (n m : ℕ) → n ≡ m → ((r ≡ P13) × (n ≢ 1)) ⊎ ((r ≡ P14) × (n ≡ 1)) → ((q ≡ P13) × (m ≢ 1)) ⊎ ((q ≡ P14) × (m ≡ 1)) → r ≡ q
-    one_end r q n m e (inl a) (inl b) = a.0 ∙ sym b.0
-    one_end r q n m e (inl a) (inr b) = absurd (a.1 (e ∙ b.1))
-    one_end r q n m e (inr a) (inl b) = absurd (b.1 (sym e ∙ a.1))
-    one_end r q n m e (inr a) (inr b) = a.0 ∙ sym b.0
+    let lengths : length f.stack ≡ length g.stack = ap length stacks in
+    let one = end_rule rule f.stack s.symbols f.broken in
+    let other = end_rule rule' g.stack s.symbols g.broken in
+    (grind arith, f.number ∙ sym g.number)
 
 -- of the moves
 pub one_moves_fault : (Fits : List (List ℕ) → Type 0) (before : List Sentence) (s : Sentence) (moves : List (Move (List ℕ))) (rule rule' : ProofRule) (step step' : ℕ) → AllMeant before
     → IsMovesFault Fits before s moves rule step → IsMovesFault Fits before s moves rule' step' → Same rule step rule' step'
 one_moves_fault Fits before s moves rule rule' step step' all (inl f) (inl g) = two_moves Fits before moves rule rule' step step' all f g
-one_moves_fault Fits before s moves rule rule' step step' all (inl f) (inr g) = absurd (move_and_end Fits before s moves rule rule' step step' all f g)
-one_moves_fault Fits before s moves rule rule' step step' all (inr f) (inl g) = absurd (move_and_end Fits before s moves rule' rule step' step all g f)
+one_moves_fault Fits before s moves rule rule' step step' all (inl f) (inr g) = absurd (longer_passed Fits before f.earlier f.move f.later moves f.stack f.kept g.stack g.kept rule all f.parts g.passed f.passed f.fault)
+one_moves_fault Fits before s moves rule rule' step step' all (inr f) (inl g) = absurd (longer_passed Fits before g.earlier g.move g.later moves g.stack g.kept f.stack f.kept rule' all g.parts f.passed g.passed g.fault)
 one_moves_fault Fits before s moves rule rule' step step' all (inr f) (inr g) = two_ends Fits before s moves rule rule' step step' all f g
 
 -- of the tokens
@@ -135,10 +120,7 @@ one_fault Fits before s tokens rule rule' step step' all (inr f) (inr g) =
 
 pub one_tree_holds : OneTree
 one_tree_holds before t u es fs all d g same =
-    (one_row AnyExpression AnyExpression before t u es fs all d g same, derived_once AnyExpression AnyExpression before t u es fs all d g same)
-
-pub one_fit_law : OneFit
-one_fit_law before t u all f g same = one_fit_holds before t u all f g same
+    (one_fit_holds before t u all (derive_fits AnyExpression before t es d) (derive_fits AnyExpression before u fs g) same, derived_once AnyExpression AnyExpression before t u es fs all d g same)
 
 pub one_verdict_holds : OneProofVerdict
 one_verdict_holds limit before s tokens all =

@@ -1,5 +1,5 @@
 -- How many trees a label stands over, and which number it has.
-use Rattle.std.proofs.Common.{◌≡◌, ℕ, List, length, take, slice_get, Some, inl, inr, refl, sym, ap, ◌∙◌}
+use Rattle.std.proofs.Common.{◌≡◌, ℕ, List, length, take, inl, inr, refl, sym, ap, ◌∙◌}
 use Rattle.std.proofs.lemmas.Option.{same_Some}
 use Rattle.mm_frame.specs.declared.scheme.Scheme.{Scheme}
 use Rattle.mm_frame.specs.Sentence.{Sentence, IsHypothesis}
@@ -15,15 +15,12 @@ use Rattle.mm_proof.proofs.Named.{as_many}
 use Rattle.mm_proof.proofs.OneStep.{hypothesis_or_assertion, one_names}
 use Rattle.mm_proof.proofs.Applying.{names_of, called_of}
 
-there_before : (st : List Sentence) (place id : ℕ) (label : List ℕ) → (u : MayBeUsed st place label id) → slice_get (take place st) u.at ≡ Some u.s
-there_before st place id label u = get_take st place u.at u.before ∙ u.numbered.there
-
 -- a hypothesis stands over nothing
 pub width_hypothesis : (st : List Sentence) (place id : ℕ) (label : List ℕ) (below : Trees) → AllMeant st → (u : MayBeUsed st place label id) → IsHypothesis u.s.kind
     → MayStandOver (take place st) label below → roots below ≡ 0
 width_hypothesis st place id label below all u h (inl p) = ap roots p.0
 width_hypothesis st place id label below all u h (inr p) =
-    absurd (hypothesis_or_assertion (take place st) u.at p.0 u.s p.1 label (allmeant_front st place all) (there_before st place id label u) p.3.there u.named p.3.named h p.3.kind)
+    absurd (hypothesis_or_assertion (take place st) u.at p.0 u.s p.1 label (allmeant_front st place all) (get_take st place u.at u.before ∙ u.numbered.there) p.3.there u.named p.3.named h p.3.kind)
 
 -- an assertion stands over as many as it has hypotheses
 pub width_assertion : (st : List Sentence) (place id : ℕ) (label : List ℕ) (below : Trees) (scheme : Scheme) → AllMeant st → MayBeUsed st place label id → IsEarlierScheme st place id scheme

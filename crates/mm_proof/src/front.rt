@@ -23,6 +23,7 @@ pub(crate) fn is_byte(token: &[u8], byte: u8) -> bool
 }
 
 // The place of the first `?` among the bytes, or how many they are.
+#[tactic(auto, using(std::proofs::lemmas::List::Sums::position_or_len_is))]
 fn question_place(text: &[u8]) -> usize
     ensures { result ≡ position_or_len is_question text.now }
 {
@@ -107,6 +108,7 @@ fn text_up_to<'a>(
 }
 
 /// The known front of a proof, as the tokens of a proof.
+#[tactic(auto, using(crate::proofs::FrontTokens::known_cut))]
 pub(crate) fn known_front<'a>(
     alloc: Global,
     tokens: &[Token<'a>],

@@ -149,6 +149,7 @@ fn move_of(entries: &[LabelId], marks: &mut Vec<bool>, code: Code) -> NumberedMo
 }
 
 // Fills the list with the moves that the codes say, and the other with the labels that they name.
+#[tactic(auto, using(crate::proofs::Compressed::codes_more))]
 fn fill_moves(
     moves: &mut Vec<NumberedMove>,
     picked: &mut Picked,
@@ -458,6 +459,7 @@ fn steps_of(
 }
 
 // The moves that the known front of the tokens says as a proof of the `$p` with this number.
+#[tactic(auto, using(crate::proofs::FrontTokens::front_room))]
 fn front_steps(
     alloc: Global,
     profile: Profile,

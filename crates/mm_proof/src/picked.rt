@@ -27,6 +27,7 @@ impl Picked {
 }
 
 /// Makes so many marks, none of which is set.
+#[tactic(auto, using(crate::proofs::Picking::marked_none, crate::proofs::Picking::none_more))]
 pub(crate) fn unmark(marks: &mut Vec<bool>, count: usize) -> Result<(), AllocError>
     ensures long { OnOk result (length marks.new.items ≡ count) }
     ensures none { OnOk result ((entries : List ℕ) → AreMarked entries [] marks.new.items) }

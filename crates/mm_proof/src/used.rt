@@ -59,6 +59,7 @@ impl Named {
 }
 
 /// Whether the label is that of an assertion.
+#[tactic(auto, using(crate::proofs::Naming::assertion_kind, crate::proofs::Naming::no_assertion))]
 pub(crate) fn is_assertion(book: &Book, id: LabelId) -> bool
     requires used { (place : ℕ) × (label : List ℕ)
         × MayBeUsed book.now.statements place label id.0 }

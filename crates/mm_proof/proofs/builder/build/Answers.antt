@@ -1,12 +1,9 @@
-use Rattle.std.proofs.Common.{inr, sym, ap, ◌∙◌}
+use Rattle.std.proofs.Common.{sym, ap, ◌∙◌}
 use Rattle.std.proofs.lemmas.Result.{IfOk-weaker, IfErr-weaker}
 use Rattle.mm_proof.specs.Plain.{moves_in}
 use Rattle.mm_proof.proofs.Ending.{seen_moves}
 use Rattle.mm_proof.proofs.Building.{make_tree_at}
 use Rattle.mm_proof.proofs.builder.build.Goals as goal
-
-pub frame-own-requires : goal.frame-own-requires
-frame-own-requires g c = let a = c.requires.steps in (a.place, a.s, a.proof.numbered, inr a.proof.provable)
 
 pub build_moves-requires-clause-made : goal.build_moves-requires-clause-made
 build_moves-requires-clause-made g c =

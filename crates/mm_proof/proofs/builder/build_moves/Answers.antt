@@ -43,8 +43,7 @@ pub repeat-requires : goal.repeat-requires
 repeat-requires g c =
     let m = c.requires.made in
     let h = c.loop-one.invariant m in
-    let there = slice_get_read c.loop-one.shelf.items _ c.in-Again.tag c.index.result.now refl (repeat_within _ _ c.args.moves.now m _ _ _ _ _ c.in-Again.tag h c.loop-one-test.true c.in-Again.is refl) c.index.ensures in
-    let n = next_repeat _ _ c.args.moves.now m _ _ _ _ _ _ c.in-Again.tag h c.loop-one-test.true c.in-Again.is refl there in (
+    let n = next_repeat _ _ c.args.moves.now m _ _ _ c.index.result.now _ _ c.in-Again.tag h c.loop-one-test.true c.in-Again.is refl c.index.ensures in (
       c.args.builder.now,
       c.args.book.now.statements,
       record { stack = c.loop-one.stack.items; row = h.row; shelf = c.loop-one.shelf.items; kept = h.kept; steps = h.steps; label = n.label; below = n.below; holds = h.holds; has = n.has },
@@ -53,8 +52,7 @@ repeat-requires g c =
 pub returns-in_err-item-in-Again-clause-long : goal.returns-in_err-item-in-Again-clause-long
 returns-in_err-item-in-Again-clause-long g c = handed _ c.from_residual-in_err-item-in-Again.result c.from_residual-in_err-item-in-Again.ensures.1 (λ fault is long m.
     let h = c.loop-one.invariant m in
-    let there = slice_get_read c.loop-one.shelf.items _ c.in-Again.tag c.index.result.now refl (repeat_within _ _ c.args.moves.now m _ _ _ _ _ c.in-Again.tag h c.loop-one-test.true c.in-Again.is refl) c.index.ensures in
-    let n = next_repeat _ _ c.args.moves.now m _ _ _ _ _ _ c.in-Again.tag h c.loop-one-test.true c.in-Again.is refl there in
+    let n = next_repeat _ _ c.args.moves.now m _ _ _ c.index.result.now _ _ c.in-Again.tag h c.loop-one-test.true c.in-Again.is refl c.index.ensures in
     repeat_long _ _ _ m _ _ _ _ _ h n (c.in_err-item-in-Again.ensures.long (subst g.B.Builder.is_long is long) c.args.builder.now c.args.book.now.statements))
 
 pub returns-in_err-put_last-in-Again-clause-long : goal.returns-in_err-put_last-in-Again-clause-long
@@ -94,8 +92,7 @@ loop-one-preserved g c = elim c.match-one.branch [
   | in-Again+in_ok-item-in-Again+in_ok-put_last-in-Again w ↦ rw (w.builder-is, w.stack-is, w.shelf-is, w.in_ok-put_last-in-Again.ensures.put) (λ m.
       let st = c.args.book.now.statements in
       let h = c.loop-one.invariant m in
-      let there = slice_get_read c.loop-one.shelf.items _ w.in-Again.tag w.index.result.now refl (repeat_within _ _ c.args.moves.now m _ _ _ _ _ w.in-Again.tag h c.loop-one-test.true w.in-Again.is refl) w.index.ensures in
-      let n = next_repeat _ _ c.args.moves.now m _ _ _ _ _ _ w.in-Again.tag h c.loop-one-test.true w.in-Again.is refl there in
+      let n = next_repeat _ _ c.args.moves.now m _ _ _ w.index.result.now _ _ w.in-Again.tag h c.loop-one-test.true w.in-Again.is refl w.index.ensures in
       subst (λ s. At (g.B.Builder.holds c.args.builder.now w.repeat.new.self st) st c.args.moves.now m (c.loop-one.one-index + 1) (s ++ w.in_ok-item-in-Again.item ∷ []) c.loop-one.shelf.items)
       (sym (take_all w.len-end.result c.loop-one.stack.items (let l = w.len-end.ensures in omega arith)))
       (at_repeat _ _ st _ m _ _ _ _ _ h n (w.in_ok-item-in-Again.ensures.made c.args.builder.now st)))

@@ -1,15 +1,13 @@
-use Rattle.std.proofs.Common.{◌≡◌, ◌-◌, slice_get, Some, sym, ap, subst, ◌∙◌, arith}
+use Rattle.std.proofs.Common.{◌≡◌, ◌-◌, slice_get, Some, sym, ap, ◌∙◌, arith}
 use Rattle.std.proofs.lemmas.Bool.{false≢true}
 use Rattle.std.proofs.lemmas.Option.{same_Some}
 use Rattle.mm_text.proofs.Lists.{all_at}
-use Rattle.mm_frame.specs.Numbers.{IsAssertionNumber}
 use Rattle.mm_proof.specs.Moves.{name}
 use Rattle.mm_proof.specs.Plain.{move_in, moves_in}
 use Rattle.mm_proof.specs.Mirror.CodeRun.{MayBeMade}
 use Rattle.mm_proof.proofs.Running.{move_at}
 use Rattle.mm_proof.proofs.FormLists.{move_name}
 use Rattle.mm_proof.proofs.form.is_after_assertion.Goals as goal
-use Rattle.mm_proof.proofs.Picking.{same_number}
 
 pub is_assertion-requires : goal.is_assertion-requires
 is_assertion-requires c =
@@ -24,8 +22,8 @@ returns-in-Name c =
       (λ is. (c.args.place - 1, c.in-Name.id.0, omega (arith, c.if-place-eq0.false), here, c.is_assertion.ensures.0 is)),
       λ h.
           let at : h.0 ≡ c.args.place - 1 = omega (arith, h.2) in
-          let same = same_number h.1 c.in-Name.id.0 (same_Some (name h.1) (name c.in-Name.id.0) (sym h.3 ∙ ap (slice_get (moves_in c.args.moves.now)) at ∙ here)) in
-          c.is_assertion.ensures.1 (subst (IsAssertionNumber c.args.book.now.statements) same h.4),
+          let same : h.1 ≡ c.in-Name.id.0 = cc (h.3, here) in
+          c.is_assertion.ensures.1 (rw same at h.4),
     )
 
 pub returns-in_default : goal.returns-in_default

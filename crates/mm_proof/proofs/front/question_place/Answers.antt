@@ -1,11 +1,7 @@
-use Rattle.std.proofs.Common.{refl, sym, length, arith}
+use Rattle.std.proofs.Common.{sym, length, arith}
 use Rattle.std.proofs.lemmas.List.Sums.{position_or_len_is}
 use Rattle.mm_proof.specs.Tokens.{is_question}
 use Rattle.mm_proof.proofs.front.question_place.Goals as goal
-
-pub returns-then-byte-eq63 : goal.returns-then-byte-eq63
-returns-then-byte-eq63 c =
-    sym (position_or_len_is is_question c.args.text.now c.loop-place.place 0 (omega (arith, c.loop-place-test.true)) c.loop-place.invariant (λ less. rw c.if-byte-eq63.true refl))
 
 pub returns : goal.returns
 returns c =

@@ -1,7 +1,4 @@
-use Rattle.std.proofs.Common.{arith, inl, inr, subst, sym, ◌∙◌, List, take}
-use Rattle.mm_frame.specs.Sentence.{Sentence}
-use Rattle.mm_frame.specs.Active.{IsActive}
-use Rattle.mm_frame.specs.Numbers.{IsNumbered}
+use Rattle.std.proofs.Common.{arith, inl, inr, sym, ◌∙◌}
 use Rattle.std.proofs.lemmas.Bool.{false≢true}
 use Rattle.mm_frame.proofs.Needed.{some_later}
 use Rattle.mm_text.proofs.Lists.{get_take}
@@ -16,22 +13,20 @@ returns-in-Assertion c =
 pub returns-then-active : goal.returns-then-active
 returns-then-active c =
     let f = c.in-Hypothesis.ensures.found in
-    let own = subst (λ (st : List Sentence). IsNumbered st c.in-Hypothesis.found.0 f.0 f.1) (sym c.requires.book) f.2 in
-    let active = (c.active.ensures f.0 f.1 own).0 c.if-active.true in
+    let active = (c.active.ensures f.0 f.1 (rw c.requires.book f.2)).0 c.if-active.true in
     record {
       at = f.0;
       s = f.1;
       numbered = f.2;
       named = f.3;
       before = numbers_order _ _ _ _ _ _ _ f.2 c.requires.own.1 (omega arith);
-      kind = inl (f.4, subst (λ (st : List Sentence). IsActive (take c.args.own.now.place st) f.0) c.requires.book active);
+      kind = inl (f.4, rw c.requires.book at active);
     }
 
 pub returns-else-active : goal.returns-else-active
 returns-else-active c =
     let f = c.in-Hypothesis.ensures.found in
     let less = numbers_order _ _ _ _ _ _ _ f.2 c.requires.own.1 (omega arith) in
-    let own = subst (λ (st : List Sentence). IsNumbered st c.in-Hypothesis.found.0 f.0 f.1) (sym c.requires.book) f.2 in
     record {
       at = f.0;
       s = f.1;
@@ -39,8 +34,8 @@ returns-else-active c =
       named = f.3;
       kind = f.4;
       idle = λ active.
-          let is = (c.active.ensures f.0 f.1 own).1 (subst (λ (st : List Sentence). IsActive (take c.args.own.now.place st) f.0) (sym c.requires.book) active) in
-          false≢true (sym c.if-active.false ∙ is);
+          let own = c.active.ensures f.0 f.1 (rw c.requires.book f.2) in
+          false≢true (sym c.if-active.false ∙ own.1 (rw c.requires.book active));
     }
 
 pub returns-in_default : goal.returns-in_default

@@ -1,3 +1,4 @@
+use Rattle.std.proofs.lemmas.List.{take_all, length-map}
 use Rattle.std.proofs.Common.{rules, ◌≡◌, ◌+◌, Err, Some, length, refl, ap, ◌∙◌, arith}
 use Rattle.std.specs.Vec.{vec_len}
 use Rattle.std.proofs.lemmas.Option.{slice_get_read}
@@ -5,7 +6,7 @@ use Rattle.mm_text.proofs.Lists.{all_at}
 use Rattle.mm_proof.specs.Plain.{move_in, moves_in}
 use Rattle.mm_proof.specs.Mirror.CodeRun.{MayBeMade}
 use Rattle.mm_proof.proofs.Running.{move_at, refused, run_fault, stops_first, again_first, mark_first}
-use Rattle.mm_proof.proofs.ListingLoop.{listing_none, listing_name, listing_again, listing_mark, name_stands, tag_stands, listing_end}
+use Rattle.mm_proof.proofs.ListingLoop.{listing_none, listing_name, listing_again, listing_mark, name_stands, tag_stands}
 use Rattle.mm_proof.proofs.lines.lines_of.Goals as goal
 use Rattle.mm_proof.proofs.lines.lines_of.Goals.{in-Name+in_ok-step-in-Name+in_ok-last_line-in-Name+in_ok-push-in-Name, in-Again+in_ok-step_again-in-Again+in_ok-last_line-in-Again+in_ok-push-in-Again, in-Mark+in_ok-mark-in-Mark+in_ok-push-in-Mark}
 
@@ -77,4 +78,6 @@ loop-one-preserved g c = elim c.match-one.branch [
 
 pub returns-clause-lines : goal.returns-clause-lines
 returns-clause-lines g c =
-    (listing_end c.args.site.now.limit _ _ c.args.moves.now c.loop-one.one-index _ _ c.loop-one.lines.items c.loop-one.tags.items c.loop-one.invariant c.loop-one-test.false).1
+    let long = length-map c.args.moves.now move_in in
+    rw (take_all c.loop-one.one-index (moves_in c.args.moves.now) (omega arith)) at
+    c.loop-one.invariant.listed

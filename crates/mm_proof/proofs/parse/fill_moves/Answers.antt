@@ -1,10 +1,7 @@
 use Rattle.std.proofs.lemmas.List.{map-append}
-use Rattle.mm_proof.specs.Plain.{ids_in, moves_in}
+use Rattle.mm_proof.specs.Plain.{moves_in}
 use Rattle.mm_proof.proofs.Compressed.{codes_more}
 use Rattle.mm_proof.proofs.parse.fill_moves.Goals as goal
-
-pub loop-code-init : goal.loop-code-init
-loop-code-init c = rw c.clear.ensures.items (tt, c.in_ok-unmark.ensures.long, c.in_ok-unmark.ensures.none (ids_in c.args.entries.now))
 
 pub loop-code-preserved : goal.loop-code-preserved
 loop-code-preserved c =

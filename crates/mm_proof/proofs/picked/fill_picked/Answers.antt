@@ -1,9 +1,15 @@
-use Rattle.mm_proof.proofs.Picking.{picked_none, picked_named, picked_unnamed, picked_all}
+use Rattle.std.proofs.Common.{arith}
+use Rattle.std.proofs.lemmas.Option.{none-some}
+use Rattle.std.proofs.lemmas.List.{take_all, length-map}
+use Rattle.mm_proof.specs.Moves.{name}
+use Rattle.mm_proof.specs.Plain.{move_in, moves_in}
+use Rattle.mm_proof.proofs.Picking.{picked_named, picked_unnamed}
 use Rattle.mm_proof.proofs.picked.fill_picked.Goals as goal
 use Rattle.mm_proof.proofs.picked.fill_picked.Goals.{in-Name+in_ok-push, in_default}
 
 pub loop-one-init : goal.loop-one-init
-loop-one-init c = rw c.clear.ensures.items picked_none
+loop-one-init c = rw c.clear.ensures.items
+    (λ n. (λ h. absurd (omega (arith, h.1)), λ h. absurd (none-some (name n) h.1)))
 
 pub loop-one-preserved : goal.loop-one-preserved
 loop-one-preserved c = elim c.match-one.branch [
@@ -13,4 +19,7 @@ loop-one-preserved c = elim c.match-one.branch [
 ]
 
 pub returns : goal.returns
-returns c = picked_all c.args.moves.now c.loop-one.one-index _ c.loop-one-test.false c.loop-one.invariant
+returns c =
+    let long = length-map c.args.moves.now move_in in
+    rw (take_all c.loop-one.one-index (moves_in c.args.moves.now) (omega arith)) at
+    c.loop-one.invariant

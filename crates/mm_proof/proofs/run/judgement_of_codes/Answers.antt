@@ -1,6 +1,5 @@
 use Rattle.std.proofs.Common.{sym, ◌∙◌, subst}
 use Rattle.std.proofs.lemmas.List.{length-map}
-use Rattle.mm_proof.specs.Plain.{ids_in}
 use Rattle.mm_proof.specs.Mirror.Sites.{IsSite}
 use Rattle.mm_proof.proofs.Coded.{calls_long}
 use Rattle.mm_proof.proofs.Ending.{proved_with}
@@ -9,15 +8,6 @@ use Rattle.mm_proof.proofs.run.judgement_of_codes.Goals as goal
 pub calls_of-requires : goal.calls_of-requires
 calls_of-requires g c =
     (c.site.inside.own.place, rw (← c.site.view_is) at c.requires.usable)
-
-pub invariant_of-table : goal.invariant_of-table
-invariant_of-table g c =
-    let usable = rw (← c.site.view_is) at c.requires.usable in
-    rw (c.deref.ensures.value, ← c.site.view_is)
-    (c.in_ok-calls.ensures c.site.inside.own.place usable)
-
-pub derive_codes-requires-clause-unmarked : goal.derive_codes-requires-clause-unmarked
-derive_codes-requires-clause-unmarked g c = c.in_ok-unmark.ensures.none (ids_in c.args.entries.now)
 
 pub fill_called-requires-clause-calls : goal.fill_called-requires-clause-calls
 fill_called-requires-clause-calls g c =

@@ -1,8 +1,8 @@
 use Rattle.std.proofs.Common.{◌++◌, take, ◌∙◌, arith}
-use Rattle.std.proofs.lemmas.List.{get_or_default}
+use Rattle.std.proofs.lemmas.List.{get_or_default, length-take-le}
 use Rattle.mm_proof.proofs.Parts.{pieces-step}
 use Rattle.mm_proof.proofs.Values.{no_piece}
-use Rattle.mm_proof.proofs.Saying.{front_stays, parts_used}
+use Rattle.mm_proof.proofs.Saying.{front_stays}
 use Rattle.mm_proof.proofs.said.put_pieces.Goals as goal
 
 pub returns-in_err-end-clause-front : goal.returns-in_err-end-clause-front
@@ -16,7 +16,7 @@ loop-piece-preserved c =
     let said = c.in_ok-end.ensures.said in
     let says = rw (c.piece-item.is ∙ get_or_default c.args.pieces.now c.loop-piece.piece-index c.piece-item.result no_piece c.loop-piece-test.true) at said.2 in
     let step = pieces-step used (take c.loop-piece.end c.loop-piece.room) (take c.in_ok-end.end c.put_piece.new.room) before.4 said.0 c.args.stack.now c.args.base c.loop-piece.piece-index c.args.pieces.now
-    (parts_used c.args.used c.args.room.now c.args.stack.now c.requires.used c.requires.parts) c.loop-piece-test.true before.5 before.6 said.1 says in (
+    (rw (length-take-le c.args.used c.args.room.now c.requires.used) c.requires.parts) c.loop-piece-test.true before.5 before.6 said.1 says in (
       omega (arith, before.0, c.in_ok-end.ensures.order),
       c.in_ok-end.ensures.within,
       c.in_ok-end.ensures.long ∙ before.2,

@@ -1,4 +1,4 @@
-use Rattle.mm_proof.proofs.Named.{code_told, code_judged, no_code}
+use Rattle.mm_proof.proofs.Named.{code_told, code_judged}
 use Rattle.mm_proof.proofs.step.is_typed.Goals as goal
 
 pub returns-in-Some : goal.returns-in-Some
@@ -8,4 +8,5 @@ returns-in-Some c st h typing below =
     code_judged c.begins_with.result h _ types.0 (λ is. told.0 (c.begins_with.ensures.0 is)) (λ same. c.begins_with.ensures.1 (told.1 same))
 
 pub returns-in-None : goal.returns-in-None
-returns-in-None c st h typing below = no_code h _ (rw c.in-None.is at typing)
+returns-in-None c st h typing below =
+    let essential = rw c.in-None.is at typing in λ floats. absurd (cc (floats, essential))

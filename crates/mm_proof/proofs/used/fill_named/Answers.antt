@@ -1,12 +1,12 @@
-use Rattle.std.proofs.Common.{sym, ◌∙◌}
+use Rattle.std.proofs.Common.{sym, ◌∙◌, arith}
 use Rattle.std.proofs.lemmas.Bool.{false≢true}
 use Rattle.std.proofs.lemmas.List.{take_all}
-use Rattle.mm_proof.proofs.Naming.{listed_at, gather_added, gather_none, gathered_empty}
+use Rattle.mm_proof.proofs.Naming.{listed_at, gather_added, gather_none}
 use Rattle.mm_proof.proofs.used.fill_named.Goals as goal
 use Rattle.mm_proof.proofs.used.fill_named.Goals.{then-is_assertion+in_ok-push, else-is_assertion}
 
 pub loop-id-init : goal.loop-id-init
-loop-id-init c = rw c.clear.ensures.items (gathered_empty c.args.book.now.statements)
+loop-id-init c = rw c.clear.ensures.items (λ n. (λ h. absurd (omega (arith, h.1)), λ h. h.0))
 
 pub is_assertion-requires : goal.is_assertion-requires
 is_assertion-requires c =

@@ -1,16 +1,9 @@
 use Rattle.std.proofs.Common.{refl}
-use Rattle.std.proofs.lemmas.Bool.{false≢true}
-use Rattle.mm_proof.proofs.Naming.{assertion_kind, no_assertion}
+use Rattle.mm_proof.proofs.Naming.{assertion_kind}
 use Rattle.mm_proof.proofs.used.is_assertion.Goals as goal
 
 pub returns-in-Axiom : goal.returns-in-Axiom
 returns-in-Axiom c = (
   (λ is. assertion_kind c.args.book.now.statements c.requires.used.0 c.args.id.0 c.kind.result (c.requires.used.1, c.requires.used.2) c.kind.ensures c.in-Axiom.is),
   λ h. refl,
-)
-
-pub returns-in_default : goal.returns-in_default
-returns-in_default c = (
-  (λ is. absurd (false≢true is)),
-  λ h. absurd (no_assertion c.args.book.now.statements c.args.id.0 c.kind.result c.kind.ensures c.in_default.not-Axiom c.in_default.not-Proof h),
 )

@@ -1,12 +1,5 @@
 use Rattle.mm_proof.proofs.verdict.judgement.Goals as goal
 
-pub new-site-requires : goal.new-site-requires
-new-site-requires g c = let a = c.requires.steps in (a.place, a.s, a.proof)
-
-pub judgement_in_frame-requires-clause-steps : goal.judgement_in_frame-requires-clause-steps
-judgement_in_frame-requires-clause-steps g c =
-    let site = c.new-site.ensures in rw (site.statements, site.number) c.requires.steps
-
 pub judgement_in_frame-requires-clause-picked : goal.judgement_in_frame-requires-clause-picked
 judgement_in_frame-requires-clause-picked g c = rw c.deref.ensures.value c.in_ok-fill_picked.ensures
 

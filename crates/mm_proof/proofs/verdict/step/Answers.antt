@@ -11,13 +11,6 @@ called g c =
     let used = rw (← c.site.view_is) at c.requires.usable.1 in
     rw (← c.site.view_is) (c.call_of.ensures c.site.inside.own.place c.requires.usable.0 used)
 
-pub call_of-requires : goal.call_of-requires
-call_of-requires g c = (
-  c.site.inside.own.place,
-  c.requires.usable.0,
-  rw (← c.site.view_is) at c.requires.usable.1,
-)
-
 pub step_by-requires-clause-call : goal.step_by-requires-clause-call
 step_by-requires-clause-call g c =
     (c.args.id.0, called g (goal.at.step_by-requires-clause-call g c).After-call_of)

@@ -1,11 +1,12 @@
 -- What is answered of the tokens is exact, and said of the prover's book; and with an unknown step the
 -- answer is that on the known front.
+use Rattle.mm_frame.proofs.Meant.{allformed_front}
 use Rattle.std.proofs.Common.{◌≡◌, Ok, Err, sym, ap, ◌∙◌}
 use Rattle.mm_proof.specs.declared.fault.ProofFault.TheVariants.{Rule}
 use Rattle.mm_proof.specs.declared.prover.Proved.{Proved}
 use Rattle.mm_proof.specs.declared.prover.Proved.TheVariants.{Complete, Incomplete}
 use Rattle.mm_proof.specs.Plain.{ids_in, token_texts}
-use Rattle.mm_proof.proofs.Unknown.{proved_known, within_known}
+use Rattle.mm_proof.proofs.Unknown.{proved_known, said_known}
 use Rattle.mm_proof.proofs.ListingEnd.{if_ok_at, if_rule_at}
 use Rattle.mm_proof.proofs.UnderAnswers.{accepted_under, refused_under, front_allowed, front_refused}
 use Rattle.mm_proof.proofs.prover.Prover.prove.Goals as goal
@@ -51,8 +52,8 @@ returns-then-is_incomplete-clause-incomplete c is = rw (← c.self.view_is) (
 
 pub returns-then-is_incomplete-clause-accepts : goal.returns-then-is_incomplete-clause-accepts
 returns-then-is_incomplete-clause-accepts c = rw (← c.self.view_is) (λ place s proof p. absurd (
-    within_known _ _ _ _ c.prove_tokens.ensures.sound.1
-    (sym c.is_incomplete.ensures ∙ c.if-is_incomplete.true) place s proof p.1))
+    said_known _ s _ _ (allformed_front _ place c.prove_tokens.ensures.sound.1) p.1.whole p.1.said
+    (sym c.is_incomplete.ensures ∙ c.if-is_incomplete.true)))
 
 pub returns-then-is_incomplete-clause-front_fault : goal.returns-then-is_incomplete-clause-front_fault
 returns-then-is_incomplete-clause-front_fault c unknown rule step is =
