@@ -19,7 +19,7 @@ use Rattle.mm_proof.specs.UnderProfile.{IsFrontFaultUnder}
 use Rattle.mm_proof.specs.declared.profile.Profile.{Profile}
 use Rattle.mm_proof.specs.Tokens.{is_incomplete}
 use Rattle.mm_check.specs.declared.rule.Rule.{Rule}
-use Rattle.mm_check.specs.Verdict.{Verdict, Load, Refused, Incomplete, Yes, PlainRefusal, HasVerdict, Obeys, AllObey, HasFault, RefusesStatement, RefusesText, AreAccepted, CanBeRead, sentences, proof_of, is_proof, is_unproved, label_of, unproved_of, proofs_of, refusal_of, text_refusal, text_rule, meaning_rule, proof_rule}
+use Rattle.mm_check.specs.Verdict.{Verdict, Load, Refused, Incomplete, Yes, PlainRefusal, HasVerdict, Obeys, AllObey, RefusesStatement, RefusesText, AreAccepted, CanBeRead, sentences, proof_of, is_proof, is_unproved, label_of, unproved_of, proofs_of, refusal_of, text_refusal, text_rule, meaning_rule, proof_rule}
 use Rattle.mm_check.specs.Reply.{text_of, name_of, line_with, refusal_word, code_of}
 use Rattle.mm_check.specs.Alike.{AlikeFilesHaveOneReply}
 use Rattle.mm_text.proofs.Lists.{cons_split, append_split, same_length}
@@ -55,19 +55,13 @@ sentences_on h (s ∷ ss) =
     let others = sentences_on h ss in
     cc (first, others)
 
--- nor whether a `$p` is proved
-is_proof_on : (h : ℕ → ℕ → ℕ) (s : PlainStatement) → is_proof s ≡ is_proof (statement_on h s)
-is_proof_on h s = ap (λ (p : List (List ℕ)). is_provable s.kind && not (is_incomplete p)) (proof_on h s)
-
-is_unproved_on : (h : ℕ → ℕ → ℕ) (s : PlainStatement) → is_unproved s ≡ is_unproved (statement_on h s)
-is_unproved_on h s = ap (λ (p : List (List ℕ)). is_provable s.kind && is_incomplete p) (proof_on h s)
-
 -- nor how many are proved
 counted_on : (h : ℕ → ℕ → ℕ) (n : ℕ) (ss : List PlainStatement) → fold (λ a x. a + cond (is_proof x) 1 0) n ss ≡ fold (λ a x. a + cond (is_proof x) 1 0) n (map (statement_on h) ss)
 counted_on h n [] = refl
 counted_on h n (s ∷ ss) =
     counted_on h (n + cond (is_proof s) 1 0) ss
-    ∙ ap (λ (b : Bool). fold (λ a x. a + cond (is_proof x) 1 0) (n + cond b 1 0) (map (statement_on h) ss)) (is_proof_on h s)
+    ∙ ap (λ (p : List (List ℕ)). fold (λ a x. a + cond (is_proof x) 1 0) (n
+    + cond (is_provable s.kind && not (is_incomplete p)) 1 0) (map (statement_on h) ss)) (proof_on h s)
 
 proofs_on : (h : ℕ → ℕ → ℕ) (ss : List PlainStatement) → proofs_of ss ≡ proofs_of (map (statement_on h) ss)
 proofs_on h ss = counted_on h 0 ss
@@ -85,7 +79,8 @@ unproved_on h [] = refl
 unproved_on h (s ∷ ss) =
     let us : List PlainStatement = map (statement_on h) ss in
     kept (is_unproved s) s (statement_on h s) (filter is_unproved ss) (filter is_unproved us) (ap option_to_list (text_on h s.label)) (unproved_on h ss)
-    ∙ ap (λ (b : Bool). flat_map label_of (cond b (statement_on h s ∷ filter is_unproved us) (filter is_unproved us))) (is_unproved_on h s)
+    ∙ ap (λ (p : List (List ℕ)). flat_map label_of (cond (is_provable s.kind && is_incomplete p)
+    (statement_on h s ∷ filter is_unproved us) (filter is_unproved us))) (proof_on h s)
 
 -- ## What is said of statements is said of others that differ in places alone
 
@@ -140,11 +135,6 @@ HasFaultAs profile rule step before x p =
     × (broken : ProofRule) × IsProofFaultAs profile broken step before x p
     × (rule ≡ proof_rule broken))
 
-fault_alike : (profile : Profile) (before others : List Sentence) (s t : PlainStatement) (rule : Rule) (step : ℕ) → before ≡ others → sentence_of s ≡ sentence_of t → proof_of s ≡ proof_of t
-    → HasFault profile before s rule step → HasFault profile others t rule step
-fault_alike profile before others s t rule step e f g fault =
-    moved (HasFaultAs profile rule step) before others (sentence_of s) (sentence_of t) (proof_of s) (proof_of t) e f g fault
-
 -- all obey the rules if all of the others do
 all_obey_alike : (profile : Profile) (h k : ℕ → ℕ → ℕ) (ss us : List PlainStatement) → map (statement_on h) ss ≡ map (statement_on k) us → AllObey profile ss → AllObey profile us
 all_obey_alike profile h k ss us is obeyed before after s split =
@@ -171,14 +161,6 @@ refusal_on files count s rule step =
     let Labelled : Option (List ℕ) → PlainRefusal = λ label. record { file = s.first.file; line = feeds_in files s.first.file s.first.at + 1; statement = count + 1; label = label; rule = rule; step = step } in
     ap Labelled (text_on (feeds_in files) s.label)
 
-same_refusal : (files others : List PlainFile) (n m : ℕ) (s t : PlainStatement) (rule : Rule) (step : ℕ) → n ≡ m → statement_on (feeds_in files) s ≡ statement_on (feeds_in others) t
-    → refusal_of files n s rule step ≡ refusal_of others m t rule step
-same_refusal files others n m s t rule step count is =
-    refusal_on files n s rule step
-    ∙ ap (λ (u : PlainStatement). refusal_at n u rule step) is
-    ∙ ap (λ (c : ℕ). refusal_at c (statement_on (feeds_in others) t) rule step) count
-    ∙ sym (refusal_on others m t rule step)
-
 -- the refusal of the text, by the line of its fault
 abbrev text_refusal_at : PlainFault → PlainRefusal
 text_refusal_at fault = record {
@@ -195,9 +177,6 @@ text_refusal_on files fault =
     let Labelled : Option (List ℕ) → PlainRefusal = λ label. record { file = fault.file; line = feeds_in files fault.file fault.at + 1; statement = fault.statement; label = label; rule = text_rule fault.rule; step = 0 } in
     ap Labelled (text_on (feeds_in files) fault.label)
 
-same_text_refusal : (files others : List PlainFile) (f g : PlainFault) → fault_on (feeds_in files) f ≡ fault_on (feeds_in others) g → text_refusal files f ≡ text_refusal others g
-same_text_refusal files others f g is = text_refusal_on files f ∙ ap text_refusal_at is ∙ sym (text_refusal_on others g)
-
 refuses_statement_alike : (profile : Profile) (files others : List PlainFile) (ss us : List PlainStatement) (refusal : PlainRefusal)
     → map (statement_on (feeds_in files)) ss ≡ map (statement_on (feeds_in others)) us
     → RefusesStatement profile files ss refusal → RefusesStatement profile others us refusal
@@ -206,6 +185,7 @@ refuses_statement_alike profile files others ss us refusal is r =
     let k : ℕ → ℕ → ℕ = feeds_in others in
     let (before, rest, whole, front, back) = append_split (statement_on h) (statement_on k) r.before (r.s ∷ r.after) us (sym (ap (map (statement_on h)) r.split) ∙ is) in
     let (t, after, cut, same, tail) = cons_split (statement_on h) (statement_on k) r.s r.after rest back in
+    let count = same_length (statement_on h) (statement_on k) r.before before front in
     record {
       before = before;
       s = t;
@@ -214,8 +194,10 @@ refuses_statement_alike profile files others ss us refusal is r =
       obeyed = all_obey_alike profile h k r.before before front r.obeyed;
       rule = r.rule;
       step = r.step;
-      fault = fault_alike profile (sentences r.before) (sentences before) r.s t r.rule r.step (same_sentences h k r.before before front) (same_sentence h k r.s t same) (same_proof h k r.s t same) r.fault;
-      refused = r.refused ∙ same_refusal files others (length r.before) (length before) r.s t r.rule r.step (same_length (statement_on h) (statement_on k) r.before before front) same;
+      fault = moved (HasFaultAs profile r.rule r.step) _ _ _ _ _ _ (same_sentences h k r.before before front) (same_sentence h k r.s t same) (same_proof h k r.s t same) r.fault;
+      refused = r.refused ∙ refusal_on files (length r.before) r.s r.rule r.step
+          ∙ (λ i. refusal_at (count i) (same i) r.rule r.step)
+          ∙ sym (refusal_on others (length before) t r.rule r.step);
     }
 
 -- no fault corresponds to none, and a fault to a fault
@@ -240,7 +222,8 @@ refuses_text_alike profile files others ss us ending end refusal is ended r =
       obeyed = all_obey_alike profile h k ss us is r.obeyed;
       fault = g;
       ended = there;
-      refused = r.refused ∙ same_text_refusal files others r.fault g same;
+      refused = r.refused ∙ text_refusal_on files r.fault ∙ ap text_refusal_at same
+          ∙ sym (text_refusal_on others g);
     }
 
 -- ## The files as a whole
@@ -248,9 +231,8 @@ refuses_text_alike profile files others ss us ending end refusal is ended r =
 -- alike is meant both ways
 pub alike_back : (files others : List PlainFile) → AllZip AreAlike files others → AllZip AreAlike others files
 alike_back [] [] alike = tt
-alike_back [] (g ∷ gs) alike = absurd alike
-alike_back (f ∷ fs) [] alike = absurd alike
 alike_back (f ∷ fs) (g ∷ gs) alike = ((sym alike.0.0, λ file. sym (alike.0.1 file)), alike_back fs gs alike.1)
+alike_back fs gs alike = absurd alike
 
 -- none are alike to none
 none_alike : (files others : List PlainFile) → AllZip AreAlike files others → files ≡ [] → others ≡ []
@@ -261,20 +243,18 @@ none_alike (f ∷ fs) (g ∷ gs) alike is = cc is
 -- the file with the same number has the same name
 pub name_alike : (files others : List PlainFile) → AllZip AreAlike files others → (file : ℕ) → name_of files file ≡ name_of others file
 name_alike [] [] alike file = refl
-name_alike [] (g ∷ gs) alike file = absurd alike
-name_alike (f ∷ fs) [] alike file = absurd alike
 name_alike (f ∷ fs) (g ∷ gs) alike zero = alike.0.0
 name_alike (f ∷ fs) (g ∷ gs) alike (suc file) = name_alike fs gs alike.1 file
+name_alike fs gs alike file = absurd alike
 
 there_alike : (files others : List PlainFile) → AllZip AreAlike files others → (i : ℕ) (f : PlainFile) → slice_get files i ≡ Some f
     → (g : PlainFile) × (slice_get others i ≡ Some g) × (f.name ≡ g.name)
 there_alike [] [] alike i f is = cc is
-there_alike [] (h ∷ hs) alike i f is = absurd alike
-there_alike (e ∷ es) [] alike i f is = absurd alike
 there_alike (e ∷ es) (h ∷ hs) alike zero f is =
     let first : e ≡ f = cc is in
     (h, refl, sym (ap (λ (x : PlainFile). x.name) first) ∙ alike.0.0)
 there_alike (e ∷ es) (h ∷ hs) alike (suc i) f is = there_alike es hs alike.1 i f is
+there_alike es hs alike i f is = absurd alike
 
 twins_alike : (files others : List PlainFile) → AllZip AreAlike files others → HasTwins files → HasTwins others
 twins_alike files others alike twins =

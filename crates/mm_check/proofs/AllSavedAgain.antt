@@ -1,5 +1,5 @@
 -- Saving all proofs of a file again changes nothing.
-use Rattle.std.proofs.Common.{◌≡◌, ℕ, List, [], ◌∷◌, ◌++◌, map, slice_get, Some, None, Contains}
+use Rattle.std.proofs.Common.{◌≡◌, ℕ, List, [], ◌∷◌, ◌++◌, map, None, Contains}
 use Rattle.std.proofs.Common.{refl, sym, ap, subst, ◌∙◌}
 use Rattle.std.specs.List.{AllZip, AllByRecursion}
 use Rattle.std.proofs.lemmas.List.Elements.{recursion_from_All, All-contains_itself}
@@ -20,7 +20,7 @@ use Rattle.mm_check.proofs.Unproved.{all_meant}
 use Rattle.mm_check.proofs.SavedStatements.{Carries}
 use Rattle.mm_check.proofs.SavedFiles.{handed_anew}
 use Rattle.mm_check.proofs.SavedTexts.{HasText, text_carried}
-use Rattle.mm_check.proofs.FileTheorems.{theorems_zip}
+use Rattle.mm_check.proofs.FileTheorems.{theorems_zip, replaced_by}
 use Rattle.mm_check.proofs.Woven.{Slot, filled, woven, IsCut, all_filled}
 use Rattle.mm_check.proofs.SavedSpans.{HasSlots, cut_into_slots}
 use Rattle.mm_check.proofs.AllSavedOnce.{one_all_saved}
@@ -35,42 +35,13 @@ SayAsTheorems number s t =
 saved_zip : (number : ℕ) (front : List Sentence) (after later : List PlainStatement)
     → AreSavedAs number front after later → AllZip (SayAsTheorems number) after later
 saved_zip number front [] [] all = tt
-saved_zip number front [] (t ∷ later) all = absurd all
-saved_zip number front (s ∷ after) [] all = absurd all
 saved_zip number front (s ∷ after) (t ∷ later) all = (
   (all.0.theorem, all.0.said),
   saved_zip number (front ++ sentence_of t ∷ []) after later all.1,
 )
+saved_zip number front after later all = absurd all
 
 -- ---- what was put in for them is put in again
-
--- for one, in its own span
-replaced_again : (profile : Profile) (f : Form) (statements others : List PlainStatement)
-    (s t : PlainStatement) (new : Replacement) → AllObey profile statements
-    → AllObey profile others → Carries statements others → sentence_of s ≡ sentence_of t
-    → Contains others t → IsReplacement f statements s new
-    → IsReplacement f others t (record { span = t.span; text = new.text })
-replaced_again profile f statements others s t new obeyed still carries said there r =
-    let (u, has) = text_carried profile f statements others r.label r.place s r.root r.below r.text
-    obeyed carries (record { proof = r.proof; laid = r.laid }) in
-    let (k, here) = at_from_contains others t there in
-    let named : (sentence_of t).label ≡ Some r.label =
-    sym (ap (λ (x : Sentence). x.label) said) ∙ r.proof.named in
-    let same : u ≡ t =
-    sym (one_stands others r.label r.place u t (all_meant profile others still) has.proof.there
-    has.proof.named (k, here, named)) in
-    let own : HasText f others r.label r.place t r.root r.below r.text = rw same at has in
-    record {
-      label = r.label;
-      place = r.place;
-      root = r.root;
-      below = r.below;
-      proof = own.proof;
-      text = r.text;
-      laid = own.laid;
-      span = refl;
-      put = r.put;
-    }
 
 -- the text is that of the other
 abbrev PutsTextOf : Replacement → Replacement → Type 0
@@ -83,34 +54,39 @@ record AreReplacedAgain (f : Form) (others theorems : List PlainStatement)
   pub each : AllZip (IsReplacement f others) theorems again
   pub texts : AllZip PutsTextOf news again
 
-all_replaced_again : (profile : Profile) (f : Form) (statements others : List PlainStatement)
-    (theorems later : List PlainStatement) (news : List Replacement) → AllObey profile statements
-    → AllObey profile others → Carries statements others
-    → AllZip (λ s t. sentence_of s ≡ sentence_of t) theorems later
-    → AllByRecursion (Contains others) later
-    → AllZip (IsReplacement f statements) theorems news → AreReplacedAgain f others later news
-all_replaced_again profile f statements others [] [] [] obeyed still carries said there each =
-    record { again = []; each = tt; texts = tt }
-all_replaced_again profile f statements others [] [] (new ∷ news) obeyed still carries said there
-    each = absurd each
-all_replaced_again profile f statements others [] (t ∷ later) news obeyed still carries said there
-    each = absurd said
-all_replaced_again profile f statements others (s ∷ theorems) [] news obeyed still carries said
-    there each = absurd said
-all_replaced_again profile f statements others (s ∷ theorems) (t ∷ later) [] obeyed still carries
-    said there each = absurd each
-all_replaced_again profile f statements others (s ∷ theorems) (t ∷ later) (new ∷ news) obeyed still
-    carries (own, said) (here, there) (r, each) =
-    let rest = all_replaced_again profile f statements others theorems later news obeyed still
-    carries said there each in
-    record {
-      again = record { span = t.span; text = new.text } ∷ rest.again;
-      each = (
-        replaced_again profile f statements others s t new obeyed still carries own here r,
-        rest.each,
-      );
-      texts = (refl, rest.texts);
-    }
+module _ (profile : Profile) (f : Form) (statements others : List PlainStatement)
+    (obeyed : AllObey profile statements) (still : AllObey profile others)
+    (carries : Carries statements others) where
+  -- for one, in its own span
+  replaced_again : (s t : PlainStatement) (new : Replacement) → sentence_of s ≡ sentence_of t
+      → Contains others t → IsReplacement f statements s new
+      → IsReplacement f others t (record { span = t.span; text = new.text })
+  replaced_again s t new said there r =
+      let (u, has) = text_carried profile f statements others r.label r.place s r.root r.below
+      r.text obeyed carries (record { proof = r.proof; laid = r.laid }) in
+      let (k, here) = at_from_contains others t there in
+      let named = sym (ap (λ (x : Sentence). x.label) said) ∙ r.proof.named in
+      let same : u ≡ t =
+      sym (one_stands others r.label r.place u t (all_meant profile others still) has.proof.there
+      has.proof.named (k, here, named)) in
+      let own : HasText f others r.label r.place t r.root r.below r.text = rw same at has in
+      replaced_by f r.text own.proof own.laid refl r.put
+
+  all_replaced_again : (theorems later : List PlainStatement) (news : List Replacement)
+      → AllZip (λ s t. sentence_of s ≡ sentence_of t) theorems later
+      → AllByRecursion (Contains others) later
+      → AllZip (IsReplacement f statements) theorems news → AreReplacedAgain f others later news
+  all_replaced_again [] [] [] said there each = record { again = []; each = tt; texts = tt }
+  all_replaced_again [] [] (new ∷ news) said there each = absurd each
+  all_replaced_again (s ∷ theorems) (t ∷ later) [] said there each = absurd each
+  all_replaced_again (s ∷ theorems) (t ∷ later) (new ∷ news) (own, said) (here, there) (r, each) =
+      let rest = all_replaced_again theorems later news said there each in
+      record {
+        again = record { span = t.span; text = new.text } ∷ rest.again;
+        each = (replaced_again s t new own here r, rest.each);
+        texts = (refl, rest.texts);
+      }
+  all_replaced_again theorems later news said there each = absurd said
 
 again_put : (profile : Profile) (f : Form) (files : List PlainFile)
     (statements : List PlainStatement) (number : ℕ) (bytes : List ℕ)
@@ -125,9 +101,8 @@ again_put profile f files statements number bytes sv obeyed put =
     let there : AllByRecursion (Contains put.same) (theorems_of number put.same) =
     all_filtered (Contains put.same) (is_theorem_of number) put.same
     (recursion_from_All (Contains put.same) put.same (All-contains_itself put.same)) in
-    all_replaced_again profile f statements put.same (theorems_of number statements)
-    (theorems_of number put.same) sv.replaced obeyed put.accepted.obeyed put.alike.to said there
-    sv.each
+    all_replaced_again profile f statements put.same obeyed put.accepted.obeyed put.alike.to
+    (theorems_of number statements) (theorems_of number put.same) sv.replaced said there sv.each
 
 -- ---- so all stands already where it is put
 
@@ -139,9 +114,8 @@ filled_texts : (slots : List Slot) (news : List Replacement)
     → AllZip (λ slot new. new.text ≡ slot.put) slots news
     → AllZip (λ slot new. new.text ≡ slot.put) (map filled slots) news
 filled_texts [] [] texts = tt
-filled_texts [] (new ∷ news) texts = absurd texts
-filled_texts (slot ∷ slots) [] texts = absurd texts
 filled_texts (slot ∷ slots) (new ∷ news) (text, texts) = (text, filled_texts slots news texts)
+filled_texts slots news texts = absurd texts
 
 -- what is woven of the filled slots, with the same texts put in
 woven_again : (f : Form) (files : List PlainFile) (number : ℕ) (same : List PlainStatement)
@@ -176,8 +150,7 @@ saved_again profile f files statements number bytes obeyed sv c put =
     put.fill c.first c.slots
     (record { file = sv.file; handed = sv.handed; whole = c.whole; stand = c.stands }) c.texts in
     let own : PlainFile = record sv.file { bytes = bytes } in
-    let there : slice_get anew number ≡ Some own =
-    handed_anew files number sv.file bytes sv.handed in
+    let there = handed_anew files number sv.file bytes sv.handed in
     let whole : bytes ≡ woven c.first (map filled c.slots) =
     ap (λ (g : PlainFile). g.bytes) (same_Some own has.file (sym there ∙ has.handed)) ∙ has.whole in
     let a = again_put profile f files statements number bytes sv obeyed put in
@@ -196,14 +169,11 @@ saving_all_again_changes_nothing profile f files statements same number bytes ac
     =
     let anew : List PlainFile = with_bytes files number bytes in
     let put = are_all_put profile f files statements number bytes accepted sv fits in
-    let read : same ≡ put.same =
-    (same_reading anew same put.same None None reads put.accepted.reads).0 in
-    let c : IsCut (IsReplacement f statements) 0 sv.file.bytes (theorems_of number statements)
-    sv.replaced =
+    let read = (same_reading anew same put.same None None reads put.accepted.reads).0 in
+    let c =
     cut_into_slots (IsReplacement f statements) files statements number sv.file sv.replaced
     accepted.reads sv.handed sv.each in
-    let own : IsAllSaved f anew put.same number bytes =
-    saved_again profile f files statements number bytes accepted.obeyed sv c put in (
+    let own = saved_again profile f files statements number bytes accepted.obeyed sv c put in (
       subst (λ (ss : List PlainStatement). IsAllSaved f anew ss number bytes) (sym read) own,
       λ others sw. sym (one_all_saved profile f anew put.same number bytes others put.accepted own
           (subst (λ (ss : List PlainStatement). IsAllSaved f anew ss number others) read sw)),

@@ -16,7 +16,7 @@ use Rattle.mm_code.proofs.SomeLayout.{some_layout}
 use Rattle.mm_frame.specs.Sentence.{sentence_of}
 use Rattle.mm_frame.specs.Form.{HasItsLabel}
 use Rattle.mm_proof.specs.Tree.{Trees, none, tree, spelling}
-use Rattle.mm_proof.specs.Proof.{IsProvedWithin, IsWithin}
+use Rattle.mm_proof.specs.Proof.{IsWithin}
 use Rattle.mm_proof.specs.declared.profile.Profile.{Profile}
 use Rattle.mm_proof.specs.Profiles.{limit_of}
 use Rattle.mm_proof.proofs.Making.{derive_fits}
@@ -24,20 +24,21 @@ use Rattle.mm_check.specs.declared.form.Form.{Form}
 use Rattle.mm_check.specs.declared.form.Form.TheVariants as form
 use Rattle.mm_check.specs.declared.ask.AskFault.{AskFault}
 use Rattle.mm_check.specs.declared.ask.AskFault.TheVariants as ask
-use Rattle.mm_check.specs.Verdict.{AreAccepted, AllObey, sentences, proof_of, is_proof}
+use Rattle.mm_check.specs.Verdict.{AreAccepted, AllObey, sentences, is_proof}
 use Rattle.mm_check.specs.Forms.{HasProofTree, IsPackedText, most_labels}
 use Rattle.mm_check.specs.Saved.{IsTextIn, total_with}
 use Rattle.mm_check.specs.AllSaved.{is_theorem_of, theorems_of, Replacement, IsReplacement}
 use Rattle.mm_check.specs.AllSaved.{with_replaced, IsAllSaved, IsFirstTooLong, IsAllSaveFault}
 use Rattle.mm_check.specs.AllSavedLaws.{OneSaveAllAnswer}
-use Rattle.mm_check.specs.Mirror.AllSaving.{HasTooLongProof}
+use Rattle.mm_check.specs.Mirror.AllSaving.{HasTooLongProof, replacement}
 use Rattle.mm_check.proofs.Existence.{formed_sentences, formed_before}
 use Rattle.mm_check.proofs.OnTheWay.{within_limit}
 use Rattle.mm_check.proofs.PackedSizes.{some_packed_text}
 use Rattle.mm_check.proofs.Rereading.{said_there, proof_fits}
 use Rattle.mm_check.proofs.Saving.{provable_proof}
 use Rattle.mm_check.proofs.SavedOnce.{one_proof_tree, not_over}
-use Rattle.mm_check.proofs.FileTheorems.{theorem_complete, each_theorem}
+use Rattle.mm_check.proofs.FileTheorems.{theorem_complete, each_theorem, replaced_by}
+use Rattle.mm_check.proofs.FileTheorems.{first_too_long}
 use Rattle.mm_check.proofs.AllSavedOnce.{one_all_saved}
 
 -- ---- the tree of a theorem
@@ -52,65 +53,59 @@ record HasOwnTree (statements : List PlainStatement) (s : PlainStatement) : Type
   pub packed : (text : List ℕ) × IsPackedText (sentences (take place statements)) (sentence_of s)
       (tree root below none) text
 
-own_tree : (profile : Profile) (files : List PlainFile) (statements : List PlainStatement)
-    (s : PlainStatement) → AreAccepted profile files statements → Contains statements s
-    → is_proof s ≡ true → HasOwnTree statements s
-own_tree profile files statements s accepted there complete =
-    let (place, at) = at_from_contains statements s there in
-    let before : List PlainStatement = take place statements in
-    let after : List PlainStatement = drop (suc place) statements in
-    let split : statements ≡ before ++ s ∷ after = split_at statements place s at in
-    let Fits : List (List ℕ) → Type 0 = IsWithin (limit_of profile) in
-    let p : IsProvedWithin Fits (sentences before) (sentence_of s) (proof_of s) =
-    ((accepted.obeyed before after s split).proved complete).1 in
-    let trees : Trees = tree p.proves.label p.proves.below none in
-    let formed =
-    (readings_are_formed_in_place files statements None accepted.reads).formed in
-    let (label, named, is) =
-    subst (λ kind. HasItsLabel kind (sentence_of s).label) (provable_proof s complete)
-    ((formed_sentences statements formed place (sentence_of s)
-    (said_there statements place s at)).label) in
-    let within : place < length statements = slice_get_within statements place s at in
-    let few : length (sentences before) ≤ most_bytes =
-    omega (
-      arith,
-      within,
-      length-map before sentence_of,
-      length-take-le place statements (omega (arith, within)),
-      readings_few files statements None accepted.reads,
-      within_limit files accepted.readable,
-    ) in
-    record {
-      label = label;
-      place = place;
-      root = p.proves.label;
-      below = p.proves.below;
-      proof = record {
-        there = at;
-        named = named;
-        complete = complete;
-        moves = p.moves;
-        told = p.said;
-        made = record { kept = p.proves.kept; made = p.proves.made };
-      };
-      packed = some_packed_text (sentences before) (sentence_of s) p.proves.label p.proves.below
-          (proof_of s) p.moves p.proves.kept (formed_before statements before s after formed split)
-          (derive_fits Fits (sentences before) trees ((sentence_of s).symbols ∷ [])
-          p.proves.derived)
-          p.whole p.said p.proves.made few
-          (proof_fits files statements None place s accepted.readable accepted.reads at);
-    }
+module _ (profile : Profile) {files : List PlainFile} {statements : List PlainStatement}
+    (accepted : AreAccepted profile files statements) where
+  own_tree : (s : PlainStatement) → Contains statements s → is_proof s ≡ true
+      → HasOwnTree statements s
+  own_tree s there complete =
+      let (place, at) = at_from_contains statements s there in
+      let before : List PlainStatement = take place statements in
+      let after : List PlainStatement = drop (suc place) statements in
+      let split : statements ≡ before ++ s ∷ after = split_at statements place s at in
+      let p = ((accepted.obeyed before after s split).proved complete).1 in
+      let formed = (readings_are_formed_in_place files statements None accepted.reads).formed in
+      let (label, named, is) =
+      subst (λ kind. HasItsLabel kind (sentence_of s).label) (provable_proof s complete)
+      ((formed_sentences statements formed place (sentence_of s)
+      (said_there statements place s at)).label) in
+      let within : place < length statements = slice_get_within statements place s at in
+      let few : length (sentences before) ≤ most_bytes =
+      omega (
+        arith,
+        within,
+        length-map before sentence_of,
+        length-take-le place statements (omega (arith, within)),
+        readings_few files statements None accepted.reads,
+        within_limit files accepted.readable,
+      ) in
+      record {
+        label = label;
+        place = place;
+        root = p.proves.label;
+        below = p.proves.below;
+        proof = record {
+          there = at;
+          named = named;
+          complete = complete;
+          moves = p.moves;
+          told = p.said;
+          made = record { kept = p.proves.kept; made = p.proves.made };
+        };
+        packed = some_packed_text (sentences before) (sentence_of s) p.proves.label p.proves.below _
+            p.moves p.proves.kept (formed_before statements before s after formed split)
+            (derive_fits (IsWithin (limit_of profile)) (sentences before)
+            (tree p.proves.label p.proves.below none) ((sentence_of s).symbols ∷ [])
+            p.proves.derived) p.whole p.said p.proves.made few
+            (proof_fits files statements None place s accepted.readable accepted.reads at);
+      }
 
--- each theorem of a file has one
-own_trees : (profile : Profile) (files : List PlainFile) (statements : List PlainStatement)
-    (number : ℕ) → AreAccepted profile files statements
-    → AllByRecursion (HasOwnTree statements) (theorems_of number statements)
-own_trees profile files statements number accepted =
-    each_theorem number (HasOwnTree statements) statements
-    (all_weaker (Contains statements) (λ s. is_theorem_of number s ≡ true → HasOwnTree statements s)
-    (λ s there is.
-    own_tree profile files statements s accepted there (theorem_complete number s is)) statements
-    (recursion_from_All (Contains statements) statements (All-contains_itself statements)))
+  -- each theorem of a file has one
+  own_trees : (number : ℕ) → AllByRecursion (HasOwnTree statements) (theorems_of number statements)
+  own_trees number =
+      each_theorem number (HasOwnTree statements) statements (all_weaker (Contains statements)
+      (λ s. is_theorem_of number s ≡ true → HasOwnTree statements s)
+      (λ s there is. own_tree s there (theorem_complete number s is)) statements
+      (recursion_from_All (Contains statements) statements (All-contains_itself statements)))
 
 -- a text of the tree is put in
 put_for : (f : Form) (statements : List PlainStatement) (s : PlainStatement)
@@ -118,20 +113,8 @@ put_for : (f : Form) (statements : List PlainStatement) (s : PlainStatement)
     → IsTextIn f (sentences (take t.place statements)) (sentence_of s) (tree t.root t.below none)
     text
     → (new : Replacement) × IsReplacement f statements s new
-put_for f statements s t text laid = (
-  record { span = s.span; text = 10 ∷ text },
-  record {
-    label = t.label;
-    place = t.place;
-    root = t.root;
-    below = t.below;
-    proof = t.proof;
-    text = text;
-    laid = laid;
-    span = refl;
-    put = refl;
-  },
-)
+put_for f statements s t text laid =
+    (replacement s text, replaced_by f text t.proof laid refl refl)
 
 -- ---- in normal form
 
@@ -168,73 +151,44 @@ replaced_up_to R P (s ∷ theorems) (inl (new, r), each) =
     elim (replaced_up_to R P theorems each) [
       | inl (news, zip) ↦ inl (new ∷ news, (r, zip))
       | inr (before, t, after, split, news, zip, p) ↦
-          inr (
-            s ∷ before,
-            t,
-            after,
-            ap (λ (ss : List PlainStatement). s ∷ ss) split,
-            new ∷ news,
-            (r, zip),
-            p,
-          )
+          inr (s ∷ before, t, after, (λ i. s ∷ split i), new ∷ news, (r, zip), p)
     ]
 
-normal_answer : (profile : Profile) (files : List PlainFile) (statements : List PlainStatement)
-    (number : ℕ) → AreAccepted profile files statements → (file : PlainFile)
-    → slice_get files number ≡ Some file
-    → ((bytes : List ℕ) × IsAllSaved form.Normal files statements number bytes)
-    ⊎ ((label : List ℕ) × IsFirstTooLong statements number label)
-normal_answer profile files statements number accepted file handed =
-    elim (replaced_up_to (IsReplacement form.Normal statements) (IsTooLong statements)
-    (theorems_of number statements)
-    (all_weaker (HasOwnTree statements)
-    (λ s. ((new : Replacement) × IsReplacement form.Normal statements s new)
-    ⊎ IsTooLong statements s)
-    (normal_or_long statements) (theorems_of number statements)
-    (own_trees profile files statements number accepted))) [
-      | inl (news, each) ↦
-          inl (
-            with_replaced file.bytes news,
-            record { file = file; handed = handed; replaced = news; each = each; whole = refl },
-          )
-      | inr (before, s, after, split, news, fit, (label, (place, root, below, proof, long))) ↦
-          inr (
-            label,
-            record {
-              before = before;
-              s = s;
-              after = after;
-              split = split;
-              news = news;
-              fit = fit;
-              place = place;
-              root = root;
-              below = below;
-              proof = proof;
-              long = long;
-            },
-          )
-    ]
+module _ (profile : Profile) {files : List PlainFile} {statements : List PlainStatement}
+    (number : ℕ) (accepted : AreAccepted profile files statements) (file : PlainFile)
+    (handed : slice_get files number ≡ Some file) where
+  normal_answer : ((bytes : List ℕ) × IsAllSaved form.Normal files statements number bytes)
+      ⊎ ((label : List ℕ) × IsFirstTooLong statements number label)
+  normal_answer =
+      elim (replaced_up_to (IsReplacement form.Normal statements) (IsTooLong statements)
+      (theorems_of number statements) (all_weaker (HasOwnTree statements)
+      (λ s. ((new : Replacement) × IsReplacement form.Normal statements s new)
+      ⊎ IsTooLong statements s) (normal_or_long statements) (theorems_of number statements)
+      (own_trees profile accepted number))) [
+        | inl (news, each) ↦
+            inl (
+              with_replaced file.bytes news,
+              record { file = file; handed = handed; replaced = news; each = each; whole = refl },
+            )
+        | inr (before, s, after, split, news, fit, (label, long)) ↦
+            inr (label, first_too_long statements number label before s after news split fit long)
+      ]
 
--- ---- in packed form
+  -- ---- in packed form
 
-packed_answer : (profile : Profile) (files : List PlainFile) (statements : List PlainStatement)
-    (number : ℕ) → AreAccepted profile files statements → (file : PlainFile)
-    → slice_get files number ≡ Some file
-    → (bytes : List ℕ) × IsAllSaved form.Packed files statements number bytes
-packed_answer profile files statements number accepted file handed =
-    elim (replaced_up_to (IsReplacement form.Packed statements) (λ s. ⊥)
-    (theorems_of number statements)
-    (all_weaker (HasOwnTree statements)
-    (λ s. ((new : Replacement) × IsReplacement form.Packed statements s new) ⊎ ⊥)
-    (λ s t. inl (put_for form.Packed statements s t t.packed.0 t.packed.1))
-    (theorems_of number statements) (own_trees profile files statements number accepted))) [
-      | inl (news, each) ↦ (
-        with_replaced file.bytes news,
-        record { file = file; handed = handed; replaced = news; each = each; whole = refl },
-      )
-      | inr (before, s, after, split, news, fit, none_left) ↦ absurd none_left
-    ]
+  packed_answer : (bytes : List ℕ) × IsAllSaved form.Packed files statements number bytes
+  packed_answer =
+      elim (replaced_up_to (IsReplacement form.Packed statements) (λ s. ⊥)
+      (theorems_of number statements) (all_weaker (HasOwnTree statements)
+      (λ s. ((new : Replacement) × IsReplacement form.Packed statements s new) ⊎ ⊥)
+      (λ s t. inl (put_for form.Packed statements s t t.packed.0 t.packed.1))
+      (theorems_of number statements) (own_trees profile accepted number))) [
+        | inl (news, each) ↦ (
+          with_replaced file.bytes news,
+          record { file = file; handed = handed; replaced = news; each = each; whole = refl },
+        )
+        | inr (before, s, after, split, news, fit, none_left) ↦ absurd none_left
+      ]
 
 -- ---- never both, and one label
 
@@ -243,12 +197,10 @@ put_not_long : (profile : Profile) (statements : List PlainStatement) (s : Plain
     (new : Replacement) → AllObey profile statements → IsReplacement form.Normal statements s new
     → ¬ (IsTooLong statements s)
 put_not_long profile statements s new obeyed r (label, (place, root, below, proof, long)) =
-    let same : label ≡ r.label = same_Some label r.label (sym proof.named ∙ r.proof.named) in
-    let own : HasProofTree statements r.label place s root below = rw same at proof in
+    let same = same_Some label r.label (sym proof.named ∙ r.proof.named) in
     let (here, (one, trees)) = one_proof_tree profile statements r.label r.place place s s r.root
-    root r.below below obeyed r.proof own in
-    not_over (length (spelling (tree r.root r.below none))) r.laid.0
-    (subst (λ (u : Trees). most_labels < length (spelling u)) trees long)
+    root r.below below obeyed r.proof (rw same at proof) in
+    not_over _ r.laid.0 (subst (λ (u : Trees). most_labels < length (spelling u)) trees long)
 
 -- so none of those that are replaced is
 none_long : (profile : Profile) (statements before : List PlainStatement) (s : PlainStatement)
@@ -256,11 +208,8 @@ none_long : (profile : Profile) (statements before : List PlainStatement) (s : P
     → AllZip (IsReplacement form.Normal statements) theorems news
     → theorems ≡ before ++ s ∷ after → ¬ (IsTooLong statements s)
 none_long profile statements before s after theorems news obeyed each split long =
-    let there : slice_get theorems (length before) ≡ Some s =
-    ap (λ (ss : List PlainStatement). slice_get ss (length before)) split
-    ∙ get_parted before after s in
     let (new, at, r) = zip_left (IsReplacement form.Normal statements) theorems news (length before)
-    s each there in
+    s each (rw split (get_parted before after s)) in
     put_not_long profile statements s new obeyed r long
 
 first_is_long : (statements : List PlainStatement) (number : ℕ) (label : List ℕ)
@@ -274,8 +223,7 @@ one_first : (profile : Profile) (statements : List PlainStatement) (number : ℕ
 one_first profile statements number label other obeyed p q =
     elim (two_cuts p.before p.s p.after q.before q.s q.after (sym p.split ∙ q.split)) [
       | inl (front, same, back) ↦
-          same_Some label other
-          (sym p.proof.named
+          same_Some label other (sym p.proof.named
           ∙ ap (λ (s : PlainStatement). (sentence_of s).label) same ∙ q.proof.named)
       | inr (inl (between, whole, rest)) ↦
           absurd
@@ -304,8 +252,8 @@ pub one_save_all_answer : OneSaveAllAnswer
 one_save_all_answer profile files statements number accepted within =
     let (file, handed) = get_within files number within in
     record {
-      packed = packed_answer profile files statements number accepted file handed;
-      normal = normal_answer profile files statements number accepted file handed;
+      packed = packed_answer profile number accepted file handed;
+      normal = normal_answer profile number accepted file handed;
       never_both = λ bytes label sv first.
           none_long profile statements first.before first.s first.after
           (theorems_of number statements) sv.replaced accepted.obeyed sv.each first.split

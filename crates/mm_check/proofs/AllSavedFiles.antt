@@ -71,8 +71,6 @@ all_saved_as_moved : (number : ℕ) (front : List Sentence) (after later last : 
     → AreSavedAs number front after last
 all_saved_as_moved number front [] [] [] same all = tt
 all_saved_as_moved number front [] [] (u ∷ last) same all = absurd cc
-all_saved_as_moved number front [] (t ∷ later) last same all = absurd all
-all_saved_as_moved number front (s ∷ after) [] last same all = absurd all
 all_saved_as_moved number front (s ∷ after) (t ∷ later) [] same all = absurd cc
 all_saved_as_moved number front (s ∷ after) (t ∷ later) (u ∷ last) same all =
     let (first, rest) = cons_parts (placeless t) (placeless u) (map placeless later)
@@ -83,6 +81,7 @@ all_saved_as_moved number front (s ∷ after) (t ∷ later) (u ∷ last) same al
       saved_as_moved number front s t u first all.0,
       subst (λ (x : Sentence). AreSavedAs number (front ++ x ∷ []) after last) said moved,
     )
+all_saved_as_moved number front after later last same all = absurd all
 
 -- the one at a place
 pub saved_as_at : (number : ℕ) (front : List Sentence) (after later : List PlainStatement)
@@ -91,18 +90,14 @@ pub saved_as_at : (number : ℕ) (front : List Sentence) (after later : List Pla
     → (s : PlainStatement) × (slice_get after place ≡ Some s)
     × IsSavedAs number (front ++ sentences (take place later)) s t
 saved_as_at number front [] [] all place t there = absurd cc
-saved_as_at number front [] (u ∷ later) all place t there = absurd all
-saved_as_at number front (s ∷ after) [] all place t there = absurd all
 saved_as_at number front (s ∷ after) (u ∷ later) all zero t there =
     let same : u ≡ t = cc in
     (s, refl, rw (append-nil front, ← same) all.0)
 saved_as_at number front (s ∷ after) (u ∷ later) all (suc place) t there =
     let (v, here, saved) =
     saved_as_at number (front ++ sentence_of u ∷ []) after later all.1 place t there in
-    let more : (front ++ sentence_of u ∷ []) ++ sentences (take place later)
-    ≡ front ++ sentence_of u ∷ sentences (take place later) =
-    append_assoc front (sentence_of u ∷ []) (sentences (take place later)) in
-    (v, here, subst (λ (ss : List Sentence). IsSavedAs number ss v t) more saved)
+    (v, here, rw append_assoc at saved)
+saved_as_at number front after later all place t there = absurd all
 
 -- ---- the proofs behind some statements
 
@@ -166,25 +161,6 @@ passed_over profile files number bytes before s after news other put = record {
       (long ∙ ap length (sym (theorems_passed number before s other))) has texts;
 }
 
--- a theorem's proof may be put in where those behind it were
-replaced_to_put : (profile : Profile) {f : Form} {files : List PlainFile}
-    (before : List PlainStatement) (s : PlainStatement) (after : List PlainStatement)
-    {later : List PlainStatement} {file : PlainFile} {new : Replacement}
-    → AllObey profile (before ++ s ∷ after)
-    → (r : IsReplacement f (before ++ s ∷ after) s new) → Reads files (before ++ s ∷ later) None
-    → AllObey profile (before ++ s ∷ later) → slice_get files s.first.file ≡ Some file
-    → IsToPut profile f files before s later file r.text
-replaced_to_put profile before s after obeyed r reads still handed =
-    let st : List PlainStatement = before ++ s ∷ after in
-    let here : r.place ≡ length before =
-    one_label (sentences st) r.label r.place (length before) (sentence_of s) (sentence_of s)
-    (all_meant profile st obeyed) (said_there st r.place s r.proof.there)
-    (said_there st (length before) s (get_parted before after s)) r.proof.named r.proof.named in
-    let front : sentences (take r.place st) ≡ sentences before =
-    ap (λ (n : ℕ). sentences (take n st)) here
-    ∙ ap sentences (take-append_seam before (s ∷ after)) in
-    to_put r.proof r.laid front reads still handed
-
 module _ (profile : Profile) (f : Form) (files : List PlainFile) (number : ℕ) (file : PlainFile)
     (handed : slice_get files number ≡ Some file) where
   -- Its slot is filled behind which all are.
@@ -207,8 +183,7 @@ module _ (profile : Profile) (f : Form) (files : List PlainFile) (number : ℕ) 
       length-append front (slot ∷ []) ∙ ap (λ (n : ℕ). n + 1) long
       ∙ sym (length-append (theorems_of number before) (s ∷ []))
       ∙ sym (ap length (theorems_parted number before s [] is)) in
-      let behind : HasSlots others (before ++ s ∷ later) number first
-      (front ++ slot ∷ map filled back) =
+      let behind =
       rw (one (map filled back)) at
       (fill first (front ++ slot ∷ []) back longer (rw (one back) has) texts.1) in
       subst (λ (fs : List PlainFile).
@@ -231,15 +206,19 @@ module _ (profile : Profile) (f : Form) (files : List PlainFile) (number : ℕ) 
       let home : s.first.file ≡ number = theorem_home number s is in
       let others : List PlainFile = with_bytes files number bytes in
       let own : PlainFile = record file { bytes = bytes } in
+      let st : List PlainStatement = before ++ s ∷ after in
+      let here : r.place ≡ length before =
+      one_label (sentences st) r.label r.place (length before) (sentence_of s) (sentence_of s)
+      (all_meant profile st obeyed) (said_there st r.place s r.proof.there)
+      (said_there st (length before) s (get_parted before after s)) r.proof.named r.proof.named in
+      let front : sentences (take r.place st) ≡ sentences before = rw (here, take-append_seam) in
       let p : IsToPut profile f others before s next.later own r.text =
-      replaced_to_put profile before s after obeyed r next.reads next.obeyed
+      to_put r.proof r.laid front next.reads next.obeyed
       (ap (slice_get others) home ∙ handed_anew files number file bytes handed) in
       let put = are_put_anew p in
       let anew = anew_of p in
-      let theorem : is_theorem_of number (put_anew s (10 ∷ r.text)) ≡ true =
-      theorem_there number (put_anew s (10 ∷ r.text)) anew.complete home in
-      let changed : with_bytes others s.first.file (with_span bytes s.span (10 ∷ r.text))
-      ≡ with_bytes files number (with_span bytes new.span new.text) =
+      let theorem = theorem_there number (put_anew s (10 ∷ r.text)) anew.complete home in
+      let changed =
       (λ i. with_bytes others (home i) (with_span bytes (sym r.span i) (sym r.put i)))
       ∙ with_bytes_again files number file bytes (with_span bytes new.span new.text) handed in
       record {
@@ -285,8 +264,7 @@ module _ (profile : Profile) (f : Form) (files : List PlainFile) (number : ℕ) 
       → PutsBehind profile f files number file (λ rest. before ++ rest) before after
   put_behind before [] [] reads obeyed each = record {
     later = [];
-    reads = subst (λ (fs : List PlainFile). Reads fs (before ++ []) None)
-        (sym (with_bytes_own files number file handed)) reads;
+    reads = rw (with_bytes_own files number file handed) reads;
     obeyed = obeyed;
     alike = say_themselves (before ++ []);
     each = tt;
@@ -294,9 +272,7 @@ module _ (profile : Profile) (f : Form) (files : List PlainFile) (number : ℕ) 
   }
     where
       fill : AreFilledBehind files number file.bytes before (before ++ []) (before ++ []) []
-      fill first front [] long has texts =
-          subst (λ (fs : List PlainFile). HasSlots fs (before ++ []) number first (front ++ []))
-          (sym (with_bytes_own files number file handed)) has
+      fill first front [] long has texts = rw (with_bytes_own files number file handed) has
       fill first front (slot ∷ back) long has texts = absurd texts
   put_behind before [] (new ∷ news) reads obeyed each = absurd each
   put_behind before (s ∷ after) news reads obeyed each =

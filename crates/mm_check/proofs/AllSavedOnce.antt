@@ -22,8 +22,7 @@ one_replacement profile f statements s new other obeyed r q =
     one_text_of profile f statements r.label r.place q.place s s r.root q.root r.below q.below
     r.text q.text obeyed r.proof proof r.laid q.laid in
     let span : new.span ≡ other.span = r.span ∙ sym q.span in
-    let put : new.text ≡ other.text =
-    r.put ∙ ap (λ (t : List ℕ). 10 ∷ t) text ∙ sym q.put in
+    let put = r.put ∙ ap (λ (t : List ℕ). 10 ∷ t) text ∙ sym q.put in
     λ i. record { span = span i; text = put i }
 
 pub one_all_saved : OneAllSaved

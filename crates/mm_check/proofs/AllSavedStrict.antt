@@ -41,8 +41,7 @@ all_saved_proofs_are_strict profile f files statements same number bytes accepte
     let read : same ≡ put.same =
     (same_reading (with_bytes files number bytes) same put.same None None reads
     put.accepted.reads).0 in
-    let there : slice_get put.same place ≡ Some s =
-    ap (λ (ss : List PlainStatement). slice_get ss place) (sym read) ∙ theorem.there in
+    let there = ap (λ (ss : List PlainStatement). slice_get ss place) (sym read) ∙ theorem.there in
     let (t, here, saved) = saved_as_at number [] statements put.same put.each place s there in
     rw read (saved.strict (theorem_there number s theorem.complete home))
 
@@ -96,8 +95,7 @@ files_strict : (P : ℕ → Type 0) (numbers : List ℕ) (files others : List Pl
     → AreFilesSaved Lenient Packed files numbers others
     → AreStrictFiles (λ n. P n ⊎ Contains numbers n) others
 files_strict P [] files others statements accepted none strict is =
-    subst (AreStrictFiles (λ n. P n ⊎ Contains [] n)) (sym is)
-    (record {
+    rw is (record {
       same = statements;
       accepted = accepted;
       none = none;
@@ -108,11 +106,9 @@ files_strict P [] files others statements accepted none strict is =
     })
 files_strict P (number ∷ numbers) files others statements accepted none strict
     (same, bytes, again, sv, fits, rest) =
-    let read : statements ≡ same =
-    (same_reading files statements same None None accepted.reads again.reads).0 in
+    let read = (same_reading files statements same None None accepted.reads again.reads).0 in
     let put = are_all_put Lenient Packed files same number bytes again sv fits in
-    let left : unproved_of put.same ≡ [] =
-    sym put.alike.left ∙ ap unproved_of (sym read) ∙ none in
+    let left = sym put.alike.left ∙ ap unproved_of (sym read) ∙ none in
     let more =
     files_strict (λ n. P n ⊎ (n ≡ number)) numbers (with_bytes files number bytes) others put.same
     put.accepted left
@@ -168,15 +164,11 @@ strict_accepted files statements accepted none strict = record {
         → IsStrict (sentences before) (sentence_of s) (proof_of s)
     form before after s split complete =
         let there : slice_get statements (length before) ≡ Some s =
-        ap (λ (ss : List PlainStatement). slice_get ss (length before)) split
-        ∙ get_parted before after s in
-        let front : take (length before) statements ≡ before =
-        ap (take (length before)) split ∙ take-append_seam before (s ∷ after) in
+        rw split (get_parted before after s) in
+        let front = ap (take (length before)) split ∙ take-append_seam before (s ∷ after) in
         let (file, home) =
         home_file files statements (length before) s accepted.reads there in
-        subst (λ (ss : List PlainStatement).
-        IsStrict (sentences ss) (sentence_of s) (proof_of s)) front
-        (strict (length before) s there complete
+        rw front at (strict (length before) s there complete
         (slice_get_within files s.first.file file home))
 
 pub packed_files_are_strict : PackedFilesAreStrict

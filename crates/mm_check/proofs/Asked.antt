@@ -195,12 +195,9 @@ used_is statements uses all kept id used = (
       (found.0, found.1, found.2, (of.3.each used).1 there),
 )
 
-rests_as : (R S : ℕ → ℕ → Type 0) → ((id used : ℕ) → R id used ↔ S id used) → (theorem n : ℕ) → RestsOn R theorem n → RestsOn S theorem n
-rests_as R S same theorem n rests set closed =
-    rests set (record { own = λ used h. closed.own used ((same theorem used).0 h); others = λ id used k h. closed.others id used k ((same id used).0 h) })
-
-pub rests_same : (R S : ℕ → ℕ → Type 0) → ((id used : ℕ) → R id used ↔ S id used) → (theorem n : ℕ) → RestsOn R theorem n ↔ RestsOn S theorem n
-rests_same R S same theorem n = (rests_as R S same theorem n, rests_as S R (λ id used. ((same id used).1, (same id used).0)) theorem n)
+pub rests_as : (R S : ℕ → ℕ → Type 0) → ((id used : ℕ) → R id used → S id used) → (theorem n : ℕ) → RestsOn R theorem n → RestsOn S theorem n
+rests_as R S into theorem n rests set closed =
+    rests set (record { own = λ used h. closed.own used (into theorem used h); others = λ id used k h. closed.others id used k (into id used h) })
 
 -- ---- the report
 
@@ -218,8 +215,12 @@ pub report_of : (statements : List PlainStatement) (c : Conclusion) (label : Lis
     → IsReport statements label axioms unproved
 report_of statements c label id marks axioms unproved kept all named marked are_axioms are_unproved =
     let meant : AllMeant (sentences statements) = subst AllMeant kept.sentences all in
+    let same = used_is statements c.uses meant kept.uses in
     let rests : (n : ℕ) → RestsOn (UsedIn c.uses) id n ↔ RestsOn (Uses statements) id n =
-    rests_same (UsedIn c.uses) (Uses statements) (used_is statements c.uses meant kept.uses) id in
+    λ n. (
+      rests_as (UsedIn c.uses) (Uses statements) (λ x y. (same x y).0) id n,
+      rests_as (Uses statements) (UsedIn c.uses) (λ x y. (same x y).1) id n,
+    ) in
     let placed : AreInOrder (λ n. IsAxiomNumber (sentences statements) n × IsMarked marks n) axioms =
     subst (λ (ss : List Sentence). AreInOrder (λ n. IsAxiomNumber ss n × IsMarked marks n) axioms) kept.sentences are_axioms in
     record {

@@ -92,9 +92,7 @@ lenient_yes files n p h (Refused refusal) k =
     let same = same_reading files k.1 h.0 k.2 None k.3 h.1.reads in
     elim (k.4) [
       | inl r ↦
-          let here = subst (λ (ss : List PlainStatement). RefusesStatement Strict files ss refusal)
-          same.0 r in
-          inr (refusal, k, form_refused files n p h refusal here)
+          inr (refusal, k, form_refused files n p h refusal (rw same.0 at r))
       | inr r ↦ cc (same.1, r.ended)
     ]
 

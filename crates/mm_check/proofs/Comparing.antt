@@ -21,7 +21,7 @@ use Rattle.mm_check.specs.declared.ask.AskFault.{AskFault}
 use Rattle.mm_check.specs.declared.ask.AskFault.TheVariants as ask
 use Rattle.mm_check.specs.Verdict.{sentences, proof_rule}
 use Rattle.mm_check.specs.Rests.{IsAskFault}
-use Rattle.mm_check.specs.Compared.{IsProofText, IsTextFault, text_fault, IsCompared, IsSameFault}
+use Rattle.mm_check.specs.Compared.{IsProofText, text_fault, IsCompared, IsSameFault}
 use Rattle.mm_check.specs.Mirror.Theorems.{SayWholeSteps, AreProvedSteps, AreStepsOf}
 use Rattle.mm_check.specs.Mirror.Comparisons.{FailsAs, IsUnproved, IsTextRefused, IsComparedWith}
 use Rattle.mm_check.proofs.Asked.{map-take}
@@ -53,8 +53,7 @@ unproved_of profile st id tokens steps fault under said form (inr (rule, step, i
       λ place s number.
           let told = said place s number in
           let fault : FailsWith (limit_of profile) st place s told.1 rule step =
-          subst (λ (p : Profile). FailsWith (limit_of p) st place s told.1 rule step) under
-          (fails place s told.1 number told.3) in
+          rw under at (fails place s told.1 number told.3) in
           inr (told.0, form place s number, told.1, told.2, fault),
     )
 
@@ -88,8 +87,7 @@ compared_with profile st id own steps text same legal under said form proved tol
   λ place s moves number numbered.
       let says = said place s number in
       let proves : Prove (IsWithin (limit_of profile)) (take place st) s says.1 =
-      subst (λ (p : Profile). Prove (IsWithin (limit_of p)) (take place st) s says.1) under
-      (proved place s says.1 number says.3) in (
+      rw under at (proved place s says.1 number says.3) in (
         (
           form place s number,
           record { whole = says.0; moves = says.1; said = says.2; proves = proves },
@@ -126,14 +124,9 @@ pub same_fault : (profile : Profile) (ss : List Sentence) (statements : List Pla
 same_fault profile ss statements label id steps text fault is r (inl memory) =
     subst (IsSameFault profile statements label text) (sym memory) tt
 same_fault profile ss statements label id steps text fault is r (inr (rule, step, told, refused)) =
-    let here : OfProof (sentences statements) id (λ place s.
-    IsTextFault profile (take place (sentences statements)) s text rule step) =
-    subst (λ (x : List Sentence). OfProof x id (λ place s.
-    IsTextFault profile (take place x) s text rule step)) is refused in
-    let broken : IsTextFault profile (sentences (take r.place statements)) (sentence_of r.s) text
-    rule step =
-    subst (λ (x : List Sentence). IsTextFault profile x (sentence_of r.s) text rule step)
-    (sym (map-take r.place statements)) (here r.place (sentence_of r.s) r.number) in
+    let here = rw is at refused in
+    let broken =
+    rw (← map-take r.place statements) at (here r.place (sentence_of r.s) r.number) in
     subst (IsSameFault profile statements label text) (sym told)
     (r.place, r.s, record { there = r.there; named = r.named; complete = r.complete }, broken)
 

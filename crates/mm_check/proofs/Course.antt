@@ -1,6 +1,5 @@
 -- The course of checking: statement after statement, up to the first fault.
-use Rattle.std.proofs.Common.{◌≡◌, ℕ, ◌<◌, List, [], ◌∷◌, ◌++◌, map, length, slice_get, true, false, Option, Some, None, Result, Ok, Err, IsErrAnd, inl, inr, refl, sym, ap, subst, ◌∙◌, append_assoc, append-nil}
-use Rattle.std.specs.List.{AllByRecursion}
+use Rattle.std.proofs.Common.{◌≡◌, ℕ, List, [], ◌∷◌, ◌++◌, map, length, slice_get, true, false, Option, Some, None, Result, Ok, Err, IsErrAnd, inl, inr, refl, sym, ap, subst, ◌∙◌, append_assoc, append-nil}
 use Rattle.mm_text.specs.Statement.{PlainStatement, HasForm}
 use Rattle.mm_text.specs.Files.{PlainFile}
 use Rattle.mm_text.specs.Reading.{PlainFault, Reads}
@@ -9,10 +8,9 @@ use Rattle.mm_frame.specs.Sentence.{Sentence}
 use Rattle.mm_proof.specs.declared.profile.Profile.{Profile}
 use Rattle.mm_check.specs.declared.fault.CheckFault.{CheckFault}
 use Rattle.mm_check.specs.declared.progress.Progress.{Progress}
-use Rattle.mm_check.specs.Conclusion.{Conclusion, ProofUses, labels_in}
-use Rattle.mm_check.specs.Verdict.{Verdict, HasFault, Obeys, HasVerdict, AreAccepted, CanBeRead, sentences, labels_of, unproved_of, is_unproved, proofs_of, refusal_of}
-use Rattle.mm_check.specs.Answer.{verdict_of_fault, verdict_of_conclusion, verdict_where_incomplete, labels_at, IsVerdict, KeepsLabels, KeepsCounts, KeepsUses, IsKeptOf}
-use Rattle.mm_check.specs.Rests.{IsNumberWhere, AreInOrder, AreUses}
+use Rattle.mm_check.specs.Conclusion.{Conclusion, labels_in}
+use Rattle.mm_check.specs.Verdict.{Verdict, HasFault, Obeys, HasVerdict, AreAccepted, CanBeRead, sentences, labels_of, unproved_of, proofs_of, refusal_of}
+use Rattle.mm_check.specs.Answer.{verdict_of_fault, verdict_of_conclusion, verdict_where_incomplete, labels_at, IsVerdict, KeepsLabels, KeepsCounts, KeepsUses}
 use Rattle.mm_check.specs.Mirror.Judged.{IsUnderWay, IsAtEnd, GoesOn, Knows, Takes}
 use Rattle.mm_check.specs.Mirror.Judged.{RefusesAfter, RefusesEnd, TakesNext}
 use Rattle.mm_check.specs.Mirror.Marks.{IsKeptWell}
@@ -46,18 +44,12 @@ goes_on profile files s p q old new taken formed takes = (
   taken.0,
   λ way.
       let plain : List PlainStatement = way.earlier in
-      let moved : plain ++ old.statements ≡ (plain ++ s ∷ []) ++ new.statements =
-      ap (λ (ss : List PlainStatement). plain ++ ss) taken.0
-      ∙ sym (append_assoc plain (s ∷ []) new.statements) in
       let ending : old.ending ≡ new.ending = sym (ap (λ (r : Remaining). r.ending) taken.1) in
-      let obeys : Obeys profile (sentences plain) s =
-      subst (λ (b : List Sentence). Obeys profile b s) way.known.book takes.obeys in (
+      let obeys = subst (λ (b : List Sentence). Obeys profile b s) way.known.book takes.obeys in (
         record {
           earlier = plain ++ s ∷ [];
           readable = way.readable;
-          reads = subst (λ (e : Option PlainFault). Reads files ((plain ++ s ∷ []) ++ new.statements) e)
-              ending
-              (subst (λ (ss : List PlainStatement). Reads files ss old.ending) moved way.reads);
+          reads = rw (taken.0, ending, ← append_assoc plain (s ∷ []) new.statements) at way.reads;
           obeyed = one_more profile plain s way.obeyed obeys;
           known = knows_more profile plain s p q formed way.known takes;
         },
@@ -69,17 +61,13 @@ goes_on profile files s p q old new taken formed takes = (
 none_left : (profile : Profile) (files : List PlainFile) (p : Progress) (left : Remaining) (way : IsUnderWay profile files p left) → left.statements ≡ []
     → Reads files way.earlier left.ending
 none_left profile files p left way none =
-    subst (λ (ss : List PlainStatement). Reads files ss left.ending)
-    (ap (λ (ss : List PlainStatement). way.earlier ++ ss) none ∙ append-nil way.earlier) way.reads
+    rw (none, append-nil) at way.reads
 
 -- ## What is answered
 
 -- a fault that tells a verdict tells this one
 told : (fault : CheckFault) (v w : Verdict) → verdict_of_fault fault ≡ Some v → verdict_of_fault fault ≡ Some w → v ≡ w
 told fault v w e f = cc
-
-untold : (fault : CheckFault) (v : Verdict) → verdict_of_fault fault ≡ None → verdict_of_fault fault ≡ Some v → ⊥
-untold fault v e f = cc
 
 -- a fault that is passed on tells the verdict that it told
 pub passed_on : (profile : Profile) (files : List PlainFile) (answer : Result Conclusion CheckFault) (fault : CheckFault) → IsErrAnd answer (λ e. e ≡ fault)
@@ -89,7 +77,7 @@ passed_on profile files (Err other) fault same holds v e = holds v (ap verdict_o
 
 pub end_verdict : (profile : Profile) (files : List PlainFile) (p : Progress) (left : Remaining) (fault : CheckFault) → IsUnderWay profile files p left
     → RefusesEnd files left fault → (v : Verdict) → verdict_of_fault fault ≡ Some v → HasVerdict profile files v
-end_verdict profile files p left fault way (inl none) v e = absurd (untold fault v none e)
+end_verdict profile files p left fault way (inl none) v e = cc
 end_verdict profile files p left fault way (inr end) v e =
     subst (λ (w : Verdict). HasVerdict profile files w) (told fault _ v end.3 e) (
       way.readable,
@@ -103,7 +91,7 @@ pub statement_verdict : (profile : Profile) (files : List PlainFile) (p : Progre
     → IsUnderWay profile files p old → TakesNext old true s new
     → RefusesAfter profile files p.prover.book.statements p.count s fault
     → (v : Verdict) → verdict_of_fault fault ≡ Some v → HasVerdict profile files v
-statement_verdict profile files p s old new fault way taken (inl none) v e = absurd (untold fault v none e)
+statement_verdict profile files p s old new fault way taken (inl none) v e = cc
 statement_verdict profile files p s old new fault way taken (inr at) v e =
     let plain : List PlainStatement = way.earlier in
     subst (λ (w : Verdict). HasVerdict profile files w) (told fault _ v at.3 e) (
@@ -139,18 +127,20 @@ concluded_as : (profile : Profile) (files : List PlainFile) (c : Conclusion) (st
     → c.statements ≡ length statements → c.proofs ≡ proofs_of statements
     → HasVerdict profile files (verdict_where_incomplete c numbers)
 concluded_as profile files c statements [] [] accepted same named count proofs = (statements, accepted, sym same, count, proofs)
-concluded_as profile files c statements [] (u ∷ unproved) accepted same named count proofs = absurd cc
-concluded_as profile files c statements (n ∷ numbers) [] accepted same named count proofs = absurd cc
 concluded_as profile files c statements (n ∷ numbers) (u ∷ unproved) accepted same named count proofs =
     let told : labels_at c.labels (n ∷ numbers) ≡ u ∷ unproved = names_at c.labels (n ∷ numbers) (u ∷ unproved) named in
     (statements, accepted, told ∙ same, λ e. cc (told, e))
+concluded_as profile files c statements _ _ accepted same named count proofs = absurd cc
 
 module _ {profile : Profile} {files : List PlainFile} {p : Progress} {left : Remaining}
     (end : IsAtEnd profile files p left) where
   pub read_to_end : Reads files end.way.earlier None
   read_to_end =
-      subst (λ (e : Option PlainFault). Reads files end.way.earlier e) end.ending
-      (none_left profile files p left end.way end.none)
+      rw end.ending at (none_left profile files p left end.way end.none)
+
+  pub end_accepted : AreAccepted profile files end.way.earlier
+  end_accepted =
+      record { readable = end.way.readable; reads = read_to_end; obeyed = end.way.obeyed }
 
   -- the numbers of the incomplete proofs name these
   named : map (slice_get (labels_of end.way.earlier)) (ids p.incomplete.items)
@@ -171,12 +161,10 @@ module _ {profile : Profile} {files : List PlainFile} {p : Progress} {left : Rem
     pub end_concludes : HasVerdict profile files (verdict_of_conclusion c)
     end_concludes =
         let names : map (slice_get c.labels) c.incomplete ≡ map Some (unproved_of end.way.earlier) =
-        ap (λ (ns : List ℕ). map (slice_get c.labels) ns) kept.incomplete
-        ∙ ap (λ (ls : List (List ℕ)). map (slice_get ls) (ids p.incomplete.items)) own_labels
-        ∙ named in
+        rw (kept.incomplete, own_labels) named in
         concluded_as profile files c end.way.earlier c.incomplete (unproved_of end.way.earlier)
-        (record { readable = end.way.readable; reads = read_to_end; obeyed = end.way.obeyed }) refl names
-        (kept.statements ∙ end.way.known.count) (kept.proofs ∙ end.way.known.proofs)
+        end_accepted refl names (kept.statements ∙ end.way.known.count)
+        (kept.proofs ∙ end.way.known.proofs)
 
     pub labels_kept : KeepsLabels files c
     labels_kept statements ending reads =
@@ -191,33 +179,23 @@ module _ {profile : Profile} {files : List PlainFile} {p : Progress} {left : Rem
 
     pub uses_kept : KeepsUses files c
     uses_kept statements ending reads =
-        subst (λ (ss : List PlainStatement). IsKeptOf ss c) (own_reading statements ending reads)
-        (record {
+        rw (← own_reading statements ending reads) (record {
           sentences = kept.sentences ∙ end.way.known.book;
-          incomplete = subst (λ (ns : List ℕ).
-              AreInOrder (IsNumberWhere end.way.earlier (λ s. is_unproved s ≡ true)) ns)
-              (sym kept.incomplete) end.way.known.noted;
-          uses = subst (λ (us : List ProofUses). AreUses end.way.earlier us) (sym kept.uses)
-              end.way.known.kept;
+          incomplete = rw kept.incomplete end.way.known.noted;
+          uses = rw kept.uses end.way.known.kept;
         })
 
   -- what is kept at the end
   pub kept_well : IsKeptWell profile files p.prover.book.statements (ids p.incomplete.items) p.kept
   kept_well = record {
-    in_range = subst (λ (ls : List (List ℕ)).
-        AllByRecursion (λ n. n < length ls) (ids p.incomplete.items))
-        (sym (ap labels_in end.way.known.book ∙ labels_said end.way.earlier))
+    in_range = rw (ap labels_in end.way.known.book ∙ labels_said end.way.earlier)
         (numbers_within (labels_of end.way.earlier) (ids p.incomplete.items)
         (unproved_of end.way.earlier) named);
     rising = end.way.known.noted.rising;
     backward = backward end.way.earlier p.kept end.way.known.kept;
     origin = record {
       statements = end.way.earlier;
-      accepted = record {
-        readable = end.way.readable;
-        reads = read_to_end;
-        obeyed = end.way.obeyed;
-      };
+      accepted = end_accepted;
       sentences = end.way.known.book;
       incomplete = end.way.known.noted;
       uses = end.way.known.kept;

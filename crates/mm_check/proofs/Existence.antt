@@ -132,10 +132,9 @@ judged_statements profile files before (s ∷ later) obeyed formed =
     elim (judged_statement profile before s obeyed
     (formed_sentences before (all_front HasForm before (s ∷ later) formed))) [
       | inl obeys ↦
-          let same : (before ++ s ∷ []) ++ later ≡ before ++ s ∷ later = append_assoc before (s ∷ []) later in
-          subst (λ (ss : List PlainStatement). ((refusal : PlainRefusal) × RefusesStatement profile files ss refusal) ⊎ AllObey profile ss) same
+          rw (← append_assoc before (s ∷ []) later)
           (judged_statements profile files (before ++ s ∷ []) later (one_more profile before s obeyed obeys)
-          (subst (λ (ss : List PlainStatement). AllByRecursion HasForm ss) (sym same) formed))
+          (rw append_assoc formed))
       | inr fault ↦ inl (
         refusal_of files (length before) s fault.0 fault.1,
         record { before = before; s = s; after = later; split = refl; obeyed = obeyed; rule = fault.0; step = fault.1; fault = fault.2; refused = refl },

@@ -84,8 +84,7 @@ fault_home files statements fault reads =
     at_item (Wrong rule t) h plain e = named t h.0 (ap (λ (f : PlainFault). f.file) e)
     at_item (Inclusion t) h plain e = named t h.0 (ap (λ (f : PlainFault). f.file) e.1)
     at_item (End n) h plain (inl e) =
-        let tokens : plain_tokens reads.0 ≡ reads.5.finished ++ e.0 ∷ e.1 =
-        reads.5.whole ∙ ap (λ (ts : List PlainToken). reads.5.finished ++ ts) e.2 in
+        let tokens = reads.5.whole ∙ ap (λ (ts : List PlainToken). reads.5.finished ++ ts) e.2 in
         named e.0 (all_back (IsHanded files) reads.5.finished (e.0 ∷ e.1)
         (subst (λ (ts : List PlainToken). AllByRecursion (IsHanded files) ts) tokens plain)).0
         (ap (λ (f : PlainFault). f.file) e.3)
@@ -95,10 +94,8 @@ fault_home files statements fault reads =
 -- a refusal's file is one of the files
 pub refused_home : (profile : Profile) (files : List PlainFile) (refusal : PlainRefusal) → HasVerdict profile files (Refused refusal) → refusal.file < length files
 refused_home profile files refusal h = elim (h.4) [
-  | inl r ↦ subst (λ (k : ℕ). k < length files) (sym (ap (λ (q : PlainRefusal). q.file) r.refused))
-      (first_home files h.1 h.2 r.before r.s r.after h.3 r.split)
-  | inr r ↦ subst (λ (k : ℕ). k < length files) (sym (ap (λ (q : PlainRefusal). q.file) r.refused))
-      (fault_home files h.1 r.fault (subst (λ (e : Option PlainFault). Reads files h.1 e) r.ended h.3))
+  | inl r ↦ rw r.refused (first_home files h.1 h.2 r.before r.s r.after h.3 r.split)
+  | inr r ↦ rw r.refused (fault_home files h.1 r.fault (rw r.ended at h.3))
 ]
 
 pub names_file : (profile : Profile) (files : List PlainFile) (answer : Result Conclusion CheckFault) → IsVerdict profile files answer → NamesFile files answer

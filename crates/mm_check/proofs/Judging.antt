@@ -74,97 +74,77 @@ last_number statements id s formed last before e =
 
 -- ## The verdict on its proof
 
--- what is said of the `$p` with the number, wherever it stands, is said of the last statement
-of_last : (P : List Sentence → Sentence → List (List ℕ) → Type 0) (statements : List Sentence)
-    (id : ℕ) (s : PlainStatement) (tokens : List (List ℕ)) → HasForm s → IsLastProof statements id s
-    → tokens ≡ proof_of s → (before : List Sentence) → statements ≡ before ++ sentence_of s ∷ []
-    → OfProof statements id (λ place t. P (take place statements) t tokens)
-    → P before (sentence_of s) (proof_of s)
-of_last P statements id s tokens formed last same before e said =
-    let number = last_number statements id s formed last before e in
-    let there = said (length before) (sentence_of s) number in
-    subst (λ (ts : List (List ℕ)). P before (sentence_of s) ts) same
-    (subst (λ (ss : List Sentence). P ss (sentence_of s) tokens)
-    (front_of statements before (sentence_of s) e) there)
+module _ (profile : Profile) (statements : List Sentence) (id : ℕ) (s : PlainStatement)
+    (tokens : List (List ℕ)) (formed : HasForm s) (last : IsLastProof statements id s)
+    (same : tokens ≡ proof_of s) where
+  -- what is said of the `$p` with the number, wherever it stands, is said of the last statement
+  of_last : (P : List Sentence → Sentence → List (List ℕ) → Type 0) (before : List Sentence)
+      → statements ≡ before ++ sentence_of s ∷ []
+      → OfProof statements id (λ place t. P (take place statements) t tokens)
+      → P before (sentence_of s) (proof_of s)
+  of_last P before e said =
+      let number = last_number statements id s formed last before e in
+      let there = said (length before) (sentence_of s) number in
+      rw (front_of statements before (sentence_of s) e, same) at there
 
--- a proof with no unknown step is complete
-is_complete : (tokens : List (List ℕ)) (s : PlainStatement) → tokens ≡ proof_of s
-    → ¬ (IsIncomplete tokens) → is_incomplete (proof_of s) ≡ false
-is_complete tokens s same none =
-    subst (λ (ts : List (List ℕ)). is_incomplete ts ≡ false) same (false_from_ne_true _ none)
+  -- the fault of the tokens, as all of a proof or as what is known of one, is that of the statement
+  fails_as : (before : List Sentence) (rule : ProofRule) (step : ℕ)
+      → (¬ (IsIncomplete tokens)
+      → IsFaultUnder profile before (sentence_of s) (proof_of s) rule step)
+      → (IsIncomplete tokens
+      → IsFrontFaultUnder profile before (sentence_of s) (proof_of s) rule step)
+      → (b : Bool) → is_incomplete tokens ≡ b → IsProofFault profile before s rule step
+  fails_as before rule step fails front_fails true open_one = inr (
+    unproved_there s last.provable (ap is_incomplete (sym same) ∙ open_one),
+    front_fails open_one,
+  )
+  fails_as before rule step fails front_fails false complete = inl (
+    proof_there s last.provable (ap is_incomplete (sym same) ∙ complete),
+    fails (λ h. both_ways _ complete h),
+  )
 
--- the fault of the tokens, as all of a proof or as what is known of one, is that of the statement
-fails_as : (profile : Profile) (before : List Sentence) (s : PlainStatement)
-    (tokens : List (List ℕ)) (rule : ProofRule) (step : ℕ) → s.kind ≡ Provable
-    → tokens ≡ proof_of s
-    → (¬ (IsIncomplete tokens)
-    → IsFaultUnder profile before (sentence_of s) (proof_of s) rule step)
-    → (IsIncomplete tokens
-    → IsFrontFaultUnder profile before (sentence_of s) (proof_of s) rule step)
-    → (b : Bool) → is_incomplete tokens ≡ b → IsProofFault profile before s rule step
-fails_as profile before s tokens rule step provable same fails front_fails true open_one =
-    inr (
-      unproved_there s provable (ap is_incomplete (sym same) ∙ open_one),
-      front_fails open_one,
-    )
-fails_as profile before s tokens rule step provable same fails front_fails false complete =
-    inl (
-      proof_there s provable (ap is_incomplete (sym same) ∙ complete),
-      fails (λ h. both_ways _ complete h),
-    )
-
--- what the prover says of the tokens of the statement with the number, wherever it stands, is said
--- of the last one
-pub judged : (profile : Profile) (statements : List Sentence) (id : ℕ) (s : PlainStatement)
-    (tokens : List (List ℕ)) (result : Result Proved ProofFault) (used : List ℕ) → HasForm s
-    → IsLastProof statements id s → tokens ≡ proof_of s
-    → (result ≡ Ok proved.Incomplete → IsIncomplete tokens
-    × OfProof statements id (λ place t.
-    IsFrontAllowedUnder profile (take place statements) t tokens))
-    → (IsIncomplete tokens → ¬ (result ≡ Ok proved.Complete))
-    → (result ≡ Ok proved.Complete → OfProof statements id (λ place t.
-    TokensProve (limit_of profile) (take place statements) t tokens used))
-    → (result ≡ Ok proved.Complete → OfProof statements id (λ place t.
-    HasFormOf profile (take place statements) t tokens))
-    → (¬ (IsIncomplete tokens) → (rule : ProofRule) (step : ℕ)
-    → result ≡ Err (faults.Rule rule step) → OfProof statements id (λ place t.
-    IsFaultUnder profile (take place statements) t tokens rule step))
-    → (IsIncomplete tokens → (rule : ProofRule) (step : ℕ)
-    → result ≡ Err (faults.Rule rule step) → OfProof statements id (λ place t.
-    IsFrontFaultUnder profile (take place statements) t tokens rule step))
-    → (before : List Sentence) → statements ≡ before ++ sentence_of s ∷ []
-    → MatchResult result (IsJudged profile before s used) (Fails profile before s)
-judged profile statements id s tokens (Ok proved.Incomplete) used formed last same
-    incomplete complete proves forms fails front_fails before e =
-    let open_one = incomplete refl in (
-      subst (λ (ts : List (List ℕ)). is_incomplete ts ≡ true) same open_one.0,
-      of_last (IsFrontAllowedUnder profile) statements id s tokens formed last same before e
-          open_one.1,
-    )
-judged profile statements id s tokens (Ok proved.Complete) used formed last same
-    incomplete complete proves forms fails front_fails before e =
-    let Proves : List Sentence → Sentence → List (List ℕ) → Type 0 =
-    λ ss t ts. TokensProve (limit_of profile) ss t ts used in
-    let here : TokensProve (limit_of profile) before (sentence_of s) (proof_of s) used =
-    of_last Proves statements id s tokens formed last same before e (proves refl) in (
-      is_complete tokens s same (λ h. complete h refl),
-      record {
-        form = of_last (HasFormOf profile) statements id s tokens formed last same before e
-            (forms refl);
-        proof = here.proof;
-        all = here.all;
-      },
-    )
-judged profile statements id s tokens (Err faults.Memory) used formed last same
-    incomplete complete proves forms fails front_fails before e = tt
-judged profile statements id s tokens (Err (faults.Rule rule step)) used formed last same
-    incomplete complete proves forms fails front_fails before e =
-    fails_as profile before s tokens rule step last.provable same
-    (λ whole. of_last (λ ss t ts. IsFaultUnder profile ss t ts rule step)
-    statements id s tokens formed last same before e (fails whole rule step refl))
-    (λ open_one. of_last (λ ss t ts. IsFrontFaultUnder profile ss t ts rule step)
-    statements id s tokens formed last same before e (front_fails open_one rule step refl))
-    (is_incomplete tokens) refl
+  -- what the prover says of the tokens of the statement with the number, wherever it stands, is
+  -- said of the last one
+  pub judged : (result : Result Proved ProofFault) (used : List ℕ)
+      → (result ≡ Ok proved.Incomplete → IsIncomplete tokens
+      × OfProof statements id (λ place t.
+      IsFrontAllowedUnder profile (take place statements) t tokens))
+      → (IsIncomplete tokens → ¬ (result ≡ Ok proved.Complete))
+      → (result ≡ Ok proved.Complete → OfProof statements id (λ place t.
+      TokensProve (limit_of profile) (take place statements) t tokens used))
+      → (result ≡ Ok proved.Complete → OfProof statements id (λ place t.
+      HasFormOf profile (take place statements) t tokens))
+      → (¬ (IsIncomplete tokens) → (rule : ProofRule) (step : ℕ)
+      → result ≡ Err (faults.Rule rule step) → OfProof statements id (λ place t.
+      IsFaultUnder profile (take place statements) t tokens rule step))
+      → (IsIncomplete tokens → (rule : ProofRule) (step : ℕ)
+      → result ≡ Err (faults.Rule rule step) → OfProof statements id (λ place t.
+      IsFrontFaultUnder profile (take place statements) t tokens rule step))
+      → (before : List Sentence) → statements ≡ before ++ sentence_of s ∷ []
+      → MatchResult result (IsJudged profile before s used) (Fails profile before s)
+  judged (Ok proved.Incomplete) used incomplete complete proves forms fails front_fails before e =
+      let open_one = incomplete refl in
+      (rw same at open_one.0, of_last (IsFrontAllowedUnder profile) before e open_one.1)
+  judged (Ok proved.Complete) used incomplete complete proves forms fails front_fails before e =
+      let Proves : List Sentence → Sentence → List (List ℕ) → Type 0 =
+      λ ss t ts. TokensProve (limit_of profile) ss t ts used in
+      let here = of_last Proves before e (proves refl) in (
+        rw same at (false_from_ne_true (is_incomplete tokens) (λ h. complete h refl)),
+        record {
+          form = of_last (HasFormOf profile) before e (forms refl);
+          proof = here.proof;
+          all = here.all;
+        },
+      )
+  judged (Err faults.Memory) used incomplete complete proves forms fails front_fails before e = tt
+  judged (Err (faults.Rule rule step)) used incomplete complete proves forms fails front_fails
+      before e =
+      fails_as before rule step
+      (λ whole. of_last (λ ss t ts. IsFaultUnder profile ss t ts rule step) before e
+      (fails whole rule step refl))
+      (λ open_one. of_last (λ ss t ts. IsFrontFaultUnder profile ss t ts rule step) before e
+      (front_fails open_one rule step refl))
+      (is_incomplete tokens) refl
 
 -- a refusal for the proof of the last statement is one of the statement
 pub refuses_after : (profile : Profile) (files : List PlainFile) (p q : Progress)

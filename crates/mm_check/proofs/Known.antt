@@ -89,8 +89,7 @@ incomplete_more profile statements s p q formed known takes =
     let counted : count ≡ length names =
     count_labelled (λ (t : Sentence). t.label) p.prover.book.statements
     ∙ ap length (ap labels_in known.book ∙ labels_said statements) in
-    let named : map (slice_get names) numbers ≡ map Some (unproved_of statements) =
-    sym (names_of_ids names p.incomplete.items) ∙ known.incomplete in
+    let named = sym (names_of_ids names p.incomplete.items) ∙ known.incomplete in
     let longer : labels_of (statements ++ s ∷ []) ≡ names ++ label_of s =
     flat_map-append label_of statements (s ∷ [])
     ∙ ap (λ (ls : List (List ℕ)). names ++ ls) (append-nil (label_of s)) in
@@ -103,9 +102,7 @@ incomplete_more profile statements s p q formed known takes =
 noted_more : (profile : Profile) (statements : List PlainStatement) (s : PlainStatement) (p q : Progress) → HasForm s → Knows statements p → Takes profile p s q
     → AreInOrder (IsNumberWhere (statements ++ s ∷ []) (λ t. is_unproved t ≡ true)) (ids q.incomplete.items)
 noted_more profile statements s p q formed known takes =
-    let same : ids p.incomplete.items ++ cond (is_unproved s) (length (labelled_sentences (sentences statements)) ∷ []) [] ≡ ids q.incomplete.items =
-    sym (takes.incomplete ∙ ap (λ (ss : List Sentence). ids p.incomplete.items ++ cond (is_unproved s) (length (labelled_sentences ss) ∷ []) []) known.book) in
-    subst (λ (ns : List ℕ). AreInOrder (IsNumberWhere (statements ++ s ∷ []) (λ t. is_unproved t ≡ true)) ns) same
+    rw (takes.incomplete, known.book)
     (one_more_number is_unproved statements s (ids p.incomplete.items) (labelled_provable s (is_incomplete (proof_of s)) formed) known.noted (is_unproved s) refl)
 
 pub knows_more : (profile : Profile) (statements : List PlainStatement) (s : PlainStatement) (p q : Progress) → HasForm s → Knows statements p → Takes profile p s q

@@ -1,5 +1,5 @@
 -- A line that is written word by word.
-use Rattle.std.proofs.Common.{Bool, false, IsTrue, ◌↔◌, ◌≡◌, ℕ, zero, suc, ◌+◌, ◌<◌, decimal, arith, length-append, List, [], ◌∷◌, ◌++◌, codes, map, take, get_or, slice_get, length, Option, append_assoc, refl, ap, sym, subst, ◌∙◌}
+use Rattle.std.proofs.Common.{Bool, false, IsTrue, ◌↔◌, ◌≡◌, ℕ, zero, suc, ◌+◌, ◌<◌, decimal, arith, length-append, List, [], ◌∷◌, ◌++◌, codes, map, take, get_or, slice_get, length, append_assoc, refl, ap, sym, subst, ◌∙◌}
 use Rattle.std.specs.Option.{option_to_list}
 use Rattle.std.proofs.lemmas.List.{take_more, map-append, length-map}
 use Rattle.std.proofs.lemmas.Grind.{flat_map-append}
@@ -29,15 +29,7 @@ five_words out w a b c d o₁ o₂ o₃ o₄ o₅ o₆ h₁ h₂ h₃ h₄ h₅ 
 pub one_more_line : (labels : List (List ℕ)) (ids : List LabelId) (k : ℕ) (d : LabelId) → k < length ids
     → lines_of (labels_at labels (map (λ id. id.0) (take (k + 1) ids)))
     ≡ lines_of (labels_at labels (map (λ id. id.0) (take k ids))) ++ lines_of (labels_at labels ((get_or ids k d).0 ∷ []))
-one_more_line labels ids k d h =
-    let front : List ℕ = map (λ (id : LabelId). id.0) (take k ids) in
-    let last : List ℕ = (get_or ids k d).0 ∷ [] in
-    let e : map (λ (id : LabelId). id.0) (take (k + 1) ids) ≡ front ++ last = rw (take_more ids k d h) (rw map-append refl) in
-    let named : labels_at labels (front ++ last) ≡ labels_at labels front ++ labels_at labels last =
-    flat_map-append (λ (n : ℕ). option_to_list (slice_get labels n)) front last in
-    let laid : lines_of (labels_at labels front ++ labels_at labels last) ≡ lines_of (labels_at labels front) ++ lines_of (labels_at labels last) =
-    flat_map-append (λ (l : List ℕ). l ++ codes "\n") (labels_at labels front) (labels_at labels last) in
-    ap (λ (ns : List ℕ). lines_of (labels_at labels ns)) e ∙ ap (λ (ls : List (List ℕ)). lines_of ls) named ∙ laid
+one_more_line labels ids k d h = rw (take_more ids k d h) (simp (map-append, flat_map-append))
 
 -- a number that is there has one label
 one_there : (labels : List (List ℕ)) (n : ℕ) → n < length labels → length (option_to_list (slice_get labels n)) ≡ 1
@@ -86,8 +78,7 @@ pub text_of_some : (c : Conclusion) (b : Bool) (labels : List (List ℕ)) (ids :
     ≡ text_of [] (verdict_of_conclusion c)
 text_of_some c b labels ids e h same_labels same_numbers all =
     let found = some_first b c.incomplete e h in
-    let text : text_of [] (verdict_of_conclusion c) ≡ line_with (codes "incomplete") (decimal (length c.incomplete) ∷ []) ++ lines_of (labels_at c.labels c.incomplete) =
-    text_of_incomplete c found.0 found.1 found.2 all in
+    let text = text_of_incomplete c found.0 found.1 found.2 all in
     let count : length ids ≡ length c.incomplete = sym (length-map ids (λ (id : LabelId). id.0)) ∙ ap length same_numbers in
     let lines : lines_of (labels_at labels (map (λ (id : LabelId). id.0) ids)) ≡ lines_of (labels_at c.labels c.incomplete) =
     ap (λ (ls : List (List ℕ)). lines_of (labels_at ls (map (λ (id : LabelId). id.0) ids))) same_labels
@@ -101,25 +92,8 @@ pub one_more_question : (labels : List (List ℕ)) (ids : List LabelId) (k : ℕ
     ≡ lines_of (map (λ (label : List ℕ). codes "? " ++ label) (labels_at labels (map (λ id. id.0) (take k ids))))
     ++ (codes "? " ++ lines_of (labels_at labels ((get_or ids k d).0 ∷ [])))
 one_more_question labels ids k d h within =
-    let question : List ℕ → List ℕ = λ label. codes "? " ++ label in
-    let front : List ℕ = map (λ (id : LabelId). id.0) (take k ids) in
-    let n : ℕ = (get_or ids k d).0 in
-    let last : List ℕ = n ∷ [] in
-    let e : map (λ (id : LabelId). id.0) (take (k + 1) ids) ≡ front ++ last = rw (take_more ids k d h) (rw map-append refl) in
-    let named : labels_at labels (front ++ last) ≡ labels_at labels front ++ labels_at labels last =
-    flat_map-append (λ (m : ℕ). option_to_list (slice_get labels m)) front last in
-    let asked : map question (labels_at labels front ++ labels_at labels last) ≡ map question (labels_at labels front) ++ map question (labels_at labels last) =
-    map-append question (labels_at labels front) (labels_at labels last) in
-    let laid : lines_of (map question (labels_at labels front) ++ map question (labels_at labels last))
-    ≡ lines_of (map question (labels_at labels front)) ++ lines_of (map question (labels_at labels last)) =
-    flat_map-append (λ (l : List ℕ). l ++ codes "\n") (map question (labels_at labels front)) (map question (labels_at labels last)) in
-    let there = get_within labels n within in
-    let One : Option (List ℕ) → Type 0 = λ o. lines_of (map question (option_to_list o ++ [])) ≡ codes "? " ++ lines_of (option_to_list o ++ []) in
-    let one : lines_of (map question (labels_at labels last)) ≡ codes "? " ++ lines_of (labels_at labels last) =
-    subst One (sym there.1) refl in
-    ap (λ (ns : List ℕ). lines_of (map question (labels_at labels ns))) e ∙ ap (λ (ls : List (List ℕ)). lines_of (map question ls)) named
-    ∙ ap (λ (ls : List (List ℕ)). lines_of ls) asked ∙ laid
-    ∙ ap (λ (ls : List ℕ). lines_of (map question (labels_at labels front)) ++ ls) one
+    let there = get_within labels (get_or ids k d).0 within in
+    rw (take_more ids k d h) (simp (map-append, flat_map-append, there.1))
 
 -- a word and two others
 pub three_words : (out w a b o₁ o₂ o₃ o₄ : List ℕ) → o₁ ≡ out ++ w → o₂ ≡ o₁ ++ codes " " ++ a → o₃ ≡ o₂ ++ codes " " ++ b → o₄ ≡ o₃ ++ 10 ∷ []

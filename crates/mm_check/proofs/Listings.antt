@@ -1,7 +1,6 @@
 -- The text of lines, one after the other, is that of the listing.
-use Rattle.std.proofs.Common.{◌≡◌, ℕ, zero, suc, ◌+◌, ◌<◌, List, [], ◌∷◌, ◌++◌, take, length, get_or, slice_get, codes, decimal, Option, Some, Result, Err, refl, sym, ap, subst, ◌∙◌, arith, append_assoc, append-nil}
+use Rattle.std.proofs.Common.{◌≡◌, ℕ, zero, suc, ◌+◌, ◌<◌, List, [], ◌∷◌, ◌++◌, take, length, get_or, slice_get, codes, decimal, Some, Result, Err, sym, ap, subst, ◌∙◌, arith, append_assoc, append-nil}
 use Rattle.std.specs.List.{AllZip, AllByRecursion}
-use Rattle.std.specs.Option.{option_to_list}
 use Rattle.std.specs.Result.{IsOkUnless}
 use Rattle.std.proofs.lemmas.List.{take_more, map-append}
 use Rattle.std.proofs.lemmas.Grind.{flat_map-append}
@@ -14,10 +13,6 @@ use Rattle.mm_proof.specs.declared.lines.Line.{Line}
 use Rattle.mm_proof.specs.declared.fault.ProofRule.{ProofRule}
 use Rattle.mm_proof.specs.declared.fault.ProofFault.{ProofFault}
 use Rattle.mm_proof.specs.declared.fault.ProofFault.TheVariants as faults
-use Rattle.mm_proof.specs.Moves.{Move}
-use Rattle.mm_proof.specs.Tokens.{SayMoves}
-use Rattle.mm_proof.specs.Proof.{Prove, IsProvedWithin}
-use Rattle.mm_proof.proofs.SaidMoves.{moves_once}
 use Rattle.mm_proof.specs.Listing.{ListedStep, TellsStep}
 use Rattle.mm_check.specs.Answer.{labels_at}
 use Rattle.mm_check.specs.Shown.{name_text, symbols_text, step_text, steps_text}
@@ -30,17 +25,7 @@ use Rattle.mm_text.proofs.Lists.{zip_length, zip_left}
 pub one_more_symbol : (names : List (List ℕ)) (symbols : List Sym) (k : ℕ) (d : Sym) (name : List ℕ) → k < length symbols → slice_get names (get_or symbols k d).0 ≡ Some name
     → symbols_text (labels_at names (numbers_in (take (k + 1) symbols))) ≡ symbols_text (labels_at names (numbers_in (take k symbols))) ++ (codes " " ++ name)
 one_more_symbol names symbols k d name less is =
-    let front : List ℕ = numbers_in (take k symbols) in
-    let last : ℕ = (get_or symbols k d).0 in
-    let e : numbers_in (take (k + 1) symbols) ≡ front ++ last ∷ [] = rw (take_more symbols k d less) (rw map-append refl) in
-    let named : labels_at names (front ++ last ∷ []) ≡ labels_at names front ++ labels_at names (last ∷ []) =
-    flat_map-append (λ (n : ℕ). option_to_list (slice_get names n)) front (last ∷ []) in
-    let one : labels_at names (last ∷ []) ≡ name ∷ [] = ap (λ (o : Option (List ℕ)). option_to_list o ++ []) is in
-    let laid : symbols_text (labels_at names front ++ name ∷ []) ≡ symbols_text (labels_at names front) ++ symbols_text (name ∷ []) =
-    flat_map-append (λ (symbol : List ℕ). codes " " ++ symbol) (labels_at names front) (name ∷ []) in
-    ap (λ (ns : List ℕ). symbols_text (labels_at names ns)) e ∙ ap (λ (ls : List (List ℕ)). symbols_text ls) named
-    ∙ ap (λ (ls : List (List ℕ)). symbols_text (labels_at names front ++ ls)) one ∙ laid
-    ∙ ap (λ (text : List ℕ). symbols_text (labels_at names front) ++ text) (append-nil (codes " " ++ name))
+    rw (take_more symbols k d less) (simp (map-append, flat_map-append, is, append-nil))
 
 -- ---- a line
 
@@ -94,12 +79,6 @@ one_more_line steps at step e =
     ∙ ap (λ (n : ℕ). steps_text 1 (take at steps) ++ step_text n step) number
 
 -- ---- the proof of a theorem
-
--- the moves that its tokens say prove it
-pub moves_prove : (Fits : List (List ℕ) → Type 0) (before : List Sentence) (s : Sentence) (tokens : List (List ℕ)) (moves : List (Move (List ℕ))) → IsProvedWithin Fits before s tokens
-    → SayMoves before s tokens moves → Prove Fits before s moves
-moves_prove Fits before s tokens moves proved told =
-    subst (λ (ms : List (Move (List ℕ))). Prove Fits before s ms) (moves_once before s tokens proved.moves moves proved.said told) proved.proves
 
 -- what is listed unless memory is refused has no fault of a rule
 pub no_rule_fault : {X : Type 0} (result : Result X ProofFault) (rule : ProofRule) (step : ℕ) → result ≡ Err (faults.Rule rule step) → IsOkUnless result faults.Memory → ⊥

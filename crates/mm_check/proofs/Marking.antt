@@ -55,12 +55,6 @@ marked_set marks x n less h = elim (cases_eq n x) [
   ]
 ]
 
-marked_set_only : (marks : List Bool) (x n : ℕ) → IsMarked (set marks x true) n → IsMarked marks n ⊎ (n ≡ x)
-marked_set_only marks x n h = elim (cases_eq n x) [
-  | inl same ↦ inr same
-  | inr other ↦ inl (sym (get_or-set_other marks x n true false other) ∙ h)
-]
-
 -- one more number
 pub marked_more : (old mid : List Bool) (numbers : List ℕ) (x : ℕ) → IsMarkedBy old mid numbers → x < length mid
     → IsMarkedBy old (set mid x true) (numbers ++ x ∷ [])
@@ -71,9 +65,12 @@ marked_more old mid numbers x h less = record {
     | inl before ↦ marked_set mid x n less (inl (h.marked n before))
     | inr last ↦ marked_set mid x n less (inr last)
   ];
-  only = λ n k. elim (marked_set_only mid x n k) [
-    | inl before ↦ elim (h.only n before) [ inl was ↦ inl was | inr among ↦ inr (Contains-append_left numbers (x ∷ []) n among) ]
-    | inr last ↦ inr (subst (λ (m : ℕ). Contains (numbers ++ x ∷ []) m) (sym last) (holds_last numbers x))
+  only = λ n k. elim (cases_eq n x) [
+    | inl last ↦ inr (rw last (holds_last numbers x))
+    | inr other ↦ elim (h.only n (sym (get_or-set_other mid x n true false other) ∙ k)) [
+      | inl was ↦ inl was
+      | inr among ↦ inr (Contains-append_left numbers (x ∷ []) n among)
+    ]
   ];
 }
 
@@ -87,18 +84,13 @@ pub record IsMarking (uses : List ProofUses) (theorem left : ℕ) (marks : List 
   pub closed : (i : ℕ) (u : ProofUses) → left ≤ i → slice_get uses i ≡ Some u
       → (u.number ≡ theorem) ⊎ IsMarked marks u.number → (n : ℕ) → Contains u.used n → IsMarked marks n
 
-unmarked : (k n : ℕ) → IsMarked (replicate k false) n → ⊥
-unmarked k n h =
-    let marks : List Bool = replicate k false in
-    let less : n < length marks = marked_within marks n h in
-    let here : n < k = subst (λ (m : ℕ). n < m) (length-replicate k false) less in
-    let e : get_or marks n false ≡ false = get_or-replicate k n false false here in
-    cc
-
 pub marking_starts : (uses : List ProofUses) (theorem left : ℕ) (marks : List Bool) → left ≡ length uses → marks ≡ replicate theorem false → IsMarking uses theorem left marks
 marking_starts uses theorem left marks whole e = subst (λ (ms : List Bool). IsMarking uses theorem left ms) (sym e) (record {
   long = length-replicate theorem false;
-  sound = λ n h. absurd (unmarked theorem n h);
+  sound = λ n h. absurd (
+      let less = marked_within (replicate theorem false) n h in
+      let here : n < theorem = omega (arith, less, length-replicate theorem false) in
+      let e = get_or-replicate theorem n false false here in cc);
   closed = λ i u within there reached n h. absurd (let less : i < length uses = slice_get_within uses i u there in omega arith);
 })
 
@@ -182,8 +174,7 @@ pub up_to_taken : (P : ℕ → Type 0) (ids new : List LabelId) (x : LabelId) (k
     → AreInOrder (λ n. (n < k + 1) × P n) (ids_in new)
 up_to_taken P ids new x k order is holds e =
     let there : P x.0 = subst P (sym is) holds in
-    subst (λ (ls : List LabelId). AreInOrder (λ n. (n < k + 1) × P n) (ids_in ls)) (sym e)
-    (subst (λ (ns : List ℕ). AreInOrder (λ n. (n < k + 1) × P n) ns) (sym (map-append (λ (l : LabelId). l.0) ids (x ∷ [])))
+    rw (e, map-append)
     (taken (λ n. (n < k) × P n) (λ n. (n < k + 1) × P n) (ids_in ids) x.0 order
     (λ n h. let less : n < k = h.0 in omega arith)
     (omega arith, there)
@@ -191,7 +182,7 @@ up_to_taken P ids new x k order is holds e =
     (λ n h. elim (cases_eq n k) [
       | inl same ↦ inr (same ∙ sym is)
       | inr other ↦ inl (let less : n < k + 1 = h.0 in omega arith, h.1)
-    ])))
+    ]))
 
 pub up_to_passed : (P : ℕ → Type 0) (ids : List LabelId) (k : ℕ) → AreInOrder (λ n. (n < k) × P n) (ids_in ids) → ¬ (P k)
     → AreInOrder (λ n. (n < k + 1) × P n) (ids_in ids)
@@ -236,14 +227,12 @@ pub among_taken : (M : ℕ → Type 0) (xs ids new : List LabelId) (i : ℕ) (x 
     → AreInOrder (λ n. Contains (ids_in (take i xs)) n × M n) (ids_in ids) → M x.0 → new ≡ ids ++ x ∷ []
     → AreInOrder (λ n. Contains (ids_in (take (i + 1) xs)) n × M n) (ids_in new)
 among_taken M xs ids new i x rising at order holds e =
-    subst (λ (ns : List ℕ). AreInOrder (λ n. Contains ns n × M n) (ids_in new)) (sym (among_more xs i x at))
-    (subst (λ (ls : List LabelId). AreInOrder (λ n. Contains (ids_in (take i xs) ++ x.0 ∷ []) n × M n) (ids_in ls)) (sym e)
-    (subst (λ (ns : List ℕ). AreInOrder (λ n. Contains (ids_in (take i xs) ++ x.0 ∷ []) n × M n) ns) (sym (map-append (λ (l : LabelId). l.0) ids (x ∷ [])))
+    rw (among_more xs i x at, e, map-append (λ (l : LabelId). l.0) ids (x ∷ []))
     (taken (λ n. Contains (ids_in (take i xs)) n × M n) (λ n. Contains (ids_in (take i xs) ++ x.0 ∷ []) n × M n) (ids_in ids) x.0 order
     (λ n h. before_less xs i x rising at n h.0)
     (holds_last (ids_in (take i xs)) x.0, holds)
     (λ n h. (Contains-append_left (ids_in (take i xs)) (x.0 ∷ []) n h.0, h.1))
-    (λ n h. elim (holds_cases (ids_in (take i xs)) x.0 n h.0) [ inl before ↦ inl (before, h.1) | inr same ↦ inr same ]))))
+    (λ n h. elim (holds_cases (ids_in (take i xs)) x.0 n h.0) [ inl before ↦ inl (before, h.1) | inr same ↦ inr same ]))
 
 pub among_passed : (M : ℕ → Type 0) (xs ids : List LabelId) (i : ℕ) (x : LabelId) → slice_get xs i ≡ Some x
     → AreInOrder (λ n. Contains (ids_in (take i xs)) n × M n) (ids_in ids) → ¬ (M x.0)

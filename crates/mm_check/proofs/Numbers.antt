@@ -9,35 +9,27 @@ use Rattle.mm_text.proofs.Lists.{get_kept, get_within}
 pub named_more : (names more : List (List ℕ)) (ns : List ℕ) (xs : List (List ℕ)) → map (slice_get names) ns ≡ map Some xs
     → map (slice_get (names ++ more)) ns ≡ map Some xs
 named_more names more [] [] e = refl
-named_more names more [] (x ∷ xs) e = absurd cc
-named_more names more (n ∷ ns) [] e = absurd cc
 named_more names more (n ∷ ns) (x ∷ xs) e =
-    let first : slice_get names n ≡ Some x = cc in
-    let rest : map (slice_get names) ns ≡ map Some xs = cc in
-    cc (get_kept names more n x first, named_more names more ns xs rest)
+    cc (get_kept names more n x (cc), named_more names more ns xs (cc))
+named_more names more _ _ e = absurd cc
 
 -- the names at numbers that have names
 pub names_at : (names : List (List ℕ)) (ns : List ℕ) (xs : List (List ℕ)) → map (slice_get names) ns ≡ map Some xs
     → flat_map (λ n. option_to_list (slice_get names n)) ns ≡ xs
 names_at names [] [] e = refl
-names_at names [] (x ∷ xs) e = absurd cc
-names_at names (n ∷ ns) [] e = absurd cc
 names_at names (n ∷ ns) (x ∷ xs) e =
     let first : slice_get names n ≡ Some x = cc in
-    let rest : map (slice_get names) ns ≡ map Some xs = cc in
     ap (λ (o : Option (List ℕ)). option_to_list o ++ flat_map (λ (m : ℕ). option_to_list (slice_get names m)) ns) first
-    ∙ ap (λ (ys : List (List ℕ)). x ∷ ys) (names_at names ns xs rest)
+    ∙ ap (λ (ys : List (List ℕ)). x ∷ ys) (names_at names ns xs (cc))
+names_at names _ _ e = absurd cc
 
 -- numbers that have names are below the names' count
 pub numbers_within : (names : List (List ℕ)) (ns : List ℕ) (xs : List (List ℕ)) → map (slice_get names) ns ≡ map Some xs
     → AllByRecursion (λ n. n < length names) ns
 numbers_within names [] [] e = tt
-numbers_within names [] (x ∷ xs) e = absurd cc
-numbers_within names (n ∷ ns) [] e = absurd cc
 numbers_within names (n ∷ ns) (x ∷ xs) e =
-    let first : slice_get names n ≡ Some x = cc in
-    let rest : map (slice_get names) ns ≡ map Some xs = cc in
-    (slice_get_within names n x first, numbers_within names ns xs rest)
+    (slice_get_within names n x (cc), numbers_within names ns xs (cc))
+numbers_within names _ _ e = absurd cc
 
 -- one element counts where the test holds
 pub count_by-one : {X : Type 0} (p : X → Bool) (x : X) → count_by p (x ∷ []) ≡ cond (p x) 1 0

@@ -1,7 +1,7 @@
 -- What the next statement may ask of the progress: a block to close, and room.
 use Rattle.std.proofs.Common.{◌≡◌, suc, ◌+◌, ◌<◌, ◌≤◌, List, [], ◌∷◌, ◌++◌, take, length, sum_by, count_by, Bool, true, cond, inl, inr, refl, sym, ap, subst, ◌∙◌, arith, length-append}
 use Rattle.std.proofs.lemmas.Bool.{cases_lt}
-use Rattle.std.proofs.lemmas.List.Sums.{sum_by-append, sum_by-cons, count_by-le-length}
+use Rattle.std.proofs.lemmas.List.Sums.{sum_by-append, sum_by-cons}
 use Rattle.mm_text.specs.declared.fault.LoadRule.TheVariants.{F1, F2, F3}
 use Rattle.mm_text.specs.declared.statement.Kind.{Kind}
 use Rattle.mm_text.specs.declared.statement.Kind.TheVariants.{Closing}
@@ -15,7 +15,7 @@ use Rattle.mm_frame.specs.Active as frame
 use Rattle.mm_frame.proofs.Counts.{count_append}
 use Rattle.mm_proof.specs.declared.profile.Profile.{Profile}
 use Rattle.mm_check.specs.declared.progress.Progress.{Progress}
-use Rattle.mm_check.specs.Verdict.{CanBeRead, sentences, is_proof}
+use Rattle.mm_check.specs.Verdict.{CanBeRead, sentences}
 use Rattle.mm_check.specs.Mirror.Judged.{IsUnderWay, TakesNext}
 use Rattle.mm_check.proofs.Numbers.{count_by-one}
 
@@ -83,13 +83,6 @@ has_room profile files p old new s way taken =
     omega (arith, fits, way.known.bytes, within_limit files way.readable, sum_by-append bytes_in earlier (s ∷ new.statements), sum_by-cons bytes_in s new.statements)
 
 -- the statements so far are few
-few : (profile : Profile) (files : List PlainFile) (p : Progress) (left : Remaining) (way : IsUnderWay profile files p left) → length way.earlier ≤ most_bytes
+pub few : (profile : Profile) (files : List PlainFile) (p : Progress) (left : Remaining) (way : IsUnderWay profile files p left) → length way.earlier ≤ most_bytes
 few profile files p left way =
     omega (arith, readings_few files (way.earlier ++ left.statements) left.ending way.reads, length-append way.earlier left.statements, within_limit files way.readable)
-
-pub count_small : (profile : Profile) (files : List PlainFile) (p : Progress) (left : Remaining) → IsUnderWay profile files p left → p.count ≤ most_bytes
-count_small profile files p left way = omega (arith, few profile files p left way, way.known.count)
-
-pub proofs_small : (profile : Profile) (files : List PlainFile) (p : Progress) (left : Remaining) → IsUnderWay profile files p left → p.proofs ≤ most_bytes
-proofs_small profile files p left way =
-    omega (arith, few profile files p left way, way.known.proofs, count_by-le-length is_proof way.earlier)

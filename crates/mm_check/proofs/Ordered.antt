@@ -55,7 +55,7 @@ ordered_holds (x ∷ ns) n = (
 -- ---- they rise
 
 -- the number is less than each of these
-abbrev Above : ℕ → List ℕ → Type 0
+abbrev pub Above : ℕ → List ℕ → Type 0
 Above x ms = (n : ℕ) → Contains ms n → x < n
 
 rising_cons : (x : ℕ) (ms : List ℕ) → Above x ms → AreRising ms → AreRising (x ∷ ms)
@@ -66,7 +66,7 @@ rising_cons x ms above rising (suc i) (suc j) a b less p q = rising i j a b (ome
 pub rising_tail : (x : ℕ) (ms : List ℕ) → AreRising (x ∷ ms) → AreRising ms
 rising_tail x ms rising i j a b less p q = rising (suc i) (suc j) a b (omega arith) p q
 
-rising_above : (x : ℕ) (ms : List ℕ) → AreRising (x ∷ ms) → Above x ms
+pub rising_above : (x : ℕ) (ms : List ℕ) → AreRising (x ∷ ms) → Above x ms
 rising_above x ms rising n h = let at = at_from_contains ms n h in rising 0 (suc at.0) x n (omega arith) refl at.1
 
 put_rises : (x : ℕ) (ms : List ℕ) → AreRising ms → AreRising (put x ms)

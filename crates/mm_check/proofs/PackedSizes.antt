@@ -18,7 +18,7 @@ use Rattle.mm_code.proofs.SomeLayout.{some_compressed_layout}
 use Rattle.mm_code.proofs.Unique.{some_text}
 use Rattle.mm_frame.specs.Sentence.{Sentence}
 use Rattle.mm_frame.specs.Form.{AllFormed}
-use Rattle.mm_frame.specs.Frame.{AreMandatory, IsMandatoryAt}
+use Rattle.mm_frame.specs.Frame.{IsMandatoryAt}
 use Rattle.mm_frame.proofs.ReadLaws.{those_few}
 use Rattle.mm_proof.specs.Tree.{Trees, none, tree, spelling, TreesFit}
 use Rattle.mm_proof.specs.BigSubtrees.{IsSubtree}
@@ -29,12 +29,12 @@ use Rattle.mm_proof.specs.Sharing.{ShareAll, IsPacked}
 use Rattle.mm_proof.specs.Visits.{Visit, keeps, visits, trees_made}
 use Rattle.mm_proof.proofs.ChildSums.{made_subtrees, subtrees_made, sum_within}
 use Rattle.mm_proof.proofs.FewMoves.{said_moves}
-use Rattle.mm_proof.proofs.Members.{In, in_get, get_in, in_contains, Once, places_once}
+use Rattle.mm_proof.proofs.Members.{In, in_get, get_in, in_contains, places_once}
 use Rattle.mm_proof.proofs.PairOnce.{uses_apart}
 use Rattle.mm_proof.proofs.SharedOnce.{kept_are, kept_stays, shared_kept_once}
 use Rattle.mm_proof.proofs.SomePacked.{some_packed_holds}
 use Rattle.mm_proof.proofs.SpelledProofs.{label_fits, packed_listed, stands_known}
-use Rattle.mm_proof.proofs.Tidy.{trees_kept, kept_visit, visit_made}
+use Rattle.mm_proof.proofs.Tidy.{kept_visit, visit_made}
 use Rattle.mm_check.specs.Forms.{IsPackedText}
 
 -- ---- the trees that are kept
@@ -44,9 +44,7 @@ kept_subtree : (before : List Sentence) (trees : Trees) (moves : List (Move (Lis
     (shared : ShareAll before trees moves) (t : Trees) → In shared.kept t → IsSubtree trees t
 kept_subtree before trees moves shared t has =
     let v : List Visit = visits before moves none [] trees shared.kept shared.made in
-    let kept : In (trees_kept v) t =
-    subst (λ (ts : List Trees). In ts t)
-    (kept_are before moves none [] trees shared.kept shared.made) has in
+    let kept = rw (kept_are before moves none [] trees shared.kept shared.made) at has in
     let (i, there) = in_get v (keeps t) (kept_visit v t kept) in
     let (big, j, next, made) = shared.marked i t there in
     made_subtrees before moves none [] trees shared.kept shared.made t
@@ -73,8 +71,7 @@ few_kept : (before : List Sentence) (trees : Trees) (moves others : List (Move (
     → Makes before others none [] trees kept → length shared.kept ≤ length others
 few_kept before trees moves others kept shared m =
     let made : List Trees = trees_made (visits before others none [] trees kept m) in
-    let once : Once shared.kept =
-    places_once shared.kept (shared_kept_once before trees moves shared) in
+    let once = places_once shared.kept (shared_kept_once before trees moves shared) in
     let within : (t : Trees) → In shared.kept t → In made t = λ t has.
     subtrees_made (In made) before others none [] trees kept m (λ u h. absurd h)
     (λ u w h. absurd h) (λ u h. h) t (kept_subtree before trees moves shared t has) in
@@ -83,12 +80,6 @@ few_kept before trees moves others kept shared m =
     omega (arith, most, one_each shared.kept, one_each made, few)
 
 -- ---- the labels
-
--- the mandatory hypotheses are no more than the statements
-few_mandatory : (before : List Sentence) (s : Sentence) (hypotheses : List Sentence)
-    → AreMandatory before s hypotheses → length hypotheses ≤ length before
-few_mandatory before s hypotheses those =
-    those_few (IsMandatoryAt before s) 0 before hypotheses those
 
 -- a label, or none at all
 abbrev name_or_none : Option (List ℕ) → List ℕ
@@ -164,12 +155,11 @@ all_within : (labels : List (List ℕ)) (count most : ℕ) (codes : List Code)
     → AllZip (Says labels) codes moves → AllByRecursion (IsTagBelow count) moves
     → AllByRecursion (IsWithinMost most) codes
 all_within labels count most [] [] room said below = tt
-all_within labels count most [] (move ∷ moves) room said below = absurd said
-all_within labels count most (code ∷ codes) [] room said below = absurd said
 all_within labels count most (code ∷ codes) (move ∷ moves) room said below = (
   says_within labels count most code move room said.0 below.0,
   all_within labels count most codes moves room said.1 below.1,
 )
+all_within labels count most codes moves room said below = absurd said
 
 within_spelled : (code : Code) → IsWithinMost largest code → HasSpelling code
 within_spelled (Number number) within = within.0
@@ -207,7 +197,7 @@ some_packed_text before s root below tokens moves kept formed fit whole said mad
       length-append labels listed,
       same_length (λ (h : Sentence). h.label) (λ (l : List ℕ). Some l) p.says.hypotheses labels
           p.says.labelled,
-      few_mandatory before s p.says.hypotheses p.says.mandatory,
+      those_few (IsMandatoryAt before s) 0 before p.says.hypotheses p.says.mandatory,
       few_listed before s trees listed codes fit p,
       few_kept before trees p.moves moves kept p.shared made,
       said_moves before s tokens moves formed whole said,
@@ -215,8 +205,7 @@ some_packed_text before s root below tokens moves kept formed fit whole said mad
     let within : AllByRecursion (IsWithinMost largest) codes =
     all_within (labels ++ listed) (length p.shared.kept) largest codes p.moves many p.says.each
     (tags_below before p.moves none [] trees p.shared.kept p.shared.made) in
-    let spelled : AllByRecursion HasSpelling codes =
-    all_weaker (IsWithinMost largest) HasSpelling within_spelled codes within in
+    let spelled = all_weaker (IsWithinMost largest) HasSpelling within_spelled codes within in
     let (letters, spells) = some_text codes (All-from_recursion HasSpelling codes spelled) in
     let (text, laid) = some_compressed_layout listed letters in (
       text,

@@ -17,8 +17,7 @@ use Rattle.mm_check.proofs.Ordered.{ordered_holds}
 uses_grow : (xs ys : List LabelId) (proofs : List KeptProof) → AreRangesWithin (length xs) proofs → uses_in (xs ++ ys) proofs ≡ uses_in xs proofs
 uses_grow xs ys [] h = refl
 uses_grow xs ys (p ∷ proofs) h =
-    let range : slice_range (xs ++ ys) p.start p.end ≡ slice_range xs p.start p.end =
-    slice_left xs ys p.start p.end (h 0 p refl).order (h 0 p refl).within in
+    let range = slice_left xs ys p.start p.end (h 0 p refl).order (h 0 p refl).within in
     let first : uses_at (xs ++ ys) p ≡ uses_at xs p = ap (λ (ls : List LabelId). record { number = p.id.0; used = ordered (ids_in ls) }) range in
     let others : uses_in (xs ++ ys) proofs ≡ uses_in xs proofs = uses_grow xs ys proofs (λ i q at. h (suc i) q at) in
     cc
@@ -27,8 +26,7 @@ pub uses_push : (xs ys : List LabelId) (proofs : List KeptProof) (p : KeptProof)
     → p.start ≡ length xs → p.end ≡ length (xs ++ ys)
     → uses_in (xs ++ ys) (proofs ++ p ∷ []) ≡ uses_in xs proofs ++ record { number = p.id.0; used = ordered (ids_in ys) } ∷ []
 uses_push xs ys proofs p h from to =
-    let whole : uses_in (xs ++ ys) (proofs ++ p ∷ []) ≡ uses_in (xs ++ ys) proofs ++ uses_at (xs ++ ys) p ∷ [] =
-    map-append (uses_at (xs ++ ys)) proofs (p ∷ []) in
+    let whole = map-append (uses_at (xs ++ ys)) proofs (p ∷ []) in
     let range : slice_range (xs ++ ys) p.start p.end ≡ ys = ap (λ (n : ℕ). slice_range (xs ++ ys) n p.end) from ∙ part-new xs ys p.end to in
     let last : uses_at (xs ++ ys) p ≡ record { number = p.id.0; used = ordered (ids_in ys) } =
     ap (λ (ls : List LabelId). record { number = p.id.0; used = ordered (ids_in ls) }) range in

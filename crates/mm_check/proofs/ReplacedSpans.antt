@@ -1,13 +1,13 @@
 -- Bytes in which several spans are replaced, from the first one on.
 use Rattle.std.proofs.Common.{◌≡◌, ℕ, ◌+◌, ◌-◌, ◌≤◌, List, [], ◌∷◌, ◌++◌, take, drop}
-use Rattle.std.proofs.Common.{length, slice_range, refl, sym, ap, subst, ◌∙◌, arith}
+use Rattle.std.proofs.Common.{length, slice_range, refl, sym, ap, ◌∙◌, arith}
 use Rattle.std.proofs.Common.{append_assoc, append-nil, length-append}
 use Rattle.std.proofs.Math.ListN.{drop_of_length-le}
 use Rattle.std.proofs.lemmas.List.{take-append-le, drop-append-le, take-append-drop, take-take}
 use Rattle.std.proofs.lemmas.List.{length-take-le, drop-take}
 use Rattle.mm_text.specs.Replaced.{with_span}
 use Rattle.mm_check.specs.AllSaved.{Replacement, with_replaced}
-use Rattle.mm_check.specs.Mirror.AllSaving.{AreSpansWithin, IsUpTo, PutsAfter}
+use Rattle.mm_check.specs.Mirror.AllSaving.{AreSpansWithin, PutsAfter}
 
 -- ---- one span
 
@@ -96,11 +96,9 @@ cut_at : (at : ℕ) (xs : List ℕ) (span : ℕ × ℕ) (text : List ℕ) → at
     → with_span (take span.1 xs) span text ≡ take at xs ++ (slice_range xs at span.0 ++ text)
 cut_at at xs span text after order within =
     let long : length (take span.1 xs) ≡ span.1 = length-take-le span.1 xs within in
-    let none : drop span.1 (take span.1 xs) ≡ [] =
-    drop_of_length-le (take span.1 xs) {i = span.1} (omega (arith, long)) in
+    let none = drop_of_length-le (take span.1 xs) {i = span.1} (omega (arith, long)) in
     let sum : at + (span.0 - at) ≡ span.0 = omega (arith, after) in
-    let between : drop at (take span.0 xs) ≡ slice_range xs at span.0 =
-    ap (λ (n : ℕ). drop at (take n xs)) (sym sum) ∙ drop-take at (span.0 - at) xs in
+    let between = ap (λ (n : ℕ). drop at (take n xs)) (sym sum) ∙ drop-take at (span.0 - at) xs in
     let front : take span.0 xs ≡ take at xs ++ slice_range xs at span.0 =
     sym (take-append-drop at (take span.0 xs))
     ∙ ap (λ (ys : List ℕ). ys ++ drop at (take span.0 xs)) (take-take at span.0 xs after)
@@ -139,5 +137,4 @@ pub put_twice : (most : ℕ) (first then old between new : List ℕ)
     → PutsAfter most first old between → PutsAfter most then between new
     → PutsAfter most (first ++ then) old new
 put_twice most first then old between new one other whole h =
-    subst (λ (bytes : List ℕ). IsUpTo most bytes new) (append_assoc whole first then)
-    (other (whole ++ first) (one whole h))
+    rw append_assoc at (other (whole ++ first) (one whole h))

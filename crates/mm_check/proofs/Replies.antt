@@ -17,18 +17,13 @@ use Rattle.mm_check.specs.AllSaved.{IsAllSaveFault}
 use Rattle.mm_check.specs.Reply.{IsReply, IsRefused, IsQuestionReply, Tells, text_of, status_of}
 use Rattle.mm_check.specs.Reply.{IsAskReply, IsAllSavedReply, name_of}
 
-reply_at : (profile : Profile) (files : List PlainFile) (told : Option Verdict) (text : List ℕ) (status : ℕ)
+pub reply_at : (profile : Profile) (files : List PlainFile) (told : Option Verdict) (text : List ℕ) (status : ℕ)
     → ((verdict : Verdict) → told ≡ Some verdict → HasVerdict profile files verdict)
     → MatchOption told ⊥ (λ verdict. text ≡ text_of files verdict) → IfSome told (λ verdict. status ≡ status_of verdict)
     → IsReply profile files text status
 reply_at profile files None text status holds said ends = absurd said
 reply_at profile files (Some verdict) text status holds said ends =
     record { verdict = verdict; holds = holds verdict refl; said = said; ends = ends }
-
-pub reply_of : (profile : Profile) (files : List PlainFile) (answer : Result Conclusion CheckFault) (text : List ℕ) (status : ℕ)
-    → IsVerdict profile files answer → Tells files answer text → IfSome (verdict_of_answer answer) (λ verdict. status ≡ status_of verdict)
-    → IsReply profile files text status
-reply_of profile files answer text status holds said ends = reply_at profile files (verdict_of_answer answer) text status holds said ends
 
 -- ---- questions
 

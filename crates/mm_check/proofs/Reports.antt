@@ -1,5 +1,5 @@
 -- A report of what a theorem rests on is one.
-use Rattle.std.proofs.Common.{◌≡◌, ℕ, suc, ◌<◌, List, [], ◌∷◌, take, length, Contains, true, inl, inr, refl, sym, ap, subst, ◌∙◌, arith}
+use Rattle.std.proofs.Common.{◌≡◌, ℕ, ◌<◌, List, [], ◌∷◌, take, length, Contains, true, inl, inr, refl, sym, ap, subst, ◌∙◌, arith}
 use Rattle.mm_text.specs.declared.statement.Kind.TheVariants.{Axiom}
 use Rattle.mm_text.specs.Statement.{PlainStatement}
 use Rattle.mm_frame.specs.Sentence.{sentence_of}
@@ -11,26 +11,22 @@ use Rattle.mm_check.specs.Verdict.{sentences, is_proof, is_unproved}
 use Rattle.mm_check.specs.Rests.{AreRising, AreInOrder, IsNumberWhere, IsNamed, RestsOn, Uses}
 use Rattle.mm_check.specs.Laws.{OneReport}
 use Rattle.mm_check.proofs.Unproved.{all_meant}
-use Rattle.mm_check.proofs.Ordered.{holds_first, holds_later, rising_tail, holds_cons}
+use Rattle.mm_check.proofs.Ordered.{rising_above, holds_first, holds_later, rising_tail, holds_cons}
 
 -- ---- numbers in order are one list
-
--- the first is less than the others
-first_less : (x : ℕ) (xs : List ℕ) (n : ℕ) → AreRising (x ∷ xs) → Contains xs n → x < n
-first_less x xs n rising h = let at = at_from_contains xs n h in rising 0 (suc at.0) x n (omega arith) refl at.1
 
 same_first : (x y : ℕ) (xs ys : List ℕ) → AreRising (x ∷ xs) → AreRising (y ∷ ys) → Contains (y ∷ ys) x → Contains (x ∷ xs) y → x ≡ y
 same_first x y xs ys rising falling to from = elim (holds_cons y ys x to) [
   | inl same ↦ sym same
   | inr later ↦ elim (holds_cons x xs y from) [
     | inl same ↦ same
-    | inr other ↦ absurd (let more : y < x = first_less y ys x falling later in let less : x < y = first_less x xs y rising other in omega arith)
+    | inr other ↦ absurd (let more : y < x = rising_above y ys falling x later in let less : x < y = rising_above x xs rising y other in omega arith)
   ]
 ]
 
 later_within : (x y : ℕ) (xs ys : List ℕ) (n : ℕ) → x ≡ y → AreRising (x ∷ xs) → Contains (y ∷ ys) n → Contains xs n → Contains ys n
 later_within x y xs ys n e rising to h = elim (holds_cons y ys n to) [
-  | inl same ↦ absurd (let less : x < n = first_less x xs n rising h in omega (arith, e, same))
+  | inl same ↦ absurd (let less : x < n = rising_above x xs rising n h in omega (arith, e, same))
   | inr later ↦ later
 ]
 

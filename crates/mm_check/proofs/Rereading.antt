@@ -14,7 +14,6 @@ use Rattle.mm_frame.specs.Rules.{AllMeant}
 use Rattle.mm_frame.proofs.Meant.{one_label}
 use Rattle.mm_frame.proofs.NameLists.{get_mapped}
 use Rattle.mm_proof.specs.declared.profile.Profile.{Profile}
-use Rattle.mm_proof.specs.UnderProfile.{IsProvedUnder}
 use Rattle.mm_check.specs.Conclusion.{Conclusion}
 use Rattle.mm_check.specs.Verdict.{AllObey, AreAccepted, CanBeRead, sentences, proof_of, is_proof}
 use Rattle.mm_text.specs.Statement.{is_provable}
@@ -101,16 +100,14 @@ pub proof_stands : (profile : Profile) (statements : List PlainStatement) (id pl
     → IsProofOf profile (sentences statements) id (proof_of s)
 proof_stands profile statements id place s obeyed at complete =
     let parted : statements ≡ take place statements ++ s ∷ drop (suc place) statements = split_at statements place s at.there in
-    let proved : IsProvedUnder profile (sentences (take place statements)) (sentence_of s)
-    (proof_of s) =
+    let proved =
     (obeyed (take place statements) (drop (suc place) statements) s parted).proved complete in
     record {
       place = place;
       s = sentence_of s;
       number = record { numbered = at.numbered; provable = provable_kind s.kind (not (is_incomplete (proof_of s))) complete };
       complete = λ h. complete_test (is_provable s.kind) (is_incomplete (proof_of s)) complete h;
-      proved = subst (λ (ss : List Sentence).
-          IsProvedUnder profile ss (sentence_of s) (proof_of s)) (map-take place statements) proved;
+      proved = rw map-take at proved;
     }
 
 -- ---- room for its tokens
@@ -139,10 +136,6 @@ proof_fits files statements ending place s readable reads there =
 
 -- ---- what is shown
 
--- a theorem stands under its label
-pub named_stands : (statements : List PlainStatement) (label : List ℕ) (id : ℕ) → IsNamed statements label (λ s. is_proof s ≡ true) id → (s : PlainStatement) × Stands statements label s
-named_stands statements label id (place, s, at, both) = (s, (place, at.there, both.0))
-
 -- what stands under the theorem's label is the theorem
 found_again : (statements : List PlainStatement) (label : List ℕ) (id : ℕ) (t : PlainStatement) → AllMeant (sentences statements)
     → (named : IsNamed statements label (λ s. is_proof s ≡ true) id) → Stands statements label t → t ≡ named.1
@@ -156,13 +149,7 @@ shown_proof c statements label id t of all named stands =
     let same : t ≡ named.1 = found_again statements label id t meant named stands in
     let proof : IsProofOf c.profile (sentences statements) id (proof_of named.1) =
     proof_stands c.profile statements id named.0 named.1 of.accepted.obeyed named.2 named.3.1 in
-    subst (λ (ss : List Sentence). IsProofOf c.profile ss id (proof_of t)) (sym of.kept.sentences)
-    (subst (λ (s : PlainStatement). IsProofOf c.profile (sentences statements) id (proof_of s)) (sym same) proof)
-
--- and there is room for them
-pub shown_room : (c : Conclusion) (statements : List PlainStatement) (label : List ℕ) (t : PlainStatement) → AreOf c statements → Stands statements label t
-    → sum_by length (proof_of t) ≤ most_bytes
-shown_room c statements label t of (place, there, named) = proof_fits c.files statements None place t of.accepted.readable of.accepted.reads there
+    rw (of.kept.sentences, same) proof
 
 -- the steps that its tokens say are those of the theorem
 pub theorem_steps : (c : Conclusion) (statements : List PlainStatement) (label : List ℕ) (id : ℕ) (t : PlainStatement) (steps : List (Move ℕ)) → AreOf c statements → AllMeant c.sentences
@@ -172,8 +159,7 @@ theorem_steps c statements label id t steps of all named stands said =
     let s : PlainStatement = named.1 in
     let same : t ≡ s = found_again statements label id t meant named stands in
     let here : SayStepsOf (sentences statements) id (proof_of s) steps =
-    subst (λ (u : PlainStatement). SayStepsOf (sentences statements) id (proof_of u) steps) same
-    (subst (λ (ss : List Sentence). SayStepsOf ss id (proof_of t) steps) of.kept.sentences said) in
+    rw (of.kept.sentences, same) at said in
     let number : IsProofNumber (sentences statements) id named.0 (sentence_of s) =
     record { numbered = named.2.numbered; provable = provable_kind s.kind (not (is_incomplete (proof_of s))) named.3.1 } in
     let told = here named.0 (sentence_of s) number in

@@ -1,16 +1,15 @@
 -- Files in which one proof is put in for another are accepted alike.
-use Rattle.std.proofs.Common.{◌≡◌, ◌≢◌, ℕ, zero, suc, ◌+◌, ◌≤◌, ◌<◌, List, [], ◌∷◌, ◌++◌, map, take}
+use Rattle.std.proofs.Common.{◌≡◌, ℕ, zero, suc, ◌+◌, ◌≤◌, ◌<◌, List, [], ◌∷◌, ◌++◌, map, take}
 use Rattle.std.proofs.Common.{drop, length, filter, flat_map, count_by, cond, slice_get, slice_set}
-use Rattle.std.proofs.Common.{Bool, true, false, not, ◌&&◌, Some, None, ◌⊎◌, inl, inr, refl, sym}
+use Rattle.std.proofs.Common.{Bool, true, false, Some, None, ◌⊎◌, inl, inr, refl, sym}
 use Rattle.std.proofs.Common.{ap, subst, ◌∙◌, arith, append_assoc, length-append}
 use Rattle.std.proofs.Math.Seq.{take-append_seam, drop-append_seam}
-use Rattle.std.proofs.lemmas.Bool.{and_parts}
-use Rattle.std.proofs.lemmas.List.{set-set, set-get_or}
-use Rattle.std.proofs.lemmas.Option.{get_or_from_slice_get}
+use Rattle.std.proofs.lemmas.List.{length-set, set-set, set-get_or}
+use Rattle.std.proofs.lemmas.Option.{get_or_from_slice_get, slice_get_within}
 use Rattle.mm_text.specs.declared.fault.LoadRule.{LoadRule}
 use Rattle.mm_text.specs.declared.fault.LoadRule.TheVariants as load
 use Rattle.mm_text.specs.Token.{tokens_from}
-use Rattle.mm_text.specs.Statement.{PlainStatement, is_provable}
+use Rattle.mm_text.specs.Statement.{PlainStatement}
 use Rattle.mm_text.specs.Files.{most_bytes, PlainFile, total_bytes, BreaksLoad}
 use Rattle.mm_text.specs.Replaced.{placeless, with_span, with_bytes}
 use Rattle.mm_text.proofs.Lists.{same_length, split_at, get_parted, zip_left, mapped_zip}
@@ -39,9 +38,9 @@ use Rattle.mm_check.proofs.AlikeVerdicts.{moved, obeys_alike, same_sentence, sam
 use Rattle.mm_check.proofs.Asked.{same_tree}
 use Rattle.mm_check.proofs.Known.{unproved_of-append}
 use Rattle.mm_check.proofs.Rereading.{same_reading}
-use Rattle.mm_check.proofs.Saving.{with_bytes_is}
+use Rattle.mm_check.proofs.Saving.{provable_proof, with_bytes_is}
 use Rattle.mm_check.proofs.Trees.{any_proof}
-use Rattle.mm_check.proofs.Unproved.{proof_not_unproved}
+use Rattle.mm_check.proofs.Unproved.{proof_there, proof_not_unproved}
 use Rattle.mm_check.proofs.Verdicts.{accepted_or_refused}
 use Rattle.mm_check.proofs.SavedTokens.{words_after_feed, fine_complete}
 use Rattle.mm_check.proofs.SavedProofs.{ReadsAsProof, tree_is, tree_derives}
@@ -71,11 +70,6 @@ form_of_strict : (profile : Profile) (front : List Sentence) (s : Sentence)
 form_of_strict Strict front s tokens strict = strict
 form_of_strict Lenient front s tokens strict = tt
 
-complete_again : (s : PlainStatement) (tokens : List (List ℕ)) → is_proof s ≡ true → is_incomplete tokens ≡ false → (is_provable s.kind && not (is_incomplete tokens)) ≡ true
-complete_again s tokens complete known =
-    let kind : is_provable s.kind ≡ true = (and_parts (is_provable s.kind) (not (is_incomplete (proof_of s))) complete).0 in
-    λ i. kind i && not (known i)
-
 pub proved_anew : (profile : Profile) (front : List Sentence) (s : PlainStatement) (root : List ℕ) (below : Trees) (moves : List (Move (List ℕ))) (text : List ℕ) → AllMeant front → is_proof s ≡ true
     → IsProvedWithin (IsWithin (limit_of profile)) front (sentence_of s) (proof_of s) → SayMoves front (sentence_of s) (proof_of s) moves → MakeTree front moves root below
     → ReadsAsProof front (sentence_of s) root below text → IsProvedAnew profile front (put_anew s (10 ∷ text)) root below
@@ -90,12 +84,11 @@ proved_anew profile front s root below moves text meant complete old told made r
     subst (λ (ts : List (List ℕ)). IsStrict front (sentence_of s) ts) (sym tokens) ra.strict in
     let here : IsProofBy AnyExpression front (sentence_of s) (proof_of t) root below = subst (λ (ts : List (List ℕ)). IsProofBy AnyExpression front (sentence_of s) ts root below) (sym tokens) any in
     record {
-      complete = complete_again s (proof_of t) complete (ap is_incomplete tokens ∙ fine_complete ra.tokens ra.fine);
+      complete = proof_there t (provable_proof s complete) (ap is_incomplete tokens ∙ fine_complete ra.tokens ra.fine);
       strict = strict;
       under = (
         form_of_strict profile front (sentence_of s) (proof_of t) strict,
-        subst (λ (ts : List (List ℕ)). IsProvedWithin Fits front (sentence_of s) ts) (sym tokens)
-            within.0,
+        rw tokens within.0,
       );
       proof = here.0;
       spelled = here.1;
@@ -111,19 +104,17 @@ anew_alike profile front s root below moves text meant complete told made new = 
   tree = λ c p. (new.proof, tree_is AnyExpression front (sentence_of s) (proof_of s) moves root below meant p told made ∙ sym new.spelled);
 }
 
-pub alike_anew : (profile : Profile) (front : List Sentence) (s : PlainStatement) (root : List ℕ) (below : Trees) (moves : List (Move (List ℕ))) (text : List ℕ) → AllMeant front → is_proof s ≡ true
-    → IsProved front (sentence_of s) (proof_of s) → SayMoves front (sentence_of s) (proof_of s) moves → MakeTree front moves root below → IsProvedAnew profile front (put_anew s text) root below
-    → AreAlikeAt front (put_anew s text) s
-alike_anew profile front s root below moves text meant complete old told made new = record {
-  said = refl;
-  proofs = new.complete ∙ sym complete;
-  unproved = proof_not_unproved (put_anew s text) new.complete ∙ sym (proof_not_unproved s complete);
-  tree = λ c p. (
-    old,
-    same_tree front (sentence_of s) (proof_of (put_anew s text)) p new.proof meant ∙ new.spelled
-        ∙ sym (tree_is AnyExpression front (sentence_of s) (proof_of s) moves root below meant old told made),
-  );
-}
+pub alike_turned : (front : List Sentence) (s t : PlainStatement) → AllMeant front
+    → is_proof s ≡ true → IsProved front (sentence_of s) (proof_of s) → AreAlikeAt front s t
+    → AreAlikeAt front t s
+alike_turned front s t meant complete old alike =
+    let (new, same) = alike.tree complete old in
+    record {
+      said = sym alike.said;
+      proofs = sym alike.proofs;
+      unproved = sym alike.unproved;
+      tree = λ c p. (old, same_tree front (sentence_of t) (proof_of t) p new meant ∙ sym same);
+    }
 
 -- ---- the statements, one by one
 
@@ -207,8 +198,7 @@ pub span_put : (front now back put : List ℕ) (span : ℕ × ℕ) → span.0 �
     → with_span (front ++ (now ++ back)) span put ≡ front ++ (put ++ back)
 span_put front now back put span start stop =
     let all : List ℕ = front ++ (now ++ back) in
-    let before : take span.0 all ≡ front =
-    ap (λ (n : ℕ). take n all) start ∙ take-append_seam front (now ++ back) in
+    let before = ap (λ (n : ℕ). take n all) start ∙ take-append_seam front (now ++ back) in
     let after : drop span.1 all ≡ back =
     ap (λ (n : ℕ). drop n all) (stop ∙ sym (length-append front now))
     ∙ ap (drop (length (front ++ now))) (sym (append_assoc front now back))
@@ -259,30 +249,22 @@ named_back files k f bytes there i x e =
       | inr (apart, old) ↦ (x, old, refl)
     ]
 
-none_back : (files : List PlainFile) (k : ℕ) (f g : PlainFile) → slice_get files k ≡ Some f → slice_set files k g ≡ [] → ⊥
-none_back (h ∷ files) (suc k) f g there e = absurd cc
-none_back _ _ f g there e = absurd cc
-
-some_files : (files : List PlainFile) (k : ℕ) (f : PlainFile) → slice_get files k ≡ Some f → files ≢ []
-some_files [] k f there e = absurd cc
-some_files (h ∷ files) k f there e = absurd cc
-
 pub readable_anew : (files : List PlainFile) (k : ℕ) (f : PlainFile) (bytes : List ℕ) → slice_get files k ≡ Some f → total_with files k bytes ≤ most_bytes → CanBeRead files → CanBeRead (with_bytes files k bytes)
 readable_anew files k f bytes there fits readable rule broken = by_rule rule (subst (λ (fs : List PlainFile). BreaksLoad fs rule) (with_bytes_is files k f bytes there) broken)
   where
-    others : List PlainFile
-    others = slice_set files k (record f { bytes = bytes })
-
-    small : total_bytes (slice_set files k (record f { bytes = bytes })) ≤ most_bytes
-    small = subst (λ (fs : List PlainFile). total_bytes fs ≤ most_bytes) (with_bytes_is files k f bytes there) fits
+    less : k < length files
+    less = slice_get_within files k f there
 
     by_rule : (r : LoadRule) → BreaksLoad (slice_set files k (record f { bytes = bytes })) r → ⊥
-    by_rule load.F1 e = none_back files k f (record f { bytes = bytes }) there e
+    by_rule load.F1 e =
+        omega (arith, less, ap length e, length-set files k (record f { bytes = bytes }))
     by_rule load.F2 (some, twins) =
         let (x, at_i, one) = named_back files k f bytes there twins.i twins.one twins.at_i in
         let (y, at_j, two) = named_back files k f bytes there twins.j twins.other twins.at_j in
-        readable load.F2 (some_files files k f there, record { i = twins.i; j = twins.j; one = x; other = y; apart = twins.apart; at_i = at_i; at_j = at_j; same = one ∙ twins.same ∙ sym two })
-    by_rule load.F3 e = let large : most_bytes < total_bytes (slice_set files k (record f { bytes = bytes })) = e.2 in let less = small in absurd (omega (arith, large, less))
+        readable load.F2 ((λ none. omega (arith, less, ap length none)), record { i = twins.i; j = twins.j; one = x; other = y; apart = twins.apart; at_i = at_i; at_j = at_j; same = one ∙ twins.same ∙ sym two })
+    by_rule load.F3 e =
+        let more : most_bytes < total_bytes (slice_set files k (record f { bytes = bytes })) = e.2 in
+        omega (arith, more, ap total_bytes (with_bytes_is files k f bytes there), fits)
 
 -- ---- the verdict
 

@@ -55,8 +55,8 @@ use Rattle.mm_check.proofs.Trees.{any_proof}
 use Rattle.mm_check.proofs.Unproved.{all_meant, proof_not_unproved}
 use Rattle.mm_check.proofs.SavedTokens.{is_proof_text}
 use Rattle.mm_check.proofs.SavedProofs.{ReadsAsProof, text_reads, tree_derives}
-use Rattle.mm_check.proofs.SavedFiles.{put_anew, IsProvedAnew, proved_anew, anew_alike, alike_anew}
-use Rattle.mm_check.proofs.SavedFiles.{carries_of, all_obey_anew, readable_anew, handed_anew}
+use Rattle.mm_check.proofs.SavedFiles.{put_anew, IsProvedAnew, proved_anew, anew_alike}
+use Rattle.mm_check.proofs.SavedFiles.{alike_turned, carries_of, all_obey_anew, readable_anew, handed_anew}
 use Rattle.mm_check.proofs.SavedFiles.{same_left, same_count, same_many}
 use Rattle.mm_check.proofs.SavedFiles.{SayAlike, said_same, span_put}
 
@@ -173,13 +173,13 @@ module _ {profile : Profile} {f : Form} {files : List PlainFile} {before : List 
       let old = any_proof profile front (sentence_of s) (proof_of s) proved_before in
       let new = anew_of in
       let put = are_put_anew in
+      let alike =
+      anew_alike profile front s p.root p.below p.moves (10 ∷ text) meant_before p.complete p.told
+      p.made new in
       record {
-        to = carries_of before s t after put.later put.same
-            (anew_alike profile front s p.root p.below p.moves (10 ∷ text) meant_before p.complete
-            p.told p.made new);
+        to = carries_of before s t after put.later put.same alike;
         from = carries_of before t s put.later after (sym put.same)
-            (alike_anew profile front s p.root p.below p.moves (10 ∷ text) meant_before p.complete
-            old p.told p.made new);
+            (alike_turned front s t meant_before p.complete old alike);
         left = same_left before s t after put.later (proof_not_unproved s p.complete)
             (proof_not_unproved t new.complete) put.same;
         many = same_many before s t after put.later put.same;
@@ -209,13 +209,9 @@ module _ {profile : Profile} {f : Form} {files : List PlainFile} {before : List 
       let new = anew_of in
       let moves : List (Move (List ℕ)) = new.proof.moves in
       let q = new.proof.proves in
-      let made : MakeTree (sentences before) moves p.root p.below = record {
-        kept = q.kept;
-        made = subst (λ (u : Trees). Makes (sentences before) moves none [] u q.kept) new.spelled
-            q.made;
-      } in
-      let front : take (length before) read_anew ≡ before =
-      take-append_seam before (t ∷ put.later) in
+      let made : MakeTree (sentences before) moves p.root p.below =
+      record { kept = q.kept; made = rw new.spelled at q.made } in
+      let front = take-append_seam before (t ∷ put.later) in
       record {
         place = length before;
         s = t;
@@ -275,8 +271,7 @@ module _ {profile : Profile} {f : Form} {files : List PlainFile} {statements : L
   saved_to_put =
       let parted = split_at statements sv.place sv.s sv.proof.there in
       to_put sv.proof sv.laid refl
-      (subst (λ (ss : List PlainStatement). Reads files ss None) parted accepted.reads)
-      (subst (λ (ss : List PlainStatement). AllObey profile ss) parted accepted.obeyed)
+      (rw parted at accepted.reads) (rw parted at accepted.obeyed)
       (ap (slice_get files) (sym sv.home) ∙ sv.handed)
 
   -- the files with it
@@ -310,8 +305,7 @@ saved_proof_is_strict profile f files statements same label number bytes accepte
     let read : same ≡ read_anew p =
     (same_reading (with_bytes files number bytes) same (read_anew p) None None reads
     still.reads).0 in
-    subst (λ (ss : List PlainStatement). HasStrictProof ss label) (sym read)
-    (strict_anew p label sv.proof.named)
+    rw read (strict_anew p label sv.proof.named)
 
 -- ---- what is saved is one
 
@@ -358,8 +352,7 @@ one_text_of profile f statements label place other s t root under below beneath 
     let (here, (same, trees)) = one_proof_tree profile statements label place other s t root under
     below beneath obeyed h k in
     let front : List Sentence = sentences (take place statements) in
-    let laid : IsTextIn f front (sentence_of s) (tree root below none) b =
-    rw (here, same, trees) at two in
+    let laid = rw (here, same, trees) at two in
     texts_once f front (sentence_of s) root below a b (front_meant profile statements place obeyed)
     one laid
 
@@ -382,9 +375,6 @@ numbered_so statements place s label there named = (
   length (labelled_sentences (take place (sentences statements))),
   (place, s, record { there = there; numbered = record { there = said_there statements place s there; named = ap is_some named; number = refl } }, (named, tt)),
 )
-
-unproved_not : (s t : PlainStatement) → t ≡ s → is_proof s ≡ true → is_unproved t ≡ true → ⊥
-unproved_not s t same complete open_one = let none_left = proof_not_unproved s complete in let some : is_unproved s ≡ true = ap is_unproved (sym same) ∙ open_one in cc
 
 pub not_over : (n : ℕ) → n ≤ most_labels → most_labels < n → ⊥
 not_over n h k = omega (arith, h, k)
@@ -411,7 +401,8 @@ one_save_answer profile f files statements label number bytes ask.A3 accepted sv
     let same : t ≡ sv.s =
     one_stands statements label sv.place sv.s t (all_meant profile statements accepted.obeyed)
     sv.proof.there sv.proof.named (place, at.there, named) in
-    absurd (unproved_not sv.s t same sv.proof.complete unproved)
+    let none_left = proof_not_unproved sv.s sv.proof.complete in
+    let some : is_unproved sv.s ≡ true = ap is_unproved (sym same) ∙ unproved in absurd cc
 one_save_answer profile f files statements label number bytes _ accepted sv why = absurd why
 
 -- ---- saving again

@@ -1,9 +1,10 @@
 -- Saving the theorems of a file one after the other gives what saving all of them at once gives.
 use Rattle.std.proofs.Common.{◌≡◌, ℕ, suc, ◌+◌, ◌<◌, List, [], ◌∷◌, ◌++◌, map, take, drop, length}
-use Rattle.std.proofs.Common.{slice_get, true, ◌⊎◌, inl, inr, Some, None, refl, sym, ap, subst}
+use Rattle.std.proofs.Common.{slice_get, ◌⊎◌, inl, inr, Some, None, refl, sym, ap, subst}
 use Rattle.std.proofs.Common.{◌∙◌, arith}
 use Rattle.std.specs.List.{AllZip, AllByRecursion, Contains}
 use Rattle.std.proofs.lemmas.List.Elements.{recursion_from_All, All-contains_itself}
+use Rattle.std.proofs.lemmas.List.{map-append}
 use Rattle.std.proofs.lemmas.Option.{same_Some, slice_get_within}
 use Rattle.mm_text.specs.Statement.{PlainStatement}
 use Rattle.mm_text.specs.Files.{PlainFile}
@@ -70,35 +71,13 @@ IsFilledOrAmong labels slot =
     (slot.now ≡ slot.put)
     ⊎ ((label : List ℕ) × Contains labels label × IsLabelled label (sentence_of slot.owner))
 
--- one that is filled, with all filled
-filled_again : (front : List Slot) (slot : Slot) (back : List Slot)
-    → map filled (front ++ filled slot ∷ back) ≡ map filled (front ++ slot ∷ back)
-filled_again [] slot back = refl
-filled_again (x ∷ front) slot back =
-    ap (λ (l : List Slot). filled x ∷ l) (filled_again front slot back)
-
 all_are_filled : (slots : List Slot) → AllByRecursion (IsFilledOrAmong []) slots
     → map filled slots ≡ slots
 all_are_filled [] all = refl
-all_are_filled (slot ∷ slots) all = λ i. own i ∷ all_are_filled slots all.1 i
-  where
-    now_put : IsFilledOrAmong [] slot → slot.put ≡ slot.now
-    now_put (inl is) = sym is
-    now_put (inr (label, (k, less, is), named)) = absurd (omega (arith, less))
-
-    own : filled slot ≡ slot
-    own = ap (λ (now : List ℕ). record slot { now = now }) (now_put all.0)
-
--- a slot whose theorem has another label than the first one
-still_among : (label : List ℕ) (labels : List (List ℕ)) (slot : Slot)
-    → HasNot label slot.owner → IsFilledOrAmong (label ∷ labels) slot
-    → IsFilledOrAmong labels slot
-still_among label labels slot other (inl is) = inl is
-still_among label labels slot other (inr (own, among, named)) =
-    elim (contains_cases label labels own among) [
-      | inl same ↦ absurd (other (named ∙ ap (λ (l : List ℕ). Some l) (sym same)))
-      | inr later ↦ inr (own, later, named)
-    ]
+all_are_filled (slot ∷ slots) (inl is, all) =
+    λ i. record slot { now = sym is i } ∷ all_are_filled slots all i
+all_are_filled (slot ∷ slots) (inr (label, (k, less, is), named), all) =
+    absurd (omega (arith, less))
 
 -- what is still to be filled once the slot of the first label is
 still_left : (label : List ℕ) (labels : List (List ℕ)) (slots : List Slot)
@@ -106,9 +85,14 @@ still_left : (label : List ℕ) (labels : List (List ℕ)) (slots : List Slot)
     → AllByRecursion (IsFilledOrAmong (label ∷ labels)) slots
     → AllByRecursion (IsFilledOrAmong labels) slots
 still_left label labels [] others all = tt
-still_left label labels (slot ∷ slots) others all = (
-  still_among label labels slot others.0 all.0,
-  still_left label labels slots others.1 all.1,
+still_left label labels (slot ∷ slots) (other, others) (inl is, all) =
+    (inl is, still_left label labels slots others all)
+still_left label labels (slot ∷ slots) (other, others) (inr (own, among, named), all) = (
+  elim (contains_cases label labels own among) [
+    | inl same ↦ absurd (other (rw (← same) at named))
+    | inr later ↦ inr (own, later, named)
+  ],
+  still_left label labels slots others all,
 )
 
 -- ---- the files on the way
@@ -163,8 +147,7 @@ module _ {profile : Profile} {f : Form} {statements : List PlainStatement} {numb
   slot_of =
       let before : List PlainStatement = take sv.place others in
       let after : List PlainStatement = drop (suc sv.place) others in
-      let is : is_theorem_of number sv.s ≡ true =
-      theorem_there number sv.s sv.proof.complete (sym sv.home) in
+      let is = theorem_there number sv.s sv.proof.complete (sym sv.home) in
       zip_parts Owns slots (theorems_of number before) sv.s (theorems_of number after)
       (rw (ap (theorems_of number) (split_at others sv.place sv.s sv.proof.there)
       ∙ theorems_parted number before sv.s after is) at on.owners)
@@ -173,10 +156,9 @@ module _ {profile : Profile} {f : Form} {statements : List PlainStatement} {numb
   text_of : slot_of.x.put ≡ 10 ∷ sv.text
   text_of =
       let parts = slot_of in
-      let own : AllByRecursion (IsFor (IsReplacement f statements)) (parts.x ∷ parts.back) =
-      all_back (IsFor (IsReplacement f statements)) parts.front (parts.x ∷ parts.back)
-      (rw parts.whole at each) in
-      let (replacement, r, put) = own.0 in
+      let (replacement, r, put) =
+      (all_back (IsFor (IsReplacement f statements)) parts.front (parts.x ∷ parts.back)
+      (rw parts.whole at each)).0 in
       sym put
       ∙ same_text profile f statements others parts.x.owner sv.s replacement label sv.place sv.root
       sv.below sv.text obeyed on.accepted.obeyed on.carries parts.here r
@@ -188,17 +170,12 @@ module _ {profile : Profile} {f : Form} {statements : List PlainStatement} {numb
   filled_on =
       let p = saved_to_put on.accepted sv in
       let parts = slot_of in
-      let before : List PlainStatement = take sv.place others in
-      let st : List PlainStatement = before ++ sv.s ∷ drop (suc sv.place) others in
-      let stands : HasSlots files st number first (parts.front ++ parts.x ∷ parts.back) =
-      subst (λ (l : List Slot). HasSlots files st number first l) parts.whole
-      (subst (λ (ss : List PlainStatement). HasSlots files ss number first slots)
-      (split_at others sv.place sv.s sv.proof.there) on.has) in
+      let stands = rw (split_at others sv.place sv.s sv.proof.there, parts.whole) at on.has in
       subst (λ (bytes : List ℕ). HasSlots (with_bytes files number bytes) (read_anew p) number first
       (parts.front ++ filled parts.x ∷ parts.back))
       (ap (λ (l : List ℕ). with_span sv.file.bytes sv.s.span l) text_of ∙ sym sv.whole)
       (slots_put_anew p number first parts.front parts.x parts.back (sym sv.home) text_of
-      (zip_length Owns parts.front (theorems_of number before) parts.earlier) stands)
+      (zip_length Owns parts.front _ parts.earlier) stands)
 
   one_further : (labels : List (List ℕ)) → FitsSaved files number new
       → AllByRecursion (IsFilledOrAmong (label ∷ labels)) slots
@@ -206,8 +183,7 @@ module _ {profile : Profile} {f : Form} {statements : List PlainStatement} {numb
   one_further labels fits left =
       let before : List PlainStatement = take sv.place others in
       let after : List PlainStatement = drop (suc sv.place) others in
-      let parted : others ≡ before ++ sv.s ∷ after =
-      split_at others sv.place sv.s sv.proof.there in
+      let parted = split_at others sv.place sv.s sv.proof.there in
       let p = saved_to_put on.accepted sv in
       let put = are_put_anew p in
       let t : PlainStatement = put_anew sv.s (10 ∷ sv.text) in
@@ -215,19 +191,16 @@ module _ {profile : Profile} {f : Form} {statements : List PlainStatement} {numb
       let front : List Slot = parts.front in
       let slot : Slot = parts.x in
       let back : List Slot = parts.back in
-      let new_is : is_theorem_of number t ≡ true =
-      theorem_there number t (anew_of p).complete (sym sv.home) in
-      let carried : Carries others (read_anew p) =
+      let new_is = theorem_there number t (anew_of p).complete (sym sv.home) in
+      let carried =
       subst (λ (ss : List PlainStatement). Carries ss (read_anew p)) (sym parted)
       (put_says_alike p).to in
       let others_front = others_slots label front number before parts.earlier
       (not_before profile before sv.s after label p.obeyed sv.proof.named) in
       let others_back = others_slots label back number after parts.later
       (not_after profile before sv.s after label p.obeyed sv.proof.named) in
-      let among : AllByRecursion (IsFilledOrAmong (label ∷ labels)) (front ++ slot ∷ back) =
-      rw parts.whole at left in
-      let owners : AllZip Owns (front ++ filled slot ∷ back)
-      (theorems_of number before ++ t ∷ theorems_of number put.later) =
+      let among = rw parts.whole at left in
+      let owners =
       zip_append Owns front (theorems_of number before) (filled slot ∷ back)
       (t ∷ theorems_of number put.later) parts.earlier (
         parts.here,
@@ -280,18 +253,14 @@ all_in_turn profile f statements number first [] slots files others bytes obeyed
     ∙ ap (woven first) (sym (all_are_filled slots left))
 all_in_turn profile f statements number first (label ∷ labels) slots files others bytes obeyed
     each on left (ss, new, accepted, sv, fits, more) =
-    let same : ss ≡ others =
-    (same_reading files ss others None None accepted.reads on.accepted.reads).0 in
+    let same = (same_reading files ss others None None accepted.reads on.accepted.reads).0 in
     let here : IsSaved f files others label number new = rw same at sv in
     let n = one_further obeyed each on here labels fits left in
-    let still : AllByRecursion (IsFor (IsReplacement f statements))
-    (n.front ++ filled n.slot ∷ n.back) =
-    still_for (IsReplacement f statements) n.front n.slot n.back
-    (rw n.whole at each) in
+    let still = still_for (IsReplacement f statements) n.front n.slot n.back (rw n.whole at each) in
     all_in_turn profile f statements number first labels (n.front ++ filled n.slot ∷ n.back)
     (with_bytes files number new) n.others bytes obeyed still n.on n.left more
-    ∙ ap (woven first)
-    (filled_again n.front n.slot n.back ∙ ap (map filled) (sym n.whole))
+    ∙ ap (woven first) (map-append filled n.front (filled n.slot ∷ n.back)
+    ∙ sym (map-append filled n.front (n.slot ∷ n.back)) ∙ ap (map filled) (sym n.whole))
 
 -- ---- the law
 
@@ -307,15 +276,6 @@ among_labels f statements number labels each (slot ∷ slots) ((new, r, put), al
   among_labels f statements number labels each slots all owned,
 )
 
-owned_there : (slots : List Slot) (statements all : List PlainStatement)
-    → AllZip (λ slot s. slot.owner ≡ s) slots statements
-    → AllByRecursion (λ s. Contains all s) statements
-    → AllByRecursion (λ slot. Contains all slot.owner) slots
-owned_there slots statements all zip there =
-    zip_each (λ slot s. slot.owner ≡ s) (λ slot. Contains all slot.owner) (λ s. Contains all s)
-    (λ slot s same own. subst (λ (t : PlainStatement). Contains all t) (sym same) own) slots
-    statements zip there
-
 pub saving_in_turn : SavingInTurnIsSavingAll
 saving_in_turn profile f files statements number labels bytes all accepted sv each turn =
     let theorems : List PlainStatement = theorems_of number statements in
@@ -330,14 +290,15 @@ saving_in_turn profile f files statements number labels bytes all accepted sv ea
           c.slots theorems c.owners;
     } in
     let owned : AllByRecursion (λ slot. Contains theorems slot.owner) c.slots =
-    owned_there c.slots theorems theorems c.owners
+    zip_each (λ slot s. slot.owner ≡ s) (λ slot. Contains theorems slot.owner) (Contains theorems)
+    (λ slot s same own. rw same own) c.slots theorems c.owners
     (recursion_from_All (Contains theorems) theorems (All-contains_itself theorems)) in
-    let left : AllByRecursion (IsFilledOrAmong labels) c.slots =
+    let left =
     among_labels f statements number labels (λ label. (each label).1) c.slots c.each owned in
-    let in_turn : bytes ≡ woven c.first (map filled c.slots) =
+    let in_turn =
     all_in_turn profile f statements number c.first labels c.slots files statements bytes
     accepted.obeyed c.each on left turn in
-    let at_once : with_replaced sv.file.bytes sv.replaced ≡ woven c.first (map filled c.slots) =
+    let at_once =
     ap (λ (l : List ℕ). with_replaced l sv.replaced) c.whole
     ∙ all_filled [] c.first c.slots theorems sv.replaced c.stands
     (zip_weaker (IsReplacement f statements) (λ s new. new.span ≡ s.span) (λ s new r. r.span)

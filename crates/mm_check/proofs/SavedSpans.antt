@@ -1,7 +1,7 @@
 -- Where the proofs of a file stand in it, before and after one of them is put in.
 use Rattle.std.proofs.Common.{◌≡◌, ℕ, ◌+◌, ◌≤◌, List, [], ◌∷◌, ◌++◌, map, length, cond, slice_get}
 use Rattle.std.proofs.Common.{Bool, true, false, Some, None, refl, sym, ap, subst, ◌∙◌, arith}
-use Rattle.std.proofs.Common.{length-append}
+use Rattle.std.proofs.Common.{zero-add}
 use Rattle.std.specs.List.{AllZip}
 use Rattle.std.proofs.lemmas.Option.{same_Some}
 use Rattle.mm_text.specs.declared.statement.Kind.TheVariants.{Provable}
@@ -22,7 +22,7 @@ use Rattle.mm_check.proofs.SavedOnce.{IsToPut, anew_of, are_put_anew, read_anew}
 use Rattle.mm_check.proofs.FileTheorems.{theorem_complete, theorem_home, theorem_there}
 use Rattle.mm_check.proofs.FileTheorems.{theorem_placeless}
 use Rattle.mm_check.proofs.FileTheorems.{theorems_parted, theorems_zip}
-use Rattle.mm_check.proofs.Saving.{provable_proof}
+use Rattle.mm_check.proofs.Saving.{provable_proof, within_bytes}
 use Rattle.mm_check.proofs.Woven.{Slot, filled, woven, StandAt, Rise, IsMovedTo, IsCut, cut_at}
 use Rattle.mm_check.proofs.Woven.{put_woven, put_stands}
 
@@ -41,7 +41,7 @@ Follow number statements =
     → statements ≡ before ++ s ∷ between ++ t ∷ after → is_theorem_of number s ≡ true
     → is_theorem_of number t ≡ true → s.span.1 ≤ t.span.0
 
-abbrev EndsWithin : (end : ℕ) → PlainStatement → Type 0
+abbrev pub EndsWithin : (end : ℕ) → PlainStatement → Type 0
 EndsWithin end s = (s.span.0 ≤ s.span.1) × (s.span.1 ≤ end)
 
 -- what is said of each is said of each but the first
@@ -50,11 +50,6 @@ rest_theorems : (number : ℕ) (P : PlainStatement → Type 0) (s : PlainStateme
     → EachTheorem number P statements
 rest_theorems number P s statements each before after t split is =
     each (s ∷ before) after t (ap (λ (ss : List PlainStatement). s ∷ ss) split) is
-
-rest_follow : (number : ℕ) (s : PlainStatement) (statements : List PlainStatement)
-    → Follow number (s ∷ statements) → Follow number statements
-rest_follow number s statements follow before between after t u split =
-    follow (s ∷ before) between after t u (ap (λ (ss : List PlainStatement). s ∷ ss) split)
 
 rise_more : (number at end : ℕ) (s : PlainStatement) (statements : List PlainStatement) (b : Bool)
     → is_theorem_of number s ≡ b → Rise at end (theorems_of number statements)
@@ -69,9 +64,9 @@ rise : (number at end : ℕ) (statements : List PlainStatement) → at ≤ end
     → Rise at end (theorems_of number statements)
 rise number at end [] less behind follow within = less
 rise number at end (s ∷ statements) less behind follow within =
-    let later : Follow number statements = rest_follow number s statements follow in
-    let others : EachTheorem number (EndsWithin end) statements =
-    rest_theorems number (EndsWithin end) s statements within in
+    let later : Follow number statements = λ before between after t u split.
+    follow (s ∷ before) between after t u (ap (λ (ss : List PlainStatement). s ∷ ss) split) in
+    let others = rest_theorems number (EndsWithin end) s statements within in
     rise_more number at end s statements (is_theorem_of number s) refl
     (rise number at end statements less
     (rest_theorems number (λ t. at ≤ t.span.0) s statements behind) later others)
@@ -86,13 +81,9 @@ rise number at end (s ∷ statements) less behind follow within =
           later others,
     ))
 
-ends_within : (s : PlainStatement) (bytes : List ℕ) → IsProofSpan s bytes
+pub ends_within : (s : PlainStatement) (bytes : List ℕ) → IsProofSpan s bytes
     → EndsWithin (length bytes) s
-ends_within s bytes p =
-    let long : length bytes ≡ length p.front + (length p.within + length p.back) =
-    ap length p.whole ∙ length-append p.front (p.within ++ p.back)
-    ∙ ap (λ (n : ℕ). length p.front + n) (length-append p.within p.back) in
-    (omega (arith, p.start, p.stop), omega (arith, p.start, p.stop, long))
+ends_within s bytes p = (omega (arith, p.start, p.stop), (within_bytes s bytes p).1)
 
 -- the spans of the theorems of a file rise in its bytes
 pub spans_rise : (files : List PlainFile) (statements : List PlainStatement)
@@ -107,16 +98,14 @@ spans_rise files statements number file reads there =
     follow before between after s t split is other =
         let home : s.first.file ≡ number = theorem_home number s is in
         let there : t.first.file ≡ number = theorem_home number t other in
-        proof_spans_follow_holds files before between after s t None
-        (subst (λ (ss : List PlainStatement). Reads files ss None) split reads)
+        proof_spans_follow_holds files before between after s t None (rw split at reads)
         (provable_proof s (theorem_complete number s is))
         (provable_proof t (theorem_complete number t other)) (home ∙ sym there)
 
     within : EachTheorem number (EndsWithin (length file.bytes)) statements
     within before after s split is =
         ends_within s file.bytes
-        (proofs_stand_in_spans_holds files before s after None file
-        (subst (λ (ss : List PlainStatement). Reads files ss None) split reads)
+        (proofs_stand_in_spans_holds files before s after None file (rw split at reads)
         (provable_proof s (theorem_complete number s is))
         (ap (slice_get files) (theorem_home number s is) ∙ there))
 
@@ -138,10 +127,8 @@ pub cut_into_slots : (R : PlainStatement → Replacement → Type 0)
     → AllZip R (theorems_of number statements) news
     → IsCut R 0 file.bytes (theorems_of number statements) news
 cut_into_slots R files statements number file news reads there zip =
-    let none_before : length file.bytes ≡ 0 + length file.bytes = omega arith in
     cut_at R 0 file.bytes (theorems_of number statements) news zip
-    (subst (λ (n : ℕ). Rise 0 n (theorems_of number statements)) none_before
-    (spans_rise files statements number file reads there))
+    (rw zero-add (spans_rise files statements number file reads there))
 
 -- those behind a proof that is replaced say what they said
 pub theorems_said : (number : ℕ) (after later : List PlainStatement)
@@ -164,8 +151,7 @@ theorems_moved number end other_end after later same moved =
     (λ s t both. theorem_placeless number s t both.0)
     (λ s t is both.
     let home : s.first.file ≡ number = theorem_home number s is in
-    let own : IsMoved number end other_end s t =
-    both.1 (provable_proof s (theorem_complete number s is)) in
+    let own = both.1 (provable_proof s (theorem_complete number s is)) in
     record { start = own.start home; stop = own.stop home })
     after later (zip_both (λ s t. placeless s ≡ placeless t)
     (λ s t. s.kind ≡ Provable → IsMoved number end other_end s t) after later
@@ -191,26 +177,20 @@ module _ {profile : Profile} {f : Form} {files : List PlainFile} {before : List 
       let put = are_put_anew p in
       let is : is_theorem_of number s ≡ true = theorem_there number s p.complete home in
       let new : is_theorem_of number t ≡ true = theorem_there number t (anew_of p).complete home in
-      let there : slice_get files number ≡ Some file =
-      ap (slice_get files) (sym home) ∙ p.handed in
+      let there = ap (slice_get files) (sym home) ∙ p.handed in
       let earlier : List PlainStatement = theorems_of number before in
       let bytes : List ℕ = with_span file.bytes s.span slot.put in
       let end : ℕ = s.span.0 + length slot.put in
-      let span : t.span ≡ (s.span.0, end) =
-      ap (λ (l : List ℕ). (s.span.0, s.span.0 + length l)) (sym fills) in
+      let span = ap (λ (l : List ℕ). (s.span.0, s.span.0 + length l)) (sym fills) in
       let Moved : ℕ → List ℕ → Type 0 = λ n l. AllZip (λ u v. u.kind ≡ Provable
       → IsMoved n s.span.1 (s.span.0 + length l) u v) after put.later in
-      let moved : AllZip (IsMovedTo s.span.1 end) (theorems_of number after)
-      (theorems_of number put.later) =
+      let moved =
       theorems_moved number s.span.1 end after put.later put.same
       (subst (λ (n : ℕ). Moved n slot.put) home
       (subst (λ (l : List ℕ). Moved s.first.file l) (sym fills) put.moved)) in
       let same : has.file ≡ file = same_Some has.file file (sym has.handed ∙ there) in
-      let whole : file.bytes ≡ woven first (front ++ slot ∷ back) =
-      ap (λ (f : PlainFile). f.bytes) (sym same) ∙ has.whole in
-      let stand : StandAt 0 first (front ++ slot ∷ back)
-      (earlier ++ s ∷ theorems_of number after) =
-      rw (theorems_parted number before s after is) at has.stand in
+      let whole = ap (λ (f : PlainFile). f.bytes) (sym same) ∙ has.whole in
+      let stand = rw (theorems_parted number before s after is) at has.stand in
       record {
         file = record file { bytes = bytes };
         handed = handed_anew files number file bytes there;

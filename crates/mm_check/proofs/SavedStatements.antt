@@ -9,8 +9,9 @@ use Rattle.mm_proof.specs.Proof.{IsProved}
 use Rattle.mm_proof.specs.Used.{IsUsedNumber}
 use Rattle.mm_proof.specs.Tokens.{is_incomplete}
 use Rattle.mm_check.specs.Verdict.{sentences, proof_of, is_proof, is_unproved}
-use Rattle.mm_check.specs.Rests.{IsAt, IsNumberWhere, AreInOrder, HasTree, Uses, IsClosed, RestsOn, IsReport, tree_of}
-use Rattle.mm_check.proofs.Asked.{map-take}
+use Rattle.mm_check.specs.Rests.{IsAt, IsNumberWhere, AreInOrder, HasTree, Uses, RestsOn, IsReport, tree_of}
+use Rattle.mm_check.proofs.Asked.{map-take, rests_as}
+use Rattle.mm_check.proofs.Order.{in_order_same}
 
 -- ---- two statements at one place
 
@@ -20,18 +21,15 @@ pub record AreAlikeAt (front : List Sentence) (s t : PlainStatement) : Type 0 wh
   pub unproved : is_unproved s ≡ is_unproved t
   pub tree : is_proof s ≡ true → (p : IsProved front (sentence_of s) (proof_of s)) → (q : IsProved front (sentence_of t) (proof_of t)) × (tree_of p ≡ tree_of q)
 
--- the same proof of the same
-proof_moved : (front : List Sentence) (x y : Sentence) (a b : List (List ℕ)) → x ≡ y → a ≡ b → (p : IsProved front x a) → (q : IsProved front y b) × (tree_of p ≡ tree_of q)
-proof_moved front x y a b e f p =
-    subst (λ (z : List (List ℕ)). (q : IsProved front y z) × (tree_of p ≡ tree_of q)) f
-    (subst (λ (w : Sentence). (q : IsProved front w a) × (tree_of p ≡ tree_of q)) e (p, refl))
-
 pub alike_at : (front : List Sentence) (s t : PlainStatement) → sentence_of s ≡ sentence_of t → proof_of s ≡ proof_of t → AreAlikeAt front s t
 alike_at front s t said proof = record {
   said = said;
   proofs = λ i. is_provable (said i).kind && not (is_incomplete (proof i));
   unproved = λ i. is_provable (said i).kind && is_incomplete (proof i);
-  tree = λ complete p. proof_moved front (sentence_of s) (sentence_of t) (proof_of s) (proof_of t) said proof p;
+  tree = λ complete p. subst (λ (z : List (List ℕ)).
+      (q : IsProved front (sentence_of t) z) × (tree_of p ≡ tree_of q)) proof
+      (subst (λ (w : Sentence). (q : IsProved front w (proof_of s)) × (tree_of p ≡ tree_of q)) said
+      (p, refl));
 }
 
 -- ---- two lists of statements
@@ -72,10 +70,8 @@ carries_on {statements} {others} one other = record {
   at = λ place s there.
       let (t, here, alike) = one.at place s there in
       let (u, found, further) = other.at place t here in
-      let front : sentences (take place others) ≡ sentences (take place statements) =
-      sym (front_told statements others place one.told) in
-      let moved : AreAlikeAt (sentences (take place statements)) t u =
-      subst (λ (ss : List Sentence). AreAlikeAt ss t u) front further in
+      let front = sym (front_told statements others place one.told) in
+      let moved = subst (λ (ss : List Sentence). AreAlikeAt ss t u) front further in
       (u, found, alike_on (sentences (take place statements)) s t u alike moved);
 }
 
@@ -106,43 +102,37 @@ uses_carried statements others id used carries (place, t, has, number) =
     (place, t, tree_carried statements others id place t carries has, subst (λ (front : List Sentence). IsUsedNumber front t used) (front_told statements others place carries.told) number)
 
 rests_carried : (statements others : List PlainStatement) (theorem id : ℕ) → Carries statements others → RestsOn (Uses statements) theorem id → RestsOn (Uses others) theorem id
-rests_carried statements others theorem id carries rests set closed =
-    let own : IsClosed (Uses statements) theorem set = record {
-      own = λ used h. closed.own used (uses_carried statements others theorem used carries h);
-      others = λ n used there h. closed.others n used there (uses_carried statements others n used carries h);
-    } in
-    rests set own
+rests_carried statements others theorem id carries =
+    rests_as (Uses statements) (Uses others)
+    (λ n used. uses_carried statements others n used carries) theorem id
 
 -- the number of a statement
-number_carried : (statements others : List PlainStatement) (P Q : PlainStatement → Type 0) (id : ℕ) → Carries statements others
-    → ((front : List Sentence) (s t : PlainStatement) → AreAlikeAt front s t → P s → Q t) → IsNumberWhere statements P id → IsNumberWhere others Q id
-number_carried statements others P Q id carries so (place, s, at, is) =
+number_carried : (statements others : List PlainStatement) (P : PlainStatement → Type 0) (id : ℕ) → Carries statements others
+    → ((front : List Sentence) (s t : PlainStatement) → AreAlikeAt front s t → P s → P t) → IsNumberWhere statements P id → IsNumberWhere others P id
+number_carried statements others P id carries so (place, s, at, is) =
     let (t, there, alike) = carries.at place s at.there in
     (place, t, place_carried statements others id place s t carries.told alike.said there at, so (sentences (take place statements)) s t alike is)
 
-order_carried : (P Q : ℕ → Type 0) (ids : List ℕ) → ((n : ℕ) → P n → Q n) → ((n : ℕ) → Q n → P n) → AreInOrder P ids → AreInOrder Q ids
-order_carried P Q ids to from order = record {
-  rising = order.rising;
-  each = λ id. ((λ c. to id ((order.each id).0 c)), (λ q. (order.each id).1 (from id q)));
-}
-
-axiom_carried : (front : List Sentence) (s t : PlainStatement) → AreAlikeAt front s t → s.kind ≡ Axiom → t.kind ≡ Axiom
-axiom_carried front s t alike is = sym (ap (λ (x : Sentence). x.kind) alike.said) ∙ is
-
-unproved_carried : (front : List Sentence) (s t : PlainStatement) → AreAlikeAt front s t → is_unproved s ≡ true → is_unproved t ≡ true
-unproved_carried front s t alike is = sym alike.unproved ∙ is
+-- the numbers of those that the theorem rests on, in order
+order_carried : (statements others : List PlainStatement) (P : PlainStatement → Type 0)
+    (theorem : ℕ) (ids : List ℕ) → Carries statements others → Carries others statements
+    → ((front : List Sentence) (s t : PlainStatement) → AreAlikeAt front s t → P s → P t)
+    → AreInOrder (λ n. IsNumberWhere statements P n × RestsOn (Uses statements) theorem n) ids
+    → AreInOrder (λ n. IsNumberWhere others P n × RestsOn (Uses others) theorem n) ids
+order_carried statements others P theorem ids to from so order = in_order_same _ _ ids order (λ n. (
+  (λ h. (number_carried _ _ P n to so h.0, rests_carried statements others theorem n to h.1)),
+  λ h. (number_carried _ _ P n from so h.0, rests_carried others statements theorem n from h.1),
+))
 
 -- a report
 pub report_carried : (statements others : List PlainStatement) (label : List ℕ) (axioms unproved : List ℕ) → Carries statements others → Carries others statements
     → IsReport statements label axioms unproved → IsReport others label axioms unproved
 report_carried statements others label axioms unproved to from r = record {
   id = r.id;
-  theorem = number_carried statements others (λ s. IsLabelled label (sentence_of s) × (is_proof s ≡ true)) (λ s. IsLabelled label (sentence_of s) × (is_proof s ≡ true)) r.id to
+  theorem = number_carried statements others (λ s. IsLabelled label (sentence_of s) × (is_proof s ≡ true)) r.id to
       (λ front s t alike is. (subst (IsLabelled label) alike.said is.0, sym alike.proofs ∙ is.1)) r.theorem;
-  are_axioms = order_carried (λ n. IsNumberWhere statements (λ s. s.kind ≡ Axiom) n × RestsOn (Uses statements) r.id n) (λ n. IsNumberWhere others (λ s. s.kind ≡ Axiom) n × RestsOn (Uses others) r.id n) axioms
-      (λ n h. (number_carried statements others (λ s. s.kind ≡ Axiom) (λ s. s.kind ≡ Axiom) n to axiom_carried h.0, rests_carried statements others r.id n to h.1))
-      (λ n h. (number_carried others statements (λ s. s.kind ≡ Axiom) (λ s. s.kind ≡ Axiom) n from axiom_carried h.0, rests_carried others statements r.id n from h.1)) r.are_axioms;
-  are_unproved = order_carried (λ n. IsNumberWhere statements (λ s. is_unproved s ≡ true) n × RestsOn (Uses statements) r.id n) (λ n. IsNumberWhere others (λ s. is_unproved s ≡ true) n × RestsOn (Uses others) r.id n) unproved
-      (λ n h. (number_carried statements others (λ s. is_unproved s ≡ true) (λ s. is_unproved s ≡ true) n to unproved_carried h.0, rests_carried statements others r.id n to h.1))
-      (λ n h. (number_carried others statements (λ s. is_unproved s ≡ true) (λ s. is_unproved s ≡ true) n from unproved_carried h.0, rests_carried others statements r.id n from h.1)) r.are_unproved;
+  are_axioms = order_carried statements others (λ s. s.kind ≡ Axiom) r.id axioms to from
+      (λ front s t alike is. sym (ap (λ (x : Sentence). x.kind) alike.said) ∙ is) r.are_axioms;
+  are_unproved = order_carried statements others (λ s. is_unproved s ≡ true) r.id unproved to from
+      (λ front s t alike is. sym alike.unproved ∙ is) r.are_unproved;
 }

@@ -62,10 +62,6 @@ replaced_at files k f g is =
 pub with_bytes_is : (files : List PlainFile) (k : ℕ) (f : PlainFile) (bytes : List ℕ) → slice_get files k ≡ Some f → with_bytes files k bytes ≡ slice_set files k (record f { bytes = bytes })
 with_bytes_is files k f bytes there = ap (λ (o : Option PlainFile). elim o [ None ↦ files | Some g ↦ slice_set files k (record g { bytes = bytes }) ]) there
 
-pub total_replaced : (files : List PlainFile) (k : ℕ) (f : PlainFile) (bytes : List ℕ) → slice_get files k ≡ Some f → total_with files k bytes + length f.bytes ≡ total_bytes files + length bytes
-total_replaced files k f bytes there =
-    ap (λ (fs : List PlainFile). total_bytes fs + length f.bytes) (with_bytes_is files k f bytes there) ∙ replaced_at files k f (record f { bytes = bytes }) there
-
 -- the most that it may have
 pub most_is : (files : List PlainFile) (k : ℕ) (f : PlainFile) (bytes : List ℕ) (total : ℕ)
     → slice_get files k ≡ Some f → total_bytes files ≤ most_bytes → total ≡ total_bytes files
@@ -73,9 +69,10 @@ pub most_is : (files : List PlainFile) (k : ℕ) (f : PlainFile) (bytes : List �
     ↔ (most_bytes < total_with files k bytes)
 most_is files k f bytes total there within same =
     let own = file_within files k f there in
-    let put = total_replaced files k f bytes there in (
-      λ less. omega (arith, less, own, put, same, within),
-      λ over. omega (arith, over, own, put, same, within),
+    let put = replaced_at files k f (record f { bytes = bytes }) there in
+    let with_it = ap total_bytes (with_bytes_is files k f bytes there) in (
+      λ less. omega (arith, less, own, put, with_it, same, within),
+      λ over. omega (arith, over, own, put, with_it, same, within),
     )
 
 pub file_most : (files : List File) (k : ℕ) (d : File) (bytes : List ℕ) (total : ℕ)
@@ -111,8 +108,7 @@ holds_span files statements place s number span reads there complete home same =
     let (file, handed) = home_file files statements place s reads there in
     let stands : IsProofSpan s file.bytes =
     proofs_stand_in_spans_holds files (take place statements) s (drop (suc place) statements) None
-    file (subst (λ (ss : List PlainStatement). Reads files ss None) parted reads)
-    (provable_proof s complete) handed in
+    file (rw parted at reads) (provable_proof s complete) handed in
     let (start, stop) = within_bytes s file.bytes stands in
     (file, ap (slice_get files) home ∙ handed, subst (λ (p : ℕ × ℕ). p.0 ≤ length file.bytes) (sym same) start, subst (λ (p : ℕ × ℕ). p.1 ≤ length file.bytes) (sym same) stop)
 

@@ -31,14 +31,6 @@ tokens_in-word byte [] (space ∷ bytes) dark stop = tokens_in-end byte space by
 tokens_in-word byte (next ∷ word) after dark stop =
     tokens_in-on byte next (word ++ after) dark.0 dark.1.0 ∙ ap (onto_first byte) (tokens_in-word next word after dark.1 stop)
 
--- a byte of white space is passed over
-pub front_space : (text : List ℕ) (tokens : List (List ℕ)) (byte : ℕ) (bytes : List ℕ) → AreFrontTokens text tokens (byte ∷ bytes) → is_white_space byte ≡ true → AreFrontTokens text tokens bytes
-front_space text tokens byte bytes front white =
-    record {
-      whole = ap (λ (ws : List (List ℕ)). tokens ++ ws) (sym (tokens_in-space byte bytes white)) ∙ front.whole;
-      room = (let room = front.room in omega arith);
-    }
-
 -- a word is taken
 pub front_word : (text : List ℕ) (tokens : List (List ℕ)) (byte : ℕ) (word after : List ℕ) → AreFrontTokens text tokens ((byte ∷ word) ++ after) → LacksWhiteSpace (byte ∷ word) → IsStop after
     → AreFrontTokens text (tokens ++ (byte ∷ word) ∷ []) after
@@ -61,9 +53,8 @@ word_taken text tokens first others zero front dark lacks white =
     let light : is_white_space first ≡ true = white (omega arith) in
     let no : true ≡ false = sym light ∙ dark in absurd cc
 word_taken text tokens first others (suc n) front dark lacks white =
-    front_word text tokens first (take n others) (drop n others)
-    (subst (λ (bytes : List ℕ). AreFrontTokens text tokens (first ∷ bytes))
-    (sym (take-append-drop n others)) front) lacks (stops (suc n) (first ∷ others) white)
+    front_word text tokens first (take n others) (drop n others) (rw take-append-drop front) lacks
+    (stops (suc n) (first ∷ others) white)
 
 -- the word at the rest's beginning is taken
 pub front_taken : (text : List ℕ) (tokens : List (List ℕ)) (rest : List ℕ) (first : ℕ) (others : List ℕ) (n : ℕ) (token after : List ℕ) → AreFrontTokens text tokens rest
@@ -79,7 +70,13 @@ front_taken text tokens rest first others n token after front is dark lacks whit
 -- white space at its beginning is passed over
 pub front_passed : (text : List ℕ) (tokens : List (List ℕ)) (rest : List ℕ) (first : ℕ) (others : List ℕ) → AreFrontTokens text tokens rest → rest ≡ first ∷ others → is_white_space first ≡ true
     → AreFrontTokens text tokens others
-front_passed text tokens rest first others front is white = front_space text tokens first others (subst (AreFrontTokens text tokens) is front) white
+front_passed text tokens rest first others front is white =
+    let begun = subst (AreFrontTokens text tokens) is front in
+    record {
+      whole = ap (λ (ws : List (List ℕ)). tokens ++ ws) (sym (tokens_in-space first others white))
+          ∙ begun.whole;
+      room = (let room = begun.room in omega arith);
+    }
 
 -- nothing is left
 pub front_all : (text : List ℕ) (tokens : List (List ℕ)) (rest : List ℕ) → AreFrontTokens text tokens rest → length rest ≡ 0 → tokens ≡ tokens_in text

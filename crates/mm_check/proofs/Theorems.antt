@@ -34,7 +34,7 @@ use Rattle.mm_check.specs.Shown.{ShowsProof}
 use Rattle.mm_check.specs.Forms.{most_labels, HasProofTree, IsNormalFault}
 use Rattle.mm_check.specs.Mirror.Theorems.{IsProofOf, SayStepsOf, AreProvedSteps, AreStepsOf, IsListingOf}
 use Rattle.mm_check.proofs.Asked.{map-take}
-use Rattle.mm_check.proofs.Listings.{moves_prove}
+use Rattle.mm_proof.proofs.SaidMoves.{moves_once}
 
 -- ---- the steps of a theorem prove it
 
@@ -53,13 +53,11 @@ steps_prove profile st id tokens steps proof under said place s moves number num
     let told = said place s number in
     let here : proof.place ≡ place = one_place st id proof.place place proof.s s proof.number.numbered number.numbered in
     let same : proof.s ≡ s = same_Some proof.s s (sym proof.number.numbered.there ∙ ap (slice_get st) here ∙ number.numbered.there) in
-    let proved : IsProvedWithin Fits (take place st) s tokens =
-    subst (λ (t : Sentence). IsProvedWithin Fits (take place st) t tokens) same
-    (subst (λ (p : ℕ). IsProvedWithin Fits (take p st) proof.s tokens) here proof.proved.1) in
-    let proves : Prove Fits (take place st) s told.0 = moves_prove Fits (take place st) s tokens told.0 proved told.1 in
+    let proved : IsProvedWithin Fits (take place st) s tokens = rw (here, same) at proof.proved.1 in
     let those : told.0 ≡ moves = zip_once (IsNumberedMove st) (IsNumberedMove st) steps.moves told.0 moves (one_move st) told.2 numbered in
     subst (λ (p : Profile). Prove (IsWithin (limit_of p)) (take place st) s moves) (sym under)
-    (subst (λ (ms : List (Move (List ℕ))). Prove Fits (take place st) s ms) those proves)
+    (subst (λ (ms : List (Move (List ℕ))). Prove Fits (take place st) s ms)
+    (moves_once _ s tokens proved.moves told.0 proved.said told.1 ∙ those) proved.proves)
 
 -- so they make one tree
 pub steps_make : (st : List Sentence) (id : ℕ) (steps : ReadSteps) → AreProvedSteps st id steps → OfMoves st id steps.moves (λ place s moves. MakeOneTree (take place st) moves)
@@ -132,8 +130,7 @@ pub normal_fault : (ss : List Sentence) (statements : List PlainStatement) (labe
     → IsNormalFault statements label fault
 normal_fault ss statements label id steps fault same r proved (inl memory) = subst (IsNormalFault statements label) (sym memory) tt
 normal_fault ss statements label id steps fault same r proved (inr (long, holds)) =
-    subst (IsNormalFault statements label) (sym long)
-    (told_of_tree ss statements label id steps same r proved
+    rw long (told_of_tree ss statements label id steps same r proved
     (λ before s trees. most_labels < length (spelling trees)) holds)
 
 pub ask_fault : (statements : List PlainStatement) (label : List ℕ) (fault : AskFault) → IsAskFault statements label fault → IsNormalFault statements label fault
@@ -172,7 +169,7 @@ why (Err e) P Q f h = f e h
 
 -- ---- labels by numbers
 
-next_name : (st : List Sentence) (ids : List LabelId) (labels : List (List ℕ)) (k : ℕ) (d : LabelId) (label : List ℕ) → AreLabelsOf st ids labels → k < length ids
+pub next_name : (st : List Sentence) (ids : List LabelId) (labels : List (List ℕ)) (k : ℕ) (d : LabelId) (label : List ℕ) → AreLabelsOf st ids labels → k < length ids
     → ((s : Sentence) → slice_get (labelled_sentences st) (get_or ids k d).0 ≡ Some s → IsLabelled label s) → take (suc k) labels ≡ take k labels ++ label ∷ []
 next_name st [] labels k d label are less named = absurd (omega arith)
 next_name st (id ∷ ids) [] k d label are less named = absurd are
@@ -180,12 +177,6 @@ next_name st (id ∷ ids) (first ∷ labels) zero d label are less named =
     let same : first ≡ label = same_Some first label (sym are.0.named ∙ named are.0.s are.0.there) in ap (λ (l : List ℕ). l ∷ []) same
 next_name st (id ∷ ids) (first ∷ labels) (suc k) d label are less named =
     ap (λ (ls : List (List ℕ)). first ∷ ls) (next_name st ids labels k d label are.1 (omega arith) named)
-
-pub one_more_name : (st : List Sentence) (ids : List LabelId) (labels : List (List ℕ)) (k : ℕ) (d : LabelId) (label : List ℕ) → AreLabelsOf st ids labels → k < length ids
-    → ((s : Sentence) → slice_get (labelled_sentences st) (get_or ids k d).0 ≡ Some s → IsLabelled label s) → take (k + 1) labels ≡ take k labels ++ label ∷ []
-one_more_name st ids labels k d label are less named =
-    let next : k + 1 ≡ suc k = omega arith in
-    ap (λ (n : ℕ). take n labels) next ∙ next_name st ids labels k d label are less named
 
 pub as_many_names : (st : List Sentence) (ids : List LabelId) (labels : List (List ℕ)) → AreLabelsOf st ids labels → length labels ≡ length ids
 as_many_names st ids labels are =

@@ -31,12 +31,8 @@ sentences_more statements more = map-append sentence_of statements more
 pub at_grow : (statements more : List PlainStatement) (id place : ℕ) (s : PlainStatement) → IsAt statements id place s → IsAt (statements ++ more) id place s
 at_grow statements more id place s at = record {
   there = get_kept statements more place s at.there;
-  numbered = subst (λ (ss : List Sentence). IsNumbered ss id place (sentence_of s)) (sym (sentences_more statements more))
-      (numbered_grow (sentences statements) (sentences more) id place (sentence_of s) at.numbered);
+  numbered = rw sentences_more (numbered_grow _ _ id place (sentence_of s) at.numbered);
 }
-
-pub at_within : (statements : List PlainStatement) (id place : ℕ) (s : PlainStatement) → IsAt statements id place s → id < length (labelled_sentences (sentences statements))
-at_within statements id place s at = numbered_within (sentences statements) id place (sentence_of s) at.numbered
 
 -- a statement with a label, put at the end, has the next number
 pub at_last : (statements : List PlainStatement) (s : PlainStatement) → is_some (sentence_of s).label ≡ true
@@ -76,7 +72,7 @@ pub one_more_number : (test : PlainStatement → Bool) (statements : List PlainS
     → AreInOrder (IsNumberWhere (statements ++ s ∷ []) (λ t. test t ≡ true)) (ids ++ cond b (length (labelled_sentences (sentences statements)) ∷ []) [])
 one_more_number test statements s ids named order true e =
     in_order_push (IsNumberWhere statements (λ t. test t ≡ true)) (IsNumberWhere (statements ++ s ∷ []) (λ t. test t ≡ true)) ids (length (labelled_sentences (sentences statements))) order
-    (λ n p. at_within statements n p.0 p.1 p.2)
+    (λ n p. numbered_within (sentences statements) n p.0 (sentence_of p.1) p.2.numbered)
     (λ n. (
       (λ q. elim (at_cases statements s n q.0 q.1 q.2) [ inl old ↦ inl (q.0, q.1, old, q.3) | inr last ↦ inr last.1 ]),
       λ h. elim h [
@@ -135,8 +131,7 @@ uses_grow statements more u (place, t, has, used) =
       place,
       t,
       tree_grow statements more u.number place t has,
-      subst (λ (front : List PlainStatement). AreUsed (sentences front) t u.used)
-          (sym (take-append-le place statements more (omega arith))) used,
+      rw (take-append-le place statements more (omega arith)) used,
     )
 
 uses_last : (profile : Profile) (statements : List PlainStatement) (s : PlainStatement) (used : List ℕ) → is_some (sentence_of s).label ≡ true → is_proof s ≡ true

@@ -66,9 +66,8 @@ unproved_there s provable open_one = rw (provable, open_one) refl
 
 -- what has a complete proof isn't unproved
 unproved_test : (a b : Bool) → (a && not b) ≡ true → (a && b) ≡ false
-unproved_test true true h = absurd cc
 unproved_test true false h = refl
-unproved_test false b h = absurd cc
+unproved_test _ _ h = absurd cc
 
 pub proof_not_unproved : (s : PlainStatement) → is_proof s ≡ true → is_unproved s ≡ false
 proof_not_unproved s h = unproved_test (is_provable s.kind) (is_incomplete (proof_of s)) h
@@ -84,8 +83,7 @@ no_statement profile (b ∷ before) after s e = absurd cc
 pub one_more : (profile : Profile) (statements : List PlainStatement) (x : PlainStatement) → AllObey profile statements → Obeys profile (sentences statements) x → AllObey profile (statements ++ x ∷ [])
 one_more profile statements x obeyed new before after s split = elim (last_cut statements x before s after split) [
   | inl (others, e) ↦ obeyed before others s e
-  | inr (e, f) ↦ subst (λ (b : List PlainStatement). Obeys profile (sentences b) s) (sym e)
-      (subst (λ (t : PlainStatement). Obeys profile (sentences statements) t) f new)
+  | inr (e, f) ↦ rw (e, ← f) new
 ]
 
 -- ## No proof is incomplete
@@ -93,8 +91,7 @@ one_more profile statements x obeyed new before after s split = elim (last_cut s
 -- a list with a first part has none of it where the whole is empty
 no_part : {X : Type 0} (a b : List X) → a ++ b ≡ [] → (a ≡ []) × (b ≡ [])
 no_part [] [] e = (refl, refl)
-no_part [] (y ∷ b) e = absurd cc
-no_part (x ∷ a) b e = absurd cc
+no_part _ _ e = absurd cc
 
 -- where no proof is listed, the proof of each `$p` is complete
 not_listed : (s : PlainStatement) (after : List PlainStatement) → HasForm s → s.kind ≡ Provable → unproved_of (s ∷ after) ≡ []

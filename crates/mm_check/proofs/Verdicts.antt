@@ -1,5 +1,5 @@
 -- There is one verdict over files; yes says that the profile is obeyed, and such files get yes, the limit aside.
-use Rattle.std.proofs.Common.{◌≡◌, ℕ, List, ◌∷◌, ◌++◌, length, not, false, Option, Some, None, Result, ◌⊎◌, inl, inr, refl, sym, ap, subst, ◌∙◌, append_assoc}
+use Rattle.std.proofs.Common.{◌≡◌, ℕ, List, ◌∷◌, ◌++◌, length, not, false, Option, Some, None, ◌⊎◌, inl, inr, refl, sym, ap, subst, ◌∙◌, append_assoc}
 use Rattle.std.proofs.lemmas.Bool.{cases_order}
 use Rattle.std.specs.List.{AllByRecursion}
 use Rattle.mm_text.specs.declared.fault.LoadRule.{LoadRule}
@@ -23,9 +23,6 @@ use Rattle.mm_proof.specs.UnderProfile.{IsFaultUnder}
 use Rattle.mm_proof.proofs.FormDecided.{one_verdict_under_holds, one_front_verdict_under_holds}
 use Rattle.mm_proof.proofs.Limits.{limits_aside_holds}
 use Rattle.mm_proof.specs.Tokens.{is_incomplete}
-use Rattle.mm_check.specs.declared.fault.CheckFault.{CheckFault}
-use Rattle.mm_check.specs.Conclusion.{Conclusion}
-use Rattle.mm_check.specs.Answer.{verdict_of_answer, IsVerdict, IsOnlyVerdict, IsYes, IsOverLimit, IsWantOfMemory}
 use Rattle.mm_check.specs.declared.rule.Rule.{Rule}
 use Rattle.mm_check.specs.declared.rule.Rule.TheVariants.{L1}
 use Rattle.mm_check.specs.Verdict.{Verdict, Load, Refused, Incomplete, Yes, PlainRefusal, Obeys, AllObey, AreAccepted, HasFault, HasVerdict, RefusesStatement, RefusesText, ObeyTheProfile, sentences, load_rule, meaning_rule, proof_rule, refusal_of, text_refusal, proof_of, proofs_of, unproved_of}
@@ -57,56 +54,52 @@ one_first before s a b f g = elim (cases_order (rank a) (rank b)) [
   | inr (inr more) ↦ absurd (f.first b more g.broken)
 ]
 
--- a proof that breaks no rule has no fault, nor has what is known of one
-obeying_proof : (profile : Profile) (before : List Sentence) (s : PlainStatement)
-    (rule : ProofRule) (step : ℕ) → AllMeant before → AllFormed before → Obeys profile before s
-    → IsProofFault profile before s rule step → ⊥
-obeying_proof profile before s rule step meant formed obeyed (inl f) =
-    (one_verdict_under_holds profile before (sentence_of s) (proof_of s) meant formed).1
-    (obeyed.proved f.0) rule step f.1
-obeying_proof profile before s rule step meant formed obeyed (inr f) =
-    (one_front_verdict_under_holds profile before (sentence_of s) (proof_of s) meant formed).1
-    (obeyed.known f.0) rule step f.1
+module _ (profile : Profile) (before : List Sentence) (s : PlainStatement) (meant : AllMeant before)
+    (formed : AllFormed before) where
+  -- a proof that breaks no rule has no fault, nor has what is known of one
+  obeying_proof : (rule : ProofRule) (step : ℕ) → Obeys profile before s
+      → IsProofFault profile before s rule step → ⊥
+  obeying_proof rule step obeyed (inl f) =
+      (one_verdict_under_holds profile before (sentence_of s) (proof_of s) meant formed).1
+      (obeyed.proved f.0) rule step f.1
+  obeying_proof rule step obeyed (inr f) =
+      (one_front_verdict_under_holds profile before (sentence_of s) (proof_of s) meant formed).1
+      (obeyed.known f.0) rule step f.1
 
--- what obeys the rules has no fault
-obeying_faultless : (profile : Profile) (before : List Sentence) (s : PlainStatement)
-    (rule : Rule) (step : ℕ) → AllMeant before → AllFormed before → Obeys profile before s
-    → HasFault profile before s rule step → ⊥
-obeying_faultless profile before s rule step meant formed obeyed (inl f) =
-    obeyed.meant f.0 f.1.broken
-obeying_faultless profile before s rule step meant formed obeyed (inr f) =
-    obeying_proof profile before s f.1 step meant formed obeyed f.2
+  -- what obeys the rules has no fault
+  obeying_faultless : (rule : Rule) (step : ℕ) → Obeys profile before s
+      → HasFault profile before s rule step → ⊥
+  obeying_faultless rule step obeyed (inl f) = obeyed.meant f.0 f.1.broken
+  obeying_faultless rule step obeyed (inr f) = obeying_proof f.1 step obeyed f.2
 
--- the fault of a proof is one, and so is that of what is known of one
-one_proof_fault : (profile : Profile) (before : List Sentence) (s : PlainStatement)
-    (rule rule' : ProofRule) (step step' : ℕ) → AllMeant before → AllFormed before
-    → IsProofFault profile before s rule step → IsProofFault profile before s rule' step'
-    → (rule ≡ rule') × (step ≡ step')
-one_proof_fault profile before s rule rule' step step' meant formed (inl f) (inl g) =
-    (one_verdict_under_holds profile before (sentence_of s) (proof_of s) meant formed).2
-    rule rule' step step' f.1 g.1
-one_proof_fault profile before s rule rule' step step' meant formed (inl f) (inr g) =
-    let none = proof_not_unproved s f.0 in let some = g.0 in absurd cc
-one_proof_fault profile before s rule rule' step step' meant formed (inr f) (inl g) =
-    let none = proof_not_unproved s g.0 in let some = f.0 in absurd cc
-one_proof_fault profile before s rule rule' step step' meant formed (inr f) (inr g) =
-    (one_front_verdict_under_holds profile before (sentence_of s) (proof_of s) meant formed).2
-    rule rule' step step' f.1 g.1
+  -- the fault of a proof is one, and so is that of what is known of one
+  one_proof_fault : (rule rule' : ProofRule) (step step' : ℕ)
+      → IsProofFault profile before s rule step → IsProofFault profile before s rule' step'
+      → (rule ≡ rule') × (step ≡ step')
+  one_proof_fault rule rule' step step' (inl f) (inl g) =
+      (one_verdict_under_holds profile before (sentence_of s) (proof_of s) meant formed).2
+      rule rule' step step' f.1 g.1
+  one_proof_fault rule rule' step step' (inl f) (inr g) =
+      let none = proof_not_unproved s f.0 in let some = g.0 in absurd cc
+  one_proof_fault rule rule' step step' (inr f) (inl g) =
+      let none = proof_not_unproved s g.0 in let some = f.0 in absurd cc
+  one_proof_fault rule rule' step step' (inr f) (inr g) =
+      (one_front_verdict_under_holds profile before (sentence_of s) (proof_of s) meant formed).2
+      rule rule' step step' f.1 g.1
 
--- the fault of a statement is one
-one_statement_fault : (profile : Profile) (before : List Sentence) (s : PlainStatement)
-    (rule rule' : Rule) (step step' : ℕ) → AllMeant before → AllFormed before
-    → HasFault profile before s rule step → HasFault profile before s rule' step'
-    → (rule ≡ rule') × (step ≡ step')
-one_statement_fault profile before s rule rule' step step' meant formed (inl f) (inl g) =
-    (f.2 ∙ ap meaning_rule (one_first before (sentence_of s) f.0 g.0 f.1 g.1) ∙ sym g.2, f.3 ∙ sym g.3)
-one_statement_fault profile before s rule rule' step step' meant formed (inl f) (inr g) =
-    absurd (g.0 f.0 f.1.broken)
-one_statement_fault profile before s rule rule' step step' meant formed (inr f) (inl g) =
-    absurd (f.0 g.0 g.1.broken)
-one_statement_fault profile before s rule rule' step step' meant formed (inr f) (inr g) =
-    let same = one_proof_fault profile before s f.1 g.1 step step' meant formed f.2 g.2 in
-    (f.3 ∙ ap proof_rule same.0 ∙ sym g.3, same.1)
+  -- the fault of a statement is one
+  one_statement_fault : (rule rule' : Rule) (step step' : ℕ)
+      → HasFault profile before s rule step → HasFault profile before s rule' step'
+      → (rule ≡ rule') × (step ≡ step')
+  one_statement_fault rule rule' step step' (inl f) (inl g) = (
+    f.2 ∙ ap meaning_rule (one_first before (sentence_of s) f.0 g.0 f.1 g.1) ∙ sym g.2,
+    f.3 ∙ sym g.3,
+  )
+  one_statement_fault rule rule' step step' (inl f) (inr g) = absurd (g.0 f.0 f.1.broken)
+  one_statement_fault rule rule' step step' (inr f) (inl g) = absurd (f.0 g.0 g.1.broken)
+  one_statement_fault rule rule' step step' (inr f) (inr g) =
+      let same = one_proof_fault f.1 g.1 step step' f.2 g.2 in
+      (f.3 ∙ ap proof_rule same.0 ∙ sym g.3, same.1)
 
 -- ## The first statement at fault
 
@@ -120,16 +113,15 @@ one_refused_statement profile files statements a b formed r q =
     let formed_q = formed_before statements q.before q.s q.after formed q.split in
     elim (two_cuts r.before r.s r.after q.before q.s q.after (sym r.split ∙ q.split)) [
       | inr (inl (between, e, rest)) ↦
-          absurd (obeying_faultless profile (sentences r.before) r.s r.rule r.step
-          (all_meant profile _ r.obeyed) formed_r (q.obeyed r.before between r.s e) r.fault)
+          absurd (obeying_faultless profile (sentences r.before) r.s (all_meant profile _ r.obeyed)
+          formed_r r.rule r.step (q.obeyed r.before between r.s e) r.fault)
       | inr (inr (between, e, rest)) ↦
-          absurd (obeying_faultless profile (sentences q.before) q.s q.rule q.step
-          (all_meant profile _ q.obeyed) formed_q (r.obeyed q.before between q.s e) q.fault)
+          absurd (obeying_faultless profile (sentences q.before) q.s (all_meant profile _ q.obeyed)
+          formed_q q.rule q.step (r.obeyed q.before between q.s e) q.fault)
       | inl (e, f, rest) ↦
-          let fault : HasFault profile (sentences r.before) r.s q.rule q.step =
-          rw (e, f) q.fault in
-          let one = one_statement_fault profile (sentences r.before) r.s r.rule q.rule r.step q.step
-          (all_meant profile _ r.obeyed) formed_r r.fault fault in
+          let one = one_statement_fault profile (sentences r.before) r.s
+          (all_meant profile _ r.obeyed) formed_r r.rule q.rule r.step q.step r.fault
+          (rw (e, f) q.fault) in
           r.refused
           ∙ (λ i. refusal_of files (length (e i)) (f i) (one.0 i) (one.1 i))
           ∙ sym q.refused
@@ -140,16 +132,9 @@ none_refused : (profile : Profile) (files : List PlainFile) (statements : List P
     (a : PlainRefusal) → AllByRecursion HasForm statements → AllObey profile statements
     → RefusesStatement profile files statements a → ⊥
 none_refused profile files statements a formed obeyed r =
-    obeying_faultless profile (sentences r.before) r.s r.rule r.step (all_meant profile _ r.obeyed)
-    (formed_before statements r.before r.s r.after formed r.split)
+    obeying_faultless profile (sentences r.before) r.s (all_meant profile _ r.obeyed)
+    (formed_before statements r.before r.s r.after formed r.split) r.rule r.step
     (obeyed r.before r.after r.s r.split) r.fault
-
--- the fault of the text is one
-one_refused_text : (profile : Profile) (files : List PlainFile) (statements : List PlainStatement) (ending : Option PlainFault) (a b : PlainRefusal)
-    → RefusesText profile files statements ending a → RefusesText profile files statements ending b → a ≡ b
-one_refused_text profile files statements ending a b r q =
-    let same_fault : r.fault ≡ q.fault = cc (r.ended, q.ended) in
-    r.refused ∙ ap (text_refusal files) same_fault ∙ sym q.refused
 
 one_refused : (profile : Profile) (files : List PlainFile) (statements : List PlainStatement)
     (ending : Option PlainFault) (a b : PlainRefusal) → AllByRecursion HasForm statements
@@ -163,7 +148,8 @@ one_refused profile files statements ending a b formed (inl r) (inr q) =
 one_refused profile files statements ending a b formed (inr r) (inl q) =
     absurd (none_refused profile files statements b formed r.obeyed q)
 one_refused profile files statements ending a b formed (inr r) (inr q) =
-    one_refused_text profile files statements ending a b r q
+    let same : r.fault ≡ q.fault = cc (r.ended, q.ended) in
+    r.refused ∙ ap (text_refusal files) same ∙ sym q.refused
 
 -- ## The verdict
 
@@ -297,25 +283,15 @@ profile_verdict profile files obey (Refused refusal) h = elim (h.4) [
 
 -- ## What an answer tells
 
-only_told : (profile : Profile) (files : List PlainFile) (o : Option Verdict) → ((v : Verdict) → o ≡ Some v → HasVerdict profile files v)
+pub only_told : (profile : Profile) (files : List PlainFile) (o : Option Verdict) → ((v : Verdict) → o ≡ Some v → HasVerdict profile files v)
     → (w : Verdict) → HasVerdict profile files w → (o ≡ None) ⊎ (o ≡ Some w)
 only_told profile files None holds w h = inl refl
 only_told profile files (Some v) holds w h = inr (ap Some (one_verdict profile files v w (holds v refl) h))
 
-pub only_answer : (profile : Profile) (files : List PlainFile) (answer : Result Conclusion CheckFault) → IsVerdict profile files answer → IsOnlyVerdict profile files answer
-only_answer profile files answer holds w h = only_told profile files (verdict_of_answer answer) holds w h
-
-pub yes_answer : (profile : Profile) (files : List PlainFile) (answer : Result Conclusion CheckFault) → IsVerdict profile files answer → IsYes answer → ObeyTheProfile profile files
-yes_answer profile files answer holds told = yes_obeys profile files told.0 told.1 (holds (Yes told.0 told.1) told.2)
-
-accepted_told : (profile : Profile) (files : List PlainFile) (o : Option Verdict) → ((v : Verdict) → o ≡ Some v → HasVerdict profile files v) → ObeyTheProfile profile files
+pub accepted_told : (profile : Profile) (files : List PlainFile) (o : Option Verdict) → ((v : Verdict) → o ≡ Some v → HasVerdict profile files v) → ObeyTheProfile profile files
     → ((n : ℕ) × (p : ℕ) × (o ≡ Some (Yes n p))) ⊎ ((refusal : PlainRefusal) × (o ≡ Some (Refused refusal)) × (refusal.rule ≡ L1)) ⊎ (o ≡ None)
 accepted_told profile files None holds obey = inr (inr refl)
 accepted_told profile files (Some v) holds obey = elim (profile_verdict profile files obey v (holds v refl)) [
   | inl found ↦ inl (found.0, found.1, ap Some found.2)
   | inr over ↦ inr (inl (over.0, ap Some over.1, over.2))
 ]
-
-pub accepted_answer : (profile : Profile) (files : List PlainFile) (answer : Result Conclusion CheckFault) → IsVerdict profile files answer → ObeyTheProfile profile files
-    → IsYes answer ⊎ IsOverLimit answer ⊎ IsWantOfMemory answer
-accepted_answer profile files answer holds obey = accepted_told profile files (verdict_of_answer answer) holds obey

@@ -48,16 +48,13 @@ passed_is : (before first now rest : List ℕ)
 passed_is before first now rest =
     sym (append_assoc before first (now ++ rest)) ∙ sym (append_assoc (before ++ first) now rest)
 
-passed_long : (before first now : List ℕ)
-    → length (passed before first now) ≡ length before + length first + length now
-passed_long before first now =
-    omega (arith, length-append (before ++ first) now, length-append before first)
-
 further : (before first now kept : List ℕ) (slots : List Slot) (statements : List PlainStatement)
     → StandAt (length before + length first + length now) kept slots statements
     → StandAt (length (passed before first now)) kept slots statements
-further before first now kept slots statements =
-    subst (λ (n : ℕ). StandAt n kept slots statements) (sym (passed_long before first now))
+further before first now kept slots statements stands =
+    let long : length (passed before first now) ≡ length before + length first + length now =
+    omega (arith, length-append (before ++ first) now, length-append before first) in
+    subst (λ (n : ℕ). StandAt n kept slots statements) (sym long) stands
 
 pub put_woven : (before first : List ℕ) (front : List Slot) (slot : Slot) (back : List Slot)
     (earlier : List PlainStatement) (s : PlainStatement) (later : List PlainStatement)
@@ -96,9 +93,6 @@ stand_moved : (end other_end at other : ℕ) (first : List ℕ) (slots : List Sl
     → StandAt other first slots others
 stand_moved end other_end at other first [] [] [] far moved stands = tt
 stand_moved end other_end at other first [] [] (t ∷ others) far moved stands = absurd moved
-stand_moved end other_end at other first [] (s ∷ statements) others far moved stands =
-    absurd stands
-stand_moved end other_end at other first (x ∷ slots) [] others far moved stands = absurd stands
 stand_moved end other_end at other first (x ∷ slots) (s ∷ statements) [] far moved stands =
     absurd moved
 stand_moved end other_end at other first (x ∷ slots) (s ∷ statements) (t ∷ others) far (own, moved)
@@ -110,6 +104,7 @@ stand_moved end other_end at other first (x ∷ slots) (s ∷ statements) (t ∷
       stand_moved end other_end next moved_next x.kept slots statements others (omega (arith, far))
           moved rest,
     )
+stand_moved end other_end at other first slots statements others far moved stands = absurd stands
 
 pub put_stands : (at : ℕ) (first : List ℕ) (front : List Slot) (slot : Slot) (back : List Slot)
     (earlier : List PlainStatement) (s t : PlainStatement) (later moved : List PlainStatement)
@@ -145,16 +140,13 @@ pub all_filled : (before first : List ℕ) (slots : List Slot) (statements : Lis
     → with_replaced (before ++ woven first slots) news ≡ before ++ woven first (map filled slots)
 all_filled before first [] [] [] stands spans texts = refl
 all_filled before first [] [] (new ∷ news) stands spans texts = absurd spans
-all_filled before first [] (s ∷ statements) news stands spans texts = absurd stands
-all_filled before first (x ∷ slots) [] news stands spans texts = absurd stands
 all_filled before first (x ∷ slots) (s ∷ statements) [] stands spans texts = absurd spans
 all_filled before first (x ∷ slots) (s ∷ statements) (new ∷ news) (start, stop, rest)
     (span, spans) (text, texts) =
     let next : List ℕ = passed before first x.now in
     let after : List ℕ = woven x.kept (map filled slots) in
     let one = length-append before first in
-    let later : with_replaced (before ++ (first ++ (x.now ++ woven x.kept slots))) news
-    ≡ next ++ after =
+    let later =
     ap (λ (l : List ℕ). with_replaced l news) (passed_is before first x.now (woven x.kept slots))
     ∙ all_filled next x.kept slots statements news
     (further before first x.now x.kept slots statements rest) spans texts in
@@ -163,6 +155,7 @@ all_filled before first (x ∷ slots) (s ∷ statements) (new ∷ news) (start, 
     ∙ span_put (before ++ first) x.now after x.put s.span (start ∙ sym one)
     (stop ∙ ap (λ (n : ℕ). n + length x.now) (sym one))
     ∙ append_assoc before first (x.put ++ after)
+all_filled before first slots statements news stands spans texts = absurd stands
 
 -- ---- a list is cut into slots
 
@@ -204,18 +197,14 @@ cut_at R at bytes [] [] zip rise = record {
   texts = tt;
   each = tt;
 }
-cut_at R at bytes [] (new ∷ news) zip rise = absurd zip
-cut_at R at bytes (s ∷ statements) [] zip rise = absurd zip
 cut_at R at bytes (s ∷ statements) (new ∷ news) (own, zip) (begins, within, rise) =
     let before : ℕ = s.span.0 - at in
     let long : ℕ = s.span.1 - s.span.0 in
     let left : List ℕ = drop before bytes in
     let rest : List ℕ = drop long left in
-    let ends : s.span.1 ≤ at + length bytes =
-    rise_ends s.span.1 (at + length bytes) statements rise in
+    let ends = rise_ends s.span.1 (at + length bytes) statements rise in
     let left_long : length left ≡ length bytes - before = length-drop before bytes in
-    let first_long : length (take before bytes) ≡ before =
-    length-take-le before bytes (omega arith) in
+    let first_long = length-take-le before bytes (omega arith) in
     let now_long : length (take long left) ≡ long = length-take-le long left (omega arith) in
     let next : at + length bytes ≡ s.span.1 + length rest = omega (arith, length-drop long left) in
     let more =
@@ -241,3 +230,4 @@ cut_at R at bytes (s ∷ statements) (new ∷ news) (own, zip) (begins, within, 
       texts = (refl, more.texts);
       each = ((new, own, refl), more.each);
     }
+cut_at R at bytes statements news zip rise = absurd zip

@@ -1,5 +1,5 @@
 -- A file on its way to being written anew, statement by statement.
-use Rattle.std.proofs.Common.{◌≡◌, ℕ, ◌<◌, ◌≤◌, ◌⊎◌, List, [], ◌∷◌, ◌++◌, true, false, Bool}
+use Rattle.std.proofs.Common.{◌≡◌, ℕ, ◌≤◌, ◌⊎◌, List, [], ◌∷◌, ◌++◌, true, false, Bool}
 use Rattle.std.proofs.Common.{take, drop, length, slice_get, Option, Some, None, option_map}
 use Rattle.std.proofs.Common.{inl, inr, refl, sym, ap, subst, ◌∙◌, arith}
 use Rattle.std.proofs.Common.{append_assoc}
@@ -13,7 +13,6 @@ use Rattle.mm_text.specs.Statement.{PlainStatement}
 use Rattle.mm_text.specs.Files.{PlainFile, most_bytes}
 use Rattle.mm_text.specs.Reading.{Reads}
 use Rattle.mm_text.specs.Remaining.{Remaining}
-use Rattle.mm_text.specs.Replaced.{IsProofSpan}
 use Rattle.mm_text.proofs.FollowingSpans.{proof_spans_follow_holds}
 use Rattle.mm_text.proofs.Lists.{get_kept, get_parted, zip_push, zip_weaker}
 use Rattle.mm_text.proofs.ProofSpans.{proofs_stand_in_spans_holds}
@@ -31,96 +30,68 @@ use Rattle.mm_check.specs.Saved.{FitsSaved, total_with}
 use Rattle.mm_check.specs.AllSaved.{Replacement, IsReplacement, with_replaced, is_theorem_of}
 use Rattle.mm_check.specs.AllSaved.{theorems_of, IsAllSaved, IsFirstTooLong, IsSavingAllFault}
 use Rattle.mm_check.specs.Mirror.Judged.{GoesOn, IsUnderWay}
-use Rattle.mm_check.specs.Mirror.AllSaving.{IsTheoremAmong, replacement, IsUpTo, IsMostFor}
-use Rattle.mm_check.specs.Mirror.AllSaving.{AreSpansWithin, IsLastEnd, IsSameFile, PutsText}
+use Rattle.mm_check.specs.Mirror.AllSaving.{IsTheoremAmong, replacement}
+use Rattle.mm_check.specs.Mirror.AllSaving.{IsLastEnd}
 use Rattle.mm_check.specs.Mirror.AllSaving.{PutsProof, KeepsLabel, IsWhole, IsFinishFault}
 use Rattle.mm_check.specs.Mirror.AllSaving.{AreReplacedSoFar, IsSoFar, IsWrittenSoFar}
 use Rattle.mm_check.specs.Mirror.AllSaving.{IsAllWritten}
-use Rattle.mm_check.proofs.Course.{read_to_end}
+use Rattle.mm_check.proofs.Course.{end_accepted}
 use Rattle.mm_check.proofs.FileTheorems.{theorem_complete, theorem_home, theorems_parted}
-use Rattle.mm_check.proofs.FileTheorems.{theorems_passed}
+use Rattle.mm_check.proofs.FileTheorems.{theorems_passed, replaced_by, first_too_long}
 use Rattle.mm_check.proofs.ReplacedSpans.{spans_push, one_more_replaced, all_replaced}
 use Rattle.mm_check.proofs.Rereading.{proof_fits}
-use Rattle.mm_check.proofs.Saving.{provable_proof, within_bytes}
+use Rattle.mm_check.proofs.Saving.{provable_proof}
+use Rattle.mm_check.proofs.SavedSpans.{ends_within}
 
 -- ---- more statements
 
--- a proof keeps its tree when more statements come
-tree_kept : (statements more : List PlainStatement) (label : List ℕ) (place : ℕ)
-    (s : PlainStatement) (root : List ℕ) (below : Trees)
-    → HasProofTree statements label place s root below
-    → (HasProofTree (statements ++ more) label place s root below)
-    × (take place (statements ++ more) ≡ take place statements)
-tree_kept statements more label place s root below proof =
-    let within : place < length statements = slice_get_within statements place s proof.there in
-    let front : take place (statements ++ more) ≡ take place statements =
-    take-append-le place statements more (omega (arith, within)) in (
-      record {
-        there = get_kept statements more place s proof.there;
-        named = proof.named;
-        complete = proof.complete;
-        moves = proof.moves;
-        told = rw front proof.told;
-        made = rw front proof.made;
-      },
-      front,
-    )
+module _ (statements more : List PlainStatement) where
+  -- a proof keeps its tree when more statements come
+  tree_kept : {label : List ℕ} {place : ℕ} {s : PlainStatement} {root : List ℕ} {below : Trees}
+      → HasProofTree statements label place s root below
+      → HasProofTree (statements ++ more) label place s root below
+      × (take place (statements ++ more) ≡ take place statements)
+  tree_kept {place = place} {s = s} proof =
+      let within = slice_get_within statements place s proof.there in
+      let front = take-append-le place statements more (omega (arith, within)) in (
+        record {
+          there = get_kept statements more place s proof.there;
+          named = proof.named;
+          complete = proof.complete;
+          moves = proof.moves;
+          told = rw front proof.told;
+          made = rw front proof.made;
+        },
+        front,
+      )
 
--- so it is written anew as before
-replaced_kept : (form : Form) (statements more : List PlainStatement) (s : PlainStatement)
-    (new : Replacement) → IsReplacement form statements s new
-    → IsReplacement form (statements ++ more) s new
-replaced_kept form statements more s new r =
-    let (proof, front) = tree_kept statements more r.label r.place s r.root r.below r.proof in
-    record {
-      label = r.label;
-      place = r.place;
-      root = r.root;
-      below = r.below;
-      proof = proof;
-      text = r.text;
-      laid = rw front r.laid;
-      span = r.span;
-      put = r.put;
-    }
+  -- so it is written anew as before
+  all_kept : (form : Form) (theorems : List PlainStatement) (news : List Replacement)
+      → AllZip (IsReplacement form statements) theorems news
+      → AllZip (IsReplacement form (statements ++ more)) theorems news
+  all_kept form =
+      zip_weaker (IsReplacement form statements) (IsReplacement form (statements ++ more))
+      (λ s new r. let (proof, front) = tree_kept r.proof in
+      replaced_by form r.text proof (rw front r.laid) r.span r.put)
 
-all_kept : (form : Form) (statements more theorems : List PlainStatement) (news : List Replacement)
-    → AllZip (IsReplacement form statements) theorems news
-    → AllZip (IsReplacement form (statements ++ more)) theorems news
-all_kept form statements more =
-    zip_weaker (IsReplacement form statements) (IsReplacement form (statements ++ more))
-    (replaced_kept form statements more)
-
--- the first theorem whose normal proof is too long stays the first one
-long_kept : (statements more : List PlainStatement) (number : ℕ) (label : List ℕ)
-    → IsFirstTooLong statements number label → IsFirstTooLong (statements ++ more) number label
-long_kept statements more number label first =
-    let later : List PlainStatement = theorems_of number more in
-    record {
-      before = first.before;
-      s = first.s;
-      after = first.after ++ later;
-      split = filter-append (is_theorem_of number) statements more
-          ∙ ap (λ (ss : List PlainStatement). ss ++ later) first.split
-          ∙ append_assoc first.before (first.s ∷ first.after) later;
-      news = first.news;
-      fit = all_kept Normal statements more first.before first.news first.fit;
-      place = first.place;
-      root = first.root;
-      below = first.below;
-      proof = (tree_kept statements more label first.place first.s first.root first.below
-          first.proof).0;
-      long = first.long;
-    }
+  -- the first theorem whose normal proof is too long stays the first one
+  long_kept : (number : ℕ) (label : List ℕ) → IsFirstTooLong statements number label
+      → IsFirstTooLong (statements ++ more) number label
+  long_kept number label first =
+      let later : List PlainStatement = theorems_of number more in
+      let split = filter-append (is_theorem_of number) statements more
+      ∙ ap (λ (ss : List PlainStatement). ss ++ later) first.split
+      ∙ append_assoc first.before (first.s ∷ first.after) later in
+      first_too_long (statements ++ more) number label first.before first.s (first.after ++ later)
+      first.news split (all_kept Normal first.before first.news first.fit)
+      (first.place, first.root, first.below, (tree_kept first.proof).0, first.long)
 
 last_kept : (number at : ℕ) (taken : List PlainStatement) (s : PlainStatement)
     → IsLastEnd number taken at → IsLastEnd number (taken ++ s ∷ []) at
 last_kept number at taken s (inl begin) = inl begin
 last_kept number at taken s (inr (before, t, between, parts, kind, same, ends)) =
-    let more : taken ++ s ∷ [] ≡ before ++ t ∷ (between ++ s ∷ []) =
-    ap (λ (ss : List PlainStatement). ss ++ s ∷ []) parts
-    ∙ append_assoc before (t ∷ between) (s ∷ []) in
-    inr (before, t, between ++ s ∷ [], more, kind, same, ends)
+    let more = append_assoc before (t ∷ between) (s ∷ []) in
+    inr (before, t, between ++ s ∷ [], rw parts more, kind, same, ends)
 
 -- ---- the statement that was judged last
 
@@ -142,11 +113,9 @@ follows : (files : List PlainFile) (number at : ℕ) (taken : List PlainStatemen
     → s.first.file ≡ number → IsLastEnd number taken at → at ≤ s.span.0
 follows files number at taken s left holds provable home (inl begin) = omega (arith, begin)
 follows files number at taken s left holds provable home (inr (before, t, between, parts, kind, same, ends)) =
-    let parted : Holds files (before ++ t ∷ between) s left =
-    subst (λ (ss : List PlainStatement). Holds files ss s left) parts holds in
     let after : t.span.1 ≤ s.span.0 =
-    proof_spans_follow_holds files before between left.statements t s left.ending parted kind
-    provable (same ∙ sym home) in
+    proof_spans_follow_holds files before between left.statements t s left.ending
+    (rw parts at holds) kind provable (same ∙ sym home) in
     omega (arith, after, ends)
 
 -- ---- one statement more
@@ -160,7 +129,7 @@ passed_so taken s file (Some label) other (normal, first) =
 passed_so taken s file None other h = record {
   replaced = h.replaced;
   each = rw (theorems_passed file.number taken s (other refl))
-      (all_kept file.form taken (s ∷ []) (theorems_of file.number taken) h.replaced h.each);
+      (all_kept taken (s ∷ []) file.form (theorems_of file.number taken) h.replaced h.each);
   spans = h.spans;
   put = h.put;
 }
@@ -185,13 +154,6 @@ passed_over files taken s file w unwanted = record {
       unwanted (unmapped (λ l. l.now) file.too_long short, is))) w.so_far;
 }
 
--- what holds of the file before holds of the same file
-same_limit : (files : List PlainFile) (file next : NewFile) → IsSameFile file next
-    → IsMostFor files file.number file.most → IsMostFor files next.number next.most
-same_limit files file next same h =
-    subst (λ (n : ℕ). IsMostFor files n next.most) (sym same.number)
-    (subst (λ (n : ℕ). IsMostFor files file.number n) (sym same.most) h)
-
 -- where no proof is too long, those so far are replaced
 replaced_so_far : (files : List PlainFile) (taken : List PlainStatement) (file : NewFile)
     → IsWrittenSoFar files taken file → file.too_long ≡ None → AreReplacedSoFar taken file
@@ -199,31 +161,11 @@ replaced_so_far files taken file w short =
     subst (λ (o : Option (List ℕ)). IsSoFar taken file o)
     (ap (option_map (λ l. l.now)) short) w.so_far
 
--- what was put after the bytes so far
-put_more : (file next : NewFile) (s : PlainStatement) (text : List ℕ) (news : List Replacement)
-    → PutsText file s.span text next → AreSpansWithin 0 file.taken news → file.taken ≤ s.span.0
-    → s.span.0 ≤ s.span.1 → s.span.1 ≤ length file.source.now
-    → IsUpTo file.most (with_replaced (take file.taken file.source.now) news) file.bytes.items
-    → IsUpTo next.most
-    (with_replaced (take next.taken next.source.now) (news ++ replacement s text ∷ []))
-    next.bytes.items
-put_more file next s text news puts spans after order within so_far =
-    rw (
-      puts.same.most,
-      puts.same.source,
-      puts.taken,
-      one_more_replaced file.taken file.source.now news (replacement s text) spans after order
-          within,
-    ) (puts.put (with_replaced (take file.taken file.source.now) news) so_far)
-
 module _ {files : List PlainFile} {p : Progress} {left : Remaining} (taken : List PlainStatement)
     (s : PlainStatement) (on : IsUnderWay Lenient files p left)
     (all : on.earlier ≡ taken ++ s ∷ []) where
   held : Holds files taken s left
-  held =
-      subst (λ (ss : List PlainStatement). Reads files ss left.ending)
-      (ap (λ (ss : List PlainStatement). ss ++ left.statements) all
-      ∙ append_assoc taken (s ∷ []) left.statements) on.reads
+  held = rw (all, append_assoc) at on.reads
 
   -- a theorem
   pub theorem_met : (number : ℕ) → is_theorem_of number s ≡ true
@@ -250,13 +192,9 @@ module _ {files : List PlainFile} {p : Progress} {left : Remaining} (taken : Lis
     span_stands =
         let complete = theorem_complete file.number s is in
         let home = theorem_home file.number s is in
-        let stands : IsProofSpan s w.own.bytes =
-        proofs_stand_in_spans_holds files taken s left.statements left.ending w.own held
-        (provable_proof s complete) (ap (slice_get files) home ∙ w.handed) in
-        let (start, stop) = within_bytes s w.own.bytes stands in (
-          omega (arith, stands.start, stands.stop),
-          subst (λ (bytes : List ℕ). s.span.1 ≤ length bytes) (sym w.source) stop,
-        )
+        rw w.source (ends_within s w.own.bytes
+        (proofs_stand_in_spans_holds files taken s left.statements left.ending w.own held
+        (provable_proof s complete) (ap (slice_get files) home ∙ w.handed)))
 
     -- behind what was taken
     pub span_follows : file.taken ≤ s.span.0
@@ -280,21 +218,27 @@ module _ {files : List PlainFile} {p : Progress} {left : Remaining} (taken : Lis
         let each : AllZip (IsReplacement file.form more) (theorems_of file.number more) news =
         rw (theorems_parted file.number taken s [] is)
         (zip_push (IsReplacement file.form more) (theorems_of file.number taken) old.replaced s new
-        (all_kept file.form taken (s ∷ []) (theorems_of file.number taken) old.replaced old.each)
+        (all_kept taken (s ∷ []) file.form (theorems_of file.number taken) old.replaced old.each)
         (rw among at (put.anew t))) in
         let so_far : AreReplacedSoFar more next = record {
           replaced = news;
           each = rw (same.form, same.number) each;
           spans = rw put.puts.taken
               (spans_push 0 file.taken old.replaced new old.spans span_follows order);
-          put = put_more file next s put.text old.replaced put.puts old.spans span_follows order
-              within old.put;
+          put = rw (
+            same.most,
+            same.source,
+            put.puts.taken,
+            one_more_replaced file.taken
+                file.source.now old.replaced new old.spans span_follows order within,
+          )
+              (put.puts.put (with_replaced (take file.taken file.source.now) old.replaced) old.put);
         } in
         record {
           own = w.own;
           handed = ap (slice_get files) same.number ∙ w.handed;
           source = same.source ∙ w.source;
-          limit = same_limit files file next same w.limit;
+          limit = rw (same.number, same.most) w.limit;
           within = omega (arith, within, put.puts.taken, ap length same.source);
           last = inr (
             taken,
@@ -305,8 +249,7 @@ module _ {files : List PlainFile} {p : Progress} {left : Remaining} (taken : Lis
             theorem_home file.number s is ∙ sym same.number,
             put.puts.taken,
           );
-          so_far = subst (λ (o : Option (List ℕ)). IsSoFar more next o)
-              (sym (ap (option_map (λ l. l.now)) (put.puts.long ∙ short))) so_far;
+          so_far = rw (ap (option_map (λ l. l.now)) (put.puts.long ∙ short)) so_far;
         }
 
     -- its normal proof is too long
@@ -320,34 +263,23 @@ module _ {files : List PlainFile} {p : Progress} {left : Remaining} (taken : Lis
         let same = kept.same in
         let (normal, long) = kept.long in
         let (place, root, below, proof, over) = long t in
-        let first : IsFirstTooLong more file.number kept.label = record {
-          before = theorems_of file.number taken;
-          s = s;
-          after = [];
-          split = theorems_parted file.number taken s [] is;
-          news = old.replaced;
-          fit = subst (λ (f : Form). AllZip (IsReplacement f more) (theorems_of file.number taken)
-              old.replaced) normal
-              (all_kept file.form taken (s ∷ []) (theorems_of file.number taken) old.replaced
-              old.each);
-          place = place;
-          root = root;
-          below = below;
-          proof = rw among at proof;
-          long = over;
-        } in
+        let fit = all_kept taken (s ∷ []) file.form (theorems_of file.number taken) old.replaced
+        old.each in
+        let first : IsFirstTooLong more file.number kept.label =
+        first_too_long more file.number kept.label (theorems_of file.number taken) s []
+        old.replaced (theorems_parted file.number taken s [] is)
+        (subst (λ (f : Form). AllZip (IsReplacement f more) (theorems_of file.number taken)
+        old.replaced) normal fit)
+        (place, root, below, rw among at proof, over) in
         record {
           own = w.own;
           handed = ap (slice_get files) same.number ∙ w.handed;
           source = same.source ∙ w.source;
-          limit = same_limit files file next same w.limit;
+          limit = rw (same.number, same.most) w.limit;
           within = omega (arith, w.within, kept.taken, ap length same.source);
           last = rw (same.number, kept.taken)
               (last_kept file.number file.taken taken s w.last);
-          so_far = subst (λ (o : Option (List ℕ)). IsSoFar more next o) (sym kept.kept) (
-            same.form ∙ normal,
-            subst (λ (n : ℕ). IsFirstTooLong more n kept.label) (sym same.number) first,
-          );
+          so_far = rw kept.kept (same.form ∙ normal, rw same.number first);
         }
 
     -- either was
@@ -357,14 +289,12 @@ module _ {files : List PlainFile} {p : Progress} {left : Remaining} (taken : Lis
         → IsWrittenSoFar files on.earlier next × (next.number ≡ file.number)
         × (next.form ≡ file.form)
     written_on next short (inl put) = (
-      subst (λ (ss : List PlainStatement). IsWrittenSoFar files ss next) (sym all)
-          (written_anew next short put),
+      rw all (written_anew next short put),
       put.puts.same.number,
       put.puts.same.form,
     )
     written_on next short (inr kept) = (
-      subst (λ (ss : List PlainStatement). IsWrittenSoFar files ss next) (sym all)
-          (label_kept next short kept),
+      rw all (label_kept next short kept),
       kept.same.number,
       kept.same.form,
     )
@@ -380,11 +310,7 @@ pub judged_all : (files : List PlainFile) (p q : Progress) (old new : Remaining)
 judged_all files p q old new s more file goes is way w =
     let (end, same) = (subst (λ (b : Bool). GoesOn Lenient files p old b s q new) is goes) way in (
       end.way.earlier,
-      record {
-        readable = end.way.readable;
-        reads = read_to_end end;
-        obeyed = end.way.obeyed;
-      },
+      end_accepted end,
       subst (λ (ss : List PlainStatement). IsWrittenSoFar files ss file) (sym same) w,
     )
 
@@ -420,44 +346,30 @@ pub all_saved : (form : Form) (files : List PlainFile) (number : ℕ) (file : Ne
     → SavesAll form files number bytes
 all_saved form files number file bytes same home short (statements, accepted, w) whole few =
     let h : AreReplacedSoFar statements file = replaced_so_far files statements file w short in
-    subst (λ (f : Form). SavesAll f files number bytes) same
-    (subst (λ (n : ℕ). SavesAll file.form files n bytes) home (
+    rw (← same, ← home) (
       statements,
       accepted,
       whole_so files statements file bytes w h (whole (made_of statements file h) h.put),
-      fits (cases_lt most_bytes (total_with files file.number bytes)),
-    ))
-  where
-    fits : ((most_bytes < total_with files file.number bytes)
-        ⊎ (total_with files file.number bytes ≤ most_bytes)) → FitsSaved files file.number bytes
-    fits (inl over) = absurd (omega (arith, few, (w.limit bytes).1 over))
-    fits (inr within) = within
-
--- or why they aren't
-own_fault : (files : List PlainFile) (file : NewFile) (why : AskFault) → file.too_long ≡ None
-    → IsAllWritten files file → IsFinishFault file why
-    → IsSavingAllFault file.form files file.number (fault.Ask why)
-own_fault files file why short (statements, accepted, w) (inl memory) =
-    rw memory (statements, accepted, tt)
-own_fault files file why short (statements, accepted, w) (inr (is, over)) =
-    let h : AreReplacedSoFar statements file = replaced_so_far files statements file w short in
-    let bytes : List ℕ = made_of statements file h ++ drop file.taken file.source.now in
-    rw is (
-      statements,
-      accepted,
-      (
-        bytes,
-        whole_so files statements file bytes w h refl,
-        (w.limit bytes).0
-            (over (made_of statements file h) h.put),
-      ),
+      elim (cases_lt most_bytes (total_with files file.number bytes)) [
+        | inl over ↦ absurd (omega (arith, few, (w.limit bytes).1 over))
+        | inr within ↦ within
+      ],
     )
 
+-- or why they aren't
 pub finish_fault : (form : Form) (files : List PlainFile) (number : ℕ) (file : NewFile)
     (why : AskFault) → file.form ≡ form → file.number ≡ number → file.too_long ≡ None
     → IsAllWritten files file → IsFinishFault file why
     → IsSavingAllFault form files number (fault.Ask why)
-finish_fault form files number file why same home short all is =
-    subst (λ (f : Form). IsSavingAllFault f files number (fault.Ask why)) same
-    (subst (λ (n : ℕ). IsSavingAllFault file.form files n (fault.Ask why)) home
-    (own_fault files file why short all is))
+finish_fault form files number file why same home short (statements, accepted, w) (inl memory) =
+    rw (← same, ← home, memory) (statements, accepted, tt)
+finish_fault form files number file why same home short (statements, accepted, w)
+    (inr (is, over)) =
+    let h : AreReplacedSoFar statements file = replaced_so_far files statements file w short in
+    let bytes : List ℕ = made_of statements file h ++ drop file.taken file.source.now in
+    let too_many = (w.limit bytes).0 (over (made_of statements file h) h.put) in
+    rw (← same, ← home, is) (
+      statements,
+      accepted,
+      (bytes, whole_so files statements file bytes w h refl, too_many),
+    )

@@ -1,6 +1,6 @@
 -- What is told of a theorem whose proof is written anew.
 use Rattle.std.proofs.Common.{◌≡◌, ℕ, ◌<◌, List, length, slice_get}
-use Rattle.std.proofs.Common.{Some, inl, inr, refl, sym, ap, subst, ◌∙◌}
+use Rattle.std.proofs.Common.{Some, inl, inr, refl, sym, ap, ◌∙◌}
 use Rattle.std.proofs.lemmas.Option.{same_Some}
 use Rattle.mm_text.specs.declared.statement.Kind.TheVariants.{Provable}
 use Rattle.mm_text.specs.Statement.{PlainStatement}
@@ -10,29 +10,27 @@ use Rattle.mm_frame.specs.declared.number.LabelId.{LabelId}
 use Rattle.mm_frame.specs.Found.{Finds}
 use Rattle.mm_frame.specs.Rules.{AllMeant}
 use Rattle.mm_frame.specs.Sentence.{Sentence, SomeSentence, sentence_of, IsLabelled}
-use Rattle.mm_frame.specs.Numbers.{IsNumbered}
 use Rattle.mm_frame.proofs.Meant.{one_label}
 use Rattle.mm_proof.specs.declared.profile.Profile.TheVariants.{Lenient}
-use Rattle.mm_proof.specs.Tokens.{SayMoves}
 use Rattle.mm_proof.specs.ReadSteps.{ReadSteps}
 use Rattle.mm_proof.specs.Steps.{IsProofNumber}
 use Rattle.mm_proof.specs.Tree.{spelling}
 use Rattle.mm_check.specs.declared.form.Form.{Form}
 use Rattle.mm_check.specs.declared.form.Form.TheVariants as form
 use Rattle.mm_check.specs.declared.ask.AskFault.{AskFault}
-use Rattle.mm_check.specs.declared.ask.AskFault.TheVariants as ask
-use Rattle.mm_check.specs.Verdict.{sentences, proof_of}
+use Rattle.mm_check.specs.Verdict.{proof_of}
 use Rattle.mm_check.specs.Forms.{most_labels}
 use Rattle.mm_check.specs.Rests.{IsAt}
 use Rattle.mm_check.specs.Saved.{IsTextIn}
 use Rattle.mm_check.specs.AllSaved.{IsReplacement}
 use Rattle.mm_check.specs.Mirror.Theorems.{IsProofOf, SayStepsOf, AreProvedSteps, AreStepsOf}
-use Rattle.mm_check.specs.Mirror.Rewriting.{IsTextOf, IsTextFault, IsTooLong}
-use Rattle.mm_check.specs.Mirror.AllSaving.{IsTheoremAmong, IsTheoremFault, HasTooLongProof}
+use Rattle.mm_check.specs.Mirror.Rewriting.{IsTextOf, IsTextFault}
+use Rattle.mm_check.specs.Mirror.AllSaving.{IsTheoremAmong, IsTheoremFault}
 use Rattle.mm_check.specs.Mirror.AllSaving.{replacement}
 use Rattle.mm_check.proofs.Asked.{map-take, hypothesis_other}
 use Rattle.mm_check.proofs.Rereading.{said_there, proof_stands}
 use Rattle.mm_check.proofs.Theorems.{tree_told}
+use Rattle.mm_check.proofs.FileTheorems.{replaced_by}
 use Rattle.mm_check.proofs.Saving.{provable_proof}
 
 -- ---- its number
@@ -57,9 +55,7 @@ number_found told label id all (p, t, at, both) (q, u, numbered, labelled, kind)
     let same = one_labelled told label p place t s all at there both.0 named in
     let found = one_labelled told label q place u s all numbered.there there labelled named in
     record {
-      numbered =
-          subst (λ (n : ℕ). IsNumbered told id.0 n s) found.0
-          (subst (λ (v : Sentence). IsNumbered told id.0 q v) found.1 numbered);
+      numbered = rw (found.1, found.0) at numbered;
       provable = sym (ap (λ (v : Sentence). v.kind) same.1) ∙ both.1;
     }
 
@@ -80,8 +76,7 @@ pub theorem_under : (told : List Sentence) (s : PlainStatement) (label : List �
 theorem_under told s label t named = (
   t.place,
   sentence_of s,
-  subst (λ (ss : List Sentence). slice_get ss t.place ≡ Some (sentence_of s)) (sym t.same)
-      (said_there t.statements t.place s t.there),
+  rw t.same (said_there t.statements t.place s t.there),
   (named, provable_proof s t.complete),
 )
 
@@ -92,9 +87,7 @@ pub number_among : (told : List Sentence) (s : PlainStatement) (label : List ℕ
     → IsProofNumber told id t.place (sentence_of s)
 number_among told s label id t named numbers =
     numbers t.place (sentence_of s)
-    (subst (λ (ss : List Sentence). slice_get ss t.place ≡ Some (sentence_of s)) (sym t.same)
-    (said_there t.statements t.place s t.there))
-    named
+    (rw t.same (said_there t.statements t.place s t.there)) named
 
 -- ---- its proof
 
@@ -103,12 +96,8 @@ pub proof_among : (told : List Sentence) (s : PlainStatement) (id : ℕ)
     → IsProofNumber told id t.place (sentence_of s) → tokens ≡ proof_of s
     → IsProofOf Lenient told id tokens
 proof_among told s id tokens t number texts =
-    let at : IsAt t.statements id t.place s = record {
-      there = t.there;
-      numbered =
-          subst (λ (ss : List Sentence). IsNumbered ss id t.place (sentence_of s)) t.same
-          number.numbered;
-    } in
+    let at : IsAt t.statements id t.place s =
+    record { there = t.there; numbered = rw t.same at number.numbered } in
     rw (texts, t.same)
     (proof_stands Lenient t.statements id t.place s t.obeyed at t.complete)
 
@@ -118,10 +107,8 @@ abbrev steps_among : (told : List Sentence) (s : PlainStatement) (label : List �
     → SayStepsOf told id (proof_of s) steps.moves
     → AreStepsOf t.statements label id steps.moves
 steps_among told s label id steps t named number said =
-    let own : IsProofNumber (sentences t.statements) id t.place (sentence_of s) =
-    subst (λ (ss : List Sentence). IsProofNumber ss id t.place (sentence_of s)) t.same number in
-    let here : SayStepsOf (sentences t.statements) id (proof_of s) steps.moves =
-    subst (λ (ss : List Sentence). SayStepsOf ss id (proof_of s) steps.moves) t.same said in
+    let own = rw t.same at number in
+    let here = rw t.same at said in
     let moves = here t.place (sentence_of s) own in
     record {
       place = t.place;
@@ -131,8 +118,7 @@ steps_among told s label id steps t named number said =
       complete = t.complete;
       number = own;
       moves = moves.0;
-      told = subst (λ (ss : List Sentence). SayMoves ss (sentence_of s) (proof_of s) moves.0)
-          (sym (map-take t.place t.statements)) moves.1;
+      told = rw map-take moves.1;
       numbered = moves.2;
     }
 
@@ -149,35 +135,9 @@ theorem_replaced form told s label id steps text t named number said proved laid
     tree_told told t.statements label id steps t.same
     (steps_among told s label id steps t named number said) proved
     (λ before u trees. IsTextIn form before u trees text) laid in
-    record {
-      label = label;
-      place = t.place;
-      root = root;
-      below = below;
-      proof = has;
-      text = text;
-      laid = written;
-      span = refl;
-      put = refl;
-    }
-
--- its normal proof is too long
-theorem_long : (told : List Sentence) (s : PlainStatement) (label : List ℕ) (id : ℕ)
-    (steps : ReadSteps) (t : IsTheoremAmong told s) → IsLabelled label (sentence_of s)
-    → IsProofNumber told id t.place (sentence_of s) → SayStepsOf told id (proof_of s) steps.moves
-    → AreProvedSteps told id steps → IsTooLong told id steps.moves
-    → HasTooLongProof t.statements s label
-theorem_long told s label id steps t named number said proved long =
-    let (root, below, has, over) =
-    tree_told told t.statements label id steps t.same
-    (steps_among told s label id steps t named number said) proved
-    (λ before u trees. most_labels < length (spelling trees)) long in
-    (t.place, root, below, has, over)
+    replaced_by form text has written refl refl
 
 -- why it isn't written
-memory_wanting : (f : Form) (told : List Sentence) (s : PlainStatement) (why : AskFault)
-    → why ≡ ask.Memory → IsTheoremFault f told s why
-memory_wanting f told s why memory = subst (IsTheoremFault f told s) (sym memory) refl
 
 pub theorem_fault : (f : Form) (told : List Sentence) (s : PlainStatement) (id : ℕ)
     (steps : ReadSteps) (why : AskFault)
@@ -185,11 +145,16 @@ pub theorem_fault : (f : Form) (told : List Sentence) (s : PlainStatement) (id :
     → SayStepsOf told id (proof_of s) steps.moves → AreProvedSteps told id steps
     → IsTextFault f told id steps.moves why → IsTheoremFault f told s why
 theorem_fault form.Packed told s id steps why number said proved memory =
-    memory_wanting form.Packed told s why memory
+    rw memory refl
 theorem_fault form.Normal told s id steps why number said proved (inl memory) =
-    memory_wanting form.Normal told s why memory
+    rw memory refl
 theorem_fault form.Normal told s id steps why number said proved (inr (is, long)) =
-    subst (IsTheoremFault form.Normal told s) (sym is) (λ label named. (
+    rw is (λ label named. (
       refl,
-      λ t. theorem_long told s label id steps t named (number t) said proved long,
+      λ t.
+          let (root, below, has, over) =
+          tree_told told t.statements label id steps t.same
+          (steps_among told s label id steps t named (number t) said) proved
+          (λ before u trees. most_labels < length (spelling trees)) long in
+          (t.place, root, below, has, over),
     ))

@@ -1,13 +1,14 @@
 -- One more name is the next label.
-use Rattle.std.proofs.Common.{◌≡◌, ℕ, ◌≤◌, List, [], ◌∷◌, ◌++◌, length, Bor, sym, ap, ◌∙◌, arith}
+use Rattle.std.proofs.Common.{◌≡◌, ℕ, ◌≤◌, List, [], ◌∷◌, ◌++◌, length, take, add-one, Bor, sym, ap, ◌∙◌, arith}
 use Rattle.std.proofs.lemmas.List.{take_all, map-append}
 use Rattle.mm_code.specs.Layout.{texts}
-use Rattle.mm_check.proofs.Theorems.{one_more_name, as_many_names}
+use Rattle.mm_check.proofs.Theorems.{next_name, as_many_names}
 use Rattle.mm_check.proofs.forms.names_of.Goals as goal
 
 pub loop-id-preserved : goal.loop-id-preserved
 loop-id-preserved c = λ labels are.
-    let more = one_more_name c.args.book.now.statements c.args.ids.now labels c.loop-id.id-index _ c.label.result.now are c.loop-id-test.true c.label.ensures in
+    let more = ap (λ (n : ℕ). take n labels) (add-one c.loop-id.id-index)
+    ∙ next_name c.args.book.now.statements c.args.ids.now labels c.loop-id.id-index _ c.label.result.now are c.loop-id-test.true c.label.ensures in
     ap texts c.in_ok-push.ensures.items ∙ map-append (λ (t : Bor (List ℕ)). t.now) c.loop-id.names.items _ ∙ ap (λ (ls : List (List ℕ)). ls ++ c.label.result.now ∷ []) (c.loop-id.invariant labels are) ∙ sym more
 
 pub returns : goal.returns

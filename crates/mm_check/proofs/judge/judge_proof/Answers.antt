@@ -1,9 +1,8 @@
 -- The prover judges the last statement at its place.
-use Rattle.std.proofs.Common.{◌≡◌, length, ap, ◌∙◌}
+use Rattle.std.proofs.Common.{length, ap, ◌∙◌}
 use Rattle.mm_text.specs.Statement.{PlainStatement, plain_statement}
 use Rattle.mm_frame.specs.Sentence.{sentence_of}
 use Rattle.mm_proof.specs.Plain.{token_texts}
-use Rattle.mm_check.specs.Verdict.{proof_of}
 use Rattle.mm_check.proofs.Judging.{texts_of, last_number, judged}
 use Rattle.mm_check.proofs.judge.judge_proof.Goals as goal
 
@@ -15,8 +14,7 @@ prove-requires c =
 pub returns-clause-judged : goal.returns-clause-judged
 returns-clause-judged c =
     let s : PlainStatement = plain_statement c.args.statement.now in
-    let same : token_texts c.deref.result.now ≡ proof_of s =
-    ap token_texts c.deref.ensures.value ∙ texts_of c.args.statement.now.proof.items in
-    judged c.args.profile c.args.prover.now.book.statements c.args.id.0 s (token_texts c.deref.result.now) c.prove.result c.prove.new.self.used c.requires.formed c.requires.last same
+    let same = ap token_texts c.deref.ensures.value ∙ texts_of c.args.statement.now.proof.items in
+    judged c.args.profile c.args.prover.now.book.statements c.args.id.0 s (token_texts c.deref.result.now) c.requires.formed c.requires.last same c.prove.result c.prove.new.self.used
     c.prove.ensures.incomplete c.prove.ensures.complete c.prove.ensures.proved c.prove.ensures.form
     c.prove.ensures.fault c.prove.ensures.front_fault

@@ -4,8 +4,6 @@ use Rattle.std.proofs.lemmas.Result.{IfOk-weaker}
 use Rattle.mm_text.specs.Files.{PlainFile, plain_file}
 use Rattle.mm_check.specs.declared.ask.AskFault.{AskFault}
 use Rattle.mm_check.specs.declared.fault.CheckFault.{CheckFault}
-use Rattle.mm_check.specs.declared.save_fault.SaveFault.TheVariants as fault
-use Rattle.mm_check.specs.AllSaved.{IsSavingAllFault}
 use Rattle.mm_check.specs.Reply.{IsAllSavedReply}
 use Rattle.mm_check.proofs.Replies.{made_both, asked_all, question_refused}
 use Rattle.mm_check.proofs.question.all_saved_reply.Goals as goal
@@ -14,8 +12,7 @@ pub returns-in-Err-Ask : goal.returns-in-Err-Ask
 returns-in-Err-Ask c =
     let files : List PlainFile = map plain_file c.args.files.now in
     let why : AskFault = c.in-Err-Ask.fault in
-    let told : IsSavingAllFault c.args.form files c.args.number (fault.Ask why) =
-    rw c.in-Err-Ask.field-0-is at c.in-Err-Ask.ensures.fault in
+    let told = rw c.in-Err-Ask.field-0-is at c.in-Err-Ask.ensures.fault in
     IfOk-weaker c.ask_reply-in-Err-Ask.result _ _
     (λ reply h. inr (
       told.0,
@@ -29,8 +26,7 @@ pub returns-in-Err-Check : goal.returns-in-Err-Check
 returns-in-Err-Check c =
     let files : List PlainFile = map plain_file c.args.files.now in
     let why : CheckFault = c.in-Err-Check.fault in
-    let told : IsSavingAllFault c.args.form files c.args.number (fault.Check why) =
-    rw c.in-Err-Check.field-0-is at c.in-Err-Check.ensures.fault in
+    let told = rw c.in-Err-Check.field-0-is at c.in-Err-Check.ensures.fault in
     made_both c.verdict_reply.result _ _ _
     (λ reply said ends. question_refused files (Err why) why
     (IsAllSavedReply c.args.form files c.args.number) _ _ refl told said ends)

@@ -1,5 +1,5 @@
 -- The files are refused, or the question is answered over their statements.
-use Rattle.std.proofs.Common.{◌≡◌, List, map, None, subst}
+use Rattle.std.proofs.Common.{List, map, None, subst}
 use Rattle.std.proofs.lemmas.Result.{IfOk-weaker}
 use Rattle.mm_text.specs.Files.{PlainFile, plain_file}
 use Rattle.mm_text.specs.Reading.{Reads}
@@ -13,10 +13,8 @@ pub returns-in-Ok : goal.returns-in-Ok
 returns-in-Ok c =
     let files : List PlainFile = map plain_file c.args.files.now in
     let kept : Conclusion = c.in-Ok.checked in
-    let same : kept.files ≡ files =
-    at_ok c.args.answer.now kept (KeepsFiles files) c.in-Ok.is c.requires.files in
-    let labels : KeepsLabels files kept =
-    at_ok c.args.answer.now kept (KeepsLabels files) c.in-Ok.is c.requires.labels in
+    let same = at_ok c.args.answer.now kept (KeepsFiles files) c.in-Ok.is c.requires.files in
+    let labels = at_ok c.args.answer.now kept (KeepsLabels files) c.in-Ok.is c.requires.labels in
     IfOk-weaker c.axioms_answer.result _ _
     (λ reply answers. question_read files c.args.answer.now kept (IsAxiomsReply c.args.label.now)
     _ _ c.in-Ok.is c.requires.verdict same

@@ -4,9 +4,7 @@ use Rattle.std.proofs.lemmas.Result.{IfOk-weaker}
 use Rattle.mm_text.specs.Statement.{PlainStatement, plain_statement}
 use Rattle.mm_frame.specs.Sentence.{Sentence, sentence_of}
 use Rattle.mm_proof.specs.Steps.{IsProofNumber}
-use Rattle.mm_check.specs.Verdict.{proof_of}
 use Rattle.mm_check.specs.Mirror.AllSaving.{IsTheoremAmong}
-use Rattle.mm_check.specs.Mirror.Theorems.{SayStepsOf}
 use Rattle.mm_check.proofs.Theorems.{why}
 use Rattle.mm_check.proofs.WrittenTheorems.{theorem_under, number_among, proof_among}
 use Rattle.mm_check.proofs.WrittenTheorems.{theorem_replaced, theorem_fault}
@@ -36,8 +34,7 @@ returns-clause-text c =
     λ t. rw c.in_ok-theorem.ensures.id
     (number_among told s c.label_of.result.now c.number_of-id.result.0 t c.label_of.ensures
     c.number_of-id.ensures) in
-    let said : SayStepsOf told id (proof_of s) c.in_ok-theorem.theorem.steps.moves =
-    rw c.requires.tokens at c.in_ok-theorem.ensures.said in
+    let said = rw c.requires.tokens at c.in_ok-theorem.ensures.said in
     IfOk-weaker c.proof_text.result _ _
     (λ text laid t. theorem_replaced c.args.form told s c.label_of.result.now id
     c.in_ok-theorem.theorem.steps text.items t c.label_of.ensures (number t) said
@@ -53,8 +50,7 @@ returns-clause-fault c =
     λ t. rw c.in_ok-theorem.ensures.id
     (number_among told s c.label_of.result.now c.number_of-id.result.0 t c.label_of.ensures
     c.number_of-id.ensures) in
-    let said : SayStepsOf told id (proof_of s) c.in_ok-theorem.theorem.steps.moves =
-    rw c.requires.tokens at c.in_ok-theorem.ensures.said in
+    let said = rw c.requires.tokens at c.in_ok-theorem.ensures.said in
     why c.proof_text.result _ _
     (λ fault is. theorem_fault c.args.form told s id c.in_ok-theorem.theorem.steps fault number said
     c.in_ok-theorem.ensures.proved is)

@@ -1,12 +1,14 @@
 -- The next statement is judged where one is left.
 use Rattle.std.proofs.Common.{true, List, map, Ok, ap, subst, arith}
+use Rattle.std.proofs.lemmas.List.Sums.{count_by-le-length}
 use Rattle.mm_text.specs.Statement.{PlainStatement, plain_statement, HasForm}
 use Rattle.mm_text.specs.Files.{PlainFile, plain_file}
 use Rattle.mm_text.proofs.Results.{error_keeps}
 use Rattle.mm_check.specs.declared.progress.Progress.{Progress}
+use Rattle.mm_check.specs.Verdict.{is_proof}
 use Rattle.mm_check.specs.Mirror.Judged.{GoesOn, IsUnderWay, TakesNext}
 use Rattle.mm_check.proofs.Course.{goes_on, at_end, end_verdict, statement_verdict}
-use Rattle.mm_check.proofs.OnTheWay.{closes, has_room, count_small, proofs_small}
+use Rattle.mm_check.proofs.OnTheWay.{closes, has_room, few}
 use Rattle.mm_check.proofs.verdict.judge_next.Goals as goal
 
 pub returns-in_err-next-clause-refused : goal.returns-in_err-next-clause-refused
@@ -36,10 +38,12 @@ pub judge-requires-clause-room : goal.judge-requires-clause-room
 judge-requires-clause-room c = has_room _ _ _ _ _ _ (way c) (taken c)
 
 pub judge-requires-clause-count : goal.judge-requires-clause-count
-judge-requires-clause-count c = omega (arith, count_small _ _ _ _ (way c))
+judge-requires-clause-count c = omega (arith, few _ _ _ _ (way c), (way c).known.count)
 
 pub judge-requires-clause-proofs : goal.judge-requires-clause-proofs
-judge-requires-clause-proofs c = omega (arith, proofs_small _ _ _ _ (way c))
+judge-requires-clause-proofs c =
+    let most = count_by-le-length is_proof (way c).earlier in
+    omega (arith, few _ _ _ _ (way c), (way c).known.proofs, most)
 
 pub returns-in_err-judge-clause-refused : goal.returns-in_err-judge-clause-refused
 returns-in_err-judge-clause-refused c =
@@ -54,8 +58,7 @@ pub returns-clause-judged : goal.returns-clause-judged
 returns-clause-judged c =
     let files : List PlainFile = map plain_file c.args.files.now in
     let s : PlainStatement = plain_statement c.next.new.into in
-    let met : TakesNext c.args.statements.now true s c.next.new.statements =
-    rw c.if-not-branch.false at c.in_ok-next.ensures.taken in
+    let met = rw c.if-not-branch.false at c.in_ok-next.ensures.taken in
     let formed : HasForm s = c.in_ok-next.ensures.formed (ap Ok c.if-not-branch.false) in
     subst (λ (p : Progress). GoesOn c.args.profile files p c.args.statements.now true s
     c.judge.new.progress c.next.new.statements) c.make_room.ensures

@@ -3,7 +3,7 @@ use Rattle.std.proofs.Common.{◌≡◌, ℕ, List, map, true, None, sym, ap, su
 use Rattle.std.proofs.lemmas.Result.{IfOk-weaker}
 use Rattle.std.specs.Borrow.{Bor}
 use Rattle.mm_text.specs.Statement.{PlainStatement, plain_statement}
-use Rattle.mm_text.specs.Files.{PlainFile, plain_file}
+use Rattle.mm_text.specs.Files.{plain_file}
 use Rattle.mm_text.specs.Reading.{Reads}
 use Rattle.mm_check.specs.Conclusion.{Conclusion}
 use Rattle.mm_check.specs.declared.theorem.Theorem.{Theorem}
@@ -11,7 +11,7 @@ use Rattle.mm_check.specs.Verdict.{CanBeRead, is_proof, sentences}
 use Rattle.mm_check.specs.Rests.{IsNamed}
 use Rattle.mm_check.specs.Mirror.Theorems.{SayStepsOf, AreStepsOf}
 use Rattle.mm_text.proofs.Results.{error_keeps}
-use Rattle.mm_check.proofs.Rereading.{AreOf, own_statements, read_statements, named_stands, shown_proof, shown_room, theorem_steps}
+use Rattle.mm_check.proofs.Rereading.{AreOf, own_statements, read_statements, shown_proof, proof_fits, theorem_steps}
 use Rattle.mm_check.proofs.Rereading.{KeptWell}
 use Rattle.mm_check.specs.Mirror.Rewriting.{IsHomeOf}
 use Rattle.mm_frame.specs.Rules.{AllMeant}
@@ -38,9 +38,8 @@ reread-requires-clause-stands c =
     let well = subst KeptWell c.self.view_is c.self.invariant in
     let files : map plain_file c.self.inside.files.now ≡ now.files = ap (λ (v : Conclusion). v.files) c.self.view_is in
     let own : AreOf now well.origin.statements = own_statements now well.origin in
-    let named = c.in_ok-id.ensures.found well.origin.statements own.kept in
-    let stands = named_stands well.origin.statements c.args.label.now c.in_ok-id.id.0 named in
-    (well.origin.statements, stands.0, subst (λ (fs : List PlainFile). Reads fs well.origin.statements None) (sym files) own.accepted.reads, stands.1)
+    let (place, s, at, both) = c.in_ok-id.ensures.found well.origin.statements own.kept in
+    (well.origin.statements, s, rw files own.accepted.reads, (place, at.there, both.0))
 
 pub theorem_of-requires-clause-proof : goal.theorem_of-requires-clause-proof
 theorem_of-requires-clause-proof c =
@@ -66,7 +65,8 @@ theorem_of-requires-clause-room c =
     let t : PlainStatement = plain_statement c.in_ok-statement.statement in
     let stands = c.in_ok-statement.ensures.found well.origin.statements (rw files own.accepted.reads) in
     rw (c.deref.ensures.value, c.in_ok-tokens.ensures)
-    (shown_room now well.origin.statements c.args.label.now t own stands)
+    (proof_fits now.files well.origin.statements None stands.0 t own.accepted.readable
+    own.accepted.reads stands.1)
 
 pub returns-clause-read : goal.returns-clause-read
 returns-clause-read c =

@@ -1,13 +1,12 @@
 -- The three parts come one after the other.
-use Rattle.std.proofs.Common.{List, ℕ, [], ◌∷◌, slice_range, refl}
+use Rattle.std.proofs.Common.{ℕ, [], ◌∷◌, slice_range, refl}
 use Rattle.mm_check.proofs.ReplacedSpans.{put_twice}
 use Rattle.mm_check.proofs.save_all.NewFile.put.Goals as goal
 
 pub returns : goal.returns
 returns c =
     let most : ℕ = c.args.self.now.most in
-    let kept : List ℕ =
-    slice_range c.args.self.now.source.now c.args.self.now.taken c.args.span.0 in
+    let kept = slice_range c.args.self.now.source.now c.args.self.now.taken c.args.span.0 in
     record {
       same = record { number = refl; form = refl; source = refl; most = refl };
       long = refl;
