@@ -1,8 +1,7 @@
 -- Readings that show the same end alike.
 use Rattle.std.proofs.Common.{◌≡◌, ℕ, ◌+◌, map, take, count_by, List, [], ◌∷◌, ◌++◌, Bool, refl, sym, ap, subst, ◌∙◌, cond, inl, inr}
-use Rattle.std.specs.List.{take-map}
+use Rattle.std.specs.List.{take-map, sum}
 use Rattle.std.proofs.lemmas.List.Sums.{sum-map}
-use Rattle.std.specs.List.{sum}
 use Rattle.mm_text.specs.declared.fault.TextRule.{TextRule}
 use Rattle.mm_text.specs.declared.fault.TextRule.TheVariants.{X6, X8, S1, S2, S3, S4, S5, S6, S7}
 use Rattle.mm_text.specs.declared.statement.Kind.{Kind}

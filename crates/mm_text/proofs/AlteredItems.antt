@@ -9,8 +9,7 @@ use Rattle.std.proofs.lemmas.Option.{slice_get_cases}
 use Rattle.mm_text.specs.Token.{PlainToken}
 use Rattle.mm_text.specs.Files.{PlainFile}
 use Rattle.mm_text.specs.Items.{Item, Plain, Piece, Met, Named, pieces_of, file_number, with_inclusions, put_before, put_in}
-use Rattle.mm_text.proofs.AlikeItems.{SameItem}
-use Rattle.mm_text.proofs.AlikeItems.{SamePiece, spliced_same}
+use Rattle.mm_text.proofs.AlikeItems.{SameItem, SamePiece, spliced_same}
 use Rattle.mm_text.proofs.InclusionLaws.{is_wrong, named_related, spliced_nil, spliced_met}
 use Rattle.mm_text.proofs.InclusionLaws.{spliced_name}
 use Rattle.mm_text.proofs.ReplacedPieces.{met}

@@ -8,7 +8,7 @@ use Rattle.mm_text.specs.declared.statement.Kind.TheVariants.{Constants, Variabl
 use Rattle.mm_text.specs.Token.{PlainToken, IsLabel, is_label, HoldsNoDollar}
 use Rattle.mm_text.specs.Statement.{PlainStatement, IsHead, HasBody, AreSymbols, FitsCount, keyword_of, label_in, Spells, IsTail, EndsAtOnce}
 use Rattle.mm_text.specs.Reading.{closes_symbols, Meets}
-use Rattle.mm_text.specs.Mirror.Reader.{Part, Between, Labelled, InBody, InProof, Step, More, Whole, Opened, Closed, Faulty, step, at_start, after_label, in_body, in_proof, is_keyword, bare_statement, has_count, is_full}
+use Rattle.mm_text.specs.Mirror.Reader.{Part, Between, Labelled, InBody, InProof, Step, More, Whole, Opened, Closed, Faulty, step, is_keyword, bare_statement, has_count, is_full}
 use Rattle.mm_text.specs.Statement.{is_provable}
 use Rattle.mm_text.proofs.TextFacts.{same_text-true, same_text-false, is_keyword-true, is_keyword-false, IsSigned, signed_word}
 use Rattle.mm_text.proofs.Lists.{all_append}

@@ -1,12 +1,11 @@
 -- The files that nothing includes, by the flags of those that were met.
 use Rattle.std.proofs.Common.{◌≡◌, ℕ, zero, suc, ◌<◌, ◌≤◌, ◌==◌, ◌||◌, List, [], ◌∷◌}
 use Rattle.std.proofs.Common.{length, replicate, map, filter, Bool, true, false, not, cond, refl}
-use Rattle.std.proofs.Common.{sym, ap, ◌∙◌, subst, codes, Option, Some, None, arith, inl, inr}
+use Rattle.std.proofs.Common.{sym, ap, ◌∙◌, subst, codes, Some, None, arith, inl, inr}
 use Rattle.std.proofs.Common.{get_or-set_same, get_or-set_other, length-set}
 use Rattle.std.specs.Prelude.{slice_index_or, slice_set}
 use Rattle.std.specs.List.{AllByRecursion, list_any, range_with_len}
-use Rattle.std.proofs.lemmas.Bool.{cases_eq, cond_both, eq-eqb, ne_eqb}
-use Rattle.std.proofs.lemmas.Bool.{or_left}
+use Rattle.std.proofs.lemmas.Bool.{cases_eq, cond_both, eq-eqb, ne_eqb, or_left}
 use Rattle.std.proofs.Math.Bool.{or-false, or_assoc, or_comm}
 use Rattle.std.proofs.lemmas.List.{length-replicate}
 use Rattle.std.proofs.lemmas.Option.{slice_get_within}

@@ -5,7 +5,7 @@ use Rattle.mm_text.specs.declared.fault.TextRule.TheVariants.{X1}
 use Rattle.mm_text.specs.Token.{PlainToken}
 use Rattle.mm_text.specs.Statement.{PlainStatement}
 use Rattle.mm_text.specs.Items.{Item, Wrong}
-use Rattle.mm_text.specs.Reading.{PlainFault, Viable, EndsAt}
+use Rattle.mm_text.specs.Reading.{PlainFault}
 use Rattle.mm_text.specs.Mirror.Reader.{PlainReading, Between, outermost, fault_in, reading_of}
 use Rattle.mm_text.specs.Laws.{FaultsEndLongestFronts}
 use Rattle.mm_text.proofs.PartTokens.{part_of_beginning}
