@@ -1,5 +1,5 @@
 -- What is active at each place, by the blocks' numbers; and what stays active as statements are added.
-use Rattle.std.proofs.Common.{◌≡◌, ◌↔◌, ℕ, zero, suc, ◌<◌, ◌≤◌, inl, inr, length, take, List, Some, subst, arith, slice_get, take-take, length-take-le}
+use Rattle.std.proofs.Common.{◌≡◌, ℕ, zero, suc, ◌<◌, ◌≤◌, inl, inr, length, take, List, Some, subst, arith, slice_get, take-take, length-take-le}
 use Rattle.std.proofs.lemmas.Bool.{cases_lt}
 use Rattle.mm_frame.specs.Sentence.{Sentence}
 use Rattle.mm_frame.specs.Active.{IsOpen, Holds, IsActive}

@@ -3,7 +3,7 @@ use Rattle.std.proofs.Common.{◌≡◌, ℕ, zero, suc, ◌+◌, ◌<◌, ◌�
 use Rattle.std.specs.List.{slice_get, position_or_len}
 use Rattle.std.proofs.lemmas.Bool.{false≢true, cases_lt}
 use Rattle.std.proofs.lemmas.Bool.Decides.{Decides-eqb}
-use Rattle.std.proofs.lemmas.List.{map_more, get_or_append_left, get_or_push, get_or_past}
+use Rattle.std.proofs.lemmas.List.{map_more, get_or_append_left, get_or_push, get_or_past, take_all}
 use Rattle.std.proofs.lemmas.Option.{same_Some}
 use Rattle.mm_frame.specs.declared.number.Sym.{Sym}
 use Rattle.mm_frame.specs.declared.hypothesis.Hypothesis.{Hypothesis}
@@ -121,3 +121,5 @@ noted_more places hs i d typing lt is noted =
     let variable : Option (Sym × Sym) → Option ℕ = option_map (λ typing. typing.1.0) in
     let pushed : variables_of (take (i + 1) hs) ≡ variables_of (take i hs) ++ variable (get_or hs i d).typing ∷ [] = map_more (λ (h : Hypothesis). variable h.typing) hs i d lt in
     subst (AreNoted places) (sym (pushed ∙ ap (λ t. variables_of (take i hs) ++ variable t ∷ []) is)) noted
+
+pub ruleset noting_steps = (take_all, noted_untyped, noted_more)

@@ -1,5 +1,5 @@
 -- Places that aren't active are dropped from the end of a list, one by one.
-use Rattle.std.proofs.Common.{◌≡◌, ℕ, zero, suc, ◌<◌, IsSome, length, List, [], ◌∷◌, ◌++◌, Option, Some, None, sym, ap, ◌∙◌, subst, append_assoc, append-nil, slice_get, option_to_list}
+use Rattle.std.proofs.Common.{◌≡◌, ℕ, zero, suc, IsSome, length, List, [], ◌∷◌, ◌++◌, Option, Some, None, sym, ap, ◌∙◌, subst, append_assoc, append-nil, slice_get, option_to_list}
 use Rattle.mm_frame.specs.Sentence.{Sentence}
 use Rattle.mm_frame.specs.Active.{IsActive}
 use Rattle.mm_frame.specs.Mirror.Forgotten.{AreForgotten}

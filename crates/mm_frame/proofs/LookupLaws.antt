@@ -16,6 +16,8 @@ use Rattle.std.proofs.Math.Seq.{take-length}
 use Rattle.mm_text.proofs.Lists.{get_within, contains_from_at, at_from_contains}
 use Rattle.std.proofs.lemmas.Option.{slice_get_within}
 use Rattle.mm_frame.proofs.NameLists.{get_alike}
+use Rattle.mm_frame.proofs.SymbolsAt.{entry_within, latest_code_says, no_first, code_match}
+use Rattle.mm_frame.proofs.Entries.{few_statements, all_statements}
 
 -- a symbol with a number is known
 pub known_number : (st : List Sentence) (names : List (List ℕ)) (infos : List SymbolInfo) (x : List ℕ) (n : ℕ) (info : SymbolInfo) → AreInfos st names infos
@@ -145,3 +147,16 @@ typed_says st x info p r meant k is h =
 -- the latest `$f` of a known variable
 pub known_latest : (st : List Sentence) (x : List ℕ) (info : SymbolInfo) (p : ℕ) → IsKnown st x info → info.floating ≡ Some p → IsLatest (GivesType x) st p
 known_latest st x info p k is = rw is at k.known.floating
+
+pub ruleset code_steps = (
+  entry_within,
+  latest_code_says,
+  no_first,
+  code_match,
+  untyped,
+  known_latest,
+)
+
+pub ruleset known_steps = (known_match, unknown)
+
+pub ruleset activity_steps = (at_end, few_statements, all_statements)

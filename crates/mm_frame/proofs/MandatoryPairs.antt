@@ -19,6 +19,7 @@ use Rattle.mm_frame.proofs.Those.{distinct_other}
 use Rattle.mm_frame.proofs.FrameLaws.{at_place}
 use Rattle.mm_frame.proofs.NameLists.{get_mapped, get_unmapped, each_pushed}
 use Rattle.mm_frame.proofs.Gather.{one_latest}
+use Rattle.mm_frame.proofs.Entries.{all_statements}
 
 one_name : (st : List Sentence) (n m : ℕ) (x y : List ℕ) → IsNumberOf st x n → IsNumberOf st y m → n ≡ m → x ≡ y
 one_name st n m x y at_n at_m same = cc
@@ -325,3 +326,5 @@ pairs_step st places variables others b i n d r pairs are same at_b lt all tells
           let true_is = tell.1 (subst (λ ys. IsDistinct ys a_is.variable b_is.variable) (sym whole) (subst (λ z. IsDistinct st z b_is.variable) x_is (subst (λ z. IsDistinct st x z) y_is distinct))) in
           cc) found),
     )
+
+pub ruleset pair_steps = (pairs_step, found_next, all_statements)

@@ -77,3 +77,5 @@ told_by_key a b bytes others same short long ends = by (cases_lt (length a) 8) (
     by (inr eight) four = told_by_ends w64 8 le_bytes_8 a b bytes others same eight long (sym (ends_of_eight a eight) ∙ ends ∙ ends_of_eight b (omega arith))
     by (inl few) (inr four) = told_by_ends w32 4 le_bytes_4 a b bytes others same four (omega arith) (sym (ends_of_four a few four) ∙ ends ∙ ends_of_four b (omega arith) (omega arith))
     by (inl few) (inl fewer) = told_by_ends w16 2 le_bytes_2 a b bytes others same short (omega arith) (sym (ends_of_two a fewer short) ∙ ends ∙ ends_of_two b (omega arith) (omega arith))
+
+pub ruleset end_steps = (ends_of_eight, ends_of_four, ends_of_two, ends_of_none)

@@ -1,6 +1,6 @@
 -- Which hypotheses an assertion needs that breaks no rule of meaning: the active `$e`, and the latest `$f` of each mandatory
 -- variable.
-use Rattle.std.proofs.Common.{◌≡◌, ◌↔◌, ℕ, suc, ◌⊎◌, inl, inr, length, take, List, [], Contains, Some, refl, subst, arith, slice_get, length-take-le}
+use Rattle.std.proofs.Common.{◌≡◌, ◌↔◌, ℕ, suc, ◌⊎◌, inl, inr, length, take, List, Contains, Some, refl, subst, arith, slice_get, length-take-le}
 use Rattle.std.proofs.lemmas.Option.{slice_get_within}
 use Rattle.std.proofs.Math.Seq.{take-length}
 use Rattle.mm_text.specs.declared.statement.Kind.TheVariants.{Constants, Variables, Essential, Closing}

@@ -14,6 +14,7 @@ use Rattle.mm_text.proofs.Lists.{get_kept, get_pushed, pushed_cases, append_case
 use Rattle.mm_text.proofs.Lists.{at_from_contains, contains_from_at}
 use Rattle.std.proofs.lemmas.List.Folds.{Any-from_list_any, list_any_at}
 use Rattle.std.proofs.lemmas.Option.{slice_get_within, get_or_from_slice_get}
+use Rattle.mm_frame.proofs.NameLists.{holds_if_ok}
 
 -- an element stands at some place
 abbrev pub At : {X : Type 0} → List X → X → Type 0
@@ -183,3 +184,5 @@ same_somes (x ∷ xs) (y ∷ ys) e =
     let more = same_somes xs ys cc in
     cc
 same_somes xs ys e = absurd cc
+
+pub ruleset adding_steps = (holds_if_ok, with_name_cases)

@@ -1,6 +1,6 @@
 -- The patterns of an assertion and of its `$e` are made.
 use Rattle.std.proofs.Common.{◌≡◌, ℕ, zero, suc, ◌+◌, ◌<◌, ◌≤◌, inl, inr, false, length, get_or, take, set, List, [], ◌∷◌, ◌++◌, map, Option, option_map, Some, sym, ap, ◌∙◌, subst, Result, append-nil, append_assoc, arith, slice_get, is_none, IfOk}
-use Rattle.std.proofs.lemmas.List.{length-map, take_more, map-append}
+use Rattle.std.proofs.lemmas.List.{length-map, take_more, map-append, take_all}
 use Rattle.std.proofs.lemmas.Option.{slice_get_within, get_or_from_slice_get}
 use Rattle.mm_frame.specs.declared.hypothesis.Hypothesis.{Hypothesis}
 use Rattle.mm_frame.specs.declared.number.LabelId.{LabelId}
@@ -194,3 +194,5 @@ all_step t log flat places numbers old hs shown pieces pieces' of have is (c, mo
     IfOk-weaker result _ _ (λ part at. rw more
     (first_all _ _ _ _ _ c _ _ have (sym all) (rw (← more) (rw is at (at)))))
     (pattern (omega arith))
+
+pub ruleset pattern_steps = (take_all, pieces_step, pieces_added, same_part)

@@ -27,6 +27,7 @@ use Rattle.mm_frame.proofs.Entries.{length-sentences, get_sliced}
 use Rattle.mm_frame.proofs.FrameLaws.{at_place}
 use Rattle.mm_frame.proofs.PairsOf.{kind_at}
 use Rattle.mm_frame.specs.declared.part.Part.{Part}
+use Rattle.mm_frame.proofs.LookupLaws.{label_number}
 
 -- the statement of a label's number
 pub labelled_at : {t : Tables} {id : ℕ} {l : List ℕ} → AreTables t
@@ -211,3 +212,5 @@ module _ (t : Tables) (id place : ℕ) (s : Sentence) (info : LabelInfo) (tables
   frame_patterns part is =
       let within = frame_there.hypotheses_in in
       rw (is within.ordered within.within) frame_there.patterned
+
+pub ruleset label_reads = (labelled_at, label_number)

@@ -22,6 +22,7 @@ use Rattle.mm_text.proofs.Lists.{at_from_contains, contains_from_at}
 use Rattle.mm_frame.proofs.Places.{SomeAt, some_says}
 use Rattle.mm_text.proofs.Lists.{get_within, pushed_cases, take_next}
 use Rattle.mm_frame.proofs.RepeatsCode.{texts_of, text_at}
+use Rattle.mm_frame.proofs.LookupLaws.{typed_says, known_latest}
 
 -- one symbol with a number is all symbols with it
 pub of_number : (st : List Sentence) (x : List ℕ) (n : ℕ) (P : List ℕ → Type 0) (r : Bool) → IsNumberOf st x n → (IsTrue r ↔ P x) → IsTrue r ↔ IsOfNumber st n P
@@ -174,3 +175,15 @@ pub no_first : (st : List Sentence) (numbers : List Sym) (xs : List (List ℕ)) 
 no_first st (m ∷ numbers) xs are none h = absurd (cc)
 no_first st [] [] are none (first, others, same, v) = absurd (cc)
 no_first st [] (x ∷ xs) are none h = absurd (let e = are.count in omega (arith, e))
+
+pub ruleset sought_steps = (sought_found, sought_missing)
+
+pub ruleset typed_steps = (
+  typed_says,
+  some_of_active,
+  known_latest,
+  of_number,
+  no_number,
+  number_info,
+  slice_get_within,
+)

@@ -12,7 +12,7 @@ use Rattle.mm_text.proofs.Lists.{get_within, contains_from_at, append_cases}
 use Rattle.mm_frame.proofs.Numbered.{symbols_grow}
 use Rattle.mm_frame.proofs.Labelled.{labelled_grow, numbered_at, numbered_get}
 use Rattle.mm_frame.proofs.FrameOf.{place_named}
-use Rattle.mm_frame.proofs.PairsOf.{two_parts}
+use Rattle.mm_frame.proofs.PairsOf.{two_parts, kind_at, some_entry}
 
 typing_grow : (st more : List Sentence) (typing : Option (Sym × Sym)) (h : Sentence) → IsTypingOf st typing h → IsTypingOf (st ++ more) typing h
 typing_grow st more None h is = is
@@ -57,3 +57,5 @@ typing_at st s places i p new formed are there number says =
     let (h, at) = get_within st p (are.within i p there) in
     let numbered = numbered_get st (length (labelled_sentences (take p st))) p h (numbered_at st p h at (place_named st s places i p h formed are there at)) in
     (h, subst (λ n. slice_get (labelled_sentences st) n ≡ Some h) (sym number) numbered, says h at (place_hypothesis st s places i p h are there at))
+
+pub ruleset typing_steps = (kind_at, some_entry, typing_says)

@@ -77,7 +77,7 @@ pub(crate) fn is_typed(tables: &Tables, variable: &[u8]) -> bool
 }
 
 // The type code that the variable's latest `$f` gives it. Each `$f` before gave the same.
-#[tactic(auto, using(crate::proofs::SymbolsAt::entry_within, crate::proofs::SymbolsAt::latest_code_says, crate::proofs::SymbolsAt::no_first, crate::proofs::SymbolsAt::code_match, crate::proofs::LookupLaws::untyped, crate::proofs::LookupLaws::known_latest,))]
+#[tactic(auto, using(crate::proofs::LookupLaws::code_steps))]
 fn latest_code<'a>(tables: &Tables<'a>, variable: &[u8]) -> Option<&'a [u8]>
     requires { AreTables tables.now }
     ensures { MatchOption

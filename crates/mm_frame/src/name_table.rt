@@ -115,9 +115,9 @@ impl<'a> Names<'a> {
         self.find_by_hash(name)
     }
 
-    /// The number of a name, if it is one of them, as `find` tells it, by the guess at its place, or
-    /// else by its hash. The guess is replaced where it is that of another name, so a name that was
-    /// looked up lately is found sooner.
+    /// The number of a name, if it is one of them, as `find` tells it, by the guess at its place,
+    /// or else by its hash. The guess is replaced where it is that of another name, so a name that
+    /// was looked up lately is found sooner.
     #[inline(never)]
     pub(crate) fn find_guessed(&self, guesses: &mut Guesses, name: &[u8]) -> Option<u32>
         ensures { MatchOption
@@ -159,7 +159,7 @@ impl<'a> Names<'a> {
     }
 
     /// Takes a name in, at the end where it is new.
-    #[tactic(auto, using(crate::proofs::NameLists::holds_if_ok, crate::proofs::Numbered::with_name_cases,))]
+    #[tactic(auto, using(crate::proofs::Numbered::adding_steps))]
     pub(crate) fn add(&mut self, name: &'a [u8])
         requires few { length self.old.names + 1 < 4294967296 }
         requires room { 0 < self.old.room }

@@ -50,7 +50,7 @@ fn push_piece(pieces: &mut Vec<ShortPiece>, piece: Piece) -> Result<(), AllocErr
 }
 
 // Adds the pattern of some symbols, and says where it stands.
-#[tactic(auto, using(std::proofs::lemmas::List::take_all, crate::proofs::Patterned::pieces_step, crate::proofs::Patterned::pieces_added, crate::proofs::Patterned::same_part,))]
+#[tactic(auto, using(crate::proofs::Patterned::pattern_steps))]
 fn push_pattern(
     pieces: &mut Vec<ShortPiece>,
     hypotheses: &[Hypothesis],

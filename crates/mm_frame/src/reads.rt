@@ -146,7 +146,7 @@ fn find_number(tables: &Tables, id: LabelId) -> Found
 }
 
 // What stands under a label.
-#[tactic(auto, using(crate::proofs::ReadLaws::labelled_at, crate::proofs::LookupLaws::label_number,))]
+#[tactic(auto, using(crate::proofs::ReadLaws::label_reads))]
 pub(crate) fn find_label(tables: &Tables, label: &[u8]) -> Found
     requires { AreTables tables.now }
     ensures { Finds (statements_of tables.now) label.now result }
@@ -158,7 +158,7 @@ pub(crate) fn find_label(tables: &Tables, label: &[u8]) -> Found
 }
 
 // What stands under a label, which is looked for by its guess first.
-#[tactic(auto, using(crate::proofs::ReadLaws::labelled_at, crate::proofs::LookupLaws::label_number,))]
+#[tactic(auto, using(crate::proofs::ReadLaws::label_reads))]
 pub(crate) fn find_label_guessed(tables: &Tables, guesses: &mut Guesses, label: &[u8]) -> Found
     requires { AreTables tables.now }
     ensures { Finds (statements_of tables.now) label.now result }

@@ -13,7 +13,7 @@ use mm_text::{Statement, Token};
 use std::alloc::AllocError;
 
 // The number of a symbol. One that isn't declared has the next free number, which no symbol has.
-#[tactic(auto, using(crate::proofs::SoughtLaws::sought_found, crate::proofs::SoughtLaws::sought_missing,))]
+#[tactic(auto, using(crate::proofs::SoughtLaws::sought_steps))]
 fn number_of(tables: &Tables, symbol: &[u8]) -> Sym
     requires { AreTables tables.now }
     ensures { IsSought (statements_of tables.now) symbol.now result.0 }
@@ -104,7 +104,7 @@ pub(crate) fn is_active_number(tables: &Tables, symbol: Sym) -> bool
 }
 
 // Whether the variable with a number has an active `$f`. No other than its latest can be active.
-#[tactic(auto, using(crate::proofs::LookupLaws::typed_says, crate::proofs::LookupLaws::some_of_active, crate::proofs::LookupLaws::known_latest, crate::proofs::SoughtLaws::of_number, crate::proofs::SoughtLaws::no_number, crate::proofs::SoughtLaws::number_info, std::proofs::lemmas::Option::slice_get_within,))]
+#[tactic(auto, using(crate::proofs::SoughtLaws::typed_steps))]
 pub(crate) fn is_typed_number(tables: &Tables, variable: Sym) -> bool
     requires { AreTables tables.now }
     ensures { IsTrue result ↔ IsOfNumber

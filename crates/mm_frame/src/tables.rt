@@ -113,7 +113,8 @@ impl<'a> Tables<'a> {
     ghost use Rattle.mm_frame.specs.Numbers.{AreNumbers, IsNumberOf};
     ghost use Rattle.mm_frame.specs.Active.{IsActive};
     ghost use Rattle.mm_frame.specs.FramePlace.{IsTypingOf};
-    ghost use Rattle.mm_frame.specs.Mirror.Layout.{AreTables, statements_of, database_of, IsDeclared};
+    ghost use Rattle.mm_frame.specs.Mirror.Layout.{AreTables, statements_of, database_of};
+    ghost use Rattle.mm_frame.specs.Mirror.Layout.{IsDeclared};
     ghost use Rattle.mm_frame.specs.Mirror.Layout.{IsKnown};
 
     /// No statements.
@@ -149,7 +150,7 @@ impl<'a> Tables<'a> {
     }
 
     /// What is known of a symbol by its name.
-    #[tactic(auto, using(crate::proofs::LookupLaws::known_match, crate::proofs::LookupLaws::unknown,))]
+    #[tactic(auto, using(crate::proofs::LookupLaws::known_steps))]
     pub(crate) fn symbol_info(&self, symbol: &[u8]) -> Option<SymbolInfo>
         requires { AreTables self.now }
         ensures { MatchOption
@@ -181,7 +182,7 @@ impl<'a> Tables<'a> {
     }
 
     /// The variable of the `$f` at a place.
-    #[tactic(auto, using(crate::proofs::PairsOf::kind_at, crate::proofs::PairsOf::some_entry, crate::proofs::Typings::typing_says,))]
+    #[tactic(auto, using(crate::proofs::Typings::typing_steps))]
     pub(crate) fn floating_variable(&self, place: usize) -> Option<Sym>
         requires { AreTables self.now }
         ensures { (f : Sentence) → slice_get (statements_of self.now) place ≡ Some f → MatchOption
@@ -203,7 +204,7 @@ impl<'a> Tables<'a> {
     }
 
     /// The type code and the variable of the `$f` at a place.
-    #[tactic(auto, using(crate::proofs::PairsOf::kind_at, crate::proofs::PairsOf::some_entry, crate::proofs::Typings::typing_says,))]
+    #[tactic(auto, using(crate::proofs::Typings::typing_steps))]
     pub(crate) fn typing(&self, place: usize) -> Option<(Sym, Sym)>
         requires { AreTables self.now }
         ensures { (f : Sentence) → slice_get (statements_of self.now) place ≡ Some f
@@ -222,7 +223,7 @@ impl<'a> Tables<'a> {
     }
 
     /// Whether the statement at a place is active now.
-    #[tactic(auto, using(crate::proofs::LookupLaws::at_end, crate::proofs::Entries::few_statements, crate::proofs::Entries::all_statements,))]
+    #[tactic(auto, using(crate::proofs::LookupLaws::activity_steps))]
     pub(crate) fn is_active_now(&self, place: usize) -> bool
         requires tables { AreTables self.now }
         requires place { place < length (statements_of self.now) }

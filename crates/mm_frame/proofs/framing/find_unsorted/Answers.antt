@@ -1,4 +1,4 @@
-use Rattle.std.proofs.Common.{◌≡◌, slice_index_or, ap, ◌∙◌, ◌++◌, []}
+use Rattle.std.proofs.Common.{slice_index_or, ap, ◌∙◌, ◌++◌}
 use Rattle.mm_frame.specs.Mirror.Gathered.{floatings}
 use Rattle.mm_frame.proofs.Gather.{gathered_first, gathered_step}
 use Rattle.std.proofs.lemmas.Option.{slice_get-get_or}

@@ -1,4 +1,4 @@
-use Rattle.std.proofs.Common.{◌≡◌, ◌+◌, Some, length, set, refl, sym, ap, ◌∙◌, subst, arith, [], append-nil}
+use Rattle.std.proofs.Common.{◌≡◌, Some, length, set, refl, sym, ap, ◌∙◌, subst, arith, [], append-nil}
 use Rattle.std.specs.List.{slice_get}
 use Rattle.mm_frame.specs.declared.part.Part.{Part}
 use Rattle.mm_frame.specs.Mirror.Patterned.{HaveFirstPatterns, AreNoted}

@@ -1,4 +1,4 @@
-use Rattle.std.proofs.Common.{◌+◌, take}
+use Rattle.std.proofs.Common.{take}
 use Rattle.mm_frame.specs.Pieces.{variables_of}
 use Rattle.mm_frame.proofs.FirstPlaces.{noted_untyped, noted_more}
 use Rattle.mm_frame.proofs.noted.NotedPlaces.note.Goals as goal

@@ -1,4 +1,4 @@
-use Rattle.std.proofs.Common.{[], not, ap, ◌∙◌}
+use Rattle.std.proofs.Common.{not, ap, ◌∙◌}
 use Rattle.mm_frame.specs.Pieces.{variables_of}
 use Rattle.mm_frame.proofs.Patterns.{variables_counted}
 use Rattle.mm_frame.proofs.FirstPlaces.{noted_longer, noted_by_some, noted_by_none}
