@@ -1,5 +1,5 @@
 -- Compressed proofs: their list, their letters, and the moves that their codes say.
-use Rattle.std.proofs.Common.{◌≡◌, ℕ, suc, ◌+◌, ◌-◌, ◌<◌, ◌≤◌, ◌⊎◌, List, [], ◌∷◌, ◌++◌, length, map, take, drop, get_or, slice_get, Contains, All, Bor, Some, Result, Ok, Err, inl, inr, ⊎_elim, refl, sym, ap, subst, ◌∙◌, arith}
+use Rattle.std.proofs.Common.{◌≡◌, ℕ, suc, ◌+◌, ◌-◌, ◌<◌, ◌≤◌, List, [], ◌∷◌, ◌++◌, length, map, take, drop, get_or, slice_get, Contains, All, Bor, Some, Result, Ok, Err, inl, inr, ⊎_elim, refl, sym, ap, subst, ◌∙◌, arith}
 use Rattle.std.specs.Prelude.{OnOk}
 use Rattle.std.specs.List.{AllZip, AllByRecursion, flat_map}
 use Rattle.std.proofs.lemmas.Option.{same_Some, slice_get_cases}
@@ -230,3 +230,5 @@ pub filled_unbroken : {X : Type 0} (r : Result X CodeFault) (cs : List Code) (te
     → OnOk r ((rule : CodeRule) → ¬ (Breaks rule text))
 filled_unbroken (Ok done) cs text h = λ rule b. let e = h rule b in absurd cc
 filled_unbroken (Err fault) cs text h = tt
+
+pub ruleset letter_steps = (joined_texts, filled_unbroken)

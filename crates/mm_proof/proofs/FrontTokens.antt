@@ -9,7 +9,8 @@ use Rattle.mm_text.specs.declared.token.Token.{Token}
 use Rattle.mm_proof.specs.Plain.{token_texts}
 use Rattle.mm_proof.specs.Tokens.{is_question, is_unknown}
 use Rattle.mm_proof.specs.KnownFront.{token_of, known_piece, known_tokens, known_text, known_front, begins_list, ends_list}
-use Rattle.mm_proof.proofs.TokenFacts.{text_at}
+use Rattle.mm_proof.proofs.TokenFacts.{text_at, front_all}
+use Rattle.mm_text.proofs.Lists.{any_found}
 
 -- ---- they have as many bytes at most
 
@@ -95,3 +96,5 @@ piece_some tokens held out place n t put is front less there first filled text =
 
 pub known_cut : (tokens : List Token) (n : ℕ) → n ≡ position_or_len is_unknown (token_texts tokens) → token_texts (take n tokens) ≡ known_tokens (token_texts tokens)
 known_cut tokens n first = texts_take tokens n ∙ ap (λ k. take k (token_texts tokens)) first
+
+pub ruleset question_steps = (any_found, any_more, front_all)

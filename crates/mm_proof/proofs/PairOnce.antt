@@ -1,6 +1,6 @@
 -- A tree has one fully shared proof at most, and is told by it.
-use Rattle.std.proofs.Common.{◌≡◌, ℕ, ◌+◌, ◌<◌, List, [], ◌∷◌, ◌++◌, map, slice_get, Some}
-use Rattle.std.proofs.Common.{◌⊎◌, inl, inr, ⊎_elim, refl, sym, ap, subst, ◌∙◌, arith}
+use Rattle.std.proofs.Common.{◌≡◌, ℕ, ◌<◌, List, [], ◌∷◌, ◌++◌, map, slice_get, Some}
+use Rattle.std.proofs.Common.{inl, inr, ⊎_elim, refl, sym, ap, subst, ◌∙◌, arith}
 use Rattle.std.specs.List.{AllZip}
 use Rattle.mm_code.specs.declared.code.Code.{Code}
 use Rattle.mm_code.specs.declared.code.Code.TheVariants.{Number, Tag}
@@ -9,7 +9,7 @@ use Rattle.mm_frame.specs.Frame.{AreMandatory, IsMandatoryAt}
 use Rattle.mm_frame.specs.Rules.{AllMeant}
 use Rattle.mm_frame.proofs.Those.{mandatory_unique}
 use Rattle.mm_proof.specs.Tree.{Trees, none, tree, spelling}
-use Rattle.mm_proof.specs.Moves.{Move, again, Makes}
+use Rattle.mm_proof.specs.Moves.{Move, Makes}
 use Rattle.mm_proof.specs.Tokens.{Says}
 use Rattle.mm_proof.specs.Sharing.{PairSays, AreFirstUses, IsPacked}
 use Rattle.mm_proof.specs.SharingLaws.{OnePacked, ToldByPacked}

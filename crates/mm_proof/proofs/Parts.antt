@@ -167,3 +167,7 @@ pub parts-moved : (n : ℕ) (xs more new : List Sym) (entries : List Entry) → 
 parts-moved n xs more new entries h within is =
     let size : length (take n xs) ≡ n = omega (arith, length-take n xs, within) in
     rw is (parts-grow (take n xs) more entries (rw size h) ∙ parts-cut n xs entries h)
+
+pub ruleset value_steps = (value-part)
+
+pub ruleset part_steps = (length-take, part-take)

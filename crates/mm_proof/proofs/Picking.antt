@@ -196,3 +196,5 @@ called_all st at entries calls marks count ids moves past all each marked n = (
       let call = zip_left (IsCallOf st at) (ids_in entries) calls o.0 n each o.1 in
       (all n).1 o.0 (omega (arith, entry_within entries o.0 n o.1, past)) o.1 (o.2, call.0, call.1, assertion_called st at n call.0 call.2 h.1),
 )
+
+pub ruleset mark_steps = (marked_more, marked_other, entry_at)

@@ -42,3 +42,5 @@ read-behind f xs base i d e less =
     let there : slice_get (drop base (map f xs)) i ≡ Some (f (get_or xs (base + i) d)) =
     drop_get (map f xs) base i ∙ slice_get-map f xs (base + i) ∙ ap (option_map f) (slice_get-get_or xs (base + i) d less) in
     get_or_from_slice_get (drop base (map f xs)) i (f (get_or xs (base + i) d)) e there
+
+pub ruleset row_steps = (take-seen, read-last, push-seen)

@@ -59,3 +59,5 @@ fields_told = record {
       ap (λ l. subtree l a.below) label ∙ ap (λ k. subtree b.label k) below;
   same = λ a. and_from _ _ (eq-eqb a.label a.label refl) (eq-eqb a.below a.below refl);
 }
+
+pub ruleset insertions = (inserted_new, numbers_told, inserted_adds, fields_told)

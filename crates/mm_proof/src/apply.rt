@@ -13,7 +13,8 @@ ghost use Rattle.mm_proof.specs.Mirror.CodeVerify.{AreVariablesOf, AreStackEntri
 ghost use Rattle.mm_proof.specs.Mirror.CodeVerify.{EachEntry};
 ghost use Rattle.mm_proof.specs.Mirror.CodeVerify.{IsRightCode, all_names_at, pairs_in};
 ghost use Rattle.mm_proof.specs.Mirror.CodeRun.{CarriesOn, StopsAt};
-ghost use Rattle.mm_proof.specs.Mirror.CodeApply.{IsAppliedAssertion, IsMatched, IsReady, IsEarlierScheme};
+ghost use Rattle.mm_proof.specs.Mirror.CodeApply.{IsAppliedAssertion, IsMatched, IsReady};
+ghost use Rattle.mm_proof.specs.Mirror.CodeApply.{IsEarlierScheme};
 
 use crate::fault::{ProofFault, ProofRule};
 use crate::pairs::{are_apart_pairs, has_shared_pair};

@@ -1,7 +1,8 @@
 //! The known front of an incomplete proof: what stands before its first unknown step (the Metamath
 //! book, section 4.4.4 and appendix B).
 
-ghost use Rattle.std.specs.Prelude.{◌≡◌, ◌↔◌, ◌≤◌, [], ◌∷◌, ◌++◌, take, slice_get, length, IfOk, IsTrue};
+ghost use Rattle.std.specs.Prelude.{◌≡◌, ◌↔◌, ◌≤◌, [], ◌∷◌, ◌++◌, take, slice_get, length, IfOk};
+ghost use Rattle.std.specs.Prelude.{IsTrue};
 ghost use Rattle.std.specs.List.{position_or_len};
 ghost use Rattle.mm_text.specs.Items.{spells};
 ghost use Rattle.mm_proof.specs.Tokens.{is_question, is_unknown, closing_token};
@@ -73,6 +74,7 @@ fn is_closing(text: &[u8]) -> bool
 }
 
 // Whether one of the tokens is `)`.
+#[tactic(auto, using(crate::proofs::FrontTokens::question_steps))]
 fn ends_list(tokens: &[Token]) -> bool
     ensures { result ≡ ends_list (token_texts tokens.now) }
 {

@@ -13,6 +13,7 @@ ghost use Rattle.mm_proof.specs.SharingLaws.{StepsMakeChildren, FewestSteps, Tol
 /// After statements that break no rule of meaning, trees that fit (each leaf names an active
 /// hypothesis, each node an earlier assertion, with as many trees below as it has mandatory
 /// hypotheses) and have equal spellings are equal, whether they derive anything or not.
+#[tactic(auto, using(crate::proofs::Making::one_fit_holds))]
 pub fn one_fit()
     ensures { OneFit }
 {}
@@ -145,8 +146,8 @@ pub fn tag_over_marks()
 
 /// A tree has one fully shared proof at most.
 ///
-/// After statements that break no rule of meaning, two fully shared proofs of one tree have the same
-/// listed labels and the same codes.
+/// After statements that break no rule of meaning, two fully shared proofs of one tree have the
+/// same listed labels and the same codes.
 pub fn one_packed()
     ensures { OnePacked }
 {}

@@ -157,8 +157,8 @@ fn lines_of_proof(
 ///
 /// # Errors
 ///
-/// `Memory` where a growth was refused. Moves, not of a front, that don't prove the `$p` are answered with their
-/// first fault, as `verify` does.
+/// `Memory` where a growth was refused. Moves, not of a front, that don't prove the `$p` are
+/// answered with their first fault, as `verify` does.
 pub fn listing(
     alloc: Global,
     book: &Book,

@@ -36,12 +36,13 @@ impl Model for Steps {
 
     ghost use Rattle.mm_proof.specs.Plain.{moves_in};
 
-    ghost view = { λ s. record { profile = s.profile; front = s.front; moves = moves_in s.moves.items } };
+    ghost view = { λ s.
+        record { profile = s.profile; front = s.front; moves = moves_in s.moves.items } };
 }
 
 impl Steps {
-    /// Whether these are the moves of the known front of an incomplete proof: those before its first
-    /// unknown step (the Metamath book, section 4.4.4).
+    /// Whether these are the moves of the known front of an incomplete proof: those before its
+    /// first unknown step (the Metamath book, section 4.4.4).
     pub fn is_front(&self) -> bool
         ensures { result ≡ self.now.front }
     {

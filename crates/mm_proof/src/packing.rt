@@ -1,5 +1,5 @@
-//! The fully shared proof of a tree: its listed labels and its codes (the Metamath book, section 4.3
-//! and appendix B).
+//! The fully shared proof of a tree: its listed labels and its codes (the Metamath book, section
+//! 4.3 and appendix B).
 
 ghost use Rattle.std.specs.Prelude.{◌≡◌, ◌≤◌, ◌<◌, ◌↔◌, ◌++◌, ℕ, List, [], length, take, Contains};
 ghost use Rattle.std.specs.Prelude.{All, IfOk, OnOk, false};
@@ -13,7 +13,8 @@ ghost use Rattle.mm_proof.specs.Packing.{OfTree, ArePacked};
 ghost use Rattle.mm_proof.specs.Steps.{AreSteps};
 ghost use Rattle.mm_proof.specs.Verified.{OfMoves};
 ghost use Rattle.mm_proof.specs.Plain.{ids_in, label_ids};
-ghost use Rattle.mm_proof.specs.Mirror.CodeSharing.{AreFirstNumbers, labels_made, IsEncoded, AreEncoded};
+ghost use Rattle.mm_proof.specs.Mirror.CodeSharing.{AreFirstNumbers, labels_made, IsEncoded};
+ghost use Rattle.mm_proof.specs.Mirror.CodeSharing.{AreEncoded};
 ghost use Rattle.mm_proof.specs.Mirror.CodeSharing.{AreStepsPacked, AreMadeBefore};
 
 use crate::builder::build;
@@ -31,8 +32,8 @@ use std::alloc::{AllocError, Global};
 pub struct Packed {
     /// The listed labels.
     pub labels: Vec<LabelId>,
-    /// What the letters say. The first numbers stand for the mandatory hypotheses, the next ones for
-    /// the listed labels, and those above for tags.
+    /// What the letters say. The first numbers stand for the mandatory hypotheses, the next ones
+    /// for the listed labels, and those above for tags.
     pub codes: Vec<Code>,
 }
 
@@ -66,7 +67,8 @@ fn hypothesis_labels(
     Ok(labels)
 }
 
-// The labels by which the steps make trees, without those that are given: they are put behind those.
+// The labels by which the steps make trees, without those that are given: they are put behind
+// those.
 fn list_labels(
     alloc: Global,
     labels: &mut LabelSet,
@@ -175,9 +177,10 @@ fn pack(
     Ok(Packed { labels, codes })
 }
 
-/// The fully shared proof of the tree that the steps of the `$p` with this number make: each subtree
-/// of two or more nodes is made once, and tagged where it is used again. They are handed in where
-/// they make one tree: so does a whole proof that `verify` accepts. The proof's own tree is never written out.
+/// The fully shared proof of the tree that the steps of the `$p` with this number make: each
+/// subtree of two or more nodes is made once, and tagged where it is used again. They are handed in
+/// where they make one tree: so does a whole proof that `verify` accepts. The proof's own tree is
+/// never written out.
 ///
 /// # Errors
 ///

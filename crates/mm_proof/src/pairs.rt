@@ -10,7 +10,8 @@ ghost use Rattle.mm_proof.specs.Tree.{ShareNoVariable, AreDistinct};
 ghost use Rattle.mm_proof.specs.Stores.{numbers_in};
 ghost use Rattle.mm_proof.specs.Mirror.CodeVerify.{AreDeclaredSymbols, AreStackEntries, SomeValues};
 ghost use Rattle.mm_proof.specs.Mirror.CodeVerify.{EachValues};
-ghost use Rattle.mm_proof.specs.Mirror.CodeVerify.{SomePairValues, EachPairValues, pairs_in, value_of};
+ghost use Rattle.mm_proof.specs.Mirror.CodeVerify.{SomePairValues, EachPairValues, pairs_in};
+ghost use Rattle.mm_proof.specs.Mirror.CodeVerify.{value_of};
 ghost use Rattle.mm_proof.specs.Mirror.CodeVerify.{IsApart, IsApartFromEach, name_at};
 ghost use Rattle.mm_proof.specs.Mirror.CodeVerify.{names_at};
 

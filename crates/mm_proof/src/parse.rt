@@ -20,7 +20,8 @@ ghost use Rattle.mm_proof.specs.ReadSteps.{ReadSteps};
 ghost use Rattle.mm_proof.specs.KnownFront.{known_front};
 ghost use Rattle.mm_proof.specs.Strict.{HasFormOf, IsTextFault};
 ghost use Rattle.mm_proof.specs.Parsed.{OfProof, SaySteps};
-ghost use Rattle.mm_proof.specs.Mirror.CodeSteps.{IsReading, NumberSays, MayAllBeUsed, AreFor, fault_behind};
+ghost use Rattle.mm_proof.specs.Mirror.CodeSteps.{IsReading, NumberSays, MayAllBeUsed, AreFor};
+ghost use Rattle.mm_proof.specs.Mirror.CodeSteps.{fault_behind};
 ghost use Rattle.mm_proof.specs.Plain.{ids_in, label_ids, move_in, moves_in, token_texts};
 ghost use Rattle.mm_code.specs.Layout.{texts};
 ghost use Rattle.mm_proof.specs.Mirror.CodeRun.{ArePicked, AreMarked};
@@ -73,6 +74,7 @@ impl<'a> ParseLists<'a> {
 }
 
 /// Whether some token holds a `?`.
+#[tactic(auto, using(crate::proofs::FrontTokens::question_steps))]
 pub(crate) fn is_incomplete(tokens: &[Token]) -> bool
     ensures { result ≡ is_incomplete (token_texts tokens.now) }
 {
@@ -124,6 +126,7 @@ fn fill_normal(lists: &mut ParseLists, site: &Site, tokens: &[Token]) -> Result<
 
 // The move that a code says, where numbers stand for these labels and then for tags. The label that
 // it names is marked.
+#[tactic(auto, using(crate::proofs::Picking::mark_steps))]
 fn move_of(entries: &[LabelId], marks: &mut Vec<bool>, code: Code) -> NumberedMove
     requires spelled { HasSpelling code }
     requires long { length marks.old.items ≡ length entries.now }
@@ -231,6 +234,7 @@ fn fill_texts<'a>(pieces: &mut Vec<&'a [u8]>, tokens: &[Token<'a>]) -> Result<()
 }
 
 // Fills the list with the codes of the letters.
+#[tactic(auto, using(crate::proofs::Compressed::letter_steps))]
 fn read_letters<'a>(
     pieces: &mut Vec<&'a [u8]>,
     codes: &mut Vec<Code>,
@@ -501,9 +505,10 @@ fn tokens_with<'a>(alloc: Global, pieces: &[&'a [u8]]) -> Result<Vec<Token<'a>>,
 }
 
 impl Steps {
-    /// The moves that the tokens say as a proof of the `$p` with this number, which are judged under
-    /// the profile; or, where a step is unknown, those of the known front; or the first of P1 to P5 and
-    /// then P15 that they break, at step 0. The front is judged as the tokens of a whole proof are.
+    /// The moves that the tokens say as a proof of the `$p` with this number, which are judged
+    /// under the profile; or, where a step is unknown, those of the known front; or the first of P1
+    /// to P5 and then P15 that they break, at step 0. The front is judged as the tokens of a whole
+    /// proof are.
     pub fn parse(
         alloc: Global,
         profile: Profile,

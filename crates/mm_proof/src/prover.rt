@@ -197,7 +197,8 @@ impl<'a> Prover<'a> {
             → OfProof self.old.book.statements id.0 (λ place s.
             (rule : ProofRule) → (step : ℕ)
             → IsFaultUnder profile (take place self.old.book.statements) s
-            (token_texts tokens.now) rule step → IsUnlessMemory result (Err (ProofFault.Rule rule step))) }
+            (token_texts tokens.now) rule step
+            → IsUnlessMemory result (Err (ProofFault.Rule rule step))) }
 
         // Where a step is unknown, the rule and the step are those of the front's first fault.
         ensures front_fault { IsIncomplete (token_texts tokens.now)
@@ -217,7 +218,8 @@ impl<'a> Prover<'a> {
             → OfProof self.old.book.statements id.0 (λ place s.
             (rule : ProofRule) → (step : ℕ)
             → IsFrontFaultUnder profile (take place self.old.book.statements) s
-            (token_texts tokens.now) rule step → IsUnlessMemory result (Err (ProofFault.Rule rule step))) }
+            (token_texts tokens.now) rule step
+            → IsUnlessMemory result (Err (ProofFault.Rule rule step))) }
 
         // What is not answered to be complete uses nothing.
         ensures unproved { result ≢ Ok Proved.Complete → self.new.used ≡ [] }
@@ -359,8 +361,9 @@ fn prove_in_frame<'a>(
     }
 }
 
-// Whether the tokens prove the `$p` with the number and have the form that the profile demands, by a
-// list of their moves: fills the list with the assertions of its tree, or tells their first fault.
+// Whether the tokens prove the `$p` with the number and have the form that the profile demands, by
+// a list of their moves: fills the list with the assertions of its tree, or tells their first
+// fault.
 fn prove_under<'a>(
     scratch: &mut Scratch<'a>,
     book: &Book,
@@ -393,7 +396,8 @@ fn prove_under<'a>(
 }
 
 // Whether the tokens prove the `$p` with the number: fills the list with the assertions of its
-// tree, or tells their first fault. The lenient profile demands no form, and needs no list of moves.
+// tree, or tells their first fault. The lenient profile demands no form, and needs no list of
+// moves.
 fn prove_by_profile<'a>(
     scratch: &mut Scratch<'a>,
     book: &Book,

@@ -12,7 +12,8 @@ ghost use Rattle.mm_proof.specs.Stores.{numbers_in};
 ghost use Rattle.mm_proof.specs.Plain.{label_ids};
 ghost use Rattle.mm_proof.specs.Mirror.CodeVerify.{AreHypothesesOf, AreVariablesOf, EachIsSome};
 ghost use Rattle.mm_proof.specs.Mirror.CodeVerify.{AreBelow, names_at, all_names_at, IsRightCode};
-ghost use Rattle.mm_proof.specs.Mirror.CodeVerify.{IsWrongCode, IsEqual, IsUnequal, EachEntry, Replaces};
+ghost use Rattle.mm_proof.specs.Mirror.CodeVerify.{IsWrongCode, IsEqual, IsUnequal, EachEntry};
+ghost use Rattle.mm_proof.specs.Mirror.CodeVerify.{Replaces};
 ghost use Rattle.mm_proof.specs.Proof.{SomePair};
 
 use crate::store::Store;
