@@ -29,8 +29,7 @@ use Rattle.mm_check.proofs.Saving.{with_bytes_is, home_file}
 use Rattle.mm_check.proofs.Unproved.{none_incomplete}
 use Rattle.mm_check.proofs.SavedStatements.{front_told}
 use Rattle.mm_check.proofs.FileTheorems.{theorem_there}
-use Rattle.mm_check.proofs.AllSavedFiles.{IsSavedAs, saved_as_at, AreAllPut}
-use Rattle.mm_check.proofs.AllSavedFiles.{are_all_put}
+use Rattle.mm_check.proofs.AllSavedFiles.{IsSavedAs, saved_as_at, AreAllPut, are_all_put}
 
 -- ---- after one file was saved
 

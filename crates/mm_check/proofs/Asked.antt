@@ -4,7 +4,7 @@ use Rattle.std.specs.List.{AllByRecursion, list_any}
 use Rattle.std.proofs.lemmas.Bool.{or_cases, eqb-true, or_right}
 use Rattle.mm_text.specs.declared.statement.Kind.{Kind}
 use Rattle.mm_text.specs.declared.statement.Kind.TheVariants.{Axiom, Provable}
-use Rattle.mm_text.specs.Statement.{PlainStatement}
+use Rattle.mm_text.specs.Statement.{PlainStatement, is_provable}
 use Rattle.mm_frame.specs.declared.number.LabelId.{LabelId}
 use Rattle.mm_frame.specs.declared.number.LabelKind.{LabelKind}
 use Rattle.mm_frame.specs.declared.number.LabelKind.TheVariants as label_kinds
@@ -25,7 +25,6 @@ use Rattle.mm_proof.proofs.Making.{makes_once}
 use Rattle.mm_proof.specs.Tokens.{is_incomplete}
 use Rattle.mm_check.specs.Conclusion.{Conclusion, ProofUses, numbers_of, labels_in}
 use Rattle.mm_check.specs.Verdict.{sentences, proof_of, is_proof, is_unproved}
-use Rattle.mm_text.specs.Statement.{is_provable}
 use Rattle.mm_check.specs.Rests.{IsAt, IsNumberWhere, AreInOrder, tree_of, HasTree, Uses, AreUses, RestsOn, IsNamed, IsReport}
 use Rattle.mm_check.specs.Answer.{IsKeptOf}
 use Rattle.mm_proof.specs.Plain.{ids_in}

@@ -9,7 +9,7 @@ use Rattle.mm_proof.specs.declared.profile.Profile.{Profile}
 use Rattle.mm_check.specs.declared.fault.CheckFault.{CheckFault}
 use Rattle.mm_check.specs.declared.progress.Progress.{Progress}
 use Rattle.mm_check.specs.Conclusion.{Conclusion, labels_in}
-use Rattle.mm_check.specs.Verdict.{Verdict, HasFault, Obeys, HasVerdict, AreAccepted, CanBeRead, sentences, labels_of, unproved_of, proofs_of, refusal_of}
+use Rattle.mm_check.specs.Verdict.{Verdict, HasFault, Obeys, HasVerdict, AreAccepted, CanBeRead, labels_of, unproved_of, proofs_of, refusal_of}
 use Rattle.mm_check.specs.Answer.{verdict_of_fault, verdict_of_conclusion, verdict_where_incomplete, labels_at, IsVerdict, KeepsLabels, KeepsCounts, KeepsUses}
 use Rattle.mm_check.specs.Mirror.Judged.{IsUnderWay, IsAtEnd, GoesOn, Knows, Takes}
 use Rattle.mm_check.specs.Mirror.Judged.{RefusesAfter, RefusesEnd, TakesNext}

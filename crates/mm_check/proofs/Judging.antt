@@ -1,5 +1,5 @@
 -- What is said of the last statement's proof, from what the parser and the verifier say.
-use Rattle.std.proofs.Common.{◌≡◌, ℕ, List, [], ◌∷◌, ◌++◌, map, take, length, slice_get, is_some, Bool, true, false, ◌||◌, Option, Some, option_map, Result, Ok, Err, MatchResult, inl, inr, refl, sym, ap, subst, ◌∙◌}
+use Rattle.std.proofs.Common.{◌≡◌, ℕ, List, [], ◌∷◌, ◌++◌, map, take, length, slice_get, is_some, Bool, true, false, ◌||◌, Option, Some, option_map, Result, Ok, Err, MatchResult, inl, inr, refl, sym, ap, ◌∙◌}
 use Rattle.std.specs.List.{list_any}
 use Rattle.std.proofs.lemmas.Bool.{both_ways, false_from_ne_true}
 use Rattle.std.proofs.Math.Seq.{take-append_seam}
@@ -23,15 +23,13 @@ use Rattle.mm_proof.specs.declared.profile.Profile.{Profile}
 use Rattle.mm_proof.specs.Profiles.{limit_of}
 use Rattle.mm_proof.specs.Strict.{HasFormOf}
 use Rattle.mm_proof.specs.UnderProfile.{IsFaultUnder, IsFrontAllowedUnder, IsFrontFaultUnder}
-use Rattle.mm_text.proofs.Lists.{one_parting}
+use Rattle.mm_text.proofs.Lists.{one_parting, get_pushed}
 use Rattle.mm_text.specs.Files.{PlainFile}
-use Rattle.mm_text.proofs.Lists.{get_pushed}
 use Rattle.mm_frame.specs.Rules.{IsMeant}
 use Rattle.mm_check.specs.declared.rule.Rule.{Rule}
 use Rattle.mm_check.specs.declared.fault.CheckFault.{CheckFault}
 use Rattle.mm_check.specs.declared.progress.Progress.{Progress}
-use Rattle.mm_check.specs.Verdict.{Refused, proof_of, proof_rule, refusal_of}
-use Rattle.mm_check.specs.Verdict.{IsProofFault}
+use Rattle.mm_check.specs.Verdict.{Refused, proof_of, proof_rule, refusal_of, IsProofFault}
 use Rattle.mm_check.specs.Mirror.Judged.{IsLastProof, IsJudged, Fails, RefusesProof, RefusesAfter}
 use Rattle.mm_check.proofs.Unproved.{proof_there, unproved_there}
 

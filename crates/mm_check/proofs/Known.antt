@@ -10,7 +10,7 @@ use Rattle.std.proofs.lemmas.Bool.{and_parts}
 use Rattle.mm_text.specs.declared.statement.Kind.{Kind}
 use Rattle.mm_text.specs.declared.statement.Kind.TheVariants.{Provable}
 use Rattle.mm_text.specs.Token.{PlainToken}
-use Rattle.mm_text.specs.Statement.{PlainStatement, HasForm, HasLabel, bytes_in}
+use Rattle.mm_text.specs.Statement.{PlainStatement, HasForm, HasLabel, bytes_in, is_provable}
 use Rattle.mm_frame.specs.Sentence.{Sentence, sentence_of}
 use Rattle.mm_frame.specs.Numbers.{labelled_sentences}
 use Rattle.mm_frame.specs.declared.number.LabelId.{LabelId}
@@ -20,7 +20,6 @@ use Rattle.mm_proof.specs.Tokens.{is_incomplete}
 use Rattle.mm_check.specs.declared.progress.Progress.{Progress}
 use Rattle.mm_check.specs.Conclusion.{labels_in}
 use Rattle.mm_check.specs.Verdict.{sentences, labels_of, label_of, unproved_of, is_proof, is_unproved, proof_of}
-use Rattle.mm_text.specs.Statement.{is_provable}
 use Rattle.mm_text.proofs.Lists.{get_pushed}
 use Rattle.mm_check.specs.Mirror.Judged.{Knows, Takes, KeepsProof}
 use Rattle.mm_check.specs.Rests.{IsNumberWhere, AreInOrder}

@@ -2,7 +2,7 @@
 use Rattle.std.proofs.Common.{◌≡◌, ℕ, zero, suc, ◌+◌, ◌<◌, List, [], ◌∷◌, ◌++◌, take, length, get_or, slice_get, codes, decimal, Some, Result, Err, sym, ap, subst, ◌∙◌, arith, append_assoc, append-nil}
 use Rattle.std.specs.List.{AllZip, AllByRecursion}
 use Rattle.std.specs.Result.{IsOkUnless}
-use Rattle.std.proofs.lemmas.List.{take_more, map-append}
+use Rattle.std.proofs.lemmas.List.{take_more, map-append, take_all}
 use Rattle.std.proofs.lemmas.Grind.{flat_map-append}
 use Rattle.std.proofs.lemmas.Option.{slice_get-get_or}
 use Rattle.mm_frame.specs.declared.number.Sym.{Sym}
@@ -84,3 +84,5 @@ one_more_line steps at step e =
 pub no_rule_fault : {X : Type 0} (result : Result X ProofFault) (rule : ProofRule) (step : ℕ) → result ≡ Err (faults.Rule rule step) → IsOkUnless result faults.Memory → ⊥
 no_rule_fault {X} result rule step is unless =
     let e : faults.Rule rule step ≡ faults.Memory = subst (λ (r : Result X ProofFault). IsOkUnless r faults.Memory) is unless in cc
+
+pub ruleset symbol_steps = (take_all, one_more_symbol)

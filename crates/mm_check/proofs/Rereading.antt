@@ -2,7 +2,7 @@
 use Rattle.std.proofs.Common.{◌≡◌, ℕ, zero, suc, ◌≤◌, List, [], ◌∷◌, ◌++◌, map, take, drop, length, sum_by, slice_get, Bool, true, false, not, ◌&&◌, Option, Some, None, refl, sym, ap, subst, ◌∙◌, arith}
 use Rattle.std.proofs.lemmas.List.Sums.{sum_by-cons}
 use Rattle.mm_text.specs.Token.{PlainToken}
-use Rattle.mm_text.specs.Statement.{PlainStatement, bytes_in}
+use Rattle.mm_text.specs.Statement.{PlainStatement, bytes_in, is_provable}
 use Rattle.mm_text.specs.Files.{most_bytes, PlainFile}
 use Rattle.mm_text.specs.Reading.{PlainFault, Reads}
 use Rattle.mm_text.specs.Remaining.{Remaining}
@@ -16,7 +16,6 @@ use Rattle.mm_frame.proofs.NameLists.{get_mapped}
 use Rattle.mm_proof.specs.declared.profile.Profile.{Profile}
 use Rattle.mm_check.specs.Conclusion.{Conclusion}
 use Rattle.mm_check.specs.Verdict.{AllObey, AreAccepted, CanBeRead, sentences, proof_of, is_proof}
-use Rattle.mm_text.specs.Statement.{is_provable}
 use Rattle.mm_check.specs.Answer.{IsKeptOf}
 use Rattle.mm_check.specs.Mirror.Judged.{TakesNext}
 use Rattle.mm_check.specs.Mirror.Marks.{IsKeptFrom, IsKeptWell}

@@ -7,13 +7,12 @@ use Rattle.std.proofs.lemmas.Bool.{and_parts}
 use Rattle.mm_text.specs.declared.statement.Kind.{Kind}
 use Rattle.mm_text.specs.declared.statement.Kind.TheVariants.{Provable}
 use Rattle.mm_text.specs.Token.{PlainToken}
-use Rattle.mm_text.specs.Statement.{PlainStatement, HasForm}
+use Rattle.mm_text.specs.Statement.{PlainStatement, HasForm, is_provable}
 use Rattle.mm_frame.specs.Sentence.{Sentence, sentence_of}
 use Rattle.mm_frame.specs.Rules.{AllMeant, IsMeant}
 use Rattle.mm_proof.specs.declared.profile.Profile.{Profile}
 use Rattle.mm_proof.specs.Tokens.{is_incomplete}
 use Rattle.mm_check.specs.Verdict.{AllObey, Obeys, sentences, proof_of, label_of, unproved_of, is_proof, is_unproved}
-use Rattle.mm_text.specs.Statement.{is_provable}
 use Rattle.mm_text.proofs.GrammarSteps.{is_provable-true}
 use Rattle.mm_text.proofs.Lists.{all_back, last_cut}
 use Rattle.mm_check.proofs.Known.{provable_label, unproved_of-append}

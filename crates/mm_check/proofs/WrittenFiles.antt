@@ -30,11 +30,9 @@ use Rattle.mm_check.specs.Saved.{FitsSaved, total_with}
 use Rattle.mm_check.specs.AllSaved.{Replacement, IsReplacement, with_replaced, is_theorem_of}
 use Rattle.mm_check.specs.AllSaved.{theorems_of, IsAllSaved, IsFirstTooLong, IsSavingAllFault}
 use Rattle.mm_check.specs.Mirror.Judged.{GoesOn, IsUnderWay}
-use Rattle.mm_check.specs.Mirror.AllSaving.{IsTheoremAmong, replacement}
-use Rattle.mm_check.specs.Mirror.AllSaving.{IsLastEnd}
+use Rattle.mm_check.specs.Mirror.AllSaving.{IsTheoremAmong, replacement, IsLastEnd, IsAllWritten}
 use Rattle.mm_check.specs.Mirror.AllSaving.{PutsProof, KeepsLabel, IsWhole, IsFinishFault}
 use Rattle.mm_check.specs.Mirror.AllSaving.{AreReplacedSoFar, IsSoFar, IsWrittenSoFar}
-use Rattle.mm_check.specs.Mirror.AllSaving.{IsAllWritten}
 use Rattle.mm_check.proofs.Course.{end_accepted}
 use Rattle.mm_check.proofs.FileTheorems.{theorem_complete, theorem_home, theorems_parted}
 use Rattle.mm_check.proofs.FileTheorems.{theorems_passed, replaced_by, first_too_long}

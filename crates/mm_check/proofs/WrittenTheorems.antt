@@ -25,8 +25,7 @@ use Rattle.mm_check.specs.Saved.{IsTextIn}
 use Rattle.mm_check.specs.AllSaved.{IsReplacement}
 use Rattle.mm_check.specs.Mirror.Theorems.{IsProofOf, SayStepsOf, AreProvedSteps, AreStepsOf}
 use Rattle.mm_check.specs.Mirror.Rewriting.{IsTextOf, IsTextFault}
-use Rattle.mm_check.specs.Mirror.AllSaving.{IsTheoremAmong, IsTheoremFault}
-use Rattle.mm_check.specs.Mirror.AllSaving.{replacement}
+use Rattle.mm_check.specs.Mirror.AllSaving.{IsTheoremAmong, IsTheoremFault, replacement}
 use Rattle.mm_check.proofs.Asked.{map-take, hypothesis_other}
 use Rattle.mm_check.proofs.Rereading.{said_there, proof_stands}
 use Rattle.mm_check.proofs.Theorems.{tree_told}

@@ -92,7 +92,8 @@ impl<'a> Checked<'a> {
         progress: Progress<'a>,
     ) -> Checked<'a>
         requires { IsKeptWell profile (map plain_file files.now)
-            progress.prover.book.statements (map (λ id. id.0) progress.incomplete.items) progress.kept }
+            progress.prover.book.statements (map (λ id. id.0) progress.incomplete.items)
+            progress.kept }
         ensures profile { result.profile ≡ profile }
         ensures files { result.files ≡ map plain_file files.now }
         ensures statements { result.statements ≡ progress.entry.count }
@@ -281,18 +282,18 @@ impl<'a> Checked<'a> {
         packed_text(alloc, &self.book, &theorem)
     }
 
-    /// Whether a text, as a proof of the `$p` with this label, is the same proof as its own: whether
-    /// both make the same tree. It is judged under the profile that the database obeys.
+    /// Whether a text, as a proof of the `$p` with this label, is the same proof as its own:
+    /// whether both make the same tree. It is judged under the profile that the database obeys.
     ///
     /// The text is cut into tokens by white space, and has no comments.
     ///
     /// # Errors
     ///
     /// As for `axioms`, before anything is said of the text; then `Text` with the first rule that
-    /// the text breaks, and its step: `F3` where it has over 1,073,741,824 bytes, `X1` where a token
-    /// holds a byte that none may hold, `X9` where one holds a `$`, `A3` where one holds a `?`, all
-    /// of them at step 0; then the rules of a proof: `P1` to `P5`; `P15` where the profile is strict
-    /// and the text hasn't the form that it demands; `P6` to `P14` and `L1`.
+    /// the text breaks, and its step: `F3` where it has over 1,073,741,824 bytes, `X1` where a
+    /// token holds a byte that none may hold, `X9` where one holds a `$`, `A3` where one holds a
+    /// `?`, all of them at step 0; then the rules of a proof: `P1` to `P5`; `P15` where the profile
+    /// is strict and the text hasn't the form that it demands; `P6` to `P14` and `L1`.
     pub fn same_text(&self, alloc: Global, label: &[u8], text: &[u8]) -> Result<bool, AskFault>
         ensures compared { IfOk result (λ same. (statements : List PlainStatement)
             → Reads self.now.files statements None

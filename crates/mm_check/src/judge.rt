@@ -68,8 +68,8 @@ fn judge_proof<'a>(
     prover.prove(profile, id, &statement.proof)
 }
 
-/// Judges the proof of a `$p`, which the book took last, counts it and keeps what it uses; or judges
-/// what is known of it, and notes that it is incomplete.
+/// Judges the proof of a `$p`, which the book took last, counts it and keeps what it uses; or
+/// judges what is known of it, and notes that it is incomplete.
 fn prove<'a>(
     profile: Profile,
     files: &[File<'a>],

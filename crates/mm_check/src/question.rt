@@ -278,8 +278,8 @@ fn same_answer(
     }
 }
 
-/// The reply of a database in which nothing is at fault to the question for the bytes of a file with
-/// a proof in a form.
+/// The reply of a database in which nothing is at fault to the question for the bytes of a file
+/// with a proof in a form.
 fn saved_answer(
     alloc: Global,
     checked: &Checked,

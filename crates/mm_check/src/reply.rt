@@ -129,6 +129,7 @@ fn push_incomplete(
 }
 
 /// The lines of a database in which nothing is at fault.
+#[tactic(auto, using(crate::proofs::Lines::text_of_some))]
 fn push_conclusion(out: &mut Vec<u8>, checked: &Checked) -> Result<(), AllocError>
     ensures { OnOk result (out.new.items ≡ out.old.items
         ++ text_at [] (verdict_of_conclusion checked.now)) }

@@ -33,7 +33,9 @@ fn with_text(
     Ok(new)
 }
 
-/// The most bytes that the file with a number may have, so that the files have no more than they may.
+/// The most bytes that the file with a number may have, so that the files have no more than they
+/// may.
+#[tactic(auto, using(crate::proofs::Saving::own_within, crate::proofs::Saving::file_most))]
 pub(crate) fn most_for(files: &[File], number: usize) -> usize
     requires there { number < length files.now }
     requires within { total_bytes (map plain_file files.now) ≤ most_bytes }

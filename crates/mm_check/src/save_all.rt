@@ -185,8 +185,8 @@ impl<'a> NewFile<'a> {
         Ok(())
     }
 
-    /// Puts the proof of a theorem of a book in place of the one that it has; or keeps the theorem's
-    /// label, where its normal proof is too long. What the list of tokens held is lost.
+    /// Puts the proof of a theorem of a book in place of the one that it has; or keeps the
+    /// theorem's label, where its normal proof is too long. What the list of tokens held is lost.
     fn write(
         &mut self,
         alloc: Global,
@@ -231,8 +231,8 @@ impl<'a> NewFile<'a> {
     }
 }
 
-/// Reads the statements that are left and judges each, and writes anew each complete proof of a file
-/// as it is met.
+/// Reads the statements that are left and judges each, and writes anew each complete proof of a
+/// file as it is met.
 fn write_rest<'a>(
     alloc: Global,
     files: &[File<'a>],

@@ -66,6 +66,7 @@ fn is_printable(token: &[u8]) -> bool
 }
 
 /// Whether each byte of the tokens is one that a token may hold.
+#[tactic(auto, using(crate::proofs::Texts::all_fail))]
 fn all_printable(tokens: &[&[u8]]) -> bool
     ensures { result ≡ are_printable (texts tokens.now) }
 {
@@ -85,6 +86,7 @@ fn has_dollar(token: &[u8]) -> bool
 }
 
 /// Whether some token holds a `$`.
+#[tactic(auto, using(mm_text::proofs::Lists::any_found))]
 fn any_dollar(tokens: &[&[u8]]) -> bool
     ensures { result ≡ hold_dollar (texts tokens.now) }
 {
@@ -104,6 +106,7 @@ pub(crate) fn has_question(token: &[u8]) -> bool
 }
 
 /// Whether some token holds a `?`.
+#[tactic(auto, using(mm_text::proofs::Lists::any_found))]
 fn any_question(tokens: &[&[u8]]) -> bool
     ensures { result ≡ is_incomplete (texts tokens.now) }
 {

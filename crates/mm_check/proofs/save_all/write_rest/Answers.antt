@@ -1,13 +1,11 @@
 -- A theorem's proof is written once it is judged, and another statement is passed over.
-use Rattle.std.proofs.Common.{◌≡◌, List, [], ◌∷◌, ◌++◌, map, sym, ap, subst, ◌∙◌}
-use Rattle.std.proofs.Common.{◌⊎◌}
+use Rattle.std.proofs.Common.{◌≡◌, List, [], ◌∷◌, ◌++◌, map, sym, ap, subst, ◌∙◌, ◌⊎◌}
 use Rattle.mm_text.specs.Statement.{PlainStatement, plain_statement}
 use Rattle.mm_text.specs.Files.{PlainFile, plain_file}
 use Rattle.mm_frame.specs.Sentence.{Sentence}
 use Rattle.mm_proof.specs.declared.profile.Profile.TheVariants.{Lenient}
 use Rattle.mm_check.specs.Mirror.Judged.{IsUnderWay}
-use Rattle.mm_check.specs.Mirror.AllSaving.{IsTheoremAmong, IsWrittenSoFar}
-use Rattle.mm_check.specs.Mirror.AllSaving.{PutsProof, KeepsLabel}
+use Rattle.mm_check.specs.Mirror.AllSaving.{IsTheoremAmong, IsWrittenSoFar, PutsProof, KeepsLabel}
 use Rattle.mm_check.proofs.WrittenFiles.{judged_on, judged_all, theorem_met}
 use Rattle.mm_check.proofs.WrittenFiles.{span_stands, span_follows, passed_over, written_on}
 use Rattle.mm_check.proofs.save_all.write_rest.Goals as goal

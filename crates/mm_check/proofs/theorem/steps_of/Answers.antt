@@ -3,12 +3,6 @@ use Rattle.std.proofs.Common.{Ok, Err, ap, ◌∙◌}
 use Rattle.mm_check.proofs.Theorems.{no_text_fault}
 use Rattle.mm_check.proofs.theorem.steps_of.Goals as goal
 
-pub unreachable-requires : goal.unreachable-requires
-unreachable-requires c =
-    let told = c.parse.ensures.incomplete c.in-Ok-Incomplete.field-0-0
-    (c.in-Ok-Incomplete.is ∙ ap Ok c.in-Ok-Incomplete.field-0-is) in
-    c.requires.proof.complete told.0
-
 pub unreachable-requires-in-Err-Rule : goal.unreachable-requires-in-Err-Rule
 unreachable-requires-in-Err-Rule c =
     let proof = c.requires.proof in
@@ -19,11 +13,3 @@ unreachable-requires-in-Err-Rule c =
 
 pub returns-in-Ok-Steps-clause-said : goal.returns-in-Ok-Steps-clause-said
 returns-in-Ok-Steps-clause-said c = c.parse.ensures.steps c.in-Ok-Steps.steps (c.in-Ok-Steps.is ∙ ap Ok c.in-Ok-Steps.field-0-is)
-
-pub returns-in-Ok-Steps-clause-profile : goal.returns-in-Ok-Steps-clause-profile
-returns-in-Ok-Steps-clause-profile c = c.parse.ensures.profile c.in-Ok-Steps.steps (c.in-Ok-Steps.is ∙ ap Ok c.in-Ok-Steps.field-0-is)
-
-pub returns-in-Ok-Steps-clause-whole : goal.returns-in-Ok-Steps-clause-whole
-returns-in-Ok-Steps-clause-whole c =
-    (c.parse.ensures.complete c.in-Ok-Steps.steps
-    (c.in-Ok-Steps.is ∙ ap Ok c.in-Ok-Steps.field-0-is)).1

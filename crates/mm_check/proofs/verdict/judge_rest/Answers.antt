@@ -1,5 +1,4 @@
 -- The course of checking, turn by turn.
-use Rattle.std.proofs.Common.{true, false}
 use Rattle.mm_check.proofs.verdict.judge_rest.Goals as goal
 
 pub loop-statement-preserved : goal.loop-statement-preserved
