@@ -4,15 +4,14 @@ use Rattle.std.proofs.Common.{length, map, ap, ◌∙◌}
 use Rattle.std.proofs.lemmas.List.{length-map}
 use Rattle.std.specs.List.{AllZip}
 use Rattle.mm_text.proofs.Lists.{zip_length}
-use Rattle.mm_check.specs.Reply.{AsksHanded}
+use Rattle.mm_check.specs.Reply.{AsksHanded, IsReplyTo, WritesBeginningOf}
 use Rattle.mm_check.specs.declared.command.Command.TheVariants.{All}
 use Rattle.mm_tool.specs.ReadFiles.{IsReadAs}
-use Rattle.mm_tool.specs.Ending.{AsksNamed}
+use Rattle.mm_tool.specs.Ending.{AsksNamed, BreaksOff, StopsRun, stop_of}
 use Rattle.mm_tool.specs.declared.files.Comments.{Comments}
 use Rattle.mm_text.specs.declared.counted.Counted.{Counted}
 use Rattle.mm_text.specs.Device.{faults_of, inner_of}
 use Rattle.mm_text.specs.Files.{PlainFile, total_bytes}
-use Rattle.mm_check.specs.Reply.{IsReplyTo, WritesBeginningOf}
 use Rattle.mm_check.specs.declared.command.Command.{Command}
 use Rattle.mm_check.specs.declared.command.RunFault.{RunFault}
 use Rattle.mm_check.specs.declared.command.RunFault.TheVariants as run
@@ -20,7 +19,6 @@ use Rattle.mm_check.specs.declared.status.Status.{Status}
 use Rattle.mm_text.proofs.Results.{error_keeps}
 use Rattle.mm_tool.specs.Folder.{AreHeld, AreTooLong, KnownFile}
 use Rattle.mm_tool.specs.Answer.{Outcome, quiet}
-use Rattle.mm_tool.specs.Ending.{BreaksOff, StopsRun, stop_of}
 use Rattle.mm_tool.specs.Notes.{AreNotesOn}
 use Rattle.mm_tool.specs.declared.stop.Stop.{Stop}
 use Rattle.mm_tool.specs.declared.stop.Stop.TheVariants.{CannotWrite, Memory}

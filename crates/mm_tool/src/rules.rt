@@ -637,8 +637,8 @@ proof, after P5. In the example the list names `one` twice.
 Place: the statement's first token.
 Usual cause: the program that wrote the proof tags hypotheses, or lists a label
 that has a number already.
-Remedy: write the proof anew by `mm packed --file`, which keeps to the strict
-form.
+Remedy: write the proof anew by `mm packed --file`, or all proofs of a file by
+`mm packed --all`: both keep to the strict form.
 
 This file breaks it:
     $c a $. one $a a $.

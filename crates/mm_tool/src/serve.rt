@@ -262,8 +262,8 @@ pub(crate) fn tell<E: Write>(stop: &Stop<'_>, err: &mut Counted<E>) -> Status
 ///
 /// - 0: the reply is yes, or what was asked for: axioms, steps, a proof, help, version or an
 ///   explanation; or two proofs are the same;
-/// - 1: the reply is no, or the asked label isn't that of a theorem, or two proofs differ, or a text
-///   is no proof of the theorem;
+/// - 1: the reply is no, or the asked label isn't that of a theorem, or two proofs differ, or a
+///   text is no proof of the theorem;
 /// - 2: the words aren't understood;
 /// - 3: a proof is incomplete, in the database or among those that are asked about;
 /// - 4: a file, a device, a limit or memory stood in the way.

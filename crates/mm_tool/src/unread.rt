@@ -33,8 +33,8 @@ pub(crate) fn asked_label<'a>(command: &Command<'a>) -> Option<&'a [u8]>
     }
 }
 
-/// The end of a command that was asked for with this label: where a file can't be read, the label is
-/// told too.
+/// The end of a command that was asked for with this label: where a file can't be read, the label
+/// is told too.
 pub(crate) fn labelled<'a>(stop: Stop<'a>, label: Option<&'a [u8]>) -> Stop<'a>
     ensures { AddsLabel label.entry stop.entry result }
 {
@@ -58,8 +58,8 @@ fn is_file_name(word: &[u8]) -> bool
     word.ends_with(b".mm".as_slice())
 }
 
-/// Where the word that was taken for the label looks like a file's name, says which word was taken for
-/// what.
+/// Where the word that was taken for the label looks like a file's name, says which word was taken
+/// for what.
 fn tell_order<E: Write>(
     err: &mut Counted<E>,
     name: &[u8],

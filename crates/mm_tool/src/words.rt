@@ -1,6 +1,7 @@
 //! What the program is asked by its words.
 
-ghost use Rattle.std.specs.Prelude.{◌≡◌, [], List, map, IfOk, IfErr, IfSome, IfNone, false, unwrap_or};
+ghost use Rattle.std.specs.Prelude.{◌≡◌, [], List, map, IfOk, IfErr, IfSome, IfNone, false};
+ghost use Rattle.std.specs.Prelude.{unwrap_or};
 ghost use Rattle.std.specs.Prelude.{ℕ, option_map, position};
 ghost use Rattle.std.specs.Str.{bytes_eq};
 ghost use Rattle.clap.specs.Words.{Text, all_of, app_of, first_of, found_of, kind_of};
