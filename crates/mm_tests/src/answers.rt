@@ -95,8 +95,8 @@ fn fault_line(alloc: Global, label: &[u8], fault: AskFault) -> Result<Vec<u8>, F
     Ok(line.into_bytes())
 }
 
-/// The bytes of the file with a number with all proofs in a form, or the line that says why there are
-/// none; nothing where the files are refused.
+/// The bytes of the file with a number with all proofs in a form, or the line that says why there
+/// are none; nothing where the files are refused.
 fn all_saved_of(
     alloc: Global,
     form: Form,
@@ -114,8 +114,8 @@ fn all_saved_of(
     }
 }
 
-/// The text of what the call that goes with a command answers over the files; nothing where they are
-/// refused.
+/// The text of what the call that goes with a command answers over the files; nothing where they
+/// are refused.
 fn text_of(alloc: Global, command: &Command, files: &[File]) -> Result<Option<Vec<u8>>, Fail> {
     if let Command::All { form, file } = command {
         return all_saved_of(alloc, *form, *file, files);

@@ -1,5 +1,5 @@
-//! The acceptance cases of incomplete proofs whose known front breaks a rule: what stands before the
-//! first `?`.
+//! The acceptance cases of incomplete proofs whose known front breaks a rule: what stands before
+//! the first `?`.
 
 use crate::Case;
 use crate::Part::{Text, Times};

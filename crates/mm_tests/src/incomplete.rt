@@ -1,5 +1,5 @@
-//! The acceptance cases of incomplete proofs, those with a token that holds `?`, in which nothing is
-//! at fault or the fault is elsewhere.
+//! The acceptance cases of incomplete proofs, those with a token that holds `?`, in which nothing
+//! is at fault or the fault is elsewhere.
 
 use crate::Case;
 use crate::Part::{Text, Times};

@@ -1,9 +1,9 @@
 //! Refused growths: of a device's bytes, of letters, of a reader of statements, of `run`, of
 //! questions, and of saved files.
 //!
-//! The tests whose names begin with `growths` meet want of memory wherever it comes, look at what it
-//! leaves, and go on. With ample memory they are runs of happy paths. `scripts/failing` runs each of
-//! them with each of its requests for memory refused, one alone, in turn.
+//! The tests whose names begin with `growths` meet want of memory wherever it comes, look at what
+//! it leaves, and go on. With ample memory they are runs of happy paths. `scripts/failing` runs
+//! each of them with each of its requests for memory refused, one alone, in turn.
 
 use crate::calls::code::{CODES, LETTERS};
 use crate::calls::load::{HOLLOW, failing_reader};
@@ -250,7 +250,8 @@ fn answers_alike(alloc: Global, checked: &Checked, asked: &[Command]) -> Result<
     Ok(true)
 }
 
-/// What is kept of the database, which is checked once more where memory was wanting the first time.
+/// What is kept of the database, which is checked once more where memory was wanting the first
+/// time.
 fn checked_on<'a>(alloc: Global, files: &'a [File<'a>]) -> Result<Checked<'a>, Fail> {
     match check(alloc, Seed::known(), files) {
         Ok(checked) => Ok(checked),

@@ -92,8 +92,8 @@ fn reads_before_a_failed_call(rt: HostRuntime) -> Result<(), Fail> {
     Ok(())
 }
 
-/// Whether the writing stops at the call that fails, which is the last one, counts it alone, and has
-/// written what comes before it.
+/// Whether the writing stops at the call that fails, which is the last one, counts it alone, and
+/// has written what comes before it.
 fn stops_writing(alloc: Global, fails_at: usize, answers_zero: bool) -> bool {
     let mut writer = failing_writer(alloc, fails_at, answers_zero);
     let answer = writer.write_all(TEXT);

@@ -1,4 +1,5 @@
-//! A statement for which memory was wanting is taken again, and the book is as one that wanted none.
+//! A statement for which memory was wanting is taken again, and the book is as one that wanted
+//! none.
 
 ghost use Rattle.mm_text.specs.Statement.{plain_statement, HasForm};
 

@@ -15,8 +15,8 @@ use std::alloc::Global;
 use std::process::Abort;
 use std::test::Fail;
 
-/// What is told of a proof: whether it is complete, and whether assertions are told that it uses; or
-/// its fault.
+/// What is told of a proof: whether it is complete, and whether assertions are told that it uses;
+/// or its fault.
 type Told = Result<(bool, bool), ProofFault>;
 
 /// Theorems one after the other, of which the first three are incomplete.
