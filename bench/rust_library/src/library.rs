@@ -310,6 +310,15 @@ impl<K: Hash + Eq, S: BuildHasher> IndexSet<K, S> {
     pub fn with_hasher(alloc: Global, hasher: S) -> Self {
         IndexSet(IndexMap::with_hasher(alloc, hasher))
     }
+    pub fn with_capacity_and_hasher(
+        alloc: Global,
+        count: usize,
+        hasher: S,
+    ) -> Result<Self, AllocError> {
+        let mut set = IndexSet::with_hasher(alloc, hasher);
+        set.reserve(count)?;
+        Ok(set)
+    }
     pub fn contains(&self, key: &K) -> bool {
         self.0.number_of(key).is_some()
     }
