@@ -55,7 +55,7 @@ pub mod Applying
 pub mod Calls
 pub mod Coded
 pub mod Listed
-pub mod ListingLoop
+pub mod Listers
 pub mod ListingEnd
 pub mod FewMoves
 pub mod FrontTokens

@@ -3,10 +3,10 @@ use Rattle.std.proofs.Common.{◌≡◌, ℕ, suc, ◌+◌, ◌<◌, List, [], �
 use Rattle.std.proofs.lemmas.Bool.{false≢true}
 use Rattle.std.proofs.lemmas.Option.{slice_get_within}
 use Rattle.std.proofs.lemmas.List.{take-append-le, take_at, length-append}
-use Rattle.mm_text.proofs.Lists.{split_at, get_kept, pushed_cases}
+use Rattle.mm_text.proofs.Lists.{split_at, get_kept, pushed_cases, zip_left}
 use Rattle.mm_frame.specs.Sentence.{Sentence}
 use Rattle.mm_proof.specs.Tree.{none, tree, beside, roots, DeriveAll}
-use Rattle.mm_proof.specs.Moves.{Move, name, mark, is_step, steps_in, Makes}
+use Rattle.mm_proof.specs.Moves.{Move, name, again, mark, is_step, steps_in, Makes}
 use Rattle.mm_proof.specs.Proof.{Passed}
 use Rattle.mm_proof.specs.Listing.{ListedStep, StandsAfter, MakeLast, IsListed, AreListed}
 use Rattle.mm_proof.proofs.Derived.{derive_halves, single_derives}
@@ -25,7 +25,7 @@ old_or_new xs x y i e =
 -- ---- steps
 
 -- one step is one
-one_step : {X : Type 0} (move : Move X) → is_step move ≡ true → steps_in (move ∷ []) ≡ 1
+pub one_step : {X : Type 0} (move : Move X) → is_step move ≡ true → steps_in (move ∷ []) ≡ 1
 one_step mark is = absurd (false≢true is)
 one_step move is = refl
 
@@ -111,3 +111,22 @@ name_leaves Fits before moves label stack kept passed =
     let width : roots passed.trees ≡ roots last.2.0 + 1 = ap roots row ∙ roots-beside last.2.0 (tree label last.2.1 none) in
     let deep : roots passed.trees ≡ length stack = roots_derive Fits before passed.trees stack passed.derived in
     omega arith
+
+-- a step by a tag does too, and the tag is that of something kept
+pub again_leaves : (Fits : List (List ℕ) → Type 0) (before : List Sentence)
+    (moves : List (Move (List ℕ))) (tag : ℕ) (stack kept : List (List (List ℕ)))
+    → Passed Fits before (moves ++ again tag ∷ []) stack kept
+    → (tag < length kept) × (0 < length stack)
+again_leaves Fits before moves tag stack kept passed =
+    let shelf = passed.shelf in
+    let s = makes_split before moves (again tag ∷ []) none passed.trees [] shelf passed.made in
+    let last = s.3 in
+    let t = last.2.0 in
+    let there : slice_get shelf tag ≡ Some t =
+    subst (λ l. slice_get l tag ≡ Some t) (sym (last.3.1 ∙ last.2.3)) last.2.1 in
+    let found = zip_left (λ t e. DeriveAll Fits before t (e ∷ [])) shelf kept tag t
+    passed.kept_derived there in
+    let one : roots t ≡ 1 = roots_derive Fits before t (found.0 ∷ []) found.2 in
+    let width = ap roots (last.3.0 ∙ last.2.2) ∙ roots-beside s.0 t in
+    let deep = roots_derive Fits before passed.trees stack passed.derived in
+    (slice_get_within kept tag found.0 found.1, omega (arith, one, width, deep))

@@ -6,19 +6,24 @@ use Rattle.std.proofs.lemmas.Result.{err_from_is_err_and}
 use Rattle.std.proofs.lemmas.List.{map_more, take-map, map-append, length-map, length-append}
 use Rattle.mm_text.proofs.Lists.{all_push, all_at, all_back}
 use Rattle.mm_text.proofs.Lists.{zip_left, zip_front, split_at, zip_take}
-use Rattle.mm_frame.specs.declared.number.LabelId.{LabelId}
 use Rattle.mm_frame.specs.Sentence.{Sentence}
 use Rattle.mm_proof.specs.declared.fault.ProofFault.{ProofFault}
 use Rattle.mm_proof.specs.declared.fault.ProofRule.{ProofRule}
 use Rattle.mm_proof.specs.declared.fault.ProofRule.TheVariants.{P6, P7}
 use Rattle.mm_proof.specs.declared.moves.NumberedMove.{NumberedMove}
-use Rattle.mm_proof.specs.declared.moves.NumberedMove.TheVariants as code
 use Rattle.mm_proof.specs.Moves.{Move, name, again, mark, is_step, steps_in}
 use Rattle.mm_proof.specs.Proof.{IsWithin, Passed, FirstAtMove, IsMoveFault}
 use Rattle.mm_proof.specs.Steps.{IsNumberedMove, AreNumberedMoves}
 use Rattle.mm_proof.specs.Plain.{move_in, moves_in}
 use Rattle.mm_proof.specs.Mirror.CodeVerify.{AreDeclaredSymbols, AreStackEntries, names_at, all_names_at}
 use Rattle.mm_proof.specs.Mirror.CodeRun.{CarriesOn, StopsAt, HasRun}
+use Rattle.mm_proof.specs.Mirror.Builders.{AreFirst}
+use Rattle.mm_proof.specs.Mirror.Sites.{ProofSite}
+use Rattle.mm_proof.specs.Mirror.Judges.{HasJudged, BreaksRun}
+use Rattle.mm_proof.specs.Mirror.Machines.{Running, Allowing, GoesOn}
+use Rattle.mm_proof.specs.declared.judge.Judge.{Judge}
+use Rattle.mm_proof.specs.declared.fault.ProofFault.TheVariants as faults
+use Rattle.mm_proof.specs.Answer.{OnRule}
 use Rattle.mm_proof.proofs.Forward.{passed_none, passed_again, passed_mark}
 use Rattle.mm_proof.proofs.Firsts.{first_P6, first_P7, steps_in-append}
 
@@ -33,6 +38,13 @@ front_more moves i d less =
 -- the move at a place
 pub move_at : (moves : List NumberedMove) (i : ℕ) (d : NumberedMove) → i < length moves → slice_get (moves_in moves) i ≡ Some (move_in (get_or moves i d))
 move_at moves i d less = rw (slice_get-map, slice_get-get_or moves i d less)
+
+-- moves up to a place, with the one there
+pub first_up_to : (moves : List (Move ℕ)) (i : ℕ) (x : Move ℕ) → slice_get moves i ≡ Some x
+    → AreFirst (take i moves ++ x ∷ []) moves
+first_up_to [] i x there = absurd cc
+first_up_to (m ∷ moves) zero x there = cc
+first_up_to (m ∷ moves) (suc i) x there = ap (λ l. m ∷ l) (first_up_to moves i x there)
 
 pub same_kind : (st : List Sentence) (x : Move ℕ) (move : Move (List ℕ)) → IsNumberedMove st x move → is_step x ≡ is_step move
 same_kind st (name id) move n = sym (ap (λ (m : Move (List ℕ)). is_step m) n.4)
@@ -162,42 +174,65 @@ refused {X} r e f from is =
     let p = err_from_is_err_and r from in
     let same : ◌≡◌ {A = Result X ProofFault} (Err p.0) (Err f) = sym p.1 ∙ is in sym p.2 ∙ cc
 
--- ---- the loop
+-- ---- a machine
 
--- what holds before each move: the moves so far have run, so many are marks
-abbrev pub Turn : (limit : ℕ) → List Sentence → ℕ → List NumberedMove → ℕ → (stack kept : List (List ℕ)) → (steps count : ℕ) → Type 0
-Turn limit st place moves i stack kept steps count =
-    HasRun limit st place (take i (moves_in moves)) stack kept steps × (count ≡ length kept) × (steps + count ≡ i)
+-- the machine goes on by the move at a place
+pub goes_on : {M : Type 0} (has_run : Running M) (may_take : Allowing M) (first old new : M)
+    (moves : List NumberedMove) (i : ℕ) (d : NumberedMove) (x : Move ℕ) → i < length moves
+    → move_in (get_or moves i d) ≡ x
+    → ((place : ℕ) (move : Move ℕ) → slice_get (moves_in moves) place ≡ Some move
+    → may_take first (take place (moves_in moves)) move)
+    → has_run first old (take i (moves_in moves)) → GoesOn has_run may_take old new x
+    → has_run first new (take (i + 1) (moves_in moves))
+goes_on has_run may_take first old new moves i d x less is allowed ran goes =
+    let there = move_at moves i d less ∙ ap Some is in
+    rw (front_more moves i d less, is) (goes first _ (allowed i x there) ran)
 
-pub more_name : (limit : ℕ) (st : List Sentence) (place : ℕ) (moves : List NumberedMove) (i : ℕ) (d : NumberedMove) (id : LabelId) (stack kept stack' kept' : List (List ℕ)) (steps count : ℕ)
-    → i < length moves → get_or moves i d ≡ code.Name id → Turn limit st place moves i stack kept steps count
-    → CarriesOn limit st place id.0 stack stack' → AreStackEntries st (take place st) stack' → kept' ≡ kept → Turn limit st place moves (i + 1) stack' kept' (steps + 1) count
-more_name limit st place moves i d id stack kept stack' kept' steps count less is turn carries entries same =
-    rw (same, front_more moves i d less, is) (
-      run_name limit st place (take i (moves_in moves)) id.0 stack kept stack' steps turn.0 carries entries,
-      turn.1,
-      (let e : steps + count ≡ i = turn.2 in omega arith),
-    )
+-- ---- a judge
 
-pub more_again : (limit : ℕ) (st : List Sentence) (place : ℕ) (moves : List NumberedMove) (i : ℕ) (d : NumberedMove) (tag : ℕ) (stack kept stack' kept' : List (List ℕ)) (steps count : ℕ)
-    → i < length moves → get_or moves i d ≡ code.Again tag → Turn limit st place moves i stack kept steps count
-    → (e : List ℕ) × (slice_get kept tag ≡ Some e) × (stack' ≡ stack ++ e ∷ []) → kept' ≡ kept → Turn limit st place moves (i + 1) stack' kept' (steps + 1) count
-more_again limit st place moves i d tag stack kept stack' kept' steps count less is turn pushed same =
-    rw (same, front_more moves i d less, is) (
-      run_again limit st place (take i (moves_in moves)) tag stack kept stack' steps pushed.0 turn.0 pushed.1 pushed.2,
-      turn.1,
-      (let e : steps + count ≡ i = turn.2 in omega arith),
-    )
+-- before any move
+pub judged_none : {S : Type 0} (stack kept : S → List (List ℕ)) (first : Judge S)
+    → stack first.store.now ≡ [] → kept first.store.now ≡ [] → first.steps ≡ 0 → first.kept ≡ 0
+    → HasJudged stack kept first first []
+judged_none stack kept first empty none_kept steps marks = record {
+  same_store = refl;
+  same_site = refl;
+  run = let site = first.site.now in
+      rw steps (run_none site.limit site.statements site.place _ _ empty none_kept);
+  marks = marks ∙ sym (ap length none_kept);
+  all = omega (arith, steps, marks);
+}
 
-pub more_mark : (limit : ℕ) (st : List Sentence) (place : ℕ) (moves : List NumberedMove) (i : ℕ) (d : NumberedMove) (stack kept stack' kept' : List (List ℕ)) (steps count : ℕ)
-    → i < length moves → get_or moves i d ≡ code.Mark → Turn limit st place moves i stack kept steps count
-    → (rest : List (List ℕ)) × (e : List ℕ) × (stack ≡ rest ++ e ∷ []) × (kept' ≡ kept ++ e ∷ []) → stack' ≡ stack → Turn limit st place moves (i + 1) stack' kept' steps (count + 1)
-more_mark limit st place moves i d stack kept stack' kept' steps count less is turn kept_one same =
-    rw (front_more moves i d less, is) (
-      run_mark limit st place (take i (moves_in moves)) stack kept stack' kept' steps kept_one.0 kept_one.1 turn.0 kept_one.2 same kept_one.3,
-      (let e : count ≡ length kept = turn.1 in omega (arith, ap length kept_one.3, length-append kept (kept_one.1 ∷ []))),
-      (let e : steps + count ≡ i = turn.2 in omega arith),
-    )
+-- one move more
+pub judged_more : {S : Type 0} (stack kept : S → List (List ℕ)) (first old new : Judge S)
+    (front : List (Move ℕ)) (x : Move ℕ) → HasJudged stack kept first old front
+    → new.store.ghost_name ≡ old.store.ghost_name → new.site ≡ old.site
+    → (let site = first.site.now in
+    HasRun site.limit site.statements site.place (front ++ x ∷ []) (stack new.store.now)
+    (kept new.store.now) new.steps)
+    → new.kept ≡ length (kept new.store.now) → new.steps + new.kept ≡ old.steps + old.kept + 1
+    → HasJudged stack kept first new (front ++ x ∷ [])
+judged_more stack kept first old new front x was store site run marks all = record {
+  same_store = store ∙ was.same_store;
+  same_site = site ∙ was.same_site;
+  run = run;
+  marks = marks;
+  all = omega (arith, was.all, all, length-append front (x ∷ []));
+}
+
+-- where a move breaks a rule after those that ran, that is the first fault of the moves
+pub stopped_fault : (site : ProofSite) (xs : List (Move ℕ)) (place : ℕ) (move : Move ℕ)
+    (fault : ProofFault) → slice_get xs place ≡ Some move
+    → OnRule fault (BreaksRun site (take place xs) move)
+    → (rule : ProofRule) (at : ℕ) → fault ≡ faults.Rule rule at
+    → (names : List (Move (List ℕ))) → AreNumberedMoves site.statements xs names
+    → IsMoveFault (IsWithin site.limit) (take site.place site.statements) names rule at
+stopped_fault site xs place move fault there known rule at is names numbered =
+    let b = subst (λ e. OnRule e (BreaksRun site (take place xs) move)) is known in
+    run_fault site.limit site.statements site.place xs place move b.stack b.kept b.steps rule at
+    there b.run b.first b.number names numbered
+
+-- ---- lists
 
 -- the last of a list, and what stands before it
 pub last_split : {X : Type 0} (xs : List X) → 0 < length xs → (rest : List X) × (e : X) × (xs ≡ rest ++ e ∷ []) × (slice_get xs (length xs - 1) ≡ Some e)

@@ -10,6 +10,8 @@ pub mod CodeRun
 pub mod CodeSharing
 pub mod CodeSteps
 pub mod CodeVerify
+pub mod Judges
+pub mod Machines
 pub mod SharedSteps
 pub mod Sites
 pub mod Subtrees

@@ -9,7 +9,7 @@ ghost use Rattle.mm_frame.specs.FramePlace.{ArePairs, HaveTypings};
 ghost use Rattle.mm_frame.specs.Pieces.{variables_of, HavePatterns, HavePlaces};
 ghost use Rattle.mm_proof.specs.Plain.{label_ids};
 ghost use Rattle.mm_proof.specs.Stores.{IsWithinPlaces};
-ghost use Rattle.mm_proof.specs.Mirror.CodeVerify.{AreVariablesOf, AreStackEntries, EachIsSome};
+ghost use Rattle.mm_proof.specs.Mirror.CodeVerify.{AreStackEntries, EachIsSome};
 ghost use Rattle.mm_proof.specs.Mirror.CodeVerify.{EachEntry};
 ghost use Rattle.mm_proof.specs.Mirror.CodeVerify.{IsRightCode, all_names_at, pairs_in};
 ghost use Rattle.mm_proof.specs.Mirror.CodeRun.{CarriesOn, StopsAt};

@@ -14,6 +14,7 @@ ghost use Rattle.mm_proof.specs.Mirror.CodeSteps.{MayBeUsed};
 ghost use Rattle.mm_proof.specs.Mirror.Builders.{KeepsItem, MakeTreeAt, IsBuilt};
 
 use crate::call::{Call, call_of};
+use crate::machine::{Machine, run};
 use crate::moves::{NumberedMove, Steps};
 use crate::store::put_last;
 use mm_frame::{Book, LabelId};
@@ -88,6 +89,51 @@ fn width(book: &Book, id: LabelId) -> usize
     }
 }
 
+// The items of the trees that the moves so far made: of those in a row, and of the kept ones. Both
+// are lent to it, since nothing is known of what was lent to a struct that owns memory.
+#[derive(Drop)]
+struct Forest<'s, 'b, 'a, B, X> {
+    builder: &'s mut B,
+    book: &'b Book<'a>,
+    stack: &'s mut Vec<X>,
+    shelf: &'s mut Vec<X>,
+}
+
+// It stops where the builder does.
+impl<'s, 'b, 'a, B: Builder> Machine for Forest<'s, 'b, 'a, B, B::Item> {
+    ghost use Rattle.mm_proof.specs.Mirror.Builders.{HasBuilt, MayGrow, AreTooMany};
+
+    type Fault = B::Fault;
+
+    ghost has_run = { HasBuilt B.holds };
+
+    ghost may_take = { λ first front move. MayGrow first.book.now.statements front move };
+
+    ghost stops = { λ first front move fault. B.is_long fault
+        → AreTooMany first.book.now.statements front move (B.most first.builder.now) };
+
+    fn step(&mut self, id: LabelId) -> Result<(), B::Fault> {
+        let base = self.stack.len() - width(self.book, id);
+        let item = self.builder.make(id, &self.stack[base..])?;
+        put_last(self.stack, base, item)?;
+        Ok(())
+    }
+
+    fn step_again(&mut self, tag: u32) -> Result<(), B::Fault> {
+        let item = self.builder.repeat(self.shelf[tag as usize])?;
+        let end = self.stack.len();
+        put_last(self.stack, end, item)?;
+        Ok(())
+    }
+
+    fn mark(&mut self) -> Result<(), B::Fault> {
+        let item = self.stack[self.stack.len() - 1];
+        let end = self.shelf.len();
+        put_last(self.shelf, end, item)?;
+        Ok(())
+    }
+}
+
 // All moves, one after the other: the item of the tree that they make.
 fn build_moves<B: Builder>(
     alloc: Global,
@@ -108,26 +154,14 @@ fn build_moves<B: Builder>(
 {
     let mut stack = Vec::new(alloc);
     let mut shelf = Vec::new(alloc);
-    for one in moves {
-        match one {
-            NumberedMove::Name(id) => {
-                let base = stack.len() - width(book, *id);
-                let item = builder.make(*id, &stack[base..])?;
-                put_last(&mut stack, base, item)?;
-            }
-            NumberedMove::Again(tag) => {
-                let item = builder.repeat(shelf[*tag as usize])?;
-                let end = stack.len();
-                put_last(&mut stack, end, item)?;
-            }
-            NumberedMove::Mark => {
-                let item = stack[stack.len() - 1];
-                let end = shelf.len();
-                put_last(&mut shelf, end, item)?;
-            }
-        }
-    }
-    Ok(stack[0])
+    let mut forest = Forest {
+        builder,
+        book,
+        stack: &mut stack,
+        shelf: &mut shelf,
+    };
+    run(&mut forest, moves)?;
+    Ok(forest.stack[0])
 }
 
 /// The item of the tree that the steps of the `$p` with this number make. The builder is handed in

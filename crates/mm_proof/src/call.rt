@@ -1,7 +1,6 @@
 //! What a label of a proof stands for, and the step by it.
 
 ghost use Rattle.std.specs.Prelude.{◌≡◌, ℕ, List, take, Err, OnOk};
-ghost use Rattle.mm_frame.specs.Form.{IsSound};
 ghost use Rattle.mm_proof.specs.Mirror.CodeSteps.{MayBeUsed};
 ghost use Rattle.mm_proof.specs.Mirror.CodeVerify.{AreStackEntries};
 ghost use Rattle.mm_proof.specs.Mirror.CodeRun.{CarriesOn, StopsAt};

@@ -4,9 +4,7 @@ ghost use Rattle.std.specs.Prelude.{◌≡◌, ◌-◌, ◌<◌, ◌^◌, ℕ, L
 ghost use Rattle.std.specs.Prelude.{slice_get, Some, Err, false};
 ghost use Rattle.std.specs.Prelude.{IfOk, IfErr, IsOkUnless};
 ghost use Rattle.std.specs.List.{AllByRecursion};
-ghost use Rattle.mm_frame.specs.Sentence.{Sentence};
 ghost use Rattle.mm_frame.specs.Form.{IsSound};
-ghost use Rattle.mm_frame.specs.Numbers.{IsNumbered};
 ghost use Rattle.mm_proof.specs.declared.fault.ProofRule.{ProofRule};
 ghost use Rattle.mm_proof.specs.Answer.{IsUnlessMemory};
 ghost use Rattle.mm_proof.specs.Stores.{numbers_in};
@@ -22,11 +20,13 @@ ghost use Rattle.mm_proof.specs.Mirror.CodeLines.{AreLinesAt, BreaksAt, ListsPro
 
 use crate::fault::ProofFault;
 use crate::flat::Flat;
+use crate::judge::Judge;
+use crate::machine::{Machine, run};
 use crate::moves::{NumberedMove, Steps};
 use crate::profile::Profile;
 use crate::site::Site;
 use crate::store::Store;
-use crate::verdict::{ending, mark, step, step_again};
+use crate::verdict::ending;
 use mm_frame::{Book, LabelId, Sym, one_number};
 use std::alloc::{AllocError, Global};
 
@@ -49,17 +49,67 @@ pub struct Line {
 }
 
 // The line of the step that was made last.
-fn last_line<S: Store>(alloc: Global, store: &S, name: Name) -> Result<Line, AllocError>
-    requires { 0 < length (S.stack store.now) }
+fn last_line<S: Store>(alloc: Global, judge: &Judge<S>, name: Name) -> Result<Line, AllocError>
+    requires { 0 < length (S.stack judge.now.store.now) }
     ensures name { IfOk result (λ line. line.name ≡ name) }
-    ensures expression { IfOk result (λ line. slice_get (S.stack store.now)
-        (length (S.stack store.now) - 1) ≡ Some (numbers_in line.expression.items)) }
+    ensures expression { let stack = S.stack judge.now.store.now in
+        IfOk result (λ line. slice_get stack (length stack - 1)
+        ≡ Some (numbers_in line.expression.items)) }
 {
-    let last = store.at(store.len() - 1);
+    let last = judge.store.at(judge.store.len() - 1);
     Ok(Line {
         name,
         expression: Vec::from_slice(alloc, last)?,
     })
+}
+
+// What lists moves while it judges them: the lines of the steps so far, and for each mark the
+// number of the step before it. Both are lent to it, as the store is to the judge, since nothing
+// is known of what was lent to a struct that owns memory.
+#[derive(Drop)]
+struct Lister<'s, 'b, 'a, S> {
+    alloc: Global,
+    judge: Judge<'s, 'b, 'a, S>,
+    lines: &'s mut Vec<Line>,
+    tags: &'s mut Vec<u32>,
+}
+
+// It stops where the judge does.
+impl<'s, 'b, 'a, S: Store> Machine for Lister<'s, 'b, 'a, S> {
+    ghost use Rattle.mm_proof.specs.Answer.{OnRule};
+    ghost use Rattle.mm_proof.specs.Mirror.Judges.{BreaksRun};
+    ghost use Rattle.mm_proof.specs.Mirror.CodeLines.{HasListed, MayBeListed};
+
+    type Fault = ProofFault;
+
+    ghost has_run = { HasListed S.stack S.kept };
+
+    ghost may_take = { λ first front move. MayBeListed first.judge.site.now front move };
+
+    ghost stops = { λ first front move fault.
+        OnRule fault (BreaksRun first.judge.site.now front move) };
+
+    fn step(&mut self, id: LabelId) -> Result<(), ProofFault> {
+        self.judge.step(id)?;
+        let line = last_line(self.alloc, &self.judge, Name::Label(id))?;
+        self.lines.push(line)?;
+        Ok(())
+    }
+
+    fn step_again(&mut self, tag: u32) -> Result<(), ProofFault> {
+        self.judge.step_again(tag)?;
+        let after = self.tags[tag as usize];
+        let line = last_line(self.alloc, &self.judge, Name::Step(after))?;
+        self.lines.push(line)?;
+        Ok(())
+    }
+
+    fn mark(&mut self) -> Result<(), ProofFault> {
+        self.judge.mark()?;
+        let number = self.lines.len() as u32;
+        self.tags.push(number)?;
+        Ok(())
+    }
 }
 
 // The lines of all steps, one after the other.
@@ -84,26 +134,20 @@ fn lines_of<S: Store>(
         → BreaksAt site.now.limit site.now.statements site.now.place (moves_in moves.now) rule at }
 {
     let mut lines = Vec::new(alloc);
-    // For each mark, the number of the step before it.
     let mut tags = Vec::new(alloc);
-    for one in moves {
-        let number = lines.len() + 1;
-        match one {
-            NumberedMove::Name(id) => {
-                step(store, site, *id, number)?;
-                lines.push(last_line(alloc, store, Name::Label(*id))?)?;
-            }
-            NumberedMove::Again(tag) => {
-                step_again(store, *tag as usize, tags.len(), number)?;
-                let after = tags[*tag as usize];
-                lines.push(last_line(alloc, store, Name::Step(after))?)?;
-            }
-            NumberedMove::Mark => {
-                mark(store, number)?;
-                tags.push(lines.len() as u32)?;
-            }
-        }
-    }
+    let judge = Judge {
+        store,
+        site,
+        steps: 0,
+        kept: 0,
+    };
+    let mut lister = Lister {
+        alloc,
+        judge,
+        lines: &mut lines,
+        tags: &mut tags,
+    };
+    run(&mut lister, moves)?;
     Ok(lines)
 }
 

@@ -1,7 +1,7 @@
 //! The fully shared proof of a tree: its listed labels and its codes (the Metamath book, section
 //! 4.3 and appendix B).
 
-ghost use Rattle.std.specs.Prelude.{◌≡◌, ◌≤◌, ◌<◌, ◌↔◌, ◌++◌, ℕ, List, [], length, take, Contains};
+ghost use Rattle.std.specs.Prelude.{◌≡◌, ◌≤◌, ◌<◌, ◌↔◌, ◌++◌, List, [], length, take, Contains};
 ghost use Rattle.std.specs.Prelude.{All, IfOk, OnOk, false};
 ghost use Rattle.mm_text.specs.Files.{most_bytes};
 ghost use Rattle.mm_code.specs.declared.code.Code.{Code};

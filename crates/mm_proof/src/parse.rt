@@ -8,8 +8,6 @@ ghost use Rattle.std.specs.List.{AllZip, flat_map, sum_by};
 ghost use Rattle.mm_text.specs.Files.{most_bytes};
 ghost use Rattle.mm_code.specs.Letters.{HasSpelling, Letters, LettersBreak};
 ghost use Rattle.mm_frame.specs.Sentence.{Sentence};
-ghost use Rattle.mm_frame.specs.Form.{IsSound};
-ghost use Rattle.mm_frame.specs.Numbers.{IsNumbered};
 ghost use Rattle.mm_proof.specs.Answer.{OnRule};
 ghost use Rattle.mm_proof.specs.Tokens.{is_incomplete, IsIncomplete, IsNormal, IsCompressed};
 ghost use Rattle.mm_proof.specs.Tokens.{opening_token, closing_token};

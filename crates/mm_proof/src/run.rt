@@ -18,11 +18,12 @@ ghost use Rattle.mm_proof.specs.Verified.{OfMoves, ProvesUsingNumbers, FailsWith
 use crate::call::{Call, call_of, step_by};
 use crate::call_table::CallTable;
 use crate::fault::{ProofFault, ProofRule};
+use crate::judge::{mark, step_again};
 use crate::picked::unmark;
 use crate::site::Site;
 use crate::store::Store;
 use crate::used::{Named, fill_called};
-use crate::verdict::{ending, mark, step_again};
+use crate::verdict::ending;
 use mm_code::Code;
 use mm_frame::{Book, LabelId, one_number};
 use std::alloc::{AllocError, Global};

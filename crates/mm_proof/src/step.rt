@@ -1,6 +1,6 @@
 //! One step of a proof by an assertion (the Metamath book, section 4.1.4 and appendix B).
 
-ghost use Rattle.std.specs.Prelude.{◌≡◌, ◌↔◌, ◌+◌, ◌<◌, ◌^◌, ℕ, List, length, drop};
+ghost use Rattle.std.specs.Prelude.{◌≡◌, ◌↔◌, ◌+◌, ◌<◌, ◌^◌, List, length, drop};
 ghost use Rattle.std.specs.Prelude.{slice_get, Bool, Some};
 ghost use Rattle.std.specs.Prelude.{IsTrue, MatchBool, MatchOption};
 ghost use Rattle.std.specs.List.{AllByRecursion};
@@ -10,7 +10,7 @@ ghost use Rattle.mm_frame.specs.Pieces.{variables_of, HavePatterns};
 ghost use Rattle.mm_proof.specs.Substitution.{Substitution};
 ghost use Rattle.mm_proof.specs.Stores.{numbers_in};
 ghost use Rattle.mm_proof.specs.Plain.{label_ids};
-ghost use Rattle.mm_proof.specs.Mirror.CodeVerify.{AreHypothesesOf, AreVariablesOf, EachIsSome};
+ghost use Rattle.mm_proof.specs.Mirror.CodeVerify.{AreHypothesesOf, EachIsSome};
 ghost use Rattle.mm_proof.specs.Mirror.CodeVerify.{AreBelow, names_at, all_names_at, IsRightCode};
 ghost use Rattle.mm_proof.specs.Mirror.CodeVerify.{IsWrongCode, IsEqual, IsUnequal, EachEntry};
 ghost use Rattle.mm_proof.specs.Mirror.CodeVerify.{Replaces};

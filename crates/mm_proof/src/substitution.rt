@@ -1,7 +1,7 @@
 //! Substitution by numbers: each mandatory variable is replaced by its value, which is what follows
 //! the type code in the entry of its `$f` (the Metamath book, section 4.1.4).
 
-ghost use Rattle.std.specs.Prelude.{◌≡◌, ◌↔◌, ◌+◌, ◌≤◌, ◌<◌, ◌^◌, ◌∷◌, ◌++◌, [], ℕ, List, length};
+ghost use Rattle.std.specs.Prelude.{◌≡◌, ◌↔◌, ◌+◌, ◌<◌, ◌^◌, ◌∷◌, ◌++◌, [], ℕ, List, length};
 ghost use Rattle.std.specs.Prelude.{drop, slice_index_or, false, IsTrue, IfOk, MatchOption};
 ghost use Rattle.std.specs.List.{AllByRecursion};
 ghost use Rattle.mm_proof.specs.Stores.{numbers_in, said_by, all_said_by, IsWithinPlaces};

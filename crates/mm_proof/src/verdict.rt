@@ -1,28 +1,21 @@
 //! The verdict on the moves of a proof.
 
-ghost use Rattle.std.specs.Prelude.{◌≡◌, ◌≤◌, ℕ, List, [], ◌∷◌, ◌++◌, take, length, slice_get};
-ghost use Rattle.std.specs.Prelude.{Some, Ok, Err, IfOk, IfErr, OnOk, IsOkUnless, true, false};
-ghost use Rattle.std.specs.List.{AllByRecursion};
-ghost use Rattle.mm_frame.specs.Sentence.{Sentence};
-ghost use Rattle.mm_frame.specs.Numbers.{IsNumbered};
+ghost use Rattle.std.specs.Prelude.{◌≡◌, ℕ, [], ◌∷◌, take, Ok, Err, IfOk, IfErr, OnOk, IsOkUnless};
+ghost use Rattle.std.specs.Prelude.{true, false};
 ghost use Rattle.mm_proof.specs.Answer.{OnRule, IsUnlessMemory};
 ghost use Rattle.mm_proof.specs.Stores.{numbers_in};
-ghost use Rattle.mm_proof.specs.Moves.{Move};
 ghost use Rattle.mm_proof.specs.Proof.{Prove, IsWithin, IsMoveFault};
 ghost use Rattle.mm_proof.specs.Profiles.{limit_of};
 ghost use Rattle.mm_proof.specs.KnownFront.{Pass};
 ghost use Rattle.mm_proof.specs.Mirror.Sites.{IsSite};
-ghost use Rattle.mm_proof.specs.Steps.{AreNumberedMoves, AreSteps};
+ghost use Rattle.mm_proof.specs.Steps.{AreSteps};
 ghost use Rattle.mm_frame.specs.Form.{IsSound};
 ghost use Rattle.mm_proof.specs.Plain.{ids_in, moves_in};
-ghost use Rattle.mm_proof.specs.Mirror.CodeSteps.{MayBeUsed};
-ghost use Rattle.mm_proof.specs.Mirror.CodeVerify.{AreStackEntries};
-ghost use Rattle.mm_proof.specs.Mirror.CodeRun.{CarriesOn, StopsAt, MayBeMade, HasRun};
 ghost use Rattle.mm_proof.specs.Mirror.CodeRun.{EndsWrong, ArePicked};
 ghost use Rattle.mm_proof.specs.Verified.{OfMoves, ProvesUsing, FailsWith};
 
-use crate::call::{call_of, step_by};
 use crate::fault::{ProofFault, ProofRule};
+use crate::judge::{fault_at_step, judge_moves};
 use crate::moves::{NumberedMove, Steps};
 use crate::picked::fill_picked;
 use crate::profile::Profile;
@@ -32,114 +25,6 @@ use crate::substitution::is_same;
 use crate::used::{Named, Used, fill_used};
 use mm_frame::{Book, LabelId, Sym, one_number};
 use std::alloc::Global;
-
-// The proof breaks a rule at a step.
-fn fault_at_step(rule: ProofRule, step: usize) -> Result<(), ProofFault>
-    ensures { result ≡ Err (ProofFault.Rule rule step) }
-{
-    Err(ProofFault::Rule { rule, step })
-}
-
-// The step by a label.
-#[inline(always)]
-pub(crate) fn step<S: Store>(
-    store: &mut S,
-    site: &Site,
-    id: LabelId,
-    number: usize,
-) -> Result<(), ProofFault>
-    requires usable { (label : List ℕ) × MayBeUsed site.now.statements site.now.place label id.0 }
-    requires entries { AreStackEntries site.now.statements (take site.now.place site.now.statements)
-        (S.stack store.old) }
-    ensures carried { OnOk result
-        (CarriesOn site.now.limit site.now.statements site.now.place id.0 (S.stack store.old)
-        (S.stack store.new)) }
-    ensures entries { OnOk result
-        (AreStackEntries site.now.statements (take site.now.place site.now.statements)
-        (S.stack store.new)) }
-    ensures kept { S.kept store.new ≡ S.kept store.old }
-    ensures fault { (rule : ProofRule) → (at : ℕ) → result ≡ Err (ProofFault.Rule rule at)
-        → (at ≡ number)
-        × StopsAt site.now.limit site.now.statements site.now.place id.0 (S.stack store.old) rule }
-{
-    step_by(store, site, &call_of(site.book, id), number)
-}
-
-// The step by a tag.
-pub(crate) fn step_again<S: Store>(
-    store: &mut S,
-    tag: usize,
-    kept: usize,
-    number: usize,
-) -> Result<(), ProofFault>
-    requires { kept ≡ length (S.kept store.old) }
-    ensures ok { OnOk result
-        ((e : List ℕ) × (slice_get (S.kept store.old) tag ≡ Some e)
-        × (S.stack store.new ≡ S.stack store.old ++ e ∷ [])) }
-    ensures kept { S.kept store.new ≡ S.kept store.old }
-    ensures fault { (rule : ProofRule) → (at : ℕ) → result ≡ Err (ProofFault.Rule rule at)
-        → (at ≡ number) × (rule ≡ ProofRule.P6) × (length (S.kept store.old) ≤ tag) }
-{
-    if tag >= kept {
-        return fault_at_step(ProofRule::P6, number);
-    }
-    store.push_copy(tag)?;
-    Ok(())
-}
-
-// A mark, where a step would have this number.
-#[tactic(auto, using(crate::proofs::Running::last_split))]
-pub(crate) fn mark<S: Store>(store: &mut S, number: usize) -> Result<(), ProofFault>
-    ensures ok { OnOk result
-        ((rest : List (List ℕ)) × (e : List ℕ) × (S.stack store.old ≡ rest ++ e ∷ [])
-        × (S.kept store.new ≡ S.kept store.old ++ e ∷ [])) }
-    ensures stack { S.stack store.new ≡ S.stack store.old }
-    ensures fault { (rule : ProofRule) → (at : ℕ) → result ≡ Err (ProofFault.Rule rule at)
-        → (at ≡ number) × (rule ≡ ProofRule.P7) × (S.stack store.old ≡ []) }
-{
-    if store.len() == 0 {
-        return fault_at_step(ProofRule::P7, number);
-    }
-    store.keep()?;
-    Ok(())
-}
-
-// All moves, one after the other: how many are steps.
-fn run<S: Store>(store: &mut S, site: &Site, moves: &[NumberedMove]) -> Result<usize, ProofFault>
-    requires usable { AllByRecursion (MayBeMade site.now.statements site.now.place)
-        (moves_in moves.now) }
-    requires stack { S.stack store.old ≡ [] }
-    requires kept { S.kept store.old ≡ [] }
-    ensures ok { IfOk result (λ count.
-        HasRun site.now.limit site.now.statements site.now.place (moves_in moves.now)
-        (S.stack store.new) (S.kept store.new) count) }
-    ensures count { IfOk result (λ count. count ≤ length moves.now) }
-    ensures fault { (rule : ProofRule) → (at : ℕ) → result ≡ Err (ProofFault.Rule rule at)
-        → (names : List (Move (List ℕ)))
-        → AreNumberedMoves site.now.statements (moves_in moves.now) names
-        → IsMoveFault (IsWithin site.now.limit)
-        (take site.now.place site.now.statements) names rule at }
-{
-    let mut steps = 0;
-    let mut kept = 0;
-    for one in moves {
-        match one {
-            NumberedMove::Name(id) => {
-                step(store, site, *id, steps + 1)?;
-                steps += 1;
-            }
-            NumberedMove::Again(tag) => {
-                step_again(store, *tag as usize, kept, steps + 1)?;
-                steps += 1;
-            }
-            NumberedMove::Mark => {
-                mark(store, steps + 1)?;
-                kept += 1;
-            }
-        }
-    }
-    Ok(steps)
-}
 
 // What is on the stack at the end: only the expression, or P13 or P14.
 pub(crate) fn ending<S: Store>(
@@ -174,7 +59,7 @@ fn derive<S: Store>(store: &mut S, site: &Site, moves: &[NumberedMove]) -> Resul
 {
     one_number();
     let expression = site.expression();
-    let count = run(store, site, moves)?;
+    let count = judge_moves(store, site, moves)?;
     ending(store, expression, count + 1)?;
     Ok(())
 }
@@ -287,7 +172,7 @@ pub(crate) fn pass<S: Store>(
         OfMoves site.now.statements site.now.number (moves_in moves.now) (λ place s names.
         IsMoveFault (IsWithin site.now.limit) (take place site.now.statements) names rule step))) }
 {
-    run(store, site, moves)?;
+    judge_moves(store, site, moves)?;
     Ok(())
 }
 

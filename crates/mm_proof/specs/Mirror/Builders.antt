@@ -1,10 +1,12 @@
 -- What is built from the moves of a proof, as the code keeps it: it mirrors the code.
 use Rattle.std.specs.Prelude.{◌≡◌, ℕ, ◌+◌, ◌<◌, ◌≤◌, List, [], ◌∷◌, ◌++◌, length, take}
-use Rattle.std.specs.Prelude.{slice_get, Some}
-use Rattle.std.specs.List.{AllByRecursion}
+use Rattle.std.specs.Prelude.{slice_get, drop, Some}
+use Rattle.std.specs.List.{AllByRecursion, AllZip}
+use Rattle.mm_frame.specs.Form.{IsSound}
 use Rattle.mm_frame.specs.Sentence.{Sentence}
+use Rattle.mm_proof.specs.declared.builder.Forest.{Forest}
 use Rattle.mm_proof.specs.Tree.{Trees, none, tree, spelling, beside, roots}
-use Rattle.mm_proof.specs.Moves.{Move}
+use Rattle.mm_proof.specs.Moves.{Move, Makes}
 use Rattle.mm_proof.specs.OneTree.{MakeTree}
 use Rattle.mm_proof.specs.Steps.{AreNumberedMoves}
 use Rattle.mm_proof.specs.Mirror.CodeRun.{MayBeMade}
@@ -89,3 +91,47 @@ pub record IsBuilt {X : Type 0} (held : Holding X) (moves : List (Move (List ℕ
   pub steps : ℕ
   pub few : steps ≤ length moves
   pub holds : held (item ∷ []) t shelf kept steps
+
+-- The items are those of the trees that the moves before a place made; the moves that are left make
+-- the tree out of them.
+pub record AreItemsAt {X : Type 0} (held : Holding X) (statements : List Sentence)
+    (moves : List (Move ℕ)) (m : MakeTreeAt statements moves) (place : ℕ)
+    (stack shelf : List X) : Type 0 where
+  pub row : Trees
+  pub kept : List Trees
+  pub steps : ℕ
+  pub holds : held stack row shelf kept steps
+  pub deep : length stack ≡ roots row
+  pub ones : AllZip (λ (x : X) (t : Trees). roots t ≡ 1) shelf kept
+  pub few : steps ≤ place
+  pub made : Makes (take m.place statements) (drop place m.names) row kept
+      (tree m.label m.below none) m.makes.kept
+
+-- these are the first ones of the moves
+abbrev pub AreFirst : (front moves : List (Move ℕ)) → Type 0
+AreFirst front moves = take (length front) moves ≡ front
+
+-- The moves since the first state were built, with the same builder and book: whatever moves they
+-- begin that make a tree, the items are those of the trees so far.
+pub record HasBuilt {B X : Type 0} (holds : B → B → List Sentence → Holding X)
+    (first now : Forest B X) (front : List (Move ℕ)) : Type 0 where
+  pub same_builder : now.builder.ghost_name ≡ first.builder.ghost_name
+  pub same_book : now.book ≡ first.book
+  pub sound : IsSound first.book.now.statements
+  pub keeps : (later : B) → KeepsItem (holds first.builder.now later first.book.now.statements)
+  pub at : let statements = first.book.now.statements in
+      (moves : List (Move ℕ)) (m : MakeTreeAt statements moves) → AreFirst front moves
+      → AreItemsAt (holds first.builder.now now.builder.now statements) statements moves m
+      (length front) now.stack.now.items now.shelf.now.items
+
+-- the move comes after these in moves that make a tree
+abbrev pub MayGrow : List Sentence → List (Move ℕ) → Move ℕ → Type 0
+MayGrow statements front move =
+    (moves : List (Move ℕ)) × MakeTreeAt statements moves × AreFirst (front ++ move ∷ []) moves
+
+-- whatever moves begin so and make a tree, it spells more labels than the most
+abbrev pub AreTooMany : List Sentence → List (Move ℕ) → Move ℕ → (most : ℕ) → Type 0
+AreTooMany statements front move most =
+    (moves : List (Move ℕ)) (m : MakeTreeAt statements moves)
+    → AreFirst (front ++ move ∷ []) moves
+    → most < length (spelling (tree m.label m.below none))

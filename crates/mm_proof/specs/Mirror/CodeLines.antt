@@ -1,5 +1,6 @@
 -- What the code of the listing knows on its way: it mirrors the code.
-use Rattle.std.specs.Prelude.{ℕ, List, take}
+use Rattle.std.specs.Prelude.{◌≡◌, ℕ, ◌<◌, ◌^◌, List, [], ◌∷◌, ◌++◌, length, take, slice_get}
+use Rattle.std.specs.Prelude.{Some}
 use Rattle.mm_frame.specs.Sentence.{Sentence}
 use Rattle.mm_proof.specs.declared.fault.ProofRule.{ProofRule}
 use Rattle.mm_proof.specs.declared.fault.ProofFault.{ProofFault}
@@ -7,15 +8,45 @@ use Rattle.mm_proof.specs.Answer.{OnRule}
 use Rattle.mm_proof.specs.Moves.{Move}
 use Rattle.mm_proof.specs.Proof.{IsWithin, Prove, IsMoveFault, IsMovesFault}
 use Rattle.mm_proof.specs.Steps.{AreNumberedMoves}
-use Rattle.mm_proof.specs.Listing.{AreLinesOf}
+use Rattle.mm_proof.specs.Listing.{AreLinesOf, StandsAfter}
 use Rattle.mm_proof.specs.Verified.{OfMoves}
 use Rattle.mm_proof.specs.declared.lines.Line.{Line}
+use Rattle.mm_proof.specs.declared.lines.Lister.{Lister}
+use Rattle.mm_proof.specs.Mirror.CodeRun.{MayBeMade}
+use Rattle.mm_proof.specs.Mirror.Judges.{HasJudged}
+use Rattle.mm_proof.specs.Mirror.Sites.{ProofSite}
 
 -- the lines are the listing of the moves by numbers, whatever names they stand for
 abbrev pub AreLinesAt : List Sentence → ℕ → List (Move ℕ) → List Line → Type 0
 AreLinesAt statements place steps lines =
     (moves : List (Move (List ℕ))) → AreNumberedMoves statements steps moves
     → AreLinesOf statements (take place statements) moves lines
+
+-- each tag stands after the step with its number, whatever names the moves stand for
+abbrev pub AreTagsFor : List Sentence → List (Move ℕ) → List ℕ → Type 0
+AreTagsFor statements front tags =
+    (moves : List (Move (List ℕ))) → AreNumberedMoves statements front moves
+    → (tag step : ℕ) → slice_get tags tag ≡ Some step → StandsAfter moves tag step
+
+-- The lister has judged the moves since the first state, its lines are those of their steps, and
+-- its tags the numbers of the steps that their marks stand after.
+pub record HasListed {S : Type 0} (stack kept : S → List (List ℕ)) (first now : Lister S)
+    (front : List (Move ℕ)) : Type 0 where
+  pub same_lines : now.lines.ghost_name ≡ first.lines.ghost_name
+  pub judged : HasJudged stack kept first.judge now.judge front
+  pub listed : let site = first.judge.site.now in
+      AreLinesAt site.statements site.place front now.lines.now.items
+  pub stand : AreTagsFor first.judge.site.now.statements front now.tags.now.items
+  pub count : length now.lines.now.items ≡ now.judge.steps
+  pub marks : length now.tags.now.items ≡ now.judge.kept
+
+-- the move may be made after these, which stand for names; and numbers of steps fit 32 bits
+abbrev pub MayBeListed : ProofSite → List (Move ℕ) → Move ℕ → Type 0
+MayBeListed site front move =
+    MayBeMade site.statements site.place move
+    × ((names : List (Move (List ℕ)))
+    × AreNumberedMoves site.statements (front ++ move ∷ []) names)
+    × (length front < 2 ^ 32)
 
 -- a move breaks the rule at a step, whatever names the moves stand for
 abbrev pub BreaksAt : (limit : ℕ) → List Sentence → ℕ → List (Move ℕ) → ProofRule → ℕ → Type 0

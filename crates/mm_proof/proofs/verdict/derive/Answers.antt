@@ -3,8 +3,8 @@ use Rattle.std.proofs.lemmas.Result.{err_from_is_err_and}
 use Rattle.mm_proof.proofs.Ending.{steps_made, proved_end, wrong_end, wrong_move, on_rule_from}
 use Rattle.mm_proof.proofs.verdict.derive.Goals as goal
 
-pub run-requires-clause-usable : goal.run-requires-clause-usable
-run-requires-clause-usable g c =
+pub judge_moves-requires-clause-usable : goal.judge_moves-requires-clause-usable
+judge_moves-requires-clause-usable g c =
     let own = c.expression-expression.ensures.site in
     steps_made _ _ _ _ _ own.sound.0 c.requires.steps own.proof.numbered
 
@@ -14,7 +14,7 @@ returns-in_err-count-clause-fault g c =
     let p = err_from_is_err_and c.from_residual.result c.from_residual.ensures.1 in
     rw (p.1, p.2) (on_rule_from c.in_err-count.field-0.0 _ (λ rule at is.
     wrong_move _ _ _ _ own.s _ rule at own.proof.numbered
-    (λ names numbered. c.run.ensures.fault rule at (c.in_err-count.was ∙ ap Err is) names numbered)))
+    (λ names numbered. c.judge_moves.ensures.fault rule at (c.in_err-count.was ∙ ap Err is) names numbered)))
 
 pub returns-in_err-ending-clause-fault : goal.returns-in_err-ending-clause-fault
 returns-in_err-ending-clause-fault g c =

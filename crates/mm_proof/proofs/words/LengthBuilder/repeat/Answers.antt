@@ -2,7 +2,7 @@ use Rattle.std.proofs.Common.{length, ap, ◌∙◌, arith}
 use Rattle.std.proofs.lemmas.List.{length-append}
 use Rattle.mm_proof.specs.Tree.{tree, none, spelling}
 use Rattle.mm_proof.proofs.Making.{spelling-beside}
-use Rattle.mm_proof.proofs.Building.{handed}
+use Rattle.mm_proof.proofs.Answering.{handed}
 use Rattle.mm_proof.proofs.WordSteps.{kept_part, part_order, part_count, parts_repeat}
 use Rattle.mm_proof.proofs.words.LengthBuilder.repeat.Goals as goal
 

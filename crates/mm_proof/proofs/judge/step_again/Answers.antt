@@ -1,6 +1,6 @@
 use Rattle.std.proofs.Common.{arith, []}
 use Rattle.std.proofs.lemmas.Option.{slice_get-get_or}
-use Rattle.mm_proof.proofs.verdict.step_again.Goals as goal
+use Rattle.mm_proof.proofs.judge.step_again.Goals as goal
 
 pub returns-clause-ok : goal.returns-clause-ok
 returns-clause-ok g c =
