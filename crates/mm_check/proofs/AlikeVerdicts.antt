@@ -19,7 +19,7 @@ use Rattle.mm_proof.specs.UnderProfile.{IsFrontFaultUnder}
 use Rattle.mm_proof.specs.declared.profile.Profile.{Profile}
 use Rattle.mm_proof.specs.Tokens.{is_incomplete}
 use Rattle.mm_check.specs.declared.rule.Rule.{Rule}
-use Rattle.mm_check.specs.Verdict.{Verdict, Load, Refused, Incomplete, Yes, PlainRefusal, HasVerdict, Obeys, AllObey, RefusesStatement, RefusesText, AreAccepted, CanBeRead, sentences, proof_of, is_proof, is_unproved, label_of, unproved_of, proofs_of, refusal_of, text_refusal, text_rule, meaning_rule, proof_rule}
+use Rattle.mm_check.specs.Verdict.{Verdict, Load, Refused, Incomplete, Yes, PlainRefusal, HasVerdict, Obeys, AllObey, RefusesStatement, RefusesText, AreAccepted, CanBeRead, sentences, proof_of, is_proof, is_unproved, label_of, unproved_of, proofs_of, refusal_of, text_refusal, meaning_rule, proof_rule}
 use Rattle.mm_check.specs.Reply.{text_of, name_of, line_with, refusal_word, code_of}
 use Rattle.mm_check.specs.Alike.{AlikeFilesHaveOneReply}
 use Rattle.mm_text.proofs.Lists.{cons_split, append_split, same_length}
@@ -38,10 +38,7 @@ text_on h (Some t) = refl
 
 -- nor what a statement says
 sentence_on : (h : ℕ → ℕ → ℕ) (s : PlainStatement) → sentence_of s ≡ sentence_of (statement_on h s)
-sentence_on h s =
-    let label = text_on h s.label in
-    let symbols = texts_on h s.symbols in
-    cc (label, symbols)
+sentence_on h s = cc (text_on h s.label, texts_on h s.symbols)
 
 -- nor its proof
 proof_on : (h : ℕ → ℕ → ℕ) (s : PlainStatement) → proof_of s ≡ proof_of (statement_on h s)
@@ -50,10 +47,7 @@ proof_on h s = texts_on h s.proof
 -- nor what more of them say
 sentences_on : (h : ℕ → ℕ → ℕ) (ss : List PlainStatement) → sentences ss ≡ sentences (map (statement_on h) ss)
 sentences_on h [] = refl
-sentences_on h (s ∷ ss) =
-    let first = sentence_on h s in
-    let others = sentences_on h ss in
-    cc (first, others)
+sentences_on h (s ∷ ss) = cc (sentence_on h s, sentences_on h ss)
 
 -- nor how many are proved
 counted_on : (h : ℕ → ℕ → ℕ) (n : ℕ) (ss : List PlainStatement) → fold (λ a x. a + cond (is_proof x) 1 0) n ss ≡ fold (λ a x. a + cond (is_proof x) 1 0) n (map (statement_on h) ss)
@@ -62,9 +56,6 @@ counted_on h n (s ∷ ss) =
     counted_on h (n + cond (is_proof s) 1 0) ss
     ∙ ap (λ (p : List (List ℕ)). fold (λ a x. a + cond (is_proof x) 1 0) (n
     + cond (is_provable s.kind && not (is_incomplete p)) 1 0) (map (statement_on h) ss)) (proof_on h s)
-
-proofs_on : (h : ℕ → ℕ → ℕ) (ss : List PlainStatement) → proofs_of ss ≡ proofs_of (map (statement_on h) ss)
-proofs_on h ss = counted_on h 0 ss
 
 -- labels of a statement that is kept or not
 kept : (b : Bool) (s t : PlainStatement) (ss us : List PlainStatement) → label_of s ≡ label_of t → flat_map label_of ss ≡ flat_map label_of us
@@ -94,15 +85,14 @@ pub same_sentences : (h k : ℕ → ℕ → ℕ) (ss us : List PlainStatement) �
 same_sentences h k ss us is = sentences_on h ss ∙ ap sentences is ∙ sym (sentences_on k us)
 
 pub same_proofs : (h k : ℕ → ℕ → ℕ) (ss us : List PlainStatement) → map (statement_on h) ss ≡ map (statement_on k) us → proofs_of ss ≡ proofs_of us
-same_proofs h k ss us is = proofs_on h ss ∙ ap proofs_of is ∙ sym (proofs_on k us)
+same_proofs h k ss us is = counted_on h 0 ss ∙ ap proofs_of is ∙ sym (counted_on k 0 us)
 
 pub same_unproved : (h k : ℕ → ℕ → ℕ) (ss us : List PlainStatement) → map (statement_on h) ss ≡ map (statement_on k) us → unproved_of ss ≡ unproved_of us
 same_unproved h k ss us is = unproved_on h ss ∙ ap unproved_of is ∙ sym (unproved_on k us)
 
 -- what is said of three values is said of the same ones
 pub moved : {X Y Z : Type 0} (P : X → Y → Z → Type 0) (x x' : X) (y y' : Y) (z z' : Z) → x ≡ x' → y ≡ y' → z ≡ z' → P x y z → P x' y' z'
-moved {X} {Y} {Z} P x x' y y' z z' e f g h =
-    subst (λ (w : Z). P x' y' w) g (subst (λ (w : Y). P x' w z) f (subst (λ (w : X). P w y z) e h))
+moved P x x' y y' z z' e f g h = rw (e, f, g) at h
 
 -- what a statement obeys, by what it says and its proof
 abbrev ObeysAs : Profile → List Sentence → Sentence → List (List ℕ) → Type 0
@@ -114,10 +104,9 @@ ObeysAs profile before x p =
 pub obeys_alike : (profile : Profile) (before others : List Sentence) (s t : PlainStatement) → before ≡ others → sentence_of s ≡ sentence_of t → proof_of s ≡ proof_of t
     → Obeys profile before s → Obeys profile others t
 obeys_alike profile before others s t e f g obeyed =
-    let moved_to : ObeysAs profile others (sentence_of t) (proof_of t) =
-    moved (ObeysAs profile) before others (sentence_of s) (sentence_of t) (proof_of s) (proof_of t) e f g
-    (obeyed.meant, obeyed.proved, obeyed.known) in
-    record { meant = moved_to.0; proved = moved_to.1; known = moved_to.2 }
+    let (meant, proved, known) =
+    moved (ObeysAs profile) _ _ _ _ _ _ e f g (obeyed.meant, obeyed.proved, obeyed.known) in
+    record { meant = meant; proved = proved; known = known }
 
 -- the fault of its proof, by the same
 abbrev IsProofFaultAs : Profile → ProofRule → ℕ → List Sentence → Sentence → List (List ℕ) → Type 0
@@ -147,35 +136,19 @@ all_obey_alike profile h k ss us is obeyed before after s split =
 
 -- the refusal of a statement, by its first token's line
 abbrev refusal_at : ℕ → PlainStatement → Rule → ℕ → PlainRefusal
-refusal_at count s rule step = record {
-  file = s.first.file;
-  line = s.first.at + 1;
-  statement = count + 1;
-  label = option_map (λ t. t.text) s.label;
-  rule = rule;
-  step = step;
-}
+refusal_at count s rule step = record (refusal_of [] count s rule step) { line = s.first.at + 1 }
 
 refusal_on : (files : List PlainFile) (count : ℕ) (s : PlainStatement) (rule : Rule) (step : ℕ) → refusal_of files count s rule step ≡ refusal_at count (statement_on (feeds_in files) s) rule step
 refusal_on files count s rule step =
-    let Labelled : Option (List ℕ) → PlainRefusal = λ label. record { file = s.first.file; line = feeds_in files s.first.file s.first.at + 1; statement = count + 1; label = label; rule = rule; step = step } in
-    ap Labelled (text_on (feeds_in files) s.label)
+    λ i. record (refusal_of files count s rule step) { label = text_on (feeds_in files) s.label i }
 
 -- the refusal of the text, by the line of its fault
 abbrev text_refusal_at : PlainFault → PlainRefusal
-text_refusal_at fault = record {
-  file = fault.file;
-  line = fault.at + 1;
-  statement = fault.statement;
-  label = option_map (λ t. t.text) fault.label;
-  rule = text_rule fault.rule;
-  step = 0;
-}
+text_refusal_at fault = record (text_refusal [] fault) { line = fault.at + 1 }
 
 text_refusal_on : (files : List PlainFile) (fault : PlainFault) → text_refusal files fault ≡ text_refusal_at (fault_on (feeds_in files) fault)
 text_refusal_on files fault =
-    let Labelled : Option (List ℕ) → PlainRefusal = λ label. record { file = fault.file; line = feeds_in files fault.file fault.at + 1; statement = fault.statement; label = label; rule = text_rule fault.rule; step = 0 } in
-    ap Labelled (text_on (feeds_in files) fault.label)
+    λ i. record (text_refusal files fault) { label = text_on (feeds_in files) fault.label i }
 
 refuses_statement_alike : (profile : Profile) (files others : List PlainFile) (ss us : List PlainStatement) (refusal : PlainRefusal)
     → map (statement_on (feeds_in files)) ss ≡ map (statement_on (feeds_in others)) us
@@ -250,9 +223,7 @@ name_alike fs gs alike file = absurd alike
 there_alike : (files others : List PlainFile) → AllZip AreAlike files others → (i : ℕ) (f : PlainFile) → slice_get files i ≡ Some f
     → (g : PlainFile) × (slice_get others i ≡ Some g) × (f.name ≡ g.name)
 there_alike [] [] alike i f is = cc is
-there_alike (e ∷ es) (h ∷ hs) alike zero f is =
-    let first : e ≡ f = cc is in
-    (h, refl, sym (ap (λ (x : PlainFile). x.name) first) ∙ alike.0.0)
+there_alike (e ∷ es) (h ∷ hs) alike zero f is = (h, refl, cc (is, alike.0.0))
 there_alike (e ∷ es) (h ∷ hs) alike (suc i) f is = there_alike es hs alike.1 i f is
 there_alike es hs alike i f is = absurd alike
 

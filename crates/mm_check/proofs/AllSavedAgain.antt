@@ -1,6 +1,6 @@
 -- Saving all proofs of a file again changes nothing.
 use Rattle.std.proofs.Common.{◌≡◌, ℕ, List, [], ◌∷◌, ◌++◌, map, None, Contains}
-use Rattle.std.proofs.Common.{refl, sym, ap, subst, ◌∙◌}
+use Rattle.std.proofs.Common.{refl, sym, ap, ◌∙◌}
 use Rattle.std.specs.List.{AllZip, AllByRecursion}
 use Rattle.std.proofs.lemmas.List.Elements.{recursion_from_All, All-contains_itself}
 use Rattle.std.proofs.lemmas.Option.{same_Some}
@@ -174,7 +174,7 @@ saving_all_again_changes_nothing profile f files statements same number bytes ac
     cut_into_slots (IsReplacement f statements) files statements number sv.file sv.replaced
     accepted.reads sv.handed sv.each in
     let own = saved_again profile f files statements number bytes accepted.obeyed sv c put in (
-      subst (λ (ss : List PlainStatement). IsAllSaved f anew ss number bytes) (sym read) own,
-      λ others sw. sym (one_all_saved profile f anew put.same number bytes others put.accepted own
-          (subst (λ (ss : List PlainStatement). IsAllSaved f anew ss number others) read sw)),
+      rw read own,
+      λ others sw. sym (one_all_saved profile f anew put.same number bytes others
+          put.accepted own (rw read at sw)),
     )

@@ -27,7 +27,7 @@ use Rattle.mm_check.specs.declared.ask.AskFault.TheVariants as ask
 use Rattle.mm_check.specs.Verdict.{AreAccepted, AllObey, sentences, is_proof}
 use Rattle.mm_check.specs.Forms.{HasProofTree, IsPackedText, most_labels}
 use Rattle.mm_check.specs.Saved.{IsTextIn, total_with}
-use Rattle.mm_check.specs.AllSaved.{is_theorem_of, theorems_of, Replacement, IsReplacement}
+use Rattle.mm_check.specs.AllSaved.{theorems_of, Replacement, IsReplacement}
 use Rattle.mm_check.specs.AllSaved.{with_replaced, IsAllSaved, IsFirstTooLong, IsAllSaveFault}
 use Rattle.mm_check.specs.AllSavedLaws.{OneSaveAllAnswer}
 use Rattle.mm_check.specs.Mirror.AllSaving.{HasTooLongProof, replacement}
@@ -64,20 +64,15 @@ module _ (profile : Profile) {files : List PlainFile} {statements : List PlainSt
       let split : statements ≡ before ++ s ∷ after = split_at statements place s at in
       let p = ((accepted.obeyed before after s split).proved complete).1 in
       let formed = (readings_are_formed_in_place files statements None accepted.reads).formed in
-      let (label, named, is) =
-      subst (λ kind. HasItsLabel kind (sentence_of s).label) (provable_proof s complete)
-      ((formed_sentences statements formed place (sentence_of s)
+      let (label, named, is) = subst (λ kind. HasItsLabel kind (sentence_of s).label)
+      (provable_proof s complete) ((formed_sentences statements formed place (sentence_of s)
       (said_there statements place s at)).label) in
-      let within : place < length statements = slice_get_within statements place s at in
+      let within = slice_get_within statements place s at in
+      let taken = length-take-le place statements (omega (arith, within)) in
+      let fewer = readings_few files statements None accepted.reads in
+      let limited = within_limit files accepted.readable in
       let few : length (sentences before) ≤ most_bytes =
-      omega (
-        arith,
-        within,
-        length-map before sentence_of,
-        length-take-le place statements (omega (arith, within)),
-        readings_few files statements None accepted.reads,
-        within_limit files accepted.readable,
-      ) in
+      omega (arith, within, length-map before sentence_of, taken, fewer, limited) in
       record {
         label = label;
         place = place;
@@ -102,8 +97,7 @@ module _ (profile : Profile) {files : List PlainFile} {statements : List PlainSt
   -- each theorem of a file has one
   own_trees : (number : ℕ) → AllByRecursion (HasOwnTree statements) (theorems_of number statements)
   own_trees number =
-      each_theorem number (HasOwnTree statements) statements (all_weaker (Contains statements)
-      (λ s. is_theorem_of number s ≡ true → HasOwnTree statements s)
+      each_theorem number (HasOwnTree statements) statements (all_weaker (Contains statements) _
       (λ s there is. own_tree s there (theorem_complete number s is)) statements
       (recursion_from_All (Contains statements) statements (All-contains_itself statements)))
 
@@ -161,10 +155,8 @@ module _ (profile : Profile) {files : List PlainFile} {statements : List PlainSt
       ⊎ ((label : List ℕ) × IsFirstTooLong statements number label)
   normal_answer =
       elim (replaced_up_to (IsReplacement form.Normal statements) (IsTooLong statements)
-      (theorems_of number statements) (all_weaker (HasOwnTree statements)
-      (λ s. ((new : Replacement) × IsReplacement form.Normal statements s new)
-      ⊎ IsTooLong statements s) (normal_or_long statements) (theorems_of number statements)
-      (own_trees profile accepted number))) [
+      (theorems_of number statements) (all_weaker (HasOwnTree statements) _
+      (normal_or_long statements) _ (own_trees profile accepted number))) [
         | inl (news, each) ↦
             inl (
               with_replaced file.bytes news,
@@ -179,10 +171,9 @@ module _ (profile : Profile) {files : List PlainFile} {statements : List PlainSt
   packed_answer : (bytes : List ℕ) × IsAllSaved form.Packed files statements number bytes
   packed_answer =
       elim (replaced_up_to (IsReplacement form.Packed statements) (λ s. ⊥)
-      (theorems_of number statements) (all_weaker (HasOwnTree statements)
-      (λ s. ((new : Replacement) × IsReplacement form.Packed statements s new) ⊎ ⊥)
-      (λ s t. inl (put_for form.Packed statements s t t.packed.0 t.packed.1))
-      (theorems_of number statements) (own_trees profile accepted number))) [
+      (theorems_of number statements) (all_weaker (HasOwnTree statements) _
+      (λ s t. inl (put_for form.Packed statements s t t.packed.0 t.packed.1)) _
+      (own_trees profile accepted number))) [
         | inl (news, each) ↦ (
           with_replaced file.bytes news,
           record { file = file; handed = handed; replaced = news; each = each; whole = refl },
@@ -243,8 +234,7 @@ fault_of_saved : (profile : Profile) (f : Form) (files : List PlainFile)
     → IsAllSaveFault f files statements number fault
     → (fault ≡ ask.Memory) ⊎ ((fault ≡ ask.F3) × (most_bytes < total_with files number bytes))
 fault_of_saved profile f files statements number bytes ask.F3 accepted sv (others, sw, over) =
-    let once = one_all_saved profile f files statements number others bytes accepted sw sv in
-    inr (refl, subst (λ (b : List ℕ). most_bytes < total_with files number b) once over)
+    inr (refl, rw (one_all_saved profile f files statements number _ _ accepted sw sv) at over)
 fault_of_saved profile f files statements number bytes ask.Memory accepted sv why = inl refl
 fault_of_saved profile f files statements number bytes _ accepted sv why = absurd why
 

@@ -75,11 +75,9 @@ all_saved_as_moved number front (s ∷ after) (t ∷ later) [] same all = absurd
 all_saved_as_moved number front (s ∷ after) (t ∷ later) (u ∷ last) same all =
     let (first, rest) = cons_parts (placeless t) (placeless u) (map placeless later)
     (map placeless last) same in
-    let said = same_sentence nowhere nowhere t u first in
-    let moved =
-    all_saved_as_moved number (front ++ sentence_of t ∷ []) after later last rest all.1 in (
+    let moved = all_saved_as_moved number _ after later last rest all.1 in (
       saved_as_moved number front s t u first all.0,
-      subst (λ (x : Sentence). AreSavedAs number (front ++ x ∷ []) after last) said moved,
+      rw (← same_sentence nowhere nowhere t u first) moved,
     )
 all_saved_as_moved number front after later last same all = absurd all
 
@@ -94,8 +92,7 @@ saved_as_at number front (s ∷ after) (u ∷ later) all zero t there =
     let same : u ≡ t = cc in
     (s, refl, rw (append-nil front, ← same) all.0)
 saved_as_at number front (s ∷ after) (u ∷ later) all (suc place) t there =
-    let (v, here, saved) =
-    saved_as_at number (front ++ sentence_of u ∷ []) after later all.1 place t there in
+    let (v, here, saved) = saved_as_at number _ after later all.1 place t there in
     (v, here, rw append_assoc at saved)
 saved_as_at number front after later all place t there = absurd all
 
@@ -151,7 +148,7 @@ passed_over profile files number bytes before s after news other put = record {
       said = refl;
       home = refl;
       theorem = refl;
-      strict = λ is. absurd (let none = other in cc);
+      strict = λ is. absurd cc;
       kept = λ is. refl;
     },
     rw (map-append sentence_of before (s ∷ [])) at put.each,
@@ -177,14 +174,12 @@ module _ (profile : Profile) (f : Form) (files : List PlainFile) (number : ℕ) 
   filled_one bytes {before} {s} after {later} news r p is fill first front (slot ∷ back) long has
       texts =
       let others : List PlainFile = with_bytes files number bytes in
-      let one : (rest : List Slot) → (front ++ slot ∷ []) ++ rest ≡ front ++ slot ∷ rest =
-      λ rest. append_assoc front (slot ∷ []) rest in
+      let one = append_assoc front (slot ∷ []) in
       let longer : length (front ++ slot ∷ []) ≡ length (theorems_of number (before ++ s ∷ [])) =
       length-append front (slot ∷ []) ∙ ap (λ (n : ℕ). n + 1) long
       ∙ sym (length-append (theorems_of number before) (s ∷ []))
       ∙ sym (ap length (theorems_parted number before s [] is)) in
-      let behind =
-      rw (one (map filled back)) at
+      let behind = rw (one (map filled back)) at
       (fill first (front ++ slot ∷ []) back longer (rw (one back) has) texts.1) in
       subst (λ (fs : List PlainFile).
       HasSlots fs (read_anew p) number first (front ++ map filled (slot ∷ back)))
@@ -205,21 +200,17 @@ module _ (profile : Profile) (f : Form) (files : List PlainFile) (number : ℕ) 
   put_in bytes before s after new news obeyed r is next =
       let home : s.first.file ≡ number = theorem_home number s is in
       let others : List PlainFile = with_bytes files number bytes in
-      let own : PlainFile = record file { bytes = bytes } in
       let st : List PlainStatement = before ++ s ∷ after in
-      let here : r.place ≡ length before =
-      one_label (sentences st) r.label r.place (length before) (sentence_of s) (sentence_of s)
-      (all_meant profile st obeyed) (said_there st r.place s r.proof.there)
+      let here = one_label (sentences st) r.label r.place (length before) (sentence_of s)
+      (sentence_of s) (all_meant profile st obeyed) (said_there st r.place s r.proof.there)
       (said_there st (length before) s (get_parted before after s)) r.proof.named r.proof.named in
       let front : sentences (take r.place st) ≡ sentences before = rw (here, take-append_seam) in
-      let p : IsToPut profile f others before s next.later own r.text =
-      to_put r.proof r.laid front next.reads next.obeyed
+      let p = to_put r.proof r.laid front next.reads next.obeyed
       (ap (slice_get others) home ∙ handed_anew files number file bytes handed) in
       let put = are_put_anew p in
       let anew = anew_of p in
       let theorem = theorem_there number (put_anew s (10 ∷ r.text)) anew.complete home in
-      let changed =
-      (λ i. with_bytes others (home i) (with_span bytes (sym r.span i) (sym r.put i)))
+      let changed = (λ i. with_bytes others (home i) (with_span bytes (sym r.span i) (sym r.put i)))
       ∙ with_bytes_again files number file bytes (with_span bytes new.span new.text) handed in
       record {
         later = put_anew s (10 ∷ r.text) ∷ put.later;
@@ -232,7 +223,7 @@ module _ (profile : Profile) (f : Form) (files : List PlainFile) (number : ℕ) 
             home = refl;
             theorem = is ∙ sym theorem;
             strict = λ so. anew.strict;
-            kept = λ none. absurd (let so = theorem in cc);
+            kept = λ none. absurd cc;
           },
           all_saved_as_moved number (sentences before ++ sentence_of s ∷ []) after next.later
               put.later put.same

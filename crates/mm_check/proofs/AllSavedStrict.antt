@@ -1,5 +1,5 @@
 -- The proofs that saving whole files puts in have the strict form.
-use Rattle.std.proofs.Common.{◌≡◌, ℕ, ◌<◌, List, [], ◌∷◌, ◌++◌, take, length, slice_get, arith}
+use Rattle.std.proofs.Common.{◌≡◌, ℕ, ◌<◌, List, [], ◌∷◌, take, length, slice_get, arith}
 use Rattle.std.proofs.Common.{Bool, true, false, not, ◌&&◌, Some, None, Contains, ◌⊎◌, inl, inr}
 use Rattle.std.proofs.Common.{refl, sym, ap, subst, ◌∙◌}
 use Rattle.std.specs.List.{AllByRecursion}
@@ -65,9 +65,8 @@ kept_strict P statements same number place s t told strict there saved complete 
     let proof : proof_of s ≡ proof_of t = saved.kept is in
     let proved : is_proof s ≡ true =
     (λ i. is_provable (saved.said i).kind && not (is_incomplete (proof i))) ∙ complete in
-    moved IsStrict (sentences (take place statements)) (sentences (take place same)) (sentence_of s)
-    (sentence_of t) (proof_of s) (proof_of t) (front_told statements same place told) saved.said
-    proof (strict place s there proved (subst P (sym saved.home) so))
+    moved IsStrict _ _ _ _ _ _ (front_told statements same place told) saved.said proof
+    (strict place s there proved (subst P (sym saved.home) so))
 
 strict_with : (P : ℕ → Type 0) (profile : Profile) (files : List PlainFile)
     (statements : List PlainStatement) (number : ℕ) (bytes : List ℕ) (news : List Replacement)
@@ -147,36 +146,28 @@ strict_accepted files statements accepted none strict = record {
       let old = accepted.obeyed before after s split in
       let formed = subst (λ (ss : List PlainStatement). AllByRecursion HasForm ss) split
       (readings_are_formed_in_place files statements None accepted.reads).formed in
+      let there : slice_get statements (length before) ≡ Some s =
+      rw split (get_parted before after s) in
+      let front = ap (take (length before)) split ∙ take-append_seam before (s ∷ after) in
+      let (file, home) = home_file files statements (length before) s accepted.reads there in
+      let within = slice_get_within files s.first.file file home in
       record {
         meant = old.meant;
         proved = λ complete. (
-          form before after s split complete,
+          rw front at (strict (length before) s there complete within),
           within_strict (sentences before) (sentence_of s) (proof_of s) (old.proved complete),
         );
         known = λ open_one. absurd (none_incomplete before after s formed
             (sym (ap unproved_of split) ∙ none) open_one);
       };
 }
-  where
-    form : (before after : List PlainStatement) (s : PlainStatement)
-        → statements ≡ before ++ s ∷ after → is_proof s ≡ true
-        → IsStrict (sentences before) (sentence_of s) (proof_of s)
-    form before after s split complete =
-        let there : slice_get statements (length before) ≡ Some s =
-        rw split (get_parted before after s) in
-        let front = ap (take (length before)) split ∙ take-append_seam before (s ∷ after) in
-        let (file, home) =
-        home_file files statements (length before) s accepted.reads there in
-        rw front at (strict (length before) s there complete
-        (slice_get_within files s.first.file file home))
 
 pub packed_files_are_strict : PackedFilesAreStrict
 packed_files_are_strict files others statements numbers accepted none all saved =
     let done =
     files_strict (λ n. ⊥) numbers files others statements accepted none
     (λ place s there complete never. absurd never) saved in
-    let many : length others ≡ length files = saved_many numbers files others saved in
     let strict : AreStrictIn (λ n. n < length others) done.same =
     λ place s there complete within. done.strict place s there complete
-    (inr (all s.first.file (subst (λ (n : ℕ). s.first.file < n) many within))) in
+    (inr (all s.first.file (rw (saved_many numbers files others saved) at within))) in
     (done.same, strict_accepted others done.same done.accepted done.none strict, done.none)

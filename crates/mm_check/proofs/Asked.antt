@@ -2,6 +2,7 @@
 use Rattle.std.proofs.Common.{◌≡◌, ◌≢◌, ◌↔◌, ℕ, zero, suc, ◌<◌, List, [], ◌∷◌, take, length, slice_get, Contains, Bool, true, false, IsTrue, nat_eq, eq-eqb, not, ◌&&◌, ◌||◌, Some, inl, inr, refl, sym, ap, subst, ◌∙◌}
 use Rattle.std.specs.List.{AllByRecursion, list_any}
 use Rattle.std.proofs.lemmas.Bool.{or_cases, eqb-true, or_right}
+use Rattle.std.proofs.lemmas.List.{take-map}
 use Rattle.mm_text.specs.declared.statement.Kind.{Kind}
 use Rattle.mm_text.specs.declared.statement.Kind.TheVariants.{Axiom, Provable}
 use Rattle.mm_text.specs.Statement.{PlainStatement, is_provable}
@@ -17,7 +18,6 @@ use Rattle.mm_frame.proofs.Labelled.{numbered_get, numbered_some, numbered_uniqu
 use Rattle.mm_frame.proofs.Meant.{allmeant_front}
 use Rattle.mm_frame.proofs.NameLists.{get_unmapped}
 use Rattle.mm_proof.specs.Tree.{Trees, none as no_trees}
-use Rattle.mm_proof.specs.Moves.{Move, Makes}
 use Rattle.mm_proof.specs.Proof.{IsProved}
 use Rattle.mm_proof.specs.Used.{IsUsedNumber}
 use Rattle.mm_proof.proofs.SaidMoves.{moves_once}
@@ -38,21 +38,13 @@ use Rattle.mm_check.proofs.Trees.{Spells, AreUsesOf}
 pub numbered_as : (statements : List PlainStatement) (id place : ℕ) (t : Sentence) → IsNumbered (sentences statements) id place t
     → (s : PlainStatement) × IsAt statements id place s × (sentence_of s ≡ t)
 numbered_as statements id place t numbered =
-    let found = get_unmapped sentence_of statements place t numbered.there in (
-      found.0,
-      record {
-        there = found.1;
-        numbered = subst (λ (u : Sentence). IsNumbered (sentences statements) id place u) (sym found.2) numbered;
-      },
-      found.2,
-    )
+    let (s, there, said) = get_unmapped sentence_of statements place t numbered.there in
+    (s, record { there = there; numbered = rw (← said) at numbered }, said)
 
 pub at_unique : (statements : List PlainStatement) (id p q : ℕ) (s t : PlainStatement) → IsAt statements id p s → IsAt statements id q t → (p ≡ q) × (s ≡ t)
 at_unique statements id p q s t one other =
-    let place : p ≡ q = (numbered_unique (sentences statements) id p q (sentence_of s) (sentence_of t) one.numbered other.numbered).0 in
-    let there : slice_get statements q ≡ Some s = subst (λ (n : ℕ). slice_get statements n ≡ Some s) place one.there in
-    let here : slice_get statements q ≡ Some t = other.there in
-    (place, cc)
+    let place : p ≡ q = (numbered_unique _ id p q _ _ one.numbered other.numbered).0 in
+    (place, cc (place, one.there, other.there))
 
 -- ---- the theorem with a label
 
@@ -60,12 +52,9 @@ at_unique statements id p q s t one other =
 named_as : (statements : List PlainStatement) (label : List ℕ) (P : PlainStatement → Type 0) (id place : ℕ) (t : Sentence) → IsNumbered (sentences statements) id place t → IsLabelled label t
     → ((s : PlainStatement) → IsAt statements id place s → s.kind ≡ t.kind → P s) → IsNamed statements label P id
 named_as statements label P id place t numbered labelled_sentences holds =
-    let found = numbered_as statements id place t numbered in (
-      place,
-      found.0,
-      found.1,
-      (subst (λ (u : Sentence). IsLabelled label u) (sym found.2) labelled_sentences, holds found.0 found.1 (ap (λ (u : Sentence). u.kind) found.2)),
-    )
+    let (s, at, said) = numbered_as statements id place t numbered in
+    let kind = ap (λ (u : Sentence). u.kind) said in
+    (place, s, at, (rw (← said) at labelled_sentences, holds s at kind))
 
 -- one statement has the number
 same_proof : (statements : List PlainStatement) (test : PlainStatement → Bool) (id place : ℕ) (s : PlainStatement) → IsAt statements id place s
@@ -149,14 +138,11 @@ no_axiom_kind statements id k told other (place, s, numbered, kind) =
 pub same_tree : (before : List Sentence) (s : Sentence) (tokens : List (List ℕ)) (p q : IsProved before s tokens) → AllMeant before → tree_of p ≡ tree_of q
 same_tree before s tokens p q all =
     let moves : p.moves ≡ q.moves = moves_once before s tokens p.moves q.moves p.said q.said in
-    let made : Makes before q.moves no_trees [] (tree_of p) p.proves.kept =
-    subst (λ (ms : List (Move (List ℕ))). Makes before ms no_trees [] (tree_of p) p.proves.kept) moves p.proves.made in
+    let made = rw moves at p.proves.made in
     (makes_once before q.moves no_trees (tree_of p) (tree_of q) [] p.proves.kept q.proves.kept all made q.proves.made).0
 
 pub map-take : (n : ℕ) (statements : List PlainStatement) → sentences (take n statements) ≡ take n (sentences statements)
-map-take zero statements = refl
-map-take (suc n) [] = refl
-map-take (suc n) (s ∷ statements) = ap (λ (ss : List Sentence). sentence_of s ∷ ss) (map-take n statements)
+map-take n statements = sym (take-map sentence_of n statements)
 
 pub one_tree : (statements : List PlainStatement) (id p q : ℕ) (t u : Trees) → AllMeant (sentences statements) → HasTree statements id p t → HasTree statements id q u
     → (p ≡ q) × (t ≡ u)
@@ -188,10 +174,7 @@ used_is statements uses all kept id used = (
       let found = number_among uses id ((kept.proofs.each id).1 (place, has.s, has.at, has.complete)) in
       let of : AreUsesOf statements found.0 = kept.each found.0 found.1 in
       let same = one_tree statements id place of.0 t of.1 all has (subst (λ (n : ℕ). HasTree statements n of.0 of.1) found.2 of.2) in
-      let there : IsUsedNumber (sentences (take of.0 statements)) of.1 used =
-      subst (λ (n : ℕ). IsUsedNumber (sentences (take n statements)) of.1 used) same.0
-      (subst (λ (v : Trees). IsUsedNumber (sentences (take place statements)) v used) same.1 stands) in
-      (found.0, found.1, found.2, (of.3.each used).1 there),
+      (found.0, found.1, found.2, (of.3.each used).1 (rw (same.0, same.1) at stands)),
 )
 
 pub rests_as : (R S : ℕ → ℕ → Type 0) → ((id used : ℕ) → R id used → S id used) → (theorem n : ℕ) → RestsOn R theorem n → RestsOn S theorem n
@@ -220,8 +203,7 @@ report_of statements c label id marks axioms unproved kept all named marked are_
       rests_as (UsedIn c.uses) (Uses statements) (λ x y. (same x y).0) id n,
       rests_as (Uses statements) (UsedIn c.uses) (λ x y. (same x y).1) id n,
     ) in
-    let placed : AreInOrder (λ n. IsAxiomNumber (sentences statements) n × IsMarked marks n) axioms =
-    subst (λ (ss : List Sentence). AreInOrder (λ n. IsAxiomNumber ss n × IsMarked marks n) axioms) kept.sentences are_axioms in
+    let placed = rw kept.sentences at are_axioms in
     record {
       id = id;
       theorem = named;
@@ -256,9 +238,6 @@ backward statements uses kept = record {
   below = λ u used among holds.
       let of : AreUsesOf statements u = kept.each u among in
       let stands : IsUsedNumber (sentences (take of.0 statements)) of.1 used = (of.3.each used).0 holds in
-      let less : used < length (labelled_sentences (sentences (take of.0 statements))) =
-      numbered_within (sentences (take of.0 statements)) used stands.0 stands.1 stands.3 in
-      let number : length (labelled_sentences (sentences (take of.0 statements))) ≡ u.number =
-      ap (λ (ss : List Sentence). length (labelled_sentences ss)) (map-take of.0 statements) ∙ of.2.at.numbered.number in
-      subst (λ (k : ℕ). used < k) number less;
+      rw (map-take of.0 statements, of.2.at.numbered.number) at (numbered_within
+      (sentences (take of.0 statements)) used stands.0 stands.1 stands.3);
 }

@@ -57,12 +57,6 @@ goes_on profile files s p q old new taken formed takes = (
       ),
 )
 
--- the reading where no statement is left
-none_left : (profile : Profile) (files : List PlainFile) (p : Progress) (left : Remaining) (way : IsUnderWay profile files p left) → left.statements ≡ []
-    → Reads files way.earlier left.ending
-none_left profile files p left way none =
-    rw (none, append-nil) at way.reads
-
 -- ## What is answered
 
 -- a fault that tells a verdict tells this one
@@ -83,7 +77,7 @@ end_verdict profile files p left fault way (inr end) v e =
       way.readable,
       way.earlier,
       left.ending,
-      none_left profile files p left way end.0,
+      rw (end.0, append-nil) at way.reads,
       inr (record { obeyed = way.obeyed; fault = end.1; ended = end.2; refused = refl }),
     )
 
@@ -135,8 +129,7 @@ concluded_as profile files c statements _ _ accepted same named count proofs = a
 module _ {profile : Profile} {files : List PlainFile} {p : Progress} {left : Remaining}
     (end : IsAtEnd profile files p left) where
   pub read_to_end : Reads files end.way.earlier None
-  read_to_end =
-      rw end.ending at (none_left profile files p left end.way end.none)
+  read_to_end = rw (end.none, append-nil, end.ending) at end.way.reads
 
   pub end_accepted : AreAccepted profile files end.way.earlier
   end_accepted =

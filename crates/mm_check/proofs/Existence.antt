@@ -28,16 +28,8 @@ use Rattle.mm_check.proofs.Unproved.{all_meant, one_more, no_statement, proof_no
 
 twins_dec : (files : List PlainFile) → Dec (HasTwins files)
 twins_dec files = dec_as
-    (λ h. record {
-      i = h.0;
-      j = h.3.0;
-      one = h.1;
-      other = h.3.1;
-      apart = h.3.3.0;
-      at_i = h.2;
-      at_j = h.3.2;
-      same = h.3.3.1;
-    })
+    (λ (i, f, at, (j, g, to, (less, same))).
+    record { i = i; j = j; one = f; other = g; apart = less; at_i = at; at_j = to; same = same })
     (λ h. (h.i, h.one, h.at_i, (h.j, h.other, h.at_j, (h.apart, h.same))))
     (dec_some (λ i f. (j : ℕ) × (g : PlainFile) × (slice_get files j ≡ Some g) × ((i < j) × (f.name ≡ g.name)))
     (λ i f. dec_some (λ j g. (i < j) × (f.name ≡ g.name)) (λ j g. dec_both (dec_le (suc i) j) (symbol_dec f.name g.name)) files) files)
@@ -74,45 +66,29 @@ proof_obeys_or_fails : (profile : Profile) (before : List PlainStatement) (s : P
 proof_obeys_or_fails profile before s obeyed formed true b e f meant =
     let law = one_verdict_under_holds profile (sentences before) (sentence_of s) (proof_of s)
     (all_meant profile before obeyed) formed in
+    let none = proof_not_unproved s e in
     elim (law.0) [
-      | inl proved ↦ inl (record {
-        meant = meant;
-        proved = λ complete. proved;
-        known = λ open_one. let none = proof_not_unproved s e in absurd cc;
-      })
+      | inl proved ↦ inl (record { meant = meant; proved = λ c. proved; known = λ u. absurd cc })
       | inr fault ↦ inr (fault.0, fault.1, inl (e, fault.2))
     ]
 proof_obeys_or_fails profile before s obeyed formed false true e f meant =
     let law = one_front_verdict_under_holds profile (sentences before) (sentence_of s) (proof_of s)
     (all_meant profile before obeyed) formed in
     elim (law.0) [
-      | inl allowed ↦ inl (record {
-        meant = meant;
-        proved = λ complete. absurd cc;
-        known = λ open_one. allowed;
-      })
+      | inl allowed ↦ inl (record { meant = meant; proved = λ c. absurd cc; known = λ u. allowed })
       | inr fault ↦ inr (fault.0, fault.1, inr (f, fault.2))
     ]
 proof_obeys_or_fails profile before s obeyed formed false false e f meant =
     inl (record { meant = meant; proved = λ complete. absurd cc; known = λ open_one. absurd cc })
 
 -- a statement obeys the rules, or has a fault
-obeys_or_fails : (profile : Profile) (before : List PlainStatement) (s : PlainStatement)
-    → AllObey profile before → AllFormed (sentences before)
-    → IsMeant (sentences before) (sentence_of s)
-    → Obeys profile (sentences before) s
-    ⊎ ((rule : Rule) × (step : ℕ) × HasFault profile (sentences before) s rule step)
-obeys_or_fails profile before s obeyed formed meant =
-    elim (proof_obeys_or_fails profile before s obeyed formed (is_proof s) (is_unproved s) refl refl
-    meant) [
-      | inl obeys ↦ inl obeys
-      | inr fault ↦ inr (proof_rule fault.0, fault.1, inr (meant, fault.0, fault.2, refl))
-    ]
-
 judged_statement : (profile : Profile) (before : List PlainStatement) (s : PlainStatement) → AllObey profile before → AllFormed (sentences before)
     → Obeys profile (sentences before) s ⊎ ((rule : Rule) × (step : ℕ) × HasFault profile (sentences before) s rule step)
 judged_statement profile before s obeyed formed = elim (some_meaning (sentences before) (sentence_of s)) [
-  | inl meant ↦ obeys_or_fails profile before s obeyed formed meant
+  | inl meant ↦ elim (proof_obeys_or_fails profile before s obeyed formed _ _ refl refl meant) [
+    | inl obeys ↦ inl obeys
+    | inr fault ↦ inr (proof_rule fault.0, fault.1, inr (meant, fault.0, fault.2, refl))
+  ]
   | inr broken ↦ inr (meaning_rule broken.0, 0, inl (broken.0, broken.1, refl, refl))
 ]
 

@@ -124,15 +124,11 @@ module _ (profile : Profile) (statements : List Sentence) (id : ℕ) (s : PlainS
       let open_one = incomplete refl in
       (rw same at open_one.0, of_last (IsFrontAllowedUnder profile) before e open_one.1)
   judged (Ok proved.Complete) used incomplete complete proves forms fails front_fails before e =
-      let Proves : List Sentence → Sentence → List (List ℕ) → Type 0 =
-      λ ss t ts. TokensProve (limit_of profile) ss t ts used in
-      let here = of_last Proves before e (proves refl) in (
+      let form = of_last (HasFormOf profile) before e (forms refl) in
+      let here = of_last (λ ss t ts. TokensProve (limit_of profile) ss t ts used) before e
+      (proves refl) in (
         rw same at (false_from_ne_true (is_incomplete tokens) (λ h. complete h refl)),
-        record {
-          form = of_last (HasFormOf profile) before e (forms refl);
-          proof = here.proof;
-          all = here.all;
-        },
+        record { form = form; proof = here.proof; all = here.all },
       )
   judged (Err faults.Memory) used incomplete complete proves forms fails front_fails before e = tt
   judged (Err (faults.Rule rule step)) used incomplete complete proves forms fails front_fails
@@ -162,5 +158,4 @@ refuses_after profile files p q s fault meant book count (inr at) = inr (
 -- refusals of one statement for one rule at one step
 pub same_refusal : (files : List PlainFile) (count : ℕ) (s : PlainStatement) {r t : Rule} {m n : ℕ} → r ≡ t → m ≡ n
     → Some (Refused (refusal_of files count s r m)) ≡ Some (Refused (refusal_of files count s t n))
-same_refusal files count s {r} {t} {m} {n} e f =
-    ap (λ (q : Rule). Some (Refused (refusal_of files count s q m))) e ∙ ap (λ (k : ℕ). Some (Refused (refusal_of files count s t k))) f
+same_refusal files count s e f = λ i. Some (Refused (refusal_of files count s (e i) (f i)))

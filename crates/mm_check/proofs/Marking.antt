@@ -5,9 +5,9 @@ use Rattle.std.proofs.lemmas.List.Elements.{Contains-append_left}
 use Rattle.std.proofs.lemmas.Bool.{cases_eq}
 use Rattle.std.proofs.lemmas.Option.{slice_get_within}
 use Rattle.mm_frame.proofs.NameLists.{get_mapped}
-use Rattle.std.proofs.lemmas.List.{map-append}
+use Rattle.std.proofs.lemmas.List.{map-append, take-map}
 use Rattle.mm_frame.specs.declared.number.LabelId.{LabelId}
-use Rattle.mm_text.proofs.Lists.{take_next, get_from_front, at_from_contains, contains_from_at}
+use Rattle.mm_text.proofs.Lists.{take_next, get_from_take, at_from_contains, contains_from_at}
 use Rattle.mm_proof.specs.Plain.{ids_in}
 use Rattle.mm_check.specs.Conclusion.{ProofUses}
 use Rattle.mm_check.specs.Rests.{AreRising, AreInOrder, RestsOn}
@@ -102,7 +102,7 @@ marking_passes uses theorem left next marks u h step at other unreached = record
   sound = h.sound;
   closed = λ i v within there reached n k. elim (cases_eq i next) [
     | inl same ↦
-        let one : v ≡ u = let e : slice_get uses next ≡ Some v = subst (λ (j : ℕ). slice_get uses j ≡ Some v) same there in cc in
+        let one : v ≡ u = cc (same, there, at) in
         absurd (elim reached [ inl own ↦ other (sym (ap (λ (w : ProofUses). w.number) one) ∙ own) | inr marked ↦ unreached (subst (λ (w : ProofUses). IsMarked marks w.number) one marked) ])
     | inr apart ↦ h.closed i v (omega arith) there reached n k
   ];
@@ -124,7 +124,7 @@ marking_marks uses theorem left next marks new u backward h step at reached more
       ];
       closed = λ i v within there again n k. elim (cases_eq i next) [
         | inl same ↦
-            let one : v ≡ u = let e : slice_get uses next ≡ Some v = subst (λ (j : ℕ). slice_get uses j ≡ Some v) same there in cc in
+            let one : v ≡ u = cc (same, there, at) in
             more.marked n (subst (λ (w : ProofUses). Contains w.used n) one k)
         | inr apart ↦
             let later : u.number < v.number =
@@ -173,11 +173,10 @@ passed P Q ids x order none keeps cases =
 pub up_to_taken : (P : ℕ → Type 0) (ids new : List LabelId) (x : LabelId) (k : ℕ) → AreInOrder (λ n. (n < k) × P n) (ids_in ids) → x.0 ≡ k → P k → new ≡ ids ++ x ∷ []
     → AreInOrder (λ n. (n < k + 1) × P n) (ids_in new)
 up_to_taken P ids new x k order is holds e =
-    let there : P x.0 = subst P (sym is) holds in
     rw (e, map-append)
     (taken (λ n. (n < k) × P n) (λ n. (n < k + 1) × P n) (ids_in ids) x.0 order
     (λ n h. let less : n < k = h.0 in omega arith)
-    (omega arith, there)
+    (omega arith, rw is holds)
     (λ n h. (let less : n < k = h.0 in omega arith, h.1))
     (λ n h. elim (cases_eq n k) [
       | inl same ↦ inr (same ∙ sym is)
@@ -207,21 +206,10 @@ among_more xs i x at =
 -- those before a place are less than the one there
 before_less : (xs : List LabelId) (i : ℕ) (x : LabelId) → AreRising (ids_in xs) → slice_get xs i ≡ Some x → (n : ℕ) → Contains (ids_in (take i xs)) n → n < x.0
 before_less xs i x rising at n h =
-    let there = at_from_contains (ids_in (take i xs)) n h in
-    let front : slice_get (take i (ids_in xs)) there.0 ≡ Some n = subst (λ (ns : List ℕ). slice_get ns there.0 ≡ Some n) (ids-take i xs) there.1 in
-    let less : there.0 < i = front_within (ids_in xs) i there.0 n front in
-    rising there.0 i n x.0 less (get_from_front (ids_in xs) i there.0 n front) (get_mapped (λ (l : LabelId). l.0) xs i x at)
-  where
-    ids-take : (k : ℕ) (ls : List LabelId) → ids_in (take k ls) ≡ take k (ids_in ls)
-    ids-take zero ls = refl
-    ids-take (suc k) [] = refl
-    ids-take (suc k) (l ∷ ls) = ap (λ (ns : List ℕ). l.0 ∷ ns) (ids-take k ls)
-
-    front_within : (ns : List ℕ) (k j m : ℕ) → slice_get (take k ns) j ≡ Some m → j < k
-    front_within ns zero j m e = absurd cc
-    front_within [] (suc k) j m e = absurd cc
-    front_within (y ∷ ns) (suc k) zero m e = omega arith
-    front_within (y ∷ ns) (suc k) (suc j) m e = let rest : j < k = front_within ns k j m e in omega arith
+    let in_front = rw (← take-map (λ (l : LabelId). l.0) i xs) at h in
+    let (k, there) = at_from_contains (take i (ids_in xs)) n in_front in
+    let (less, here) = get_from_take (ids_in xs) i k n there in
+    rising k i n x.0 less here (get_mapped (λ (l : LabelId). l.0) xs i x at)
 
 pub among_taken : (M : ℕ → Type 0) (xs ids new : List LabelId) (i : ℕ) (x : LabelId) → AreRising (ids_in xs) → slice_get xs i ≡ Some x
     → AreInOrder (λ n. Contains (ids_in (take i xs)) n × M n) (ids_in ids) → M x.0 → new ≡ ids ++ x ∷ []

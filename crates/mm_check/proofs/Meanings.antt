@@ -27,13 +27,8 @@ declares_dec kind x s = dec_both (kind_dec s.kind kind) (contains_dec s.symbols 
 
 twice_dec : (symbols : List (List ℕ)) (x : List ℕ) → Dec (StandsTwice symbols x)
 twice_dec symbols x = dec_as
-    (λ h. record {
-      i = h.0;
-      j = h.3.1.0;
-      apart = h.3.1.3.1;
-      at_i = h.2 ∙ ap Some h.3.0;
-      at_j = h.3.1.2 ∙ ap Some h.3.1.3.0;
-    })
+    (λ (i, y, at_i, (is, (j, z, at_j, (same, apart)))).
+    record { i = i; j = j; apart = apart; at_i = at_i ∙ ap Some is; at_j = at_j ∙ ap Some same })
     (λ h. (h.i, x, h.at_i, (refl, (h.j, x, h.at_j, (refl, h.apart)))))
     (dec_some (λ i y. (y ≡ x) × ((j : ℕ) × (z : List ℕ) × (slice_get symbols j ≡ Some z) × ((z ≡ x) × (i < j))))
     (λ i y. dec_both (symbol_dec y x) (dec_some (λ j z. (z ≡ x) × (i < j)) (λ j z. dec_both (symbol_dec z x) (dec_le (suc i) j)) symbols)) symbols)

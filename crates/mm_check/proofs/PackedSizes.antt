@@ -1,7 +1,7 @@
 -- The fully shared proof of a theorem's tree is small enough to be written: it lists no more labels
 -- than there are statements, and keeps no more trees than the theorem's own proof has bytes.
 use Rattle.std.proofs.Common.{◌≡◌, ℕ, ◌+◌, ◌<◌, ◌≤◌, min, List, [], ◌∷◌, ◌++◌, map}
-use Rattle.std.proofs.Common.{length, Option, Some, None, option_map}
+use Rattle.std.proofs.Common.{length, Option, Some, option_map, unwrap_or}
 use Rattle.std.proofs.Common.{inl, inr, refl, sym, ap, subst, ◌∙◌, arith}
 use Rattle.std.specs.List.{AllZip, AllByRecursion, sum_by}
 use Rattle.std.proofs.Math.Nat.{min-eq_left}
@@ -82,35 +82,27 @@ few_kept before trees moves others kept shared m =
 -- ---- the labels
 
 -- a label, or none at all
-abbrev name_or_none : Option (List ℕ) → List ℕ
-name_or_none None = []
-name_or_none (Some label) = label
+abbrev name_or_none : Sentence → List ℕ
+name_or_none s = unwrap_or s.label []
 
 -- and neither are the listed labels: each is that of a statement, and none stands twice
 few_listed : (before : List Sentence) (s : Sentence) (trees : Trees) (listed : List (List ℕ))
     (codes : List Code) → TreesFit before trees → IsPacked before s trees listed codes
     → length listed ≤ length before
 few_listed before s trees listed codes fit p =
-    let names : List (List ℕ) = map (λ (t : Sentence). name_or_none t.label) before in
+    let names : List (List ℕ) = map name_or_none before in
     let known : (label : List ℕ) → In listed label → In names label = λ label has.
     let f =
     label_fits before trees label fit
     (packed_listed before s trees listed codes label p (in_contains listed label has)) in
     let (place, t, there, named) = stands_known before label f.0 f.1 in
     get_in names place label
-    (slice_get-map (λ (t : Sentence). name_or_none t.label) before place
-    ∙ ap (option_map (λ (t : Sentence). name_or_none t.label)) there
-    ∙ ap (λ (o : Option (List ℕ)). Some (name_or_none o)) named) in
+    (slice_get-map name_or_none before place ∙ ap (option_map name_or_none) there
+    ∙ ap (λ (o : Option (List ℕ)). Some (unwrap_or o [])) named) in
     let most =
     sum_within (λ (label : List ℕ). 1) listed names
     (uses_apart (spelling trees) p.says.labels listed p.uses).0 known in
-    omega (
-      arith,
-      most,
-      one_each listed,
-      one_each names,
-      length-map before (λ (t : Sentence). name_or_none t.label),
-    )
+    omega (arith, most, one_each listed, one_each names, length-map before name_or_none)
 
 -- ---- the codes
 
@@ -167,12 +159,11 @@ within_spelled Tag within = tt
 
 -- each stands for itself
 within_exact : (codes : List Code) → AllByRecursion (IsWithinMost largest) codes
-    → map code_for codes ≡ codes
+    → codes ≡ map code_for codes
 within_exact [] within = refl
 within_exact (Number number ∷ codes) within =
-    let same : min number largest ≡ number = min-eq_left within.0.1 in
-    let rest : map code_for codes ≡ codes = within_exact codes within.1 in
-    λ i. Number (same i) ∷ rest i
+    let same : number ≡ min number largest = sym (min-eq_left within.0.1) in
+    λ i. Number (same i) ∷ within_exact codes within.1 i
 within_exact (Tag ∷ codes) within =
     ap (λ (cs : List Code). Tag ∷ cs) (within_exact codes within.1)
 
@@ -215,11 +206,7 @@ some_packed_text before s root below tokens moves kept formed fit whole said mad
         letters = letters;
         packed = p;
         spelled = spells;
-        coded = record {
-          spelled = codes;
-          spells = spells;
-          are_codes = sym (within_exact codes within);
-        };
+        coded = record { spelled = codes; spells = spells; are_codes = within_exact codes within };
         laid = laid;
       },
     )

@@ -1,8 +1,8 @@
 -- Statements of the files, read again, are those that were judged.
-use Rattle.std.proofs.Common.{◌≡◌, ℕ, zero, suc, ◌≤◌, List, [], ◌∷◌, ◌++◌, map, take, drop, length, sum_by, slice_get, Bool, true, false, not, ◌&&◌, Option, Some, None, refl, sym, ap, subst, ◌∙◌, arith}
+use Rattle.std.proofs.Common.{◌≡◌, ℕ, zero, suc, ◌≤◌, List, [], ◌∷◌, ◌++◌, map, take, drop, length, sum_by, slice_get, true, not, Option, Some, None, refl, sym, ap, subst, ◌∙◌, arith}
 use Rattle.std.proofs.lemmas.List.Sums.{sum_by-cons}
 use Rattle.mm_text.specs.Token.{PlainToken}
-use Rattle.mm_text.specs.Statement.{PlainStatement, bytes_in, is_provable}
+use Rattle.mm_text.specs.Statement.{PlainStatement, bytes_in}
 use Rattle.mm_text.specs.Files.{most_bytes, PlainFile}
 use Rattle.mm_text.specs.Reading.{PlainFault, Reads}
 use Rattle.mm_text.specs.Remaining.{Remaining}
@@ -27,7 +27,7 @@ use Rattle.mm_check.specs.Shown.{Stands}
 use Rattle.mm_check.specs.Mirror.Theorems.{IsStillLeft, IsProofOf, SayStepsOf, AreStepsOf}
 use Rattle.mm_check.proofs.OnTheWay.{within_limit}
 use Rattle.mm_check.proofs.Asked.{map-take}
-use Rattle.mm_check.proofs.Unproved.{provable_kind}
+use Rattle.mm_check.proofs.Unproved.{provable_kind, proof_not_unproved, unproved_there}
 
 -- ---- up to a statement with a label
 
@@ -38,8 +38,7 @@ stands_later s statements label t other (suc place, there, named) = (place, ther
 
 pub sought_on : (label : List ℕ) (first old new : Remaining) (s : PlainStatement) → IsStillLeft label first old → TakesNext old true s new → ¬ (IsLabelled label (sentence_of s)) → IsStillLeft label first new
 sought_on label first old new s sought taken other =
-    let here : Stands (s ∷ new.statements) label sought.some.0 =
-    subst (λ (ss : List PlainStatement). Stands ss label sought.some.0) taken.0 sought.some.1 in
+    let here = rw taken.0 at sought.some.1 in
     record {
       faultless = ap (λ (r : Remaining). r.ending) taken.1 ∙ sought.faultless;
       some = (sought.some.0, stands_later s new.statements label sought.some.0 other here);
@@ -54,9 +53,8 @@ sought_found label first old new s sought taken named =
 
 pub same_reading : (files : List PlainFile) (a b : List PlainStatement) (c d : Option PlainFault) → Reads files a c → Reads files b d → (a ≡ b) × (c ≡ d)
 same_reading files a b c d one other =
-    let law = each_has_one_reading files in
-    let x = law.only a c one in
-    let y = law.only b d other in
+    let x = (each_has_one_reading files).only a c one in
+    let y = (each_has_one_reading files).only b d other in
     (x.0 ∙ sym y.0, x.1 ∙ sym y.1)
 
 -- ---- the theorem
@@ -87,12 +85,7 @@ pub one_stands : (statements : List PlainStatement) (label : List ℕ) (place : 
 one_stands statements label place s t all there named (other, at, labelled) =
     let same : other ≡ place =
     one_label (sentences statements) label other place (sentence_of t) (sentence_of s) all (said_there statements other t at) (said_there statements place s there) labelled named in
-    let here : slice_get statements place ≡ Some t = subst (λ (n : ℕ). slice_get statements n ≡ Some t) same at in
-    cc
-
-complete_test : (a b : Bool) → (a && not b) ≡ true → b ≡ true → ⊥
-complete_test true b e f = cc
-complete_test false b e f = cc
+    cc (same, at, there)
 
 -- the proof of a theorem that obeys the rules
 pub proof_stands : (profile : Profile) (statements : List PlainStatement) (id place : ℕ) (s : PlainStatement) → AllObey profile statements → IsAt statements id place s → is_proof s ≡ true
@@ -101,11 +94,12 @@ proof_stands profile statements id place s obeyed at complete =
     let parted : statements ≡ take place statements ++ s ∷ drop (suc place) statements = split_at statements place s at.there in
     let proved =
     (obeyed (take place statements) (drop (suc place) statements) s parted).proved complete in
+    let provable = provable_kind s.kind (not (is_incomplete (proof_of s))) complete in
     record {
       place = place;
       s = sentence_of s;
-      number = record { numbered = at.numbered; provable = provable_kind s.kind (not (is_incomplete (proof_of s))) complete };
-      complete = λ h. complete_test (is_provable s.kind) (is_incomplete (proof_of s)) complete h;
+      number = record { numbered = at.numbered; provable = provable };
+      complete = λ h. cc (proof_not_unproved s complete, unproved_there s provable h);
       proved = rw map-take at proved;
     }
 
@@ -125,13 +119,9 @@ pub proof_fits : (files : List PlainFile) (statements : List PlainStatement)
     → Reads files statements ending → slice_get statements place ≡ Some s
     → sum_by length (proof_of s) ≤ most_bytes
 proof_fits files statements ending place s readable reads there =
-    omega (
-      arith,
-      texts_bytes s.proof,
-      bytes_within statements place s there,
-      readings_fit files statements ending reads,
-      within_limit files readable,
-    )
+    let room = readings_fit files statements ending reads in
+    let most = within_limit files readable in
+    omega (arith, texts_bytes s.proof, bytes_within statements place s there, room, most)
 
 -- ---- what is shown
 
@@ -144,11 +134,9 @@ found_again statements label id t all (place, s, at, both) stands = one_stands s
 pub shown_proof : (c : Conclusion) (statements : List PlainStatement) (label : List ℕ) (id : ℕ) (t : PlainStatement) → AreOf c statements → AllMeant c.sentences
     → IsNamed statements label (λ s. is_proof s ≡ true) id → Stands statements label t → IsProofOf c.profile c.sentences id (proof_of t)
 shown_proof c statements label id t of all named stands =
-    let meant : AllMeant (sentences statements) = subst AllMeant of.kept.sentences all in
-    let same : t ≡ named.1 = found_again statements label id t meant named stands in
-    let proof : IsProofOf c.profile (sentences statements) id (proof_of named.1) =
-    proof_stands c.profile statements id named.0 named.1 of.accepted.obeyed named.2 named.3.1 in
-    rw (of.kept.sentences, same) proof
+    let meant = rw of.kept.sentences at all in
+    rw (of.kept.sentences, found_again statements label id t meant named stands)
+    (proof_stands c.profile statements id named.0 named.1 of.accepted.obeyed named.2 named.3.1)
 
 -- the steps that its tokens say are those of the theorem
 pub theorem_steps : (c : Conclusion) (statements : List PlainStatement) (label : List ℕ) (id : ℕ) (t : PlainStatement) (steps : List (Move ℕ)) → AreOf c statements → AllMeant c.sentences
@@ -157,8 +145,7 @@ theorem_steps c statements label id t steps of all named stands said =
     let meant : AllMeant (sentences statements) = subst AllMeant of.kept.sentences all in
     let s : PlainStatement = named.1 in
     let same : t ≡ s = found_again statements label id t meant named stands in
-    let here : SayStepsOf (sentences statements) id (proof_of s) steps =
-    rw (of.kept.sentences, same) at said in
+    let here = rw (of.kept.sentences, same) at said in
     let number : IsProofNumber (sentences statements) id named.0 (sentence_of s) =
     record { numbered = named.2.numbered; provable = provable_kind s.kind (not (is_incomplete (proof_of s))) named.3.1 } in
     let told = here named.0 (sentence_of s) number in

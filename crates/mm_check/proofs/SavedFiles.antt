@@ -1,8 +1,8 @@
 -- Files in which one proof is put in for another are accepted alike.
 use Rattle.std.proofs.Common.{◌≡◌, ℕ, zero, suc, ◌+◌, ◌≤◌, ◌<◌, List, [], ◌∷◌, ◌++◌, map, take}
 use Rattle.std.proofs.Common.{drop, length, filter, flat_map, count_by, cond, slice_get, slice_set}
-use Rattle.std.proofs.Common.{Bool, true, false, Some, None, ◌⊎◌, inl, inr, refl, sym}
-use Rattle.std.proofs.Common.{ap, subst, ◌∙◌, arith, append_assoc, length-append}
+use Rattle.std.proofs.Common.{Bool, true, false, Some, None, ◌⊎◌, inl, inr, refl, sym, ap, subst}
+use Rattle.std.proofs.Common.{◌∙◌, arith, append_assoc, length-append}
 use Rattle.std.proofs.Math.Seq.{take-append_seam, drop-append_seam}
 use Rattle.std.proofs.lemmas.List.{length-set, set-set, set-get_or}
 use Rattle.std.proofs.lemmas.Option.{get_or_from_slice_get, slice_get_within}
@@ -80,16 +80,12 @@ proved_anew profile front s root below moves text meant complete old told made r
     let within : IsProofBy Fits front (sentence_of s) ra.tokens root below = ra.proves Fits (tree_derives Fits front (sentence_of s) (proof_of s) moves root below meant old told made) in
     let any : IsProofBy AnyExpression front (sentence_of s) ra.tokens root below =
     ra.proves AnyExpression (tree_derives AnyExpression front (sentence_of s) (proof_of s) moves root below meant (any_proof profile front (sentence_of s) (proof_of s) old) told made) in
-    let strict : IsStrict front (sentence_of s) (proof_of t) =
-    subst (λ (ts : List (List ℕ)). IsStrict front (sentence_of s) ts) (sym tokens) ra.strict in
+    let strict : IsStrict front (sentence_of s) (proof_of t) = rw tokens ra.strict in
     let here : IsProofBy AnyExpression front (sentence_of s) (proof_of t) root below = subst (λ (ts : List (List ℕ)). IsProofBy AnyExpression front (sentence_of s) ts root below) (sym tokens) any in
     record {
       complete = proof_there t (provable_proof s complete) (ap is_incomplete tokens ∙ fine_complete ra.tokens ra.fine);
       strict = strict;
-      under = (
-        form_of_strict profile front (sentence_of s) (proof_of t) strict,
-        rw tokens within.0,
-      );
+      under = (form_of_strict profile front (sentence_of s) _ strict, rw tokens within.0);
       proof = here.0;
       spelled = here.1;
     }
@@ -125,8 +121,7 @@ placeless_at : (after later : List PlainStatement) → map placeless after ≡ m
     → (y : PlainStatement) × (slice_get later place ≡ Some y) × (placeless x ≡ placeless y)
 placeless_at after later same place x e =
     let Alike : PlainStatement → PlainStatement → Type 0 = λ s t. placeless s ≡ placeless t in
-    zip_left Alike after later place x
-    (mapped_zip placeless placeless Alike (λ s t is. is) after later same) e
+    zip_left Alike _ _ place x (mapped_zip placeless placeless Alike (λ s t is. is) _ _ same) e
 
 pub near_at : (before : List PlainStatement) (s t : PlainStatement) (after later : List PlainStatement) → map placeless after ≡ map placeless later → (place : ℕ) (x : PlainStatement)
     → slice_get (before ++ s ∷ after) place ≡ Some x → (y : PlainStatement) × (slice_get (before ++ t ∷ later) place ≡ Some y) × Near (length before) s t place x y
@@ -159,7 +154,7 @@ carries_of before s t after later same own = record {
           | inl both ↦ alike_at (sentences (take place (before ++ s ∷ after))) x y both.0 both.1
           | inr (is, both) ↦
               let front : sentences before ≡ sentences (take place (before ++ s ∷ after)) =
-              ap sentences (sym (ap (λ (n : ℕ). take n (before ++ s ∷ after)) is ∙ take-append_seam before (s ∷ after))) in
+              rw (is, take-append_seam before (s ∷ after)) in
               moved AreAlikeAt (sentences before) (sentences (take place (before ++ s ∷ after))) s x t y front (sym both.0) (sym both.1) own
         ],
       );
@@ -185,8 +180,7 @@ pub all_obey_anew : (profile : Profile) (before : List PlainStatement) (s t : Pl
     → Obeys profile (sentences before) t → AllObey profile (before ++ t ∷ later)
 all_obey_anew profile before s t after later own same obeyed new earlier rest y split =
     let su : List PlainStatement = before ++ t ∷ later in
-    let there : slice_get su (length earlier) ≡ Some y =
-    ap (λ (ss : List PlainStatement). slice_get ss (length earlier)) split ∙ get_parted earlier rest y in
+    let there : slice_get su (length earlier) ≡ Some y = rw split (get_parted earlier rest y) in
     let front : take (length earlier) su ≡ earlier = ap (take (length earlier)) split ∙ take-append_seam earlier (y ∷ rest) in
     subst (λ (ss : List PlainStatement). Obeys profile (sentences ss) y) front (obeys_at profile before s t after later own same obeyed new (length earlier) y there)
 
@@ -197,13 +191,10 @@ pub span_put : (front now back put : List ℕ) (span : ℕ × ℕ) → span.0 �
     → span.1 ≡ length front + length now
     → with_span (front ++ (now ++ back)) span put ≡ front ++ (put ++ back)
 span_put front now back put span start stop =
-    let all : List ℕ = front ++ (now ++ back) in
-    let before = ap (λ (n : ℕ). take n all) start ∙ take-append_seam front (now ++ back) in
-    let after : drop span.1 all ≡ back =
-    ap (λ (n : ℕ). drop n all) (stop ∙ sym (length-append front now))
-    ∙ ap (drop (length (front ++ now))) (sym (append_assoc front now back))
-    ∙ drop-append_seam (front ++ now) back in
-    λ i. before i ++ (put ++ after i)
+    let after : drop span.1 (front ++ (now ++ back)) ≡ back =
+    rw (stop, ← length-append front now, ← append_assoc front now back)
+    (drop-append_seam (front ++ now) back) in
+    rw (start, take-append_seam front (now ++ back), after)
 
 -- ---- one file among the files
 
@@ -212,8 +203,7 @@ pub handed_anew : (files : List PlainFile) (k : ℕ) (f : PlainFile) (bytes : Li
     → slice_get files k ≡ Some f
     → slice_get (with_bytes files k bytes) k ≡ Some (record f { bytes = bytes })
 handed_anew files k f bytes there =
-    ap (λ (fs : List PlainFile). slice_get fs k) (with_bytes_is files k f bytes there)
-    ∙ set_there files k f (record f { bytes = bytes }) there
+    rw (with_bytes_is files k f bytes there) (set_there files k f _ there)
 
 -- its bytes are the last ones
 pub with_bytes_again : (files : List PlainFile) (k : ℕ) (f : PlainFile) (bytes others : List ℕ)
@@ -241,11 +231,7 @@ named_back : (files : List PlainFile) (k : ℕ) (f : PlainFile) (bytes : List �
     → (y : PlainFile) × (slice_get files i ≡ Some y) × (y.name ≡ x.name)
 named_back files k f bytes there i x e =
     elim (get_set_cases files k i (record f { bytes = bytes }) x e) [
-      | inl (here, same) ↦ (
-        f,
-        ap (slice_get files) here ∙ there,
-        ap (λ (u : PlainFile). u.name) same,
-      )
+      | inl (here, same) ↦ (f, rw here there, ap (λ (u : PlainFile). u.name) same)
       | inr (apart, old) ↦ (x, old, refl)
     ]
 

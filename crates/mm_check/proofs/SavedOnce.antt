@@ -1,7 +1,7 @@
 -- Saving changes nothing that is answered, and saving again changes nothing.
 use Rattle.std.proofs.Common.{◌≡◌, ℕ, suc, ◌+◌, ◌≤◌, ◌<◌, List, [], ◌∷◌, ◌++◌, map, take, drop}
-use Rattle.std.proofs.Common.{length, slice_get, true, false, Some, None, inl, inr, refl, sym, ap}
-use Rattle.std.proofs.Common.{subst, ◌∙◌, arith, is_some}
+use Rattle.std.proofs.Common.{length, slice_get, true, Some, None, inl, inr, refl, sym, ap, subst}
+use Rattle.std.proofs.Common.{◌∙◌, arith, is_some}
 use Rattle.std.specs.List.{AllZip}
 use Rattle.std.proofs.Math.Seq.{take-append_seam}
 use Rattle.std.proofs.lemmas.Option.{same_Some}
@@ -10,23 +10,20 @@ use Rattle.mm_text.specs.Statement.{PlainStatement}
 use Rattle.mm_text.specs.Files.{most_bytes, PlainFile}
 use Rattle.mm_text.specs.Reading.{Reads}
 use Rattle.mm_text.specs.Replaced.{placeless, with_span, with_bytes, IsProofSpan, IsMoved}
-use Rattle.mm_text.specs.Replaced.{AreReadBut}
 use Rattle.mm_text.proofs.Lists.{split_at, get_parted}
 use Rattle.mm_text.proofs.FormedLaws.{readings_are_formed_in_place}
 use Rattle.mm_text.proofs.ReplacedFiles.{replaced_proofs_are_read_holds}
 use Rattle.mm_text.proofs.ProofSpans.{proofs_stand_in_spans_holds}
 use Rattle.mm_code.specs.declared.code.Code.{Code}
 use Rattle.mm_code.specs.Letters.{SpellsCodes}
-use Rattle.mm_code.specs.Layout.{CompressedLaidOut}
 use Rattle.mm_code.proofs.OneLayout.{one_text_of_tokens, one_text_of_compressed}
 use Rattle.mm_code.proofs.Unique.{one_text_only}
 use Rattle.mm_frame.specs.Sentence.{Sentence, sentence_of, IsLabelled}
-use Rattle.mm_frame.specs.Form.{AllFormed}
 use Rattle.mm_frame.specs.Rules.{AllMeant}
 use Rattle.mm_frame.specs.Numbers.{labelled_sentences}
 use Rattle.mm_frame.proofs.Meant.{allmeant_front, one_label}
-use Rattle.mm_proof.specs.Tree.{Trees, none, tree, spelling, TreesFit}
-use Rattle.mm_proof.specs.Moves.{Move, Makes}
+use Rattle.mm_proof.specs.Tree.{Trees, none, tree, spelling}
+use Rattle.mm_proof.specs.Moves.{Move}
 use Rattle.mm_proof.specs.Tokens.{SayMoves}
 use Rattle.mm_proof.specs.OneTree.{MakeTree}
 use Rattle.mm_proof.specs.Proof.{IsProvedWithin, IsWithin}
@@ -39,7 +36,7 @@ use Rattle.mm_proof.proofs.SaidMoves.{moves_once}
 use Rattle.mm_check.specs.declared.form.Form.{Form}
 use Rattle.mm_check.specs.declared.form.Form.TheVariants as form
 use Rattle.mm_check.specs.declared.ask.AskFault.TheVariants as ask
-use Rattle.mm_check.specs.Verdict.{AreAccepted, AllObey, Obeys, sentences, proof_of, is_proof, is_unproved}
+use Rattle.mm_check.specs.Verdict.{AreAccepted, AllObey, Obeys, sentences, proof_of, is_proof}
 use Rattle.mm_check.specs.Rests.{IsNamed}
 use Rattle.mm_check.specs.Compared.{IsTheorem}
 use Rattle.mm_check.specs.Forms.{HasProofTree, most_labels}
@@ -123,12 +120,10 @@ module _ {profile : Profile} {f : Form} {files : List PlainFile} {before : List 
   reads_anew =
       let front : List Sentence = sentences before in
       let Fits : List (List ℕ) → Type 0 = IsWithin (limit_of profile) in
-      let fit : TreesFit front (tree p.root p.below none) =
-      derive_fits Fits front (tree p.root p.below none) ((sentence_of s).symbols ∷ [])
+      let fit = derive_fits Fits front (tree p.root p.below none) ((sentence_of s).symbols ∷ [])
       (tree_derives Fits front (sentence_of s) (proof_of s) p.moves p.root p.below meant_before
       proved_before p.told p.made) in
-      let formed : AllFormed front =
-      formed_before (before ++ s ∷ after) before s after
+      let formed = formed_before (before ++ s ∷ after) before s after
       (readings_are_formed_in_place files (before ++ s ∷ after) None p.reads).formed refl in
       text_reads f front (sentence_of s) p.root p.below text meant_before formed fit p.laid
 
@@ -142,16 +137,14 @@ module _ {profile : Profile} {f : Form} {files : List PlainFile} {before : List 
   are_put_anew =
       let ra = reads_anew in
       let new = anew_of in
-      let read : AreReadBut (files_anew files s file text) before s after (10 ∷ text) =
-      replaced_proofs_are_read_holds files before s after file (10 ∷ text) p.reads
+      let read = replaced_proofs_are_read_holds files before s after file (10 ∷ text) p.reads
       (provable_proof s p.complete) p.handed
       (is_proof_text text ra.tokens ra.read ra.fine ra.ends) in
       let t : PlainStatement = put_anew s (10 ∷ text) in
       let obeys : Obeys profile (sentences before) t = record {
         meant = (p.obeyed before after s refl).meant;
         proved = λ complete. new.under;
-        known = λ unproved. absurd
-            (let none_left : is_unproved t ≡ false = proof_not_unproved t new.complete in cc);
+        known = λ unproved. absurd (cc (proof_not_unproved t new.complete));
       } in
       record {
         later = read.later;
@@ -173,9 +166,8 @@ module _ {profile : Profile} {f : Form} {files : List PlainFile} {before : List 
       let old = any_proof profile front (sentence_of s) (proof_of s) proved_before in
       let new = anew_of in
       let put = are_put_anew in
-      let alike =
-      anew_alike profile front s p.root p.below p.moves (10 ∷ text) meant_before p.complete p.told
-      p.made new in
+      let alike = anew_alike profile front s p.root p.below p.moves (10 ∷ text) meant_before
+      p.complete p.told p.made new in
       record {
         to = carries_of before s t after put.later put.same alike;
         from = carries_of before t s put.later after (sym put.same)
@@ -191,12 +183,11 @@ module _ {profile : Profile} {f : Form} {files : List PlainFile} {before : List 
       → HasStrictProof read_anew label
   strict_anew label named =
       let t : PlainStatement = put_anew s (10 ∷ text) in
-      let new = anew_of in
-      let put = are_put_anew in (
+      let there = get_parted before are_put_anew.later t in (
         length before,
         t,
-        record { there = get_parted before put.later t; named = named; complete = new.complete },
-        rw (take-append_seam before (t ∷ put.later)) new.strict,
+        record { there = there; named = named; complete = anew_of.complete },
+        rw (take-append_seam before (t ∷ are_put_anew.later)) anew_of.strict,
       )
 
   -- and the files are saved as they are
@@ -205,32 +196,28 @@ module _ {profile : Profile} {f : Form} {files : List PlainFile} {before : List 
       (with_span file.bytes s.span (10 ∷ text))
   again_saved label named =
       let t : PlainStatement = put_anew s (10 ∷ text) in
-      let put = are_put_anew in
-      let new = anew_of in
-      let moves : List (Move (List ℕ)) = new.proof.moves in
-      let q = new.proof.proves in
-      let made : MakeTree (sentences before) moves p.root p.below =
-      record { kept = q.kept; made = rw new.spelled at q.made } in
-      let front = take-append_seam before (t ∷ put.later) in
+      let q = anew_of.proof.proves in
+      let made : MakeTree (sentences before) anew_of.proof.moves p.root p.below =
+      record { kept = q.kept; made = rw anew_of.spelled at q.made } in
+      let front = take-append_seam before (t ∷ are_put_anew.later) in
       record {
         place = length before;
         s = t;
         root = p.root;
         below = p.below;
         proof = record {
-          there = get_parted before put.later t;
+          there = get_parted before are_put_anew.later t;
           named = named;
-          complete = new.complete;
-          moves = moves;
-          told = rw front new.proof.said;
+          complete = anew_of.complete;
+          moves = anew_of.proof.moves;
+          told = rw front anew_of.proof.said;
           made = rw front made;
         };
         text = text;
         laid = rw front p.laid;
         home = refl;
         file = record file { bytes = with_span file.bytes s.span (10 ∷ text) };
-        handed = handed_anew files s.first.file file (with_span file.bytes s.span (10 ∷ text))
-            p.handed;
+        handed = handed_anew files s.first.file file _ p.handed;
         whole = sym (put_again s file.bytes (10 ∷ text)
             (proofs_stand_in_spans_holds files before s after None file p.reads
             (provable_proof s p.complete) p.handed));
@@ -279,12 +266,10 @@ module _ {profile : Profile} {f : Form} {files : List PlainFile} {statements : L
       → AreAccepted profile (with_bytes files number bytes) (read_anew saved_to_put)
   saved_accepted fits =
       let put = are_put_anew saved_to_put in
-      let changed : files_anew files sv.s sv.file sv.text ≡ with_bytes files number bytes =
-      λ i. with_bytes files (sym sv.home i) (sym sv.whole i) in
       record {
         readable = readable_anew files number sv.file bytes sv.handed fits accepted.readable;
-        reads = subst (λ (fs : List PlainFile). Reads fs (read_anew saved_to_put) None) changed
-            put.reads;
+        reads = subst (λ (fs : List PlainFile). Reads fs (read_anew saved_to_put) None)
+            (λ i. with_bytes files (sym sv.home i) (sym sv.whole i)) put.reads;
         obeyed = put.obeyed;
       }
 
@@ -301,11 +286,8 @@ saving_changes_no_answer profile f files statements label number bytes accepted 
 pub saved_proof_is_strict : SavedProofIsStrict
 saved_proof_is_strict profile f files statements same label number bytes accepted sv fits reads =
     let p = saved_to_put accepted sv in
-    let still = saved_accepted accepted sv fits in
-    let read : same ≡ read_anew p =
-    (same_reading (with_bytes files number bytes) same (read_anew p) None None reads
-    still.reads).0 in
-    rw read (strict_anew p label sv.proof.named)
+    let read = (same_reading (with_bytes files number bytes) same (read_anew p) None None reads
+    (saved_accepted accepted sv fits).reads).0 in rw read (strict_anew p label sv.proof.named)
 
 -- ---- what is saved is one
 
@@ -314,16 +296,13 @@ texts_once form.Normal front s root below a b meant x y = one_text_of_tokens (sp
 texts_once form.Packed front s root below a b meant x y =
     let same = one_packed_holds front s root below x.listed y.listed x.codes y.codes meant x.packed y.packed in
     let letters : x.letters ≡ y.letters = one_text_only x.letters y.letters x.codes x.spelled (subst (λ (codes : List Code). SpellsCodes y.letters codes) (sym same.1) y.spelled) in
-    let laid : CompressedLaidOut x.listed x.letters b =
-    subst (λ (ls : List ℕ). CompressedLaidOut x.listed ls b) (sym letters) (subst (λ (ls : List (List ℕ)). CompressedLaidOut ls y.letters b) (sym same.0) y.laid) in
-    one_text_of_compressed x.listed x.letters a b x.laid laid
+    one_text_of_compressed x.listed x.letters a b x.laid (rw (same.0, letters) y.laid)
 
 one_tree_made : (front : List Sentence) (s : Sentence) (tokens : List (List ℕ)) (a b : List (Move (List ℕ))) (root other : List ℕ) (below under : Trees) → AllMeant front
     → SayMoves front s tokens a → SayMoves front s tokens b → MakeTree front a root below → MakeTree front b other under → tree root below none ≡ tree other under none
 one_tree_made front s tokens a b root other below under meant told said made done =
-    let same : a ≡ b = moves_once front s tokens a b told said in
     (makes_once front b none (tree root below none) (tree other under none) [] made.kept done.kept meant
-    (subst (λ (ms : List (Move (List ℕ))). Makes front ms none [] (tree root below none) made.kept) same made.made) done.made).0
+    (rw (moves_once front s tokens a b told said) at made.made) done.made).0
 
 -- a theorem has one place, and its proof one tree
 pub one_proof_tree : (profile : Profile) (statements : List PlainStatement) (label : List ℕ) (place other : ℕ) (s t : PlainStatement) (root under : List ℕ) (below beneath : Trees) → AllObey profile statements
@@ -334,8 +313,7 @@ one_proof_tree profile statements label place other s t root under below beneath
     one_label (sentences statements) label other place (sentence_of t) (sentence_of s) meant (said_there statements other t k.there) (said_there statements place s h.there) k.named h.named in
     let one : Some t ≡ Some s = sym k.there ∙ ap (slice_get statements) here ∙ h.there in
     let same : t ≡ s = cc in
-    let moved : HasProofTree statements label place s under beneath =
-    subst (λ (u : PlainStatement). HasProofTree statements label place u under beneath) same (subst (λ (n : ℕ). HasProofTree statements label n t under beneath) here k) in
+    let moved : HasProofTree statements label place s under beneath = rw (here, same) at k in
     (here, (same, one_tree_made (sentences (take place statements)) (sentence_of s) (proof_of s) moved.moves h.moves under root beneath below (front_meant profile statements place obeyed) moved.told h.told moved.made h.made))
 
 -- and its text is one
@@ -349,20 +327,16 @@ pub one_text_of : (profile : Profile) (f : Form) (statements : List PlainStateme
     → a ≡ b
 one_text_of profile f statements label place other s t root under below beneath a b obeyed h k one
     two =
-    let (here, (same, trees)) = one_proof_tree profile statements label place other s t root under
-    below beneath obeyed h k in
-    let front : List Sentence = sentences (take place statements) in
-    let laid = rw (here, same, trees) at two in
-    texts_once f front (sentence_of s) root below a b (front_meant profile statements place obeyed)
-    one laid
+    let (here, (same, trees)) = one_proof_tree profile _ _ _ _ _ _ _ _ _ _ obeyed h k in
+    texts_once f (sentences (take place statements)) (sentence_of s) root below a b
+    (front_meant profile statements place obeyed) one (rw (here, same, trees) at two)
 
 pub one_saved : OneSaved
 one_saved profile f files statements label number other bytes others accepted sv sw =
-    let same : sw.s ≡ sv.s = (one_proof_tree profile statements label sv.place sw.place sv.s sw.s
-    sv.root sw.root sv.below sw.below accepted.obeyed sv.proof sw.proof).1.0 in
-    let text : sv.text ≡ sw.text =
-    one_text_of profile f statements label sv.place sw.place sv.s sw.s sv.root sw.root sv.below
-    sw.below sv.text sw.text accepted.obeyed sv.proof sw.proof sv.laid sw.laid in
+    let same : sw.s ≡ sv.s =
+    (one_proof_tree profile _ _ _ _ _ _ _ _ _ _ accepted.obeyed sv.proof sw.proof).1.0 in
+    let text = one_text_of profile f _ _ _ _ _ _ _ _ _ _ sv.text sw.text accepted.obeyed
+    sv.proof sw.proof sv.laid sw.laid in
     let home : number ≡ other = sv.home ∙ ap (λ (s : PlainStatement). s.first.file) (sym same) ∙ sym sw.home in
     let file : sv.file ≡ sw.file = same_Some sv.file sw.file (sym sv.handed ∙ ap (slice_get files) home ∙ sw.handed) in
     (home, sv.whole ∙ (λ i. with_span (file i).bytes (sym same i).span (10 ∷ text i)) ∙ sym sw.whole)
@@ -388,21 +362,18 @@ one_save_answer profile f files statements label number bytes ask.F3 accepted sv
     inr (refl, subst (λ (n : ℕ). most_bytes < n) (λ i. total_with files (sym once.0 i) (sym once.1 i)) over)
 one_save_answer profile f files statements label number bytes ask.Memory accepted sv why = inl refl
 one_save_answer profile f files statements label number bytes ask.A1 accepted sv why =
-    let n = numbered_so statements sv.place sv.s label sv.proof.there sv.proof.named in
-    absurd (why n.0 n.1)
+    let (id, is) = numbered_so statements sv.place sv.s label sv.proof.there sv.proof.named in
+    absurd (why id is)
 one_save_answer profile f files statements label number bytes ask.A2 accepted sv
     (id, (place, t, at, (named, kind))) =
-    let same : t ≡ sv.s =
-    one_stands statements label sv.place sv.s t (all_meant profile statements accepted.obeyed)
-    sv.proof.there sv.proof.named (place, at.there, named) in
-    absurd (kind (ap (λ (u : PlainStatement). u.kind) same ∙ provable_proof sv.s sv.proof.complete))
+    let same = one_stands statements label sv.place sv.s t (all_meant profile statements
+    accepted.obeyed) sv.proof.there sv.proof.named (place, at.there, named) in
+    absurd (kind (rw same (provable_proof sv.s sv.proof.complete)))
 one_save_answer profile f files statements label number bytes ask.A3 accepted sv
     (id, (place, t, at, (named, unproved))) =
-    let same : t ≡ sv.s =
-    one_stands statements label sv.place sv.s t (all_meant profile statements accepted.obeyed)
-    sv.proof.there sv.proof.named (place, at.there, named) in
-    let none_left = proof_not_unproved sv.s sv.proof.complete in
-    let some : is_unproved sv.s ≡ true = ap is_unproved (sym same) ∙ unproved in absurd cc
+    let same = one_stands statements label sv.place sv.s t (all_meant profile statements
+    accepted.obeyed) sv.proof.there sv.proof.named (place, at.there, named) in
+    absurd (cc (proof_not_unproved sv.s sv.proof.complete, same, unproved))
 one_save_answer profile f files statements label number bytes _ accepted sv why = absurd why
 
 -- ---- saving again
@@ -413,16 +384,15 @@ saving_again profile f files statements same label number bytes accepted sv fits
     let still = saved_accepted accepted sv fits in
     let su : List PlainStatement = read_anew p in
     let anew : List PlainFile = with_bytes files number bytes in
-    let own : IsSaved f anew su label number bytes =
-    moved (λ (fs : List PlainFile) (n : ℕ) (b : List ℕ). IsSaved f fs su label n b)
+    let own = moved (λ (fs : List PlainFile) (n : ℕ) (b : List ℕ). IsSaved f fs su label n b)
     (files_anew files sv.s sv.file sv.text) anew sv.s.first.file number
     (with_span sv.file.bytes sv.s.span (10 ∷ sv.text)) bytes
     (λ i. with_bytes files (sym sv.home i) (sym sv.whole i)) (sym sv.home) (sym sv.whole)
     (again_saved p label sv.proof.named) in
-    let read : same ≡ su = (same_reading anew same su None None reads still.reads).0 in (
-      subst (λ (ss : List PlainStatement). IsSaved f anew ss label number bytes) (sym read) own,
+    let read = (same_reading anew same su None None reads still.reads).0 in (
+      rw read own,
       λ again others sw.
           let once = one_saved profile f anew su label number again bytes others still own
-          (subst (λ (ss : List PlainStatement). IsSaved f anew ss label again others) read sw) in
+          (rw read at sw) in
           (sym once.0, sym once.1),
     )

@@ -1,7 +1,7 @@
 -- Saving the theorems of a file one after the other gives what saving all of them at once gives.
-use Rattle.std.proofs.Common.{◌≡◌, ℕ, suc, ◌+◌, ◌<◌, List, [], ◌∷◌, ◌++◌, map, take, drop, length}
-use Rattle.std.proofs.Common.{slice_get, ◌⊎◌, inl, inr, Some, None, refl, sym, ap, subst}
-use Rattle.std.proofs.Common.{◌∙◌, arith}
+use Rattle.std.proofs.Common.{◌≡◌, ℕ, suc, ◌+◌, List, [], ◌∷◌, ◌++◌, map, take, drop, length}
+use Rattle.std.proofs.Common.{slice_get, ◌⊎◌, inl, inr, Some, None, refl, sym, ap, subst, ◌∙◌}
+use Rattle.std.proofs.Common.{arith}
 use Rattle.std.specs.List.{AllZip, AllByRecursion, Contains}
 use Rattle.std.proofs.lemmas.List.Elements.{recursion_from_All, All-contains_itself}
 use Rattle.std.proofs.lemmas.List.{map-append}
@@ -30,7 +30,7 @@ use Rattle.mm_check.proofs.SavedOnce.{anew_of, are_put_anew, read_anew, put_says
 use Rattle.mm_check.proofs.SavedOnce.{saved_to_put, saved_accepted}
 use Rattle.mm_check.proofs.FileTheorems.{theorem_there, theorems_parted}
 use Rattle.mm_check.proofs.SavedTexts.{same_text}
-use Rattle.mm_check.proofs.Woven.{Slot, filled, woven, IsFor, IsCut, all_filled}
+use Rattle.mm_check.proofs.Woven.{Slot, filled, woven, IsFor, all_filled}
 use Rattle.mm_check.proofs.SavedSpans.{HasSlots, cut_into_slots, theorems_said, slots_put_anew}
 
 -- ---- other statements have other labels
@@ -53,9 +53,8 @@ module _ (profile : Profile) (before : List PlainStatement) (s : PlainStatement)
   not_before : AllByRecursion (HasNot label) before
   not_before =
       all_there (HasNot label) before
-      (λ k t there.
-      let less : k < length before = slice_get_within before k t there in
-      others_named k t (get_kept before (s ∷ after) k t there) (λ e. omega (arith, less, e)))
+      (λ k t there. others_named k t (get_kept before (s ∷ after) k t there)
+      (λ e. omega (arith, slice_get_within before k t there, e)))
 
   not_after : AllByRecursion (HasNot label) after
   not_after =
@@ -156,9 +155,8 @@ module _ {profile : Profile} {f : Form} {statements : List PlainStatement} {numb
   text_of : slot_of.x.put ≡ 10 ∷ sv.text
   text_of =
       let parts = slot_of in
-      let (replacement, r, put) =
-      (all_back (IsFor (IsReplacement f statements)) parts.front (parts.x ∷ parts.back)
-      (rw parts.whole at each)).0 in
+      let (replacement, r, put) = (all_back (IsFor (IsReplacement f statements)) parts.front
+      (parts.x ∷ parts.back) (rw parts.whole at each)).0 in
       sym put
       ∙ same_text profile f statements others parts.x.owner sv.s replacement label sv.place sv.root
       sv.below sv.text obeyed on.accepted.obeyed on.carries parts.here r
@@ -192,16 +190,14 @@ module _ {profile : Profile} {f : Form} {statements : List PlainStatement} {numb
       let slot : Slot = parts.x in
       let back : List Slot = parts.back in
       let new_is = theorem_there number t (anew_of p).complete (sym sv.home) in
-      let carried =
-      subst (λ (ss : List PlainStatement). Carries ss (read_anew p)) (sym parted)
+      let carried = subst (λ (ss : List PlainStatement). Carries ss (read_anew p)) (sym parted)
       (put_says_alike p).to in
       let others_front = others_slots label front number before parts.earlier
       (not_before profile before sv.s after label p.obeyed sv.proof.named) in
       let others_back = others_slots label back number after parts.later
       (not_after profile before sv.s after label p.obeyed sv.proof.named) in
       let among = rw parts.whole at left in
-      let owners =
-      zip_append Owns front (theorems_of number before) (filled slot ∷ back)
+      let owners = zip_append Owns front (theorems_of number before) (filled slot ∷ back)
       (t ∷ theorems_of number put.later) parts.earlier (
         parts.here,
         zip_on Owns (λ x y. sentence_of x ≡ sentence_of y) Owns
@@ -279,8 +275,7 @@ among_labels f statements number labels each (slot ∷ slots) ((new, r, put), al
 pub saving_in_turn : SavingInTurnIsSavingAll
 saving_in_turn profile f files statements number labels bytes all accepted sv each turn =
     let theorems : List PlainStatement = theorems_of number statements in
-    let c : IsCut (IsReplacement f statements) 0 sv.file.bytes theorems sv.replaced =
-    cut_into_slots (IsReplacement f statements) files statements number sv.file sv.replaced
+    let c = cut_into_slots (IsReplacement f statements) files statements number sv.file sv.replaced
     accepted.reads sv.handed sv.each in
     let on : AreOnTheWay profile statements number c.first c.slots files statements = record {
       accepted = accepted;
@@ -289,17 +284,14 @@ saving_in_turn profile f files statements number labels bytes all accepted sv ea
       owners = zip_weaker (λ slot s. slot.owner ≡ s) Owns (λ slot s same. ap sentence_of same)
           c.slots theorems c.owners;
     } in
-    let owned : AllByRecursion (λ slot. Contains theorems slot.owner) c.slots =
-    zip_each (λ slot s. slot.owner ≡ s) (λ slot. Contains theorems slot.owner) (Contains theorems)
-    (λ slot s same own. rw same own) c.slots theorems c.owners
+    let owned = zip_each (λ slot s. slot.owner ≡ s) (λ slot. Contains theorems slot.owner)
+    (Contains theorems) (λ slot s same own. rw same own) c.slots theorems c.owners
     (recursion_from_All (Contains theorems) theorems (All-contains_itself theorems)) in
     let left =
     among_labels f statements number labels (λ label. (each label).1) c.slots c.each owned in
-    let in_turn =
-    all_in_turn profile f statements number c.first labels c.slots files statements bytes
-    accepted.obeyed c.each on left turn in
-    let at_once =
-    ap (λ (l : List ℕ). with_replaced l sv.replaced) c.whole
+    let in_turn = all_in_turn profile f statements number c.first labels c.slots files statements
+    bytes accepted.obeyed c.each on left turn in
+    let at_once = ap (λ (l : List ℕ). with_replaced l sv.replaced) c.whole
     ∙ all_filled [] c.first c.slots theorems sv.replaced c.stands
     (zip_weaker (IsReplacement f statements) (λ s new. new.span ≡ s.span) (λ s new r. r.span)
     theorems sv.replaced sv.each) c.texts in

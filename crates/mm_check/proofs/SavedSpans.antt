@@ -1,7 +1,6 @@
 -- Where the proofs of a file stand in it, before and after one of them is put in.
 use Rattle.std.proofs.Common.{◌≡◌, ℕ, ◌+◌, ◌≤◌, List, [], ◌∷◌, ◌++◌, map, length, cond, slice_get}
-use Rattle.std.proofs.Common.{Bool, true, false, Some, None, refl, sym, ap, subst, ◌∙◌, arith}
-use Rattle.std.proofs.Common.{zero-add}
+use Rattle.std.proofs.Common.{Bool, true, false, Some, None, refl, sym, ap, ◌∙◌, arith, zero-add}
 use Rattle.std.specs.List.{AllZip}
 use Rattle.std.proofs.lemmas.Option.{same_Some}
 use Rattle.mm_text.specs.declared.statement.Kind.TheVariants.{Provable}
@@ -20,8 +19,7 @@ use Rattle.mm_check.proofs.AlikeVerdicts.{same_sentence}
 use Rattle.mm_check.proofs.SavedFiles.{nowhere, handed_anew, put_anew}
 use Rattle.mm_check.proofs.SavedOnce.{IsToPut, anew_of, are_put_anew, read_anew}
 use Rattle.mm_check.proofs.FileTheorems.{theorem_complete, theorem_home, theorem_there}
-use Rattle.mm_check.proofs.FileTheorems.{theorem_placeless}
-use Rattle.mm_check.proofs.FileTheorems.{theorems_parted, theorems_zip}
+use Rattle.mm_check.proofs.FileTheorems.{theorem_placeless, theorems_parted, theorems_zip}
 use Rattle.mm_check.proofs.Saving.{provable_proof, within_bytes}
 use Rattle.mm_check.proofs.Woven.{Slot, filled, woven, StandAt, Rise, IsMovedTo, IsCut, cut_at}
 use Rattle.mm_check.proofs.Woven.{put_woven, put_stands}
@@ -96,11 +94,10 @@ spans_rise files statements number file reads there =
   where
     follow : Follow number statements
     follow before between after s t split is other =
-        let home : s.first.file ≡ number = theorem_home number s is in
-        let there : t.first.file ≡ number = theorem_home number t other in
         proof_spans_follow_holds files before between after s t None (rw split at reads)
         (provable_proof s (theorem_complete number s is))
-        (provable_proof t (theorem_complete number t other)) (home ∙ sym there)
+        (provable_proof t (theorem_complete number t other))
+        (theorem_home number s is ∙ sym (theorem_home number t other))
 
     within : EachTheorem number (EndsWithin (length file.bytes)) statements
     within before after s split is =
@@ -147,19 +144,16 @@ pub theorems_moved : (number end other_end : ℕ) (after later : List PlainState
     → AllZip (λ s t. s.kind ≡ Provable → IsMoved number end other_end s t) after later
     → AllZip (IsMovedTo end other_end) (theorems_of number after) (theorems_of number later)
 theorems_moved number end other_end after later same moved =
-    theorems_zip number R (IsMovedTo end other_end)
+    let Alike : PlainStatement → PlainStatement → Type 0 = λ s t. placeless s ≡ placeless t in
+    let Moved : PlainStatement → PlainStatement → Type 0 =
+    λ s t. s.kind ≡ Provable → IsMoved number end other_end s t in
+    theorems_zip number (λ s t. Alike s t × Moved s t) (IsMovedTo end other_end)
     (λ s t both. theorem_placeless number s t both.0)
     (λ s t is both.
     let home : s.first.file ≡ number = theorem_home number s is in
     let own = both.1 (provable_proof s (theorem_complete number s is)) in
-    record { start = own.start home; stop = own.stop home })
-    after later (zip_both (λ s t. placeless s ≡ placeless t)
-    (λ s t. s.kind ≡ Provable → IsMoved number end other_end s t) after later
-    (mapped_zip placeless placeless (λ s t. placeless s ≡ placeless t) (λ s t alike. alike) after
-    later same) moved)
-  where
-    R : PlainStatement → PlainStatement → Type 0
-    R s t = (placeless s ≡ placeless t) × (s.kind ≡ Provable → IsMoved number end other_end s t)
+    record { start = own.start home; stop = own.stop home }) after later (zip_both Alike Moved after
+    later (mapped_zip placeless placeless Alike (λ s t alike. alike) after later same) moved)
 
 module _ {profile : Profile} {f : Form} {files : List PlainFile} {before : List PlainStatement}
     {s : PlainStatement} {after : List PlainStatement} {file : PlainFile} {text : List ℕ}
@@ -180,16 +174,10 @@ module _ {profile : Profile} {f : Form} {files : List PlainFile} {before : List 
       let there = ap (slice_get files) (sym home) ∙ p.handed in
       let earlier : List PlainStatement = theorems_of number before in
       let bytes : List ℕ = with_span file.bytes s.span slot.put in
-      let end : ℕ = s.span.0 + length slot.put in
       let span = ap (λ (l : List ℕ). (s.span.0, s.span.0 + length l)) (sym fills) in
-      let Moved : ℕ → List ℕ → Type 0 = λ n l. AllZip (λ u v. u.kind ≡ Provable
-      → IsMoved n s.span.1 (s.span.0 + length l) u v) after put.later in
-      let moved =
-      theorems_moved number s.span.1 end after put.later put.same
-      (subst (λ (n : ℕ). Moved n slot.put) home
-      (subst (λ (l : List ℕ). Moved s.first.file l) (sym fills) put.moved)) in
-      let same : has.file ≡ file = same_Some has.file file (sym has.handed ∙ there) in
-      let whole = ap (λ (f : PlainFile). f.bytes) (sym same) ∙ has.whole in
+      let moved = theorems_moved number s.span.1 (s.span.0 + length slot.put) after put.later
+      put.same (rw (← home, fills) put.moved) in
+      let whole = rw (same_Some has.file file (sym has.handed ∙ there)) at has.whole in
       let stand = rw (theorems_parted number before s after is) at has.stand in
       record {
         file = record file { bytes = bytes };

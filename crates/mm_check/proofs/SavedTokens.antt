@@ -1,5 +1,5 @@
 -- The tokens of a text that is laid out in lines are those of a proof.
-use Rattle.std.proofs.Common.{◌≡◌, ◌≢◌, ℕ, ◌+◌, ◌≤◌, ◌==◌, ◌||◌, ◌&&◌, List, [], ◌∷◌, ◌++◌, map, Bool, true, false, refl, sym, ap, subst, ◌∙◌, arith, append_assoc, append-nil}
+use Rattle.std.proofs.Common.{◌≡◌, ◌≢◌, ℕ, ◌+◌, ◌≤◌, ◌==◌, ◌||◌, ◌&&◌, List, [], ◌∷◌, ◌++◌, map, Bool, true, false, refl, sym, subst, ◌∙◌, arith, append_assoc, append-nil}
 use Rattle.std.specs.Prelude.{nat_le}
 use Rattle.std.specs.List.{AllByRecursion, AllZip, flat_map, list_all, list_any}
 use Rattle.std.proofs.lemmas.Bool.{leb-true, eqb-true, le-leb, ne_eqb, and_parts}
@@ -36,9 +36,6 @@ one_of_six false false false false false false P h pa pb pc pd pe pf = absurd cc
 label_range : (b low high : ℕ) → (nat_le low b && nat_le b high) ≡ true → (low ≤ b) × (b ≤ high)
 label_range b low high h = let both = and_parts (nat_le low b) (nat_le b high) h in (leb-true low b both.0, leb-true b high both.1)
 
-label_is : (b n : ℕ) → (b == n) ≡ true → b ≡ n
-label_is b n h = eqb-true b n h
-
 pub fine_in : (b low high : ℕ) → low ≤ b → b ≤ high → 42 ≤ low → high ≤ 126 → ((low ≤ 63) → high ≤ 62) → IsFine b
 fine_in b low high more less from to apart =
     (omega (arith, more, from), (omega (arith, less, to), ((λ e. omega (arith, e, more, from)), (λ e. let up : high ≤ 62 = apart (omega (arith, e, more)) in omega (arith, e, less, up)))))
@@ -49,9 +46,9 @@ label_fine b h =
     (λ e. let r = label_range b 65 90 e in (fine_in b 65 90 r.0 r.1 (omega arith) (omega arith) (λ x. absurd (omega (arith, x))), omega (arith, r.0)))
     (λ e. let r = label_range b 97 122 e in (fine_in b 97 122 r.0 r.1 (omega arith) (omega arith) (λ x. absurd (omega (arith, x))), omega (arith, r.0)))
     (λ e. let r = label_range b 48 57 e in (fine_in b 48 57 r.0 r.1 (omega arith) (omega arith) (λ x. omega arith), omega (arith, r.0)))
-    (λ e. let r = label_is b 45 e in (fine_in b 45 45 (omega (arith, r)) (omega (arith, r)) (omega arith) (omega arith) (λ x. omega arith), omega (arith, r)))
-    (λ e. let r = label_is b 95 e in (fine_in b 95 95 (omega (arith, r)) (omega (arith, r)) (omega arith) (omega arith) (λ x. absurd (omega (arith, x))), omega (arith, r)))
-    (λ e. let r = label_is b 46 e in (fine_in b 46 46 (omega (arith, r)) (omega (arith, r)) (omega arith) (omega arith) (λ x. omega arith), omega (arith, r)))
+    (λ e. let r = eqb-true b 45 e in (fine_in b 45 45 (omega (arith, r)) (omega (arith, r)) (omega arith) (omega arith) (λ x. omega arith), omega (arith, r)))
+    (λ e. let r = eqb-true b 95 e in (fine_in b 95 95 (omega (arith, r)) (omega (arith, r)) (omega arith) (omega arith) (λ x. absurd (omega (arith, x))), omega (arith, r)))
+    (λ e. let r = eqb-true b 46 e in (fine_in b 46 46 (omega (arith, r)) (omega (arith, r)) (omega arith) (omega arith) (λ x. omega arith), omega (arith, r)))
 
 bytes_fine : (text : List ℕ) → list_all is_label_byte text ≡ true → AreFine text
 bytes_fine [] h = tt
@@ -65,8 +62,7 @@ label_all_fine text is = bytes_fine text (label_bytes text is)
 -- a parenthesis is no label
 pub no_parenthesis : (b : ℕ) → b ≤ 41 → ¬ (IsLabel (b ∷ []))
 no_parenthesis b small h =
-    let both = and_parts (is_label_byte b) true h in
-    let more = (label_fine b both.0).1 in absurd (omega (arith, more, small))
+    absurd (omega (arith, (label_fine b (and_parts (is_label_byte b) true h).0).1, small))
 
 -- ---- letters
 
@@ -100,13 +96,10 @@ cut_fine (piece ∷ pieces) h =
 
 fine_dark : (b : ℕ) → IsFine b → is_space b ≡ false
 fine_dark b f =
-    let more = f.0 in
-    let a : (b == 32) ≡ false = ne_eqb b 32 (λ e. omega (arith, e, more)) in
-    let c : (b == 10) ≡ false = ne_eqb b 10 (λ e. omega (arith, e, more)) in
-    let d : (b == 9) ≡ false = ne_eqb b 9 (λ e. omega (arith, e, more)) in
-    let g : (b == 12) ≡ false = ne_eqb b 12 (λ e. omega (arith, e, more)) in
-    let h : (b == 13) ≡ false = ne_eqb b 13 (λ e. omega (arith, e, more)) in
-    λ i. a i || d i || c i || g i || h i
+    let apart : (n : ℕ) → n ≤ 32 → (b == n) ≡ false =
+    λ n less. ne_eqb b n (λ e. omega (arith, e, less, f.0)) in
+    rw (apart 32 (omega arith), apart 9 (omega arith), apart 10 (omega arith))
+    (rw (apart 12 (omega arith), apart 13 (omega arith)))
 
 pub fine_lacks : (text : List ℕ) → AreFine text → LacksWhiteSpace text
 fine_lacks [] h = tt
@@ -119,31 +112,19 @@ label_token label is = (omega (arith, label_held label is), fine_lacks label (la
 fine_printable : (text : List ℕ) → AreFine text → list_all is_printable text ≡ true
 fine_printable [] h = refl
 fine_printable (b ∷ text) h =
-    let low : nat_le 33 b ≡ true = le-leb 33 b h.0.0 in
-    let high : nat_le b 126 ≡ true = le-leb b 126 h.0.1.0 in
-    let rest = fine_printable text h.1 in
-    λ i. (low i && high i) && rest i
+    rw (le-leb 33 b h.0.0, le-leb b 126 h.0.1.0) (fine_printable text h.1)
 
 fine_dollar : (text : List ℕ) → AreFine text → HoldsNoDollar text
 fine_dollar [] h = refl
-fine_dollar (b ∷ text) h =
-    let first : (b == 36) ≡ false = ne_eqb b 36 h.0.1.1.0 in
-    let rest = fine_dollar text h.1 in
-    λ i. first i || rest i
+fine_dollar (b ∷ text) h = rw (ne_eqb b 36 h.0.1.1.0) (fine_dollar text h.1)
 
 fine_known : (text : List ℕ) → AreFine text → list_any (λ b. b == 63) text ≡ false
 fine_known [] h = refl
-fine_known (b ∷ text) h =
-    let first : (b == 63) ≡ false = ne_eqb b 63 h.0.1.1.1 in
-    let rest = fine_known text h.1 in
-    λ i. first i || rest i
+fine_known (b ∷ text) h = rw (ne_eqb b 63 h.0.1.1.1) (fine_known text h.1)
 
 pub fine_complete : (tokens : List (List ℕ)) → AllByRecursion AreFine tokens → is_incomplete tokens ≡ false
 fine_complete [] h = refl
-fine_complete (t ∷ tokens) h =
-    let first = fine_known t h.0 in
-    let rest = fine_complete tokens h.1 in
-    λ i. first i || rest i
+fine_complete (t ∷ tokens) h = rw (fine_known t h.0) (fine_complete tokens h.1)
 
 fine_tokens : (tokens : List PlainToken) → AllByRecursion AreFine (texts_of tokens) → AllByRecursion IsProofToken tokens
 fine_tokens [] h = tt
@@ -156,16 +137,13 @@ abbrev pub EndsLine : List ℕ → Type 0
 EndsLine text = (inner : List ℕ) × (10 ∷ text ≡ inner ++ 10 ∷ [])
 
 line_before : (line text : List ℕ) → EndsLine text → EndsLine ((line ++ 10 ∷ []) ++ text)
-line_before line text (inner, e) = (
-  10 ∷ (line ++ inner),
-  ap (λ (l : List ℕ). 10 ∷ l) (append_assoc line (10 ∷ []) text ∙ ap (λ (l : List ℕ). line ++ l) e ∙ sym (append_assoc line inner (10 ∷ []))),
-)
+line_before line text (inner, e) =
+    (10 ∷ (line ++ inner), rw (append_assoc line (10 ∷ []) text, e, append_assoc line inner))
 
 lines_end : (lines : List (List (List ℕ))) (text : List ℕ) → EndsLine text → EndsLine (flat_map (λ line. token_line line ++ 10 ∷ []) lines ++ text)
 lines_end [] text h = h
 lines_end (line ∷ lines) text h =
-    let rest : List ℕ = flat_map (λ l. token_line l ++ 10 ∷ []) lines in
-    subst EndsLine (sym (append_assoc (token_line line ++ 10 ∷ []) rest text)) (line_before (token_line line) (rest ++ text) (lines_end lines text h))
+    rw append_assoc (line_before (token_line line) _ (lines_end lines text h))
 
 letter_lines_end : (lines : List (List ℕ)) (front : List ℕ) → EndsLine (flat_map (λ line. (front ++ line) ++ 10 ∷ []) lines)
 letter_lines_end [] front = ([], refl)

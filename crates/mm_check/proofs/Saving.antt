@@ -110,7 +110,7 @@ holds_span files statements place s number span reads there complete home same =
     proofs_stand_in_spans_holds files (take place statements) s (drop (suc place) statements) None
     file (rw parted at reads) (provable_proof s complete) handed in
     let (start, stop) = within_bytes s file.bytes stands in
-    (file, ap (slice_get files) home ∙ handed, subst (λ (p : ℕ × ℕ). p.0 ≤ length file.bytes) (sym same) start, subst (λ (p : ℕ × ℕ). p.1 ≤ length file.bytes) (sym same) stop)
+    (file, ap (slice_get files) home ∙ handed, rw same start, rw same stop)
 
 -- what stands under a label stands in one place
 pub home_of : (statements : List PlainStatement) (label : List ℕ) (t : PlainStatement) (number : ℕ) (span : ℕ × ℕ) → AllMeant (sentences statements) → Stands statements label t
@@ -128,8 +128,7 @@ saved_of form ss files statements label id steps number span text bytes same r p
     let (root, below, has, told) =
     tree_told ss statements label id steps same r proved
     (λ before s trees. IsTextIn form before s trees text) laid in
-    let stands : Stands statements label r.s = (r.place, r.there, r.named) in
-    let at = home r.s stands in
+    let at = home r.s (r.place, r.there, r.named) in
     record {
       place = r.place;
       s = r.s;
@@ -172,9 +171,9 @@ pub put_save_fault : (form : Form) (ss : List Sentence) (files : List PlainFile)
     → IsHomeOf statements label number span → IsPutFault files number span text fault → IsSaveFault form files statements label fault
 put_save_fault form ss files statements label id steps number span text fault same r proved laid home (inl memory) = memory_fault form files statements label fault memory
 put_save_fault form ss files statements label id steps number span text fault same r proved laid home (inr (is, bytes, put, over)) =
-    let saved : IsSaved form files statements label number bytes = saved_of form ss files statements label id steps number span text bytes same r proved laid home put in
-    let here : IsSaveFault form files statements label ask.F3 = (number, bytes, saved, over) in
-    subst (IsSaveFault form files statements label) (sym is) here
+    let saved = saved_of form ss files statements label id steps number span text bytes same r
+    proved laid home put in
+    rw is (number, bytes, saved, over)
 
 -- ---- files that are accepted
 

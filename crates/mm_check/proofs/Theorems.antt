@@ -70,9 +70,8 @@ pub of_theorem : (ss : List Sentence) (statements : List PlainStatement) (label 
     → ss ≡ sentences statements → (r : AreStepsOf statements label id steps) → OfMoves ss id steps (λ place s moves. P (take place ss) s moves)
     → P (sentences (take r.place statements)) (sentence_of r.s) r.moves
 of_theorem ss statements label id steps P same r holds =
-    let here : OfMoves (sentences statements) id steps (λ place s moves. P (take place (sentences statements)) s moves) =
-    subst (λ (x : List Sentence). OfMoves x id steps (λ place s moves. P (take place x) s moves)) same holds in
-    subst (λ (x : List Sentence). P x (sentence_of r.s) r.moves) (sym (map-take r.place statements)) (here r.place (sentence_of r.s) r.moves r.number r.numbered)
+    let here = rw same at holds in
+    rw map-take (here r.place (sentence_of r.s) r.moves r.number r.numbered)
 
 -- the listing
 pub shown_of : (ss : List Sentence) (statements : List PlainStatement) (label : List ℕ) (id : ℕ) (steps : List (Move ℕ)) (text : List ℕ)
@@ -141,26 +140,17 @@ ask_fault statements label _ h = h
 
 -- what is given is within the most
 pub given_is_within : {X : Type 0} (x : X) (max n : ℕ) → (max < n → (◌≡◌ {A = Result X ExpandFault} (Ok x) (Err expand.L2)) ⊎ (◌≡◌ {A = Result X ExpandFault} (Ok x) (Err expand.Memory))) → n ≤ max
-given_is_within {X} x max n over = go (cases_lt max n)
-  where
-    no : ((◌≡◌ {A = Result X ExpandFault} (Ok x) (Err expand.L2)) ⊎ (◌≡◌ {A = Result X ExpandFault} (Ok x) (Err expand.Memory))) → ⊥
-    no (inl e) = cc
-    no (inr e) = cc
-
-    go : ((max < n) ⊎ (n ≤ max)) → n ≤ max
-    go (inl h) = absurd (no (over h))
-    go (inr h) = h
+given_is_within x max n over = elim (cases_lt max n) [
+  | inl h ↦ elim (over h) [ inl e ↦ cc | inr e ↦ cc ]
+  | inr h ↦ h
+]
 
 -- what is refused is over the most
 pub refused_is_over : {X : Type 0} (r : Result X ExpandFault) (max n : ℕ) → r ≡ Err expand.L2 → (n ≤ max → IsOkUnless r expand.Memory) → max < n
-refused_is_over {X} r max n is within = go (cases_lt max n)
-  where
-    no : IsOkUnless r expand.Memory → ⊥
-    no h = let e : expand.L2 ≡ expand.Memory = subst (λ (q : Result X ExpandFault). IsOkUnless q expand.Memory) is h in cc
-
-    go : ((max < n) ⊎ (n ≤ max)) → max < n
-    go (inl h) = h
-    go (inr h) = absurd (no (within h))
+refused_is_over r max n is within = elim (cases_lt max n) [
+  | inl h ↦ h
+  | inr h ↦ let e : expand.L2 ≡ expand.Memory = rw is at (within h) in cc
+]
 
 -- what holds of a fault
 pub why : {X E : Type 0} (r : Result X E) (P Q : E → Type 0) → ((e : E) → P e → Q e) → IfErr r P → IfErr r Q

@@ -5,7 +5,7 @@ use Rattle.std.proofs.lemmas.List.{map-append, length-map, take-append-le}
 use Rattle.std.proofs.Math.Seq.{take-append_seam}
 use Rattle.mm_text.specs.Statement.{PlainStatement}
 use Rattle.mm_frame.specs.Sentence.{Sentence, sentence_of}
-use Rattle.mm_frame.specs.Numbers.{labelled_sentences, IsNumbered}
+use Rattle.mm_frame.specs.Numbers.{labelled_sentences}
 use Rattle.mm_text.proofs.Lists.{get_kept, get_pushed, pushed_cases}
 use Rattle.mm_frame.proofs.Labelled.{numbered_grow, numbered_fall, numbered_last, numbered_within}
 use Rattle.mm_proof.specs.Tree.{Trees, none, tree}
@@ -24,14 +24,11 @@ use Rattle.mm_check.proofs.Order.{holds_cases, in_order_push, in_order_same}
 
 -- ---- numbers
 
-sentences_more : (statements more : List PlainStatement) → sentences (statements ++ more) ≡ sentences statements ++ sentences more
-sentences_more statements more = map-append sentence_of statements more
-
 -- a statement keeps its number and its place
 pub at_grow : (statements more : List PlainStatement) (id place : ℕ) (s : PlainStatement) → IsAt statements id place s → IsAt (statements ++ more) id place s
 at_grow statements more id place s at = record {
   there = get_kept statements more place s at.there;
-  numbered = rw sentences_more (numbered_grow _ _ id place (sentence_of s) at.numbered);
+  numbered = rw map-append (numbered_grow _ _ id place (sentence_of s) at.numbered);
 }
 
 -- a statement with a label, put at the end, has the next number
@@ -39,22 +36,18 @@ pub at_last : (statements : List PlainStatement) (s : PlainStatement) → is_som
     → IsAt (statements ++ s ∷ []) (length (labelled_sentences (sentences statements))) (length statements) s
 at_last statements s named =
     let last = numbered_last (sentences statements) (sentence_of s) named in
-    let placed = subst (λ (n : ℕ). IsNumbered (sentences statements ++ sentence_of s ∷ []) (length (labelled_sentences (sentences statements))) n (sentence_of s)) (length-map statements sentence_of) last in
-    record {
-      there = get_pushed statements s;
-      numbered = subst (λ (ss : List Sentence). IsNumbered ss (length (labelled_sentences (sentences statements))) (length statements) (sentence_of s)) (sym (sentences_more statements (s ∷ []))) placed;
-    }
+    let placed = rw (length-map statements sentence_of) at last in
+    record { there = get_pushed statements s; numbered = rw map-append placed }
 
 -- a statement with a number, where one more is put at the end, had it, or is the last
 pub at_cases : (statements : List PlainStatement) (s : PlainStatement) (id place : ℕ) (t : PlainStatement) → IsAt (statements ++ s ∷ []) id place t
     → IsAt statements id place t ⊎ ((s ≡ t) × (id ≡ length (labelled_sentences (sentences statements))))
 at_cases statements s id place t at =
-    let numbered : IsNumbered (sentences statements ++ sentence_of s ∷ []) id place (sentence_of t) =
-    subst (λ (ss : List Sentence). IsNumbered ss id place (sentence_of t)) (sentences_more statements (s ∷ [])) at.numbered in
+    let numbered = rw (map-append sentence_of statements (s ∷ [])) at at.numbered in
     elim (pushed_cases statements s place t at.there) [
       | inl before ↦
-          let within : place < length statements = slice_get_within statements place t before in
-          let room : place < length (sentences statements) = subst (λ (n : ℕ). place < n) (sym (length-map statements sentence_of)) within in
+          let within = slice_get_within statements place t before in
+          let room = rw (← length-map statements sentence_of) at within in
           inl (record { there = before; numbered = numbered_fall (sentences statements) (sentence_of s ∷ []) id place (sentence_of t) room numbered })
       | inr last ↦
           let front : take place (sentences statements ++ sentence_of s ∷ []) ≡ sentences statements =
@@ -127,12 +120,9 @@ AreUsesOf statements u =
 
 uses_grow : (statements more : List PlainStatement) (u : ProofUses) → AreUsesOf statements u → AreUsesOf (statements ++ more) u
 uses_grow statements more u (place, t, has, used) =
-    let within : place < length statements = slice_get_within statements place has.s has.at.there in (
-      place,
-      t,
-      tree_grow statements more u.number place t has,
-      rw (take-append-le place statements more (omega arith)) used,
-    )
+    let within : place < length statements = slice_get_within statements place has.s has.at.there in
+    let still = rw (← take-append-le place statements more (omega arith)) at used in
+    (place, t, tree_grow statements more u.number place t has, still)
 
 uses_last : (profile : Profile) (statements : List PlainStatement) (s : PlainStatement) (used : List ℕ) → is_some (sentence_of s).label ≡ true → is_proof s ≡ true
     → IsProvedUsing profile (sentences statements) s used
@@ -157,20 +147,17 @@ pub uses_more : (profile : Profile) (statements : List PlainStatement) (s : Plai
 uses_more profile statements s old new named uses true e keeps =
     let one = keeps.some refl in
     let u : ProofUses = record { number = length (labelled_sentences (sentences statements)); used = ordered one.0 } in
-    let numbers : numbers_of old ++ u.number ∷ [] ≡ numbers_of (old ++ u ∷ []) = sym (map-append (λ (v : ProofUses). v.number) old (u ∷ [])) in
-    let whole : AreUses (statements ++ s ∷ []) (old ++ u ∷ []) = record {
-      proofs = subst (λ (ns : List ℕ). AreInOrder (IsNumberWhere (statements ++ s ∷ []) (λ t. is_proof t ≡ true)) ns) numbers
+    rw one.2 (record {
+      proofs = rw (map-append (λ (v : ProofUses). v.number) old (u ∷ []))
           (one_more_number is_proof statements s (numbers_of old) named uses.proofs true e);
       each = λ v h. elim (holds_cases old u v h) [
         | inl before ↦ uses_grow statements (s ∷ []) v (uses.each v before)
         | inr last ↦ subst (λ (w : ProofUses). AreUsesOf (statements ++ s ∷ []) w) (sym last) (uses_last profile statements s one.0 (named e) e one.1)
       ];
-    } in
-    subst (λ (us : List ProofUses). AreUses (statements ++ s ∷ []) us) (sym one.2) whole
+    })
 uses_more profile statements s old new named uses false e keeps =
-    let whole : AreUses (statements ++ s ∷ []) old = record {
+    rw (keeps.none refl) (record {
       proofs = subst (λ (ns : List ℕ). AreInOrder (IsNumberWhere (statements ++ s ∷ []) (λ t. is_proof t ≡ true)) ns) (append-nil (numbers_of old))
           (one_more_number is_proof statements s (numbers_of old) named uses.proofs false e);
       each = λ v h. uses_grow statements (s ∷ []) v (uses.each v h);
-    } in
-    subst (λ (us : List ProofUses). AreUses (statements ++ s ∷ []) us) (sym (keeps.none refl)) whole
+    })

@@ -1,53 +1,32 @@
 -- Statements one by one: those that are meant, and the `$p` whose proofs are incomplete.
-use Rattle.std.proofs.Common.{◌≡◌, List, [], ◌∷◌, ◌++◌, map, filter, Bool, true, false, not, ◌&&◌, cond, Option, refl, sym, ap, subst, ◌∙◌}
-use Rattle.std.proofs.Common.{inl, inr}
-use Rattle.std.specs.List.{flat_map, AllByRecursion}
-use Rattle.std.specs.Option.{option_to_list, option_map}
+use Rattle.std.proofs.Common.{◌≡◌, List, [], ◌∷◌, ◌++◌, Bool, true, false, not, ◌&&◌, refl, sym, ap, ◌∙◌}
+use Rattle.std.proofs.Common.{inl, inr, length, take}
+use Rattle.std.proofs.Math.Seq.{take-append_seam}
+use Rattle.std.proofs.lemmas.List.{take-map}
+use Rattle.std.specs.List.{AllByRecursion}
 use Rattle.std.proofs.lemmas.Bool.{and_parts}
 use Rattle.mm_text.specs.declared.statement.Kind.{Kind}
 use Rattle.mm_text.specs.declared.statement.Kind.TheVariants.{Provable}
-use Rattle.mm_text.specs.Token.{PlainToken}
 use Rattle.mm_text.specs.Statement.{PlainStatement, HasForm, is_provable}
-use Rattle.mm_frame.specs.Sentence.{Sentence, sentence_of}
-use Rattle.mm_frame.specs.Rules.{AllMeant, IsMeant}
+use Rattle.mm_frame.specs.Sentence.{sentence_of}
+use Rattle.mm_frame.specs.Rules.{AllMeant}
 use Rattle.mm_proof.specs.declared.profile.Profile.{Profile}
 use Rattle.mm_proof.specs.Tokens.{is_incomplete}
-use Rattle.mm_check.specs.Verdict.{AllObey, Obeys, sentences, proof_of, label_of, unproved_of, is_proof, is_unproved}
+use Rattle.mm_check.specs.Verdict.{AllObey, Obeys, sentences, proof_of, unproved_of, is_proof, is_unproved}
 use Rattle.mm_text.proofs.GrammarSteps.{is_provable-true}
-use Rattle.mm_text.proofs.Lists.{all_back, last_cut}
+use Rattle.mm_text.proofs.Lists.{all_back, last_cut, get_parted, split_at}
+use Rattle.mm_frame.proofs.NameLists.{get_unmapped}
 use Rattle.mm_check.proofs.Known.{provable_label, unproved_of-append}
-
--- a split of a list's images is that of a split of the list
-pub record MapSplit {X Y : Type 0} (f : X → Y) (xs : List X) (b : List Y) (y : Y) : Type 0 where
-  pub before : List X
-  pub x : X
-  pub after : List X
-  pub whole : xs ≡ before ++ x ∷ after
-  pub front : map f before ≡ b
-  pub image : f x ≡ y
-
-map_split : {X Y : Type 0} (f : X → Y) (xs : List X) (b : List Y) (y : Y) (a : List Y) → map f xs ≡ b ++ y ∷ a → MapSplit f xs b y
-map_split f [] [] y a e = absurd cc
-map_split f [] (z ∷ b) y a e = absurd cc
-map_split f (x ∷ xs) [] y a e = record { before = []; x = x; after = xs; whole = refl; front = refl; image = cc }
-map_split {X} f (x ∷ xs) (z ∷ b) y a e =
-    let rest = map_split f xs b y a cc in
-    let first : f x ≡ z = cc in
-    record {
-      before = x ∷ rest.before;
-      x = rest.x;
-      after = rest.after;
-      whole = ap (λ (ys : List X). x ∷ ys) rest.whole;
-      front = cc (first, rest.front);
-      image = rest.image;
-    }
 
 -- what obeys the rules breaks no rule of meaning
 pub all_meant : (profile : Profile) (statements : List PlainStatement) → AllObey profile statements → AllMeant (sentences statements)
 all_meant profile statements obeyed before after s e =
-    let split = map_split sentence_of statements before s after e in
-    subst (λ (t : Sentence). IsMeant before t) split.image
-    (subst (λ (b : List Sentence). IsMeant b (sentence_of split.x)) split.front (obeyed split.before split.after split.x split.whole).meant)
+    let (t, there, said) =
+    get_unmapped sentence_of statements (length before) s (rw e (get_parted before after s)) in
+    let front : sentences (take (length before) statements) ≡ before =
+    sym (take-map sentence_of (length before) statements) ∙ ap (take (length before)) e
+    ∙ take-append_seam before (s ∷ after) in
+    rw (front, said) at (obeyed _ _ t (split_at statements (length before) t there)).meant
 
 -- a kind that is that of a `$p`, and more
 pub provable_kind : (kind : Kind) (rest : Bool) → (is_provable kind && rest) ≡ true
@@ -97,12 +76,8 @@ not_listed : (s : PlainStatement) (after : List PlainStatement) → HasForm s �
     → (b : Bool) → is_incomplete (proof_of s) ≡ b → b ≡ false
 not_listed s after formed provable none false e = refl
 not_listed s after formed provable none true e =
-    let unproved : is_unproved s ≡ true = unproved_there s provable e in
-    let listed : flat_map label_of (cond true (s ∷ filter is_unproved after) (filter is_unproved after)) ≡ [] =
-    subst (λ (b : Bool). flat_map label_of (cond b (s ∷ filter is_unproved after) (filter is_unproved after)) ≡ []) unproved none in
     let found = provable_label s.kind s.label formed.label (rw provable refl) in
-    let label : label_of s ≡ found.0.text ∷ [] = ap (λ (o : Option PlainToken). option_to_list (option_map (λ t. t.text) o)) found.1 in
-    let nothing : label_of s ≡ [] = (no_part (label_of s) (flat_map label_of (filter is_unproved after)) listed).0 in
+    let listed = rw (unproved_there s provable e, found.1) at none in
     absurd cc
 
 pub complete_where_none : (before after : List PlainStatement) (s : PlainStatement) → AllByRecursion HasForm (before ++ s ∷ after)
@@ -120,8 +95,7 @@ pub none_incomplete : (before after : List PlainStatement) (s : PlainStatement)
 none_incomplete before after s formed none open_one =
     let provable = provable_kind s.kind (is_incomplete (proof_of s)) open_one in
     let complete = complete_where_none before after s formed none provable in
-    let proved = proof_not_unproved s (proof_there s provable complete) in
-    cc
+    cc (open_one, proof_not_unproved s (proof_there s provable complete))
 
 -- a statement that isn't an incomplete `$p` isn't listed
 not_unproved : (kind : Kind) (incomplete : Bool) → (kind ≡ Provable → incomplete ≡ false) → (is_provable kind && incomplete) ≡ false

@@ -25,7 +25,7 @@ use Rattle.mm_proof.proofs.Limits.{limits_aside_holds}
 use Rattle.mm_proof.specs.Tokens.{is_incomplete}
 use Rattle.mm_check.specs.declared.rule.Rule.{Rule}
 use Rattle.mm_check.specs.declared.rule.Rule.TheVariants.{L1}
-use Rattle.mm_check.specs.Verdict.{Verdict, Load, Refused, Incomplete, Yes, PlainRefusal, Obeys, AllObey, AreAccepted, HasFault, HasVerdict, RefusesStatement, RefusesText, ObeyTheProfile, sentences, load_rule, meaning_rule, proof_rule, refusal_of, text_refusal, proof_of, proofs_of, unproved_of}
+use Rattle.mm_check.specs.Verdict.{Verdict, Load, Refused, Incomplete, Yes, PlainRefusal, Obeys, AllObey, AreAccepted, HasFault, HasVerdict, RefusesStatement, RefusesText, ObeyTheProfile, sentences, load_rule, meaning_rule, proof_rule, refusal_of, text_refusal, proof_of, unproved_of}
 use Rattle.mm_check.proofs.Ranks.{ranked, ranked-rank}
 use Rattle.mm_check.proofs.Rereading.{same_reading}
 use Rattle.mm_check.specs.Verdict.{IsProofFault}
@@ -56,21 +56,16 @@ one_first before s a b f g = elim (cases_order (rank a) (rank b)) [
 
 module _ (profile : Profile) (before : List Sentence) (s : PlainStatement) (meant : AllMeant before)
     (formed : AllFormed before) where
-  -- a proof that breaks no rule has no fault, nor has what is known of one
-  obeying_proof : (rule : ProofRule) (step : ℕ) → Obeys profile before s
-      → IsProofFault profile before s rule step → ⊥
-  obeying_proof rule step obeyed (inl f) =
-      (one_verdict_under_holds profile before (sentence_of s) (proof_of s) meant formed).1
-      (obeyed.proved f.0) rule step f.1
-  obeying_proof rule step obeyed (inr f) =
-      (one_front_verdict_under_holds profile before (sentence_of s) (proof_of s) meant formed).1
-      (obeyed.known f.0) rule step f.1
-
-  -- what obeys the rules has no fault
+  -- what obeys the rules has no fault, nor has its proof, or what is known of one
   obeying_faultless : (rule : Rule) (step : ℕ) → Obeys profile before s
       → HasFault profile before s rule step → ⊥
   obeying_faultless rule step obeyed (inl f) = obeyed.meant f.0 f.1.broken
-  obeying_faultless rule step obeyed (inr f) = obeying_proof f.1 step obeyed f.2
+  obeying_faultless rule step obeyed (inr (so, broken, inl f, is)) =
+      (one_verdict_under_holds profile before (sentence_of s) (proof_of s) meant formed).1
+      (obeyed.proved f.0) broken step f.1
+  obeying_faultless rule step obeyed (inr (so, broken, inr f, is)) =
+      (one_front_verdict_under_holds profile before (sentence_of s) (proof_of s) meant formed).1
+      (obeyed.known f.0) broken step f.1
 
   -- the fault of a proof is one, and so is that of what is known of one
   one_proof_fault : (rule rule' : ProofRule) (step step' : ℕ)
@@ -79,10 +74,8 @@ module _ (profile : Profile) (before : List Sentence) (s : PlainStatement) (mean
   one_proof_fault rule rule' step step' (inl f) (inl g) =
       (one_verdict_under_holds profile before (sentence_of s) (proof_of s) meant formed).2
       rule rule' step step' f.1 g.1
-  one_proof_fault rule rule' step step' (inl f) (inr g) =
-      let none = proof_not_unproved s f.0 in let some = g.0 in absurd cc
-  one_proof_fault rule rule' step step' (inr f) (inl g) =
-      let none = proof_not_unproved s g.0 in let some = f.0 in absurd cc
+  one_proof_fault rule rule' step step' (inl f) (inr g) = cc (proof_not_unproved s f.0, g.0)
+  one_proof_fault rule rule' step step' (inr f) (inl g) = cc (proof_not_unproved s g.0, f.0)
   one_proof_fault rule rule' step step' (inr f) (inr g) =
       (one_front_verdict_under_holds profile before (sentence_of s) (proof_of s) meant formed).2
       rule rule' step step' f.1 g.1
@@ -91,10 +84,8 @@ module _ (profile : Profile) (before : List Sentence) (s : PlainStatement) (mean
   one_statement_fault : (rule rule' : Rule) (step step' : ℕ)
       → HasFault profile before s rule step → HasFault profile before s rule' step'
       → (rule ≡ rule') × (step ≡ step')
-  one_statement_fault rule rule' step step' (inl f) (inl g) = (
-    f.2 ∙ ap meaning_rule (one_first before (sentence_of s) f.0 g.0 f.1 g.1) ∙ sym g.2,
-    f.3 ∙ sym g.3,
-  )
+  one_statement_fault rule rule' step step' (inl f) (inl g) =
+      (f.2 ∙ ap meaning_rule (one_first before _ f.0 g.0 f.1 g.1) ∙ sym g.2, f.3 ∙ sym g.3)
   one_statement_fault rule rule' step step' (inl f) (inr g) = absurd (g.0 f.0 f.1.broken)
   one_statement_fault rule rule' step step' (inr f) (inl g) = absurd (f.0 g.0 g.1.broken)
   one_statement_fault rule rule' step step' (inr f) (inr g) =
@@ -175,13 +166,9 @@ one_verdict profile files (Load a) (Incomplete ls) h k = absurd (k.1.readable h.
 one_verdict profile files (Load a) (Yes n p) h k = absurd (k.1.readable h.0 h.1)
 one_verdict profile files (Refused a) (Load b) h k = absurd (h.0 k.0 k.1)
 one_verdict profile files (Refused a) (Refused b) h k =
-    let statements = (same_reading files h.1 k.1 h.2 k.2 h.3 k.3).0 in
-    let ending = (same_reading files h.1 k.1 h.2 k.2 h.3 k.3).1 in
-    let Refuses : List PlainStatement → Option PlainFault → Type 0 = λ ss e. RefusesStatement profile files ss a ⊎ RefusesText profile files ss e a in
-    let moved : RefusesStatement profile files k.1 a ⊎ RefusesText profile files k.1 k.2 a =
-    subst (λ (e : Option PlainFault). Refuses k.1 e) ending (subst (λ (ss : List PlainStatement). Refuses ss h.2) statements h.4) in
+    let same = same_reading files h.1 k.1 h.2 k.2 h.3 k.3 in
     ap Refused (one_refused profile files k.1 k.2 a b
-    (readings_are_formed_in_place files k.1 k.2 k.3).formed moved k.4)
+    (readings_are_formed_in_place files k.1 k.2 k.3).formed (rw (same.0, same.1) at h.4) k.4)
 one_verdict profile files (Refused a) (Incomplete ls) h k = absurd (accepted_or_refused profile files k.0 h.1 h.2 a k.1 h.3 h.4)
 one_verdict profile files (Refused a) (Yes n p) h k = absurd (accepted_or_refused profile files k.0 h.1 h.2 a k.1 h.3 h.4)
 one_verdict profile files (Incomplete ls) (Load b) h k = absurd (h.1.readable k.0 k.1)
@@ -195,10 +182,7 @@ one_verdict profile files (Yes n p) (Refused b) h k = absurd (accepted_or_refuse
 one_verdict profile files (Yes n p) (Incomplete ls) h k =
     absurd (k.3 (k.2 ∙ ap unproved_of (same_accepted profile files k.0 h.0 k.1 h.1) ∙ h.2))
 one_verdict profile files (Yes n p) (Yes m q) h k =
-    let statements = same_accepted profile files h.0 k.0 h.1 k.1 in
-    let counts : n ≡ m = h.3 ∙ ap length statements ∙ sym k.3 in
-    let proofs : p ≡ q = h.4 ∙ ap proofs_of statements ∙ sym k.4 in
-    cc (counts, proofs)
+    cc (same_accepted profile files h.0 k.0 h.1 k.1, h.3, k.3, h.4, k.4)
 
 -- ## Yes, and the profile
 
@@ -249,9 +233,7 @@ proof_over profile files obey before after s split obeyed rule step (inl f) =
 proof_over profile files obey before after s split obeyed rule step (inr f) =
     let provable = provable_kind s.kind (is_incomplete (proof_of s)) f.0 in
     let complete = (obey.proved before after s split provable).0 in
-    let none = proof_not_unproved s (proof_there s provable complete) in
-    let some = f.0 in
-    absurd cc
+    cc (proof_not_unproved s (proof_there s provable complete), f.0)
 
 -- where the profile is obeyed, what is refused passes the limit
 over_the_limit : (profile : Profile) (files : List PlainFile) (obey : ObeyTheProfile profile files)
@@ -260,9 +242,8 @@ over_the_limit : (profile : Profile) (files : List PlainFile) (obey : ObeyThePro
 over_the_limit profile files obey refusal r = elim (r.fault) [
   | inl f ↦ absurd (obey.meant r.before r.after r.s r.split f.0 f.1.broken)
   | inr f ↦
-      let over =
-      proof_over profile files obey r.before r.after r.s r.split r.obeyed f.1 r.step f.2 in
-      ap (λ (q : PlainRefusal). q.rule) r.refused ∙ f.3 ∙ ap proof_rule over
+      ap (λ (q : PlainRefusal). q.rule) r.refused ∙ f.3 ∙ ap proof_rule
+      (proof_over profile files obey r.before r.after r.s r.split r.obeyed f.1 r.step f.2)
 ]
 
 pub profile_verdict : (profile : Profile) (files : List PlainFile) → ObeyTheProfile profile files → (v : Verdict) → HasVerdict profile files v
@@ -272,14 +253,12 @@ profile_verdict profile files obey (Incomplete ls) h =
     let same = (same_reading files h.0 obey.statements None None h.1.reads obey.reading).0 in
     absurd (h.3 (h.2 ∙ ap unproved_of same ∙ none_unproved obey.statements (λ before after s split provable. (obey.proved before after s split provable).0)))
 profile_verdict profile files obey (Yes n p) h = inl (n, p, refl)
-profile_verdict profile files obey (Refused refusal) h = elim (h.4) [
-  | inl r ↦
-      let same = (same_reading files h.1 obey.statements h.2 None h.3 obey.reading).0 in
-      inr (refusal, refl, over_the_limit profile files obey refusal (subst (λ (ss : List PlainStatement). RefusesStatement profile files ss refusal) same r))
-  | inr r ↦
-      let same = (same_reading files h.1 obey.statements h.2 None h.3 obey.reading).1 in
-      cc (same, r.ended)
-]
+profile_verdict profile files obey (Refused refusal) h =
+    let same = same_reading files h.1 obey.statements h.2 None h.3 obey.reading in
+    elim (h.4) [
+      | inl r ↦ inr (refusal, refl, over_the_limit profile files obey refusal (rw same.0 at r))
+      | inr r ↦ cc (same.1, r.ended)
+    ]
 
 -- ## What an answer tells
 

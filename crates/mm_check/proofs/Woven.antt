@@ -1,7 +1,6 @@
 -- Texts that stand between parts that are kept, each in the span of a statement.
 use Rattle.std.proofs.Common.{◌≡◌, ℕ, ◌+◌, ◌-◌, ◌≤◌, List, [], ◌∷◌, ◌++◌, map, take, drop, length}
-use Rattle.std.proofs.Common.{refl, sym, ap, subst, ◌∙◌, arith, append_assoc, length-append}
-use Rattle.std.proofs.Common.{length-drop}
+use Rattle.std.proofs.Common.{refl, sym, ap, ◌∙◌, arith, append_assoc, length-append, length-drop}
 use Rattle.std.proofs.lemmas.List.{take-append-drop, length-take-le}
 use Rattle.std.specs.List.{AllZip, AllByRecursion}
 use Rattle.mm_text.specs.Statement.{PlainStatement}
@@ -48,14 +47,6 @@ passed_is : (before first now rest : List ℕ)
 passed_is before first now rest =
     sym (append_assoc before first (now ++ rest)) ∙ sym (append_assoc (before ++ first) now rest)
 
-further : (before first now kept : List ℕ) (slots : List Slot) (statements : List PlainStatement)
-    → StandAt (length before + length first + length now) kept slots statements
-    → StandAt (length (passed before first now)) kept slots statements
-further before first now kept slots statements stands =
-    let long : length (passed before first now) ≡ length before + length first + length now =
-    omega (arith, length-append (before ++ first) now, length-append before first) in
-    subst (λ (n : ℕ). StandAt n kept slots statements) (sym long) stands
-
 pub put_woven : (before first : List ℕ) (front : List Slot) (slot : Slot) (back : List Slot)
     (earlier : List PlainStatement) (s : PlainStatement) (later : List PlainStatement)
     → length front ≡ length earlier
@@ -71,12 +62,10 @@ put_woven before first [] slot back [] s later long (start, stop, rest) =
     (stop ∙ ap (λ (n : ℕ). n + length slot.now) (sym one))
     ∙ whole (slot.put ++ woven slot.kept back)
 put_woven before first (x ∷ front) slot back (u ∷ earlier) s later long (start, stop, rest) =
-    let next : List ℕ = passed before first x.now in
-    let stands =
-    further before first x.now x.kept (front ++ slot ∷ back) (earlier ++ s ∷ later) rest in
     ap (λ (l : List ℕ). with_span l s.span slot.put)
     (passed_is before first x.now (woven x.kept (front ++ slot ∷ back)))
-    ∙ put_woven next x.kept front slot back earlier s later (omega arith) stands
+    ∙ put_woven (passed before first x.now) x.kept front slot back earlier s later (omega arith)
+    (rw (length-append (before ++ first) x.now, length-append before first) rest)
     ∙ sym (passed_is before first x.now (woven x.kept (front ++ filled slot ∷ back)))
 put_woven before first front slot back earlier s later long stands = absurd (omega arith)
 
@@ -113,10 +102,9 @@ pub put_stands : (at : ℕ) (first : List ℕ) (front : List Slot) (slot : Slot)
     → StandAt at first (front ++ slot ∷ back) (earlier ++ s ∷ later)
     → StandAt at first (front ++ filled slot ∷ back) (earlier ++ t ∷ moved)
 put_stands at first [] slot back [] s t later moved long span zip (start, stop, rest) =
-    let start_at : t.span.0 ≡ s.span.0 = ap (λ (p : ℕ × ℕ). p.0) span in
-    let stop_at : t.span.1 ≡ s.span.0 + length slot.put = ap (λ (p : ℕ × ℕ). p.1) span in (
-      start_at ∙ start,
-      stop_at ∙ ap (λ (n : ℕ). n + length slot.put) start,
+    rw span (
+      start,
+      ap (λ (n : ℕ). n + length slot.put) start,
       stand_moved s.span.1 (s.span.0 + length slot.put) (at + length first + length slot.now)
           (at + length first + length slot.put) slot.kept back later moved
           (omega (arith, start, stop)) zip rest,
@@ -143,13 +131,12 @@ all_filled before first [] [] (new ∷ news) stands spans texts = absurd spans
 all_filled before first (x ∷ slots) (s ∷ statements) [] stands spans texts = absurd spans
 all_filled before first (x ∷ slots) (s ∷ statements) (new ∷ news) (start, stop, rest)
     (span, spans) (text, texts) =
-    let next : List ℕ = passed before first x.now in
     let after : List ℕ = woven x.kept (map filled slots) in
     let one = length-append before first in
     let later =
     ap (λ (l : List ℕ). with_replaced l news) (passed_is before first x.now (woven x.kept slots))
-    ∙ all_filled next x.kept slots statements news
-    (further before first x.now x.kept slots statements rest) spans texts in
+    ∙ all_filled (passed before first x.now) x.kept slots statements news
+    (rw (length-append (before ++ first) x.now, one) rest) spans texts in
     (λ i. with_span (later i) (span i) (text i))
     ∙ ap (λ (l : List ℕ). with_span l s.span x.put) (append_assoc (before ++ first) x.now after)
     ∙ span_put (before ++ first) x.now after x.put s.span (start ∙ sym one)
@@ -207,25 +194,15 @@ cut_at R at bytes (s ∷ statements) (new ∷ news) (own, zip) (begins, within, 
     let first_long = length-take-le before bytes (omega arith) in
     let now_long : length (take long left) ≡ long = length-take-le long left (omega arith) in
     let next : at + length bytes ≡ s.span.1 + length rest = omega (arith, length-drop long left) in
-    let more =
-    cut_at R s.span.1 rest statements news zip
-    (subst (λ (n : ℕ). Rise s.span.1 n statements) next rise) in
+    let more = cut_at R s.span.1 rest statements news zip (rw next at rise) in
     let slot : Slot =
     record { owner = s; now = take long left; put = new.text; kept = more.first } in
-    let stop : s.span.1 ≡ at + length (take before bytes) + length (take long left) =
-    omega arith in
+    let stop : s.span.1 ≡ at + length (take before bytes) + length (take long left) = omega arith in
     record {
       first = take before bytes;
       slots = slot ∷ more.slots;
-      whole = sym (take-append-drop before bytes)
-          ∙ ap (λ (l : List ℕ). take before bytes ++ l)
-          (sym (take-append-drop long left)
-          ∙ ap (λ (l : List ℕ). take long left ++ l) more.whole);
-      stands = (
-        omega arith,
-        stop,
-        subst (λ (n : ℕ). StandAt n more.first more.slots statements) stop more.stands,
-      );
+      whole = rw (← more.whole, take-append-drop long left, take-append-drop before bytes);
+      stands = (omega arith, stop, rw (← stop) more.stands);
       owners = (refl, more.owners);
       texts = (refl, more.texts);
       each = ((new, own, refl), more.each);

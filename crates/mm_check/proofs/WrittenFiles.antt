@@ -1,14 +1,12 @@
 -- A file on its way to being written anew, statement by statement.
-use Rattle.std.proofs.Common.{◌≡◌, ℕ, ◌≤◌, ◌⊎◌, List, [], ◌∷◌, ◌++◌, true, false, Bool}
-use Rattle.std.proofs.Common.{take, drop, length, slice_get, Option, Some, None, option_map}
-use Rattle.std.proofs.Common.{inl, inr, refl, sym, ap, subst, ◌∙◌, arith}
-use Rattle.std.proofs.Common.{append_assoc}
+use Rattle.std.proofs.Common.{◌≡◌, ℕ, ◌≤◌, ◌⊎◌, List, [], ◌∷◌, ◌++◌, true, false, Bool, take, drop}
+use Rattle.std.proofs.Common.{length, slice_get, Option, Some, None, option_map, inl, inr, refl}
+use Rattle.std.proofs.Common.{sym, ap, subst, ◌∙◌, arith, append_assoc}
 use Rattle.std.proofs.lemmas.Bool.{cases_lt, false_from_ne_true}
 use Rattle.std.proofs.lemmas.List.{take-append-le}
 use Rattle.std.proofs.lemmas.List.Elements.{filter-append}
 use Rattle.std.proofs.lemmas.Option.{slice_get_within}
 use Rattle.std.specs.List.{AllZip}
-use Rattle.mm_text.specs.declared.statement.Kind.TheVariants.{Provable}
 use Rattle.mm_text.specs.Statement.{PlainStatement}
 use Rattle.mm_text.specs.Files.{PlainFile, most_bytes}
 use Rattle.mm_text.specs.Reading.{Reads}
@@ -105,17 +103,6 @@ pub judged_on : (files : List PlainFile) (p q : Progress) (old new : Remaining)
 judged_on files p q old new s more goes is =
     (subst (λ (b : Bool). GoesOn Lenient files p old b s q new) is goes).1
 
--- it stands behind what was taken
-follows : (files : List PlainFile) (number at : ℕ) (taken : List PlainStatement)
-    (s : PlainStatement) (left : Remaining) → Holds files taken s left → s.kind ≡ Provable
-    → s.first.file ≡ number → IsLastEnd number taken at → at ≤ s.span.0
-follows files number at taken s left holds provable home (inl begin) = omega (arith, begin)
-follows files number at taken s left holds provable home (inr (before, t, between, parts, kind, same, ends)) =
-    let after : t.span.1 ≤ s.span.0 =
-    proof_spans_follow_holds files before between left.statements t s left.ending
-    (rw parts at holds) kind provable (same ∙ sym home) in
-    omega (arith, after, ends)
-
 -- ---- one statement more
 
 -- one that isn't a theorem of the file; or there is one that is too long
@@ -174,8 +161,7 @@ module _ {files : List PlainFile} {p : Progress} {left : Remaining} (taken : Lis
       same = on.known.book;
       obeyed = on.obeyed;
       place = length taken;
-      there = ap (λ (ss : List PlainStatement). slice_get ss (length taken)) all
-          ∙ get_parted taken [] s;
+      there = rw all (get_parted taken [] s);
       complete = theorem_complete number s is;
       room = proof_fits files (taken ++ s ∷ left.statements) left.ending (length taken) s
           on.readable held (get_parted taken left.statements s);
@@ -197,9 +183,14 @@ module _ {files : List PlainFile} {p : Progress} {left : Remaining} (taken : Lis
     -- behind what was taken
     pub span_follows : file.taken ≤ s.span.0
     span_follows =
-        follows files file.number file.taken taken s left held
-        (provable_proof s (theorem_complete file.number s is)) (theorem_home file.number s is)
-        w.last
+        elim w.last [
+          | inl begin ↦ omega (arith, begin)
+          | inr (before, t, between, parts, kind, same, ends) ↦
+              let after = proof_spans_follow_holds files before between left.statements t s
+              left.ending (rw parts at held) kind
+              (provable_proof s (theorem_complete file.number s is))
+              (same ∙ sym (theorem_home file.number s is)) in omega (arith, after, ends)
+        ]
 
     -- its proof was put
     written_anew : (next : NewFile) → file.too_long ≡ None
@@ -211,42 +202,27 @@ module _ {files : List PlainFile} {p : Progress} {left : Remaining} (taken : Lis
         let more : List PlainStatement = taken ++ s ∷ [] in
         let old : AreReplacedSoFar taken file = replaced_so_far files taken file w short in
         let new : Replacement = replacement s put.text in
-        let news : List Replacement = old.replaced ++ new ∷ [] in
         let same = put.puts.same in
-        let each : AllZip (IsReplacement file.form more) (theorems_of file.number more) news =
-        rw (theorems_parted file.number taken s [] is)
-        (zip_push (IsReplacement file.form more) (theorems_of file.number taken) old.replaced s new
-        (all_kept taken (s ∷ []) file.form (theorems_of file.number taken) old.replaced old.each)
-        (rw among at (put.anew t))) in
+        let one = one_more_replaced file.taken file.source.now old.replaced new old.spans
+        span_follows order within in
         let so_far : AreReplacedSoFar more next = record {
-          replaced = news;
-          each = rw (same.form, same.number) each;
+          replaced = old.replaced ++ new ∷ [];
+          each = rw (same.form, same.number, theorems_parted file.number taken s [] is)
+              (zip_push (IsReplacement file.form more) _ old.replaced s new
+              (all_kept taken (s ∷ []) file.form _ _ old.each) (rw among at (put.anew t)));
           spans = rw put.puts.taken
               (spans_push 0 file.taken old.replaced new old.spans span_follows order);
-          put = rw (
-            same.most,
-            same.source,
-            put.puts.taken,
-            one_more_replaced file.taken
-                file.source.now old.replaced new old.spans span_follows order within,
-          )
-              (put.puts.put (with_replaced (take file.taken file.source.now) old.replaced) old.put);
+          put = rw (same.most, same.source, put.puts.taken, one) (put.puts.put _ old.put);
         } in
+        let kind = provable_proof s (theorem_complete file.number s is) in
+        let home = theorem_home file.number s is ∙ sym same.number in
         record {
           own = w.own;
           handed = ap (slice_get files) same.number ∙ w.handed;
           source = same.source ∙ w.source;
           limit = rw (same.number, same.most) w.limit;
           within = omega (arith, within, put.puts.taken, ap length same.source);
-          last = inr (
-            taken,
-            s,
-            [],
-            refl,
-            provable_proof s (theorem_complete file.number s is),
-            theorem_home file.number s is ∙ sym same.number,
-            put.puts.taken,
-          );
+          last = inr (taken, s, [], refl, kind, home, put.puts.taken);
           so_far = rw (ap (option_map (λ l. l.now)) (put.puts.long ∙ short)) so_far;
         }
 
@@ -261,13 +237,9 @@ module _ {files : List PlainFile} {p : Progress} {left : Remaining} (taken : Lis
         let same = kept.same in
         let (normal, long) = kept.long in
         let (place, root, below, proof, over) = long t in
-        let fit = all_kept taken (s ∷ []) file.form (theorems_of file.number taken) old.replaced
-        old.each in
-        let first : IsFirstTooLong more file.number kept.label =
-        first_too_long more file.number kept.label (theorems_of file.number taken) s []
+        let first = first_too_long more file.number kept.label (theorems_of file.number taken) s []
         old.replaced (theorems_parted file.number taken s [] is)
-        (subst (λ (f : Form). AllZip (IsReplacement f more) (theorems_of file.number taken)
-        old.replaced) normal fit)
+        (simp normal at (all_kept taken (s ∷ []) file.form _ old.replaced old.each))
         (place, root, below, rw among at proof, over) in
         record {
           own = w.own;
@@ -286,16 +258,10 @@ module _ {files : List PlainFile} {p : Progress} {left : Remaining} (taken : Lis
         ⊎ KeepsLabel p.prover.book.statements file s next
         → IsWrittenSoFar files on.earlier next × (next.number ≡ file.number)
         × (next.form ≡ file.form)
-    written_on next short (inl put) = (
-      rw all (written_anew next short put),
-      put.puts.same.number,
-      put.puts.same.form,
-    )
-    written_on next short (inr kept) = (
-      rw all (label_kept next short kept),
-      kept.same.number,
-      kept.same.form,
-    )
+    written_on next short (inl put) =
+        (rw all (written_anew next short put), put.puts.same.number, put.puts.same.form)
+    written_on next short (inr kept) =
+        (rw all (label_kept next short kept), kept.same.number, kept.same.form)
 
 -- ---- the end
 
@@ -366,8 +332,5 @@ finish_fault form files number file why same home short (statements, accepted, w
     let h : AreReplacedSoFar statements file = replaced_so_far files statements file w short in
     let bytes : List ℕ = made_of statements file h ++ drop file.taken file.source.now in
     let too_many = (w.limit bytes).0 (over (made_of statements file h) h.put) in
-    rw (← same, ← home, is) (
-      statements,
-      accepted,
-      (bytes, whole_so files statements file bytes w h refl, too_many),
-    )
+    rw (← same, ← home, is)
+    (statements, accepted, (bytes, whole_so files statements file bytes w h refl, too_many))
