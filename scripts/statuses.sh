@@ -198,6 +198,12 @@ ends 0 'one\n' '' axioms p loose.mm
 prints tight.mm packed --file p loose.mm
 ends 0 'yes 3 statements 1 proofs\n' '' check --strict tight.mm
 ends 1 'no front.mm 2 p P2 0\n' '' check front.mm
+ends 1 'no faults.mm 3 p P14 2\nno faults.mm 5 r P2 0\n' '' faults faults.mm
+ends 1 'no faults.mm 3 p P14 2\n' '' check faults.mm
+ends 0 'yes 3 statements 1 proofs\n' '' faults loose.mm
+ends 1 'no loose.mm 2 p P15 0\n' '' faults --strict loose.mm
+ends 3 'incomplete 1\nq\n' '' faults open.mm
+ends 4 'load F2\n' '' faults first.mm first.mm
 ends 0 'yes 19 statements 1 proofs\n' '' check demo0.mm
 ends 0 'yes 19 statements 1 proofs\n' '' check demo0c.mm
 ends 0 'yes 6 statements 1 proofs\n' '' check top.mm terms.mm rules.mm symbols.mm
@@ -233,7 +239,7 @@ for words in --help -h help '--help check' '-h nonsense'; do
     prints help.txt $words
 done
 narrow help.txt 100
-commands='check axioms show normal packed same explain help version'
+commands='check faults axioms show normal packed same explain help version'
 for command in $commands; do
     constant=$(echo "$command" | tr a-z A-Z)
     literal pages.rt "$constant" >page.txt
@@ -299,6 +305,7 @@ misused show --file th first.mm
 misused packed --file --file th first.mm
 misused axioms --strict th first.mm
 misused check --strict
+misused faults
 misused check --strict --strict first.mm
 misused check -first.mm
 misused help check axioms

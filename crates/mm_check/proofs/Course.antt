@@ -7,12 +7,14 @@ use Rattle.mm_text.specs.Remaining.{Remaining, IsUnread}
 use Rattle.mm_frame.specs.Sentence.{Sentence}
 use Rattle.mm_proof.specs.declared.profile.Profile.{Profile}
 use Rattle.mm_check.specs.declared.fault.CheckFault.{CheckFault}
+use Rattle.mm_check.specs.declared.fault.Refusal.{Refusal}
+use Rattle.mm_check.specs.declared.rule.Rule.{Rule}
 use Rattle.mm_check.specs.declared.progress.Progress.{Progress}
 use Rattle.mm_check.specs.Conclusion.{Conclusion, labels_in}
-use Rattle.mm_check.specs.Verdict.{Verdict, HasFault, Obeys, HasVerdict, AreAccepted, CanBeRead, labels_of, unproved_of, proofs_of, refusal_of}
-use Rattle.mm_check.specs.Answer.{verdict_of_fault, verdict_of_conclusion, verdict_where_incomplete, labels_at, IsVerdict, KeepsLabels, KeepsCounts, KeepsUses}
+use Rattle.mm_check.specs.Verdict.{PlainRefusal, Verdict, Refused, HasFault, Obeys, HasVerdict, AreAccepted, CanBeRead, labels_of, unproved_of, proofs_of, refusal_of, meaning_rule, proof_rule}
+use Rattle.mm_check.specs.Answer.{plain_refusal, verdict_of_fault, verdict_of_conclusion, verdict_where_incomplete, labels_at, IsVerdict, KeepsLabels, KeepsCounts, KeepsUses}
 use Rattle.mm_check.specs.Mirror.Judged.{IsUnderWay, IsAtEnd, GoesOn, Knows, Takes}
-use Rattle.mm_check.specs.Mirror.Judged.{RefusesAfter, RefusesEnd, TakesNext}
+use Rattle.mm_check.specs.Mirror.Judged.{RefusesEnd, StopsTurn, TakesFaulty, TakesNext}
 use Rattle.mm_check.specs.Mirror.Marks.{IsKeptWell}
 use Rattle.mm_check.proofs.Unproved.{one_more, no_statement}
 use Rattle.mm_check.proofs.Asked.{backward}
@@ -81,14 +83,13 @@ end_verdict profile files p left fault way (inr end) v e =
       inr (record { obeyed = way.obeyed; fault = end.1; ended = end.2; refused = refl }),
     )
 
-pub statement_verdict : (profile : Profile) (files : List PlainFile) (p : Progress) (s : PlainStatement) (old new : Remaining) (fault : CheckFault)
+-- the statement that is next is refused for its fault
+refused_next : (profile : Profile) (files : List PlainFile) (p : Progress) (s : PlainStatement) (old new : Remaining) (rule : Rule) (step : ℕ)
     → IsUnderWay profile files p old → TakesNext old true s new
-    → RefusesAfter profile files p.prover.book.statements p.count s fault
-    → (v : Verdict) → verdict_of_fault fault ≡ Some v → HasVerdict profile files v
-statement_verdict profile files p s old new fault way taken (inl none) v e = cc
-statement_verdict profile files p s old new fault way taken (inr at) v e =
-    let plain : List PlainStatement = way.earlier in
-    subst (λ (w : Verdict). HasVerdict profile files w) (told fault _ v at.3 e) (
+    → HasFault profile p.prover.book.statements s rule step
+    → HasVerdict profile files (Refused (refusal_of files p.count s rule step))
+refused_next profile files p s old new rule step way taken fault =
+    let plain : List PlainStatement = way.earlier in (
       way.readable,
       plain ++ old.statements,
       old.ending,
@@ -99,12 +100,32 @@ statement_verdict profile files p s old new fault way taken (inr at) v e =
         after = new.statements;
         split = ap (λ (ss : List PlainStatement). plain ++ ss) taken.0;
         obeyed = way.obeyed;
-        rule = at.0;
-        step = at.1;
-        fault = subst (λ (ss : List Sentence). HasFault profile ss s at.0 at.1) way.known.book at.2;
-        refused = ap (λ (n : ℕ). refusal_of files n s at.0 at.1) way.known.count;
+        rule = rule;
+        step = step;
+        fault = subst (λ (ss : List Sentence). HasFault profile ss s rule step) way.known.book fault;
+        refused = ap (λ (n : ℕ). refusal_of files n s rule step) way.known.count;
       }),
     )
+
+pub stopped_verdict : (profile : Profile) (files : List PlainFile) (p : Progress) (old : Remaining) (fault : CheckFault)
+    → IsUnderWay profile files p old → StopsTurn files p old fault
+    → (v : Verdict) → verdict_of_fault fault ≡ Some v → HasVerdict profile files v
+stopped_verdict profile files p old fault way (inl end) v e =
+    end_verdict profile files p old fault way end v e
+stopped_verdict profile files p old fault way (inr (s, rest, taken, inl none)) v e = cc
+stopped_verdict profile files p old fault way (inr (s, rest, taken, inr (broken, first, is))) v e =
+    subst (λ (w : Verdict). HasVerdict profile files w) (told fault _ v is e)
+    (refused_next profile files p s old rest (meaning_rule broken) 0 way taken
+    (inl (broken, first, refl, refl)))
+
+pub faulty_verdict : (profile : Profile) (files : List PlainFile) (p q : Progress) (s : PlainStatement) (old new : Remaining) (refusal : Refusal)
+    → IsUnderWay profile files p old → TakesNext old true s new
+    → TakesFaulty profile files p s refusal q
+    → HasVerdict profile files (Refused (plain_refusal refusal))
+faulty_verdict profile files p q s old new refusal way taken faulty =
+    subst (λ (r : PlainRefusal). HasVerdict profile files (Refused r)) (sym faulty.told)
+    (refused_next profile files p s old new (proof_rule faulty.rule) faulty.step way taken
+    (inr (faulty.meant, faulty.rule, faulty.fault, refl)))
 
 -- what is kept of the progress
 pub record Concludes (p : Progress) (c : Conclusion) : Type 0 where

@@ -10,7 +10,7 @@ use Rattle.mm_text.proofs.ReaderLaws.{each_has_one_reading}
 use Rattle.mm_text.proofs.FormedLaws.{readings_are_formed_in_place}
 use Rattle.mm_text.proofs.Lists.{all_front}
 use Rattle.mm_frame.specs.Sentence.{sentence_of}
-use Rattle.mm_frame.specs.Rules.{IsMeant}
+use Rattle.mm_frame.specs.Rules.{AllMeant, IsMeant}
 use Rattle.mm_frame.specs.Form.{IsFormedSentence, AllFormed}
 use Rattle.mm_frame.proofs.Uses.{formed_said}
 use Rattle.mm_proof.specs.declared.profile.Profile.{Profile}
@@ -58,34 +58,34 @@ formed_sentences (t ∷ statements) all zero s e = let same : sentence_of t ≡ 
 formed_sentences (t ∷ statements) all (suc place) s e = formed_sentences statements all.1 place s e
 
 -- the proof of a statement breaks no rule, or has a fault
-proof_obeys_or_fails : (profile : Profile) (before : List PlainStatement) (s : PlainStatement)
-    → AllObey profile before → AllFormed (sentences before) → (a b : Bool) → is_proof s ≡ a
+pub proof_obeys_or_fails : (profile : Profile) (before : List PlainStatement) (s : PlainStatement)
+    → AllMeant (sentences before) → AllFormed (sentences before) → (a b : Bool) → is_proof s ≡ a
     → is_unproved s ≡ b → IsMeant (sentences before) (sentence_of s)
     → Obeys profile (sentences before) s
     ⊎ ((rule : ProofRule) × (step : ℕ) × IsProofFault profile (sentences before) s rule step)
-proof_obeys_or_fails profile before s obeyed formed true b e f meant =
+proof_obeys_or_fails profile before s earlier formed true b e f meant =
     let law = one_verdict_under_holds profile (sentences before) (sentence_of s) (proof_of s)
-    (all_meant profile before obeyed) formed in
+    earlier formed in
     let none = proof_not_unproved s e in
     elim (law.0) [
       | inl proved ↦ inl (record { meant = meant; proved = λ c. proved; known = λ u. absurd cc })
       | inr fault ↦ inr (fault.0, fault.1, inl (e, fault.2))
     ]
-proof_obeys_or_fails profile before s obeyed formed false true e f meant =
+proof_obeys_or_fails profile before s earlier formed false true e f meant =
     let law = one_front_verdict_under_holds profile (sentences before) (sentence_of s) (proof_of s)
-    (all_meant profile before obeyed) formed in
+    earlier formed in
     elim (law.0) [
       | inl allowed ↦ inl (record { meant = meant; proved = λ c. absurd cc; known = λ u. allowed })
       | inr fault ↦ inr (fault.0, fault.1, inr (f, fault.2))
     ]
-proof_obeys_or_fails profile before s obeyed formed false false e f meant =
+proof_obeys_or_fails profile before s earlier formed false false e f meant =
     inl (record { meant = meant; proved = λ complete. absurd cc; known = λ open_one. absurd cc })
 
 -- a statement obeys the rules, or has a fault
 judged_statement : (profile : Profile) (before : List PlainStatement) (s : PlainStatement) → AllObey profile before → AllFormed (sentences before)
     → Obeys profile (sentences before) s ⊎ ((rule : Rule) × (step : ℕ) × HasFault profile (sentences before) s rule step)
 judged_statement profile before s obeyed formed = elim (some_meaning (sentences before) (sentence_of s)) [
-  | inl meant ↦ elim (proof_obeys_or_fails profile before s obeyed formed _ _ refl refl meant) [
+  | inl meant ↦ elim (proof_obeys_or_fails profile before s (all_meant profile before obeyed) formed _ _ refl refl meant) [
     | inl obeys ↦ inl obeys
     | inr fault ↦ inr (proof_rule fault.0, fault.1, inr (meant, fault.0, fault.2, refl))
   ]

@@ -1,5 +1,5 @@
 -- What is said of the last statement's proof, from what the parser and the verifier say.
-use Rattle.std.proofs.Common.{◌≡◌, ℕ, List, [], ◌∷◌, ◌++◌, map, take, length, slice_get, is_some, Bool, true, false, ◌||◌, Option, Some, option_map, Result, Ok, Err, MatchResult, inl, inr, refl, sym, ap, ◌∙◌}
+use Rattle.std.proofs.Common.{◌≡◌, ℕ, List, [], ◌∷◌, ◌++◌, map, take, length, slice_get, is_some, Bool, true, false, ◌||◌, Option, option_map, Result, Ok, Err, MatchResult, inl, inr, refl, sym, ap, ◌∙◌}
 use Rattle.std.specs.List.{list_any}
 use Rattle.std.proofs.lemmas.Bool.{both_ways, false_from_ne_true}
 use Rattle.std.proofs.Math.Seq.{take-append_seam}
@@ -25,12 +25,9 @@ use Rattle.mm_proof.specs.Strict.{HasFormOf}
 use Rattle.mm_proof.specs.UnderProfile.{IsFaultUnder, IsFrontAllowedUnder, IsFrontFaultUnder}
 use Rattle.mm_text.proofs.Lists.{one_parting, get_pushed}
 use Rattle.mm_text.specs.Files.{PlainFile}
-use Rattle.mm_frame.specs.Rules.{IsMeant}
 use Rattle.mm_check.specs.declared.rule.Rule.{Rule}
-use Rattle.mm_check.specs.declared.fault.CheckFault.{CheckFault}
-use Rattle.mm_check.specs.declared.progress.Progress.{Progress}
-use Rattle.mm_check.specs.Verdict.{Refused, proof_of, proof_rule, refusal_of, IsProofFault}
-use Rattle.mm_check.specs.Mirror.Judged.{IsLastProof, IsJudged, Fails, RefusesProof, RefusesAfter}
+use Rattle.mm_check.specs.Verdict.{proof_of, refusal_of, IsProofFault}
+use Rattle.mm_check.specs.Mirror.Judged.{IsLastProof, IsJudged, Fails}
 use Rattle.mm_check.proofs.Unproved.{proof_there, unproved_there}
 
 -- ## The tokens of the proof
@@ -140,22 +137,7 @@ module _ (profile : Profile) (statements : List Sentence) (id : ℕ) (s : PlainS
       (front_fails open_one rule step refl))
       (is_incomplete tokens) refl
 
--- a refusal for the proof of the last statement is one of the statement
-pub refuses_after : (profile : Profile) (files : List PlainFile) (p q : Progress)
-    (s : PlainStatement) (fault : CheckFault)
-    → IsMeant p.prover.book.statements (sentence_of s)
-    → q.prover.book.statements ≡ p.prover.book.statements ++ sentence_of s ∷ []
-    → q.count ≡ p.count → RefusesProof profile files q s fault
-    → RefusesAfter profile files p.prover.book.statements p.count s fault
-refuses_after profile files p q s fault meant book count (inl none) = inl none
-refuses_after profile files p q s fault meant book count (inr at) = inr (
-  proof_rule at.0,
-  at.1,
-  inr (meant, at.0, at.2 p.prover.book.statements book, refl),
-  at.3 ∙ ap (λ (n : ℕ). Some (Refused (refusal_of files n s (proof_rule at.0) at.1))) count,
-)
-
 -- refusals of one statement for one rule at one step
 pub same_refusal : (files : List PlainFile) (count : ℕ) (s : PlainStatement) {r t : Rule} {m n : ℕ} → r ≡ t → m ≡ n
-    → Some (Refused (refusal_of files count s r m)) ≡ Some (Refused (refusal_of files count s t n))
-same_refusal files count s e f = λ i. Some (Refused (refusal_of files count s (e i) (f i)))
+    → refusal_of files count s r m ≡ refusal_of files count s t n
+same_refusal files count s e f = λ i. refusal_of files count s (e i) (f i)

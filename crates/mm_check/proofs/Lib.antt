@@ -16,7 +16,9 @@ pub mod OnTheWay
 pub mod Marking
 pub mod Asked
 pub mod Course
+pub mod Noting
 pub mod Handed
+pub mod FaultLists
 pub mod Rereading
 pub mod Theorems
 pub mod Texts

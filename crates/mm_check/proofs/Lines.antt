@@ -1,14 +1,17 @@
 -- A line that is written word by word.
-use Rattle.std.proofs.Common.{Bool, false, IsTrue, ◌↔◌, ◌≡◌, ℕ, zero, suc, ◌+◌, ◌<◌, decimal, arith, length-append, List, [], ◌∷◌, ◌++◌, codes, map, take, get_or, slice_get, length, append_assoc, refl, ap, sym, subst, ◌∙◌}
+use Rattle.std.proofs.Common.{Bool, false, IsTrue, ◌↔◌, ◌≡◌, ℕ, zero, suc, ◌+◌, ◌<◌, decimal, arith, length-append, List, [], ◌∷◌, ◌++◌, codes, map, take, get_or, slice_get, length, append_assoc, append-nil, refl, ap, sym, subst, ◌∙◌}
 use Rattle.std.specs.Option.{option_to_list}
 use Rattle.std.proofs.lemmas.List.{take_more, map-append, length-map}
 use Rattle.std.proofs.lemmas.Grind.{flat_map-append}
 use Rattle.mm_frame.specs.declared.number.LabelId.{LabelId}
-use Rattle.mm_check.specs.Answer.{labels_at, verdict_of_conclusion}
+use Rattle.mm_text.specs.Files.{PlainFile}
+use Rattle.mm_check.specs.declared.fault.Refusal.{Refusal}
+use Rattle.mm_check.specs.Answer.{labels_at, plain_refusal, verdict_of_conclusion}
 use Rattle.mm_check.specs.Conclusion.{Conclusion}
 use Rattle.std.specs.List.{AllByRecursion}
 use Rattle.mm_text.proofs.Lists.{get_within}
-use Rattle.mm_check.specs.Reply.{line_with, lines_of, text_of}
+use Rattle.mm_check.specs.Reply.{line_with, lines_of, refusals_text, text_of}
+use Rattle.mm_check.specs.Verdict.{Refused}
 
 -- a word and five others
 pub six_words : (out w a b c d e o₁ o₂ o₃ o₄ o₅ o₆ o₇ : List ℕ)
@@ -99,3 +102,10 @@ one_more_question labels ids k d h within =
 pub three_words : (out w a b o₁ o₂ o₃ o₄ : List ℕ) → o₁ ≡ out ++ w → o₂ ≡ o₁ ++ codes " " ++ a → o₃ ≡ o₂ ++ codes " " ++ b → o₄ ≡ o₃ ++ 10 ∷ []
     → o₄ ≡ out ++ line_with w (a ∷ b ∷ [])
 three_words out w a b o₁ o₂ o₃ o₄ h₁ h₂ h₃ h₄ = rw (h₄, h₃, h₂, h₁) (simp append_assoc)
+
+-- a line for each refusal, and one more
+pub one_more_refusal : (files : List PlainFile) (refusals : List Refusal) (k : ℕ) (d : Refusal) → k < length refusals
+    → refusals_text files (map plain_refusal (take (k + 1) refusals))
+    ≡ refusals_text files (map plain_refusal (take k refusals)) ++ text_of files (Refused (plain_refusal (get_or refusals k d)))
+one_more_refusal files refusals k d h =
+    rw (take_more refusals k d h) (simp (map-append, flat_map-append, append-nil))

@@ -1,11 +1,12 @@
 -- The text and the status that tell a verdict are those of the reply.
-use Rattle.std.proofs.Common.{◌≡◌, ℕ, List, [], ◌∷◌, Option, Some, None, Result, Ok, Err, MatchOption, IfSome, IfOk, inl, inr, refl, sym, ap, subst}
+use Rattle.std.proofs.Common.{◌≡◌, ◌≢◌, ℕ, List, [], ◌∷◌, map, Option, Some, None, Result, Ok, Err, MatchOption, IfSome, IfOk, inl, inr, refl, sym, ap, subst, ◌∙◌}
 use Rattle.mm_text.specs.Statement.{PlainStatement}
 use Rattle.mm_text.specs.Files.{PlainFile}
 use Rattle.mm_text.specs.Reading.{Reads}
 use Rattle.mm_proof.specs.declared.profile.Profile.{Profile}
 use Rattle.mm_proof.specs.declared.profile.Profile.TheVariants.{Lenient}
 use Rattle.mm_check.specs.declared.fault.CheckFault.{CheckFault}
+use Rattle.mm_check.specs.declared.fault.Refusal.{Refusal}
 use Rattle.mm_check.specs.Conclusion.{Conclusion}
 use Rattle.mm_check.specs.declared.fault.CheckFault.TheVariants as fault
 use Rattle.mm_check.specs.Verdict.{Verdict, Load, Refused, HasVerdict, AreAccepted}
@@ -14,7 +15,9 @@ use Rattle.mm_check.specs.declared.form.Form.{Form}
 use Rattle.mm_check.specs.declared.ask.AskFault.{AskFault}
 use Rattle.mm_check.specs.declared.ask.AskFault.TheVariants as ask
 use Rattle.mm_check.specs.AllSaved.{IsAllSaveFault}
+use Rattle.mm_check.specs.Faults.{HaveFaults, refusal_in}
 use Rattle.mm_check.specs.Reply.{IsReply, IsRefused, IsQuestionReply, Tells, text_of, status_of}
+use Rattle.mm_check.specs.Reply.{IsFaultsReply, refusal_status, refusals_text}
 use Rattle.mm_check.specs.Reply.{IsAskReply, IsAllSavedReply, name_of}
 
 pub reply_at : (profile : Profile) (files : List PlainFile) (told : Option Verdict) (text : List ℕ) (status : ℕ)
@@ -24,6 +27,31 @@ pub reply_at : (profile : Profile) (files : List PlainFile) (told : Option Verdi
 reply_at profile files None text status holds said ends = absurd said
 reply_at profile files (Some verdict) text status holds said ends =
     record { verdict = verdict; holds = holds verdict refl; said = said; ends = ends }
+
+-- ---- all faults
+
+-- what is concluded tells no refusal
+pub no_refusal : (c : Conclusion) (numbers : List ℕ)
+    → refusal_in (verdict_where_incomplete c numbers) ≡ None
+no_refusal c [] = refl
+no_refusal c (n ∷ numbers) = refl
+
+-- the text and the status that tell refusals, of which there is one, are those of the reply
+pub told_all : (profile : Profile) (files : List PlainFile) (given refusals : List Refusal)
+    (text : List ℕ) (status : ℕ) → given ≡ refusals
+    → HaveFaults profile files (map plain_refusal refusals) → refusals ≢ []
+    → text ≡ refusals_text files (map plain_refusal given)
+    → ((first : Refusal) (others : List Refusal) → given ≡ first ∷ others
+    → status ≡ refusal_status first.rule)
+    → IsFaultsReply profile files text status
+told_all profile files given [] text status same faults some said ends = absurd (some refl)
+told_all profile files given (first ∷ others) text status same faults some said ends = inr (
+  plain_refusal first,
+  map plain_refusal others,
+  faults,
+  said ∙ ap (λ (rs : List Refusal). refusals_text files (map plain_refusal rs)) same,
+  ends first others same,
+)
 
 -- ---- questions
 

@@ -57,7 +57,7 @@ one_first before s a b f g = elim (cases_order (rank a) (rank b)) [
 module _ (profile : Profile) (before : List Sentence) (s : PlainStatement) (meant : AllMeant before)
     (formed : AllFormed before) where
   -- what obeys the rules has no fault, nor has its proof, or what is known of one
-  obeying_faultless : (rule : Rule) (step : ℕ) → Obeys profile before s
+  pub obeying_faultless : (rule : Rule) (step : ℕ) → Obeys profile before s
       → HasFault profile before s rule step → ⊥
   obeying_faultless rule step obeyed (inl f) = obeyed.meant f.0 f.1.broken
   obeying_faultless rule step obeyed (inr (so, broken, inl f, is)) =
@@ -81,7 +81,7 @@ module _ (profile : Profile) (before : List Sentence) (s : PlainStatement) (mean
       rule rule' step step' f.1 g.1
 
   -- the fault of a statement is one
-  one_statement_fault : (rule rule' : Rule) (step step' : ℕ)
+  pub one_statement_fault : (rule rule' : Rule) (step step' : ℕ)
       → HasFault profile before s rule step → HasFault profile before s rule' step'
       → (rule ≡ rule') × (step ≡ step')
   one_statement_fault rule rule' step step' (inl f) (inl g) =

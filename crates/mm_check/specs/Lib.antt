@@ -2,6 +2,7 @@ pub mod Verdict
 pub mod Reply
 pub mod Status
 pub mod Conclusion
+pub mod Faults
 pub mod Rests
 pub mod Shown
 pub mod Forms
@@ -11,6 +12,7 @@ pub mod AllSaved
 pub mod Answer
 pub mod Mirror
 pub mod Laws
+pub mod FaultLaws
 pub mod FormLaws
 pub mod SavedLaws
 pub mod AllSavedLaws

@@ -10,3 +10,4 @@ pub mod Rewriting
 pub mod AllSaving
 pub mod Marks
 pub mod Judged
+pub mod Noted

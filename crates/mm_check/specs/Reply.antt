@@ -1,6 +1,6 @@
 -- The reply to a command: its text and its status, which are this project's own.
 use Rattle.std.specs.Prelude.{◌≡◌, ℕ, ◌<◌, List, [], ◌∷◌, ◌++◌, map, length, slice_get, Option}
-use Rattle.std.specs.Prelude.{Bool, true, false}
+use Rattle.std.specs.Prelude.{Bool, true, false, None}
 use Rattle.std.specs.Prelude.{option_map, unwrap_or, Result, MatchOption, ◌⊎◌, codes, decimal}
 use Rattle.std.specs.List.{flat_map}
 use Rattle.std.specs.Io.KnownBytes.{Appends}
@@ -22,8 +22,8 @@ use Rattle.mm_check.specs.Answer.{verdict_of_answer, labels_at}
 use Rattle.mm_check.specs.declared.ask.AskFault.{AskFault}
 use Rattle.mm_check.specs.declared.ask.AskFault.TheVariants as ask
 use Rattle.mm_check.specs.declared.command.Command.{Command}
-use Rattle.mm_check.specs.declared.command.Command.TheVariants.{Check, Axioms, Show, Normal}
-use Rattle.mm_check.specs.declared.command.Command.TheVariants.{Packed, Same, All}
+use Rattle.mm_check.specs.declared.command.Command.TheVariants.{Check, Faults, Axioms, Show}
+use Rattle.mm_check.specs.declared.command.Command.TheVariants.{Normal, Packed, Same, All}
 use Rattle.mm_check.specs.Rests.{IsAskFault, IsReport}
 use Rattle.mm_check.specs.Shown.{ShowsProof}
 use Rattle.mm_check.specs.declared.form.Form.{Form}
@@ -32,8 +32,9 @@ use Rattle.mm_check.specs.Forms.{IsNormalOf, IsPackedOf, IsNormalFault}
 use Rattle.mm_check.specs.Compared.{IsCompared, IsSameFault}
 use Rattle.mm_check.specs.Saved.{IsSaved, FitsSaved, IsSaveFault}
 use Rattle.mm_check.specs.AllSaved.{IsAllSaved, IsFirstTooLong, IsAllSaveFault}
-use Rattle.mm_check.specs.Verdict.{Verdict, Load, Refused, Incomplete, Yes, HasVerdict, AreAccepted}
-use Rattle.mm_check.specs.Verdict.{labels_of}
+use Rattle.mm_check.specs.Verdict.{PlainRefusal, Verdict, Load, Refused, Incomplete, Yes}
+use Rattle.mm_check.specs.Verdict.{HasVerdict, AreAccepted, labels_of}
+use Rattle.mm_check.specs.Faults.{HaveFaults, refusal_in}
 
 -- the printed code of a rule
 abbrev pub code_of : Rule → List ℕ
@@ -147,6 +148,20 @@ pub record IsReply (profile : Profile) (files : List PlainFile) (text : List ℕ
   pub holds : HasVerdict profile files verdict
   pub said : text ≡ text_of files verdict
   pub ends : status ≡ status_of verdict
+
+-- a line for each refusal
+abbrev pub refusals_text : List PlainFile → List PlainRefusal → List ℕ
+refusals_text files refusals = flat_map (λ r. text_of files (Refused r)) refusals
+
+-- This is the text and the status of the reply to `faults` in the profile: where `check` tells no
+-- refusal, those of its reply; else a line for each fault, and the status of the first.
+abbrev pub IsFaultsReply : Profile → List PlainFile → List ℕ → ℕ → Type 0
+IsFaultsReply profile files text status =
+    ((verdict : Verdict) × HasVerdict profile files verdict × (refusal_in verdict ≡ None)
+    × (text ≡ text_of files verdict) × (status ≡ status_of verdict))
+    ⊎ ((first : PlainRefusal) × (others : List PlainRefusal)
+    × HaveFaults profile files (first ∷ others)
+    × (text ≡ refusals_text files (first ∷ others)) × (status ≡ refusal_status first.rule))
 
 -- ---- questions
 
@@ -288,6 +303,7 @@ AsksHanded files command = Unit {0}
 -- profile accepts the files.
 abbrev pub IsReplyTo : List PlainFile → Command → List ℕ → ℕ → Type 0
 IsReplyTo files (Check profile) text status = IsReply profile files text status
+IsReplyTo files (Faults profile) text status = IsFaultsReply profile files text status
 IsReplyTo files (Axioms label) text status =
     IsQuestionReply files (IsAxiomsReply label.now) text status
 IsReplyTo files (Show label) text status = IsQuestionReply files (IsShowReply label.now) text status

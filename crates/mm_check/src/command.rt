@@ -11,7 +11,7 @@ ghost use Rattle.mm_check.specs.declared.command.RunFault.TheVariants.{Memory};
 
 use crate::form::Form;
 use crate::question::{
-    Question, Reply, all_saved_reply, axioms_reply, check_reply, question_reply,
+    Question, Reply, all_saved_reply, axioms_reply, check_reply, faults_reply, question_reply,
 };
 use crate::status::Status;
 use mm_proof::Profile;
@@ -23,9 +23,11 @@ use thiserror::Error;
 /// What the program is asked.
 #[derive(Clone, Copy, PartialEq, Eq, Debug)]
 pub enum Command<'a> {
-    /// Whether the database is accepted under this profile. All other commands ask under the
-    /// lenient one.
+    /// Whether the database is accepted under this profile. All other commands but `Faults` ask
+    /// under the lenient one.
     Check { profile: Profile },
+    /// For all faults of the database under this profile, in one run.
+    Faults { profile: Profile },
     /// What the theorem with this label rests on.
     Axioms { label: &'a [u8] },
     /// How the theorem with this label is proved, step by step.
@@ -85,6 +87,7 @@ fn reply_to(
 {
     match command {
         Command::Check { profile } => check_reply(alloc, seed, *profile, files),
+        Command::Faults { profile } => faults_reply(alloc, seed, *profile, files),
         Command::Axioms { label } => axioms_reply(alloc, seed, files, label),
         Command::Show { label } => question_reply(alloc, seed, files, &Question::Show, label),
         Command::Normal { label, whole } => {

@@ -1,13 +1,13 @@
 //! The verdict over one statement.
 
-ghost use Rattle.std.specs.Prelude.{◌≡◌, ◌+◌, ◌<◌, ◌≤◌, ◌^◌, map, OnOk, IfErr, option_map};
+ghost use Rattle.std.specs.Prelude.{◌≡◌, ◌+◌, ◌<◌, ◌≤◌, ◌^◌, map, IfOk, IfErr, option_map};
 ghost use Rattle.mm_text.specs.declared.statement.Kind.TheVariants.{Closing};
 ghost use Rattle.mm_text.specs.Statement.{plain_statement, HasForm, bytes_in};
 ghost use Rattle.mm_text.specs.Files.{most_bytes, plain_file};
 ghost use Rattle.mm_frame.specs.Active.{open_marks, close_marks};
 ghost use Rattle.mm_check.specs.Verdict.{refusal_of};
-ghost use Rattle.mm_check.specs.Mirror.Judged.{Takes, RefusesAfter, IsLastProof, JudgesProof};
-ghost use Rattle.mm_check.specs.Mirror.Judged.{CountsProof, RefusesProof};
+ghost use Rattle.mm_check.specs.Mirror.Judged.{IsLastProof, IsTaken, JudgesProof};
+ghost use Rattle.mm_check.specs.Mirror.Judged.{RefusesMeaning, TriesProof};
 ghost use Rattle.mm_check.specs.Answer.{plain_refusal};
 
 use crate::fault::{CheckFault, Refusal};
@@ -17,6 +17,7 @@ use crate::rule::Rule;
 use mm_frame::{LabelId, RuleFault, Taken};
 use mm_proof::{Profile, ProofFault, Proved, Prover};
 use mm_text::{File, Kind, Statement};
+use std::alloc::AllocError;
 
 /// The text of the statement's label, if it has one.
 fn label_of<'a>(statement: &Statement<'a>) -> Option<&'a [u8]>
@@ -69,47 +70,51 @@ fn judge_proof<'a>(
 }
 
 /// Judges the proof of a `$p`, which the book took last, counts it and keeps what it uses; or
-/// judges what is known of it, and notes that it is incomplete.
+/// judges what is known of it, and notes that it is incomplete. Where either has a fault, gives back
+/// the refusal for it, and counts nothing.
 fn prove<'a>(
     profile: Profile,
     files: &[File<'a>],
     progress: &mut Progress<'a>,
     id: LabelId,
     statement: &Statement<'a>,
-) -> Result<(), CheckFault<'a>>
+) -> Result<Option<Refusal<'a>>, AllocError>
     requires formed { HasForm (plain_statement statement.now) }
     requires last { IsLastProof progress.old.prover.book.statements id.0
         (plain_statement statement.now) }
     requires count { progress.old.count < 2 ^ 63 }
     requires proofs { progress.old.proofs < 2 ^ 63 }
-    ensures ok { OnOk result (CountsProof profile progress.old id.0
-        (plain_statement statement.now) progress.new) }
-    ensures refused { IfErr result (RefusesProof profile (map plain_file files.now)
-        progress.old (plain_statement statement.now)) }
+    ensures { IfOk result (λ fault. TriesProof profile (map plain_file files.now) progress.old id.0
+        (plain_statement statement.now) fault progress.new) }
 {
     match judge_proof(&mut progress.prover, profile, id, statement) {
         Ok(Proved::Complete) => {
             progress.kept.push(id, progress.prover.used())?;
             progress.proofs += 1;
+            Ok(None)
         }
-        Ok(Proved::Incomplete) => progress.incomplete.push(id)?,
+        Ok(Proved::Incomplete) => {
+            progress.incomplete.push(id)?;
+            Ok(None)
+        }
         Err(ProofFault::Rule { rule, step }) => {
             let refusal = refusal(files, progress.count, statement, Rule::from(rule), step);
-            return Err(CheckFault::Refused(refusal));
+            Ok(Some(refusal))
         }
-        Err(ProofFault::Memory) => return Err(CheckFault::Memory),
+        Err(ProofFault::Memory) => Err(AllocError),
     }
-    Ok(())
 }
 
-/// Judges a statement after those that the progress has, which obey the rules: its meaning, and
-/// then its proof. Takes it into the progress where it obeys the rules too.
+/// Judges a statement after those that the progress has: its meaning, and then its proof. Takes it
+/// into the progress unless it breaks a rule of meaning. Where its proof has a fault, gives back the
+/// refusal for it: the statement stands all the same, since what a later proof may use doesn't
+/// depend on earlier proofs.
 pub(crate) fn judge<'a>(
     profile: Profile,
     files: &[File<'a>],
     progress: &mut Progress<'a>,
     statement: &Statement<'a>,
-) -> Result<(), CheckFault<'a>>
+) -> Result<Option<Refusal<'a>>, CheckFault<'a>>
     requires formed { HasForm (plain_statement statement.now) }
     requires closes { statement.now.kind ≡ Closing
         → close_marks progress.old.prover.book.statements
@@ -118,23 +123,23 @@ pub(crate) fn judge<'a>(
         + bytes_in (plain_statement statement.now) ≤ most_bytes }
     requires count { progress.old.count < 2 ^ 62 }
     requires proofs { progress.old.proofs < 2 ^ 62 }
-    ensures ok { OnOk result (Takes profile progress.old
-        (plain_statement statement.now) progress.new) }
-    ensures refused { IfErr result (RefusesAfter profile
-        (map plain_file files.now) progress.old.prover.book.statements
-        progress.old.count (plain_statement statement.now)) }
+    ensures taken { IfOk result (λ fault. IsTaken profile (map plain_file files.now) progress.old
+        (plain_statement statement.now) fault progress.new) }
+    ensures refused { IfErr result (RefusesMeaning (map plain_file files.now)
+        progress.old.prover.book.statements progress.old.count
+        (plain_statement statement.now)) }
 {
-    match progress.prover.take(statement) {
+    let fault = match progress.prover.take(statement) {
         Ok(Taken::Assertion(id)) if statement.kind == Kind::Provable => {
             prove(profile, files, progress, id, statement)?
         }
-        Ok(_) => {}
+        Ok(_) => None,
         Err(RuleFault::Rule(rule)) => {
             let refusal = refusal(files, progress.count, statement, Rule::from(rule), 0);
             return Err(CheckFault::Refused(refusal));
         }
         Err(RuleFault::Memory) => return Err(CheckFault::Memory),
-    }
+    };
     progress.count += 1;
-    Ok(())
+    Ok(fault)
 }

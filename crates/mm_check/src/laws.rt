@@ -5,6 +5,7 @@ ghost use Rattle.mm_check.specs.AllSavedLaws.{SavingAllChangesNoAnswer, AllSaved
 ghost use Rattle.mm_check.specs.AllSavedLaws.{OneAllSaved, OneSaveAllAnswer};
 ghost use Rattle.mm_check.specs.AllSavedLaws.{SavingAllAgainChangesNothing};
 ghost use Rattle.mm_check.specs.AllSavedLaws.{SavingInTurnIsSavingAll, PackedFilesAreStrict};
+ghost use Rattle.mm_check.specs.FaultLaws.{FirstFaultIsTold, OneListOfFaults, SomeListOfFaults};
 ghost use Rattle.mm_check.specs.FormLaws.{PackedTextsTell};
 ghost use Rattle.mm_check.specs.Laws.{OneVerdict, SomeVerdict, BetweenProfiles, OneReport};
 ghost use Rattle.mm_check.specs.SavedLaws.{SavingChangesNoAnswer, SavedProofIsStrict, OneSaved};
@@ -26,6 +27,22 @@ pub fn some_verdict()
 /// profile `P15`, the form of a proof; under the lenient one `L1`, the length of an expression.
 pub fn between_profiles()
     ensures { BetweenProfiles }
+{}
+
+/// The first of all faults of files is the one that the verdict tells; there is no fault exactly
+/// where the verdict tells none, so where it is yes, or that proofs are incomplete.
+pub fn first_fault_is_told()
+    ensures { FirstFaultIsTold }
+{}
+
+/// All faults of files are one list.
+pub fn one_list_of_faults()
+    ensures { OneListOfFaults }
+{}
+
+/// Files that can be taken have such a list, which may be empty.
+pub fn some_list_of_faults()
+    ensures { SomeListOfFaults }
 {}
 
 /// What a theorem rests on is told in one way: two reports over statements that obey the rules,

@@ -6,6 +6,7 @@ mod checked;
 mod command;
 mod comparison;
 mod fault;
+mod faults;
 mod form;
 mod forms;
 mod judge;
@@ -34,13 +35,14 @@ pub use ask::AskFault;
 pub use checked::Checked;
 pub use command::{Command, RunFault, run};
 pub use fault::{CheckFault, Refusal};
+pub use faults::{AllFaults, all_faults};
 pub use form::Form;
 pub use laws::{
-    alike_files_have_one_reply, all_saved_proofs_are_strict, between_profiles, one_all_saved,
-    one_report, one_save_all_answer, one_save_answer, one_saved, one_verdict,
-    packed_files_are_strict, packed_texts_tell, saved_proof_is_strict,
+    alike_files_have_one_reply, all_saved_proofs_are_strict, between_profiles, first_fault_is_told,
+    one_all_saved, one_list_of_faults, one_report, one_save_all_answer, one_save_answer, one_saved,
+    one_verdict, packed_files_are_strict, packed_texts_tell, saved_proof_is_strict,
     saving_again_changes_nothing, saving_all_again_changes_nothing, saving_all_changes_no_answer,
-    saving_changes_no_answer, saving_in_turn_is_saving_all, some_verdict,
+    saving_changes_no_answer, saving_in_turn_is_saving_all, some_list_of_faults, some_verdict,
 };
 pub use mm_frame::LabelId;
 pub use report::Report;

@@ -1,4 +1,4 @@
-//! Whole replies: to `check`, and to questions about a theorem.
+//! Whole replies: to `check`, to `faults`, and to questions about a theorem.
 
 ghost use Rattle.std.specs.Prelude.{◌≡◌, ◌<◌, ◌++◌, [], ◌∷◌, List, map, length, OnOk, IfOk};
 ghost use Rattle.std.specs.Prelude.{IfSome, None, codes, decimal};
@@ -8,11 +8,12 @@ ghost use Rattle.mm_text.specs.Files.{plain_file};
 ghost use Rattle.mm_text.specs.Reading.{Reads};
 ghost use Rattle.mm_proof.specs.declared.profile.Profile.TheVariants.{Lenient};
 ghost use Rattle.mm_check.specs.Answer.{verdict_of_answer, labels_at, IsVerdict};
-ghost use Rattle.mm_check.specs.Answer.{KeepsLabels, KeepsFiles};
+ghost use Rattle.mm_check.specs.Answer.{KeepsLabels, KeepsFiles, plain_refusal};
 ghost use Rattle.mm_check.specs.Verdict.{AreAccepted, labels_of};
 ghost use Rattle.mm_check.specs.Status.{number_of};
 ghost use Rattle.mm_check.specs.Reply.{code_of, line_with, lines_of, status_of as status_at, Tells};
 ghost use Rattle.mm_check.specs.Reply.{IsReply, IsAskReply, IsAxiomsReply, IsShowReply};
+ghost use Rattle.mm_check.specs.Reply.{IsFaultsReply, refusals_text, refusal_status};
 ghost use Rattle.mm_check.specs.Reply.{IsNormalReply, IsPackedReply, IsSavedReply, IsSameReply};
 ghost use Rattle.mm_check.specs.Reply.{IsAllSavedReply};
 ghost use Rattle.mm_check.specs.Reply.{same_text, same_status, text_status as text_status_at};
@@ -22,9 +23,12 @@ ghost use Rattle.mm_check.specs.Reply.{report_status as report_status_at};
 
 use crate::ask::AskFault;
 use crate::checked::Checked;
-use crate::fault::CheckFault;
+use crate::fault::{CheckFault, Refusal};
+use crate::faults::{AllFaults, all_faults};
 use crate::form::Form;
-use crate::reply::{name_of, push_label, push_labels, status_of, text_of};
+use crate::reply::{
+    first_status, name_of, push_label, push_labels, push_refusals, status_of, text_of,
+};
 use crate::report::Report;
 use crate::rule::Rule;
 use crate::save_all::saved_all;
@@ -353,6 +357,38 @@ pub(crate) fn check_reply(
     let reply = verdict_reply(alloc, files, &answer);
     drop(answer);
     reply
+}
+
+/// The reply that tells all faults, of which there is at least one.
+fn refusals_reply(alloc: Global, files: &[File], refusals: &[Refusal]) -> Result<Reply, AllocError>
+    requires { 0 < length refusals.now }
+    ensures text { IfOk result (λ reply. reply.text.items
+        ≡ refusals_text (map plain_file files.now) (map plain_refusal refusals.now)) }
+    ensures status { IfOk result (λ reply. (first : Refusal) (others : List Refusal)
+        → refusals.now ≡ first ∷ others → number_of reply.status ≡ refusal_status first.rule) }
+{
+    let mut text = Vec::new(alloc);
+    push_refusals(&mut text, files, refusals)?;
+    let status = first_status(refusals);
+    Ok(Reply { text, status })
+}
+
+/// The reply to `faults` under a profile.
+pub(crate) fn faults_reply(
+    alloc: Global,
+    seed: Seed,
+    profile: Profile,
+    files: &[File],
+) -> Result<Reply, AllocError>
+    ensures { IfOk result (λ reply. IsFaultsReply profile (map plain_file files.now)
+        reply.text.items (number_of reply.status)) }
+{
+    match all_faults(alloc, seed, profile, files) {
+        Ok(checked) => verdict_reply(alloc, files, &Ok(checked)),
+        Err(AllFaults::Load(rule)) => verdict_reply(alloc, files, &Err(CheckFault::Load(rule))),
+        Err(AllFaults::Refused(refusals)) => refusals_reply(alloc, files, &refusals),
+        Err(AllFaults::Memory) => Err(AllocError),
+    }
 }
 
 /// The reply to the question what the theorem with a label rests on, where this is the answer of

@@ -1,11 +1,13 @@
 //! The text of a reply.
 
 ghost use Rattle.std.specs.Prelude.{◌≡◌, ◌<◌, ◌++◌, [], ◌∷◌, map, OnOk, IfOk, IfSome, codes};
-ghost use Rattle.std.specs.Prelude.{decimal, length, unwrap_or};
+ghost use Rattle.std.specs.Prelude.{List, decimal, length, unwrap_or};
+ghost use Rattle.mm_check.specs.declared.fault.Refusal.{Refusal};
 ghost use Rattle.std.specs.List.{AllByRecursion};
 ghost use Rattle.mm_text.specs.Files.{plain_file};
 ghost use Rattle.mm_check.specs.Reply.{text_of as text_at, status_of as status_at};
 ghost use Rattle.mm_check.specs.Reply.{refusal_status as refusal_status_at, refusal_word};
+ghost use Rattle.mm_check.specs.Reply.{refusals_text};
 ghost use Rattle.mm_check.specs.Reply.{name_of as name_at, code_of, line_with, lines_of, Tells};
 ghost use Rattle.mm_check.specs.Verdict.{Refused};
 ghost use Rattle.mm_check.specs.Answer.{plain_refusal, labels_at, verdict_of_conclusion};
@@ -165,6 +167,31 @@ fn push_refusal(out: &mut Vec<u8>, files: &[File], refusal: &Refusal) -> Result<
     push_number(out, refusal.step)?;
     out.push(b'\n')?;
     Ok(())
+}
+
+/// A line for each refusal.
+#[tactic(auto, using(crate::proofs::Lines::one_more_refusal))]
+pub(crate) fn push_refusals(
+    out: &mut Vec<u8>,
+    files: &[File],
+    refusals: &[Refusal],
+) -> Result<(), AllocError>
+    ensures { OnOk result (out.new.items ≡ out.old.items
+        ++ refusals_text (map plain_file files.now) (map plain_refusal refusals.now)) }
+{
+    for refusal in refusals {
+        push_refusal(out, files, refusal)?;
+    }
+    Ok(())
+}
+
+/// The status of several refusals: that of the first.
+pub(crate) fn first_status(refusals: &[Refusal]) -> Status
+    requires { 0 < length refusals.now }
+    ensures { (first : Refusal) (others : List Refusal) → refusals.now ≡ first ∷ others
+        → number_of result ≡ refusal_status_at first.rule }
+{
+    refusal_status(refusals[0].rule)
 }
 
 /// The text of the reply that tells an answer. For want of memory there is none.

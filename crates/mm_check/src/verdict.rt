@@ -5,15 +5,17 @@ ghost use Rattle.std.specs.Prelude.{IsOkUnless};
 ghost use Rattle.mm_text.specs.Token.{plain_token};
 ghost use Rattle.mm_text.specs.Statement.{plain_statement, HasForm};
 ghost use Rattle.mm_text.specs.Files.{plain_file};
-ghost use Rattle.mm_text.specs.Remaining.{IsUnread};
+ghost use Rattle.mm_text.specs.Remaining.{IsUnread, Remaining};
 ghost use Rattle.mm_proof.specs.declared.profile.Profile.TheVariants.{Lenient};
-ghost use Rattle.mm_check.specs.Verdict.{ObeyTheProfile, CanBeRead};
+ghost use Rattle.mm_check.specs.Verdict.{ObeyTheProfile, CanBeRead, HasVerdict};
 ghost use Rattle.mm_check.specs.Verdict.{text_refusal as text_refusal_at};
 ghost use Rattle.mm_check.specs.Answer.{IsYes, IsOverLimit, IsWantOfMemory, IsVerdict};
 ghost use Rattle.mm_check.specs.Answer.{IsOnlyVerdict, KeepsLabels, KeepsCounts, KeepsUses};
 ghost use Rattle.mm_check.specs.Answer.{KeepsFiles, NamesFile, plain_refusal};
+ghost use Rattle.mm_check.specs.Answer.{verdict_of_conclusion};
 ghost use Rattle.mm_check.specs.Mirror.Judged.{TakesNext, RefusesEnd, RefusesLoad, Knows};
 ghost use Rattle.mm_check.specs.Mirror.Judged.{IsUnderWay, IsAtEnd, GoesOn, TellsVerdict};
+ghost use Rattle.mm_check.specs.Mirror.Judged.{IsRead, StopsTurn, Turns};
 
 use crate::checked::Checked;
 use crate::fault::{CheckFault, Refusal};
@@ -137,6 +139,42 @@ fn make_room<'a>(files: &[File<'a>], progress: &mut Progress<'a>)
     }
 }
 
+/// What reading and judging the next statement came to.
+#[derive(Clone, Copy)]
+pub(crate) enum Turn<'a> {
+    /// There is none, and the text has no fault.
+    End,
+    /// The statement obeys the rules.
+    Obeys,
+    /// It breaks no rule of meaning, and its proof is refused.
+    Faulty(Refusal<'a>),
+}
+
+/// Reads the next statement, judges it, and takes it into the progress, also where its proof is
+/// refused. Whether to go on then is the caller's choice.
+pub(crate) fn take_turn<'a>(
+    profile: Profile,
+    files: &[File<'a>],
+    statements: &mut Statements<'a>,
+    progress: &mut Progress<'a>,
+    into: &mut Statement<'a>,
+) -> Result<Turn<'a>, CheckFault<'a>>
+    requires { IsRead (map plain_file files.now) progress.old statements.old }
+    ensures turned { IfOk result (λ turn. Turns profile (map plain_file files.now) progress.old
+        statements.old turn (plain_statement into.new) progress.new statements.new) }
+    ensures stopped { IfErr result (StopsTurn (map plain_file files.now) progress.old
+        statements.old) }
+{
+    if !next(files, statements, into)? {
+        return Ok(Turn::End);
+    }
+    make_room(files, progress);
+    match judge(profile, files, progress, into)? {
+        None => Ok(Turn::Obeys),
+        Some(refusal) => Ok(Turn::Faulty(refusal)),
+    }
+}
+
 /// Reads the next statement and judges it; `false` where there is none.
 pub(crate) fn judge_next<'a>(
     profile: Profile,
@@ -151,12 +189,11 @@ pub(crate) fn judge_next<'a>(
     ensures formed { result ≡ Ok true → HasForm (plain_statement into.new) }
     ensures refused { IfErr result (TellsVerdict profile (map plain_file files.now)) }
 {
-    if !next(files, statements, into)? {
-        return Ok(false);
+    match take_turn(profile, files, statements, progress, into)? {
+        Turn::End => Ok(false),
+        Turn::Obeys => Ok(true),
+        Turn::Faulty(refusal) => Err(CheckFault::Refused(refusal)),
     }
-    make_room(files, progress);
-    judge(profile, files, progress, into)?;
-    Ok(true)
 }
 
 /// Reads the statements that are left, one after the other, and judges each, up to the first fault.
@@ -201,6 +238,25 @@ fn last_progress<'a>(
     }
 }
 
+/// What is kept of a database once all its statements are judged, and nothing is at fault.
+pub(crate) fn conclude<'a>(
+    profile: Profile,
+    files: &'a [File<'a>],
+    progress: Progress<'a>,
+) -> Checked<'a>
+    requires { (left : Remaining)
+        × IsAtEnd profile (map plain_file files.now) progress left }
+    ensures verdict { HasVerdict profile (map plain_file files.now)
+        (verdict_of_conclusion result) }
+    ensures labels { KeepsLabels (map plain_file files.now) result }
+    ensures counts { KeepsCounts (map plain_file files.now) result }
+    ensures uses { KeepsUses (map plain_file files.now) result }
+    ensures files { KeepsFiles (map plain_file files.now) result }
+    ensures profile { result.profile ≡ profile }
+{
+    Checked::new(profile, files, progress)
+}
+
 /// Judges all statements of the files in a profile.
 fn judge_all<'a>(
     alloc: Global,
@@ -219,7 +275,7 @@ fn judge_all<'a>(
     let outcome = last_progress(alloc, seed, profile, files, &mut statements);
     drop(statements);
     let progress = outcome?;
-    Ok(Checked::new(profile, files, progress))
+    Ok(conclude(profile, files, progress))
 }
 
 /// Checks in a profile the database that the files hold; the first one is the top file.

@@ -75,7 +75,7 @@ fn called(alloc: Global, command: &Command, files: &[File]) -> Result<Answer, Fa
 /// The label that a command asks about.
 fn label_of<'a>(command: &Command<'a>) -> &'a [u8] {
     match command {
-        Command::Check { .. } => b"",
+        Command::Check { .. } | Command::Faults { .. } => b"",
         Command::Axioms { label }
         | Command::Show { label }
         | Command::Normal { label, .. }

@@ -6,8 +6,8 @@ ghost use Rattle.mm_check.specs.Reply.{AsksHanded};
 
 use crate::databases::{DEMO, HEAD};
 use crate::{
-    Case, Part, compressed, damaged, files, fronts, incomplete, names, one_file, orders, profiles,
-    proofs, questions, scopes,
+    Case, Part, compressed, damaged, faults, files, fronts, incomplete, names, one_file, orders,
+    profiles, proofs, questions, scopes,
 };
 use mm_check::{Checked, Command, Status, check, run};
 use mm_proof::Profile;
@@ -248,6 +248,11 @@ fn whole_language(rt: HostRuntime) -> Result<(), Fail> {
 #[test]
 fn listed(rt: HostRuntime) -> Result<(), Fail> {
     compare(&rt, rt.alloc(), &incomplete::LISTED)
+}
+
+#[test]
+fn all_faults(rt: HostRuntime) -> Result<(), Fail> {
+    compare_commands(&rt, rt.alloc(), &faults::FAULTS)
 }
 
 /// Whether 20 statements and one complete proof are counted beside the incomplete proof of `u1`.

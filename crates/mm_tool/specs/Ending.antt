@@ -13,8 +13,8 @@ use Rattle.mm_text.specs.declared.counted.Counted.{Counted}
 use Rattle.mm_check.specs.Reply.{IsReplyTo}
 use Rattle.mm_check.specs.Status.{number_of}
 use Rattle.mm_check.specs.declared.command.Command.{Command}
-use Rattle.mm_check.specs.declared.command.Command.TheVariants.{All, Axioms, Check, Normal}
-use Rattle.mm_check.specs.declared.command.Command.TheVariants.{Packed, Same, Show}
+use Rattle.mm_check.specs.declared.command.Command.TheVariants.{All, Axioms, Check, Faults}
+use Rattle.mm_check.specs.declared.command.Command.TheVariants.{Normal, Packed, Same, Show}
 use Rattle.mm_check.specs.declared.command.RunFault.{RunFault}
 use Rattle.mm_check.specs.declared.command.RunFault.TheVariants as run
 use Rattle.mm_check.specs.declared.status.Status.{Status}
@@ -169,6 +169,7 @@ error_line Memory = codes "mm: out of memory\n"
 -- the label that a command asks about
 abbrev pub label_of : Command → Option Text
 label_of (Check profile) = None
+label_of (Faults profile) = None
 label_of (Axioms label) = Some label.now
 label_of (Show label) = Some label.now
 label_of (Normal label whole) = Some label.now

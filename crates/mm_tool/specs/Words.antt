@@ -16,7 +16,8 @@ use Rattle.clap.specs.declared.error.kind.ErrorKind.{ErrorKind}
 use Rattle.clap.specs.declared.error.kind.ErrorKind.TheVariants.{DisplayHelp, DisplayVersion}
 use Rattle.clap.specs.declared.error.kind.ErrorKind.TheVariants.{OutOfMemory}
 use Rattle.mm_check.specs.declared.command.Command.{Command}
-use Rattle.mm_check.specs.declared.command.Command.TheVariants.{Check, Axioms, Show, Same, All}
+use Rattle.mm_check.specs.declared.command.Command.TheVariants.{Check, Faults, Axioms, Show}
+use Rattle.mm_check.specs.declared.command.Command.TheVariants.{Same, All}
 use Rattle.mm_check.specs.declared.command.Command.TheVariants as command
 use Rattle.mm_check.specs.declared.form.Form.{Form}
 use Rattle.mm_check.specs.declared.form.Form.TheVariants.{Normal, Packed}
@@ -71,9 +72,17 @@ topic_rule = record (new_rule (codes "COMMAND")) {
   action = Some Append;
 }
 
+-- a command under a profile: its name, and then `[--strict] FILES..`
+abbrev pub profile_line : Text → App
+profile_line name = with_rule (with_rule (new_app name) (flag_rule (codes "strict"))) files_rule
+
 -- `check [--strict] FILES..`
 abbrev pub check_line : App
-check_line = with_rule (with_rule (new_app (codes "check")) (flag_rule (codes "strict"))) files_rule
+check_line = profile_line (codes "check")
+
+-- `faults [--strict] FILES..`
+abbrev pub faults_line : App
+faults_line = profile_line (codes "faults")
 
 -- a question about the theorem with a label: the command's name, and then `LABEL FILES..`
 abbrev pub question_line : Text → App
@@ -128,11 +137,14 @@ bare_line = record (new_app (codes "mm")) {
   };
 }
 
--- the commands that ask something of a database
+-- the commands that check a database
+abbrev pub check_lines : App
+check_lines = with_subcommand (with_subcommand bare_line check_line.top) faults_line.top
+
+-- and those that ask something of it
 abbrev pub database_line : App
 database_line =
-    with_subcommand
-    (with_subcommand (with_subcommand bare_line check_line.top) axioms_line.top) show_line.top
+    with_subcommand (with_subcommand check_lines axioms_line.top) show_line.top
 
 -- and those that ask for a proof in another form, or compare one
 abbrev pub forms_line : App
@@ -140,7 +152,8 @@ forms_line =
     with_subcommand
     (with_subcommand (with_subcommand database_line normal_line.top) packed_line.top) same_line.top
 
--- `mm check [--strict] FILES..`, `mm axioms LABEL FILES..`, `mm show LABEL FILES..`,
+-- `mm check [--strict] FILES..`, `mm faults [--strict] FILES..`, `mm axioms LABEL FILES..`,
+-- `mm show LABEL FILES..`,
 -- `mm normal [--file] LABEL FILES..`, `mm packed [--file] LABEL FILES..`, both with
 -- `--all NAME FILES..` too,
 -- `mm same LABEL PROOF FILES..`, `mm explain [CODE..]`, `mm help [COMMAND]`, `mm version`,
@@ -215,11 +228,11 @@ abbrev pub is_strict : Profile → Bool
 is_strict Strict = true
 is_strict Lenient = false
 
--- They ask to check the files with these names under this profile: by `--strict` the strict one,
--- else the lenient one.
-abbrev pub AsksCheck : List Text → Profile → List Text → Type 0
-AsksCheck words profile names =
-    (rows : List Row) × Commands words (codes "check") rows
+-- They ask, by the command with this name, about the files with these names under this profile: by
+-- `--strict` the strict one, else the lenient one.
+abbrev pub AsksUnder : Text → List Text → Profile → List Text → Type 0
+AsksUnder name words profile names =
+    (rows : List Row) × Commands words name rows
     × IsGiven (codes "strict") rows (is_strict profile)
     × (unwrap_or (all_of (codes "FILES") rows) [] ≡ names)
 
@@ -272,7 +285,8 @@ AsksSame words label proof names =
 -- They ask to run this command over the files with these names. No words alone ask to compare a
 -- text: it stands in a further file, which `AsksSame` names.
 abbrev pub AsksRun : List Text → Command → List Text → Type 0
-AsksRun words (Check profile) names = AsksCheck words profile names
+AsksRun words (Check profile) names = AsksUnder (codes "check") words profile names
+AsksRun words (Faults profile) names = AsksUnder (codes "faults") words profile names
 AsksRun words (Axioms label) names = AsksQuestion (codes "axioms") words label.now names
 AsksRun words (Show label) names = AsksQuestion (codes "show") words label.now names
 AsksRun words (command.Normal label whole) names =
@@ -315,8 +329,8 @@ NamesNoText words =
 abbrev pub NamesNoCommand : List Text → Type 0
 NamesNoCommand words = IsAccepted words × NamesNoForm words × NamesNoText words
     × ((rows : List Row)
-    → ¬ Commands words (codes "check") rows × ¬ Commands words (codes "axioms") rows
-    × ¬ Commands words (codes "show") rows)
+    → ¬ Commands words (codes "check") rows × ¬ Commands words (codes "faults") rows
+    × ¬ Commands words (codes "axioms") rows × ¬ Commands words (codes "show") rows)
 
 -- The words aren't understood.
 abbrev pub AreRefusedWords : List Text → Type 0

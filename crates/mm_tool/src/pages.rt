@@ -40,6 +40,28 @@ Example:
   mm check set.mm
 ";
 
+const FAULTS: &str = "Usage: mm faults [--strict] FILES..
+
+Checks a database as `mm check` does, and lists all its faults in one run. A
+theorem whose proof is at fault stands all the same, so that later proofs may
+use it. Where a statement has another fault than that of its proof, it is the
+last one that is listed.
+
+Options:
+  --strict   as for `mm check`
+
+Replies:
+  no FILE LINE LABEL RULE STEP, one on each line                    status 1
+  limit FILE LINE LABEL L1 STEP, among them                         status 1
+      A statement at fault, in the order of the database, each as `mm check`
+      tells it; status 4 where the first line is a limit.
+  yes, incomplete or load                                        status 0, 3, 4
+      The reply of `mm check`, where it tells no statement at fault.
+
+Example:
+  mm faults set.mm
+";
+
 const AXIOMS: &str = "Usage: mm axioms LABEL FILES..
 
 Checks the database, and lists the axioms that the theorem with this label
@@ -215,6 +237,10 @@ fn check_page() -> &'static str {
     CHECK
 }
 
+fn faults_page() -> &'static str {
+    FAULTS
+}
+
 fn axioms_page() -> &'static str {
     AXIOMS
 }
@@ -248,13 +274,17 @@ fn version_page() -> &'static str {
 }
 
 /// A page for each command, in the order of the command line.
-pub(crate) fn program_pages() -> [Page<'static>; 9]
+pub(crate) fn program_pages() -> [Page<'static>; 10]
     ensures { map (λ page. page.command.now) result ≡ command_names }
 {
     [
         Page {
             command: "check",
             text: check_page(),
+        },
+        Page {
+            command: "faults",
+            text: faults_page(),
         },
         Page {
             command: "axioms",

@@ -31,6 +31,8 @@ Commands:
                          strict form (`mm explain P15`), and expressions may be longer. Where a file
                          was handed in and not included, a note on standard error says so: nothing
                          in it was checked
+  faults [--strict] FILES..
+                         checks the database as check does, and lists all its faults in one run
   axioms LABEL FILES..   checks the database, and lists the axioms that the theorem with this
                          label rests on
   show LABEL FILES..     checks the database, and lists the steps of the proof of the theorem with
@@ -82,6 +84,13 @@ Replies of check, on standard output:
       Two of the files have the same name. Status 4.
   load F3
       The files hold more than 1,073,741,824 bytes in all. Status 4.
+
+Replies of faults, on standard output:
+  no FILE LINE LABEL RULE STEP, or limit FILE LINE LABEL L1 STEP, one on each line
+      The statements at fault, in the order of the database, each as check tells it. A theorem
+      whose proof is at fault stands all the same; any other fault is the last. Status 1; 4 where
+      the first line is a limit.
+  Where nothing is at fault: the reply of check, with its status.
 
 Replies of axioms, on standard output:
   LABEL, one on each line

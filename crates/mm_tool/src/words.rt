@@ -8,8 +8,9 @@ ghost use Rattle.clap.specs.Words.{Text, all_of, app_of, first_of, found_of, kin
 ghost use Rattle.clap.specs.Words.{rows_of, rule_of};
 ghost use Rattle.clap.specs.declared.builder.command.Command.TheViews.{out-Command};
 ghost use Rattle.mm_tool.specs.Words.{Asks, IsOfKind, IsFaultOfKind, IsWordFault, axioms_line};
-ghost use Rattle.mm_tool.specs.Words.{AreMatchesOf, bare_line, check_line, code_rule};
-ghost use Rattle.mm_tool.specs.Words.{command_line, database_line, explain_line, files_rule};
+ghost use Rattle.mm_tool.specs.Words.{AreMatchesOf, bare_line, check_line, check_lines, code_rule};
+ghost use Rattle.mm_tool.specs.Words.{command_line, database_line, explain_line, faults_line};
+ghost use Rattle.mm_tool.specs.Words.{files_rule, profile_line};
 ghost use Rattle.mm_tool.specs.Words.{help_line, label_rule, question_line, show_line};
 ghost use Rattle.mm_tool.specs.Words.{proof_rule, normal_line, packed_line, same_line, forms_line};
 ghost use Rattle.mm_tool.specs.Words.{is_strict, flag_rule, Commands, IsAllFault, name_of_form};
@@ -28,6 +29,8 @@ use std::alloc::{AllocError, Global};
 const PROGRAM: &str = "mm";
 
 const CHECK: &str = "check";
+
+const FAULTS: &str = "faults";
 
 const AXIOMS: &str = "axioms";
 
@@ -152,16 +155,47 @@ fn topic_argument<'a>(alloc: Global) -> Arg<'a>
         .action(ArgAction::Append)
 }
 
+/// A command that checks a database under a profile, for `clap`.
+fn profile_command<'a>(
+    alloc: Global,
+    name: &'a str,
+    about: &'a str,
+    usage: &'a str,
+) -> Result<Command<'a>, AllocError>
+    ensures shape { IfOk result (λ command. app_of command ≡ profile_line name.entry.now) }
+    ensures local { IfOk result (λ command. (out-Command command).has_globals ≡ false) }
+{
+    Command::new(alloc, name)
+        .about(about)
+        .override_usage(usage)
+        .arg(flag_argument(alloc, STRICT))?
+        .arg(files_argument(alloc))
+}
+
 /// The command `check`, for `clap`.
 fn check_command<'a>(alloc: Global) -> Result<Command<'a>, AllocError>
     ensures shape { IfOk result (λ command. app_of command ≡ check_line) }
     ensures local { IfOk result (λ command. (out-Command command).has_globals ≡ false) }
 {
-    Command::new(alloc, CHECK)
-        .about("checks each statement and each proof of a database")
-        .override_usage("mm check [--strict] FILES..")
-        .arg(flag_argument(alloc, STRICT))?
-        .arg(files_argument(alloc))
+    profile_command(
+        alloc,
+        CHECK,
+        "checks each statement and each proof of a database",
+        "mm check [--strict] FILES..",
+    )
+}
+
+/// The command `faults`, for `clap`.
+fn faults_command<'a>(alloc: Global) -> Result<Command<'a>, AllocError>
+    ensures shape { IfOk result (λ command. app_of command ≡ faults_line) }
+    ensures local { IfOk result (λ command. (out-Command command).has_globals ≡ false) }
+{
+    profile_command(
+        alloc,
+        FAULTS,
+        "lists all faults of a database",
+        "mm faults [--strict] FILES..",
+    )
 }
 
 /// A command that asks about the theorem with a label, for `clap`.
@@ -305,13 +339,22 @@ fn bare_command<'a>(alloc: Global) -> Result<Command<'a>, AllocError>
         .bin_name(PROGRAM)
 }
 
-/// The program's command line with the commands that ask something of a database, for `clap`.
-fn database_command<'a>(alloc: Global) -> Result<Command<'a>, AllocError>
-    ensures shape { IfOk result (λ command. app_of command ≡ database_line) }
+/// The program's command line with the commands that check a database, for `clap`.
+fn check_commands<'a>(alloc: Global) -> Result<Command<'a>, AllocError>
+    ensures shape { IfOk result (λ command. app_of command ≡ check_lines) }
     ensures local { IfOk result (λ command. (out-Command command).has_globals ≡ false) }
 {
     bare_command(alloc)?
         .subcommand(check_command(alloc)?)?
+        .subcommand(faults_command(alloc)?)
+}
+
+/// That with the commands that ask something of it, for `clap`.
+fn database_command<'a>(alloc: Global) -> Result<Command<'a>, AllocError>
+    ensures shape { IfOk result (λ command. app_of command ≡ database_line) }
+    ensures local { IfOk result (λ command. (out-Command command).has_globals ≡ false) }
+{
+    check_commands(alloc)?
         .subcommand(axioms_command(alloc)?)?
         .subcommand(show_command(alloc)?)
 }
@@ -570,6 +613,14 @@ fn request_of_matches<'a>(
                 profile: asked_profile(check, STRICT),
             },
             names: values_of(alloc, check, FILES)?,
+        });
+    }
+    if let Some(faults) = matches.subcommand_matches(FAULTS) {
+        return Ok(Request::Run {
+            command: mm_check::Command::Faults {
+                profile: asked_profile(faults, STRICT),
+            },
+            names: values_of(alloc, faults, FILES)?,
         });
     }
     if let Some(axioms) = matches.subcommand_matches(AXIOMS) {

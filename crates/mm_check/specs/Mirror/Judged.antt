@@ -1,16 +1,18 @@
 -- What checking has come to, and what is answered of one statement and of the text's end. This file
 -- mirrors the code, and is cited by private contracts alone.
-use Rattle.std.specs.Prelude.{◌≡◌, ℕ, ◌+◌, List, [], ◌∷◌, ◌++◌, map, length, sum_by, slice_get, not}
-use Rattle.std.specs.Prelude.{Bool, true, false, if◌then◌else◌, Some, None, Result}
+use Rattle.std.specs.Prelude.{◌≡◌, ℕ, ◌+◌, ◌≤◌, List, [], ◌∷◌, ◌++◌, map, length, sum_by}
+use Rattle.std.specs.Prelude.{slice_get, not, Bool, true, false, if◌then◌else◌, Option, Some, None}
+use Rattle.std.specs.Prelude.{Result}
 use Rattle.std.specs.Prelude.{MatchResult, ◌⊎◌}
 use Rattle.mm_text.specs.declared.fault.LoadRule.{LoadRule}
 use Rattle.mm_text.specs.declared.statement.Kind.TheVariants.{Provable}
-use Rattle.mm_text.specs.Statement.{PlainStatement, bytes_in}
+use Rattle.mm_text.specs.Statement.{PlainStatement, HasForm, bytes_in}
 use Rattle.mm_text.specs.Files.{PlainFile, BreaksLoad}
 use Rattle.mm_text.specs.Reading.{PlainFault, Reads}
 use Rattle.mm_text.specs.Remaining.{Remaining}
 use Rattle.mm_frame.specs.Sentence.{Sentence, sentence_of}
-use Rattle.mm_frame.specs.Rules.{IsMeant}
+use Rattle.mm_frame.specs.declared.rule.MeaningRule.{MeaningRule}
+use Rattle.mm_frame.specs.Rules.{FirstBroken, IsMeant}
 use Rattle.mm_frame.specs.Numbers.{labelled_sentences}
 use Rattle.mm_proof.specs.declared.fault.ProofRule.{ProofRule}
 use Rattle.mm_proof.specs.declared.fault.ProofFault.{ProofFault}
@@ -24,25 +26,30 @@ use Rattle.mm_proof.specs.Profiles.{limit_of}
 use Rattle.mm_proof.specs.Strict.{HasFormOf}
 use Rattle.mm_proof.specs.UnderProfile.{IsFrontAllowedUnder}
 use Rattle.mm_proof.specs.Tokens.{is_incomplete}
-use Rattle.mm_check.specs.declared.rule.Rule.{Rule}
 use Rattle.mm_check.specs.declared.fault.CheckFault.{CheckFault}
+use Rattle.mm_check.specs.declared.fault.Refusal.{Refusal}
 use Rattle.mm_check.specs.declared.progress.Progress.{Progress}
-use Rattle.mm_check.specs.Verdict.{Verdict, HasVerdict, Load, Refused, HasFault, Obeys, AllObey}
+use Rattle.mm_check.specs.declared.verdict.Turn.{Turn}
+use Rattle.mm_check.specs.declared.verdict.Turn.TheVariants as turn
+use Rattle.mm_check.specs.Verdict.{Verdict, HasVerdict, Load, Refused, Obeys, AllObey}
 use Rattle.mm_check.specs.Verdict.{CanBeRead, refusal_of, text_refusal, load_rule, proof_rule}
+use Rattle.mm_check.specs.Verdict.{meaning_rule}
 use Rattle.mm_check.specs.Verdict.{sentences, proof_of, proofs_of, labels_of, unproved_of}
 use Rattle.mm_check.specs.Verdict.{is_proof, is_unproved, IsProofFault}
-use Rattle.mm_check.specs.Answer.{verdict_of_fault}
+use Rattle.mm_check.specs.Answer.{verdict_of_fault, plain_refusal}
 use Rattle.mm_check.specs.Conclusion.{ProofUses}
 use Rattle.mm_check.specs.Mirror.Ordered.{ordered}
 use Rattle.mm_check.specs.Rests.{tree_of, IsNumberWhere, AreInOrder, AreUses}
 
--- Memory was wanting, or the statement, which comes after so many others, is refused for its fault.
-abbrev pub RefusesAfter : Profile → List PlainFile → List Sentence → ℕ → PlainStatement → CheckFault
+-- Memory was wanting, or the statement, which comes after so many others, is refused for the first
+-- rule of meaning that it breaks.
+abbrev pub RefusesMeaning : List PlainFile → List Sentence → ℕ → PlainStatement → CheckFault
     → Type 0
-RefusesAfter profile files before count s fault =
+RefusesMeaning files before count s fault =
     (verdict_of_fault fault ≡ None)
-    ⊎ ((rule : Rule) × (step : ℕ) × HasFault profile before s rule step
-    × (verdict_of_fault fault ≡ Some (Refused (refusal_of files count s rule step))))
+    ⊎ ((broken : MeaningRule) × FirstBroken broken before (sentence_of s)
+    × (verdict_of_fault fault
+    ≡ Some (Refused (refusal_of files count s (meaning_rule broken) 0))))
 
 -- Memory was wanting, or no statement is left and the text's fault is answered.
 abbrev pub RefusesEnd : List PlainFile → Remaining → CheckFault → Type 0
@@ -124,16 +131,24 @@ pub record CountsProof (profile : Profile) (old : Progress) (id : ℕ) (s : Plai
   pub kept : (before : List Sentence) → old.prover.book.statements ≡ before ++ sentence_of s ∷ []
       → KeepsProof profile before s id (not (is_incomplete (proof_of s))) old.kept new.kept
 
--- Memory was wanting, or the last statement is refused for the fault of its proof, or of what is
--- known of it.
-abbrev pub RefusesProof : Profile → List PlainFile → Progress → PlainStatement → CheckFault → Type 0
-RefusesProof profile files old s fault =
-    (verdict_of_fault fault ≡ None)
-    ⊎ ((rule : ProofRule) × (step : ℕ)
-    × ((before : List Sentence) → old.prover.book.statements ≡ before ++ sentence_of s ∷ []
-    → IsProofFault profile before s rule step)
-    × (verdict_of_fault fault
-    ≡ Some (Refused (refusal_of files old.count s (proof_rule rule) step))))
+-- This is the refusal of the last statement for the fault of its proof, or of what is known of it,
+-- and nothing was counted.
+pub record FailsProof (profile : Profile) (files : List PlainFile) (old : Progress)
+    (s : PlainStatement) (refusal : Refusal) (new : Progress) : Type 0 where
+  pub rule : ProofRule
+  pub step : ℕ
+  pub fault : (before : List Sentence) → old.prover.book.statements ≡ before ++ sentence_of s ∷ []
+      → IsProofFault profile before s rule step
+  pub told : plain_refusal refusal ≡ refusal_of files old.count s (proof_rule rule) step
+  pub book : new.prover.book ≡ old.prover.book
+  pub count : new.count ≡ old.count
+  pub proofs : new.proofs ≡ old.proofs
+
+-- the proof of the last statement was counted, or this is the refusal for its fault
+abbrev pub TriesProof : Profile → List PlainFile → (old : Progress) → ℕ → PlainStatement
+    → Option Refusal → (new : Progress) → Type 0
+TriesProof profile files old id s None new = CountsProof profile old id s new
+TriesProof profile files old id s (Some refusal) new = FailsProof profile files old s refusal new
 
 -- The statement obeys the rules, and is taken into the progress.
 pub record Takes (profile : Profile) (old : Progress) (s : PlainStatement)
@@ -149,6 +164,26 @@ pub record Takes (profile : Profile) (old : Progress) (s : PlainStatement)
   pub kept : KeepsProof profile old.prover.book.statements s
       (length (labelled_sentences old.prover.book.statements)) (is_proof s) old.kept new.kept
 
+-- The statement breaks no rule of meaning, and this is the refusal for the fault of its proof. It is
+-- taken into the progress all the same; its proof isn't.
+pub record TakesFaulty (profile : Profile) (files : List PlainFile) (old : Progress)
+    (s : PlainStatement) (refusal : Refusal) (new : Progress) : Type 0 where
+  pub meant : IsMeant old.prover.book.statements (sentence_of s)
+  pub rule : ProofRule
+  pub step : ℕ
+  pub fault : IsProofFault profile old.prover.book.statements s rule step
+  pub told : plain_refusal refusal ≡ refusal_of files old.count s (proof_rule rule) step
+  pub statements : new.prover.book.statements ≡ old.prover.book.statements ++ sentence_of s ∷ []
+  pub bytes : new.prover.book.bytes ≡ old.prover.book.bytes + bytes_in s
+  pub count : new.count ≡ old.count + 1
+  pub proofs : new.proofs ≡ old.proofs
+
+-- the statement is taken: it obeys the rules, or this is the refusal for the fault of its proof
+abbrev pub IsTaken : Profile → List PlainFile → (old : Progress) → PlainStatement → Option Refusal
+    → (new : Progress) → Type 0
+IsTaken profile files old s None new = Takes profile old s new
+IsTaken profile files old s (Some refusal) new = TakesFaulty profile files old s refusal new
+
 -- what the progress knows of the statements so far
 pub record Knows (statements : List PlainStatement) (p : Progress) : Type 0 where
   pub book : p.prover.book.statements ≡ sentences statements
@@ -160,6 +195,34 @@ pub record Knows (statements : List PlainStatement) (p : Progress) : Type 0 wher
   pub noted : AreInOrder (IsNumberWhere statements (λ s. is_unproved s ≡ true))
       (map (λ id. id.0) p.incomplete.items)
   pub kept : AreUses statements p.kept
+
+-- The statements so far and those that are left are the reading of the files, and the book holds
+-- those so far. Of their proofs nothing is known.
+pub record IsRead (files : List PlainFile) (p : Progress) (left : Remaining) : Type 0 where
+  pub earlier : List PlainStatement
+  pub readable : CanBeRead files
+  pub reads : Reads files (earlier ++ left.statements) left.ending
+  pub book : p.prover.book.statements ≡ sentences earlier
+  pub bytes : p.prover.book.bytes ≡ sum_by bytes_in earlier
+  pub count : p.count ≡ length earlier
+  pub proofs : p.proofs ≤ length earlier
+
+-- What the turn came to in which the next statement is read and judged.
+abbrev pub Turns : Profile → List PlainFile → (old : Progress) → Remaining → Turn → PlainStatement
+    → (new : Progress) → Remaining → Type 0
+Turns profile files old left turn.End s new rest = TakesNext left false s rest × (new ≡ old)
+Turns profile files old left turn.Obeys s new rest =
+    TakesNext left true s rest × HasForm s × Takes profile old s new
+Turns profile files old left (turn.Faulty refusal) s new rest =
+    TakesNext left true s rest × HasForm s × TakesFaulty profile files old s refusal new
+
+-- Memory was wanting; or the fault of the text is answered, or the rule of meaning that the next
+-- statement breaks.
+abbrev pub StopsTurn : List PlainFile → Progress → Remaining → CheckFault → Type 0
+StopsTurn files p left fault =
+    RefusesEnd files left fault
+    ⊎ ((s : PlainStatement) × (rest : Remaining) × TakesNext left true s rest
+    × RefusesMeaning files p.prover.book.statements p.count s fault)
 
 -- The statements so far and those that are left are the reading of the files, and those so far obey
 -- the rules.

@@ -3,8 +3,10 @@
 use crate::calls::failing::failing_writer;
 use crate::tests::{CHECK, reply_to};
 use mm_check::{
-    AskFault, CheckFault, Checked, Command, Report, Rule, RunFault, Status, check, run,
+    AllFaults, AskFault, CheckFault, Checked, Command, Refusal, Report, Rule, RunFault, Status,
+    all_faults, check, run,
 };
+use mm_proof::Profile;
 use mm_text::{File, Seed};
 use std::alloc::Global;
 use std::test::Fail;
@@ -68,6 +70,31 @@ fn names_incomplete(checked: &Checked, first: &[u8], second: &[u8]) -> bool {
         [a, b] => checked.name(*a) == first && checked.name(*b) == second,
         _ => false,
     }
+}
+
+// The proofs of p and r are at fault, and q uses p.
+const FAULTY: &[u8] = b"$c a b $. one $a a $. p $p b $= one $. q $p b $= p $. r $p a $= nope $.";
+
+/// Whether these are the refusals of p and of r.
+fn are_of_p_and_r(refusals: &[Refusal]) -> bool {
+    match refusals {
+        [p, r] => {
+            (p.statement, p.rule, p.step) == (3, Rule::P14, 2)
+                && (r.statement, r.rule, r.step) == (5, Rule::P2, 0)
+        }
+        _ => false,
+    }
+}
+
+#[test]
+fn finds_all_faults(rt: HostRuntime) -> Result<(), Fail> {
+    let files = file(FAULTY);
+    let is_found = match all_faults(rt.alloc(), Seed::known(), Profile::Lenient, &files) {
+        Err(AllFaults::Refused(refusals)) => are_of_p_and_r(&refusals),
+        _ => false,
+    };
+    assert!(rt; is_found);
+    Ok(())
 }
 
 #[test]

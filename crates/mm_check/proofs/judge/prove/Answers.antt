@@ -1,24 +1,27 @@
 -- The refusal tells the fault of the proof.
-use Rattle.std.proofs.Common.{◌≡◌, ◌++◌, ◌∷◌, [], List, Some, inr, map, subst, ap, ◌∙◌}
+use Rattle.std.proofs.Common.{◌≡◌, ◌++◌, ◌∷◌, [], List, map, refl, subst, ap, ◌∙◌}
 use Rattle.mm_text.specs.Statement.{PlainStatement, plain_statement}
 use Rattle.mm_frame.specs.Sentence.{Sentence, sentence_of}
 use Rattle.mm_proof.specs.declared.fault.ProofFault.TheVariants.{Rule}
 use Rattle.mm_text.specs.Files.{plain_file}
-use Rattle.mm_check.specs.Verdict.{Refused, proof_rule}
+use Rattle.mm_check.specs.Verdict.{proof_rule}
 use Rattle.mm_check.proofs.Judging.{same_refusal}
 use Rattle.mm_check.specs.Mirror.Judged.{Fails}
 use Rattle.mm_check.proofs.judge.prove.Goals as goal
 
-pub returns-in-Err-Rule-clause-refused : goal.returns-in-Err-Rule-clause-refused
-returns-in-Err-Rule-clause-refused c =
+pub returns-in-Err-Rule : goal.returns-in-Err-Rule
+returns-in-Err-Rule c =
     let s : PlainStatement = plain_statement c.args.statement.now in
     let fails : (before : List Sentence) → c.args.progress.now.prover.book.statements ≡ before ++ sentence_of s ∷ [] → Fails c.args.profile before s (Rule c.in-Err-Rule.rule c.in-Err-Rule.step) =
     λ before e. subst (Fails c.args.profile before s) c.in-Err-Rule.field-0-is (c.in-Err-Rule.ensures.judged before e) in
     let rule : c.from.result ≡ proof_rule c.in-Err-Rule.rule = c.from.ensures ∙ ap proof_rule c.in-Err-Rule.rule-is in
-    inr (
-      c.in-Err-Rule.rule,
-      c.in-Err-Rule.step,
-      fails,
-      ap (λ r. Some (Refused r)) c.refusal-refusal.ensures
-          ∙ same_refusal (map plain_file c.args.files.now) c.args.progress.now.count s rule c.in-Err-Rule.step-is,
-    )
+    record {
+      rule = c.in-Err-Rule.rule;
+      step = c.in-Err-Rule.step;
+      fault = fails;
+      told = c.refusal-refusal.ensures
+          ∙ same_refusal (map plain_file c.args.files.now) c.args.progress.now.count s rule c.in-Err-Rule.step-is;
+      book = c.in-Err-Rule.ensures.book;
+      count = refl;
+      proofs = refl;
+    }

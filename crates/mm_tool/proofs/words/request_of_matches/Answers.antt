@@ -15,7 +15,7 @@ pub returns-in-Some-subcommand_matches-clause-request : goal.returns-in-Some-sub
 returns-in-Some-subcommand_matches-clause-request c = λ words met. (
   _,
   commands_met words c.args.matches.now _ _ met (c.in-Some-subcommand_matches.ensures.found.0 refl) c.in-Some-subcommand_matches.ensures.rows,
-  sym (c.as_bytes.ensures.value ∙ c.asked_word.ensures),
+  c.asked_profile-in-Some-subcommand_matches.ensures,
   sym c.in_ok-values_of-2.ensures,
 )
 
@@ -23,8 +23,16 @@ pub returns-in-Some-subcommand_matches-2-clause-request : goal.returns-in-Some-s
 returns-in-Some-subcommand_matches-2-clause-request c = λ words met. (
   _,
   commands_met words c.args.matches.now _ _ met (c.in-Some-subcommand_matches-2.ensures.found.0 refl) c.in-Some-subcommand_matches-2.ensures.rows,
-  sym (c.as_bytes-in-Some-subcommand_matches-2.ensures.value ∙ c.asked_word-in-Some-subcommand_matches-2.ensures),
+  sym (c.as_bytes.ensures.value ∙ c.asked_word.ensures),
   sym c.in_ok-values_of-3.ensures,
+)
+
+pub returns-in-Some-subcommand_matches-3-clause-request : goal.returns-in-Some-subcommand_matches-3-clause-request
+returns-in-Some-subcommand_matches-3-clause-request c = λ words met. (
+  _,
+  commands_met words c.args.matches.now _ _ met (c.in-Some-subcommand_matches-3.ensures.found.0 refl) c.in-Some-subcommand_matches-3.ensures.rows,
+  sym (c.as_bytes-in-Some-subcommand_matches-3.ensures.value ∙ c.asked_word-in-Some-subcommand_matches-3.ensures),
+  sym c.in_ok-values_of-4.ensures,
 )
 
 pub returns-clause-fault : goal.returns-clause-fault
@@ -41,5 +49,7 @@ returns-clause-fault c = λ words met.
             c.in_default-subcommand_matches.is (c.subcommand_matches-2.ensures.found.1 named)),
         other _ rows met (λ named. none_there c.subcommand_matches-3.result
             c.in_default-subcommand_matches-2.is (c.subcommand_matches-3.ensures.found.1 named)),
+        other _ rows met (λ named. none_there c.subcommand_matches-4.result
+            c.in_default-subcommand_matches-3.is (c.subcommand_matches-4.ensures.found.1 named)),
       ),
     ))
