@@ -14,7 +14,7 @@ ghost use Rattle.mm_frame.specs.Rules.{IsMeant, FirstBroken};
 ghost use Rattle.mm_frame.specs.Form.{IsSound};
 ghost use Rattle.mm_frame.specs.Frame.{IsDistinct};
 ghost use Rattle.mm_frame.specs.Numbers.{symbols_of, labelled_sentences, IsNumberOf, AreNumbers};
-ghost use Rattle.mm_frame.specs.Numbers.{IsNumbered, IsAssertionNumber};
+ghost use Rattle.mm_frame.specs.Numbers.{IsNumbered, IsLabelNumber, IsAssertionNumber};
 ghost use Rattle.mm_frame.specs.Found.{Finds};
 ghost use Rattle.mm_frame.specs.Taken.{TakenAs, kind_behind};
 ghost use Rattle.mm_frame.specs.FramePlace.{AreHypotheses, HaveTypings, ArePairs};
@@ -200,6 +200,13 @@ impl<'a> Book<'a> {
             Some(info) => info.variable.is_some(),
             None => false,
         }
+    }
+
+    /// Whether a labelled statement has the number.
+    pub fn is_label(&self, id: LabelId) -> bool
+        ensures { IsTrue result ↔ IsLabelNumber self.now.statements id.0 }
+    {
+        is_label(&self.tables, id)
     }
 
     /// A label. Of a number that no label has, nothing is told: so it is of the next two too.

@@ -1,5 +1,5 @@
 -- Answers that hand a fault on.
-use Rattle.std.proofs.Common.{ℕ, ◌≡◌, Result, IfErr, subst, sym}
+use Rattle.std.proofs.Common.{ℕ, Result, IfErr, subst, sym}
 use Rattle.mm_proof.specs.declared.fault.ProofRule.{ProofRule}
 use Rattle.mm_proof.specs.declared.fault.ProofFault.{ProofFault}
 use Rattle.mm_proof.specs.declared.fault.ProofFault.TheVariants.{Rule, Memory}
@@ -17,10 +17,6 @@ handed Q r is all =
 pub on_rule_map : (e : ProofFault) (P Q : ProofRule → ℕ → Type 0) → ((rule : ProofRule) (step : ℕ) → P rule step → Q rule step) → OnRule e P → OnRule e Q
 on_rule_map (Rule rule step) P Q f h = f rule step h
 on_rule_map Memory P Q f h = tt
-
--- a call that can only run out of memory has no rule at fault
-pub memory_only : {X : Type 0} (r : Result X ProofFault) (P : ProofRule → ℕ → Type 0) → IfErr r (λ e. e ≡ Memory) → IfErr r (λ e. OnRule e P)
-memory_only r P h = IfErr-weaker r _ _ (λ e is. subst (λ f. OnRule f P) (sym is) tt) h
 
 -- an answer whose fault is told in other words
 pub rules_map : {X : Type 0} (r : Result X ProofFault) (P Q : ProofRule → ℕ → Type 0) → ((rule : ProofRule) (step : ℕ) → P rule step → Q rule step) → IfErr r (λ e. OnRule e P) → IfErr r (λ e. OnRule e Q)

@@ -289,7 +289,7 @@ only_item {X} held st moves m i stack shelf all h =
 pub built_more : {B X : Type 0} (holds : B → B → List Sentence → Holding X)
     (first old new : Forest B X) (front : List (Move ℕ)) (x : Move ℕ)
     → HasBuilt holds first old front → new.builder.ghost_name ≡ old.builder.ghost_name
-    → new.book ≡ old.book
+    → new.book ≡ old.book → new.entries ≡ old.entries
     → let held = λ (now : Forest B X). holds first.builder.now now.builder.now
     first.book.now.statements in
     ((moves : List (Move ℕ)) (m : MakeTreeAt first.book.now.statements moves)
@@ -297,9 +297,10 @@ pub built_more : {B X : Type 0} (holds : B → B → List Sentence → Holding X
     → AreItemsAt (held old) _ moves m (length front) old.stack.now.items old.shelf.now.items
     → AreItemsAt (held new) _ moves m (length front + 1) new.stack.now.items new.shelf.now.items)
     → HasBuilt holds first new (front ++ x ∷ [])
-built_more holds first old new front x was builder book goes = record {
+built_more holds first old new front x was builder book entries goes = record {
   same_builder = builder ∙ was.same_builder;
   same_book = book ∙ was.same_book;
+  same_entries = entries ∙ was.same_entries;
   sound = was.sound;
   keeps = was.keeps;
   at = λ moves m begun.

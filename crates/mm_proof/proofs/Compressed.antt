@@ -1,9 +1,9 @@
 -- Compressed proofs: their list, their letters, and the moves that their codes say.
-use Rattle.std.proofs.Common.{◌≡◌, ℕ, suc, ◌+◌, ◌-◌, ◌<◌, ◌≤◌, List, [], ◌∷◌, ◌++◌, length, map, take, drop, get_or, slice_get, Contains, All, Bor, Some, Result, Ok, Err, inl, inr, ⊎_elim, refl, sym, ap, subst, ◌∙◌, arith}
+use Rattle.std.proofs.Common.{◌≡◌, ℕ, suc, ◌+◌, ◌-◌, ◌<◌, ◌≤◌, List, [], ◌∷◌, ◌++◌, length, map, take, drop, slice_get, Contains, All, Bor, Some, Result, Ok, Err, inl, inr, ⊎_elim, refl, sym, ap, subst, ◌∙◌, arith}
 use Rattle.std.specs.Prelude.{OnOk}
 use Rattle.std.specs.List.{AllZip, AllByRecursion, flat_map}
 use Rattle.std.proofs.lemmas.Option.{same_Some, slice_get_cases}
-use Rattle.std.proofs.lemmas.List.{map-append, take_more, take-map, drop-map}
+use Rattle.std.proofs.lemmas.List.{take-map, drop-map}
 use Rattle.std.proofs.lemmas.List.Elements.{Contains-append_right, All-from_recursion, recursion_from_All}
 use Rattle.mm_code.specs.declared.code.Code.{Code}
 use Rattle.mm_code.specs.declared.code.Code.TheVariants.{Number, Tag}
@@ -14,7 +14,7 @@ use Rattle.mm_code.specs.declared.code.CodeRule.TheVariants as code
 use Rattle.mm_code.specs.declared.code.CodeFault.{CodeFault}
 use Rattle.mm_code.specs.declared.code.CodeFault.TheVariants as code_fault
 use Rattle.mm_text.specs.declared.token.Token.{Token}
-use Rattle.mm_text.proofs.Lists.{zip_push, zip_append, zip_left, split_at, get_from_take, all_there}
+use Rattle.mm_text.proofs.Lists.{zip_append, split_at, get_from_take}
 use Rattle.mm_frame.specs.Sentence.{Sentence, IsLabelled, IsHypothesis}
 use Rattle.mm_frame.specs.Active.{IsActive}
 use Rattle.mm_frame.specs.Rules.{AllMeant}
@@ -24,29 +24,19 @@ use Rattle.mm_frame.specs.Numbers.{labelled_sentences}
 use Rattle.mm_frame.specs.FramePlace.{AreHypotheses}
 use Rattle.mm_proof.specs.declared.fault.ProofRule.{ProofRule}
 use Rattle.mm_proof.specs.declared.fault.ProofRule.TheVariants.{P4, P5}
-use Rattle.mm_proof.specs.declared.moves.NumberedMove.{NumberedMove}
 use Rattle.mm_proof.specs.Moves.{Move}
 use Rattle.mm_proof.specs.Tokens.{IsCompressed, AreLetters, opening_token, closing_token}
 use Rattle.mm_proof.specs.Proof.{proof_rank, BreaksWhole, IsWholeFault}
 use Rattle.mm_proof.specs.Steps.{IsUsable}
-use Rattle.mm_proof.specs.Plain.{move_in, moves_in, token_texts}
-use Rattle.mm_proof.specs.Mirror.CodeSteps.{AreFor, NumberSays, IsReading, MayAllBeUsed, code_move, code_moves, move_by, fault_behind}
+use Rattle.mm_proof.specs.Plain.{token_texts}
+use Rattle.mm_proof.specs.Mirror.CodeSteps.{AreFor, NumberSays, IsReading, code_move, code_moves, move_by, fault_behind}
 use Rattle.mm_code.specs.Layout.{texts}
 use Rattle.mm_proof.specs.Answer.{OnRule}
 use Rattle.mm_proof.proofs.Frames.{those_hold}
-use Rattle.mm_proof.proofs.Ending.{may_be_used}
 use Rattle.mm_proof.proofs.Letters.{from_one}
 use Rattle.mm_proof.proofs.SaidMoves.{compressed_once, letters_once}
 use Rattle.mm_proof.proofs.TokenFacts.{HasLabels, labels_pass}
 use Rattle.mm_proof.proofs.Readings.{Stands, for_stands, codes_named, whole_of}
-
--- ---- codes, one after the other
-
-pub codes_more : (ids : List ℕ) (codes : List Code) (i : ℕ) (d : Code) (moves : List NumberedMove) (m : NumberedMove) → i < length codes
-    → AllZip (NumberSays ids) (take i codes) (moves_in moves) → NumberSays ids (get_or codes i d) (move_in m)
-    → AllZip (NumberSays ids) (take (i + 1) codes) (moves_in (moves ++ m ∷ []))
-codes_more ids codes i d moves m less all here =
-    rw (take_more codes i d less, map-append move_in moves (m ∷ [])) (zip_push (NumberSays ids) (take i codes) (moves_in moves) (get_or codes i d) (move_in m) all here)
 
 -- each code that letters say is a number from 1 on, or a tag
 pub letters_spelled : (text : List ℕ) (codes : List Code) → Letters text codes
@@ -159,16 +149,6 @@ reading_compressed statements place own tokens ids hypothesis_ids listed letters
       numbered = named.numbered;
       usable = named.usable;
     }
-
--- each of the entries may be used: the mandatory hypotheses, and then the listed labels
-pub entries_usable : (statements : List Sentence) (place : ℕ) (ids hypothesis_ids : List ℕ) (listed : List (List ℕ)) → AllMeant statements → AllFormed statements
-    → AreFor statements place ids listed → AreHypotheses (record { statements = statements; place = place }) hypothesis_ids → MayAllBeUsed statements place (hypothesis_ids ++ ids)
-entries_usable statements place ids hypothesis_ids listed all formed each h =
-    let hl = hypotheses_labels statements place hypothesis_ids h.hypotheses h.numbered (mandatory_usable statements place h.assertion h.hypotheses formed h.mandatory) in
-    let stand = zip_append (Stands statements place) hypothesis_ids hl.labels ids listed hl.stand (for_stands statements place ids listed each) in
-    all_there _ (hypothesis_ids ++ ids) (λ k n at.
-    let z = zip_left (Stands statements place) _ (hl.labels ++ listed) k n stand at in
-    (z.0, may_be_used statements place n z.2.s z.0 all z.2.there z.2.named z.2.usable))
 
 -- ---- the moves that codes say
 

@@ -1,5 +1,5 @@
 -- What the moves of a proof leave at the end, and the verdict.
-use Rattle.std.proofs.Common.{◌≡◌, ℕ, ◌+◌, ◌<◌, List, [], ◌∷◌, length, take, slice_get, Some, Result, Err, inl, inr, refl, sym, ap, subst, ◌∙◌, arith}
+use Rattle.std.proofs.Common.{◌≡◌, ℕ, ◌+◌, ◌<◌, List, [], ◌∷◌, length, take, slice_get, Contains, ◌↔◌, Some, Result, Err, inl, inr, refl, sym, ap, subst, ◌∙◌, arith}
 use Rattle.std.specs.List.{AllByRecursion}
 use Rattle.std.proofs.lemmas.Option.{same_Some}
 use Rattle.std.proofs.lemmas.List.{length-map}
@@ -20,12 +20,12 @@ use Rattle.mm_proof.specs.Proof.{IsWithin, Prove, BreaksEnd, IsMoveFault, IsMove
 use Rattle.mm_proof.specs.Profiles.{limit_of}
 use Rattle.mm_proof.specs.ReadSteps.{ReadSteps}
 use Rattle.mm_proof.specs.Steps.{IsNumberedMove, AreNumberedMoves, IsUsable, IsUsableMove, AreSteps}
-use Rattle.mm_proof.specs.Plain.{moves_in}
-use Rattle.mm_proof.specs.Mirror.CodeSteps.{MayBeUsed}
-use Rattle.mm_proof.specs.declared.moves.NumberedMove.{NumberedMove}
+use Rattle.mm_code.specs.declared.code.Code.{Code}
+use Rattle.mm_frame.specs.declared.number.LabelId.{LabelId}
+use Rattle.mm_proof.specs.Mirror.CodeSteps.{MayBeUsed, moves_of}
 use Rattle.mm_proof.specs.Mirror.CodeVerify.{IsSymbol, AreStackEntries, AreBelow, names_at, all_names_at}
 use Rattle.mm_proof.specs.Verified.{ProvesUsingNumbers, ProvesUsing, OfMoves}
-use Rattle.mm_proof.specs.Mirror.CodeRun.{HasRun, MayBeMade, AreNamedNumbers, AreNamed, EndsWrong}
+use Rattle.mm_proof.specs.Mirror.CodeRun.{HasRun, MayBeMade, AreNamedNumbers, DoRise, EndsWrong}
 use Rattle.mm_proof.proofs.Meaning.{one_label}
 use Rattle.mm_proof.proofs.Named.{named_is, below_is, named_once}
 use Rattle.mm_proof.proofs.Numbered.{one_place, one_move}
@@ -108,14 +108,6 @@ proved_with limit st id xs used all a named_so proved place s names proof number
     let uses = used_numbers st place xs names (tree p.label p.below none) p.kept all numbered (usable_names st id xs place s names a proof.numbered numbered) p.made in
     (p, λ k. ((λ h. (uses k).1 ((named_so k).0 h)), λ h. (named_so k).1 ((uses k).0 h)))
 
--- each once, in order
-pub proved_in_order : (limit : ℕ) (st : List Sentence) (id : ℕ) (xs : List (Move ℕ)) (used : List ℕ) → AllMeant st → AreSteps st id xs → AreNamed st xs used
-    → OfMoves st id xs (λ place s names. Prove (IsWithin limit) (take place st) s names)
-    → OfMoves st id xs (λ place s names. ProvesUsing limit st place s names used)
-proved_in_order limit st id xs used all a named_so proved place s names proof numbered =
-    let p = proved_with limit st id xs used all a named_so.each proved place s names proof numbered in
-    (p.0, record { rising = named_so.rising; each = p.1 })
-
 -- they have run, and left something else
 pub wrong_end : (limit : ℕ) (st : List Sentence) (id own : ℕ) (t : Sentence) (xs : List (Move ℕ)) (stack kept : List (List ℕ)) (count : ℕ) (numbers : List ℕ) (rule : ProofRule) (at : ℕ) → OneNumber
     → IsNumbered st id own t → AreItsSymbols (record { statements = st; place = own }) numbers → HasRun limit st own xs stack kept count → (at ≡ count + 1) × EndsWrong rule stack numbers
@@ -166,7 +158,13 @@ seen_moves same = sym (ap (λ (v : ReadSteps). v.moves) same)
 pub seen_limit : {a b : ReadSteps} → a ≡ b → limit_of a.profile ≡ limit_of b.profile
 seen_limit same = ap (λ (v : ReadSteps). limit_of v.profile) same
 
--- the moves of the list are those of the proof
-pub same_moves : (st : List Sentence) (xs : List (Move ℕ)) (given held : List NumberedMove) (names : List (Move (List ℕ))) → given ≡ held → xs ≡ moves_in held
-    → AreNumberedMoves st xs names → AreNumberedMoves st (moves_in given) names
-same_moves st xs given held names is view numbered = subst (λ l. AreNumberedMoves st l names) (view ∙ ap moves_in (sym is)) numbered
+-- the moves of the lists are those of the proof
+pub held_moves : (xs : List (Move ℕ)) (entries held : List LabelId) (codes said : List Code) → entries ≡ held → codes ≡ said → xs ≡ moves_of held said → xs ≡ moves_of entries codes
+held_moves xs entries held codes said same_entries same_codes view = rw (same_entries, same_codes) view
+
+-- what is proved, with the assertions of the tree each once, in order
+pub proved_in_order : (limit : ℕ) (st : List Sentence) (id : ℕ) (xs : List (Move ℕ)) (ids used : List ℕ) → DoRise used → ((k : ℕ) → Contains used k ↔ Contains ids k)
+    → OfMoves st id xs (λ place s names. ProvesUsingNumbers limit st place s names ids) → OfMoves st id xs (λ place s names. ProvesUsing limit st place s names used)
+proved_in_order limit st id xs ids used rising same proved place s names proof numbered =
+    let p = proved place s names proof numbered in
+    (p.0, record { rising = rising; each = λ k. ((λ h. (p.1 k).0 ((same k).0 h)), λ h. (same k).1 ((p.1 k).1 h)) })

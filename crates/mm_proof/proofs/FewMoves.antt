@@ -16,13 +16,14 @@ use Rattle.mm_frame.specs.Form.{AllFormed}
 use Rattle.mm_frame.proofs.Meant.{allformed_front}
 use Rattle.mm_frame.proofs.ReadLaws.{label_named}
 use Rattle.mm_proof.specs.declared.fault.ProofRule.TheVariants.{P2}
-use Rattle.mm_proof.specs.declared.moves.NumberedMove.{NumberedMove}
+use Rattle.mm_frame.specs.declared.number.LabelId.{LabelId}
 use Rattle.mm_proof.specs.Moves.{Move, name}
 use Rattle.mm_proof.specs.Tokens.{Says, AreLabels, SayMoves, opening_token, closing_token}
 use Rattle.mm_proof.specs.Proof.{IsWhole}
 use Rattle.mm_proof.specs.Parsed.{SaySteps}
 use Rattle.mm_proof.specs.Steps.{IsNumberedMove}
-use Rattle.mm_proof.specs.Plain.{move_in, moves_in}
+use Rattle.mm_proof.specs.Plain.{ids_in}
+use Rattle.mm_proof.specs.Mirror.CodeSteps.{code_move, moves_of}
 
 -- a piece of text that says a code has a letter
 piece_letters : (piece : List ℕ) (code : Code) → letter.SaysCode piece code → 1 ≤ length piece
@@ -76,14 +77,14 @@ said_moves before s tokens moves formed whole (inr c) =
     let tail = sum_by-append length (closing_token ∷ []) c.letters in
     omega (arith, most, long, text, ap (sum_by length) c.parts.whole, head, tail)
 
--- the moves that tokens say, as the code holds them, are as many as bytes at most
-pub moves_bytes : (st : List Sentence) (place : ℕ) (s : Sentence) (tokens : List (List ℕ))
-    (held : List NumberedMove) → AllFormed st → SaySteps st place s tokens (moves_in held)
-    → length held ≤ sum_by length tokens
-moves_bytes st place s tokens held formed says =
+-- the codes that say the moves of tokens are as many as bytes at most
+pub codes_bytes : (st : List Sentence) (place : ℕ) (s : Sentence) (tokens : List (List ℕ))
+    (entries : List LabelId) (codes : List Code) → AllFormed st
+    → SaySteps st place s tokens (moves_of entries codes) → length codes ≤ sum_by length tokens
+codes_bytes st place s tokens entries codes formed says =
     omega (
       arith,
       said_moves (take place st) s tokens says.1 (allformed_front st place formed) says.0 says.2,
-      AllZip-long (IsNumberedMove st) (moves_in held) says.1 says.3,
-      length-map held move_in,
+      AllZip-long (IsNumberedMove st) (moves_of entries codes) says.1 says.3,
+      length-map codes (code_move (ids_in entries)),
     )

@@ -1,18 +1,18 @@
 -- The first rule that a move breaks, from what a judge of it finds one after the other.
-use Rattle.std.proofs.Common.{◌≡◌, ℕ, ◌+◌, ◌<◌, ◌≤◌, List, [], ◌++◌, length, take, Some, inr, refl, ◌∙◌, arith}
+use Rattle.std.proofs.Common.{◌≡◌, ℕ, ◌+◌, ◌<◌, List, ◌++◌, take, Some, inr, ◌∙◌, arith}
 use Rattle.std.proofs.lemmas.List.Sums.{sum_by-append}
 use Rattle.std.specs.Prelude.{cond}
 use Rattle.mm_frame.specs.Sentence.{Sentence}
 use Rattle.mm_frame.specs.Frame.{IsMandatoryPair}
 use Rattle.mm_frame.specs.Rules.{AllMeant}
 use Rattle.mm_proof.specs.declared.fault.ProofRule.{ProofRule}
-use Rattle.mm_proof.specs.declared.fault.ProofRule.TheVariants.{P6, P7, P8, P9, P10, P11, P12, L1}
+use Rattle.mm_proof.specs.declared.fault.ProofRule.TheVariants.{P8, P9, P10, P11, P12, L1}
 use Rattle.mm_proof.specs.Tree.{ShareNoVariable}
-use Rattle.mm_proof.specs.Moves.{Move, name, again, mark, is_step, steps_in}
+use Rattle.mm_proof.specs.Moves.{Move, name, is_step, steps_in}
 use Rattle.mm_proof.specs.Proof.{proof_rank, MeetsHypotheses, BreaksStep, FirstAtMove, Passed, BreaksEnd, IsMovesFault}
 use Rattle.mm_proof.specs.Mirror.CodeVerify.{EachEntry, IsRightCode, IsEqual}
 use Rattle.mm_proof.proofs.OneStep.{StepTo, agree, meets_enough, same_substituted}
-use Rattle.mm_proof.proofs.Judged.{limit_first, only_P6, only_P7}
+use Rattle.mm_proof.proofs.Judged.{limit_first}
 
 -- ---- what a step meets is in order
 
@@ -56,14 +56,6 @@ below Fits before stack label m all rule last codes equal share other less b = b
 pub first_L1 : (Fits : List (List ℕ) → Type 0) (before : List Sentence) (stack kept : List (List (List ℕ))) (label : List ℕ) (rest : List (List (List ℕ))) (e : List (List ℕ)) → AllMeant before
     → ¬ (Fits e) → StepTo before stack label rest e → FirstAtMove Fits L1 before stack kept (name label)
 first_L1 Fits before stack kept label rest e all over step = let f = limit_first Fits before stack label rest e all over step in record { broken = f.0; first = f.1 }
-
--- a tag of nothing that is kept
-pub first_P6 : (Fits : List (List ℕ) → Type 0) (before : List Sentence) (stack kept : List (List (List ℕ))) (tag : ℕ) → length kept ≤ tag → FirstAtMove Fits P6 before stack kept (again tag)
-first_P6 Fits before stack kept tag over = record { broken = (refl, over); first = only_P6 Fits before stack kept tag }
-
--- a mark on an empty stack
-pub first_P7 : (Fits : List (List ℕ) → Type 0) (before : List Sentence) (kept : List (List (List ℕ))) → FirstAtMove Fits P7 before [] kept mark
-first_P7 Fits before kept = record { broken = (refl, refl); first = only_P7 Fits before [] kept }
 
 -- ---- the faults
 

@@ -1,16 +1,17 @@
 -- Labels that are new, one after the other.
-use Rattle.std.proofs.Common.{◌≡◌, ℕ, zero, suc, ◌+◌, ◌<◌, ◌≤◌, List, [], ◌∷◌, ◌++◌, length, take, get_or, slice_get, Contains, Bool, true, false, Some, ◌⊎◌, ◌↔◌, inl, inr, ⊎_elim, refl, sym, ap, subst, ◌∙◌, arith}
+use Rattle.std.proofs.Common.{◌≡◌, ℕ, zero, suc, ◌+◌, ◌-◌, ◌<◌, ◌≤◌, List, [], ◌∷◌, ◌++◌, length, take, get_or, slice_get, Contains, Bool, true, false, Option, Some, None, ◌⊎◌, ◌↔◌, inl, inr, ⊎_elim, refl, sym, ap, subst, ◌∙◌, arith}
 use Rattle.std.proofs.lemmas.Option.{same_Some, slice_get_within}
 use Rattle.std.proofs.lemmas.Bool.{cases_lt}
 use Rattle.std.proofs.lemmas.List.{length-map, length-take, map_more, take-map}
 use Rattle.std.proofs.lemmas.List.Elements.{Contains-append_left, Contains-push, Contains-push_cases}
 use Rattle.mm_frame.specs.declared.number.LabelId.{LabelId}
 use Rattle.mm_frame.specs.Sentence.{Sentence}
-use Rattle.mm_proof.specs.declared.moves.NumberedMove.{NumberedMove}
-use Rattle.mm_proof.specs.declared.moves.NumberedMove.TheVariants as code
+use Rattle.mm_code.specs.declared.code.Code.{Code}
+use Rattle.mm_code.specs.declared.code.Code.TheVariants.{Number, Tag}
 use Rattle.mm_proof.specs.Moves.{name, mark}
-use Rattle.mm_proof.specs.Plain.{ids_in, move_in, moves_in}
-use Rattle.mm_proof.proofs.Running.{move_at}
+use Rattle.mm_proof.specs.Plain.{ids_in}
+use Rattle.mm_proof.specs.Mirror.CodeSteps.{code_move, code_moves, move_by}
+use Rattle.mm_proof.proofs.Coded.{code_there}
 use Rattle.mm_proof.specs.Mirror.CodeSharing.{AddsNew}
 use Rattle.mm_proof.specs.Mirror.CodeForm.{AllNew, SomeOld, IsAfterAssertion, AreMarksStrict}
 use Rattle.mm_proof.proofs.Picking.{entry_at}
@@ -104,30 +105,45 @@ new_seen seen hids ids same new j id at = let n = new j id at in ((λ h. n.0 ((s
 pub old_seen : (seen hids ids : List ℕ) → ((x : ℕ) → Contains seen x ↔ Contains hids x) → SomeOld seen ids → SomeOld hids ids
 old_seen seen hids ids same (j, id, at, o) = (j, id, at, ⊎_elim (λ h. inl ((same id).0 h)) (λ t. inr t) o)
 
--- ---- the code's moves
+-- ---- codes
 
-pub move_name : (m : NumberedMove) (id : ℕ) → move_in m ≡ name id → (x : LabelId) × (m ≡ code.Name x)
-move_name (code.Name x) id e = (x, refl)
-move_name m id e = absurd cc
+pub code_mark : (ids : List ℕ) (c : Code) → code_move ids c ≡ mark → c ≡ Tag
+code_mark ids Tag e = refl
+code_mark ids (Number n) e = absurd (entry_moves (slice_get ids (n - 1)) (n - 1 - length ids) e)
+  where
+    entry_moves : (o : Option ℕ) (tag : ℕ) → move_by o tag ≡ mark → ⊥
+    entry_moves (Some id) tag e = cc
+    entry_moves None tag e = cc
 
-pub move_mark : (m : NumberedMove) → move_in m ≡ mark → m ≡ code.Mark
-move_mark code.Mark e = refl
-move_mark m e = absurd cc
+pub code_name : (ids : List ℕ) (c : Code) (id : ℕ) → code_move ids c ≡ name id → (n : ℕ) × (c ≡ Number n) × (slice_get ids (n - 1) ≡ Some id)
+code_name ids Tag id e = absurd cc
+code_name ids (Number n) id e = (n, refl, entry_named (slice_get ids (n - 1)) (n - 1 - length ids) e)
+  where
+    entry_named : (o : Option ℕ) (tag : ℕ) → move_by o tag ≡ name id → o ≡ Some id
+    entry_named (Some k) tag e = cc
+    entry_named None tag e = absurd cc
+
+-- the code before a place, where its move is a step by a label
+pub code_before : (ids : List ℕ) (said : List Code) (place before : ℕ) (d c : Code) (id : ℕ) → place ≡ before + 1 → place < length said → get_or said (place - 1) d ≡ c
+    → slice_get (code_moves ids said) before ≡ Some (name id) → (n : ℕ) × (c ≡ Number n) × (slice_get ids (n - 1) ≡ Some id)
+code_before ids said place before d c id is less here there =
+    let at : place - 1 ≡ before = omega (arith, is) in
+    let moved = same_Some _ (name id) (sym (code_there ids said before d (omega (arith, is, less))) ∙ there) in
+    code_name ids c id (ap (code_move ids) (sym here ∙ ap (λ k. get_or said k d) at) ∙ moved)
 
 -- one mark more
-pub marks_more : (st : List Sentence) (moves : List NumberedMove) (i : ℕ) (d : NumberedMove)
-    → i < length moves
-    → ((k : ℕ) → k < i → slice_get (moves_in moves) k ≡ Some mark → IsAfterAssertion st (moves_in moves) k)
-    → (get_or moves i d ≡ code.Mark → IsAfterAssertion st (moves_in moves) i)
-    → (k : ℕ) → k < i + 1 → slice_get (moves_in moves) k ≡ Some mark → IsAfterAssertion st (moves_in moves) k
-marks_more st moves i d less before here k below at = elim (cases_lt k i) [
+pub marks_more : (st : List Sentence) (ids : List ℕ) (said : List Code) (i : ℕ) (d : Code) → i < length said
+    → ((k : ℕ) → k < i → slice_get (code_moves ids said) k ≡ Some mark → IsAfterAssertion st (code_moves ids said) k)
+    → (get_or said i d ≡ Tag → IsAfterAssertion st (code_moves ids said) i)
+    → (k : ℕ) → k < i + 1 → slice_get (code_moves ids said) k ≡ Some mark → IsAfterAssertion st (code_moves ids said) k
+marks_more st ids said i d less before here k below at = elim (cases_lt k i) [
   | inl l ↦ before k l at
   | inr m ↦
       let same : k ≡ i = omega arith in
-      let marked : move_in (get_or moves i d) ≡ mark = same_Some (move_in (get_or moves i d)) mark (sym (move_at moves i d less) ∙ ap (slice_get (moves_in moves)) (sym same) ∙ at) in
-      subst (IsAfterAssertion st (moves_in moves)) (sym same) (here (move_mark (get_or moves i d) marked))
+      let marked = same_Some (code_move ids (get_or said i d)) mark (sym (code_there ids said i d less) ∙ ap (slice_get (code_moves ids said)) (sym same) ∙ at) in
+      subst (IsAfterAssertion st (code_moves ids said)) (sym same) (here (code_mark ids (get_or said i d) marked))
 ]
 
-pub marks_all : (st : List Sentence) (moves : List NumberedMove) (i : ℕ) → length moves ≤ i
-    → ((k : ℕ) → k < i → slice_get (moves_in moves) k ≡ Some mark → IsAfterAssertion st (moves_in moves) k) → AreMarksStrict st (moves_in moves)
-marks_all st moves i past before k at = before k (omega (arith, slice_get_within (moves_in moves) k mark at, length-map moves move_in)) at
+pub marks_all : (st : List Sentence) (ids : List ℕ) (said : List Code) (i : ℕ) → length said ≤ i
+    → ((k : ℕ) → k < i → slice_get (code_moves ids said) k ≡ Some mark → IsAfterAssertion st (code_moves ids said) k) → AreMarksStrict st (code_moves ids said)
+marks_all st ids said i past before k at = before k (omega (arith, slice_get_within (code_moves ids said) k mark at, length-map said (code_move ids))) at

@@ -107,7 +107,7 @@ pub lists_none : {S : Type 0} (stack kept : S → List (List ℕ)) (first : List
 lists_none stack kept first judged lines tags = record {
   same_lines = refl;
   judged = judged;
-  listed = rw lines (lines_none first.judge.site.now.statements first.judge.site.now.place);
+  listed = rw lines (lines_none first.judge.table.now.site.statements first.judge.table.now.site.place);
   stand = rw tags (λ moves numbered tag step there. absurd cc);
   count = (let a = judged.run.count in omega (arith, ap length lines, a));
   marks = (let a = judged.all in omega (arith, ap length tags, a));
@@ -122,13 +122,13 @@ pub lists_step : {S : Type 0} (stack kept : S → List (List ℕ)) (first old ne
     → new.tags.now.items ≡ old.tags.now.items
     → (let entries = stack new.judge.store.now in
     slice_get entries (length entries - 1) ≡ Some (numbers_in line.expression.items))
-    → (let st = first.judge.site.now.statements in
+    → (let st = first.judge.table.now.site.statements in
     (moves : List (Move (List ℕ))) (move : Move (List ℕ)) → AreNumberedMoves st front moves
     → IsNumberedMove st x move
     → (called : StepName) × IsNameOf st line.name called × IsCalled moves move called)
     → HasListed stack kept first new (front ++ x ∷ [])
 lists_step stack kept first old new front x line was judged is same lines tags last calls =
-    let site = first.judge.site.now in
+    let site = first.judge.table.now.site in
     let now = judged.run.count in
     let before = was.judged.run.count in
     let one = steps_in-append front (x ∷ []) in
@@ -172,7 +172,7 @@ pub lists_mark : {S : Type 0} (stack kept : S → List (List ℕ)) (first old ne
     → new.tags.now.items ≡ old.tags.now.items ++ number ∷ []
     → number ≡ length old.lines.now.items → HasListed stack kept first new (front ++ mark ∷ [])
 lists_mark stack kept first old new front number was judged same lines tags is =
-    let site = first.judge.site.now in
+    let site = first.judge.table.now.site in
     let one = steps_in-append front (mark ∷ []) in
     let now = judged.run.count in
     let before = was.judged.run.count in
@@ -201,7 +201,7 @@ lists_mark stack kept first old new front number was judged same lines tags is =
 -- all moves have run, each step with a line
 pub listed_run : {S : Type 0} (stack kept : S → List (List ℕ)) (first now : Lister S)
     (front : List (Move ℕ)) → HasListed stack kept first now front
-    → let site = first.judge.site.now in
+    → let site = first.judge.table.now.site in
     HasRun site.limit site.statements site.place front (stack now.judge.store.now)
     (kept now.judge.store.now) (length now.lines.now.items)
 listed_run stack kept first now front listed = rw listed.count listed.judged.run
@@ -212,10 +212,10 @@ listed_run stack kept first now front listed = rw listed.count listed.judged.run
 pub name_stands : {S : Type 0} (stack kept : S → List (List ℕ)) (first now : Judge S)
     (front : List (Move ℕ)) (id : ℕ) → HasJudged stack kept first now (front ++ name id ∷ [])
     → (names : List (Move (List ℕ)))
-    × AreNumberedMoves first.site.now.statements (front ++ name id ∷ []) names
+    × AreNumberedMoves first.table.now.site.statements (front ++ name id ∷ []) names
     → 0 < length (stack now.store.now)
 name_stands stack kept first now front id judged named =
-    let site = first.site.now in
+    let site = first.table.now.site in
     let st = site.statements in
     let h = zip_front (IsNumberedMove st) front (name id) named.0 named.1 in
     let deep = name_leaves (IsWithin site.limit) (take site.place st) h.0 h.4.1
@@ -229,10 +229,10 @@ pub tag_stands : {S : Type 0} (stack kept : S → List (List ℕ)) (first old : 
     (now : Judge S) (front : List (Move ℕ)) (tag : ℕ) → HasListed stack kept first old front
     → HasJudged stack kept first.judge now (front ++ again tag ∷ [])
     → (names : List (Move (List ℕ)))
-    × AreNumberedMoves first.judge.site.now.statements (front ++ again tag ∷ []) names
+    × AreNumberedMoves first.judge.table.now.site.statements (front ++ again tag ∷ []) names
     → (tag < length old.tags.now.items) × (0 < length (stack now.store.now))
 tag_stands stack kept first old now front tag was judged named =
-    let site = first.judge.site.now in
+    let site = first.judge.table.now.site in
     let st = site.statements in
     let h = zip_front (IsNumberedMove st) front (again tag) named.0 named.1 in
     let left = again_leaves (IsWithin site.limit) (take site.place st) h.0 tag
@@ -248,7 +248,7 @@ tag_stands stack kept first old now front tag was judged named =
         left.0,
         within,
         was.marks,
-        judged.marks,
+        judged.tags,
         one,
         long,
         was.judged.all,

@@ -1,64 +1,25 @@
 -- The labels that moves name, by their numbers.
-use Rattle.std.proofs.Common.{◌≡◌, ℕ, zero, suc, ◌+◌, ◌<◌, ◌≤◌, List, [], ◌∷◌, ◌++◌, length, take, slice_get, get_or, set, eqb, Contains, Bool, true, false, IsTrue, Some, ◌⊎◌, inl, inr, ⊎_elim, sym, ap, subst, refl, ◌∙◌, arith}
-use Rattle.std.specs.List.{AllZip}
+use Rattle.std.proofs.Common.{◌≡◌, ℕ, zero, suc, ◌+◌, ◌<◌, ◌≤◌, List, [], ◌∷◌, ◌++◌, length, slice_get, get_or, set, eqb, Contains, Bool, true, false, IsTrue, Some, ◌⊎◌, inl, inr, ⊎_elim, sym, ap, subst, refl, ◌∙◌, arith}
+use Rattle.std.specs.List.{AllZip, AllByRecursion}
 use Rattle.std.proofs.lemmas.Bool.{false≢true, cases_lt}
 use Rattle.std.proofs.lemmas.Bool.Decides.{Decides-eqb}
 use Rattle.std.proofs.lemmas.Option.{same_Some, none-some, slice_get_within, slice_get-get_or, slice_get-map}
 use Rattle.std.proofs.lemmas.List.{map-append, length-map, get_or-set_same, get_or-set_other}
 use Rattle.std.proofs.lemmas.List.Elements.{Contains-push, Contains-push_cases, Contains-append_left}
-use Rattle.mm_text.proofs.Lists.{zip_left, zip_right, get_kept, get_pushed, pushed_cases}
+use Rattle.mm_text.proofs.Lists.{all_at, zip_left, zip_right, get_kept, get_pushed, pushed_cases}
 use Rattle.mm_frame.specs.Sentence.{Sentence}
 use Rattle.mm_frame.specs.declared.number.LabelId.{LabelId}
-use Rattle.mm_proof.specs.declared.moves.NumberedMove.{NumberedMove}
-use Rattle.mm_proof.specs.declared.moves.NumberedMove.TheVariants as code
 use Rattle.mm_proof.specs.Moves.{Move, name}
-use Rattle.mm_proof.specs.Plain.{ids_in, move_in, moves_in}
-use Rattle.mm_proof.specs.Mirror.CodeRun.{ArePicked, AreMarked, AreNamedNumbers}
+use Rattle.mm_proof.specs.Plain.{ids_in}
+use Rattle.mm_proof.specs.Mirror.CodeRun.{MayBeMade, AreMarked, AreNamedNumbers}
 use Rattle.mm_proof.specs.declared.call.Call.{Call}
-use Rattle.mm_proof.specs.Mirror.CodeApply.{IsCallOf, IsOfAssertion}
+use Rattle.mm_proof.specs.Mirror.CodeApply.{MayBeCalled, IsOfAssertion}
 use Rattle.mm_proof.proofs.Calls.{called_assertion, assertion_called}
-use Rattle.mm_proof.proofs.Running.{front_more}
 
 -- ---- one more at the end of a list
 
 get_push : {X : Type 0} (xs : List X) (x y : X) (i : ℕ) → slice_get (xs ++ x ∷ []) i ≡ Some y → (slice_get xs i ≡ Some y) ⊎ (x ≡ y)
 get_push xs x y i e = ⊎_elim inl (λ last. inr last.1) (pushed_cases xs x i y e)
-
-no_name : (m : NumberedMove) → ((id : LabelId) → m ≡ code.Name id → ⊥) → (n : ℕ) → move_in m ≡ name n → ⊥
-no_name (code.Name id) not n e = not id refl
-no_name m not n e = absurd cc
-
--- ---- one move more
-
-pub picked_more : (front : List (Move ℕ)) (ids : List LabelId) (id : LabelId) → ArePicked front (ids_in ids) → ArePicked (front ++ name id.0 ∷ []) (ids_in (ids ++ id ∷ []))
-picked_more front ids id old n = let more = map-append (λ (i : LabelId). i.0) ids (id ∷ []) in (
-  λ h. elim (Contains-push_cases (ids_in ids) id.0 n (rw more at h)) [
-    | inl c ↦ let o = (old n).0 c in (o.0, get_kept front (name id.0 ∷ []) o.0 (name n) o.1)
-    | inr same ↦ (length front, get_pushed front (name id.0) ∙ ap (λ k. Some (name k)) same)
-  ],
-  λ h. rw more (elim (get_push front (name id.0) (name n) h.0 h.1) [
-    | inl there ↦ Contains-append_left (ids_in ids) (id.0 ∷ []) n ((old n).1 (h.0, there))
-    | inr same ↦ let e : id.0 ≡ n = cc in rw (← e) (Contains-push (ids_in ids) id.0)
-  ]),
-)
-
--- no label
-pub picked_other : (front : List (Move ℕ)) (ids : List LabelId) (m : NumberedMove) → ((id : LabelId) → m ≡ code.Name id → ⊥) → ArePicked front (ids_in ids)
-    → ArePicked (front ++ move_in m ∷ []) (ids_in ids)
-picked_other front ids m not old n = (
-  (λ c. let o = (old n).0 c in (o.0, get_kept front (move_in m ∷ []) o.0 (name n) o.1)),
-  λ h. ⊎_elim (λ before. (old n).1 (h.0, before)) (λ same. absurd (no_name m not n same)) (get_push front (move_in m) (name n) h.0 h.1),
-)
-
--- ---- the loop over moves
-
-pub picked_named : (moves : List NumberedMove) (i : ℕ) (d : NumberedMove) (id : LabelId) (ids : List LabelId) → i < length moves → get_or moves i d ≡ code.Name id
-    → ArePicked (take i (moves_in moves)) (ids_in ids) → ArePicked (take (i + 1) (moves_in moves)) (ids_in (ids ++ id ∷ []))
-picked_named moves i d id ids less is old = rw (front_more moves i d less, is) (picked_more (take i (moves_in moves)) ids id old)
-
-pub picked_unnamed : (moves : List NumberedMove) (i : ℕ) (d : NumberedMove) (ids : List LabelId) → i < length moves → ((id : LabelId) → get_or moves i d ≡ code.Name id → ⊥)
-    → ArePicked (take i (moves_in moves)) (ids_in ids) → ArePicked (take (i + 1) (moves_in moves)) (ids_in ids)
-picked_unnamed moves i d ids less not old = rw (front_more moves i d less) (picked_other (take i (moves_in moves)) ids (get_or moves i d) not old)
 
 -- ---- marks
 
@@ -110,10 +71,6 @@ abbrev pub AreFirst : (ℕ → Type 0) → List LabelId → ℕ → List LabelId
 AreFirst P entries count ids =
     (n : ℕ) → (Contains (ids_in ids) n → (place : ℕ) × (slice_get (ids_in entries) place ≡ Some n) × P place)
     × ((place : ℕ) → place < count → slice_get (ids_in entries) place ≡ Some n → P place → Contains (ids_in ids) n)
-
--- the entry there is marked
-abbrev pub IsMarkedAt : List Bool → ℕ → Type 0
-IsMarkedAt marks place = IsTrue (get_or marks place false)
 
 -- it is marked, and stands for an assertion
 abbrev pub IsCalledAt : List Call → List Bool → ℕ → Type 0
@@ -167,34 +124,29 @@ there_called calls marks place d less (marked, call, there, is) =
 entry_within : (entries : List LabelId) (place n : ℕ) → slice_get (ids_in entries) place ≡ Some n → place < length entries
 entry_within entries place n e = omega (arith, slice_get_within (ids_in entries) place n e, length-map entries (λ (i : LabelId). i.0))
 
-pub first_all : (entries : List LabelId) (marks : List Bool) (count : ℕ) (ids : List LabelId) (moves : List (Move ℕ)) → length entries ≤ count
-    → AreFirst (IsMarkedAt marks) entries count ids → AreMarked (ids_in entries) moves marks → ArePicked moves (ids_in ids)
-first_all entries marks count ids moves past all marked n = (
-  λ c.
-      let o = (all n).0 c in
-      let m = marked.named o.0 o.2 in
-      (m.0, m.3 ∙ ap (λ k. Some (name k)) (same_Some m.1 n (sym m.2 ∙ o.1))),
-  λ h.
-      let o = marked.marked h.0 n h.1 in
-      (all n).1 o.0 (omega (arith, entry_within entries o.0 n o.1, past)) o.1 o.2,
-)
+-- what stands at the place of a number
+pub entry_is : (entries : List LabelId) (place n : ℕ) (d : LabelId) → slice_get (ids_in entries) place ≡ Some n → (place < length entries) × ((get_or entries place d).0 ≡ n)
+entry_is entries place n d there =
+    let less = entry_within entries place n there in (less, same_Some _ n (sym (entry_at entries place d less) ∙ there))
 
 -- where each call is that of its entry, these are the assertions that the moves name
 pub called_all : (st : List Sentence) (at : ℕ) (entries : List LabelId) (calls : List Call) (marks : List Bool) (count : ℕ) (ids : List LabelId) (moves : List (Move ℕ)) → length entries ≤ count
-    → AreFirst (IsCalledAt calls marks) entries count ids → AllZip (IsCallOf st at) (ids_in entries) calls → AreMarked (ids_in entries) moves marks → AreNamedNumbers st moves (ids_in ids)
-called_all st at entries calls marks count ids moves past all each marked n = (
+    → AreFirst (IsCalledAt calls marks) entries count ids → AllZip (MayBeCalled st at) (ids_in entries) calls → AllByRecursion (MayBeMade st at) moves → AreMarked (ids_in entries) moves marks
+    → AreNamedNumbers st moves (ids_in ids)
+called_all st at entries calls marks count ids moves past all each made marked n = (
   λ c.
       let o = (all n).0 c in
       let m = marked.named o.0 o.2.0 in
-      let call = zip_right (IsCallOf st at) (ids_in entries) calls o.0 o.2.1 each o.2.2 in
-      let same : call.0 ≡ n = same_Some call.0 n (sym call.1 ∙ o.1) in (
-        (m.0, m.3 ∙ ap (λ k. Some (name k)) (same_Some m.1 n (sym m.2 ∙ o.1))),
-        called_assertion st at n o.2.1 (subst (λ k. IsCallOf st at k o.2.1) same call.2) o.2.3,
+      let call = zip_right (MayBeCalled st at) (ids_in entries) calls o.0 o.2.1 each o.2.2 in
+      let same : call.0 ≡ n = same_Some call.0 n (sym call.1 ∙ o.1) in
+      let there = m.3 ∙ ap (λ k. Some (name k)) (same_Some m.1 n (sym m.2 ∙ o.1)) in
+      let used = all_at (MayBeMade st at) moves m.0 (name n) made there in (
+        (m.0, there),
+        called_assertion st at n o.2.1 (subst (λ k. MayBeCalled st at k o.2.1) same call.2 used.0 used.1) o.2.3,
       ),
   λ h.
       let o = marked.marked h.0.0 n h.0.1 in
-      let call = zip_left (IsCallOf st at) (ids_in entries) calls o.0 n each o.1 in
-      (all n).1 o.0 (omega (arith, entry_within entries o.0 n o.1, past)) o.1 (o.2, call.0, call.1, assertion_called st at n call.0 call.2 h.1),
+      let call = zip_left (MayBeCalled st at) (ids_in entries) calls o.0 n each o.1 in
+      let used = all_at (MayBeMade st at) moves h.0.0 (name n) made h.0.1 in
+      (all n).1 o.0 (omega (arith, entry_within entries o.0 n o.1, past)) o.1 (o.2, call.0, call.1, assertion_called st at n call.0 (call.2 used.0 used.1) h.1),
 )
-
-pub ruleset mark_steps = (marked_more, marked_other, entry_at)

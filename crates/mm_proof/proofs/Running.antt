@@ -1,43 +1,28 @@
 -- The moves of a proof, one after the other.
-use Rattle.std.proofs.lemmas.Option.{slice_get-map, slice_get-get_or}
-use Rattle.std.proofs.Common.{◌≡◌, ℕ, zero, suc, ◌+◌, ◌<◌, ◌≤◌, ◌-◌, List, [], ◌∷◌, ◌++◌, length, Result, Err, take, drop, slice_get, get_or, Some, cond, refl, sym, ap, subst, ◌∙◌, arith}
+use Rattle.std.proofs.Common.{◌≡◌, ℕ, zero, suc, ◌+◌, ◌<◌, ◌-◌, List, [], ◌∷◌, ◌++◌, length, Result, Err, take, drop, slice_get, Some, cond, refl, sym, ap, subst, ◌∙◌, arith}
 use Rattle.std.specs.Result.{IsErrAnd}
 use Rattle.std.proofs.lemmas.Result.{err_from_is_err_and}
-use Rattle.std.proofs.lemmas.List.{map_more, take-map, map-append, length-map, length-append}
+use Rattle.std.proofs.lemmas.List.{map-append, length-append}
 use Rattle.mm_text.proofs.Lists.{all_push, all_at, all_back}
 use Rattle.mm_text.proofs.Lists.{zip_left, zip_front, split_at, zip_take}
 use Rattle.mm_frame.specs.Sentence.{Sentence}
 use Rattle.mm_proof.specs.declared.fault.ProofFault.{ProofFault}
 use Rattle.mm_proof.specs.declared.fault.ProofRule.{ProofRule}
-use Rattle.mm_proof.specs.declared.fault.ProofRule.TheVariants.{P6, P7}
-use Rattle.mm_proof.specs.declared.moves.NumberedMove.{NumberedMove}
 use Rattle.mm_proof.specs.Moves.{Move, name, again, mark, is_step, steps_in}
 use Rattle.mm_proof.specs.Proof.{IsWithin, Passed, FirstAtMove, IsMoveFault}
 use Rattle.mm_proof.specs.Steps.{IsNumberedMove, AreNumberedMoves}
-use Rattle.mm_proof.specs.Plain.{move_in, moves_in}
 use Rattle.mm_proof.specs.Mirror.CodeVerify.{AreDeclaredSymbols, AreStackEntries, names_at, all_names_at}
-use Rattle.mm_proof.specs.Mirror.CodeRun.{CarriesOn, StopsAt, HasRun}
+use Rattle.mm_proof.specs.Mirror.CodeRun.{CarriesOn, StopsAt, HasRun, AreMarked}
 use Rattle.mm_proof.specs.Mirror.Builders.{AreFirst}
 use Rattle.mm_proof.specs.Mirror.Sites.{ProofSite}
 use Rattle.mm_proof.specs.Mirror.Judges.{HasJudged, BreaksRun}
-use Rattle.mm_proof.specs.Mirror.Machines.{Running, Allowing, GoesOn}
 use Rattle.mm_proof.specs.declared.judge.Judge.{Judge}
 use Rattle.mm_proof.specs.declared.fault.ProofFault.TheVariants as faults
 use Rattle.mm_proof.specs.Answer.{OnRule}
 use Rattle.mm_proof.proofs.Forward.{passed_none, passed_again, passed_mark}
-use Rattle.mm_proof.proofs.Firsts.{first_P6, first_P7, steps_in-append}
+use Rattle.mm_proof.proofs.Firsts.{steps_in-append}
 
 -- ---- moves by numbers and by names
-
--- a front with one move more
-pub front_more : (moves : List NumberedMove) (i : ℕ) (d : NumberedMove) → i < length moves
-    → take (i + 1) (moves_in moves) ≡ take i (moves_in moves) ++ move_in (get_or moves i d) ∷ []
-front_more moves i d less =
-    rw (take-map move_in (i + 1) moves, map_more move_in moves i d less, take-map move_in i moves)
-
--- the move at a place
-pub move_at : (moves : List NumberedMove) (i : ℕ) (d : NumberedMove) → i < length moves → slice_get (moves_in moves) i ≡ Some (move_in (get_or moves i d))
-move_at moves i d less = rw (slice_get-map, slice_get-get_or moves i d less)
 
 -- moves up to a place, with the one there
 pub first_up_to : (moves : List (Move ℕ)) (i : ℕ) (x : Move ℕ) → slice_get moves i ≡ Some x
@@ -157,66 +142,53 @@ pub stops_first : (limit : ℕ) (st : List Sentence) (place id : ℕ) (stack kep
 stops_first limit st place id stack kept rule stops move n =
     rw n.4 (stops n.1 (all_names_at st kept) (n.0, n.1, n.2, n.3, refl))
 
--- a tag of nothing kept
-pub again_first : (limit : ℕ) (st : List Sentence) (place tag : ℕ) (stack kept : List (List ℕ)) (rule : ProofRule) → rule ≡ P6 → length kept ≤ tag
-    → (move : Move (List ℕ)) → IsNumberedMove st (again tag) move → FirstAtMove (IsWithin limit) rule (take place st) (all_names_at st stack) (all_names_at st kept) move
-again_first limit st place tag stack kept rule is over move n =
-    rw (is, n) (first_P6 (IsWithin limit) (take place st) (all_names_at st stack) (all_names_at st kept) tag (omega (arith, length-map kept (names_at st))))
-
--- a mark on nothing
-pub mark_first : (limit : ℕ) (st : List Sentence) (place : ℕ) (stack kept : List (List ℕ)) (rule : ProofRule) → rule ≡ P7 → stack ≡ []
-    → (move : Move (List ℕ)) → IsNumberedMove st mark move → FirstAtMove (IsWithin limit) rule (take place st) (all_names_at st stack) (all_names_at st kept) move
-mark_first limit st place stack kept rule is empty move n = rw (is, n, empty) (first_P7 (IsWithin limit) (take place st) (all_names_at st kept))
-
 -- a fault that is handed on is the one of the call
 pub refused : {X : Type 0} (r : Result X ProofFault) (e f : ProofFault) → IsErrAnd r (λ x. x ≡ e) → r ≡ Err f → e ≡ f
 refused {X} r e f from is =
     let p = err_from_is_err_and r from in
     let same : ◌≡◌ {A = Result X ProofFault} (Err p.0) (Err f) = sym p.1 ∙ is in sym p.2 ∙ cc
 
--- ---- a machine
-
--- the machine goes on by the move at a place
-pub goes_on : {M : Type 0} (has_run : Running M) (may_take : Allowing M) (first old new : M)
-    (moves : List NumberedMove) (i : ℕ) (d : NumberedMove) (x : Move ℕ) → i < length moves
-    → move_in (get_or moves i d) ≡ x
-    → ((place : ℕ) (move : Move ℕ) → slice_get (moves_in moves) place ≡ Some move
-    → may_take first (take place (moves_in moves)) move)
-    → has_run first old (take i (moves_in moves)) → GoesOn has_run may_take old new x
-    → has_run first new (take (i + 1) (moves_in moves))
-goes_on has_run may_take first old new moves i d x less is allowed ran goes =
-    let there = move_at moves i d less ∙ ap Some is in
-    rw (front_more moves i d less, is) (goes first _ (allowed i x there) ran)
-
 -- ---- a judge
 
 -- before any move
 pub judged_none : {S : Type 0} (stack kept : S → List (List ℕ)) (first : Judge S)
     → stack first.store.now ≡ [] → kept first.store.now ≡ [] → first.steps ≡ 0 → first.kept ≡ 0
+    → length first.marks.now.items ≡ length first.table.now.ids
+    → AreMarked first.table.now.ids [] first.marks.now.items
     → HasJudged stack kept first first []
-judged_none stack kept first empty none_kept steps marks = record {
+judged_none stack kept first empty none_kept steps tags long marked = record {
   same_store = refl;
-  same_site = refl;
-  run = let site = first.site.now in
+  same_marks = refl;
+  same_table = refl;
+  run = let site = first.table.now.site in
       rw steps (run_none site.limit site.statements site.place _ _ empty none_kept);
-  marks = marks ∙ sym (ap length none_kept);
-  all = omega (arith, steps, marks);
+  tags = tags ∙ sym (ap length none_kept);
+  long = long;
+  marked = marked;
+  all = omega (arith, steps, tags);
 }
 
 -- one move more
 pub judged_more : {S : Type 0} (stack kept : S → List (List ℕ)) (first old new : Judge S)
     (front : List (Move ℕ)) (x : Move ℕ) → HasJudged stack kept first old front
-    → new.store.ghost_name ≡ old.store.ghost_name → new.site ≡ old.site
-    → (let site = first.site.now in
+    → new.store.ghost_name ≡ old.store.ghost_name → new.marks.ghost_name ≡ old.marks.ghost_name
+    → new.table ≡ old.table
+    → (let site = first.table.now.site in
     HasRun site.limit site.statements site.place (front ++ x ∷ []) (stack new.store.now)
     (kept new.store.now) new.steps)
-    → new.kept ≡ length (kept new.store.now) → new.steps + new.kept ≡ old.steps + old.kept + 1
+    → new.kept ≡ length (kept new.store.now)
+    → length new.marks.now.items ≡ length first.table.now.ids
+    → AreMarked first.table.now.ids (front ++ x ∷ []) new.marks.now.items
+    → new.steps + new.kept ≡ old.steps + old.kept + 1
     → HasJudged stack kept first new (front ++ x ∷ [])
-judged_more stack kept first old new front x was store site run marks all = record {
+judged_more stack kept first old new front x was store marks table run tags long marked all = record {
   same_store = store ∙ was.same_store;
-  same_site = site ∙ was.same_site;
+  same_marks = marks ∙ was.same_marks;
+  same_table = table ∙ was.same_table;
   run = run;
-  marks = marks;
+  tags = tags;
+  long = long;
+  marked = marked;
   all = omega (arith, was.all, all, length-append front (x ∷ []));
 }
 

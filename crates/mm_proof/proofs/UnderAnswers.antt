@@ -1,5 +1,5 @@
 -- The verdict under a profile is one.
-use Rattle.std.proofs.Common.{◌≡◌, ℕ, List, take, Result, Ok, Err, inl, inr, refl, sym, subst, ◌∙◌}
+use Rattle.std.proofs.Common.{◌≡◌, ℕ, List, take, Result, Ok, Err, inl, inr, refl, sym, ◌∙◌}
 use Rattle.std.specs.Result.{IfOk, IfErr, IsOkUnless}
 use Rattle.mm_frame.specs.Sentence.{Sentence}
 use Rattle.mm_frame.specs.Rules.{AllMeant}
@@ -8,7 +8,6 @@ use Rattle.mm_proof.specs.declared.fault.ProofRule.{ProofRule}
 use Rattle.mm_proof.specs.declared.fault.ProofFault.{ProofFault}
 use Rattle.mm_proof.specs.declared.fault.ProofFault.TheVariants.{Rule, Memory}
 use Rattle.mm_proof.specs.declared.profile.Profile.{Profile}
-use Rattle.mm_proof.specs.declared.profile.Profile.TheVariants.{Lenient}
 use Rattle.mm_proof.specs.declared.prover.Proved.{Proved}
 use Rattle.mm_proof.specs.declared.prover.Proved.TheVariants.{Incomplete}
 use Rattle.mm_proof.specs.Answer.{OnRule, IsUnlessMemory}
@@ -22,9 +21,6 @@ use Rattle.mm_proof.proofs.Verdicts.{proved_no_fault, one_fault, Same}
 use Rattle.mm_proof.proofs.KnownFronts.{allowed_no_fault, one_front_fault}
 
 -- ---- what the lenient profile adds
-
-pub lenient_form : (profile : Profile) (before : List Sentence) (s : Sentence) (tokens : List (List ℕ)) → profile ≡ Lenient → HasFormOf profile before s tokens
-lenient_form profile before s tokens is = subst (λ (p : Profile). HasFormOf p before s tokens) (sym is) tt
 
 pub fault_under : (profile : Profile) (before : List Sentence) (s : Sentence) (tokens : List (List ℕ)) (rule : ProofRule) (step : ℕ) → HasFormOf profile before s tokens
     → IsFault (IsWithin (limit_of profile)) before s tokens rule step → IsFaultUnder profile before s tokens rule step

@@ -1,17 +1,15 @@
 -- What is read as a proof at its own place, wherever the statement with its number stands.
-use Rattle.std.proofs.Common.{◌≡◌, ℕ, ◌≤◌, List, [], ◌∷◌, length, take, drop, get_or, slice_get, inr, sym, ap, subst, ◌∙◌, arith}
+use Rattle.std.proofs.Common.{◌≡◌, ℕ, List, take, slice_get, inr, sym, ap, subst, ◌∙◌}
 use Rattle.std.specs.List.{AllByRecursion}
 use Rattle.std.proofs.lemmas.Option.{same_Some}
-use Rattle.mm_text.specs.declared.token.Token.{Token}
 use Rattle.mm_frame.specs.Sentence.{Sentence}
 use Rattle.mm_frame.specs.Numbers.{IsNumbered}
 use Rattle.mm_proof.specs.declared.fault.ProofRule.{ProofRule}
 use Rattle.mm_proof.specs.Moves.{Move}
 use Rattle.mm_proof.specs.Proof.{IsWhole, IsWholeFault}
-use Rattle.mm_proof.specs.Verified.{OfMoves, ProvesUsingNumbers, ProvesUsing, FailsWith, TokensProve, TokensFail}
+use Rattle.mm_proof.specs.Verified.{OfMoves, ProvesUsingNumbers, FailsWith, TokensProve, TokensFail}
 use Rattle.mm_proof.specs.Steps.{AreSteps, IsProofNumber, IsUsableMove}
 use Rattle.mm_proof.specs.Parsed.{OfProof, SaySteps}
-use Rattle.mm_proof.specs.Plain.{token_texts}
 use Rattle.mm_proof.specs.Mirror.CodeSteps.{IsReading}
 use Rattle.mm_proof.proofs.Numbered.{one_place}
 
@@ -51,18 +49,7 @@ tokens_prove limit st id tokens steps used says proves place s proof =
     let p = proves place s said.1 proof said.3 in
     record { proof = record { whole = said.0; moves = said.1; said = said.2; proves = p.0 }; all = p.1 }
 
--- what is said of the assertions in order is said of them in any order
-pub in_any_order : (limit : ℕ) (st : List Sentence) (id : ℕ) (steps : List (Move ℕ)) (used : List ℕ) → OfMoves st id steps (λ place s moves. ProvesUsing limit st place s moves used)
-    → OfMoves st id steps (λ place s moves. ProvesUsingNumbers limit st place s moves used)
-in_any_order limit st id steps used proves place s moves proof numbered = let p = proves place s moves proof numbered in (p.0, p.1.each)
-
 pub tokens_fail : (limit : ℕ) (st : List Sentence) (id : ℕ) (tokens : List (List ℕ)) (steps : List (Move ℕ)) (rule : ProofRule) (step : ℕ) → OfProof st id (λ place s. SaySteps st place s tokens steps)
     → OfMoves st id steps (λ place s moves. FailsWith limit st place s moves rule step) → OfProof st id (λ place s. TokensFail limit (take place st) s tokens rule step)
 tokens_fail limit st id tokens steps rule step says fails place s proof =
     let said = says place s proof in inr (said.0, said.1, said.2, fails place s said.1 proof said.3)
-
--- ---- the first of the tokens
-
-pub first_text : (tokens : List Token) (d : Token) (text : List ℕ) → 1 ≤ length tokens → (get_or tokens 0 d).text.now ≡ text → token_texts tokens ≡ text ∷ token_texts (drop 1 tokens)
-first_text [] d text some is = absurd (omega arith)
-first_text (t ∷ tokens) d text some is = ap (λ l. l ∷ token_texts tokens) is

@@ -1,20 +1,8 @@
--- Moves, tokens and labels without where they lie in memory.
+-- Tokens and labels without where they lie in memory.
 use Rattle.std.specs.Prelude.{ℕ, List, map}
 use Rattle.mm_text.specs.declared.token.Token.{Token}
 use Rattle.mm_frame.specs.declared.hypothesis.Hypothesis.{Hypothesis}
 use Rattle.mm_frame.specs.declared.number.LabelId.{LabelId}
-use Rattle.mm_proof.specs.Moves.{Move, name, again, mark}
-use Rattle.mm_proof.specs.declared.moves.NumberedMove.{NumberedMove}
-use Rattle.mm_proof.specs.declared.moves.NumberedMove.TheVariants as code
-
--- the move that the code's move stands for
-abbrev pub move_in : NumberedMove → Move ℕ
-move_in (code.Name id) = name id.0
-move_in (code.Again tag) = again tag
-move_in code.Mark = mark
-
-abbrev pub moves_in : List NumberedMove → List (Move ℕ)
-moves_in moves = map move_in moves
 
 -- the bytes of the tokens
 abbrev pub token_texts : List Token → List (List ℕ)

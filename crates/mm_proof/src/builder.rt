@@ -1,7 +1,8 @@
 //! What is built from the moves of a proof, one after the other.
 
-ghost use Rattle.std.specs.Prelude.{◌≡◌, ◌<◌, ◌≤◌, ℕ, List, [], take, length, IfOk, IfErr};
+ghost use Rattle.std.specs.Prelude.{◌≡◌, ◌<◌, ◌≤◌, ℕ, List, [], All, take, length, IfOk, IfErr};
 ghost use Rattle.mm_text.specs.Files.{most_bytes};
+ghost use Rattle.mm_code.specs.Letters.{HasSpelling};
 ghost use Rattle.mm_frame.specs.Form.{IsSound};
 ghost use Rattle.mm_proof.specs.Tree.{Trees, tree, none, spelling, MayStandOver, roots};
 ghost use Rattle.mm_proof.specs.OneTree.{MakeOneTree};
@@ -9,14 +10,14 @@ ghost use Rattle.mm_proof.specs.Steps.{AreSteps};
 ghost use Rattle.mm_proof.specs.Spelled.{OfSpelling};
 ghost use Rattle.mm_proof.specs.Packing.{OfTree};
 ghost use Rattle.mm_proof.specs.Verified.{OfMoves};
-ghost use Rattle.mm_proof.specs.Plain.{moves_in};
-ghost use Rattle.mm_proof.specs.Mirror.CodeSteps.{MayBeUsed};
+ghost use Rattle.mm_proof.specs.Mirror.CodeSteps.{MayBeUsed, moves_of};
 ghost use Rattle.mm_proof.specs.Mirror.Builders.{KeepsItem, MakeTreeAt, IsBuilt};
 
 use crate::call::{Call, call_of};
 use crate::machine::{Machine, run};
-use crate::moves::{NumberedMove, Steps};
+use crate::moves::Steps;
 use crate::store::put_last;
+use mm_code::Code;
 use mm_frame::{Book, LabelId};
 use std::alloc::{AllocError, Global};
 
@@ -92,18 +93,22 @@ fn width(book: &Book, id: LabelId) -> usize
 // The items of the trees that the moves so far made: of those in a row, and of the kept ones. Both
 // are lent to it, since nothing is known of what was lent to a struct that owns memory.
 #[derive(Drop)]
-struct Forest<'s, 'b, 'a, B, X> {
+struct Forest<'s, 'e, 'b, 'a, B, X> {
     builder: &'s mut B,
     book: &'b Book<'a>,
+    entries: &'e [LabelId],
     stack: &'s mut Vec<X>,
     shelf: &'s mut Vec<X>,
 }
 
 // It stops where the builder does.
-impl<'s, 'b, 'a, B: Builder> Machine for Forest<'s, 'b, 'a, B, B::Item> {
+impl<'s, 'e, 'b, 'a, B: Builder> Machine for Forest<'s, 'e, 'b, 'a, B, B::Item> {
+    ghost use Rattle.mm_proof.specs.Plain.{ids_in};
     ghost use Rattle.mm_proof.specs.Mirror.Builders.{HasBuilt, MayGrow, AreTooMany};
 
     type Fault = B::Fault;
+
+    ghost entries = { λ first. ids_in first.entries.now };
 
     ghost has_run = { HasBuilt B.holds };
 
@@ -112,15 +117,16 @@ impl<'s, 'b, 'a, B: Builder> Machine for Forest<'s, 'b, 'a, B, B::Item> {
     ghost stops = { λ first front move fault. B.is_long fault
         → AreTooMany first.book.now.statements front move (B.most first.builder.now) };
 
-    fn step(&mut self, id: LabelId) -> Result<(), B::Fault> {
+    fn step(&mut self, place: usize) -> Result<(), B::Fault> {
+        let id = self.entries[place];
         let base = self.stack.len() - width(self.book, id);
         let item = self.builder.make(id, &self.stack[base..])?;
         put_last(self.stack, base, item)?;
         Ok(())
     }
 
-    fn step_again(&mut self, tag: u32) -> Result<(), B::Fault> {
-        let item = self.builder.repeat(self.shelf[tag as usize])?;
+    fn step_again(&mut self, tag: usize) -> Result<(), B::Fault> {
+        let item = self.builder.repeat(self.shelf[tag])?;
         let end = self.stack.len();
         put_last(self.stack, end, item)?;
         Ok(())
@@ -139,17 +145,19 @@ fn build_moves<B: Builder>(
     alloc: Global,
     builder: &mut B,
     book: &Book,
-    moves: &[NumberedMove],
+    entries: &[LabelId],
+    codes: &[Code],
 ) -> Result<B::Item, B::Fault>
+    requires spelled { All HasSpelling codes.now }
     requires sound { IsSound book.now.statements }
-    requires made { MakeTreeAt book.now.statements (moves_in moves.now) }
+    requires made { MakeTreeAt book.now.statements (moves_of entries.now codes.now) }
     requires nothing { B.holds builder.old builder.old book.now.statements [] none [] [] 0 }
     requires marks { (now : B) → KeepsItem (B.holds builder.old now book.now.statements) }
-    ensures built { IfOk result (λ item. (m : MakeTreeAt book.now.statements (moves_in moves.now))
+    ensures built { IfOk result (λ item. (m : MakeTreeAt book.now.statements (moves_of entries.now codes.now))
         → IsBuilt (B.holds builder.old builder.new book.now.statements) m.names
         (tree m.label m.below none) item) }
     ensures long { IfErr result (λ fault. B.is_long fault
-        → (m : MakeTreeAt book.now.statements (moves_in moves.now))
+        → (m : MakeTreeAt book.now.statements (moves_of entries.now codes.now))
         → B.most builder.old < length (spelling (tree m.label m.below none))) }
 {
     let mut stack = Vec::new(alloc);
@@ -157,10 +165,11 @@ fn build_moves<B: Builder>(
     let mut forest = Forest {
         builder,
         book,
+        entries,
         stack: &mut stack,
         shelf: &mut shelf,
     };
-    run(&mut forest, moves)?;
+    run(&mut forest, entries.len(), codes)?;
     Ok(forest.stack[0])
 }
 
@@ -190,5 +199,5 @@ pub(crate) fn build<B: Builder>(
         (λ spelled. B.most builder.old < length spelled))) }
 {
     let _own = book.frame(id);
-    build_moves(alloc, builder, book, &steps.moves)
+    build_moves(alloc, builder, book, &steps.entries, &steps.codes)
 }

@@ -1,10 +1,9 @@
 //! What a label of a proof stands for, and the step by it.
 
 ghost use Rattle.std.specs.Prelude.{◌≡◌, ℕ, List, take, Err, OnOk};
-ghost use Rattle.mm_proof.specs.Mirror.CodeSteps.{MayBeUsed};
 ghost use Rattle.mm_proof.specs.Mirror.CodeVerify.{AreStackEntries};
 ghost use Rattle.mm_proof.specs.Mirror.CodeRun.{CarriesOn, StopsAt};
-ghost use Rattle.mm_proof.specs.Mirror.CodeApply.{IsCallOf};
+ghost use Rattle.mm_proof.specs.Mirror.CodeApply.{IsCallOf, MayBeCalled};
 
 use crate::apply::apply;
 use crate::fault::{ProofFault, ProofRule};
@@ -21,12 +20,13 @@ pub(crate) enum Call<'b> {
     Assertion(Scheme<'b>),
 }
 
-/// What the label with a number stands for.
+/// What the label with a number stands for, where it may be used.
 pub(crate) fn call_of<'b>(book: &'b Book<'_>, id: LabelId) -> Call<'b>
-    requires { (place : ℕ) × (label : List ℕ) × MayBeUsed book.now.statements place label id.0 }
-    ensures { (place : ℕ) (label : List ℕ) → MayBeUsed book.now.statements place label id.0
-        → IsCallOf book.now.statements place id.0 result }
+    ensures { (place : ℕ) → MayBeCalled book.now.statements place id.0 result }
 {
+    if !book.is_label(id) {
+        return Call::Hypothesis(&[]);
+    }
     match book.kind(id) {
         LabelKind::Floating | LabelKind::Essential => Call::Hypothesis(book.expression(id)),
         _ => Call::Assertion(book.frame(id).scheme()),

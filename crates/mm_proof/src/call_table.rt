@@ -1,11 +1,11 @@
-//! What the first numbers of a compressed proof stand for.
+//! What the first numbers of a proof stand for.
 
 use crate::call::Call;
 use crate::site::Site;
 use mm_frame::LabelId;
 use std::marker::Model;
 
-/// Where a compressed proof is judged, the labels that its first numbers stand for, and what each
+/// Where a proof is judged, the labels that its first numbers stand for, and what each
 /// of these stands for itself.
 #[derive(Drop)]
 pub(crate) struct CallTable<'e, 'b, 'a> {
@@ -17,14 +17,27 @@ pub(crate) struct CallTable<'e, 'b, 'a> {
 impl<'e, 'b, 'a> Model for CallTable<'e, 'b, 'a> {
     ghost use Rattle.std.specs.List.{AllZip};
     ghost use Rattle.mm_proof.specs.Plain.{ids_in};
-    ghost use Rattle.mm_proof.specs.Mirror.CodeApply.{IsCallOf};
+    ghost use Rattle.mm_proof.specs.Mirror.CodeApply.{MayBeCalled};
     ghost use Rattle.mm_proof.specs.Mirror.Sites.{CodeSite};
 
     ghost Value = { CodeSite };
 
     ghost view = { λ t. record { site = t.site; ids = ids_in t.entries.now } };
 
-    // The calls are those of the labels.
-    ghost invariant = { λ t. AllZip (IsCallOf t.site.statements t.site.place)
+    // The calls are those of the labels that may be used.
+    ghost invariant = { λ t. AllZip (MayBeCalled t.site.statements t.site.place)
         (ids_in t.entries.now) t.calls.now };
+}
+
+impl<'e, 'b, 'a> CallTable<'e, 'b, 'a> {
+    ghost use Rattle.std.specs.Prelude.{◌≡◌, ◌<◌, length, slice_get, Some};
+
+    /// The label that stands at a place.
+    pub(crate) fn label(&self, place: usize) -> LabelId
+        requires { place < length self.now.ids }
+        ensures { slice_get self.now.ids place ≡ Some result.0 }
+    {
+        let entries = self.entries;
+        entries[place]
+    }
 }

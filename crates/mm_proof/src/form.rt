@@ -1,8 +1,9 @@
 //! The strict form of a compressed proof: P15 (the Metamath book, appendix B).
 
-ghost use Rattle.std.specs.Prelude.{◌≡◌, ◌↔◌, ◌<◌, ℕ, List, Contains, IsTrue, IfOk, IfErr, OnOk};
+ghost use Rattle.std.specs.Prelude.{◌≡◌, ◌↔◌, ◌<◌, ℕ, List, Contains, All, IsTrue, IfOk, IfErr, OnOk};
 ghost use Rattle.std.specs.Prelude.{length, take, slice_get, Some, Err, true, false};
 ghost use Rattle.std.specs.List.{AllByRecursion};
+ghost use Rattle.mm_code.specs.Letters.{HasSpelling};
 ghost use Rattle.mm_proof.specs.Answer.{OnRule};
 ghost use Rattle.mm_proof.specs.declared.fault.ProofRule.TheVariants.{P15};
 ghost use Rattle.mm_proof.specs.Tokens.{IsCompressed, opening_token};
@@ -10,8 +11,8 @@ ghost use Rattle.mm_proof.specs.Mirror.Sites.{IsSite};
 ghost use Rattle.mm_proof.specs.Steps.{AreSteps};
 ghost use Rattle.mm_proof.specs.Parsed.{OfProof, SaySteps};
 ghost use Rattle.mm_proof.specs.Strict.{IsStrict};
-ghost use Rattle.mm_proof.specs.Plain.{ids_in, label_ids, moves_in, token_texts};
-ghost use Rattle.mm_proof.specs.Mirror.CodeSteps.{AreFor};
+ghost use Rattle.mm_proof.specs.Plain.{ids_in, label_ids, token_texts};
+ghost use Rattle.mm_proof.specs.Mirror.CodeSteps.{AreFor, moves_of};
 ghost use Rattle.mm_proof.specs.Mirror.CodeRun.{MayBeMade};
 ghost use Rattle.mm_proof.specs.Mirror.CodeForm.{AllNew, SomeOld, IsAfterAssertion, AreMarksStrict};
 ghost use Rattle.mm_proof.specs.Mirror.CodeForm.{SomeMarkLoose};
@@ -19,9 +20,9 @@ ghost use Rattle.mm_proof.specs.Mirror.CodeForm.{SomeMarkLoose};
 use crate::fault::{ProofFault, ProofRule};
 use crate::front::is_byte;
 use crate::label_set::LabelSet;
-use crate::moves::NumberedMove;
 use crate::site::Site;
 use crate::used::is_assertion;
+use mm_code::Code;
 use mm_frame::{Book, Hypothesis, LabelId};
 use mm_text::{Seed, Token};
 use std::alloc::{AllocError, Global};
@@ -56,31 +57,39 @@ fn are_new(seen: &mut LabelSet, listed: &[LabelId]) -> Result<bool, AllocError>
 }
 
 // Whether the move before a place is a step by an assertion.
-fn is_after_assertion(book: &Book, moves: &[NumberedMove], place: usize) -> bool
-    requires within { place < length moves.now }
+fn is_after_assertion(book: &Book, entries: &[LabelId], codes: &[Code], place: usize) -> bool
+    requires within { place < length codes.now }
+    requires spelled { All HasSpelling codes.now }
     requires usable { (at : ℕ)
-        × AllByRecursion (MayBeMade book.now.statements at) (moves_in moves.now) }
-    ensures { IsTrue result ↔ IsAfterAssertion book.now.statements (moves_in moves.now) place }
+        × AllByRecursion (MayBeMade book.now.statements at) (moves_of entries.now codes.now) }
+    ensures { IsTrue result
+        ↔ IsAfterAssertion book.now.statements (moves_of entries.now codes.now) place }
 {
     if place == 0 {
         return false;
     }
-    match moves[place - 1] {
-        NumberedMove::Name(id) => is_assertion(book, id),
-        _ => false,
+    match codes[place - 1] {
+        Code::Number(number) => match entries.get(number as usize - 1) {
+            Some(id) => is_assertion(book, *id),
+            None => false,
+        },
+        Code::Tag => false,
     }
 }
 
 // Whether each mark stands directly after a step by an assertion.
-fn are_marks_strict(book: &Book, moves: &[NumberedMove]) -> bool
-    requires { (at : ℕ)
-        × AllByRecursion (MayBeMade book.now.statements at) (moves_in moves.now) }
-    ensures strict { result ≡ true → AreMarksStrict book.now.statements (moves_in moves.now) }
-    ensures loose { result ≡ false → SomeMarkLoose book.now.statements (moves_in moves.now) }
+fn are_marks_strict(book: &Book, entries: &[LabelId], codes: &[Code]) -> bool
+    requires spelled { All HasSpelling codes.now }
+    requires usable { (at : ℕ)
+        × AllByRecursion (MayBeMade book.now.statements at) (moves_of entries.now codes.now) }
+    ensures strict { result ≡ true
+        → AreMarksStrict book.now.statements (moves_of entries.now codes.now) }
+    ensures loose { result ≡ false
+        → SomeMarkLoose book.now.statements (moves_of entries.now codes.now) }
 {
-    for (place, one) in moves.iter().enumerate() {
-        if let NumberedMove::Mark = one {
-            if !is_after_assertion(book, moves, place) {
+    for (place, one) in codes.iter().enumerate() {
+        if let Code::Tag = one {
+            if !is_after_assertion(book, entries, codes, place) {
                 return false;
             }
         }
@@ -109,21 +118,23 @@ fn wrong_form() -> Result<(), ProofFault>
 }
 
 /// Whether the proof of the `$p` has the strict form, where these are the labels of its
-/// list, if it is compressed, and its moves: else P15.
+/// list, if it is compressed, and its entries and codes: else P15.
 pub(crate) fn judge_form(
     alloc: Global,
     site: &Site,
     tokens: &[Token],
     listed: &[LabelId],
-    moves: &[NumberedMove],
+    entries: &[LabelId],
+    codes: &[Code],
 ) -> Result<(), ProofFault>
     requires site { IsSite site.now }
     requires listed { (labels letters : List (List ℕ))
         → IsCompressed (token_texts tokens.now) labels letters
         → AreFor site.now.statements site.now.place (ids_in listed.now) labels }
     requires says { OfProof site.now.statements site.now.number (λ place s.
-        SaySteps site.now.statements place s (token_texts tokens.now) (moves_in moves.now)) }
-    requires steps { AreSteps site.now.statements site.now.number (moves_in moves.now) }
+        SaySteps site.now.statements place s (token_texts tokens.now) (moves_of entries.now codes.now)) }
+    requires steps { AreSteps site.now.statements site.now.number (moves_of entries.now codes.now) }
+    requires spelled { All HasSpelling codes.now }
     ensures strict { OnOk result (OfProof site.now.statements site.now.number (λ place s.
         IsStrict (take place site.now.statements) s (token_texts tokens.now))) }
     ensures fault { IfErr result (λ e. OnRule e (λ rule step.
@@ -137,7 +148,7 @@ pub(crate) fn judge_form(
     if !are_new(&mut seen, listed)? {
         return wrong_form();
     }
-    if !are_marks_strict(site.book, moves) {
+    if !are_marks_strict(site.book, entries, codes) {
         return wrong_form();
     }
     Ok(())

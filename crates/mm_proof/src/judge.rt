@@ -1,27 +1,51 @@
 //! The judge of the moves of a proof.
 
-ghost use Rattle.std.specs.Prelude.{◌≡◌, ◌≤◌, ℕ, List, [], ◌∷◌, ◌++◌, take, length, slice_get};
-ghost use Rattle.std.specs.Prelude.{Some, Err, IfOk, OnOk};
+ghost use Rattle.std.specs.Prelude.{◌≡◌, ◌≤◌, ◌<◌, ℕ, List, [], ◌∷◌, ◌++◌, All, take, length};
+ghost use Rattle.std.specs.Prelude.{slice_get, Some, Err, IfOk, OnOk};
 ghost use Rattle.std.specs.List.{AllByRecursion};
-ghost use Rattle.mm_proof.specs.Moves.{Move};
+ghost use Rattle.mm_code.specs.Letters.{HasSpelling};
+ghost use Rattle.mm_proof.specs.Moves.{Move, name};
 ghost use Rattle.mm_proof.specs.Proof.{IsWithin, IsMoveFault};
 ghost use Rattle.mm_proof.specs.Steps.{AreNumberedMoves};
-ghost use Rattle.mm_proof.specs.Plain.{moves_in};
-ghost use Rattle.mm_proof.specs.Mirror.CodeRun.{MayBeMade, HasRun};
+ghost use Rattle.mm_proof.specs.Mirror.CodeSteps.{MayBeUsed, code_moves};
+ghost use Rattle.mm_proof.specs.Mirror.CodeVerify.{AreStackEntries};
+ghost use Rattle.mm_proof.specs.Mirror.CodeRun.{MayBeMade, HasRun, AreMarked, CarriesOn, StopsAt};
+ghost use Rattle.mm_proof.specs.Mirror.CodeRun.{EndsWrong};
+ghost use Rattle.mm_proof.specs.Stores.{numbers_in};
 
-use crate::call::{call_of, step_by};
+use crate::call::step_by;
+use crate::call_table::CallTable;
 use crate::fault::{ProofFault, ProofRule};
 use crate::machine::{Machine, run};
-use crate::moves::NumberedMove;
-use crate::site::Site;
 use crate::store::Store;
-use mm_frame::LabelId;
+use crate::substitution::is_same;
+use mm_code::Code;
+use mm_frame::Sym;
 
 /// The proof breaks a rule at a step.
 pub(crate) fn fault_at_step(rule: ProofRule, step: usize) -> Result<(), ProofFault>
     ensures { result ≡ Err (ProofFault.Rule rule step) }
 {
     Err(ProofFault::Rule { rule, step })
+}
+
+/// What is on the stack at the end: only the expression, or P13 or P14.
+pub(crate) fn ending<S: Store>(
+    store: &S,
+    expression: &[Sym],
+    number: usize,
+) -> Result<(), ProofFault>
+    ensures ok { OnOk result (S.stack store.now ≡ numbers_in expression.now ∷ []) }
+    ensures fault { (rule : ProofRule) → (at : ℕ) → result ≡ Err (ProofFault.Rule rule at)
+        → (at ≡ number) × EndsWrong rule (S.stack store.now) (numbers_in expression.now) }
+{
+    if store.len() != 1 {
+        return fault_at_step(ProofRule::P13, number);
+    }
+    if !is_same(store.at(0), expression) {
+        return fault_at_step(ProofRule::P14, number);
+    }
+    Ok(())
 }
 
 /// The step by a tag.
@@ -63,13 +87,51 @@ pub(crate) fn mark<S: Store>(store: &mut S, number: usize) -> Result<(), ProofFa
     Ok(())
 }
 
+// The step by the entry at a place, which is marked.
+#[inline(always)]
+fn step_entry<S: Store>(
+    store: &mut S,
+    marks: &mut Vec<bool>,
+    table: &CallTable,
+    place: usize,
+    number: usize,
+) -> Result<(), ProofFault>
+    requires used { let site = table.now.site in (id : ℕ) × (label : List ℕ)
+        × (slice_get table.now.ids place ≡ Some id)
+        × MayBeUsed site.statements site.place label id }
+    requires long { length marks.old.items ≡ length table.now.ids }
+    requires entries { let site = table.now.site in
+        AreStackEntries site.statements (take site.place site.statements) (S.stack store.old) }
+    ensures carried { let site = table.now.site in
+        OnOk result ((id : ℕ) → slice_get table.now.ids place ≡ Some id
+        → CarriesOn site.limit site.statements site.place id (S.stack store.old)
+        (S.stack store.new)) }
+    ensures entries { let site = table.now.site in
+        OnOk result (AreStackEntries site.statements (take site.place site.statements)
+        (S.stack store.new)) }
+    ensures long { length marks.new.items ≡ length table.now.ids }
+    ensures marked { (front : List (Move ℕ)) (id : ℕ) → slice_get table.now.ids place ≡ Some id
+        → AreMarked table.now.ids front marks.old.items
+        → AreMarked table.now.ids (front ++ name id ∷ []) marks.new.items }
+    ensures kept { S.kept store.new ≡ S.kept store.old }
+    ensures fault { let site = table.now.site in
+        (rule : ProofRule) → (at : ℕ) → result ≡ Err (ProofFault.Rule rule at)
+        → (at ≡ number) × ((id : ℕ) → slice_get table.now.ids place ≡ Some id
+        → StopsAt site.limit site.statements site.place id (S.stack store.old) rule) }
+{
+    marks[place] = true;
+    step_by(store, &table.site, &table.calls[place], number)
+}
+
 /// What judges moves.
 #[derive(Drop)]
-pub(crate) struct Judge<'s, 'b, 'a, S> {
+pub(crate) struct Judge<'s, 'e, 'b, 'a, S> {
     /// The store of their expressions.
     pub(crate) store: &'s mut S,
-    /// Where the proof is judged.
-    pub(crate) site: &'s Site<'b, 'a>,
+    /// By the place of an entry, whether a move names it.
+    pub(crate) marks: &'s mut Vec<bool>,
+    /// Where the proof is judged, and what its entries stand for.
+    pub(crate) table: &'s CallTable<'e, 'b, 'a>,
     /// How many of the moves so far are steps.
     pub(crate) steps: usize,
     /// How many are marks.
@@ -77,29 +139,31 @@ pub(crate) struct Judge<'s, 'b, 'a, S> {
 }
 
 // It stops at the first move that breaks a rule.
-impl<'s, 'b, 'a, S: Store> Machine for Judge<'s, 'b, 'a, S> {
+impl<'s, 'e, 'b, 'a, S: Store> Machine for Judge<'s, 'e, 'b, 'a, S> {
     ghost use Rattle.mm_proof.specs.Answer.{OnRule};
     ghost use Rattle.mm_proof.specs.Mirror.CodeRun.{MayBeMade};
     ghost use Rattle.mm_proof.specs.Mirror.Judges.{HasJudged, BreaksRun};
 
     type Fault = ProofFault;
 
+    ghost entries = { λ first. first.table.now.ids };
+
     ghost has_run = { HasJudged S.stack S.kept };
 
-    ghost may_take = { λ first front move.
-        MayBeMade first.site.now.statements first.site.now.place move };
+    ghost may_take = { λ first front move. let site = first.table.now.site in
+        MayBeMade site.statements site.place move };
 
-    ghost stops = { λ first front move fault. OnRule fault (BreaksRun first.site.now front move) };
+    ghost stops = { λ first front move fault.
+        OnRule fault (BreaksRun first.table.now.site front move) };
 
-    fn step(&mut self, id: LabelId) -> Result<(), ProofFault> {
-        let site = self.site;
-        step_by(self.store, site, &call_of(site.book, id), self.steps + 1)?;
+    fn step(&mut self, place: usize) -> Result<(), ProofFault> {
+        step_entry(self.store, self.marks, self.table, place, self.steps + 1)?;
         self.steps += 1;
         Ok(())
     }
 
-    fn step_again(&mut self, tag: u32) -> Result<(), ProofFault> {
-        step_again(self.store, tag as usize, self.kept, self.steps + 1)?;
+    fn step_again(&mut self, tag: usize) -> Result<(), ProofFault> {
+        step_again(self.store, tag, self.kept, self.steps + 1)?;
         self.steps += 1;
         Ok(())
     }
@@ -111,32 +175,43 @@ impl<'s, 'b, 'a, S: Store> Machine for Judge<'s, 'b, 'a, S> {
     }
 }
 
-/// Judges all moves, one after the other: how many are steps.
-pub(crate) fn judge_moves<S: Store>(
+/// Judges the moves of all codes, one after the other: how many are steps. The entries that they
+/// name are marked.
+pub(crate) fn run_codes<S: Store>(
     store: &mut S,
-    site: &Site,
-    moves: &[NumberedMove],
+    marks: &mut Vec<bool>,
+    table: &CallTable,
+    codes: &[Code],
 ) -> Result<usize, ProofFault>
-    requires usable { AllByRecursion (MayBeMade site.now.statements site.now.place)
-        (moves_in moves.now) }
+    requires spelled { All HasSpelling codes.now }
+    requires usable { let site = table.now.site in
+        AllByRecursion (MayBeMade site.statements site.place)
+        (code_moves table.now.ids codes.now) }
+    requires long { length marks.old.items ≡ length table.now.ids }
+    requires unmarked { AreMarked table.now.ids [] marks.old.items }
     requires stack { S.stack store.old ≡ [] }
     requires kept { S.kept store.old ≡ [] }
-    ensures ok { IfOk result (λ count.
-        HasRun site.now.limit site.now.statements site.now.place (moves_in moves.now)
-        (S.stack store.new) (S.kept store.new) count) }
-    ensures count { IfOk result (λ count. count ≤ length moves.now) }
-    ensures fault { (rule : ProofRule) → (at : ℕ) → result ≡ Err (ProofFault.Rule rule at)
+    ensures ok { let site = table.now.site in
+        IfOk result (λ count. HasRun site.limit site.statements site.place
+        (code_moves table.now.ids codes.now) (S.stack store.new) (S.kept store.new) count) }
+    ensures count { IfOk result (λ count. count ≤ length codes.now) }
+    ensures long { OnOk result (length marks.new.items ≡ length table.now.ids) }
+    ensures marked { OnOk result
+        (AreMarked table.now.ids (code_moves table.now.ids codes.now) marks.new.items) }
+    ensures fault { let site = table.now.site in
+        (rule : ProofRule) → (at : ℕ) → result ≡ Err (ProofFault.Rule rule at)
         → (names : List (Move (List ℕ)))
-        → AreNumberedMoves site.now.statements (moves_in moves.now) names
-        → IsMoveFault (IsWithin site.now.limit)
-        (take site.now.place site.now.statements) names rule at }
+        → AreNumberedMoves site.statements (code_moves table.now.ids codes.now) names
+        → IsMoveFault (IsWithin site.limit) (take site.place site.statements) names rule at }
 {
+    let count = table.entries.len();
     let mut judge = Judge {
         store,
-        site,
+        marks,
+        table,
         steps: 0,
         kept: 0,
     };
-    run(&mut judge, moves)?;
+    run(&mut judge, count, codes)?;
     Ok(judge.steps)
 }

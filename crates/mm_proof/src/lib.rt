@@ -22,7 +22,6 @@ mod moves;
 mod packing;
 mod pairs;
 mod parse;
-mod picked;
 mod profile;
 mod prover;
 mod rows;

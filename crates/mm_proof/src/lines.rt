@@ -1,9 +1,10 @@
 //! The listing of a proof: its steps, one a line (the Metamath book, section 4.3 and appendix B).
 
-ghost use Rattle.std.specs.Prelude.{◌≡◌, ◌-◌, ◌<◌, ◌^◌, ℕ, List, [], length, take};
+ghost use Rattle.std.specs.Prelude.{◌≡◌, ◌-◌, ◌<◌, ◌^◌, ℕ, List, [], All, length, take};
 ghost use Rattle.std.specs.Prelude.{slice_get, Some, Err, false};
 ghost use Rattle.std.specs.Prelude.{IfOk, IfErr, IsOkUnless};
 ghost use Rattle.std.specs.List.{AllByRecursion};
+ghost use Rattle.mm_code.specs.Letters.{HasSpelling};
 ghost use Rattle.mm_frame.specs.Form.{IsSound};
 ghost use Rattle.mm_proof.specs.declared.fault.ProofRule.{ProofRule};
 ghost use Rattle.mm_proof.specs.Answer.{IsUnlessMemory};
@@ -14,19 +15,22 @@ ghost use Rattle.mm_proof.specs.Profiles.{limit_of};
 ghost use Rattle.mm_proof.specs.Steps.{AreNumberedMoves, AreSteps};
 ghost use Rattle.mm_proof.specs.Listing.{AreLinesOf};
 ghost use Rattle.mm_proof.specs.Verified.{OfMoves};
-ghost use Rattle.mm_proof.specs.Plain.{moves_in};
+ghost use Rattle.mm_proof.specs.Mirror.CodeSteps.{code_moves, moves_of};
 ghost use Rattle.mm_proof.specs.Mirror.CodeRun.{MayBeMade, HasRun};
 ghost use Rattle.mm_proof.specs.Mirror.CodeLines.{AreLinesAt, BreaksAt, ListsProof, FaultsProof};
 
+use crate::call_table::CallTable;
 use crate::fault::ProofFault;
 use crate::flat::Flat;
-use crate::judge::Judge;
+use crate::judge::{Judge, ending};
 use crate::machine::{Machine, run};
-use crate::moves::{NumberedMove, Steps};
+use crate::moves::Steps;
 use crate::profile::Profile;
+use crate::run::calls_of;
 use crate::site::Site;
 use crate::store::Store;
-use crate::verdict::ending;
+use crate::used::unmark;
+use mm_code::Code;
 use mm_frame::{Book, LabelId, Sym, one_number};
 use std::alloc::{AllocError, Global};
 
@@ -67,38 +71,42 @@ fn last_line<S: Store>(alloc: Global, judge: &Judge<S>, name: Name) -> Result<Li
 // number of the step before it. Both are lent to it, as the store is to the judge, since nothing
 // is known of what was lent to a struct that owns memory.
 #[derive(Drop)]
-struct Lister<'s, 'b, 'a, S> {
+struct Lister<'s, 'e, 'b, 'a, S> {
     alloc: Global,
-    judge: Judge<'s, 'b, 'a, S>,
+    judge: Judge<'s, 'e, 'b, 'a, S>,
     lines: &'s mut Vec<Line>,
     tags: &'s mut Vec<u32>,
 }
 
 // It stops where the judge does.
-impl<'s, 'b, 'a, S: Store> Machine for Lister<'s, 'b, 'a, S> {
+impl<'s, 'e, 'b, 'a, S: Store> Machine for Lister<'s, 'e, 'b, 'a, S> {
     ghost use Rattle.mm_proof.specs.Answer.{OnRule};
     ghost use Rattle.mm_proof.specs.Mirror.Judges.{BreaksRun};
     ghost use Rattle.mm_proof.specs.Mirror.CodeLines.{HasListed, MayBeListed};
 
     type Fault = ProofFault;
 
+    ghost entries = { λ first. first.judge.table.now.ids };
+
     ghost has_run = { HasListed S.stack S.kept };
 
-    ghost may_take = { λ first front move. MayBeListed first.judge.site.now front move };
+    ghost may_take = { λ first front move. MayBeListed first.judge.table.now.site front move };
 
     ghost stops = { λ first front move fault.
-        OnRule fault (BreaksRun first.judge.site.now front move) };
+        OnRule fault (BreaksRun first.judge.table.now.site front move) };
 
-    fn step(&mut self, id: LabelId) -> Result<(), ProofFault> {
-        self.judge.step(id)?;
+    fn step(&mut self, place: usize) -> Result<(), ProofFault> {
+        let table = self.judge.table;
+        let id = table.label(place);
+        self.judge.step(place)?;
         let line = last_line(self.alloc, &self.judge, Name::Label(id))?;
         self.lines.push(line)?;
         Ok(())
     }
 
-    fn step_again(&mut self, tag: u32) -> Result<(), ProofFault> {
+    fn step_again(&mut self, tag: usize) -> Result<(), ProofFault> {
         self.judge.step_again(tag)?;
-        let after = self.tags[tag as usize];
+        let after = self.tags[tag];
         let line = last_line(self.alloc, &self.judge, Name::Step(after))?;
         self.lines.push(line)?;
         Ok(())
@@ -116,28 +124,39 @@ impl<'s, 'b, 'a, S: Store> Machine for Lister<'s, 'b, 'a, S> {
 fn lines_of<S: Store>(
     alloc: Global,
     store: &mut S,
-    site: &Site,
-    moves: &[NumberedMove],
+    table: &CallTable,
+    codes: &[Code],
 ) -> Result<Vec<Line>, ProofFault>
-    requires usable { AllByRecursion (MayBeMade site.now.statements site.now.place)
-        (moves_in moves.now) }
+    requires spelled { All HasSpelling codes.now }
+    requires usable { let site = table.now.site in
+        AllByRecursion (MayBeMade site.statements site.place)
+        (code_moves table.now.ids codes.now) }
     requires names { (names : List (Move (List ℕ)))
-        × AreNumberedMoves site.now.statements (moves_in moves.now) names }
-    requires room { length moves.now < 2 ^ 32 }
+        × AreNumberedMoves table.now.site.statements (code_moves table.now.ids codes.now) names }
+    requires room { length codes.now < 2 ^ 32 }
     requires stack { S.stack store.old ≡ [] }
     requires kept { S.kept store.old ≡ [] }
-    ensures run { IfOk result (λ lines. HasRun site.now.limit site.now.statements site.now.place
-        (moves_in moves.now) (S.stack store.new) (S.kept store.new) (length lines.items)) }
-    ensures lines { IfOk result (λ lines. AreLinesAt site.now.statements site.now.place
-        (moves_in moves.now) lines.items) }
-    ensures fault { (rule : ProofRule) → (at : ℕ) → result ≡ Err (ProofFault.Rule rule at)
-        → BreaksAt site.now.limit site.now.statements site.now.place (moves_in moves.now) rule at }
+    ensures run { let site = table.now.site in
+        IfOk result (λ lines. HasRun site.limit site.statements site.place
+        (code_moves table.now.ids codes.now) (S.stack store.new) (S.kept store.new)
+        (length lines.items)) }
+    ensures lines { let site = table.now.site in
+        IfOk result (λ lines. AreLinesAt site.statements site.place
+        (code_moves table.now.ids codes.now) lines.items) }
+    ensures fault { let site = table.now.site in
+        (rule : ProofRule) → (at : ℕ) → result ≡ Err (ProofFault.Rule rule at)
+        → BreaksAt site.limit site.statements site.place (code_moves table.now.ids codes.now)
+        rule at }
 {
+    let count = table.entries.len();
+    let mut marks = Vec::new(alloc);
+    unmark(&mut marks, count)?;
     let mut lines = Vec::new(alloc);
     let mut tags = Vec::new(alloc);
     let judge = Judge {
         store,
-        site,
+        marks: &mut marks,
+        table,
         steps: 0,
         kept: 0,
     };
@@ -147,7 +166,7 @@ fn lines_of<S: Store>(
         lines: &mut lines,
         tags: &mut tags,
     };
-    run(&mut lister, moves)?;
+    run(&mut lister, count, codes)?;
     Ok(lines)
 }
 
@@ -155,21 +174,25 @@ fn lines_of<S: Store>(
 fn lines_in_frame<S: Store>(
     alloc: Global,
     store: &mut S,
-    site: &Site,
-    moves: &[NumberedMove],
+    table: &CallTable,
+    codes: &[Code],
 ) -> Result<Vec<Line>, ProofFault>
-    requires room { length moves.now < 2 ^ 32 }
+    requires spelled { All HasSpelling codes.now }
+    requires room { length codes.now < 2 ^ 32 }
     requires stack { S.stack store.old ≡ [] }
     requires kept { S.kept store.old ≡ [] }
-    requires steps { AreSteps site.now.statements site.now.number (moves_in moves.now) }
-    ensures listed { IfOk result (λ lines. ListsProof site.now.limit site.now.statements
-        site.now.number (moves_in moves.now) lines.items) }
-    ensures fault { IfErr result (FaultsProof site.now.limit site.now.statements site.now.number
-        (moves_in moves.now)) }
+    requires steps { let site = table.now.site in
+        AreSteps site.statements site.number (code_moves table.now.ids codes.now) }
+    ensures listed { let site = table.now.site in
+        IfOk result (λ lines. ListsProof site.limit site.statements site.number
+        (code_moves table.now.ids codes.now) lines.items) }
+    ensures fault { let site = table.now.site in
+        IfErr result (FaultsProof site.limit site.statements site.number
+        (code_moves table.now.ids codes.now)) }
 {
     one_number();
-    let expression = site.expression();
-    let lines = lines_of(alloc, store, site, moves)?;
+    let expression = table.site.expression();
+    let lines = lines_of(alloc, store, table, codes)?;
     ending(store, expression, lines.len() + 1)?;
     Ok(lines)
 }
@@ -179,20 +202,28 @@ fn lines_of_proof(
     alloc: Global,
     book: &Book,
     id: LabelId,
-    moves: &[NumberedMove],
+    entries: &[LabelId],
+    codes: &[Code],
     profile: Profile,
 ) -> Result<Vec<Line>, ProofFault>
-    requires room { length moves.now < 2 ^ 32 }
-    requires steps { AreSteps book.now.statements id.0 (moves_in moves.now) }
+    requires spelled { All HasSpelling codes.now }
+    requires room { length codes.now < 2 ^ 32 }
+    requires steps { AreSteps book.now.statements id.0 (moves_of entries.now codes.now) }
     ensures listed { IfOk result (λ lines. ListsProof (limit_of profile) book.now.statements id.0
-        (moves_in moves.now) lines.items) }
+        (moves_of entries.now codes.now) lines.items) }
     ensures fault { IfErr result (FaultsProof (limit_of profile) book.now.statements id.0
-        (moves_in moves.now)) }
+        (moves_of entries.now codes.now)) }
     ensures sound { IsSound book.now.statements }
 {
     let site = Site::new(book, id, profile);
+    let calls = calls_of(alloc, book, entries)?;
+    let table = CallTable {
+        site,
+        entries,
+        calls: &calls,
+    };
     let mut store = Flat::new(alloc);
-    lines_in_frame(alloc, &mut store, &site, moves)
+    lines_in_frame(alloc, &mut store, &table, codes)
 }
 
 /// The steps of the `$p` with this number, which these moves prove, in order: what each is called,
@@ -235,5 +266,5 @@ pub fn listing(
         (IsWithin (limit_of steps.now.profile)) (take place book.now.statements) s moves rule step
         → IsUnlessMemory result (Err (ProofFault.Rule rule step))) }
 {
-    lines_of_proof(alloc, book, id, &steps.moves, steps.profile)
+    lines_of_proof(alloc, book, id, &steps.entries, &steps.codes, steps.profile)
 }

@@ -1,22 +1,26 @@
 //! The loop that gives the moves of a proof to what takes them.
 
-ghost use Rattle.std.specs.Prelude.{◌≡◌, ℕ, [], take, slice_get, Some, OnOk, IfErr};
+ghost use Rattle.std.specs.Prelude.{◌≡◌, ℕ, [], All, length, take, slice_get, Some, OnOk, IfErr};
+ghost use Rattle.mm_code.specs.Letters.{HasSpelling};
 ghost use Rattle.mm_proof.specs.Moves.{Move};
-ghost use Rattle.mm_proof.specs.Plain.{moves_in};
+ghost use Rattle.mm_proof.specs.Mirror.CodeSteps.{code_moves};
 ghost use Rattle.mm_proof.specs.Mirror.Machines.{HasStopped};
 
-use crate::moves::NumberedMove;
-use mm_frame::LabelId;
+use mm_code::Code;
 
 /// What takes the moves of a proof, one after the other: it judges them, lists them, or builds
 /// something out of the trees that they make.
 pub(crate) trait Machine {
     ghost use Rattle.std.specs.Prelude.{ℕ, List, OnOk, IfErr};
-    ghost use Rattle.mm_proof.specs.Moves.{Move, name, again, mark};
+    ghost use Rattle.mm_proof.specs.Moves.{Move, again, mark};
     ghost use Rattle.mm_proof.specs.Mirror.Machines.{IsNext, GoesOn, StopsMove};
+    ghost use Rattle.mm_proof.specs.Mirror.Machines.{IsNextStep, StepsOn, StopsStep};
 
     /// Why it stops at a move.
     type Fault;
+
+    /// The numbers of the labels that the first places stand for.
+    ghost entries: { Self → List ℕ };
 
     /// What it is after these moves, since the first state.
     ghost has_run: { Self → Self → List (Move ℕ) → Type 0 };
@@ -27,14 +31,14 @@ pub(crate) trait Machine {
     /// What is known where it stops with this fault, at a move after these.
     ghost stops: { Self → List (Move ℕ) → Move ℕ → Self.Fault → Type 0 };
 
-    /// A step by a label.
-    fn step(&mut self, id: LabelId) -> Result<(), Self::Fault>
-        requires { IsNext has_run may_take self.old (name id.0) }
-        ensures ran { OnOk result (GoesOn has_run may_take self.old self.new (name id.0)) }
-        ensures stops { IfErr result (StopsMove has_run may_take stops self.old (name id.0)) };
+    /// A step by the label of the entry at a place.
+    fn step(&mut self, place: usize) -> Result<(), Self::Fault>
+        requires { IsNextStep entries has_run may_take self.old place }
+        ensures ran { OnOk result (StepsOn entries has_run may_take self.old self.new place) }
+        ensures stops { IfErr result (StopsStep entries has_run may_take stops self.old place) };
 
-    /// A step by a tag.
-    fn step_again(&mut self, tag: u32) -> Result<(), Self::Fault>
+    /// A step by a tag: the place of a kept expression, from 0 on.
+    fn step_again(&mut self, tag: usize) -> Result<(), Self::Fault>
         requires { IsNext has_run may_take self.old (again tag) }
         ensures ran { OnOk result (GoesOn has_run may_take self.old self.new (again tag)) }
         ensures stops { IfErr result (StopsMove has_run may_take stops self.old (again tag)) };
@@ -46,20 +50,32 @@ pub(crate) trait Machine {
         ensures stops { IfErr result (StopsMove has_run may_take stops self.old mark) };
 }
 
-/// Gives the machine all moves, one after the other, until it stops.
-pub(crate) fn run<M: Machine>(machine: &mut M, moves: &[NumberedMove]) -> Result<(), M::Fault>
+/// Gives the machine the moves of all codes, one after the other, until it stops. Numbers stand for
+/// so many entries, and then for tags.
+#[inline(always)]
+pub(crate) fn run<M: Machine>(machine: &mut M, count: usize, codes: &[Code]) -> Result<(), M::Fault>
+    requires spelled { All HasSpelling codes.now }
+    requires count { count ≡ length (M.entries machine.old) }
     requires begun { M.has_run machine.old machine.old [] }
     requires allowed { (place : ℕ) (move : Move ℕ)
-        → slice_get (moves_in moves.now) place ≡ Some move
-        → M.may_take machine.old (take place (moves_in moves.now)) move }
-    ensures ran { OnOk result (M.has_run machine.old machine.new (moves_in moves.now)) }
-    ensures stops { IfErr result (HasStopped M.stops machine.old (moves_in moves.now)) }
+        → slice_get (code_moves (M.entries machine.old) codes.now) place ≡ Some move
+        → M.may_take machine.old (take place (code_moves (M.entries machine.old) codes.now)) move }
+    ensures ran { OnOk result
+        (M.has_run machine.old machine.new (code_moves (M.entries machine.old) codes.now)) }
+    ensures stops { IfErr result
+        (HasStopped M.stops machine.old (code_moves (M.entries machine.old) codes.now)) }
 {
-    for one in moves {
-        match one {
-            NumberedMove::Name(id) => machine.step(*id)?,
-            NumberedMove::Again(tag) => machine.step_again(*tag)?,
-            NumberedMove::Mark => machine.mark()?,
+    for code in codes {
+        match code {
+            Code::Number(number) => {
+                let place = *number as usize - 1;
+                if place < count {
+                    machine.step(place)?;
+                } else {
+                    machine.step_again(place - count)?;
+                }
+            }
+            Code::Tag => machine.mark()?,
         }
     }
     Ok(())

@@ -1,32 +1,24 @@
-//! The moves of a proof, with numbers for labels.
+//! The moves of a proof, with numbers for labels (the Metamath book, section 4.3 and appendix B).
 
 ghost use Rattle.std.specs.Prelude.{◌≡◌, ◌≤◌, length};
 ghost use Rattle.mm_text.specs.Files.{most_bytes};
 
 use crate::profile::Profile;
+use mm_code::Code;
 use mm_frame::LabelId;
 use std::marker::Model;
 
-/// A move of a proof (the Metamath book, section 4.3 and appendix B).
-#[derive(Clone, Copy)]
-pub(crate) enum NumberedMove {
-    /// A step by a label.
-    Name(LabelId),
-    /// A step by a tag: the place of a kept expression, from 0 on.
-    Again(u32),
-    /// A `Z`, which keeps what the step before it made.
-    Mark,
-}
-
 /// The moves of a proof, or of the known front of an incomplete one, read from its tokens, and the
-/// profile under which they are judged.
+/// profile under which they are judged. They are codes, whose first numbers stand for the entries
+/// and those above for tags.
 #[derive(Drop)]
 pub struct Steps {
     pub(crate) profile: Profile,
     pub(crate) front: bool,
-    pub(crate) moves: Vec<NumberedMove>,
+    pub(crate) entries: Vec<LabelId>,
+    pub(crate) codes: Vec<Code>,
     /// As many as the tokens of a proof have bytes, at most.
-    ghost few: { length moves.items ≤ most_bytes },
+    ghost few: { length codes.items ≤ most_bytes },
 }
 
 impl Model for Steps {
@@ -34,10 +26,18 @@ impl Model for Steps {
 
     ghost Value = { ReadSteps };
 
-    ghost use Rattle.mm_proof.specs.Plain.{moves_in};
+    ghost use Rattle.std.specs.Prelude.{All};
+    ghost use Rattle.mm_code.specs.Letters.{HasSpelling};
+    ghost use Rattle.mm_proof.specs.Mirror.CodeSteps.{moves_of};
 
-    ghost view = { λ s.
-        record { profile = s.profile; front = s.front; moves = moves_in s.moves.items } };
+    ghost view = { λ s. record {
+      profile = s.profile;
+      front = s.front;
+      moves = moves_of s.entries.items s.codes.items;
+    } };
+
+    // Each code has a spelling.
+    ghost invariant = { λ s. All HasSpelling s.codes.items };
 }
 
 impl Steps {

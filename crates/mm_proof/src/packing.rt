@@ -204,7 +204,7 @@ pub fn compress(
     ensures spelled { IfOk result (λ packed. All HasSpelling packed.codes.items) }
     ensures exact { IfOk result (λ packed. All IsExact packed.codes.items) }
 {
-    let mut shared = SharedSteps::with_room(alloc, book.seed(), steps.moves.len())?;
+    let mut shared = SharedSteps::with_room(alloc, book.seed(), steps.codes.len())?;
     build(alloc, &mut shared, book, id, steps)?;
     let own = book.frame(id);
     pack(alloc, book.seed(), own.hypotheses(), &shared.steps)

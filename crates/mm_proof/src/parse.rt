@@ -3,34 +3,33 @@
 
 ghost use Rattle.std.specs.Prelude.{◌≡◌, ◌+◌, ◌≤◌, ◌<◌, ◌∷◌, [], ℕ, List, Contains, All};
 ghost use Rattle.std.specs.Prelude.{◌++◌, length, map, take, slice_get, Some, Ok, Err, true, false};
-ghost use Rattle.std.specs.Prelude.{IfOk, IfErr, OnOk, MatchOption};
-ghost use Rattle.std.specs.List.{AllZip, flat_map, sum_by};
+ghost use Rattle.std.specs.Prelude.{IfOk, IfErr, OnOk, IsTrue, MatchOption};
+ghost use Rattle.mm_frame.specs.declared.number.LabelId.{LabelId};
+ghost use Rattle.std.specs.List.{flat_map, sum_by};
 ghost use Rattle.mm_text.specs.Files.{most_bytes};
 ghost use Rattle.mm_code.specs.Letters.{HasSpelling, Letters, LettersBreak};
 ghost use Rattle.mm_frame.specs.Sentence.{Sentence};
 ghost use Rattle.mm_proof.specs.Answer.{OnRule};
 ghost use Rattle.mm_proof.specs.Tokens.{is_incomplete, IsIncomplete, IsNormal, IsCompressed};
 ghost use Rattle.mm_proof.specs.Tokens.{opening_token, closing_token};
-ghost use Rattle.mm_proof.specs.Moves.{Move, name};
+ghost use Rattle.mm_proof.specs.Moves.{name};
 ghost use Rattle.mm_proof.specs.Proof.{IsWholeFault};
 ghost use Rattle.mm_proof.specs.Steps.{AreSteps, IsProofNumber};
 ghost use Rattle.mm_proof.specs.ReadSteps.{ReadSteps};
 ghost use Rattle.mm_proof.specs.KnownFront.{known_front};
 ghost use Rattle.mm_proof.specs.Strict.{HasFormOf, IsTextFault};
 ghost use Rattle.mm_proof.specs.Parsed.{OfProof, SaySteps};
-ghost use Rattle.mm_proof.specs.Mirror.CodeSteps.{IsReading, NumberSays, MayAllBeUsed, AreFor};
+ghost use Rattle.mm_proof.specs.Mirror.CodeSteps.{IsReading, AreFor, moves_of};
 ghost use Rattle.mm_proof.specs.Mirror.CodeSteps.{fault_behind};
-ghost use Rattle.mm_proof.specs.Plain.{ids_in, label_ids, move_in, moves_in, token_texts};
+ghost use Rattle.mm_proof.specs.Plain.{ids_in, label_ids, token_texts};
 ghost use Rattle.mm_code.specs.Layout.{texts};
-ghost use Rattle.mm_proof.specs.Mirror.CodeRun.{ArePicked, AreMarked};
 ghost use Rattle.mm_proof.specs.Mirror.Sites.{IsSite};
 
 use crate::fault::{ProofFault, ProofRule};
 use crate::form::judge_form;
 use crate::front::{is_byte, is_unknown, known_front};
 use crate::labels::fill_numbers;
-use crate::moves::{NumberedMove, Parsed, Steps};
-use crate::picked::{Picked, fill_marked, fill_picked, unmark};
+use crate::moves::{Parsed, Steps};
 use crate::profile::Profile;
 use crate::site::Site;
 use mm_code::{Code, CodeFault, CodeRule, fill_codes};
@@ -45,16 +44,17 @@ pub(crate) struct ParseLists<'a> {
     ids: Vec<LabelId>,
     /// Guesses of these numbers, which stay from one proof to the next.
     guesses: Guesses,
-    /// What the first numbers stand for: the mandatory hypotheses, and then the listed labels.
+    /// What the first numbers stand for: the mandatory hypotheses, and then the listed labels; or
+    /// the labels of a normal proof, each once.
     pub(crate) entries: Vec<LabelId>,
     /// The letters, as white space cuts them.
     letters: Vec<&'a [u8]>,
-    /// What they say.
+    /// What they say, or a number for each label of a normal proof.
     pub(crate) codes: Vec<Code>,
-    /// The moves.
-    pub(crate) moves: Vec<NumberedMove>,
-    /// The labels that they name.
-    pub(crate) picked: Picked,
+    /// By the place of an entry, whether a code names it.
+    pub(crate) marks: Vec<bool>,
+    /// By the number of a label, its place among the labels of the last normal proof that has it.
+    places: Vec<u32>,
 }
 
 impl<'a> ParseLists<'a> {
@@ -65,8 +65,8 @@ impl<'a> ParseLists<'a> {
             entries: Vec::new(alloc),
             letters: Vec::new(alloc),
             codes: Vec::new(alloc),
-            moves: Vec::new(alloc),
-            picked: Picked::new(alloc),
+            marks: Vec::new(alloc),
+            places: Vec::new(alloc),
         }
     }
 }
@@ -84,25 +84,83 @@ pub(crate) fn is_incomplete(tokens: &[Token]) -> bool
     false
 }
 
-// Fills the list with a step for each of the labels.
-fn fill_names(moves: &mut Vec<NumberedMove>, ids: &[LabelId]) -> Result<(), ProofFault>
-    ensures ok { OnOk result (moves_in moves.new.items ≡ map name (ids_in ids.now)) }
-    ensures fault { IfErr result (λ e. e ≡ ProofFault.Memory) }
+// Makes room for the places of so many labels.
+fn make_places(places: &mut Vec<u32>, count: usize) -> Result<(), AllocError>
+    ensures { OnOk result (count ≤ length places.new.items) }
 {
-    moves.clear();
-    for id in ids {
-        moves.push(NumberedMove::Name(*id))?;
+    for _ in places.len()..count {
+        places.push(0)?;
     }
     Ok(())
 }
 
-// Fills the list with the moves of a normal proof, a step for each label.
+// The place of the label among the entries, which it is put behind where it isn't among them. What
+// was noted of it for another proof is told by what stands at the place.
+fn place_of(
+    entries: &mut Vec<LabelId>,
+    places: &mut Vec<u32>,
+    id: LabelId,
+) -> Result<usize, ProofFault>
+    ensures there { IfOk result (λ place.
+        slice_get (ids_in entries.new.items) place ≡ Some id.0) }
+    ensures longer { OnOk result ((more : List LabelId)
+        × (entries.new.items ≡ entries.old.items ++ more)) }
+    ensures fits { IfOk result (λ place. place < 4294967295) }
+    ensures fault { IfErr result (λ e. e ≡ ProofFault.Memory) }
+{
+    let at = id.0 as usize;
+    make_places(places, at + 1)?;
+    let noted = places[at];
+    if is_entry(entries, noted as usize, id) && noted < u32::MAX {
+        return Ok(noted as usize);
+    }
+    // No book has so many labels, and a code holds no greater number.
+    let place = entries.len();
+    if place >= u32::MAX as usize {
+        return Err(ProofFault::Memory);
+    }
+    entries.push(id)?;
+    places[at] = place as u32;
+    Ok(place)
+}
+
+// Whether the label is the entry at a place.
+fn is_entry(entries: &[LabelId], place: usize, id: LabelId) -> bool
+    ensures { IsTrue result → slice_get (ids_in entries.now) place ≡ Some id.0 }
+{
+    match entries.get(place) {
+        Some(entry) => entry.0 == id.0,
+        None => false,
+    }
+}
+
+// Fills the lists with the labels, each once, and with the numbers of their places.
+fn fill_distinct(
+    entries: &mut Vec<LabelId>,
+    codes: &mut Vec<Code>,
+    places: &mut Vec<u32>,
+    ids: &[LabelId],
+) -> Result<(), ProofFault>
+    ensures ok { OnOk result
+        (moves_of entries.new.items codes.new.items ≡ map name (ids_in ids.now)) }
+    ensures spelled { OnOk result (All HasSpelling codes.new.items) }
+    ensures fault { IfErr result (λ e. e ≡ ProofFault.Memory) }
+{
+    entries.clear();
+    codes.clear();
+    for id in ids {
+        let place = place_of(entries, places, *id)?;
+        codes.push(Code::Number(place as u32 + 1))?;
+    }
+    Ok(())
+}
+
+// Fills the lists with the labels of a normal proof, each once, and with their numbers.
 fn fill_normal(lists: &mut ParseLists, site: &Site, tokens: &[Token]) -> Result<(), ProofFault>
     requires normal { IsNormal (token_texts tokens.now) }
     ensures ok { OnOk result (IsReading site.now.statements site.now.place
-        (token_texts tokens.now) (moves_in lists.new.moves.items)) }
-    ensures picked { OnOk result
-        (ArePicked (moves_in lists.new.moves.items) (ids_in lists.new.picked.ids.items)) }
+        (token_texts tokens.now) (moves_of lists.new.entries.items lists.new.codes.items)) }
+    ensures spelled { OnOk result (All HasSpelling lists.new.codes.items) }
     ensures listed { OnOk result ((labels letters : List (List ℕ))
         → IsCompressed (token_texts tokens.now) labels letters
         → AreFor site.now.statements site.now.place (ids_in lists.new.ids.items) labels) }
@@ -117,60 +175,12 @@ fn fill_normal(lists: &mut ParseLists, site: &Site, tokens: &[Token]) -> Result<
         site.id,
         tokens,
     )?;
-    fill_names(&mut lists.moves, &lists.ids)?;
-    fill_picked(&mut lists.picked.ids, &lists.moves)?;
-    Ok(())
-}
-
-// The move that a code says, where numbers stand for these labels and then for tags. The label that
-// it names is marked.
-#[tactic(auto, using(crate::proofs::Picking::mark_steps))]
-fn move_of(entries: &[LabelId], marks: &mut Vec<bool>, code: Code) -> NumberedMove
-    requires spelled { HasSpelling code }
-    requires long { length marks.old.items ≡ length entries.now }
-    ensures says { NumberSays (ids_in entries.now) code (move_in result) }
-    ensures long { length marks.new.items ≡ length entries.now }
-    ensures marked { (moves : List (Move ℕ))
-        → AreMarked (ids_in entries.now) moves marks.old.items
-        → AreMarked (ids_in entries.now) (moves ++ move_in result ∷ []) marks.new.items }
-{
-    match code {
-        Code::Number(number) => {
-            let place = number as usize - 1;
-            match entries.get(place) {
-                Some(id) => {
-                    marks[place] = true;
-                    NumberedMove::Name(*id)
-                }
-                None => NumberedMove::Again((place - entries.len()) as u32),
-            }
-        }
-        Code::Tag => NumberedMove::Mark,
-    }
-}
-
-// Fills the list with the moves that the codes say, and the other with the labels that they name.
-#[tactic(auto, using(crate::proofs::Compressed::codes_more))]
-fn fill_moves(
-    moves: &mut Vec<NumberedMove>,
-    picked: &mut Picked,
-    entries: &[LabelId],
-    codes: &[Code],
-) -> Result<(), ProofFault>
-    requires { All HasSpelling codes.now }
-    ensures ok { OnOk result
-        (AllZip (NumberSays (ids_in entries.now)) codes.now (moves_in moves.new.items)) }
-    ensures picked { OnOk result
-        (ArePicked (moves_in moves.new.items) (ids_in picked.new.ids.items)) }
-    ensures fault { IfErr result (λ e. e ≡ ProofFault.Memory) }
-{
-    moves.clear();
-    unmark(&mut picked.marks, entries.len())?;
-    for code in codes {
-        let one = move_of(entries, &mut picked.marks, *code);
-        moves.push(one)?;
-    }
-    fill_marked(&mut picked.ids, entries, &picked.marks)?;
+    fill_distinct(
+        &mut lists.entries,
+        &mut lists.codes,
+        &mut lists.places,
+        &lists.ids,
+    )?;
     Ok(())
 }
 
@@ -265,21 +275,17 @@ fn fill_entries(
     entries.extend_from_slice(listed)
 }
 
-/// Fills the lists with the codes of a compressed proof, whose tokens after the `(` are these, and
-/// with the labels that its first numbers stand for.
-pub(crate) fn read_compressed<'a>(
+// Fills the lists with the codes of a compressed proof, whose tokens after the `(` are these, and
+// with the labels that its first numbers stand for.
+fn fill_compressed<'a>(
     lists: &mut ParseLists<'a>,
     site: &Site,
     rest: &[Token<'a>],
 ) -> Result<(), ProofFault>
-    // The moves that the codes say are what the tokens say.
-    ensures reads { let tokens = opening_token ∷ token_texts rest.now in
-        OnOk result ((steps : List (Move ℕ))
-        → AllZip (NumberSays (ids_in lists.new.entries.items)) lists.new.codes.items steps
-        → IsReading site.now.statements site.now.place tokens steps) }
+    ensures ok { let tokens = opening_token ∷ token_texts rest.now in
+        OnOk result (IsReading site.now.statements site.now.place tokens
+        (moves_of lists.new.entries.items lists.new.codes.items)) }
     ensures spelled { OnOk result (All HasSpelling lists.new.codes.items) }
-    ensures usable { OnOk result
-        (MayAllBeUsed site.now.statements site.now.place (ids_in lists.new.entries.items)) }
     ensures listed { OnOk result ((labels letters : List (List ℕ))
         → IsCompressed (opening_token ∷ token_texts rest.now) labels letters
         → AreFor site.now.statements site.now.place (ids_in lists.new.ids.items) labels) }
@@ -309,43 +315,15 @@ pub(crate) fn read_compressed<'a>(
     Ok(())
 }
 
-// Fills the list with the moves of a compressed proof, whose tokens after the `(` are these.
-fn fill_compressed<'a>(
-    lists: &mut ParseLists<'a>,
-    site: &Site,
-    rest: &[Token<'a>],
-) -> Result<(), ProofFault>
-    ensures ok { let tokens = opening_token ∷ token_texts rest.now in
-        OnOk result (IsReading site.now.statements site.now.place tokens
-        (moves_in lists.new.moves.items)) }
-    ensures picked { OnOk result
-        (ArePicked (moves_in lists.new.moves.items) (ids_in lists.new.picked.ids.items)) }
-    ensures listed { OnOk result ((labels letters : List (List ℕ))
-        → IsCompressed (opening_token ∷ token_texts rest.now) labels letters
-        → AreFor site.now.statements site.now.place (ids_in lists.new.ids.items) labels) }
-    ensures fault { let tokens = opening_token ∷ token_texts rest.now in
-        IfErr result (λ e. OnRule e (λ rule step. (step ≡ 0)
-        × IsWholeFault (take site.now.place site.now.statements) tokens rule)) }
-{
-    read_compressed(lists, site, rest)?;
-    fill_moves(
-        &mut lists.moves,
-        &mut lists.picked,
-        &lists.entries,
-        &lists.codes,
-    )
-}
-
-// Fills the list with the moves that the tokens say as a proof of the `$p`.
+// Fills the lists with what says the moves of the tokens as a proof of the `$p`.
 fn fill_whole<'a>(
     lists: &mut ParseLists<'a>,
     site: &Site,
     tokens: &[Token<'a>],
 ) -> Result<(), ProofFault>
     ensures ok { OnOk result (IsReading site.now.statements site.now.place
-        (token_texts tokens.now) (moves_in lists.new.moves.items)) }
-    ensures picked { OnOk result
-        (ArePicked (moves_in lists.new.moves.items) (ids_in lists.new.picked.ids.items)) }
+        (token_texts tokens.now) (moves_of lists.new.entries.items lists.new.codes.items)) }
+    ensures spelled { OnOk result (All HasSpelling lists.new.codes.items) }
     ensures listed { OnOk result ((labels letters : List (List ℕ))
         → IsCompressed (token_texts tokens.now) labels letters
         → AreFor site.now.statements site.now.place (ids_in lists.new.ids.items) labels) }
@@ -358,7 +336,7 @@ fn fill_whole<'a>(
     }
 }
 
-/// Fills the list with the moves that the tokens say as a proof of the `$p`, or tells
+/// Fills the lists with what says the moves of the tokens as a proof of the `$p`, or tells
 /// the first of P1 to P5 that they break: with a `?` among them, one of P1 to P4.
 pub(crate) fn fill_steps<'a>(
     lists: &mut ParseLists<'a>,
@@ -369,13 +347,12 @@ pub(crate) fn fill_steps<'a>(
     // The moves are what the tokens say, and each may be made.
     ensures steps { OnOk result (OfProof site.now.statements site.now.number
         (λ place s. SaySteps site.now.statements place s
-        (token_texts tokens.now) (moves_in lists.new.moves.items))) }
+        (token_texts tokens.now) (moves_of lists.new.entries.items lists.new.codes.items))) }
     ensures usable { OnOk result
-        (AreSteps site.now.statements site.now.number (moves_in lists.new.moves.items)) }
+        (AreSteps site.now.statements site.now.number (moves_of lists.new.entries.items lists.new.codes.items)) }
 
-    // The labels are those that the moves name.
-    ensures picked { OnOk result
-        (ArePicked (moves_in lists.new.moves.items) (ids_in lists.new.picked.ids.items)) }
+    // Each code has a spelling.
+    ensures spelled { OnOk result (All HasSpelling lists.new.codes.items) }
 
     // Those of the list, if there is one, are in the first list.
     ensures listed { OnOk result ((labels letters : List (List ℕ))
@@ -390,7 +367,7 @@ pub(crate) fn fill_steps<'a>(
     fill_whole(lists, site, tokens)
 }
 
-/// Fills the list with the moves that the tokens say as a proof of the `$p`, or tells the first of
+/// Fills the lists with what says the moves of the tokens as a proof of the `$p`, or tells the first of
 /// P1 to P5 that they break, or else P15, where the proof hasn't the form that the profile demands.
 pub(crate) fn fill_under<'a>(
     alloc: Global,
@@ -403,13 +380,12 @@ pub(crate) fn fill_under<'a>(
     // The moves are what the tokens say, and each may be made.
     ensures steps { OnOk result (OfProof site.now.statements site.now.number
         (λ place s. SaySteps site.now.statements place s
-        (token_texts tokens.now) (moves_in lists.new.moves.items))) }
+        (token_texts tokens.now) (moves_of lists.new.entries.items lists.new.codes.items))) }
     ensures usable { OnOk result
-        (AreSteps site.now.statements site.now.number (moves_in lists.new.moves.items)) }
+        (AreSteps site.now.statements site.now.number (moves_of lists.new.entries.items lists.new.codes.items)) }
 
-    // The labels are those that the moves name.
-    ensures picked { OnOk result
-        (ArePicked (moves_in lists.new.moves.items) (ids_in lists.new.picked.ids.items)) }
+    // Each code has a spelling.
+    ensures spelled { OnOk result (All HasSpelling lists.new.codes.items) }
 
     // The proof has the form that the profile demands.
     ensures form { OnOk result (OfProof site.now.statements site.now.number (λ place s.
@@ -422,7 +398,16 @@ pub(crate) fn fill_under<'a>(
 {
     fill_steps(lists, site, tokens)?;
     match profile {
-        Profile::Strict => judge_form(alloc, site, tokens, &lists.ids, &lists.moves),
+        Profile::Strict => {
+            judge_form(
+                alloc,
+                site,
+                tokens,
+                &lists.ids,
+                &lists.entries,
+                &lists.codes,
+            )
+        },
         Profile::Lenient => Ok(()),
     }
 }
@@ -456,7 +441,8 @@ fn steps_of(
     Ok(Steps {
         profile,
         front,
-        moves: lists.moves,
+        entries: lists.entries,
+        codes: lists.codes,
     })
 }
 

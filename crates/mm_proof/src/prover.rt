@@ -13,27 +13,25 @@ ghost use Rattle.mm_frame.specs.Form.{IsSound};
 ghost use Rattle.mm_frame.specs.Rules.{IsMeant, FirstBroken};
 ghost use Rattle.mm_frame.specs.Taken.{TakenAs};
 ghost use Rattle.mm_proof.specs.Answer.{OnRule, IsUnlessMemory};
-ghost use Rattle.mm_proof.specs.Tokens.{IsIncomplete, opening_token};
+ghost use Rattle.mm_proof.specs.Tokens.{IsIncomplete};
 ghost use Rattle.mm_proof.specs.Profiles.{limit_of};
-ghost use Rattle.mm_proof.specs.Mirror.Sites.{IsSite};
 ghost use Rattle.mm_proof.specs.Strict.{HasFormOf};
 ghost use Rattle.mm_proof.specs.UnderProfile.{IsProvedUnder, IsFaultUnder, AreAllowedUnder};
 ghost use Rattle.mm_proof.specs.UnderProfile.{HaveFaultUnder, IsFrontAllowedUnder};
 ghost use Rattle.mm_proof.specs.UnderProfile.{IsFrontFaultUnder};
 ghost use Rattle.mm_proof.specs.Steps.{IsProofNumber};
 ghost use Rattle.mm_proof.specs.Parsed.{OfProof};
-ghost use Rattle.mm_proof.specs.Verified.{TokensProve, TokensFail};
+ghost use Rattle.mm_proof.specs.Verified.{TokensProve};
 ghost use Rattle.mm_proof.specs.Plain.{ids_in, token_texts};
 
 use crate::fault::{ProofFault, ProofRule};
 use crate::flat::Flat;
-use crate::front::{is_byte, known_front};
-use crate::parse::{ParseLists, fill_steps, fill_under, is_incomplete, read_compressed};
+use crate::front::known_front;
+use crate::parse::{ParseLists, fill_under, is_incomplete};
 use crate::profile::Profile;
-use crate::run::judgement_of_codes;
+use crate::run::{judgement, pass};
 use crate::site::Site;
 use crate::used::Named;
-use crate::verdict::{judgement_in_frame, pass};
 use mm_frame::{Book, LabelId, RuleFault, Taken};
 use mm_text::{Seed, Statement, Token};
 use std::alloc::Global;
@@ -275,95 +273,8 @@ impl<'a> Prover<'a> {
     }
 }
 
-// Whether the tokens prove the `$p`, by a list of their moves: fills the list with the assertions
-// of its tree, or tells their first fault.
-fn prove_by_moves<'a>(
-    scratch: &mut Scratch<'a>,
-    site: &Site,
-    tokens: &[Token<'a>],
-) -> Result<(), ProofFault>
-    requires { IsSite site.now }
-    ensures proved { OnOk result (OfProof site.now.statements site.now.number (λ place s.
-        TokensProve site.now.limit (take place site.now.statements) s (token_texts tokens.now)
-        (ids_in scratch.new.named.ids.items))) }
-    ensures fault { IfErr result (λ e. OnRule e (λ rule step.
-        OfProof site.now.statements site.now.number (λ place s.
-        TokensFail site.now.limit (take place site.now.statements) s (token_texts tokens.now)
-        rule step))) }
-{
-    let Scratch {
-        lists,
-        store,
-        named,
-        ..
-    } = scratch;
-    fill_steps(lists, site, tokens)?;
-    store.clear();
-    judgement_in_frame(store, named, site, &lists.moves, &lists.picked.ids)
-}
-
-// Whether the tokens, of which these come after the `(`, prove the `$p`, by the codes of their
-// letters: fills the list with the assertions of its tree, or tells their first fault.
-fn prove_by_codes<'a>(
-    scratch: &mut Scratch<'a>,
-    site: Site,
-    rest: &[Token<'a>],
-) -> Result<(), ProofFault>
-    requires { IsSite site }
-    ensures proved { let tokens = opening_token ∷ token_texts rest.now in
-        OnOk result (OfProof site.entry.statements site.entry.number (λ place s.
-        TokensProve site.entry.limit (take place site.entry.statements) s tokens
-        (ids_in scratch.new.named.ids.items))) }
-    ensures fault { let tokens = opening_token ∷ token_texts rest.now in
-        IfErr result (λ e. OnRule e (λ rule step.
-        OfProof site.entry.statements site.entry.number (λ place s.
-        TokensFail site.entry.limit (take place site.entry.statements) s tokens rule step))) }
-{
-    let Scratch {
-        alloc,
-        lists,
-        store,
-        named,
-    } = scratch;
-    read_compressed(lists, &site, rest)?;
-    store.clear();
-    let marks = &mut lists.picked.marks;
-    judgement_of_codes(
-        *alloc,
-        store,
-        named,
-        marks,
-        site,
-        &lists.entries,
-        &lists.codes,
-    )
-}
-
-// Whether the tokens prove the `$p`: fills the list with the assertions of its tree, or tells their
-// first fault.
-fn prove_in_frame<'a>(
-    scratch: &mut Scratch<'a>,
-    site: Site,
-    tokens: &[Token<'a>],
-) -> Result<(), ProofFault>
-    requires { IsSite site }
-    ensures proved { OnOk result (OfProof site.entry.statements site.entry.number (λ place s.
-        TokensProve site.entry.limit (take place site.entry.statements) s (token_texts tokens.now)
-        (ids_in scratch.new.named.ids.items))) }
-    ensures fault { IfErr result (λ e. OnRule e (λ rule step.
-        OfProof site.entry.statements site.entry.number (λ place s.
-        TokensFail site.entry.limit (take place site.entry.statements) s (token_texts tokens.now)
-        rule step))) }
-{
-    match tokens {
-        [first, rest @ ..] if is_byte(first.text, b'(') => prove_by_codes(scratch, site, rest),
-        _ => prove_by_moves(scratch, &site, tokens),
-    }
-}
-
-// Whether the tokens prove the `$p` with the number and have the form that the profile demands, by
-// a list of their moves: fills the list with the assertions of its tree, or tells their first
-// fault.
+// Whether the tokens prove the `$p` with the number and have the form that the profile demands:
+// fills the list with the assertions of its tree, or tells their first fault.
 fn prove_under<'a>(
     scratch: &mut Scratch<'a>,
     book: &Book,
@@ -392,38 +303,19 @@ fn prove_under<'a>(
     } = scratch;
     fill_under(*alloc, lists, profile, &site, tokens)?;
     store.clear();
-    judgement_in_frame(store, named, &site, &lists.moves, &lists.picked.ids)
+    let marks = &mut lists.marks;
+    judgement(
+        *alloc,
+        store,
+        named,
+        marks,
+        site,
+        &lists.entries,
+        &lists.codes,
+    )
 }
 
-// Whether the tokens prove the `$p` with the number: fills the list with the assertions of its
-// tree, or tells their first fault. The lenient profile demands no form, and needs no list of
-// moves.
-fn prove_by_profile<'a>(
-    scratch: &mut Scratch<'a>,
-    book: &Book,
-    id: LabelId,
-    tokens: &[Token<'a>],
-    profile: Profile,
-) -> Result<(), ProofFault>
-    requires { (place : ℕ) × (s : Sentence) × IsProofNumber book.now.statements id.0 place s }
-    ensures form { OnOk result (OfProof book.now.statements id.0 (λ place s.
-        HasFormOf profile (take place book.now.statements) s (token_texts tokens.now))) }
-    ensures proved { OnOk result (OfProof book.now.statements id.0 (λ place s.
-        TokensProve (limit_of profile) (take place book.now.statements) s (token_texts tokens.now)
-        (ids_in scratch.new.named.ids.items))) }
-    ensures fault { IfErr result (λ e. OnRule e (λ rule step.
-        OfProof book.now.statements id.0 (λ place s.
-        IsFaultUnder profile (take place book.now.statements) s (token_texts tokens.now)
-        rule step))) }
-    ensures sound { IsSound book.now.statements }
-{
-    match profile {
-        Profile::Lenient => prove_in_frame(scratch, Site::new(book, id, profile), tokens),
-        Profile::Strict => prove_under(scratch, book, id, tokens, profile),
-    }
-}
-
-// Does as `prove_by_profile`, and leaves the list empty where they don't prove it.
+// Does as `prove_under`, and leaves the list empty where they don't prove it.
 fn prove_tokens<'a>(
     scratch: &mut Scratch<'a>,
     book: &Book,
@@ -444,7 +336,7 @@ fn prove_tokens<'a>(
     ensures unproved { OnErr result (scratch.new.named.ids.items ≡ []) }
     ensures sound { IsSound book.now.statements }
 {
-    match prove_by_profile(scratch, book, id, tokens, profile) {
+    match prove_under(scratch, book, id, tokens, profile) {
         Ok(()) => Ok(()),
         Err(fault) => {
             scratch.named.ids.clear();
@@ -501,5 +393,6 @@ fn pass_tokens<'a>(
     } = scratch;
     fill_under(*alloc, lists, profile, &site, front)?;
     store.clear();
-    pass(store, &site, &lists.moves)
+    let marks = &mut lists.marks;
+    pass(*alloc, store, marks, site, &lists.entries, &lists.codes)
 }

@@ -1,14 +1,14 @@
 //! The assertions that a proof uses.
 
 ghost use Rattle.std.specs.Prelude.{◌≡◌, ◌↔◌, ℕ, List, [], Contains, IsTrue, length, OnOk};
-ghost use Rattle.std.specs.List.{AllZip};
+ghost use Rattle.std.specs.List.{AllZip, AllByRecursion};
 ghost use Rattle.mm_frame.specs.Sentence.{Sentence};
 ghost use Rattle.mm_frame.specs.Numbers.{IsAssertionNumber};
 ghost use Rattle.mm_proof.specs.Moves.{Move};
 ghost use Rattle.mm_proof.specs.Plain.{ids_in};
 ghost use Rattle.mm_proof.specs.Mirror.CodeSteps.{MayBeUsed};
-ghost use Rattle.mm_proof.specs.Mirror.CodeApply.{IsCallOf, IsOfAssertion};
-ghost use Rattle.mm_proof.specs.Mirror.CodeRun.{ArePicked, AreMarked, AreNamedNumbers, AreNamed};
+ghost use Rattle.mm_proof.specs.Mirror.CodeApply.{MayBeCalled, IsOfAssertion};
+ghost use Rattle.mm_proof.specs.Mirror.CodeRun.{MayBeMade, AreMarked, AreNamedNumbers, DoRise};
 
 use crate::call::Call;
 use mm_frame::{Book, LabelId, LabelKind};
@@ -56,6 +56,16 @@ impl Named {
             ids: Vec::new(alloc),
         }
     }
+
+    /// Puts them in database order, each once.
+    pub(crate) fn put_in_order(&mut self)
+        ensures rising { DoRise (ids_in self.new.ids.items) }
+        ensures same { (id : ℕ) → Contains (ids_in self.new.ids.items) id
+            ↔ Contains (ids_in self.old.ids.items) id }
+    {
+        self.ids.sort_unstable();
+        self.ids.dedup();
+    }
 }
 
 /// Whether the label is that of an assertion.
@@ -68,37 +78,16 @@ pub(crate) fn is_assertion(book: &Book, id: LabelId) -> bool
     matches!(book.kind(id), LabelKind::Axiom | LabelKind::Proof)
 }
 
-// Those of the labels that are assertions', in the same order.
-fn fill_named(named: &mut Named, book: &Book, picked: &[LabelId]) -> Result<(), AllocError>
-    requires known { (place : ℕ) × ((id : ℕ) → Contains (ids_in picked.now) id
-        → (label : List ℕ) × MayBeUsed book.now.statements place label id) }
-    ensures { OnOk result ((id : ℕ) → Contains (ids_in named.new.ids.items) id
-        ↔ (Contains (ids_in picked.now) id × IsAssertionNumber book.now.statements id)) }
+/// Makes so many marks, none of which is set.
+#[tactic(auto, using(crate::proofs::Picking::marked_none, crate::proofs::Picking::none_more))]
+pub(crate) fn unmark(marks: &mut Vec<bool>, count: usize) -> Result<(), AllocError>
+    ensures long { OnOk result (length marks.new.items ≡ count) }
+    ensures none { OnOk result ((entries : List ℕ) → AreMarked entries [] marks.new.items) }
 {
-    named.ids.clear();
-    for id in picked {
-        if is_assertion(book, *id) {
-            named.ids.push(*id)?;
-        }
+    marks.clear();
+    for _ in 0..count {
+        marks.push(false)?;
     }
-    Ok(())
-}
-
-/// Fills the list with the assertions among the labels that moves name, each once, in database
-/// order.
-pub(crate) fn fill_used(
-    named: &mut Named,
-    book: &Book,
-    picked: &[LabelId],
-) -> Result<(), AllocError>
-    requires known { (place : ℕ) × ((id : ℕ) → Contains (ids_in picked.now) id
-        → (label : List ℕ) × MayBeUsed book.now.statements place label id) }
-    ensures { OnOk result ((moves : List (Move ℕ)) → ArePicked moves (ids_in picked.now)
-        → AreNamed book.now.statements moves (ids_in named.new.ids.items)) }
-{
-    fill_named(named, book, picked)?;
-    named.ids.sort_unstable();
-    named.ids.dedup();
     Ok(())
 }
 
@@ -123,7 +112,8 @@ pub(crate) fn fill_called(
     requires calls { length calls.now ≡ length entries.now }
     requires marks { length marks.now ≡ length entries.now }
     ensures { OnOk result ((statements : List Sentence) (place : ℕ) (moves : List (Move ℕ))
-        → AllZip (IsCallOf statements place) (ids_in entries.now) calls.now
+        → AllZip (MayBeCalled statements place) (ids_in entries.now) calls.now
+        → AllByRecursion (MayBeMade statements place) moves
         → AreMarked (ids_in entries.now) moves marks.now
         → AreNamedNumbers statements moves (ids_in named.new.ids.items)) }
 {

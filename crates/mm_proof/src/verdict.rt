@@ -1,122 +1,61 @@
 //! The verdict on the moves of a proof.
 
-ghost use Rattle.std.specs.Prelude.{◌≡◌, ℕ, [], ◌∷◌, take, Ok, Err, IfOk, IfErr, OnOk, IsOkUnless};
+ghost use Rattle.std.specs.Prelude.{◌≡◌, ℕ, [], take, Err, IfOk, IfErr, OnOk, IsOkUnless};
 ghost use Rattle.std.specs.Prelude.{true, false};
 ghost use Rattle.mm_proof.specs.Answer.{OnRule, IsUnlessMemory};
-ghost use Rattle.mm_proof.specs.Stores.{numbers_in};
 ghost use Rattle.mm_proof.specs.Proof.{Prove, IsWithin, IsMoveFault};
 ghost use Rattle.mm_proof.specs.Profiles.{limit_of};
 ghost use Rattle.mm_proof.specs.KnownFront.{Pass};
-ghost use Rattle.mm_proof.specs.Mirror.Sites.{IsSite};
 ghost use Rattle.mm_proof.specs.Steps.{AreSteps};
 ghost use Rattle.mm_frame.specs.Form.{IsSound};
-ghost use Rattle.mm_proof.specs.Plain.{ids_in, moves_in};
-ghost use Rattle.mm_proof.specs.Mirror.CodeRun.{EndsWrong, ArePicked};
+ghost use Rattle.mm_proof.specs.Plain.{ids_in};
 ghost use Rattle.mm_proof.specs.Verified.{OfMoves, ProvesUsing, FailsWith};
 
 use crate::fault::{ProofFault, ProofRule};
-use crate::judge::{fault_at_step, judge_moves};
-use crate::moves::{NumberedMove, Steps};
-use crate::picked::fill_picked;
-use crate::profile::Profile;
+use crate::moves::Steps;
+use crate::run::{judgement, pass};
 use crate::site::Site;
 use crate::store::Store;
-use crate::substitution::is_same;
-use crate::used::{Named, Used, fill_used};
-use mm_frame::{Book, LabelId, Sym, one_number};
+use crate::used::{Named, Used};
+use mm_frame::{Book, LabelId};
 use std::alloc::Global;
 
-// What is on the stack at the end: only the expression, or P13 or P14.
-pub(crate) fn ending<S: Store>(
-    store: &S,
-    expression: &[Sym],
-    number: usize,
-) -> Result<(), ProofFault>
-    ensures ok { OnOk result (S.stack store.now ≡ numbers_in expression.now ∷ []) }
-    ensures fault { (rule : ProofRule) → (at : ℕ) → result ≡ Err (ProofFault.Rule rule at)
-        → (at ≡ number) × EndsWrong rule (S.stack store.now) (numbers_in expression.now) }
-{
-    if store.len() != 1 {
-        return fault_at_step(ProofRule::P13, number);
-    }
-    if !is_same(store.at(0), expression) {
-        return fault_at_step(ProofRule::P14, number);
-    }
-    Ok(())
-}
-
-// Whether the moves derive the expression of the `$p`, or their first fault.
-fn derive<S: Store>(store: &mut S, site: &Site, moves: &[NumberedMove]) -> Result<(), ProofFault>
-    requires stack { S.stack store.old ≡ [] }
-    requires kept { S.kept store.old ≡ [] }
-    requires steps { AreSteps site.now.statements site.now.number (moves_in moves.now) }
-    ensures proved { OnOk result (OfMoves site.now.statements site.now.number (moves_in moves.now)
-        (λ place s names.
-        Prove (IsWithin site.now.limit) (take place site.now.statements) s names)) }
-    ensures fault { IfErr result (λ e.
-        OnRule e (λ rule step. OfMoves site.now.statements site.now.number (moves_in moves.now)
-        (λ place s names. FailsWith site.now.limit site.now.statements place s names rule step))) }
-{
-    one_number();
-    let expression = site.expression();
-    let count = judge_moves(store, site, moves)?;
-    ending(store, expression, count + 1)?;
-    Ok(())
-}
-
-// Fills the list with the assertions of the tree that the moves make, or tells their first fault,
-// where the labels are those that the moves name.
-pub(crate) fn judgement_in_frame<S: Store>(
-    store: &mut S,
-    named: &mut Named,
-    site: &Site,
-    moves: &[NumberedMove],
-    picked: &[LabelId],
-) -> Result<(), ProofFault>
-    requires stack { S.stack store.old ≡ [] }
-    requires kept { S.kept store.old ≡ [] }
-    requires steps { AreSteps site.now.statements site.now.number (moves_in moves.now) }
-    requires picked { ArePicked (moves_in moves.now) (ids_in picked.now) }
-    ensures proved { OnOk result (OfMoves site.now.statements site.now.number (moves_in moves.now)
-        (λ place s names.
-        ProvesUsing site.now.limit site.now.statements place s names
-        (ids_in named.new.ids.items))) }
-    ensures fault { IfErr result (λ e.
-        OnRule e (λ rule step. OfMoves site.now.statements site.now.number (moves_in moves.now)
-        (λ place s names. FailsWith site.now.limit site.now.statements place s names rule step))) }
-{
-    derive(store, site, moves)?;
-    fill_used(named, site.book, picked)?;
-    Ok(())
-}
-
-// Fills the list with the assertions of the tree that the moves make, or tells their first fault.
-fn judgement<S: Store>(
+// Fills the list with the assertions of the tree that the moves make, each once, in database order,
+// or tells their first fault.
+fn judgement_in_order<S: Store>(
     alloc: Global,
     store: &mut S,
     named: &mut Named,
     book: &Book,
     id: LabelId,
-    moves: &[NumberedMove],
-    profile: Profile,
+    steps: &Steps,
 ) -> Result<(), ProofFault>
     requires stack { S.stack store.old ≡ [] }
     requires kept { S.kept store.old ≡ [] }
-    requires steps { AreSteps book.now.statements id.0 (moves_in moves.now) }
-    ensures proved { OnOk result (OfMoves book.now.statements id.0 (moves_in moves.now)
+    requires steps { AreSteps book.now.statements id.0 steps.now.moves }
+    ensures proved { OnOk result (OfMoves book.now.statements id.0 steps.now.moves
         (λ place s names.
-        ProvesUsing (limit_of profile) book.now.statements place s names
+        ProvesUsing (limit_of steps.now.profile) book.now.statements place s names
         (ids_in named.new.ids.items))) }
     ensures fault { IfErr result (λ e.
-        OnRule e (λ rule step. OfMoves book.now.statements id.0 (moves_in moves.now)
+        OnRule e (λ rule step. OfMoves book.now.statements id.0 steps.now.moves
         (λ place s names.
-        FailsWith (limit_of profile) book.now.statements place s names rule step))) }
+        FailsWith (limit_of steps.now.profile) book.now.statements place s names rule step))) }
     ensures sound { IsSound book.now.statements }
 {
-    let site = Site::new(book, id, profile);
-    let mut picked = Vec::new(alloc);
-    fill_picked(&mut picked, moves)?;
-    judgement_in_frame(store, named, &site, moves, &picked)
+    let site = Site::new(book, id, steps.profile);
+    let mut marks = Vec::new(alloc);
+    judgement(
+        alloc,
+        store,
+        named,
+        &mut marks,
+        site,
+        &steps.entries,
+        &steps.codes,
+    )?;
+    named.put_in_order();
+    Ok(())
 }
 
 // The answer on the moves of a proof. The store is handed in empty.
@@ -146,34 +85,13 @@ pub(crate) fn answer<S: Store>(
         → FailsWith (limit_of steps.now.profile) book.now.statements place s names rule step
         → IsUnlessMemory result (Err (ProofFault.Rule rule step))) }
 {
-    match judgement(alloc, store, named, book, id, &steps.moves, steps.profile) {
+    match judgement_in_order(alloc, store, named, book, id, steps) {
         Ok(()) => {
             let labels = Vec::from_slice(alloc, &named.ids)?;
             Ok(Used { labels })
         }
         Err(fault) => Err(fault),
     }
-}
-
-// Whether all moves pass, or their first fault.
-pub(crate) fn pass<S: Store>(
-    store: &mut S,
-    site: &Site,
-    moves: &[NumberedMove],
-) -> Result<(), ProofFault>
-    requires site { IsSite site.now }
-    requires stack { S.stack store.old ≡ [] }
-    requires kept { S.kept store.old ≡ [] }
-    requires steps { AreSteps site.now.statements site.now.number (moves_in moves.now) }
-    ensures passed { OnOk result
-        (OfMoves site.now.statements site.now.number (moves_in moves.now) (λ place s names.
-        Pass (IsWithin site.now.limit) (take place site.now.statements) names)) }
-    ensures fault { IfErr result (λ e. OnRule e (λ rule step.
-        OfMoves site.now.statements site.now.number (moves_in moves.now) (λ place s names.
-        IsMoveFault (IsWithin site.now.limit) (take place site.now.statements) names rule step))) }
-{
-    judge_moves(store, site, moves)?;
-    Ok(())
 }
 
 // The answer on the moves of a front. The store is handed in empty.
@@ -198,7 +116,8 @@ fn answer_front<S: Store>(
     ensures sound { IsSound book.now.statements }
 {
     let site = Site::new(book, id, steps.profile);
-    pass(store, &site, &steps.moves)?;
+    let mut marks = Vec::new(alloc);
+    pass(alloc, store, &mut marks, site, &steps.entries, &steps.codes)?;
     Ok(Used {
         labels: Vec::new(alloc),
     })

@@ -75,7 +75,7 @@ fn time_proof(times: &mut Times, prover: &mut Prover, id: LabelId, tokens: &[&[u
         panic!("memory");
     };
     times.proofs += 1;
-    times.moves += steps.moves.len();
+    times.moves += steps.codes.len();
     times.codes += packed.codes.len();
     times.slower += usize::from(compressing > verifying);
     times.verify += verifying;

@@ -111,12 +111,13 @@ pub record AreItemsAt {X : Type 0} (held : Holding X) (statements : List Sentenc
 abbrev pub AreFirst : (front moves : List (Move ℕ)) → Type 0
 AreFirst front moves = take (length front) moves ≡ front
 
--- The moves since the first state were built, with the same builder and book: whatever moves they
+-- The moves since the first state were built, with the same builder, book and entries: whatever moves they
 -- begin that make a tree, the items are those of the trees so far.
 pub record HasBuilt {B X : Type 0} (holds : B → B → List Sentence → Holding X)
     (first now : Forest B X) (front : List (Move ℕ)) : Type 0 where
   pub same_builder : now.builder.ghost_name ≡ first.builder.ghost_name
   pub same_book : now.book ≡ first.book
+  pub same_entries : now.entries ≡ first.entries
   pub sound : IsSound first.book.now.statements
   pub keeps : (later : B) → KeepsItem (holds first.builder.now later first.book.now.statements)
   pub at : let statements = first.book.now.statements in

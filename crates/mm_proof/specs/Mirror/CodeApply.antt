@@ -79,3 +79,8 @@ IsCallOf statements place id (calls.Hypothesis symbols) =
     (label : List ℕ) × (used : MayBeUsed statements place label id)
     × IsHypothesis used.s.kind × AreNumbers statements (numbers_in symbols.now) used.s.symbols
 IsCallOf statements place id (calls.Assertion scheme) = IsEarlierScheme statements place id scheme
+
+-- it is, if the label may be used there
+abbrev pub MayBeCalled : List Sentence → (place id : ℕ) → Call → Type 0
+MayBeCalled statements place id call =
+    (label : List ℕ) → MayBeUsed statements place label id → IsCallOf statements place id call

@@ -34,9 +34,9 @@ pub record HasListed {S : Type 0} (stack kept : S → List (List ℕ)) (first no
     (front : List (Move ℕ)) : Type 0 where
   pub same_lines : now.lines.ghost_name ≡ first.lines.ghost_name
   pub judged : HasJudged stack kept first.judge now.judge front
-  pub listed : let site = first.judge.site.now in
+  pub listed : let site = first.judge.table.now.site in
       AreLinesAt site.statements site.place front now.lines.now.items
-  pub stand : AreTagsFor first.judge.site.now.statements front now.tags.now.items
+  pub stand : AreTagsFor first.judge.table.now.site.statements front now.tags.now.items
   pub count : length now.lines.now.items ≡ now.judge.steps
   pub marks : length now.tags.now.items ≡ now.judge.kept
 

@@ -48,10 +48,6 @@ pub record HasRun (limit : ℕ) (statements : List Sentence) (place : ℕ) (fron
   pub entries : AreStackEntries statements (take place statements) stack
   pub kept_entries : AreStackEntries statements (take place statements) kept
 
--- these are the numbers of the labels that the moves name
-abbrev pub ArePicked : List (Move ℕ) → List ℕ → Type 0
-ArePicked moves ids = (id : ℕ) → Contains ids id ↔ ((i : ℕ) × (slice_get moves i ≡ Some (name id)))
-
 -- those of these labels are marked that the moves name
 pub record AreMarked (entries : List ℕ) (moves : List (Move ℕ)) (marks : List Bool) : Type 0 where
   pub named : (place : ℕ) → IsTrue (slice_index_or marks place false)
@@ -71,11 +67,10 @@ abbrev pub AreNamedNumbers : List Sentence → List (Move ℕ) → List ℕ → 
 AreNamedNumbers statements moves ids =
     (id : ℕ) → Contains ids id ↔ IsNamedByMove statements moves id
 
--- the same numbers, each once, in database order
-pub record AreNamed (statements : List Sentence) (moves : List (Move ℕ))
-    (ids : List ℕ) : Type 0 where
-  pub rising : (i j a b : ℕ) → i < j → slice_get ids i ≡ Some a → slice_get ids j ≡ Some b → a < b
-  pub each : AreNamedNumbers statements moves ids
+-- each of the numbers is greater than those before it
+abbrev pub DoRise : List ℕ → Type 0
+DoRise ids =
+    (i j a b : ℕ) → i < j → slice_get ids i ≡ Some a → slice_get ids j ≡ Some b → a < b
 
 -- what is on the stack at the end breaks this rule, where the statement's expression is the second
 abbrev pub EndsWrong : ProofRule → List (List ℕ) → List ℕ → Type 0

@@ -5,6 +5,7 @@ use Rattle.std.specs.List.{AllZip, AllByRecursion}
 use Rattle.mm_frame.specs.Sentence.{Sentence, SomeSentence, IsLabelled, IsHypothesis, IsAssertion}
 use Rattle.mm_frame.specs.Active.{IsActive}
 use Rattle.mm_frame.specs.Numbers.{IsNumbered}
+use Rattle.mm_frame.specs.declared.number.LabelId.{LabelId}
 use Rattle.mm_code.specs.declared.code.Code.{Code}
 use Rattle.mm_code.specs.declared.code.Code.TheVariants as codes
 use Rattle.mm_code.specs.declared.code.CodeFault.{CodeFault}
@@ -13,6 +14,7 @@ use Rattle.mm_code.specs.declared.code.CodeRule.TheVariants as code_rules
 use Rattle.mm_proof.specs.declared.fault.ProofFault.{ProofFault}
 use Rattle.mm_proof.specs.declared.fault.ProofFault.TheVariants as faults
 use Rattle.mm_proof.specs.Moves.{Move, name, again, mark}
+use Rattle.mm_proof.specs.Plain.{ids_in}
 use Rattle.mm_proof.specs.Tokens.{SayMoves}
 use Rattle.mm_proof.specs.Proof.{IsWhole}
 use Rattle.mm_proof.specs.Steps.{AreNumberedMoves, IsUsableMove}
@@ -92,10 +94,9 @@ code_move ids codes.Tag = mark
 abbrev pub code_moves : List ℕ → List Code → List (Move ℕ)
 code_moves ids said = map (code_move ids) said
 
--- each of the labels may be used
-abbrev pub MayAllBeUsed : List Sentence → ℕ → List ℕ → Type 0
-MayAllBeUsed statements place ids =
-    AllByRecursion (λ id. (label : List ℕ) × MayBeUsed statements place label id) ids
+-- the moves that the codes of a proof say, whose first numbers stand for these entries
+abbrev pub moves_of : List LabelId → List Code → List (Move ℕ)
+moves_of entries said = code_moves (ids_in entries) said
 
 -- the tokens break no rule over the whole proof, and the moves are what they say, each of which may
 -- be made

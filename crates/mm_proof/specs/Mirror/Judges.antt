@@ -6,18 +6,22 @@ use Rattle.mm_proof.specs.Moves.{Move}
 use Rattle.mm_proof.specs.Proof.{IsWithin, FirstAtMove}
 use Rattle.mm_proof.specs.Steps.{IsNumberedMove}
 use Rattle.mm_proof.specs.Mirror.CodeVerify.{all_names_at}
-use Rattle.mm_proof.specs.Mirror.CodeRun.{HasRun}
+use Rattle.mm_proof.specs.Mirror.CodeRun.{HasRun, AreMarked}
 use Rattle.mm_proof.specs.Mirror.Sites.{ProofSite}
 
--- the judge has run over the moves since the first state, in the same store and at the same place
+-- the judge has run over the moves since the first state, in the same store and with the same
+-- entries, and those are marked that the moves name
 pub record HasJudged {S : Type 0} (stack kept : S → List (List ℕ)) (first now : Judge S)
     (front : List (Move ℕ)) : Type 0 where
   pub same_store : now.store.ghost_name ≡ first.store.ghost_name
-  pub same_site : now.site ≡ first.site
-  pub run : let site = first.site.now in
+  pub same_marks : now.marks.ghost_name ≡ first.marks.ghost_name
+  pub same_table : now.table ≡ first.table
+  pub run : let site = first.table.now.site in
       HasRun site.limit site.statements site.place front (stack now.store.now)
       (kept now.store.now) now.steps
-  pub marks : now.kept ≡ length (kept now.store.now)
+  pub tags : now.kept ≡ length (kept now.store.now)
+  pub long : length now.marks.now.items ≡ length first.table.now.ids
+  pub marked : AreMarked first.table.now.ids front now.marks.now.items
   pub all : now.steps + now.kept ≡ length front
 
 -- The moves ran, and the next one breaks the rule at the step.

@@ -1,7 +1,7 @@
 use Rattle.std.proofs.Common.{rules, ◌≡◌, length, refl, subst, arith}
 use Rattle.std.specs.Vec.{vec_len}
 use Rattle.mm_proof.specs.Tree.{tree, none}
-use Rattle.mm_proof.specs.Plain.{moves_in}
+use Rattle.mm_proof.specs.Mirror.CodeSteps.{moves_of}
 use Rattle.mm_proof.specs.Mirror.Builders.{IsBuilt}
 use Rattle.mm_proof.proofs.Running.{first_up_to}
 use Rattle.mm_proof.proofs.Answering.{handed}
@@ -10,13 +10,13 @@ use Rattle.mm_proof.proofs.builder.build_moves.Goals as goal
 
 pub run-requires-clause-allowed : goal.run-requires-clause-allowed
 run-requires-clause-allowed g c place move there =
-    (moves_in c.args.moves.now, c.requires.made, first_up_to _ place move there)
+    (moves_of c.args.entries.now c.args.codes.now, c.requires.made, first_up_to _ place move there)
 
 pub returns-in_err-run-clause-long : goal.returns-in_err-run-clause-long
 returns-in_err-run-clause-long g c =
     handed _ c.from_residual.result c.from_residual.ensures.1 (λ fault is long m.
     let s = c.in_err-run.ensures.stops in
-    s.known (subst g.B.Builder.is_long is long) (moves_in c.args.moves.now) m
+    s.known (subst g.B.Builder.is_long is long) (moves_of c.args.entries.now c.args.codes.now) m
     (first_up_to _ s.place s.move s.there))
 
 pub index-requires : goal.index-requires

@@ -1,4 +1,5 @@
-use Rattle.std.proofs.Common.{◌≡◌, ◌<◌, ℕ, sym, subst}
+use Rattle.std.proofs.Common.{◌≡◌, ◌<◌, ℕ, sym, subst, ◌∙◌}
+use Rattle.std.proofs.lemmas.Bool.{false≢true}
 use Rattle.mm_frame.specs.Sentence.{IsHypothesis, IsAssertion}
 use Rattle.mm_frame.proofs.Labelled.{numbered_get}
 use Rattle.mm_proof.proofs.Numbered.{one_place}
@@ -8,9 +9,13 @@ use Rattle.mm_proof.proofs.call.call_of.Goals as goal
 
 pub frame-requires : goal.frame-requires
 frame-requires c =
-    let u = c.requires.2 in
-    let there = numbered_get c.args.book.now.statements c.args.id.0 u.at u.s u.numbered in
-    (u.at, u.s, u.numbered, subst IsAssertion (sym (c.kind.ensures u.s there)) (is_assertion_kind c.kind.result c.in_default.not-Floating c.in_default.not-Essential))
+    let n = c.is_label.ensures.0 c.if-not-is_label.false in
+    let there = numbered_get c.args.book.now.statements c.args.id.0 n.0 n.1 n.2 in
+    (n.0, n.1, n.2, subst IsAssertion (sym (c.kind.ensures n.1 there)) (is_assertion_kind c.kind.result c.in_default.not-Floating c.in_default.not-Essential))
+
+pub returns-then-not-is_label : goal.returns-then-not-is_label
+returns-then-not-is_label c place label u =
+    absurd (false≢true (sym c.if-not-is_label.true ∙ c.is_label.ensures.1 (u.at, u.s, u.numbered)))
 
 pub returns-in-Floating : goal.returns-in-Floating
 returns-in-Floating c place label u =

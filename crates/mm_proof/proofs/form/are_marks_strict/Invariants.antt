@@ -1,8 +1,8 @@
 use Rattle.std.proofs.Common.{◌≡◌, ℕ, ◌<◌, slice_get, Some}
 use Rattle.mm_proof.specs.Moves.{mark}
-use Rattle.mm_proof.specs.Plain.{moves_in}
+use Rattle.mm_proof.specs.Mirror.CodeSteps.{moves_of}
 use Rattle.mm_proof.specs.Mirror.CodeForm.{IsAfterAssertion}
 use Rattle.mm_proof.proofs.form.are_marks_strict.Given as goal
 
 abbrev pub invariant-loop-place : goal.invariant-loop-place
-invariant-loop-place l = (k : ℕ) → k < l.place → slice_get (moves_in l.moves) k ≡ Some mark → IsAfterAssertion l.fn.book.statements (moves_in l.moves) k
+invariant-loop-place l = (k : ℕ) → k < l.place → slice_get (moves_of l.entries l.codes) k ≡ Some mark → IsAfterAssertion l.fn.book.statements (moves_of l.entries l.codes) k

@@ -1,13 +1,14 @@
 use Rattle.std.proofs.Common.{refl, ap}
 use Rattle.mm_proof.specs.Mirror.Sites.{ProofSite}
-use Rattle.mm_proof.specs.Plain.{ids_in, label_ids, moves_in, token_texts}
+use Rattle.mm_proof.specs.Plain.{ids_in, label_ids, token_texts}
+use Rattle.mm_proof.specs.Mirror.CodeSteps.{moves_of}
 use Rattle.mm_proof.proofs.Ending.{steps_made}
 use Rattle.mm_proof.proofs.FormLists.{new_seen, old_seen}
 use Rattle.mm_proof.proofs.FormJudged.{strict_all, old_fault, loose_fault}
 use Rattle.mm_proof.proofs.form.judge_form.Goals as goal
 
-pub are_marks_strict-requires : goal.are_marks_strict-requires
-are_marks_strict-requires c =
+pub are_marks_strict-requires-clause-usable : goal.are_marks_strict-requires-clause-usable
+are_marks_strict-requires-clause-usable c =
     let own = c.requires.site in
     let made = steps_made c.args.site.now.statements c.args.site.now.number _ c.args.site.now.place
     own.s own.sound.0 c.requires.steps own.proof.numbered in
@@ -24,7 +25,7 @@ returns-then-not-branch-clause-fault c =
       refl,
       old_fault c.args.site.now.statements c.args.site.now.number c.args.site.now.place own.s
           (token_texts c.args.tokens.now) hids (ids_in c.args.listed.now)
-          (moves_in c.args.moves.now) own.proof.numbered c.hypotheses.ensures.ids
+          (moves_of c.args.entries.now c.args.codes.now) own.proof.numbered c.hypotheses.ensures.ids
           c.requires.listed c.requires.says
           (c.is_compressed.ensures.0 c.if-not-is_compressed.false) old place s proof,
     ))
@@ -37,7 +38,7 @@ returns-then-not-are_marks_strict-clause-fault c =
       refl,
       refl,
       loose_fault c.args.site.now.statements c.args.site.now.number
-          (token_texts c.args.tokens.now) (moves_in c.args.moves.now) c.requires.site.sound.0
+          (token_texts c.args.tokens.now) (moves_of c.args.entries.now c.args.codes.now) c.requires.site.sound.0
           c.requires.says (c.is_compressed.ensures.0 c.if-not-is_compressed.false) loose place s
           proof,
     ))
@@ -49,7 +50,7 @@ returns-clause-strict c =
     let same = ap (λ (v : ProofSite). v.statements) c.site.view_is in
     let strict = rw same at (c.are_marks_strict.ensures.strict c.if-not-are_marks_strict.false) in
     strict_all c.args.site.now.statements c.args.site.now.number c.args.site.now.place own.s
-    (token_texts c.args.tokens.now) hids (ids_in c.args.listed.now) (moves_in c.args.moves.now)
+    (token_texts c.args.tokens.now) hids (ids_in c.args.listed.now) (moves_of c.args.entries.now c.args.codes.now)
     own.sound.0 own.proof.numbered c.hypotheses.ensures.ids c.requires.listed c.requires.says
     c.requires.steps
     (new_seen c.in_ok-seen.seen hids (ids_in c.args.listed.now) c.in_ok-seen.ensures

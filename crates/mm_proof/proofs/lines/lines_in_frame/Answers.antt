@@ -1,40 +1,44 @@
 use Rattle.std.proofs.Common.{rules, ◌≡◌, ◌+◌, length, Err, ap, ◌∙◌}
 use Rattle.std.proofs.lemmas.Result.{err_from_is_err_and}
 use Rattle.std.specs.Vec.{vec_len}
-use Rattle.mm_proof.specs.Plain.{moves_in}
+use Rattle.mm_proof.specs.Mirror.Sites.{CodeSite}
 use Rattle.mm_proof.proofs.Ending.{steps_made, wrong_end, wrong_move, on_rule_from}
 use Rattle.mm_proof.proofs.ListingEnd.{lists_end}
 use Rattle.mm_proof.proofs.lines.lines_in_frame.Goals as goal
 
 pub lines_of-requires-clause-usable : goal.lines_of-requires-clause-usable
 lines_of-requires-clause-usable g c =
-    let own = c.expression-expression.ensures.site in
-    steps_made c.args.site.now.statements c.args.site.now.number (moves_in c.args.moves.now) c.args.site.now.place own.s own.sound.0 c.requires.steps own.proof.numbered
+    let same = ap (λ (t : CodeSite). t.site) c.table.view_is in
+    let own = rw same at c.expression-expression.ensures.site in
+    steps_made _ _ _ _ own.s own.sound.0 c.requires.steps own.proof.numbered
 
 pub lines_of-requires-clause-names : goal.lines_of-requires-clause-names
 lines_of-requires-clause-names g c = (c.requires.steps.moves, c.requires.steps.numbered)
 
 pub returns-in_err-lines-clause-fault : goal.returns-in_err-lines-clause-fault
 returns-in_err-lines-clause-fault g c =
-    let own = c.expression-expression.ensures.site in
+    let same = ap (λ (t : CodeSite). t.site) c.table.view_is in
+    let own = rw same at c.expression-expression.ensures.site in
     let p = err_from_is_err_and c.from_residual.result c.from_residual.ensures.1 in
     rw (p.1, p.2) (on_rule_from c.in_err-lines.field-0.0 _ (λ rule at is.
-    wrong_move c.args.site.now.limit c.args.site.now.statements c.args.site.now.number c.args.site.now.place own.s (moves_in c.args.moves.now) rule at own.proof.numbered
+    wrong_move _ _ _ _ own.s _ rule at own.proof.numbered
     (λ names numbered. c.lines_of.ensures.fault rule at (c.in_err-lines.was ∙ ap Err is) names numbered)))
 
 pub returns-in_err-ending-clause-fault : goal.returns-in_err-ending-clause-fault
 returns-in_err-ending-clause-fault g c =
-    let own = c.expression-expression.ensures.site in
+    let same = ap (λ (t : CodeSite). t.site) c.table.view_is in
+    let own = rw same at c.expression-expression.ensures.site in
+    let symbols = rw same at c.expression-expression.ensures.symbols in
     let p = err_from_is_err_and c.from_residual-in_err-ending.result c.from_residual-in_err-ending.ensures.1 in
-    let symbols = c.expression-expression.ensures.symbols in
     let long : vec_len c.in_ok-lines.lines ≡ length c.in_ok-lines.lines.items = search rules in
     rw (p.1, p.2) (on_rule_from c.in_err-ending.field-0.0 _ (λ rule at is.
-    wrong_end c.args.site.now.limit c.args.site.now.statements c.args.site.now.number c.args.site.now.place own.s (moves_in c.args.moves.now) _ _ _ _ rule at c.one_number.ensures own.proof.numbered symbols c.in_ok-lines.ensures.run
+    wrong_end _ _ _ _ own.s _ _ _ _ _ rule at c.one_number.ensures own.proof.numbered symbols c.in_ok-lines.ensures.run
     (let told = c.ending.ensures.fault rule at (c.in_err-ending.was ∙ ap Err is) in (told.0 ∙ ap (λ n. n + 1) (c.len.ensures ∙ long), told.1))))
 
 pub returns-clause-listed : goal.returns-clause-listed
 returns-clause-listed g c =
-    let own = c.expression-expression.ensures.site in
-    let symbols = c.expression-expression.ensures.symbols in
-    lists_end c.args.site.now.limit c.args.site.now.statements c.args.site.now.number c.args.site.now.place own.s (moves_in c.args.moves.now) _ _ _ _ _ own.proof.numbered symbols
+    let same = ap (λ (t : CodeSite). t.site) c.table.view_is in
+    let own = rw same at c.expression-expression.ensures.site in
+    let symbols = rw same at c.expression-expression.ensures.symbols in
+    lists_end _ _ _ _ own.s _ _ _ _ _ _ own.proof.numbered symbols
     c.in_ok-lines.ensures.run c.in_ok-ending.ensures.ok c.in_ok-lines.ensures.lines

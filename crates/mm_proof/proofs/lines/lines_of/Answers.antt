@@ -1,10 +1,11 @@
-use Rattle.std.proofs.Common.{rules, List, [], ◌∷◌, ◌++◌, length, take, refl, subst, arith}
+use Rattle.std.proofs.Common.{rules, List, [], ◌∷◌, ◌++◌, length, take, refl, sym, ap, subst, ◌∙◌, arith}
 use Rattle.std.proofs.lemmas.Option.{slice_get_within}
 use Rattle.std.proofs.lemmas.List.{length-map, length-take-le}
 use Rattle.mm_text.proofs.Lists.{all_at, zip_take}
 use Rattle.mm_proof.specs.declared.lines.Line.{Line}
 use Rattle.mm_proof.specs.Steps.{IsNumberedMove}
-use Rattle.mm_proof.specs.Plain.{move_in, moves_in}
+use Rattle.mm_proof.specs.Mirror.CodeSteps.{code_move, code_moves}
+use Rattle.mm_proof.specs.Mirror.Sites.{CodeSite}
 use Rattle.mm_proof.specs.Mirror.CodeLines.{AreLinesAt}
 use Rattle.mm_proof.specs.Mirror.CodeRun.{MayBeMade}
 use Rattle.mm_proof.proofs.Running.{refused, judged_none, stopped_fault, first_up_to}
@@ -14,26 +15,29 @@ use Rattle.mm_proof.proofs.lines.lines_of.Goals as goal
 pub run-requires-clause-begun : goal.run-requires-clause-begun
 run-requires-clause-begun g c =
     lists_none g.S.Store.stack g.S.Store.kept _
-    (judged_none g.S.Store.stack g.S.Store.kept _ c.requires.stack c.requires.kept refl refl)
+    (judged_none g.S.Store.stack g.S.Store.kept _ c.requires.stack c.requires.kept refl refl
+    (c.in_ok-unmark.ensures.long ∙ sym (length-map c.table.inside.entries.now (λ i. i.0))
+    ∙ ap (λ (t : CodeSite). length t.ids) c.table.view_is)
+    (c.in_ok-unmark.ensures.none _))
     c.new-lines.ensures.items c.new-tags.ensures.items
 
 pub run-requires-clause-allowed : goal.run-requires-clause-allowed
 run-requires-clause-allowed g c place move there =
-    let st = c.args.site.now.statements in
-    let moves = moves_in c.args.moves.now in
+    let site = c.args.table.now.site in
+    let moves = code_moves c.args.table.now.ids c.args.codes.now in
     let front = take place moves ++ move ∷ [] in
     let names = c.requires.names in
     let within = slice_get_within moves place move there in (
-      all_at (MayBeMade st c.args.site.now.place) moves place move c.requires.usable there,
+      all_at (MayBeMade site.statements site.place) moves place move c.requires.usable there,
       (
         take (length front) names.0,
         rw (first_up_to moves place move there) at
-            (zip_take (IsNumberedMove st) moves names.0 (length front) names.1),
+            (zip_take (IsNumberedMove site.statements) moves names.0 (length front) names.1),
       ),
       omega (
         arith,
         within,
-        length-map c.args.moves.now move_in,
+        length-map c.args.codes.now (code_move c.args.table.now.ids),
         length-take-le place moves (omega (arith, within)),
         c.requires.room,
       ),
@@ -42,15 +46,15 @@ run-requires-clause-allowed g c place move there =
 pub returns-in_err-run-clause-fault : goal.returns-in_err-run-clause-fault
 returns-in_err-run-clause-fault g c rule at is =
     let s = c.in_err-run.ensures.stops in
-    stopped_fault c.args.site.now _ s.place s.move _ s.there s.known rule at
-    (refused _ _ _ c.from_residual.ensures.1 is)
+    stopped_fault c.args.table.now.site _ s.place s.move _ s.there s.known rule at
+    (refused _ _ _ c.from_residual-in_err-run.ensures.1 is)
 
 pub returns-clause-run : goal.returns-clause-run
 returns-clause-run g c = search (rules, listed_run)
 
 pub returns-clause-lines : goal.returns-clause-lines
 returns-clause-lines g c =
-    let site = c.args.site.now in
-    let moves = moves_in c.args.moves.now in
+    let site = c.args.table.now.site in
+    let moves = code_moves c.args.table.now.ids c.args.codes.now in
     subst (λ (lines : List Line). AreLinesAt site.statements site.place moves lines)
     (search rules) c.in_ok-run.ensures.ran.listed

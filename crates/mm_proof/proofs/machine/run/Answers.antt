@@ -1,45 +1,103 @@
-use Rattle.std.proofs.Common.{Some, take, ap, ◌∙◌, arith}
-use Rattle.std.proofs.lemmas.List.{length-map, length-take-le}
+use Rattle.std.proofs.Common.{◌-◌, get_or, refl, sym, ap, subst, ◌∙◌, arith}
 use Rattle.mm_proof.specs.Moves.{again}
-use Rattle.mm_proof.specs.Plain.{move_in, moves_in}
-use Rattle.mm_proof.proofs.Running.{move_at, goes_on}
+use Rattle.mm_proof.proofs.Answering.{handed}
+use Rattle.mm_proof.proofs.Coded.{entry_there, tag_there, comes_next, goes_on, stops_at}
 use Rattle.mm_proof.proofs.machine.run.Goals as goal
-use Rattle.mm_proof.proofs.machine.run.Goals.{in-Name+in_ok-step-in-Name}
-use Rattle.mm_proof.proofs.machine.run.Goals.{in-Again+in_ok-step_again-in-Again}
-use Rattle.mm_proof.proofs.machine.run.Goals.{in-Mark+in_ok-mark-in-Mark}
+use Rattle.mm_proof.proofs.machine.run.Goals.{in-Number+then-place-count+in_ok-step-in-Number}
+use Rattle.mm_proof.proofs.machine.run.Goals.{in-Number+else-place-count+in_ok-step_again-in-Number}
+use Rattle.mm_proof.proofs.machine.run.Goals.{in-Tag+in_ok-mark-in-Tag}
 
-pub loop-one-preserved : goal.loop-one-preserved
-loop-one-preserved g c =
-    let has_run = g.M.Machine.has_run in
-    let may_take = g.M.Machine.may_take in
-    let moves = c.args.moves.now in
-    let allowed = c.requires.allowed in
-    elim c.match-one.branch [
-      | in-Name+in_ok-step-in-Name w ↦ rw w.machine-is (goes_on has_run may_take _ _ _ moves _ _ _
-          c.loop-one-test.true (ap move_in w.in-Name.is) allowed c.loop-one.invariant
-          w.in_ok-step-in-Name.ensures.ran)
-      | in-Again+in_ok-step_again-in-Again w ↦ rw w.machine-is (goes_on has_run may_take _ _ _ moves _ _ _
-          c.loop-one-test.true (ap move_in w.in-Again.is) allowed c.loop-one.invariant
-          w.in_ok-step_again-in-Again.ensures.ran)
-      | in-Mark+in_ok-mark-in-Mark w ↦ rw w.machine-is (goes_on has_run may_take _ _ _ moves _ _ _
-          c.loop-one-test.true (ap move_in w.in-Mark.is) allowed c.loop-one.invariant
-          w.in_ok-mark-in-Mark.ensures.ran)
-    ]
+pub step-requires : goal.step-requires
+step-requires g c =
+    let place = c.in-Number.number - 1 in
+    let within = c.if-place-count.true in
+    let count = c.requires.count in
+    let entry = entry_there (g.M.Machine.entries c.args.machine.now) place (omega (arith, within, count)) in
+    record {
+      id = get_or (g.M.Machine.entries c.args.machine.now) place 0;
+      next = comes_next g.M.Machine.has_run g.M.Machine.may_take c.args.machine.now _ _
+          c.args.codes.now _ _ _ _ c.loop-code-test.true c.in-Number.is entry.1
+          c.requires.allowed c.loop-code.invariant (omega arith);
+      there = entry.0;
+    }
 
 pub step_again-requires : goal.step_again-requires
 step_again-requires g c =
-    let moves = c.args.moves.now in
-    let i = c.loop-one.one-index in
-    let less = c.loop-one-test.true in
-    let there = move_at moves i _ less ∙ ap (λ m. Some (move_in m)) c.in-Again.is in
-    record {
-      first = c.args.machine.now;
-      front = take i (moves_in moves);
-      ran = c.loop-one.invariant;
-      allowed = c.requires.allowed i (again c.in-Again.tag) there;
-      few = omega (
-        arith,
-        length-take-le i (moves_in moves)
-            (omega (arith, length-map moves move_in, less)),
-      );
-    }
+    let place = c.in-Number.number - 1 in
+    let past = c.if-place-count.false in
+    let count = c.requires.count in
+    let is = tag_there (g.M.Machine.entries c.args.machine.now) place (omega (arith, past, count)) ∙ ap (λ n. again (place - n)) (sym count) in
+    comes_next g.M.Machine.has_run g.M.Machine.may_take c.args.machine.now _ _ c.args.codes.now _ _
+    _ _ c.loop-code-test.true c.in-Number.is is c.requires.allowed c.loop-code.invariant
+    (omega arith)
+
+pub mark-requires : goal.mark-requires
+mark-requires g c =
+    comes_next g.M.Machine.has_run g.M.Machine.may_take c.args.machine.now _ _ c.args.codes.now _ _
+    _ _ c.loop-code-test.true c.in-Tag.is refl c.requires.allowed c.loop-code.invariant
+    (omega arith)
+
+pub returns-in_err-step-in-Number-clause-stops : goal.returns-in_err-step-in-Number-clause-stops
+returns-in_err-step-in-Number-clause-stops g c =
+    let place = c.in-Number.number - 1 in
+    let within = c.if-place-count.true in
+    let count = c.requires.count in
+    let entry = entry_there (g.M.Machine.entries c.args.machine.now) place (omega (arith, within, count)) in
+    handed _ c.from_residual.result c.from_residual.ensures.1 (λ fault is.
+    stops_at g.M.Machine.may_take g.M.Machine.stops c.args.machine.now _ c.args.codes.now _ _ _ _
+    fault c.loop-code-test.true c.in-Number.is entry.1 c.requires.allowed
+    (λ may. subst (g.M.Machine.stops _ _ _) (sym is) (c.in_err-step-in-Number.ensures.stops
+    c.args.machine.now _ _ entry.0 may c.loop-code.invariant)))
+
+pub returns-in_err-step_again-in-Number-clause-stops :
+    goal.returns-in_err-step_again-in-Number-clause-stops
+returns-in_err-step_again-in-Number-clause-stops g c =
+    let place = c.in-Number.number - 1 in
+    let past = c.if-place-count.false in
+    let count = c.requires.count in
+    let is = tag_there (g.M.Machine.entries c.args.machine.now) place (omega (arith, past, count)) ∙ ap (λ n. again (place - n)) (sym count) in
+    handed _ c.from_residual-in_err-step_again-in-Number.result
+    c.from_residual-in_err-step_again-in-Number.ensures.1 (λ fault same.
+    stops_at g.M.Machine.may_take g.M.Machine.stops c.args.machine.now _ c.args.codes.now _ _ _ _
+    fault c.loop-code-test.true c.in-Number.is is c.requires.allowed
+    (λ may. subst (g.M.Machine.stops _ _ _) (sym same) (c.in_err-step_again-in-Number.ensures.stops
+    c.args.machine.now _ may c.loop-code.invariant)))
+
+pub returns-in_err-mark-in-Tag-clause-stops : goal.returns-in_err-mark-in-Tag-clause-stops
+returns-in_err-mark-in-Tag-clause-stops g c =
+    handed _ c.from_residual-in_err-mark-in-Tag.result c.from_residual-in_err-mark-in-Tag.ensures.1
+    (λ fault same. stops_at g.M.Machine.may_take g.M.Machine.stops c.args.machine.now _
+    c.args.codes.now _ _ _ _ fault c.loop-code-test.true c.in-Tag.is refl c.requires.allowed
+    (λ may. subst (g.M.Machine.stops _ _ _) (sym same) (c.in_err-mark-in-Tag.ensures.stops
+    c.args.machine.now _ may c.loop-code.invariant)))
+
+pub loop-code-preserved : goal.loop-code-preserved
+loop-code-preserved g c =
+    let has_run = g.M.Machine.has_run in
+    let may_take = g.M.Machine.may_take in
+    let first = c.args.machine.now in
+    let ids = g.M.Machine.entries first in
+    let said = c.args.codes.now in
+    let less = c.loop-code-test.true in
+    let count = c.requires.count in
+    let allowed = c.requires.allowed in
+    let ran = c.loop-code.invariant in
+    elim c.match-code.branch [
+      | in-Number+then-place-count+in_ok-step-in-Number w ↦
+          let place = w.in-Number.number - 1 in
+          let within = w.if-place-count.true in
+          let entry = entry_there ids place (omega (arith, within, count)) in
+          rw w.machine-is (goes_on has_run may_take first _ ids said _ _ _ _ less w.in-Number.is
+          entry.1 allowed
+          (λ may. w.in_ok-step-in-Number.ensures.ran first _ _ entry.0 may ran))
+      | in-Number+else-place-count+in_ok-step_again-in-Number w ↦
+          let place = w.in-Number.number - 1 in
+          let past = w.if-place-count.false in
+          let is = tag_there ids place (omega (arith, past, count))
+          ∙ ap (λ n. again (place - n)) (sym count) in
+          rw w.machine-is (goes_on has_run may_take first _ ids said _ _ _ _ less w.in-Number.is is
+          allowed (λ may. w.in_ok-step_again-in-Number.ensures.ran first _ may ran))
+      | in-Tag+in_ok-mark-in-Tag w ↦ rw w.machine-is (goes_on has_run may_take first _ ids said _ _
+          _ _ less w.in-Tag.is refl allowed
+          (λ may. w.in_ok-mark-in-Tag.ensures.ran first _ may ran))
+    ]

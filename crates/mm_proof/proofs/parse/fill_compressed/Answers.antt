@@ -1,14 +1,36 @@
-use Rattle.std.proofs.lemmas.Result.{on_ok_weaker}
-use Rattle.mm_proof.proofs.Answering.{memory_only}
+use Rattle.std.proofs.Common.{Err, ap}
+use Rattle.std.proofs.lemmas.Result.{err_from_is_err_and}
+use Rattle.mm_code.specs.declared.code.CodeRule.TheVariants as code
+use Rattle.mm_proof.proofs.Answering.{on_rule_map}
+use Rattle.mm_proof.proofs.TokenFacts.{labels_fault}
+use Rattle.mm_proof.proofs.Compressed.{one_compressed, reading_compressed, codes_say, compressed_labels, letters_spelled, letter_broken}
 use Rattle.mm_proof.proofs.parse.fill_compressed.Goals as goal
 
-pub fill_moves-requires : goal.fill_moves-requires
-fill_moves-requires c = rw c.deref-2.ensures.value c.in_ok-read_compressed.ensures.spelled
+pub returns-clause-spelled : goal.returns-clause-spelled
+returns-clause-spelled c = letters_spelled _ _ c.in-Ok.ensures.read
 
-pub returns-clause-fault : goal.returns-clause-fault
-returns-clause-fault c = memory_only c.fill_moves.result _ c.fill_moves.ensures.fault
+pub returns-in_err-fill_numbers-clause-fault : goal.returns-in_err-fill_numbers-clause-fault
+returns-in_err-fill_numbers-clause-fault c =
+    let p = err_from_is_err_and c.from_residual.result c.from_residual.ensures.1 in
+    rw (p.1, p.2, ← c.site.view_is) (on_rule_map c.in_err-fill_numbers.field-0.0 _ _ (λ rule step h. (h.0, labels_fault _ _ _ _ rule (compressed_labels _ _ _ c.in-Some.ensures) h.1)) c.in_err-fill_numbers.ensures.fault)
+
+pub returns-in-Err-clause-fault : goal.returns-in-Err-clause-fault
+returns-in-Err-clause-fault c =
+    rw (c.letter_fault.ensures, ← c.site.view_is) (letter_broken _ _ _ _ _ _ c.in-Err.fault
+    c.site.invariant.1.sound.0 c.in-Some.ensures c.in_ok-fill_numbers.ensures.ok
+    (λ rule is. c.in-Err.ensures.rule rule (ap Err is)))
 
 pub returns-clause-ok : goal.returns-clause-ok
-returns-clause-ok c = on_ok_weaker c.fill_moves.result (λ says.
-    c.in_ok-read_compressed.ensures.reads _
-    (rw (c.deref-2.ensures.value, c.deref.ensures.value) at says)) c.fill_moves.ensures.ok
+returns-clause-ok c =
+    let own = c.site.invariant.1 in
+    rw (← c.site.view_is, c.in_ok-fill_entries.ensures, c.deref.ensures.value) (
+    reading_compressed _ _ own.s _ _ _ _ _ _ _ own.sound.0 own.sound.1 own.proof.numbered.there
+    c.in-Some.ensures c.in_ok-fill_numbers.ensures.ok
+    (rw c.site.invariant.0 at c.hypotheses.ensures.ids)
+    c.in-Ok.ensures.read (c.in-Ok.ensures.unbroken code.P4) (c.in-Ok.ensures.unbroken code.P5)
+    (codes_say _ _ (letters_spelled _ _ c.in-Ok.ensures.read)))
+
+pub returns-clause-listed : goal.returns-clause-listed
+returns-clause-listed c labels letters parts =
+    rw (← c.site.view_is, (one_compressed _ labels letters _ _ parts c.in-Some.ensures).0)
+    c.in_ok-fill_numbers.ensures.ok

@@ -1,5 +1,6 @@
-use Rattle.std.proofs.Common.{slice_get, ap}
+use Rattle.std.proofs.Common.{slice_get, sym, ap, subst}
 use Rattle.std.proofs.lemmas.Result.{err_from_is_err_and}
+use Rattle.mm_proof.specs.Mirror.CodeSteps.{IsReading}
 use Rattle.mm_proof.proofs.Answering.{on_rule_map}
 use Rattle.mm_proof.proofs.TokenFacts.{labels_fault, normal_labels}
 use Rattle.mm_proof.proofs.Readings.{reading_normal}
@@ -9,15 +10,12 @@ pub returns-clause-ok : goal.returns-clause-ok
 returns-clause-ok c =
     let own = c.site.invariant.1 in
     let reading = reading_normal _ _ own.s _ _ c.site.invariant.1.sound.0 own.proof.numbered.there c.requires.normal c.in_ok-fill_numbers.ensures.ok in
-    rw (← c.site.view_is, c.in_ok-fill_names.ensures.ok, c.deref.ensures.value) reading
+    rw (← c.site.view_is) (subst (IsReading _ _ _) (sym (rw c.deref.ensures.value at c.in_ok-fill_distinct.ensures.ok)) reading)
 
-pub returns-clause-picked : goal.returns-clause-picked
-returns-clause-picked c = rw c.deref-2.ensures.value at c.in_ok-fill_picked.ensures
-
-pub returns-in_err-fill_names-clause-fault : goal.returns-in_err-fill_names-clause-fault
-returns-in_err-fill_names-clause-fault c =
-    let p = err_from_is_err_and c.from_residual-in_err-fill_names.result c.from_residual-in_err-fill_names.ensures.1 in
-    rw (p.1, p.2) (rw c.in_err-fill_names.ensures.fault tt)
+pub returns-in_err-fill_distinct-clause-fault : goal.returns-in_err-fill_distinct-clause-fault
+returns-in_err-fill_distinct-clause-fault c =
+    let p = err_from_is_err_and c.from_residual-in_err-fill_distinct.result c.from_residual-in_err-fill_distinct.ensures.1 in
+    rw (p.1, p.2) (rw c.in_err-fill_distinct.ensures.fault tt)
 
 pub returns-in_err-fill_numbers-clause-fault : goal.returns-in_err-fill_numbers-clause-fault
 returns-in_err-fill_numbers-clause-fault c =

@@ -8,6 +8,10 @@ returns-in_err-fill_steps-clause-fault c =
     let p = err_from_is_err_and c.from_residual.result c.from_residual.ensures.1 in
     rw (p.1, p.2) (on_rule_map c.in_err-fill_steps.field-0.0 _ _ (λ rule step h. λ place s proof. let f = h place s proof in (f.0, inl f.1)) c.in_err-fill_steps.ensures.fault)
 
+pub judge_form-requires-clause-says : goal.judge_form-requires-clause-says
+judge_form-requires-clause-says c =
+    rw (c.deref-in-Strict.ensures.value, c.deref-in-Strict-2.ensures.value) c.in_ok-fill_steps.ensures.steps
+
 pub returns-in-Strict-clause-fault : goal.returns-in-Strict-clause-fault
 returns-in-Strict-clause-fault c =
     rules_map c.judge_form.result _ _ (λ rule step h. λ place s proof.

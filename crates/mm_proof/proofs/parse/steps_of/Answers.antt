@@ -1,7 +1,7 @@
 use Rattle.std.proofs.Common.{arith}
 use Rattle.std.proofs.lemmas.Result.{err_from_is_err_and}
 use Rattle.mm_proof.specs.Plain.{token_texts}
-use Rattle.mm_proof.proofs.FewMoves.{moves_bytes}
+use Rattle.mm_proof.proofs.FewMoves.{codes_bytes}
 use Rattle.mm_proof.proofs.parse.steps_of.Goals as goal
 
 pub invariant_of-result : goal.invariant_of-result
@@ -11,7 +11,7 @@ invariant_of-result c =
     let said = rw (c.new-site.ensures.statements, c.new-site.ensures.number) at
     c.in_ok-fill_under.ensures.steps in
     let says = said proof.0 proof.1 proof.2 in
-    let few = moves_bytes st proof.0 proof.1 (token_texts c.args.tokens.now) _
+    let few = codes_bytes st proof.0 proof.1 (token_texts c.args.tokens.now) _ _
     c.new-site.ensures.sound.1 says in
     (omega (arith, few, c.requires.room), tt)
 

@@ -6,7 +6,7 @@ use Rattle.mm_proof.proofs.FrontAnswers.{tokens_pass, tokens_stop}
 use Rattle.mm_proof.proofs.prover.pass_tokens.Goals as goal
 
 pub pass-requires-clause-steps : goal.pass-requires-clause-steps
-pass-requires-clause-steps c = rw c.deref.ensures.value c.in_ok-fill_under.ensures.usable
+pass-requires-clause-steps c = rw (c.deref.ensures.value, c.deref-2.ensures.value) c.in_ok-fill_under.ensures.usable
 
 pub returns-clause-allowed : goal.returns-clause-allowed
 returns-clause-allowed c =
@@ -14,7 +14,7 @@ returns-clause-allowed c =
     let said = c.in_ok-fill_under.ensures in
     rw (← site.statements, ← site.number) (on_ok_weaker c.pass.result (λ p. λ place s proof. (
       said.form place s proof,
-      tokens_pass _ _ _ _ _ said.steps (rw (c.deref.ensures.value, site.limit) at p) place s proof,
+      tokens_pass _ _ _ _ _ said.steps (rw (c.deref.ensures.value, c.deref-2.ensures.value, site.limit) at p) place s proof,
     )) c.pass.ensures.passed)
 
 pub returns-clause-fault : goal.returns-clause-fault
@@ -23,7 +23,7 @@ returns-clause-fault c =
     let said = c.in_ok-fill_under.ensures in
     rw (← site.statements, ← site.number) (rules_map c.pass.result _ _ (λ rule step f.
     λ place s proof. have_under c.args.profile _ s _ rule step (said.form place s proof)
-    (tokens_stop _ _ _ _ _ rule step said.steps (rw (c.deref.ensures.value, site.limit) at f)
+    (tokens_stop _ _ _ _ _ rule step said.steps (rw (c.deref.ensures.value, c.deref-2.ensures.value, site.limit) at f)
     place s proof)) c.pass.ensures.fault)
 
 pub returns-in_err-fill_under-clause-fault : goal.returns-in_err-fill_under-clause-fault

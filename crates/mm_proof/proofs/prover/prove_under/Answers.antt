@@ -2,40 +2,37 @@ use Rattle.std.proofs.Common.{inl}
 use Rattle.std.proofs.lemmas.Result.{err_from_is_err_and, on_ok_weaker}
 use Rattle.mm_proof.proofs.Answering.{on_rule_map, rules_map}
 use Rattle.mm_proof.proofs.UnderAnswers.{fault_under}
-use Rattle.mm_proof.proofs.Whole.{in_any_order, tokens_prove, tokens_fail}
+use Rattle.mm_proof.proofs.Whole.{tokens_prove, tokens_fail}
 use Rattle.mm_proof.proofs.prover.prove_under.Goals as goal
 
-pub judgement_in_frame-requires-clause-steps : goal.judgement_in_frame-requires-clause-steps
-judgement_in_frame-requires-clause-steps c =
-    rw c.deref.ensures.value c.in_ok-fill_under.ensures.usable
-
-pub judgement_in_frame-requires-clause-picked : goal.judgement_in_frame-requires-clause-picked
-judgement_in_frame-requires-clause-picked c =
-    rw (c.deref-2.ensures.value, c.deref.ensures.value) c.in_ok-fill_under.ensures.picked
+pub judgement-requires-clause-steps : goal.judgement-requires-clause-steps
+judgement-requires-clause-steps c =
+    rw (c.deref.ensures.value, c.deref-2.ensures.value) c.in_ok-fill_under.ensures.usable
 
 pub returns-clause-form : goal.returns-clause-form
 returns-clause-form c =
     let form = rw (c.new-site.ensures.statements, c.new-site.ensures.number) at
     c.in_ok-fill_under.ensures.form in
-    on_ok_weaker c.judgement_in_frame.result (λ p. form) c.judgement_in_frame.ensures.proved
+    on_ok_weaker c.judgement.result (λ p. form) c.judgement.ensures.proved
 
 pub returns-clause-proved : goal.returns-clause-proved
 returns-clause-proved c =
     let site = c.new-site.ensures in
     rw (← site.statements, ← site.number, ← site.limit) (
-    on_ok_weaker c.judgement_in_frame.result (λ p. λ place s proof.
+    on_ok_weaker c.judgement.result (λ p. λ place s proof.
     tokens_prove _ _ _ _ _ _ c.in_ok-fill_under.ensures.steps
-    (in_any_order _ _ _ _ _ (rw c.deref.ensures.value at p)) place s proof)
-    c.judgement_in_frame.ensures.proved)
+    (rw (c.deref.ensures.value, c.deref-2.ensures.value) at p) place s proof)
+    c.judgement.ensures.proved)
 
 pub returns-clause-fault : goal.returns-clause-fault
 returns-clause-fault c =
     let site = c.new-site.ensures in
     let said = c.in_ok-fill_under.ensures in
-    rw (← site.statements, ← site.number) (rules_map c.judgement_in_frame.result _ _ (λ rule step f.
+    rw (← site.statements, ← site.number) (rules_map c.judgement.result _ _ (λ rule step f.
     λ place s proof. fault_under c.args.profile _ s _ rule step (said.form place s proof)
-    (tokens_fail _ _ _ _ _ rule step said.steps (rw (c.deref.ensures.value, site.limit) at f)
-    place s proof)) c.judgement_in_frame.ensures.fault)
+    (tokens_fail _ _ _ _ _ rule step said.steps
+    (rw (c.deref.ensures.value, c.deref-2.ensures.value, site.limit) at f) place s proof))
+    c.judgement.ensures.fault)
 
 pub returns-in_err-fill_under-clause-fault : goal.returns-in_err-fill_under-clause-fault
 returns-in_err-fill_under-clause-fault c =

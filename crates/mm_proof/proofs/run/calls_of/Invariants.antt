@@ -1,11 +1,9 @@
 use Rattle.std.proofs.Common.{ℕ, take}
 use Rattle.std.specs.List.{AllZip}
 use Rattle.mm_proof.specs.Plain.{ids_in}
-use Rattle.mm_proof.specs.Mirror.CodeSteps.{MayAllBeUsed}
-use Rattle.mm_proof.specs.Mirror.CodeApply.{IsCallOf}
+use Rattle.mm_proof.specs.Mirror.CodeApply.{MayBeCalled}
 use Rattle.mm_proof.proofs.run.calls_of.Given as goal
 
 abbrev pub invariant-loop-id : goal.invariant-loop-id
 invariant-loop-id l =
-    (place : ℕ) → MayAllBeUsed l.fn.book.statements place (ids_in l.entries)
-    → AllZip (IsCallOf l.fn.book.statements place) (ids_in (take l.id-index l.entries)) l.calls.items
+    (place : ℕ) → AllZip (MayBeCalled l.fn.book.statements place) (ids_in (take l.id-index l.entries)) l.calls.items

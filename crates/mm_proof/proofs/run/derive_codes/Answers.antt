@@ -1,8 +1,14 @@
 use Rattle.std.proofs.Common.{Err, ap, ◌∙◌}
 use Rattle.std.proofs.lemmas.Result.{err_from_is_err_and}
 use Rattle.mm_proof.specs.Mirror.Sites.{CodeSite}
-use Rattle.mm_proof.proofs.Ending.{proved_end, wrong_end, wrong_move, on_rule_from}
+use Rattle.mm_proof.proofs.Ending.{steps_made, proved_end, wrong_end, wrong_move, on_rule_from}
 use Rattle.mm_proof.proofs.run.derive_codes.Goals as goal
+
+pub run_codes-requires-clause-usable : goal.run_codes-requires-clause-usable
+run_codes-requires-clause-usable g c =
+    let same = ap (λ (t : CodeSite). t.site) c.table.view_is in
+    let own = rw same at c.expression-expression.ensures.site in
+    steps_made _ _ _ _ own.s own.sound.0 c.requires.steps own.proof.numbered
 
 pub returns-in_err-count-clause-fault : goal.returns-in_err-count-clause-fault
 returns-in_err-count-clause-fault g c =

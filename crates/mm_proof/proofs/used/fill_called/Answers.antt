@@ -20,5 +20,5 @@ loop-place-preserved c = elim c.if-is_called.branch [
 ]
 
 pub returns : goal.returns
-returns c statements place moves each marked =
-    called_all statements place c.args.entries.now c.args.calls.now c.args.marks.now c.loop-place.place _ moves c.loop-place-test.false c.loop-place.invariant each marked
+returns c statements place moves each made marked =
+    called_all statements place c.args.entries.now c.args.calls.now c.args.marks.now c.loop-place.place _ moves c.loop-place-test.false c.loop-place.invariant each made marked

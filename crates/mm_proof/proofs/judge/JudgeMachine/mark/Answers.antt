@@ -1,20 +1,23 @@
 use Rattle.std.proofs.Common.{[], ◌∷◌, length, ap, refl, arith}
 use Rattle.std.proofs.lemmas.List.{length-append}
 use Rattle.mm_proof.specs.Moves.{mark}
+use Rattle.mm_proof.proofs.Picking.{marked_other}
 use Rattle.mm_proof.proofs.Running.{run_mark, judged_more}
 use Rattle.mm_proof.proofs.judge.JudgeMachine.mark.Goals as goal
 
 pub returns-clause-ran : goal.returns-clause-ran
 returns-clause-ran g c first front allowed was =
-    let site = first.site.now in
+    let site = first.table.now.site in
     let ok = c.in_ok-mark.ensures.ok in
-    judged_more g.S.Store.stack g.S.Store.kept first c.args.self.now _ front mark was refl refl
+    judged_more g.S.Store.stack g.S.Store.kept first c.args.self.now _ front mark was refl refl refl
     (run_mark site.limit site.statements site.place front _ _ _ _ _ ok.0 ok.1 was.run ok.2
     c.mark.ensures.stack ok.3)
     (omega (
       arith,
-      was.marks,
+      was.tags,
       ap length ok.3,
       length-append (g.S.Store.kept c.args.self.now.store.now) (ok.1 ∷ []),
     ))
+    was.long
+    (marked_other _ front _ _ (λ id e. absurd cc) was.marked)
     (omega arith)
