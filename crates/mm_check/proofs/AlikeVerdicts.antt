@@ -19,8 +19,10 @@ use Rattle.mm_proof.specs.UnderProfile.{IsFrontFaultUnder}
 use Rattle.mm_proof.specs.declared.profile.Profile.{Profile}
 use Rattle.mm_proof.specs.Tokens.{is_incomplete}
 use Rattle.mm_check.specs.declared.rule.Rule.{Rule}
-use Rattle.mm_check.specs.Verdict.{Verdict, Load, Refused, Incomplete, Yes, PlainRefusal, HasVerdict, Obeys, AllObey, RefusesStatement, RefusesText, AreAccepted, CanBeRead, sentences, proof_of, is_proof, is_unproved, label_of, unproved_of, proofs_of, refusal_of, text_refusal, meaning_rule, proof_rule}
-use Rattle.mm_check.specs.Reply.{text_of, name_of, line_with, refusal_word, code_of}
+use Rattle.mm_check.specs.declared.rule.Rule.TheVariants as rules
+use Rattle.mm_check.specs.Verdict.{Verdict, Load, Refused, Incomplete, Yes, PlainRefusal, HasVerdict, Obeys, AllObey, RefusesStatement, RefusesText, AreAccepted, CanBeRead, sentences, proof_of, is_proof, is_unproved, label_of, unproved_of, proofs_of, refusal_of, text_refusal}
+use Rattle.mm_check.specs.Reply.{text_of, name_of, line_with, refusal_word}
+use Rattle.mm_check.specs.RuleCodes.{code_of}
 use Rattle.mm_check.specs.Alike.{AlikeFilesHaveOneReply}
 use Rattle.mm_text.proofs.Lists.{cons_split, append_split, same_length}
 
@@ -119,10 +121,10 @@ IsProofFaultAs profile rule step before x p =
 -- its fault, by the same
 abbrev HasFaultAs : Profile → Rule → ℕ → List Sentence → Sentence → List (List ℕ) → Type 0
 HasFaultAs profile rule step before x p =
-    ((broken : MeaningRule) × FirstBroken broken before x × (rule ≡ meaning_rule broken) × (step ≡ 0))
+    ((broken : MeaningRule) × FirstBroken broken before x × (rule ≡ rules.Meaning broken) × (step ≡ 0))
     ⊎ (IsMeant before x
     × (broken : ProofRule) × IsProofFaultAs profile broken step before x p
-    × (rule ≡ proof_rule broken))
+    × (rule ≡ rules.Proof broken))
 
 -- all obey the rules if all of the others do
 all_obey_alike : (profile : Profile) (h k : ℕ → ℕ → ℕ) (ss us : List PlainStatement) → map (statement_on h) ss ≡ map (statement_on k) us → AllObey profile ss → AllObey profile us

@@ -11,11 +11,11 @@ use Rattle.mm_proof.specs.declared.profile.Profile.TheVariants.{Strict, Lenient}
 use Rattle.mm_proof.specs.declared.fault.ProofRule.{ProofRule}
 use Rattle.mm_proof.specs.declared.fault.ProofRule.TheVariants as proof
 use Rattle.mm_proof.proofs.BetweenLimits.{only_form}
-use Rattle.mm_check.specs.declared.rule.Rule.TheVariants.{P15, L1}
 use Rattle.mm_check.specs.Verdict.{Verdict, Load, Refused, Incomplete, Yes, PlainRefusal}
 use Rattle.mm_check.specs.Verdict.{HasVerdict, AllObey, IsProofFault}
 use Rattle.mm_check.specs.Verdict.{RefusesStatement, ObeyTheProfile, sentences, proof_of, proofs_of}
-use Rattle.mm_check.specs.Verdict.{unproved_of, proof_rule}
+use Rattle.mm_check.specs.declared.rule.Rule.TheVariants as rules
+use Rattle.mm_check.specs.Verdict.{unproved_of}
 use Rattle.mm_check.specs.Laws.{IsRefusedBy, BetweenProfiles}
 use Rattle.mm_check.proofs.Rereading.{same_reading}
 use Rattle.mm_check.proofs.Unproved.{all_meant, none_incomplete}
@@ -45,7 +45,7 @@ obey_lenient files obey = record {
 }
 
 strict_yes : (files : List PlainFile) (n p : ℕ) → HasVerdict Strict files (Yes n p)
-    → HasVerdict Lenient files (Yes n p) ⊎ IsRefusedBy Lenient files L1
+    → HasVerdict Lenient files (Yes n p) ⊎ IsRefusedBy Lenient files (rules.Proof proof.L1)
 strict_yes files n p h =
     let (v, holds) = some_verdict Lenient files in
     elim (profile_verdict Lenient files (obey_lenient files (yes_obeys Strict files n p h)) v
@@ -72,17 +72,17 @@ form_fault files n p h before after s split obeyed rule step (inr (open_one, fau
 
 -- so is that of the first statement at fault
 form_refused : (files : List PlainFile) (n p : ℕ) (h : HasVerdict Lenient files (Yes n p))
-    (refusal : PlainRefusal) → RefusesStatement Strict files h.0 refusal → refusal.rule ≡ P15
+    (refusal : PlainRefusal) → RefusesStatement Strict files h.0 refusal → refusal.rule ≡ rules.Proof proof.P15
 form_refused files n p h refusal r = elim (r.fault) [
   | inl f ↦ absurd ((h.1.obeyed r.before r.after r.s r.split).meant f.0 f.1.broken)
   | inr f ↦
       let form = form_fault files n p h r.before r.after r.s r.split r.obeyed f.1 r.step f.2 in
-      ap (λ (q : PlainRefusal). q.rule) r.refused ∙ f.3 ∙ ap proof_rule form
+      ap (λ (q : PlainRefusal). q.rule) r.refused ∙ f.3 ∙ ap rules.Proof form
 ]
 
 lenient_yes : (files : List PlainFile) (n p : ℕ) → HasVerdict Lenient files (Yes n p)
     → (v : Verdict) → HasVerdict Strict files v
-    → HasVerdict Strict files (Yes n p) ⊎ IsRefusedBy Strict files P15
+    → HasVerdict Strict files (Yes n p) ⊎ IsRefusedBy Strict files (rules.Proof proof.P15)
 lenient_yes files n p h (Load rule) k = absurd (h.1.readable k.0 k.1)
 lenient_yes files n p h (Incomplete labels) k =
     let same = (same_reading files k.0 h.0 None None k.1.reads h.1.reads).0 in

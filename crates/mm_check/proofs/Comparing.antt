@@ -19,7 +19,8 @@ use Rattle.mm_proof.specs.Strict.{HasFormOf}
 use Rattle.mm_proof.specs.UnderProfile.{IsProvedUnder}
 use Rattle.mm_check.specs.declared.ask.AskFault.{AskFault}
 use Rattle.mm_check.specs.declared.ask.AskFault.TheVariants as ask
-use Rattle.mm_check.specs.Verdict.{sentences, proof_rule}
+use Rattle.mm_check.specs.declared.rule.Rule.TheVariants as rules
+use Rattle.mm_check.specs.Verdict.{sentences}
 use Rattle.mm_check.specs.Rests.{IsAskFault}
 use Rattle.mm_check.specs.Compared.{IsProofText, text_fault, IsCompared, IsSameFault}
 use Rattle.mm_check.specs.Mirror.Theorems.{SayWholeSteps, AreProvedSteps, AreStepsOf}
@@ -35,7 +36,7 @@ HaveForm profile st id tokens =
 -- ---- a fault of the handed proof
 
 pub fails_as : (e : ProofFault) (P : ProofRule → ℕ → Type 0) → ((rule : ProofRule) (step : ℕ) → e ≡ proof_faults.Rule rule step → P rule step)
-    → (text_fault e ≡ ask.Memory) ⊎ ((rule : ProofRule) × (step : ℕ) × (text_fault e ≡ ask.Text (proof_rule rule) step) × P rule step)
+    → (text_fault e ≡ ask.Memory) ⊎ ((rule : ProofRule) × (step : ℕ) × (text_fault e ≡ ask.Text (rules.Proof rule) step) × P rule step)
 fails_as (proof_faults.Rule rule step) P tells = inr (rule, step, refl, tells rule step refl)
 fails_as proof_faults.Memory P tells = inl refl
 
@@ -65,7 +66,7 @@ pub text_refused : (profile : Profile) (st : List Sentence) (id : ℕ) (text : L
 text_refused profile st id text fault legal (inl memory) = inl memory
 text_refused profile st id text fault legal (inr (rule, step, is, fails)) =
     inr (
-      proof_rule rule,
+      rules.Proof rule,
       step,
       is,
       λ place s number.

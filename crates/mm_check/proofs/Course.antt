@@ -11,7 +11,8 @@ use Rattle.mm_check.specs.declared.fault.Refusal.{Refusal}
 use Rattle.mm_check.specs.declared.rule.Rule.{Rule}
 use Rattle.mm_check.specs.declared.progress.Progress.{Progress}
 use Rattle.mm_check.specs.Conclusion.{Conclusion, labels_in}
-use Rattle.mm_check.specs.Verdict.{PlainRefusal, Verdict, Refused, HasFault, Obeys, HasVerdict, AreAccepted, CanBeRead, labels_of, unproved_of, proofs_of, refusal_of, meaning_rule, proof_rule}
+use Rattle.mm_check.specs.declared.rule.Rule.TheVariants as rules
+use Rattle.mm_check.specs.Verdict.{PlainRefusal, Verdict, Refused, HasFault, Obeys, HasVerdict, AreAccepted, CanBeRead, labels_of, unproved_of, proofs_of, refusal_of}
 use Rattle.mm_check.specs.Answer.{plain_refusal, verdict_of_fault, verdict_of_conclusion, verdict_where_incomplete, labels_at, IsVerdict, KeepsLabels, KeepsCounts, KeepsUses}
 use Rattle.mm_check.specs.Mirror.Judged.{IsUnderWay, IsAtEnd, GoesOn, Knows, Takes}
 use Rattle.mm_check.specs.Mirror.Judged.{RefusesEnd, StopsTurn, TakesFaulty, TakesNext}
@@ -115,7 +116,7 @@ stopped_verdict profile files p old fault way (inl end) v e =
 stopped_verdict profile files p old fault way (inr (s, rest, taken, inl none)) v e = cc
 stopped_verdict profile files p old fault way (inr (s, rest, taken, inr (broken, first, is))) v e =
     subst (λ (w : Verdict). HasVerdict profile files w) (told fault _ v is e)
-    (refused_next profile files p s old rest (meaning_rule broken) 0 way taken
+    (refused_next profile files p s old rest (rules.Meaning broken) 0 way taken
     (inl (broken, first, refl, refl)))
 
 pub faulty_verdict : (profile : Profile) (files : List PlainFile) (p q : Progress) (s : PlainStatement) (old new : Remaining) (refusal : Refusal)
@@ -124,7 +125,7 @@ pub faulty_verdict : (profile : Profile) (files : List PlainFile) (p q : Progres
     → HasVerdict profile files (Refused (plain_refusal refusal))
 faulty_verdict profile files p q s old new refusal way taken faulty =
     subst (λ (r : PlainRefusal). HasVerdict profile files (Refused r)) (sym faulty.told)
-    (refused_next profile files p s old new (proof_rule faulty.rule) faulty.step way taken
+    (refused_next profile files p s old new (rules.Proof faulty.rule) faulty.step way taken
     (inr (faulty.meant, faulty.rule, faulty.fault, refl)))
 
 -- what is kept of the progress

@@ -19,7 +19,8 @@ use Rattle.std.proofs.Math.Decide.{dec_le}
 use Rattle.mm_frame.proofs.Decided.{dec_both, dec_as, dec_some, symbol_dec}
 use Rattle.mm_proof.proofs.FormDecided.{one_verdict_under_holds, one_front_verdict_under_holds}
 use Rattle.mm_check.specs.declared.rule.Rule.{Rule}
-use Rattle.mm_check.specs.Verdict.{PlainRefusal, Verdict, Load, Refused, Incomplete, Yes, Obeys, AllObey, AreAccepted, CanBeRead, HasFault, HasVerdict, RefusesStatement, sentences, load_rule, meaning_rule, proof_rule, refusal_of, text_refusal, proof_of, proofs_of, unproved_of, is_proof}
+use Rattle.mm_check.specs.declared.rule.Rule.TheVariants as rules
+use Rattle.mm_check.specs.Verdict.{PlainRefusal, Verdict, Load, Refused, Incomplete, Yes, Obeys, AllObey, AreAccepted, CanBeRead, HasFault, HasVerdict, RefusesStatement, sentences, refusal_of, text_refusal, proof_of, proofs_of, unproved_of, is_proof}
 use Rattle.mm_check.specs.Verdict.{is_unproved, IsProofFault}
 use Rattle.mm_check.proofs.Meanings.{some_meaning}
 use Rattle.mm_check.proofs.Unproved.{all_meant, one_more, no_statement, proof_not_unproved}
@@ -87,9 +88,9 @@ judged_statement : (profile : Profile) (before : List PlainStatement) (s : Plain
 judged_statement profile before s obeyed formed = elim (some_meaning (sentences before) (sentence_of s)) [
   | inl meant ↦ elim (proof_obeys_or_fails profile before s (all_meant profile before obeyed) formed _ _ refl refl meant) [
     | inl obeys ↦ inl obeys
-    | inr fault ↦ inr (proof_rule fault.0, fault.1, inr (meant, fault.0, fault.2, refl))
+    | inr fault ↦ inr (rules.Proof fault.0, fault.1, inr (meant, fault.0, fault.2, refl))
   ]
-  | inr broken ↦ inr (meaning_rule broken.0, 0, inl (broken.0, broken.1, refl, refl))
+  | inr broken ↦ inr (rules.Meaning broken.0, 0, inl (broken.0, broken.1, refl, refl))
 ]
 
 -- what comes before a statement says what is in form
@@ -143,6 +144,6 @@ read_verdict profile files readable =
 
 pub some_verdict : (profile : Profile) (files : List PlainFile) → (verdict : Verdict) × HasVerdict profile files verdict
 some_verdict profile files = elim (judged_load files) [
-  | inl broken ↦ (Load (load_rule broken.0), (broken.0, broken.1, refl))
+  | inl broken ↦ (Load (rules.Load broken.0), (broken.0, broken.1, refl))
   | inr readable ↦ read_verdict profile files readable
 ]

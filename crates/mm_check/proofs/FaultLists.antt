@@ -14,7 +14,8 @@ use Rattle.mm_frame.proofs.Meant.{allmeant_push}
 use Rattle.std.proofs.lemmas.List.{map-append}
 use Rattle.mm_proof.specs.declared.profile.Profile.{Profile}
 use Rattle.mm_check.specs.declared.rule.Rule.{Rule}
-use Rattle.mm_check.specs.Verdict.{PlainRefusal, Verdict, Load, Refused, Incomplete, Yes, AllObey, AreAccepted, HasFault, HasVerdict, RefusesStatement, RefusesText, sentences, refusal_of, text_refusal, meaning_rule, proof_rule}
+use Rattle.mm_check.specs.declared.rule.Rule.TheVariants as rules
+use Rattle.mm_check.specs.Verdict.{PlainRefusal, Verdict, Load, Refused, Incomplete, Yes, AllObey, AreAccepted, HasFault, HasVerdict, RefusesStatement, RefusesText, sentences, refusal_of, text_refusal}
 use Rattle.mm_check.specs.Faults.{AreRefused, IsMeaningRefusal, IsProofRefusal, refusal_in}
 use Rattle.mm_check.specs.FaultLaws.{FirstFaultIsTold, OneListOfFaults, SomeListOfFaults}
 use Rattle.mm_check.proofs.Existence.{formed_sentences, proof_obeys_or_fails}
@@ -28,11 +29,11 @@ use Rattle.mm_check.proofs.Verdicts.{accepted_or_refused, obeying_faultless, one
 module _ (profile : Profile) (files : List PlainFile) (before : List PlainStatement)
     (s : PlainStatement) (refusal : PlainRefusal) where
   proof_fault : (r : IsProofRefusal profile files before s refusal)
-      → HasFault profile (sentences before) s (proof_rule r.rule) r.step
+      → HasFault profile (sentences before) s (rules.Proof r.rule) r.step
   proof_fault r = inr (r.meant, r.rule, r.fault, refl)
 
   meaning_fault : (r : IsMeaningRefusal files before s refusal)
-      → HasFault profile (sentences before) s (meaning_rule r.rule) 0
+      → HasFault profile (sentences before) s (rules.Meaning r.rule) 0
   meaning_fault r = inl (r.rule, r.broken, refl, refl)
 
   refused_first : (left : List PlainStatement) (rule : Rule) (step : ℕ) → AllObey profile before
@@ -75,11 +76,11 @@ opened profile files before (s ∷ left) ending refusals obeyed (inl h) =
     (one_more profile before s obeyed h.0) h.1)
 opened profile files before (s ∷ left) ending refusals obeyed (inr (inl h)) =
     rw h.4
-    (inl (refused_first profile files before s h.0 left (proof_rule h.1.rule) h.1.step obeyed
+    (inl (refused_first profile files before s h.0 left (rules.Proof h.1.rule) h.1.step obeyed
     (proof_fault profile files before s h.0 h.1) h.1.refused))
 opened profile files before (s ∷ left) ending refusals obeyed (inr (inr h)) =
     rw h.2
-    (inl (refused_first profile files before s h.0 left (meaning_rule h.1.rule) 0 obeyed
+    (inl (refused_first profile files before s h.0 left (rules.Meaning h.1.rule) 0 obeyed
     (meaning_fault profile files before s h.0 h.1) h.1.refused))
 
 -- the verdict over files in which nothing is at fault tells no refusal
@@ -136,17 +137,17 @@ one_of_statements profile files before (s ∷ left) ending refusals others earli
     (meant_more before s earlier h.0.meant) (rw (append_assoc before (s ∷ []) left) formed) h.1 k.1
 one_of_statements profile files before (s ∷ left) ending refusals others earlier formed (inl h) (inr (inl k)) =
     absurd (obeying_faultless profile (sentences before) s earlier
-    (formed_so_far before (s ∷ left) formed) (proof_rule k.1.rule) k.1.step h.0
+    (formed_so_far before (s ∷ left) formed) (rules.Proof k.1.rule) k.1.step h.0
     (proof_fault profile files before s k.0 k.1))
 one_of_statements profile files before (s ∷ left) ending refusals others earlier formed (inl h) (inr (inr k)) =
     absurd (h.0.meant k.1.rule k.1.broken.broken)
 one_of_statements profile files before (s ∷ left) ending refusals others earlier formed (inr (inl h)) (inl k) =
     absurd (obeying_faultless profile (sentences before) s earlier
-    (formed_so_far before (s ∷ left) formed) (proof_rule h.1.rule) h.1.step k.0
+    (formed_so_far before (s ∷ left) formed) (rules.Proof h.1.rule) h.1.step k.0
     (proof_fault profile files before s h.0 h.1))
 one_of_statements profile files before (s ∷ left) ending refusals others earlier formed (inr (inl h)) (inr (inl k)) =
     let one = one_statement_fault profile (sentences before) s earlier
-    (formed_so_far before (s ∷ left) formed) (proof_rule h.1.rule) (proof_rule k.1.rule) h.1.step k.1.step
+    (formed_so_far before (s ∷ left) formed) (rules.Proof h.1.rule) (rules.Proof k.1.rule) h.1.step k.1.step
     (proof_fault profile files before s h.0 h.1) (proof_fault profile files before s k.0 k.1) in
     let first : h.0 ≡ k.0 =
     h.1.refused ∙ (λ i. refusal_of files (length before) s (one.0 i) (one.1 i)) ∙ sym k.1.refused in
@@ -162,7 +163,7 @@ one_of_statements profile files before (s ∷ left) ending refusals others earli
     absurd (k.1.meant h.1.rule h.1.broken.broken)
 one_of_statements profile files before (s ∷ left) ending refusals others earlier formed (inr (inr h)) (inr (inr k)) =
     let one = one_statement_fault profile (sentences before) s earlier
-    (formed_so_far before (s ∷ left) formed) (meaning_rule h.1.rule) (meaning_rule k.1.rule) 0 0
+    (formed_so_far before (s ∷ left) formed) (rules.Meaning h.1.rule) (rules.Meaning k.1.rule) 0 0
     (meaning_fault profile files before s h.0 h.1) (meaning_fault profile files before s k.0 k.1) in
     let last : h.0 ≡ k.0 =
     h.1.refused ∙ (λ i. refusal_of files (length before) s (one.0 i) 0) ∙ sym k.1.refused in
@@ -198,7 +199,7 @@ some_of_statements profile files before (s ∷ left) ending earlier formed =
           (formed_so_far before (s ∷ left) formed) _ _ refl refl meant) [
             | inl obeys ↦ (rest.0, inl (obeys, rest.1))
             | inr fault ↦
-                let first = refusal_of files (length before) s (proof_rule fault.0) fault.1 in
+                let first = refusal_of files (length before) s (rules.Proof fault.0) fault.1 in
                 let refused : IsProofRefusal profile files before s first = record {
                   meant = meant;
                   rule = fault.0;
@@ -209,7 +210,7 @@ some_of_statements profile files before (s ∷ left) ending earlier formed =
                 (first ∷ rest.0, inr (inl (first, refused, rest.0, rest.1, refl)))
           ]
       | inr broken ↦
-          let last = refusal_of files (length before) s (meaning_rule broken.0) 0 in
+          let last = refusal_of files (length before) s (rules.Meaning broken.0) 0 in
           let refused : IsMeaningRefusal files before s last = record {
             rule = broken.0;
             broken = broken.1;

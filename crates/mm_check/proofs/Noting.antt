@@ -18,7 +18,8 @@ use Rattle.mm_check.specs.declared.fault.CheckFault.{CheckFault}
 use Rattle.mm_check.specs.declared.fault.Refusal.{Refusal}
 use Rattle.mm_check.specs.declared.progress.Progress.{Progress}
 use Rattle.mm_check.specs.Verdict.{PlainRefusal, Verdict, Refused, CanBeRead, IsProofFault, Obeys, is_proof}
-use Rattle.mm_check.specs.Verdict.{refusal_of, text_refusal, sentences, meaning_rule, proof_rule}
+use Rattle.mm_check.specs.declared.rule.Rule.TheVariants as rules
+use Rattle.mm_check.specs.Verdict.{refusal_of, text_refusal, sentences}
 use Rattle.mm_check.specs.Answer.{plain_refusal, verdict_of_fault}
 use Rattle.mm_check.specs.Faults.{AreRefused, IsMeaningRefusal, IsProofRefusal}
 use Rattle.mm_check.specs.Mirror.Judged.{IsRead, Knows, RefusesEnd, RefusesMeaning, StopsTurn}
@@ -159,7 +160,7 @@ module _ (profile : Profile) (files : List PlainFile) where
           fault = subst (λ (ss : List Sentence). IsProofFault profile ss s rule step) n.way.book
               faulty.fault;
           refused = faulty.told
-              ∙ ap (λ (k : ℕ). refusal_of files k s (proof_rule rule) step) n.way.count;
+              ∙ ap (λ (k : ℕ). refusal_of files k s (rules.Proof rule) step) n.way.count;
         } in (
           record {
             way = read;
@@ -215,7 +216,7 @@ module _ (profile : Profile) (files : List PlainFile) where
     last_meaning : (last : Refusal) (t : PlainStatement) (rest : Remaining) (broken : MeaningRule)
         → TakesNext old true t rest
         → FirstBroken broken p.prover.book.statements (sentence_of t)
-        → plain_refusal last ≡ refusal_of files p.count t (meaning_rule broken) 0
+        → plain_refusal last ≡ refusal_of files p.count t (rules.Meaning broken) 0
         → IsAllNoted profile files q new (noted ++ last ∷ [])
     last_meaning last t rest broken taken first same =
         let refused : IsMeaningRefusal files n.way.earlier t (plain_refusal last) = record {
@@ -223,7 +224,7 @@ module _ (profile : Profile) (files : List PlainFile) where
           broken = subst (λ (ss : List Sentence). FirstBroken broken ss (sentence_of t)) n.way.book
               first;
           refused = same
-              ∙ ap (λ (k : ℕ). refusal_of files k t (meaning_rule broken) 0) n.way.count;
+              ∙ ap (λ (k : ℕ). refusal_of files k t (rules.Meaning broken) 0) n.way.count;
         } in
         last_noted (n.way.earlier ++ t ∷ rest.statements) old.ending last
         (rw taken.0 at n.way.reads)

@@ -36,6 +36,7 @@ use Rattle.mm_proof.proofs.SaidMoves.{moves_once}
 use Rattle.mm_check.specs.declared.form.Form.{Form}
 use Rattle.mm_check.specs.declared.form.Form.TheVariants as form
 use Rattle.mm_check.specs.declared.ask.AskFault.TheVariants as ask
+use Rattle.mm_check.specs.declared.rule.AskRule.TheVariants.{A1, A2, A3, L2}
 use Rattle.mm_check.specs.Verdict.{AreAccepted, AllObey, Obeys, sentences, proof_of, is_proof}
 use Rattle.mm_check.specs.Rests.{IsNamed}
 use Rattle.mm_check.specs.Compared.{IsTheorem}
@@ -354,22 +355,22 @@ pub not_over : (n : ℕ) → n ≤ most_labels → most_labels < n → ⊥
 not_over n h k = omega (arith, h, k)
 
 pub one_save_answer : OneSaveAnswer
-one_save_answer profile form.Normal files statements label number bytes ask.L2 accepted sv (place, t, root, below, has, over) =
+one_save_answer profile form.Normal files statements label number bytes (ask.Rule L2) accepted sv (place, t, root, below, has, over) =
     let (here, (same, trees)) = one_proof_tree profile statements label sv.place place sv.s t sv.root root sv.below below accepted.obeyed sv.proof has in
     absurd (not_over (length (spelling (tree sv.root sv.below none))) sv.laid.0 (subst (λ (u : Trees). most_labels < length (spelling u)) trees over))
 one_save_answer profile f files statements label number bytes ask.F3 accepted sv (other, others, sw, over) =
     let once = one_saved profile f files statements label number other bytes others accepted sv sw in
     inr (refl, subst (λ (n : ℕ). most_bytes < n) (λ i. total_with files (sym once.0 i) (sym once.1 i)) over)
 one_save_answer profile f files statements label number bytes ask.Memory accepted sv why = inl refl
-one_save_answer profile f files statements label number bytes ask.A1 accepted sv why =
+one_save_answer profile f files statements label number bytes (ask.Rule A1) accepted sv why =
     let (id, is) = numbered_so statements sv.place sv.s label sv.proof.there sv.proof.named in
     absurd (why id is)
-one_save_answer profile f files statements label number bytes ask.A2 accepted sv
+one_save_answer profile f files statements label number bytes (ask.Rule A2) accepted sv
     (id, (place, t, at, (named, kind))) =
     let same = one_stands statements label sv.place sv.s t (all_meant profile statements
     accepted.obeyed) sv.proof.there sv.proof.named (place, at.there, named) in
     absurd (kind (rw same (provable_proof sv.s sv.proof.complete)))
-one_save_answer profile f files statements label number bytes ask.A3 accepted sv
+one_save_answer profile f files statements label number bytes (ask.Rule A3) accepted sv
     (id, (place, t, at, (named, unproved))) =
     let same = one_stands statements label sv.place sv.s t (all_meant profile statements
     accepted.obeyed) sv.proof.there sv.proof.named (place, at.there, named) in

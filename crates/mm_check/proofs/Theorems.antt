@@ -28,6 +28,7 @@ use Rattle.mm_proof.proofs.Derived.{zip_once}
 use Rattle.mm_proof.proofs.Numbered.{one_place, one_move}
 use Rattle.mm_check.specs.declared.ask.AskFault.{AskFault}
 use Rattle.mm_check.specs.declared.ask.AskFault.TheVariants as ask
+use Rattle.mm_check.specs.declared.rule.AskRule.TheVariants.{L2}
 use Rattle.mm_check.specs.Verdict.{sentences}
 use Rattle.mm_check.specs.Rests.{IsAskFault}
 use Rattle.mm_check.specs.Shown.{ShowsProof}
@@ -125,7 +126,7 @@ module _ (ss : List Sentence) (statements : List PlainStatement) (label : List �
 
 pub normal_fault : (ss : List Sentence) (statements : List PlainStatement) (label : List ℕ) (id : ℕ) (steps : ReadSteps) (fault : AskFault)
     → ss ≡ sentences statements → AreStepsOf statements label id steps.moves → AreProvedSteps ss id steps
-    → ((fault ≡ ask.Memory) ⊎ ((fault ≡ ask.L2) × OfMoves ss id steps.moves (λ place s moves. OfTree (take place ss) moves (λ trees. most_labels < length (spelling trees)))))
+    → ((fault ≡ ask.Memory) ⊎ ((fault ≡ ask.Rule L2) × OfMoves ss id steps.moves (λ place s moves. OfTree (take place ss) moves (λ trees. most_labels < length (spelling trees)))))
     → IsNormalFault statements label fault
 normal_fault ss statements label id steps fault same r proved (inl memory) = subst (IsNormalFault statements label) (sym memory) tt
 normal_fault ss statements label id steps fault same r proved (inr (long, holds)) =
@@ -133,7 +134,7 @@ normal_fault ss statements label id steps fault same r proved (inr (long, holds)
     (λ before s trees. most_labels < length (spelling trees)) holds)
 
 pub ask_fault : (statements : List PlainStatement) (label : List ℕ) (fault : AskFault) → IsAskFault statements label fault → IsNormalFault statements label fault
-ask_fault statements label ask.L2 h = absurd h
+ask_fault statements label (ask.Rule L2) h = absurd h
 ask_fault statements label _ h = h
 
 -- ---- expansions

@@ -24,8 +24,8 @@ use Rattle.mm_proof.proofs.FormDecided.{one_verdict_under_holds, one_front_verdi
 use Rattle.mm_proof.proofs.Limits.{limits_aside_holds}
 use Rattle.mm_proof.specs.Tokens.{is_incomplete}
 use Rattle.mm_check.specs.declared.rule.Rule.{Rule}
-use Rattle.mm_check.specs.declared.rule.Rule.TheVariants.{L1}
-use Rattle.mm_check.specs.Verdict.{Verdict, Load, Refused, Incomplete, Yes, PlainRefusal, Obeys, AllObey, AreAccepted, HasFault, HasVerdict, RefusesStatement, RefusesText, ObeyTheProfile, sentences, load_rule, meaning_rule, proof_rule, refusal_of, text_refusal, proof_of, unproved_of}
+use Rattle.mm_check.specs.declared.rule.Rule.TheVariants as rules
+use Rattle.mm_check.specs.Verdict.{Verdict, Load, Refused, Incomplete, Yes, PlainRefusal, Obeys, AllObey, AreAccepted, HasFault, HasVerdict, RefusesStatement, RefusesText, ObeyTheProfile, sentences, refusal_of, text_refusal, proof_of, unproved_of}
 use Rattle.mm_check.proofs.Ranks.{ranked, ranked-rank}
 use Rattle.mm_check.proofs.Rereading.{same_reading}
 use Rattle.mm_check.specs.Verdict.{IsProofFault}
@@ -85,12 +85,12 @@ module _ (profile : Profile) (before : List Sentence) (s : PlainStatement) (mean
       → HasFault profile before s rule step → HasFault profile before s rule' step'
       → (rule ≡ rule') × (step ≡ step')
   one_statement_fault rule rule' step step' (inl f) (inl g) =
-      (f.2 ∙ ap meaning_rule (one_first before _ f.0 g.0 f.1 g.1) ∙ sym g.2, f.3 ∙ sym g.3)
+      (f.2 ∙ ap rules.Meaning (one_first before _ f.0 g.0 f.1 g.1) ∙ sym g.2, f.3 ∙ sym g.3)
   one_statement_fault rule rule' step step' (inl f) (inr g) = absurd (g.0 f.0 f.1.broken)
   one_statement_fault rule rule' step step' (inr f) (inl g) = absurd (f.0 g.0 g.1.broken)
   one_statement_fault rule rule' step step' (inr f) (inr g) =
       let same = one_proof_fault f.1 g.1 step step' f.2 g.2 in
-      (f.3 ∙ ap proof_rule same.0 ∙ sym g.3, same.1)
+      (f.3 ∙ ap rules.Proof same.0 ∙ sym g.3, same.1)
 
 -- ## The first statement at fault
 
@@ -160,7 +160,7 @@ same_accepted profile files a b one other =
     (same_reading files a b None None one.reads other.reads).0
 
 pub one_verdict : (profile : Profile) (files : List PlainFile) (v w : Verdict) → HasVerdict profile files v → HasVerdict profile files w → v ≡ w
-one_verdict profile files (Load a) (Load b) h k = ap Load (h.2 ∙ ap load_rule (one_load files h.0 k.0 h.1 k.1) ∙ sym k.2)
+one_verdict profile files (Load a) (Load b) h k = ap Load (h.2 ∙ ap rules.Load (one_load files h.0 k.0 h.1 k.1) ∙ sym k.2)
 one_verdict profile files (Load a) (Refused b) h k = absurd (k.0 h.0 h.1)
 one_verdict profile files (Load a) (Incomplete ls) h k = absurd (k.1.readable h.0 h.1)
 one_verdict profile files (Load a) (Yes n p) h k = absurd (k.1.readable h.0 h.1)
@@ -238,16 +238,16 @@ proof_over profile files obey before after s split obeyed rule step (inr f) =
 -- where the profile is obeyed, what is refused passes the limit
 over_the_limit : (profile : Profile) (files : List PlainFile) (obey : ObeyTheProfile profile files)
     (refusal : PlainRefusal) → RefusesStatement profile files obey.statements refusal
-    → refusal.rule ≡ L1
+    → refusal.rule ≡ rules.Proof proof.L1
 over_the_limit profile files obey refusal r = elim (r.fault) [
   | inl f ↦ absurd (obey.meant r.before r.after r.s r.split f.0 f.1.broken)
   | inr f ↦
-      ap (λ (q : PlainRefusal). q.rule) r.refused ∙ f.3 ∙ ap proof_rule
+      ap (λ (q : PlainRefusal). q.rule) r.refused ∙ f.3 ∙ ap rules.Proof
       (proof_over profile files obey r.before r.after r.s r.split r.obeyed f.1 r.step f.2)
 ]
 
 pub profile_verdict : (profile : Profile) (files : List PlainFile) → ObeyTheProfile profile files → (v : Verdict) → HasVerdict profile files v
-    → ((n : ℕ) × (p : ℕ) × (v ≡ Yes n p)) ⊎ ((refusal : PlainRefusal) × (v ≡ Refused refusal) × (refusal.rule ≡ L1))
+    → ((n : ℕ) × (p : ℕ) × (v ≡ Yes n p)) ⊎ ((refusal : PlainRefusal) × (v ≡ Refused refusal) × (refusal.rule ≡ rules.Proof proof.L1))
 profile_verdict profile files obey (Load rule) h = absurd (obey.handed h.0 h.1)
 profile_verdict profile files obey (Incomplete ls) h =
     let same = (same_reading files h.0 obey.statements None None h.1.reads obey.reading).0 in
@@ -268,7 +268,7 @@ only_told profile files None holds w h = inl refl
 only_told profile files (Some v) holds w h = inr (ap Some (one_verdict profile files v w (holds v refl) h))
 
 pub accepted_told : (profile : Profile) (files : List PlainFile) (o : Option Verdict) → ((v : Verdict) → o ≡ Some v → HasVerdict profile files v) → ObeyTheProfile profile files
-    → ((n : ℕ) × (p : ℕ) × (o ≡ Some (Yes n p))) ⊎ ((refusal : PlainRefusal) × (o ≡ Some (Refused refusal)) × (refusal.rule ≡ L1)) ⊎ (o ≡ None)
+    → ((n : ℕ) × (p : ℕ) × (o ≡ Some (Yes n p))) ⊎ ((refusal : PlainRefusal) × (o ≡ Some (Refused refusal)) × (refusal.rule ≡ rules.Proof proof.L1)) ⊎ (o ≡ None)
 accepted_told profile files None holds obey = inr (inr refl)
 accepted_told profile files (Some v) holds obey = elim (profile_verdict profile files obey v (holds v refl)) [
   | inl found ↦ inl (found.0, found.1, ap Some found.2)

@@ -10,8 +10,9 @@ use Rattle.mm_check.specs.Conclusion.{Conclusion}
 use Rattle.mm_text.specs.Statement.{PlainStatement}
 use Rattle.mm_text.specs.Files.{PlainFile}
 use Rattle.mm_text.specs.Reading.{PlainFault, Reads}
+use Rattle.mm_proof.specs.declared.fault.ProofRule.TheVariants.{L1}
 use Rattle.mm_proof.specs.declared.profile.Profile.{Profile}
-use Rattle.mm_check.specs.declared.rule.Rule.TheVariants.{L1}
+use Rattle.mm_check.specs.declared.rule.Rule.TheVariants as rules
 use Rattle.mm_check.specs.Verdict.{PlainRefusal, Verdict, Load, Refused, Incomplete, Yes}
 use Rattle.mm_check.specs.Verdict.{HasVerdict, labels_of, proofs_of, is_unproved, sentences}
 use Rattle.mm_check.specs.Rests.{IsNumberWhere, AreInOrder, AreUses}
@@ -59,7 +60,7 @@ IsYes answer = (statements proofs : ℕ) × (verdict_of_answer answer ≡ Some (
 abbrev pub IsOverLimit : Result Conclusion CheckFault → Type 0
 IsOverLimit answer =
     (refusal : PlainRefusal) × (verdict_of_answer answer ≡ Some (Refused refusal))
-    × (refusal.rule ≡ L1)
+    × (refusal.rule ≡ rules.Proof L1)
 
 -- memory was wanting
 abbrev pub IsWantOfMemory : Result Conclusion CheckFault → Type 0

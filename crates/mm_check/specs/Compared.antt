@@ -3,6 +3,8 @@
 use Rattle.std.specs.Prelude.{◌≡◌, ◌↔◌, ◌⊎◌, ℕ, ◌<◌, ◌≤◌, ◌==◌, Bool, true, false, IsTrue, List, take}
 use Rattle.std.specs.Prelude.{length, slice_get, Some}
 use Rattle.std.specs.List.{list_any, list_all}
+use Rattle.mm_text.specs.declared.fault.LoadRule.TheVariants.{F3}
+use Rattle.mm_text.specs.declared.fault.TextRule.TheVariants.{X1, X9}
 use Rattle.mm_text.specs.Token.{is_printable}
 use Rattle.mm_text.specs.Files.{most_bytes}
 use Rattle.mm_text.specs.Statement.{PlainStatement}
@@ -17,10 +19,11 @@ use Rattle.mm_proof.specs.Tokens.{is_incomplete, SayMoves}
 use Rattle.mm_proof.specs.OneTree.{MakeSameTree}
 use Rattle.mm_proof.specs.UnderProfile.{IsProvedUnder, IsFaultUnder}
 use Rattle.mm_check.specs.declared.rule.Rule.{Rule}
-use Rattle.mm_check.specs.declared.rule.Rule.TheVariants.{F3, X1, X9, A3}
+use Rattle.mm_check.specs.declared.rule.AskRule.TheVariants.{A3}
 use Rattle.mm_check.specs.declared.ask.AskFault.{AskFault}
 use Rattle.mm_check.specs.declared.ask.AskFault.TheVariants.{Text, Memory}
-use Rattle.mm_check.specs.Verdict.{proof_of, is_proof, proof_rule, sentences}
+use Rattle.mm_check.specs.declared.rule.Rule.TheVariants as rules
+use Rattle.mm_check.specs.Verdict.{proof_of, is_proof, sentences}
 use Rattle.mm_check.specs.Rests.{IsAskFault}
 
 -- each token holds only bytes that a token may hold
@@ -41,12 +44,12 @@ pub record IsProofText (text : List ℕ) : Type 0 where
 -- The first of these rules that the text breaks, whatever it is to prove: it is too long; a token
 -- holds a byte that none may hold; or one that holds a `$`; or one that holds a `?`.
 abbrev pub BreaksText : Rule → (text : List ℕ) → Type 0
-BreaksText F3 text = most_bytes < length text
-BreaksText X1 text = (length text ≤ most_bytes) × (are_printable (tokens_in text) ≡ false)
-BreaksText X9 text =
+BreaksText (rules.Load F3) text = most_bytes < length text
+BreaksText (rules.Text X1) text = (length text ≤ most_bytes) × (are_printable (tokens_in text) ≡ false)
+BreaksText (rules.Text X9) text =
     (length text ≤ most_bytes) × (are_printable (tokens_in text) ≡ true)
     × (hold_dollar (tokens_in text) ≡ true)
-BreaksText A3 text =
+BreaksText (rules.Ask A3) text =
     (length text ≤ most_bytes) × (are_printable (tokens_in text) ≡ true)
     × (hold_dollar (tokens_in text) ≡ false) × (is_incomplete (tokens_in text) ≡ true)
 BreaksText rule text = ⊥
@@ -58,12 +61,12 @@ abbrev pub IsTextFault : Profile → (before : List Sentence) → Sentence → (
 IsTextFault profile before s text rule step =
     ((step ≡ 0) × BreaksText rule text)
     ⊎ (IsProofText text
-    × (broken : ProofRule) × (rule ≡ proof_rule broken)
+    × (broken : ProofRule) × (rule ≡ rules.Proof broken)
     × IsFaultUnder profile before s (tokens_in text) broken step)
 
 -- the fault that a fault of the handed proof is answered with
 abbrev pub text_fault : ProofFault → AskFault
-text_fault (proof_faults.Rule rule step) = Text (proof_rule rule) step
+text_fault (proof_faults.Rule rule step) = Text (rules.Proof rule) step
 text_fault proof_faults.Memory = Memory
 
 -- a theorem with the label, whose proof is complete, stands at this place

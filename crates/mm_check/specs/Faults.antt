@@ -14,7 +14,8 @@ use Rattle.mm_check.specs.declared.faults.AllFaults.{AllFaults}
 use Rattle.mm_check.specs.declared.faults.AllFaults.TheVariants as all
 use Rattle.mm_check.specs.Verdict.{PlainRefusal, Verdict, Load, Refused, Incomplete, Yes, HasVerdict}
 use Rattle.mm_check.specs.Verdict.{CanBeRead, IsProofFault, Obeys, sentences, refusal_of}
-use Rattle.mm_check.specs.Verdict.{text_refusal, meaning_rule, proof_rule}
+use Rattle.mm_check.specs.declared.rule.Rule.TheVariants as rules
+use Rattle.mm_check.specs.Verdict.{text_refusal}
 use Rattle.mm_check.specs.Answer.{plain_refusal}
 
 -- The statement is refused, after those before it, for the first rule of meaning that it breaks.
@@ -22,7 +23,7 @@ pub record IsMeaningRefusal (files : List PlainFile) (before : List PlainStateme
     (s : PlainStatement) (refusal : PlainRefusal) : Type 0 where
   pub rule : MeaningRule
   pub broken : FirstBroken rule (sentences before) (sentence_of s)
-  pub refused : refusal ≡ refusal_of files (length before) s (meaning_rule rule) 0
+  pub refused : refusal ≡ refusal_of files (length before) s (rules.Meaning rule) 0
 
 -- It breaks no rule of meaning, and is refused for the first fault of its proof, or of what is known
 -- of it.
@@ -32,7 +33,7 @@ pub record IsProofRefusal (profile : Profile) (files : List PlainFile)
   pub rule : ProofRule
   pub step : ℕ
   pub fault : IsProofFault profile (sentences before) s rule step
-  pub refused : refusal ≡ refusal_of files (length before) s (proof_rule rule) step
+  pub refused : refusal ≡ refusal_of files (length before) s (rules.Proof rule) step
 
 -- The refusals of the statements that are left, after those before: none of a statement that obeys the
 -- rules; one of a statement whose proof has a fault, and then those of what is left after it. What

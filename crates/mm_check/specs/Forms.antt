@@ -13,7 +13,8 @@ use Rattle.mm_proof.specs.Tokens.{SayMoves}
 use Rattle.mm_proof.specs.OneTree.{MakeTree}
 use Rattle.mm_proof.specs.Sharing.{IsPacked}
 use Rattle.mm_check.specs.declared.ask.AskFault.{AskFault}
-use Rattle.mm_check.specs.declared.ask.AskFault.TheVariants.{L2}
+use Rattle.mm_check.specs.declared.ask.AskFault.TheVariants.{Rule}
+use Rattle.mm_check.specs.declared.rule.AskRule.TheVariants.{L2}
 use Rattle.mm_check.specs.Verdict.{proof_of, is_proof, sentences}
 use Rattle.mm_check.specs.Rests.{IsAskFault}
 
@@ -65,7 +66,7 @@ IsPackedOf statements label text =
 -- Why the theorem with the label has no normal proof that is written: besides the faults of each
 -- question, that its tree spells more labels than may be written.
 abbrev pub IsNormalFault : List PlainStatement → (label : List ℕ) → AskFault → Type 0
-IsNormalFault statements label L2 =
+IsNormalFault statements label (Rule L2) =
     (place : ℕ) × (s : PlainStatement) × (root : List ℕ) × (below : Trees)
     × HasProofTree statements label place s root below
     × (most_labels < length (spelling (tree root below none)))

@@ -2,10 +2,11 @@
 use Rattle.std.specs.Prelude.{◌≡◌, ◌⊎◌, ℕ, List}
 use Rattle.mm_text.specs.Statement.{PlainStatement}
 use Rattle.mm_text.specs.Files.{PlainFile}
+use Rattle.mm_proof.specs.declared.fault.ProofRule.TheVariants.{P15, L1}
 use Rattle.mm_proof.specs.declared.profile.Profile.{Profile}
 use Rattle.mm_proof.specs.declared.profile.Profile.TheVariants.{Strict, Lenient}
 use Rattle.mm_check.specs.declared.rule.Rule.{Rule}
-use Rattle.mm_check.specs.declared.rule.Rule.TheVariants.{P15, L1}
+use Rattle.mm_check.specs.declared.rule.Rule.TheVariants as rules
 use Rattle.mm_check.specs.Verdict.{PlainRefusal, Verdict, Refused, Yes, HasVerdict, AllObey}
 use Rattle.mm_check.specs.Rests.{IsReport}
 
@@ -31,9 +32,9 @@ abbrev pub BetweenProfiles : Type 0
 BetweenProfiles =
     (files : List PlainFile) (statements proofs : ℕ)
     → (HasVerdict Strict files (Yes statements proofs)
-    → HasVerdict Lenient files (Yes statements proofs) ⊎ IsRefusedBy Lenient files L1)
+    → HasVerdict Lenient files (Yes statements proofs) ⊎ IsRefusedBy Lenient files (rules.Proof L1))
     × (HasVerdict Lenient files (Yes statements proofs)
-    → HasVerdict Strict files (Yes statements proofs) ⊎ IsRefusedBy Strict files P15)
+    → HasVerdict Strict files (Yes statements proofs) ⊎ IsRefusedBy Strict files (rules.Proof P15))
 
 -- reports of what a theorem rests on are one
 abbrev pub OneReport : Type 0

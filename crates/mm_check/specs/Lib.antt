@@ -1,4 +1,5 @@
 pub mod Verdict
+pub mod RuleCodes
 pub mod Reply
 pub mod Status
 pub mod Conclusion

@@ -4,18 +4,18 @@ use Rattle.std.specs.Prelude.{Bool, true, false, None}
 use Rattle.std.specs.Prelude.{option_map, unwrap_or, Result, MatchOption, ◌⊎◌, codes, decimal}
 use Rattle.std.specs.List.{flat_map}
 use Rattle.std.specs.Io.KnownBytes.{Appends}
+use Rattle.mm_text.specs.declared.fault.LoadRule.TheVariants.{F3}
 use Rattle.mm_text.specs.Statement.{PlainStatement}
 use Rattle.mm_text.specs.Files.{PlainFile}
 use Rattle.mm_text.specs.Device.{AppendsBeginning}
+use Rattle.mm_proof.specs.declared.fault.ProofRule.TheVariants.{L1}
 use Rattle.mm_proof.specs.declared.profile.Profile.{Profile}
 use Rattle.mm_proof.specs.declared.profile.Profile.TheVariants.{Lenient}
 use Rattle.mm_check.specs.declared.rule.Rule.{Rule}
-use Rattle.mm_check.specs.declared.rule.Rule.TheVariants.{F1, F2, F3, X1, X2, X3, X4, X5, X6, X7}
-use Rattle.mm_check.specs.declared.rule.Rule.TheVariants.{X8, X9, S1, S2, S3, S4, S5, S6, S7, M1}
-use Rattle.mm_check.specs.declared.rule.Rule.TheVariants.{M2, M3, M4, M5, M6, M7, M8, M9, M10, M11}
-use Rattle.mm_check.specs.declared.rule.Rule.TheVariants.{M12, M13, M14, M15, P1, P2, P3, P4, P5}
-use Rattle.mm_check.specs.declared.rule.Rule.TheVariants.{P6, P7, P8, P9, P10, P11, P12, P13, P14}
-use Rattle.mm_check.specs.declared.rule.Rule.TheVariants.{P15, L1, L2, A1, A2, A3}
+use Rattle.mm_check.specs.declared.rule.Rule.TheVariants as rules
+use Rattle.mm_check.specs.declared.rule.AskRule.{AskRule}
+use Rattle.mm_check.specs.declared.rule.AskRule.TheVariants.{A1, A2, A3, L2}
+use Rattle.mm_check.specs.RuleCodes.{ask_code, code_of}
 use Rattle.mm_check.specs.declared.fault.CheckFault.{CheckFault}
 use Rattle.mm_check.specs.Conclusion.{Conclusion}
 use Rattle.mm_check.specs.Answer.{verdict_of_answer, labels_at}
@@ -36,66 +36,9 @@ use Rattle.mm_check.specs.Verdict.{PlainRefusal, Verdict, Load, Refused, Incompl
 use Rattle.mm_check.specs.Verdict.{HasVerdict, AreAccepted, labels_of}
 use Rattle.mm_check.specs.Faults.{HaveFaults, refusal_in}
 
--- the printed code of a rule
-abbrev pub code_of : Rule → List ℕ
-code_of F1 = codes "F1"
-code_of F2 = codes "F2"
-code_of F3 = codes "F3"
-code_of X1 = codes "X1"
-code_of X2 = codes "X2"
-code_of X3 = codes "X3"
-code_of X4 = codes "X4"
-code_of X5 = codes "X5"
-code_of X6 = codes "X6"
-code_of X7 = codes "X7"
-code_of X8 = codes "X8"
-code_of X9 = codes "X9"
-code_of S1 = codes "S1"
-code_of S2 = codes "S2"
-code_of S3 = codes "S3"
-code_of S4 = codes "S4"
-code_of S5 = codes "S5"
-code_of S6 = codes "S6"
-code_of S7 = codes "S7"
-code_of M1 = codes "M1"
-code_of M2 = codes "M2"
-code_of M3 = codes "M3"
-code_of M4 = codes "M4"
-code_of M5 = codes "M5"
-code_of M6 = codes "M6"
-code_of M7 = codes "M7"
-code_of M8 = codes "M8"
-code_of M9 = codes "M9"
-code_of M10 = codes "M10"
-code_of M11 = codes "M11"
-code_of M12 = codes "M12"
-code_of M13 = codes "M13"
-code_of M14 = codes "M14"
-code_of M15 = codes "M15"
-code_of P1 = codes "P1"
-code_of P2 = codes "P2"
-code_of P3 = codes "P3"
-code_of P4 = codes "P4"
-code_of P5 = codes "P5"
-code_of P6 = codes "P6"
-code_of P7 = codes "P7"
-code_of P8 = codes "P8"
-code_of P9 = codes "P9"
-code_of P10 = codes "P10"
-code_of P11 = codes "P11"
-code_of P12 = codes "P12"
-code_of P13 = codes "P13"
-code_of P14 = codes "P14"
-code_of P15 = codes "P15"
-code_of L1 = codes "L1"
-code_of L2 = codes "L2"
-code_of A1 = codes "A1"
-code_of A2 = codes "A2"
-code_of A3 = codes "A3"
-
 -- A line of a refusal begins with `limit` for a limit that was passed, else with `no`.
 abbrev pub refusal_word : Rule → List ℕ
-refusal_word L1 = codes "limit"
+refusal_word (rules.Proof L1) = codes "limit"
 refusal_word rule = codes "no"
 
 -- a line: a word, then a space and a word for each of the others, and a line feed
@@ -126,7 +69,7 @@ text_of files (Yes statements proofs) =
 
 -- the status of a refusal: 4 for a limit that was passed, else 1
 abbrev pub refusal_status : Rule → ℕ
-refusal_status L1 = 4
+refusal_status (rules.Proof L1) = 4
 refusal_status rule = 1
 
 -- the status of a verdict
@@ -180,25 +123,27 @@ pub record IsRefused (files : List PlainFile) (text : List ℕ) (status : ℕ) :
   pub said : text ≡ text_of files verdict
   pub ends : status ≡ status_of verdict
 
+-- the status where a question has no answer: 3 where a proof is incomplete, 4 where a limit was
+-- passed, else 1
+abbrev pub ask_status : AskRule → ℕ
+ask_status A1 = 1
+ask_status A2 = 1
+ask_status A3 = 3
+ask_status L2 = 4
+
 -- the status where a proof's text that is handed in is refused: 3 where it is incomplete, 4 where a
 -- limit was passed, else 1
 abbrev pub text_status : Rule → ℕ
-text_status A3 = 3
-text_status L1 = 4
-text_status F3 = 4
+text_status (rules.Ask A3) = 3
+text_status (rules.Proof L1) = 4
+text_status (rules.Load F3) = 4
 text_status rule = 1
 
 -- the text and the status where a question about a label has no answer, or a file with this name in
 -- the place of the label isn't written anew
 abbrev pub IsAskReply : AskFault → List ℕ → List ℕ → ℕ → Type 0
-IsAskReply ask.A1 label text status =
-    (text ≡ line_with (codes "ask") (codes "A1" ∷ label ∷ [])) × (status ≡ 1)
-IsAskReply ask.A2 label text status =
-    (text ≡ line_with (codes "ask") (codes "A2" ∷ label ∷ [])) × (status ≡ 1)
-IsAskReply ask.A3 label text status =
-    (text ≡ line_with (codes "ask") (codes "A3" ∷ label ∷ [])) × (status ≡ 3)
-IsAskReply ask.L2 label text status =
-    (text ≡ line_with (codes "ask") (codes "L2" ∷ label ∷ [])) × (status ≡ 4)
+IsAskReply (ask.Rule rule) label text status =
+    (text ≡ line_with (codes "ask") (ask_code rule ∷ label ∷ [])) × (status ≡ ask_status rule)
 IsAskReply (ask.Text rule step) label text status =
     (text ≡ line_with (codes "text") (code_of rule ∷ decimal step ∷ [])) × (status ≡ text_status rule)
 IsAskReply ask.F3 label text status =
@@ -277,7 +222,7 @@ abbrev pub IsAllSavedReply : Form → List PlainFile → (number : ℕ) → List
     → Type 0
 IsAllSavedReply wanted files number statements text status =
     ((label : List ℕ) × (wanted ≡ form.Normal) × IsFirstTooLong statements number label
-    × IsAskReply ask.L2 label text status)
+    × IsAskReply (ask.Rule L2) label text status)
     ⊎ ((IsAllSaveFault wanted files statements number ask.F3
     × IsAskReply ask.F3 (name_of files number) text status)
     ⊎ (IsAllSaved wanted files statements number text × FitsSaved files number text

@@ -12,7 +12,8 @@ use Rattle.mm_proof.specs.Proof.{IsProvedWithin, IsProved}
 use Rattle.mm_proof.specs.Used.{IsUsedNumber, AreUsed}
 use Rattle.mm_check.specs.Conclusion.{ProofUses, numbers_of}
 use Rattle.mm_check.specs.declared.ask.AskFault.{AskFault}
-use Rattle.mm_check.specs.declared.ask.AskFault.TheVariants.{A1, A2, A3, L2, F3, Text, Memory}
+use Rattle.mm_check.specs.declared.ask.AskFault.TheVariants.{Rule, F3, Text, Memory}
+use Rattle.mm_check.specs.declared.rule.AskRule.TheVariants.{A1, A2, A3, L2}
 use Rattle.mm_check.specs.Verdict.{proof_of, is_proof, is_unproved, sentences}
 
 -- ---- numbers of statements
@@ -89,10 +90,10 @@ IsNamed statements label P = IsNumberWhere statements (λ s. IsLabelled label (s
 -- statement other than a `$p`; it is that of a `$p` whose proof is incomplete. Other faults are
 -- those of single questions. A refused growth says nothing of the statements.
 abbrev pub IsAskFault : List PlainStatement → List ℕ → AskFault → Type 0
-IsAskFault statements label A1 = (id : ℕ) → ¬ (IsNamed statements label (λ s. Unit {0}) id)
-IsAskFault statements label A2 = (id : ℕ) × IsNamed statements label (λ s. s.kind ≢ Provable) id
-IsAskFault statements label A3 = (id : ℕ) × IsNamed statements label (λ s. is_unproved s ≡ true) id
-IsAskFault statements label L2 = ⊥
+IsAskFault statements label (Rule A1) = (id : ℕ) → ¬ (IsNamed statements label (λ s. Unit {0}) id)
+IsAskFault statements label (Rule A2) = (id : ℕ) × IsNamed statements label (λ s. s.kind ≢ Provable) id
+IsAskFault statements label (Rule A3) = (id : ℕ) × IsNamed statements label (λ s. is_unproved s ≡ true) id
+IsAskFault statements label (Rule L2) = ⊥
 IsAskFault statements label (Text rule step) = ⊥
 IsAskFault statements label F3 = ⊥
 IsAskFault statements label Memory = Unit {0}

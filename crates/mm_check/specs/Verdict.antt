@@ -6,20 +6,15 @@ use Rattle.std.specs.Prelude.{None, option_map, ◌⊎◌}
 use Rattle.std.specs.List.{flat_map}
 use Rattle.std.specs.Option.{option_to_list}
 use Rattle.mm_text.specs.declared.fault.LoadRule.{LoadRule}
-use Rattle.mm_text.specs.declared.fault.LoadRule.TheVariants as load
-use Rattle.mm_text.specs.declared.fault.TextRule.{TextRule}
-use Rattle.mm_text.specs.declared.fault.TextRule.TheVariants as text
 use Rattle.mm_text.specs.declared.statement.Kind.TheVariants.{Provable}
 use Rattle.mm_text.specs.Statement.{PlainStatement, is_provable}
 use Rattle.mm_text.specs.Files.{PlainFile, BreaksLoad}
 use Rattle.mm_text.specs.LineNumbers.{line_of}
 use Rattle.mm_text.specs.Reading.{PlainFault, Reads}
 use Rattle.mm_frame.specs.declared.rule.MeaningRule.{MeaningRule}
-use Rattle.mm_frame.specs.declared.rule.MeaningRule.TheVariants as meaning
 use Rattle.mm_frame.specs.Sentence.{Sentence, sentence_of}
 use Rattle.mm_frame.specs.Rules.{FirstBroken, IsMeant}
 use Rattle.mm_proof.specs.declared.fault.ProofRule.{ProofRule}
-use Rattle.mm_proof.specs.declared.fault.ProofRule.TheVariants as proof
 use Rattle.mm_proof.specs.declared.profile.Profile.{Profile}
 use Rattle.mm_proof.specs.Tokens.{is_incomplete}
 use Rattle.mm_proof.specs.Proof.{IsProved}
@@ -27,71 +22,7 @@ use Rattle.mm_proof.specs.Strict.{HasFormOf}
 use Rattle.mm_proof.specs.UnderProfile.{IsProvedUnder, IsFaultUnder, IsFrontAllowedUnder}
 use Rattle.mm_proof.specs.UnderProfile.{IsFrontFaultUnder}
 use Rattle.mm_check.specs.declared.rule.Rule.{Rule}
-use Rattle.mm_check.specs.declared.rule.Rule.TheVariants.{F1, F2, F3, X1, X2, X3, X4, X5, X6, X7}
-use Rattle.mm_check.specs.declared.rule.Rule.TheVariants.{X8, X9, S1, S2, S3, S4, S5, S6, S7, M1}
-use Rattle.mm_check.specs.declared.rule.Rule.TheVariants.{M2, M3, M4, M5, M6, M7, M8, M9, M10, M11}
-use Rattle.mm_check.specs.declared.rule.Rule.TheVariants.{M12, M13, M14, M15, P1, P2, P3, P4, P5}
-use Rattle.mm_check.specs.declared.rule.Rule.TheVariants.{P6, P7, P8, P9, P10, P11, P12, P13, P14}
-use Rattle.mm_check.specs.declared.rule.Rule.TheVariants.{P15, L1}
-
--- the rules of each layer by their codes
-abbrev pub load_rule : LoadRule → Rule
-load_rule load.F1 = F1
-load_rule load.F2 = F2
-load_rule load.F3 = F3
-
-abbrev pub text_rule : TextRule → Rule
-text_rule text.X1 = X1
-text_rule text.X2 = X2
-text_rule text.X3 = X3
-text_rule text.X4 = X4
-text_rule text.X5 = X5
-text_rule text.X6 = X6
-text_rule text.X7 = X7
-text_rule text.X8 = X8
-text_rule text.X9 = X9
-text_rule text.S1 = S1
-text_rule text.S2 = S2
-text_rule text.S3 = S3
-text_rule text.S4 = S4
-text_rule text.S5 = S5
-text_rule text.S6 = S6
-text_rule text.S7 = S7
-
-abbrev pub meaning_rule : MeaningRule → Rule
-meaning_rule meaning.M1 = M1
-meaning_rule meaning.M2 = M2
-meaning_rule meaning.M3 = M3
-meaning_rule meaning.M4 = M4
-meaning_rule meaning.M5 = M5
-meaning_rule meaning.M6 = M6
-meaning_rule meaning.M7 = M7
-meaning_rule meaning.M8 = M8
-meaning_rule meaning.M9 = M9
-meaning_rule meaning.M10 = M10
-meaning_rule meaning.M11 = M11
-meaning_rule meaning.M12 = M12
-meaning_rule meaning.M13 = M13
-meaning_rule meaning.M14 = M14
-meaning_rule meaning.M15 = M15
-
-abbrev pub proof_rule : ProofRule → Rule
-proof_rule proof.P1 = P1
-proof_rule proof.P2 = P2
-proof_rule proof.P3 = P3
-proof_rule proof.P4 = P4
-proof_rule proof.P5 = P5
-proof_rule proof.P6 = P6
-proof_rule proof.P7 = P7
-proof_rule proof.P8 = P8
-proof_rule proof.P9 = P9
-proof_rule proof.P10 = P10
-proof_rule proof.P11 = P11
-proof_rule proof.P12 = P12
-proof_rule proof.P13 = P13
-proof_rule proof.P14 = P14
-proof_rule proof.P15 = P15
-proof_rule proof.L1 = L1
+use Rattle.mm_check.specs.declared.rule.Rule.TheVariants as rules
 
 -- where and why a database is refused
 pub record PlainRefusal : Type 0 where
@@ -127,7 +58,7 @@ text_refusal files fault = record {
   line = line_of files fault.file fault.at;
   statement = fault.statement;
   label = option_map (λ t. t.text) fault.label;
-  rule = text_rule fault.rule;
+  rule = rules.Text fault.rule;
   step = 0;
 }
 
@@ -172,10 +103,10 @@ IsProofFault profile before s rule step =
 abbrev pub HasFault : Profile → List Sentence → PlainStatement → Rule → ℕ → Type 0
 HasFault profile before s rule step =
     ((broken : MeaningRule) × FirstBroken broken before (sentence_of s)
-    × (rule ≡ meaning_rule broken) × (step ≡ 0))
+    × (rule ≡ rules.Meaning broken) × (step ≡ 0))
     ⊎ (IsMeant before (sentence_of s)
     × (broken : ProofRule) × IsProofFault profile before s broken step
-    × (rule ≡ proof_rule broken))
+    × (rule ≡ rules.Proof broken))
 
 -- The first statement at fault, after statements that obey the rules.
 pub record RefusesStatement (profile : Profile) (files : List PlainFile)
@@ -228,7 +159,7 @@ pub record AreAccepted (profile : Profile) (files : List PlainFile)
 -- The verdict over the files in the profile.
 abbrev pub HasVerdict : Profile → List PlainFile → Verdict → Type 0
 HasVerdict profile files (Load rule) =
-    (broken : LoadRule) × BreaksLoad files broken × (rule ≡ load_rule broken)
+    (broken : LoadRule) × BreaksLoad files broken × (rule ≡ rules.Load broken)
 HasVerdict profile files (Refused refusal) =
     CanBeRead files
     × (statements : List PlainStatement) × (ending : Option PlainFault)

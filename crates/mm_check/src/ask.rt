@@ -3,7 +3,7 @@
 ghost use Rattle.std.specs.Prelude.{◌≡◌};
 ghost use Rattle.mm_check.specs.declared.ask.AskFault.TheVariants.{Memory};
 
-use crate::rule::Rule;
+use crate::rule::{AskRule, Rule};
 use mm_proof::ProofFault;
 use std::alloc::{AllocError, AllocFailed};
 use thiserror::Error;
@@ -12,24 +12,15 @@ use thiserror::Error;
 /// this order.
 #[derive(Clone, Copy, PartialEq, Eq, Debug, Error)]
 pub enum AskFault {
-    /// No statement has the label.
-    #[error("no statement has the label")]
-    A1,
-    /// The label isn't that of a `$p`.
-    #[error("the label is not that of a theorem")]
-    A2,
-    /// The proof of the `$p` is incomplete.
-    #[error("the proof is incomplete")]
-    A3,
-    /// The normal proof of the `$p` has over 16,777,216 labels.
-    #[error("the normal proof has too many labels")]
-    L2,
+    /// The rule of questions that is broken.
+    #[error("{0}")]
+    Rule(AskRule),
     /// With the proof, or all proofs, written anew in their file, the files would have over
     /// 1,073,741,824 bytes.
     #[error("the files would have too many bytes")]
     F3,
     /// A proof's text that is handed in breaks this rule, at this step.
-    #[error("the text breaks {rule:?} at step {step}")]
+    #[error("the text breaks {rule} at step {step}")]
     Text { rule: Rule, step: usize },
     /// A growth was refused.
     #[error("out of memory")]
@@ -61,7 +52,7 @@ impl From<ProofFault> for AskFault {
     fn from(broken: ProofFault) -> AskFault {
         match broken {
             ProofFault::Rule { rule, step } => AskFault::Text {
-                rule: Rule::from(rule),
+                rule: Rule::Proof(rule),
                 step,
             },
             ProofFault::Memory => AskFault::Memory,

@@ -13,6 +13,7 @@ use crate::progress::Progress;
 use crate::report::{Report, axioms_among, marked_among, reach};
 use crate::reread::{proof_of, reread};
 use crate::rewrite::put_in;
+use crate::rule::AskRule;
 use crate::shown::listing_text;
 use crate::theorem::{Theorem, theorem_of};
 use mm_frame::{Book, Found, LabelId, LabelKind};
@@ -162,12 +163,12 @@ impl<'a> Checked<'a> {
         ensures sound { IsSound self.now.sentences }
     {
         match self.book.find(label) {
-            Found::None => Err(AskFault::A1),
-            Found::Hypothesis { .. } => Err(AskFault::A2),
+            Found::None => Err(AskFault::Rule(AskRule::A1)),
+            Found::Hypothesis { .. } => Err(AskFault::Rule(AskRule::A2)),
             Found::Assertion(id) => match self.book.kind(id) {
-                LabelKind::Proof if is_among(&self.incomplete, id) => Err(AskFault::A3),
+                LabelKind::Proof if is_among(&self.incomplete, id) => Err(AskFault::Rule(AskRule::A3)),
                 LabelKind::Proof => Ok(id),
-                _ => Err(AskFault::A2),
+                _ => Err(AskFault::Rule(AskRule::A2)),
             },
         }
     }

@@ -9,7 +9,7 @@ use thiserror::Error;
 
 /// The first statement at fault, and its rule.
 #[derive(Clone, Copy, Debug, Drop, Error)]
-#[error("file {file}, line {line}: statement {statement} breaks {rule:?}, step {step}")]
+#[error("file {file}, line {line}: statement {statement} breaks {rule}, step {step}")]
 pub struct Refusal<'a> {
     /// The number of the handed file, from 0.
     pub file: usize,
@@ -29,7 +29,7 @@ pub struct Refusal<'a> {
 #[derive(Debug, Drop, Error)]
 pub enum CheckFault<'a> {
     /// The handed files break F1, F2 or F3 as a whole.
-    #[error("the files break {0:?}")]
+    #[error("the files break {0}")]
     Load(Rule),
     /// A statement is at fault.
     #[error("{0}")]

@@ -7,13 +7,15 @@ ghost use Rattle.mm_proof.specs.Spelled.{AreLabelsOf, OfSpelling};
 ghost use Rattle.mm_proof.specs.Packing.{OfTree};
 ghost use Rattle.mm_proof.specs.Steps.{AreSteps};
 ghost use Rattle.mm_proof.specs.Verified.{OfMoves};
-ghost use Rattle.mm_check.specs.declared.ask.AskFault.TheVariants.{L2, Memory};
+ghost use Rattle.mm_check.specs.declared.ask.AskFault.TheVariants.{Rule, Memory};
+ghost use Rattle.mm_check.specs.declared.rule.AskRule.TheVariants.{L2};
 ghost use Rattle.mm_check.specs.Forms.{most_labels, IsNormalText, IsPackedText};
 ghost use Rattle.mm_check.specs.Mirror.Theorems.{AreProvedSteps};
 ghost use Rattle.mm_check.specs.Mirror.Rewriting.{IsTextOf, IsTextFault};
 
 use crate::ask::AskFault;
 use crate::form::Form;
+use crate::rule::AskRule;
 use crate::theorem::Theorem;
 use mm_code::{lay_out_compressed, lay_out_normal, write_codes};
 use mm_frame::{Book, LabelId};
@@ -49,14 +51,14 @@ fn labels_of(alloc: Global, book: &Book, theorem: &Theorem) -> Result<Vec<LabelI
         (λ place s moves. OfSpelling (take place book.now.statements) moves (λ spelled.
         AreLabelsOf book.now.statements labels.items spelled
         × (length spelled ≤ most_labels)))) }
-    ensures fault { IfErr result (λ fault. (fault ≡ Memory) ⊎ ((fault ≡ L2)
+    ensures fault { IfErr result (λ fault. (fault ≡ Memory) ⊎ ((fault ≡ Rule L2)
         × OfMoves book.now.statements theorem.now.id.0 theorem.now.steps.moves
         (λ place s moves. OfSpelling (take place book.now.statements) moves (λ spelled.
         most_labels < length spelled)))) }
 {
     match expand(alloc, book, theorem.id, &theorem.steps, MOST_LABELS) {
         Ok(labels) => Ok(labels),
-        Err(ExpandFault::L2) => Err(AskFault::L2),
+        Err(ExpandFault::L2) => Err(AskFault::Rule(AskRule::L2)),
         Err(ExpandFault::Memory) => Err(AskFault::Memory),
     }
 }
@@ -74,7 +76,7 @@ pub(crate) fn normal_text(
         OfMoves book.now.statements theorem.now.id.0 theorem.now.steps.moves
         (λ place s moves. OfTree (take place book.now.statements) moves
         (λ trees. IsNormalText trees text.items))) }
-    ensures fault { IfErr result (λ fault. (fault ≡ Memory) ⊎ ((fault ≡ L2)
+    ensures fault { IfErr result (λ fault. (fault ≡ Memory) ⊎ ((fault ≡ Rule L2)
         × OfMoves book.now.statements theorem.now.id.0 theorem.now.steps.moves
         (λ place s moves. OfTree (take place book.now.statements) moves
         (λ trees. most_labels < length (spelling trees))))) }

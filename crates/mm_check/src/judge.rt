@@ -98,7 +98,7 @@ fn prove<'a>(
             Ok(None)
         }
         Err(ProofFault::Rule { rule, step }) => {
-            let refusal = refusal(files, progress.count, statement, Rule::from(rule), step);
+            let refusal = refusal(files, progress.count, statement, Rule::Proof(rule), step);
             Ok(Some(refusal))
         }
         Err(ProofFault::Memory) => Err(AllocError),
@@ -135,7 +135,7 @@ pub(crate) fn judge<'a>(
         }
         Ok(_) => None,
         Err(RuleFault::Rule(rule)) => {
-            let refusal = refusal(files, progress.count, statement, Rule::from(rule), 0);
+            let refusal = refusal(files, progress.count, statement, Rule::Meaning(rule), 0);
             return Err(CheckFault::Refused(refusal));
         }
         Err(RuleFault::Memory) => return Err(CheckFault::Memory),

@@ -46,7 +46,7 @@ pub use laws::{
 };
 pub use mm_frame::LabelId;
 pub use report::Report;
-pub use rule::Rule;
+pub use rule::{AskRule, Rule};
 pub use save::saved;
 pub use save_all::saved_all;
 pub use save_fault::SaveFault;

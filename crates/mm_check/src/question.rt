@@ -11,7 +11,9 @@ ghost use Rattle.mm_check.specs.Answer.{verdict_of_answer, labels_at, IsVerdict}
 ghost use Rattle.mm_check.specs.Answer.{KeepsLabels, KeepsFiles, plain_refusal};
 ghost use Rattle.mm_check.specs.Verdict.{AreAccepted, labels_of};
 ghost use Rattle.mm_check.specs.Status.{number_of};
-ghost use Rattle.mm_check.specs.Reply.{code_of, line_with, lines_of, status_of as status_at, Tells};
+ghost use Rattle.mm_check.specs.RuleCodes.{code_of};
+ghost use Rattle.mm_check.specs.Reply.{line_with, lines_of, status_of as status_at, Tells};
+ghost use Rattle.mm_check.specs.Reply.{ask_status as ask_status_at};
 ghost use Rattle.mm_check.specs.Reply.{IsReply, IsAskReply, IsAxiomsReply, IsShowReply};
 ghost use Rattle.mm_check.specs.Reply.{IsFaultsReply, refusals_text, refusal_status};
 ghost use Rattle.mm_check.specs.Reply.{IsNormalReply, IsPackedReply, IsSavedReply, IsSameReply};
@@ -30,15 +32,15 @@ use crate::reply::{
     first_status, name_of, push_label, push_labels, push_refusals, status_of, text_of,
 };
 use crate::report::Report;
-use crate::rule::Rule;
+use crate::rule::{AskRule, Rule};
 use crate::save_all::saved_all;
 use crate::save_fault::SaveFault;
 use crate::status::Status;
 use crate::verdict::{check, check_with};
 use crate::words::{push_number, push_word};
 use mm_frame::LabelId;
-use mm_proof::Profile;
-use mm_text::{File, Seed};
+use mm_proof::{Profile, ProofRule};
+use mm_text::{File, LoadRule, Seed};
 use std::alloc::{AllocError, Global};
 
 /// The text of a reply, and the status that goes with it.
@@ -121,6 +123,17 @@ fn ask_text(alloc: Global, rule: Rule, label: &[u8]) -> Result<Vec<u8>, AllocErr
     Ok(out)
 }
 
+/// The status where a question has no answer.
+fn ask_status(rule: AskRule) -> Status
+    ensures { number_of result ≡ ask_status_at rule }
+{
+    match rule {
+        AskRule::A1 | AskRule::A2 => Status::Refused,
+        AskRule::A3 => Status::Incomplete,
+        AskRule::L2 => Status::Stopped,
+    }
+}
+
 /// The line that says why a proof's text that is handed in is refused.
 #[tactic(auto, using(crate::proofs::Lines::three_words))]
 fn refused_text(alloc: Global, rule: Rule, step: usize) -> Result<Vec<u8>, AllocError>
@@ -140,8 +153,8 @@ fn text_status(rule: Rule) -> Status
     ensures { number_of result ≡ text_status_at rule }
 {
     match rule {
-        Rule::A3 => Status::Incomplete,
-        Rule::L1 | Rule::F3 => Status::Stopped,
+        Rule::Ask(AskRule::A3) => Status::Incomplete,
+        Rule::Proof(ProofRule::L1) | Rule::Load(LoadRule::F3) => Status::Stopped,
         _ => Status::Refused,
     }
 }
@@ -152,24 +165,12 @@ fn ask_reply(alloc: Global, label: &[u8], fault: AskFault) -> Result<Reply, Allo
         IsAskReply fault label.now reply.text.items (number_of reply.status)) }
 {
     match fault {
-        AskFault::A1 => Ok(Reply {
-            text: ask_text(alloc, Rule::A1, label)?,
-            status: Status::Refused,
-        }),
-        AskFault::A2 => Ok(Reply {
-            text: ask_text(alloc, Rule::A2, label)?,
-            status: Status::Refused,
-        }),
-        AskFault::A3 => Ok(Reply {
-            text: ask_text(alloc, Rule::A3, label)?,
-            status: Status::Incomplete,
-        }),
-        AskFault::L2 => Ok(Reply {
-            text: ask_text(alloc, Rule::L2, label)?,
-            status: Status::Stopped,
+        AskFault::Rule(rule) => Ok(Reply {
+            text: ask_text(alloc, Rule::Ask(rule), label)?,
+            status: ask_status(rule),
         }),
         AskFault::F3 => Ok(Reply {
-            text: ask_text(alloc, Rule::F3, label)?,
+            text: ask_text(alloc, Rule::Load(LoadRule::F3), label)?,
             status: Status::Stopped,
         }),
         AskFault::Text { rule, step } => Ok(Reply {
@@ -485,7 +486,7 @@ pub(crate) fn all_saved_reply(
             text,
             status: Status::Done,
         }),
-        Err(SaveFault::TooLong { label }) => ask_reply(alloc, label, AskFault::L2),
+        Err(SaveFault::TooLong { label }) => ask_reply(alloc, label, AskFault::Rule(AskRule::L2)),
         Err(SaveFault::Ask(fault)) => ask_reply(alloc, name_of(files, number), fault),
         Err(SaveFault::Check(fault)) => verdict_reply(alloc, files, &Err(fault)),
     }

@@ -8,7 +8,8 @@ ghost use Rattle.mm_text.specs.Files.{plain_file};
 ghost use Rattle.mm_check.specs.Reply.{text_of as text_at, status_of as status_at};
 ghost use Rattle.mm_check.specs.Reply.{refusal_status as refusal_status_at, refusal_word};
 ghost use Rattle.mm_check.specs.Reply.{refusals_text};
-ghost use Rattle.mm_check.specs.Reply.{name_of as name_at, code_of, line_with, lines_of, Tells};
+ghost use Rattle.mm_check.specs.Reply.{name_of as name_at, line_with, lines_of, Tells};
+ghost use Rattle.mm_check.specs.RuleCodes.{code_of};
 ghost use Rattle.mm_check.specs.Verdict.{Refused};
 ghost use Rattle.mm_check.specs.Answer.{plain_refusal, labels_at, verdict_of_conclusion};
 ghost use Rattle.mm_check.specs.Answer.{verdict_of_answer};
@@ -20,6 +21,7 @@ use crate::rule::Rule;
 use crate::status::Status;
 use crate::words::{push_number, push_word};
 use mm_frame::LabelId;
+use mm_proof::ProofRule;
 use mm_text::File;
 use std::alloc::{AllocError, Global};
 
@@ -38,7 +40,7 @@ fn word_of(rule: Rule) -> &'static [u8]
     ensures { result.now ≡ refusal_word rule }
 {
     match rule {
-        Rule::L1 => b"limit",
+        Rule::Proof(ProofRule::L1) => b"limit",
         _ => b"no",
     }
 }
@@ -148,7 +150,7 @@ fn refusal_status(rule: Rule) -> Status
     ensures { number_of result ≡ refusal_status_at rule }
 {
     match rule {
-        Rule::L1 => Status::Stopped,
+        Rule::Proof(ProofRule::L1) => Status::Stopped,
         _ => Status::Refused,
     }
 }

@@ -29,6 +29,7 @@ use crate::forms::proof_text;
 use crate::progress::Progress;
 use crate::reread::read_proof;
 use crate::rewrite::most_for;
+use crate::rule::AskRule;
 use crate::save_fault::SaveFault;
 use crate::text::has_question;
 use crate::theorem::theorem_of;
@@ -207,7 +208,7 @@ impl<'a> NewFile<'a> {
         read_proof(tokens, statement)?;
         match text_of(alloc, self.form, book, statement, tokens) {
             Ok(text) => self.put(statement.span, &text)?,
-            Err(AskFault::L2) => self.too_long = Some(label_of(statement)),
+            Err(AskFault::Rule(AskRule::L2)) => self.too_long = Some(label_of(statement)),
             Err(AskFault::Memory) => return Err(CheckFault::Memory),
             // The theorem's proof is complete and accepted.
             Err(_) => unreachable!(),

@@ -12,8 +12,8 @@ ghost use Rattle.mm_check.specs.Compared.{are_printable, hold_dollar, IsProofTex
 ghost use Rattle.mm_check.specs.Mirror.Comparisons.{IsIllegal};
 
 use crate::ask::AskFault;
-use crate::rule::Rule;
-use mm_text::BYTE_LIMIT;
+use crate::rule::{AskRule, Rule};
+use mm_text::{BYTE_LIMIT, LoadRule, TextRule};
 use std::alloc::{AllocError, Global};
 
 /// Whether a byte is white space.
@@ -133,17 +133,17 @@ pub(crate) fn proof_tokens<'a>(alloc: Global, text: &'a [u8]) -> Result<Vec<&'a 
     ensures fault { IfErr result (IsIllegal text.now) }
 {
     if text.len() > BYTE_LIMIT {
-        return broken(Rule::F3);
+        return broken(Rule::Load(LoadRule::F3));
     }
     let tokens = tokens_of(alloc, text)?;
     if !all_printable(&tokens) {
-        return broken(Rule::X1);
+        return broken(Rule::Text(TextRule::X1));
     }
     if any_dollar(&tokens) {
-        return broken(Rule::X9);
+        return broken(Rule::Text(TextRule::X9));
     }
     if any_question(&tokens) {
-        return broken(Rule::A3);
+        return broken(Rule::Ask(AskRule::A3));
     }
     Ok(tokens)
 }

@@ -42,7 +42,7 @@ pub(crate) fn load<'a>(
 {
     match Statements::new(alloc, seed, files) {
         Ok(statements) => Ok(statements),
-        Err(TextFault::Load(rule)) => Err(CheckFault::Load(Rule::from(rule))),
+        Err(TextFault::Load(rule)) => Err(CheckFault::Load(Rule::Load(rule))),
         Err(TextFault::Memory) => Err(CheckFault::Memory),
         // No fault of the text comes before a token is read.
         Err(TextFault::Fault { .. }) => unreachable!(),
@@ -72,7 +72,7 @@ fn text_refusal<'a>(
         line: line_of(files, file, at as usize),
         statement,
         label: label.map(|label| label.text),
-        rule: Rule::from(rule),
+        rule: Rule::Text(rule),
         step: 0,
     }
 }

@@ -1,5 +1,8 @@
 //! The rules of meaning, by the codes that are printed.
 
+ghost use Rattle.std.specs.Prelude.{◌≡◌};
+ghost use Rattle.mm_frame.specs.RuleCodes.{meaning_code};
+
 /// What a statement's meaning may break, in the order in which the rules are judged (the Metamath
 /// book, sections 4.2.1 to 4.2.8).
 #[derive(Clone, Copy, PartialEq, Eq, Debug)]
@@ -35,4 +38,29 @@ pub enum MeaningRule {
     M14,
     /// A variable in a `$e`, `$a` or `$p` has no active `$f`.
     M15,
+}
+
+impl MeaningRule {
+    /// The printed code.
+    pub fn code(self) -> &'static [u8]
+        ensures { result.now ≡ meaning_code self }
+    {
+        match self {
+            MeaningRule::M1 => b"M1",
+            MeaningRule::M2 => b"M2",
+            MeaningRule::M3 => b"M3",
+            MeaningRule::M4 => b"M4",
+            MeaningRule::M5 => b"M5",
+            MeaningRule::M6 => b"M6",
+            MeaningRule::M7 => b"M7",
+            MeaningRule::M8 => b"M8",
+            MeaningRule::M9 => b"M9",
+            MeaningRule::M10 => b"M10",
+            MeaningRule::M11 => b"M11",
+            MeaningRule::M12 => b"M12",
+            MeaningRule::M13 => b"M13",
+            MeaningRule::M14 => b"M14",
+            MeaningRule::M15 => b"M15",
+        }
+    }
 }

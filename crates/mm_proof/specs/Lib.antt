@@ -9,6 +9,7 @@ pub mod Sharing
 pub mod SharingLaws
 pub mod Tokens
 pub mod Proof
+pub mod RuleCodes
 pub mod Steps
 pub mod Profiles
 pub mod KnownFront

@@ -1,6 +1,7 @@
 //! Why a proof isn't accepted.
 
 ghost use Rattle.std.specs.Prelude.{◌≡◌};
+ghost use Rattle.mm_proof.specs.RuleCodes.{proof_code};
 ghost use Rattle.mm_proof.specs.declared.fault.ProofFault.TheVariants.{Memory};
 
 use std::alloc::{AllocError, AllocFailed};
@@ -45,6 +46,32 @@ pub enum ProofRule {
     /// A step pushes an expression of more symbols than the profile allows, the type code
     /// counted.
     L1,
+}
+
+impl ProofRule {
+    /// The printed code.
+    pub fn code(self) -> &'static [u8]
+        ensures { result.now ≡ proof_code self }
+    {
+        match self {
+            ProofRule::P1 => b"P1",
+            ProofRule::P2 => b"P2",
+            ProofRule::P3 => b"P3",
+            ProofRule::P4 => b"P4",
+            ProofRule::P5 => b"P5",
+            ProofRule::P6 => b"P6",
+            ProofRule::P7 => b"P7",
+            ProofRule::P8 => b"P8",
+            ProofRule::P9 => b"P9",
+            ProofRule::P10 => b"P10",
+            ProofRule::P11 => b"P11",
+            ProofRule::P12 => b"P12",
+            ProofRule::P13 => b"P13",
+            ProofRule::P14 => b"P14",
+            ProofRule::P15 => b"P15",
+            ProofRule::L1 => b"L1",
+        }
+    }
 }
 
 /// Why a proof isn't accepted.

@@ -1,6 +1,7 @@
 //! Why files could not be read.
 
 ghost use Rattle.std.specs.Prelude.{◌≡◌};
+ghost use Rattle.mm_text.specs.RuleCodes.{load_code, text_code};
 ghost use Rattle.mm_text.specs.declared.fault.TextFault.TheVariants.{Memory};
 
 use crate::token::Token;
@@ -18,6 +19,19 @@ pub enum LoadRule {
     F2,
     /// The files hold over 1,073,741,824 bytes in all.
     F3,
+}
+
+impl LoadRule {
+    /// The printed code.
+    pub fn code(self) -> &'static [u8]
+        ensures { result.now ≡ load_code self }
+    {
+        match self {
+            LoadRule::F1 => b"F1",
+            LoadRule::F2 => b"F2",
+            LoadRule::F3 => b"F3",
+        }
+    }
 }
 
 /// What is wrong with the text (X) or with the form of a statement (S).
@@ -55,6 +69,32 @@ pub enum TextRule {
     S6,
     /// The top file ends with a block open.
     S7,
+}
+
+impl TextRule {
+    /// The printed code.
+    pub fn code(self) -> &'static [u8]
+        ensures { result.now ≡ text_code self }
+    {
+        match self {
+            TextRule::X1 => b"X1",
+            TextRule::X2 => b"X2",
+            TextRule::X3 => b"X3",
+            TextRule::X4 => b"X4",
+            TextRule::X5 => b"X5",
+            TextRule::X6 => b"X6",
+            TextRule::X7 => b"X7",
+            TextRule::X8 => b"X8",
+            TextRule::X9 => b"X9",
+            TextRule::S1 => b"S1",
+            TextRule::S2 => b"S2",
+            TextRule::S3 => b"S3",
+            TextRule::S4 => b"S4",
+            TextRule::S5 => b"S5",
+            TextRule::S6 => b"S6",
+            TextRule::S7 => b"S7",
+        }
+    }
 }
 
 /// What a message says of a statement's label: a blank and the label, or nothing where there is

@@ -12,7 +12,8 @@ use Rattle.mm_proof.specs.Tree.{Trees, none, tree, spelling}
 use Rattle.mm_check.specs.declared.form.Form.{Form}
 use Rattle.mm_check.specs.declared.form.Form.TheVariants.{Normal}
 use Rattle.mm_check.specs.declared.ask.AskFault.{AskFault}
-use Rattle.mm_check.specs.declared.ask.AskFault.TheVariants.{F3, L2, Memory}
+use Rattle.mm_check.specs.declared.ask.AskFault.TheVariants.{Rule, F3, Memory}
+use Rattle.mm_check.specs.declared.rule.AskRule.TheVariants.{L2}
 use Rattle.mm_check.specs.declared.save_all.NewFile.{NewFile}
 use Rattle.mm_check.specs.Verdict.{AllObey, AreAccepted, is_proof, proof_of, sentences}
 use Rattle.mm_check.specs.Forms.{HasProofTree, most_labels}
@@ -51,7 +52,7 @@ IsTooLongAmong form told s label =
 
 -- why its proof isn't written in this form
 abbrev pub IsTheoremFault : Form → List Sentence → PlainStatement → AskFault → Type 0
-IsTheoremFault form told s L2 =
+IsTheoremFault form told s (Rule L2) =
     (label : List ℕ) → IsLabelled label (sentence_of s) → IsTooLongAmong form told s label
 IsTheoremFault form told s fault = fault ≡ Memory
 

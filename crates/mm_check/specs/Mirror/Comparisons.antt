@@ -16,7 +16,7 @@ use Rattle.mm_proof.specs.Verified.{OfMoves, FailsWith}
 use Rattle.mm_check.specs.declared.rule.Rule.{Rule}
 use Rattle.mm_check.specs.declared.ask.AskFault.{AskFault}
 use Rattle.mm_check.specs.declared.ask.AskFault.TheVariants as ask
-use Rattle.mm_check.specs.Verdict.{proof_rule}
+use Rattle.mm_check.specs.declared.rule.Rule.TheVariants as rules
 use Rattle.mm_check.specs.Compared.{IsProofText, BreaksText, IsTextFault}
 
 -- the tokens of the front of a text, where those of the rest complete them
@@ -33,7 +33,7 @@ IsIllegal text fault =
 -- growth
 abbrev pub FailsAs : List Sentence → (id : ℕ) → ReadSteps → AskFault → Type 0
 FailsAs statements id steps fault =
-    (fault ≡ ask.Memory) ⊎ ((rule : ProofRule) × (step : ℕ) × (fault ≡ ask.Text (proof_rule rule) step)
+    (fault ≡ ask.Memory) ⊎ ((rule : ProofRule) × (step : ℕ) × (fault ≡ ask.Text (rules.Proof rule) step)
     × OfMoves statements id steps.moves (λ place s moves.
     FailsWith (limit_of steps.profile) statements place s moves rule step))
 
@@ -42,7 +42,7 @@ FailsAs statements id steps fault =
 abbrev pub IsUnproved : Profile → List Sentence → (id : ℕ) → (tokens : List (List ℕ)) → AskFault
     → Type 0
 IsUnproved profile statements id tokens fault =
-    (fault ≡ ask.Memory) ⊎ ((rule : ProofRule) × (step : ℕ) × (fault ≡ ask.Text (proof_rule rule) step)
+    (fault ≡ ask.Memory) ⊎ ((rule : ProofRule) × (step : ℕ) × (fault ≡ ask.Text (rules.Proof rule) step)
     × OfProof statements id (λ place s.
     IsFaultUnder profile (take place statements) s tokens rule step))
 

@@ -32,8 +32,8 @@ use Rattle.mm_check.specs.declared.progress.Progress.{Progress}
 use Rattle.mm_check.specs.declared.verdict.Turn.{Turn}
 use Rattle.mm_check.specs.declared.verdict.Turn.TheVariants as turn
 use Rattle.mm_check.specs.Verdict.{Verdict, HasVerdict, Load, Refused, Obeys, AllObey}
-use Rattle.mm_check.specs.Verdict.{CanBeRead, refusal_of, text_refusal, load_rule, proof_rule}
-use Rattle.mm_check.specs.Verdict.{meaning_rule}
+use Rattle.mm_check.specs.declared.rule.Rule.TheVariants as rules
+use Rattle.mm_check.specs.Verdict.{CanBeRead, refusal_of, text_refusal}
 use Rattle.mm_check.specs.Verdict.{sentences, proof_of, proofs_of, labels_of, unproved_of}
 use Rattle.mm_check.specs.Verdict.{is_proof, is_unproved, IsProofFault}
 use Rattle.mm_check.specs.Answer.{verdict_of_fault, plain_refusal}
@@ -49,7 +49,7 @@ RefusesMeaning files before count s fault =
     (verdict_of_fault fault ≡ None)
     ⊎ ((broken : MeaningRule) × FirstBroken broken before (sentence_of s)
     × (verdict_of_fault fault
-    ≡ Some (Refused (refusal_of files count s (meaning_rule broken) 0))))
+    ≡ Some (Refused (refusal_of files count s (rules.Meaning broken) 0))))
 
 -- Memory was wanting, or no statement is left and the text's fault is answered.
 abbrev pub RefusesEnd : List PlainFile → Remaining → CheckFault → Type 0
@@ -63,7 +63,7 @@ abbrev pub RefusesLoad : List PlainFile → CheckFault → Type 0
 RefusesLoad files fault =
     (verdict_of_fault fault ≡ None)
     ⊎ ((broken : LoadRule) × BreaksLoad files broken
-    × (verdict_of_fault fault ≡ Some (Load (load_rule broken))))
+    × (verdict_of_fault fault ≡ Some (Load (rules.Load broken))))
 
 -- The next statement was taken from what is left; or there is none, and no fault.
 abbrev pub TakesNext : Remaining → Bool → PlainStatement → Remaining → Type 0
@@ -139,7 +139,7 @@ pub record FailsProof (profile : Profile) (files : List PlainFile) (old : Progre
   pub step : ℕ
   pub fault : (before : List Sentence) → old.prover.book.statements ≡ before ++ sentence_of s ∷ []
       → IsProofFault profile before s rule step
-  pub told : plain_refusal refusal ≡ refusal_of files old.count s (proof_rule rule) step
+  pub told : plain_refusal refusal ≡ refusal_of files old.count s (rules.Proof rule) step
   pub book : new.prover.book ≡ old.prover.book
   pub count : new.count ≡ old.count
   pub proofs : new.proofs ≡ old.proofs
@@ -172,7 +172,7 @@ pub record TakesFaulty (profile : Profile) (files : List PlainFile) (old : Progr
   pub rule : ProofRule
   pub step : ℕ
   pub fault : IsProofFault profile old.prover.book.statements s rule step
-  pub told : plain_refusal refusal ≡ refusal_of files old.count s (proof_rule rule) step
+  pub told : plain_refusal refusal ≡ refusal_of files old.count s (rules.Proof rule) step
   pub statements : new.prover.book.statements ≡ old.prover.book.statements ++ sentence_of s ∷ []
   pub bytes : new.prover.book.bytes ≡ old.prover.book.bytes + bytes_in s
   pub count : new.count ≡ old.count + 1

@@ -12,7 +12,8 @@ use Rattle.mm_proof.specs.Packing.{OfTree}
 use Rattle.mm_check.specs.declared.form.Form.{Form}
 use Rattle.mm_check.specs.declared.form.Form.TheVariants.{Normal, Packed}
 use Rattle.mm_check.specs.declared.ask.AskFault.{AskFault}
-use Rattle.mm_check.specs.declared.ask.AskFault.TheVariants.{F3, L2, Memory}
+use Rattle.mm_check.specs.declared.ask.AskFault.TheVariants.{Rule, F3, Memory}
+use Rattle.mm_check.specs.declared.rule.AskRule.TheVariants.{L2}
 use Rattle.mm_check.specs.Shown.{Stands}
 use Rattle.mm_check.specs.Forms.{most_labels}
 use Rattle.mm_check.specs.Saved.{IsTextIn, total_with}
@@ -37,7 +38,7 @@ IsTooLong statements id steps =
 -- why it has no text in this form
 abbrev pub IsTextFault : Form → List Sentence → (id : ℕ) → List (Move ℕ) → AskFault → Type 0
 IsTextFault Normal statements id steps fault =
-    (fault ≡ Memory) ⊎ ((fault ≡ L2) × IsTooLong statements id steps)
+    (fault ≡ Memory) ⊎ ((fault ≡ Rule L2) × IsTooLong statements id steps)
 IsTextFault Packed statements id steps fault = fault ≡ Memory
 
 -- there is a file with the number, and the span is one of its bytes

@@ -4,7 +4,7 @@ use Rattle.mm_text.specs.Statement.{PlainStatement, plain_statement}
 use Rattle.mm_frame.specs.Sentence.{Sentence, sentence_of}
 use Rattle.mm_proof.specs.declared.fault.ProofFault.TheVariants.{Rule}
 use Rattle.mm_text.specs.Files.{plain_file}
-use Rattle.mm_check.specs.Verdict.{proof_rule}
+use Rattle.mm_check.specs.declared.rule.Rule.TheVariants as rules
 use Rattle.mm_check.proofs.Judging.{same_refusal}
 use Rattle.mm_check.specs.Mirror.Judged.{Fails}
 use Rattle.mm_check.proofs.judge.prove.Goals as goal
@@ -14,13 +14,12 @@ returns-in-Err-Rule c =
     let s : PlainStatement = plain_statement c.args.statement.now in
     let fails : (before : List Sentence) → c.args.progress.now.prover.book.statements ≡ before ++ sentence_of s ∷ [] → Fails c.args.profile before s (Rule c.in-Err-Rule.rule c.in-Err-Rule.step) =
     λ before e. subst (Fails c.args.profile before s) c.in-Err-Rule.field-0-is (c.in-Err-Rule.ensures.judged before e) in
-    let rule : c.from.result ≡ proof_rule c.in-Err-Rule.rule = c.from.ensures ∙ ap proof_rule c.in-Err-Rule.rule-is in
     record {
       rule = c.in-Err-Rule.rule;
       step = c.in-Err-Rule.step;
       fault = fails;
       told = c.refusal-refusal.ensures
-          ∙ same_refusal (map plain_file c.args.files.now) c.args.progress.now.count s rule c.in-Err-Rule.step-is;
+          ∙ same_refusal (map plain_file c.args.files.now) c.args.progress.now.count s (ap rules.Proof c.in-Err-Rule.rule-is) c.in-Err-Rule.step-is;
       book = c.in-Err-Rule.ensures.book;
       count = refl;
       proofs = refl;
