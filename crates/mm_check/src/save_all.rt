@@ -31,11 +31,10 @@ use crate::reread::read_proof;
 use crate::rewrite::most_for;
 use crate::rule::AskRule;
 use crate::save_fault::SaveFault;
-use crate::text::has_question;
 use crate::theorem::theorem_of;
 use crate::verdict::{beginning, judge_next, load};
 use mm_frame::{Book, Found, LabelId};
-use mm_proof::Profile;
+use mm_proof::{Profile, is_unknown};
 use mm_text::{File, Kind, Seed, Statement, Statements};
 use std::alloc::{AllocError, Global};
 
@@ -101,7 +100,7 @@ fn has_unknown(statement: &Statement) -> bool
     ensures { result ≡ list_any (λ token. is_unknown token.text.now)
         statement.now.proof.items }
 {
-    statement.proof.iter().any(|token| has_question(token.text))
+    statement.proof.iter().any(|token| is_unknown(token.text))
 }
 
 /// Whether a statement is a `$p` of the file with a number, with a complete proof.

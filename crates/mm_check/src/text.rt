@@ -7,12 +7,13 @@ ghost use Rattle.mm_text.specs.Token.{is_printable, is_space as is_white_space};
 ghost use Rattle.mm_text.specs.Files.{most_bytes};
 ghost use Rattle.mm_code.specs.Layout.{texts};
 ghost use Rattle.mm_code.specs.Words.{tokens_in, LacksWhiteSpace};
-ghost use Rattle.mm_proof.specs.Tokens.{is_unknown, is_incomplete};
+ghost use Rattle.mm_proof.specs.Tokens.{is_incomplete};
 ghost use Rattle.mm_check.specs.Compared.{are_printable, hold_dollar, IsProofText};
 ghost use Rattle.mm_check.specs.Mirror.Comparisons.{IsIllegal};
 
 use crate::ask::AskFault;
 use crate::rule::{AskRule, Rule};
+use mm_proof::is_unknown;
 use mm_text::{BYTE_LIMIT, LoadRule, TextRule};
 use std::alloc::{AllocError, Global};
 
@@ -98,20 +99,13 @@ fn any_dollar(tokens: &[&[u8]]) -> bool
     false
 }
 
-/// Whether a token holds a `?`.
-pub(crate) fn has_question(token: &[u8]) -> bool
-    ensures { result ≡ is_unknown token.now }
-{
-    token.iter().any(|byte| *byte == b'?')
-}
-
 /// Whether some token holds a `?`.
 #[tactic(auto, using(mm_text::proofs::Lists::any_found))]
 fn any_question(tokens: &[&[u8]]) -> bool
     ensures { result ≡ is_incomplete (texts tokens.now) }
 {
     for token in tokens {
-        if has_question(token) {
+        if is_unknown(token) {
             return true;
         }
     }

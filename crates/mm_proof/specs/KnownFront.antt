@@ -32,7 +32,7 @@ abbrev pub known_text : List (List ℕ) → List (List ℕ)
 known_text tokens =
     known_tokens tokens ++ known_piece (slice_get tokens (position_or_len is_unknown tokens))
 
--- the first token is `(`
+-- whether the first token is `(`
 abbrev pub begins_list : List (List ℕ) → Bool
 begins_list [] = false
 begins_list (t ∷ tokens) = spells t opening_token

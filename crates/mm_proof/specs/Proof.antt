@@ -16,7 +16,7 @@ use Rattle.mm_proof.specs.Substitution.{Expression, Substitution, IsOn, instance
 use Rattle.mm_proof.specs.Tree.{Trees, none, tree, Names, ShareNoVariable, AreDistinct, DeriveAll}
 use Rattle.mm_proof.specs.Tree.{AnyExpression}
 use Rattle.mm_proof.specs.Moves.{Move, name, again, mark, steps_in, Makes}
-use Rattle.mm_proof.specs.Tokens.{opening_token, closing_token, AreLabels, AreLetters, SayMoves}
+use Rattle.mm_proof.specs.Tokens.{closing_token, BeginsList, AreLabels, AreLetters, SayMoves}
 
 -- the expression has at most so many symbols, its type code counted
 abbrev pub IsWithin : ℕ → List (List ℕ) → Type 0
@@ -25,7 +25,7 @@ IsWithin limit e = length e ≤ limit
 -- the rules that are judged over the whole proof
 abbrev pub BreaksWhole : ProofRule → List Sentence → List (List ℕ) → Type 0
 BreaksWhole P1 before tokens =
-    (slice_get tokens 0 ≡ Some opening_token) × ¬ (Contains (drop 1 tokens) closing_token)
+    BeginsList tokens × ¬ (Contains (drop 1 tokens) closing_token)
 BreaksWhole P2 before tokens =
     (labels : List (List ℕ)) × AreLabels tokens labels
     × (label : List ℕ) × Contains labels label × ¬ (SomeSentence before (IsLabelled label))

@@ -1,6 +1,6 @@
 -- The moves that the tokens of a proof say (the Metamath book, sections 4.1.4, 4.3, 4.4.3 and
 -- 4.4.4, appendix B).
-use Rattle.std.specs.Prelude.{◌≡◌, ◌≢◌, ℕ, ◌+◌, ◌==◌, List, [], ◌∷◌, ◌++◌, length, map, slice_get}
+use Rattle.std.specs.Prelude.{◌≡◌, ℕ, ◌+◌, ◌==◌, List, [], ◌∷◌, ◌++◌, length, map, slice_get}
 use Rattle.std.specs.Prelude.{Bool, true, Contains, Some, ◌⊎◌}
 use Rattle.std.specs.List.{flat_map, list_any, AllZip}
 use Rattle.mm_code.specs.declared.code.Code.{Code}
@@ -32,9 +32,13 @@ opening_token = 40 ∷ []
 abbrev pub closing_token : List ℕ
 closing_token = 41 ∷ []
 
+-- the first token is `(`
+abbrev pub BeginsList : List (List ℕ) → Type 0
+BeginsList tokens = slice_get tokens 0 ≡ Some opening_token
+
 -- a normal proof: the first token isn't `(`
 abbrev pub IsNormal : List (List ℕ) → Type 0
-IsNormal tokens = slice_get tokens 0 ≢ Some opening_token
+IsNormal tokens = ¬ (BeginsList tokens)
 
 -- a compressed proof: `(`, labels up to the first `)`, and letters, which white space cuts apart
 pub record IsCompressed (tokens labels letters : List (List ℕ)) : Type 0 where

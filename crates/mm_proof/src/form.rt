@@ -1,12 +1,12 @@
 //! The strict form of a compressed proof: P15 (the Metamath book, appendix B).
 
 ghost use Rattle.std.specs.Prelude.{◌≡◌, ◌↔◌, ◌<◌, ℕ, List, Contains, All, IsTrue, IfOk, IfErr, OnOk};
-ghost use Rattle.std.specs.Prelude.{length, take, slice_get, Some, Err, true, false};
+ghost use Rattle.std.specs.Prelude.{length, take, Err, true, false};
 ghost use Rattle.std.specs.List.{AllByRecursion};
 ghost use Rattle.mm_code.specs.Letters.{HasSpelling};
 ghost use Rattle.mm_proof.specs.Answer.{OnRule};
 ghost use Rattle.mm_proof.specs.declared.fault.ProofRule.TheVariants.{P15};
-ghost use Rattle.mm_proof.specs.Tokens.{IsCompressed, opening_token};
+ghost use Rattle.mm_proof.specs.Tokens.{IsCompressed};
 ghost use Rattle.mm_proof.specs.Mirror.Sites.{IsSite};
 ghost use Rattle.mm_proof.specs.Steps.{AreSteps};
 ghost use Rattle.mm_proof.specs.Parsed.{OfProof, SaySteps};
@@ -18,7 +18,7 @@ ghost use Rattle.mm_proof.specs.Mirror.CodeForm.{AllNew, SomeOld, IsAfterAsserti
 ghost use Rattle.mm_proof.specs.Mirror.CodeForm.{SomeMarkLoose};
 
 use crate::fault::{ProofFault, ProofRule};
-use crate::front::is_byte;
+use crate::front::begins_list;
 use crate::label_set::LabelSet;
 use crate::site::Site;
 use crate::used::is_assertion;
@@ -97,16 +97,6 @@ fn are_marks_strict(book: &Book, entries: &[LabelId], codes: &[Code]) -> bool
     true
 }
 
-// Whether the first of the tokens is `(`.
-fn is_compressed(tokens: &[Token]) -> bool
-    ensures { IsTrue result ↔ (slice_get (token_texts tokens.now) 0 ≡ Some opening_token) }
-{
-    match tokens {
-        [first, ..] => is_byte(first.text, b'('),
-        [] => false,
-    }
-}
-
 // That a proof hasn't the strict form.
 fn wrong_form() -> Result<(), ProofFault>
     ensures { result ≡ Err (ProofFault.Rule P15 0) }
@@ -141,7 +131,7 @@ pub(crate) fn judge_form(
         OfProof site.now.statements site.now.number (λ place s. (step ≡ 0) × (rule ≡ P15)
         × ¬ (IsStrict (take place site.now.statements) s (token_texts tokens.now))))) }
 {
-    if !is_compressed(tokens) {
+    if !begins_list(tokens) {
         return Ok(());
     }
     let mut seen = hypothesis_set(alloc, site.book.seed(), site.hypotheses())?;

@@ -5,7 +5,7 @@ ghost use Rattle.std.specs.Prelude.{◌≡◌, ◌↔◌, ◌≤◌, [], ◌∷�
 ghost use Rattle.std.specs.Prelude.{IsTrue};
 ghost use Rattle.std.specs.List.{position_or_len};
 ghost use Rattle.mm_text.specs.Items.{spells};
-ghost use Rattle.mm_proof.specs.Tokens.{is_question, is_unknown, closing_token};
+ghost use Rattle.mm_proof.specs.Tokens.{is_question, is_unknown, BeginsList};
 ghost use Rattle.mm_proof.specs.KnownFront.{begins_list, ends_list};
 ghost use Rattle.mm_proof.specs.KnownFront.{known_piece, known_front};
 ghost use Rattle.mm_proof.specs.Plain.{token_texts};
@@ -15,7 +15,8 @@ use std::alloc::{AllocError, Global};
 
 /// Whether the token is the one byte.
 pub(crate) fn is_byte(token: &[u8], byte: u8) -> bool
-    ensures { IsTrue result ↔ (token.now ≡ byte ∷ []) }
+    ensures same { IsTrue result ↔ (token.now ≡ byte ∷ []) }
+    ensures spelled { result ≡ spells token.now (byte ∷ []) }
 {
     match token {
         [only] => *only == byte,
@@ -37,7 +38,7 @@ fn question_place(text: &[u8]) -> usize
 }
 
 /// Whether the token holds a `?`.
-pub(crate) fn is_unknown(text: &[u8]) -> bool
+pub fn is_unknown(text: &[u8]) -> bool
     ensures { result ≡ is_unknown text.now }
 {
     text.iter().any(|byte| *byte == b'?')
@@ -56,21 +57,15 @@ fn known_count(tokens: &[Token]) -> usize
     tokens.len()
 }
 
-// Whether the first token is `(`.
-fn begins_list(tokens: &[Token]) -> bool
-    ensures { result ≡ begins_list (token_texts tokens.now) }
+/// Whether the first token is `(`.
+pub(crate) fn begins_list(tokens: &[Token]) -> bool
+    ensures begun { result ≡ begins_list (token_texts tokens.now) }
+    ensures first { IsTrue result ↔ BeginsList (token_texts tokens.now) }
 {
     match tokens {
-        [first, ..] => matches!(first.text, b"("),
+        [first, ..] => is_byte(first.text, b'('),
         [] => false,
     }
-}
-
-// Whether a token is `)`.
-fn is_closing(text: &[u8]) -> bool
-    ensures { result ≡ spells text.now closing_token }
-{
-    matches!(text, b")")
 }
 
 // Whether one of the tokens is `)`.
@@ -79,7 +74,7 @@ fn ends_list(tokens: &[Token]) -> bool
     ensures { result ≡ ends_list (token_texts tokens.now) }
 {
     for token in tokens {
-        if is_closing(token.text) {
+        if is_byte(token.text, b')') {
             return true;
         }
     }

@@ -42,6 +42,7 @@ mod words;
 pub use expansion::expand;
 pub use fault::{ExpandFault, ProofFault, ProofRule};
 pub use flat::Flat;
+pub use front::is_unknown;
 pub use laws::{
     by_spelling, by_word, fewest_steps, limits_aside, made_by_word, mark_before_any_step, one_fit,
     one_front_verdict, one_front_verdict_under, one_packed, one_tree, one_verdict,

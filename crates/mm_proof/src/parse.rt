@@ -27,7 +27,7 @@ ghost use Rattle.mm_proof.specs.Mirror.Sites.{IsSite};
 
 use crate::fault::{ProofFault, ProofRule};
 use crate::form::judge_form;
-use crate::front::{is_byte, is_unknown, known_front};
+use crate::front::{begins_list, is_byte, is_unknown, known_front};
 use crate::labels::fill_numbers;
 use crate::moves::{Parsed, Steps};
 use crate::profile::Profile;
@@ -331,7 +331,7 @@ fn fill_whole<'a>(
         × IsWholeFault (take site.now.place site.now.statements) (token_texts tokens.now) rule)) }
 {
     match tokens {
-        [first, rest @ ..] if is_byte(first.text, b'(') => { fill_compressed(lists, site, rest) }
+        [_, rest @ ..] if begins_list(tokens) => fill_compressed(lists, site, rest),
         _ => fill_normal(lists, site, tokens),
     }
 }

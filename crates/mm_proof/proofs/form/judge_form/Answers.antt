@@ -27,7 +27,7 @@ returns-then-not-branch-clause-fault c =
           (token_texts c.args.tokens.now) hids (ids_in c.args.listed.now)
           (moves_of c.args.entries.now c.args.codes.now) own.proof.numbered c.hypotheses.ensures.ids
           c.requires.listed c.requires.says
-          (c.is_compressed.ensures.0 c.if-not-is_compressed.false) old place s proof,
+          (c.begins_list.ensures.first.0 c.if-not-begins_list.false) old place s proof,
     ))
 
 pub returns-then-not-are_marks_strict-clause-fault : goal.returns-then-not-are_marks_strict-clause-fault
@@ -39,7 +39,7 @@ returns-then-not-are_marks_strict-clause-fault c =
       refl,
       loose_fault c.args.site.now.statements c.args.site.now.number
           (token_texts c.args.tokens.now) (moves_of c.args.entries.now c.args.codes.now) c.requires.site.sound.0
-          c.requires.says (c.is_compressed.ensures.0 c.if-not-is_compressed.false) loose place s
+          c.requires.says (c.begins_list.ensures.first.0 c.if-not-begins_list.false) loose place s
           proof,
     ))
 

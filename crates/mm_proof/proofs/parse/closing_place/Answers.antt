@@ -8,7 +8,7 @@ use Rattle.mm_proof.proofs.parse.closing_place.Goals as goal
 pub returns-then-is_byte : goal.returns-then-is_byte
 returns-then-is_byte c = (
   c.loop-place-test.true,
-  text_at (λ t. t.text.now) c.args.tokens.now c.loop-place.place _ c.loop-place-test.true ∙ ap Some (c.is_byte.ensures.0 c.if-is_byte.true),
+  text_at (λ t. t.text.now) c.args.tokens.now c.loop-place.place _ c.loop-place-test.true ∙ ap Some (c.is_byte.ensures.same.0 c.if-is_byte.true),
   c.loop-place.invariant,
 )
 
@@ -16,7 +16,7 @@ pub loop-place-preserved : goal.loop-place-preserved
 loop-place-preserved c has =
     none_more (λ t. t.text.now) (λ t. t ≡ closing_token) c.args.tokens.now c.loop-place.place _ c.loop-place-test.true
     (λ t among is. c.loop-place.invariant (subst (λ l. Contains (take c.loop-place.place (token_texts c.args.tokens.now)) l) is among))
-    (λ is. false≢true (sym c.if-is_byte.false ∙ c.is_byte.ensures.1 is)) closing_token has refl
+    (λ is. false≢true (sym c.if-is_byte.false ∙ c.is_byte.ensures.same.1 is)) closing_token has refl
 
 pub returns : goal.returns
 returns c has = c.loop-place.invariant (subst (λ l. Contains l closing_token) (sym (front_all (λ t. t.text.now) c.args.tokens.now c.loop-place.place c.loop-place-test.false)) has)
