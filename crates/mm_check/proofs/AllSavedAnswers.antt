@@ -19,7 +19,7 @@ use Rattle.mm_proof.specs.Tree.{Trees, none, tree, spelling}
 use Rattle.mm_proof.specs.Proof.{IsWithin}
 use Rattle.mm_proof.specs.declared.profile.Profile.{Profile}
 use Rattle.mm_proof.specs.Profiles.{limit_of}
-use Rattle.mm_proof.proofs.Making.{derive_fits}
+use Rattle.mm_proof.proofs.ProofSteps.Derivations.{derive_fits}
 use Rattle.mm_check.specs.declared.form.Form.{Form}
 use Rattle.mm_check.specs.declared.form.Form.TheVariants as form
 use Rattle.mm_check.specs.declared.ask.AskFault.{AskFault}

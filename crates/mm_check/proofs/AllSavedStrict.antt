@@ -16,7 +16,7 @@ use Rattle.mm_proof.specs.Strict.{IsStrict}
 use Rattle.mm_proof.specs.Tokens.{is_incomplete}
 use Rattle.mm_proof.specs.declared.profile.Profile.{Profile}
 use Rattle.mm_proof.specs.declared.profile.Profile.TheVariants.{Strict, Lenient}
-use Rattle.mm_proof.proofs.BetweenLimits.{within_strict}
+use Rattle.mm_proof.proofs.ProofVerdicts.ProfileVerdicts.{within_strict}
 use Rattle.mm_check.specs.declared.form.Form.TheVariants.{Packed}
 use Rattle.mm_check.specs.Verdict.{AreAccepted, sentences, proof_of, is_proof, unproved_of}
 use Rattle.mm_check.specs.AllSaved.{is_theorem_of, Replacement}

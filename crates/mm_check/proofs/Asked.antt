@@ -20,8 +20,8 @@ use Rattle.mm_frame.proofs.NameLists.{get_unmapped}
 use Rattle.mm_proof.specs.Tree.{Trees, none as no_trees}
 use Rattle.mm_proof.specs.Proof.{IsProved}
 use Rattle.mm_proof.specs.Used.{IsUsedNumber}
-use Rattle.mm_proof.proofs.SaidMoves.{moves_once}
-use Rattle.mm_proof.proofs.Making.{makes_once}
+use Rattle.mm_proof.proofs.ProofTokens.SaidMoves.{moves_once}
+use Rattle.mm_proof.proofs.ProofSteps.Derivations.{makes_once}
 use Rattle.mm_proof.specs.Tokens.{is_incomplete}
 use Rattle.mm_check.specs.Conclusion.{Conclusion, ProofUses, numbers_of, labels_in}
 use Rattle.mm_check.specs.Verdict.{sentences, proof_of, is_proof, is_unproved}

@@ -10,7 +10,7 @@ use Rattle.mm_proof.specs.declared.profile.Profile.{Profile}
 use Rattle.mm_proof.specs.declared.profile.Profile.TheVariants.{Strict, Lenient}
 use Rattle.mm_proof.specs.declared.fault.ProofRule.{ProofRule}
 use Rattle.mm_proof.specs.declared.fault.ProofRule.TheVariants as proof
-use Rattle.mm_proof.proofs.BetweenLimits.{only_form}
+use Rattle.mm_proof.proofs.ProofVerdicts.ProfileVerdicts.{only_form}
 use Rattle.mm_check.specs.Verdict.{Verdict, Load, Refused, Incomplete, Yes, PlainRefusal}
 use Rattle.mm_check.specs.Verdict.{HasVerdict, AllObey, IsProofFault}
 use Rattle.mm_check.specs.Verdict.{RefusesStatement, ObeyTheProfile, sentences, proof_of, proofs_of}

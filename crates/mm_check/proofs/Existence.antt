@@ -17,7 +17,8 @@ use Rattle.mm_proof.specs.declared.profile.Profile.{Profile}
 use Rattle.mm_proof.specs.declared.fault.ProofRule.{ProofRule}
 use Rattle.std.proofs.Math.Decide.{dec_le}
 use Rattle.mm_frame.proofs.Decided.{dec_both, dec_as, dec_some, symbol_dec}
-use Rattle.mm_proof.proofs.FormDecided.{one_verdict_under_holds, one_front_verdict_under_holds}
+use Rattle.mm_proof.proofs.ProofVerdicts.ProfileVerdicts.{one_verdict_under_holds}
+use Rattle.mm_proof.proofs.ProofVerdicts.ProfileVerdicts.{one_front_verdict_under_holds}
 use Rattle.mm_check.specs.declared.rule.Rule.{Rule}
 use Rattle.mm_check.specs.declared.rule.Rule.TheVariants as rules
 use Rattle.mm_check.specs.Verdict.{PlainRefusal, Verdict, Load, Refused, Incomplete, Yes, Obeys, AllObey, AreAccepted, CanBeRead, HasFault, HasVerdict, RefusesStatement, sentences, refusal_of, text_refusal, proof_of, proofs_of, unproved_of, is_proof}

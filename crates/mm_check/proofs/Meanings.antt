@@ -13,7 +13,7 @@ use Rattle.mm_frame.proofs.Decided.{constant_dec, typed_dec}
 use Rattle.std.proofs.Math.Decide.{dec_le}
 use Rattle.mm_frame.proofs.Decided.{dec_both, dec_as, dec_some, kind_dec, symbol_dec, contains_dec, open_dec}
 use Rattle.mm_frame.proofs.Decided.{dec_or, dec_not, label_dec, sentence_dec, some_active_dec, variable_dec}
-use Rattle.mm_proof.proofs.Searches.{dec_member}
+use Rattle.mm_proof.proofs.Members.{dec_member}
 use Rattle.mm_check.proofs.Ranks.{ranked, ranked-rank, rank-ranked}
 
 -- ## What the rules ask

@@ -27,14 +27,13 @@ use Rattle.mm_proof.specs.Tokens.{Says, SayMoves}
 use Rattle.mm_proof.specs.Proof.{IsWhole}
 use Rattle.mm_proof.specs.Sharing.{ShareAll, IsPacked}
 use Rattle.mm_proof.specs.Visits.{Visit, keeps, visits, trees_made}
-use Rattle.mm_proof.proofs.ChildSums.{made_subtrees, subtrees_made, sum_within}
-use Rattle.mm_proof.proofs.FewMoves.{said_moves}
+use Rattle.mm_proof.proofs.FullSharing.FewestSteps.{made_subtrees, subtrees_made, sum_within}
+use Rattle.mm_proof.proofs.ProofTokens.CodeLetters.{said_moves}
 use Rattle.mm_proof.proofs.Members.{In, in_get, get_in, in_contains, places_once}
-use Rattle.mm_proof.proofs.PairOnce.{uses_apart}
-use Rattle.mm_proof.proofs.SharedOnce.{kept_are, kept_stays, shared_kept_once}
-use Rattle.mm_proof.proofs.SomePacked.{some_packed_holds}
-use Rattle.mm_proof.proofs.SpelledProofs.{label_fits, packed_listed, stands_known}
-use Rattle.mm_proof.proofs.Tidy.{kept_visit, visit_made}
+use Rattle.mm_proof.proofs.FullSharing.OneSharedProof.{uses_apart, some_packed_holds}
+use Rattle.mm_proof.proofs.FullSharing.OneSharing.{kept_are, kept_stays, shared_kept_once}
+use Rattle.mm_proof.proofs.FullSharing.OneSharing.{kept_visit, visit_made}
+use Rattle.mm_proof.proofs.PackedProofs.WrittenProofs.{label_fits, packed_listed, stands_known}
 use Rattle.mm_check.specs.Forms.{IsPackedText}
 
 -- ---- the trees that are kept

@@ -17,11 +17,11 @@ use Rattle.mm_proof.specs.Moves.{Move, Makes}
 use Rattle.mm_proof.specs.OneTree.{MakeTree, MakeSameTree}
 use Rattle.mm_proof.specs.Tokens.{closing_token, IsCompressed}
 use Rattle.mm_proof.specs.Sharing.{AreFirstUses}
-use Rattle.mm_proof.proofs.Expanded.{made_word}
-use Rattle.mm_proof.proofs.Making.{makes_once}
-use Rattle.mm_proof.proofs.PairOnce.{told_by_packed_holds}
-use Rattle.mm_proof.proofs.SaidMoves.{compressed_once}
-use Rattle.mm_proof.proofs.SpelledProofs.{stands_known}
+use Rattle.mm_proof.proofs.Machines.TreeWords.{made_word}
+use Rattle.mm_proof.proofs.ProofSteps.Derivations.{makes_once}
+use Rattle.mm_proof.proofs.FullSharing.OneSharedProof.{told_by_packed_holds}
+use Rattle.mm_proof.proofs.ProofTokens.SaidMoves.{compressed_once}
+use Rattle.mm_proof.proofs.PackedProofs.WrittenProofs.{stands_known}
 use Rattle.mm_check.specs.Forms.{IsPackedText}
 use Rattle.mm_text.proofs.FormedLaws.{readings_are_formed_in_place}
 use Rattle.mm_text.proofs.Lists.{all_append, all_weaker}

@@ -6,7 +6,7 @@ use Rattle.std.proofs.lemmas.List.{map-append}
 use Rattle.mm_frame.specs.declared.number.LabelId.{LabelId}
 use Rattle.mm_frame.proofs.Entries.{slice_left}
 use Rattle.mm_frame.proofs.NameLists.{get_unmapped}
-use Rattle.mm_proof.proofs.Parts.{part-new}
+use Rattle.mm_proof.proofs.StoreRanges.{part-new}
 use Rattle.mm_check.specs.declared.kept.KeptProof.{KeptProof}
 use Rattle.mm_check.specs.Conclusion.{ProofUses}
 use Rattle.mm_check.specs.Mirror.Ordered.{ordered}

@@ -29,7 +29,7 @@ use Rattle.mm_proof.specs.UnderProfile.{IsProvedUnder}
 use Rattle.mm_proof.specs.declared.profile.Profile.{Profile}
 use Rattle.mm_proof.specs.declared.profile.Profile.TheVariants.{Strict, Lenient}
 use Rattle.mm_proof.specs.Profiles.{limit_of}
-use Rattle.mm_proof.proofs.SpelledProofs.{IsProofBy}
+use Rattle.mm_proof.proofs.PackedProofs.WrittenProofs.{IsProofBy}
 use Rattle.mm_check.specs.Verdict.{Verdict, Load, Refused, Incomplete, Yes, HasVerdict, AreAccepted, AllObey, Obeys, CanBeRead, sentences, proof_of, is_proof, is_unproved, label_of, unproved_of, proofs_of}
 use Rattle.mm_check.specs.Rests.{tree_of}
 use Rattle.mm_check.specs.Saved.{total_with}

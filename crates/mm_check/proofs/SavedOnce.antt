@@ -30,9 +30,9 @@ use Rattle.mm_proof.specs.Proof.{IsProvedWithin, IsWithin}
 use Rattle.mm_proof.specs.Strict.{IsStrict}
 use Rattle.mm_proof.specs.declared.profile.Profile.{Profile}
 use Rattle.mm_proof.specs.Profiles.{limit_of}
-use Rattle.mm_proof.proofs.Making.{makes_once, derive_fits}
-use Rattle.mm_proof.proofs.PairOnce.{one_packed_holds}
-use Rattle.mm_proof.proofs.SaidMoves.{moves_once}
+use Rattle.mm_proof.proofs.ProofSteps.Derivations.{makes_once, derive_fits}
+use Rattle.mm_proof.proofs.FullSharing.OneSharedProof.{one_packed_holds}
+use Rattle.mm_proof.proofs.ProofTokens.SaidMoves.{moves_once}
 use Rattle.mm_check.specs.declared.form.Form.{Form}
 use Rattle.mm_check.specs.declared.form.Form.TheVariants as form
 use Rattle.mm_check.specs.declared.ask.AskFault.TheVariants as ask

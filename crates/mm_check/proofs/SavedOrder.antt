@@ -15,7 +15,7 @@ use Rattle.mm_text.proofs.Lists.{zip_length, zip_on, ZipParts, zip_parts, split_
 use Rattle.mm_frame.specs.Sentence.{Sentence, sentence_of, IsLabelled}
 use Rattle.mm_frame.proofs.Meant.{one_label}
 use Rattle.mm_proof.specs.declared.profile.Profile.{Profile}
-use Rattle.mm_proof.proofs.Searches.{contains_cases}
+use Rattle.mm_proof.proofs.Members.{contains_cases}
 use Rattle.mm_check.specs.declared.form.Form.{Form}
 use Rattle.mm_check.specs.Verdict.{AreAccepted, AllObey, sentences}
 use Rattle.mm_check.specs.Saved.{IsSaved, FitsSaved}

@@ -16,10 +16,11 @@ use Rattle.mm_proof.specs.Tokens.{SayMoves, IsNormal, opening_token, closing_tok
 use Rattle.mm_proof.specs.OneTree.{MakeTree}
 use Rattle.mm_proof.specs.Proof.{IsProvedWithin}
 use Rattle.mm_proof.specs.Strict.{IsStrict}
-use Rattle.mm_proof.proofs.Making.{makes_once}
-use Rattle.mm_proof.proofs.SaidMoves.{moves_once}
-use Rattle.mm_proof.proofs.StrictForms.{normal_is_strict, packed_is_strict}
-use Rattle.mm_proof.proofs.SpelledProofs.{label_fits, stands_known, IsProofBy, spelled_proves, packed_listed, packed_proves}
+use Rattle.mm_proof.proofs.ProofSteps.Derivations.{makes_once}
+use Rattle.mm_proof.proofs.ProofTokens.SaidMoves.{moves_once}
+use Rattle.mm_proof.proofs.PackedProofs.WrittenProofs.{normal_is_strict, packed_is_strict}
+use Rattle.mm_proof.proofs.PackedProofs.WrittenProofs.{label_fits, stands_known, IsProofBy}
+use Rattle.mm_proof.proofs.PackedProofs.WrittenProofs.{spelled_proves, packed_listed, packed_proves}
 use Rattle.mm_check.specs.declared.form.Form.{Form}
 use Rattle.mm_check.specs.declared.form.Form.TheVariants as form
 use Rattle.mm_check.specs.Forms.{IsPackedText}

@@ -24,8 +24,8 @@ use Rattle.mm_proof.specs.UnderProfile.{IsProvedUnder}
 use Rattle.mm_proof.specs.ReadSteps.{ReadSteps}
 use Rattle.mm_proof.specs.Steps.{IsNumberedMove}
 use Rattle.mm_proof.specs.Verified.{OfMoves}
-use Rattle.mm_proof.proofs.Derived.{zip_once}
-use Rattle.mm_proof.proofs.Numbered.{one_place, one_move}
+use Rattle.mm_proof.proofs.ProofSteps.Derivations.{zip_once}
+use Rattle.mm_proof.proofs.ByNumbers.NumberedLabels.{one_place, one_move}
 use Rattle.mm_check.specs.declared.ask.AskFault.{AskFault}
 use Rattle.mm_check.specs.declared.ask.AskFault.TheVariants as ask
 use Rattle.mm_check.specs.declared.rule.AskRule.TheVariants.{L2}
@@ -35,7 +35,7 @@ use Rattle.mm_check.specs.Shown.{ShowsProof}
 use Rattle.mm_check.specs.Forms.{most_labels, HasProofTree, IsNormalFault}
 use Rattle.mm_check.specs.Mirror.Theorems.{IsProofOf, SayStepsOf, AreProvedSteps, AreStepsOf, IsListingOf}
 use Rattle.mm_check.proofs.Asked.{map-take}
-use Rattle.mm_proof.proofs.SaidMoves.{moves_once}
+use Rattle.mm_proof.proofs.ProofTokens.SaidMoves.{moves_once}
 
 -- ---- the steps of a theorem prove it
 

@@ -13,7 +13,7 @@ use Rattle.mm_proof.specs.Proof.{IsWithin, IsProved, IsProvedWithin}
 use Rattle.mm_proof.specs.declared.profile.Profile.{Profile}
 use Rattle.mm_proof.specs.Profiles.{limit_of}
 use Rattle.mm_proof.specs.Used.{AreUsed}
-use Rattle.mm_proof.proofs.Limits.{derive_any}
+use Rattle.mm_proof.proofs.ProofVerdicts.VerdictLaws.{derive_any}
 use Rattle.mm_check.specs.Conclusion.{ProofUses, numbers_of}
 use Rattle.mm_check.specs.Mirror.Ordered.{ordered}
 use Rattle.mm_check.proofs.Ordered.{ordered_used}

@@ -20,8 +20,9 @@ use Rattle.mm_proof.specs.declared.fault.ProofRule.TheVariants as proof
 use Rattle.mm_proof.specs.Proof.{IsWithin, IsFault}
 use Rattle.mm_proof.specs.Strict.{HasFormOf}
 use Rattle.mm_proof.specs.UnderProfile.{IsFaultUnder}
-use Rattle.mm_proof.proofs.FormDecided.{one_verdict_under_holds, one_front_verdict_under_holds}
-use Rattle.mm_proof.proofs.Limits.{limits_aside_holds}
+use Rattle.mm_proof.proofs.ProofVerdicts.ProfileVerdicts.{one_verdict_under_holds}
+use Rattle.mm_proof.proofs.ProofVerdicts.ProfileVerdicts.{one_front_verdict_under_holds}
+use Rattle.mm_proof.proofs.ProofVerdicts.VerdictLaws.{limits_aside_holds}
 use Rattle.mm_proof.specs.Tokens.{is_incomplete}
 use Rattle.mm_check.specs.declared.rule.Rule.{Rule}
 use Rattle.mm_check.specs.declared.rule.Rule.TheVariants as rules

@@ -107,7 +107,7 @@ impl Buffer {
     }
 
     /// The symbols from a place up to and without another.
-    #[tactic(auto, using(crate::proofs::Parts::part_steps))]
+    #[tactic(auto, using(crate::proofs::StoreRanges::part_steps))]
     pub(crate) fn part(&self, start: usize, end: usize) -> &[Sym]
         requires order { start ≤ end }
         requires within { end ≤ length self.now }

@@ -175,7 +175,7 @@ fn build_moves<B: Builder>(
 
 /// The item of the tree that the steps of the `$p` with this number make. The builder is handed in
 /// empty. A mark does not change it: what it holds of the last tree holds of it as a kept one too.
-#[tactic(auto, using(crate::proofs::Ending::seen_moves, crate::proofs::Building::make_tree_at))]
+#[tactic(auto, using(crate::proofs::Machines::JudgedMoves::seen_moves, crate::proofs::Machines::Building::make_tree_at))]
 pub(crate) fn build<B: Builder>(
     alloc: Global,
     builder: &mut B,

@@ -128,7 +128,7 @@ fn append(symbols: &mut Buffer, expression: &[Sym]) -> Result<(), AllocError>
 
 // Appends what the piece says of the entries from the base on, and answers false where that isn't
 // one symbol and what stands from the start on passes the limit.
-#[tactic(auto, using(crate::proofs::Parts::value_steps))]
+#[tactic(auto, using(crate::proofs::StoreRanges::value_steps))]
 fn append_piece(
     symbols: &mut Buffer,
     stack: &[Entry],
@@ -254,7 +254,7 @@ impl Store for Flat {
         Ok(())
     }
 
-    #[tactic(auto, using(crate::proofs::RowLemmas::row_steps))]
+    #[tactic(auto, using(crate::proofs::StoreRanges::row_steps))]
     fn keep(&mut self) -> Result<(), AllocError> {
         let last = self.stack[self.stack.len() - 1];
         self.kept.push(last)?;
@@ -267,7 +267,7 @@ impl Store for Flat {
         Ok(())
     }
 
-    #[tactic(auto, using(crate::proofs::RowLemmas::row_steps))]
+    #[tactic(auto, using(crate::proofs::StoreRanges::row_steps))]
     fn drop_last(&mut self, count: usize) {
         self.stack.truncate(self.stack.len() - count);
         if self.symbols.len() >= self.next_cut {

@@ -69,7 +69,7 @@ pub(crate) fn begins_list(tokens: &[Token]) -> bool
 }
 
 // Whether one of the tokens is `)`.
-#[tactic(auto, using(crate::proofs::FrontTokens::question_steps))]
+#[tactic(auto, using(crate::proofs::ProofTokens::QuestionMarks::question_steps))]
 fn ends_list(tokens: &[Token]) -> bool
     ensures { result ≡ ends_list (token_texts tokens.now) }
 {
@@ -105,7 +105,7 @@ fn text_up_to<'a>(
 }
 
 /// The known front of a proof, as the tokens of a proof.
-#[tactic(auto, using(crate::proofs::FrontTokens::known_cut))]
+#[tactic(auto, using(crate::proofs::ProofTokens::QuestionMarks::known_cut))]
 pub(crate) fn known_front<'a>(
     alloc: Global,
     tokens: &[Token<'a>],

@@ -71,7 +71,7 @@ pub(crate) fn step_again<S: Store>(
 }
 
 /// A mark, where a step would have this number.
-#[tactic(auto, using(crate::proofs::Running::last_split))]
+#[tactic(auto, using(crate::proofs::Machines::JudgedMoves::last_split))]
 pub(crate) fn mark<S: Store>(store: &mut S, number: usize) -> Result<(), ProofFault>
     ensures ok { OnOk result
         ((rest : List (List ℕ)) × (e : List ℕ) × (S.stack store.old ≡ rest ++ e ∷ [])

@@ -54,7 +54,7 @@ impl LabelSet {
     }
 
     /// Puts the label behind the others, if it isn't among them, and answers whether it wasn't.
-    #[tactic(auto, using(crate::proofs::SubtreeLists::insertions))]
+    #[tactic(auto, using(crate::proofs::PackedProofs::SubtreeNumbers::insertions))]
     pub(crate) fn add(&mut self, id: LabelId) -> Result<bool, AllocError>
         ensures { IfOk result (λ is_new. AddsNew self.old id.0 is_new self.new) }
     {

@@ -13,7 +13,7 @@ ghost use Rattle.mm_proof.specs.SharingLaws.{StepsMakeChildren, FewestSteps, Tol
 /// After statements that break no rule of meaning, trees that fit (each leaf names an active
 /// hypothesis, each node an earlier assertion, with as many trees below as it has mandatory
 /// hypotheses) and have equal spellings are equal, whether they derive anything or not.
-#[tactic(auto, using(crate::proofs::Making::one_fit_holds))]
+#[tactic(auto, using(crate::proofs::ProofSteps::Derivations::one_fit_holds))]
 pub fn one_fit()
     ensures { OneFit }
 {}
@@ -23,7 +23,7 @@ pub fn one_fit()
 /// After statements that break no rule of meaning, trees that derive expressions and have equal
 /// spellings are equal, and derive the same expressions. So the tree of a proof that is proved is
 /// one, and what each of its steps makes is determined.
-#[tactic(auto, using(crate::proofs::Verdicts::one_tree_holds))]
+#[tactic(auto, using(crate::proofs::ProofVerdicts::FirstFault::one_tree_holds))]
 pub fn one_tree()
     ensures { OneTree }
 {}
@@ -53,7 +53,7 @@ pub fn made_by_word()
 /// After statements that break no rule of meaning, the moves of a proof make a tree that derives
 /// the statement's expression exactly if their word spells a tree that does. So sharing steps by
 /// tags proves what the proof with each tag written out proves, and nothing else.
-#[tactic(auto, using(crate::proofs::ByWord::by_word_holds))]
+#[tactic(auto, using(crate::proofs::Machines::TreeWords::by_word_holds))]
 pub fn by_word()
     ensures { ByWord }
 {}
@@ -63,7 +63,7 @@ pub fn by_word()
 /// After statements that break no rule of meaning, a normal proof that breaks no rule over the
 /// whole of it proves its statement exactly if its labels spell a tree that derives the statement's
 /// expression (the Metamath book, section 4.3).
-#[tactic(auto, using(crate::proofs::ByWord::by_spelling_holds))]
+#[tactic(auto, using(crate::proofs::Machines::TreeWords::by_spelling_holds))]
 pub fn by_spelling()
     ensures { BySpelling }
 {}
@@ -74,7 +74,7 @@ pub fn by_spelling()
 /// compressed, make a derivation of its statement's expression with each step's expression within
 /// the limit, or they have a fault: the rules leave no case out. So where the verdict isn't that
 /// it's proved, a rule and a step tell why. This holds for each limit.
-#[tactic(auto, using(crate::proofs::Judged::some_verdict_holds))]
+#[tactic(auto, using(crate::proofs::ProofVerdicts::FirstFault::some_verdict_holds))]
 pub fn some_verdict()
     ensures { SomeProofVerdict }
 {}
@@ -181,7 +181,7 @@ pub fn told_by_packed()
 /// After statements in form each tree that fits (each leaf names an active hypothesis, each node an
 /// earlier assertion, with as many trees below as it has mandatory hypotheses) has one, whether it
 /// derives anything or not.
-#[tactic(auto, using(crate::proofs::SomePacked::some_packed_holds))]
+#[tactic(auto, using(crate::proofs::FullSharing::OneSharedProof::some_packed_holds))]
 pub fn some_packed()
     ensures { SomePacked }
 {}

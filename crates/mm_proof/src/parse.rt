@@ -72,7 +72,7 @@ impl<'a> ParseLists<'a> {
 }
 
 /// Whether some token holds a `?`.
-#[tactic(auto, using(crate::proofs::FrontTokens::question_steps))]
+#[tactic(auto, using(crate::proofs::ProofTokens::QuestionMarks::question_steps))]
 pub(crate) fn is_incomplete(tokens: &[Token]) -> bool
     ensures { result ≡ is_incomplete (token_texts tokens.now) }
 {
@@ -242,7 +242,7 @@ fn fill_texts<'a>(pieces: &mut Vec<&'a [u8]>, tokens: &[Token<'a>]) -> Result<()
 }
 
 // Fills the list with the codes of the letters.
-#[tactic(auto, using(crate::proofs::Compressed::letter_steps))]
+#[tactic(auto, using(crate::proofs::ProofTokens::ProofCodes::letter_steps))]
 fn read_letters<'a>(
     pieces: &mut Vec<&'a [u8]>,
     codes: &mut Vec<Code>,
@@ -447,7 +447,7 @@ fn steps_of(
 }
 
 // The moves that the known front of the tokens says as a proof of the `$p` with this number.
-#[tactic(auto, using(crate::proofs::FrontTokens::front_room))]
+#[tactic(auto, using(crate::proofs::ProofTokens::QuestionMarks::front_room))]
 fn front_steps(
     alloc: Global,
     profile: Profile,

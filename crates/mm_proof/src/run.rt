@@ -75,7 +75,7 @@ fn derive_codes<S: Store>(
 
 /// Fills the list with the assertions of the tree that the codes make, in the order of the entries,
 /// or tells their first fault, where numbers stand for the entries and then for tags.
-#[tactic(auto, using(crate::proofs::Ending::proved_with))]
+#[tactic(auto, using(crate::proofs::Machines::JudgedMoves::proved_with))]
 pub(crate) fn judgement<S: Store>(
     alloc: Global,
     store: &mut S,

@@ -42,7 +42,7 @@ pub(crate) fn value_at<S: Store>(store: &S, base: usize, place: u32) -> &[Sym]
 }
 
 // What follows these symbols, where the others begin with them.
-#[tactic(auto, using(crate::proofs::Values::front_of))]
+#[tactic(auto, using(crate::proofs::ByNumbers::NumberedSymbols::front_of))]
 fn after<'e>(symbols: &'e [Sym], front: &[Sym]) -> Option<&'e [Sym]>
     ensures { MatchOption
         result

@@ -76,7 +76,7 @@ impl SubtreeSet {
     }
 
     /// Puts the subtree behind the others, if it isn't among them.
-    #[tactic(auto, using(crate::proofs::SubtreeLists::insertions))]
+    #[tactic(auto, using(crate::proofs::PackedProofs::SubtreeNumbers::insertions))]
     pub(crate) fn add(&mut self, tree: Subtree) -> Result<(), AllocError>
         ensures { OnOk result (Adds self.old tree self.new) }
     {

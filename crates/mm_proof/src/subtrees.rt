@@ -110,7 +110,7 @@ impl Builder for Subtrees {
         Ok(Subtree { label: id.0, below })
     }
 
-    #[tactic(auto, using(crate::proofs::SubtreeSteps::subtrees_repeat))]
+    #[tactic(auto, using(crate::proofs::PackedProofs::SubtreeNumbers::subtrees_repeat))]
     fn repeat(&mut self, item: Subtree) -> Result<Subtree, AllocError> {
         Ok(item)
     }

@@ -8,9 +8,9 @@ use Rattle.mm_proof.specs.declared.fault.ProofRule.TheVariants.{P8, P9}
 use Rattle.mm_proof.specs.Plain.{label_ids}
 use Rattle.mm_proof.specs.Mirror.CodeRun.{StopsAt}
 use Rattle.mm_proof.specs.Mirror.CodeApply.{IsReady, IsEarlierScheme}
-use Rattle.mm_proof.proofs.Named.{as_many}
-use Rattle.mm_proof.proofs.Patterned.{its_within}
-use Rattle.mm_proof.proofs.Applying.{stops_P8, stops_P9, called_of, ready_of, drop_below}
+use Rattle.mm_proof.proofs.ByNumbers.NumberedSymbols.{as_many, its_within}
+use Rattle.mm_proof.proofs.ByNumbers.StepByAssertion.{stops_P8, stops_P9, called_of, ready_of}
+use Rattle.mm_proof.proofs.ByNumbers.StepByAssertion.{drop_below}
 use Rattle.mm_proof.proofs.apply.apply.Given as given
 use Rattle.mm_proof.proofs.apply.apply.Goals as goal
 

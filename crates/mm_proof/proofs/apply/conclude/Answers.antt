@@ -6,7 +6,8 @@ use Rattle.mm_proof.specs.declared.fault.ProofRule.{ProofRule}
 use Rattle.mm_proof.specs.declared.fault.ProofRule.TheVariants.{L1}
 use Rattle.mm_proof.specs.Mirror.CodeRun.{CarriesOn, StopsAt}
 use Rattle.mm_proof.specs.Mirror.CodeVerify.{AreStackEntries}
-use Rattle.mm_proof.proofs.Applying.{stops_L1, carries, made_entries, match_true, match_false}
+use Rattle.mm_proof.proofs.ByNumbers.StepByAssertion.{stops_L1, carries, made_entries, match_true}
+use Rattle.mm_proof.proofs.ByNumbers.StepByAssertion.{match_false}
 use Rattle.mm_proof.proofs.apply.conclude.Goals as goal
 
 pub returns-then-not-branch-clause-fault : goal.returns-then-not-branch-clause-fault

@@ -2,10 +2,9 @@ use Rattle.std.proofs.Common.{◌≡◌, length, drop, arith}
 use Rattle.std.proofs.lemmas.List.{length-drop}
 use Rattle.mm_frame.specs.Pieces.{variables_of}
 use Rattle.mm_proof.specs.Mirror.CodeVerify.{pairs_in, all_names_at}
-use Rattle.mm_proof.proofs.Named.{as_many, typed_variables}
-use Rattle.mm_proof.proofs.Replacements.{replaced_by}
-use Rattle.mm_proof.proofs.Replacing.{replaces_by}
-use Rattle.mm_proof.proofs.Applying.{stops_P10, stops_P11, stops_P12, drop_below}
+use Rattle.mm_proof.proofs.ByNumbers.NumberedSymbols.{as_many, typed_variables, replaces_by}
+use Rattle.mm_proof.proofs.ProofSteps.Replacements.{replaced_by}
+use Rattle.mm_proof.proofs.ByNumbers.StepByAssertion.{stops_P10, stops_P11, stops_P12, drop_below}
 use Rattle.mm_proof.proofs.apply.rule_broken.Goals as goal
 
 pub are_equal-requires-clause-below : goal.are_equal-requires-clause-below

@@ -1,6 +1,6 @@
 use Rattle.std.proofs.lemmas.Result.{IfOk-weaker, IfErr-weaker}
-use Rattle.mm_proof.proofs.Ending.{seen_moves, held_moves}
-use Rattle.mm_proof.proofs.Building.{make_tree_at}
+use Rattle.mm_proof.proofs.Machines.JudgedMoves.{seen_moves, held_moves}
+use Rattle.mm_proof.proofs.Machines.Building.{make_tree_at}
 use Rattle.mm_proof.proofs.builder.build.Goals as goal
 
 pub build_moves-requires-clause-made : goal.build_moves-requires-clause-made

@@ -3,9 +3,9 @@ use Rattle.std.specs.Vec.{vec_len}
 use Rattle.mm_proof.specs.Tree.{tree, none}
 use Rattle.mm_proof.specs.Mirror.CodeSteps.{moves_of}
 use Rattle.mm_proof.specs.Mirror.Builders.{IsBuilt}
-use Rattle.mm_proof.proofs.Running.{first_up_to}
-use Rattle.mm_proof.proofs.Answering.{handed}
-use Rattle.mm_proof.proofs.Building.{first_all, only_item}
+use Rattle.mm_proof.proofs.Machines.JudgedMoves.{first_up_to}
+use Rattle.mm_proof.proofs.ProofVerdicts.FirstFault.{handed}
+use Rattle.mm_proof.proofs.Machines.Building.{first_all, only_item}
 use Rattle.mm_proof.proofs.builder.build_moves.Goals as goal
 
 pub run-requires-clause-allowed : goal.run-requires-clause-allowed

@@ -8,7 +8,7 @@ use Rattle.mm_proof.specs.Mirror.CodeRun.{CarriesOn, StopsAt}
 use Rattle.mm_proof.specs.Mirror.CodeVerify.{AreStackEntries}
 use Rattle.mm_proof.specs.Mirror.CodeApply.{IsCallOf, IsEarlierScheme}
 use Rattle.mm_proof.specs.Mirror.Sites.{ProofSite, IsSite}
-use Rattle.mm_proof.proofs.Applying.{stops_long, pushes, pushed_entries}
+use Rattle.mm_proof.proofs.ByNumbers.StepByAssertion.{stops_long, pushes, pushed_entries}
 use Rattle.mm_proof.proofs.call.step_by.Goals as goal
 
 pub returns-then-expression-site-clause-fault : goal.returns-then-expression-site-clause-fault

@@ -1,6 +1,5 @@
 use Rattle.std.proofs.Common.{arith}
-use Rattle.mm_proof.proofs.WordSteps.{length_keep, labels_keep}
-use Rattle.mm_proof.proofs.Expanding.{unless_memory}
+use Rattle.mm_proof.proofs.Machines.TreeWords.{length_keep, labels_keep, unless_memory}
 use Rattle.mm_proof.proofs.expansion.expand.Goals as goal
 
 pub build-requires-clause-marks : goal.build-requires-clause-marks

@@ -3,8 +3,8 @@ use Rattle.std.proofs.lemmas.List.{length-map, length-append, get_or_default}
 use Rattle.mm_frame.specs.declared.piece.Piece.{Piece}
 use Rattle.mm_proof.specs.Mirror.Buffer.{parts_of}
 use Rattle.mm_proof.specs.Stores.{numbers_in, said_by}
-use Rattle.mm_proof.proofs.Values.{said_over, no_piece}
-use Rattle.mm_proof.proofs.Parts.{pieces-step}
+use Rattle.mm_proof.proofs.ByNumbers.NumberedSymbols.{said_over, no_piece}
+use Rattle.mm_proof.proofs.StoreRanges.{pieces-step}
 use Rattle.mm_proof.proofs.flat.append_pieces.Goals as goal
 
 pub returns-then-not-branch-clause-said : goal.returns-then-not-branch-clause-said

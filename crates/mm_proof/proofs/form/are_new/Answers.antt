@@ -1,5 +1,5 @@
 use Rattle.mm_proof.specs.Plain.{ids_in}
-use Rattle.mm_proof.proofs.FormLists.{new_none, new_one, new_all, old_here}
+use Rattle.mm_proof.proofs.ProofVerdicts.StrictForm.{new_none, new_one, new_all, old_here}
 use Rattle.mm_proof.proofs.form.are_new.Goals as goal
 
 pub loop-id-init : goal.loop-id-init

@@ -1,5 +1,5 @@
 use Rattle.mm_proof.specs.Plain.{ids_in}
-use Rattle.mm_proof.proofs.FormLists.{NewSoFar}
+use Rattle.mm_proof.proofs.ProofVerdicts.StrictForm.{NewSoFar}
 use Rattle.mm_proof.proofs.form.are_new.Given as goal
 
 abbrev pub invariant-loop-id : goal.invariant-loop-id

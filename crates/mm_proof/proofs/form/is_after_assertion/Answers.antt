@@ -9,9 +9,9 @@ use Rattle.mm_proof.specs.Moves.{name}
 use Rattle.mm_proof.specs.Plain.{ids_in}
 use Rattle.mm_proof.specs.Mirror.CodeSteps.{code_move, moves_of}
 use Rattle.mm_proof.specs.Mirror.CodeRun.{MayBeMade}
-use Rattle.mm_proof.proofs.Coded.{code_there, entry_moves}
-use Rattle.mm_proof.proofs.FormLists.{code_before}
-use Rattle.mm_proof.proofs.Picking.{entry_at}
+use Rattle.mm_proof.proofs.ProofTokens.ProofCodes.{code_there, entry_moves}
+use Rattle.mm_proof.proofs.ProofVerdicts.StrictForm.{code_before}
+use Rattle.mm_proof.proofs.ByNumbers.UsedAssertions.{entry_at}
 use Rattle.mm_proof.proofs.form.is_after_assertion.Goals as goal
 use Rattle.mm_proof.proofs.form.is_after_assertion.Goals.{In-Some}
 

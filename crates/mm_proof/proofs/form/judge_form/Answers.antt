@@ -2,9 +2,9 @@ use Rattle.std.proofs.Common.{refl, ap}
 use Rattle.mm_proof.specs.Mirror.Sites.{ProofSite}
 use Rattle.mm_proof.specs.Plain.{ids_in, label_ids, token_texts}
 use Rattle.mm_proof.specs.Mirror.CodeSteps.{moves_of}
-use Rattle.mm_proof.proofs.Ending.{steps_made}
-use Rattle.mm_proof.proofs.FormLists.{new_seen, old_seen}
-use Rattle.mm_proof.proofs.FormJudged.{strict_all, old_fault, loose_fault}
+use Rattle.mm_proof.proofs.Machines.JudgedMoves.{steps_made}
+use Rattle.mm_proof.proofs.ProofVerdicts.StrictForm.{new_seen, old_seen, strict_all, old_fault}
+use Rattle.mm_proof.proofs.ProofVerdicts.StrictForm.{loose_fault}
 use Rattle.mm_proof.proofs.form.judge_form.Goals as goal
 
 pub are_marks_strict-requires-clause-usable : goal.are_marks_strict-requires-clause-usable

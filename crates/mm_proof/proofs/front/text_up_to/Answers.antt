@@ -1,5 +1,5 @@
 use Rattle.std.proofs.Common.{refl}
-use Rattle.mm_proof.proofs.FrontTokens.{piece_past, piece_none, piece_some}
+use Rattle.mm_proof.proofs.ProofTokens.QuestionMarks.{piece_past, piece_none, piece_some}
 use Rattle.mm_proof.proofs.front.text_up_to.Goals as goal
 use Rattle.mm_proof.proofs.front.text_up_to.Goals.{in-Some+then-not-is_empty+in_ok-push, in-Some+else-not-is_empty, in_default}
 

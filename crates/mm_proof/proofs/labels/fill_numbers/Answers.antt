@@ -1,6 +1,7 @@
 use Rattle.std.proofs.Common.{refl, subst, Bool}
 use Rattle.mm_proof.specs.Plain.{ids_in, token_texts}
-use Rattle.mm_proof.proofs.LabelLists.{IdleOr, sofar_number, sofar_idle, sofar_all, text_among}
+use Rattle.mm_proof.proofs.ProofTokens.ProofLabels.{IdleOr, sofar_number, sofar_idle, sofar_all}
+use Rattle.mm_proof.proofs.ProofTokens.ProofLabels.{text_among}
 use Rattle.mm_proof.proofs.labels.fill_numbers.Goals as goal
 use Rattle.mm_proof.proofs.labels.fill_numbers.Goals.{in-Number+in_ok-push-in-Number, in-Idle}
 

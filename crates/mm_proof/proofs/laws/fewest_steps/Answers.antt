@@ -1,4 +1,4 @@
-use Rattle.mm_proof.proofs.FewestSteps.{fewest_steps_holds}
+use Rattle.mm_proof.proofs.FullSharing.FewestSteps.{fewest_steps_holds}
 use Rattle.mm_proof.proofs.laws.fewest_steps.Goals as goal
 
 pub returns : goal.returns

@@ -1,4 +1,4 @@
-use Rattle.mm_proof.proofs.Limits.{limits_aside_holds}
+use Rattle.mm_proof.proofs.ProofVerdicts.VerdictLaws.{limits_aside_holds}
 use Rattle.mm_proof.proofs.laws.limits_aside.Goals as goal
 
 pub returns : goal.returns

@@ -1,4 +1,4 @@
-use Rattle.mm_proof.proofs.ByWord.{made_by_word_holds}
+use Rattle.mm_proof.proofs.Machines.TreeWords.{made_by_word_holds}
 use Rattle.mm_proof.proofs.laws.made_by_word.Goals as goal
 
 pub returns : goal.returns

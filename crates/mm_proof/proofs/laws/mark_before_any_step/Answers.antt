@@ -1,4 +1,4 @@
-use Rattle.mm_proof.proofs.Marks.{mark_before_any_step_holds}
+use Rattle.mm_proof.proofs.ProofVerdicts.VerdictLaws.{mark_before_any_step_holds}
 use Rattle.mm_proof.proofs.laws.mark_before_any_step.Goals as goal
 
 pub returns : goal.returns

@@ -1,4 +1,4 @@
-use Rattle.mm_proof.proofs.FormDecided.{one_verdict_under_holds}
+use Rattle.mm_proof.proofs.ProofVerdicts.ProfileVerdicts.{one_verdict_under_holds}
 use Rattle.mm_proof.proofs.laws.one_verdict_under.Goals as goal
 
 pub returns : goal.returns

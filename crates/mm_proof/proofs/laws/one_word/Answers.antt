@@ -1,4 +1,4 @@
-use Rattle.mm_proof.proofs.ByWord.{one_word_holds}
+use Rattle.mm_proof.proofs.Machines.TreeWords.{one_word_holds}
 use Rattle.mm_proof.proofs.laws.one_word.Goals as goal
 
 pub returns : goal.returns

@@ -1,4 +1,4 @@
-use Rattle.mm_proof.proofs.Marks.{tag_over_marks_holds}
+use Rattle.mm_proof.proofs.ProofVerdicts.VerdictLaws.{tag_over_marks_holds}
 use Rattle.mm_proof.proofs.laws.tag_over_marks.Goals as goal
 
 pub returns : goal.returns

@@ -1,4 +1,4 @@
-use Rattle.mm_proof.proofs.PairOnce.{told_by_packed_holds}
+use Rattle.mm_proof.proofs.FullSharing.OneSharedProof.{told_by_packed_holds}
 use Rattle.mm_proof.proofs.laws.told_by_packed.Goals as goal
 
 pub returns : goal.returns

@@ -2,8 +2,8 @@ use Rattle.std.proofs.Common.{rules, ◌≡◌, ◌+◌, length, Err, ap, ◌∙
 use Rattle.std.proofs.lemmas.Result.{err_from_is_err_and}
 use Rattle.std.specs.Vec.{vec_len}
 use Rattle.mm_proof.specs.Mirror.Sites.{CodeSite}
-use Rattle.mm_proof.proofs.Ending.{steps_made, wrong_end, wrong_move, on_rule_from}
-use Rattle.mm_proof.proofs.ListingEnd.{lists_end}
+use Rattle.mm_proof.proofs.Machines.JudgedMoves.{steps_made, wrong_end, wrong_move, on_rule_from}
+use Rattle.mm_proof.proofs.Machines.JudgedMoves.{lists_end}
 use Rattle.mm_proof.proofs.lines.lines_in_frame.Goals as goal
 
 pub lines_of-requires-clause-usable : goal.lines_of-requires-clause-usable

@@ -8,8 +8,8 @@ use Rattle.mm_proof.specs.Mirror.CodeSteps.{code_move, code_moves}
 use Rattle.mm_proof.specs.Mirror.Sites.{CodeSite}
 use Rattle.mm_proof.specs.Mirror.CodeLines.{AreLinesAt}
 use Rattle.mm_proof.specs.Mirror.CodeRun.{MayBeMade}
-use Rattle.mm_proof.proofs.Running.{refused, judged_none, stopped_fault, first_up_to}
-use Rattle.mm_proof.proofs.Listers.{lists_none, listed_run}
+use Rattle.mm_proof.proofs.Machines.JudgedMoves.{refused, judged_none, stopped_fault, first_up_to}
+use Rattle.mm_proof.proofs.Machines.ListedLines.{lists_none, listed_run}
 use Rattle.mm_proof.proofs.lines.lines_of.Goals as goal
 
 pub run-requires-clause-begun : goal.run-requires-clause-begun

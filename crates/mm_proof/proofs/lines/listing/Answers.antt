@@ -4,11 +4,10 @@ use Rattle.mm_frame.proofs.Meant.{allmeant_front}
 use Rattle.mm_proof.specs.Proof.{IsWithin}
 use Rattle.mm_proof.specs.Profiles.{limit_of}
 use Rattle.mm_proof.specs.Steps.{AreNumberedMoves}
-use Rattle.mm_proof.proofs.Ending.{held_moves, seen_moves, seen_limit}
-use Rattle.mm_proof.proofs.Exact.{accepts, refuses}
-use Rattle.mm_proof.proofs.ListingEnd.{if_ok_at, if_rule_at}
+use Rattle.mm_proof.proofs.Machines.JudgedMoves.{held_moves, seen_moves, seen_limit, if_ok_at}
+use Rattle.mm_proof.proofs.Machines.JudgedMoves.{if_rule_at}
+use Rattle.mm_proof.proofs.ProofVerdicts.FirstFault.{accepts, refuses, rules_map}
 use Rattle.mm_proof.proofs.lines.listing.Goals as goal
-use Rattle.mm_proof.proofs.Answering.{rules_map}
 
 pub returns-clause-listed : goal.returns-clause-listed
 returns-clause-listed c =

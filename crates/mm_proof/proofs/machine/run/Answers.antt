@@ -1,7 +1,8 @@
 use Rattle.std.proofs.Common.{◌-◌, get_or, refl, sym, ap, subst, ◌∙◌, arith}
 use Rattle.mm_proof.specs.Moves.{again}
-use Rattle.mm_proof.proofs.Answering.{handed}
-use Rattle.mm_proof.proofs.Coded.{entry_there, tag_there, comes_next, goes_on, stops_at}
+use Rattle.mm_proof.proofs.ProofVerdicts.FirstFault.{handed}
+use Rattle.mm_proof.proofs.ProofTokens.ProofCodes.{entry_there, tag_there, comes_next, goes_on}
+use Rattle.mm_proof.proofs.ProofTokens.ProofCodes.{stops_at}
 use Rattle.mm_proof.proofs.machine.run.Goals as goal
 use Rattle.mm_proof.proofs.machine.run.Goals.{in-Number+then-place-count+in_ok-step-in-Number}
 use Rattle.mm_proof.proofs.machine.run.Goals.{in-Number+else-place-count+in_ok-step_again-in-Number}

@@ -1,5 +1,6 @@
 use Rattle.std.proofs.lemmas.List.{take_all}
-use Rattle.mm_proof.proofs.PackingLists.{one_there, encoded_next, repeated_tagged, tagged_next}
+use Rattle.mm_proof.proofs.PackedProofs.PackingLoops.{one_there, encoded_next, repeated_tagged}
+use Rattle.mm_proof.proofs.PackedProofs.PackingLoops.{tagged_next}
 use Rattle.mm_proof.proofs.packing.codes_of.Goals as goal
 
 pub encode-requires-clause-known : goal.encode-requires-clause-known

@@ -1,7 +1,7 @@
 use Rattle.std.proofs.Common.{◌≤◌, [], take, length, All}
 use Rattle.mm_code.specs.Letters.{HasSpelling, IsExact}
 use Rattle.mm_proof.specs.Mirror.CodeSharing.{AreEncoded}
-use Rattle.mm_proof.proofs.PackingLists.{AreTaggedSo}
+use Rattle.mm_proof.proofs.PackedProofs.PackingLoops.{AreTaggedSo}
 use Rattle.mm_proof.proofs.packing.codes_of.Given as goal
 
 abbrev pub invariant-loop-one : goal.invariant-loop-one

@@ -3,8 +3,8 @@ use Rattle.std.proofs.lemmas.Result.{IfOk-weaker}
 use Rattle.std.proofs.lemmas.Slice.Zip.{AllZip-long}
 use Rattle.mm_proof.specs.Steps.{IsNumberedMove}
 use Rattle.mm_proof.specs.Plain.{label_ids}
-use Rattle.mm_proof.proofs.SharingSteps.{shared_keep, steps_end, steps_made_before}
-use Rattle.mm_proof.proofs.PackedTrees.{packed_made}
+use Rattle.mm_proof.proofs.PackedProofs.PackingLoops.{shared_keep, steps_end, steps_made_before}
+use Rattle.mm_proof.proofs.PackedProofs.PackedTrees.{packed_made}
 use Rattle.mm_proof.proofs.packing.compress.Goals as goal
 
 pub build-requires-clause-marks : goal.build-requires-clause-marks

@@ -1,7 +1,7 @@
 use Rattle.std.proofs.Common.{[], take, refl, sym, ap, subst, ◌∙◌}
 use Rattle.mm_proof.specs.Plain.{label_ids}
 use Rattle.mm_proof.specs.Mirror.CodeSharing.{AreFirstNumbers}
-use Rattle.mm_proof.proofs.PackingLists.{one_more, label_ids-more, first_added}
+use Rattle.mm_proof.proofs.PackedProofs.PackingLoops.{one_more, label_ids-more, first_added}
 use Rattle.mm_proof.proofs.packing.hypothesis_labels.Goals as goal
 
 pub loop-hypothesis-preserved : goal.loop-hypothesis-preserved

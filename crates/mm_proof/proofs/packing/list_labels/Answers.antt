@@ -1,7 +1,8 @@
 use Rattle.std.proofs.Common.{subst, append-nil}
 use Rattle.std.proofs.lemmas.List.{map-append}
 use Rattle.mm_proof.specs.Mirror.CodeSharing.{AddsNew}
-use Rattle.mm_proof.proofs.PackingLists.{one_more, labels_made-append, listing_old, listing_new}
+use Rattle.mm_proof.proofs.PackedProofs.PackingLoops.{one_more, labels_made-append, listing_old}
+use Rattle.mm_proof.proofs.PackedProofs.PackingLoops.{listing_new}
 use Rattle.mm_proof.proofs.packing.list_labels.Goals as goal
 use Rattle.mm_proof.proofs.packing.list_labels.Goals.{in-Make+in_ok-add-in-Make+then-branch+in_ok-push-in-Make, in-Make+in_ok-add-in-Make+else-branch, in-Repeat}
 

@@ -2,7 +2,7 @@ use Rattle.std.proofs.Common.{[], length, ap, ◌∙◌, arith}
 use Rattle.std.proofs.lemmas.List.{length-append, length-map}
 use Rattle.mm_proof.specs.Plain.{ids_in, label_ids}
 use Rattle.mm_proof.specs.Mirror.CodeSharing.{labels_made}
-use Rattle.mm_proof.proofs.PackingLists.{first_few, labels_made-few, label_known}
+use Rattle.mm_proof.proofs.PackedProofs.PackingLoops.{first_few, labels_made-few, label_known}
 use Rattle.mm_proof.proofs.packing.pack.Goals as goal
 
 pub codes_of-requires-clause-labels : goal.codes_of-requires-clause-labels

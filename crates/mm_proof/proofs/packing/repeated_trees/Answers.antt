@@ -1,5 +1,5 @@
 use Rattle.std.proofs.lemmas.List.{take_all}
-use Rattle.mm_proof.proofs.PackingLists.{one_more, repeated_make, repeated_repeat}
+use Rattle.mm_proof.proofs.PackedProofs.PackingLoops.{one_more, repeated_make, repeated_repeat}
 use Rattle.mm_proof.proofs.packing.repeated_trees.Goals as goal
 use Rattle.mm_proof.proofs.packing.repeated_trees.Goals.{in-Make, in-Repeat+in_ok-add-in-Repeat}
 

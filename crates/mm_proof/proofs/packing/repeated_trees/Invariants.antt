@@ -1,5 +1,5 @@
 use Rattle.std.proofs.Common.{take}
-use Rattle.mm_proof.proofs.PackingLists.{AreRepeated}
+use Rattle.mm_proof.proofs.PackedProofs.PackingLoops.{AreRepeated}
 use Rattle.mm_proof.proofs.packing.repeated_trees.Given as goal
 
 abbrev pub invariant-loop-one : goal.invariant-loop-one

@@ -1,7 +1,8 @@
 use Rattle.std.proofs.Common.{arith, below_more}
 use Rattle.std.proofs.lemmas.List.{length-map}
 use Rattle.mm_proof.specs.Stores.{numbers_in}
-use Rattle.mm_proof.proofs.Shared.{number_at, symbol_below, distinct_told, near_told}
+use Rattle.mm_proof.proofs.ByNumbers.SharedVariables.{number_at, symbol_below, distinct_told}
+use Rattle.mm_proof.proofs.ByNumbers.SharedVariables.{near_told}
 use Rattle.mm_proof.proofs.pairs.are_apart.Goals as goal
 
 pub is_apart_from_each-requires-clause-first : goal.is_apart_from_each-requires-clause-first

@@ -1,5 +1,5 @@
-use Rattle.mm_proof.proofs.Shared.{apart_free, apart_told}
-use Rattle.mm_proof.proofs.Named.{number_of_name}
+use Rattle.mm_proof.proofs.ByNumbers.SharedVariables.{apart_free, apart_told}
+use Rattle.mm_proof.proofs.ByNumbers.NumberedSymbols.{number_of_name}
 use Rattle.mm_proof.proofs.pairs.is_apart.Goals as goal
 
 pub returns-then-not-is_variable : goal.returns-then-not-is_variable

@@ -1,7 +1,7 @@
 use Rattle.std.proofs.Common.{arith, below_more}
 use Rattle.std.proofs.lemmas.List.{length-map}
-use Rattle.mm_proof.proofs.Shared.{number_at, symbol_below}
-use Rattle.mm_proof.proofs.Named.{number_of_name}
+use Rattle.mm_proof.proofs.ByNumbers.SharedVariables.{number_at, symbol_below}
+use Rattle.mm_proof.proofs.ByNumbers.NumberedSymbols.{number_of_name}
 use Rattle.mm_proof.proofs.pairs.is_apart_from_each.Goals as goal
 
 pub is_apart-requires-clause-second : goal.is_apart-requires-clause-second

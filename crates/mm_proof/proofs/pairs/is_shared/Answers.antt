@@ -1,5 +1,5 @@
-use Rattle.mm_proof.proofs.Shared.{and_told, not_told}
-use Rattle.mm_proof.proofs.Named.{number_of_name}
+use Rattle.mm_proof.proofs.ByNumbers.SharedVariables.{and_told, not_told}
+use Rattle.mm_proof.proofs.ByNumbers.NumberedSymbols.{number_of_name}
 use Rattle.mm_proof.proofs.pairs.is_shared.Goals as goal
 
 pub returns-then-is_variable : goal.returns-then-is_variable

@@ -1,8 +1,8 @@
 use Rattle.std.proofs.Common.{◌<◌, length, drop, arith}
 use Rattle.std.proofs.lemmas.List.{length-drop}
 use Rattle.mm_proof.specs.Mirror.CodeVerify.{value_of}
-use Rattle.mm_proof.proofs.Shared.{entry_symbols, values_told}
-use Rattle.mm_proof.proofs.Values.{value_placed}
+use Rattle.mm_proof.proofs.ByNumbers.SharedVariables.{entry_symbols, values_told}
+use Rattle.mm_proof.proofs.ByNumbers.NumberedSymbols.{value_placed}
 use Rattle.mm_proof.proofs.pairs.is_shared_pair.Goals as goal
 
 pub share_variable-requires-clause-first : goal.share_variable-requires-clause-first

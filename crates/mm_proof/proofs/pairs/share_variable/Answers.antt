@@ -1,7 +1,8 @@
 use Rattle.std.proofs.Common.{arith, below_more}
 use Rattle.std.proofs.lemmas.List.{length-map}
 use Rattle.mm_proof.specs.Stores.{numbers_in}
-use Rattle.mm_proof.proofs.Shared.{number_at, symbol_below, shared_told, not_shared_told}
+use Rattle.mm_proof.proofs.ByNumbers.SharedVariables.{number_at, symbol_below, shared_told}
+use Rattle.mm_proof.proofs.ByNumbers.SharedVariables.{not_shared_told}
 use Rattle.mm_proof.proofs.pairs.share_variable.Goals as goal
 
 pub is_shared-requires : goal.is_shared-requires

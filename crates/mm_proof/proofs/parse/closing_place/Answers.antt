@@ -2,7 +2,7 @@ use Rattle.std.proofs.Common.{◌≡◌, subst, Contains, refl, sym, ap, ◌∙�
 use Rattle.std.proofs.lemmas.Bool.{false≢true}
 use Rattle.mm_proof.specs.Tokens.{closing_token}
 use Rattle.mm_proof.specs.Plain.{token_texts}
-use Rattle.mm_proof.proofs.TokenFacts.{none_more, front_all, text_at}
+use Rattle.mm_proof.proofs.ProofTokens.ProofLabels.{none_more, front_all, text_at}
 use Rattle.mm_proof.proofs.parse.closing_place.Goals as goal
 
 pub returns-then-is_byte : goal.returns-then-is_byte

@@ -4,7 +4,8 @@ use Rattle.std.proofs.lemmas.List.Elements.{All-from_recursion}
 use Rattle.mm_code.specs.Letters.{HasSpelling}
 use Rattle.mm_proof.specs.Moves.{name}
 use Rattle.mm_proof.specs.Plain.{ids_in}
-use Rattle.mm_proof.proofs.Coded.{entries_later, says_more, entries_say, entries_spelled}
+use Rattle.mm_proof.proofs.ProofTokens.ProofCodes.{entries_later, says_more, entries_say}
+use Rattle.mm_proof.proofs.ProofTokens.ProofCodes.{entries_spelled}
 use Rattle.mm_proof.proofs.parse.fill_distinct.Goals as goal
 
 pub loop-id-init : goal.loop-id-init

@@ -1,7 +1,7 @@
 use Rattle.std.proofs.Common.{take}
 use Rattle.std.specs.List.{AllZip}
 use Rattle.mm_proof.specs.Plain.{ids_in}
-use Rattle.mm_proof.proofs.Coded.{SaysEntry}
+use Rattle.mm_proof.proofs.ProofTokens.ProofCodes.{SaysEntry}
 use Rattle.mm_proof.proofs.parse.fill_distinct.Given as goal
 
 abbrev pub invariant-loop-id : goal.invariant-loop-id

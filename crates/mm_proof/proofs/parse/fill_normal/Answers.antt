@@ -1,9 +1,8 @@
 use Rattle.std.proofs.Common.{slice_get, sym, ap, subst}
 use Rattle.std.proofs.lemmas.Result.{err_from_is_err_and}
 use Rattle.mm_proof.specs.Mirror.CodeSteps.{IsReading}
-use Rattle.mm_proof.proofs.Answering.{on_rule_map}
-use Rattle.mm_proof.proofs.TokenFacts.{labels_fault, normal_labels}
-use Rattle.mm_proof.proofs.Readings.{reading_normal}
+use Rattle.mm_proof.proofs.ProofVerdicts.FirstFault.{on_rule_map}
+use Rattle.mm_proof.proofs.ProofTokens.ProofLabels.{labels_fault, normal_labels, reading_normal}
 use Rattle.mm_proof.proofs.parse.fill_normal.Goals as goal
 
 pub returns-clause-ok : goal.returns-clause-ok

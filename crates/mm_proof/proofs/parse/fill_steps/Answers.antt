@@ -1,6 +1,7 @@
 use Rattle.std.proofs.lemmas.Result.{on_ok_weaker}
-use Rattle.mm_proof.proofs.Answering.{rules_map}
-use Rattle.mm_proof.proofs.Whole.{reading_said, reading_usable, whole_fault_there}
+use Rattle.mm_proof.proofs.ProofVerdicts.FirstFault.{rules_map}
+use Rattle.mm_proof.proofs.ByNumbers.NumberedLabels.{reading_said, reading_usable}
+use Rattle.mm_proof.proofs.ByNumbers.NumberedLabels.{whole_fault_there}
 use Rattle.mm_proof.proofs.parse.fill_steps.Goals as goal
 
 pub returns-clause-steps : goal.returns-clause-steps

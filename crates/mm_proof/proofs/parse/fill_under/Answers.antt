@@ -1,6 +1,6 @@
 use Rattle.std.proofs.Common.{inl, inr}
 use Rattle.std.proofs.lemmas.Result.{err_from_is_err_and}
-use Rattle.mm_proof.proofs.Answering.{on_rule_map, rules_map}
+use Rattle.mm_proof.proofs.ProofVerdicts.FirstFault.{on_rule_map, rules_map}
 use Rattle.mm_proof.proofs.parse.fill_under.Goals as goal
 
 pub returns-in_err-fill_steps-clause-fault : goal.returns-in_err-fill_steps-clause-fault

@@ -1,6 +1,6 @@
 use Rattle.std.proofs.Common.{refl, ◌+◌}
 use Rattle.std.proofs.lemmas.List.{take_rest}
-use Rattle.mm_proof.proofs.Compressed.{parts_given}
+use Rattle.mm_proof.proofs.ProofTokens.ProofCodes.{parts_given}
 use Rattle.mm_proof.proofs.parse.parts.Goals as goal
 
 pub returns : goal.returns

@@ -1,7 +1,7 @@
 use Rattle.std.proofs.Common.{arith}
 use Rattle.std.proofs.lemmas.Result.{err_from_is_err_and}
 use Rattle.mm_proof.specs.Plain.{token_texts}
-use Rattle.mm_proof.proofs.FewMoves.{codes_bytes}
+use Rattle.mm_proof.proofs.ProofTokens.CodeLetters.{codes_bytes}
 use Rattle.mm_proof.proofs.parse.steps_of.Goals as goal
 
 pub invariant_of-result : goal.invariant_of-result

@@ -1,8 +1,8 @@
 use Rattle.std.proofs.Common.{inl}
 use Rattle.std.proofs.lemmas.Result.{err_from_is_err_and, on_ok_weaker}
-use Rattle.mm_proof.proofs.Answering.{on_rule_map, rules_map}
-use Rattle.mm_proof.proofs.UnderAnswers.{have_under}
-use Rattle.mm_proof.proofs.FrontAnswers.{tokens_pass, tokens_stop}
+use Rattle.mm_proof.proofs.ProofVerdicts.FirstFault.{on_rule_map, rules_map}
+use Rattle.mm_proof.proofs.ProofVerdicts.ProfileVerdicts.{have_under}
+use Rattle.mm_proof.proofs.ProofVerdicts.KnownPrefixes.{tokens_pass, tokens_stop}
 use Rattle.mm_proof.proofs.prover.pass_tokens.Goals as goal
 
 pub pass-requires-clause-steps : goal.pass-requires-clause-steps

@@ -1,7 +1,7 @@
 use Rattle.std.proofs.Common.{drop, ap, ◌+◌, ◌∙◌, length, arith}
 use Rattle.std.proofs.lemmas.List.{length-map}
 use Rattle.mm_proof.specs.Stores.{rows_in, said_by, IsWithinPlaces}
-use Rattle.mm_proof.proofs.Values.{said_over, said_appended, within_at}
+use Rattle.mm_proof.proofs.ByNumbers.NumberedSymbols.{said_over, said_appended, within_at}
 use Rattle.mm_proof.proofs.rows.fill_said.Goals as goal
 
 pub append_said-requires-clause-within : goal.append_said-requires-clause-within

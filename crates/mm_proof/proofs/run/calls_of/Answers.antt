@@ -1,4 +1,4 @@
-use Rattle.mm_proof.proofs.Coded.{calls_more}
+use Rattle.mm_proof.proofs.ProofTokens.ProofCodes.{calls_more}
 use Rattle.mm_proof.proofs.run.calls_of.Goals as goal
 
 pub loop-id-preserved : goal.loop-id-preserved

@@ -1,5 +1,5 @@
 use Rattle.std.proofs.Common.{take, arith}
-use Rattle.mm_proof.proofs.Parts.{value-part}
+use Rattle.mm_proof.proofs.StoreRanges.{value-part}
 use Rattle.std.proofs.lemmas.Option.{IfSome_then}
 use Rattle.mm_proof.proofs.said.put_piece.Goals as goal
 

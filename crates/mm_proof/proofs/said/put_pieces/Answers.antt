@@ -1,8 +1,7 @@
 use Rattle.std.proofs.Common.{◌++◌, take, ◌∙◌, arith}
 use Rattle.std.proofs.lemmas.List.{get_or_default, length-take-le}
-use Rattle.mm_proof.proofs.Parts.{pieces-step}
-use Rattle.mm_proof.proofs.Values.{no_piece}
-use Rattle.mm_proof.proofs.Saying.{front_stays}
+use Rattle.mm_proof.proofs.StoreRanges.{pieces-step, front_stays}
+use Rattle.mm_proof.proofs.ByNumbers.NumberedSymbols.{no_piece}
 use Rattle.mm_proof.proofs.said.put_pieces.Goals as goal
 
 pub returns-in_err-end-clause-front : goal.returns-in_err-end-clause-front

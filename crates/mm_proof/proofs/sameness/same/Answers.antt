@@ -1,6 +1,5 @@
-use Rattle.mm_proof.proofs.SubtreeNumbers.{tree_later}
-use Rattle.mm_proof.proofs.SubtreeSteps.{no_subtrees, no_rows, subtrees_keep}
-use Rattle.mm_proof.proofs.SameTrees.{same_trees_made}
+use Rattle.mm_proof.proofs.PackedProofs.SubtreeNumbers.{tree_later, no_subtrees, no_rows}
+use Rattle.mm_proof.proofs.PackedProofs.SubtreeNumbers.{subtrees_keep, same_trees_made}
 use Rattle.mm_proof.proofs.sameness.same.Goals as goal
 
 pub build-requires-clause-nothing : goal.build-requires-clause-nothing

@@ -3,9 +3,13 @@ use Rattle.std.proofs.lemmas.Option.{slice_get_within}
 use Rattle.std.proofs.lemmas.List.{length-drop}
 use Rattle.mm_frame.specs.Pieces.{variables_of}
 use Rattle.mm_frame.proofs.Patterns.{variables_counted}
-use Rattle.mm_proof.proofs.Named.{hypothesis_at, entry_at, entry_below, each_next, each_more, as_many, typed_equal, floating_equal, variable_typed, typed_variables, untyped_essential, no_hypothesis}
-use Rattle.mm_proof.proofs.Patterned.{pattern_found, part_within, said_told}
-use Rattle.mm_proof.proofs.Applying.{match_true, match_false}
+use Rattle.mm_proof.proofs.ByNumbers.NumberedSymbols.{hypothesis_at, entry_at, entry_below}
+use Rattle.mm_proof.proofs.ByNumbers.NumberedSymbols.{each_next, each_more, as_many, typed_equal}
+use Rattle.mm_proof.proofs.ByNumbers.NumberedSymbols.{floating_equal, variable_typed}
+use Rattle.mm_proof.proofs.ByNumbers.NumberedSymbols.{typed_variables, untyped_essential}
+use Rattle.mm_proof.proofs.ByNumbers.NumberedSymbols.{no_hypothesis, pattern_found, part_within}
+use Rattle.mm_proof.proofs.ByNumbers.NumberedSymbols.{said_told}
+use Rattle.mm_proof.proofs.ByNumbers.StepByAssertion.{match_true, match_false}
 use Rattle.mm_proof.proofs.step.are_equal.Goals.{else-is_none-via-then-is_none+else-not-is_said, else-is_none-via-else-is_none}
 use Rattle.mm_proof.proofs.step.are_equal.Given.{Over}
 use Rattle.mm_proof.proofs.step.are_equal.Goals.{Start}

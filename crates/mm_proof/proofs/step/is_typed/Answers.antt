@@ -1,4 +1,4 @@
-use Rattle.mm_proof.proofs.Named.{code_told, code_judged}
+use Rattle.mm_proof.proofs.ByNumbers.NumberedSymbols.{code_told, code_judged}
 use Rattle.mm_proof.proofs.step.is_typed.Goals as goal
 
 pub returns-in-Some : goal.returns-in-Some

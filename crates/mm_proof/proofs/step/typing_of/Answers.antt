@@ -3,7 +3,9 @@ use Rattle.std.proofs.lemmas.Option.{slice_get_within, same_Some}
 use Rattle.std.proofs.lemmas.Bool.{false≢true, cases_lt}
 use Rattle.mm_frame.specs.Pieces.{variables_of}
 use Rattle.mm_frame.proofs.Patterns.{variables_counted}
-use Rattle.mm_proof.proofs.Named.{hypothesis_at, typing_some, entry_at, entry_below, each_more, as_many, no_hypothesis}
+use Rattle.mm_proof.proofs.ByNumbers.NumberedSymbols.{hypothesis_at, typing_some, entry_at}
+use Rattle.mm_proof.proofs.ByNumbers.NumberedSymbols.{entry_below, each_more, as_many}
+use Rattle.mm_proof.proofs.ByNumbers.NumberedSymbols.{no_hypothesis}
 use Rattle.mm_proof.proofs.step.typing_of.Goals as goal
 use Rattle.mm_proof.proofs.step.typing_of.Goals.{then-floating, else-floating}
 

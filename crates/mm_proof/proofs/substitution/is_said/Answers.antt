@@ -2,7 +2,7 @@ use Rattle.std.proofs.Common.{drop, sym, ◌∙◌, length}
 use Rattle.std.proofs.lemmas.Bool.{false≢true}
 use Rattle.std.proofs.lemmas.Bool.Decides.{Decides-eqb}
 use Rattle.mm_proof.specs.Stores.{numbers_in, said_by, IsWithinPlaces}
-use Rattle.mm_proof.proofs.Values.{said_step, said_none, said_end, within_at}
+use Rattle.mm_proof.proofs.ByNumbers.NumberedSymbols.{said_step, said_none, said_end, within_at}
 use Rattle.mm_proof.proofs.substitution.is_said.Goals as goal
 
 pub after_said-requires-clause-within : goal.after_said-requires-clause-within

@@ -1,5 +1,5 @@
 use Rattle.std.proofs.Common.{◌∙◌}
-use Rattle.mm_proof.proofs.Values.{same_numbers, same_told}
+use Rattle.mm_proof.proofs.ByNumbers.NumberedSymbols.{same_numbers, same_told}
 use Rattle.mm_proof.proofs.substitution.is_same.Goals as goal
 
 pub returns : goal.returns

@@ -1,6 +1,8 @@
 use Rattle.std.proofs.Common.{sym, arith, ◌∙◌}
 use Rattle.std.proofs.lemmas.Bool.{false≢true}
-use Rattle.mm_proof.proofs.Picking.{IsCalledAt, first_none, first_more, first_skipped, called_there, there_called, called_all}
+use Rattle.mm_proof.proofs.ByNumbers.UsedAssertions.{IsCalledAt, first_none, first_more}
+use Rattle.mm_proof.proofs.ByNumbers.UsedAssertions.{first_skipped, called_there, there_called}
+use Rattle.mm_proof.proofs.ByNumbers.UsedAssertions.{called_all}
 use Rattle.mm_proof.proofs.used.fill_called.Goals as goal
 use Rattle.mm_proof.proofs.used.fill_called.Goals.{then-is_called+in_ok-push, else-is_called}
 

@@ -1,4 +1,4 @@
-use Rattle.mm_proof.proofs.Picking.{AreFirst, IsCalledAt}
+use Rattle.mm_proof.proofs.ByNumbers.UsedAssertions.{AreFirst, IsCalledAt}
 use Rattle.mm_proof.proofs.used.fill_called.Given as goal
 
 abbrev pub invariant-loop-place : goal.invariant-loop-place

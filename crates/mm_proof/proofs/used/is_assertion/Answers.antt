@@ -1,5 +1,5 @@
 use Rattle.std.proofs.Common.{refl}
-use Rattle.mm_proof.proofs.Naming.{assertion_kind}
+use Rattle.mm_proof.proofs.ByNumbers.UsedAssertions.{assertion_kind}
 use Rattle.mm_proof.proofs.used.is_assertion.Goals as goal
 
 pub returns-in-Axiom : goal.returns-in-Axiom

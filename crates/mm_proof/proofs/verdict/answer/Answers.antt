@@ -6,8 +6,7 @@ use Rattle.mm_proof.specs.Proof.{IsWithin}
 use Rattle.mm_proof.specs.Profiles.{limit_of}
 use Rattle.mm_proof.specs.Plain.{ids_in}
 use Rattle.mm_proof.specs.Verified.{ProvesUsing}
-use Rattle.mm_proof.proofs.Answering.{on_rule_map}
-use Rattle.mm_proof.proofs.Exact.{accepts, refuses}
+use Rattle.mm_proof.proofs.ProofVerdicts.FirstFault.{on_rule_map, accepts, refuses}
 use Rattle.mm_proof.proofs.verdict.answer.Goals as goal
 
 pub returns-in_ok-labels-in-Ok-clause-proved : goal.returns-in_ok-labels-in-Ok-clause-proved

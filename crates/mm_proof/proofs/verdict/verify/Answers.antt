@@ -1,8 +1,9 @@
 use Rattle.std.proofs.Common.{◌≡◌, []}
 use Rattle.mm_frame.proofs.Meant.{allmeant_front}
-use Rattle.mm_proof.proofs.FrontAnswers.{front_accepts, front_refuses, ok_both, on_ok_at}
+use Rattle.mm_proof.proofs.ProofVerdicts.KnownPrefixes.{front_accepts, front_refuses, ok_both}
+use Rattle.mm_proof.proofs.ProofVerdicts.KnownPrefixes.{on_ok_at}
 use Rattle.mm_proof.proofs.verdict.verify.Goals as goal
-use Rattle.mm_proof.proofs.Answering.{rules_map}
+use Rattle.mm_proof.proofs.ProofVerdicts.FirstFault.{rules_map}
 
 pub returns-then-is_front-clause-passed : goal.returns-then-is_front-clause-passed
 returns-then-is_front-clause-passed g c is =

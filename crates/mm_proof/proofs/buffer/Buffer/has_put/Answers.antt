@@ -1,6 +1,6 @@
 use Rattle.std.proofs.Common.{◌≡◌, take, length, ap, ◌∙◌, arith}
 use Rattle.std.proofs.lemmas.List.{length-take, with_items_is}
-use Rattle.mm_proof.proofs.Saying.{put_within}
+use Rattle.mm_proof.proofs.StoreRanges.{put_within}
 use Rattle.mm_proof.proofs.buffer.Buffer.has_put.Goals as goal
 
 pub returns-in-Some : goal.returns-in-Some

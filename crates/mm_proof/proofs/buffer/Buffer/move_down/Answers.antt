@@ -2,7 +2,7 @@ use Rattle.std.proofs.Common.{◌≡◌, ◌+◌, ◌-◌, ◌++◌, take, drop,
 use Rattle.std.proofs.lemmas.List.{length-take, length-drop, take-take}
 use Rattle.std.proofs.lemmas.List.Edits.{take-paste}
 use Rattle.std.proofs.Math.Seq.{paste}
-use Rattle.mm_proof.proofs.Parts.{cut-before}
+use Rattle.mm_proof.proofs.StoreRanges.{cut-before}
 use Rattle.mm_proof.proofs.buffer.Buffer.move_down.Goals as goal
 
 pub returns : goal.returns

@@ -1,10 +1,10 @@
 use Rattle.std.proofs.Common.{rules, ◌≡◌, ◌-◌, ◌<◌, get_or, length, refl, subst, arith}
 use Rattle.std.specs.Vec.{vec_len}
 use Rattle.mm_proof.specs.Moves.{name}
-use Rattle.mm_proof.proofs.Answering.{handed}
-use Rattle.mm_proof.proofs.Picking.{entry_is}
-use Rattle.mm_proof.proofs.Building.{next_make, make_within, at_make, make_long, first_more}
-use Rattle.mm_proof.proofs.Building.{built_more, some_next}
+use Rattle.mm_proof.proofs.ProofVerdicts.FirstFault.{handed}
+use Rattle.mm_proof.proofs.ByNumbers.UsedAssertions.{entry_is}
+use Rattle.mm_proof.proofs.Machines.Building.{next_make, make_within, at_make, make_long}
+use Rattle.mm_proof.proofs.Machines.Building.{first_more, built_more, some_next}
 use Rattle.mm_proof.proofs.builder.ForestItemMachine.step.Given.{Over}
 use Rattle.mm_proof.proofs.builder.ForestItemMachine.step.Goals.{Start}
 use Rattle.mm_proof.proofs.builder.ForestItemMachine.step.Goals as goal

@@ -2,9 +2,9 @@ use Rattle.std.proofs.Common.{rules, ◌≡◌, length, refl, subst, arith}
 use Rattle.std.specs.Vec.{vec_len}
 use Rattle.std.proofs.lemmas.List.{take_all}
 use Rattle.mm_proof.specs.Moves.{again}
-use Rattle.mm_proof.proofs.Answering.{handed}
-use Rattle.mm_proof.proofs.Building.{repeat_within, next_repeat, at_repeat, repeat_long}
-use Rattle.mm_proof.proofs.Building.{first_more, built_more, some_next}
+use Rattle.mm_proof.proofs.ProofVerdicts.FirstFault.{handed}
+use Rattle.mm_proof.proofs.Machines.Building.{repeat_within, next_repeat, at_repeat, repeat_long}
+use Rattle.mm_proof.proofs.Machines.Building.{first_more, built_more, some_next}
 use Rattle.mm_proof.proofs.builder.ForestItemMachine.step_again.Goals as goal
 
 pub index-requires : goal.index-requires

@@ -1,6 +1,7 @@
 use Rattle.std.proofs.Common.{◌≡◌, ◌≤◌, ◌+◌, ◌-◌, refl, take, length, ap, ◌∙◌, arith}
 use Rattle.mm_proof.specs.Mirror.Buffer.{AreParts}
-use Rattle.mm_proof.proofs.Parts.{within-later, within-front, within-more, moved-entry, moved-length, parts-moved}
+use Rattle.mm_proof.proofs.StoreRanges.{within-later, within-front, within-more, moved-entry}
+use Rattle.mm_proof.proofs.StoreRanges.{moved-length, parts-moved}
 use Rattle.mm_proof.proofs.flat.Flat.conclude_at_cut.Goals.{After-max-needed}
 use Rattle.mm_proof.proofs.flat.Flat.conclude_at_cut.Goals as goal
 

@@ -1,5 +1,5 @@
 use Rattle.std.proofs.Common.{length, arith}
-use Rattle.mm_proof.proofs.Parts.{parts-cut, within-later}
+use Rattle.mm_proof.proofs.StoreRanges.{parts-cut, within-later}
 use Rattle.mm_proof.proofs.flat.Flat.cut.Goals as goal
 
 pub returns-clause-stack : goal.returns-clause-stack

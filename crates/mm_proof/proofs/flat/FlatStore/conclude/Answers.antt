@@ -2,8 +2,9 @@ use Rattle.std.proofs.Common.{◌≤◌, length, ap, ◌∙◌, arith}
 use Rattle.std.proofs.lemmas.List.{length-append}
 use Rattle.mm_frame.proofs.SameTables.{on_err}
 use Rattle.mm_proof.specs.Mirror.Buffer.{AreParts}
-use Rattle.mm_proof.proofs.Applying.{match_true, match_false}
-use Rattle.mm_proof.proofs.Parts.{parts-grow, within-later, within-put, concluded, concluded-entry}
+use Rattle.mm_proof.proofs.ByNumbers.StepByAssertion.{match_true, match_false}
+use Rattle.mm_proof.proofs.StoreRanges.{parts-grow, within-later, within-put, concluded}
+use Rattle.mm_proof.proofs.StoreRanges.{concluded-entry}
 use Rattle.mm_proof.proofs.flat.FlatStore.conclude.Goals as goal
 
 pub returns-in_err-put_said-clause-refused : goal.returns-in_err-put_said-clause-refused

@@ -1,6 +1,6 @@
 use Rattle.std.proofs.Common.{arith, ap, length}
 use Rattle.std.proofs.lemmas.Result.{err_from_is_err_and}
-use Rattle.mm_proof.proofs.Parts.{parts-grow, parts-push}
+use Rattle.mm_proof.proofs.StoreRanges.{parts-grow, parts-push}
 use Rattle.mm_proof.proofs.flat.FlatStore.push.Goals as goal
 
 pub returns-in_err-push-clause-refused : goal.returns-in_err-push-clause-refused

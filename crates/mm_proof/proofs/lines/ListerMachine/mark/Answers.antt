@@ -1,6 +1,6 @@
 use Rattle.std.proofs.Common.{rules, ◌≡◌, length, refl, ◌∙◌}
 use Rattle.std.specs.Vec.{vec_len}
-use Rattle.mm_proof.proofs.Listers.{lists_mark}
+use Rattle.mm_proof.proofs.Machines.ListedLines.{lists_mark}
 use Rattle.mm_proof.proofs.lines.ListerMachine.mark.Goals as goal
 
 pub returns-clause-ran : goal.returns-clause-ran

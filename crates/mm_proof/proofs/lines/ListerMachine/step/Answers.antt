@@ -2,7 +2,7 @@ use Rattle.std.proofs.Common.{◌≡◌, refl, sym, ◌∙◌}
 use Rattle.std.proofs.lemmas.Option.{same_Some, slice_get_within}
 use Rattle.mm_proof.specs.Moves.{name}
 use Rattle.mm_proof.specs.Listing.{by_label}
-use Rattle.mm_proof.proofs.Listers.{lists_step, name_stands}
+use Rattle.mm_proof.proofs.Machines.ListedLines.{lists_step, name_stands}
 use Rattle.mm_proof.proofs.lines.ListerMachine.step.Goals as goal
 
 pub label-id-requires : goal.label-id-requires

@@ -3,7 +3,7 @@ use Rattle.std.specs.Vec.{vec_len}
 use Rattle.std.proofs.lemmas.Option.{slice_get_read}
 use Rattle.mm_proof.specs.Moves.{again}
 use Rattle.mm_proof.specs.Listing.{by_step}
-use Rattle.mm_proof.proofs.Listers.{lists_step, tag_stands}
+use Rattle.mm_proof.proofs.Machines.ListedLines.{lists_step, tag_stands}
 use Rattle.mm_proof.proofs.lines.ListerMachine.step_again.Given.{Over}
 use Rattle.mm_proof.proofs.lines.ListerMachine.step_again.Goals.{In_ok-step_again}
 use Rattle.mm_proof.proofs.lines.ListerMachine.step_again.Goals as goal

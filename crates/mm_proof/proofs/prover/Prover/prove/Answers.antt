@@ -6,9 +6,10 @@ use Rattle.mm_proof.specs.declared.fault.ProofFault.TheVariants.{Rule}
 use Rattle.mm_proof.specs.declared.prover.Proved.{Proved}
 use Rattle.mm_proof.specs.declared.prover.Proved.TheVariants.{Complete, Incomplete}
 use Rattle.mm_proof.specs.Plain.{ids_in, token_texts}
-use Rattle.mm_proof.proofs.Unknown.{proved_known, said_known}
-use Rattle.mm_proof.proofs.ListingEnd.{if_ok_at, if_rule_at}
-use Rattle.mm_proof.proofs.UnderAnswers.{accepted_under, refused_under, front_allowed, front_refused}
+use Rattle.mm_proof.proofs.ProofTokens.QuestionMarks.{proved_known, said_known}
+use Rattle.mm_proof.proofs.Machines.JudgedMoves.{if_ok_at, if_rule_at}
+use Rattle.mm_proof.proofs.ProofVerdicts.ProfileVerdicts.{accepted_under, refused_under}
+use Rattle.mm_proof.proofs.ProofVerdicts.ProfileVerdicts.{front_allowed, front_refused}
 use Rattle.mm_proof.proofs.prover.Prover.prove.Goals as goal
 
 -- ---- a proof that is proved

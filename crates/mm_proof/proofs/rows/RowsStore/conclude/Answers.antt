@@ -1,8 +1,8 @@
 use Rattle.std.proofs.Common.{◌++◌, ◌∷◌, [], take, drop, ap, sym, ◌∙◌}
 use Rattle.std.proofs.lemmas.List.{take-map}
 use Rattle.mm_proof.specs.Stores.{numbers_in, rows_in, all_said_by}
-use Rattle.mm_proof.proofs.Applying.{match_true}
-use Rattle.mm_proof.proofs.RowLemmas.{push-seen}
+use Rattle.mm_proof.proofs.ByNumbers.StepByAssertion.{match_true}
+use Rattle.mm_proof.proofs.StoreRanges.{push-seen}
 use Rattle.mm_proof.proofs.rows.RowsStore.conclude.Goals as goal
 
 pub returns-clause-said : goal.returns-clause-said

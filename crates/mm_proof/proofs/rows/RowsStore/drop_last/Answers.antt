@@ -1,6 +1,6 @@
 use Rattle.std.proofs.Common.{arith}
 use Rattle.mm_proof.specs.Stores.{numbers_in}
-use Rattle.mm_proof.proofs.RowLemmas.{take-seen}
+use Rattle.mm_proof.proofs.StoreRanges.{take-seen}
 use Rattle.mm_proof.proofs.rows.RowsStore.drop_last.Goals as goal
 
 pub returns-clause-stack : goal.returns-clause-stack

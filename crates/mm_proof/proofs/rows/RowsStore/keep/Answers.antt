@@ -1,6 +1,6 @@
 use Rattle.std.proofs.Common.{arith, ap, ◌∙◌}
 use Rattle.mm_proof.specs.Stores.{numbers_in}
-use Rattle.mm_proof.proofs.RowLemmas.{read-last, push-seen}
+use Rattle.mm_proof.proofs.StoreRanges.{read-last, push-seen}
 use Rattle.mm_proof.proofs.rows.RowsStore.keep.Goals as goal
 
 pub returns-clause-kept : goal.returns-clause-kept

@@ -1,6 +1,6 @@
 use Rattle.std.proofs.Common.{ap, ◌∙◌}
 use Rattle.mm_proof.specs.Stores.{numbers_in}
-use Rattle.mm_proof.proofs.RowLemmas.{read-at, push-seen}
+use Rattle.mm_proof.proofs.StoreRanges.{read-at, push-seen}
 use Rattle.mm_proof.proofs.rows.RowsStore.push_copy.Goals as goal
 
 pub returns-clause-pushed : goal.returns-clause-pushed

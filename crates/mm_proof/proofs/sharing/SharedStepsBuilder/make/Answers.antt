@@ -1,7 +1,7 @@
 use Rattle.std.proofs.Common.{length}
 use Rattle.mm_proof.specs.Tree.{beside}
-use Rattle.mm_proof.proofs.SubtreeSteps.{last_made}
-use Rattle.mm_proof.proofs.SharingSteps.{steps_later, steps_make, fewer_steps}
+use Rattle.mm_proof.proofs.PackedProofs.SubtreeNumbers.{last_made}
+use Rattle.mm_proof.proofs.PackedProofs.PackingLoops.{steps_later, steps_make, fewer_steps}
 use Rattle.mm_proof.proofs.sharing.SharedStepsBuilder.make.Goals as goal
 
 pub returns-clause-made : goal.returns-clause-made

@@ -1,7 +1,7 @@
 use Rattle.mm_proof.specs.Tree.{tree, none}
 use Rattle.mm_proof.proofs.Members.{get_in}
-use Rattle.mm_proof.proofs.SubtreeSteps.{kept_is, subtrees_repeat}
-use Rattle.mm_proof.proofs.SharingSteps.{steps_repeat, fewer_more}
+use Rattle.mm_proof.proofs.PackedProofs.SubtreeNumbers.{kept_is, subtrees_repeat}
+use Rattle.mm_proof.proofs.PackedProofs.PackingLoops.{steps_repeat, fewer_more}
 use Rattle.mm_proof.proofs.sharing.SharedStepsBuilder.repeat.Goals as goal
 
 pub returns-clause-made : goal.returns-clause-made

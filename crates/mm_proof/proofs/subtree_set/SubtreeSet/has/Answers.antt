@@ -1,5 +1,5 @@
 use Rattle.std.proofs.Common.{sym, ◌∙◌}
-use Rattle.mm_proof.proofs.SubtreeLists.{any_contains, fields_told}
+use Rattle.mm_proof.proofs.PackedProofs.SubtreeNumbers.{any_contains, fields_told}
 use Rattle.mm_proof.proofs.subtree_set.SubtreeSet.has.Goals as goal
 
 pub returns : goal.returns

@@ -1,6 +1,6 @@
 use Rattle.std.proofs.Common.{rules, subst}
 use Rattle.mm_proof.specs.Mirror.Subtrees.{KeepNumbers}
-use Rattle.mm_proof.proofs.RowTable.{once_of_distinct, kept_inserted}
+use Rattle.mm_proof.proofs.PackedProofs.SubtreeNumbers.{once_of_distinct, kept_inserted}
 use Rattle.mm_proof.proofs.subtrees.Subtrees.number.Goals as goal
 
 pub invariant_of-self-2 : goal.invariant_of-self-2

@@ -1,6 +1,6 @@
 use Rattle.std.proofs.Common.{◌-◌, arith}
 use Rattle.mm_proof.specs.Mirror.Subtrees.{KeepNumbers}
-use Rattle.mm_proof.proofs.SubtreeSteps.{stands_more}
+use Rattle.mm_proof.proofs.PackedProofs.SubtreeNumbers.{stands_more}
 use Rattle.mm_proof.proofs.subtrees.Subtrees.number_row.Goals as goal
 
 pub loop-place-preserved : goal.loop-place-preserved

@@ -1,4 +1,4 @@
-use Rattle.mm_proof.proofs.SubtreeSteps.{subtrees_make}
+use Rattle.mm_proof.proofs.PackedProofs.SubtreeNumbers.{subtrees_make}
 use Rattle.mm_proof.proofs.subtrees.SubtreesBuilder.make.Goals as goal
 
 pub returns-clause-made : goal.returns-clause-made

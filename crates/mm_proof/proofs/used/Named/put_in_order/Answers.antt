@@ -5,7 +5,7 @@ use Rattle.std.proofs.lemmas.List.Kept.{Contains-dedup, Contains-from_dedup, IsS
 use Rattle.std.proofs.lemmas.List.Sorted.{Contains-permutation, IsPermutation-sym}
 use Rattle.std.proofs.Common.{arith}
 use Rattle.mm_frame.specs.declared.number.LabelId.{LabelId}
-use Rattle.mm_proof.proofs.Naming.{numbers_rise, same_numbers}
+use Rattle.mm_proof.proofs.ByNumbers.UsedAssertions.{numbers_rise, same_numbers}
 use Rattle.mm_proof.proofs.used.Named.put_in_order.Goals as goal
 
 pub returns-clause-rising : goal.returns-clause-rising

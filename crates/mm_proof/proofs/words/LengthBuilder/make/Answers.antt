@@ -1,7 +1,7 @@
 use Rattle.std.proofs.Common.{[], ◌∷◌, length, ap, ◌∙◌, arith}
 use Rattle.std.proofs.lemmas.List.{length-append}
 use Rattle.mm_proof.specs.Tree.{spelling, beside}
-use Rattle.mm_proof.proofs.WordSteps.{spelling_over, parts_make}
+use Rattle.mm_proof.proofs.Machines.TreeWords.{spelling_over, parts_make}
 use Rattle.mm_proof.proofs.words.LengthBuilder.make.Goals as goal
 
 pub returns-clause-made : goal.returns-clause-made

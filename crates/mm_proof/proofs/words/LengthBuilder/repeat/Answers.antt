@@ -1,9 +1,9 @@
 use Rattle.std.proofs.Common.{length, ap, ◌∙◌, arith}
 use Rattle.std.proofs.lemmas.List.{length-append}
 use Rattle.mm_proof.specs.Tree.{tree, none, spelling}
-use Rattle.mm_proof.proofs.Making.{spelling-beside}
-use Rattle.mm_proof.proofs.Answering.{handed}
-use Rattle.mm_proof.proofs.WordSteps.{kept_part, part_order, part_count, parts_repeat}
+use Rattle.mm_proof.proofs.ProofSteps.Derivations.{spelling-beside}
+use Rattle.mm_proof.proofs.ProofVerdicts.FirstFault.{handed}
+use Rattle.mm_proof.proofs.Machines.TreeWords.{kept_part, part_order, part_count, parts_repeat}
 use Rattle.mm_proof.proofs.words.LengthBuilder.repeat.Goals as goal
 
 pub overflow_sub-item : goal.overflow_sub-item

@@ -5,7 +5,7 @@ use Rattle.mm_text.proofs.Lists.{zip_push}
 use Rattle.mm_frame.specs.declared.number.LabelId.{LabelId}
 use Rattle.mm_proof.specs.Tree.{spelling, beside}
 use Rattle.mm_proof.specs.Spelled.{IsNumberOfLabel}
-use Rattle.mm_proof.proofs.WordSteps.{spelling_over, parts_make}
+use Rattle.mm_proof.proofs.Machines.TreeWords.{spelling_over, parts_make}
 use Rattle.mm_proof.proofs.words.VecLabelIdBuilder.make.Goals as goal
 
 pub returns-clause-made : goal.returns-clause-made

@@ -6,8 +6,8 @@ use Rattle.mm_text.proofs.Lists.{zip_append}
 use Rattle.mm_frame.specs.declared.number.LabelId.{LabelId}
 use Rattle.mm_proof.specs.Tree.{tree, none, spelling}
 use Rattle.mm_proof.specs.Spelled.{IsNumberOfLabel}
-use Rattle.mm_proof.proofs.Making.{spelling-beside}
-use Rattle.mm_proof.proofs.WordSteps.{kept_part, part_order, zip_part, parts_repeat}
+use Rattle.mm_proof.proofs.ProofSteps.Derivations.{spelling-beside}
+use Rattle.mm_proof.proofs.Machines.TreeWords.{kept_part, part_order, zip_part, parts_repeat}
 use Rattle.mm_proof.proofs.words.VecLabelIdBuilder.repeat.Goals as goal
 
 pub extend_from_within-requires-clause-start_le_end : goal.extend_from_within-requires-clause-start_le_end

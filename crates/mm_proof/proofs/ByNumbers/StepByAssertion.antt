@@ -1,0 +1,443 @@
+-- The step by an assertion, by numbers and by names: what it breaks, what it makes, over how many
+-- trees.
+use Rattle.std.proofs.Common.{◌≡◌, ℕ, suc, ◌<◌, ◌≤◌, List, [], ◌∷◌, ◌++◌, length, map, take, drop}
+use Rattle.std.proofs.Common.{slice_get, Contains, Bool, true, false, MatchBool, Option, Some, None}
+use Rattle.std.proofs.Common.{option_map, unwrap_or, ◌⊎◌, inl, inr, ⊎_elim, refl, sym, ap, subst}
+use Rattle.std.proofs.Common.{◌∙◌, arith}
+use Rattle.std.specs.List.{AllByRecursion}
+use Rattle.std.proofs.lemmas.Bool.{MatchBool-at_true, MatchBool-at_false}
+use Rattle.std.proofs.lemmas.Option.{same_Some, slice_get_within, get_or_from_slice_get}
+use Rattle.std.proofs.lemmas.Option.{slice_get-get_or}
+use Rattle.std.proofs.lemmas.List.{map-append, length-map, take-append-drop, take-take}
+use Rattle.mm_frame.specs.declared.rule.MeaningRule.TheVariants.{M7}
+use Rattle.mm_frame.specs.Sentence.{Sentence, IsAssertion, IsHypothesis, IsUse, IsLabelled}
+use Rattle.mm_frame.specs.Active.{IsConstant, IsVariable}
+use Rattle.mm_frame.specs.Frame.{AreMandatory, IsMandatoryPair}
+use Rattle.mm_frame.specs.Rules.{AllMeant}
+use Rattle.mm_frame.specs.Numbers.{symbols_of, IsNumbered, IsNumberOf, AreNumbers}
+use Rattle.mm_frame.specs.FramePlace.{ArePairs}
+use Rattle.mm_frame.specs.Pieces.{variables_of}
+use Rattle.mm_frame.specs.declared.piece.Piece.{Piece}
+use Rattle.mm_frame.specs.declared.scheme.Scheme.{Scheme}
+use Rattle.mm_frame.specs.Taken.{kind_behind}
+use Rattle.mm_frame.specs.declared.number.LabelKind.{LabelKind}
+use Rattle.mm_frame.specs.Laws.{OneNumber}
+use Rattle.mm_frame.proofs.Meant.{meant_at, allmeant_front}
+use Rattle.mm_frame.proofs.Labelled.{numbered_get}
+use Rattle.mm_proof.specs.declared.fault.ProofRule.TheVariants.{P8, P9, P10, P11, P12, L1}
+use Rattle.mm_proof.specs.Substitution.{instance_of}
+use Rattle.mm_proof.specs.Tree.{Names, ShareNoVariable, AreDistinct, Trees, roots, MayStandOver}
+use Rattle.mm_proof.specs.Moves.{name}
+use Rattle.mm_proof.specs.Proof.{MeetsHypotheses, SomePair, Passed, IsWithin}
+use Rattle.mm_proof.specs.Steps.{IsNumberedMove}
+use Rattle.mm_proof.specs.Stores.{all_said_by}
+use Rattle.mm_proof.specs.Mirror.CodeVerify.{name_at, names_at, all_names_at, value_of, replaced_in}
+use Rattle.mm_proof.specs.Mirror.CodeVerify.{pairs_in, IsSymbol, AreDeclaredSymbols}
+use Rattle.mm_proof.specs.Mirror.CodeVerify.{AreStackEntries, AreBelow, IsRightCode, IsWrongCode}
+use Rattle.mm_proof.specs.Mirror.CodeVerify.{IsEqual, IsUnequal, EachEntry, EachPairValues}
+use Rattle.mm_proof.specs.Mirror.CodeVerify.{SomePairValues, Replaces, AreVariablesOf, IsVariableOf}
+use Rattle.mm_proof.specs.Plain.{label_ids}
+use Rattle.mm_proof.specs.Mirror.CodeSteps.{MayBeUsed}
+use Rattle.mm_proof.specs.Mirror.CodeRun.{CarriesOn, StopsAt}
+use Rattle.mm_proof.specs.Mirror.CodeApply.{IsAppliedAssertion, IsMatched, IsReady, IsEarlierScheme}
+use Rattle.mm_text.proofs.Lists.{get_take, get_from_take, all_weaker, all_append, all_front}
+use Rattle.mm_text.proofs.Lists.{all_back, all_push, zip_length}
+use Rattle.mm_proof.proofs.ProofSteps.OneStep.{StepTo, not_both_kinds, hypothesis_or_assertion}
+use Rattle.mm_proof.proofs.ProofSteps.OneStep.{one_names}
+use Rattle.mm_proof.proofs.ProofSteps.Replacements.{replaced_by, meets_of}
+use Rattle.mm_proof.proofs.ByNumbers.NumberedSymbols.{replaces_by, replaced_named, name_is}
+use Rattle.mm_proof.proofs.ByNumbers.NumberedSymbols.{named_is, below_is, typed_variables}
+use Rattle.mm_proof.proofs.ByNumbers.NumberedSymbols.{pattern_says, as_many}
+use Rattle.mm_proof.proofs.ByNumbers.SharedVariables.{value_symbols, symbols_below, share_turned}
+use Rattle.mm_proof.proofs.ByNumbers.SharedVariables.{distinct_share_none, apart_turned}
+use Rattle.mm_proof.proofs.ProofVerdicts.FirstFault.{below_P8, step_of_hypothesis, EachPair, below}
+use Rattle.mm_proof.proofs.ProofVerdicts.FirstFault.{first_L1}
+use Rattle.mm_proof.proofs.ProofSteps.PassedMoves.{passed_name}
+use Rattle.mm_proof.proofs.Machines.JudgedMoves.{named_push}
+use Rattle.mm_proof.specs.Spelled.{IsNumberOfLabel}
+use Rattle.mm_frame.specs.declared.number.LabelKind.TheVariants as kinds
+
+-- ==== the step by an assertion, by numbers and by names: what it breaks, and what it makes
+
+-- ---- names
+
+-- the label of a move is that of the statement with its number
+label_of : (st : List Sentence) (id at : ℕ) (s : Sentence) (label : List ℕ) → IsNumbered st id at s → IsNumberedMove st (name id) (name label) → IsLabelled label s
+label_of st id at s label n move =
+    let e : name label ≡ name move.1 = move.4 in
+    cc (numbered_get st id at s n, move.2, move.3)
+
+pub names_of : (st : List Sentence) (place id at : ℕ) (ids : List ℕ) (hs : List Sentence) (label : List ℕ) → (c : IsAppliedAssertion st place id at ids hs)
+    → IsNumberedMove st (name id) (name label) → Names (take place st) label at c.s hs
+names_of st place id at ids hs label c move =
+    record {
+      there = get_take st place at c.before ∙ c.numbered.there;
+      named = label_of st id at c.s label c.numbered move;
+      kind = c.kind;
+      mandatory = subst (λ (l : List Sentence). AreMandatory l c.s hs) (sym (take-take at place st (omega (arith, c.before)))) c.mandatory;
+    }
+
+-- what the step meets
+abbrev met : (st : List Sentence) (place id at : ℕ) (ids : List ℕ) (hs : List Sentence) (label : List ℕ) (stack : List (List ℕ)) (base : ℕ) → AllMeant st
+    → IsAppliedAssertion st place id at ids hs → IsNumberedMove st (name id) (name label) → length (drop base stack) ≡ length hs → MeetsHypotheses (take place st) (all_names_at st stack) label
+met st place id at ids hs label stack base all c move paired =
+    meets_of (take place st) (all_names_at st stack) label at c.s hs (all_names_at st (take base stack)) (all_names_at st (drop base stack)) (allmeant_front st place all)
+    (names_of st place id at ids hs label c move)
+    (ap (all_names_at st) (sym (take-append-drop base stack))
+    ∙ map-append (names_at st) (take base stack) (drop base stack))
+    (length-map (drop base stack) (λ (e : List ℕ). map (name_at st) e) ∙ paired)
+
+-- ---- pairs
+
+-- what replaces the names of a pair's numbers
+value_at : (st : List Sentence) (σ : List ℕ → Option (List (List ℕ))) (vs : List (Option ℕ)) (es : List (List ℕ)) (x : List ℕ) (n : ℕ) (e : List ℕ) → Replaces st σ vs es
+    → IsNumberOf st x n → value_of vs es n ≡ Some e → σ x ≡ Some (names_at st e)
+value_at st σ vs es x n e r number value =
+    ap σ (sym (name_is st n x number)) ∙ r n (slice_get_within (symbols_of st) n x number) ∙ ap (option_map (names_at st)) value
+
+-- ---- the rules
+
+pub stops_P8 : (limit : ℕ) (st : List Sentence) (place id at : ℕ) (ids : List ℕ) (hs : List Sentence) (stack : List (List ℕ)) → IsAppliedAssertion st place id at ids hs → length stack < length hs
+    → StopsAt limit st place id stack P8
+stops_P8 limit st place id at ids hs stack c short label kept move =
+    let names = names_of st place id at ids hs label c move in
+    let many = length-map stack (λ (e : List ℕ). map (name_at st) e) in
+    record {
+      broken = (at, c.s, hs, names, omega (arith, short, many));
+      first = below_P8 (IsWithin limit) (take place st) (all_names_at st stack) label;
+    }
+
+pub stops_P9 : (limit : ℕ) (st : List Sentence) (place id at : ℕ) (ids : List ℕ) (hs : List Sentence) (stack : List (List ℕ)) (base : ℕ) → AllMeant st → IsAppliedAssertion st place id at ids hs
+    → length (drop base stack) ≡ length hs → SomePair hs (all_names_at st (drop base stack)) IsWrongCode → StopsAt limit st place id stack P9
+stops_P9 limit st place id at ids hs stack base all c paired pair label kept move =
+    let m = met st place id at ids hs label stack base all c move paired in
+    let front = allmeant_front st place all in
+    record {
+      broken = (m, pair);
+      first = below (IsWithin limit) _ _ _ m front P9 (omega arith)
+          (λ l. absurd (omega arith)) (λ l. absurd (omega arith)) (λ l. absurd (omega arith));
+    }
+
+pub stops_P10 : (limit : ℕ) (st : List Sentence) (place id at : ℕ) (ids : List ℕ) (hs : List Sentence) (stack : List (List ℕ)) (base : ℕ) → AllMeant st → IsAppliedAssertion st place id at ids hs
+    → length (drop base stack) ≡ length hs → EachEntry hs (all_names_at st (drop base stack)) IsRightCode
+    → SomePair hs (all_names_at st (drop base stack)) (IsUnequal (replaced_by hs (all_names_at st (drop base stack)))) → StopsAt limit st place id stack P10
+stops_P10 limit st place id at ids hs stack base all c paired codes pair label kept move =
+    let m = met st place id at ids hs label stack base all c move paired in
+    let front = allmeant_front st place all in
+    record {
+      broken = (m, pair);
+      first = below (IsWithin limit) _ _ _ m front P10 (omega arith)
+          (λ l. codes) (λ l. absurd (omega arith)) (λ l. absurd (omega arith));
+    }
+
+-- the pair of names behind a pair of numbers, with what replaces it
+pair_found : (st : List Sentence) (place id at : ℕ) (ids : List ℕ) (hs : List Sentence) (pairs : List (ℕ × ℕ)) → (c : IsAppliedAssertion st place id at ids hs)
+    → ArePairs (record { statements = st; place = at }) pairs → (k : ℕ) (p : ℕ × ℕ) → slice_get pairs k ≡ Some p
+    → (x : List ℕ) × (y : List ℕ) × IsNumberOf st x p.0 × IsNumberOf st y p.1 × IsMandatoryPair (take at (take place st)) c.s x y
+pair_found st place id at ids hs pairs c mand k p there =
+    let m = mand.only p (k, slice_get_within pairs k p there, get_or_from_slice_get pairs k p p there) in
+    let same : mand.assertion ≡ c.s = same_Some mand.assertion c.s (sym mand.there ∙ c.numbered.there) in
+    let front : IsMandatoryPair (take at (take place st)) mand.assertion m.0 m.1 =
+    subst (λ (l : List Sentence). IsMandatoryPair l mand.assertion m.0 m.1) (sym (take-take at place st (omega (arith, c.before)))) m.4 in
+    (m.0, m.1, m.2, m.3, subst (λ (s : Sentence). IsMandatoryPair (take at (take place st)) s m.0 m.1) same front)
+
+-- what replaces a name is what replaces its number
+value_back : (st : List Sentence) (σ : List ℕ → Option (List (List ℕ))) (vs : List (Option ℕ)) (es : List (List ℕ)) (x : List ℕ) (n : ℕ) (e : List (List ℕ)) → Replaces st σ vs es
+    → IsNumberOf st x n → σ x ≡ Some e → (l : List ℕ) × (value_of vs es n ≡ Some l) × (names_at st l ≡ e)
+value_back st σ vs es x n e r number is = go (value_of vs es n) refl
+  where
+    mapped : option_map (names_at st) (value_of vs es n) ≡ Some e
+    mapped = sym (r n (slice_get_within (symbols_of st) n x number)) ∙ ap σ (name_is st n x number) ∙ is
+
+    go : (o : Option (List ℕ)) → value_of vs es n ≡ o → (l : List ℕ) × (value_of vs es n ≡ Some l) × (names_at st l ≡ e)
+    go None p = absurd (let q : None ≡ Some e = sym (ap (option_map (names_at st)) p) ∙ mapped in cc)
+    go (Some l) p = (l, p, same_Some (names_at st l) e (sym (ap (option_map (names_at st)) p) ∙ mapped))
+
+each_pair : OneNumber → (st : List Sentence) (place id at : ℕ) (ids : List ℕ) (hs : List Sentence) (label : List ℕ) (stack : List (List ℕ)) (base : ℕ) (vs : List (Option ℕ)) (pairs : List (ℕ × ℕ))
+    (P : List (List ℕ) → List (List ℕ) → Type 0) → ((e f : List (List ℕ)) → P e f → P f e) → (all : AllMeant st) → (c : IsAppliedAssertion st place id at ids hs) → (move : IsNumberedMove st (name id) (name label))
+    → (paired : length (drop base stack) ≡ length hs) → AreVariablesOf st vs hs → ArePairs (record { statements = st; place = at }) pairs
+    → EachPairValues (value_of vs (drop base stack)) pairs (λ e f. P (names_at st e) (names_at st f))
+    → EachPair (take place st) (all_names_at st stack) label (met st place id at ids hs label stack base all c move paired) P
+each_pair one st place id at ids hs label stack base vs pairs P turned all c move paired typed mand each x y e f pair at_x at_y =
+    let r = replaces_by one st vs hs (drop base stack) typed in
+    let same : c.s ≡ mand.assertion = same_Some c.s mand.assertion (sym c.numbered.there ∙ mand.there) in
+    let front : IsMandatoryPair (take at st) c.s x y =
+    subst (λ (l : List Sentence). IsMandatoryPair l c.s x y) (take-take at place st (omega (arith, c.before))) pair in
+    let m = mand.each x y (subst (λ (s : Sentence). IsMandatoryPair (take at st) s x y) same front) in
+    let a = value_back st (replaced_by hs (all_names_at st (drop base stack))) vs (drop base stack) x m.0.0 e r m.1 at_x in
+    let b = value_back st (replaced_by hs (all_names_at st (drop base stack))) vs (drop base stack) y m.0.1 f r m.2 at_y in
+    let so : P (names_at st a.0) (names_at st b.0) = ⊎_elim
+    (λ h. each h.0 m.0 (slice_get-get_or pairs h.0 m.0 h.1 ∙ ap Some h.2) a.0 b.0 a.1 b.1)
+    (λ h. turned (names_at st b.0) (names_at st a.0) (each h.0 (m.0.1, m.0.0) (slice_get-get_or pairs h.0 (m.0.1, m.0.0) h.1 ∙ ap Some h.2) b.0 a.0 b.1 a.1)) m.3 in
+    subst (λ l. P l f) a.2 (subst (λ l. P (names_at st a.0) l) b.2 so)
+
+pub stops_P11 : (limit : ℕ) → OneNumber → (st : List Sentence) (place id at : ℕ) (ids : List ℕ) (hs : List Sentence) (stack : List (List ℕ)) (base : ℕ) (vs : List (Option ℕ)) (pairs : List (ℕ × ℕ)) → AllMeant st
+    → IsAppliedAssertion st place id at ids hs → length (drop base stack) ≡ length hs → AreVariablesOf st vs hs → ArePairs (record { statements = st; place = at }) pairs
+    → EachEntry hs (all_names_at st (drop base stack)) IsRightCode → EachEntry hs (all_names_at st (drop base stack)) (IsEqual (replaced_by hs (all_names_at st (drop base stack))))
+    → SomePairValues (value_of vs (drop base stack)) pairs (λ e f. ¬ (ShareNoVariable (take place st) (names_at st e) (names_at st f))) → StopsAt limit st place id stack P11
+stops_P11 limit one st place id at ids hs stack base vs pairs all c paired typed mand codes equal found label kept move =
+    let m = met st place id at ids hs label stack base all c move paired in
+    let r = replaces_by one st vs hs (drop base stack) typed in
+    let σ = replaced_by hs (all_names_at st (drop base stack)) in
+    let p = pair_found st place id at ids hs pairs c mand found.0 found.1 found.2 in
+    let at_x = value_at st σ vs (drop base stack) p.0 found.1.0 found.3.0 r p.2 found.3.2 in
+    let at_y = value_at st σ vs (drop base stack) p.1 found.1.1 found.3.1 r p.3 found.3.3 in
+    record {
+      broken = (m, p.0, p.1, _, _, p.4, at_x, at_y, found.3.4);
+      first = below (IsWithin limit) _ _ _ m (allmeant_front st place all) P11 (omega arith)
+          (λ l. codes) (λ l. equal) (λ l. absurd (omega arith));
+    }
+
+pub stops_P12 : (limit : ℕ) → OneNumber → (st : List Sentence) (place id at : ℕ) (ids : List ℕ) (hs : List Sentence) (stack : List (List ℕ)) (base : ℕ) (vs : List (Option ℕ)) (pairs : List (ℕ × ℕ)) → AllMeant st
+    → IsAppliedAssertion st place id at ids hs → length (drop base stack) ≡ length hs → AreVariablesOf st vs hs → ArePairs (record { statements = st; place = at }) pairs
+    → EachEntry hs (all_names_at st (drop base stack)) IsRightCode → EachEntry hs (all_names_at st (drop base stack)) (IsEqual (replaced_by hs (all_names_at st (drop base stack))))
+    → EachPairValues (value_of vs (drop base stack)) pairs (λ e f. ShareNoVariable (take place st) (names_at st e) (names_at st f))
+    → SomePairValues (value_of vs (drop base stack)) pairs (λ e f. ¬ (AreDistinct (take place st) (names_at st e) (names_at st f))) → StopsAt limit st place id stack P12
+stops_P12 limit one st place id at ids hs stack base vs pairs all c paired typed mand codes equal share found label kept move =
+    let m = met st place id at ids hs label stack base all c move paired in
+    let apart = each_pair one st place id at ids hs label stack base vs pairs _
+    (share_turned (take place st)) all c move paired typed mand share in
+    let r = replaces_by one st vs hs (drop base stack) typed in
+    let σ = replaced_by hs (all_names_at st (drop base stack)) in
+    let p = pair_found st place id at ids hs pairs c mand found.0 found.1 found.2 in
+    let at_x = value_at st σ vs (drop base stack) p.0 found.1.0 found.3.0 r p.2 found.3.2 in
+    let at_y = value_at st σ vs (drop base stack) p.1 found.1.1 found.3.1 r p.3 found.3.3 in
+    record {
+      broken = (m, p.0, p.1, _, _, p.4, at_x, at_y, found.3.4);
+      first = below (IsWithin limit) _ _ _ m (allmeant_front st place all) P12 (omega arith)
+          (λ l. codes) (λ l. equal) (λ l. apart);
+    }
+
+-- ---- what the step makes
+
+-- what is made, by names
+made_named : OneNumber → (st : List Sentence) (hs : List Sentence) (vs : List (Option ℕ)) (es : List (List ℕ)) (pattern : List ℕ) (symbols : List (List ℕ)) → AreVariablesOf st vs hs
+    → AreNumbers st pattern symbols → names_at st (replaced_in (value_of vs es) pattern) ≡ instance_of (replaced_by hs (all_names_at st es)) symbols
+made_named one st hs vs es pattern symbols typed numbers =
+    replaced_named st (replaced_by hs (all_names_at st es)) vs es pattern (replaces_by one st vs hs es typed) (below_is st pattern symbols numbers)
+    ∙ ap (instance_of (replaced_by hs (all_names_at st es))) (named_is st pattern symbols numbers)
+
+step_to : OneNumber → (st : List Sentence) (place id at : ℕ) (label : List ℕ) (stack : List (List ℕ)) (base : ℕ) (vs : List (Option ℕ)) (conclusion : List Piece) → AllMeant st
+    → (ready : IsReady st place id at vs (drop base stack) conclusion) → length (drop base stack) ≡ length vs → IsNumberedMove st (name id) (name label)
+    → StepTo (take place st) (all_names_at st stack) label (all_names_at st (take base stack)) (instance_of (replaced_by ready.hs (all_names_at st (drop base stack))) ready.called.s.symbols)
+step_to one st place id at label stack base vs conclusion all ready as_many move =
+    let paired = as_many ∙ zip_length (IsVariableOf st) vs ready.hs ready.typed in
+    let r = replaces_by one st vs ready.hs (drop base stack) ready.typed in
+    let apart = each_pair one st place id at ready.ids ready.hs label stack base vs ready.pairs (AreDistinct (take place st)) (apart_turned (take place st)) all ready.called move paired ready.typed ready.mandatory ready.matched.apart in
+    inr (record {
+      meets = met st place id at ready.ids ready.hs label stack base all ready.called move paired;
+      kept = refl;
+      typed = ready.matched.codes;
+      equal = ready.matched.equal (replaced_by ready.hs (all_names_at st (drop base stack))) r;
+      apart = λ x y e f pair at_x at_y.
+          let near = apart x y e f pair at_x at_y in
+          (distinct_share_none (take place st) e f near, near);
+      made = refl;
+    })
+
+-- what the pattern of the assertion says is what is made
+made_is : (st : List Sentence) (place id at : ℕ) (vs : List (Option ℕ)) (es : List (List ℕ)) (conclusion : List Piece) → length es ≡ length vs → (ready : IsReady st place id at vs es conclusion)
+    → all_said_by es conclusion ≡ replaced_in (value_of vs es) ready.concluded.0
+made_is st place id at vs es conclusion size ready = pattern_says vs es ready.concluded.0 conclusion (sym size) ready.concluded.2
+
+pub stops_L1 : (limit : ℕ) → OneNumber → (st : List Sentence) (place id at : ℕ) (stack : List (List ℕ)) (base : ℕ) (vs : List (Option ℕ)) (conclusion : List Piece) → AllMeant st
+    → IsReady st place id at vs (drop base stack) conclusion → length (drop base stack) ≡ length vs
+    → limit < length (all_said_by (drop base stack) conclusion) → StopsAt limit st place id stack L1
+stops_L1 limit one st place id at stack base vs conclusion all ready as_many over label kept move =
+    let pattern = ready.concluded.0 in
+    let made = made_named one st ready.hs vs (drop base stack) pattern ready.called.s.symbols ready.typed ready.concluded.1 in
+    let size : length (names_at st (replaced_in (value_of vs (drop base stack)) pattern)) ≡ length (replaced_in (value_of vs (drop base stack)) pattern) = length-map _ (name_at st) in
+    let said = ap length (made_is st place id at vs (drop base stack) conclusion as_many ready) in
+    first_L1 (IsWithin limit) (take place st) (all_names_at st stack) kept label (all_names_at st (take base stack)) _ (allmeant_front st place all)
+    (λ within. let w = subst (IsWithin limit) (sym made) within in omega (arith, w, size, over, said)) (step_to one st place id at label stack base vs conclusion all ready as_many move)
+
+pub carries : (limit : ℕ) → OneNumber → (st : List Sentence) (place id at : ℕ) (stack : List (List ℕ)) (base : ℕ) (vs : List (Option ℕ)) (conclusion : List Piece) (made : List ℕ) → AllMeant st
+    → IsReady st place id at vs (drop base stack) conclusion → length (drop base stack) ≡ length vs
+    → made ≡ all_said_by (drop base stack) conclusion → length made ≤ limit → CarriesOn limit st place id stack (take base stack ++ made ∷ [])
+carries limit one st place id at stack base vs conclusion made all ready as_many is within label moves kept move passed =
+    let e = instance_of (replaced_by ready.hs (all_names_at st (drop base stack))) ready.called.s.symbols in
+    let whole : names_at st made ≡ e = ap (names_at st) (is ∙ made_is st place id at vs (drop base stack) conclusion as_many ready)
+    ∙ made_named one st ready.hs vs (drop base stack) ready.concluded.0 ready.called.s.symbols ready.typed ready.concluded.1 in
+    let size : length (names_at st made) ≡ length made = length-map made (name_at st) in
+    let fits : IsWithin limit (names_at st made) = omega (arith, within, size) in
+    let next = passed_name (IsWithin limit) (take place st) moves (all_names_at st stack) kept label (all_names_at st (take base stack)) e (allmeant_front st place all) passed
+    (step_to one st place id at label stack base vs conclusion all ready as_many move) (subst (IsWithin limit) whole fits) in
+    subst (λ l. Passed (IsWithin limit) (take place st) (moves ++ name label ∷ []) l kept) (sym (named_push st (take base stack) made ∙ ap (λ x. all_names_at st (take base stack) ++ x ∷ []) whole)) next
+
+-- ---- the symbols of what is made
+
+known_from : (st : List Sentence) (place : ℕ) (ns : List ℕ) (xs : List (List ℕ)) → AreNumbers st ns xs
+    → ((x : List ℕ) → Contains xs x → ¬ (¬ (IsConstant (take place st) x ⊎ IsVariable (take place st) x))) → AreDeclaredSymbols st (take place st) ns
+known_from st place [] xs are known = tt
+known_from st place (n ∷ ns) [] are known = absurd cc
+known_from st place (n ∷ ns) (x ∷ xs) are known =
+    let here : slice_get (symbols_of st) n ≡ Some x = cc in
+    let rest : AreNumbers st ns xs = cc in (
+      record {
+        below = slice_get_within (symbols_of st) n x here;
+        declared = subst (λ (y : List ℕ). ¬ (¬ (IsConstant (take place st) y ⊎ IsVariable (take place st) y))) (sym (name_is st n x here)) (known x (0, omega arith, refl));
+      },
+      known_from st place ns xs rest (λ y c. known y (suc c.0, omega (arith, c.1), c.2)),
+    )
+
+-- the symbols of a statement before the place were declared before it
+pub known_symbols : (st : List Sentence) (place at : ℕ) (s : Sentence) (pattern : List ℕ) → AllMeant st → slice_get st at ≡ Some s → at < place → IsUse s.kind → AreNumbers st pattern s.symbols
+    → AreDeclaredSymbols st (take place st) pattern
+known_symbols st place at s pattern all there less in_use numbers =
+    known_from st place pattern s.symbols numbers (λ x has none. meant_at st at s all there M7 (
+      in_use,
+      (
+        x,
+        has,
+        (λ a.
+            let front = sym (take-take at place st (omega (arith, less))) in
+            let held = subst (λ (l : List Sentence). slice_get l a.0 ≡ Some a.1) front a.2 in
+            let found = (get_from_take (take place st) at a.0 a.1 held).1 in
+            none (⊎_elim (λ c. inl (a.0, a.1, found, c)) (λ v. inr (a.0, a.1, found, v)) a.4)),
+      ),
+    ))
+
+piece_symbols : (st before : List Sentence) (n : ℕ) (o : Option (List ℕ)) → IsSymbol st before n → ((v : List ℕ) → o ≡ Some v → AreDeclaredSymbols st before v) → AreDeclaredSymbols st before (unwrap_or o (n ∷ []))
+piece_symbols st before n None is some = (is, tt)
+piece_symbols st before n (Some v) is some = some v refl
+
+replaced_symbols : (st before : List Sentence) (vs : List (Option ℕ)) (es : List (List ℕ)) (ns : List ℕ) → AreStackEntries st before es → AreDeclaredSymbols st before ns
+    → AreDeclaredSymbols st before (replaced_in (value_of vs es) ns)
+replaced_symbols st before vs es [] all are = tt
+replaced_symbols st before vs es (n ∷ ns) all are =
+    all_append (IsSymbol st before) _ _
+    (piece_symbols st before n (value_of vs es n) are.0 (λ v is. value_symbols st before vs es n v all is)) (replaced_symbols st before vs es ns all are.1)
+
+entries_drop : (st before : List Sentence) (n : ℕ) (entries : List (List ℕ)) → AreStackEntries st before entries → AreStackEntries st before (drop n entries)
+entries_drop st before n entries all =
+    all_back (AreDeclaredSymbols st before) (take n entries) (drop n entries)
+    (rw (take-append-drop n entries) all)
+
+-- the numbers on the stack past a place are those of symbols
+pub drop_below : (st before : List Sentence) (base : ℕ) (stack : List (List ℕ))
+    → AreStackEntries st before stack → AllByRecursion (AreBelow st) (drop base stack)
+drop_below st before base stack entries =
+    all_weaker (AreDeclaredSymbols st before) (AreBelow st) (symbols_below st before)
+    (drop base stack) (entries_drop st before base stack entries)
+
+pub made_entries : (st : List Sentence) (place id at : ℕ) (stack : List (List ℕ)) (base : ℕ) (vs : List (Option ℕ)) (conclusion : List Piece) (made : List ℕ) → AllMeant st
+    → IsReady st place id at vs (drop base stack) conclusion → length (drop base stack) ≡ length vs
+    → made ≡ all_said_by (drop base stack) conclusion → AreStackEntries st (take place st) stack → AreStackEntries st (take place st) (take base stack ++ made ∷ [])
+made_entries st place id at stack base vs conclusion made all ready as_many is entries =
+    let pattern = ready.concluded.0 in
+    let known = known_symbols st place at ready.called.s pattern all ready.called.numbered.there ready.called.before (inr (inr (inr ready.called.kind))) ready.concluded.1 in
+    all_push (AreDeclaredSymbols st (take place st)) (take base stack) made
+    (all_front _ (take base stack) (drop base stack) (rw (take-append-drop base stack) entries))
+    (subst (AreDeclaredSymbols st (take place st)) (sym (is ∙ made_is st place id at vs (drop base stack) conclusion as_many ready))
+    (replaced_symbols st (take place st) vs (drop base stack) pattern (entries_drop st (take place st) base stack entries) known))
+
+-- one side of a test
+pub match_true : (b : Bool) (P Q : Type 0) → b ≡ true → MatchBool b P Q → P
+match_true b P Q is h = MatchBool-at_true P Q is h
+
+pub match_false : (b : Bool) (P Q : Type 0) → b ≡ false → MatchBool b P Q → Q
+match_false b P Q is h = MatchBool-at_false P Q is h
+
+-- ---- what the frame tells
+
+-- the assertion of a scheme is the one with the number
+pub called_of : (st : List Sentence) (place id : ℕ) (scheme : Scheme) → (is : IsEarlierScheme st place id scheme) → IsAppliedAssertion st place id is.at (label_ids scheme.hypotheses.now) is.hypotheses.hypotheses
+called_of st place id scheme is = record {
+  s = is.s;
+  numbered = is.numbered;
+  kind = is.kind;
+  before = is.before;
+  mandatory = subst (λ (t : Sentence). AreMandatory (take is.at st) t is.hypotheses.hypotheses) (same_Some is.hypotheses.assertion is.s (sym is.hypotheses.there ∙ is.numbered.there)) is.hypotheses.mandatory;
+  known = is.hypotheses.numbered;
+}
+
+pub ready_of : (st : List Sentence) (place id : ℕ) (scheme : Scheme) (entries : List (List ℕ)) → (is : IsEarlierScheme st place id scheme)
+    → IsMatched st place is.hypotheses.hypotheses (variables_of scheme.hypotheses.now) entries (pairs_in scheme.pairs.now)
+    → IsReady st place id is.at (variables_of scheme.hypotheses.now) entries scheme.conclusion.now
+unfolding called_of
+ready_of st place id scheme entries is matched = record {
+  ids = label_ids scheme.hypotheses.now;
+  hs = is.hypotheses.hypotheses;
+  pairs = pairs_in scheme.pairs.now;
+  called = called_of st place id scheme is;
+  typed = typed_variables st scheme.hypotheses.now is.hypotheses.hypotheses is.typed is.hypotheses.numbered;
+  mandatory = is.pairs;
+  matched = matched;
+  concluded = is.concluded;
+}
+
+-- ---- the step by a hypothesis
+
+pub is_hypothesis_kind : (k : LabelKind) → (k ≡ kinds.Floating) ⊎ (k ≡ kinds.Essential) → IsHypothesis (kind_behind k)
+is_hypothesis_kind k (inl f) = inl (ap kind_behind f)
+is_hypothesis_kind k (inr e) = inr (ap kind_behind e)
+
+pub is_assertion_kind : (k : LabelKind) → ¬ (k ≡ kinds.Floating) → ¬ (k ≡ kinds.Essential) → IsAssertion (kind_behind k)
+is_assertion_kind kinds.Floating f e = absurd (f refl)
+is_assertion_kind kinds.Essential f e = absurd (e refl)
+is_assertion_kind kinds.Axiom f e = inl refl
+is_assertion_kind kinds.Proof f e = inr refl
+
+hypothesis_step : (st : List Sentence) (place id : ℕ) (used label : List ℕ) (stack : List (List ℕ)) → (u : MayBeUsed st place used id) → IsHypothesis u.s.kind
+    → IsNumberedMove st (name id) (name label) → StepTo (take place st) (all_names_at st stack) label (all_names_at st stack) u.s.symbols
+hypothesis_step st place id used label stack u kind move =
+    step_of_hypothesis (take place st) (all_names_at st stack) label u.at u.s (get_take st place u.at u.before ∙ u.numbered.there)
+    (⊎_elim (λ h. h.1) (λ a. absurd (not_both_kinds u.s.kind kind a)) u.kind)
+    (label_of st id u.at u.s label u.numbered move) kind
+
+pub stops_long : (limit : ℕ) (st : List Sentence) (place id : ℕ) (used : List ℕ) (stack : List (List ℕ)) (expression : List ℕ) → AllMeant st → (u : MayBeUsed st place used id) → IsHypothesis u.s.kind
+    → AreNumbers st expression u.s.symbols → limit < length expression → StopsAt limit st place id stack L1
+stops_long limit st place id used stack expression all u kind numbers over label kept move =
+    let is = named_is st expression u.s.symbols numbers in
+    let size : length (names_at st expression) ≡ length expression = length-map expression (name_at st) in
+    first_L1 (IsWithin limit) (take place st) (all_names_at st stack) kept label (all_names_at st stack) u.s.symbols (allmeant_front st place all)
+    (λ within. let w = subst (IsWithin limit) (sym is) within in omega (arith, w, size, over)) (hypothesis_step st place id used label stack u kind move)
+
+pub pushes : (limit : ℕ) (st : List Sentence) (place id : ℕ) (used : List ℕ) (stack : List (List ℕ)) (expression : List ℕ) → AllMeant st → (u : MayBeUsed st place used id) → IsHypothesis u.s.kind
+    → AreNumbers st expression u.s.symbols → length expression ≤ limit → CarriesOn limit st place id stack (stack ++ expression ∷ [])
+pushes limit st place id used stack expression all u kind numbers within label moves kept move passed =
+    let is = named_is st expression u.s.symbols numbers in
+    let size : length (names_at st expression) ≡ length expression = length-map expression (name_at st) in
+    let fits : IsWithin limit (names_at st expression) = omega (arith, within, size) in
+    let next = passed_name (IsWithin limit) (take place st) moves (all_names_at st stack) kept label (all_names_at st stack) u.s.symbols (allmeant_front st place all) passed
+    (hypothesis_step st place id used label stack u kind move) (subst (IsWithin limit) is fits) in
+    subst (λ l. Passed (IsWithin limit) (take place st) (moves ++ name label ∷ []) l kept) (sym (named_push st stack expression ∙ ap (λ x. all_names_at st stack ++ x ∷ []) is)) next
+
+pub pushed_entries : (st : List Sentence) (place id : ℕ) (used : List ℕ) (stack : List (List ℕ)) (expression : List ℕ) → AllMeant st → (u : MayBeUsed st place used id) → IsHypothesis u.s.kind
+    → AreNumbers st expression u.s.symbols → AreStackEntries st (take place st) stack → AreStackEntries st (take place st) (stack ++ expression ∷ [])
+pushed_entries st place id used stack expression all u kind numbers entries =
+    all_push (AreDeclaredSymbols st (take place st)) stack expression entries
+    (known_symbols st place u.at u.s expression all u.numbered.there u.before
+    (⊎_elim (λ f. inr (inl f)) (λ e. inr (inr (inl e))) kind) numbers)
+
+-- ==== how many trees a label stands over, and which number it has
+
+-- a hypothesis stands over nothing
+pub width_hypothesis : (st : List Sentence) (place id : ℕ) (label : List ℕ) (below : Trees) → AllMeant st → (u : MayBeUsed st place label id) → IsHypothesis u.s.kind
+    → MayStandOver (take place st) label below → roots below ≡ 0
+width_hypothesis st place id label below all u h (inl p) = ap roots p.0
+width_hypothesis st place id label below all u h (inr p) =
+    absurd (hypothesis_or_assertion (take place st) u.at p.0 u.s p.1 label (allmeant_front st place all) (get_take st place u.at u.before ∙ u.numbered.there) p.3.there u.named p.3.named h p.3.kind)
+
+-- an assertion stands over as many as it has hypotheses
+pub width_assertion : (st : List Sentence) (place id : ℕ) (label : List ℕ) (below : Trees) (scheme : Scheme) → AllMeant st → MayBeUsed st place label id → IsEarlierScheme st place id scheme
+    → MayStandOver (take place st) label below → roots below ≡ length scheme.hypotheses.now
+width_assertion st place id label below scheme all u is stands =
+    let called = called_of st place id scheme is in
+    let hs = is.hypotheses.hypotheses in
+    let names : Names (take place st) label is.at called.s hs = names_of st place id is.at _ hs label
+    called (u.s, label, numbered_get st id u.at u.s u.numbered, u.named, refl) in
+    go stands called.s hs names (as_many st scheme.hypotheses.now hs called.known)
+  where
+    go : MayStandOver (take place st) label below → (a : Sentence) (hs : List Sentence) → Names (take place st) label is.at a hs → length hs ≡ length scheme.hypotheses.now
+        → roots below ≡ length scheme.hypotheses.now
+    go (inl p) a hs names many =
+        absurd (hypothesis_or_assertion (take place st) p.1.0 is.at p.1.1 a label (allmeant_front st place all) p.1.2 names.there p.1.4.0 names.named p.1.4.1 names.kind)
+    go (inr p) a hs names many =
+        p.4 ∙ ap length (one_names (take place st) label p.0 is.at p.1 a p.2 hs (allmeant_front st place all) p.3 names) ∙ many
+
+-- the same label may be used
+pub same_use : (st : List Sentence) (place id : ℕ) (used label : List ℕ) (s : Sentence) → MayBeUsed st place used id → IsNumberOfLabel st id label → MayBeUsed st place label id
+same_use st place id used label s u n =
+    let same : n.s ≡ u.s = same_Some n.s u.s (sym n.there ∙ numbered_get st id u.at u.s u.numbered) in
+    record { at = u.at; s = u.s; numbered = u.numbered; named = ap (λ (t : Sentence). t.label) (sym same) ∙ n.named; before = u.before; kind = u.kind }

@@ -1,0 +1,436 @@
+-- The assertions that a tree uses are those of the moves that make it, and the numbers that are
+-- picked.
+use Rattle.std.proofs.Common.{◌≡◌, ℕ, zero, suc, List, [], ◌∷◌, ◌++◌, slice_get, Contains, Some}
+use Rattle.std.proofs.Common.{◌⊎◌, inl, inr, ⊎_elim, ◌↔◌, sym, ap, subst, ◌∙◌, ◌≤◌, arith, ◌<◌}
+use Rattle.std.proofs.Common.{length, take, refl, get_or, Less, nat_cmp, ◌+◌, set, eqb, Bool, true}
+use Rattle.std.proofs.Common.{false, IsTrue}
+use Rattle.std.specs.List.{AllByRecursion, AllZip}
+use Rattle.std.proofs.lemmas.Option.{same_Some, none-some, slice_get_within, slice_get-get_or}
+use Rattle.std.proofs.lemmas.Option.{slice_get-map}
+use Rattle.std.proofs.lemmas.List.Elements.{Contains-append_left, Contains-append_right}
+use Rattle.std.proofs.lemmas.List.Elements.{Contains-append_cases, Contains-push}
+use Rattle.std.proofs.lemmas.List.Elements.{Contains-push_cases}
+use Rattle.mm_text.proofs.Lists.{all_push, all_at, all_weaker, zip_left, zip_right, get_take}
+use Rattle.mm_text.proofs.Lists.{get_from_take, get_kept, get_pushed, pushed_cases}
+use Rattle.mm_frame.specs.Sentence.{Sentence, IsAssertion, IsLabelled, IsHypothesis}
+use Rattle.mm_proof.specs.Tree.{Trees, none, tree, spelling}
+use Rattle.mm_proof.specs.Moves.{Move, name, again, mark, MakesOne, Makes}
+use Rattle.mm_proof.proofs.ProofSteps.Derivations.{spelling-beside}
+use Rattle.mm_proof.proofs.Machines.TreeWords.{spelling_over}
+use Rattle.std.proofs.lemmas.List.{take-take, length-map, get_or-map, map-append, get_or-set_same}
+use Rattle.std.proofs.lemmas.List.{get_or-set_other}
+use Rattle.mm_frame.specs.Rules.{AllMeant}
+use Rattle.mm_frame.specs.Numbers.{labelled_sentences, IsNumbered, IsAssertionNumber}
+use Rattle.mm_frame.proofs.Labelled.{numbered_from_get, numbered_get}
+use Rattle.mm_proof.specs.Steps.{IsNumberedMove, AreNumberedMoves, IsUsable, IsUsableMove}
+use Rattle.mm_proof.specs.Used.{IsUsedNumber}
+use Rattle.mm_proof.proofs.ProofSteps.OneStep.{one_label, hypothesis_or_assertion, not_both_kinds}
+use Rattle.std.specs.List.Sorted.{IsStrictlySortedBy}
+use Rattle.std.proofs.lemmas.Bool.Decides.{nat_tests, Decides-eqb}
+use Rattle.mm_frame.specs.declared.number.LabelId.{LabelId}
+use Rattle.mm_frame.specs.declared.number.LabelKind.{LabelKind}
+use Rattle.mm_frame.specs.Taken.{kind_behind}
+use Rattle.mm_proof.specs.Plain.{ids_in, label_ids}
+use Rattle.mm_proof.specs.Mirror.CodeSteps.{MayBeUsed}
+use Rattle.mm_proof.specs.Mirror.CodeRun.{DoRise, MayBeMade, AreMarked, AreNamedNumbers}
+use Rattle.mm_frame.specs.declared.scheme.Scheme.{Scheme}
+use Rattle.mm_frame.specs.FramePlace.{AreHypotheses, HaveTypings, ArePairs}
+use Rattle.mm_frame.specs.Pieces.{variables_of, AreItsPieces, HavePatterns, HavePlaces}
+use Rattle.mm_proof.specs.Mirror.CodeVerify.{pairs_in}
+use Rattle.mm_proof.specs.Mirror.CodeApply.{IsEarlierScheme, IsCallOf, IsOfAssertion, MayBeCalled}
+use Rattle.mm_proof.specs.declared.call.Call.{Call}
+use Rattle.std.proofs.lemmas.Bool.{false≢true, cases_lt}
+use Rattle.mm_frame.specs.declared.number.LabelKind.TheVariants as label_kinds
+use Rattle.mm_proof.specs.declared.call.Call.TheVariants as call_kinds
+
+-- ==== the labels in the trees that moves make are those of the moves; so the assertions that are
+-- used are those of the moves
+
+-- some move is a step by the label
+abbrev pub IsStepOf : List (Move (List ℕ)) → List ℕ → Type 0
+IsStepOf moves label = (i : ℕ) × (slice_get moves i ≡ Some (name label))
+
+-- ---- rows
+
+-- what is kept stands in the row
+abbrev KeptInRow : Trees → Trees → Type 0
+KeptInRow row t = (x : List ℕ) → Contains (spelling t) x → Contains (spelling row) x
+
+-- what one move makes: the row keeps its labels, gets that of the move, and no others
+pub record RowGrows (move : Move (List ℕ)) (row row' : Trees) (kept' : List Trees) : Type 0 where
+  pub keeps : (x : List ℕ) → Contains (spelling row) x → Contains (spelling row') x
+  pub gets : (x : List ℕ) → move ≡ name x → Contains (spelling row') x
+  pub no_more : (x : List ℕ) → Contains (spelling row') x → Contains (spelling row) x ⊎ (move ≡ name x)
+  pub kept_in : AllByRecursion (KeptInRow row') kept'
+
+row_grows : (before : List Sentence) (move : Move (List ℕ)) (a b : Trees) (k l : List Trees) → AllByRecursion (KeptInRow a) k → MakesOne before move a k b l → RowGrows move a b l
+row_grows before (name label) a b k l inside m =
+    let word : spelling b ≡ spelling a ++ label ∷ [] = ap spelling m.4 ∙ spelling_over m.0 m.1 label ∙ ap (λ t. spelling t ++ label ∷ []) (sym m.2) in
+    let keeps : KeptInRow b a = λ x h. rw word (Contains-append_left (spelling a) (label ∷ []) x h) in
+    record {
+      keeps = keeps;
+      gets = λ x e.
+          let same : label ≡ x = cc in rw (word, ← same) (Contains-push (spelling a) label);
+      no_more = λ x h. ⊎_elim inl (λ e. inr (ap name e)) (Contains-push_cases (spelling a) label x (rw word at h));
+      kept_in = rw m.5 (all_weaker (KeptInRow a) (KeptInRow b) (λ t p x h. keeps x (p x h)) k inside);
+    }
+row_grows before (again tag) a b k l inside m =
+    let word : spelling b ≡ spelling a ++ spelling m.0 = ap spelling m.2 ∙ spelling-beside a m.0 in
+    let keeps : KeptInRow b a = λ x h. rw word (Contains-append_left (spelling a) (spelling m.0) x h) in
+    let inner : KeptInRow a m.0 = all_at (KeptInRow a) k tag m.0 inside m.1 in
+    record {
+      keeps = keeps;
+      gets = λ x e. absurd cc;
+      no_more = λ x h. inl (⊎_elim (λ c. c) (λ c. inner x c) (Contains-append_cases (spelling a) (spelling m.0) x (subst (λ w. Contains w x) word h)));
+      kept_in = subst (AllByRecursion (KeptInRow b)) (sym m.3) (all_weaker (KeptInRow a) (KeptInRow b) (λ t p x h. keeps x (p x h)) k inside);
+    }
+row_grows before mark a b k l inside m =
+    let t : Trees = tree m.1 m.2 none in
+    let keeps : (x : List ℕ) → Contains (spelling a) x → Contains (spelling b) x = λ x h. subst (λ r. Contains (spelling r) x) (sym m.4) h in
+    let last : KeptInRow b t =
+    λ x h. keeps x (subst (λ w. Contains w x) (sym (ap spelling m.3 ∙ spelling-beside m.0 t)) (Contains-append_right (spelling m.0) (spelling t) x h)) in
+    record {
+      keeps = keeps;
+      gets = λ x e. absurd cc;
+      no_more = λ x h. inl (subst (λ r. Contains (spelling r) x) m.4 h);
+      kept_in = subst (AllByRecursion (KeptInRow b)) (sym m.5)
+          (all_push (KeptInRow b) k t (all_weaker (KeptInRow a) (KeptInRow b) (λ u p x h. keeps x (p x h)) k inside) last);
+    }
+
+-- ---- the labels of what moves make
+
+labels_kept : (before : List Sentence) (moves : List (Move (List ℕ))) (a b : Trees) (k l : List Trees) → AllByRecursion (KeptInRow a) k → Makes before moves a k b l
+    → (x : List ℕ) → Contains (spelling a) x ⊎ IsStepOf moves x → Contains (spelling b) x
+labels_kept before [] a b k l inside m x (inl h) = subst (λ r. Contains (spelling r) x) (sym m.0) h
+labels_kept before [] a b k l inside m x (inr h) = absurd (none-some (name x) h.1)
+labels_kept before (move ∷ moves) a b k l inside m x h =
+    let g = row_grows before move a m.0 k m.1 inside m.2 in
+    labels_kept before moves m.0 b m.1 l g.kept_in m.3 x (elim h [
+      | inl c ↦ inl (g.keeps x c)
+      | inr (zero, e) ↦ inl (g.gets x (same_Some move (name x) e))
+      | inr (suc i, e) ↦ inr (i, e)
+    ])
+
+labels_from : (before : List Sentence) (moves : List (Move (List ℕ))) (a b : Trees) (k l : List Trees) → AllByRecursion (KeptInRow a) k → Makes before moves a k b l
+    → (x : List ℕ) → Contains (spelling b) x → Contains (spelling a) x ⊎ IsStepOf moves x
+labels_from before [] a b k l inside m x h = inl (subst (λ r. Contains (spelling r) x) m.0 h)
+labels_from before (move ∷ moves) a b k l inside m x h =
+    let g = row_grows before move a m.0 k m.1 inside m.2 in
+    ⊎_elim
+    (λ c. ⊎_elim (λ d. inl d) (λ e. inr (0, ap Some e)) (g.no_more x c))
+    (λ s. inr (suc s.0, s.1))
+    (labels_from before moves m.0 b m.1 l g.kept_in m.3 x h)
+
+-- the labels in the trees are those of the moves
+pub labels_of_moves : (before : List Sentence) (moves : List (Move (List ℕ))) (row : Trees) (kept : List Trees) → Makes before moves none [] row kept
+    → (label : List ℕ) → Contains (spelling row) label ↔ IsStepOf moves label
+labels_of_moves before moves row kept m label = (
+  λ h. ⊎_elim (λ c. absurd (let less : suc c.0 ≤ 0 = c.1 in omega arith)) (λ s. s) (labels_from before moves none row [] kept tt m label h),
+  λ s. labels_kept before moves none row [] kept tt m label (inr s),
+)
+
+-- ==== the numbers of the assertions that a tree uses are those of the moves that make it
+
+-- ---- numbers and places
+
+-- in a front it has the same number
+numbered_front : (statements : List Sentence) (id place end : ℕ) (s : Sentence) → place < end → IsNumbered statements id place s → IsNumbered (take end statements) id place s
+numbered_front statements id place end s less n = record {
+  there = get_take statements end place less ∙ n.there;
+  named = n.named;
+  number = ap (λ (l : List Sentence). length (labelled_sentences l)) (take-take place end statements (omega arith)) ∙ n.number;
+}
+
+numbered_whole : (statements : List Sentence) (id place end : ℕ) (s : Sentence) → IsNumbered (take end statements) id place s → (place < end) × IsNumbered statements id place s
+numbered_whole statements id place end s n =
+    let there = get_from_take statements end place s n.there in
+    let less : place < end = there.0 in (
+      less,
+      record {
+        there = there.1;
+        named = n.named;
+        number = ap (λ (l : List Sentence). length (labelled_sentences l)) (sym (take-take place end statements (omega arith))) ∙ n.number;
+      },
+    )
+
+-- ---- the moves
+
+-- a numbered step by a label has the label's number
+pub named_by : (statements : List Sentence) (x : Move ℕ) (label : List ℕ) → IsNumberedMove statements x (name label)
+    → (id : ℕ) × (t : Sentence) × (x ≡ name id) × (slice_get (labelled_sentences statements) id ≡ Some t) × IsLabelled label t
+named_by statements (name id) label n =
+    let same : n.1 ≡ label = (let f : name label ≡ name n.1 = n.4 in cc) in
+    (id, n.0, refl, n.2, subst (λ l. IsLabelled l n.0) same n.3)
+named_by statements move label n = absurd cc
+
+-- The assertions of the tree that moves make after the statements before a place are the assertions among the moves.
+pub used_numbers : (statements : List Sentence) (place : ℕ) (xs : List (Move ℕ)) (moves : List (Move (List ℕ))) (row : Trees) (kept : List Trees) → AllMeant statements
+    → AreNumberedMoves statements xs moves → AllByRecursion (IsUsableMove (take place statements)) moves → Makes (take place statements) moves none [] row kept
+    → (id : ℕ) → IsUsedNumber (take place statements) row id ↔ (((i : ℕ) × (slice_get xs i ≡ Some (name id))) × IsAssertionNumber statements id)
+used_numbers statements place xs moves row kept all numbered usable made id = (used, uses)
+  where
+    used : IsUsedNumber (take place statements) row id → ((i : ℕ) × (slice_get xs i ≡ Some (name id))) × IsAssertionNumber statements id
+    used u =
+        let n = (numbered_whole statements id u.0 place u.1 u.3).1 in
+        let step = (labels_of_moves (take place statements) moves row kept made u.2).0 u.6 in
+        let z = zip_right (IsNumberedMove statements) xs moves step.0 (name u.2) numbered step.1 in
+        let by = named_by statements z.0 u.2 z.2 in
+        let p = numbered_from_get statements by.0 by.1 by.3 in
+        let one : u.0 ≡ p.0 = one_label statements u.0 p.0 u.1 by.1 u.2 all n.there p.1.there u.5 by.4 in
+        let same : by.0 ≡ id = sym p.1.number ∙ ap (λ k. length (labelled_sentences (take k statements))) (sym one) ∙ n.number in
+        ((step.0, z.1 ∙ ap Some (by.2 ∙ ap name same)), (u.0, u.1, n, u.4))
+
+    of_usable : (p : ℕ) (a : Sentence) (label : List ℕ) → IsNumbered statements id p a → IsAssertion a.kind → IsLabelled label a → IsUsable (take place statements) label → p < place
+    of_usable p a label n kind named (inl h) =
+        absurd (hypothesis_or_assertion statements h.0 p h.1 a label all (get_from_take statements place h.0 h.1 h.2).1 n.there h.4.0 named h.4.1 kind)
+    of_usable p a label n kind named (inr b) =
+        let t = get_from_take statements place b.0 b.1 b.2 in
+        let one : b.0 ≡ p = one_label statements b.0 p b.1 a label all t.1 n.there b.3.0 named in
+        subst (λ k. k < place) one t.0
+
+    uses : ((i : ℕ) × (slice_get xs i ≡ Some (name id))) × IsAssertionNumber statements id → IsUsedNumber (take place statements) row id
+    uses h =
+        let z = zip_left (IsNumberedMove statements) xs moves h.0.0 (name id) numbered h.0.1 in
+        let (p, a, n, kind) = h.1 in
+        let same : z.2.0 ≡ a = same_Some z.2.0 a (sym z.2.2 ∙ numbered_get statements id p a n) in
+        let named : IsLabelled z.2.1 a = subst (λ s. IsLabelled z.2.1 s) same z.2.3 in
+        let may = rw z.2.4 at (all_at _ moves h.0.0 z.0 usable z.1) in
+        let less : p < place = of_usable p a z.2.1 n kind named may in
+        let stands = (labels_of_moves (take place statements) moves row kept made z.2.1).1 (h.0.0, z.1 ∙ ap Some z.2.4) in
+        (p, a, z.2.1, numbered_front statements id p place a less n, kind, named, stands)
+
+-- ==== the assertions among labels, by their numbers
+
+-- ---- what the kind of a label says
+
+pub assertion_kind : (st : List Sentence) (place id : ℕ) (r : LabelKind) → (label : List ℕ) × MayBeUsed st place label id
+    → ((s : Sentence) → slice_get (labelled_sentences st) id ≡ Some s → s.kind ≡ kind_behind r) → (r ≡ label_kinds.Axiom) ⊎ (r ≡ label_kinds.Proof) → IsAssertionNumber st id
+assertion_kind st place id r used kind is =
+    let m = used.1 in
+    let told = kind m.s (numbered_get st id m.at m.s m.numbered) in
+    (m.at, m.s, m.numbered, ⊎_elim (λ e. inl (told ∙ ap kind_behind e)) (λ e. inr (told ∙ ap kind_behind e)) is)
+
+only_assertions : (r : LabelKind) → IsAssertion (kind_behind r) → (r ≡ label_kinds.Axiom → ⊥) → (r ≡ label_kinds.Proof → ⊥) → ⊥
+only_assertions label_kinds.Axiom k a p = a refl
+only_assertions label_kinds.Proof k a p = p refl
+only_assertions r (inl e) a p = absurd cc
+only_assertions r (inr e) a p = absurd cc
+
+pub no_assertion : (st : List Sentence) (id : ℕ) (r : LabelKind) → ((s : Sentence) → slice_get (labelled_sentences st) id ≡ Some s → s.kind ≡ kind_behind r)
+    → (r ≡ label_kinds.Axiom → ⊥) → (r ≡ label_kinds.Proof → ⊥) → IsAssertionNumber st id → ⊥
+no_assertion st id r kind a p h =
+    only_assertions r (subst IsAssertion (kind h.1 (numbered_get st id h.0 h.1 h.2)) h.3) a p
+
+pub listed_at : (xs : List LabelId) (i : ℕ) (d : LabelId) → i < length xs → Contains (ids_in xs) (get_or xs i d).0
+listed_at xs i d less = (
+  i,
+  omega (arith, length-map xs (λ (x : LabelId). x.0)),
+  get_or-map (λ (x : LabelId). x.0) xs i d (get_or xs i d).0 less,
+)
+
+-- ---- in order, each once
+
+contains_number_at : (xs : List LabelId) (x : LabelId) (k : ℕ) → k < length xs → get_or xs k x ≡ x → Contains (ids_in xs) x.0
+contains_number_at xs x k l e = rw e at (listed_at xs k x l)
+
+contains_id_at : (xs : List LabelId) (n k : ℕ) → k < length (ids_in xs) → get_or (ids_in xs) k n ≡ n → Contains xs (record { 0 = n })
+contains_id_at xs n k l e =
+    let made : ℕ → LabelId = λ m. record { 0 = m } in
+    let within : k < length xs = omega (arith, length-map xs (λ (y : LabelId). y.0)) in
+    (k, within, ap made (sym (get_or-map (λ (y : LabelId). y.0) xs k (made n) n within) ∙ e))
+
+each_above : (x : LabelId) (xs : List LabelId) (i b : ℕ) → AllByRecursion (λ (y : LabelId). nat_cmp x.0 y.0 ≡ Less) xs → slice_get (ids_in xs) i ≡ Some b → x.0 < b
+each_above x [] i b all e = absurd (none-some b e)
+each_above x (y ∷ xs) zero b all e = let less = all.0 in let same : y.0 ≡ b = same_Some y.0 b e in subst (λ k. x.0 < k) same (grind (arith, nat_tests))
+each_above x (y ∷ xs) (suc i) b all e = each_above x xs i b all.1 e
+
+-- sorted numbers rise
+pub numbers_rise : (xs : List LabelId) → IsStrictlySortedBy (λ x y. nat_cmp x.0 y.0) xs → DoRise (ids_in xs)
+unfolding IsStrictlySortedBy
+numbers_rise [] h i j a b less p q = absurd (none-some a p)
+numbers_rise (x ∷ xs) h i zero a b less p q = absurd (omega arith)
+numbers_rise (x ∷ xs) h zero (suc j) a b less p q = subst (λ k. k < b) (same_Some x.0 a p) (each_above x xs j b h.0 q)
+numbers_rise (x ∷ xs) h (suc i) (suc j) a b less p q = numbers_rise xs h.1 i j a b (omega arith) p q
+
+-- the same labels have the same numbers
+pub same_numbers : (ids sorted : List LabelId) → ((x : LabelId) → Contains ids x → Contains sorted x) → ((x : LabelId) → Contains sorted x → Contains ids x)
+    → (n : ℕ) → Contains (ids_in sorted) n ↔ Contains (ids_in ids) n
+same_numbers ids sorted keeps only n = (number_kept sorted ids n only, number_kept ids sorted n keeps)
+  where
+    number_kept : (xs ys : List LabelId) (n : ℕ) → ((x : LabelId) → Contains xs x → Contains ys x) → Contains (ids_in xs) n → Contains (ids_in ys) n
+    number_kept xs ys n kept h =
+        let c = kept (record { 0 = n }) (contains_id_at xs n h.0 h.1 h.2) in contains_number_at ys (record { 0 = n }) c.0 c.1 c.2
+
+-- ==== what a label of a proof stands for, from what its frame answers
+
+pub scheme_of : (own st : List Sentence) (place id at : ℕ) (s t : Sentence) (scheme : Scheme) → own ≡ st → IsNumbered st id at s → IsAssertion s.kind → at < place
+    → AreHypotheses (record { statements = own; place = at }) (label_ids scheme.hypotheses.now) → HaveTypings own scheme.hypotheses.now
+    → ArePairs (record { statements = own; place = at }) (pairs_in scheme.pairs.now) → HavePlaces (variables_of scheme.hypotheses.now) scheme.pairs.now
+    → slice_get own at ≡ Some t → AreItsPieces own (variables_of scheme.hypotheses.now) t scheme.conclusion.now
+    → HavePatterns own (variables_of scheme.hypotheses.now) scheme.pieces.now scheme.hypotheses.now → IsEarlierScheme st place id scheme
+scheme_of own st place id at s t scheme same numbered kind before hypotheses typed pairs placed there concluded patterned =
+    let vs = variables_of scheme.hypotheses.now in
+    let is : t ≡ s = same_Some t s (sym there ∙ subst (λ (l : List Sentence). slice_get l at ≡ Some s) (sym same) numbered.there) in
+    record {
+      at = at;
+      s = s;
+      numbered = numbered;
+      kind = kind;
+      before = before;
+      hypotheses = subst (λ (l : List Sentence). AreHypotheses (record { statements = l; place = at }) (label_ids scheme.hypotheses.now)) same hypotheses;
+      typed = subst (λ (l : List Sentence). HaveTypings l scheme.hypotheses.now) same typed;
+      pairs = subst (λ (l : List Sentence). ArePairs (record { statements = l; place = at }) (pairs_in scheme.pairs.now)) same pairs;
+      placed = placed;
+      concluded = subst (λ (l : List Sentence). AreItsPieces l vs s scheme.conclusion.now) same (subst (λ (g : Sentence). AreItsPieces own vs g scheme.conclusion.now) is concluded);
+      patterned = subst (λ (l : List Sentence). HavePatterns l vs scheme.pieces.now scheme.hypotheses.now) same patterned;
+    }
+
+-- ---- whether it is an assertion
+
+pub called_assertion : (st : List Sentence) (at id : ℕ) (call : Call) → IsCallOf st at id call → IsOfAssertion call → IsAssertionNumber st id
+called_assertion st at id (call_kinds.Hypothesis symbols) of is = absurd is
+called_assertion st at id (call_kinds.Assertion scheme) of is = (of.at, of.s, of.numbered, of.kind)
+
+pub assertion_called : (st : List Sentence) (at id : ℕ) (call : Call) → IsCallOf st at id call → IsAssertionNumber st id → IsOfAssertion call
+assertion_called st at id (call_kinds.Hypothesis symbols) of h =
+    let used = of.1 in
+    let same : used.s ≡ h.1 = same_Some used.s h.1 (sym (numbered_get st id used.at used.s used.numbered) ∙ numbered_get st id h.0 h.1 h.2) in
+    not_both_kinds h.1.kind (subst (λ (s : Sentence). IsHypothesis s.kind) same of.2) h.3
+assertion_called st at id (call_kinds.Assertion scheme) of h = tt
+
+-- ==== the labels that moves name, by their numbers
+
+-- ---- one more at the end of a list
+
+get_push : {X : Type 0} (xs : List X) (x y : X) (i : ℕ) → slice_get (xs ++ x ∷ []) i ≡ Some y → (slice_get xs i ≡ Some y) ⊎ (x ≡ y)
+get_push xs x y i e = ⊎_elim inl (λ last. inr last.1) (pushed_cases xs x i y e)
+
+-- ---- marks
+
+pub marked_none : (entries : List ℕ) (marks : List Bool) → ((place : ℕ) → get_or marks place false ≡ false) → AreMarked entries [] marks
+marked_none entries marks none = record {
+  named = λ place t. absurd (false≢true (sym (none place) ∙ t));
+  marked = λ i id e. absurd (none-some (name id) e);
+}
+
+pub none_more : (marks : List Bool) → ((place : ℕ) → get_or marks place false ≡ false) → (place : ℕ) → get_or (marks ++ false ∷ []) place false ≡ false
+none_more [] none zero = refl
+none_more [] none (suc place) = refl
+none_more (m ∷ marks) none zero = none 0
+none_more (m ∷ marks) none (suc place) = none_more marks (λ k. none (suc k)) place
+
+pub marked_other : (entries : List ℕ) (front : List (Move ℕ)) (m : Move ℕ) (marks : List Bool) → ((id : ℕ) → m ≡ name id → ⊥) → AreMarked entries front marks
+    → AreMarked entries (front ++ m ∷ []) marks
+marked_other entries front m marks not old = record {
+  named = λ place t. let o = old.named place t in (o.0, o.1, o.2, get_kept front (m ∷ []) o.0 (name o.1) o.3);
+  marked = λ i id e. ⊎_elim (λ there. old.marked i id there) (λ same. absurd (not id same)) (get_push front m (name id) i e);
+}
+
+pub marked_more : (entries : List ℕ) (front : List (Move ℕ)) (place id : ℕ) (marks : List Bool) → slice_get entries place ≡ Some id → place < length marks
+    → AreMarked entries front marks → AreMarked entries (front ++ name id ∷ []) (set marks place true)
+marked_more entries front place id marks there within old = record {
+  named = λ p t. back p t (eqb p place) refl;
+  marked = λ i n e. ⊎_elim (λ before. let o = old.marked i n before in (o.0, o.1, stays o.0 o.2 (eqb o.0 place) refl))
+      (λ same. (place, cc (there, same), here)) (get_push front (name id) (name n) i e);
+}
+  where
+    here : IsTrue (get_or (set marks place true) place false)
+    here = get_or-set_same marks place true false within
+
+    other : (p : ℕ) → eqb p place ≡ false → get_or (set marks place true) p false ≡ get_or marks p false
+    other p e = get_or-set_other marks place p true false (λ same. absurd (false≢true (sym e ∙ (Decides-eqb p place).1 same)))
+
+    stays : (p : ℕ) → IsTrue (get_or marks p false) → (b : Bool) → eqb p place ≡ b → IsTrue (get_or (set marks place true) p false)
+    stays p t true e = subst (λ k. IsTrue (get_or (set marks place true) k false)) (sym ((Decides-eqb p place).0 e)) here
+    stays p t false e = other p e ∙ t
+
+    back : (p : ℕ) → IsTrue (get_or (set marks place true) p false) → (b : Bool) → eqb p place ≡ b
+        → (i : ℕ) × (n : ℕ) × (slice_get entries p ≡ Some n) × (slice_get (front ++ name id ∷ []) i ≡ Some (name n))
+    back p t true e = (length front, id, ap (slice_get entries) ((Decides-eqb p place).0 e) ∙ there, get_pushed front (name id))
+    back p t false e = let o = old.named p (sym (other p e) ∙ t) in (o.0, o.1, o.2, get_kept front (name id ∷ []) o.0 (name o.1) o.3)
+
+-- ---- those of the first entries at whose places something holds
+
+abbrev pub AreFirst : (ℕ → Type 0) → List LabelId → ℕ → List LabelId → Type 0
+AreFirst P entries count ids =
+    (n : ℕ) → (Contains (ids_in ids) n → (place : ℕ) × (slice_get (ids_in entries) place ≡ Some n) × P place)
+    × ((place : ℕ) → place < count → slice_get (ids_in entries) place ≡ Some n → P place → Contains (ids_in ids) n)
+
+-- it is marked, and stands for an assertion
+abbrev pub IsCalledAt : List Call → List Bool → ℕ → Type 0
+IsCalledAt calls marks place = IsTrue (get_or marks place false) × (call : Call) × (slice_get calls place ≡ Some call) × IsOfAssertion call
+
+pub entry_at : (entries : List LabelId) (place : ℕ) (d : LabelId) → place < length entries → slice_get (ids_in entries) place ≡ Some (get_or entries place d).0
+entry_at entries place d less = rw (slice_get-map, slice_get-get_or entries place d less)
+
+pub first_none : (P : ℕ → Type 0) (entries : List LabelId) → AreFirst P entries 0 []
+first_none P entries n = ((λ c. absurd (let less : c.0 < 0 = c.1 in omega arith)), λ place less e t. absurd (omega arith))
+
+pub first_more : (P : ℕ → Type 0) (entries : List LabelId) (at : ℕ) (d : LabelId) (ids : List LabelId) → at < length entries → P at
+    → AreFirst P entries at ids → AreFirst P entries (at + 1) (ids ++ get_or entries at d ∷ [])
+first_more P entries at d ids less holds old n =
+    let id = get_or entries at d in
+    let more = map-append (λ (i : LabelId). i.0) ids (id ∷ []) in (
+      λ h. ⊎_elim
+          (λ c. (old n).0 c)
+          (λ same. (at, entry_at entries at d less ∙ ap Some same, holds))
+          (Contains-push_cases (ids_in ids) id.0 n (rw more at h)),
+      λ place before e t. rw more (elim (cases_lt place at) [
+        | inl front ↦ Contains-append_left (ids_in ids) (id.0 ∷ []) n ((old n).1 place front e t)
+        | inr last ↦
+            let here : at ≡ place = omega (arith, last, before) in
+            let there = sym (entry_at entries at d less) ∙ ap (slice_get (ids_in entries)) here in
+            subst (Contains (ids_in ids ++ id.0 ∷ [])) (same_Some id.0 n (there ∙ e))
+            (Contains-push (ids_in ids) id.0)
+      ]),
+    )
+
+pub first_skipped : (P : ℕ → Type 0) (entries : List LabelId) (at : ℕ) (ids : List LabelId) → (P at → ⊥) → AreFirst P entries at ids → AreFirst P entries (at + 1) ids
+first_skipped P entries at ids not old n = (
+  (old n).0,
+  λ place before e t. ⊎_elim
+      (λ front. (old n).1 place front e t)
+      (λ last. let here : place ≡ at = omega (arith, last, before) in absurd (not (rw here at t)))
+      (cases_lt place at),
+)
+
+-- what is said of the call there
+pub called_there : (calls : List Call) (marks : List Bool) (place : ℕ) (d : Call) → place < length calls → IsTrue (get_or marks place false) × IsOfAssertion (get_or calls place d)
+    → IsCalledAt calls marks place
+called_there calls marks place d less (marked, is) = (marked, get_or calls place d, slice_get-get_or calls place d less, is)
+
+pub there_called : (calls : List Call) (marks : List Bool) (place : ℕ) (d : Call) → place < length calls → IsCalledAt calls marks place
+    → IsTrue (get_or marks place false) × IsOfAssertion (get_or calls place d)
+there_called calls marks place d less (marked, call, there, is) =
+    (marked, subst IsOfAssertion (same_Some call (get_or calls place d) (sym there ∙ slice_get-get_or calls place d less)) is)
+
+-- an entry is before the end
+entry_within : (entries : List LabelId) (place n : ℕ) → slice_get (ids_in entries) place ≡ Some n → place < length entries
+entry_within entries place n e = omega (arith, slice_get_within (ids_in entries) place n e, length-map entries (λ (i : LabelId). i.0))
+
+-- what stands at the place of a number
+pub entry_is : (entries : List LabelId) (place n : ℕ) (d : LabelId) → slice_get (ids_in entries) place ≡ Some n → (place < length entries) × ((get_or entries place d).0 ≡ n)
+entry_is entries place n d there =
+    let less = entry_within entries place n there in (less, same_Some _ n (sym (entry_at entries place d less) ∙ there))
+
+-- where each call is that of its entry, these are the assertions that the moves name
+pub called_all : (st : List Sentence) (at : ℕ) (entries : List LabelId) (calls : List Call) (marks : List Bool) (count : ℕ) (ids : List LabelId) (moves : List (Move ℕ)) → length entries ≤ count
+    → AreFirst (IsCalledAt calls marks) entries count ids → AllZip (MayBeCalled st at) (ids_in entries) calls → AllByRecursion (MayBeMade st at) moves → AreMarked (ids_in entries) moves marks
+    → AreNamedNumbers st moves (ids_in ids)
+called_all st at entries calls marks count ids moves past all each made marked n = (
+  λ c.
+      let o = (all n).0 c in
+      let m = marked.named o.0 o.2.0 in
+      let call = zip_right (MayBeCalled st at) (ids_in entries) calls o.0 o.2.1 each o.2.2 in
+      let same : call.0 ≡ n = same_Some call.0 n (sym call.1 ∙ o.1) in
+      let there = m.3 ∙ ap (λ k. Some (name k)) (same_Some m.1 n (sym m.2 ∙ o.1)) in
+      let used = all_at (MayBeMade st at) moves m.0 (name n) made there in (
+        (m.0, there),
+        called_assertion st at n o.2.1 (subst (λ k. MayBeCalled st at k o.2.1) same call.2 used.0 used.1) o.2.3,
+      ),
+  λ h.
+      let o = marked.marked h.0.0 n h.0.1 in
+      let call = zip_left (MayBeCalled st at) (ids_in entries) calls o.0 n each o.1 in
+      let used = all_at (MayBeMade st at) moves h.0.0 (name n) made h.0.1 in
+      (all n).1 o.0 (omega (arith, entry_within entries o.0 n o.1, past)) o.1 (o.2, call.0, call.1, assertion_called st at n call.0 (call.2 used.0 used.1) h.1),
+)

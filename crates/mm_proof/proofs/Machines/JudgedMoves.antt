@@ -1,0 +1,405 @@
+-- The moves of a proof, one after the other: what a judge finds, what is left at the end, and the
+-- verdict.
+use Rattle.std.proofs.Common.{◌≡◌, ℕ, zero, suc, ◌+◌, ◌<◌, ◌-◌, List, [], ◌∷◌, ◌++◌, length, Result}
+use Rattle.std.proofs.Common.{Err, take, drop, slice_get, Some, cond, refl, sym, ap, subst, ◌∙◌}
+use Rattle.std.proofs.Common.{arith, Contains, ◌↔◌, inl, inr, Ok, IfOk, IfErr}
+use Rattle.std.specs.Result.{IsErrAnd}
+use Rattle.std.proofs.lemmas.Result.{err_from_is_err_and, IfOk-at_ok, IfErr-at_err}
+use Rattle.std.proofs.lemmas.List.{map-append, length-append, length-map}
+use Rattle.mm_text.proofs.Lists.{all_push, all_at, all_back, zip_left, zip_front, split_at}
+use Rattle.mm_text.proofs.Lists.{zip_take, all_weaker, get_from_take, zip_each}
+use Rattle.mm_frame.specs.Sentence.{Sentence, IsHypothesis, IsAssertion, IsLabelled}
+use Rattle.mm_proof.specs.declared.fault.ProofFault.{ProofFault}
+use Rattle.mm_proof.specs.declared.fault.ProofRule.{ProofRule}
+use Rattle.mm_proof.specs.Moves.{Move, name, again, mark, is_step, steps_in}
+use Rattle.mm_proof.specs.Proof.{IsWithin, Passed, FirstAtMove, IsMoveFault, Prove, BreaksEnd}
+use Rattle.mm_proof.specs.Proof.{IsMovesFault}
+use Rattle.mm_proof.specs.Steps.{IsNumberedMove, AreNumberedMoves, IsUsable, IsUsableMove, AreSteps}
+use Rattle.mm_proof.specs.Mirror.CodeVerify.{AreDeclaredSymbols, AreStackEntries, names_at}
+use Rattle.mm_proof.specs.Mirror.CodeVerify.{all_names_at, IsSymbol, AreBelow}
+use Rattle.mm_proof.specs.Mirror.CodeRun.{CarriesOn, StopsAt, HasRun, AreMarked, MayBeMade}
+use Rattle.mm_proof.specs.Mirror.CodeRun.{AreNamedNumbers, DoRise, EndsWrong}
+use Rattle.mm_proof.specs.Mirror.Builders.{AreFirst}
+use Rattle.mm_proof.specs.Mirror.Sites.{ProofSite}
+use Rattle.mm_proof.specs.Mirror.Judges.{HasJudged, BreaksRun}
+use Rattle.mm_proof.specs.declared.judge.Judge.{Judge}
+use Rattle.mm_proof.specs.Answer.{OnRule}
+use Rattle.mm_proof.proofs.ProofSteps.PassedMoves.{passed_none, passed_again, passed_mark}
+use Rattle.mm_proof.proofs.ProofSteps.PassedMoves.{prove_at_end}
+use Rattle.mm_proof.proofs.ProofVerdicts.FirstFault.{steps_in-append, end_fault}
+use Rattle.std.specs.List.{AllByRecursion}
+use Rattle.std.proofs.lemmas.Option.{same_Some}
+use Rattle.mm_frame.specs.Rules.{AllMeant}
+use Rattle.mm_frame.specs.Numbers.{symbols_of, labelled_sentences, IsNumbered}
+use Rattle.mm_frame.specs.FramePlace.{AreItsSymbols}
+use Rattle.mm_frame.specs.Laws.{OneNumber}
+use Rattle.mm_frame.proofs.Labelled.{numbered_from_get}
+use Rattle.mm_proof.specs.declared.fault.ProofFault.TheVariants.{Rule, Memory}
+use Rattle.mm_proof.specs.Tree.{tree, none}
+use Rattle.mm_proof.specs.Profiles.{limit_of}
+use Rattle.mm_proof.specs.ReadSteps.{ReadSteps}
+use Rattle.mm_code.specs.declared.code.Code.{Code}
+use Rattle.mm_frame.specs.declared.number.LabelId.{LabelId}
+use Rattle.mm_proof.specs.Mirror.CodeSteps.{MayBeUsed, moves_of}
+use Rattle.mm_proof.specs.Verified.{ProvesUsingNumbers, ProvesUsing, OfMoves}
+use Rattle.mm_proof.proofs.ProofSteps.OneStep.{one_label}
+use Rattle.mm_proof.proofs.ByNumbers.NumberedSymbols.{named_is, below_is, named_once}
+use Rattle.mm_proof.proofs.ByNumbers.NumberedLabels.{one_place, one_move}
+use Rattle.mm_proof.proofs.ByNumbers.UsedAssertions.{used_numbers}
+use Rattle.mm_proof.proofs.ProofSteps.Derivations.{zip_once}
+use Rattle.mm_proof.specs.declared.lines.Line.{Line}
+use Rattle.mm_proof.specs.Mirror.CodeLines.{AreLinesAt, ListsProof}
+use Rattle.mm_proof.specs.declared.fault.ProofFault.TheVariants as faults
+
+-- ==== the moves of a proof, one after the other
+
+-- ---- moves by numbers and by names
+
+-- moves up to a place, with the one there
+pub first_up_to : (moves : List (Move ℕ)) (i : ℕ) (x : Move ℕ) → slice_get moves i ≡ Some x
+    → AreFirst (take i moves ++ x ∷ []) moves
+first_up_to [] i x there = absurd cc
+first_up_to (m ∷ moves) zero x there = cc
+first_up_to (m ∷ moves) (suc i) x there = ap (λ l. m ∷ l) (first_up_to moves i x there)
+
+pub same_kind : (st : List Sentence) (x : Move ℕ) (move : Move (List ℕ)) → IsNumberedMove st x move → is_step x ≡ is_step move
+same_kind st (name id) move n = sym (ap (λ (m : Move (List ℕ)). is_step m) n.4)
+same_kind st (again tag) move n = sym (ap (λ (m : Move (List ℕ)). is_step m) n)
+same_kind st mark move n = sym (ap (λ (m : Move (List ℕ)). is_step m) n)
+
+-- numbered moves have as many steps as those by names
+pub same_steps : (st : List Sentence) (xs : List (Move ℕ)) (moves : List (Move (List ℕ))) → AreNumberedMoves st xs moves → steps_in xs ≡ steps_in moves
+same_steps st [] [] z = refl
+same_steps st (x ∷ xs) (m ∷ moves) z =
+    steps_in-append (x ∷ []) xs ∙ ap (λ b. 0 + cond b 1 0 + steps_in xs) (same_kind st x m z.0)
+    ∙ ap (λ n. steps_in (m ∷ []) + n) (same_steps st xs moves z.1) ∙ sym (steps_in-append (m ∷ []) moves)
+same_steps st xs moves z = absurd z
+
+-- ---- one move more
+
+-- no moves, and an empty store
+pub run_none : (limit : ℕ) (st : List Sentence) (place : ℕ) (stack kept : List (List ℕ)) → stack ≡ [] → kept ≡ [] → HasRun limit st place [] stack kept 0
+run_none limit st place stack kept empty none_kept = rw (empty, none_kept) (record {
+  count = refl;
+  passed = λ moves numbered. nothing moves numbered;
+  entries = tt;
+  kept_entries = tt;
+})
+  where
+    nothing : (moves : List (Move (List ℕ))) → AreNumberedMoves st [] moves → Passed (IsWithin limit) (take place st) moves [] []
+    nothing [] z = passed_none (IsWithin limit) (take place st)
+    nothing (m ∷ moves) z = absurd z
+
+-- a move that carries on what passed
+run_more : (limit : ℕ) (st : List Sentence) (place : ℕ) (front : List (Move ℕ)) (x : Move ℕ) (stack kept stack' kept' : List (List ℕ)) (steps steps' : ℕ) → HasRun limit st place front stack kept steps
+    → ((move : Move (List ℕ)) (moves : List (Move (List ℕ))) → IsNumberedMove st x move
+    → Passed (IsWithin limit) (take place st) moves (all_names_at st stack) (all_names_at st kept)
+    → Passed (IsWithin limit) (take place st) (moves ++ move ∷ []) (all_names_at st stack') (all_names_at st kept'))
+    → AreStackEntries st (take place st) stack' → AreStackEntries st (take place st) kept' → steps' ≡ steps + steps_in (x ∷ [])
+    → HasRun limit st place (front ++ x ∷ []) stack' kept' steps'
+run_more limit st place front x stack kept stack' kept' steps steps' run carried entries kept_entries count = record {
+  count = count ∙ ap (λ n. n + steps_in (x ∷ [])) run.count ∙ sym (steps_in-append front (x ∷ []));
+  passed = λ moves numbered.
+      let h = zip_front (IsNumberedMove st) front x moves numbered in
+      subst (λ l. Passed (IsWithin limit) (take place st) l (all_names_at st stack') (all_names_at st kept')) (sym h.2) (carried h.1 h.0 h.4 (run.passed h.0 h.3));
+  entries = entries;
+  kept_entries = kept_entries;
+}
+
+-- a step by a label
+pub run_name : (limit : ℕ) (st : List Sentence) (place : ℕ) (front : List (Move ℕ)) (id : ℕ) (stack kept stack' : List (List ℕ)) (steps : ℕ) → HasRun limit st place front stack kept steps
+    → CarriesOn limit st place id stack stack' → AreStackEntries st (take place st) stack' → HasRun limit st place (front ++ name id ∷ []) stack' kept (steps + 1)
+run_name limit st place front id stack kept stack' steps run carries entries =
+    run_more limit st place front (name id) stack kept stack' kept steps (steps + 1) run
+    (λ move moves n passed. rw n.4
+    (carries n.1 moves (all_names_at st kept) (n.0, n.1, n.2, n.3, refl) passed))
+    entries run.kept_entries refl
+
+named_there : (st : List Sentence) (entries : List (List ℕ)) (i : ℕ) (e : List ℕ) → slice_get entries i ≡ Some e → slice_get (all_names_at st entries) i ≡ Some (names_at st e)
+named_there st [] i e there = absurd cc
+named_there st (x ∷ entries) zero e there = let same : x ≡ e = cc in ap (λ (l : List ℕ). Some (names_at st l)) same
+named_there st (x ∷ entries) (suc i) e there = named_there st entries i e there
+
+pub named_push : (st : List Sentence) (entries : List (List ℕ)) (e : List ℕ) → all_names_at st (entries ++ e ∷ []) ≡ all_names_at st entries ++ names_at st e ∷ []
+named_push st entries e = map-append (names_at st) entries (e ∷ [])
+
+-- a step by a tag
+pub run_again : (limit : ℕ) (st : List Sentence) (place : ℕ) (front : List (Move ℕ)) (tag : ℕ) (stack kept stack' : List (List ℕ)) (steps : ℕ) (e : List ℕ) → HasRun limit st place front stack kept steps
+    → slice_get kept tag ≡ Some e → stack' ≡ stack ++ e ∷ [] → HasRun limit st place (front ++ again tag ∷ []) stack' kept (steps + 1)
+run_again limit st place front tag stack kept stack' steps e run there is =
+    run_more limit st place front (again tag) stack kept stack' kept steps (steps + 1) run
+    (λ move moves n passed. rw (n, is, named_push st stack e)
+    (passed_again (IsWithin limit) (take place st) moves (all_names_at st stack) (all_names_at st kept) tag (names_at st e) passed (named_there st kept tag e there)))
+    (rw is (all_push (AreDeclaredSymbols st (take place st)) stack e run.entries (all_at (AreDeclaredSymbols st (take place st)) kept tag e run.kept_entries there)))
+    run.kept_entries refl
+
+-- a mark
+pub run_mark : (limit : ℕ) (st : List Sentence) (place : ℕ) (front : List (Move ℕ)) (stack kept stack' kept' : List (List ℕ)) (steps : ℕ) (rest : List (List ℕ)) (e : List ℕ) → HasRun limit st place front stack kept steps
+    → stack ≡ rest ++ e ∷ [] → stack' ≡ stack → kept' ≡ kept ++ e ∷ [] → HasRun limit st place (front ++ mark ∷ []) stack' kept' steps
+run_mark limit st place front stack kept stack' kept' steps rest e run split same is =
+    run_more limit st place front mark stack kept stack' kept' steps steps run
+    (λ move moves n passed. rw (n, same, is, split, named_push st rest e, named_push st kept e)
+    (passed_mark (IsWithin limit) (take place st) moves (all_names_at st rest) (all_names_at st kept) (names_at st e)
+    (subst (λ l. Passed (IsWithin limit) (take place st) moves l (all_names_at st kept)) (ap (all_names_at st) split ∙ named_push st rest e) passed)))
+    (rw same run.entries)
+    (rw is (all_push (AreDeclaredSymbols st (take place st)) kept e run.kept_entries
+    (all_back (AreDeclaredSymbols st (take place st)) rest (e ∷ []) (rw split at run.entries)).0))
+    (omega arith)
+
+-- ---- a move that breaks a rule
+
+pub run_fault : (limit : ℕ) (st : List Sentence) (place : ℕ) (xs : List (Move ℕ)) (i : ℕ) (x : Move ℕ) (stack kept : List (List ℕ)) (steps : ℕ) (rule : ProofRule) (at : ℕ)
+    → slice_get xs i ≡ Some x → HasRun limit st place (take i xs) stack kept steps
+    → ((move : Move (List ℕ)) → IsNumberedMove st x move → FirstAtMove (IsWithin limit) rule (take place st) (all_names_at st stack) (all_names_at st kept) move)
+    → at ≡ steps + 1 → (names : List (Move (List ℕ))) → AreNumberedMoves st xs names → IsMoveFault (IsWithin limit) (take place st) names rule at
+run_fault limit st place xs i x stack kept steps rule at there run first number names numbered =
+    let here = zip_left (IsNumberedMove st) xs names i x numbered there in
+    let front = zip_take (IsNumberedMove st) xs names i numbered in
+    record {
+      earlier = take i names;
+      move = here.0;
+      later = drop (suc i) names;
+      parts = split_at names i here.0 here.1;
+      number = number ∙ ap (λ n. n + 1) (run.count ∙ same_steps st (take i xs) (take i names) front);
+      stack = all_names_at st stack;
+      kept = all_names_at st kept;
+      passed = run.passed (take i names) front;
+      fault = first here.0 here.2;
+    }
+
+-- a step by a label
+pub stops_first : (limit : ℕ) (st : List Sentence) (place id : ℕ) (stack kept : List (List ℕ)) (rule : ProofRule) → StopsAt limit st place id stack rule
+    → (move : Move (List ℕ)) → IsNumberedMove st (name id) move → FirstAtMove (IsWithin limit) rule (take place st) (all_names_at st stack) (all_names_at st kept) move
+stops_first limit st place id stack kept rule stops move n =
+    rw n.4 (stops n.1 (all_names_at st kept) (n.0, n.1, n.2, n.3, refl))
+
+-- a fault that is handed on is the one of the call
+pub refused : {X : Type 0} (r : Result X ProofFault) (e f : ProofFault) → IsErrAnd r (λ x. x ≡ e) → r ≡ Err f → e ≡ f
+refused {X} r e f from is =
+    let p = err_from_is_err_and r from in
+    let same : ◌≡◌ {A = Result X ProofFault} (Err p.0) (Err f) = sym p.1 ∙ is in sym p.2 ∙ cc
+
+-- ---- a judge
+
+-- before any move
+pub judged_none : {S : Type 0} (stack kept : S → List (List ℕ)) (first : Judge S)
+    → stack first.store.now ≡ [] → kept first.store.now ≡ [] → first.steps ≡ 0 → first.kept ≡ 0
+    → length first.marks.now.items ≡ length first.table.now.ids
+    → AreMarked first.table.now.ids [] first.marks.now.items
+    → HasJudged stack kept first first []
+judged_none stack kept first empty none_kept steps tags long marked = record {
+  same_store = refl;
+  same_marks = refl;
+  same_table = refl;
+  run = let site = first.table.now.site in
+      rw steps (run_none site.limit site.statements site.place _ _ empty none_kept);
+  tags = tags ∙ sym (ap length none_kept);
+  long = long;
+  marked = marked;
+  all = omega (arith, steps, tags);
+}
+
+-- one move more
+pub judged_more : {S : Type 0} (stack kept : S → List (List ℕ)) (first old new : Judge S)
+    (front : List (Move ℕ)) (x : Move ℕ) → HasJudged stack kept first old front
+    → new.store.ghost_name ≡ old.store.ghost_name → new.marks.ghost_name ≡ old.marks.ghost_name
+    → new.table ≡ old.table
+    → (let site = first.table.now.site in
+    HasRun site.limit site.statements site.place (front ++ x ∷ []) (stack new.store.now)
+    (kept new.store.now) new.steps)
+    → new.kept ≡ length (kept new.store.now)
+    → length new.marks.now.items ≡ length first.table.now.ids
+    → AreMarked first.table.now.ids (front ++ x ∷ []) new.marks.now.items
+    → new.steps + new.kept ≡ old.steps + old.kept + 1
+    → HasJudged stack kept first new (front ++ x ∷ [])
+judged_more stack kept first old new front x was store marks table run tags long marked all = record {
+  same_store = store ∙ was.same_store;
+  same_marks = marks ∙ was.same_marks;
+  same_table = table ∙ was.same_table;
+  run = run;
+  tags = tags;
+  long = long;
+  marked = marked;
+  all = omega (arith, was.all, all, length-append front (x ∷ []));
+}
+
+-- where a move breaks a rule after those that ran, that is the first fault of the moves
+pub stopped_fault : (site : ProofSite) (xs : List (Move ℕ)) (place : ℕ) (move : Move ℕ)
+    (fault : ProofFault) → slice_get xs place ≡ Some move
+    → OnRule fault (BreaksRun site (take place xs) move)
+    → (rule : ProofRule) (at : ℕ) → fault ≡ faults.Rule rule at
+    → (names : List (Move (List ℕ))) → AreNumberedMoves site.statements xs names
+    → IsMoveFault (IsWithin site.limit) (take site.place site.statements) names rule at
+stopped_fault site xs place move fault there known rule at is names numbered =
+    let b = subst (λ e. OnRule e (BreaksRun site (take place xs) move)) is known in
+    run_fault site.limit site.statements site.place xs place move b.stack b.kept b.steps rule at
+    there b.run b.first b.number names numbered
+
+-- ---- lists
+
+-- the last of a list, and what stands before it
+pub last_split : {X : Type 0} (xs : List X) → 0 < length xs → (rest : List X) × (e : X) × (xs ≡ rest ++ e ∷ []) × (slice_get xs (length xs - 1) ≡ Some e)
+last_split [] less = absurd (omega arith)
+last_split (x ∷ []) less = ([], x, refl, refl)
+last_split (x ∷ y ∷ xs) less =
+    let h = last_split (y ∷ xs) (omega arith) in
+    let there : slice_get (y ∷ xs) (length xs) ≡ Some h.1 = subst (λ k. slice_get (y ∷ xs) k ≡ Some h.1) (omega arith) h.3 in
+    (x ∷ h.0, h.1, ap (λ l. x ∷ l) h.2, subst (λ k. slice_get (x ∷ y ∷ xs) k ≡ Some h.1) (let e : suc (length xs) ≡ length (x ∷ y ∷ xs) - 1 = omega arith in e) there)
+
+-- ==== what the moves of a proof leave at the end, and the verdict
+
+-- ---- the moves of the statement with a number
+
+-- each of the moves may be made at the place
+pub usable_names : (st : List Sentence) (id : ℕ) (xs : List (Move ℕ)) (place : ℕ) (s : Sentence) (names : List (Move (List ℕ))) → AreSteps st id xs → IsNumbered st id place s
+    → AreNumberedMoves st xs names → AllByRecursion (IsUsableMove (take place st)) names
+usable_names st id xs place s names a n numbered =
+    let here : a.place ≡ place = one_place st id a.place place a.s s a.proof.numbered n in
+    let same : a.moves ≡ names = zip_once (IsNumberedMove st) (IsNumberedMove st) xs a.moves names (one_move st) a.numbered numbered in
+    subst (λ p. AllByRecursion (IsUsableMove (take p st)) names) here (subst (λ l. AllByRecursion (IsUsableMove (take a.place st)) l) same a.usable)
+
+-- the statement with a number and a label is the one that has the label before the place
+labelled_there : (st : List Sentence) (place id : ℕ) (s : Sentence) (label : List ℕ) (at : ℕ)
+    (t : Sentence) → AllMeant st → slice_get (labelled_sentences st) id ≡ Some s
+    → IsLabelled label s → slice_get (take place st) at ≡ Some t → IsLabelled label t
+    → (t ≡ s) × IsNumbered st id at s × (at < place)
+labelled_there st place id s label at t all there is found named =
+    let p = numbered_from_get st id s there in
+    let f = get_from_take st place at t found in
+    let one : at ≡ p.0 = one_label st at p.0 t s label all f.1 p.1.there named is in
+    let same = same_Some t s (sym f.1 ∙ ap (slice_get st) one ∙ p.1.there) in
+    (same, subst (λ k. IsNumbered st id k s) (sym one) p.1, f.0)
+
+pub may_be_used : (st : List Sentence) (place id : ℕ) (s : Sentence) (label : List ℕ) → AllMeant st → slice_get (labelled_sentences st) id ≡ Some s → IsLabelled label s → IsUsable (take place st) label
+    → MayBeUsed st place label id
+may_be_used st place id s label all there is (inl h) =
+    let u = labelled_there st place id s label h.0 h.1 all there is h.2 h.4.0 in
+    let kind = subst (λ (x : Sentence). IsHypothesis x.kind) u.0 h.4.1 in
+    record { at = h.0; s = s; numbered = u.1; named = is; before = u.2; kind = inl (kind, h.3) }
+may_be_used st place id s label all there is (inr b) =
+    let u = labelled_there st place id s label b.0 b.1 all there is b.2 b.3.0 in
+    let kind = subst (λ (x : Sentence). IsAssertion x.kind) u.0 b.3.1 in
+    record { at = b.0; s = s; numbered = u.1; named = is; before = u.2; kind = inr kind }
+
+move_made : (st : List Sentence) (place : ℕ) (x : Move ℕ) (move : Move (List ℕ)) → AllMeant st → IsNumberedMove st x move → IsUsableMove (take place st) move → MayBeMade st place x
+move_made st place (name id) move all n u =
+    (n.1, may_be_used st place id n.0 n.1 all n.2 n.3 (subst (IsUsableMove (take place st)) n.4 u))
+move_made st place x move all n u = tt
+
+pub steps_made : (st : List Sentence) (id : ℕ) (xs : List (Move ℕ)) (place : ℕ) (s : Sentence) → AllMeant st → AreSteps st id xs → IsNumbered st id place s
+    → AllByRecursion (MayBeMade st place) xs
+steps_made st id xs place s all a n =
+    zip_each (IsNumberedMove st) (MayBeMade st place) (IsUsableMove (take place st))
+    (λ x move. move_made st place x move all) xs a.moves a.numbered
+    (usable_names st id xs place s a.moves a n a.numbered)
+
+-- ---- the verdict
+
+pub its_symbols : (st : List Sentence) (own place : ℕ) (s : Sentence) (numbers : List ℕ) → own ≡ place → slice_get st place ≡ Some s
+    → AreItsSymbols (record { statements = st; place = own }) numbers → (names_at st numbers ≡ s.symbols) × AreBelow st numbers
+its_symbols st own place s numbers here there i =
+    let same : i.assertion ≡ s = same_Some i.assertion s (sym i.there ∙ ap (slice_get st) here ∙ there) in
+    (named_is st numbers i.assertion.symbols i.numbered ∙ ap (λ (x : Sentence). x.symbols) same, below_is st numbers i.assertion.symbols i.numbered)
+
+-- the moves have run, and left the statement's expression
+pub proved_end : (limit : ℕ) (st : List Sentence) (id own : ℕ) (t : Sentence) (xs : List (Move ℕ)) (stack kept : List (List ℕ)) (count : ℕ) (numbers : List ℕ)
+    → IsNumbered st id own t → AreItsSymbols (record { statements = st; place = own }) numbers → HasRun limit st own xs stack kept count → stack ≡ numbers ∷ []
+    → OfMoves st id xs (λ place s names. Prove (IsWithin limit) (take place st) s names)
+proved_end limit st id own t xs stack kept count numbers n symbols run is place s names proof numbered =
+    let here : own ≡ place = one_place st id own place t s n proof.numbered in
+    let moved = subst (λ p. HasRun limit st p xs stack kept count) here run in
+    let expression = (its_symbols st own place s numbers here proof.numbered.there symbols).0 in
+    let passed = rw (is, expression) at (moved.passed names numbered) in
+    prove_at_end (IsWithin limit) (take place st) s names (all_names_at st kept) passed
+
+-- what is proved, with the assertions that the moves name
+pub proved_with : (limit : ℕ) (st : List Sentence) (id : ℕ) (xs : List (Move ℕ)) (used : List ℕ) → AllMeant st → AreSteps st id xs → AreNamedNumbers st xs used
+    → OfMoves st id xs (λ place s names. Prove (IsWithin limit) (take place st) s names)
+    → OfMoves st id xs (λ place s names. ProvesUsingNumbers limit st place s names used)
+proved_with limit st id xs used all a named_so proved place s names proof numbered =
+    let p = proved place s names proof numbered in
+    let uses = used_numbers st place xs names (tree p.label p.below none) p.kept all numbered (usable_names st id xs place s names a proof.numbered numbered) p.made in
+    (p, λ k. ((λ h. (uses k).1 ((named_so k).0 h)), λ h. (named_so k).1 ((uses k).0 h)))
+
+-- they have run, and left something else
+pub wrong_end : (limit : ℕ) (st : List Sentence) (id own : ℕ) (t : Sentence) (xs : List (Move ℕ)) (stack kept : List (List ℕ)) (count : ℕ) (numbers : List ℕ) (rule : ProofRule) (at : ℕ) → OneNumber
+    → IsNumbered st id own t → AreItsSymbols (record { statements = st; place = own }) numbers → HasRun limit st own xs stack kept count → (at ≡ count + 1) × EndsWrong rule stack numbers
+    → OfMoves st id xs (λ place s names. IsMovesFault (IsWithin limit) (take place st) s names rule at)
+wrong_end limit st id own t xs stack kept count numbers rule at one n symbols run wrong place s names proof numbered =
+    let here : own ≡ place = one_place st id own place t s n proof.numbered in
+    let moved = subst (λ p. HasRun limit st p xs stack kept count) here run in
+    let expression = its_symbols st own place s numbers here proof.numbered.there symbols in
+    end_fault (IsWithin limit) (take place st) s names (all_names_at st stack) (all_names_at st kept) rule at (moved.passed names numbered)
+    (broken expression.0 expression.1 moved.entries wrong.1) (wrong.0 ∙ ap (λ k. k + 1) (moved.count ∙ same_steps st xs names numbered))
+  where
+    broken : names_at st numbers ≡ s.symbols → AreBelow st numbers → AreStackEntries st (take place st) stack → EndsWrong rule stack numbers → BreaksEnd rule (all_names_at st stack) s.symbols
+    broken symbols_are below entries (inl w) = rw w.0 (λ e. w.1 (sym (length-map stack (names_at st)) ∙ e))
+    broken symbols_are below entries (inr w) =
+        let entry = (subst (AreStackEntries st (take place st)) w.2 entries).0 in
+        rw w.0 (
+          names_at st w.1,
+          ap (all_names_at st) w.2,
+          λ same. w.3 (named_once one st w.1 numbers (all_weaker (IsSymbol st (take place st)) (λ k. k < length (symbols_of st)) (λ k i. i.below) w.1 entry) below (same ∙ sym symbols_are)),
+        )
+
+-- a move breaks a rule
+pub wrong_move : (limit : ℕ) (st : List Sentence) (id own : ℕ) (t : Sentence) (xs : List (Move ℕ)) (rule : ProofRule) (at : ℕ) → IsNumbered st id own t
+    → ((names : List (Move (List ℕ))) → AreNumberedMoves st xs names → IsMoveFault (IsWithin limit) (take own st) names rule at)
+    → OfMoves st id xs (λ place s names. IsMovesFault (IsWithin limit) (take place st) s names rule at)
+wrong_move limit st id own t xs rule at n fault place s names proof numbered =
+    let here : own ≡ place = one_place st id own place t s n proof.numbered in
+    inl (subst (λ p. IsMoveFault (IsWithin limit) (take p st) names rule at) here (fault names numbered))
+
+pub on_rule_from : (e : ProofFault) (P : ProofRule → ℕ → Type 0) → ((rule : ProofRule) (step : ℕ) → e ≡ Rule rule step → P rule step) → OnRule e P
+on_rule_from (Rule rule step) P f = f rule step refl
+on_rule_from Memory P f = tt
+
+-- ---- one entry
+
+pub only_entry : {X : Type 0} (xs : List X) (x : X) → length xs ≡ 1 → slice_get xs 0 ≡ Some x → xs ≡ x ∷ []
+only_entry (y ∷ []) x l e = ap (λ z. z ∷ []) (same_Some y x e)
+only_entry xs x l e = absurd (omega arith)
+
+pub same_fault : {X : Type 0} (a b : ProofRule) (m n : ℕ) → ◌≡◌ {A = Result X ProofFault} (Err (Rule a m)) (Err (Rule b n)) → (b ≡ a) × (n ≡ m)
+same_fault {X} a b m n e =
+    let same : Rule a m ≡ Rule b n = cc in (cc, cc)
+
+-- the moves and the limit of steps are those of what is seen of them
+pub seen_moves : {a b : ReadSteps} → a ≡ b → b.moves ≡ a.moves
+seen_moves same = sym (ap (λ (v : ReadSteps). v.moves) same)
+
+pub seen_limit : {a b : ReadSteps} → a ≡ b → limit_of a.profile ≡ limit_of b.profile
+seen_limit same = ap (λ (v : ReadSteps). limit_of v.profile) same
+
+-- the moves of the lists are those of the proof
+pub held_moves : (xs : List (Move ℕ)) (entries held : List LabelId) (codes said : List Code) → entries ≡ held → codes ≡ said → xs ≡ moves_of held said → xs ≡ moves_of entries codes
+held_moves xs entries held codes said same_entries same_codes view = rw (same_entries, same_codes) view
+
+-- what is proved, with the assertions of the tree each once, in order
+pub proved_in_order : (limit : ℕ) (st : List Sentence) (id : ℕ) (xs : List (Move ℕ)) (ids used : List ℕ) → DoRise used → ((k : ℕ) → Contains used k ↔ Contains ids k)
+    → OfMoves st id xs (λ place s names. ProvesUsingNumbers limit st place s names ids) → OfMoves st id xs (λ place s names. ProvesUsing limit st place s names used)
+proved_in_order limit st id xs ids used rising same proved place s names proof numbered =
+    let p = proved place s names proof numbered in
+    (p.0, record { rising = rising; each = λ k. ((λ h. (p.1 k).0 ((same k).0 h)), λ h. (same k).1 ((p.1 k).1 h)) })
+
+-- ==== what is listed at the end
+
+-- the moves have run, and left the statement's expression
+pub lists_end : (limit : ℕ) (st : List Sentence) (id own : ℕ) (t : Sentence) (xs : List (Move ℕ)) (stack kept : List (List ℕ)) (count : ℕ) (numbers : List ℕ) (lines : List Line)
+    → IsNumbered st id own t → AreItsSymbols (record { statements = st; place = own }) numbers → HasRun limit st own xs stack kept count → stack ≡ numbers ∷ []
+    → AreLinesAt st own xs lines → ListsProof limit st id xs lines
+lists_end limit st id own t xs stack kept count numbers lines n symbols run is lines_so place s names proof numbered =
+    let here : own ≡ place = one_place st id own place t s n proof.numbered in (
+      proved_end limit st id own t xs stack kept count numbers n symbols run is place s names proof
+          numbered,
+      subst (λ p. AreLinesAt st p xs lines) here lines_so names numbered,
+    )
+
+-- ---- answers
+
+-- what holds of an answer's value
+pub if_ok_at : {X : Type 0} (r : Result X ProofFault) (P : X → Type 0) (x : X) → r ≡ Ok x → IfOk r P → P x
+if_ok_at r P x is h = IfOk-at_ok P is h
+
+pub if_rule_at : {X : Type 0} (r : Result X ProofFault) (P : ProofRule → ℕ → Type 0) (rule : ProofRule) (step : ℕ) → r ≡ Err (Rule rule step) → IfErr r (λ e. OnRule e P) → P rule step
+if_rule_at r P rule step is h = IfErr-at_err (λ e. OnRule e P) is h

@@ -1,0 +1,287 @@
+-- The labels of a tree, and the tokens of a fully shared proof of it, are a proof of what it
+-- derives.
+use Rattle.std.proofs.Common.{◌≡◌, ℕ, ◌<◌, List, [], ◌∷◌, ◌++◌, map, drop, slice_get, Contains}
+use Rattle.std.proofs.Common.{Some, inl, inr, refl, sym, ap, subst, arith, append_assoc, ⊎_elim}
+use Rattle.std.proofs.Common.{zero, suc, ◌≤◌, length, Option, ◌∙◌}
+use Rattle.std.specs.List.{flat_map}
+use Rattle.std.proofs.lemmas.List.Elements.{Contains-append_left, Contains-append_right}
+use Rattle.std.proofs.lemmas.List.Elements.{Contains-append_cases}
+use Rattle.mm_text.proofs.Lists.{contains_from_at, get_before, get_parted, zip_left, mapped_zip}
+use Rattle.mm_code.specs.declared.code.Code.{Code}
+use Rattle.mm_code.specs.declared.code.CodeRule.{CodeRule}
+use Rattle.mm_code.specs.Letters.{Letters, LettersBreak}
+use Rattle.mm_code.specs.Layout.{in_parentheses}
+use Rattle.mm_frame.specs.Sentence.{Sentence, SomeSentence, IsLabelled, IsHypothesis, IsAssertion}
+use Rattle.mm_frame.specs.Active.{IsActive}
+use Rattle.mm_frame.specs.Rules.{AllMeant}
+use Rattle.mm_frame.proofs.Meant.{one_label}
+use Rattle.mm_proof.specs.declared.fault.ProofRule.TheVariants.{P1, P2, P3, P4, P5}
+use Rattle.mm_proof.specs.Tree.{Trees, none, tree, spelling, MayStandOver, TreesFit, DeriveAll}
+use Rattle.mm_proof.specs.Moves.{name, Move, mark, Makes}
+use Rattle.mm_proof.specs.Tokens.{opening_token, closing_token, IsNormal, SaysCompressed, AreLabels}
+use Rattle.mm_proof.specs.Tokens.{AreLetters}
+use Rattle.mm_proof.specs.Proof.{BreaksWhole, IsWhole, IsProvedWithin}
+use Rattle.mm_proof.specs.Sharing.{AreFirstUses, IsPacked, ShareAll}
+use Rattle.mm_proof.proofs.ProofSteps.Derivations.{derive_fits, fit_makes}
+use Rattle.mm_proof.proofs.ProofTokens.SaidMoves.{normal_or_compressed, labels_once, letters_once}
+use Rattle.mm_proof.proofs.ProofTokens.SaidMoves.{compressed_once, moves_once}
+use Rattle.mm_proof.proofs.ProofTokens.CodeLetters.{coded_not_broken}
+use Rattle.mm_proof.proofs.Members.{contains_first, contains_later, contains_cases, In, contains_in}
+use Rattle.mm_proof.proofs.Members.{in_get, get_in, once_places}
+use Rattle.mm_proof.proofs.ProofSteps.OneStep.{not_both_kinds}
+use Rattle.mm_frame.proofs.Those.{mandatory_unique}
+use Rattle.mm_proof.specs.BigSubtrees.{IsBig}
+use Rattle.mm_proof.specs.Visits.{makes, keeps, visits}
+use Rattle.mm_proof.specs.Strict.{IsStrictList, MarkAssertions, IsStrict}
+use Rattle.mm_proof.proofs.FullSharing.OneSharedProof.{uses_apart}
+use Rattle.mm_proof.proofs.ProofVerdicts.StrictForm.{last_of, strict_normal}
+use Rattle.mm_code.specs.declared.code.CodeRule.TheVariants as code
+
+-- ==== the labels of a tree, and the tokens of a fully shared proof of it, are a proof of what it
+-- derives
+
+-- ---- members
+
+no_member : (x : List ℕ) → Contains [] x → ⊥
+no_member x (i, less, e) = let h : i < 0 = less in absurd (omega (arith, h))
+
+-- ---- labels of trees that fit
+
+-- each label may stand over some trees
+pub label_fits : (before : List Sentence) (trees : Trees) (label : List ℕ) → TreesFit before trees → Contains (spelling trees) label → (below : Trees) × MayStandOver before label below
+label_fits before none label fit c = absurd (no_member label c)
+label_fits before (tree own below right) label fit c = ⊎_elim
+    (λ h. label_fits before below label fit.1 h)
+    (λ h. ⊎_elim (λ same. (below, subst (λ (l : List ℕ). MayStandOver before l below) same fit.0))
+    (λ k. label_fits before right label fit.2 k) (contains_cases own (spelling right) label h))
+    (Contains-append_cases (spelling below) (own ∷ spelling right) label c)
+
+-- it is that of a statement
+pub stands_known : (before : List Sentence) (label : List ℕ) (below : Trees) → MayStandOver before label below → SomeSentence before (IsLabelled label)
+stands_known before label below (inl (bare, (place, h, there, active, (named, kind)))) = (place, h, there, named)
+stands_known before label below (inr (place, assertion, hypotheses, names, many)) = (place, assertion, names.there, names.named)
+
+-- a hypothesis with it is active
+stands_active : (before : List Sentence) (label : List ℕ) (below : Trees) → AllMeant before → MayStandOver before label below
+    → (place : ℕ) (h : Sentence) → slice_get before place ≡ Some h → IsLabelled label h → IsHypothesis h.kind → IsActive before place
+stands_active before label below meant (inl (bare, (at, g, there', active, (named', kind')))) place h there named kind =
+    subst (IsActive before) (one_label before label at place g h meant there' there named' named) active
+stands_active before label below meant (inr (at, assertion, hypotheses, names, many)) place h there named kind =
+    let here : at ≡ place = one_label before label at place assertion h meant names.there there names.named named in
+    let same : assertion ≡ h = cc (names.there, here, there) in
+    absurd (not_both_kinds h.kind kind (subst (λ (s : Sentence). IsAssertion s.kind) same names.kind))
+
+-- ---- proofs that break no rule over the whole of them
+
+whole_of : (before : List Sentence) (tokens labels : List (List ℕ)) → AllMeant before → ¬ (BreaksWhole P1 before tokens)
+    → ((others : List (List ℕ)) → AreLabels tokens others → others ≡ labels) → ((label : List ℕ) → Contains labels label → (below : Trees) × MayStandOver before label below)
+    → ((text : List ℕ) (rule : CodeRule) → AreLetters tokens text → ¬ (LettersBreak rule text)) → IsWhole before tokens
+whole_of before tokens labels meant ends only fits letters P1 broken = ends broken
+whole_of before tokens labels meant ends only fits letters P2 (others, are, label, used, unknown) =
+    let f = fits label (rw (only others are) at used) in unknown (stands_known before label f.0 f.1)
+whole_of before tokens labels meant ends only fits letters P3 (others, are, label, used, place, h, there, named, kind, closed) =
+    let f = fits label (rw (only others are) at used) in closed (stands_active before label f.0 meant f.1 place h there named kind)
+whole_of before tokens labels meant ends only fits letters P4 (text, are, broken) = letters text code.P4 are broken
+whole_of before tokens labels meant ends only fits letters P5 (text, are, broken) = letters text code.P5 are broken
+whole_of before tokens labels meant ends only fits letters rule broken = broken
+
+-- a proof of the statement that spells this tree
+abbrev pub IsProofBy : (List (List ℕ) → Type 0) → List Sentence → Sentence → List (List ℕ) → (label : List ℕ) → Trees → Type 0
+IsProofBy Fits before s tokens label below =
+    (p : IsProvedWithin Fits before s tokens) × (tree p.proves.label p.proves.below none ≡ tree label below none)
+
+-- ---- the labels of a tree
+
+pub spelled_proves : (Fits : List (List ℕ) → Type 0) (before : List Sentence) (s : Sentence) (label : List ℕ) (below : Trees) → AllMeant before
+    → ¬ (Contains (spelling (tree label below none)) opening_token) → DeriveAll Fits before (tree label below none) (s.symbols ∷ [])
+    → IsProofBy Fits before s (spelling (tree label below none)) label below
+spelled_proves Fits before s label below meant apart derived =
+    let trees : Trees = tree label below none in
+    let tokens : List (List ℕ) = spelling trees in
+    let fit : TreesFit before trees = derive_fits Fits before trees (s.symbols ∷ []) derived in
+    let normal : IsNormal tokens = λ e. apart (contains_from_at tokens opening_token (0, e)) in
+    let whole : IsWhole before tokens = whole_of before tokens tokens meant (λ broken. normal broken.0) (λ others are. labels_once tokens others tokens are (inl (normal, refl)))
+    (λ l used. label_fits before trees l fit used) (λ text rule are. absurd (normal_or_compressed tokens are.0 are.1 normal are.2)) in (
+      record {
+        whole = whole;
+        moves = map name tokens;
+        said = inl (normal, refl);
+        proves = record { label = label; below = below; kept = []; made = fit_makes before trees none [] fit; derived = derived };
+      },
+      refl,
+    )
+
+-- ---- the tokens of a fully shared proof
+
+-- listed labels are among those of the tree
+first_used : (seen word listed : List (List ℕ)) (label : List ℕ) → AreFirstUses seen word listed → Contains listed label → Contains word label
+first_used seen [] listed label uses c = absurd (no_member label (subst (λ (ls : List (List ℕ)). Contains ls label) uses c))
+first_used seen (own ∷ word) listed label (inl (old, uses)) c = contains_later own word label (first_used seen word listed label uses c)
+first_used seen (own ∷ word) listed label (inr (new, others, e, uses)) c =
+    ⊎_elim (λ same. subst (Contains (own ∷ word)) same (contains_first own word))
+    (λ h. contains_later own word label (first_used (own ∷ seen) word others label uses h))
+    (contains_cases own others label (rw e at c))
+
+pub packed_listed : (before : List Sentence) (s : Sentence) (trees : Trees) (listed : List (List ℕ)) (codes : List Code) (label : List ℕ) → IsPacked before s trees listed codes → Contains listed label → Contains (spelling trees) label
+packed_listed before s trees listed codes label p c = first_used p.says.labels (spelling trees) listed label p.uses c
+
+-- the tokens of a packed proof say its moves
+abbrev pub packed_says : (before : List Sentence) (s : Sentence) (trees : Trees)
+    (listed : List (List ℕ)) (codes : List Code) (letters : List ℕ) (pieces : List (List ℕ))
+    → (p : IsPacked before s trees listed codes) → Letters letters codes
+    → flat_map (λ piece. piece) pieces ≡ letters → ¬ (Contains (spelling trees) closing_token)
+    → SaysCompressed before s (in_parentheses listed ++ pieces) p.moves
+packed_says before s trees listed codes letters pieces p coded joined apart = record {
+  listed = listed;
+  letters = pieces;
+  parts = record {
+    whole = ap (λ (l : List (List ℕ)). opening_token ∷ l)
+        (append_assoc listed (closing_token ∷ []) pieces);
+    first = λ c. apart (packed_listed before s trees listed codes closing_token p c);
+  };
+  codes = codes;
+  coded = subst (λ (text : List ℕ). Letters text codes) (sym joined) coded;
+  hypotheses = p.says.hypotheses;
+  mandatory = p.says.mandatory;
+  labels = p.says.labels;
+  labelled = p.says.labelled;
+  each = p.says.each;
+}
+
+pub packed_proves : (Fits : List (List ℕ) → Type 0) (before : List Sentence) (s : Sentence) (label : List ℕ) (below : Trees) (listed : List (List ℕ)) (codes : List Code) (letters : List ℕ) (pieces : List (List ℕ)) → AllMeant before
+    → IsPacked before s (tree label below none) listed codes → Letters letters codes → flat_map (λ piece. piece) pieces ≡ letters
+    → ¬ (Contains (spelling (tree label below none)) closing_token) → DeriveAll Fits before (tree label below none) (s.symbols ∷ [])
+    → IsProofBy Fits before s (in_parentheses listed ++ pieces) label below
+packed_proves Fits before s label below listed codes letters pieces meant p coded joined apart derived =
+    let trees : Trees = tree label below none in
+    let tokens : List (List ℕ) = in_parentheses listed ++ pieces in
+    let fit : TreesFit before trees = derive_fits Fits before trees (s.symbols ∷ []) derived in
+    let says = packed_says before s trees listed codes letters pieces p coded joined apart in
+    let closes : Contains (drop 1 tokens) closing_token =
+    Contains-append_left (listed ++ closing_token ∷ []) pieces closing_token (Contains-append_right listed (closing_token ∷ []) closing_token (contains_first closing_token [])) in
+    let broken_not : (text : List ℕ) (rule : CodeRule) → AreLetters tokens text → ¬ (LettersBreak rule text) = λ text rule are broken.
+    let same : text ≡ flat_map (λ piece. piece) pieces = letters_once tokens text (flat_map (λ piece. piece) pieces) are (listed, pieces, says.parts, refl) in
+    coded_not_broken (flat_map (λ piece. piece) pieces) codes rule says.coded (subst (LettersBreak rule) same broken) in (
+      record {
+        whole = whole_of before tokens listed meant (λ broken. broken.1 closes) (λ others are. labels_once tokens others listed are (inr (pieces, says.parts)))
+            (λ l used. label_fits before trees l fit (packed_listed before s trees listed codes l p used)) broken_not;
+        moves = p.moves;
+        said = inr says;
+        proves = record { label = label; below = below; kept = p.shared.kept; made = p.shared.made; derived = derived };
+      },
+      refl,
+    )
+
+-- ==== a normal proof has the strict form, and so has the packed proof of a tree
+
+-- a normal proof has no list and no marks
+pub normal_is_strict : (before : List Sentence) (s : Sentence) (tokens : List (List ℕ))
+    → IsNormal tokens → IsStrict before s tokens
+normal_is_strict before s tokens normal = strict_normal before s tokens normal
+
+-- ---- the list
+
+-- a hypothesis has its label among theirs
+label_in : (hypotheses : List Sentence) (labels : List (List ℕ)) (h : Sentence) (label : List ℕ)
+    → map (λ (g : Sentence). g.label) hypotheses ≡ map Some labels → In hypotheses h
+    → IsLabelled label h → In labels label
+label_in hypotheses labels h label e has named =
+    let at = in_get hypotheses h has in
+    let l = zip_left (λ (g : Sentence) k. g.label ≡ Some k) hypotheses labels at.0 h
+    (mapped_zip (λ (g : Sentence). g.label) Some _ (λ g k same. same) hypotheses labels e) at.1 in
+    get_in labels at.0 label (l.1 ∙ sym l.2 ∙ named)
+
+-- the labels by first use are listed once, and those of mandatory hypotheses aren't
+packed_list : (before : List Sentence) (s : Sentence) (trees : Trees) (listed : List (List ℕ))
+    (codes : List Code) → IsPacked before s trees listed codes → IsStrictList before s listed
+packed_list before s trees listed codes p =
+    let u = uses_apart (spelling trees) p.says.labels listed p.uses in
+    record {
+      once = λ i j label a b. once_places listed i j label u.0 a b;
+      optional = λ hypotheses h label those has named among.
+          let same : hypotheses ≡ p.says.hypotheses =
+          mandatory_unique before s hypotheses p.says.hypotheses those p.says.mandatory in
+          u.1 label (contains_in listed label among)
+          (label_in p.says.hypotheses p.says.labels h label p.says.labelled
+          (rw same at (contains_in hypotheses h has)) named);
+    }
+
+-- ---- the marks
+
+-- a mark keeps a tree
+kept_there : (before : List Sentence) (moves : List (Move (List ℕ))) (row : Trees)
+    (kept : List Trees) (row' : Trees) (kept' : List Trees)
+    (made : Makes before moves row kept row' kept') (i : ℕ) → slice_get moves i ≡ Some mark
+    → (t : Trees) × (slice_get (visits before moves row kept row' kept' made) i ≡ Some (keeps t))
+kept_there before [] row kept row' kept' made i at = absurd cc
+kept_there before (mark ∷ moves) row kept row' kept' made zero at =
+    (tree made.2.1 made.2.2 none, refl)
+kept_there before (move ∷ moves) row kept row' kept' made zero at = absurd cc
+kept_there before (move ∷ moves) row kept row' kept' made (suc i) at =
+    kept_there before moves made.0 made.1 row' kept' made.3 i at
+
+-- the step makes the tree by its label
+record ByLabel (before : List Sentence) (move : Option (Move (List ℕ))) (t : Trees) : Type 0 where
+  label : List ℕ
+  below : Trees
+  whole : t ≡ tree label below none
+  there : move ≡ Some (name label)
+  stands : MayStandOver before label below
+
+made_there : (before : List Sentence) (moves : List (Move (List ℕ))) (row : Trees)
+    (kept : List Trees) (row' : Trees) (kept' : List Trees)
+    (made : Makes before moves row kept row' kept') (j : ℕ) (t : Trees)
+    → slice_get (visits before moves row kept row' kept' made) j ≡ Some (makes t)
+    → ByLabel before (slice_get moves j) t
+made_there before [] row kept row' kept' made j t at = absurd cc
+made_there before (name label ∷ moves) row kept row' kept' made zero t at =
+    record { label = label; below = made.2.1; whole = cc; there = refl; stands = made.2.3 }
+made_there before (move ∷ moves) row kept row' kept' made zero t at = absurd cc
+made_there before (move ∷ moves) row kept row' kept' made (suc j) t at =
+    made_there before moves made.0 made.1 row' kept' made.3 j t at
+
+-- what stands over a tree is an assertion's label
+big_assertion : (before : List Sentence) (label : List ℕ) (below : Trees)
+    → IsBig (tree label below none) → MayStandOver before label below
+    → SomeSentence before (λ a. IsLabelled label a × IsAssertion a.kind)
+big_assertion before label below big (inl (bare, h)) =
+    absurd (let small : 2 ≤ 1 = rw bare at big in omega arith)
+big_assertion before label below big (inr (place, assertion, hypotheses, names, many)) =
+    (place, assertion, names.there, (names.named, names.kind))
+
+shared_marks : (before : List Sentence) (trees : Trees) (moves : List (Move (List ℕ)))
+    → ShareAll before trees moves → MarkAssertions before moves
+shared_marks before trees moves s front after parts =
+    let at : slice_get moves (length front) ≡ Some mark = rw parts (get_parted front after mark) in
+    let k = kept_there before moves none [] trees s.kept s.made (length front) at in
+    let m = s.marked (length front) k.0 k.1 in
+    let l = made_there before moves none [] trees s.kept s.made m.1 k.0 m.3 in
+    let held : slice_get front m.1 ≡ Some (name l.label) =
+    get_before front (mark ∷ after) m.1 (name l.label) (omega (arith, m.2))
+    (ap (λ x. slice_get x m.1) (sym parts) ∙ l.there) in
+    let last = last_of front m.1 (name l.label) m.2 held in (
+      last.0,
+      l.label,
+      last.1,
+      big_assertion before l.label l.below (subst IsBig l.whole m.0) l.stands,
+    )
+
+-- ---- the form
+
+-- the tokens of a packed proof have the strict form
+pub packed_is_strict : (before : List Sentence) (s : Sentence) (trees : Trees)
+    (listed : List (List ℕ)) (codes : List Code) (letters : List ℕ) (pieces : List (List ℕ))
+    → IsPacked before s trees listed codes → Letters letters codes
+    → flat_map (λ piece. piece) pieces ≡ letters → ¬ (Contains (spelling trees) closing_token)
+    → IsStrict before s (in_parentheses listed ++ pieces)
+packed_is_strict before s trees listed codes letters pieces p coded joined apart =
+    let tokens = in_parentheses listed ++ pieces in
+    let says = packed_says before s trees listed codes letters pieces p coded joined apart in
+    record {
+      listed = λ labels others parts. subst (IsStrictList before s)
+          (compressed_once tokens says.listed labels says.letters others says.parts parts).0
+          (packed_list before s trees listed codes p);
+      marked = λ others other. subst (MarkAssertions before)
+          (moves_once before s tokens p.moves others (inr says) (inr other))
+          (shared_marks before trees p.moves p.shared);
+    }

@@ -1,0 +1,358 @@
+-- The strict form of a proof, as the code judges it by the numbers of its labels and of its moves.
+use Rattle.std.proofs.Common.{◌≡◌, ℕ, zero, suc, ◌+◌, ◌-◌, ◌<◌, ◌≤◌, List, [], ◌∷◌, ◌++◌, length}
+use Rattle.std.proofs.Common.{take, get_or, slice_get, Contains, Bool, true, false, Option, Some}
+use Rattle.std.proofs.Common.{None, ◌⊎◌, ◌↔◌, inl, inr, ⊎_elim, refl, sym, ap, subst, ◌∙◌, arith}
+use Rattle.std.proofs.Common.{map, drop}
+use Rattle.std.proofs.lemmas.Option.{same_Some, slice_get_within, none-some}
+use Rattle.std.proofs.lemmas.Bool.{cases_lt, cases_order}
+use Rattle.std.proofs.lemmas.List.{length-map, length-take, map_more, take-map, length-append}
+use Rattle.std.proofs.lemmas.List.Elements.{Contains-append_left, Contains-push}
+use Rattle.std.proofs.lemmas.List.Elements.{Contains-push_cases}
+use Rattle.mm_frame.specs.declared.number.LabelId.{LabelId}
+use Rattle.mm_frame.specs.Sentence.{Sentence, SomeSentence, IsLabelled, IsHypothesis, IsAssertion}
+use Rattle.mm_code.specs.declared.code.Code.{Code}
+use Rattle.mm_code.specs.declared.code.Code.TheVariants.{Number, Tag}
+use Rattle.mm_proof.specs.Moves.{name, mark, Move, again}
+use Rattle.mm_proof.specs.Plain.{ids_in}
+use Rattle.mm_proof.specs.Mirror.CodeSteps.{code_move, code_moves, move_by, AreFor, MayBeUsed}
+use Rattle.mm_proof.proofs.ProofTokens.ProofCodes.{code_there}
+use Rattle.mm_proof.specs.Mirror.CodeSharing.{AddsNew}
+use Rattle.mm_proof.specs.Mirror.CodeForm.{AllNew, SomeOld, IsAfterAssertion, AreMarksStrict}
+use Rattle.mm_proof.specs.Mirror.CodeForm.{SomeMarkLoose}
+use Rattle.mm_proof.proofs.ByNumbers.UsedAssertions.{entry_at, named_by}
+use Rattle.std.specs.List.{AllByRecursion, AllZip}
+use Rattle.mm_text.proofs.Lists.{zip_left, zip_right, all_at, split_at, get_before, get_parted}
+use Rattle.mm_text.proofs.Lists.{get_take, get_from_take, at_from_contains, contains_from_at}
+use Rattle.mm_text.proofs.Lists.{mapped_zip}
+use Rattle.mm_frame.specs.Rules.{AllMeant}
+use Rattle.mm_frame.specs.Frame.{AreMandatory}
+use Rattle.mm_frame.specs.FramePlace.{AreHypotheses}
+use Rattle.mm_frame.specs.Numbers.{labelled_sentences, IsNumbered}
+use Rattle.mm_frame.proofs.Those.{mandatory_unique}
+use Rattle.mm_frame.proofs.Labelled.{numbered_get, numbered_from_get, numbered_unique}
+use Rattle.mm_proof.specs.Tokens.{IsCompressed, opening_token}
+use Rattle.mm_proof.specs.Steps.{IsNumberedMove, AreNumberedMoves, AreSteps, IsUsable, IsUsableMove}
+use Rattle.mm_proof.proofs.Machines.JudgedMoves.{usable_names}
+use Rattle.mm_proof.specs.Parsed.{OfProof, SaySteps}
+use Rattle.mm_proof.specs.Strict.{IsStrictList, MarkAssertions, IsStrict}
+use Rattle.mm_proof.proofs.ProofSteps.OneStep.{one_label, one_labelled, not_both_kinds}
+use Rattle.mm_proof.proofs.ByNumbers.NumberedLabels.{one_place}
+use Rattle.mm_proof.proofs.ProofTokens.SaidMoves.{moves_once}
+
+-- ==== labels that are new, one after the other
+
+pub only_one : (n x : ℕ) → Contains (n ∷ []) x → n ≡ x
+only_one n x (zero, within, is) = is
+only_one n x (suc k, within, is) = absurd (let w : suc k < 1 = within in omega arith)
+
+-- what is among numbers with one more behind them
+push_has : (old : List ℕ) (n x : ℕ) → Contains (old ++ n ∷ []) x ↔ (Contains old x ⊎ (n ≡ x))
+push_has old n x = (
+  Contains-push_cases old n x,
+  ⊎_elim (Contains-append_left old (n ∷ []) x)
+      (λ e. subst (Contains (old ++ n ∷ [])) e (Contains-push old n)),
+)
+
+-- what is among them after one was put behind them
+added_has : (old : List ℕ) (n : ℕ) (b : Bool) (new : List ℕ) → AddsNew old n b new → (x : ℕ) → Contains new x ↔ (Contains old x ⊎ (n ≡ x))
+added_has old n false new a x =
+    rw a.1 ((λ h. inl h), ⊎_elim (λ o. o) (λ e. subst (Contains old) e a.0))
+added_has old n true new a x = rw a.1 (push_has old n x)
+
+-- the numbers of one label more
+pub ids_more : (ids : List LabelId) (i : ℕ) (d : LabelId) → i < length ids → take (i + 1) (ids_in ids) ≡ take i (ids_in ids) ++ (get_or ids i d).0 ∷ []
+ids_more ids i d less =
+    let label : LabelId → ℕ = λ l. l.0 in
+    rw (take-map label (i + 1) ids, take-map label i ids, map_more label ids i d less)
+
+-- so far each is new, and these are seen
+pub record NewSoFar (first seen ids : List ℕ) (i : ℕ) : Type 0 where
+  pub new : (j id : ℕ) → j < i → slice_get ids j ≡ Some id → ¬ (Contains first id) × ¬ (Contains (take j ids) id)
+  pub has : (x : ℕ) → Contains seen x ↔ (Contains first x ⊎ Contains (take i ids) x)
+
+pub new_none : (first : List ℕ) (ids : List ℕ) → NewSoFar first first ids 0
+new_none first ids = record {
+  new = λ j id less. absurd (omega arith);
+  has = λ x. ((λ h. inl h), ⊎_elim (λ f. f) (λ n. absurd (omega (arith, n.1, length-take 0 ids))));
+}
+
+-- one more that is new
+pub new_one : (first seen next : List ℕ) (ids : List LabelId) (i : ℕ) (d : LabelId) (b : Bool) → i < length ids → NewSoFar first seen (ids_in ids) i → AddsNew seen (get_or ids i d).0 b next → b ≡ true
+    → NewSoFar first next (ids_in ids) (i + 1)
+new_one first seen next ids i d b less so added is =
+    let a = subst (λ (c : Bool). AddsNew seen (get_or ids i d).0 c next) is added in
+    record {
+      new = λ j id below at. elim (cases_lt j i) [
+        | inl l ↦ so.new j id l at
+        | inr m ↦
+            let same : j ≡ i = omega arith in
+            let one : (get_or ids i d).0 ≡ id = same_Some (get_or ids i d).0 id (sym (entry_at ids i d less) ∙ ap (slice_get (ids_in ids)) (sym same) ∙ at) in
+            let none = λ (h : Contains seen id). a.0 (subst (Contains seen) (sym one) h) in
+            ((λ f. none ((so.has id).1 (inl f))), λ t. none ((so.has id).1 (inr (subst (λ k. Contains (take k (ids_in ids)) id) same t))))
+      ];
+      has = λ x.
+          let grown = added_has seen (get_or ids i d).0 true next a x in
+          let pushed = push_has (take i (ids_in ids)) (get_or ids i d).0 x in
+          rw (ids_more ids i d less) (
+            λ h. ⊎_elim
+                (λ s. ⊎_elim (λ f. inl f) (λ t. inr (pushed.1 (inl t))) ((so.has x).0 s))
+                (λ e. inr (pushed.1 (inr e))) (grown.0 h),
+            λ h. grown.1 (⊎_elim (λ f. inl ((so.has x).1 (inl f)))
+                (λ t. ⊎_elim (λ b. inl ((so.has x).1 (inr b))) (λ e. inr e) (pushed.0 t)) h),
+          );
+    }
+
+pub new_all : (first seen : List ℕ) (ids : List LabelId) (i : ℕ) → length ids ≤ i → NewSoFar first seen (ids_in ids) i → AllNew first (ids_in ids)
+new_all first seen ids i past so j id at =
+    so.new j id (omega (arith, slice_get_within (ids_in ids) j id at, length-map ids (λ l. l.0))) at
+
+pub old_here : (first seen next : List ℕ) (ids : List LabelId) (i : ℕ) (d : LabelId) (b : Bool) → i < length ids → NewSoFar first seen (ids_in ids) i → AddsNew seen (get_or ids i d).0 b next → b ≡ false
+    → SomeOld first (ids_in ids)
+old_here first seen next ids i d b less so added is =
+    let a = subst (λ (c : Bool). AddsNew seen (get_or ids i d).0 c next) is added in
+    (i, (get_or ids i d).0, entry_at ids i d less, (so.has (get_or ids i d).0).0 a.0)
+
+-- ---- labels of hypotheses, put into a set one after the other
+
+pub set_more : (old new hids more : List ℕ) (n : ℕ) (b : Bool) → ((x : ℕ) → Contains old x ↔ Contains hids x) → AddsNew old n b new → more ≡ hids ++ n ∷ []
+    → (x : ℕ) → Contains new x ↔ Contains more x
+set_more old new hids more n b same a is x =
+    let grown = added_has old n b new a x in
+    let pushed = push_has hids n x in
+    rw is (
+      λ h. pushed.1 (⊎_elim (λ o. inl ((same x).0 o)) (λ e. inr e) (grown.0 h)),
+      λ h. grown.1 (⊎_elim (λ o. inl ((same x).1 o)) (λ e. inr e) (pushed.0 h)),
+    )
+
+pub new_seen : (seen hids ids : List ℕ) → ((x : ℕ) → Contains seen x ↔ Contains hids x) → AllNew seen ids → AllNew hids ids
+new_seen seen hids ids same new j id at = let n = new j id at in ((λ h. n.0 ((same id).1 h)), n.1)
+
+pub old_seen : (seen hids ids : List ℕ) → ((x : ℕ) → Contains seen x ↔ Contains hids x) → SomeOld seen ids → SomeOld hids ids
+old_seen seen hids ids same (j, id, at, o) = (j, id, at, ⊎_elim (λ h. inl ((same id).0 h)) (λ t. inr t) o)
+
+-- ---- codes
+
+pub code_mark : (ids : List ℕ) (c : Code) → code_move ids c ≡ mark → c ≡ Tag
+code_mark ids Tag e = refl
+code_mark ids (Number n) e = absurd (entry_moves (slice_get ids (n - 1)) (n - 1 - length ids) e)
+  where
+    entry_moves : (o : Option ℕ) (tag : ℕ) → move_by o tag ≡ mark → ⊥
+    entry_moves (Some id) tag e = cc
+    entry_moves None tag e = cc
+
+pub code_name : (ids : List ℕ) (c : Code) (id : ℕ) → code_move ids c ≡ name id → (n : ℕ) × (c ≡ Number n) × (slice_get ids (n - 1) ≡ Some id)
+code_name ids Tag id e = absurd cc
+code_name ids (Number n) id e = (n, refl, entry_named (slice_get ids (n - 1)) (n - 1 - length ids) e)
+  where
+    entry_named : (o : Option ℕ) (tag : ℕ) → move_by o tag ≡ name id → o ≡ Some id
+    entry_named (Some k) tag e = cc
+    entry_named None tag e = absurd cc
+
+-- the code before a place, where its move is a step by a label
+pub code_before : (ids : List ℕ) (said : List Code) (place before : ℕ) (d c : Code) (id : ℕ) → place ≡ before + 1 → place < length said → get_or said (place - 1) d ≡ c
+    → slice_get (code_moves ids said) before ≡ Some (name id) → (n : ℕ) × (c ≡ Number n) × (slice_get ids (n - 1) ≡ Some id)
+code_before ids said place before d c id is less here there =
+    let at : place - 1 ≡ before = omega (arith, is) in
+    let moved = same_Some _ (name id) (sym (code_there ids said before d (omega (arith, is, less))) ∙ there) in
+    code_name ids c id (ap (code_move ids) (sym here ∙ ap (λ k. get_or said k d) at) ∙ moved)
+
+-- one mark more
+pub marks_more : (st : List Sentence) (ids : List ℕ) (said : List Code) (i : ℕ) (d : Code) → i < length said
+    → ((k : ℕ) → k < i → slice_get (code_moves ids said) k ≡ Some mark → IsAfterAssertion st (code_moves ids said) k)
+    → (get_or said i d ≡ Tag → IsAfterAssertion st (code_moves ids said) i)
+    → (k : ℕ) → k < i + 1 → slice_get (code_moves ids said) k ≡ Some mark → IsAfterAssertion st (code_moves ids said) k
+marks_more st ids said i d less before here k below at = elim (cases_lt k i) [
+  | inl l ↦ before k l at
+  | inr m ↦
+      let same : k ≡ i = omega arith in
+      let marked = same_Some (code_move ids (get_or said i d)) mark (sym (code_there ids said i d less) ∙ ap (slice_get (code_moves ids said)) (sym same) ∙ at) in
+      subst (IsAfterAssertion st (code_moves ids said)) (sym same) (here (code_mark ids (get_or said i d) marked))
+]
+
+pub marks_all : (st : List Sentence) (ids : List ℕ) (said : List Code) (i : ℕ) → length said ≤ i
+    → ((k : ℕ) → k < i → slice_get (code_moves ids said) k ≡ Some mark → IsAfterAssertion st (code_moves ids said) k) → AreMarksStrict st (code_moves ids said)
+marks_all st ids said i past before k at = before k (omega (arith, slice_get_within (code_moves ids said) k mark at, length-map said (code_move ids))) at
+
+-- ==== the strict form of a proof, by the numbers of its labels and of its moves
+
+-- ---- labels and their numbers
+
+-- one number for one label
+number_once : (st : List Sentence) (p q a b : ℕ) (s t : Sentence) (label : List ℕ) → AllMeant st → IsNumbered st a p s → IsNumbered st b q t → IsLabelled label s → IsLabelled label t → a ≡ b
+number_once st p q a b s t label all n m ls lt =
+    sym n.number ∙ ap (λ k. length (labelled_sentences (take k st))) (one_label st p q s t label all n.there m.there ls lt) ∙ m.number
+
+-- what a list tells, place by place
+pub told_each : {X Y : Type 0} (f : X → Option Y) (xs : List X) (ys : List Y)
+    → map f xs ≡ map Some ys → AllZip (λ x y. f x ≡ Some y) xs ys
+told_each f xs ys is = mapped_zip f Some (λ x y. f x ≡ Some y) (λ x y same. same) xs ys is
+
+-- ---- the list
+
+-- where nothing stands behind itself, each stands once
+pub once_from : {X : Type 0} (xs : List X)
+    → ((i : ℕ) (x : X) → slice_get xs i ≡ Some x → ¬ (Contains (take i xs) x))
+    → (i j : ℕ) (x : X) → slice_get xs i ≡ Some x → slice_get xs j ≡ Some x → i ≡ j
+once_from xs new i j x p q = elim (cases_order i j) [
+  | inl e ↦ e
+  | inr (inl l) ↦ absurd (new j x q (contains_from_at (take j xs) x (i, get_take xs j i l ∙ p)))
+  | inr (inr m) ↦ absurd (new i x p (contains_from_at (take i xs) x (j, get_take xs i j m ∙ q)))
+]
+
+strict_list : (st : List Sentence) (place : ℕ) (s : Sentence) (hids ids : List ℕ) (labels : List (List ℕ)) → AllMeant st → slice_get st place ≡ Some s
+    → AreHypotheses (record { statements = st; place = place }) hids → AreFor st place ids labels → AllNew hids ids → IsStrictList (take place st) s labels
+strict_list st place s hids ids labels all there h each new = record {
+  once = λ i j label p q.
+      let a = zip_right (λ id l. MayBeUsed st place l id) ids labels i label each p in
+      let b = zip_right (λ id l. MayBeUsed st place l id) ids labels j label each q in
+      let same : a.0 ≡ b.0 = number_once st a.2.at b.2.at a.0 b.0 a.2.s b.2.s label all a.2.numbered b.2.numbered a.2.named b.2.named in
+      once_from ids (λ k id at. (new k id at).1) i j b.0 (a.1 ∙ ap Some same) b.1;
+  optional = λ hypotheses g label mandatory has named among.
+      let own : h.assertion ≡ s = same_Some h.assertion s (sym h.there ∙ there) in
+      let mine = subst (λ (a : Sentence). AreMandatory (take place st) a h.hypotheses) own h.mandatory in
+      let same : hypotheses ≡ h.hypotheses = mandatory_unique (take place st) s hypotheses h.hypotheses mandatory mine in
+      let at = at_from_contains h.hypotheses g (subst (λ (l : List Sentence). Contains l g) same has) in
+      let told = told_each (slice_get (labelled_sentences st)) hids h.hypotheses h.numbered in
+      let n = zip_right _ hids h.hypotheses at.0 g told at.1 in
+      let p = numbered_from_get st n.0 g n.2 in
+      let l = at_from_contains labels label among in
+      let b = zip_right (λ id k. MayBeUsed st place k id) ids labels l.0 label each l.1 in
+      let one : n.0 ≡ b.0 = number_once st p.0 b.2.at n.0 b.0 g b.2.s label all p.1 b.2.numbered named b.2.named in
+      (new l.0 b.0 b.1).0 (subst (Contains hids) one (contains_from_at hids n.0 (at.0, n.1)));
+}
+
+loose_list : (st : List Sentence) (place : ℕ) (s : Sentence) (hids ids : List ℕ) (labels : List (List ℕ)) → slice_get st place ≡ Some s
+    → AreHypotheses (record { statements = st; place = place }) hids → AreFor st place ids labels → SomeOld hids ids → ¬ (IsStrictList (take place st) s labels)
+loose_list st place s hids ids labels there h each (j, id, at, inl among) strict =
+    let own : h.assertion ≡ s = same_Some h.assertion s (sym h.there ∙ there) in
+    let mine = subst (λ (a : Sentence). AreMandatory (take place st) a h.hypotheses) own h.mandatory in
+    let l = zip_left (λ n k. MayBeUsed st place k n) ids labels j id each at in
+    let k = at_from_contains hids id among in
+    let told = told_each (slice_get (labelled_sentences st)) hids h.hypotheses h.numbered in
+    let g = zip_left _ hids h.hypotheses k.0 id told k.1 in
+    let same : l.2.s ≡ g.0 = same_Some l.2.s g.0 (sym (numbered_get st id l.2.at l.2.s l.2.numbered) ∙ g.2) in
+    strict.optional h.hypotheses g.0 l.0 mine (contains_from_at h.hypotheses g.0 (k.0, g.1)) (subst (IsLabelled l.0) same l.2.named) (contains_from_at labels l.0 (j, l.1))
+loose_list st place s hids ids labels there h each (j, id, at, inr before) strict =
+    let k = at_from_contains (take j ids) id before in
+    let f = get_from_take ids j k.0 id k.1 in
+    let a = zip_left (λ n l. MayBeUsed st place l n) ids labels k.0 id each f.1 in
+    let b = zip_left (λ n l. MayBeUsed st place l n) ids labels j id each at in
+    let one = (numbered_unique st id _ _ _ _ a.2.numbered b.2.numbered).1 in
+    let same = same_Some a.0 b.0 (sym (subst (IsLabelled a.0) one a.2.named) ∙ b.2.named) in
+    absurd (omega (arith, f.0, strict.once k.0 j b.0 (a.1 ∙ ap Some same) b.1))
+
+-- ---- the marks
+
+marks_mark : (st : List Sentence) (x : Move ℕ) → IsNumberedMove st x mark → x ≡ mark
+marks_mark st (name id) n = absurd (let e = n.4 in cc)
+marks_mark st (again tag) n = absurd (let e : mark ≡ again tag = n in cc)
+marks_mark st mark n = refl
+
+pub last_of : {X : Type 0} (xs : List X) (b : ℕ) (x : X) → length xs ≡ b + 1 → slice_get xs b ≡ Some x → (earlier : List X) × (xs ≡ earlier ++ x ∷ [])
+last_of [] b x long e = absurd (none-some x e)
+last_of (y ∷ []) zero x long e = ([], ap (λ z. z ∷ []) (same_Some y x e))
+last_of (y ∷ []) (suc b) x long e = absurd (none-some x e)
+last_of (y ∷ z ∷ xs) zero x long e = absurd (omega arith)
+last_of (y ∷ z ∷ xs) (suc b) x long e =
+    let rest = last_of (z ∷ xs) b x (omega arith) e in (y ∷ rest.0, ap (λ l. y ∷ l) rest.1)
+
+-- of an assertion's label
+assertion_usable : (st : List Sentence) (place : ℕ) (label : List ℕ) (p : ℕ) (a : Sentence) → AllMeant st → slice_get st p ≡ Some a → IsLabelled label a → IsAssertion a.kind
+    → IsUsable (take place st) label → SomeSentence (take place st) (λ b. IsLabelled label b × IsAssertion b.kind)
+assertion_usable st place label p a all there named kind (inr b) = b
+assertion_usable st place label p a all there named kind (inl h) =
+    let f = get_from_take st place h.0 h.1 h.2 in
+    let same : h.1 ≡ a = one_labelled st h.0 p h.1 a label all f.1 there h.4.0 named in
+    absurd (not_both_kinds a.kind (subst (λ (x : Sentence). IsHypothesis x.kind) same h.4.1) kind)
+
+strict_marks : (st : List Sentence) (place : ℕ) (steps : List (Move ℕ)) (moves : List (Move (List ℕ))) → AllMeant st → AreNumberedMoves st steps moves
+    → AllByRecursion (IsUsableMove (take place st)) moves → AreMarksStrict st steps → MarkAssertions (take place st) moves
+strict_marks st place steps moves all numbered usable strict front after parts =
+    let at : slice_get moves (length front) ≡ Some mark = ap (λ l. slice_get l (length front)) parts ∙ get_parted front after mark in
+    let x = zip_right (IsNumberedMove st) steps moves (length front) mark numbered at in
+    let s = strict (length front) (x.1 ∙ ap Some (marks_mark st x.0 x.2)) in
+    let y = zip_left (IsNumberedMove st) steps moves s.0 (name s.1) numbered s.3 in
+    let label = y.2.1 in
+    let moved : slice_get moves s.0 ≡ Some (name label) = y.1 ∙ ap Some y.2.4 in
+    let held : slice_get front s.0 ≡ Some (name label) = get_before front (mark ∷ after) s.0 (name label) (omega (arith, s.2)) (ap (λ l. slice_get l s.0) (sym parts) ∙ moved) in
+    let last = last_of front s.0 (name label) s.2 held in
+    let same : y.2.0 ≡ s.4.1 = same_Some y.2.0 s.4.1 (sym y.2.2 ∙ numbered_get st s.1 s.4.0 s.4.1 s.4.2) in (
+      last.0,
+      label,
+      last.1,
+      assertion_usable st place label s.4.0 s.4.1 all s.4.2.there (subst (IsLabelled label) same y.2.3) s.4.3
+          (all_at (IsUsableMove (take place st)) moves s.0 (name label) usable moved),
+    )
+
+-- the step before a mark of moves whose marks stand so
+pub step_before : (before : List Sentence) (moves : List (Move (List ℕ))) (k : ℕ)
+    → MarkAssertions before moves → slice_get moves k ≡ Some mark
+    → (b : ℕ) × (label : List ℕ) × (k ≡ b + 1) × (slice_get moves b ≡ Some (name label))
+    × SomeSentence before (λ a. IsLabelled label a × IsAssertion a.kind)
+step_before before moves k strict marked =
+    let m = strict (take k moves) (drop (suc k) moves) (split_at moves k mark marked) in
+    let less = slice_get_within moves k mark marked in
+    let more = length-append m.0 (name m.1 ∷ []) in
+    let long : k ≡ length m.0 + 1 = omega (arith, ap length m.2, more, length-take k moves, less) in
+    let held = ap (λ l. slice_get l (length m.0)) m.2 ∙ get_parted m.0 [] (name m.1) in
+    (length m.0, m.1, long, (get_from_take moves k (length m.0) (name m.1) held).1, m.3)
+
+loose_marks : (st : List Sentence) (place : ℕ) (steps : List (Move ℕ)) (moves : List (Move (List ℕ))) → AllMeant st → AreNumberedMoves st steps moves
+    → SomeMarkLoose st steps → ¬ (MarkAssertions (take place st) moves)
+loose_marks st place steps moves all numbered (k, at, none) strict =
+    let y = zip_left (IsNumberedMove st) steps moves k mark numbered at in
+    let m = step_before (take place st) moves k strict (y.1 ∙ ap Some y.2) in
+    let x = zip_right (IsNumberedMove st) steps moves m.0 (name m.1) numbered m.3 in
+    let b = named_by st x.0 m.1 x.2 in
+    let p = numbered_from_get st b.0 b.1 b.3 in
+    let a = get_from_take st place m.4.0 m.4.1 m.4.2 in
+    let same = one_labelled st m.4.0 p.0 m.4.1 b.1 m.1 all a.1 p.1.there m.4.3.0 b.4 in
+    none (m.0, b.0, m.2, x.1 ∙ ap Some b.2, (p.0, b.1, p.1, subst (λ (c : Sentence). IsAssertion c.kind) same m.4.3.1))
+
+-- ---- the form
+
+-- a proof that isn't compressed has the form
+pub strict_normal : (before : List Sentence) (s : Sentence) (tokens : List (List ℕ)) → ¬ (slice_get tokens 0 ≡ Some opening_token) → IsStrict before s tokens
+strict_normal before s tokens normal = record {
+  listed = λ labels letters c. absurd (normal (ap (λ l. slice_get l 0) c.whole));
+  marked = λ moves c. absurd (normal (ap (λ l. slice_get l 0) c.parts.whole));
+}
+
+-- ---- wherever the statement with the number stands
+
+pub strict_all : (st : List Sentence) (id own : ℕ) (t : Sentence) (tokens : List (List ℕ)) (hids ids : List ℕ) (steps : List (Move ℕ)) → AllMeant st → IsNumbered st id own t
+    → AreHypotheses (record { statements = st; place = own }) hids → ((labels letters : List (List ℕ)) → IsCompressed tokens labels letters → AreFor st own ids labels)
+    → OfProof st id (λ place s. SaySteps st place s tokens steps) → AreSteps st id steps → AllNew hids ids → AreMarksStrict st steps
+    → OfProof st id (λ place s. IsStrict (take place st) s tokens)
+strict_all st id own t tokens hids ids steps all number h each says made new marks place s proof =
+    let said = says place s proof in
+    let here : own ≡ place = one_place st id own place t s number proof.numbered in
+    let there = subst (λ k. AreHypotheses (record { statements = st; place = k }) hids) here h in
+    let usable = usable_names st id steps place s said.1 made proof.numbered said.3 in
+    record {
+      listed = λ labels letters c. strict_list st place s hids ids labels all proof.numbered.there
+          there (subst (λ k. AreFor st k ids labels) here (each labels letters c)) new;
+      marked = λ others c. subst (MarkAssertions (take place st))
+          (moves_once (take place st) s tokens said.1 others said.2 (inr c))
+          (strict_marks st place steps said.1 all said.3 usable marks);
+    }
+
+pub old_fault : (st : List Sentence) (id own : ℕ) (t : Sentence) (tokens : List (List ℕ)) (hids ids : List ℕ) (steps : List (Move ℕ)) → IsNumbered st id own t
+    → AreHypotheses (record { statements = st; place = own }) hids → ((labels letters : List (List ℕ)) → IsCompressed tokens labels letters → AreFor st own ids labels)
+    → OfProof st id (λ place s. SaySteps st place s tokens steps) → slice_get tokens 0 ≡ Some opening_token → SomeOld hids ids
+    → OfProof st id (λ place s. ¬ (IsStrict (take place st) s tokens))
+old_fault st id own t tokens hids ids steps number h each says first old place s proof strict =
+    let said = says place s proof in
+    let here : own ≡ place = one_place st id own place t s number proof.numbered in
+    let there = subst (λ k. AreHypotheses (record { statements = st; place = k }) hids) here h in
+    ⊎_elim (λ n. n.0 first)
+    (λ c. loose_list st place s hids ids c.listed proof.numbered.there there
+    (subst (λ k. AreFor st k ids c.listed) here (each c.listed c.letters c.parts)) old
+    (strict.listed c.listed c.letters c.parts)) said.2
+
+pub loose_fault : (st : List Sentence) (id : ℕ) (tokens : List (List ℕ)) (steps : List (Move ℕ)) → AllMeant st → OfProof st id (λ place s. SaySteps st place s tokens steps)
+    → slice_get tokens 0 ≡ Some opening_token → SomeMarkLoose st steps → OfProof st id (λ place s. ¬ (IsStrict (take place st) s tokens))
+loose_fault st id tokens steps all says first loose place s proof strict =
+    let said = says place s proof in
+    ⊎_elim (λ n. n.0 first)
+    (λ c. loose_marks st place steps said.1 all said.3 loose (strict.marked said.1 c)) said.2
