@@ -331,13 +331,6 @@ made_entries st place id at stack base vs conclusion made all ready as_many is e
     (subst (AreDeclaredSymbols st (take place st)) (sym (is ∙ made_is st place id at vs (drop base stack) conclusion as_many ready))
     (replaced_symbols st (take place st) vs (drop base stack) pattern (entries_drop st (take place st) base stack entries) known))
 
--- one side of a test
-pub match_true : (b : Bool) (P Q : Type 0) → b ≡ true → MatchBool b P Q → P
-match_true b P Q is h = MatchBool-at_true P Q is h
-
-pub match_false : (b : Bool) (P Q : Type 0) → b ≡ false → MatchBool b P Q → Q
-match_false b P Q is h = MatchBool-at_false P Q is h
-
 -- ---- what the frame tells
 
 -- the assertion of a scheme is the one with the number

@@ -397,9 +397,3 @@ lists_end limit st id own t xs stack kept count numbers lines n symbols run is l
 
 -- ---- answers
 
--- what holds of an answer's value
-pub if_ok_at : {X : Type 0} (r : Result X ProofFault) (P : X → Type 0) (x : X) → r ≡ Ok x → IfOk r P → P x
-if_ok_at r P x is h = IfOk-at_ok P is h
-
-pub if_rule_at : {X : Type 0} (r : Result X ProofFault) (P : ProofRule → ℕ → Type 0) (rule : ProofRule) (step : ℕ) → r ≡ Err (Rule rule step) → IfErr r (λ e. OnRule e P) → P rule step
-if_rule_at r P rule step is h = IfErr-at_err (λ e. OnRule e P) is h

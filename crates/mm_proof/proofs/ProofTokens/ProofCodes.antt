@@ -57,13 +57,10 @@ letters_spelled text codes l = All-from_recursion HasSpelling codes (from_one te
 
 -- ---- the one list of a compressed proof
 
-pub one_compressed : (tokens a es b fs : List (List ℕ)) → IsCompressed tokens a es → IsCompressed tokens b fs → (a ≡ b) × (es ≡ fs)
-one_compressed tokens a es b fs c d = compressed_once tokens a b es fs c d
-
 pub compressed_labels : (tokens listed letters : List (List ℕ)) → IsCompressed tokens listed letters → HasLabels tokens listed
 compressed_labels tokens listed letters c = record {
   are = inr (letters, c);
-  one = λ others are. ⊎_elim (λ n. absurd (n.0 (ap (λ l. slice_get l 0) c.whole))) (λ d. (one_compressed tokens others d.0 listed letters d.1 c).0) are;
+  one = λ others are. ⊎_elim (λ n. absurd (n.0 (ap (λ l. slice_get l 0) c.whole))) (λ d. (compressed_once tokens others listed d.0 letters d.1 c).0) are;
   ends = λ b. b.1 (subst (λ l. Contains (drop 1 l) closing_token) (sym c.whole) (Contains-append_right listed (closing_token ∷ letters) closing_token (0, omega arith, refl)));
 }
 
@@ -247,17 +244,23 @@ pub calls_long : (st : List Sentence) (at : ℕ) (ids : List ℕ) (calls : List 
 calls_long st at ids calls all = sym (AllZip-long (MayBeCalled st at) ids calls all)
 
 -- the move at the place of an entry
-pub entry_there : (ids : List ℕ) (place : ℕ) → place < length ids → (slice_get ids place ≡ Some (get_or ids place 0)) × (entry_move ids place ≡ name (get_or ids place 0))
-entry_there ids place less =
-    let there = slice_get-get_or ids place 0 less in (there, ap (λ o. move_by o (place - length ids)) there)
+pub entry_there : (ids : List ℕ) (place : ℕ) {count : ℕ} → place < count → count ≡ length ids
+    → (slice_get ids place ≡ Some (get_or ids place 0))
+    × (entry_move ids place ≡ name (get_or ids place 0))
+entry_there ids place less all =
+    let there = slice_get-get_or ids place 0 (rw all at less) in
+    (there, ap (λ o. move_by o (place - length ids)) there)
 
 -- the move at the place of this entry
 pub entry_moves : (ids : List ℕ) (place id : ℕ) → slice_get ids place ≡ Some id → entry_move ids place ≡ name id
 entry_moves ids place id there = ap (λ o. move_by o (place - length ids)) there
 
 -- a place past the entries is that of a tag
-pub tag_there : (ids : List ℕ) (place : ℕ) → length ids ≤ place → entry_move ids place ≡ again (place - length ids)
-tag_there ids place past = ap (λ o. move_by o (place - length ids)) (slice_get_past ids place past)
+pub tag_there : (ids : List ℕ) (place : ℕ) {count : ℕ} → count ≤ place → count ≡ length ids
+    → entry_move ids place ≡ again (place - count)
+tag_there ids place past all =
+    ap (λ o. move_by o (place - length ids)) (slice_get_past ids place (rw all at past))
+    ∙ ap (λ n. again (place - n)) (sym all)
 
 -- ---- a machine
 

@@ -1,4 +1,5 @@
 -- Each proof and each known front has one verdict under a profile, and what the strict one adds.
+use Rattle.mm_proof.proofs.ProofTokens.SaidMoves.{compressed_once}
 use Rattle.std.proofs.Common.{◌≡◌, ℕ, List, take, Result, Ok, Err, inl, inr, refl, sym, ◌∙◌, arith}
 use Rattle.std.proofs.Common.{◌+◌, [], ◌∷◌, ◌++◌, length, slice_get, Contains, Some, ap, subst}
 use Rattle.std.specs.Result.{IfOk, IfErr, IsOkUnless}
@@ -41,7 +42,6 @@ use Rattle.mm_frame.proofs.Those.{mandatory_unique}
 use Rattle.mm_proof.specs.Moves.{Move, name, mark}
 use Rattle.mm_proof.specs.Tokens.{SayMoves}
 use Rattle.mm_proof.proofs.ProofTokens.SaidMoves.{some_moves, moves_once}
-use Rattle.mm_proof.proofs.ProofTokens.ProofCodes.{one_compressed}
 use Rattle.mm_proof.proofs.ProofVerdicts.StrictForm.{last_of, told_each, once_from, step_before}
 use Rattle.mm_proof.proofs.ProofVerdicts.StrictForm.{strict_normal}
 
@@ -268,7 +268,7 @@ strict_dec : (before : List Sentence) (s : Sentence) (tokens : List (List ℕ)) 
 strict_dec before s tokens moves (inl n) = yes (strict_normal before s tokens n.0)
 strict_dec before s tokens moves (inr c) = dec_as
     (λ h. record {
-      listed = λ labels letters d. subst (IsStrictList before s) (one_compressed tokens c.listed c.letters labels letters c.parts d).0 h.0;
+      listed = λ labels letters d. subst (IsStrictList before s) (compressed_once tokens c.listed labels c.letters letters c.parts d).0 h.0;
       marked = λ others d. subst (MarkAssertions before) (moves_once before s tokens moves others (inr c) (inr d)) h.1;
     })
     (λ strict. (strict.listed c.listed c.letters c.parts, strict.marked moves c))

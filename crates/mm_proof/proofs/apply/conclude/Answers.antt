@@ -1,3 +1,4 @@
+use Rattle.std.proofs.lemmas.Bool.{MatchBool-at_true, MatchBool-at_false}
 use Rattle.std.proofs.Common.{◌≡◌, ℕ, List, length, drop, take, refl, sym, subst, arith}
 use Rattle.std.proofs.lemmas.List.{length-drop}
 use Rattle.mm_frame.specs.Pieces.{variables_of}
@@ -6,8 +7,7 @@ use Rattle.mm_proof.specs.declared.fault.ProofRule.{ProofRule}
 use Rattle.mm_proof.specs.declared.fault.ProofRule.TheVariants.{L1}
 use Rattle.mm_proof.specs.Mirror.CodeRun.{CarriesOn, StopsAt}
 use Rattle.mm_proof.specs.Mirror.CodeVerify.{AreStackEntries}
-use Rattle.mm_proof.proofs.ByNumbers.StepByAssertion.{stops_L1, carries, made_entries, match_true}
-use Rattle.mm_proof.proofs.ByNumbers.StepByAssertion.{match_false}
+use Rattle.mm_proof.proofs.ByNumbers.StepByAssertion.{stops_L1, carries, made_entries}
 use Rattle.mm_proof.proofs.apply.conclude.Goals as goal
 
 pub returns-then-not-branch-clause-fault : goal.returns-then-not-branch-clause-fault
@@ -16,7 +16,7 @@ returns-then-not-branch-clause-fault g c rule step is =
     let xs = c.args.scheme.now.hypotheses.now in
     let vs = variables_of xs in
     let count : length (drop c.args.base stack) ≡ length vs = omega (arith, length-drop c.args.base stack, c.requires.entries, variables_counted xs) in
-    let over = (match_false c.in_ok-conclude.field-0 _ _ c.if-not-branch.true c.in_ok-conclude.ensures.said).0 in
+    let over = (MatchBool-at_false _ _ c.if-not-branch.true c.in_ok-conclude.ensures.said).0 in
     let same : L1 ≡ rule = cc in (
       cc,
       λ st place id at sound ready. subst (λ (r : ProofRule). StopsAt c.args.limit st place id stack r) same
@@ -29,7 +29,7 @@ returns-clause-carried g c st place id at sound ready =
     let xs = c.args.scheme.now.hypotheses.now in
     let vs = variables_of xs in
     let count : length (drop c.args.base stack) ≡ length vs = omega (arith, length-drop c.args.base stack, c.requires.entries, variables_counted xs) in
-    let made = match_true c.in_ok-conclude.field-0 _ _ c.if-not-branch.false c.in_ok-conclude.ensures.said in
+    let made = MatchBool-at_true _ _ c.if-not-branch.false c.in_ok-conclude.ensures.said in
     subst (λ (l : List (List ℕ)). CarriesOn c.args.limit st place id stack l) (sym made.1)
     (carries c.args.limit c.one_number.ensures st place id at stack c.args.base vs c.args.scheme.now.conclusion.now _ sound.0 ready count refl made.0)
 
@@ -39,6 +39,6 @@ returns-clause-entries g c st place id at sound ready entries =
     let xs = c.args.scheme.now.hypotheses.now in
     let vs = variables_of xs in
     let count : length (drop c.args.base stack) ≡ length vs = omega (arith, length-drop c.args.base stack, c.requires.entries, variables_counted xs) in
-    let made = match_true c.in_ok-conclude.field-0 _ _ c.if-not-branch.false c.in_ok-conclude.ensures.said in
+    let made = MatchBool-at_true _ _ c.if-not-branch.false c.in_ok-conclude.ensures.said in
     subst (λ (l : List (List ℕ)). AreStackEntries st (take place st) l) (sym made.1)
     (made_entries st place id at stack c.args.base vs c.args.scheme.now.conclusion.now _ sound.0 ready count refl entries)

@@ -1,11 +1,11 @@
+use Rattle.std.proofs.lemmas.Result.{IfOk-at_ok, IfErr-at_err}
 use Rattle.std.proofs.Common.{take, subst}
 use Rattle.std.proofs.lemmas.Result.{IfOk-weaker}
 use Rattle.mm_frame.proofs.Meant.{allmeant_front}
 use Rattle.mm_proof.specs.Proof.{IsWithin}
 use Rattle.mm_proof.specs.Profiles.{limit_of}
 use Rattle.mm_proof.specs.Steps.{AreNumberedMoves}
-use Rattle.mm_proof.proofs.Machines.JudgedMoves.{held_moves, seen_moves, seen_limit, if_ok_at}
-use Rattle.mm_proof.proofs.Machines.JudgedMoves.{if_rule_at}
+use Rattle.mm_proof.proofs.Machines.JudgedMoves.{held_moves, seen_moves, seen_limit}
 use Rattle.mm_proof.proofs.ProofVerdicts.FirstFault.{accepts, refuses, rules_map}
 use Rattle.mm_proof.proofs.lines.listing.Goals as goal
 
@@ -16,7 +16,7 @@ returns-clause-listed c =
 
 pub returns-clause-fault : goal.returns-clause-fault
 returns-clause-fault c rule step is place s moves proof numbered =
-    if_rule_at c.lines_of_proof.result _ rule step is (rw (seen_limit c.steps.view_is) at c.lines_of_proof.ensures.fault) place s moves proof (subst (λ l. AreNumberedMoves c.args.book.now.statements l moves) (held_moves _ _ _ _ _ c.deref.ensures.value c.deref-2.ensures.value (seen_moves c.steps.view_is)) numbered)
+    IfErr-at_err _ is (rw (seen_limit c.steps.view_is) at c.lines_of_proof.ensures.fault) place s moves proof (subst (λ l. AreNumberedMoves c.args.book.now.statements l moves) (held_moves _ _ _ _ _ c.deref.ensures.value c.deref-2.ensures.value (seen_moves c.steps.view_is)) numbered)
 
 pub returns-clause-accepts : goal.returns-clause-accepts
 returns-clause-accepts c place s moves proof numbered p =
@@ -26,5 +26,5 @@ returns-clause-accepts c place s moves proof numbered p =
 pub returns-clause-refuses : goal.returns-clause-refuses
 returns-clause-refuses c place s moves proof numbered rule step fault =
     refuses (IsWithin (limit_of c.args.steps.now.profile)) (take place c.args.book.now.statements) s moves c.lines_of_proof.result (allmeant_front c.args.book.now.statements place c.lines_of_proof.ensures.sound.0)
-    (λ x is. (if_ok_at c.lines_of_proof.result _ x is (rw (seen_limit c.steps.view_is) at c.lines_of_proof.ensures.listed) place s moves proof (subst (λ l. AreNumberedMoves c.args.book.now.statements l moves) (held_moves _ _ _ _ _ c.deref.ensures.value c.deref-2.ensures.value (seen_moves c.steps.view_is)) numbered)).0)
+    (λ x is. (IfOk-at_ok _ is (rw (seen_limit c.steps.view_is) at c.lines_of_proof.ensures.listed) place s moves proof (subst (λ l. AreNumberedMoves c.args.book.now.statements l moves) (held_moves _ _ _ _ _ c.deref.ensures.value c.deref-2.ensures.value (seen_moves c.steps.view_is)) numbered)).0)
     (rules_map c.lines_of_proof.result _ _ (λ r n h. h place s moves proof (subst (λ l. AreNumberedMoves c.args.book.now.statements l moves) (held_moves _ _ _ _ _ c.deref.ensures.value c.deref-2.ensures.value (seen_moves c.steps.view_is)) numbered)) (rw (seen_limit c.steps.view_is) at c.lines_of_proof.ensures.fault)) rule step fault

@@ -1,9 +1,10 @@
+use Rattle.mm_proof.proofs.ProofTokens.SaidMoves.{compressed_once}
 use Rattle.std.proofs.Common.{Err, ap}
 use Rattle.std.proofs.lemmas.Result.{err_from_is_err_and}
 use Rattle.mm_code.specs.declared.code.CodeRule.TheVariants as code
 use Rattle.mm_proof.proofs.ProofVerdicts.FirstFault.{on_rule_map}
 use Rattle.mm_proof.proofs.ProofTokens.ProofLabels.{labels_fault}
-use Rattle.mm_proof.proofs.ProofTokens.ProofCodes.{one_compressed, reading_compressed, codes_say}
+use Rattle.mm_proof.proofs.ProofTokens.ProofCodes.{reading_compressed, codes_say}
 use Rattle.mm_proof.proofs.ProofTokens.ProofCodes.{compressed_labels, letters_spelled}
 use Rattle.mm_proof.proofs.ProofTokens.ProofCodes.{letter_broken}
 use Rattle.mm_proof.proofs.parse.fill_compressed.Goals as goal
@@ -34,5 +35,5 @@ returns-clause-ok c =
 
 pub returns-clause-listed : goal.returns-clause-listed
 returns-clause-listed c labels letters parts =
-    rw (← c.site.view_is, (one_compressed _ labels letters _ _ parts c.in-Some.ensures).0)
+    rw (← c.site.view_is, (compressed_once _ labels _ letters _ parts c.in-Some.ensures).0)
     c.in_ok-fill_numbers.ensures.ok

@@ -1,3 +1,4 @@
+use Rattle.std.proofs.lemmas.Bool.{MatchBool-at_true, MatchBool-at_false}
 use Rattle.std.proofs.Common.{◌≡◌, length, drop, not, ap, ◌∙◌, arith}
 use Rattle.std.proofs.lemmas.Option.{slice_get_within}
 use Rattle.std.proofs.lemmas.List.{length-drop}
@@ -9,7 +10,6 @@ use Rattle.mm_proof.proofs.ByNumbers.NumberedSymbols.{floating_equal, variable_t
 use Rattle.mm_proof.proofs.ByNumbers.NumberedSymbols.{typed_variables, untyped_essential}
 use Rattle.mm_proof.proofs.ByNumbers.NumberedSymbols.{no_hypothesis, pattern_found, part_within}
 use Rattle.mm_proof.proofs.ByNumbers.NumberedSymbols.{said_told}
-use Rattle.mm_proof.proofs.ByNumbers.StepByAssertion.{match_true, match_false}
 use Rattle.mm_proof.proofs.step.are_equal.Goals.{else-is_none-via-then-is_none+else-not-is_said, else-is_none-via-else-is_none}
 use Rattle.mm_proof.proofs.step.are_equal.Given.{Over}
 use Rattle.mm_proof.proofs.step.are_equal.Goals.{Start}
@@ -50,8 +50,7 @@ returns-then-not-is_said g c σ replaces hs are =
       _,
       at.1,
       entry_at _ stack c.args.base _ _ c.at.ensures,
-      match_false c.is_said.result _ _ c.if-not-is_said.true
-          (said_told c.one_number.ensures _ σ _ _ at.0 _ _ c.is_said.result size replaces
+      MatchBool-at_false _ _ c.if-not-is_said.true (said_told c.one_number.ensures _ σ _ _ at.0 _ _ c.is_said.result size replaces
           c.requires.below (entry_below _ stack c.args.base _ _ c.requires.below c.at.ensures) its
           (untyped_essential _ at.0 _ none at.3) c.is_said.ensures.0 c.is_said.ensures.1),
     )
@@ -68,8 +67,7 @@ loop-index-preserved g c σ replaces hs are =
           let its = pattern_found _ _ _ _ _ _ no_hypothesis at.0 c.requires.patterns
           c.loop-index-test.true none w.pattern.ensures at.2 in
           each_more hs _ _ _ at.0 _ at.1 (entry_at _ stack c.args.base _ _ w.at.ensures)
-          (match_true w.is_said.result _ _ w.if-not-is_said.false
-          (said_told c.one_number.ensures _ σ _ _ at.0 _ _ w.is_said.result size replaces
+          (MatchBool-at_true _ _ w.if-not-is_said.false (said_told c.one_number.ensures _ σ _ _ at.0 _ _ w.is_said.result size replaces
           c.requires.below (entry_below _ stack c.args.base _ _ c.requires.below w.at.ensures) its
           (untyped_essential _ at.0 _ none at.3) w.is_said.ensures.0 w.is_said.ensures.1))
           before

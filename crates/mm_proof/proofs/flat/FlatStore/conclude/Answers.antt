@@ -1,8 +1,8 @@
+use Rattle.std.proofs.lemmas.Bool.{MatchBool-at_true, MatchBool-at_false}
 use Rattle.std.proofs.Common.{◌≤◌, length, ap, ◌∙◌, arith}
 use Rattle.std.proofs.lemmas.List.{length-append}
 use Rattle.mm_frame.proofs.SameTables.{on_err}
 use Rattle.mm_proof.specs.Mirror.Buffer.{AreParts}
-use Rattle.mm_proof.proofs.ByNumbers.StepByAssertion.{match_true, match_false}
 use Rattle.mm_proof.proofs.StoreRanges.{parts-grow, within-later, within-put, concluded}
 use Rattle.mm_proof.proofs.StoreRanges.{concluded-entry}
 use Rattle.mm_proof.proofs.flat.FlatStore.conclude.Goals as goal
@@ -15,7 +15,7 @@ returns-in_err-put_said-clause-kept c = rw c.put_said.ensures.grown.1 (parts-gro
 
 pub returns-then-not-branch-clause-said : goal.returns-then-not-branch-clause-said
 returns-then-not-branch-clause-said c =
-    let over = rw c.deref.ensures.value at (match_false c.in_ok-put_said.field-0 _ _ c.if-not-branch.true c.in_ok-put_said.ensures.said) in
+    let over = rw c.deref.ensures.value at (MatchBool-at_false _ _ c.if-not-branch.true c.in_ok-put_said.ensures.said) in
     (over, rw c.put_said.ensures.grown.1 (parts-grow _ _ _ c.args.self.now.stacked))
 
 pub returns-then-not-branch-clause-kept : goal.returns-then-not-branch-clause-kept
@@ -32,7 +32,7 @@ returns-in_err-conclude_at_cut-clause-kept c =
 
 pub returns-then-len-self-clause-said : goal.returns-then-len-self-clause-said
 returns-then-len-self-clause-said c =
-    let said = rw c.deref.ensures.value at (match_true c.in_ok-put_said.field-0 _ _ c.if-not-branch.false c.in_ok-put_said.ensures.said) in (
+    let said = rw c.deref.ensures.value at (MatchBool-at_true _ _ c.if-not-branch.false c.in_ok-put_said.ensures.said) in (
       said.0,
       c.in_ok-conclude_at_cut.ensures.said
           ∙ concluded c.args.self.now.symbols c.put_said.new.symbols said.1 c.args.self.now.stack.items c.args.base c.len-start.result _ c.args.self.now.stacked c.len-start.ensures said.2 said.3,
@@ -52,7 +52,7 @@ returns-in_err-put_last-clause-kept c = rw c.put_said.ensures.grown.1 (parts-gro
 
 pub returns-clause-said : goal.returns-clause-said
 returns-clause-said c =
-    let said = rw c.deref.ensures.value at (match_true c.in_ok-put_said.field-0 _ _ c.if-not-branch.false c.in_ok-put_said.ensures.said) in
+    let said = rw c.deref.ensures.value at (MatchBool-at_true _ _ c.if-not-branch.false c.in_ok-put_said.ensures.said) in
     rw c.in_ok-put_last.ensures.put
     (said.0, concluded-entry c.args.self.now.symbols c.put_said.new.symbols said.1 c.args.self.now.stack.items c.args.base _ _ c.args.self.now.stacked c.len-start.ensures c.len-2.ensures said.2 said.3)
 

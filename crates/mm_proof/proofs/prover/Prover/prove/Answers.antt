@@ -1,5 +1,6 @@
 -- What is answered of the tokens is exact, and said of the prover's book; and with an unknown step the
 -- answer is that on the known front.
+use Rattle.std.proofs.lemmas.Result.{IfOk-at_ok, IfErr-at_err}
 use Rattle.mm_frame.proofs.Meant.{allformed_front}
 use Rattle.std.proofs.Common.{◌≡◌, Ok, Err, sym, ap, ◌∙◌}
 use Rattle.mm_proof.specs.declared.fault.ProofFault.TheVariants.{Rule}
@@ -7,7 +8,6 @@ use Rattle.mm_proof.specs.declared.prover.Proved.{Proved}
 use Rattle.mm_proof.specs.declared.prover.Proved.TheVariants.{Complete, Incomplete}
 use Rattle.mm_proof.specs.Plain.{ids_in, token_texts}
 use Rattle.mm_proof.proofs.ProofTokens.QuestionMarks.{proved_known, said_known}
-use Rattle.mm_proof.proofs.Machines.JudgedMoves.{if_ok_at, if_rule_at}
 use Rattle.mm_proof.proofs.ProofVerdicts.ProfileVerdicts.{accepted_under, refused_under}
 use Rattle.mm_proof.proofs.ProofVerdicts.ProfileVerdicts.{front_allowed, front_refused}
 use Rattle.mm_proof.proofs.prover.Prover.prove.Goals as goal
@@ -48,7 +48,7 @@ returns-in-Ok-clause-refuses_front c unknown place s proof rule step fault =
 pub returns-then-is_incomplete-clause-incomplete : goal.returns-then-is_incomplete-clause-incomplete
 returns-then-is_incomplete-clause-incomplete c is = rw (← c.self.view_is) (
   sym c.is_incomplete.ensures ∙ c.if-is_incomplete.true,
-  (if_ok_at c.allow.result _ Incomplete is c.allow.ensures.allowed).1,
+  (IfOk-at_ok _ is c.allow.ensures.allowed).1,
 )
 
 pub returns-then-is_incomplete-clause-accepts : goal.returns-then-is_incomplete-clause-accepts
@@ -58,7 +58,7 @@ returns-then-is_incomplete-clause-accepts c = rw (← c.self.view_is) (λ place 
 
 pub returns-then-is_incomplete-clause-front_fault : goal.returns-then-is_incomplete-clause-front_fault
 returns-then-is_incomplete-clause-front_fault c unknown rule step is =
-    rw (← c.self.view_is) (if_rule_at c.allow.result _ rule step is c.allow.ensures.fault)
+    rw (← c.self.view_is) (IfErr-at_err _ is c.allow.ensures.fault)
 
 pub returns-then-is_incomplete-clause-allows_front : goal.returns-then-is_incomplete-clause-allows_front
 returns-then-is_incomplete-clause-allows_front c unknown = rw (← c.self.view_is) (
@@ -68,8 +68,7 @@ returns-then-is_incomplete-clause-allows_front c unknown = rw (← c.self.view_i
 pub returns-then-is_incomplete-clause-refuses_front : goal.returns-then-is_incomplete-clause-refuses_front
 returns-then-is_incomplete-clause-refuses_front c unknown = rw (← c.self.view_is) (
     front_refused c.args.profile c.allow.result _ _ (token_texts c.args.tokens.now)
-    c.prove_tokens.ensures.sound.0 (λ x is. (if_ok_at c.allow.result _ x is
-    c.allow.ensures.allowed).1) c.allow.ensures.fault)
+    c.prove_tokens.ensures.sound.0 (λ x is. (IfOk-at_ok _ is c.allow.ensures.allowed).1) c.allow.ensures.fault)
 
 -- ---- one that has a fault
 
