@@ -76,31 +76,33 @@ places_once (y ∷ ys) one = (
 
 -- ---- over the elements of a list
 
-pub contains_later : (y : List ℕ) (xs : List (List ℕ)) (x : List ℕ) → Contains xs x → Contains (y ∷ xs) x
-contains_later y xs x h = (suc h.0, let less : h.0 < length xs = h.1 in omega arith, h.2)
+module _ (y : List ℕ) (xs : List (List ℕ)) where
+  pub contains_later : (x : List ℕ) → Contains xs x → Contains (y ∷ xs) x
+  contains_later x h = (suc h.0, let less : h.0 < length xs = h.1 in omega arith, h.2)
 
-pub contains_first : (y : List ℕ) (xs : List (List ℕ)) → Contains (y ∷ xs) y
-contains_first y xs = (0, omega arith, refl)
+  pub contains_first : Contains (y ∷ xs) y
+  contains_first = (0, omega arith, refl)
 
-pub contains_cases : (y : List ℕ) (xs : List (List ℕ)) (x : List ℕ) → Contains (y ∷ xs) x → (y ≡ x) ⊎ Contains xs x
-contains_cases y xs x (zero, less, e) = inl e
-contains_cases y xs x (suc k, less, e) =
-    let more : suc k < length (y ∷ xs) = less in inr (k, omega arith, e)
+  pub contains_cases : (x : List ℕ) → Contains (y ∷ xs) x → (y ≡ x) ⊎ Contains xs x
+  contains_cases x (zero, less, e) = inl e
+  contains_cases x (suc k, less, e) =
+      let more : suc k < length (y ∷ xs) = less in inr (k, omega arith, e)
 
-pub dec_member : (P : List ℕ → Type 0) → ((x : List ℕ) → Dec (P x)) → (xs : List (List ℕ)) → Dec ((x : List ℕ) × Contains xs x × P x)
-dec_member P each [] = no (λ h. absurd (let less : h.1.0 < 0 = h.1.1 in omega arith))
-dec_member P each (y ∷ xs) = dec_as
-    (λ h. ⊎_elim (λ p. (y, contains_first y xs, p))
-    (λ b. (b.0, contains_later y xs b.0 b.1, b.2)) h)
-    (λ h. ⊎_elim (λ e. inl (rw e h.2)) (λ c. inr (h.0, c, h.2)) (contains_cases y xs h.0 h.1))
-    (dec_or (each y) (dec_member P each xs))
+module _ (P : List ℕ → Type 0) (each : ((x : List ℕ) → Dec (P x))) where
+  pub dec_member : (xs : List (List ℕ)) → Dec ((x : List ℕ) × Contains xs x × P x)
+  dec_member [] = no (λ h. absurd (let less : h.1.0 < 0 = h.1.1 in omega arith))
+  dec_member (y ∷ xs) = dec_as
+      (λ h. ⊎_elim (λ p. (y, contains_first y xs, p))
+      (λ b. (b.0, contains_later y xs b.0 b.1, b.2)) h)
+      (λ h. ⊎_elim (λ e. inl (rw e h.2)) (λ c. inr (h.0, c, h.2)) (contains_cases y xs h.0 h.1))
+      (dec_or (each y) (dec_member xs))
 
-pub dec_each : (P : List ℕ → Type 0) → ((x : List ℕ) → Dec (P x)) → (xs : List (List ℕ)) → Dec ((x : List ℕ) → Contains xs x → P x)
-dec_each P each [] = yes (λ x h. absurd (let less : h.0 < 0 = h.1 in omega arith))
-dec_each P each (y ∷ xs) = dec_as
-    (λ h x c. elim (contains_cases y xs x c) [ inl e ↦ subst P e h.0 | inr k ↦ h.1 x k ])
-    (λ h. (h y (contains_first y xs), λ x c. h x (contains_later y xs x c)))
-    (dec_both (each y) (dec_each P each xs))
+  pub dec_each : (xs : List (List ℕ)) → Dec ((x : List ℕ) → Contains xs x → P x)
+  dec_each [] = yes (λ x h. absurd (let less : h.0 < 0 = h.1 in omega arith))
+  dec_each (y ∷ xs) = dec_as
+      (λ h x c. elim (contains_cases y xs x c) [ inl e ↦ subst P e h.0 | inr k ↦ h.1 x k ])
+      (λ h. (h y (contains_first y xs), λ x c. h x (contains_later y xs x c)))
+      (dec_both (each y) (dec_each xs))
 
 -- the elements that a property picks
 pub those_of : {X : Type 0} (P : ℕ → X → Type 0) → ((k : ℕ) (x : X) → Dec (P k x)) → (place : ℕ) (xs : List X) → (those : List X) × AreThose P place xs those

@@ -21,22 +21,23 @@ use Rattle.mm_frame.proofs.Entries.{slice_left}
 
 -- ==== elements of a list that a contract sees as something else
 
--- what is read at a place is seen as what stands there
-pub read-at : {X Y : Type 0} (f : X → Y) (xs : List X) (i : ℕ) (x : X) (y : Y) → i < length (map f xs)
-    → x ≡ get_or xs i x → slice_get (map f xs) i ≡ Some y → f x ≡ y
-read-at f xs i x y within read there =
-    let at = slice_get-map f xs i in
-    let room : i < length xs = omega (arith, length-map xs f) in
-    let is = slice_get_read xs (length xs) i x refl room read in
-    cc
+module _ {X Y : Type 0} (f : X → Y) (xs : List X) (i : ℕ) (x : X) (y : Y) where
+  -- what is read at a place is seen as what stands there
+  pub read-at : i < length (map f xs) → x ≡ get_or xs i x → slice_get (map f xs) i ≡ Some y
+      → f x ≡ y
+  read-at within read there =
+      let at = slice_get-map f xs i in
+      let room : i < length xs = omega (arith, length-map xs f) in
+      let is = slice_get_read xs (length xs) i x refl room read in
+      cc
 
--- what stands last is seen as what is read there
-pub read-last : {X Y : Type 0} (f : X → Y) (xs : List X) (i : ℕ) (x : X) (y : Y) → 0 < length (map f xs) → i ≡ length xs - 1
-    → x ≡ get_or xs i x → slice_get (map f xs) (length (map f xs) - 1) ≡ Some y → f x ≡ y
-read-last f xs i x y some last read there =
-    let is : length (map f xs) - 1 ≡ i = omega (arith, length-map xs f) in
-    let at : slice_get (map f xs) i ≡ Some y = cc in
-    read-at f xs i x y (omega (arith, length-map xs f)) read at
+  -- what stands last is seen as what is read there
+  pub read-last : 0 < length (map f xs) → i ≡ length xs - 1 → x ≡ get_or xs i x
+      → slice_get (map f xs) (length (map f xs) - 1) ≡ Some y → f x ≡ y
+  read-last some last read there =
+      let is : length (map f xs) - 1 ≡ i = omega (arith, length-map xs f) in
+      let at : slice_get (map f xs) i ≡ Some y = cc in
+      read-at (omega (arith, length-map xs f)) read at
 
 -- a front of the list is seen as that front
 pub take-seen : {X Y : Type 0} (f : X → Y) (xs : List X) (m k : ℕ) → m ≡ length xs - k → map f (take m xs) ≡ take (length (map f xs) - k) (map f xs)

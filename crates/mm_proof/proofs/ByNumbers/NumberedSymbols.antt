@@ -97,32 +97,33 @@ front_of symbols front begin n rest b count e =
 
 -- ---- saying, one piece after the other
 
-pub said_more : {X : Type 0} (f : X → List ℕ) (pieces : List X) (i : ℕ) (d : X) → i < length pieces
-    → flat_map f (take (i + 1) pieces) ≡ flat_map f (take i pieces) ++ f (get_or pieces i d)
-said_more f pieces i d less = rw (take_more pieces i d less, flat_map-append, append-nil)
+module _ {X : Type 0} (f : X → List ℕ) (pieces : List X) (i : ℕ) where
+  pub said_more : (d : X) → i < length pieces
+      → flat_map f (take (i + 1) pieces) ≡ flat_map f (take i pieces) ++ f (get_or pieces i d)
+  said_more d less = rw (take_more pieces i d less, flat_map-append, append-nil)
 
--- the whole goes on behind a front
-pub said_whole : {X : Type 0} (f : X → List ℕ) (pieces : List X) (i : ℕ) → flat_map f pieces ≡ flat_map f (take i pieces) ++ flat_map f (drop i pieces)
-said_whole f pieces i = ap (flat_map f) (sym (take-append-drop i pieces)) ∙ flat_map-append f (take i pieces) (drop i pieces)
+  -- the whole goes on behind a front
+  pub said_whole : flat_map f pieces ≡ flat_map f (take i pieces) ++ flat_map f (drop i pieces)
+  said_whole = ap (flat_map f) (sym (take-append-drop i pieces)) ∙ flat_map-append f (take i pieces) (drop i pieces)
 
-pub said_step : {X : Type 0} (f : X → List ℕ) (pieces : List X) (i : ℕ) (d : X) (whole rest others : List ℕ) → i < length pieces
-    → whole ≡ flat_map f (take i pieces) ++ rest → rest ≡ f (get_or pieces i d) ++ others
-    → whole ≡ flat_map f (take (i + 1) pieces) ++ others
-said_step f pieces i d whole rest others less inv piece =
-    rw (inv, piece, said_more f pieces i d less)
-    (sym (append_assoc (flat_map f (take i pieces)) (f (get_or pieces i d)) others))
+module _ {X : Type 0} (f : X → List ℕ) (pieces : List X) (i : ℕ) (d : X) (whole rest : List ℕ) where
+  pub said_step : (others : List ℕ) → i < length pieces → whole ≡ flat_map f (take i pieces) ++ rest
+      → rest ≡ f (get_or pieces i d) ++ others → whole ≡ flat_map f (take (i + 1) pieces) ++ others
+  said_step others less inv piece =
+      rw (inv, piece, said_more f pieces i d less)
+      (sym (append_assoc (flat_map f (take i pieces)) (f (get_or pieces i d)) others))
 
--- what isn't so at one piece isn't so at all
-pub said_none : {X : Type 0} (f : X → List ℕ) (pieces : List X) (i : ℕ) (d : X) (whole rest : List ℕ) → i < length pieces
-    → whole ≡ flat_map f (take i pieces) ++ rest → ((others : List ℕ) → ¬ (rest ≡ f (get_or pieces i d) ++ others))
-    → ¬ (whole ≡ flat_map f pieces)
-said_none f pieces i d whole rest less inv none is =
-    let a = flat_map f (take i pieces) in
-    let v = f (get_or pieces i d) in
-    let more = flat_map f (drop (i + 1) pieces) in
-    let parts : a ++ rest ≡ a ++ (v ++ more) =
-    sym inv ∙ is ∙ said_whole f pieces (i + 1) ∙ ap (λ l. l ++ more) (said_more f pieces i d less) ∙ append_assoc a v more in
-    none more (append_cancel_left a rest (v ++ more) parts)
+  -- what isn't so at one piece isn't so at all
+  pub said_none : i < length pieces → whole ≡ flat_map f (take i pieces) ++ rest
+      → ((others : List ℕ) → ¬ (rest ≡ f (get_or pieces i d) ++ others))
+      → ¬ (whole ≡ flat_map f pieces)
+  said_none less inv none is =
+      let a = flat_map f (take i pieces) in
+      let v = f (get_or pieces i d) in
+      let more = flat_map f (drop (i + 1) pieces) in
+      let parts : a ++ rest ≡ a ++ (v ++ more) =
+      sym inv ∙ is ∙ said_whole f pieces (i + 1) ∙ ap (λ l. l ++ more) (said_more f pieces i d less) ∙ append_assoc a v more in
+      none more (append_cancel_left a rest (v ++ more) parts)
 
 pub said_end : {X : Type 0} (f : X → List ℕ) (pieces : List X) (i : ℕ) (whole : List ℕ) (rest : List Sym) (r : Bool) → length pieces ≤ i
     → whole ≡ flat_map f (take i pieces) ++ numbers_in rest → (IsTrue r → length rest ≡ 0) → (length rest ≡ 0 → IsTrue r)

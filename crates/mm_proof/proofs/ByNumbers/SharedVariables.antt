@@ -28,16 +28,17 @@ use Rattle.mm_proof.proofs.ByNumbers.NumberedSymbols.{one_name, within_at, all_r
 
 -- ==== pairs of expressions that are judged in the other order
 
--- what is said of a pair's replacements holds in either order
-pub share_turned : (before : List Sentence) (e f : List (List ℕ)) → ShareNoVariable before e f → ShareNoVariable before f e
-share_turned before e f h u v a b = h u v b a
+module _ (before : List Sentence) (e f : List (List ℕ)) where
+  -- what is said of a pair's replacements holds in either order
+  pub share_turned : ShareNoVariable before e f → ShareNoVariable before f e
+  share_turned h u v a b = h u v b a
 
--- expressions that are distinct share no variable: none is an active pair with itself
-pub distinct_share_none : (before : List Sentence) (e f : List (List ℕ)) → AreDistinct before e f → ShareNoVariable before e f
-distinct_share_none before e f distinct u variable in_e in_f = (distinct u u variable variable in_e in_f).0 refl
+  -- expressions that are distinct share no variable: none is an active pair with itself
+  pub distinct_share_none : AreDistinct before e f → ShareNoVariable before e f
+  distinct_share_none distinct u variable in_e in_f = (distinct u u variable variable in_e in_f).0 refl
 
-pub apart_turned : (before : List Sentence) (e f : List (List ℕ)) → AreDistinct before e f → AreDistinct before f e
-apart_turned before e f h u v p q a b = distinct_other before v u (h v u q p b a)
+  pub apart_turned : AreDistinct before e f → AreDistinct before f e
+  apart_turned h u v p q a b = distinct_other before v u (h v u q p b a)
 
 -- ==== variables that two expressions share, by numbers and by names
 
@@ -149,18 +150,19 @@ entry_symbols st before (e ∷ es) (suc i) all = entry_symbols st before es i al
 pub value_symbols : (st before : List Sentence) (vs : List (Option ℕ)) (es : List (List ℕ)) (n : ℕ) (v : List ℕ) → AreStackEntries st before es → value_of vs es n ≡ Some v → AreDeclaredSymbols st before v
 value_symbols st before vs es n v all is = value_all (IsSymbol st before) vs es n v all is
 
--- the one pair of values is so or not
-pub values_told : (σ : ℕ → Option (List ℕ)) (x y : ℕ) (e f : List ℕ) (P : List ℕ → List ℕ → Type 0) (r : Bool) → σ x ≡ Some e → σ y ≡ Some f
-    → MatchBool r (¬ (P e f)) (P e f) → MatchBool r (SomeValues σ x y (λ a b. ¬ (P a b))) (EachValues σ x y P)
-values_told σ x y e f P true at_x at_y h = (e, f, at_x, at_y, h)
-values_told σ x y e f P false at_x at_y h =
-    λ a b p q. subst (λ l. P l b) (same_Some e a (sym at_x ∙ p)) (subst (P e) (same_Some f b (sym at_y ∙ q)) h)
+module _ (σ : ℕ → Option (List ℕ)) (x y : ℕ) (e f : List ℕ) (P : List ℕ → List ℕ → Type 0) where
+  -- the one pair of values is so or not
+  pub values_told : (r : Bool) → σ x ≡ Some e → σ y ≡ Some f → MatchBool r (¬ (P e f)) (P e f)
+      → MatchBool r (SomeValues σ x y (λ a b. ¬ (P a b))) (EachValues σ x y P)
+  values_told true at_x at_y h = (e, f, at_x, at_y, h)
+  values_told false at_x at_y h =
+      λ a b p q. subst (λ l. P l b) (same_Some e a (sym at_x ∙ p)) (subst (P e) (same_Some f b (sym at_y ∙ q)) h)
 
-pub values_apart : (σ : ℕ → Option (List ℕ)) (x y : ℕ) (e f : List ℕ) (P : List ℕ → List ℕ → Type 0) (r : Bool) → σ x ≡ Some e → σ y ≡ Some f
-    → MatchBool r (P e f) (¬ (P e f)) → MatchBool r (EachValues σ x y P) (SomeValues σ x y (λ a b. ¬ (P a b)))
-values_apart σ x y e f P true at_x at_y h =
-    λ a b p q. subst (λ l. P l b) (same_Some e a (sym at_x ∙ p)) (subst (P e) (same_Some f b (sym at_y ∙ q)) h)
-values_apart σ x y e f P false at_x at_y h = (e, f, at_x, at_y, h)
+  pub values_apart : (r : Bool) → σ x ≡ Some e → σ y ≡ Some f → MatchBool r (P e f) (¬ (P e f))
+      → MatchBool r (EachValues σ x y P) (SomeValues σ x y (λ a b. ¬ (P a b)))
+  values_apart true at_x at_y h =
+      λ a b p q. subst (λ l. P l b) (same_Some e a (sym at_x ∙ p)) (subst (P e) (same_Some f b (sym at_y ∙ q)) h)
+  values_apart false at_x at_y h = (e, f, at_x, at_y, h)
 
 pub pair_at : (pairs : List DistinctPair) (k : ℕ) (d : DistinctPair) → k < length pairs → slice_get (pairs_in pairs) k ≡ Some ((get_or pairs k d).variables.0.0, (get_or pairs k d).variables.1.0)
 pair_at pairs k d less = rw (slice_get-map, slice_get-get_or pairs k d less)

@@ -97,38 +97,42 @@ value_at st σ vs es x n e r number value =
 
 -- ---- the rules
 
-pub stops_P8 : (limit : ℕ) (st : List Sentence) (place id at : ℕ) (ids : List ℕ) (hs : List Sentence) (stack : List (List ℕ)) → IsAppliedAssertion st place id at ids hs → length stack < length hs
-    → StopsAt limit st place id stack P8
-stops_P8 limit st place id at ids hs stack c short label kept move =
-    let names = names_of st place id at ids hs label c move in
-    let many = length-map stack (λ (e : List ℕ). map (name_at st) e) in
-    record {
-      broken = (at, c.s, hs, names, omega (arith, short, many));
-      first = below_P8 (IsWithin limit) (take place st) (all_names_at st stack) label;
-    }
+module _ (limit : ℕ) (st : List Sentence) (place id at : ℕ) (ids : List ℕ) (hs : List Sentence)
+    (stack : List (List ℕ)) where
+  pub stops_P8 : IsAppliedAssertion st place id at ids hs → length stack < length hs
+      → StopsAt limit st place id stack P8
+  stops_P8 c short label kept move =
+      let names = names_of st place id at ids hs label c move in
+      let many = length-map stack (λ (e : List ℕ). map (name_at st) e) in
+      record {
+        broken = (at, c.s, hs, names, omega (arith, short, many));
+        first = below_P8 (IsWithin limit) (take place st) (all_names_at st stack) label;
+      }
 
-pub stops_P9 : (limit : ℕ) (st : List Sentence) (place id at : ℕ) (ids : List ℕ) (hs : List Sentence) (stack : List (List ℕ)) (base : ℕ) → AllMeant st → IsAppliedAssertion st place id at ids hs
-    → length (drop base stack) ≡ length hs → SomePair hs (all_names_at st (drop base stack)) IsWrongCode → StopsAt limit st place id stack P9
-stops_P9 limit st place id at ids hs stack base all c paired pair label kept move =
-    let m = met st place id at ids hs label stack base all c move paired in
-    let front = allmeant_front st place all in
-    record {
-      broken = (m, pair);
-      first = below (IsWithin limit) _ _ _ m front P9 (omega arith)
-          (λ l. absurd (omega arith)) (λ l. absurd (omega arith)) (λ l. absurd (omega arith));
-    }
+  module _ (base : ℕ) (all : AllMeant st) (c : IsAppliedAssertion st place id at ids hs)
+      (paired : length (drop base stack) ≡ length hs) where
+    pub stops_P9 : SomePair hs (all_names_at st (drop base stack)) IsWrongCode
+        → StopsAt limit st place id stack P9
+    stops_P9 pair label kept move =
+        let m = met st place id at ids hs label stack base all c move paired in
+        let front = allmeant_front st place all in
+        record {
+          broken = (m, pair);
+          first = below (IsWithin limit) _ _ _ m front P9 (omega arith)
+              (λ l. absurd (omega arith)) (λ l. absurd (omega arith)) (λ l. absurd (omega arith));
+        }
 
-pub stops_P10 : (limit : ℕ) (st : List Sentence) (place id at : ℕ) (ids : List ℕ) (hs : List Sentence) (stack : List (List ℕ)) (base : ℕ) → AllMeant st → IsAppliedAssertion st place id at ids hs
-    → length (drop base stack) ≡ length hs → EachEntry hs (all_names_at st (drop base stack)) IsRightCode
-    → SomePair hs (all_names_at st (drop base stack)) (IsUnequal (replaced_by hs (all_names_at st (drop base stack)))) → StopsAt limit st place id stack P10
-stops_P10 limit st place id at ids hs stack base all c paired codes pair label kept move =
-    let m = met st place id at ids hs label stack base all c move paired in
-    let front = allmeant_front st place all in
-    record {
-      broken = (m, pair);
-      first = below (IsWithin limit) _ _ _ m front P10 (omega arith)
-          (λ l. codes) (λ l. absurd (omega arith)) (λ l. absurd (omega arith));
-    }
+    pub stops_P10 : EachEntry hs (all_names_at st (drop base stack)) IsRightCode
+        → SomePair hs (all_names_at st (drop base stack)) (IsUnequal (replaced_by hs (all_names_at st (drop base stack))))
+        → StopsAt limit st place id stack P10
+    stops_P10 codes pair label kept move =
+        let m = met st place id at ids hs label stack base all c move paired in
+        let front = allmeant_front st place all in
+        record {
+          broken = (m, pair);
+          first = below (IsWithin limit) _ _ _ m front P10 (omega arith)
+              (λ l. codes) (λ l. absurd (omega arith)) (λ l. absurd (omega arith));
+        }
 
 -- the pair of names behind a pair of numbers, with what replaces it
 pair_found : (st : List Sentence) (place id at : ℕ) (ids : List ℕ) (hs : List Sentence) (pairs : List (ℕ × ℕ)) → (c : IsAppliedAssertion st place id at ids hs)
@@ -171,42 +175,48 @@ each_pair one st place id at ids hs label stack base vs pairs P turned all c mov
     (λ h. turned (names_at st b.0) (names_at st a.0) (each h.0 (m.0.1, m.0.0) (slice_get-get_or pairs h.0 (m.0.1, m.0.0) h.1 ∙ ap Some h.2) b.0 a.0 b.1 a.1)) m.3 in
     subst (λ l. P l f) a.2 (subst (λ l. P (names_at st a.0) l) b.2 so)
 
-pub stops_P11 : (limit : ℕ) → OneNumber → (st : List Sentence) (place id at : ℕ) (ids : List ℕ) (hs : List Sentence) (stack : List (List ℕ)) (base : ℕ) (vs : List (Option ℕ)) (pairs : List (ℕ × ℕ)) → AllMeant st
-    → IsAppliedAssertion st place id at ids hs → length (drop base stack) ≡ length hs → AreVariablesOf st vs hs → ArePairs (record { statements = st; place = at }) pairs
-    → EachEntry hs (all_names_at st (drop base stack)) IsRightCode → EachEntry hs (all_names_at st (drop base stack)) (IsEqual (replaced_by hs (all_names_at st (drop base stack))))
-    → SomePairValues (value_of vs (drop base stack)) pairs (λ e f. ¬ (ShareNoVariable (take place st) (names_at st e) (names_at st f))) → StopsAt limit st place id stack P11
-stops_P11 limit one st place id at ids hs stack base vs pairs all c paired typed mand codes equal found label kept move =
-    let m = met st place id at ids hs label stack base all c move paired in
-    let r = replaces_by one st vs hs (drop base stack) typed in
-    let σ = replaced_by hs (all_names_at st (drop base stack)) in
-    let p = pair_found st place id at ids hs pairs c mand found.0 found.1 found.2 in
-    let at_x = value_at st σ vs (drop base stack) p.0 found.1.0 found.3.0 r p.2 found.3.2 in
-    let at_y = value_at st σ vs (drop base stack) p.1 found.1.1 found.3.1 r p.3 found.3.3 in
-    record {
-      broken = (m, p.0, p.1, _, _, p.4, at_x, at_y, found.3.4);
-      first = below (IsWithin limit) _ _ _ m (allmeant_front st place all) P11 (omega arith)
-          (λ l. codes) (λ l. equal) (λ l. absurd (omega arith));
-    }
+module _ (limit : ℕ) (one : OneNumber) (st : List Sentence) (place id at : ℕ) (ids : List ℕ)
+    (hs : List Sentence) (stack : List (List ℕ)) (base : ℕ) (vs : List (Option ℕ))
+    (pairs : List (ℕ × ℕ)) (all : AllMeant st) (c : IsAppliedAssertion st place id at ids hs)
+    (paired : length (drop base stack) ≡ length hs) (typed : AreVariablesOf st vs hs)
+    (mand : ArePairs (record { statements = st; place = at }) pairs)
+    (codes : EachEntry hs (all_names_at st (drop base stack)) IsRightCode) where
+  pub stops_P11 :
+      EachEntry hs (all_names_at st (drop base stack)) (IsEqual (replaced_by hs (all_names_at st (drop base stack))))
+      → SomePairValues (value_of vs (drop base stack)) pairs (λ e f. ¬ (ShareNoVariable (take place st) (names_at st e) (names_at st f)))
+      → StopsAt limit st place id stack P11
+  stops_P11 equal found label kept move =
+      let m = met st place id at ids hs label stack base all c move paired in
+      let r = replaces_by one st vs hs (drop base stack) typed in
+      let σ = replaced_by hs (all_names_at st (drop base stack)) in
+      let p = pair_found st place id at ids hs pairs c mand found.0 found.1 found.2 in
+      let at_x = value_at st σ vs (drop base stack) p.0 found.1.0 found.3.0 r p.2 found.3.2 in
+      let at_y = value_at st σ vs (drop base stack) p.1 found.1.1 found.3.1 r p.3 found.3.3 in
+      record {
+        broken = (m, p.0, p.1, _, _, p.4, at_x, at_y, found.3.4);
+        first = below (IsWithin limit) _ _ _ m (allmeant_front st place all) P11 (omega arith)
+            (λ l. codes) (λ l. equal) (λ l. absurd (omega arith));
+      }
 
-pub stops_P12 : (limit : ℕ) → OneNumber → (st : List Sentence) (place id at : ℕ) (ids : List ℕ) (hs : List Sentence) (stack : List (List ℕ)) (base : ℕ) (vs : List (Option ℕ)) (pairs : List (ℕ × ℕ)) → AllMeant st
-    → IsAppliedAssertion st place id at ids hs → length (drop base stack) ≡ length hs → AreVariablesOf st vs hs → ArePairs (record { statements = st; place = at }) pairs
-    → EachEntry hs (all_names_at st (drop base stack)) IsRightCode → EachEntry hs (all_names_at st (drop base stack)) (IsEqual (replaced_by hs (all_names_at st (drop base stack))))
-    → EachPairValues (value_of vs (drop base stack)) pairs (λ e f. ShareNoVariable (take place st) (names_at st e) (names_at st f))
-    → SomePairValues (value_of vs (drop base stack)) pairs (λ e f. ¬ (AreDistinct (take place st) (names_at st e) (names_at st f))) → StopsAt limit st place id stack P12
-stops_P12 limit one st place id at ids hs stack base vs pairs all c paired typed mand codes equal share found label kept move =
-    let m = met st place id at ids hs label stack base all c move paired in
-    let apart = each_pair one st place id at ids hs label stack base vs pairs _
-    (share_turned (take place st)) all c move paired typed mand share in
-    let r = replaces_by one st vs hs (drop base stack) typed in
-    let σ = replaced_by hs (all_names_at st (drop base stack)) in
-    let p = pair_found st place id at ids hs pairs c mand found.0 found.1 found.2 in
-    let at_x = value_at st σ vs (drop base stack) p.0 found.1.0 found.3.0 r p.2 found.3.2 in
-    let at_y = value_at st σ vs (drop base stack) p.1 found.1.1 found.3.1 r p.3 found.3.3 in
-    record {
-      broken = (m, p.0, p.1, _, _, p.4, at_x, at_y, found.3.4);
-      first = below (IsWithin limit) _ _ _ m (allmeant_front st place all) P12 (omega arith)
-          (λ l. codes) (λ l. equal) (λ l. apart);
-    }
+  pub stops_P12 :
+      EachEntry hs (all_names_at st (drop base stack)) (IsEqual (replaced_by hs (all_names_at st (drop base stack))))
+      → EachPairValues (value_of vs (drop base stack)) pairs (λ e f. ShareNoVariable (take place st) (names_at st e) (names_at st f))
+      → SomePairValues (value_of vs (drop base stack)) pairs (λ e f. ¬ (AreDistinct (take place st) (names_at st e) (names_at st f)))
+      → StopsAt limit st place id stack P12
+  stops_P12 equal share found label kept move =
+      let m = met st place id at ids hs label stack base all c move paired in
+      let apart = each_pair one st place id at ids hs label stack base vs pairs _
+      (share_turned (take place st)) all c move paired typed mand share in
+      let r = replaces_by one st vs hs (drop base stack) typed in
+      let σ = replaced_by hs (all_names_at st (drop base stack)) in
+      let p = pair_found st place id at ids hs pairs c mand found.0 found.1 found.2 in
+      let at_x = value_at st σ vs (drop base stack) p.0 found.1.0 found.3.0 r p.2 found.3.2 in
+      let at_y = value_at st σ vs (drop base stack) p.1 found.1.1 found.3.1 r p.3 found.3.3 in
+      record {
+        broken = (m, p.0, p.1, _, _, p.4, at_x, at_y, found.3.4);
+        first = below (IsWithin limit) _ _ _ m (allmeant_front st place all) P12 (omega arith)
+            (λ l. codes) (λ l. equal) (λ l. apart);
+      }
 
 -- ---- what the step makes
 
@@ -378,23 +388,25 @@ hypothesis_step st place id used label stack u kind move =
     (⊎_elim (λ h. h.1) (λ a. absurd (not_both_kinds u.s.kind kind a)) u.kind)
     (label_of st id u.at u.s label u.numbered move) kind
 
-pub stops_long : (limit : ℕ) (st : List Sentence) (place id : ℕ) (used : List ℕ) (stack : List (List ℕ)) (expression : List ℕ) → AllMeant st → (u : MayBeUsed st place used id) → IsHypothesis u.s.kind
-    → AreNumbers st expression u.s.symbols → limit < length expression → StopsAt limit st place id stack L1
-stops_long limit st place id used stack expression all u kind numbers over label kept move =
-    let is = named_is st expression u.s.symbols numbers in
-    let size : length (names_at st expression) ≡ length expression = length-map expression (name_at st) in
-    first_L1 (IsWithin limit) (take place st) (all_names_at st stack) kept label (all_names_at st stack) u.s.symbols (allmeant_front st place all)
-    (λ within. let w = subst (IsWithin limit) (sym is) within in omega (arith, w, size, over)) (hypothesis_step st place id used label stack u kind move)
+module _ (limit : ℕ) (st : List Sentence) (place id : ℕ) (used : List ℕ) (stack : List (List ℕ))
+    (expression : List ℕ) (all : AllMeant st) (u : MayBeUsed st place used id)
+    (kind : IsHypothesis u.s.kind) (numbers : AreNumbers st expression u.s.symbols) where
+  pub stops_long : limit < length expression → StopsAt limit st place id stack L1
+  stops_long over label kept move =
+      let is = named_is st expression u.s.symbols numbers in
+      let size : length (names_at st expression) ≡ length expression = length-map expression (name_at st) in
+      first_L1 (IsWithin limit) (take place st) (all_names_at st stack) kept label (all_names_at st stack) u.s.symbols (allmeant_front st place all)
+      (λ within. let w = subst (IsWithin limit) (sym is) within in omega (arith, w, size, over)) (hypothesis_step st place id used label stack u kind move)
 
-pub pushes : (limit : ℕ) (st : List Sentence) (place id : ℕ) (used : List ℕ) (stack : List (List ℕ)) (expression : List ℕ) → AllMeant st → (u : MayBeUsed st place used id) → IsHypothesis u.s.kind
-    → AreNumbers st expression u.s.symbols → length expression ≤ limit → CarriesOn limit st place id stack (stack ++ expression ∷ [])
-pushes limit st place id used stack expression all u kind numbers within label moves kept move passed =
-    let is = named_is st expression u.s.symbols numbers in
-    let size : length (names_at st expression) ≡ length expression = length-map expression (name_at st) in
-    let fits : IsWithin limit (names_at st expression) = omega (arith, within, size) in
-    let next = passed_name (IsWithin limit) (take place st) moves (all_names_at st stack) kept label (all_names_at st stack) u.s.symbols (allmeant_front st place all) passed
-    (hypothesis_step st place id used label stack u kind move) (subst (IsWithin limit) is fits) in
-    subst (λ l. Passed (IsWithin limit) (take place st) (moves ++ name label ∷ []) l kept) (sym (named_push st stack expression ∙ ap (λ x. all_names_at st stack ++ x ∷ []) is)) next
+  pub pushes : length expression ≤ limit
+      → CarriesOn limit st place id stack (stack ++ expression ∷ [])
+  pushes within label moves kept move passed =
+      let is = named_is st expression u.s.symbols numbers in
+      let size : length (names_at st expression) ≡ length expression = length-map expression (name_at st) in
+      let fits : IsWithin limit (names_at st expression) = omega (arith, within, size) in
+      let next = passed_name (IsWithin limit) (take place st) moves (all_names_at st stack) kept label (all_names_at st stack) u.s.symbols (allmeant_front st place all) passed
+      (hypothesis_step st place id used label stack u kind move) (subst (IsWithin limit) is fits) in
+      subst (λ l. Passed (IsWithin limit) (take place st) (moves ++ name label ∷ []) l kept) (sym (named_push st stack expression ∙ ap (λ x. all_names_at st stack ++ x ∷ []) is)) next
 
 pub pushed_entries : (st : List Sentence) (place id : ℕ) (used : List ℕ) (stack : List (List ℕ)) (expression : List ℕ) → AllMeant st → (u : MayBeUsed st place used id) → IsHypothesis u.s.kind
     → AreNumbers st expression u.s.symbols → AreStackEntries st (take place st) stack → AreStackEntries st (take place st) (stack ++ expression ∷ [])

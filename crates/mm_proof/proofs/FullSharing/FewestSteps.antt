@@ -135,34 +135,34 @@ subtrees_made P before (mark ∷ moves) row kept row' kept' m has keeps_all made
     (λ e. has u (rw m.2.3 (sub_right m.2.0 t u (rw (← e) at k))))
     (in_push kept t s (rw m.2.5 at h))) made
 
--- what stands in a row stands in what is made of it
-pub sub_stays : (before : List Sentence) (moves : List (Move (List ℕ))) (row : Trees)
-    (kept : List Trees) (row' : Trees) (kept' : List Trees) → Makes before moves row kept row' kept'
-    → (u : Trees) → IsSubtree row u → IsSubtree row' u
-sub_stays before [] row kept row' kept' m u h = rw m.0 h
-sub_stays before (name label ∷ moves) row kept row' kept' m u h =
-    let t : Trees = tree label m.2.1 none in
-    sub_stays before moves m.0 m.1 row' kept' m.3 u (rw m.2.4
-    (⊎_elim (λ a. sub_left m.2.0 t u a) (λ b. sub_right m.2.0 t u (inr (inl b)))
-    (sub_apart m.2.0 m.2.1 u (rw m.2.2 at h))))
-sub_stays before (again tag ∷ moves) row kept row' kept' m u h =
-    sub_stays before moves m.0 m.1 row' kept' m.3 u (rw m.2.2 (sub_left row m.2.0 u h))
-sub_stays before (mark ∷ moves) row kept row' kept' m u h =
-    sub_stays before moves m.0 m.1 row' kept' m.3 u (rw m.2.4 h)
+module _ (before : List Sentence) where
+  -- what stands in a row stands in what is made of it
+  pub sub_stays : (moves : List (Move (List ℕ))) (row : Trees) (kept : List Trees) (row' : Trees)
+      (kept' : List Trees) → Makes before moves row kept row' kept' → (u : Trees) → IsSubtree row u
+      → IsSubtree row' u
+  sub_stays [] row kept row' kept' m u h = rw m.0 h
+  sub_stays (name label ∷ moves) row kept row' kept' m u h =
+      let t : Trees = tree label m.2.1 none in
+      sub_stays moves m.0 m.1 row' kept' m.3 u (rw m.2.4
+      (⊎_elim (λ a. sub_left m.2.0 t u a) (λ b. sub_right m.2.0 t u (inr (inl b)))
+      (sub_apart m.2.0 m.2.1 u (rw m.2.2 at h))))
+  sub_stays (again tag ∷ moves) row kept row' kept' m u h =
+      sub_stays moves m.0 m.1 row' kept' m.3 u (rw m.2.2 (sub_left row m.2.0 u h))
+  sub_stays (mark ∷ moves) row kept row' kept' m u h =
+      sub_stays moves m.0 m.1 row' kept' m.3 u (rw m.2.4 h)
 
--- each tree made is a subtree of what is made
-pub made_subtrees : (before : List Sentence) (moves : List (Move (List ℕ))) (row : Trees)
-    (kept : List Trees) (row' : Trees) (kept' : List Trees)
-    (m : Makes before moves row kept row' kept')
-    → (u : Trees) → In (trees_made (visits before moves row kept row' kept' m)) u → IsSubtree row' u
-made_subtrees before [] row kept row' kept' m u h = absurd h
-made_subtrees before (name label ∷ moves) row kept row' kept' m u (inl e) =
-    sub_stays before moves m.0 m.1 row' kept' m.3 u
-    (rw m.2.4 (sub_right m.2.0 (tree label m.2.1 none) u (inl (sym e))))
-made_subtrees before (name label ∷ moves) row kept row' kept' m u (inr h) =
-    made_subtrees before moves m.0 m.1 row' kept' m.3 u h
-made_subtrees before (move ∷ moves) row kept row' kept' m u h =
-    made_subtrees before moves m.0 m.1 row' kept' m.3 u h
+  -- each tree made is a subtree of what is made
+  pub made_subtrees : (moves : List (Move (List ℕ))) (row : Trees) (kept : List Trees)
+      (row' : Trees) (kept' : List Trees) (m : Makes before moves row kept row' kept') (u : Trees)
+      → In (trees_made (visits before moves row kept row' kept' m)) u → IsSubtree row' u
+  made_subtrees [] row kept row' kept' m u h = absurd h
+  made_subtrees (name label ∷ moves) row kept row' kept' m u (inl e) =
+      sub_stays moves m.0 m.1 row' kept' m.3 u
+      (rw m.2.4 (sub_right m.2.0 (tree label m.2.1 none) u (inl (sym e))))
+  made_subtrees (name label ∷ moves) row kept row' kept' m u (inr h) =
+      made_subtrees moves m.0 m.1 row' kept' m.3 u h
+  made_subtrees (move ∷ moves) row kept row' kept' m u h =
+      made_subtrees moves m.0 m.1 row' kept' m.3 u h
 
 -- ---- big trees
 

@@ -58,26 +58,25 @@ uses_apart (label ∷ word) seen listed (inr p) =
 
 -- ---- the labels of mandatory hypotheses
 
-not_twice : (before : List Sentence) (s : Sentence) (hypotheses : List Sentence)
-    (labels : List (List ℕ)) (i j : ℕ) (label : List ℕ) → AllMeant before
-    → AreMandatory before s hypotheses
-    → map (λ (h : Sentence). h.label) hypotheses ≡ map Some labels → slice_get labels i ≡ Some label
-    → slice_get labels j ≡ Some label → i < j → ⊥
-not_twice before s hypotheses labels i j label all mandatory labelled p q less =
-    let a = labelled_at hypotheses labels i label labelled p in
-    let b = labelled_at hypotheses labels j label labelled q in
-    let o = those_order (IsMandatoryAt before s) 0 before hypotheses i j a.0 b.0 mandatory less a.1
-    b.1 in
-    let same : o.0 ≡ o.1 = one_label before o.0 o.1 a.0 b.0 label all o.3 o.4 a.2 b.2 in
-    let l : o.0 < o.1 = o.2 in
-    omega arith
+module _ (before : List Sentence) (s : Sentence) (hypotheses : List Sentence)
+    (labels : List (List ℕ)) where
+  not_twice : (i j : ℕ) (label : List ℕ) → AllMeant before → AreMandatory before s hypotheses
+      → map (λ (h : Sentence). h.label) hypotheses ≡ map Some labels
+      → slice_get labels i ≡ Some label → slice_get labels j ≡ Some label → i < j → ⊥
+  not_twice i j label all mandatory labelled p q less =
+      let a = labelled_at hypotheses labels i label labelled p in
+      let b = labelled_at hypotheses labels j label labelled q in
+      let o = those_order (IsMandatoryAt before s) 0 before hypotheses i j a.0 b.0 mandatory less a.1
+      b.1 in
+      let same : o.0 ≡ o.1 = one_label before o.0 o.1 a.0 b.0 label all o.3 o.4 a.2 b.2 in
+      let l : o.0 < o.1 = o.2 in
+      omega arith
 
-pub mandatory_once : (before : List Sentence) (s : Sentence) (hypotheses : List Sentence)
-    (labels : List (List ℕ)) → AllMeant before → AreMandatory before s hypotheses
-    → map (λ (h : Sentence). h.label) hypotheses ≡ map Some labels → Once labels
-mandatory_once before s hypotheses labels all mandatory labelled = places_once labels (λ i j l p q.
-    let less = not_twice before s hypotheses labels i j l all mandatory labelled p q in
-    let more = not_twice before s hypotheses labels j i l all mandatory labelled q p in omega arith)
+  pub mandatory_once : AllMeant before → AreMandatory before s hypotheses
+      → map (λ (h : Sentence). h.label) hypotheses ≡ map Some labels → Once labels
+  mandatory_once all mandatory labelled = places_once labels (λ i j l p q.
+      let less = not_twice i j l all mandatory labelled p q in
+      let more = not_twice j i l all mandatory labelled q p in omega arith)
 
 once_joined : {X : Type 0} (xs ys : List X) → Once xs → Once ys → ((x : X) → In ys x → ¬ (In xs x))
     → Once (xs ++ ys)
@@ -89,30 +88,30 @@ once_joined (x ∷ xs) ys o p apart = (
 
 -- ---- the codes
 
-one_code : (labels : List (List ℕ)) (move : Move (List ℕ)) (c d : Code) → Once labels
-    → Says labels c move → Says labels d move → c ≡ d
-one_code labels move Tag Tag once p q = refl
-one_code labels move Tag (Number n) once p q = absurd
-    (⊎_elim (λ a. cc (p, a.2)) (λ a. cc (p, a.2)) q.2)
-one_code labels move (Number n) Tag once p q = absurd
-    (⊎_elim (λ a. cc (q, a.2)) (λ a. cc (q, a.2)) p.2)
-one_code labels move (Number n) (Number k) once p q =
-    let place : p.0 ≡ q.0 = ⊎_elim
-    (λ a. ⊎_elim
-    (λ b. once_places labels p.0 q.0 b.0 once (cc (a.1, a.2, b.2)) b.1)
-    (λ b. absurd (cc (a.2, b.2))) q.2)
-    (λ a. ⊎_elim (λ b. absurd (cc (a.2, b.2))) (λ b. cc (a.1, a.2, b.1, b.2)) q.2) p.2 in
-    ap Number (omega (arith, p.1, q.1, place))
+module _ (labels : List (List ℕ)) where
+  one_code : (move : Move (List ℕ)) (c d : Code) → Once labels → Says labels c move
+      → Says labels d move → c ≡ d
+  one_code move Tag Tag once p q = refl
+  one_code move Tag (Number n) once p q = absurd
+      (⊎_elim (λ a. cc (p, a.2)) (λ a. cc (p, a.2)) q.2)
+  one_code move (Number n) Tag once p q = absurd
+      (⊎_elim (λ a. cc (q, a.2)) (λ a. cc (q, a.2)) p.2)
+  one_code move (Number n) (Number k) once p q =
+      let place : p.0 ≡ q.0 = ⊎_elim
+      (λ a. ⊎_elim
+      (λ b. once_places labels p.0 q.0 b.0 once (cc (a.1, a.2, b.2)) b.1)
+      (λ b. absurd (cc (a.2, b.2))) q.2)
+      (λ a. ⊎_elim (λ b. absurd (cc (a.2, b.2))) (λ b. cc (a.1, a.2, b.1, b.2)) q.2) p.2 in
+      ap Number (omega (arith, p.1, q.1, place))
 
-pub codes_once : (labels : List (List ℕ)) (codes codes' : List Code) (moves : List (Move (List ℕ)))
-    → Once labels → AllZip (Says labels) codes moves → AllZip (Says labels) codes' moves
-    → codes ≡ codes'
-codes_once labels [] [] [] once p q = refl
-codes_once labels (c ∷ codes) codes' [] once p q = absurd p
-codes_once labels [] codes' (move ∷ moves) once p q = absurd p
-codes_once labels (c ∷ codes) (d ∷ codes') (move ∷ moves) once p q =
-    rw (one_code labels move c d once p.0 q.0, codes_once labels codes codes' moves once p.1 q.1)
-codes_once labels codes codes' moves once p q = absurd q
+  pub codes_once : (codes codes' : List Code) (moves : List (Move (List ℕ))) → Once labels
+      → AllZip (Says labels) codes moves → AllZip (Says labels) codes' moves → codes ≡ codes'
+  codes_once [] [] [] once p q = refl
+  codes_once (c ∷ codes) codes' [] once p q = absurd p
+  codes_once [] codes' (move ∷ moves) once p q = absurd p
+  codes_once (c ∷ codes) (d ∷ codes') (move ∷ moves) once p q =
+      rw (one_code move c d once p.0 q.0, codes_once codes codes' moves once p.1 q.1)
+  codes_once codes codes' moves once p q = absurd q
 
 -- ---- the laws
 

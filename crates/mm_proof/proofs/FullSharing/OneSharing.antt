@@ -47,16 +47,16 @@ covers_apart (tree label below right) b v p =
       h.4,
     )
 
--- one tree, made or repeated
-pub covers_made_one : (label : List ℕ) (below : Trees) (v : List Visit) → Covers below v
-    → Covers (tree label below none) (v ++ makes (tree label below none) ∷ [])
-covers_made_one label below v p =
-    let steps : List Visit = v ++ makes (tree label below none) ∷ [] in
-    (steps, [], sym (append-nil steps), refl, inr (v, refl, p))
+module _ (label : List ℕ) (below : Trees) where
+  -- one tree, made or repeated
+  pub covers_made_one : (v : List Visit) → Covers below v
+      → Covers (tree label below none) (v ++ makes (tree label below none) ∷ [])
+  covers_made_one v p =
+      let steps : List Visit = v ++ makes (tree label below none) ∷ [] in
+      (steps, [], sym (append-nil steps), refl, inr (v, refl, p))
 
-pub covers_one : (label : List ℕ) (below : Trees)
-    → Covers (tree label below none) (repeats (tree label below none) ∷ [])
-covers_one label below = (repeats (tree label below none) ∷ [], [], refl, refl, inl refl)
+  pub covers_one : Covers (tree label below none) (repeats (tree label below none) ∷ [])
+  covers_one = (repeats (tree label below none) ∷ [], [], refl, refl, inl refl)
 
 -- a kept tree is one tree
 abbrev pub AreOnes : List Trees → Type 0
@@ -222,23 +222,23 @@ repeated_kept (x ∷ v) done t c h = let k = repeated_kept v (x ∷ done) t c.1 
 
 -- ---- where marks stand is told by the steps
 
--- the visits are the steps, with a mark after each that makes a tree which one of the whole repeats
-abbrev pub Marked : (whole steps v : List Visit) → Type 0
-Marked whole [] v = v ≡ []
-Marked whole (makes t ∷ steps) v =
-    (rest : List Visit) × Marked whole steps rest
-    × ((In whole (repeats t) × (v ≡ makes t ∷ keeps t ∷ rest))
-    ⊎ (¬ (In whole (repeats t)) × (v ≡ makes t ∷ rest)))
-Marked whole (repeats t ∷ steps) v = (rest : List Visit) × Marked whole steps rest
-    × (v ≡ repeats t ∷ rest)
-Marked whole (keeps t ∷ steps) v = ⊥
+module _ (whole : List Visit) where
+  -- the visits are the steps, with a mark after each that makes a tree which one of the whole repeats
+  abbrev pub Marked : (steps v : List Visit) → Type 0
+  Marked [] v = v ≡ []
+  Marked (makes t ∷ steps) v =
+      (rest : List Visit) × Marked steps rest
+      × ((In whole (repeats t) × (v ≡ makes t ∷ keeps t ∷ rest))
+      ⊎ (¬ (In whole (repeats t)) × (v ≡ makes t ∷ rest)))
+  Marked (repeats t ∷ steps) v = (rest : List Visit) × Marked steps rest
+      × (v ≡ repeats t ∷ rest)
+  Marked (keeps t ∷ steps) v = ⊥
 
-pub marked_once : (whole steps v w : List Visit) → Marked whole steps v → Marked whole steps w
-    → v ≡ w
-marked_once whole [] v w p q = cc
-marked_once whole (keeps t ∷ steps) v w p q = absurd p
-marked_once whole (x ∷ steps) v w p q =
-    let same = marked_once whole steps p.0 q.0 p.1 q.1 in grind arith
+  pub marked_once : (steps v w : List Visit) → Marked steps v → Marked steps w → v ≡ w
+  marked_once [] v w p q = cc
+  marked_once (keeps t ∷ steps) v w p q = absurd p
+  marked_once (x ∷ steps) v w p q =
+      let same = marked_once steps p.0 q.0 p.1 q.1 in grind arith
 
 -- the visits without a mark that they begin with
 abbrev pub unmark : List Visit → List Visit
@@ -317,46 +317,45 @@ bare_front v c = refl
 
 -- ---- what is kept
 
--- what is kept stays at its place
-pub kept_stays : (before : List Sentence) (moves : List (Move (List ℕ))) (row : Trees)
-    (kept : List Trees) (row' : Trees) (kept' : List Trees) → Makes before moves row kept row' kept'
-    → (i : ℕ) (t : Trees) → slice_get kept i ≡ Some t → slice_get kept' i ≡ Some t
-kept_stays before [] row kept row' kept' m i t h = rw m.1 h
-kept_stays before (mark ∷ moves) row kept row' kept' m i t h =
-    kept_stays before moves m.0 m.1 row' kept' m.3 i t
-    (rw m.2.5 (get_kept kept (tree m.2.1 m.2.2 none ∷ []) i t h))
-kept_stays before (move ∷ moves) row kept row' kept' m i t h =
-    kept_stays before moves m.0 m.1 row' kept' m.3 i t (let e : m.1 ≡ kept = cc in rw e h)
+module _ (before : List Sentence) where
+  -- what is kept stays at its place
+  pub kept_stays : (moves : List (Move (List ℕ))) (row : Trees) (kept : List Trees) (row' : Trees)
+      (kept' : List Trees) → Makes before moves row kept row' kept' → (i : ℕ) (t : Trees)
+      → slice_get kept i ≡ Some t → slice_get kept' i ≡ Some t
+  kept_stays [] row kept row' kept' m i t h = rw m.1 h
+  kept_stays (mark ∷ moves) row kept row' kept' m i t h =
+      kept_stays moves m.0 m.1 row' kept' m.3 i t
+      (rw m.2.5 (get_kept kept (tree m.2.1 m.2.2 none ∷ []) i t h))
+  kept_stays (move ∷ moves) row kept row' kept' m i t h =
+      kept_stays moves m.0 m.1 row' kept' m.3 i t (let e : m.1 ≡ kept = cc in rw e h)
 
--- the kept trees are those of the marks
-pub kept_are : (before : List Sentence) (moves : List (Move (List ℕ))) (row : Trees)
-    (kept : List Trees) (row' : Trees) (kept' : List Trees)
-    (m : Makes before moves row kept row' kept')
-    → kept' ≡ kept ++ trees_kept (visits before moves row kept row' kept' m)
-kept_are before [] row kept row' kept' m = m.1 ∙ sym (append-nil kept)
-kept_are before (mark ∷ moves) row kept row' kept' m =
-    let e = kept_are before moves m.0 m.1 row' kept' m.3 in
-    let a = append_assoc kept (tree m.2.1 m.2.2 none ∷ [])
-    (trees_kept (visits before moves m.0 m.1 row' kept' m.3)) in cc
-kept_are before (move ∷ moves) row kept row' kept' m =
-    let e = kept_are before moves m.0 m.1 row' kept' m.3 in cc
+  -- the kept trees are those of the marks
+  pub kept_are : (moves : List (Move (List ℕ))) (row : Trees) (kept : List Trees) (row' : Trees)
+      (kept' : List Trees) (m : Makes before moves row kept row' kept')
+      → kept' ≡ kept ++ trees_kept (visits before moves row kept row' kept' m)
+  kept_are [] row kept row' kept' m = m.1 ∙ sym (append-nil kept)
+  kept_are (mark ∷ moves) row kept row' kept' m =
+      let e = kept_are moves m.0 m.1 row' kept' m.3 in
+      let a = append_assoc kept (tree m.2.1 m.2.2 none ∷ [])
+      (trees_kept (visits before moves m.0 m.1 row' kept' m.3)) in cc
+  kept_are (move ∷ moves) row kept row' kept' m =
+      let e = kept_are moves m.0 m.1 row' kept' m.3 in cc
 
--- a tag repeats what stands at its place in the end
-again_visit : (before : List Sentence) (moves : List (Move (List ℕ))) (row : Trees)
-    (kept : List Trees) (row' : Trees) (kept' : List Trees)
-    (m : Makes before moves row kept row' kept') (tag : ℕ)
-    → In moves (again tag) → (t : Trees) × (slice_get kept' tag ≡ Some t)
-    × In (visits before moves row kept row' kept' m) (repeats t)
-again_visit before [] row kept row' kept' m tag h = absurd h
-again_visit before (again k ∷ moves) row kept row' kept' m tag (inl e) =
-    let same : k ≡ tag = cc in (
-      m.2.0,
-      kept_stays before moves m.0 m.1 row' kept' m.3 tag m.2.0 (rw (m.2.3, ← same) m.2.1),
-      inl refl,
-    )
-again_visit before (move ∷ moves) row kept row' kept' m tag (inl e) = absurd cc
-again_visit before (move ∷ moves) row kept row' kept' m tag (inr h) =
-    let g = again_visit before moves m.0 m.1 row' kept' m.3 tag h in (g.0, g.1, inr g.2)
+  -- a tag repeats what stands at its place in the end
+  again_visit : (moves : List (Move (List ℕ))) (row : Trees) (kept : List Trees) (row' : Trees)
+      (kept' : List Trees) (m : Makes before moves row kept row' kept') (tag : ℕ)
+      → In moves (again tag)
+      → (t : Trees) × (slice_get kept' tag ≡ Some t) × In (visits before moves row kept row' kept' m) (repeats t)
+  again_visit [] row kept row' kept' m tag h = absurd h
+  again_visit (again k ∷ moves) row kept row' kept' m tag (inl e) =
+      let same : k ≡ tag = cc in (
+        m.2.0,
+        kept_stays moves m.0 m.1 row' kept' m.3 tag m.2.0 (rw (m.2.3, ← same) m.2.1),
+        inl refl,
+      )
+  again_visit (move ∷ moves) row kept row' kept' m tag (inl e) = absurd cc
+  again_visit (move ∷ moves) row kept row' kept' m tag (inr h) =
+      let g = again_visit moves m.0 m.1 row' kept' m.3 tag h in (g.0, g.1, inr g.2)
 
 -- ---- what is said by places, said one visit after the other
 
@@ -389,72 +388,69 @@ just_done (y ∷ done) v j x long there =
     (sym (at_later done (y ∷ v) 0) ∙ ap (slice_get (onto done (y ∷ v))) at ∙ there) in
     (done, ap (λ z. z ∷ done) same)
 
--- where what is kept so far was kept by a mark that is done
-pub tidy_of : (before : List Sentence) (moves : List (Move (List ℕ))) (row : Trees)
-    (kept : List Trees) (row' : Trees) (kept' : List Trees)
-    (m : Makes before moves row kept row' kept') (done : List Visit)
-    → ((t : Trees) → In kept t → In done (keeps t))
-    → MakeOnce (onto done (visits before moves row kept row' kept' m))
-    → KeepMade (onto done (visits before moves row kept row' kept' m))
-    → Tidy done (visits before moves row kept row' kept' m)
-tidy_of before [] row kept row' kept' m done are once marked = tt
-tidy_of before (name label ∷ moves) row kept row' kept' m done are once marked =
-    let t : Trees = tree label m.2.1 none in
-    let later : List Visit = visits before moves m.0 m.1 row' kept' m.3 in (
-      λ big has.
-          let g = at_earlier done (makes t ∷ later) (makes t) has in
-          let same : g.0 ≡ length done + 0 = once g.0 (length done + 0) t big g.2
-          (at_later done (makes t ∷ later) 0) in
-          absurd (omega (arith, g.1, same)),
-      tidy_of before moves m.0 m.1 row' kept' m.3 (makes t ∷ done)
-          (λ u h. inr (are u (rw m.2.5 at h))) once marked,
-    )
-tidy_of before (again tag ∷ moves) row kept row' kept' m done are once marked = (
-  are m.2.0 (get_in kept tag m.2.0 m.2.1),
-  tidy_of before moves m.0 m.1 row' kept' m.3 (repeats m.2.0 ∷ done)
-      (λ u h. inr (are u (rw m.2.3 at h))) once marked,
-)
-tidy_of before (mark ∷ moves) row kept row' kept' m done are once marked =
-    let t : Trees = tree m.2.1 m.2.2 none in
-    let later : List Visit = visits before moves m.0 m.1 row' kept' m.3 in
-    let g = marked (length done + 0) t (at_later done (keeps t ∷ later) 0) in (
-      g.0,
-      just_done done (keeps t ∷ later) g.1 (makes t) (omega (arith, g.2)) g.3,
-      tidy_of before moves m.0 m.1 row' kept' m.3 (keeps t ∷ done)
-          (λ u h.
-          let k = in_apart kept (t ∷ []) u (rw m.2.5 at h) in
-          let old = are u in grind arith) once marked,
-    )
+module _ (before : List Sentence) where
+  -- where what is kept so far was kept by a mark that is done
+  pub tidy_of : (moves : List (Move (List ℕ))) (row : Trees) (kept : List Trees) (row' : Trees)
+      (kept' : List Trees) (m : Makes before moves row kept row' kept') (done : List Visit)
+      → ((t : Trees) → In kept t → In done (keeps t))
+      → MakeOnce (onto done (visits before moves row kept row' kept' m))
+      → KeepMade (onto done (visits before moves row kept row' kept' m))
+      → Tidy done (visits before moves row kept row' kept' m)
+  tidy_of [] row kept row' kept' m done are once marked = tt
+  tidy_of (name label ∷ moves) row kept row' kept' m done are once marked =
+      let t : Trees = tree label m.2.1 none in
+      let later : List Visit = visits before moves m.0 m.1 row' kept' m.3 in (
+        λ big has.
+            let g = at_earlier done (makes t ∷ later) (makes t) has in
+            let same : g.0 ≡ length done + 0 = once g.0 (length done + 0) t big g.2
+            (at_later done (makes t ∷ later) 0) in
+            absurd (omega (arith, g.1, same)),
+        tidy_of moves m.0 m.1 row' kept' m.3 (makes t ∷ done)
+            (λ u h. inr (are u (rw m.2.5 at h))) once marked,
+      )
+  tidy_of (again tag ∷ moves) row kept row' kept' m done are once marked = (
+    are m.2.0 (get_in kept tag m.2.0 m.2.1),
+    tidy_of moves m.0 m.1 row' kept' m.3 (repeats m.2.0 ∷ done)
+        (λ u h. inr (are u (rw m.2.3 at h))) once marked,
+  )
+  tidy_of (mark ∷ moves) row kept row' kept' m done are once marked =
+      let t : Trees = tree m.2.1 m.2.2 none in
+      let later : List Visit = visits before moves m.0 m.1 row' kept' m.3 in
+      let g = marked (length done + 0) t (at_later done (keeps t ∷ later) 0) in (
+        g.0,
+        just_done done (keeps t ∷ later) g.1 (makes t) (omega (arith, g.2)) g.3,
+        tidy_of moves m.0 m.1 row' kept' m.3 (keeps t ∷ done)
+            (λ u h.
+            let k = in_apart kept (t ∷ []) u (rw m.2.5 at h) in
+            let old = are u in grind arith) once marked,
+      )
 
--- ---- the moves are told by what they do
+  -- ---- the moves are told by what they do
 
-pub moves_once : (before : List Sentence) (moves moves' : List (Move (List ℕ))) (row row₂ : Trees)
-    (kept kept₂ : List Trees) (row' row₂' : Trees) (kept' kept₂' : List Trees)
-    (m : Makes before moves row kept row' kept') (n : Makes before moves' row₂ kept₂ row₂' kept₂')
-    → kept ≡ kept₂ → kept' ≡ kept₂' → StandOnce kept₂'
-    → visits before moves row kept row' kept' m ≡ visits before moves' row₂ kept₂ row₂' kept₂' n
-    → moves ≡ moves'
-moves_once before [] [] row row₂ kept kept₂ row' row₂' kept' kept₂' m n k l once same = refl
-moves_once before (name x ∷ moves)
-    (name y ∷ moves') row row₂ kept kept₂ row' row₂' kept' kept₂' m n k l once same =
-    let rest = moves_once before moves moves' m.0 n.0 m.1 n.1 row' row₂' kept' kept₂' m.3 n.3
-    (cc) l once (cc) in cc
-moves_once before (again x ∷ moves)
-    (again y ∷ moves') row row₂ kept kept₂ row' row₂' kept' kept₂' m n k l once same =
-    let u : m.2.0 ≡ n.2.0 = cc in
-    let at_x : slice_get kept₂' x ≡ Some n.2.0 =
-    rw (← l) (kept_stays before moves m.0 m.1 row' kept' m.3 x n.2.0 (rw (m.2.3, ← u) m.2.1)) in
-    let at_y : slice_get kept₂' y ≡ Some n.2.0 =
-    kept_stays before moves' n.0 n.1 row₂' kept₂' n.3 y n.2.0 (rw n.2.3 n.2.1) in
-    let tag : x ≡ y = once x y n.2.0 at_x at_y in
-    let rest = moves_once before moves moves' m.0 n.0 m.1 n.1 row' row₂' kept' kept₂' m.3 n.3
-    (cc) l once (cc) in cc
-moves_once before (mark ∷ moves)
-    (mark ∷ moves') row row₂ kept kept₂ row' row₂' kept' kept₂' m n k l once same =
-    let rest = moves_once before moves moves' m.0 n.0 m.1 n.1 row' row₂' kept' kept₂' m.3 n.3
-    (cc) l once (cc) in cc
-moves_once before moves moves' row row₂ kept kept₂ row' row₂' kept' kept₂' m n k l once same =
-    absurd cc
+  pub moves_once : (moves moves' : List (Move (List ℕ))) (row row₂ : Trees)
+      (kept kept₂ : List Trees) (row' row₂' : Trees) (kept' kept₂' : List Trees)
+      (m : Makes before moves row kept row' kept') (n : Makes before moves' row₂ kept₂ row₂' kept₂')
+      → kept ≡ kept₂ → kept' ≡ kept₂' → StandOnce kept₂'
+      → visits before moves row kept row' kept' m ≡ visits before moves' row₂ kept₂ row₂' kept₂' n
+      → moves ≡ moves'
+  moves_once [] [] row row₂ kept kept₂ row' row₂' kept' kept₂' m n k l once same = refl
+  moves_once (name x ∷ moves) (name y ∷ moves') row row₂ kept kept₂ row' row₂' kept' kept₂' m n k l once same =
+      let rest = moves_once moves moves' m.0 n.0 m.1 n.1 row' row₂' kept' kept₂' m.3 n.3
+      (cc) l once (cc) in cc
+  moves_once (again x ∷ moves) (again y ∷ moves') row row₂ kept kept₂ row' row₂' kept' kept₂' m n k l once same =
+      let u : m.2.0 ≡ n.2.0 = cc in
+      let at_x : slice_get kept₂' x ≡ Some n.2.0 =
+      rw (← l) (kept_stays before moves m.0 m.1 row' kept' m.3 x n.2.0 (rw (m.2.3, ← u) m.2.1)) in
+      let at_y : slice_get kept₂' y ≡ Some n.2.0 =
+      kept_stays before moves' n.0 n.1 row₂' kept₂' n.3 y n.2.0 (rw n.2.3 n.2.1) in
+      let tag : x ≡ y = once x y n.2.0 at_x at_y in
+      let rest = moves_once moves moves' m.0 n.0 m.1 n.1 row' row₂' kept' kept₂' m.3 n.3
+      (cc) l once (cc) in cc
+  moves_once (mark ∷ moves) (mark ∷ moves') row row₂ kept kept₂ row' row₂' kept' kept₂' m n k l once same =
+      let rest = moves_once moves moves' m.0 n.0 m.1 n.1 row' row₂' kept' kept₂' m.3 n.3
+      (cc) l once (cc) in cc
+  moves_once moves moves' row row₂ kept kept₂ row' row₂' kept' kept₂' m n k l once same =
+      absurd cc
 
 -- ---- moves that share all
 

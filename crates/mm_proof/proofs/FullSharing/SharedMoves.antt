@@ -19,26 +19,26 @@ use Rattle.mm_proof.proofs.FullSharing.SomeSharing.{some_cover, covers_no_keeps,
 use Rattle.mm_proof.proofs.FullSharing.SomeSharing.{marked_kept, marked_repeats, marked_tidy}
 use Rattle.mm_proof.proofs.FullSharing.SomeSharing.{careful_big}
 
--- the moves lead from the first row and kept trees to the second, and do these visits
-abbrev pub Led : List Sentence → List (Move (List ℕ)) → Trees → List Trees → Trees → List Trees
-    → List Visit → Type 0
-Led before moves row kept row' kept' v = (m : Makes before moves row kept row' kept')
-    × (visits before moves row kept row' kept' m ≡ v)
+module _ (before : List Sentence) where
+  -- the moves lead from the first row and kept trees to the second, and do these visits
+  abbrev pub Led : List (Move (List ℕ)) → Trees → List Trees → Trees → List Trees → List Visit
+      → Type 0
+  Led moves row kept row' kept' v = (m : Makes before moves row kept row' kept')
+      × (visits before moves row kept row' kept' m ≡ v)
 
-led_join : (before : List Sentence) (moves more : List (Move (List ℕ))) (a b c : Trees)
-    (k l n : List Trees) (v w : List Visit)
-    → Led before moves a k b l v → Led before more b l c n w
-    → Led before (moves ++ more) a k c n (v ++ w)
-led_join before [] more a b c k l n v w r q =
-    rw (← r.1, ← r.0.0, ← r.0.1) q
-led_join before (move ∷ moves) more a b c k l n v w r q =
-    let m = r.0 in
-    let rest = led_join before moves more m.0 b c m.1 l n (visits before moves m.0 m.1 b l m.3) w
-    (m.3, refl) q in (
-      (m.0, m.1, m.2, rest.0),
-      ap (λ x. visit before move a k m.0 m.1 m.2 ∷ x) rest.1
-          ∙ ap (λ x. x ++ w) r.1,
-    )
+  led_join : (moves more : List (Move (List ℕ))) (a b c : Trees) (k l n : List Trees)
+      (v w : List Visit) → Led moves a k b l v → Led more b l c n w
+      → Led (moves ++ more) a k c n (v ++ w)
+  led_join [] more a b c k l n v w r q =
+      rw (← r.1, ← r.0.0, ← r.0.1) q
+  led_join (move ∷ moves) more a b c k l n v w r q =
+      let m = r.0 in
+      let rest = led_join moves more m.0 b c m.1 l n (visits before moves m.0 m.1 b l m.3) w
+      (m.3, refl) q in (
+        (m.0, m.1, m.2, rest.0),
+        ap (λ x. visit before move a k m.0 m.1 m.2 ∷ x) rest.1
+            ∙ ap (λ x. x ++ w) r.1,
+      )
 
 -- ---- visits apart
 
@@ -92,71 +92,70 @@ leads_join {before} {a} {b} {c} {k} {v} {w} p q = record {
   led = led_join before p.moves q.moves a b c k p.kept' q.kept' v w p.led q.led;
 }
 
--- the step by a label, with a mark or not
-leads_label : (before : List Sentence) (whole : List Visit) (label : List ℕ) (row below : Trees)
-    (kept : List Trees) (v : List Visit) → MayStandOver before label below
-    → Marked whole (makes (tree label below none) ∷ []) v
-    → Leads before (beside row below) kept (beside row (tree label below none)) v
-leads_label before whole label row below kept v stands m =
-    let t : Trees = tree label below none in
-    ⊎_elim
-    (λ p. record {
-      moves = name label ∷ mark ∷ [];
-      kept' = kept ++ t ∷ [];
-      led = (
-        (
-          beside row t,
-          kept,
-          (row, below, refl, stands, refl, refl),
-          (beside row t, kept ++ t ∷ [], (row, label, below, refl, refl, refl), (refl, refl)),
-        ),
-        cc,
-      );
-    })
-    (λ p. record {
-      moves = name label ∷ [];
-      kept' = kept;
-      led = ((beside row t, kept, (row, below, refl, stands, refl, refl), (refl, refl)), cc);
-    }) m.2
+module _ (before : List Sentence) (whole : List Visit) where
+  -- the step by a label, with a mark or not
+  leads_label : (label : List ℕ) (row below : Trees) (kept : List Trees) (v : List Visit)
+      → MayStandOver before label below → Marked whole (makes (tree label below none) ∷ []) v
+      → Leads before (beside row below) kept (beside row (tree label below none)) v
+  leads_label label row below kept v stands m =
+      let t : Trees = tree label below none in
+      ⊎_elim
+      (λ p. record {
+        moves = name label ∷ mark ∷ [];
+        kept' = kept ++ t ∷ [];
+        led = (
+          (
+            beside row t,
+            kept,
+            (row, below, refl, stands, refl, refl),
+            (beside row t, kept ++ t ∷ [], (row, label, below, refl, refl, refl), (refl, refl)),
+          ),
+          cc,
+        );
+      })
+      (λ p. record {
+        moves = name label ∷ [];
+        kept' = kept;
+        led = ((beside row t, kept, (row, below, refl, stands, refl, refl), (refl, refl)), cc);
+      }) m.2
 
--- the step by a tag
-leads_again : (before : List Sentence) (whole : List Visit) (t row : Trees) (kept : List Trees)
-    (done v : List Visit) → HasKept done kept → Tidy done v → Marked whole (repeats t ∷ []) v
-    → Leads before row kept (beside row t) v
-leads_again before whole t row kept done v has c m =
-    let e : v ≡ repeats t ∷ [] = cc in
-    let at = in_get kept t (has t (rw e at c).0) in
-    record {
-      moves = again at.0 ∷ [];
-      kept' = kept;
-      led = ((beside row t, kept, (t, at.1, refl, refl), (refl, refl)), sym e);
-    }
+  -- the step by a tag
+  leads_again : (t row : Trees) (kept : List Trees) (done v : List Visit) → HasKept done kept
+      → Tidy done v → Marked whole (repeats t ∷ []) v → Leads before row kept (beside row t) v
+  leads_again t row kept done v has c m =
+      let e : v ≡ repeats t ∷ [] = cc in
+      let at = in_get kept t (has t (rw e at c).0) in
+      record {
+        moves = again at.0 ∷ [];
+        kept' = kept;
+        led = ((beside row t, kept, (t, at.1, refl, refl), (refl, refl)), sym e);
+      }
 
-pub leads_to : (before : List Sentence) (whole : List Visit) (trees row : Trees) (kept : List Trees)
-    (steps done v : List Visit) → TreesFit before trees → Covers trees steps → Marked whole steps v
-    → Tidy done v → HasKept done kept → Leads before row kept (beside row trees) v
-leads_to before whole none row kept steps done v fit covers m c has =
-    record { moves = []; kept' = kept; led = ((beside-none row, refl), sym (rw covers at m)) }
-leads_to before whole (tree label below right) row kept steps done v fit covers m c has =
-    let t : Trees = tree label below none in
-    let parts = marked_apart whole covers.0 covers.1 v (rw covers.2 at m) in
-    let tidy = tidy_apart done parts.0 parts.1 (rw parts.2 at c) in
-    let first : Leads before row kept (beside row t) parts.0 = ⊎_elim
-    (λ a. leads_again before whole t row kept done parts.0 has tidy.0
-    (subst (λ s. Marked whole s parts.0) a parts.3))
-    (λ a.
-    let inner = marked_apart whole a.0 (makes t ∷ []) parts.0
-    (subst (λ s. Marked whole s parts.0) a.1 parts.3) in
-    let within = tidy_apart done inner.0 inner.1 (rw inner.2 at tidy.0) in
-    let p = leads_to before whole below row kept a.0 done inner.0 fit.1 a.2 inner.3 within.0 has in
-    rw inner.2
-    (leads_join p (leads_label before whole label row below p.kept' inner.1 fit.0 inner.4)))
-    covers.4 in
-    let second : Leads before (beside row t) first.kept' (beside (beside row t) right) parts.1 =
-    leads_to before whole right (beside row t) first.kept' covers.1
-    (onto parts.0 done) parts.1 fit.2 covers.3 parts.4 tidy.1
-    (has_after before first.moves row (beside row t) kept first.kept' parts.0 done first.led has) in
-    rw parts.2 (leads_join first (rw (beside_assoc row t right) at second))
+  pub leads_to : (trees row : Trees) (kept : List Trees) (steps done v : List Visit)
+      → TreesFit before trees → Covers trees steps → Marked whole steps v → Tidy done v
+      → HasKept done kept → Leads before row kept (beside row trees) v
+  leads_to none row kept steps done v fit covers m c has =
+      record { moves = []; kept' = kept; led = ((beside-none row, refl), sym (rw covers at m)) }
+  leads_to (tree label below right) row kept steps done v fit covers m c has =
+      let t : Trees = tree label below none in
+      let parts = marked_apart whole covers.0 covers.1 v (rw covers.2 at m) in
+      let tidy = tidy_apart done parts.0 parts.1 (rw parts.2 at c) in
+      let first : Leads before row kept (beside row t) parts.0 = ⊎_elim
+      (λ a. leads_again t row kept done parts.0 has tidy.0
+      (subst (λ s. Marked whole s parts.0) a parts.3))
+      (λ a.
+      let inner = marked_apart whole a.0 (makes t ∷ []) parts.0
+      (subst (λ s. Marked whole s parts.0) a.1 parts.3) in
+      let within = tidy_apart done inner.0 inner.1 (rw inner.2 at tidy.0) in
+      let p = leads_to below row kept a.0 done inner.0 fit.1 a.2 inner.3 within.0 has in
+      rw inner.2
+      (leads_join p (leads_label label row below p.kept' inner.1 fit.0 inner.4)))
+      covers.4 in
+      let second : Leads before (beside row t) first.kept' (beside (beside row t) right) parts.1 =
+      leads_to right (beside row t) first.kept' covers.1
+      (onto parts.0 done) parts.1 fit.2 covers.3 parts.4 tidy.1
+      (has_after before first.moves row (beside row t) kept first.kept' parts.0 done first.led has) in
+      rw parts.2 (leads_join first (rw (beside_assoc row t right) at second))
 
 -- ---- what is said of tidy visits, by places
 

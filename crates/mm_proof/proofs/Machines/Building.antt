@@ -228,108 +228,96 @@ pub record NextKeep {X : Type 0} (held : Holding X) (st : List Sentence) (moves 
   pub was : h.row ≡ beside rest (tree label below none)
   pub others : Makes (take m.place st) (drop (i + 1) m.names) (beside rest (tree label below none)) (h.kept ++ tree label below none ∷ []) (tree m.label m.below none) m.makes.kept
 
-pub next_keep : {X : Type 0} (held : Holding X) (st : List Sentence) (moves : List (Move ℕ)) (m : MakeTreeAt st moves) (i : ℕ) (stack shelf : List X) (h : AreItemsAt held st moves m i stack shelf)
-    → slice_get moves i ≡ Some mark → NextKeep held st moves m i stack shelf h
-next_keep {X} held st moves m i stack shelf h here =
-    let n = next held st moves m i stack shelf mark h here in
-    let one = subst (λ y. MakesOne (take m.place st) y h.row h.kept n.row' n.kept') n.numbered n.one in
-    record {
-      rest = one.0;
-      label = one.1;
-      below = one.2;
-      some = omega (arith, h.deep, ap roots one.3, roots-beside one.0 (tree one.1 one.2 none));
-      was = one.3;
-      others = subst (λ k. Makes (take m.place st) (drop (i + 1) m.names) (beside one.0 (tree one.1 one.2 none)) k (tree m.label m.below none) m.makes.kept) one.5
-          (subst (λ r. Makes (take m.place st) (drop (i + 1) m.names) r n.kept' (tree m.label m.below none) m.makes.kept) (one.4 ∙ one.3) n.others);
-    }
+module _ {X : Type 0} (held : Holding X) (st : List Sentence) (moves : List (Move ℕ))
+    (m : MakeTreeAt st moves) (i : ℕ) (stack shelf : List X) where
+  pub next_keep : (h : AreItemsAt held st moves m i stack shelf) → slice_get moves i ≡ Some mark
+      → NextKeep held st moves m i stack shelf h
+  next_keep h here =
+      let n = next held st moves m i stack shelf mark h here in
+      let one = subst (λ y. MakesOne (take m.place st) y h.row h.kept n.row' n.kept') n.numbered n.one in
+      record {
+        rest = one.0;
+        label = one.1;
+        below = one.2;
+        some = omega (arith, h.deep, ap roots one.3, roots-beside one.0 (tree one.1 one.2 none));
+        was = one.3;
+        others = subst (λ k. Makes (take m.place st) (drop (i + 1) m.names) (beside one.0 (tree one.1 one.2 none)) k (tree m.label m.below none) m.makes.kept) one.5
+            (subst (λ r. Makes (take m.place st) (drop (i + 1) m.names) r n.kept' (tree m.label m.below none) m.makes.kept) (one.4 ∙ one.3) n.others);
+      }
 
-pub at_keep : {X : Type 0} (held : Holding X) (st : List Sentence) (moves : List (Move ℕ)) (m : MakeTreeAt st moves) (i : ℕ) (stack shelf : List X) (item : X) (h : AreItemsAt held st moves m i stack shelf)
-    → NextKeep held st moves m i stack shelf h → slice_get stack (length stack - 1) ≡ Some item → KeepsItem held → AreItemsAt held st moves m (i + 1) stack (shelf ++ item ∷ [])
-at_keep {X} held st moves m i stack shelf item h n there keeps =
-    let parts = last_split stack n.some in
-    let split : stack ≡ parts.0 ++ item ∷ [] = parts.2 ∙ ap (λ x. parts.0 ++ x ∷ []) (same_Some parts.1 item (sym parts.3 ∙ there)) in
-    let t : Trees = tree n.label n.below none in
-    let holds : held (parts.0 ++ item ∷ []) (beside n.rest t) shelf h.kept h.steps = subst (λ s. held s (beside n.rest t) shelf h.kept h.steps) split (subst (λ r. held stack r shelf h.kept h.steps) n.was h.holds) in
-    record {
-      row = beside n.rest t;
-      kept = h.kept ++ t ∷ [];
-      steps = h.steps;
-      holds = subst (λ s. held s (beside n.rest t) (shelf ++ item ∷ []) (h.kept ++ t ∷ []) h.steps) (sym split) (keeps parts.0 shelf item n.rest h.kept h.steps n.label n.below holds);
-      deep = h.deep ∙ ap roots n.was;
-      ones = zip_push (λ (x : X) (t : Trees). roots t ≡ 1) shelf h.kept item t h.ones refl;
-      few = let f = h.few in omega arith;
-      made = n.others;
-    }
-
--- ---- after all moves
-
-pub only_item : {X : Type 0} (held : Holding X) (st : List Sentence) (moves : List (Move ℕ))
-    (m : MakeTreeAt st moves) (i : ℕ) (stack shelf : List X) → i ≡ length moves
-    → AreItemsAt held st moves m i stack shelf
-    → (length stack ≡ 1) × ((item : X) → item ≡ get_or stack 0 item
-    → IsBuilt held m.names (tree m.label m.below none) item)
-only_item {X} held st moves m i stack shelf all h =
-    let long : length m.names ≡ length moves =
-    AllZip-long (IsNumberedMove st) moves m.names m.numbered in
-    let made = rw (drop_all i m.names (omega arith)) at h.made in
-    let t : Trees = tree m.label m.below none in
-    let one : length stack ≡ 1 = h.deep ∙ ap roots (sym made.0) in (
-      one,
-      λ item read. record {
-        shelf = shelf;
-        kept = h.kept;
+  pub at_keep : (item : X) (h : AreItemsAt held st moves m i stack shelf)
+      → NextKeep held st moves m i stack shelf h → slice_get stack (length stack - 1) ≡ Some item
+      → KeepsItem held → AreItemsAt held st moves m (i + 1) stack (shelf ++ item ∷ [])
+  at_keep item h n there keeps =
+      let parts = last_split stack n.some in
+      let split : stack ≡ parts.0 ++ item ∷ [] = parts.2 ∙ ap (λ x. parts.0 ++ x ∷ []) (same_Some parts.1 item (sym parts.3 ∙ there)) in
+      let t : Trees = tree n.label n.below none in
+      let holds : held (parts.0 ++ item ∷ []) (beside n.rest t) shelf h.kept h.steps = subst (λ s. held s (beside n.rest t) shelf h.kept h.steps) split (subst (λ r. held stack r shelf h.kept h.steps) n.was h.holds) in
+      record {
+        row = beside n.rest t;
+        kept = h.kept ++ t ∷ [];
         steps = h.steps;
+        holds = subst (λ s. held s (beside n.rest t) (shelf ++ item ∷ []) (h.kept ++ t ∷ []) h.steps) (sym split) (keeps parts.0 shelf item n.rest h.kept h.steps n.label n.below holds);
+        deep = h.deep ∙ ap roots n.was;
+        ones = zip_push (λ (x : X) (t : Trees). roots t ≡ 1) shelf h.kept item t h.ones refl;
         few = let f = h.few in omega arith;
-        holds = subst (λ s. held s t shelf h.kept h.steps) (only_entry stack item one
-            (slice_get_read stack (length stack) 0 item refl (omega (arith, one)) read))
-            (subst (λ r. held stack r shelf h.kept h.steps) (sym made.0) h.holds);
-      },
-    )
+        made = n.others;
+      }
+
+  -- ---- after all moves
+
+  pub only_item : i ≡ length moves → AreItemsAt held st moves m i stack shelf
+      → (length stack ≡ 1) × ((item : X) → item ≡ get_or stack 0 item → IsBuilt held m.names (tree m.label m.below none) item)
+  only_item all h =
+      let long : length m.names ≡ length moves =
+      AllZip-long (IsNumberedMove st) moves m.names m.numbered in
+      let made = rw (drop_all i m.names (omega arith)) at h.made in
+      let t : Trees = tree m.label m.below none in
+      let one : length stack ≡ 1 = h.deep ∙ ap roots (sym made.0) in (
+        one,
+        λ item read. record {
+          shelf = shelf;
+          kept = h.kept;
+          steps = h.steps;
+          few = let f = h.few in omega arith;
+          holds = subst (λ s. held s t shelf h.kept h.steps) (only_entry stack item one
+              (slice_get_read stack (length stack) 0 item refl (omega (arith, one)) read))
+              (subst (λ r. held stack r shelf h.kept h.steps) (sym made.0) h.holds);
+        },
+      )
 
 -- ---- a forest
 
--- a move more
-pub built_more : {B X : Type 0} (holds : B → B → List Sentence → Holding X)
-    (first old new : Forest B X) (front : List (Move ℕ)) (x : Move ℕ)
-    → HasBuilt holds first old front → new.builder.ghost_name ≡ old.builder.ghost_name
-    → new.book ≡ old.book → new.entries ≡ old.entries
-    → let held = λ (now : Forest B X). holds first.builder.now now.builder.now
-    first.book.now.statements in
-    ((moves : List (Move ℕ)) (m : MakeTreeAt first.book.now.statements moves)
-    → slice_get moves (length front) ≡ Some x
-    → AreItemsAt (held old) _ moves m (length front) old.stack.now.items old.shelf.now.items
-    → AreItemsAt (held new) _ moves m (length front + 1) new.stack.now.items new.shelf.now.items)
-    → HasBuilt holds first new (front ++ x ∷ [])
-built_more holds first old new front x was builder book entries goes = record {
-  same_builder = builder ∙ was.same_builder;
-  same_book = book ∙ was.same_book;
-  same_entries = entries ∙ was.same_entries;
-  sound = was.sound;
-  keeps = was.keeps;
-  at = λ moves m begun.
-      let more = first_more front moves x begun in
-      rw (length-append front (x ∷ [])) (goes moves m more.1 (was.at moves m more.0));
-}
+module _ {B X : Type 0} (holds : B → B → List Sentence → Holding X) where
+  -- a move more
+  pub built_more : (first old new : Forest B X) (front : List (Move ℕ)) (x : Move ℕ)
+      → HasBuilt holds first old front → new.builder.ghost_name ≡ old.builder.ghost_name
+      → new.book ≡ old.book → new.entries ≡ old.entries
+      → let held = λ (now : Forest B X). holds first.builder.now now.builder.now first.book.now.statements in ((moves : List (Move ℕ)) (m : MakeTreeAt first.book.now.statements moves) → slice_get moves (length front) ≡ Some x → AreItemsAt (held old) _ moves m (length front) old.stack.now.items old.shelf.now.items → AreItemsAt (held new) _ moves m (length front + 1) new.stack.now.items new.shelf.now.items)
+      → HasBuilt holds first new (front ++ x ∷ [])
+  built_more first old new front x was builder book entries goes = record {
+    same_builder = builder ∙ was.same_builder;
+    same_book = book ∙ was.same_book;
+    same_entries = entries ∙ was.same_entries;
+    sound = was.sound;
+    keeps = was.keeps;
+    at = λ moves m begun.
+        let more = first_more front moves x begun in
+        rw (length-append front (x ∷ [])) (goes moves m more.1 (was.at moves m more.0));
+  }
 
--- some moves go on by the next move
-pub some_next : {B X : Type 0} (holds : B → B → List Sentence → Holding X)
-    (now : Forest B X) (x : Move ℕ)
-    → (next : IsNext (HasBuilt holds)
-    (λ first front move. MayGrow first.book.now.statements front move) now x)
-    → let statements = next.first.book.now.statements in
-    (moves : List (Move ℕ)) × (m : MakeTreeAt statements moves)
-    × (slice_get moves (length next.front) ≡ Some x)
-    × AreItemsAt (holds next.first.builder.now now.builder.now statements) statements moves m
-    (length next.front) now.stack.now.items now.shelf.now.items
-some_next holds now x next =
-    let moves = next.allowed.0 in
-    let more = first_more next.front moves x next.allowed.2 in
-    (moves, next.allowed.1, more.1, next.ran.at moves next.allowed.1 more.0)
+  -- some moves go on by the next move
+  pub some_next : (now : Forest B X) (x : Move ℕ)
+      (next : IsNext (HasBuilt holds) (λ first front move. MayGrow first.book.now.statements front move) now x)
+      → let statements = next.first.book.now.statements in (moves : List (Move ℕ)) × (m : MakeTreeAt statements moves) × (slice_get moves (length next.front) ≡ Some x) × AreItemsAt (holds next.first.builder.now now.builder.now statements) statements moves m (length next.front) now.stack.now.items now.shelf.now.items
+  some_next now x next =
+      let moves = next.allowed.0 in
+      let more = first_more next.front moves x next.allowed.2 in
+      (moves, next.allowed.1, more.1, next.ran.at moves next.allowed.1 more.0)
 
--- where a mark comes next, something is on the stack
-pub keep_within : {B X : Type 0} (holds : B → B → List Sentence → Holding X) (now : Forest B X)
-    → IsNext (HasBuilt holds)
-    (λ first front move. MayGrow first.book.now.statements front move) now mark
-    → 0 < length now.stack.now.items
-keep_within holds now next =
-    let s = some_next holds now mark next in (next_keep _ _ s.0 s.1 _ _ _ s.3 s.2).some
+  -- where a mark comes next, something is on the stack
+  pub keep_within : (now : Forest B X)
+      → IsNext (HasBuilt holds) (λ first front move. MayGrow first.book.now.statements front move) now mark
+      → 0 < length now.stack.now.items
+  keep_within now next =
+      let s = some_next now mark next in (next_keep _ _ s.0 s.1 _ _ _ s.3 s.2).some

@@ -181,47 +181,43 @@ refused {X} r e f from is =
 
 -- ---- a judge
 
--- before any move
-pub judged_none : {S : Type 0} (stack kept : S → List (List ℕ)) (first : Judge S)
-    → stack first.store.now ≡ [] → kept first.store.now ≡ [] → first.steps ≡ 0 → first.kept ≡ 0
-    → length first.marks.now.items ≡ length first.table.now.ids
-    → AreMarked first.table.now.ids [] first.marks.now.items
-    → HasJudged stack kept first first []
-judged_none stack kept first empty none_kept steps tags long marked = record {
-  same_store = refl;
-  same_marks = refl;
-  same_table = refl;
-  run = let site = first.table.now.site in
-      rw steps (run_none site.limit site.statements site.place _ _ empty none_kept);
-  tags = tags ∙ sym (ap length none_kept);
-  long = long;
-  marked = marked;
-  all = omega (arith, steps, tags);
-}
+module _ {S : Type 0} (stack kept : S → List (List ℕ)) (first : Judge S) where
+  -- before any move
+  pub judged_none : stack first.store.now ≡ [] → kept first.store.now ≡ [] → first.steps ≡ 0
+      → first.kept ≡ 0 → length first.marks.now.items ≡ length first.table.now.ids
+      → AreMarked first.table.now.ids [] first.marks.now.items → HasJudged stack kept first first []
+  judged_none empty none_kept steps tags long marked = record {
+    same_store = refl;
+    same_marks = refl;
+    same_table = refl;
+    run = let site = first.table.now.site in
+        rw steps (run_none site.limit site.statements site.place _ _ empty none_kept);
+    tags = tags ∙ sym (ap length none_kept);
+    long = long;
+    marked = marked;
+    all = omega (arith, steps, tags);
+  }
 
--- one move more
-pub judged_more : {S : Type 0} (stack kept : S → List (List ℕ)) (first old new : Judge S)
-    (front : List (Move ℕ)) (x : Move ℕ) → HasJudged stack kept first old front
-    → new.store.ghost_name ≡ old.store.ghost_name → new.marks.ghost_name ≡ old.marks.ghost_name
-    → new.table ≡ old.table
-    → (let site = first.table.now.site in
-    HasRun site.limit site.statements site.place (front ++ x ∷ []) (stack new.store.now)
-    (kept new.store.now) new.steps)
-    → new.kept ≡ length (kept new.store.now)
-    → length new.marks.now.items ≡ length first.table.now.ids
-    → AreMarked first.table.now.ids (front ++ x ∷ []) new.marks.now.items
-    → new.steps + new.kept ≡ old.steps + old.kept + 1
-    → HasJudged stack kept first new (front ++ x ∷ [])
-judged_more stack kept first old new front x was store marks table run tags long marked all = record {
-  same_store = store ∙ was.same_store;
-  same_marks = marks ∙ was.same_marks;
-  same_table = table ∙ was.same_table;
-  run = run;
-  tags = tags;
-  long = long;
-  marked = marked;
-  all = omega (arith, was.all, all, length-append front (x ∷ []));
-}
+  -- one move more
+  pub judged_more : (old new : Judge S) (front : List (Move ℕ)) (x : Move ℕ)
+      → HasJudged stack kept first old front → new.store.ghost_name ≡ old.store.ghost_name
+      → new.marks.ghost_name ≡ old.marks.ghost_name → new.table ≡ old.table
+      → (let site = first.table.now.site in HasRun site.limit site.statements site.place (front ++ x ∷ []) (stack new.store.now) (kept new.store.now) new.steps)
+      → new.kept ≡ length (kept new.store.now)
+      → length new.marks.now.items ≡ length first.table.now.ids
+      → AreMarked first.table.now.ids (front ++ x ∷ []) new.marks.now.items
+      → new.steps + new.kept ≡ old.steps + old.kept + 1
+      → HasJudged stack kept first new (front ++ x ∷ [])
+  judged_more old new front x was store marks table run tags long marked all = record {
+    same_store = store ∙ was.same_store;
+    same_marks = marks ∙ was.same_marks;
+    same_table = table ∙ was.same_table;
+    run = run;
+    tags = tags;
+    long = long;
+    marked = marked;
+    all = omega (arith, was.all, all, length-append front (x ∷ []));
+  }
 
 -- where a move breaks a rule after those that ran, that is the first fault of the moves
 pub stopped_fault : (site : ProofSite) (xs : List (Move ℕ)) (place : ℕ) (move : Move ℕ)
@@ -258,28 +254,29 @@ usable_names st id xs place s names a n numbered =
     let same : a.moves ≡ names = zip_once (IsNumberedMove st) (IsNumberedMove st) xs a.moves names (one_move st) a.numbered numbered in
     subst (λ p. AllByRecursion (IsUsableMove (take p st)) names) here (subst (λ l. AllByRecursion (IsUsableMove (take a.place st)) l) same a.usable)
 
--- the statement with a number and a label is the one that has the label before the place
-labelled_there : (st : List Sentence) (place id : ℕ) (s : Sentence) (label : List ℕ) (at : ℕ)
-    (t : Sentence) → AllMeant st → slice_get (labelled_sentences st) id ≡ Some s
-    → IsLabelled label s → slice_get (take place st) at ≡ Some t → IsLabelled label t
-    → (t ≡ s) × IsNumbered st id at s × (at < place)
-labelled_there st place id s label at t all there is found named =
-    let p = numbered_from_get st id s there in
-    let f = get_from_take st place at t found in
-    let one : at ≡ p.0 = one_label st at p.0 t s label all f.1 p.1.there named is in
-    let same = same_Some t s (sym f.1 ∙ ap (slice_get st) one ∙ p.1.there) in
-    (same, subst (λ k. IsNumbered st id k s) (sym one) p.1, f.0)
+module _ (st : List Sentence) (place id : ℕ) (s : Sentence) (label : List ℕ) where
+  -- the statement with a number and a label is the one that has the label before the place
+  labelled_there : (at : ℕ) (t : Sentence) → AllMeant st
+      → slice_get (labelled_sentences st) id ≡ Some s → IsLabelled label s
+      → slice_get (take place st) at ≡ Some t → IsLabelled label t
+      → (t ≡ s) × IsNumbered st id at s × (at < place)
+  labelled_there at t all there is found named =
+      let p = numbered_from_get st id s there in
+      let f = get_from_take st place at t found in
+      let one : at ≡ p.0 = one_label st at p.0 t s label all f.1 p.1.there named is in
+      let same = same_Some t s (sym f.1 ∙ ap (slice_get st) one ∙ p.1.there) in
+      (same, subst (λ k. IsNumbered st id k s) (sym one) p.1, f.0)
 
-pub may_be_used : (st : List Sentence) (place id : ℕ) (s : Sentence) (label : List ℕ) → AllMeant st → slice_get (labelled_sentences st) id ≡ Some s → IsLabelled label s → IsUsable (take place st) label
-    → MayBeUsed st place label id
-may_be_used st place id s label all there is (inl h) =
-    let u = labelled_there st place id s label h.0 h.1 all there is h.2 h.4.0 in
-    let kind = subst (λ (x : Sentence). IsHypothesis x.kind) u.0 h.4.1 in
-    record { at = h.0; s = s; numbered = u.1; named = is; before = u.2; kind = inl (kind, h.3) }
-may_be_used st place id s label all there is (inr b) =
-    let u = labelled_there st place id s label b.0 b.1 all there is b.2 b.3.0 in
-    let kind = subst (λ (x : Sentence). IsAssertion x.kind) u.0 b.3.1 in
-    record { at = b.0; s = s; numbered = u.1; named = is; before = u.2; kind = inr kind }
+  pub may_be_used : AllMeant st → slice_get (labelled_sentences st) id ≡ Some s → IsLabelled label s
+      → IsUsable (take place st) label → MayBeUsed st place label id
+  may_be_used all there is (inl h) =
+      let u = labelled_there h.0 h.1 all there is h.2 h.4.0 in
+      let kind = subst (λ (x : Sentence). IsHypothesis x.kind) u.0 h.4.1 in
+      record { at = h.0; s = s; numbered = u.1; named = is; before = u.2; kind = inl (kind, h.3) }
+  may_be_used all there is (inr b) =
+      let u = labelled_there b.0 b.1 all there is b.2 b.3.0 in
+      let kind = subst (λ (x : Sentence). IsAssertion x.kind) u.0 b.3.1 in
+      record { at = b.0; s = s; numbered = u.1; named = is; before = u.2; kind = inr kind }
 
 move_made : (st : List Sentence) (place : ℕ) (x : Move ℕ) (move : Move (List ℕ)) → AllMeant st → IsNumberedMove st x move → IsUsableMove (take place st) move → MayBeMade st place x
 move_made st place (name id) move all n u =
@@ -396,4 +393,3 @@ lists_end limit st id own t xs stack kept count numbers lines n symbols run is l
     )
 
 -- ---- answers
-

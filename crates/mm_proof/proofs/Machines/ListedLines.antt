@@ -230,161 +230,152 @@ line_mark st place front lines old moves numbered =
 
 -- ---- a lister
 
--- before any move
-pub lists_none : {S : Type 0} (stack kept : S → List (List ℕ)) (first : Lister S)
-    → HasJudged stack kept first.judge first.judge []
-    → first.lines.now.items ≡ [] → first.tags.now.items ≡ [] → HasListed stack kept first first []
-lists_none stack kept first judged lines tags = record {
-  same_lines = refl;
-  judged = judged;
-  listed = rw lines (lines_none first.judge.table.now.site.statements first.judge.table.now.site.place);
-  stand = rw tags (λ moves numbered tag step there. absurd cc);
-  count = (let a = judged.run.count in omega (arith, ap length lines, a));
-  marks = (let a = judged.all in omega (arith, ap length tags, a));
-}
+module _ {S : Type 0} (stack kept : S → List (List ℕ)) where
+  -- before any move
+  pub lists_none : (first : Lister S) → HasJudged stack kept first.judge first.judge []
+      → first.lines.now.items ≡ [] → first.tags.now.items ≡ [] → HasListed stack kept first first []
+  lists_none first judged lines tags = record {
+    same_lines = refl;
+    judged = judged;
+    listed = rw lines (lines_none first.judge.table.now.site.statements first.judge.table.now.site.place);
+    stand = rw tags (λ moves numbered tag step there. absurd cc);
+    count = (let a = judged.run.count in omega (arith, ap length lines, a));
+    marks = (let a = judged.all in omega (arith, ap length tags, a));
+  }
 
--- a step
-pub lists_step : {S : Type 0} (stack kept : S → List (List ℕ)) (first old new : Lister S)
-    (front : List (Move ℕ)) (x : Move ℕ) (line : Line) → HasListed stack kept first old front
-    → HasJudged stack kept first.judge new.judge (front ++ x ∷ []) → is_step x ≡ true
-    → new.lines.ghost_name ≡ old.lines.ghost_name
-    → new.lines.now.items ≡ old.lines.now.items ++ line ∷ []
-    → new.tags.now.items ≡ old.tags.now.items
-    → (let entries = stack new.judge.store.now in
-    slice_get entries (length entries - 1) ≡ Some (numbers_in line.expression.items))
-    → (let st = first.judge.table.now.site.statements in
-    (moves : List (Move (List ℕ))) (move : Move (List ℕ)) → AreNumberedMoves st front moves
-    → IsNumberedMove st x move
-    → (called : StepName) × IsNameOf st line.name called × IsCalled moves move called)
-    → HasListed stack kept first new (front ++ x ∷ [])
-lists_step stack kept first old new front x line was judged is same lines tags last calls =
-    let site = first.judge.table.now.site in
-    let now = judged.run.count in
-    let before = was.judged.run.count in
-    let one = steps_in-append front (x ∷ []) in
-    let step = one_step x is in
-    record {
-      same_lines = same ∙ was.same_lines;
-      judged = judged;
-      listed = rw lines (line_more site.limit site.statements site.place front x _ _ _ _ line
-          judged.run last is calls was.listed);
-      stand = rw tags (tags_later site.statements front x old.tags.now.items was.stand);
-      count = omega (
-        arith,
-        ap length lines,
-        length-append old.lines.now.items (line ∷ []),
-        was.count,
-        now,
-        before,
-        one,
-        step,
-      );
-      marks = omega (
-        arith,
-        ap length tags,
-        was.marks,
-        now,
-        before,
-        one,
-        step,
-        judged.all,
-        was.judged.all,
-        length-append front (x ∷ []),
-      );
-    }
+  -- a step
+  pub lists_step : (first old new : Lister S) (front : List (Move ℕ)) (x : Move ℕ) (line : Line)
+      → HasListed stack kept first old front
+      → HasJudged stack kept first.judge new.judge (front ++ x ∷ []) → is_step x ≡ true
+      → new.lines.ghost_name ≡ old.lines.ghost_name
+      → new.lines.now.items ≡ old.lines.now.items ++ line ∷ []
+      → new.tags.now.items ≡ old.tags.now.items
+      → (let entries = stack new.judge.store.now in slice_get entries (length entries - 1) ≡ Some (numbers_in line.expression.items))
+      → (let st = first.judge.table.now.site.statements in (moves : List (Move (List ℕ))) (move : Move (List ℕ)) → AreNumberedMoves st front moves → IsNumberedMove st x move → (called : StepName) × IsNameOf st line.name called × IsCalled moves move called)
+      → HasListed stack kept first new (front ++ x ∷ [])
+  lists_step first old new front x line was judged is same lines tags last calls =
+      let site = first.judge.table.now.site in
+      let now = judged.run.count in
+      let before = was.judged.run.count in
+      let one = steps_in-append front (x ∷ []) in
+      let step = one_step x is in
+      record {
+        same_lines = same ∙ was.same_lines;
+        judged = judged;
+        listed = rw lines (line_more site.limit site.statements site.place front x _ _ _ _ line
+            judged.run last is calls was.listed);
+        stand = rw tags (tags_later site.statements front x old.tags.now.items was.stand);
+        count = omega (
+          arith,
+          ap length lines,
+          length-append old.lines.now.items (line ∷ []),
+          was.count,
+          now,
+          before,
+          one,
+          step,
+        );
+        marks = omega (
+          arith,
+          ap length tags,
+          was.marks,
+          now,
+          before,
+          one,
+          step,
+          judged.all,
+          was.judged.all,
+          length-append front (x ∷ []),
+        );
+      }
 
--- a mark
-pub lists_mark : {S : Type 0} (stack kept : S → List (List ℕ)) (first old new : Lister S)
-    (front : List (Move ℕ)) (number : ℕ) → HasListed stack kept first old front
-    → HasJudged stack kept first.judge new.judge (front ++ mark ∷ [])
-    → new.lines.ghost_name ≡ old.lines.ghost_name
-    → new.lines.now.items ≡ old.lines.now.items
-    → new.tags.now.items ≡ old.tags.now.items ++ number ∷ []
-    → number ≡ length old.lines.now.items → HasListed stack kept first new (front ++ mark ∷ [])
-lists_mark stack kept first old new front number was judged same lines tags is =
-    let site = first.judge.table.now.site in
-    let one = steps_in-append front (mark ∷ []) in
-    let now = judged.run.count in
-    let before = was.judged.run.count in
-    record {
-      same_lines = same ∙ was.same_lines;
-      judged = judged;
-      listed = rw lines (line_mark site.statements site.place front _ was.listed);
-      stand = rw tags (tags_more site.statements front old.tags.now.items number
-          (is ∙ was.count ∙ before)
-          (omega (arith, is, was.count, was.marks, was.judged.all)) was.stand);
-      count = omega (arith, ap length lines, was.count, now, before, one);
-      marks = omega (
-        arith,
-        ap length tags,
-        length-append old.tags.now.items (number ∷ []),
-        was.marks,
-        now,
-        before,
-        one,
-        judged.all,
-        was.judged.all,
-        length-append front (mark ∷ []),
-      );
-    }
+  -- a mark
+  pub lists_mark : (first old new : Lister S) (front : List (Move ℕ)) (number : ℕ)
+      → HasListed stack kept first old front
+      → HasJudged stack kept first.judge new.judge (front ++ mark ∷ [])
+      → new.lines.ghost_name ≡ old.lines.ghost_name → new.lines.now.items ≡ old.lines.now.items
+      → new.tags.now.items ≡ old.tags.now.items ++ number ∷ [] → number ≡ length old.lines.now.items
+      → HasListed stack kept first new (front ++ mark ∷ [])
+  lists_mark first old new front number was judged same lines tags is =
+      let site = first.judge.table.now.site in
+      let one = steps_in-append front (mark ∷ []) in
+      let now = judged.run.count in
+      let before = was.judged.run.count in
+      record {
+        same_lines = same ∙ was.same_lines;
+        judged = judged;
+        listed = rw lines (line_mark site.statements site.place front _ was.listed);
+        stand = rw tags (tags_more site.statements front old.tags.now.items number
+            (is ∙ was.count ∙ before)
+            (omega (arith, is, was.count, was.marks, was.judged.all)) was.stand);
+        count = omega (arith, ap length lines, was.count, now, before, one);
+        marks = omega (
+          arith,
+          ap length tags,
+          length-append old.tags.now.items (number ∷ []),
+          was.marks,
+          now,
+          before,
+          one,
+          judged.all,
+          was.judged.all,
+          length-append front (mark ∷ []),
+        );
+      }
 
--- all moves have run, each step with a line
-pub listed_run : {S : Type 0} (stack kept : S → List (List ℕ)) (first now : Lister S)
-    (front : List (Move ℕ)) → HasListed stack kept first now front
-    → let site = first.judge.table.now.site in
-    HasRun site.limit site.statements site.place front (stack now.judge.store.now)
-    (kept now.judge.store.now) (length now.lines.now.items)
-listed_run stack kept first now front listed = rw listed.count listed.judged.run
+  -- all moves have run, each step with a line
+  pub listed_run : (first now : Lister S) (front : List (Move ℕ))
+      → HasListed stack kept first now front
+      → let site = first.judge.table.now.site in HasRun site.limit site.statements site.place front (stack now.judge.store.now) (kept now.judge.store.now) (length now.lines.now.items)
+  listed_run first now front listed = rw listed.count listed.judged.run
 
--- ---- what a step leaves
+  -- ---- what a step leaves
 
--- a step by a label leaves something
-pub name_stands : {S : Type 0} (stack kept : S → List (List ℕ)) (first now : Judge S)
-    (front : List (Move ℕ)) (id : ℕ) → HasJudged stack kept first now (front ++ name id ∷ [])
-    → (names : List (Move (List ℕ)))
-    × AreNumberedMoves first.table.now.site.statements (front ++ name id ∷ []) names
-    → 0 < length (stack now.store.now)
-name_stands stack kept first now front id judged named =
-    let site = first.table.now.site in
-    let st = site.statements in
-    let h = zip_front (IsNumberedMove st) front (name id) named.0 named.1 in
-    let deep = name_leaves (IsWithin site.limit) (take site.place st) h.0 h.4.1
-    (all_names_at st (stack now.store.now)) (all_names_at st (kept now.store.now))
-    (subst (λ l. Passed (IsWithin site.limit) (take site.place st) l _ _)
-    (h.2 ∙ ap (λ m. h.0 ++ m ∷ []) h.4.4) (judged.run.passed named.0 named.1)) in
-    omega (arith, deep, length-map (stack now.store.now) (names_at st))
+  -- a step by a label leaves something
+  pub name_stands : (first now : Judge S) (front : List (Move ℕ)) (id : ℕ)
+      → HasJudged stack kept first now (front ++ name id ∷ [])
+      → (names : List (Move (List ℕ))) × AreNumberedMoves first.table.now.site.statements (front ++ name id ∷ []) names
+      → 0 < length (stack now.store.now)
+  name_stands first now front id judged named =
+      let site = first.table.now.site in
+      let st = site.statements in
+      let h = zip_front (IsNumberedMove st) front (name id) named.0 named.1 in
+      let deep = name_leaves (IsWithin site.limit) (take site.place st) h.0 h.4.1
+      (all_names_at st (stack now.store.now)) (all_names_at st (kept now.store.now))
+      (subst (λ l. Passed (IsWithin site.limit) (take site.place st) l _ _)
+      (h.2 ∙ ap (λ m. h.0 ++ m ∷ []) h.4.4) (judged.run.passed named.0 named.1)) in
+      omega (arith, deep, length-map (stack now.store.now) (names_at st))
 
--- a step by a tag does too, and the tag is known
-pub tag_stands : {S : Type 0} (stack kept : S → List (List ℕ)) (first old : Lister S)
-    (now : Judge S) (front : List (Move ℕ)) (tag : ℕ) → HasListed stack kept first old front
-    → HasJudged stack kept first.judge now (front ++ again tag ∷ [])
-    → (names : List (Move (List ℕ)))
-    × AreNumberedMoves first.judge.table.now.site.statements (front ++ again tag ∷ []) names
-    → (tag < length old.tags.now.items) × (0 < length (stack now.store.now))
-tag_stands stack kept first old now front tag was judged named =
-    let site = first.judge.table.now.site in
-    let st = site.statements in
-    let h = zip_front (IsNumberedMove st) front (again tag) named.0 named.1 in
-    let left = again_leaves (IsWithin site.limit) (take site.place st) h.0 tag
-    (all_names_at st (stack now.store.now)) (all_names_at st (kept now.store.now))
-    (subst (λ l. Passed (IsWithin site.limit) (take site.place st) l _ _)
-    (h.2 ∙ ap (λ m. h.0 ++ m ∷ []) h.4) (judged.run.passed named.0 named.1)) in
-    let within = length-map (kept now.store.now) (names_at st) in
-    let one = steps_in-append front (again tag ∷ []) in
-    let long = length-append front (again tag ∷ []) in
-    let before = was.judged.run.count in (
-      omega (
-        arith,
-        left.0,
-        within,
-        was.marks,
-        judged.tags,
-        one,
-        long,
-        was.judged.all,
-        judged.all,
-        judged.run.count,
-        before,
-      ),
-      omega (arith, left.1, length-map (stack now.store.now) (names_at st)),
-    )
+  -- a step by a tag does too, and the tag is known
+  pub tag_stands : (first old : Lister S) (now : Judge S) (front : List (Move ℕ)) (tag : ℕ)
+      → HasListed stack kept first old front
+      → HasJudged stack kept first.judge now (front ++ again tag ∷ [])
+      → (names : List (Move (List ℕ))) × AreNumberedMoves first.judge.table.now.site.statements (front ++ again tag ∷ []) names
+      → (tag < length old.tags.now.items) × (0 < length (stack now.store.now))
+  tag_stands first old now front tag was judged named =
+      let site = first.judge.table.now.site in
+      let st = site.statements in
+      let h = zip_front (IsNumberedMove st) front (again tag) named.0 named.1 in
+      let left = again_leaves (IsWithin site.limit) (take site.place st) h.0 tag
+      (all_names_at st (stack now.store.now)) (all_names_at st (kept now.store.now))
+      (subst (λ l. Passed (IsWithin site.limit) (take site.place st) l _ _)
+      (h.2 ∙ ap (λ m. h.0 ++ m ∷ []) h.4) (judged.run.passed named.0 named.1)) in
+      let within = length-map (kept now.store.now) (names_at st) in
+      let one = steps_in-append front (again tag ∷ []) in
+      let long = length-append front (again tag ∷ []) in
+      let before = was.judged.run.count in (
+        omega (
+          arith,
+          left.0,
+          within,
+          was.marks,
+          judged.tags,
+          one,
+          long,
+          was.judged.all,
+          judged.all,
+          judged.run.count,
+          before,
+        ),
+        omega (arith, left.1, length-map (stack now.store.now) (names_at st)),
+      )

@@ -76,19 +76,20 @@ kept_part stack shelf item row kept label below is h =
     let found = zip_right (IsPartOf (spelling row)) shelf kept is.tag (tree label below none) h.shelved is.tree_there in
     subst (λ (x : Part). IsPartOf (spelling row) x (tree label below none)) (same_Some found.0 item (sym found.1 ∙ is.item_there)) found.2
 
--- it lies within the word
-pub part_order : (word : List (List ℕ)) (part : Part) (t : Trees) → IsPartOf word part t → (part.start ≤ part.end) × (part.end ≤ length word)
-part_order word part t p =
-    let long = ap length p.whole ∙ length-append p.front (spelling t ++ p.back) in
-    let rest = length-append (spelling t) p.back in
-    (omega (arith, p.start, p.end), omega (arith, p.end, long, rest))
+module _ (word : List (List ℕ)) (part : Part) (t : Trees) (p : IsPartOf word part t) where
+  -- it lies within the word
+  pub part_order : (part.start ≤ part.end) × (part.end ≤ length word)
+  part_order =
+      let long = ap length p.whole ∙ length-append p.front (spelling t ++ p.back) in
+      let rest = length-append (spelling t) p.back in
+      (omega (arith, p.start, p.end), omega (arith, p.end, long, rest))
 
-pub part_count : (word : List (List ℕ)) (part : Part) (t : Trees) → IsPartOf word part t → part.end - part.start ≡ length (spelling t)
-part_count word part t p = omega (arith, p.start, p.end)
+  pub part_count : part.end - part.start ≡ length (spelling t)
+  part_count = omega (arith, p.start, p.end)
 
-part_spells : (word : List (List ℕ)) (part : Part) (t : Trees) → IsPartOf word part t → slice_range word part.start part.end ≡ spelling t
-part_spells word part t p =
-    rw (part_count word part t p, p.whole, p.start, drop-append_seam, take-append_seam)
+  part_spells : slice_range word part.start part.end ≡ spelling t
+  part_spells =
+      rw (part_count, p.whole, p.start, drop-append_seam, take-append_seam)
 
 pub zip_part : {A : Type 0} (R : A → List ℕ → Type 0) (xs : List A) (word : List (List ℕ)) (part : Part) (t : Trees) → AllZip R xs word → IsPartOf word part t
     → AllZip R (slice_range xs part.start part.end) (spelling t)
@@ -282,12 +283,13 @@ expands_once before (move ∷ moves) labels a b words v w all p q =
 
 -- ---- what a word spells is made
 
--- the labels make the row
-abbrev Spelled : List Sentence → List (List ℕ) → Trees → Type 0
-Spelled before labels row = Makes before (map name labels) none [] row []
+module _ (before : List Sentence) (labels : List (List ℕ)) where
+  -- the labels make the row
+  abbrev Spelled : Trees → Type 0
+  Spelled row = Makes before (map name labels) none [] row []
 
-spelled_once : (before : List Sentence) (labels : List (List ℕ)) (a b : Trees) → AllMeant before → Spelled before labels a → Spelled before labels b → a ≡ b
-spelled_once before labels a b all p q = (makes_once before (map name labels) none a b [] [] [] all p q).0
+  spelled_once : (a b : Trees) → AllMeant before → Spelled a → Spelled b → a ≡ b
+  spelled_once a b all p q = (makes_once before (map name labels) none a b [] [] [] all p q).0
 
 spelled_more : (before : List Sentence) (labels : List (List ℕ)) (row t : Trees) → Spelled before labels row → TreesFit before t → Spelled before (labels ++ spelling t) (beside row t)
 spelled_more before labels row t p f =

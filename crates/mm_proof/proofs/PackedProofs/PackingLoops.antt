@@ -247,17 +247,18 @@ one_there xs i d x less is = in_contains xs x (get_in xs i x (slice_get-get_or x
 
 -- ---- what is added to a list
 
-adds_old : {X : Type 0} (old new : List X) (x y : X) → Adds old x new → Contains old y → Contains new y
-adds_old old new x y (inl p) h = rw p.1 h
-adds_old old new x y (inr p) h = rw p.1 (Contains-append_left old (x ∷ []) y h)
+module _ {X : Type 0} (old new : List X) (x : X) where
+  adds_old : (y : X) → Adds old x new → Contains old y → Contains new y
+  adds_old y (inl p) h = rw p.1 h
+  adds_old y (inr p) h = rw p.1 (Contains-append_left old (x ∷ []) y h)
 
-adds_new : {X : Type 0} (old new : List X) (x : X) → Adds old x new → Contains new x
-adds_new old new x (inl p) = rw p.1 p.0
-adds_new old new x (inr p) = rw p.1 (Contains-push old x)
+  adds_new : Adds old x new → Contains new x
+  adds_new (inl p) = rw p.1 p.0
+  adds_new (inr p) = rw p.1 (Contains-push old x)
 
-adds_only : {X : Type 0} (old new : List X) (x y : X) → Adds old x new → Contains new y → Contains old y ⊎ (x ≡ y)
-adds_only old new x y (inl p) h = inl (rw p.1 at h)
-adds_only old new x y (inr p) h = Contains-push_cases old x y (rw p.1 at h)
+  adds_only : (y : X) → Adds old x new → Contains new y → Contains old y ⊎ (x ≡ y)
+  adds_only y (inl p) h = inl (rw p.1 at h)
+  adds_only y (inr p) h = Contains-push_cases old x y (rw p.1 at h)
 
 -- ---- the trees that are repeated
 

@@ -58,18 +58,19 @@ pub record Tells {X : Type 0} (eq : X → X → Bool) : Type 0 where
   pub told : (a b : X) → eq a b ≡ true → a ≡ b
   pub same : (a : X) → eq a a ≡ true
 
-pub any_contains : {X : Type 0} (eq : X → X → Bool) → Tells eq → (list : List X) (t : X)
-    → (list_any (eq t) list ≡ true → Contains list t) × (Contains list t → list_any (eq t) list ≡ true)
-any_contains eq tells list t = (
-  λ e. Contains-from_any tells.told t list e,
-  λ c. list_any_at (eq t) list c.0 t c.1 (ap (eq t) c.2 ∙ tells.same t),
-)
+module _ {X : Type 0} (eq : X → X → Bool) (tells : Tells eq) (list : List X) (t : X) where
+  pub any_contains :
+      (list_any (eq t) list ≡ true → Contains list t) × (Contains list t → list_any (eq t) list ≡ true)
+  any_contains = (
+    λ e. Contains-from_any tells.told t list e,
+    λ c. list_any_at (eq t) list c.0 t c.1 (ap (eq t) c.2 ∙ tells.same t),
+  )
 
--- the place that is found is that of the subtree
-pub place_there : {X : Type 0} (eq : X → X → Bool) → Tells eq → (list : List X) (t : X) (i : ℕ) → position (eq t) list ≡ Some i → slice_get list i ≡ Some t
-place_there eq tells list t i e =
-    let h = position-Some (eq t) list i t e in
-    slice_get-get_or list i t h.0 ∙ ap Some (sym (tells.told t (get_or list i t) h.1))
+  -- the place that is found is that of the subtree
+  pub place_there : (i : ℕ) → position (eq t) list ≡ Some i → slice_get list i ≡ Some t
+  place_there i e =
+      let h = position-Some (eq t) list i t e in
+      slice_get-get_or list i t h.0 ∙ ap Some (sym (tells.told t (get_or list i t) h.1))
 
 -- an insertion adds
 pub inserted_adds : {X : Type 0} (eq : X → X → Bool) → Tells eq → (old new : List X) (t : X) → new ≡ (if list_any (eq t) old then old else old ++ t ∷ []) → Adds old t new
@@ -240,29 +241,32 @@ subtrees_make st first old new stack items shelf t rest below kept label number 
           h.shelved;
     }
 
--- the last tree is the one that was made
-pub last_made : (st : List Sentence) (first rows : List Row) (stack shelf : List Subtree) (t : Subtree) (rest below : Trees) (kept : List Trees) (label : List ℕ)
-    → AreSubtreesOf first rows st (stack ++ t ∷ []) (beside rest (tree label below none)) shelf kept → IsTreeOf st rows t label below
-last_made st first rows stack shelf t rest below kept label h = (trees_split st rows stack (t ∷ []) rest (tree label below none) refl h.stands).1.0
+module _ (st : List Sentence) (first rows : List Row) (stack shelf : List Subtree) where
+  -- the last tree is the one that was made
+  pub last_made : (t : Subtree) (rest below : Trees) (kept : List Trees) (label : List ℕ)
+      → AreSubtreesOf first rows st (stack ++ t ∷ []) (beside rest (tree label below none)) shelf kept
+      → IsTreeOf st rows t label below
+  last_made t rest below kept label h = (trees_split st rows stack (t ∷ []) rest (tree label below none) refl h.stands).1.0
 
--- a step by a tag
-pub kept_is : (st : List Sentence) (first rows : List Row) (stack shelf : List Subtree) (t : Subtree) (row : Trees) (kept : List Trees) (label : List ℕ) (below : Trees) → IsKept shelf kept t label below
-    → AreSubtreesOf first rows st stack row shelf kept → IsTreeOf st rows t label below
-kept_is st first rows stack shelf t row kept label below is h =
-    let found = zip_right (IsSubtreeOf st rows) shelf kept is.tag (tree label below none) h.shelved is.tree_there in
-    (subst (λ (x : Subtree). IsSubtreeOf st rows x (tree label below none)) (same_Some found.0 t (sym found.1 ∙ is.item_there)) found.2).0
+  module _ (t : Subtree) (row : Trees) (kept : List Trees) (label : List ℕ) (below : Trees)
+      (is : IsKept shelf kept t label below) where
+    -- a step by a tag
+    pub kept_is : AreSubtreesOf first rows st stack row shelf kept → IsTreeOf st rows t label below
+    kept_is h =
+        let found = zip_right (IsSubtreeOf st rows) shelf kept is.tag (tree label below none) h.shelved is.tree_there in
+        (subst (λ (x : Subtree). IsSubtreeOf st rows x (tree label below none)) (same_Some found.0 t (sym found.1 ∙ is.item_there)) found.2).0
 
-pub subtrees_repeat : (st : List Sentence) (first rows : List Row) (stack shelf : List Subtree) (t : Subtree) (row : Trees) (kept : List Trees) (label : List ℕ) (below : Trees) → IsKept shelf kept t label below
-    → AreSubtreesOf first rows st stack row shelf kept → AreSubtreesOf first rows st (stack ++ t ∷ []) (beside row (tree label below none)) shelf kept
-subtrees_repeat st first rows stack shelf t row kept label below is h =
-    assumption (trees_join st rows stack (t ∷ []) row (tree label below none) h.stands (kept_is st first rows stack shelf t row kept label below is h, tt))
+    pub subtrees_repeat : AreSubtreesOf first rows st stack row shelf kept
+        → AreSubtreesOf first rows st (stack ++ t ∷ []) (beside row (tree label below none)) shelf kept
+    subtrees_repeat h =
+        assumption (trees_join st rows stack (t ∷ []) row (tree label below none) h.stands (kept_is h, tt))
 
--- a mark
-pub subtrees_keep : (st : List Sentence) (first rows : List Row) (stack shelf : List Subtree) (t : Subtree) (rest below : Trees) (kept : List Trees) (label : List ℕ)
-    → AreSubtreesOf first rows st (stack ++ t ∷ []) (beside rest (tree label below none)) shelf kept
-    → AreSubtreesOf first rows st (stack ++ t ∷ []) (beside rest (tree label below none)) (shelf ++ t ∷ []) (kept ++ tree label below none ∷ [])
-subtrees_keep st first rows stack shelf t rest below kept label h =
-    assumption (zip_push (IsSubtreeOf st rows) shelf kept t (tree label below none) h.shelved (last_made st first rows stack shelf t rest below kept label h, tt))
+  -- a mark
+  pub subtrees_keep : (t : Subtree) (rest below : Trees) (kept : List Trees) (label : List ℕ)
+      → AreSubtreesOf first rows st (stack ++ t ∷ []) (beside rest (tree label below none)) shelf kept
+      → AreSubtreesOf first rows st (stack ++ t ∷ []) (beside rest (tree label below none)) (shelf ++ t ∷ []) (kept ++ tree label below none ∷ [])
+  subtrees_keep t rest below kept label h =
+      assumption (zip_push (IsSubtreeOf st rows) shelf kept t (tree label below none) h.shelved (last_made t rest below kept label h, tt))
 
 -- ==== two subtrees of one table are equal exactly if the moves that made them make the same tree
 

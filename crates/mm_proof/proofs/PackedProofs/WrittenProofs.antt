@@ -122,31 +122,33 @@ first_used seen (own ∷ word) listed label (inr (new, others, e, uses)) c =
     (λ h. contains_later own word label (first_used (own ∷ seen) word others label uses h))
     (contains_cases own others label (rw e at c))
 
-pub packed_listed : (before : List Sentence) (s : Sentence) (trees : Trees) (listed : List (List ℕ)) (codes : List Code) (label : List ℕ) → IsPacked before s trees listed codes → Contains listed label → Contains (spelling trees) label
-packed_listed before s trees listed codes label p c = first_used p.says.labels (spelling trees) listed label p.uses c
+module _ (before : List Sentence) (s : Sentence) (trees : Trees) (listed : List (List ℕ))
+    (codes : List Code) where
+  pub packed_listed : (label : List ℕ) → IsPacked before s trees listed codes
+      → Contains listed label → Contains (spelling trees) label
+  packed_listed label p c = first_used p.says.labels (spelling trees) listed label p.uses c
 
--- the tokens of a packed proof say its moves
-abbrev pub packed_says : (before : List Sentence) (s : Sentence) (trees : Trees)
-    (listed : List (List ℕ)) (codes : List Code) (letters : List ℕ) (pieces : List (List ℕ))
-    → (p : IsPacked before s trees listed codes) → Letters letters codes
-    → flat_map (λ piece. piece) pieces ≡ letters → ¬ (Contains (spelling trees) closing_token)
-    → SaysCompressed before s (in_parentheses listed ++ pieces) p.moves
-packed_says before s trees listed codes letters pieces p coded joined apart = record {
-  listed = listed;
-  letters = pieces;
-  parts = record {
-    whole = ap (λ (l : List (List ℕ)). opening_token ∷ l)
-        (append_assoc listed (closing_token ∷ []) pieces);
-    first = λ c. apart (packed_listed before s trees listed codes closing_token p c);
-  };
-  codes = codes;
-  coded = subst (λ (text : List ℕ). Letters text codes) (sym joined) coded;
-  hypotheses = p.says.hypotheses;
-  mandatory = p.says.mandatory;
-  labels = p.says.labels;
-  labelled = p.says.labelled;
-  each = p.says.each;
-}
+  -- the tokens of a packed proof say its moves
+  abbrev pub packed_says : (letters : List ℕ) (pieces : List (List ℕ))
+      (p : IsPacked before s trees listed codes) → Letters letters codes
+      → flat_map (λ piece. piece) pieces ≡ letters → ¬ (Contains (spelling trees) closing_token)
+      → SaysCompressed before s (in_parentheses listed ++ pieces) p.moves
+  packed_says letters pieces p coded joined apart = record {
+    listed = listed;
+    letters = pieces;
+    parts = record {
+      whole = ap (λ (l : List (List ℕ)). opening_token ∷ l)
+          (append_assoc listed (closing_token ∷ []) pieces);
+      first = λ c. apart (packed_listed closing_token p c);
+    };
+    codes = codes;
+    coded = subst (λ (text : List ℕ). Letters text codes) (sym joined) coded;
+    hypotheses = p.says.hypotheses;
+    mandatory = p.says.mandatory;
+    labels = p.says.labels;
+    labelled = p.says.labelled;
+    each = p.says.each;
+  }
 
 pub packed_proves : (Fits : List (List ℕ) → Type 0) (before : List Sentence) (s : Sentence) (label : List ℕ) (below : Trees) (listed : List (List ℕ)) (codes : List Code) (letters : List ℕ) (pieces : List (List ℕ)) → AllMeant before
     → IsPacked before s (tree label below none) listed codes → Letters letters codes → flat_map (λ piece. piece) pieces ≡ letters
@@ -228,60 +230,60 @@ record ByLabel (before : List Sentence) (move : Option (Move (List ℕ))) (t : T
   there : move ≡ Some (name label)
   stands : MayStandOver before label below
 
-made_there : (before : List Sentence) (moves : List (Move (List ℕ))) (row : Trees)
-    (kept : List Trees) (row' : Trees) (kept' : List Trees)
-    (made : Makes before moves row kept row' kept') (j : ℕ) (t : Trees)
-    → slice_get (visits before moves row kept row' kept' made) j ≡ Some (makes t)
-    → ByLabel before (slice_get moves j) t
-made_there before [] row kept row' kept' made j t at = absurd cc
-made_there before (name label ∷ moves) row kept row' kept' made zero t at =
-    record { label = label; below = made.2.1; whole = cc; there = refl; stands = made.2.3 }
-made_there before (move ∷ moves) row kept row' kept' made zero t at = absurd cc
-made_there before (move ∷ moves) row kept row' kept' made (suc j) t at =
-    made_there before moves made.0 made.1 row' kept' made.3 j t at
+module _ (before : List Sentence) where
+  made_there : (moves : List (Move (List ℕ))) (row : Trees) (kept : List Trees) (row' : Trees)
+      (kept' : List Trees) (made : Makes before moves row kept row' kept') (j : ℕ) (t : Trees)
+      → slice_get (visits before moves row kept row' kept' made) j ≡ Some (makes t)
+      → ByLabel before (slice_get moves j) t
+  made_there [] row kept row' kept' made j t at = absurd cc
+  made_there (name label ∷ moves) row kept row' kept' made zero t at =
+      record { label = label; below = made.2.1; whole = cc; there = refl; stands = made.2.3 }
+  made_there (move ∷ moves) row kept row' kept' made zero t at = absurd cc
+  made_there (move ∷ moves) row kept row' kept' made (suc j) t at =
+      made_there moves made.0 made.1 row' kept' made.3 j t at
 
--- what stands over a tree is an assertion's label
-big_assertion : (before : List Sentence) (label : List ℕ) (below : Trees)
-    → IsBig (tree label below none) → MayStandOver before label below
-    → SomeSentence before (λ a. IsLabelled label a × IsAssertion a.kind)
-big_assertion before label below big (inl (bare, h)) =
-    absurd (let small : 2 ≤ 1 = rw bare at big in omega arith)
-big_assertion before label below big (inr (place, assertion, hypotheses, names, many)) =
-    (place, assertion, names.there, (names.named, names.kind))
+  -- what stands over a tree is an assertion's label
+  big_assertion : (label : List ℕ) (below : Trees) → IsBig (tree label below none)
+      → MayStandOver before label below
+      → SomeSentence before (λ a. IsLabelled label a × IsAssertion a.kind)
+  big_assertion label below big (inl (bare, h)) =
+      absurd (let small : 2 ≤ 1 = rw bare at big in omega arith)
+  big_assertion label below big (inr (place, assertion, hypotheses, names, many)) =
+      (place, assertion, names.there, (names.named, names.kind))
 
-shared_marks : (before : List Sentence) (trees : Trees) (moves : List (Move (List ℕ)))
-    → ShareAll before trees moves → MarkAssertions before moves
-shared_marks before trees moves s front after parts =
-    let at : slice_get moves (length front) ≡ Some mark = rw parts (get_parted front after mark) in
-    let k = kept_there before moves none [] trees s.kept s.made (length front) at in
-    let m = s.marked (length front) k.0 k.1 in
-    let l = made_there before moves none [] trees s.kept s.made m.1 k.0 m.3 in
-    let held : slice_get front m.1 ≡ Some (name l.label) =
-    get_before front (mark ∷ after) m.1 (name l.label) (omega (arith, m.2))
-    (ap (λ x. slice_get x m.1) (sym parts) ∙ l.there) in
-    let last = last_of front m.1 (name l.label) m.2 held in (
-      last.0,
-      l.label,
-      last.1,
-      big_assertion before l.label l.below (subst IsBig l.whole m.0) l.stands,
-    )
+  shared_marks : (trees : Trees) (moves : List (Move (List ℕ))) → ShareAll before trees moves
+      → MarkAssertions before moves
+  shared_marks trees moves s front after parts =
+      let at : slice_get moves (length front) ≡ Some mark = rw parts (get_parted front after mark) in
+      let k = kept_there before moves none [] trees s.kept s.made (length front) at in
+      let m = s.marked (length front) k.0 k.1 in
+      let l = made_there moves none [] trees s.kept s.made m.1 k.0 m.3 in
+      let held : slice_get front m.1 ≡ Some (name l.label) =
+      get_before front (mark ∷ after) m.1 (name l.label) (omega (arith, m.2))
+      (ap (λ x. slice_get x m.1) (sym parts) ∙ l.there) in
+      let last = last_of front m.1 (name l.label) m.2 held in (
+        last.0,
+        l.label,
+        last.1,
+        big_assertion l.label l.below (subst IsBig l.whole m.0) l.stands,
+      )
 
--- ---- the form
+  -- ---- the form
 
--- the tokens of a packed proof have the strict form
-pub packed_is_strict : (before : List Sentence) (s : Sentence) (trees : Trees)
-    (listed : List (List ℕ)) (codes : List Code) (letters : List ℕ) (pieces : List (List ℕ))
-    → IsPacked before s trees listed codes → Letters letters codes
-    → flat_map (λ piece. piece) pieces ≡ letters → ¬ (Contains (spelling trees) closing_token)
-    → IsStrict before s (in_parentheses listed ++ pieces)
-packed_is_strict before s trees listed codes letters pieces p coded joined apart =
-    let tokens = in_parentheses listed ++ pieces in
-    let says = packed_says before s trees listed codes letters pieces p coded joined apart in
-    record {
-      listed = λ labels others parts. subst (IsStrictList before s)
-          (compressed_once tokens says.listed labels says.letters others says.parts parts).0
-          (packed_list before s trees listed codes p);
-      marked = λ others other. subst (MarkAssertions before)
-          (moves_once before s tokens p.moves others (inr says) (inr other))
-          (shared_marks before trees p.moves p.shared);
-    }
+  -- the tokens of a packed proof have the strict form
+  pub packed_is_strict : (s : Sentence) (trees : Trees) (listed : List (List ℕ)) (codes : List Code)
+      (letters : List ℕ) (pieces : List (List ℕ)) → IsPacked before s trees listed codes
+      → Letters letters codes → flat_map (λ piece. piece) pieces ≡ letters
+      → ¬ (Contains (spelling trees) closing_token)
+      → IsStrict before s (in_parentheses listed ++ pieces)
+  packed_is_strict s trees listed codes letters pieces p coded joined apart =
+      let tokens = in_parentheses listed ++ pieces in
+      let says = packed_says before s trees listed codes letters pieces p coded joined apart in
+      record {
+        listed = λ labels others parts. subst (IsStrictList before s)
+            (compressed_once tokens says.listed labels says.letters others says.parts parts).0
+            (packed_list before s trees listed codes p);
+        marked = λ others other. subst (MarkAssertions before)
+            (moves_once before s tokens p.moves others (inr says) (inr other))
+            (shared_marks trees p.moves p.shared);
+      }

@@ -50,41 +50,44 @@ pub record Halves (Fits : List (List ℕ) → Type 0) (before : List Sentence) (
   pub derive_left : DeriveAll Fits before left es
   pub derive_right : DeriveAll Fits before right fs
 
-pub derive_halves : (Fits : List (List ℕ) → Type 0) (before : List Sentence) (trees : Trees) (es fs : List (List (List ℕ))) → DeriveAll Fits before trees (es ++ fs) → Halves Fits before trees es fs
-derive_halves Fits before trees [] fs d =
-    record { left = none; right = trees; parts = refl; derive_left = refl; derive_right = d }
-derive_halves Fits before none (e ∷ es) fs d = absurd (let p : e ∷ (es ++ fs) ≡ [] = d in cc)
-derive_halves Fits before (tree label below right) (e ∷ es) fs d =
-    let same = cons_parts e d.0 (es ++ fs) d.1 d.2 in
-    let h = derive_halves Fits before right es fs (subst (DeriveAll Fits before right) (sym same.1) d.5) in
-    record {
-      left = tree label below h.left;
-      right = h.right;
-      parts = ap (tree label below) h.parts;
-      derive_left = (d.0, es, ap (λ x. x ∷ es) same.0, d.3, d.4, h.derive_left);
-      derive_right = h.derive_right;
-    }
+module _ (Fits : List (List ℕ) → Type 0) (before : List Sentence) where
+  pub derive_halves : (trees : Trees) (es fs : List (List (List ℕ)))
+      → DeriveAll Fits before trees (es ++ fs) → Halves Fits before trees es fs
+  derive_halves trees [] fs d =
+      record { left = none; right = trees; parts = refl; derive_left = refl; derive_right = d }
+  derive_halves none (e ∷ es) fs d = absurd (let p : e ∷ (es ++ fs) ≡ [] = d in cc)
+  derive_halves (tree label below right) (e ∷ es) fs d =
+      let same = cons_parts e d.0 (es ++ fs) d.1 d.2 in
+      let h = derive_halves right es fs (subst (DeriveAll Fits before right) (sym same.1) d.5) in
+      record {
+        left = tree label below h.left;
+        right = h.right;
+        parts = ap (tree label below) h.parts;
+        derive_left = (d.0, es, ap (λ x. x ∷ es) same.0, d.3, d.4, h.derive_left);
+        derive_right = h.derive_right;
+      }
 
--- and trees side by side derive what each of them does
-pub derive_apart : (Fits : List (List ℕ) → Type 0) (before : List Sentence) (a b : Trees) (gs : List (List (List ℕ))) → DeriveAll Fits before (beside a b) gs
-    → (es : List (List (List ℕ))) × (fs : List (List (List ℕ))) × (gs ≡ es ++ fs) × DeriveAll Fits before a es × DeriveAll Fits before b fs
-derive_apart Fits before none b gs d = ([], gs, refl, refl, d)
-derive_apart Fits before (tree label below right) b gs d =
-    let h = derive_apart Fits before right b d.1 d.5 in
-    (d.0 ∷ h.0, h.1, d.2 ∙ ap (λ l. d.0 ∷ l) h.2, (d.0, h.0, refl, d.3, d.4, h.3), h.4)
+  -- and trees side by side derive what each of them does
+  pub derive_apart : (a b : Trees) (gs : List (List (List ℕ)))
+      → DeriveAll Fits before (beside a b) gs
+      → (es : List (List (List ℕ))) × (fs : List (List (List ℕ))) × (gs ≡ es ++ fs) × DeriveAll Fits before a es × DeriveAll Fits before b fs
+  derive_apart none b gs d = ([], gs, refl, refl, d)
+  derive_apart (tree label below right) b gs d =
+      let h = derive_apart right b d.1 d.5 in
+      (d.0 ∷ h.0, h.1, d.2 ∙ ap (λ l. d.0 ∷ l) h.2, (d.0, h.0, refl, d.3, d.4, h.3), h.4)
 
--- what derives nothing is no tree
-pub nothing_derives : (Fits : List (List ℕ) → Type 0) (before : List Sentence) (trees : Trees) → DeriveAll Fits before trees [] → trees ≡ none
-nothing_derives Fits before none d = refl
-nothing_derives Fits before (tree label below right) d = absurd (let p : [] ≡ d.0 ∷ d.1 = d.2 in cc)
+  -- what derives nothing is no tree
+  pub nothing_derives : (trees : Trees) → DeriveAll Fits before trees [] → trees ≡ none
+  nothing_derives none d = refl
+  nothing_derives (tree label below right) d = absurd (let p : [] ≡ d.0 ∷ d.1 = d.2 in cc)
 
--- what derives one expression is one tree
-pub single_derives : (Fits : List (List ℕ) → Type 0) (before : List Sentence) (trees : Trees) (e : List (List ℕ)) → DeriveAll Fits before trees (e ∷ [])
-    → (label : List ℕ) × (below : Trees) × (trees ≡ tree label below none)
-single_derives Fits before none e d = absurd (let p : e ∷ [] ≡ [] = d in cc)
-single_derives Fits before (tree label below right) e d =
-    let same = cons_parts e d.0 [] d.1 d.2 in
-    (label, below, ap (tree label below) (nothing_derives Fits before right (subst (DeriveAll Fits before right) (sym same.1) d.5)))
+  -- what derives one expression is one tree
+  pub single_derives : (trees : Trees) (e : List (List ℕ)) → DeriveAll Fits before trees (e ∷ [])
+      → (label : List ℕ) × (below : Trees) × (trees ≡ tree label below none)
+  single_derives none e d = absurd (let p : e ∷ [] ≡ [] = d in cc)
+  single_derives (tree label below right) e d =
+      let same = cons_parts e d.0 [] d.1 d.2 in
+      (label, below, ap (tree label below) (nothing_derives right (subst (DeriveAll Fits before right) (sym same.1) d.5)))
 
 -- ==== the steps of a proof one after the other on a stack of expressions, as a relation; what
 -- trees derive, their spelling does
@@ -131,63 +134,67 @@ pub record IsTypingEntry (σ : List ℕ → Option (List (List ℕ))) (code x : 
 pub same_typing : (f : Sentence) (code x code' x' : List ℕ) → Types code x f → Types code' x' f → (code ≡ code') × (x ≡ x')
 same_typing f code x code' x' t t' = let e : code ∷ x ∷ [] ≡ code' ∷ x' ∷ [] = sym t.1 ∙ t'.1 in (cc, cc)
 
--- the `$f` among the mandatory hypotheses
-pub typing_of : (before : List Sentence) (label : List ℕ) (place : ℕ) (assertion : Sentence) (hypotheses : List Sentence) (i : ℕ) (f : Sentence)
-    → Names before label place assertion hypotheses → slice_get hypotheses i ≡ Some f → f.kind ≡ Floating
-    → (code : List ℕ) × (x : List ℕ) × Types code x f × IsMandatory (take place before) assertion x × (j : ℕ) × (slice_get (take place before) j ≡ Some f)
-typing_of before label place assertion hypotheses i f names there floating =
-    let h = those_hold (IsMandatoryAt (take place before) assertion) 0 (take place before) hypotheses i f names.mandatory there in
-    ⊎_elim (λ essential. absurd (cc (essential, floating))) (λ t. (t.0, t.1, t.2, t.3, h.0, h.1)) h.2.1
+module _ (before : List Sentence) (label : List ℕ) (place : ℕ) (assertion : Sentence)
+    (hypotheses : List Sentence) where
+  -- the `$f` among the mandatory hypotheses
+  pub typing_of : (i : ℕ) (f : Sentence) → Names before label place assertion hypotheses
+      → slice_get hypotheses i ≡ Some f → f.kind ≡ Floating
+      → (code : List ℕ) × (x : List ℕ) × Types code x f × IsMandatory (take place before) assertion x × (j : ℕ) × (slice_get (take place before) j ≡ Some f)
+  typing_of i f names there floating =
+      let h = those_hold (IsMandatoryAt (take place before) assertion) 0 (take place before) hypotheses i f names.mandatory there in
+      ⊎_elim (λ essential. absurd (cc (essential, floating))) (λ t. (t.0, t.1, t.2, t.3, h.0, h.1)) h.2.1
 
--- what the trees below leave for the mandatory `$f`
-entry_of : (before : List Sentence) (label : List ℕ) (place : ℕ) (assertion : Sentence) (hypotheses : List Sentence) (σ : List ℕ → Option (List (List ℕ)))
-    (i : ℕ) (f : Sentence) (entry : List (List ℕ)) (code x : List ℕ) → AllMeant before → Names before label place assertion hypotheses
-    → IsOn (IsMandatory (take place before) assertion) σ → slice_get hypotheses i ≡ Some f
-    → slice_get (map (λ (h : Sentence). instance_of σ h.symbols) hypotheses) i ≡ Some entry → Types code x f → IsTypingEntry σ code x entry
-entry_of before label place assertion hypotheses σ i f entry code x all names on there at types =
-    let t = typing_of before label place assertion hypotheses i f names there types.0 in
-    let same = same_typing f t.0 t.1 code x t.2 types in
-    let mandatory : IsMandatory (take place before) assertion x = subst (IsMandatory (take place before) assertion) same.1 t.3 in
-    let constant : σ code ≡ None = absent (σ code) (λ some.
-    code_is_constant (take place before) t.4 f code x (allmeant_front before place all) t.5 types ((on code).0 some).0) in
-    let r = present (σ x) ((on x).1 mandatory) in
-    let made : entry ≡ instance_of σ f.symbols =
-    same_Some entry (instance_of σ f.symbols) (sym at ∙ slice_get-map (λ (h : Sentence). instance_of σ h.symbols) hypotheses i ∙ rw there refl) in
-    record { replacement = r.0; replaced = r.1; is = made ∙ ap (instance_of σ) types.1 ∙ typing_entry σ code x r.0 constant r.1 }
+  -- what the trees below leave for the mandatory `$f`
+  entry_of : (σ : List ℕ → Option (List (List ℕ))) (i : ℕ) (f : Sentence) (entry : List (List ℕ))
+      (code x : List ℕ) → AllMeant before → Names before label place assertion hypotheses
+      → IsOn (IsMandatory (take place before) assertion) σ → slice_get hypotheses i ≡ Some f
+      → slice_get (map (λ (h : Sentence). instance_of σ h.symbols) hypotheses) i ≡ Some entry
+      → Types code x f → IsTypingEntry σ code x entry
+  entry_of σ i f entry code x all names on there at types =
+      let t = typing_of i f names there types.0 in
+      let same = same_typing f t.0 t.1 code x t.2 types in
+      let mandatory : IsMandatory (take place before) assertion x = subst (IsMandatory (take place before) assertion) same.1 t.3 in
+      let constant : σ code ≡ None = absent (σ code) (λ some.
+      code_is_constant (take place before) t.4 f code x (allmeant_front before place all) t.5 types ((on code).0 some).0) in
+      let r = present (σ x) ((on x).1 mandatory) in
+      let made : entry ≡ instance_of σ f.symbols =
+      same_Some entry (instance_of σ f.symbols) (sym at ∙ slice_get-map (λ (h : Sentence). instance_of σ h.symbols) hypotheses i ∙ rw there refl) in
+      record { replacement = r.0; replaced = r.1; is = made ∙ ap (instance_of σ) types.1 ∙ typing_entry σ code x r.0 constant r.1 }
 
-pub tree_step : (before : List Sentence) (label : List ℕ) (place : ℕ) (assertion : Sentence) (hypotheses : List Sentence) (σ : List ℕ → Option (List (List ℕ)))
-    (stack : List (List (List ℕ))) (e : List (List ℕ)) → AllMeant before → Names before label place assertion hypotheses
-    → IsOn (IsMandatory (take place before) assertion) σ → KeepsApart before place assertion σ → e ≡ instance_of σ assertion.symbols
-    → StepTo before (stack ++ map (λ (h : Sentence). instance_of σ h.symbols) hypotheses) label stack e
-tree_step before label place assertion hypotheses σ stack e all names on apart made =
-    let entries : List (List (List ℕ)) = map (λ (h : Sentence). instance_of σ h.symbols) hypotheses in
-    let typed : (i : ℕ) (f : Sentence) (entry : List (List ℕ)) (code x : List ℕ) → slice_get hypotheses i ≡ Some f → slice_get entries i ≡ Some entry
-    → Types code x f → IsTypingEntry σ code x entry =
-    λ i f entry code x there at types. entry_of before label place assertion hypotheses σ i f entry code x all names on there at types in
-    inr (record {
-      meets = record {
-        place = place;
-        assertion = assertion;
-        hypotheses = hypotheses;
-        names = names;
-        rest = stack;
-        entries = entries;
-        split = refl;
-        paired = length-map hypotheses (λ (h : Sentence). instance_of σ h.symbols);
-        σ = σ;
-        on = on;
-        replaced = λ i f entry code x there at types. let t = typed i f entry code x there at types in t.replaced ∙ ap (λ l. Some (drop 1 l)) (sym t.is);
-      };
-      kept = refl;
-      typed = λ i f entry there at floating.
-          let k = typing_of before label place assertion hypotheses i f names there floating in
-          let t = typed i f entry k.0 k.1 there at k.2 in
-          ap (λ l. slice_get l 0) t.is ∙ sym (ap (λ l. slice_get l 0) k.2.1);
-      equal = λ i f entry there at essential.
-          same_Some entry (instance_of σ f.symbols) (sym at ∙ slice_get-map (λ (h : Sentence). instance_of σ h.symbols) hypotheses i ∙ rw there refl);
-      apart = apart;
-      made = made;
-    })
+  pub tree_step : (σ : List ℕ → Option (List (List ℕ))) (stack : List (List (List ℕ)))
+      (e : List (List ℕ)) → AllMeant before → Names before label place assertion hypotheses
+      → IsOn (IsMandatory (take place before) assertion) σ → KeepsApart before place assertion σ
+      → e ≡ instance_of σ assertion.symbols
+      → StepTo before (stack ++ map (λ (h : Sentence). instance_of σ h.symbols) hypotheses) label stack e
+  tree_step σ stack e all names on apart made =
+      let entries : List (List (List ℕ)) = map (λ (h : Sentence). instance_of σ h.symbols) hypotheses in
+      let typed : (i : ℕ) (f : Sentence) (entry : List (List ℕ)) (code x : List ℕ) → slice_get hypotheses i ≡ Some f → slice_get entries i ≡ Some entry
+      → Types code x f → IsTypingEntry σ code x entry =
+      λ i f entry code x there at types. entry_of σ i f entry code x all names on there at types in
+      inr (record {
+        meets = record {
+          place = place;
+          assertion = assertion;
+          hypotheses = hypotheses;
+          names = names;
+          rest = stack;
+          entries = entries;
+          split = refl;
+          paired = length-map hypotheses (λ (h : Sentence). instance_of σ h.symbols);
+          σ = σ;
+          on = on;
+          replaced = λ i f entry code x there at types. let t = typed i f entry code x there at types in t.replaced ∙ ap (λ l. Some (drop 1 l)) (sym t.is);
+        };
+        kept = refl;
+        typed = λ i f entry there at floating.
+            let k = typing_of i f names there floating in
+            let t = typed i f entry k.0 k.1 there at k.2 in
+            ap (λ l. slice_get l 0) t.is ∙ sym (ap (λ l. slice_get l 0) k.2.1);
+        equal = λ i f entry there at essential.
+            same_Some entry (instance_of σ f.symbols) (sym at ∙ slice_get-map (λ (h : Sentence). instance_of σ h.symbols) hypotheses i ∙ rw there refl);
+        apart = apart;
+        made = made;
+      })
 
 -- ---- what trees derive, their spelling pushes
 

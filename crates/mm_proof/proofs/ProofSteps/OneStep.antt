@@ -29,16 +29,18 @@ use Rattle.mm_text.proofs.Lists.{get_beside, one_parting}
 
 -- ---- labels
 
--- two places with one label are one place
-pub one_label : (before : List Sentence) (i j : ℕ) (s t : Sentence) (label : List ℕ) → AllMeant before → slice_get before i ≡ Some s → slice_get before j ≡ Some t
-    → IsLabelled label s → IsLabelled label t → i ≡ j
-one_label before i j s t label all = only_place before label i j s t all
+module _ (before : List Sentence) (i j : ℕ) (s t : Sentence) (label : List ℕ)
+    (all : AllMeant before) where
+  -- two places with one label are one place
+  pub one_label : slice_get before i ≡ Some s → slice_get before j ≡ Some t → IsLabelled label s
+      → IsLabelled label t → i ≡ j
+  one_label = only_place before label i j s t all
 
--- two places with one label hold one statement
-pub one_labelled : (before : List Sentence) (i j : ℕ) (s t : Sentence) (label : List ℕ) → AllMeant before → slice_get before i ≡ Some s → slice_get before j ≡ Some t
-    → IsLabelled label s → IsLabelled label t → s ≡ t
-one_labelled before i j s t label all at_i at_j ls lt =
-    same_Some s t (sym at_i ∙ ap (slice_get before) (one_label before i j s t label all at_i at_j ls lt) ∙ at_j)
+  -- two places with one label hold one statement
+  pub one_labelled : slice_get before i ≡ Some s → slice_get before j ≡ Some t → IsLabelled label s
+      → IsLabelled label t → s ≡ t
+  one_labelled at_i at_j ls lt =
+      same_Some s t (sym at_i ∙ ap (slice_get before) (one_label at_i at_j ls lt) ∙ at_j)
 
 -- ---- constants and variables
 
@@ -244,20 +246,22 @@ too_short Fits before stack label rest e all (inl p) b =
     hypothesis_or_assertion before p.place b.0 p.hypothesis b.1 label all p.there b.3.there p.named b.3.named p.kind b.3.kind
 too_short Fits before stack label rest e all (inr p) b = meets_enough Fits before stack label all p.meets b
 
--- a step that meets something else is that step
-same_meets : (before : List Sentence) (stack : List (List (List ℕ))) (label : List ℕ) (rest : List (List (List ℕ))) (e : List (List ℕ)) (m : MeetsHypotheses before stack label) → AllMeant before
-    → StepTo before stack label rest e → (p : Applies before stack label rest e) × Agree before stack label p.meets m
-same_meets before stack label rest e m all (inl p) =
-    absurd (hypothesis_or_assertion before p.place m.place p.hypothesis m.assertion label all p.there m.names.there p.named m.names.named p.kind m.names.kind)
-same_meets before stack label rest e m all (inr p) = (p, agree before stack label all p.meets m)
+module _ (before : List Sentence) (stack : List (List (List ℕ))) (label : List ℕ)
+    (rest : List (List (List ℕ))) (e : List (List ℕ)) (m : MeetsHypotheses before stack label)
+    (all : AllMeant before) where
+  -- a step that meets something else is that step
+  same_meets : StepTo before stack label rest e
+      → (p : Applies before stack label rest e) × Agree before stack label p.meets m
+  same_meets (inl p) =
+      absurd (hypothesis_or_assertion before p.place m.place p.hypothesis m.assertion label all p.there m.names.there p.named m.names.named p.kind m.names.kind)
+  same_meets (inr p) = (p, agree before stack label all p.meets m)
 
-apart_of : (before : List Sentence) (stack : List (List (List ℕ))) (label : List ℕ) (rest : List (List (List ℕ))) (e : List (List ℕ)) (m : MeetsHypotheses before stack label) → AllMeant before
-    → StepTo before stack label rest e → KeepsApart before m.place m.assertion m.σ
-apart_of before stack label rest e m all step x y e' f pair at_x at_y =
-    let (p, a) = same_meets before stack label rest e m all step in
-    let pair' : IsMandatoryPair (take p.meets.place before) p.meets.assertion x y =
-    subst (λ b. IsMandatoryPair (take p.meets.place before) b x y) (sym a.assertion) (subst (λ k. IsMandatoryPair (take k before) m.assertion x y) (sym a.place) pair) in
-    p.apart x y e' f pair' (a.replacement x ∙ at_x) (a.replacement y ∙ at_y)
+  apart_of : StepTo before stack label rest e → KeepsApart before m.place m.assertion m.σ
+  apart_of step x y e' f pair at_x at_y =
+      let (p, a) = same_meets step in
+      let pair' : IsMandatoryPair (take p.meets.place before) p.meets.assertion x y =
+      subst (λ b. IsMandatoryPair (take p.meets.place before) b x y) (sym a.assertion) (subst (λ k. IsMandatoryPair (take k before) m.assertion x y) (sym a.place) pair) in
+      p.apart x y e' f pair' (a.replacement x ∙ at_x) (a.replacement y ∙ at_y)
 
 -- A step that breaks no rule breaks none of P1 to P12, nor the limit if what it makes is within it.
 pub step_breaks_none : (Fits : List (List ℕ) → Type 0) (rule : ProofRule) (before : List Sentence) (stack : List (List (List ℕ))) (label : List ℕ) (rest : List (List (List ℕ))) (e : List (List ℕ)) → AllMeant before

@@ -33,31 +33,34 @@ front_is : (entry : List (List ℕ)) (code : List ℕ) → slice_get entry 0 ≡
 front_is [] code e = absurd (none-some code e)
 front_is (a ∷ entry) code e = ap (λ x. x ∷ entry) (same_Some a code e)
 
-entry_is : (before : List Sentence) (stack : List (List (List ℕ))) (label : List ℕ) (rest : List (List (List ℕ))) (e : List (List ℕ)) → AllMeant before
-    → (p : Applies before stack label rest e) (i : ℕ) (h : Sentence) (entry : List (List ℕ)) → slice_get p.meets.hypotheses i ≡ Some h → slice_get p.meets.entries i ≡ Some entry
-    → entry ≡ instance_of p.meets.σ h.symbols
-entry_is before stack label rest e all p i h entry there at =
-    let m = p.meets in
-    let front : List Sentence = take m.place before in
-    let k = those_hold (IsMandatoryAt front m.assertion) 0 front m.hypotheses i h m.names.mandatory there in
-    ⊎_elim (λ essential. p.equal i h entry there at essential)
-    (λ t.
-    let constant : m.σ t.0 ≡ None = absent (m.σ t.0) (λ some. code_is_constant front k.0 h t.0 t.1 (allmeant_front before m.place all) k.1 t.2 ((m.on t.0).0 some).0) in
-    let first : slice_get entry 0 ≡ Some t.0 = p.typed i h entry there at t.2.0 ∙ ap (λ l. slice_get l 0) t.2.1 in
-    front_is entry t.0 first ∙ sym (ap (instance_of m.σ) t.2.1 ∙ typing_entry m.σ t.0 t.1 (drop 1 entry) constant (m.replaced i h entry t.0 t.1 there at t.2)))
-    k.2.1
+module _ (before : List Sentence) (stack : List (List (List ℕ))) (label : List ℕ)
+    (rest : List (List (List ℕ))) (e : List (List ℕ)) (all : AllMeant before)
+    (p : Applies before stack label rest e) where
+  entry_is : (i : ℕ) (h : Sentence) (entry : List (List ℕ))
+      → slice_get p.meets.hypotheses i ≡ Some h → slice_get p.meets.entries i ≡ Some entry
+      → entry ≡ instance_of p.meets.σ h.symbols
+  entry_is i h entry there at =
+      let m = p.meets in
+      let front : List Sentence = take m.place before in
+      let k = those_hold (IsMandatoryAt front m.assertion) 0 front m.hypotheses i h m.names.mandatory there in
+      ⊎_elim (λ essential. p.equal i h entry there at essential)
+      (λ t.
+      let constant : m.σ t.0 ≡ None = absent (m.σ t.0) (λ some. code_is_constant front k.0 h t.0 t.1 (allmeant_front before m.place all) k.1 t.2 ((m.on t.0).0 some).0) in
+      let first : slice_get entry 0 ≡ Some t.0 = p.typed i h entry there at t.2.0 ∙ ap (λ l. slice_get l 0) t.2.1 in
+      front_is entry t.0 first ∙ sym (ap (instance_of m.σ) t.2.1 ∙ typing_entry m.σ t.0 t.1 (drop 1 entry) constant (m.replaced i h entry t.0 t.1 there at t.2)))
+      k.2.1
 
-entries_are : (before : List Sentence) (stack : List (List (List ℕ))) (label : List ℕ) (rest : List (List (List ℕ))) (e : List (List ℕ)) → AllMeant before
-    → (p : Applies before stack label rest e) → p.meets.entries ≡ map (λ (h : Sentence). instance_of p.meets.σ h.symbols) p.meets.hypotheses
-entries_are before stack label rest e all p =
-    let f : Sentence → List (List ℕ) = λ h. instance_of p.meets.σ h.symbols in
-    let hs = p.meets.hypotheses in
-    same_lists p.meets.entries (map f hs) (p.meets.paired ∙ sym (length-map hs f)) (λ i d less.
-    let at = slice_get-get_or p.meets.entries i d less in
-    let h = get_beside p.meets.entries hs i _ (sym p.meets.paired) at in
-    let made = slice_get-map f hs i ∙ ap (option_map f) h.1 in
-    entry_is before stack label rest e all p i h.0 _ h.1 at
-    ∙ sym (get_or_from_slice_get (map f hs) i (f h.0) d made))
+  entries_are :
+      p.meets.entries ≡ map (λ (h : Sentence). instance_of p.meets.σ h.symbols) p.meets.hypotheses
+  entries_are =
+      let f : Sentence → List (List ℕ) = λ h. instance_of p.meets.σ h.symbols in
+      let hs = p.meets.hypotheses in
+      same_lists p.meets.entries (map f hs) (p.meets.paired ∙ sym (length-map hs f)) (λ i d less.
+      let at = slice_get-get_or p.meets.entries i d less in
+      let h = get_beside p.meets.entries hs i _ (sym p.meets.paired) at in
+      let made = slice_get-map f hs i ∙ ap (option_map f) h.1 in
+      entry_is i h.0 _ h.1 at
+      ∙ sym (get_or_from_slice_get (map f hs) i (f h.0) d made))
 
 -- ---- one move more
 
@@ -218,23 +221,24 @@ pub record Stood (Fits : List (List ℕ) → Type 0) (before : List Sentence) (r
   pub derived : DeriveAll Fits before row stack
   pub kept_derived : KeepAll Fits before shelf kept
 
-pub one_stood : (Fits : List (List ℕ) → Type 0) (before : List Sentence) (move : Move (List ℕ)) (a b : Trees) (k l : List Trees) → AllMeant before
-    → MakesOne before move a k b l → Stood Fits before b l → Stood Fits before a k
-one_stood Fits before (name label) a b k l all m s =
-    let t = step_of_tree Fits before m.0 label m.1 s.stack all (subst (λ x. DeriveAll Fits before x s.stack) m.4 s.derived) in
-    let held = rw m.5 at s.kept_derived in
-    record { stack = t.stack; kept = s.kept; derived = rw m.2 t.derived; kept_derived = held }
-one_stood Fits before (again tag) a b k l all m s =
-    let parts = derive_apart Fits before a m.0 s.stack (subst (λ x. DeriveAll Fits before x s.stack) m.2 s.derived) in
-    record { stack = parts.0; kept = s.kept; derived = parts.3; kept_derived = subst (λ x. KeepAll Fits before x s.kept) m.3 s.kept_derived }
-one_stood Fits before mark a b k l all m s =
-    let front = zip_front (λ t e. DeriveAll Fits before t (e ∷ [])) k (tree m.1 m.2 none) s.kept (subst (λ x. KeepAll Fits before x s.kept) m.5 s.kept_derived) in
-    record { stack = s.stack; kept = front.0; derived = subst (λ x. DeriveAll Fits before x s.stack) m.4 s.derived; kept_derived = front.3 }
+module _ (Fits : List (List ℕ) → Type 0) (before : List Sentence) where
+  pub one_stood : (move : Move (List ℕ)) (a b : Trees) (k l : List Trees) → AllMeant before
+      → MakesOne before move a k b l → Stood Fits before b l → Stood Fits before a k
+  one_stood (name label) a b k l all m s =
+      let t = step_of_tree Fits before m.0 label m.1 s.stack all (subst (λ x. DeriveAll Fits before x s.stack) m.4 s.derived) in
+      let held = rw m.5 at s.kept_derived in
+      record { stack = t.stack; kept = s.kept; derived = rw m.2 t.derived; kept_derived = held }
+  one_stood (again tag) a b k l all m s =
+      let parts = derive_apart Fits before a m.0 s.stack (subst (λ x. DeriveAll Fits before x s.stack) m.2 s.derived) in
+      record { stack = parts.0; kept = s.kept; derived = parts.3; kept_derived = subst (λ x. KeepAll Fits before x s.kept) m.3 s.kept_derived }
+  one_stood mark a b k l all m s =
+      let front = zip_front (λ t e. DeriveAll Fits before t (e ∷ [])) k (tree m.1 m.2 none) s.kept (subst (λ x. KeepAll Fits before x s.kept) m.5 s.kept_derived) in
+      record { stack = s.stack; kept = front.0; derived = subst (λ x. DeriveAll Fits before x s.stack) m.4 s.derived; kept_derived = front.3 }
 
-pub all_stood : (Fits : List (List ℕ) → Type 0) (before : List Sentence) (moves : List (Move (List ℕ))) (a b : Trees) (k l : List Trees) → AllMeant before
-    → Makes before moves a k b l → Stood Fits before b l → Stood Fits before a k
-all_stood Fits before [] a b k l all m s = rw (m.0, m.1) at s
-all_stood Fits before (move ∷ moves) a b k l all m s = one_stood Fits before move a m.0 k m.1 all m.2 (all_stood Fits before moves m.0 b m.1 l all m.3 s)
+  pub all_stood : (moves : List (Move (List ℕ))) (a b : Trees) (k l : List Trees) → AllMeant before
+      → Makes before moves a k b l → Stood Fits before b l → Stood Fits before a k
+  all_stood [] a b k l all m s = rw (m.0, m.1) at s
+  all_stood (move ∷ moves) a b k l all m s = one_stood move a m.0 k m.1 all m.2 (all_stood moves m.0 b m.1 l all m.3 s)
 
 -- ---- the stack is one
 

@@ -243,24 +243,24 @@ code_there ids said i d less =
 pub calls_long : (st : List Sentence) (at : ℕ) (ids : List ℕ) (calls : List Call) → AllZip (MayBeCalled st at) ids calls → length ids ≡ length calls
 calls_long st at ids calls all = sym (AllZip-long (MayBeCalled st at) ids calls all)
 
--- the move at the place of an entry
-pub entry_there : (ids : List ℕ) (place : ℕ) {count : ℕ} → place < count → count ≡ length ids
-    → (slice_get ids place ≡ Some (get_or ids place 0))
-    × (entry_move ids place ≡ name (get_or ids place 0))
-entry_there ids place less all =
-    let there = slice_get-get_or ids place 0 (rw all at less) in
-    (there, ap (λ o. move_by o (place - length ids)) there)
+module _ (ids : List ℕ) (place : ℕ) where
+  -- the move at the place of an entry
+  pub entry_there : {count : ℕ} → place < count → count ≡ length ids
+      → (slice_get ids place ≡ Some (get_or ids place 0)) × (entry_move ids place ≡ name (get_or ids place 0))
+  entry_there less all =
+      let there = slice_get-get_or ids place 0 (rw all at less) in
+      (there, ap (λ o. move_by o (place - length ids)) there)
 
--- the move at the place of this entry
-pub entry_moves : (ids : List ℕ) (place id : ℕ) → slice_get ids place ≡ Some id → entry_move ids place ≡ name id
-entry_moves ids place id there = ap (λ o. move_by o (place - length ids)) there
+  -- the move at the place of this entry
+  pub entry_moves : (id : ℕ) → slice_get ids place ≡ Some id → entry_move ids place ≡ name id
+  entry_moves id there = ap (λ o. move_by o (place - length ids)) there
 
--- a place past the entries is that of a tag
-pub tag_there : (ids : List ℕ) (place : ℕ) {count : ℕ} → count ≤ place → count ≡ length ids
-    → entry_move ids place ≡ again (place - count)
-tag_there ids place past all =
-    ap (λ o. move_by o (place - length ids)) (slice_get_past ids place (rw all at past))
-    ∙ ap (λ n. again (place - n)) (sym all)
+  -- a place past the entries is that of a tag
+  pub tag_there : {count : ℕ} → count ≤ place → count ≡ length ids
+      → entry_move ids place ≡ again (place - count)
+  tag_there past all =
+      ap (λ o. move_by o (place - length ids)) (slice_get_past ids place (rw all at past))
+      ∙ ap (λ n. again (place - n)) (sym all)
 
 -- ---- a machine
 

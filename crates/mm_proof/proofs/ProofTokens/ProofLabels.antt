@@ -137,36 +137,38 @@ pub record HasLabels (tokens labels : List (List ℕ)) : Type 0 where
   pub one : (others : List (List ℕ)) → AreLabels tokens others → others ≡ labels
   pub ends : ¬ ((slice_get tokens 0 ≡ Some opening_token) × ¬ (Contains (drop 1 tokens) closing_token))
 
--- labels that may be used break no rule that is judged of labels
-pub labels_pass : (statements : List Sentence) (place : ℕ) (tokens : List (List ℕ)) (ids : List ℕ) (labels : List (List ℕ)) → AllMeant statements
-    → HasLabels tokens labels → AreFor statements place ids labels → (rule : ProofRule) → proof_rank rule < proof_rank P4 → ¬ (BreaksWhole rule (take place statements) tokens)
-labels_pass statements place tokens ids labels all has each P1 less b = has.ends b
-labels_pass statements place tokens ids labels all has each P2 less b =
-    let known = for_known statements place ids labels b.2 each (subst (λ l. Contains l b.2) (has.one b.0 b.1) b.3) in
-    b.4 (known.1.at, known.1.s, get_take statements place known.1.at known.1.before ∙ known.1.numbered.there, known.1.named)
-labels_pass statements place tokens ids labels all has each P3 less b =
-    let known = for_known statements place ids labels b.2 each (subst (λ l. Contains l b.2) (has.one b.0 b.1) b.3) in
-    used_not_idle statements place b.2 known.0 all known.1 b.4 b.5 b.6 b.7 b.8 b.9
-labels_pass statements place tokens ids labels all has each rule less b = absurd (omega arith)
+module _ (statements : List Sentence) (place : ℕ) (tokens : List (List ℕ)) where
+  -- labels that may be used break no rule that is judged of labels
+  pub labels_pass : (ids : List ℕ) (labels : List (List ℕ)) → AllMeant statements
+      → HasLabels tokens labels → AreFor statements place ids labels → (rule : ProofRule)
+      → proof_rank rule < proof_rank P4 → ¬ (BreaksWhole rule (take place statements) tokens)
+  labels_pass ids labels all has each P1 less b = has.ends b
+  labels_pass ids labels all has each P2 less b =
+      let known = for_known statements place ids labels b.2 each (subst (λ l. Contains l b.2) (has.one b.0 b.1) b.3) in
+      b.4 (known.1.at, known.1.s, get_take statements place known.1.at known.1.before ∙ known.1.numbered.there, known.1.named)
+  labels_pass ids labels all has each P3 less b =
+      let known = for_known statements place ids labels b.2 each (subst (λ l. Contains l b.2) (has.one b.0 b.1) b.3) in
+      used_not_idle statements place b.2 known.0 all known.1 b.4 b.5 b.6 b.7 b.8 b.9
+  labels_pass ids labels all has each rule less b = absurd (omega arith)
 
--- labels that break a rule are at fault by it
-pub labels_fault : (statements : List Sentence) (place : ℕ) (tokens labels : List (List ℕ)) (rule : ProofRule) → HasLabels tokens labels
-    → BreaksLabels rule statements place labels → IsWholeFault (take place statements) tokens rule
-labels_fault statements place tokens labels P2 has b = record { broken = (labels, has.are, b.0, b.1, b.2); first = first }
-  where
-    first : (other : ProofRule) → proof_rank other < proof_rank P2 → ¬ (BreaksWhole other (take place statements) tokens)
-    first P1 less broken = has.ends broken
-    first other less broken = absurd (omega arith)
-labels_fault statements place tokens labels P3 has b = record {
-  broken = (labels, has.are, b.1, b.2, b.3.at, b.3.s, b.3.there, b.3.named, b.3.kind, b.3.idle);
-  first = first;
-}
-  where
-    first : (other : ProofRule) → proof_rank other < proof_rank P3 → ¬ (BreaksWhole other (take place statements) tokens)
-    first P1 less broken = has.ends broken
-    first P2 less broken = b.0 broken.2 (subst (λ l. Contains l broken.2) (has.one broken.0 broken.1) broken.3) broken.4
-    first other less broken = absurd (omega arith)
-labels_fault statements place tokens labels rule has b = absurd b
+  -- labels that break a rule are at fault by it
+  pub labels_fault : (labels : List (List ℕ)) (rule : ProofRule) → HasLabels tokens labels
+      → BreaksLabels rule statements place labels → IsWholeFault (take place statements) tokens rule
+  labels_fault labels P2 has b = record { broken = (labels, has.are, b.0, b.1, b.2); first = first }
+    where
+      first : (other : ProofRule) → proof_rank other < proof_rank P2 → ¬ (BreaksWhole other (take place statements) tokens)
+      first P1 less broken = has.ends broken
+      first other less broken = absurd (omega arith)
+  labels_fault labels P3 has b = record {
+    broken = (labels, has.are, b.1, b.2, b.3.at, b.3.s, b.3.there, b.3.named, b.3.kind, b.3.idle);
+    first = first;
+  }
+    where
+      first : (other : ProofRule) → proof_rank other < proof_rank P3 → ¬ (BreaksWhole other (take place statements) tokens)
+      first P1 less broken = has.ends broken
+      first P2 less broken = b.0 broken.2 (subst (λ l. Contains l broken.2) (has.one broken.0 broken.1) broken.3) broken.4
+      first other less broken = absurd (omega arith)
+  labels_fault labels rule has b = absurd b
 
 -- ---- normal proofs
 
@@ -220,29 +222,31 @@ one_named statements place R c codes step steps move here numbered usable rest =
 named_label : (statements : List Sentence) (place id : ℕ) (label : List ℕ) → Stands statements place id label → IsNumberedMove statements (name id) (name label)
 named_label statements place id label s = (s.s, label, s.there, s.named, refl)
 
-number_named : (statements : List Sentence) (place : ℕ) (ids : List ℕ) (labels : List (List ℕ)) → AllZip (Stands statements place) ids labels
-    → (n : ℕ) (codes : List Code) (s : Move ℕ) (steps : List (Move ℕ)) → NumberSays ids (Number n) s → Named statements place (Says labels) codes steps
-    → Named statements place (Says labels) (Number n ∷ codes) (s ∷ steps)
-number_named statements place ids labels all n codes s steps here rest = elim here.2 [
-  | inl l ↦
-      let at = zip_left (Stands statements place) ids labels here.0 l.0 all l.1 in
-      one_named _ _ _ _ _ _ _ (name at.0) (here.0, here.1, inl (at.0, at.1, refl))
-      (rw l.2 (named_label statements place l.0 at.0 at.2)) at.2.usable rest
-  | inr t ↦
-      let count = AllZip-long (Stands statements place) ids labels all in
-      one_named _ _ _ _ _ _ _ (again t.0) (here.0, here.1, inr (t.0, rw count t.1, refl))
-      (rw t.2 refl) tt rest
-]
+module _ (statements : List Sentence) (place : ℕ) (ids : List ℕ) (labels : List (List ℕ))
+    (all : AllZip (Stands statements place) ids labels) where
+  number_named : (n : ℕ) (codes : List Code) (s : Move ℕ) (steps : List (Move ℕ))
+      → NumberSays ids (Number n) s → Named statements place (Says labels) codes steps
+      → Named statements place (Says labels) (Number n ∷ codes) (s ∷ steps)
+  number_named n codes s steps here rest = elim here.2 [
+    | inl l ↦
+        let at = zip_left (Stands statements place) ids labels here.0 l.0 all l.1 in
+        one_named _ _ _ _ _ _ _ (name at.0) (here.0, here.1, inl (at.0, at.1, refl))
+        (rw l.2 (named_label statements place l.0 at.0 at.2)) at.2.usable rest
+    | inr t ↦
+        let count = AllZip-long (Stands statements place) ids labels all in
+        one_named _ _ _ _ _ _ _ (again t.0) (here.0, here.1, inr (t.0, rw count t.1, refl))
+        (rw t.2 refl) tt rest
+  ]
 
-pub codes_named : (statements : List Sentence) (place : ℕ) (ids : List ℕ) (labels : List (List ℕ)) → AllZip (Stands statements place) ids labels
-    → (codes : List Code) (steps : List (Move ℕ)) → AllZip (NumberSays ids) codes steps → Named statements place (Says labels) codes steps
-codes_named statements place ids labels all [] [] each = record { moves = []; each = tt; numbered = tt; usable = tt }
-codes_named statements place ids labels all (Tag ∷ codes) (s ∷ steps) each =
-    one_named statements place (Says labels) Tag codes s steps mark refl (subst (λ m. IsNumberedMove statements m mark) (sym each.0) refl) tt
-    (codes_named statements place ids labels all codes steps each.1)
-codes_named statements place ids labels all (Number n ∷ codes) (s ∷ steps) each =
-    number_named statements place ids labels all n codes s steps each.0 (codes_named statements place ids labels all codes steps each.1)
-codes_named statements place ids labels all codes steps each = absurd each
+  pub codes_named : (codes : List Code) (steps : List (Move ℕ))
+      → AllZip (NumberSays ids) codes steps → Named statements place (Says labels) codes steps
+  codes_named [] [] each = record { moves = []; each = tt; numbered = tt; usable = tt }
+  codes_named (Tag ∷ codes) (s ∷ steps) each =
+      one_named statements place (Says labels) Tag codes s steps mark refl (subst (λ m. IsNumberedMove statements m mark) (sym each.0) refl) tt
+      (codes_named codes steps each.1)
+  codes_named (Number n ∷ codes) (s ∷ steps) each =
+      number_named n codes s steps each.0 (codes_named codes steps each.1)
+  codes_named codes steps each = absurd each
 
 names_named : (statements : List Sentence) (place : ℕ) (ids : List ℕ) (labels : List (List ℕ)) → AllZip (Stands statements place) ids labels
     → AreNumberedMoves statements (map name ids) (map name labels) × AllByRecursion (IsUsableMove (take place statements)) (map name labels)

@@ -96,76 +96,84 @@ end_rule P13 stack e b = inl (refl, b)
 end_rule P14 stack e b = inr (refl, ap length b.1, λ same. b.2 (let p : b.0 ∷ [] ≡ e ∷ [] = sym b.1 ∙ same in cc))
 end_rule rule stack e b = absurd b
 
-pub proof_no_fault : (Fits : List (List ℕ) → Type 0) (before : List Sentence) (s : Sentence) (moves : List (Move (List ℕ))) (rule : ProofRule) (step : ℕ) → AllMeant before
-    → Prove Fits before s moves → ¬ (IsMovesFault Fits before s moves rule step)
-proof_no_fault Fits before s moves rule step all p (inl f) =
-    let whole = proof_passed Fits before s moves all p in
-    no_fault_within Fits before f.earlier f.move f.later f.stack f.kept (s.symbols ∷ []) whole.0 rule all
-    (subst (λ l. Passed Fits before l (s.symbols ∷ []) whole.0) f.parts whole.1) f.passed f.fault
-proof_no_fault Fits before s moves rule step all p (inr f) =
-    let whole = proof_passed Fits before s moves all p in
-    let one = (passed_once Fits Fits before moves f.stack (s.symbols ∷ []) f.kept whole.0 all f.passed whole.1).0 in
-    ⊎_elim (λ p. p.1 (ap length one)) (λ q. q.2 one) (end_rule rule f.stack s.symbols f.broken)
+module _ (Fits : List (List ℕ) → Type 0) (before : List Sentence) where
+  pub proof_no_fault : (s : Sentence) (moves : List (Move (List ℕ))) (rule : ProofRule) (step : ℕ)
+      → AllMeant before → Prove Fits before s moves → ¬ (IsMovesFault Fits before s moves rule step)
+  proof_no_fault s moves rule step all p (inl f) =
+      let whole = proof_passed Fits before s moves all p in
+      no_fault_within Fits before f.earlier f.move f.later f.stack f.kept (s.symbols ∷ []) whole.0 rule all
+      (subst (λ l. Passed Fits before l (s.symbols ∷ []) whole.0) f.parts whole.1) f.passed f.fault
+  proof_no_fault s moves rule step all p (inr f) =
+      let whole = proof_passed Fits before s moves all p in
+      let one = (passed_once Fits Fits before moves f.stack (s.symbols ∷ []) f.kept whole.0 all f.passed whole.1).0 in
+      ⊎_elim (λ p. p.1 (ap length one)) (λ q. q.2 one) (end_rule rule f.stack s.symbols f.broken)
 
-pub proved_no_fault : (Fits : List (List ℕ) → Type 0) (before : List Sentence) (s : Sentence) (tokens : List (List ℕ)) (rule : ProofRule) (step : ℕ) → AllMeant before
-    → IsProvedWithin Fits before s tokens → ¬ (IsFault Fits before s tokens rule step)
-proved_no_fault Fits before s tokens rule step all p (inl w) = p.whole rule w.1.broken
-proved_no_fault Fits before s tokens rule step all p (inr f) =
-    proof_no_fault Fits before s f.1 rule step all
-    (subst (Prove Fits before s) (moves_once before s tokens p.moves f.1 p.said f.2) p.proves) f.3
+  pub proved_no_fault : (s : Sentence) (tokens : List (List ℕ)) (rule : ProofRule) (step : ℕ)
+      → AllMeant before → IsProvedWithin Fits before s tokens
+      → ¬ (IsFault Fits before s tokens rule step)
+  proved_no_fault s tokens rule step all p (inl w) = p.whole rule w.1.broken
+  proved_no_fault s tokens rule step all p (inr f) =
+      proof_no_fault s f.1 rule step all
+      (subst (Prove Fits before s) (moves_once before s tokens p.moves f.1 p.said f.2) p.proves) f.3
 
--- ---- two faults are one
+  -- ---- two faults are one
 
-pub longer_passed : (Fits : List (List ℕ) → Type 0) (before : List Sentence) (earlier : List (Move (List ℕ))) (move : Move (List ℕ)) (more longer : List (Move (List ℕ)))
-    (stack kept last end : List (List (List ℕ))) (rule : ProofRule) → AllMeant before
-    → longer ≡ earlier ++ move ∷ more → Passed Fits before longer last end → Passed Fits before earlier stack kept → FirstAtMove Fits rule before stack kept move → ⊥
-longer_passed Fits before earlier move more longer stack kept last end rule all parts whole passed fault =
-    no_fault_within Fits before earlier move more stack kept last end rule all (subst (λ l. Passed Fits before l last end) parts whole) passed fault
+  pub longer_passed : (earlier : List (Move (List ℕ))) (move : Move (List ℕ))
+      (more longer : List (Move (List ℕ))) (stack kept last end : List (List (List ℕ)))
+      (rule : ProofRule) → AllMeant before → longer ≡ earlier ++ move ∷ more
+      → Passed Fits before longer last end → Passed Fits before earlier stack kept
+      → FirstAtMove Fits rule before stack kept move → ⊥
+  longer_passed earlier move more longer stack kept last end rule all parts whole passed fault =
+      no_fault_within Fits before earlier move more stack kept last end rule all (subst (λ l. Passed Fits before l last end) parts whole) passed fault
 
-same_move : (Fits : List (List ℕ) → Type 0) (before : List Sentence) (moves : List (Move (List ℕ))) (rule rule' : ProofRule) (step step' : ℕ) → AllMeant before
-    → (f : IsMoveFault Fits before moves rule step) (g : IsMoveFault Fits before moves rule' step') → f.earlier ≡ g.earlier → f.move ≡ g.move → Same rule step rule' step'
-same_move Fits before moves rule rule' step step' all f g a x =
-    let one = passed_once Fits Fits before g.earlier f.stack g.stack f.kept g.kept all (subst (λ l. Passed Fits before l f.stack f.kept) a f.passed) g.passed in
-    let fault = rw (one.0, one.1, x) at f.fault in (
-      first_once (λ r. BreaksMove Fits r before g.stack g.kept g.move) rule rule' fault.broken g.fault.broken fault.first g.fault.first,
-      f.number ∙ ap (λ l. steps_in l + 1) a ∙ sym g.number,
-    )
+  module _ (moves : List (Move (List ℕ))) (rule rule' : ProofRule) (step step' : ℕ)
+      (all : AllMeant before) (f : IsMoveFault Fits before moves rule step)
+      (g : IsMoveFault Fits before moves rule' step') where
+    same_move : f.earlier ≡ g.earlier → f.move ≡ g.move → Same rule step rule' step'
+    same_move a x =
+        let one = passed_once Fits Fits before g.earlier f.stack g.stack f.kept g.kept all (subst (λ l. Passed Fits before l f.stack f.kept) a f.passed) g.passed in
+        let fault = rw (one.0, one.1, x) at f.fault in (
+          first_once (λ r. BreaksMove Fits r before g.stack g.kept g.move) rule rule' fault.broken g.fault.broken fault.first g.fault.first,
+          f.number ∙ ap (λ l. steps_in l + 1) a ∙ sym g.number,
+        )
 
-pub two_moves : (Fits : List (List ℕ) → Type 0) (before : List Sentence) (moves : List (Move (List ℕ))) (rule rule' : ProofRule) (step step' : ℕ) → AllMeant before
-    → IsMoveFault Fits before moves rule step → IsMoveFault Fits before moves rule' step' → Same rule step rule' step'
-two_moves Fits before moves rule rule' step step' all f g = elim (two_cuts f.earlier f.move f.later g.earlier g.move g.later (sym f.parts ∙ g.parts)) [
-  | inl same ↦ same_move Fits before moves rule rule' step step' all f g same.0 same.1
-  | inr (inl more) ↦ absurd (longer_passed Fits before f.earlier f.move more.0 g.earlier f.stack f.kept g.stack g.kept rule all more.1 g.passed f.passed f.fault)
-  | inr (inr more) ↦ absurd (longer_passed Fits before g.earlier g.move more.0 f.earlier g.stack g.kept f.stack f.kept rule' all more.1 f.passed g.passed g.fault)
-]
+    pub two_moves : Same rule step rule' step'
+    two_moves = elim (two_cuts f.earlier f.move f.later g.earlier g.move g.later (sym f.parts ∙ g.parts)) [
+      | inl same ↦ same_move same.0 same.1
+      | inr (inl more) ↦ absurd (longer_passed f.earlier f.move more.0 g.earlier f.stack f.kept g.stack g.kept rule all more.1 g.passed f.passed f.fault)
+      | inr (inr more) ↦ absurd (longer_passed g.earlier g.move more.0 f.earlier g.stack g.kept f.stack f.kept rule' all more.1 f.passed g.passed g.fault)
+    ]
 
-two_ends : (Fits : List (List ℕ) → Type 0) (before : List Sentence) (s : Sentence) (moves : List (Move (List ℕ))) (rule rule' : ProofRule) (step step' : ℕ) → AllMeant before
-    → IsEndFault Fits before s moves rule step → IsEndFault Fits before s moves rule' step' → Same rule step rule' step'
-two_ends Fits before s moves rule rule' step step' all f g =
-    let stacks : f.stack ≡ g.stack = (passed_once Fits Fits before moves f.stack g.stack f.kept g.kept all f.passed g.passed).0 in
-    let lengths : length f.stack ≡ length g.stack = ap length stacks in
-    let one = end_rule rule f.stack s.symbols f.broken in
-    let other = end_rule rule' g.stack s.symbols g.broken in
-    (grind arith, f.number ∙ sym g.number)
+  module _ (s : Sentence) (moves : List (Move (List ℕ))) (rule rule' : ProofRule) (step step' : ℕ)
+      (all : AllMeant before) where
+    two_ends : IsEndFault Fits before s moves rule step → IsEndFault Fits before s moves rule' step'
+        → Same rule step rule' step'
+    two_ends f g =
+        let stacks : f.stack ≡ g.stack = (passed_once Fits Fits before moves f.stack g.stack f.kept g.kept all f.passed g.passed).0 in
+        let lengths : length f.stack ≡ length g.stack = ap length stacks in
+        let one = end_rule rule f.stack s.symbols f.broken in
+        let other = end_rule rule' g.stack s.symbols g.broken in
+        (grind arith, f.number ∙ sym g.number)
 
--- of the moves
-pub one_moves_fault : (Fits : List (List ℕ) → Type 0) (before : List Sentence) (s : Sentence) (moves : List (Move (List ℕ))) (rule rule' : ProofRule) (step step' : ℕ) → AllMeant before
-    → IsMovesFault Fits before s moves rule step → IsMovesFault Fits before s moves rule' step' → Same rule step rule' step'
-one_moves_fault Fits before s moves rule rule' step step' all (inl f) (inl g) = two_moves Fits before moves rule rule' step step' all f g
-one_moves_fault Fits before s moves rule rule' step step' all (inl f) (inr g) = absurd (longer_passed Fits before f.earlier f.move f.later moves f.stack f.kept g.stack g.kept rule all f.parts g.passed f.passed f.fault)
-one_moves_fault Fits before s moves rule rule' step step' all (inr f) (inl g) = absurd (longer_passed Fits before g.earlier g.move g.later moves g.stack g.kept f.stack f.kept rule' all g.parts f.passed g.passed g.fault)
-one_moves_fault Fits before s moves rule rule' step step' all (inr f) (inr g) = two_ends Fits before s moves rule rule' step step' all f g
+    -- of the moves
+    pub one_moves_fault : IsMovesFault Fits before s moves rule step
+        → IsMovesFault Fits before s moves rule' step' → Same rule step rule' step'
+    one_moves_fault (inl f) (inl g) = two_moves moves rule rule' step step' all f g
+    one_moves_fault (inl f) (inr g) = absurd (longer_passed f.earlier f.move f.later moves f.stack f.kept g.stack g.kept rule all f.parts g.passed f.passed f.fault)
+    one_moves_fault (inr f) (inl g) = absurd (longer_passed g.earlier g.move g.later moves g.stack g.kept f.stack f.kept rule' all g.parts f.passed g.passed g.fault)
+    one_moves_fault (inr f) (inr g) = two_ends f g
 
--- of the tokens
-pub one_fault : (Fits : List (List ℕ) → Type 0) (before : List Sentence) (s : Sentence) (tokens : List (List ℕ)) (rule rule' : ProofRule) (step step' : ℕ) → AllMeant before
-    → IsFault Fits before s tokens rule step → IsFault Fits before s tokens rule' step' → Same rule step rule' step'
-one_fault Fits before s tokens rule rule' step step' all (inl f) (inl g) =
-    (first_once (λ r. BreaksWhole r before tokens) rule rule' f.1.broken g.1.broken f.1.first g.1.first, f.0 ∙ sym g.0)
-one_fault Fits before s tokens rule rule' step step' all (inl f) (inr g) = absurd (g.0 rule f.1.broken)
-one_fault Fits before s tokens rule rule' step step' all (inr f) (inl g) = absurd (f.0 rule' g.1.broken)
-one_fault Fits before s tokens rule rule' step step' all (inr f) (inr g) =
-    one_moves_fault Fits before s g.1 rule rule' step step' all
-    (subst (λ m. IsMovesFault Fits before s m rule step) (moves_once before s tokens f.1 g.1 f.2 g.2) f.3) g.3
+  -- of the tokens
+  pub one_fault : (s : Sentence) (tokens : List (List ℕ)) (rule rule' : ProofRule) (step step' : ℕ)
+      → AllMeant before → IsFault Fits before s tokens rule step
+      → IsFault Fits before s tokens rule' step' → Same rule step rule' step'
+  one_fault s tokens rule rule' step step' all (inl f) (inl g) =
+      (first_once (λ r. BreaksWhole r before tokens) rule rule' f.1.broken g.1.broken f.1.first g.1.first, f.0 ∙ sym g.0)
+  one_fault s tokens rule rule' step step' all (inl f) (inr g) = absurd (g.0 rule f.1.broken)
+  one_fault s tokens rule rule' step step' all (inr f) (inl g) = absurd (f.0 rule' g.1.broken)
+  one_fault s tokens rule rule' step step' all (inr f) (inr g) =
+      one_moves_fault s g.1 rule rule' step step' all
+      (subst (λ m. IsMovesFault Fits before s m rule step) (moves_once before s tokens f.1 g.1 f.2 g.2) f.3) g.3
 
 -- ---- the laws
 
@@ -317,28 +325,29 @@ pub below_P8 : (Fits : List (List ℕ) → Type 0) (before : List Sentence) (sta
 below_P8 Fits before stack label P8 less = absurd (omega arith)
 below_P8 Fits before stack label rule less = grind arith
 
-named_outcome : (Fits : List (List ℕ) → Type 0) (each : (e : List (List ℕ)) → Dec (Fits e)) (before : List Sentence) (stack : List (List (List ℕ))) (label : List ℕ) (place : ℕ) (assertion : Sentence) (hypotheses : List Sentence) → AllMeant before
-    → Names before label place assertion hypotheses → Outcome Fits before stack label
-named_outcome Fits each before stack label place assertion hypotheses all names = elim (cases_lt (length stack) (length hypotheses)) [
-  | inl short ↦ inr (P8, ((place, assertion, hypotheses, names, short), below_P8 Fits before stack label))
-  | inr enough ↦
-      let n : ℕ = length stack - length hypotheses in
-      let long : length (drop n stack) ≡ length hypotheses = omega (arith, length-drop n stack) in
-      let m = meets_of before stack label place assertion hypotheses (take n stack) (drop n stack) all names (sym (take-append-drop n stack)) long in
-      ⊎_elim (λ f. inr (f.rule, (f.broken, f.first)))
-      (λ none. made_outcome Fits each before stack label m.rest (instance_of m.σ m.assertion.symbols) all (step_of Fits before stack label m none))
-      (first_or_none (λ rule. BreaksStep Fits rule before stack label) (meets_dec Fits each before stack label all m))
-]
+module _ (Fits : List (List ℕ) → Type 0) (each : (e : List (List ℕ)) → Dec (Fits e))
+    (before : List Sentence) (stack : List (List (List ℕ))) (label : List ℕ) where
+  named_outcome : (place : ℕ) (assertion : Sentence) (hypotheses : List Sentence) → AllMeant before
+      → Names before label place assertion hypotheses → Outcome Fits before stack label
+  named_outcome place assertion hypotheses all names = elim (cases_lt (length stack) (length hypotheses)) [
+    | inl short ↦ inr (P8, ((place, assertion, hypotheses, names, short), below_P8 Fits before stack label))
+    | inr enough ↦
+        let n : ℕ = length stack - length hypotheses in
+        let long : length (drop n stack) ≡ length hypotheses = omega (arith, length-drop n stack) in
+        let m = meets_of before stack label place assertion hypotheses (take n stack) (drop n stack) all names (sym (take-append-drop n stack)) long in
+        ⊎_elim (λ f. inr (f.rule, (f.broken, f.first)))
+        (λ none. made_outcome Fits each before stack label m.rest (instance_of m.σ m.assertion.symbols) all (step_of Fits before stack label m none))
+        (first_or_none (λ rule. BreaksStep Fits rule before stack label) (meets_dec Fits each before stack label all m))
+  ]
 
-label_outcome : (Fits : List (List ℕ) → Type 0) (each : (e : List (List ℕ)) → Dec (Fits e)) (before : List Sentence) (stack : List (List (List ℕ))) (label : List ℕ) → AllMeant before
-    → IsUsable before label → Outcome Fits before stack label
-label_outcome Fits each before stack label all (inl h) =
-    made_outcome Fits each before stack label stack h.1.symbols all
-    (step_of_hypothesis before stack label h.0 h.1 h.2 h.3 h.4.0 h.4.1)
-label_outcome Fits each before stack label all (inr a) =
-    let frame : (hypotheses : List Sentence) × AreMandatory (take a.0 before) a.1 hypotheses =
-    those_of (IsMandatoryAt (take a.0 before) a.1) (mandatory_at_dec (take a.0 before) a.1) 0 (take a.0 before) in
-    named_outcome Fits each before stack label a.0 a.1 frame.0 all (record { there = a.2; named = a.3.0; kind = a.3.1; mandatory = frame.1 })
+  label_outcome : AllMeant before → IsUsable before label → Outcome Fits before stack label
+  label_outcome all (inl h) =
+      made_outcome Fits each before stack label stack h.1.symbols all
+      (step_of_hypothesis before stack label h.0 h.1 h.2 h.3 h.4.0 h.4.1)
+  label_outcome all (inr a) =
+      let frame : (hypotheses : List Sentence) × AreMandatory (take a.0 before) a.1 hypotheses =
+      those_of (IsMandatoryAt (take a.0 before) a.1) (mandatory_at_dec (take a.0 before) a.1) 0 (take a.0 before) in
+      named_outcome a.0 a.1 frame.0 all (record { there = a.2; named = a.3.0; kind = a.3.1; mandatory = frame.1 })
 
 -- ---- the moves
 
@@ -388,23 +397,26 @@ end_verdict Fits before s moves stack kept passed = ⊎_elim
     last entry e (yes same) = inl (prove_at_end Fits before s moves kept (subst (λ l. Passed Fits before moves l kept) (e ∙ ap (λ x. x ∷ []) same) passed))
     last entry e (no differ) = inr (P14, steps_in moves + 1, inr (record { stack = stack; kept = kept; passed = passed; number = refl; broken = (entry, e, differ) }))
 
-later_verdict : (Fits : List (List ℕ) → Type 0) (each : (e : List (List ℕ)) → Dec (Fits e)) (before : List Sentence) (s : Sentence) (moves later earlier : List (Move (List ℕ))) (stack kept : List (List (List ℕ)))
-    → AllMeant before → AllByRecursion (IsUsableMove before) later → moves ≡ earlier ++ later → Passed Fits before earlier stack kept → MovesVerdict Fits before s moves
-later_verdict Fits each before s moves [] earlier stack kept all usable parts passed =
-    end_verdict Fits before s moves stack kept (subst (λ l. Passed Fits before l stack kept) (sym (parts ∙ append-nil earlier)) passed)
-later_verdict Fits each before s moves (move ∷ later) earlier stack kept all usable parts passed = ⊎_elim
-    (λ o. later_verdict Fits each before s moves later (earlier ++ move ∷ []) o.0 o.1 all usable.1 (parts ∙ sym (append_assoc earlier (move ∷ []) later)) o.2)
-    (λ f. inr (
-      f.0,
-      steps_in earlier + 1,
-      inl (record { earlier = earlier; move = move; later = later; parts = parts; number = refl; stack = stack; kept = kept; passed = passed; fault = f.1 }),
-    ))
-    (move_outcome Fits each before earlier stack kept move all usable.0 passed)
+module _ (Fits : List (List ℕ) → Type 0) (each : (e : List (List ℕ)) → Dec (Fits e))
+    (before : List Sentence) (s : Sentence) (moves : List (Move (List ℕ))) where
+  later_verdict : (later earlier : List (Move (List ℕ))) (stack kept : List (List (List ℕ)))
+      → AllMeant before → AllByRecursion (IsUsableMove before) later → moves ≡ earlier ++ later
+      → Passed Fits before earlier stack kept → MovesVerdict Fits before s moves
+  later_verdict [] earlier stack kept all usable parts passed =
+      end_verdict Fits before s moves stack kept (subst (λ l. Passed Fits before l stack kept) (sym (parts ∙ append-nil earlier)) passed)
+  later_verdict (move ∷ later) earlier stack kept all usable parts passed = ⊎_elim
+      (λ o. later_verdict later (earlier ++ move ∷ []) o.0 o.1 all usable.1 (parts ∙ sym (append_assoc earlier (move ∷ []) later)) o.2)
+      (λ f. inr (
+        f.0,
+        steps_in earlier + 1,
+        inl (record { earlier = earlier; move = move; later = later; parts = parts; number = refl; stack = stack; kept = kept; passed = passed; fault = f.1 }),
+      ))
+      (move_outcome Fits each before earlier stack kept move all usable.0 passed)
 
--- moves by labels that may be used prove the statement, or have a fault
-pub moves_verdict : (Fits : List (List ℕ) → Type 0) (each : (e : List (List ℕ)) → Dec (Fits e)) (before : List Sentence) (s : Sentence) (moves : List (Move (List ℕ)))
-    → AllMeant before → AllByRecursion (IsUsableMove before) moves → MovesVerdict Fits before s moves
-moves_verdict Fits each before s moves all usable = later_verdict Fits each before s moves moves [] [] [] all usable refl (passed_none Fits before)
+  -- moves by labels that may be used prove the statement, or have a fault
+  pub moves_verdict : AllMeant before → AllByRecursion (IsUsableMove before) moves
+      → MovesVerdict Fits before s moves
+  moves_verdict all usable = later_verdict moves [] [] [] all usable refl (passed_none Fits before)
 
 pub within_dec : (limit : ℕ) (e : List (List ℕ)) → Dec (IsWithin limit e)
 within_dec limit e = elim (cases_lt limit (length e)) [ inl over ↦ no (λ within. absurd (omega arith)) | inr within ↦ yes within ]

@@ -30,39 +30,43 @@ use Rattle.mm_proof.proofs.ByNumbers.NumberedLabels.{one_place}
 
 -- ==== a known front has one verdict: it is allowed, or it has one first fault
 
--- it is allowed, or has a fault
-abbrev FrontVerdict : ℕ → List Sentence → Sentence → List (List ℕ) → Type 0
-FrontVerdict limit before s tokens =
-    IsFrontAllowed (IsWithin limit) before s tokens
-    ⊎ ((rule : ProofRule) × (step : ℕ) × IsFrontFault (IsWithin limit) before s tokens rule step)
+module _ (limit : ℕ) (before : List Sentence) (s : Sentence) (tokens : List (List ℕ)) where
+  -- it is allowed, or has a fault
+  abbrev FrontVerdict : Type 0
+  FrontVerdict =
+      IsFrontAllowed (IsWithin limit) before s tokens
+      ⊎ ((rule : ProofRule) × (step : ℕ) × IsFrontFault (IsWithin limit) before s tokens rule step)
 
--- where no rule over the whole of it is broken: that all moves passed is said by what is proved, and by what ends wrongly
-moves_judged : (limit : ℕ) (before : List Sentence) (s : Sentence) (tokens : List (List ℕ)) (moves : List (Move (List ℕ))) → AllMeant before → IsWhole before (known_front tokens)
-    → SayMoves before s (known_front tokens) moves → MovesVerdict (IsWithin limit) before s moves → FrontVerdict limit before s tokens
-moves_judged limit before s tokens moves all whole said (inl p) =
-    let passed = proof_passed (IsWithin limit) before s moves all p in
-    inl (record { whole = whole; moves = moves; said = said; pass = (s.symbols ∷ [], passed.0, passed.1) })
-moves_judged limit before s tokens moves all whole said (inr (rule, step, inl f)) = inr (rule, step, inr (whole, moves, said, f))
-moves_judged limit before s tokens moves all whole said (inr (rule, step, inr e)) =
-    inl (record { whole = whole; moves = moves; said = said; pass = (e.stack, e.kept, e.passed) })
+  -- where no rule over the whole of it is broken: that all moves passed is said by what is proved, and by what ends wrongly
+  moves_judged : (moves : List (Move (List ℕ))) → AllMeant before
+      → IsWhole before (known_front tokens) → SayMoves before s (known_front tokens) moves
+      → MovesVerdict (IsWithin limit) before s moves → FrontVerdict
+  moves_judged moves all whole said (inl p) =
+      let passed = proof_passed (IsWithin limit) before s moves all p in
+      inl (record { whole = whole; moves = moves; said = said; pass = (s.symbols ∷ [], passed.0, passed.1) })
+  moves_judged moves all whole said (inr (rule, step, inl f)) = inr (rule, step, inr (whole, moves, said, f))
+  moves_judged moves all whole said (inr (rule, step, inr e)) =
+      inl (record { whole = whole; moves = moves; said = said; pass = (e.stack, e.kept, e.passed) })
 
--- the moves of a front that is allowed have no fault
-pub allowed_no_fault : (limit : ℕ) (before : List Sentence) (s : Sentence) (tokens : List (List ℕ)) (rule : ProofRule) (step : ℕ) → AllMeant before
-    → IsFrontAllowed (IsWithin limit) before s tokens → IsFrontFault (IsWithin limit) before s tokens rule step → ⊥
-allowed_no_fault limit before s tokens rule step all a (inl w) = a.whole rule w.1.broken
-allowed_no_fault limit before s tokens rule step all a (inr (whole, moves, said, f)) =
-    longer_passed (IsWithin limit) before f.earlier f.move f.later a.moves f.stack f.kept a.pass.0 a.pass.1 rule all
-    (moves_once before s (known_front tokens) a.moves moves a.said said ∙ f.parts) a.pass.2 f.passed f.fault
+  -- the moves of a front that is allowed have no fault
+  pub allowed_no_fault : (rule : ProofRule) (step : ℕ) → AllMeant before
+      → IsFrontAllowed (IsWithin limit) before s tokens
+      → IsFrontFault (IsWithin limit) before s tokens rule step → ⊥
+  allowed_no_fault rule step all a (inl w) = a.whole rule w.1.broken
+  allowed_no_fault rule step all a (inr (whole, moves, said, f)) =
+      longer_passed (IsWithin limit) before f.earlier f.move f.later a.moves f.stack f.kept a.pass.0 a.pass.1 rule all
+      (moves_once before s (known_front tokens) a.moves moves a.said said ∙ f.parts) a.pass.2 f.passed f.fault
 
-pub one_front_fault : (limit : ℕ) (before : List Sentence) (s : Sentence) (tokens : List (List ℕ)) (rule rule' : ProofRule) (step step' : ℕ) → AllMeant before
-    → IsFrontFault (IsWithin limit) before s tokens rule step → IsFrontFault (IsWithin limit) before s tokens rule' step' → Same rule step rule' step'
-one_front_fault limit before s tokens rule rule' step step' all (inl f) (inl g) =
-    (first_once (λ r. BreaksWhole r before (known_front tokens)) rule rule' f.1.broken g.1.broken f.1.first g.1.first, f.0 ∙ sym g.0)
-one_front_fault limit before s tokens rule rule' step step' all (inl f) (inr g) = absurd (g.0 rule f.1.broken)
-one_front_fault limit before s tokens rule rule' step step' all (inr f) (inl g) = absurd (f.0 rule' g.1.broken)
-one_front_fault limit before s tokens rule rule' step step' all (inr f) (inr g) =
-    two_moves (IsWithin limit) before g.1 rule rule' step step' all
-    (subst (λ m. IsMoveFault (IsWithin limit) before m rule step) (moves_once before s (known_front tokens) f.1 g.1 f.2 g.2) f.3) g.3
+  pub one_front_fault : (rule rule' : ProofRule) (step step' : ℕ) → AllMeant before
+      → IsFrontFault (IsWithin limit) before s tokens rule step
+      → IsFrontFault (IsWithin limit) before s tokens rule' step' → Same rule step rule' step'
+  one_front_fault rule rule' step step' all (inl f) (inl g) =
+      (first_once (λ r. BreaksWhole r before (known_front tokens)) rule rule' f.1.broken g.1.broken f.1.first g.1.first, f.0 ∙ sym g.0)
+  one_front_fault rule rule' step step' all (inl f) (inr g) = absurd (g.0 rule f.1.broken)
+  one_front_fault rule rule' step step' all (inr f) (inl g) = absurd (f.0 rule' g.1.broken)
+  one_front_fault rule rule' step step' all (inr f) (inr g) =
+      two_moves (IsWithin limit) before g.1 rule rule' step step' all
+      (subst (λ m. IsMoveFault (IsWithin limit) before m rule step) (moves_once before s (known_front tokens) f.1 g.1 f.2 g.2) f.3) g.3
 
 pub one_front_verdict_holds : OneFrontVerdict
 one_front_verdict_holds limit before s tokens all formed = (

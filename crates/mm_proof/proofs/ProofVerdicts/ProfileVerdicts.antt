@@ -61,26 +61,29 @@ have_under profile before s front rule step form (inr (w, m, said, f)) = inr (w,
 
 -- ---- a whole proof
 
-pub proved_none : (profile : Profile) (before : List Sentence) (s : Sentence) (tokens : List (List ℕ)) (rule : ProofRule) (step : ℕ) → AllMeant before → IsProvedUnder profile before s tokens
-    → IsFaultUnder profile before s tokens rule step → ⊥
-proved_none profile before s tokens rule step all p (inl (z, inl w)) = proved_no_fault (IsWithin (limit_of profile)) before s tokens rule step all p.1 (inl (z, w))
-proved_none profile before s tokens rule step all p (inl (z, inr x)) = x.2 p.0
-proved_none profile before s tokens rule step all p (inr (w, form, m, said, f)) = proved_no_fault (IsWithin (limit_of profile)) before s tokens rule step all p.1 (inr (w, m, said, f))
+module _ (profile : Profile) (before : List Sentence) (s : Sentence) (tokens : List (List ℕ))
+    (rule : ProofRule) where
+  pub proved_none : (step : ℕ) → AllMeant before → IsProvedUnder profile before s tokens
+      → IsFaultUnder profile before s tokens rule step → ⊥
+  proved_none step all p (inl (z, inl w)) = proved_no_fault (IsWithin (limit_of profile)) before s tokens rule step all p.1 (inl (z, w))
+  proved_none step all p (inl (z, inr x)) = x.2 p.0
+  proved_none step all p (inr (w, form, m, said, f)) = proved_no_fault (IsWithin (limit_of profile)) before s tokens rule step all p.1 (inr (w, m, said, f))
 
-pub one_under : (profile : Profile) (before : List Sentence) (s : Sentence) (tokens : List (List ℕ)) (rule rule' : ProofRule) (step step' : ℕ) → AllMeant before
-    → IsFaultUnder profile before s tokens rule step → IsFaultUnder profile before s tokens rule' step' → Same rule step rule' step'
-one_under profile before s tokens rule rule' step step' all (inl (z, inl w)) (inl (y, inl v)) = one_fault (IsWithin (limit_of profile)) before s tokens rule rule' step step' all (inl (z, w)) (inl (y, v))
-one_under profile before s tokens rule rule' step step' all (inl (z, inl w)) (inl (y, inr x)) = absurd (x.0 rule w.broken)
-one_under profile before s tokens rule rule' step step' all (inl (z, inl w)) (inr (v, form, m, said, f)) =
-    one_fault (IsWithin (limit_of profile)) before s tokens rule rule' step step' all (inl (z, w)) (inr (v, m, said, f))
-one_under profile before s tokens rule rule' step step' all (inl (z, inr x)) (inl (y, inl v)) = absurd (x.0 rule' v.broken)
-one_under profile before s tokens rule rule' step step' all (inl (z, inr x)) (inl (y, inr u)) = (x.1 ∙ sym u.1, z ∙ sym y)
-one_under profile before s tokens rule rule' step step' all (inl (z, inr x)) (inr (v, form, m, said, f)) = absurd (x.2 form)
-one_under profile before s tokens rule rule' step step' all (inr (w, form, m, said, f)) (inl (y, inl v)) =
-    one_fault (IsWithin (limit_of profile)) before s tokens rule rule' step step' all (inr (w, m, said, f)) (inl (y, v))
-one_under profile before s tokens rule rule' step step' all (inr (w, form, m, said, f)) (inl (y, inr u)) = absurd (u.2 form)
-one_under profile before s tokens rule rule' step step' all (inr (w, form, m, said, f)) (inr (v, form', n, says, g)) =
-    one_fault (IsWithin (limit_of profile)) before s tokens rule rule' step step' all (inr (w, m, said, f)) (inr (v, n, says, g))
+  pub one_under : (rule' : ProofRule) (step step' : ℕ) → AllMeant before
+      → IsFaultUnder profile before s tokens rule step
+      → IsFaultUnder profile before s tokens rule' step' → Same rule step rule' step'
+  one_under rule' step step' all (inl (z, inl w)) (inl (y, inl v)) = one_fault (IsWithin (limit_of profile)) before s tokens rule rule' step step' all (inl (z, w)) (inl (y, v))
+  one_under rule' step step' all (inl (z, inl w)) (inl (y, inr x)) = absurd (x.0 rule w.broken)
+  one_under rule' step step' all (inl (z, inl w)) (inr (v, form, m, said, f)) =
+      one_fault (IsWithin (limit_of profile)) before s tokens rule rule' step step' all (inl (z, w)) (inr (v, m, said, f))
+  one_under rule' step step' all (inl (z, inr x)) (inl (y, inl v)) = absurd (x.0 rule' v.broken)
+  one_under rule' step step' all (inl (z, inr x)) (inl (y, inr u)) = (x.1 ∙ sym u.1, z ∙ sym y)
+  one_under rule' step step' all (inl (z, inr x)) (inr (v, form, m, said, f)) = absurd (x.2 form)
+  one_under rule' step step' all (inr (w, form, m, said, f)) (inl (y, inl v)) =
+      one_fault (IsWithin (limit_of profile)) before s tokens rule rule' step step' all (inr (w, m, said, f)) (inl (y, v))
+  one_under rule' step step' all (inr (w, form, m, said, f)) (inl (y, inr u)) = absurd (u.2 form)
+  one_under rule' step step' all (inr (w, form, m, said, f)) (inr (v, form', n, says, g)) =
+      one_fault (IsWithin (limit_of profile)) before s tokens rule rule' step step' all (inr (w, m, said, f)) (inr (v, n, says, g))
 
 pub accepted_under : (profile : Profile) → {X : Type 0} (r : Result X ProofFault) (st : List Sentence) (id : ℕ) (tokens : List (List ℕ)) → AllMeant st
     → IfErr r (λ e. OnRule e (λ rule step. OfProof st id (λ place s. IsFaultUnder profile (take place st) s tokens rule step)))
@@ -101,26 +104,29 @@ refused_under profile (Err (Rule other at)) st id tokens all p f place s proof r
 
 -- ---- a known front
 
-pub front_none : (profile : Profile) (before : List Sentence) (s : Sentence) (tokens : List (List ℕ)) (rule : ProofRule) (step : ℕ) → AllMeant before → IsFrontAllowedUnder profile before s tokens
-    → IsFrontFaultUnder profile before s tokens rule step → ⊥
-front_none profile before s tokens rule step all p (inl (z, inl w)) = allowed_no_fault (limit_of profile) before s tokens rule step all p.1 (inl (z, w))
-front_none profile before s tokens rule step all p (inl (z, inr x)) = x.2 p.0
-front_none profile before s tokens rule step all p (inr (w, form, m, said, f)) = allowed_no_fault (limit_of profile) before s tokens rule step all p.1 (inr (w, m, said, f))
+module _ (profile : Profile) (before : List Sentence) (s : Sentence) (tokens : List (List ℕ))
+    (rule : ProofRule) where
+  pub front_none : (step : ℕ) → AllMeant before → IsFrontAllowedUnder profile before s tokens
+      → IsFrontFaultUnder profile before s tokens rule step → ⊥
+  front_none step all p (inl (z, inl w)) = allowed_no_fault (limit_of profile) before s tokens rule step all p.1 (inl (z, w))
+  front_none step all p (inl (z, inr x)) = x.2 p.0
+  front_none step all p (inr (w, form, m, said, f)) = allowed_no_fault (limit_of profile) before s tokens rule step all p.1 (inr (w, m, said, f))
 
-pub one_front_under : (profile : Profile) (before : List Sentence) (s : Sentence) (tokens : List (List ℕ)) (rule rule' : ProofRule) (step step' : ℕ) → AllMeant before
-    → IsFrontFaultUnder profile before s tokens rule step → IsFrontFaultUnder profile before s tokens rule' step' → Same rule step rule' step'
-one_front_under profile before s tokens rule rule' step step' all (inl (z, inl w)) (inl (y, inl v)) = one_front_fault (limit_of profile) before s tokens rule rule' step step' all (inl (z, w)) (inl (y, v))
-one_front_under profile before s tokens rule rule' step step' all (inl (z, inl w)) (inl (y, inr x)) = absurd (x.0 rule w.broken)
-one_front_under profile before s tokens rule rule' step step' all (inl (z, inl w)) (inr (v, form, m, said, f)) =
-    one_front_fault (limit_of profile) before s tokens rule rule' step step' all (inl (z, w)) (inr (v, m, said, f))
-one_front_under profile before s tokens rule rule' step step' all (inl (z, inr x)) (inl (y, inl v)) = absurd (x.0 rule' v.broken)
-one_front_under profile before s tokens rule rule' step step' all (inl (z, inr x)) (inl (y, inr u)) = (x.1 ∙ sym u.1, z ∙ sym y)
-one_front_under profile before s tokens rule rule' step step' all (inl (z, inr x)) (inr (v, form, m, said, f)) = absurd (x.2 form)
-one_front_under profile before s tokens rule rule' step step' all (inr (w, form, m, said, f)) (inl (y, inl v)) =
-    one_front_fault (limit_of profile) before s tokens rule rule' step step' all (inr (w, m, said, f)) (inl (y, v))
-one_front_under profile before s tokens rule rule' step step' all (inr (w, form, m, said, f)) (inl (y, inr u)) = absurd (u.2 form)
-one_front_under profile before s tokens rule rule' step step' all (inr (w, form, m, said, f)) (inr (v, form', n, says, g)) =
-    one_front_fault (limit_of profile) before s tokens rule rule' step step' all (inr (w, m, said, f)) (inr (v, n, says, g))
+  pub one_front_under : (rule' : ProofRule) (step step' : ℕ) → AllMeant before
+      → IsFrontFaultUnder profile before s tokens rule step
+      → IsFrontFaultUnder profile before s tokens rule' step' → Same rule step rule' step'
+  one_front_under rule' step step' all (inl (z, inl w)) (inl (y, inl v)) = one_front_fault (limit_of profile) before s tokens rule rule' step step' all (inl (z, w)) (inl (y, v))
+  one_front_under rule' step step' all (inl (z, inl w)) (inl (y, inr x)) = absurd (x.0 rule w.broken)
+  one_front_under rule' step step' all (inl (z, inl w)) (inr (v, form, m, said, f)) =
+      one_front_fault (limit_of profile) before s tokens rule rule' step step' all (inl (z, w)) (inr (v, m, said, f))
+  one_front_under rule' step step' all (inl (z, inr x)) (inl (y, inl v)) = absurd (x.0 rule' v.broken)
+  one_front_under rule' step step' all (inl (z, inr x)) (inl (y, inr u)) = (x.1 ∙ sym u.1, z ∙ sym y)
+  one_front_under rule' step step' all (inl (z, inr x)) (inr (v, form, m, said, f)) = absurd (x.2 form)
+  one_front_under rule' step step' all (inr (w, form, m, said, f)) (inl (y, inl v)) =
+      one_front_fault (limit_of profile) before s tokens rule rule' step step' all (inr (w, m, said, f)) (inl (y, v))
+  one_front_under rule' step step' all (inr (w, form, m, said, f)) (inl (y, inr u)) = absurd (u.2 form)
+  one_front_under rule' step step' all (inr (w, form, m, said, f)) (inr (v, form', n, says, g)) =
+      one_front_fault (limit_of profile) before s tokens rule rule' step step' all (inr (w, m, said, f)) (inr (v, n, says, g))
 
 -- of a front that is allowed there is no fault but want of memory
 front_only : (profile : Profile) (e : ProofFault) (st : List Sentence) (id : ℕ) (tokens : List (List ℕ)) → AllMeant st
@@ -150,28 +156,28 @@ front_allowed profile (Err e) P st id tokens all h f place s proof p =
 -- ==== a proof within the smaller limit is one within the greater, so that under the strict profile
 -- nothing but its form is at fault
 
--- a proof in the lenient profile is one within the limit of the strict one
-pub within_strict : (before : List Sentence) (s : Sentence) (tokens : List (List ℕ))
-    → IsProvedUnder Lenient before s tokens
-    → IsProvedWithin (IsWithin (limit_of Strict)) before s tokens
-within_strict before s tokens p = record {
-  whole = p.1.whole;
-  moves = p.1.moves;
-  said = p.1.said;
-  proves = prove_looser (IsWithin (limit_of Lenient)) (IsWithin (limit_of Strict))
-      (λ e less. omega (arith, less)) before s p.1.moves p.1.proves;
-}
+module _ (before : List Sentence) (s : Sentence) (tokens : List (List ℕ)) where
+  -- a proof in the lenient profile is one within the limit of the strict one
+  pub within_strict : IsProvedUnder Lenient before s tokens
+      → IsProvedWithin (IsWithin (limit_of Strict)) before s tokens
+  within_strict p = record {
+    whole = p.1.whole;
+    moves = p.1.moves;
+    said = p.1.said;
+    proves = prove_looser (IsWithin (limit_of Lenient)) (IsWithin (limit_of Strict))
+        (λ e less. omega (arith, less)) before s p.1.moves p.1.proves;
+  }
 
--- what is at fault with it under the strict profile is its form
-pub only_form : (before : List Sentence) (s : Sentence) (tokens : List (List ℕ))
-    (rule : ProofRule) (step : ℕ) → AllMeant before → IsProvedUnder Lenient before s tokens
-    → IsFaultUnder Strict before s tokens rule step → rule ≡ P15
-only_form before s tokens rule step all p (inl (zero_step, inl fault)) =
-    absurd (p.1.whole rule fault.broken)
-only_form before s tokens rule step all p (inl (zero_step, inr fault)) = fault.1
-only_form before s tokens rule step all p (inr (whole, form, moves, said, fault)) =
-    absurd (proved_none Strict before s tokens rule step all
-    (form, within_strict before s tokens p) (inr (whole, form, moves, said, fault)))
+  -- what is at fault with it under the strict profile is its form
+  pub only_form : (rule : ProofRule) (step : ℕ) → AllMeant before
+      → IsProvedUnder Lenient before s tokens → IsFaultUnder Strict before s tokens rule step
+      → rule ≡ P15
+  only_form rule step all p (inl (zero_step, inl fault)) =
+      absurd (p.1.whole rule fault.broken)
+  only_form rule step all p (inl (zero_step, inr fault)) = fault.1
+  only_form rule step all p (inr (whole, form, moves, said, fault)) =
+      absurd (proved_none Strict before s tokens rule step all
+      (form, within_strict p) (inr (whole, form, moves, said, fault)))
 
 -- ==== whether a proof has the form that a profile demands can be decided, so each proof and each
 -- known front has one verdict under a profile
@@ -235,32 +241,34 @@ mark_dec : (move : Move (List ℕ)) → Dec (move ≡ mark)
 mark_dec mark = yes refl
 mark_dec move = no (λ e. absurd cc)
 
--- the move before a place is a step by an assertion
-abbrev After : List Sentence → List (Move (List ℕ)) → ℕ → Type 0
-After before moves k = (b : ℕ) × (m : Move (List ℕ)) × (slice_get moves b ≡ Some m) × ((k ≡ b + 1) × ByAssertion before m)
+module _ (before : List Sentence) (moves : List (Move (List ℕ))) where
+  -- the move before a place is a step by an assertion
+  abbrev After : ℕ → Type 0
+  After k = (b : ℕ) × (m : Move (List ℕ)) × (slice_get moves b ≡ Some m) × ((k ≡ b + 1) × ByAssertion before m)
 
-abbrev Loose : List Sentence → List (Move (List ℕ)) → Type 0
-Loose before moves = (k : ℕ) × (m : Move (List ℕ)) × (slice_get moves k ≡ Some m) × ((m ≡ mark) × ¬ (After before moves k))
+  abbrev Loose : Type 0
+  Loose = (k : ℕ) × (m : Move (List ℕ)) × (slice_get moves k ≡ Some m) × ((m ≡ mark) × ¬ (After k))
 
-after_dec : (before : List Sentence) (moves : List (Move (List ℕ))) (k : ℕ) → Dec (After before moves k)
-after_dec before moves k = dec_some (λ b m. (k ≡ b + 1) × ByAssertion before m) (λ b m. dec_both (ℕ_discrete k (b + 1)) (by_dec before m)) moves
+  after_dec : (k : ℕ) → Dec (After k)
+  after_dec k = dec_some (λ b m. (k ≡ b + 1) × ByAssertion before m) (λ b m. dec_both (ℕ_discrete k (b + 1)) (by_dec before m)) moves
 
 after_front : (before : List Sentence) (front : List (Move (List ℕ))) (b : ℕ) (m : Move (List ℕ)) → slice_get front b ≡ Some m → length front ≡ b + 1 → ByAssertion before m
     → (earlier : List (Move (List ℕ))) × (label : List ℕ) × (front ≡ earlier ++ name label ∷ []) × OfAssertion before label
 after_front before front b (name label) at long by = let last = last_of front b (name label) long at in (last.0, label, last.1, by)
 after_front before front b m at long by = absurd by
 
-marks_from : (before : List Sentence) (moves : List (Move (List ℕ))) → ¬ (Loose before moves) → MarkAssertions before moves
-marks_from before moves tight front after parts = elim (after_dec before moves (length front)) [
-  | yes a ↦ after_front before front a.0 a.1 (get_before front (mark ∷ after) a.0 a.1 (omega (arith, a.3.0)) (ap (λ l. slice_get l a.0) (sym parts) ∙ a.2)) a.3.0 a.3.1
-  | no none ↦ absurd (tight (length front, mark, ap (λ l. slice_get l (length front)) parts ∙ get_parted front after mark, (refl, none)))
-]
+module _ (before : List Sentence) (moves : List (Move (List ℕ))) where
+  marks_from : ¬ (Loose before moves) → MarkAssertions before moves
+  marks_from tight front after parts = elim (after_dec before moves (length front)) [
+    | yes a ↦ after_front before front a.0 a.1 (get_before front (mark ∷ after) a.0 a.1 (omega (arith, a.3.0)) (ap (λ l. slice_get l a.0) (sym parts) ∙ a.2)) a.3.0 a.3.1
+    | no none ↦ absurd (tight (length front, mark, ap (λ l. slice_get l (length front)) parts ∙ get_parted front after mark, (refl, none)))
+  ]
 
-marks_dec : (before : List Sentence) (moves : List (Move (List ℕ))) → Dec (MarkAssertions before moves)
-marks_dec before moves = dec_as (marks_from before moves) (λ strict. λ (k, move, at, same).
-    let m = step_before before moves k strict (at ∙ ap Some same.0) in
-    same.1 (m.0, name m.1, m.3, (m.2, m.4))) (dec_not
-    (dec_some _ (λ k m. dec_both (mark_dec m) (dec_not (after_dec before moves k))) moves))
+  marks_dec : Dec (MarkAssertions before moves)
+  marks_dec = dec_as (marks_from) (λ strict. λ (k, move, at, same).
+      let m = step_before before moves k strict (at ∙ ap Some same.0) in
+      same.1 (m.0, name m.1, m.3, (m.2, m.4))) (dec_not
+      (dec_some _ (λ k m. dec_both (mark_dec m) (dec_not (after_dec before moves k))) moves))
 
 -- ---- the form
 

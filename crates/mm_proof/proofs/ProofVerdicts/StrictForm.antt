@@ -124,11 +124,12 @@ set_more old new hids more n b same a is x =
       λ h. grown.1 (⊎_elim (λ o. inl ((same x).1 o)) (λ e. inr e) (pushed.0 h)),
     )
 
-pub new_seen : (seen hids ids : List ℕ) → ((x : ℕ) → Contains seen x ↔ Contains hids x) → AllNew seen ids → AllNew hids ids
-new_seen seen hids ids same new j id at = let n = new j id at in ((λ h. n.0 ((same id).1 h)), n.1)
+module _ (seen hids ids : List ℕ) (same : ((x : ℕ) → Contains seen x ↔ Contains hids x)) where
+  pub new_seen : AllNew seen ids → AllNew hids ids
+  new_seen new j id at = let n = new j id at in ((λ h. n.0 ((same id).1 h)), n.1)
 
-pub old_seen : (seen hids ids : List ℕ) → ((x : ℕ) → Contains seen x ↔ Contains hids x) → SomeOld seen ids → SomeOld hids ids
-old_seen seen hids ids same (j, id, at, o) = (j, id, at, ⊎_elim (λ h. inl ((same id).0 h)) (λ t. inr t) o)
+  pub old_seen : SomeOld seen ids → SomeOld hids ids
+  old_seen (j, id, at, o) = (j, id, at, ⊎_elim (λ h. inl ((same id).0 h)) (λ t. inr t) o)
 
 -- ---- codes
 
