@@ -315,8 +315,9 @@ fn fill_compressed<'a>(
     Ok(())
 }
 
-// Fills the lists with what says the moves of the tokens as a proof of the `$p`.
-fn fill_whole<'a>(
+// Fills the lists with what says the moves of the tokens as a proof of the `$p`, or tells the first
+// of P1 to P5 that they break: with a `?` among them, one of P1 to P4.
+fn fill_steps<'a>(
     lists: &mut ParseLists<'a>,
     site: &Site,
     tokens: &[Token<'a>],
@@ -334,37 +335,6 @@ fn fill_whole<'a>(
         [_, rest @ ..] if begins_list(tokens) => fill_compressed(lists, site, rest),
         _ => fill_normal(lists, site, tokens),
     }
-}
-
-/// Fills the lists with what says the moves of the tokens as a proof of the `$p`, or tells
-/// the first of P1 to P5 that they break: with a `?` among them, one of P1 to P4.
-pub(crate) fn fill_steps<'a>(
-    lists: &mut ParseLists<'a>,
-    site: &Site,
-    tokens: &[Token<'a>],
-) -> Result<(), ProofFault>
-    requires { IsSite site.now }
-    // The moves are what the tokens say, and each may be made.
-    ensures steps { OnOk result (OfProof site.now.statements site.now.number
-        (λ place s. SaySteps site.now.statements place s
-        (token_texts tokens.now) (moves_of lists.new.entries.items lists.new.codes.items))) }
-    ensures usable { OnOk result
-        (AreSteps site.now.statements site.now.number (moves_of lists.new.entries.items lists.new.codes.items)) }
-
-    // Each code has a spelling.
-    ensures spelled { OnOk result (All HasSpelling lists.new.codes.items) }
-
-    // Those of the list, if there is one, are in the first list.
-    ensures listed { OnOk result ((labels letters : List (List ℕ))
-        → IsCompressed (token_texts tokens.now) labels letters
-        → AreFor site.now.statements site.now.place (ids_in lists.new.ids.items) labels) }
-
-    // The rule is the first that is broken over the whole proof.
-    ensures fault { IfErr result (λ e. OnRule e (λ rule step.
-        OfProof site.now.statements site.now.number (λ place s. (step ≡ 0)
-        × IsWholeFault (take place site.now.statements) (token_texts tokens.now) rule))) }
-{
-    fill_whole(lists, site, tokens)
 }
 
 /// Fills the lists with what says the moves of the tokens as a proof of the `$p`, or tells the first of

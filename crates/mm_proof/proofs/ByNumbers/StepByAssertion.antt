@@ -1,11 +1,10 @@
 -- The step by an assertion, by numbers and by names: what it breaks, what it makes, over how many
 -- trees.
 use Rattle.std.proofs.Common.{◌≡◌, ℕ, suc, ◌<◌, ◌≤◌, List, [], ◌∷◌, ◌++◌, length, map, take, drop}
-use Rattle.std.proofs.Common.{slice_get, Contains, Bool, true, false, MatchBool, Option, Some, None}
+use Rattle.std.proofs.Common.{slice_get, Contains, Option, Some, None}
 use Rattle.std.proofs.Common.{option_map, unwrap_or, ◌⊎◌, inl, inr, ⊎_elim, refl, sym, ap, subst}
 use Rattle.std.proofs.Common.{◌∙◌, arith}
 use Rattle.std.specs.List.{AllByRecursion}
-use Rattle.std.proofs.lemmas.Bool.{MatchBool-at_true, MatchBool-at_false}
 use Rattle.std.proofs.lemmas.Option.{same_Some, slice_get_within, get_or_from_slice_get}
 use Rattle.std.proofs.lemmas.Option.{slice_get-get_or}
 use Rattle.std.proofs.lemmas.List.{map-append, length-map, take-append-drop, take-take}

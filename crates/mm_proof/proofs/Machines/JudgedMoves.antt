@@ -2,9 +2,9 @@
 -- verdict.
 use Rattle.std.proofs.Common.{◌≡◌, ℕ, zero, suc, ◌+◌, ◌<◌, ◌-◌, List, [], ◌∷◌, ◌++◌, length, Result}
 use Rattle.std.proofs.Common.{Err, take, drop, slice_get, Some, cond, refl, sym, ap, subst, ◌∙◌}
-use Rattle.std.proofs.Common.{arith, Contains, ◌↔◌, inl, inr, Ok, IfOk, IfErr}
+use Rattle.std.proofs.Common.{arith, Contains, ◌↔◌, inl, inr}
 use Rattle.std.specs.Result.{IsErrAnd}
-use Rattle.std.proofs.lemmas.Result.{err_from_is_err_and, IfOk-at_ok, IfErr-at_err}
+use Rattle.std.proofs.lemmas.Result.{err_from_is_err_and}
 use Rattle.std.proofs.lemmas.List.{map-append, length-append, length-map}
 use Rattle.mm_text.proofs.Lists.{all_push, all_at, all_back, zip_left, zip_front, split_at}
 use Rattle.mm_text.proofs.Lists.{zip_take, all_weaker, get_from_take, zip_each}

@@ -1,5 +1,4 @@
-use Rattle.std.proofs.Common.{◌-◌, get_or, refl, sym, ap, subst, ◌∙◌, arith}
-use Rattle.mm_proof.specs.Moves.{again}
+use Rattle.std.proofs.Common.{◌-◌, get_or, refl, sym, subst, arith}
 use Rattle.mm_proof.proofs.ProofVerdicts.FirstFault.{handed}
 use Rattle.mm_proof.proofs.ProofTokens.ProofCodes.{entry_there, tag_there, comes_next, goes_on}
 use Rattle.mm_proof.proofs.ProofTokens.ProofCodes.{stops_at}

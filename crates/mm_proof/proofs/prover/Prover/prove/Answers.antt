@@ -5,7 +5,7 @@ use Rattle.mm_frame.proofs.Meant.{allformed_front}
 use Rattle.std.proofs.Common.{◌≡◌, Ok, Err, sym, ap, ◌∙◌}
 use Rattle.mm_proof.specs.declared.fault.ProofFault.TheVariants.{Rule}
 use Rattle.mm_proof.specs.declared.prover.Proved.{Proved}
-use Rattle.mm_proof.specs.declared.prover.Proved.TheVariants.{Complete, Incomplete}
+use Rattle.mm_proof.specs.declared.prover.Proved.TheVariants.{Complete}
 use Rattle.mm_proof.specs.Plain.{ids_in, token_texts}
 use Rattle.mm_proof.proofs.ProofTokens.QuestionMarks.{proved_known, said_known}
 use Rattle.mm_proof.proofs.ProofVerdicts.ProfileVerdicts.{accepted_under, refused_under}
