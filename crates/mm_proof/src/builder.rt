@@ -153,7 +153,8 @@ fn build_moves<B: Builder>(
     requires made { MakeTreeAt book.now.statements (moves_of entries.now codes.now) }
     requires nothing { B.holds builder.old builder.old book.now.statements [] none [] [] 0 }
     requires marks { (now : B) → KeepsItem (B.holds builder.old now book.now.statements) }
-    ensures built { IfOk result (λ item. (m : MakeTreeAt book.now.statements (moves_of entries.now codes.now))
+    ensures built { IfOk result (λ item.
+        (m : MakeTreeAt book.now.statements (moves_of entries.now codes.now))
         → IsBuilt (B.holds builder.old builder.new book.now.statements) m.names
         (tree m.label m.below none) item) }
     ensures long { IfErr result (λ fault. B.is_long fault
@@ -175,7 +176,7 @@ fn build_moves<B: Builder>(
 
 /// The item of the tree that the steps of the `$p` with this number make. The builder is handed in
 /// empty. A mark does not change it: what it holds of the last tree holds of it as a kept one too.
-#[tactic(auto, using(crate::proofs::Machines::JudgedMoves::seen_moves, crate::proofs::Machines::Building::make_tree_at))]
+#[tactic(auto, using(crate::proofs::Machines::Building::tree_steps))]
 pub(crate) fn build<B: Builder>(
     alloc: Global,
     builder: &mut B,

@@ -1,7 +1,7 @@
 //! The strict form of a compressed proof: P15 (the Metamath book, appendix B).
 
-ghost use Rattle.std.specs.Prelude.{◌≡◌, ◌↔◌, ◌<◌, ℕ, List, Contains, All, IsTrue, IfOk, IfErr, OnOk};
-ghost use Rattle.std.specs.Prelude.{length, take, Err, true, false};
+ghost use Rattle.std.specs.Prelude.{◌≡◌, ◌↔◌, ◌<◌, ℕ, List, Contains, All, IsTrue, IfOk, IfErr};
+ghost use Rattle.std.specs.Prelude.{OnOk, length, take, Err, true, false};
 ghost use Rattle.std.specs.List.{AllByRecursion};
 ghost use Rattle.mm_code.specs.Letters.{HasSpelling};
 ghost use Rattle.mm_proof.specs.Answer.{OnRule};
@@ -122,7 +122,8 @@ pub(crate) fn judge_form(
         → IsCompressed (token_texts tokens.now) labels letters
         → AreFor site.now.statements site.now.place (ids_in listed.now) labels }
     requires says { OfProof site.now.statements site.now.number (λ place s.
-        SaySteps site.now.statements place s (token_texts tokens.now) (moves_of entries.now codes.now)) }
+        SaySteps site.now.statements place s (token_texts tokens.now)
+        (moves_of entries.now codes.now)) }
     requires steps { AreSteps site.now.statements site.now.number (moves_of entries.now codes.now) }
     requires spelled { All HasSpelling codes.now }
     ensures strict { OnOk result (OfProof site.now.statements site.now.number (λ place s.

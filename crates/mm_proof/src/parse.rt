@@ -337,8 +337,9 @@ fn fill_steps<'a>(
     }
 }
 
-/// Fills the lists with what says the moves of the tokens as a proof of the `$p`, or tells the first of
-/// P1 to P5 that they break, or else P15, where the proof hasn't the form that the profile demands.
+/// Fills the lists with what says the moves of the tokens as a proof of the `$p`, or tells the first
+/// of P1 to P5 that they break, or else P15, where the proof hasn't the form that the profile
+/// demands.
 pub(crate) fn fill_under<'a>(
     alloc: Global,
     lists: &mut ParseLists<'a>,
@@ -352,7 +353,8 @@ pub(crate) fn fill_under<'a>(
         (λ place s. SaySteps site.now.statements place s
         (token_texts tokens.now) (moves_of lists.new.entries.items lists.new.codes.items))) }
     ensures usable { OnOk result
-        (AreSteps site.now.statements site.now.number (moves_of lists.new.entries.items lists.new.codes.items)) }
+        (AreSteps site.now.statements site.now.number
+        (moves_of lists.new.entries.items lists.new.codes.items)) }
 
     // Each code has a spelling.
     ensures spelled { OnOk result (All HasSpelling lists.new.codes.items) }

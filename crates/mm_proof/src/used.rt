@@ -69,7 +69,7 @@ impl Named {
 }
 
 /// Whether the label is that of an assertion.
-#[tactic(auto, using(crate::proofs::ByNumbers::UsedAssertions::assertion_kind, crate::proofs::ByNumbers::UsedAssertions::no_assertion))]
+#[tactic(auto, using(crate::proofs::ByNumbers::UsedAssertions::kind_steps))]
 pub(crate) fn is_assertion(book: &Book, id: LabelId) -> bool
     requires used { (place : ℕ) × (label : List ℕ)
         × MayBeUsed book.now.statements place label id.0 }
@@ -79,7 +79,7 @@ pub(crate) fn is_assertion(book: &Book, id: LabelId) -> bool
 }
 
 /// Makes so many marks, none of which is set.
-#[tactic(auto, using(crate::proofs::ByNumbers::UsedAssertions::marked_none, crate::proofs::ByNumbers::UsedAssertions::none_more))]
+#[tactic(auto, using(crate::proofs::ByNumbers::UsedAssertions::mark_steps))]
 pub(crate) fn unmark(marks: &mut Vec<bool>, count: usize) -> Result<(), AllocError>
     ensures long { OnOk result (length marks.new.items ≡ count) }
     ensures none { OnOk result ((entries : List ℕ) → AreMarked entries [] marks.new.items) }

@@ -106,6 +106,8 @@ none_has ns n i all none has =
     let within : has.0 < length ns = has.1 in
     none has.0 (omega arith) (get_or_default ns has.0 0 n within ∙ has.2)
 
+pub ruleset symbol_steps = (number_at, none_has)
+
 pub symbol_below : (st before : List Sentence) (e : List Sym) (k : ℕ) (d : Sym) → AreDeclaredSymbols st before (numbers_in e) → k < length e → (get_or e k d).0 < length (symbols_of st)
 symbol_below st before e k d all less =
     subst (λ n. n < length (symbols_of st)) (number_at e k d less) (symbol_at st before (numbers_in e) k all (omega (arith, length-map e (λ s. s.0)))).below

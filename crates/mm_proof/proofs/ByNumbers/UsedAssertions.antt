@@ -221,6 +221,8 @@ pub no_assertion : (st : List Sentence) (id : ℕ) (r : LabelKind) → ((s : Sen
 no_assertion st id r kind a p h =
     only_assertions r (subst IsAssertion (kind h.1 (numbered_get st id h.0 h.1 h.2)) h.3) a p
 
+pub ruleset kind_steps = (assertion_kind, no_assertion)
+
 pub listed_at : (xs : List LabelId) (i : ℕ) (d : LabelId) → i < length xs → Contains (ids_in xs) (get_or xs i d).0
 listed_at xs i d less = (
   i,
@@ -318,6 +320,8 @@ none_more [] none zero = refl
 none_more [] none (suc place) = refl
 none_more (m ∷ marks) none zero = none 0
 none_more (m ∷ marks) none (suc place) = none_more marks (λ k. none (suc k)) place
+
+pub ruleset mark_steps = (marked_none, none_more)
 
 pub marked_other : (entries : List ℕ) (front : List (Move ℕ)) (m : Move ℕ) (marks : List Bool) → ((id : ℕ) → m ≡ name id → ⊥) → AreMarked entries front marks
     → AreMarked entries (front ++ m ∷ []) marks

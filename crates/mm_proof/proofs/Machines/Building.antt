@@ -23,7 +23,7 @@ use Rattle.mm_proof.specs.Mirror.Builders.{Holding, MakesItem, IsKept, RepeatsIt
 use Rattle.mm_proof.specs.Mirror.Builders.{IsFull, IsTooLong, MakeTreeAt, IsBuilt, AreItemsAt}
 use Rattle.mm_proof.specs.Mirror.Builders.{AreFirst, HasBuilt, MayGrow}
 use Rattle.mm_proof.proofs.ProofSteps.Derivations.{roots-beside, spelling-beside}
-use Rattle.mm_proof.proofs.Machines.JudgedMoves.{last_split, steps_made, only_entry}
+use Rattle.mm_proof.proofs.Machines.JudgedMoves.{last_split, steps_made, only_entry, seen_moves}
 use Rattle.mm_proof.proofs.ByNumbers.StepByAssertion.{same_use}
 
 -- ---- the word only grows
@@ -71,6 +71,8 @@ make_tree_at st id xs ys place s names label below all steps same proof numbered
   below = below;
   makes = makes;
 }
+
+pub ruleset tree_steps = (seen_moves, make_tree_at)
 
 -- ---- the next move
 
