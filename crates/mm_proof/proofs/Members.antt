@@ -97,7 +97,7 @@ module _ (P : List ℕ → Type 0) (each : ((x : List ℕ) → Dec (P x))) where
       (λ h. ⊎_elim (λ e. inl (rw e h.2)) (λ c. inr (h.0, c, h.2)) (contains_cases y xs h.0 h.1))
       (dec_or (each y) (dec_member xs))
 
-  pub dec_each : (xs : List (List ℕ)) → Dec ((x : List ℕ) → Contains xs x → P x)
+  dec_each : (xs : List (List ℕ)) → Dec ((x : List ℕ) → Contains xs x → P x)
   dec_each [] = yes (λ x h. absurd (let less : h.0 < 0 = h.1 in omega arith))
   dec_each (y ∷ xs) = dec_as
       (λ h x c. elim (contains_cases y xs x c) [ inl e ↦ subst P e h.0 | inr k ↦ h.1 x k ])

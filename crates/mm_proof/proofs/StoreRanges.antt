@@ -2,15 +2,13 @@
 -- buffer.
 use Rattle.std.proofs.Common.{◌≡◌, ℕ, ◌<◌, ◌+◌, ◌-◌, List, [], ◌∷◌, ◌++◌, map, take, drop, length}
 use Rattle.std.proofs.Common.{get_or, option_map, Some, refl, ap, ◌∙◌, arith, zero, suc, ◌≤◌}
-use Rattle.std.proofs.Common.{Result, Ok, Err, sym, subst}
-use Rattle.std.specs.List.{slice_get, slice_range}
+use Rattle.std.proofs.Common.{Result, Ok, Err, sym, subst, slice_get, slice_range, OnOk, OnErr}
 use Rattle.std.proofs.lemmas.List.{take-map, length-map, map-append, append_assoc, drop-map}
 use Rattle.std.proofs.lemmas.List.{drop-drop, take_at, drop_at, length-drop, length-take, take_all}
 use Rattle.std.proofs.lemmas.List.{drop-take, take-take, length-append}
 use Rattle.std.proofs.lemmas.Option.{slice_get-map, slice_get_read, slice_get-get_or}
 use Rattle.std.proofs.lemmas.Option.{get_or_from_slice_get, none-some, same_Some}
 use Rattle.mm_proof.proofs.ByNumbers.NumberedSymbols.{drop_get, no_piece, said_appended}
-use Rattle.std.specs.Result.{OnOk, OnErr}
 use Rattle.mm_frame.specs.declared.number.Sym.{Sym}
 use Rattle.mm_proof.specs.declared.entry.Entry.{Entry}
 use Rattle.mm_proof.specs.Stores.{numbers_in, said_by, all_said_by}
@@ -53,7 +51,7 @@ push-seen f xs x y is =
     cc
 
 -- what is read behind a base is seen as what stands there
-pub read-behind : {X Y : Type 0} (f : X → Y) (xs : List X) (base i : ℕ) (d : X) (e : Y) → base + i < length xs
+read-behind : {X Y : Type 0} (f : X → Y) (xs : List X) (base i : ℕ) (d : X) (e : Y) → base + i < length xs
     → get_or (drop base (map f xs)) i e ≡ f (get_or xs (base + i) d)
 read-behind f xs base i d e less =
     let there : slice_get (drop base (map f xs)) i ≡ Some (f (get_or xs (base + i) d)) =

@@ -21,7 +21,7 @@ use Rattle.mm_proof.specs.Parsed.{OfProof, SaySteps}
 -- ==== labels by their numbers, which rise with the places of their statements, and moves by theirs
 
 -- a number that isn't less is that of no earlier statement
-pub numbers_order_back : (statements : List Sentence) (i j p q : ℕ) (s t : Sentence) → IsNumbered statements i p s → IsNumbered statements j q t → j ≤ i → q ≤ p
+numbers_order_back : (statements : List Sentence) (i j p q : ℕ) (s t : Sentence) → IsNumbered statements i p s → IsNumbered statements j q t → j ≤ i → q ≤ p
 numbers_order_back statements i j p q s t n m le =
     let before = numbered_rise statements i j p q s t n m in grind arith
 

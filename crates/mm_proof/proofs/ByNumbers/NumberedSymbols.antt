@@ -4,10 +4,9 @@ use Rattle.std.proofs.Common.{◌≡◌, ℕ, zero, suc, ◌+◌, ◌<◌, ◌�
 use Rattle.std.proofs.Common.{drop, get_or, slice_get, Bool, eqb, ◌&&◌, Option, unwrap_or, Some}
 use Rattle.std.proofs.Common.{None, IsTrue, refl, sym, ap, ◌∙◌, arith, ⊎_elim, subst, ◌↔◌, map}
 use Rattle.std.proofs.Common.{true, false, MatchBool, is_some, option_map, inl, inr, cond}
-use Rattle.std.proofs.Common.{slice_range}
-use Rattle.std.specs.List.{flat_map, AllByRecursion}
+use Rattle.std.proofs.Common.{slice_range, flat_map, bytes_eq}
+use Rattle.std.specs.List.{AllByRecursion}
 use Rattle.std.specs.Cmp.Lexicographic.{pointwise}
-use Rattle.std.specs.Str.{bytes_eq}
 use Rattle.std.proofs.lemmas.Slice.Eq.{bytes_eq-Decides}
 use Rattle.std.proofs.lemmas.Bool.{cases_Bool, false≢true, cases_lt}
 use Rattle.std.proofs.lemmas.Option.{same_Some, none-some, slice_get-get_or, slice_get_within}
@@ -98,12 +97,12 @@ front_of symbols front begin n rest b count e =
 -- ---- saying, one piece after the other
 
 module _ {X : Type 0} (f : X → List ℕ) (pieces : List X) (i : ℕ) where
-  pub said_more : (d : X) → i < length pieces
+  said_more : (d : X) → i < length pieces
       → flat_map f (take (i + 1) pieces) ≡ flat_map f (take i pieces) ++ f (get_or pieces i d)
   said_more d less = rw (take_more pieces i d less, flat_map-append, append-nil)
 
   -- the whole goes on behind a front
-  pub said_whole : flat_map f pieces ≡ flat_map f (take i pieces) ++ flat_map f (drop i pieces)
+  said_whole : flat_map f pieces ≡ flat_map f (take i pieces) ++ flat_map f (drop i pieces)
   said_whole = ap (flat_map f) (sym (take-append-drop i pieces)) ∙ flat_map-append f (take i pieces) (drop i pieces)
 
 module _ {X : Type 0} (f : X → List ℕ) (pieces : List X) (i : ℕ) (d : X) (whole rest : List ℕ) where
@@ -169,7 +168,7 @@ piece_within vs n count (Symbol symbol) size is = tt
 piece_within vs n count (Value place) size is = let within = is.within in omega (arith, within, size)
 
 -- a pattern names no place behind the hypotheses
-pub pattern_within : (vs : List (Option ℕ)) (count : ℕ) (ns : List ℕ) (pieces : List Piece) → length vs ≡ count → ArePieces vs ns pieces → AllByRecursion (IsWithinPlaces count) pieces
+pattern_within : (vs : List (Option ℕ)) (count : ℕ) (ns : List ℕ) (pieces : List Piece) → length vs ≡ count → ArePieces vs ns pieces → AllByRecursion (IsWithinPlaces count) pieces
 pattern_within vs count [] [] size are = tt
 pattern_within vs count (n ∷ ns) (p ∷ pieces) size are = (piece_within vs n count p size are.0, pattern_within vs count ns pieces size are.1)
 pattern_within vs count ns pieces size are = absurd are
@@ -354,7 +353,7 @@ variable_not st (Some m) h n is none = ⊎_elim
     (λ e. e) (cases_Bool (eqb m n))
 
 -- what replaces a symbol
-pub value_named : OneNumber → (st : List Sentence) (vs : List (Option ℕ)) (hs : List Sentence) (es : List (List ℕ)) (n : ℕ) → AreVariablesOf st vs hs → n < length (symbols_of st)
+value_named : OneNumber → (st : List Sentence) (vs : List (Option ℕ)) (hs : List Sentence) (es : List (List ℕ)) (n : ℕ) → AreVariablesOf st vs hs → n < length (symbols_of st)
     → replaced_by hs (all_names_at st es) (name_at st n) ≡ option_map (names_at st) (value_of vs es n)
 value_named one st [] (h ∷ hs) es n are below = absurd are
 value_named one st (v ∷ vs) [] es n are below = absurd are

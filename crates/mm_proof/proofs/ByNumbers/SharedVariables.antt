@@ -53,12 +53,12 @@ pub symbol_at : (st before : List Sentence) (ns : List ℕ) (k : ℕ) → AreDec
 symbol_at st before ns k all less = within_at (IsSymbol st before) ns k 0 all less
 
 -- a variable of all statements that was declared before is a variable of those before
-pub variable_before : (st : List Sentence) (place n : ℕ) → AllMeant st → IsSymbol st (take place st) n → IsVariable st (name_at st n) → ¬ (¬ (IsVariable (take place st) (name_at st n)))
+variable_before : (st : List Sentence) (place n : ℕ) → AllMeant st → IsSymbol st (take place st) n → IsVariable st (name_at st n) → ¬ (¬ (IsVariable (take place st) (name_at st n)))
 variable_before st place n all s variable none =
     s.declared (λ d. ⊎_elim (λ c. one_role st (name_at st n) all (some_later st place (Declares Constants (name_at st n)) c) variable) none d)
 
 -- a name stands among the names as the number does among the numbers
-pub named_has : (st : List Sentence) (ns : List ℕ) (n : ℕ) → Contains ns n → Contains (names_at st ns) (name_at st n)
+named_has : (st : List Sentence) (ns : List ℕ) (n : ℕ) → Contains ns n → Contains (names_at st ns) (name_at st n)
 named_has st ns n (k, less, is) = (
   k,
   omega (arith, less, length-map ns (name_at st)),
@@ -71,7 +71,7 @@ has_named st ns u (k, less, is) =
     (k, within, sym (get_or-map (name_at st) ns k 0 u within) ∙ is)
 
 -- the number at a place is one of the numbers
-pub number_among : (ns : List ℕ) (k : ℕ) → k < length ns → Contains ns (get_or ns k 0)
+number_among : (ns : List ℕ) (k : ℕ) → k < length ns → Contains ns (get_or ns k 0)
 number_among ns k less = (k, less, get_or_default ns k (get_or ns k 0) 0 less)
 
 -- a shared variable

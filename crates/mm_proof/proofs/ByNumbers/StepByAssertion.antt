@@ -1,9 +1,8 @@
 -- The step by an assertion, by numbers and by names: what it breaks, what it makes, over how many
 -- trees.
 use Rattle.std.proofs.Common.{◌≡◌, ℕ, suc, ◌<◌, ◌≤◌, List, [], ◌∷◌, ◌++◌, length, map, take, drop}
-use Rattle.std.proofs.Common.{slice_get, Contains, Option, Some, None}
-use Rattle.std.proofs.Common.{option_map, unwrap_or, ◌⊎◌, inl, inr, ⊎_elim, refl, sym, ap, subst}
-use Rattle.std.proofs.Common.{◌∙◌, arith}
+use Rattle.std.proofs.Common.{slice_get, Contains, Option, Some, None, option_map, unwrap_or, ◌⊎◌}
+use Rattle.std.proofs.Common.{inl, inr, ⊎_elim, refl, sym, ap, subst, ◌∙◌, arith}
 use Rattle.std.specs.List.{AllByRecursion}
 use Rattle.std.proofs.lemmas.Option.{same_Some, slice_get_within, get_or_from_slice_get}
 use Rattle.std.proofs.lemmas.Option.{slice_get-get_or}
@@ -290,7 +289,7 @@ known_from st place (n ∷ ns) (x ∷ xs) are known =
     )
 
 -- the symbols of a statement before the place were declared before it
-pub known_symbols : (st : List Sentence) (place at : ℕ) (s : Sentence) (pattern : List ℕ) → AllMeant st → slice_get st at ≡ Some s → at < place → IsUse s.kind → AreNumbers st pattern s.symbols
+known_symbols : (st : List Sentence) (place at : ℕ) (s : Sentence) (pattern : List ℕ) → AllMeant st → slice_get st at ≡ Some s → at < place → IsUse s.kind → AreNumbers st pattern s.symbols
     → AreDeclaredSymbols st (take place st) pattern
 known_symbols st place at s pattern all there less in_use numbers =
     known_from st place pattern s.symbols numbers (λ x has none. meant_at st at s all there M7 (

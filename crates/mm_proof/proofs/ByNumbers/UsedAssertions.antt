@@ -122,7 +122,7 @@ labels_from before (move ∷ moves) a b k l inside m x h =
     (labels_from before moves m.0 b m.1 l g.kept_in m.3 x h)
 
 -- the labels in the trees are those of the moves
-pub labels_of_moves : (before : List Sentence) (moves : List (Move (List ℕ))) (row : Trees) (kept : List Trees) → Makes before moves none [] row kept
+labels_of_moves : (before : List Sentence) (moves : List (Move (List ℕ))) (row : Trees) (kept : List Trees) → Makes before moves none [] row kept
     → (label : List ℕ) → Contains (spelling row) label ↔ IsStepOf moves label
 labels_of_moves before moves row kept m label = (
   λ h. ⊎_elim (λ c. absurd (let less : suc c.0 ≤ 0 = c.1 in omega arith)) (λ s. s) (labels_from before moves none row [] kept tt m label h),

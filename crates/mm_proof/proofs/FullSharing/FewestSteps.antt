@@ -2,8 +2,8 @@
 -- child.
 use Rattle.std.proofs.Common.{◌≡◌, ℕ, ◌+◌, ◌<◌, ◌≤◌, List, [], ◌∷◌, ◌++◌, take, drop, suc, cond}
 use Rattle.std.proofs.Common.{◌⊎◌, inl, inr, ⊎_elim, refl, sym, ap, subst, ◌∙◌, arith, length}
-use Rattle.std.proofs.Common.{append_assoc}
-use Rattle.std.specs.List.{AllZip, sum_by}
+use Rattle.std.proofs.Common.{append_assoc, sum_by}
+use Rattle.std.specs.List.{AllZip}
 use Rattle.std.proofs.lemmas.Bool.{cases_lt}
 use Rattle.std.proofs.lemmas.List.{length-append}
 use Rattle.std.proofs.lemmas.List.Sums.{sum_by-cons, sum_by-append}
@@ -57,7 +57,7 @@ said_steps labels (code ∷ codes) (move ∷ moves) p =
 said_steps labels codes moves p = absurd p
 
 -- each step adds a tree, and takes the children of what it makes
-pub steps_children : (before : List Sentence) (moves : List (Move (List ℕ))) (row : Trees)
+steps_children : (before : List Sentence) (moves : List (Move (List ℕ))) (row : Trees)
     (kept : List Trees) (row' : Trees) (kept' : List Trees)
     (m : Makes before moves row kept row' kept') → AreOnes kept
     → steps_in moves + roots row ≡ roots row' + sum_by children
@@ -137,7 +137,7 @@ subtrees_made P before (mark ∷ moves) row kept row' kept' m has keeps_all made
 
 module _ (before : List Sentence) where
   -- what stands in a row stands in what is made of it
-  pub sub_stays : (moves : List (Move (List ℕ))) (row : Trees) (kept : List Trees) (row' : Trees)
+  sub_stays : (moves : List (Move (List ℕ))) (row : Trees) (kept : List Trees) (row' : Trees)
       (kept' : List Trees) → Makes before moves row kept row' kept' → (u : Trees) → IsSubtree row u
       → IsSubtree row' u
   sub_stays [] row kept row' kept' m u h = rw m.0 h
@@ -167,7 +167,7 @@ module _ (before : List Sentence) where
 -- ---- big trees
 
 -- a small tree has no children
-pub small_children : (t : Trees) → nodes t < 2 → children t ≡ 0
+small_children : (t : Trees) → nodes t < 2 → children t ≡ 0
 small_children (tree label (tree l b r) right) small =
     absurd (omega (arith, simp length-append at small))
 small_children t small = refl

@@ -104,7 +104,7 @@ module _ (labels : List (List ℕ)) where
       (λ a. ⊎_elim (λ b. absurd (cc (a.2, b.2))) (λ b. cc (a.1, a.2, b.1, b.2)) q.2) p.2 in
       ap Number (omega (arith, p.1, q.1, place))
 
-  pub codes_once : (codes codes' : List Code) (moves : List (Move (List ℕ))) → Once labels
+  codes_once : (codes codes' : List Code) (moves : List (Move (List ℕ))) → Once labels
       → AllZip (Says labels) codes moves → AllZip (Says labels) codes' moves → codes ≡ codes'
   codes_once [] [] [] once p q = refl
   codes_once (c ∷ codes) codes' [] once p q = absurd p
@@ -116,7 +116,7 @@ module _ (labels : List (List ℕ)) where
 -- ---- the laws
 
 -- the labels of the mandatory hypotheses are determined
-pub same_mandatory : (before : List Sentence) (s : Sentence) (listed listed' : List (List ℕ))
+same_mandatory : (before : List Sentence) (s : Sentence) (listed listed' : List (List ℕ))
     (codes codes' : List Code) (moves moves' : List (Move (List ℕ)))
     (p : PairSays before s listed codes moves) (q : PairSays before s listed' codes' moves')
     → p.labels ≡ q.labels
@@ -146,7 +146,7 @@ one_packed_holds before s label below listed listed' codes codes' all p q = one_
     (tree label below none) listed listed' codes codes' all p q
 
 -- the same pair says the same moves, and these make the same
-pub same_made : (before : List Sentence) (s : Sentence) (trees trees' : Trees)
+same_made : (before : List Sentence) (s : Sentence) (trees trees' : Trees)
     (listed listed' : List (List ℕ)) (codes codes' : List Code) → AllMeant before
     → IsPacked before s trees listed codes
     → IsPacked before s trees' listed' codes' → listed ≡ listed' → codes ≡ codes' → trees ≡ trees'

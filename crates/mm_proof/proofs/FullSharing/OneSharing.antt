@@ -49,7 +49,7 @@ covers_apart (tree label below right) b v p =
 
 module _ (label : List ℕ) (below : Trees) where
   -- one tree, made or repeated
-  pub covers_made_one : (v : List Visit) → Covers below v
+  covers_made_one : (v : List Visit) → Covers below v
       → Covers (tree label below none) (v ++ makes (tree label below none) ∷ [])
   covers_made_one v p =
       let steps : List Visit = v ++ makes (tree label below none) ∷ [] in
@@ -133,7 +133,7 @@ repeated_or_made made inner t c d =
     (careful_apart made inner (makes t ∷ []) d).1.0 (c.0.0, after_has made inner t c.0.1)
 
 -- such steps are determined by what they cover
-pub one_cover : (trees : Trees) (made : List Trees) (v w : List Visit) → Covers trees v
+one_cover : (trees : Trees) (made : List Trees) (v w : List Visit) → Covers trees v
     → Covers trees w → Careful made v → Careful made w → v ≡ w
 one_cover none made v w p q c d = p ∙ sym q
 one_cover (tree label below right) made v w p q c d =
@@ -185,7 +185,7 @@ visit_made [] t h = absurd h
 visit_made (x ∷ v) t h = let ih = visit_made v t in grind arith
 
 -- tidy visits are careful steps
-pub tidy_careful : (v done : List Visit) → KeepsMade done → Tidy done v
+tidy_careful : (v done : List Visit) → KeepsMade done → Tidy done v
     → Careful (trees_made done) (strip v)
 tidy_careful [] done k c = tt
 tidy_careful (makes t ∷ v) done k c =
@@ -234,7 +234,7 @@ module _ (whole : List Visit) where
       × (v ≡ repeats t ∷ rest)
   Marked (keeps t ∷ steps) v = ⊥
 
-  pub marked_once : (steps v w : List Visit) → Marked steps v → Marked steps w → v ≡ w
+  marked_once : (steps v w : List Visit) → Marked steps v → Marked steps w → v ≡ w
   marked_once [] v w p q = cc
   marked_once (keeps t ∷ steps) v w p q = absurd p
   marked_once (x ∷ steps) v w p q =
@@ -246,7 +246,7 @@ unmark (keeps t ∷ v) = v
 unmark v = v
 
 -- a mark follows only what is made, so that one behind something else is none
-pub tidy_marked : (whole v done : List Visit) → KeepsMade done
+tidy_marked : (whole v done : List Visit) → KeepsMade done
     → ((t : Trees) → In done (repeats t) → In done (keeps t)) → Tidy done v
     → ((t : Trees) → In whole (repeats t) → In done (repeats t) ⊎ In v (repeats t))
     → ((t : Trees) → In v (keeps t) → In whole (repeats t))
@@ -309,7 +309,7 @@ tidy_once (keeps t ∷ v) done c = (
 tidy_once (x ∷ v) done c = tidy_once v (x ∷ done) c.1
 
 -- no mark comes first
-pub bare_front : (v : List Visit) → Tidy [] v → unmark v ≡ v
+bare_front : (v : List Visit) → Tidy [] v → unmark v ≡ v
 bare_front (keeps t ∷ v) c = absurd (let e : [] ≡ makes t ∷ c.1.0 = c.1.1 in cc)
 bare_front v c = refl
 
@@ -390,7 +390,7 @@ just_done (y ∷ done) v j x long there =
 
 module _ (before : List Sentence) where
   -- where what is kept so far was kept by a mark that is done
-  pub tidy_of : (moves : List (Move (List ℕ))) (row : Trees) (kept : List Trees) (row' : Trees)
+  tidy_of : (moves : List (Move (List ℕ))) (row : Trees) (kept : List Trees) (row' : Trees)
       (kept' : List Trees) (m : Makes before moves row kept row' kept') (done : List Visit)
       → ((t : Trees) → In kept t → In done (keeps t))
       → MakeOnce (onto done (visits before moves row kept row' kept' m))
@@ -427,7 +427,7 @@ module _ (before : List Sentence) where
 
   -- ---- the moves are told by what they do
 
-  pub moves_once : (moves moves' : List (Move (List ℕ))) (row row₂ : Trees)
+  moves_once : (moves moves' : List (Move (List ℕ))) (row row₂ : Trees)
       (kept kept₂ : List Trees) (row' row₂' : Trees) (kept' kept₂' : List Trees)
       (m : Makes before moves row kept row' kept') (n : Makes before moves' row₂ kept₂ row₂' kept₂')
       → kept ≡ kept₂ → kept' ≡ kept₂' → StandOnce kept₂'
@@ -479,7 +479,7 @@ module _ (before : List Sentence) (trees : Trees) (moves : List (Move (List ℕ)
   shared_tidy =
       tidy_of before moves none [] trees s.kept s.made [] (λ t h. absurd h) s.once s.marked
 
-  pub shared_careful : Careful [] (strip course)
+  shared_careful : Careful [] (strip course)
   shared_careful = tidy_careful course [] (λ t h. absurd h) shared_tidy
 
   -- what is kept is repeated
@@ -493,7 +493,7 @@ module _ (before : List Sentence) (trees : Trees) (moves : List (Move (List ℕ)
       let g = again_visit before moves none [] trees s.kept s.made at.0 tag in
       let same : g.0 ≡ t = cc in rw same at g.2
 
-  pub shared_marked : Marked (strip course) (strip course) course
+  shared_marked : Marked (strip course) (strip course) course
   shared_marked = rw (bare_front course shared_tidy) at
       (tidy_marked (strip course) course [] (λ t h. absurd h) (λ t h. absurd h) shared_tidy
       (λ t h. inr (strip_repeats course t h))

@@ -42,7 +42,7 @@ module _ (before : List Sentence) where
 
 -- ---- visits apart
 
-pub marked_apart : (whole x y v : List Visit) → Marked whole (x ++ y) v → (a : List Visit)
+marked_apart : (whole x y v : List Visit) → Marked whole (x ++ y) v → (a : List Visit)
     × (b : List Visit) × (v ≡ a ++ b) × Marked whole x a × Marked whole y b
 marked_apart whole [] y v m = ([], v, refl, refl, m)
 marked_apart whole (makes t ∷ x) y v m =
@@ -131,7 +131,7 @@ module _ (before : List Sentence) (whole : List Visit) where
         led = ((beside row t, kept, (t, at.1, refl, refl), (refl, refl)), sym e);
       }
 
-  pub leads_to : (trees row : Trees) (kept : List Trees) (steps done v : List Visit)
+  leads_to : (trees row : Trees) (kept : List Trees) (steps done v : List Visit)
       → TreesFit before trees → Covers trees steps → Marked whole steps v → Tidy done v
       → HasKept done kept → Leads before row kept (beside row trees) v
   leads_to none row kept steps done v fit covers m c has =

@@ -2,8 +2,7 @@
 -- verdict.
 use Rattle.std.proofs.Common.{◌≡◌, ℕ, zero, suc, ◌+◌, ◌<◌, ◌-◌, List, [], ◌∷◌, ◌++◌, length, Result}
 use Rattle.std.proofs.Common.{Err, take, drop, slice_get, Some, cond, refl, sym, ap, subst, ◌∙◌}
-use Rattle.std.proofs.Common.{arith, Contains, ◌↔◌, inl, inr}
-use Rattle.std.specs.Result.{IsErrAnd}
+use Rattle.std.proofs.Common.{arith, Contains, ◌↔◌, inl, inr, IsErrAnd}
 use Rattle.std.proofs.lemmas.Result.{err_from_is_err_and}
 use Rattle.std.proofs.lemmas.List.{map-append, length-append, length-map}
 use Rattle.mm_text.proofs.Lists.{all_push, all_at, all_back, zip_left, zip_front, split_at}
@@ -78,7 +77,7 @@ same_steps st xs moves z = absurd z
 -- ---- one move more
 
 -- no moves, and an empty store
-pub run_none : (limit : ℕ) (st : List Sentence) (place : ℕ) (stack kept : List (List ℕ)) → stack ≡ [] → kept ≡ [] → HasRun limit st place [] stack kept 0
+run_none : (limit : ℕ) (st : List Sentence) (place : ℕ) (stack kept : List (List ℕ)) → stack ≡ [] → kept ≡ [] → HasRun limit st place [] stack kept 0
 run_none limit st place stack kept empty none_kept = rw (empty, none_kept) (record {
   count = refl;
   passed = λ moves numbered. nothing moves numbered;
@@ -267,7 +266,7 @@ module _ (st : List Sentence) (place id : ℕ) (s : Sentence) (label : List ℕ)
       let same = same_Some t s (sym f.1 ∙ ap (slice_get st) one ∙ p.1.there) in
       (same, subst (λ k. IsNumbered st id k s) (sym one) p.1, f.0)
 
-  pub may_be_used : AllMeant st → slice_get (labelled_sentences st) id ≡ Some s → IsLabelled label s
+  may_be_used : AllMeant st → slice_get (labelled_sentences st) id ≡ Some s → IsLabelled label s
       → IsUsable (take place st) label → MayBeUsed st place label id
   may_be_used all there is (inl h) =
       let u = labelled_there h.0 h.1 all there is h.2 h.4.0 in

@@ -37,7 +37,7 @@ use Rattle.mm_proof.proofs.Machines.JudgedMoves.{last_split, same_steps, named_p
 -- ---- a list with one element more
 
 -- an element is an old one or the new one
-pub old_or_new : {X : Type 0} (xs : List X) (x y : X) (i : ℕ) → slice_get (xs ++ x ∷ []) i ≡ Some y
+old_or_new : {X : Type 0} (xs : List X) (x y : X) (i : ℕ) → slice_get (xs ++ x ∷ []) i ≡ Some y
     → ((i < length xs) × (slice_get xs i ≡ Some y)) ⊎ ((i ≡ length xs) × (x ≡ y))
 old_or_new xs x y i e =
     ⊎_elim (λ there. inl (slice_get_within xs i y there, there)) inr (pushed_cases xs x i y e)
@@ -45,7 +45,7 @@ old_or_new xs x y i e =
 -- ---- steps
 
 -- one step is one
-pub one_step : {X : Type 0} (move : Move X) → is_step move ≡ true → steps_in (move ∷ []) ≡ 1
+one_step : {X : Type 0} (move : Move X) → is_step move ≡ true → steps_in (move ∷ []) ≡ 1
 one_step mark is = absurd (false≢true is)
 one_step move is = refl
 
@@ -61,7 +61,7 @@ step_before moves i move there is =
 -- ---- tags
 
 -- a tag stands where it stood, whatever comes
-pub stands_later : {X : Type 0} (moves more : List (Move X)) (tag step : ℕ) → StandsAfter moves tag step → StandsAfter (moves ++ more) tag step
+stands_later : {X : Type 0} (moves more : List (Move X)) (tag step : ℕ) → StandsAfter moves tag step → StandsAfter (moves ++ more) tag step
 stands_later {X} moves more tag step s =
     let within : step + tag < length moves = slice_get_within moves (step + tag) mark s.0 in
     (get_kept moves more (step + tag) mark s.0, ap steps_in (take-append-le (step + tag) moves more (omega arith)) ∙ s.1)
@@ -69,7 +69,7 @@ stands_later {X} moves more tag step s =
 -- ---- what is listed
 
 -- a step more
-pub listed_step : (before : List Sentence) (moves : List (Move (List ℕ))) (move : Move (List ℕ)) (steps : List ListedStep) (step : ListedStep) → AreListed before moves steps
+listed_step : (before : List Sentence) (moves : List (Move (List ℕ))) (move : Move (List ℕ)) (steps : List ListedStep) (step : ListedStep) → AreListed before moves steps
     → is_step move ≡ true → IsListed before moves move step → AreListed before (moves ++ move ∷ []) (steps ++ step ∷ [])
 listed_step before moves move steps step listed is new = record {
   count =
@@ -93,7 +93,7 @@ listed_step before moves move steps step listed is new = record {
 }
 
 -- a mark more
-pub listed_mark : (before : List Sentence) (moves : List (Move (List ℕ))) (steps : List ListedStep) → AreListed before moves steps → AreListed before (moves ++ mark ∷ []) steps
+listed_mark : (before : List Sentence) (moves : List (Move (List ℕ))) (steps : List ListedStep) → AreListed before moves steps → AreListed before (moves ++ mark ∷ []) steps
 listed_mark before moves steps listed = record {
   count = omega (arith, listed.count, steps_in-append moves (mark ∷ []));
   each = λ place m s there is_one is. ⊎_elim
@@ -107,7 +107,7 @@ listed_mark before moves steps listed = record {
 -- ---- what moves that passed leave
 
 -- the last expression is derived by the last tree
-pub last_made : (Fits : List (List ℕ) → Type 0) (before : List Sentence) (moves : List (Move (List ℕ))) (rest kept : List (List (List ℕ))) (e : List (List ℕ))
+last_made : (Fits : List (List ℕ) → Type 0) (before : List Sentence) (moves : List (Move (List ℕ))) (rest kept : List (List (List ℕ))) (e : List (List ℕ))
     → Passed Fits before moves (rest ++ e ∷ []) kept → MakeLast before moves e
 last_made Fits before moves rest kept e passed =
     let h = derive_halves Fits before passed.trees rest (e ∷ []) passed.derived in
@@ -122,7 +122,7 @@ last_made Fits before moves rest kept e passed =
     }
 
 -- a step by a label leaves something
-pub name_leaves : (Fits : List (List ℕ) → Type 0) (before : List Sentence) (moves : List (Move (List ℕ))) (label : List ℕ) (stack kept : List (List (List ℕ)))
+name_leaves : (Fits : List (List ℕ) → Type 0) (before : List Sentence) (moves : List (Move (List ℕ))) (label : List ℕ) (stack kept : List (List (List ℕ)))
     → Passed Fits before (moves ++ name label ∷ []) stack kept → 0 < length stack
 name_leaves Fits before moves label stack kept passed =
     let s = makes_split before moves (name label ∷ []) none passed.trees [] passed.shelf passed.made in
@@ -133,7 +133,7 @@ name_leaves Fits before moves label stack kept passed =
     omega arith
 
 -- a step by a tag does too, and the tag is that of something kept
-pub again_leaves : (Fits : List (List ℕ) → Type 0) (before : List Sentence)
+again_leaves : (Fits : List (List ℕ) → Type 0) (before : List Sentence)
     (moves : List (Move (List ℕ))) (tag : ℕ) (stack kept : List (List (List ℕ)))
     → Passed Fits before (moves ++ again tag ∷ []) stack kept
     → (tag < length kept) × (0 < length stack)
@@ -156,7 +156,7 @@ again_leaves Fits before moves tag stack kept passed =
 -- ---- numbers and names
 
 -- the names of symbols by their numbers
-pub numbers_named : (st : List Sentence) (ns : List ℕ) → AreBelow st ns → AreNumbers st ns (names_at st ns)
+numbers_named : (st : List Sentence) (ns : List ℕ) → AreBelow st ns → AreNumbers st ns (names_at st ns)
 numbers_named st [] below = refl
 numbers_named st (n ∷ ns) below =
     let here = number_of_name st n below.0 in

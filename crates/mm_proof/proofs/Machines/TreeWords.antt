@@ -3,7 +3,8 @@
 use Rattle.std.proofs.Common.{◌≡◌, ℕ, suc, ◌+◌, ◌-◌, ◌≤◌, List, [], ◌∷◌, ◌++◌, length, drop, refl}
 use Rattle.std.proofs.Common.{sym, ap, subst, ◌∙◌, append_assoc, append-nil, arith, zero, map}
 use Rattle.std.proofs.Common.{slice_get, Some, option_map, ◌⊎◌, inl, inr, ⊎_elim, ◌↔◌, Result, Err}
-use Rattle.std.specs.List.{AllZip, slice_range, AllByRecursion}
+use Rattle.std.proofs.Common.{slice_range, IsErrAnd, IsOkUnless}
+use Rattle.std.specs.List.{AllZip, AllByRecursion}
 use Rattle.std.proofs.lemmas.Option.{same_Some, none-some, slice_get-map}
 use Rattle.std.proofs.lemmas.List.{length-append, map-append}
 use Rattle.std.proofs.Math.Seq.{take-append_seam, drop-append_seam}
@@ -27,7 +28,6 @@ use Rattle.mm_proof.specs.Proof.{IsWithin, IsWhole, Prove, IsProvedWithin}
 use Rattle.mm_proof.specs.Laws.{OneWord, MadeByWord, ProveByWord, ByWord, IsSpelledWithin}
 use Rattle.mm_proof.specs.Laws.{BySpelling}
 use Rattle.mm_proof.proofs.ProofTokens.SaidMoves.{normal_or_compressed}
-use Rattle.std.specs.Result.{IsErrAnd, IsOkUnless}
 use Rattle.std.proofs.lemmas.Result.{err_from_is_err_and}
 use Rattle.mm_proof.specs.declared.fault.ExpandFault.{ExpandFault}
 use Rattle.mm_proof.specs.declared.fault.ExpandFault.TheVariants.{L2, Memory}
@@ -373,7 +373,7 @@ word_makes before (move ∷ moves) labels labels' words words' row last kept all
     (rest.0, (front.0, next.kept', next.made, rest.1))
 
 -- moves whose word trees that fit spell make these trees
-pub made_of_word : (before : List Sentence) (moves : List (Move (List ℕ))) (trees : Trees) → AllMeant before → TreesFit before trees → IsWord before moves (spelling trees)
+made_of_word : (before : List Sentence) (moves : List (Move (List ℕ))) (trees : Trees) → AllMeant before → TreesFit before trees → IsWord before moves (spelling trees)
     → (kept : List Trees) × Makes before moves none [] trees kept
 made_of_word before moves trees all fit w =
     word_makes before moves [] (spelling trees) [] w.0 none trees [] all w.1 refl tt (refl, refl) (fit_makes before trees none [] fit)

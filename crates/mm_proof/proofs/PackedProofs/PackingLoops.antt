@@ -353,7 +353,7 @@ pub label_ids-more : (hypotheses : List Hypothesis) (h : Hypothesis) → label_i
 label_ids-more hypotheses h = map-append (λ (i : Hypothesis). i.id.0) hypotheses (h ∷ [])
 
 -- each number was seen or is listed
-pub number_known : (seen numbers listed : List ℕ) (n : ℕ) → AreFirstNumbers seen numbers listed → In numbers n → In seen n ⊎ In listed n
+number_known : (seen numbers listed : List ℕ) (n : ℕ) → AreFirstNumbers seen numbers listed → In numbers n → In seen n ⊎ In listed n
 number_known seen [] listed n u h = absurd h
 number_known seen (m ∷ numbers) listed n (inl u) h =
     let old = contains_in seen m u.0 in
@@ -376,7 +376,7 @@ label_known known listed labels steps t whole first has =
 -- ---- codes
 
 -- one step more
-pub encoded_more : (labels : List ℕ) (repeated kept : List Subtree) (steps : List SharedStep) (codes : List Code) (next : List Subtree) (one : SharedStep) (here : List Code) (kept' : List Subtree)
+encoded_more : (labels : List ℕ) (repeated kept : List Subtree) (steps : List SharedStep) (codes : List Code) (next : List Subtree) (one : SharedStep) (here : List Code) (kept' : List Subtree)
     → AreEncoded labels repeated kept steps codes next → IsEncoded labels repeated next one here kept' → AreEncoded labels repeated kept (steps ++ one ∷ []) (codes ++ here) kept'
 encoded_more labels repeated kept [] codes next one here kept' a is =
     (here, kept', [], ap (λ c. c ++ here) a.0 ∙ sym (append-nil here), subst (λ k. IsEncoded labels repeated k one here kept') a.1 is, (refl, refl))
@@ -384,7 +384,7 @@ encoded_more labels repeated kept (s ∷ steps) codes next one here kept' a is =
     (a.0, a.1, a.2 ++ here, ap (λ c. c ++ here) a.3 ∙ append_assoc a.0 a.2 here, a.4, encoded_more labels repeated a.1 steps a.2 next one here kept' a.5 is)
 
 -- each step tags one tree at most
-pub encoded_few : (labels : List ℕ) (repeated kept : List Subtree) (one : SharedStep) (codes : List Code) (kept' : List Subtree) → IsEncoded labels repeated kept one codes kept' → length kept' ≤ length kept + 1
+encoded_few : (labels : List ℕ) (repeated kept : List Subtree) (one : SharedStep) (codes : List Code) (kept' : List Subtree) → IsEncoded labels repeated kept one codes kept' → length kept' ≤ length kept + 1
 encoded_few labels repeated kept (Repeat t) codes kept' a = let l = ap length a.3 in omega arith
 encoded_few labels repeated kept (Make t) codes kept' a = ⊎_elim (λ p. added p.2) (λ p. let l = ap length p.2 in omega arith) a.2
   where

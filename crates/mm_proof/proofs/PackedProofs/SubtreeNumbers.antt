@@ -2,8 +2,8 @@
 use Rattle.std.proofs.Common.{◌≡◌, ℕ, zero, suc, List, [], ◌∷◌, ◌++◌, Bool, true, false}
 use Rattle.std.proofs.Common.{if◌then◌else◌, slice_get, Some, refl, sym, ap, subst, ◌∙◌, ◌&&◌, eqb}
 use Rattle.std.proofs.Common.{eq-eqb, get_or, Contains, not, inl, inr, length, take, arith, ◌<◌}
-use Rattle.std.proofs.Common.{drop, ◌↔◌}
-use Rattle.std.specs.List.{IsDistinct, list_any, position}
+use Rattle.std.proofs.Common.{drop, ◌↔◌, position}
+use Rattle.std.specs.List.{IsDistinct, list_any}
 use Rattle.std.proofs.lemmas.Map.Keys.{IsDistinct-head, IsDistinct-tail}
 use Rattle.std.proofs.lemmas.Bool.{false≢true, eqb-true, and_parts, and_from}
 use Rattle.std.proofs.lemmas.Option.{same_Some, none-some, slice_get-get_or}
@@ -126,7 +126,7 @@ one_number_of st i j label all a b =
 -- ---- rows
 
 -- a number stands for one row of trees
-pub stands_once : (st : List Sentence) (rows : List Row) (t u : Trees) (n : ℕ) → StandsFor st rows n t → StandsFor st rows n u → t ≡ u
+stands_once : (st : List Sentence) (rows : List Row) (t u : Trees) (n : ℕ) → StandsFor st rows n t → StandsFor st rows n u → t ≡ u
 stands_once st rows none none n a b = refl
 stands_once st rows none (tree m y s) n a b = absurd (let next = b.1.next in omega arith)
 stands_once st rows (tree l x r) none n a b = absurd (let next = a.1.next in omega arith)
@@ -139,7 +139,7 @@ stands_once st rows (tree l x r) (tree m y s) n a b =
     cc
 
 -- a row of trees has one number
-pub number_once : (st : List Sentence) (rows : List Row) (t : Trees) (n m : ℕ) → AllMeant st → AreOnce rows → StandsFor st rows n t → StandsFor st rows m t → n ≡ m
+number_once : (st : List Sentence) (rows : List Row) (t : Trees) (n m : ℕ) → AllMeant st → AreOnce rows → StandsFor st rows n t → StandsFor st rows m t → n ≡ m
 number_once st rows none n m all once a b = a ∙ sym b
 number_once st rows (tree l x r) n m all once a b =
     let label : a.0.first.label ≡ b.0.first.label = one_number_of st a.0.first.label b.0.first.label l all a.2 b.2 in

@@ -2,8 +2,7 @@
 -- derives.
 use Rattle.std.proofs.Common.{◌≡◌, ℕ, ◌<◌, List, [], ◌∷◌, ◌++◌, map, drop, slice_get, Contains}
 use Rattle.std.proofs.Common.{Some, inl, inr, refl, sym, ap, subst, arith, append_assoc, ⊎_elim}
-use Rattle.std.proofs.Common.{zero, suc, ◌≤◌, length, Option, ◌∙◌}
-use Rattle.std.specs.List.{flat_map}
+use Rattle.std.proofs.Common.{zero, suc, ◌≤◌, length, Option, ◌∙◌, flat_map}
 use Rattle.std.proofs.lemmas.List.Elements.{Contains-append_left, Contains-append_right}
 use Rattle.std.proofs.lemmas.List.Elements.{Contains-append_cases}
 use Rattle.mm_text.proofs.Lists.{contains_from_at, get_before, get_parted, zip_left, mapped_zip}

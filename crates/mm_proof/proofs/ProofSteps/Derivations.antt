@@ -77,7 +77,7 @@ module _ (Fits : List (List ℕ) → Type 0) (before : List Sentence) where
       (d.0 ∷ h.0, h.1, d.2 ∙ ap (λ l. d.0 ∷ l) h.2, (d.0, h.0, refl, d.3, d.4, h.3), h.4)
 
   -- what derives nothing is no tree
-  pub nothing_derives : (trees : Trees) → DeriveAll Fits before trees [] → trees ≡ none
+  nothing_derives : (trees : Trees) → DeriveAll Fits before trees [] → trees ≡ none
   nothing_derives none d = refl
   nothing_derives (tree label below right) d = absurd (let p : [] ≡ d.0 ∷ d.1 = d.2 in cc)
 
@@ -104,7 +104,7 @@ runs_join Fits before [] more a b c r q = subst (λ s. Runs Fits before more s c
 runs_join Fits before (label ∷ labels) more a b c r q = (r.0, r.1, r.2, r.3, runs_join Fits before labels more (r.0 ++ r.1 ∷ []) b c r.4 q)
 
 -- the same steps on the same stack lead to the same stack
-pub runs_once : (Fits Gits : List (List ℕ) → Type 0) (before : List Sentence) (labels : List (List ℕ)) (a b c : List (List (List ℕ))) → AllMeant before
+runs_once : (Fits Gits : List (List ℕ) → Type 0) (before : List Sentence) (labels : List (List ℕ)) (a b c : List (List (List ℕ))) → AllMeant before
     → Runs Fits before labels a b → Runs Gits before labels a c → b ≡ c
 runs_once Fits Gits before [] a b c all r q = r ∙ sym q
 runs_once Fits Gits before (label ∷ labels) a b c all r q =
@@ -199,7 +199,7 @@ module _ (before : List Sentence) (label : List ℕ) (place : ℕ) (assertion : 
 -- ---- what trees derive, their spelling pushes
 
 -- on any stack
-pub derive_runs : (Fits : List (List ℕ) → Type 0) (before : List Sentence) (trees : Trees) (es stack : List (List (List ℕ))) → AllMeant before
+derive_runs : (Fits : List (List ℕ) → Type 0) (before : List Sentence) (trees : Trees) (es stack : List (List (List ℕ))) → AllMeant before
     → DeriveAll Fits before trees es → Runs Fits before (spelling trees) stack (stack ++ es)
 derive_runs Fits before none es stack all d = ap (λ l. stack ++ l) d ∙ append-nil stack
 derive_runs Fits before (tree label below right) es stack all d =
@@ -290,7 +290,7 @@ makes_split before (move ∷ moves) more a c k m r =
     (s.0, s.1, (r.0, r.1, r.2, s.2), s.3)
 
 -- a move makes one thing only
-pub one_made : (before : List Sentence) (move : Move (List ℕ)) (a b c : Trees) (k l m : List Trees) → AllMeant before
+one_made : (before : List Sentence) (move : Move (List ℕ)) (a b c : Trees) (k l m : List Trees) → AllMeant before
     → MakesOne before move a k b l → MakesOne before move a k c m → (b ≡ c) × (l ≡ m)
 one_made before (name label) a b c k l m all r q =
     let width : roots r.1 ≡ roots q.1 = one_width before label r.1 q.1 all r.3 q.3 in

@@ -76,7 +76,7 @@ those_hold P place (y ∷ xs) those i x (inr a) e =
     (suc h.0, h.1, subst (λ k. P k x) at h.2)
 
 -- each of which P holds is one of them
-pub those_have : {X : Type 0} (P : ℕ → X → Type 0) (place : ℕ) (xs those : List X) (j : ℕ) (x : X) → AreThose P place xs those → slice_get xs j ≡ Some x
+those_have : {X : Type 0} (P : ℕ → X → Type 0) (place : ℕ) (xs those : List X) (j : ℕ) (x : X) → AreThose P place xs those → slice_get xs j ≡ Some x
     → P (place + j) x → (i : ℕ) × (slice_get those i ≡ Some x)
 those_have P place [] those j x a e p = absurd (none-some x e)
 those_have P place (y ∷ xs) those zero x (inl a) e p = (0, subst (λ l. slice_get l 0 ≡ Some x) (sym a.2) e)

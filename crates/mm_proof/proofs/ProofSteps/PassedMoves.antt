@@ -222,7 +222,7 @@ pub record Stood (Fits : List (List ℕ) → Type 0) (before : List Sentence) (r
   pub kept_derived : KeepAll Fits before shelf kept
 
 module _ (Fits : List (List ℕ) → Type 0) (before : List Sentence) where
-  pub one_stood : (move : Move (List ℕ)) (a b : Trees) (k l : List Trees) → AllMeant before
+  one_stood : (move : Move (List ℕ)) (a b : Trees) (k l : List Trees) → AllMeant before
       → MakesOne before move a k b l → Stood Fits before b l → Stood Fits before a k
   one_stood (name label) a b k l all m s =
       let t = step_of_tree Fits before m.0 label m.1 s.stack all (subst (λ x. DeriveAll Fits before x s.stack) m.4 s.derived) in
@@ -235,7 +235,7 @@ module _ (Fits : List (List ℕ) → Type 0) (before : List Sentence) where
       let front = zip_front (λ t e. DeriveAll Fits before t (e ∷ [])) k (tree m.1 m.2 none) s.kept (subst (λ x. KeepAll Fits before x s.kept) m.5 s.kept_derived) in
       record { stack = s.stack; kept = front.0; derived = subst (λ x. DeriveAll Fits before x s.stack) m.4 s.derived; kept_derived = front.3 }
 
-  pub all_stood : (moves : List (Move (List ℕ))) (a b : Trees) (k l : List Trees) → AllMeant before
+  all_stood : (moves : List (Move (List ℕ))) (a b : Trees) (k l : List Trees) → AllMeant before
       → Makes before moves a k b l → Stood Fits before b l → Stood Fits before a k
   all_stood [] a b k l all m s = rw (m.0, m.1) at s
   all_stood (move ∷ moves) a b k l all m s = one_stood move a m.0 k m.1 all m.2 (all_stood moves m.0 b m.1 l all m.3 s)

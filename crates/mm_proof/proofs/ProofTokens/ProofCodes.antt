@@ -1,9 +1,9 @@
 -- The list and the codes of a proof as they are read: the entries, and the moves that codes say.
 use Rattle.std.proofs.Common.{◌≡◌, ℕ, suc, ◌+◌, ◌-◌, ◌<◌, ◌≤◌, List, [], ◌∷◌, ◌++◌, length, map}
 use Rattle.std.proofs.Common.{take, drop, slice_get, Contains, All, Bor, Some, Result, Ok, Err, inl}
-use Rattle.std.proofs.Common.{inr, ⊎_elim, refl, sym, ap, subst, ◌∙◌, arith, ◌^◌, get_or}
-use Rattle.std.specs.Prelude.{OnOk}
-use Rattle.std.specs.List.{AllZip, AllByRecursion, flat_map}
+use Rattle.std.proofs.Common.{inr, ⊎_elim, refl, sym, ap, subst, ◌∙◌, arith, ◌^◌, get_or, OnOk}
+use Rattle.std.proofs.Common.{flat_map}
+use Rattle.std.specs.List.{AllZip, AllByRecursion}
 use Rattle.std.proofs.lemmas.Option.{same_Some, slice_get_cases, slice_get-get_or, slice_get-map}
 use Rattle.std.proofs.lemmas.Option.{slice_get_past, slice_get_within}
 use Rattle.std.proofs.lemmas.List.{take-map, drop-map, map_more, length-map, length-take-le}
@@ -225,7 +225,7 @@ pub ruleset letter_steps = (joined_texts, filled_unbroken)
 -- ==== the codes of a proof, one after the other, and what their entries stand for
 
 -- a front with one code more, which is given
-pub codes_front_with : (ids : List ℕ) (said : List Code) (i : ℕ) (d c : Code) → i < length said → get_or said i d ≡ c
+codes_front_with : (ids : List ℕ) (said : List Code) (i : ℕ) (d c : Code) → i < length said → get_or said i d ≡ c
     → take (i + 1) (code_moves ids said) ≡ take i (code_moves ids said) ++ code_move ids c ∷ []
 codes_front_with ids said i d c less is =
     rw (

@@ -49,7 +49,7 @@ pub texts_more : {T : Type 0} (f : T → List ℕ) (labels : List T) (i : ℕ) (
 texts_more f labels i d less = take-map f (i + 1) labels ∙ map_more f labels i d less ∙ ap (λ front. front ++ f (get_or labels i d) ∷ []) (sym (take-map f i labels))
 
 -- a label that is that of an earlier statement is known
-pub known_push : (P : List ℕ → Type 0) (labels : List (List ℕ)) (label : List ℕ) → ((l : List ℕ) → Contains labels l → ¬ (P l)) → ¬ (P label)
+known_push : (P : List ℕ → Type 0) (labels : List (List ℕ)) (label : List ℕ) → ((l : List ℕ) → Contains labels l → ¬ (P l)) → ¬ (P label)
     → (l : List ℕ) → Contains (labels ++ label ∷ []) l → ¬ (P l)
 known_push P labels label all here l has = ⊎_elim (all l) (λ same. subst (λ k. ¬ (P k)) same here) (Contains-push_cases labels label l has)
 
@@ -111,7 +111,7 @@ text_at f tokens i d less = rw (slice_get-map, slice_get-get_or tokens i d less)
 -- ---- labels that may be used
 
 -- each of the labels is that of an earlier statement
-pub for_known : (statements : List Sentence) (place : ℕ) (ids : List ℕ) (labels : List (List ℕ)) (label : List ℕ) → AreFor statements place ids labels
+for_known : (statements : List Sentence) (place : ℕ) (ids : List ℕ) (labels : List (List ℕ)) (label : List ℕ) → AreFor statements place ids labels
     → Contains labels label → (id : ℕ) × MayBeUsed statements place label id
 for_known statements place ids labels label all has =
     let at = at_from_contains labels label has in

@@ -3,8 +3,8 @@
 use Rattle.std.proofs.Common.{◌≡◌, ℕ, zero, suc, ◌+◌, ◌<◌, ◌≤◌, List, [], ◌∷◌, ◌++◌, length, map}
 use Rattle.std.proofs.Common.{take, get_or, slice_get, Some, Bool, true, false, if◌then◌else◌, ◌==◌}
 use Rattle.std.proofs.Common.{append-nil, refl, sym, ap, ◌∙◌, arith, Contains, inl, inr, subst}
-use Rattle.std.proofs.Common.{⊎_elim}
-use Rattle.std.specs.List.{list_any, sum_by, position_or_len, before_first, flat_map}
+use Rattle.std.proofs.Common.{⊎_elim, sum_by, flat_map}
+use Rattle.std.specs.List.{list_any, position_or_len, before_first}
 use Rattle.std.proofs.lemmas.Option.{slice_get_past}
 use Rattle.std.proofs.lemmas.List.{length-take, length-map, get_or-map, take-map, map-append}
 use Rattle.std.proofs.lemmas.List.Folds.{list_any_more, list_all_at, Any-from_list_any}

@@ -2,8 +2,8 @@
 -- labels that may be used.
 use Rattle.std.proofs.Common.{◌≡◌, ℕ, suc, ◌+◌, ◌-◌, ◌<◌, ◌≤◌, List, [], ◌∷◌, ◌++◌, length, drop}
 use Rattle.std.proofs.Common.{map, slice_get, get_or, Contains, Option, Some, ◌⊎◌, inl, inr, ⊎_elim}
-use Rattle.std.proofs.Common.{refl, sym, ap, subst, ◌∙◌, arith}
-use Rattle.std.specs.List.{flat_map, AllZip, AllByRecursion}
+use Rattle.std.proofs.Common.{refl, sym, ap, subst, ◌∙◌, arith, flat_map}
+use Rattle.std.specs.List.{AllZip, AllByRecursion}
 use Rattle.std.proofs.lemmas.Option.{same_Some, none-some, slice_get_within, slice_get-get_or}
 use Rattle.std.proofs.lemmas.Bool.{cases_lt}
 use Rattle.mm_text.specs.declared.statement.Kind.{Kind}
@@ -265,7 +265,7 @@ labelled_kind Provable o label n e = inr (inr refl)
 labelled_kind k o label n e = absurd (none-some label (sym n ∙ e))
 
 -- a label that breaks neither P2 nor P3
-pub label_usable : (before : List Sentence) (tokens labels : List (List ℕ)) (label : List ℕ) → AllFormed before → IsWhole before tokens → AreLabels tokens labels → Contains labels label
+label_usable : (before : List Sentence) (tokens labels : List (List ℕ)) (label : List ℕ) → AllFormed before → IsWhole before tokens → AreLabels tokens labels → Contains labels label
     → IsUsable before label
 label_usable before tokens labels label formed whole are used =
     elim (sentence_dec before (IsLabelled label) (label_dec label)) [

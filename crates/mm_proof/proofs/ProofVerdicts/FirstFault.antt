@@ -3,12 +3,11 @@
 use Rattle.std.proofs.Common.{ℕ, Result, IfErr, subst, sym, ◌≡◌, ◌≢◌, ◌+◌, ◌<◌, List, [], ◌∷◌, ◌++◌}
 use Rattle.std.proofs.Common.{length, slice_get, Some, ◌⊎◌, inl, inr, ⊎_elim, refl, ap, ◌∙◌, arith}
 use Rattle.std.proofs.Common.{zero, suc, ◌-◌, take, drop, get_or, Option, None, append_assoc}
-use Rattle.std.proofs.Common.{append-nil, lt_irrefl, Ok, Err}
+use Rattle.std.proofs.Common.{append-nil, lt_irrefl, Ok, Err, IsErrAnd, IsOkUnless, cond}
 use Rattle.mm_proof.specs.declared.fault.ProofRule.{ProofRule}
 use Rattle.mm_proof.specs.declared.fault.ProofFault.{ProofFault}
 use Rattle.mm_proof.specs.declared.fault.ProofFault.TheVariants.{Rule, Memory}
 use Rattle.mm_proof.specs.Answer.{OnRule, IsUnlessMemory}
-use Rattle.std.specs.Result.{IsErrAnd, IsOkUnless}
 use Rattle.std.proofs.lemmas.Result.{IfErr-weaker, err_from_is_err_and}
 use Rattle.std.proofs.lemmas.Option.{same_Some, none-some, slice_get-get_or, slice_get_within}
 use Rattle.std.proofs.lemmas.Bool.{cases_order, cases_lt}
@@ -45,7 +44,6 @@ use Rattle.mm_proof.proofs.ProofSteps.OneStep.{step_breaks_limit}
 use Rattle.mm_proof.proofs.Members.{those_of, share_dec, apart_dec, some_pair_dec}
 use Rattle.mm_proof.proofs.ProofSteps.Replacements.{meets_of}
 use Rattle.std.proofs.lemmas.List.Sums.{sum_by-append}
-use Rattle.std.specs.Prelude.{cond}
 use Rattle.mm_proof.specs.Mirror.CodeVerify.{EachEntry, IsRightCode, IsEqual}
 
 -- ==== answers that hand a fault on
@@ -97,7 +95,7 @@ end_rule P14 stack e b = inr (refl, ap length b.1, λ same. b.2 (let p : b.0 ∷
 end_rule rule stack e b = absurd b
 
 module _ (Fits : List (List ℕ) → Type 0) (before : List Sentence) where
-  pub proof_no_fault : (s : Sentence) (moves : List (Move (List ℕ))) (rule : ProofRule) (step : ℕ)
+  proof_no_fault : (s : Sentence) (moves : List (Move (List ℕ))) (rule : ProofRule) (step : ℕ)
       → AllMeant before → Prove Fits before s moves → ¬ (IsMovesFault Fits before s moves rule step)
   proof_no_fault s moves rule step all p (inl f) =
       let whole = proof_passed Fits before s moves all p in
@@ -156,7 +154,7 @@ module _ (Fits : List (List ℕ) → Type 0) (before : List Sentence) where
         (grind arith, f.number ∙ sym g.number)
 
     -- of the moves
-    pub one_moves_fault : IsMovesFault Fits before s moves rule step
+    one_moves_fault : IsMovesFault Fits before s moves rule step
         → IsMovesFault Fits before s moves rule' step' → Same rule step rule' step'
     one_moves_fault (inl f) (inl g) = two_moves moves rule rule' step step' all f g
     one_moves_fault (inl f) (inr g) = absurd (longer_passed f.earlier f.move f.later moves f.stack f.kept g.stack g.kept rule all f.parts g.passed f.passed f.fault)
@@ -364,7 +362,7 @@ pub only_P7 : (Fits : List (List ℕ) → Type 0) (before : List Sentence) (stac
 only_P7 Fits before stack kept other less b = absurd (lt_irrefl (proof_rank P7) (subst (λ r. proof_rank r < proof_rank P7) b.0 less))
 
 -- what a move does: it passes, or it breaks a rule first
-pub move_outcome : (Fits : List (List ℕ) → Type 0) (each : (e : List (List ℕ)) → Dec (Fits e)) (before : List Sentence) (earlier : List (Move (List ℕ))) (stack kept : List (List (List ℕ))) (move : Move (List ℕ))
+move_outcome : (Fits : List (List ℕ) → Type 0) (each : (e : List (List ℕ)) → Dec (Fits e)) (before : List Sentence) (earlier : List (Move (List ℕ))) (stack kept : List (List (List ℕ))) (move : Move (List ℕ))
     → AllMeant before → IsUsableMove before move → Passed Fits before earlier stack kept
     → ((stack' : List (List (List ℕ))) × (kept' : List (List (List ℕ)))
     × Passed Fits before (earlier ++ move ∷ []) stack' kept')

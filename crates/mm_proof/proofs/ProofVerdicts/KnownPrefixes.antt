@@ -1,7 +1,7 @@
 -- A known front, the prefix before the first `?`, has one verdict: it is allowed, or it has one
 -- first fault.
 use Rattle.std.proofs.Common.{ℕ, List, [], ◌∷◌, ◌⊎◌, inl, inr, ⊎_elim, refl, sym, subst, ◌∙◌, ◌≡◌}
-use Rattle.std.proofs.Common.{take, Result, Ok, Err}
+use Rattle.std.proofs.Common.{take, Result, Ok, Err, IfOk, IfErr, OnOk, IsOkUnless}
 use Rattle.mm_frame.specs.Sentence.{Sentence}
 use Rattle.mm_frame.specs.Rules.{AllMeant}
 use Rattle.mm_proof.specs.declared.fault.ProofRule.{ProofRule}
@@ -15,7 +15,6 @@ use Rattle.mm_proof.proofs.ProofTokens.SaidMoves.{whole_dec, some_moves, moves_u
 use Rattle.mm_proof.proofs.ProofVerdicts.FirstFault.{first_once, longer_passed, two_moves, Same}
 use Rattle.mm_proof.proofs.ProofVerdicts.FirstFault.{first_or_none, MovesVerdict, moves_verdict}
 use Rattle.mm_proof.proofs.ProofVerdicts.FirstFault.{within_dec}
-use Rattle.std.specs.Result.{IfOk, IfErr, OnOk, IsOkUnless}
 use Rattle.std.proofs.lemmas.Result.{IfOk-at_ok}
 use Rattle.mm_frame.specs.Numbers.{IsNumbered}
 use Rattle.mm_proof.specs.declared.fault.ProofFault.{ProofFault}

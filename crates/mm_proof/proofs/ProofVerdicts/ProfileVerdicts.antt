@@ -1,8 +1,8 @@
 -- Each proof and each known front has one verdict under a profile, and what the strict one adds.
-use Rattle.mm_proof.proofs.ProofTokens.SaidMoves.{compressed_once}
 use Rattle.std.proofs.Common.{◌≡◌, ℕ, List, take, Result, Ok, Err, inl, inr, refl, sym, ◌∙◌, arith}
 use Rattle.std.proofs.Common.{◌+◌, [], ◌∷◌, ◌++◌, length, slice_get, Contains, Some, ap, subst}
-use Rattle.std.specs.Result.{IfOk, IfErr, IsOkUnless}
+use Rattle.std.proofs.Common.{IfOk, IfErr, IsOkUnless}
+use Rattle.mm_proof.proofs.ProofTokens.SaidMoves.{compressed_once, some_moves, moves_once}
 use Rattle.mm_frame.specs.Sentence.{Sentence, SomeSentence, IsLabelled, IsAssertion}
 use Rattle.mm_frame.specs.Rules.{AllMeant}
 use Rattle.mm_frame.proofs.Meant.{allmeant_front}
@@ -41,7 +41,6 @@ use Rattle.mm_frame.proofs.Decided.{dec_or}
 use Rattle.mm_frame.proofs.Those.{mandatory_unique}
 use Rattle.mm_proof.specs.Moves.{Move, name, mark}
 use Rattle.mm_proof.specs.Tokens.{SayMoves}
-use Rattle.mm_proof.proofs.ProofTokens.SaidMoves.{some_moves, moves_once}
 use Rattle.mm_proof.proofs.ProofVerdicts.StrictForm.{last_of, told_each, once_from, step_before}
 use Rattle.mm_proof.proofs.ProofVerdicts.StrictForm.{strict_normal}
 
@@ -63,13 +62,13 @@ have_under profile before s front rule step form (inr (w, m, said, f)) = inr (w,
 
 module _ (profile : Profile) (before : List Sentence) (s : Sentence) (tokens : List (List ℕ))
     (rule : ProofRule) where
-  pub proved_none : (step : ℕ) → AllMeant before → IsProvedUnder profile before s tokens
+  proved_none : (step : ℕ) → AllMeant before → IsProvedUnder profile before s tokens
       → IsFaultUnder profile before s tokens rule step → ⊥
   proved_none step all p (inl (z, inl w)) = proved_no_fault (IsWithin (limit_of profile)) before s tokens rule step all p.1 (inl (z, w))
   proved_none step all p (inl (z, inr x)) = x.2 p.0
   proved_none step all p (inr (w, form, m, said, f)) = proved_no_fault (IsWithin (limit_of profile)) before s tokens rule step all p.1 (inr (w, m, said, f))
 
-  pub one_under : (rule' : ProofRule) (step step' : ℕ) → AllMeant before
+  one_under : (rule' : ProofRule) (step step' : ℕ) → AllMeant before
       → IsFaultUnder profile before s tokens rule step
       → IsFaultUnder profile before s tokens rule' step' → Same rule step rule' step'
   one_under rule' step step' all (inl (z, inl w)) (inl (y, inl v)) = one_fault (IsWithin (limit_of profile)) before s tokens rule rule' step step' all (inl (z, w)) (inl (y, v))
@@ -106,13 +105,13 @@ refused_under profile (Err (Rule other at)) st id tokens all p f place s proof r
 
 module _ (profile : Profile) (before : List Sentence) (s : Sentence) (tokens : List (List ℕ))
     (rule : ProofRule) where
-  pub front_none : (step : ℕ) → AllMeant before → IsFrontAllowedUnder profile before s tokens
+  front_none : (step : ℕ) → AllMeant before → IsFrontAllowedUnder profile before s tokens
       → IsFrontFaultUnder profile before s tokens rule step → ⊥
   front_none step all p (inl (z, inl w)) = allowed_no_fault (limit_of profile) before s tokens rule step all p.1 (inl (z, w))
   front_none step all p (inl (z, inr x)) = x.2 p.0
   front_none step all p (inr (w, form, m, said, f)) = allowed_no_fault (limit_of profile) before s tokens rule step all p.1 (inr (w, m, said, f))
 
-  pub one_front_under : (rule' : ProofRule) (step step' : ℕ) → AllMeant before
+  one_front_under : (rule' : ProofRule) (step step' : ℕ) → AllMeant before
       → IsFrontFaultUnder profile before s tokens rule step
       → IsFrontFaultUnder profile before s tokens rule' step' → Same rule step rule' step'
   one_front_under rule' step step' all (inl (z, inl w)) (inl (y, inl v)) = one_front_fault (limit_of profile) before s tokens rule rule' step step' all (inl (z, w)) (inl (y, v))

@@ -60,7 +60,7 @@ added_has old n false new a x =
 added_has old n true new a x = rw a.1 (push_has old n x)
 
 -- the numbers of one label more
-pub ids_more : (ids : List LabelId) (i : ℕ) (d : LabelId) → i < length ids → take (i + 1) (ids_in ids) ≡ take i (ids_in ids) ++ (get_or ids i d).0 ∷ []
+ids_more : (ids : List LabelId) (i : ℕ) (d : LabelId) → i < length ids → take (i + 1) (ids_in ids) ≡ take i (ids_in ids) ++ (get_or ids i d).0 ∷ []
 ids_more ids i d less =
     let label : LabelId → ℕ = λ l. l.0 in
     rw (take-map label (i + 1) ids, take-map label i ids, map_more label ids i d less)
@@ -133,7 +133,7 @@ module _ (seen hids ids : List ℕ) (same : ((x : ℕ) → Contains seen x ↔ C
 
 -- ---- codes
 
-pub code_mark : (ids : List ℕ) (c : Code) → code_move ids c ≡ mark → c ≡ Tag
+code_mark : (ids : List ℕ) (c : Code) → code_move ids c ≡ mark → c ≡ Tag
 code_mark ids Tag e = refl
 code_mark ids (Number n) e = absurd (entry_moves (slice_get ids (n - 1)) (n - 1 - length ids) e)
   where

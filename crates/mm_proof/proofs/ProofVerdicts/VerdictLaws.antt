@@ -111,7 +111,7 @@ module _ (Fits : List (List ℕ) → Type 0) (each : (e : List (List ℕ)) → D
       (went_or_over earlier stack kept move all w passed)
 
   -- moves that prove a statement without a limit do within it, or a step of theirs is the first over it
-  pub prove_or_over : (s : Sentence) (moves : List (Move (List ℕ))) → AllMeant before
+  prove_or_over : (s : Sentence) (moves : List (Move (List ℕ))) → AllMeant before
       → Prove AnyExpression before s moves
       → Prove Fits before s moves ⊎ ((step : ℕ) × IsMovesFault Fits before s moves L1 step)
   prove_or_over s moves all p =

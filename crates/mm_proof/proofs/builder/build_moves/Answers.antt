@@ -1,5 +1,4 @@
-use Rattle.std.proofs.Common.{rules, ◌≡◌, length, refl, subst, arith}
-use Rattle.std.specs.Vec.{vec_len}
+use Rattle.std.proofs.Common.{rules, ◌≡◌, length, refl, subst, arith, vec_len}
 use Rattle.mm_proof.specs.Tree.{tree, none}
 use Rattle.mm_proof.specs.Mirror.CodeSteps.{moves_of}
 use Rattle.mm_proof.specs.Mirror.Builders.{IsBuilt}

@@ -1,6 +1,5 @@
-use Rattle.std.proofs.Common.{rules, ◌≡◌, ◌+◌, length, Err, ap, ◌∙◌}
+use Rattle.std.proofs.Common.{rules, ◌≡◌, ◌+◌, length, Err, ap, ◌∙◌, vec_len}
 use Rattle.std.proofs.lemmas.Result.{err_from_is_err_and}
-use Rattle.std.specs.Vec.{vec_len}
 use Rattle.mm_proof.specs.Mirror.Sites.{CodeSite}
 use Rattle.mm_proof.proofs.Machines.JudgedMoves.{steps_made, wrong_end, wrong_move, on_rule_from}
 use Rattle.mm_proof.proofs.Machines.JudgedMoves.{lists_end}

@@ -1,12 +1,11 @@
-use Rattle.mm_proof.proofs.ProofTokens.SaidMoves.{compressed_once}
 use Rattle.std.proofs.Common.{Err, ap}
+use Rattle.mm_proof.proofs.ProofTokens.SaidMoves.{compressed_once}
 use Rattle.std.proofs.lemmas.Result.{err_from_is_err_and}
-use Rattle.mm_code.specs.declared.code.CodeRule.TheVariants as code
 use Rattle.mm_proof.proofs.ProofVerdicts.FirstFault.{on_rule_map}
 use Rattle.mm_proof.proofs.ProofTokens.ProofLabels.{labels_fault}
-use Rattle.mm_proof.proofs.ProofTokens.ProofCodes.{reading_compressed, codes_say}
-use Rattle.mm_proof.proofs.ProofTokens.ProofCodes.{compressed_labels, letters_spelled}
-use Rattle.mm_proof.proofs.ProofTokens.ProofCodes.{letter_broken}
+use Rattle.mm_proof.proofs.ProofTokens.ProofCodes.{reading_compressed, codes_say, compressed_labels}
+use Rattle.mm_proof.proofs.ProofTokens.ProofCodes.{letters_spelled, letter_broken}
+use Rattle.mm_code.specs.declared.code.CodeRule.TheVariants as code
 use Rattle.mm_proof.proofs.parse.fill_compressed.Goals as goal
 
 pub returns-clause-spelled : goal.returns-clause-spelled

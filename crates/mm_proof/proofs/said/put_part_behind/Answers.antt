@@ -1,5 +1,4 @@
-use Rattle.std.proofs.Common.{◌≡◌, ◌-◌, ◌++◌, length, ap, ◌∙◌, arith}
-use Rattle.std.specs.Prelude.{slice_range}
+use Rattle.std.proofs.Common.{◌≡◌, ◌-◌, ◌++◌, length, ap, ◌∙◌, arith, slice_range}
 use Rattle.mm_proof.proofs.StoreRanges.{put-behind}
 use Rattle.mm_proof.proofs.said.put_part_behind.Goals as goal
 

@@ -1,5 +1,4 @@
-use Rattle.std.proofs.Common.{rules, ◌≡◌, ◌-◌, ◌<◌, get_or, length, refl, subst, arith}
-use Rattle.std.specs.Vec.{vec_len}
+use Rattle.std.proofs.Common.{rules, ◌≡◌, ◌-◌, ◌<◌, get_or, length, refl, subst, arith, vec_len}
 use Rattle.mm_proof.specs.Moves.{name}
 use Rattle.mm_proof.proofs.ProofVerdicts.FirstFault.{handed}
 use Rattle.mm_proof.proofs.ByNumbers.UsedAssertions.{entry_is}

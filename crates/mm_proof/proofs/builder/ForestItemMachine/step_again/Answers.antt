@@ -1,5 +1,4 @@
-use Rattle.std.proofs.Common.{rules, ◌≡◌, length, refl, subst, arith}
-use Rattle.std.specs.Vec.{vec_len}
+use Rattle.std.proofs.Common.{rules, ◌≡◌, length, refl, subst, arith, vec_len}
 use Rattle.std.proofs.lemmas.List.{take_all}
 use Rattle.mm_proof.specs.Moves.{again}
 use Rattle.mm_proof.proofs.ProofVerdicts.FirstFault.{handed}

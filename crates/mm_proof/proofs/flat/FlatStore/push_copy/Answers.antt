@@ -1,4 +1,4 @@
-use Rattle.std.specs.Prelude.{slice_range}
+use Rattle.std.proofs.Common.{slice_range}
 use Rattle.mm_proof.specs.Stores.{numbers_in}
 use Rattle.mm_proof.proofs.StoreRanges.{read-at, push-seen}
 use Rattle.mm_proof.proofs.flat.FlatStore.push_copy.Goals as goal

@@ -1,5 +1,4 @@
-use Rattle.std.proofs.Common.{◌≡◌, Some, slice_get, Contains, sym, ap, subst, ◌∙◌}
-use Rattle.std.specs.Option.{is_some}
+use Rattle.std.proofs.Common.{◌≡◌, Some, slice_get, Contains, sym, ap, subst, ◌∙◌, is_some}
 use Rattle.std.proofs.lemmas.Bool.{false≢true}
 use Rattle.mm_proof.proofs.PackedProofs.SubtreeNumbers.{any_contains, place_there, numbers_told}
 use Rattle.mm_proof.proofs.label_set.LabelSet.place.Goals as goal

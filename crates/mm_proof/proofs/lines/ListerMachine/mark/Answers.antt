@@ -1,5 +1,4 @@
-use Rattle.std.proofs.Common.{rules, ◌≡◌, length, refl, ◌∙◌}
-use Rattle.std.specs.Vec.{vec_len}
+use Rattle.std.proofs.Common.{rules, ◌≡◌, length, refl, ◌∙◌, vec_len}
 use Rattle.mm_proof.proofs.Machines.ListedLines.{lists_mark}
 use Rattle.mm_proof.proofs.lines.ListerMachine.mark.Goals as goal
 

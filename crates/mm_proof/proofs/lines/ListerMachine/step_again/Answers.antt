@@ -1,5 +1,4 @@
-use Rattle.std.proofs.Common.{rules, ◌≡◌, ◌<◌, length, refl, arith}
-use Rattle.std.specs.Vec.{vec_len}
+use Rattle.std.proofs.Common.{rules, ◌≡◌, ◌<◌, length, refl, arith, vec_len}
 use Rattle.std.proofs.lemmas.Option.{slice_get_read}
 use Rattle.mm_proof.specs.Moves.{again}
 use Rattle.mm_proof.specs.Listing.{by_step}

@@ -1,5 +1,4 @@
-use Rattle.std.proofs.Common.{sym, ap, ◌∙◌}
-use Rattle.std.specs.Option.{is_some}
+use Rattle.std.proofs.Common.{sym, ap, ◌∙◌, is_some}
 use Rattle.std.proofs.lemmas.Bool.{false≢true}
 use Rattle.mm_proof.proofs.PackedProofs.SubtreeNumbers.{any_contains, place_there, fields_told}
 use Rattle.mm_proof.proofs.subtree_set.SubtreeSet.place.Goals as goal

@@ -1,6 +1,4 @@
-use Rattle.std.proofs.Common.{rules, ◌≡◌, ℕ, List, length, arith}
-use Rattle.std.specs.List.{slice_range}
-use Rattle.std.specs.Vec.{vec_len}
+use Rattle.std.proofs.Common.{rules, ◌≡◌, ℕ, List, length, arith, slice_range, vec_len}
 use Rattle.std.proofs.lemmas.Slice.Zip.{AllZip-long}
 use Rattle.mm_text.proofs.Lists.{zip_append}
 use Rattle.mm_frame.specs.declared.number.LabelId.{LabelId}
