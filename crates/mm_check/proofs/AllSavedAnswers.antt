@@ -11,8 +11,8 @@ use Rattle.mm_text.specs.Statement.{PlainStatement}
 use Rattle.mm_text.specs.Files.{PlainFile, most_bytes}
 use Rattle.mm_text.proofs.Lists.{all_weaker, at_from_contains, get_within, split_at, two_cuts}
 use Rattle.mm_text.proofs.Lists.{zip_left, get_parted}
-use Rattle.mm_text.proofs.FormedLaws.{readings_are_formed_in_place, readings_few}
-use Rattle.mm_code.proofs.SomeLayout.{some_layout}
+use Rattle.mm_text.proofs.Reader.WholeReadings.{readings_are_formed_in_place, readings_few}
+use Rattle.mm_code.proofs.LaidOutLines.{some_layout}
 use Rattle.mm_frame.specs.Sentence.{sentence_of}
 use Rattle.mm_frame.specs.Form.{HasItsLabel}
 use Rattle.mm_proof.specs.Tree.{Trees, none, tree, spelling}

@@ -11,7 +11,7 @@ use Rattle.mm_text.specs.Reading.{Reads}
 use Rattle.mm_text.specs.Replaced.{placeless, with_span, with_bytes}
 use Rattle.mm_text.proofs.Lists.{cons_parts, get_parted}
 use Rattle.mm_frame.specs.Sentence.{Sentence, sentence_of}
-use Rattle.mm_frame.proofs.Meant.{one_label}
+use Rattle.mm_frame.proofs.Rules.ObeyedRules.{one_label}
 use Rattle.mm_proof.specs.Strict.{IsStrict}
 use Rattle.mm_proof.specs.declared.profile.Profile.{Profile}
 use Rattle.mm_check.specs.declared.form.Form.{Form}

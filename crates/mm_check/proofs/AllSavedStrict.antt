@@ -9,7 +9,7 @@ use Rattle.std.proofs.lemmas.Option.{slice_get_within}
 use Rattle.mm_text.specs.Statement.{PlainStatement, HasForm, is_provable}
 use Rattle.mm_text.specs.Files.{PlainFile}
 use Rattle.mm_text.specs.Replaced.{with_bytes}
-use Rattle.mm_text.proofs.FormedLaws.{readings_are_formed_in_place}
+use Rattle.mm_text.proofs.Reader.WholeReadings.{readings_are_formed_in_place}
 use Rattle.mm_frame.specs.Sentence.{sentence_of}
 use Rattle.mm_text.proofs.Lists.{get_parted}
 use Rattle.mm_proof.specs.Strict.{IsStrict}

@@ -14,9 +14,10 @@ use Rattle.mm_frame.specs.Sentence.{Sentence, IsHypothesis, sentence_of, IsLabel
 use Rattle.mm_frame.specs.Rules.{AllMeant}
 use Rattle.mm_frame.specs.Numbers.{labelled_sentences, IsNumbered}
 use Rattle.mm_text.proofs.Lists.{at_from_contains, contains_from_at, all_there, all_at}
-use Rattle.mm_frame.proofs.Labelled.{numbered_get, numbered_some, numbered_unique, numbered_within}
-use Rattle.mm_frame.proofs.Meant.{allmeant_front}
-use Rattle.mm_frame.proofs.NameLists.{get_unmapped}
+use Rattle.mm_frame.proofs.Names.LabelNumbers.{numbered_get, numbered_some, numbered_unique}
+use Rattle.mm_frame.proofs.Names.LabelNumbers.{numbered_within}
+use Rattle.mm_frame.proofs.Rules.ObeyedRules.{allmeant_front}
+use Rattle.mm_frame.proofs.Names.NameNumbers.{get_unmapped}
 use Rattle.mm_proof.specs.Tree.{Trees, none as no_trees}
 use Rattle.mm_proof.specs.Proof.{IsProved}
 use Rattle.mm_proof.specs.Used.{IsUsedNumber}

@@ -6,17 +6,16 @@ use Rattle.mm_text.specs.declared.fault.LoadRule.TheVariants as load
 use Rattle.mm_text.specs.Statement.{PlainStatement, HasForm}
 use Rattle.mm_text.specs.Files.{most_bytes, PlainFile, BreaksLoad, HasTwins, total_bytes}
 use Rattle.mm_text.specs.Reading.{PlainFault, Reads}
-use Rattle.mm_text.proofs.ReaderLaws.{each_has_one_reading}
-use Rattle.mm_text.proofs.FormedLaws.{readings_are_formed_in_place}
+use Rattle.mm_text.proofs.Reader.WholeReadings.{each_has_one_reading, readings_are_formed_in_place}
 use Rattle.mm_text.proofs.Lists.{all_front}
 use Rattle.mm_frame.specs.Sentence.{sentence_of}
 use Rattle.mm_frame.specs.Rules.{AllMeant, IsMeant}
 use Rattle.mm_frame.specs.Form.{IsFormedSentence, AllFormed}
-use Rattle.mm_frame.proofs.Uses.{formed_said}
+use Rattle.mm_frame.proofs.BookLists.Declarations.{formed_said}
 use Rattle.mm_proof.specs.declared.profile.Profile.{Profile}
 use Rattle.mm_proof.specs.declared.fault.ProofRule.{ProofRule}
 use Rattle.std.proofs.Math.Decide.{dec_le}
-use Rattle.mm_frame.proofs.Decided.{dec_both, dec_as, dec_some, symbol_dec}
+use Rattle.mm_frame.proofs.Rules.DecidedStatements.{dec_both, dec_as, dec_some, symbol_dec}
 use Rattle.mm_proof.proofs.ProofVerdicts.ProfileVerdicts.{one_verdict_under_holds}
 use Rattle.mm_proof.proofs.ProofVerdicts.ProfileVerdicts.{one_front_verdict_under_holds}
 use Rattle.mm_check.specs.declared.rule.Rule.{Rule}

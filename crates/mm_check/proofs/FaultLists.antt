@@ -4,13 +4,12 @@ use Rattle.std.specs.List.{AllByRecursion}
 use Rattle.mm_text.specs.Statement.{PlainStatement, HasForm}
 use Rattle.mm_text.specs.Files.{PlainFile}
 use Rattle.mm_text.specs.Reading.{PlainFault}
-use Rattle.mm_text.proofs.FormedLaws.{readings_are_formed_in_place}
+use Rattle.mm_text.proofs.Reader.WholeReadings.{readings_are_formed_in_place, each_has_one_reading}
 use Rattle.mm_text.proofs.Lists.{all_front}
-use Rattle.mm_text.proofs.ReaderLaws.{each_has_one_reading}
 use Rattle.mm_frame.specs.Sentence.{sentence_of}
 use Rattle.mm_frame.specs.Rules.{AllMeant, IsMeant}
 use Rattle.mm_frame.specs.Form.{AllFormed}
-use Rattle.mm_frame.proofs.Meant.{allmeant_push}
+use Rattle.mm_frame.proofs.Rules.ObeyedRules.{allmeant_push}
 use Rattle.std.proofs.lemmas.List.{map-append}
 use Rattle.mm_proof.specs.declared.profile.Profile.{Profile}
 use Rattle.mm_check.specs.declared.rule.Rule.{Rule}

@@ -7,9 +7,8 @@ use Rattle.mm_text.specs.Statement.{PlainStatement}
 use Rattle.mm_text.specs.Files.{PlainFile}
 use Rattle.mm_text.specs.Items.{Item, Plain, Wrong, Inclusion, End, plain_tokens, items}
 use Rattle.mm_text.specs.Reading.{PlainFault, Reads, EndsAt, IsInPlace}
-use Rattle.mm_text.proofs.ItemTokens.{ItemIs, all_items}
-use Rattle.mm_text.proofs.PlaceLaws.{StandsIn, tokens_in_place}
-use Rattle.mm_text.proofs.FormedLaws.{readings_are_formed_in_place}
+use Rattle.mm_text.proofs.Inclusions.ItemTokens.{ItemIs, all_items, StandsIn, tokens_in_place}
+use Rattle.mm_text.proofs.Reader.WholeReadings.{readings_are_formed_in_place}
 use Rattle.mm_text.proofs.Lists.{all_back}
 use Rattle.mm_proof.specs.declared.profile.Profile.{Profile}
 use Rattle.mm_check.specs.declared.fault.CheckFault.{CheckFault}

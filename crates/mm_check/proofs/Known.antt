@@ -14,7 +14,7 @@ use Rattle.mm_text.specs.Statement.{PlainStatement, HasForm, HasLabel, bytes_in,
 use Rattle.mm_frame.specs.Sentence.{Sentence, sentence_of}
 use Rattle.mm_frame.specs.Numbers.{labelled_sentences}
 use Rattle.mm_frame.specs.declared.number.LabelId.{LabelId}
-use Rattle.mm_frame.proofs.Counts.{count_append}
+use Rattle.mm_frame.proofs.Blocks.NumberedBlocks.{count_append}
 use Rattle.mm_proof.specs.declared.profile.Profile.{Profile}
 use Rattle.mm_proof.specs.Tokens.{is_incomplete}
 use Rattle.mm_check.specs.declared.progress.Progress.{Progress}

@@ -4,7 +4,7 @@ use Rattle.std.proofs.lemmas.List.{get_or-set_same, get_or-set_other, get_or-rep
 use Rattle.std.proofs.lemmas.List.Elements.{Contains-append_left}
 use Rattle.std.proofs.lemmas.Bool.{cases_eq}
 use Rattle.std.proofs.lemmas.Option.{slice_get_within}
-use Rattle.mm_frame.proofs.NameLists.{get_mapped}
+use Rattle.mm_frame.proofs.Names.NameNumbers.{get_mapped}
 use Rattle.std.proofs.lemmas.List.{map-append, take-map}
 use Rattle.mm_frame.specs.declared.number.LabelId.{LabelId}
 use Rattle.mm_text.proofs.Lists.{take_next, get_from_take, at_from_contains, contains_from_at}

@@ -9,10 +9,11 @@ use Rattle.mm_frame.specs.declared.rule.MeaningRule.TheVariants.{M1, M2, M3, M4,
 use Rattle.mm_frame.specs.Sentence.{Sentence, SomeSentence, IsStated, IsUse, Declares, IsLabelled, Types, StandsTwice}
 use Rattle.mm_frame.specs.Active.{IsOpen, SomeActive, IsConstant, IsVariable, IsActiveSymbol, IsTyped}
 use Rattle.mm_frame.specs.Rules.{Breaks, FirstBroken, IsMeant, ItsLabel, ItsFirst, ItsTyping, rank}
-use Rattle.mm_frame.proofs.Decided.{constant_dec, typed_dec}
+use Rattle.mm_frame.proofs.Rules.DecidedStatements.{constant_dec, typed_dec, dec_both, dec_as}
+use Rattle.mm_frame.proofs.Rules.DecidedStatements.{dec_some, kind_dec, symbol_dec, contains_dec}
+use Rattle.mm_frame.proofs.Rules.DecidedStatements.{open_dec, dec_or, dec_not, label_dec}
+use Rattle.mm_frame.proofs.Rules.DecidedStatements.{sentence_dec, some_active_dec, variable_dec}
 use Rattle.std.proofs.Math.Decide.{dec_le}
-use Rattle.mm_frame.proofs.Decided.{dec_both, dec_as, dec_some, kind_dec, symbol_dec, contains_dec, open_dec}
-use Rattle.mm_frame.proofs.Decided.{dec_or, dec_not, label_dec, sentence_dec, some_active_dec, variable_dec}
 use Rattle.mm_proof.proofs.Members.{dec_member}
 use Rattle.mm_check.proofs.Ranks.{ranked, ranked-rank, rank-ranked}
 

@@ -9,10 +9,10 @@ use Rattle.mm_text.specs.Statement.{PlainStatement, bytes_in}
 use Rattle.mm_text.specs.Files.{most_bytes, PlainFile, total_bytes}
 use Rattle.mm_text.specs.Blocks as text
 use Rattle.mm_text.specs.Remaining.{Remaining}
-use Rattle.mm_text.proofs.FormedLaws.{readings_are_balanced, readings_fit, readings_few}
+use Rattle.mm_text.proofs.Reader.WholeReadings.{readings_are_balanced, readings_fit, readings_few}
 use Rattle.mm_frame.specs.Sentence.{Sentence, sentence_of}
 use Rattle.mm_frame.specs.Active as frame
-use Rattle.mm_frame.proofs.Counts.{count_append}
+use Rattle.mm_frame.proofs.Blocks.NumberedBlocks.{count_append}
 use Rattle.mm_proof.specs.declared.profile.Profile.{Profile}
 use Rattle.mm_check.specs.declared.progress.Progress.{Progress}
 use Rattle.mm_check.specs.Verdict.{CanBeRead, sentences, is_proof}

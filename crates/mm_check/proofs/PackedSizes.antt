@@ -14,12 +14,12 @@ use Rattle.mm_text.proofs.Lists.{all_weaker, same_length}
 use Rattle.mm_code.specs.declared.code.Code.{Code}
 use Rattle.mm_code.specs.declared.code.Code.TheVariants.{Number, Tag}
 use Rattle.mm_code.specs.Letters.{HasSpelling, code_for, largest}
-use Rattle.mm_code.proofs.SomeLayout.{some_compressed_layout}
-use Rattle.mm_code.proofs.Unique.{some_text}
+use Rattle.mm_code.proofs.LaidOutLines.{some_compressed_layout}
+use Rattle.mm_code.proofs.OneSpelling.{some_text}
 use Rattle.mm_frame.specs.Sentence.{Sentence}
 use Rattle.mm_frame.specs.Form.{AllFormed}
 use Rattle.mm_frame.specs.Frame.{IsMandatoryAt}
-use Rattle.mm_frame.proofs.ReadLaws.{those_few}
+use Rattle.mm_frame.proofs.BookLists.ReadLabels.{those_few}
 use Rattle.mm_proof.specs.Tree.{Trees, none, tree, spelling, TreesFit}
 use Rattle.mm_proof.specs.BigSubtrees.{IsSubtree}
 use Rattle.mm_proof.specs.Moves.{Move, name, again, mark, Makes}

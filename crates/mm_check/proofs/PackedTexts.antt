@@ -6,12 +6,12 @@ use Rattle.mm_code.specs.Letters.{SpellsCodes, Letters}
 use Rattle.mm_code.specs.Layout.{CompressedLaidOut}
 use Rattle.mm_code.specs.Words.{tokens_in, IsOneToken}
 use Rattle.mm_code.proofs.ReadBack.{compressed_read_back}
-use Rattle.mm_code.proofs.OneLayout.{one_text_of_compressed}
-use Rattle.mm_code.proofs.Unique.{one_text_only, one_reading_only}
+use Rattle.mm_code.proofs.LaidOutLines.{one_text_of_compressed}
+use Rattle.mm_code.proofs.OneSpelling.{one_text_only, one_reading_only}
 use Rattle.mm_frame.specs.Sentence.{Sentence, SomeSentence, IsLabelled}
 use Rattle.mm_frame.specs.Form.{AllFormed}
 use Rattle.mm_frame.specs.Rules.{AllMeant}
-use Rattle.mm_frame.proofs.ReadLaws.{label_named}
+use Rattle.mm_frame.proofs.BookLists.ReadLabels.{label_named}
 use Rattle.mm_proof.specs.Tree.{Trees, none, tree, spelling, TreesFit}
 use Rattle.mm_proof.specs.Moves.{Move, Makes}
 use Rattle.mm_proof.specs.OneTree.{MakeTree, MakeSameTree}
@@ -23,9 +23,9 @@ use Rattle.mm_proof.proofs.FullSharing.OneSharedProof.{told_by_packed_holds}
 use Rattle.mm_proof.proofs.ProofTokens.SaidMoves.{compressed_once}
 use Rattle.mm_proof.proofs.PackedProofs.WrittenProofs.{stands_known}
 use Rattle.mm_check.specs.Forms.{IsPackedText}
-use Rattle.mm_text.proofs.FormedLaws.{readings_are_formed_in_place}
+use Rattle.mm_text.proofs.Reader.WholeReadings.{readings_are_formed_in_place}
 use Rattle.mm_text.proofs.Lists.{all_append, all_weaker}
-use Rattle.mm_frame.proofs.Meant.{allformed_front, allmeant_front}
+use Rattle.mm_frame.proofs.Rules.ObeyedRules.{allformed_front, allmeant_front}
 use Rattle.mm_check.specs.Verdict.{sentences}
 use Rattle.mm_check.specs.FormLaws.{PackedTextsTell}
 use Rattle.mm_check.proofs.Asked.{map-take}

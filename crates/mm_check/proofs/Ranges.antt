@@ -4,8 +4,8 @@ use Rattle.std.proofs.lemmas.Option.{get_or_from_slice_get}
 use Rattle.std.specs.List.{slice_range}
 use Rattle.std.proofs.lemmas.List.{map-append}
 use Rattle.mm_frame.specs.declared.number.LabelId.{LabelId}
-use Rattle.mm_frame.proofs.Entries.{slice_left}
-use Rattle.mm_frame.proofs.NameLists.{get_unmapped}
+use Rattle.mm_frame.proofs.BookLists.GrownLists.{slice_left}
+use Rattle.mm_frame.proofs.Names.NameNumbers.{get_unmapped}
 use Rattle.mm_proof.proofs.StoreRanges.{part-new}
 use Rattle.mm_check.specs.declared.kept.KeptProof.{KeptProof}
 use Rattle.mm_check.specs.Conclusion.{ProofUses}

@@ -5,7 +5,7 @@ use Rattle.mm_text.specs.Statement.{PlainStatement}
 use Rattle.mm_frame.specs.Sentence.{sentence_of}
 use Rattle.mm_frame.specs.Rules.{AllMeant}
 use Rattle.mm_frame.specs.Numbers.{labelled_sentences}
-use Rattle.mm_frame.proofs.Meant.{one_label}
+use Rattle.mm_frame.proofs.Rules.ObeyedRules.{one_label}
 use Rattle.mm_text.proofs.Lists.{at_from_contains}
 use Rattle.mm_check.specs.Verdict.{sentences, is_proof, is_unproved}
 use Rattle.mm_check.specs.Rests.{AreRising, AreInOrder, IsNumberWhere, IsNamed, RestsOn, Uses}

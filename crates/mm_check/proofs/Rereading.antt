@@ -6,13 +6,12 @@ use Rattle.mm_text.specs.Statement.{PlainStatement, bytes_in}
 use Rattle.mm_text.specs.Files.{most_bytes, PlainFile}
 use Rattle.mm_text.specs.Reading.{PlainFault, Reads}
 use Rattle.mm_text.specs.Remaining.{Remaining}
-use Rattle.mm_text.proofs.FormedLaws.{readings_fit}
-use Rattle.mm_text.proofs.ReaderLaws.{each_has_one_reading}
+use Rattle.mm_text.proofs.Reader.WholeReadings.{readings_fit, each_has_one_reading}
 use Rattle.mm_text.proofs.Lists.{split_at}
 use Rattle.mm_frame.specs.Sentence.{Sentence, sentence_of, IsLabelled}
 use Rattle.mm_frame.specs.Rules.{AllMeant}
-use Rattle.mm_frame.proofs.Meant.{one_label}
-use Rattle.mm_frame.proofs.NameLists.{get_mapped}
+use Rattle.mm_frame.proofs.Rules.ObeyedRules.{one_label}
+use Rattle.mm_frame.proofs.Names.NameNumbers.{get_mapped}
 use Rattle.mm_proof.specs.declared.profile.Profile.{Profile}
 use Rattle.mm_check.specs.Conclusion.{Conclusion}
 use Rattle.mm_check.specs.Verdict.{AllObey, AreAccepted, CanBeRead, sentences, proof_of, is_proof}

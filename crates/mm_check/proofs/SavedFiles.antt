@@ -14,11 +14,11 @@ use Rattle.mm_text.specs.Files.{most_bytes, PlainFile, total_bytes, BreaksLoad}
 use Rattle.mm_text.specs.Replaced.{placeless, with_span, with_bytes}
 use Rattle.mm_text.proofs.Lists.{same_length, split_at, get_parted, zip_left, mapped_zip}
 use Rattle.mm_text.proofs.Lists.{get_set_cases}
-use Rattle.mm_text.proofs.ReplacedItems.{set_there}
-use Rattle.mm_code.proofs.TextTokens.{texts_in}
+use Rattle.mm_text.proofs.Replaced.ReplacedItems.{set_there}
+use Rattle.mm_code.proofs.ReadBack.{texts_in}
 use Rattle.mm_frame.specs.Sentence.{Sentence, sentence_of}
 use Rattle.mm_frame.specs.Rules.{AllMeant}
-use Rattle.mm_frame.proofs.Counts.{count_append}
+use Rattle.mm_frame.proofs.Blocks.NumberedBlocks.{count_append}
 use Rattle.mm_proof.specs.Tree.{Trees, none, tree, AnyExpression}
 use Rattle.mm_proof.specs.Moves.{Move}
 use Rattle.mm_proof.specs.Tokens.{is_incomplete, SayMoves}

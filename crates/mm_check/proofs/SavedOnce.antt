@@ -11,17 +11,17 @@ use Rattle.mm_text.specs.Files.{most_bytes, PlainFile}
 use Rattle.mm_text.specs.Reading.{Reads}
 use Rattle.mm_text.specs.Replaced.{placeless, with_span, with_bytes, IsProofSpan, IsMoved}
 use Rattle.mm_text.proofs.Lists.{split_at, get_parted}
-use Rattle.mm_text.proofs.FormedLaws.{readings_are_formed_in_place}
-use Rattle.mm_text.proofs.ReplacedFiles.{replaced_proofs_are_read_holds}
-use Rattle.mm_text.proofs.ProofSpans.{proofs_stand_in_spans_holds}
+use Rattle.mm_text.proofs.Reader.WholeReadings.{readings_are_formed_in_place}
+use Rattle.mm_text.proofs.Replaced.ReplacedFiles.{replaced_proofs_are_read_holds}
+use Rattle.mm_text.proofs.Replaced.ProofSpans.{proofs_stand_in_spans_holds}
 use Rattle.mm_code.specs.declared.code.Code.{Code}
 use Rattle.mm_code.specs.Letters.{SpellsCodes}
-use Rattle.mm_code.proofs.OneLayout.{one_text_of_tokens, one_text_of_compressed}
-use Rattle.mm_code.proofs.Unique.{one_text_only}
+use Rattle.mm_code.proofs.LaidOutLines.{one_text_of_tokens, one_text_of_compressed}
+use Rattle.mm_code.proofs.OneSpelling.{one_text_only}
 use Rattle.mm_frame.specs.Sentence.{Sentence, sentence_of, IsLabelled}
 use Rattle.mm_frame.specs.Rules.{AllMeant}
 use Rattle.mm_frame.specs.Numbers.{labelled_sentences}
-use Rattle.mm_frame.proofs.Meant.{allmeant_front, one_label}
+use Rattle.mm_frame.proofs.Rules.ObeyedRules.{allmeant_front, one_label}
 use Rattle.mm_proof.specs.Tree.{Trees, none, tree, spelling}
 use Rattle.mm_proof.specs.Moves.{Move}
 use Rattle.mm_proof.specs.Tokens.{SayMoves}

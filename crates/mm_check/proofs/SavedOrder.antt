@@ -13,7 +13,7 @@ use Rattle.mm_text.proofs.Lists.{all_append, all_front, all_back, get_kept, get_
 use Rattle.mm_text.proofs.Lists.{all_there, all_filtered, zip_weaker, zip_append, zip_each}
 use Rattle.mm_text.proofs.Lists.{zip_length, zip_on, ZipParts, zip_parts, split_at}
 use Rattle.mm_frame.specs.Sentence.{Sentence, sentence_of, IsLabelled}
-use Rattle.mm_frame.proofs.Meant.{one_label}
+use Rattle.mm_frame.proofs.Rules.ObeyedRules.{one_label}
 use Rattle.mm_proof.specs.declared.profile.Profile.{Profile}
 use Rattle.mm_proof.proofs.Members.{contains_cases}
 use Rattle.mm_check.specs.declared.form.Form.{Form}

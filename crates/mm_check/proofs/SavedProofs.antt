@@ -9,7 +9,7 @@ use Rattle.mm_code.proofs.ReadBack.{normal_read_back, compressed_read_back}
 use Rattle.mm_frame.specs.Sentence.{Sentence}
 use Rattle.mm_frame.specs.Form.{AllFormed}
 use Rattle.mm_frame.specs.Rules.{AllMeant}
-use Rattle.mm_frame.proofs.ReadLaws.{label_named}
+use Rattle.mm_frame.proofs.BookLists.ReadLabels.{label_named}
 use Rattle.mm_proof.specs.Tree.{Trees, none, tree, spelling, TreesFit, DeriveAll}
 use Rattle.mm_proof.specs.Moves.{Move, Makes}
 use Rattle.mm_proof.specs.Tokens.{SayMoves, IsNormal, opening_token, closing_token}

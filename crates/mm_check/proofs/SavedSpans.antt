@@ -8,8 +8,8 @@ use Rattle.mm_text.specs.Statement.{PlainStatement}
 use Rattle.mm_text.specs.Files.{PlainFile}
 use Rattle.mm_text.specs.Replaced.{placeless, with_span, with_bytes, IsProofSpan, IsMoved}
 use Rattle.mm_text.specs.Reading.{Reads}
-use Rattle.mm_text.proofs.FollowingSpans.{proof_spans_follow_holds}
-use Rattle.mm_text.proofs.ProofSpans.{proofs_stand_in_spans_holds}
+use Rattle.mm_text.proofs.Replaced.ProofSpans.{proof_spans_follow_holds}
+use Rattle.mm_text.proofs.Replaced.ProofSpans.{proofs_stand_in_spans_holds}
 use Rattle.mm_text.proofs.Lists.{mapped_zip, zip_both}
 use Rattle.mm_frame.specs.Sentence.{sentence_of}
 use Rattle.mm_proof.specs.declared.profile.Profile.{Profile}

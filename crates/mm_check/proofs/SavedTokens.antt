@@ -5,14 +5,14 @@ use Rattle.std.specs.List.{AllByRecursion, AllZip, flat_map, list_all, list_any}
 use Rattle.std.proofs.lemmas.Bool.{leb-true, eqb-true, le-leb, ne_eqb, and_parts}
 use Rattle.mm_text.specs.Token.{PlainToken, is_space, is_printable, is_label_byte, IsLabel, HoldsNoDollar, tokens_from}
 use Rattle.mm_text.specs.Replaced.{IsProofToken, IsProofText}
-use Rattle.mm_text.proofs.TextFacts.{label_held, label_bytes}
+use Rattle.mm_text.proofs.Reader.OneToken.{label_held, label_bytes}
 use Rattle.mm_text.proofs.Lists.{all_append, all_front, all_back}
 use Rattle.mm_code.specs.declared.code.Code.{Code}
 use Rattle.mm_code.specs.declared.code.Code.TheVariants.{Number, Tag}
 use Rattle.mm_code.specs.Letters.{IsLeadingDigit, leading_letter, last_letter, SaysCode, SpellsCodes}
 use Rattle.mm_code.specs.Layout.{indent, token_line, LaidOut, CompressedLaidOut, in_parentheses}
 use Rattle.mm_code.specs.Words.{texts_of, tokens_in, LacksWhiteSpace, IsOneToken}
-use Rattle.mm_code.proofs.TextTokens.{texts_in, tokens_in-space}
+use Rattle.mm_code.proofs.ReadBack.{texts_in, tokens_in-space}
 use Rattle.mm_proof.specs.Tokens.{is_incomplete}
 
 -- ---- bytes of labels and letters

@@ -9,10 +9,10 @@ use Rattle.mm_text.specs.Statement.{PlainStatement}
 use Rattle.mm_text.specs.Files.{most_bytes, PlainFile, plain_file, total_bytes}
 use Rattle.mm_text.specs.Reading.{Reads, IsInPlace}
 use Rattle.mm_text.specs.Replaced.{with_span, with_bytes, IsProofSpan}
-use Rattle.mm_text.proofs.FormedLaws.{readings_are_formed_in_place}
-use Rattle.mm_text.proofs.ProofSpans.{proofs_stand_in_spans_holds}
+use Rattle.mm_text.proofs.Reader.WholeReadings.{readings_are_formed_in_place}
+use Rattle.mm_text.proofs.Replaced.ProofSpans.{proofs_stand_in_spans_holds}
 use Rattle.mm_text.proofs.Lists.{all_at, split_at}
-use Rattle.mm_text.proofs.NestLaws.{file_there, file_within as handed_within}
+use Rattle.mm_text.proofs.Inclusions.OpenFiles.{file_there, file_within as handed_within}
 use Rattle.mm_frame.specs.Sentence.{Sentence}
 use Rattle.mm_frame.specs.Rules.{AllMeant}
 use Rattle.mm_proof.specs.ReadSteps.{ReadSteps}

@@ -6,8 +6,8 @@ use Rattle.std.proofs.lemmas.List.Folds.{list_all_at}
 use Rattle.std.proofs.lemmas.List.Sums.{sum_by-append}
 use Rattle.mm_text.specs.Token.{is_space as is_white_space}
 use Rattle.mm_code.specs.Words.{tokens_in, LacksWhiteSpace}
-use Rattle.mm_code.proofs.TextTokens.{tokens_in-nil, tokens_in-space, tokens_in-end, tokens_in-on}
-use Rattle.mm_code.proofs.TextTokens.{tokens_in-last}
+use Rattle.mm_code.proofs.ReadBack.{tokens_in-nil, tokens_in-space, tokens_in-end, tokens_in-on}
+use Rattle.mm_code.proofs.ReadBack.{tokens_in-last}
 use Rattle.mm_check.specs.Mirror.Comparisons.{AreFrontTokens}
 
 -- ---- a test of each token

@@ -7,7 +7,8 @@ use Rattle.mm_text.specs.Statement.{PlainStatement}
 use Rattle.mm_frame.specs.Sentence.{Sentence, sentence_of}
 use Rattle.mm_frame.specs.Numbers.{labelled_sentences}
 use Rattle.mm_text.proofs.Lists.{get_kept, get_pushed, pushed_cases}
-use Rattle.mm_frame.proofs.Labelled.{numbered_grow, numbered_fall, numbered_last, numbered_within}
+use Rattle.mm_frame.proofs.Names.LabelNumbers.{numbered_grow, numbered_fall, numbered_last}
+use Rattle.mm_frame.proofs.Names.LabelNumbers.{numbered_within}
 use Rattle.mm_proof.specs.Tree.{Trees, none, tree}
 use Rattle.mm_proof.specs.Proof.{IsWithin, IsProved, IsProvedWithin}
 use Rattle.mm_proof.specs.declared.profile.Profile.{Profile}

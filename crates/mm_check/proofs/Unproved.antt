@@ -13,9 +13,9 @@ use Rattle.mm_frame.specs.Rules.{AllMeant}
 use Rattle.mm_proof.specs.declared.profile.Profile.{Profile}
 use Rattle.mm_proof.specs.Tokens.{is_incomplete}
 use Rattle.mm_check.specs.Verdict.{AllObey, Obeys, sentences, proof_of, unproved_of, is_proof, is_unproved}
-use Rattle.mm_text.proofs.GrammarSteps.{is_provable-true}
+use Rattle.mm_text.proofs.Reader.Unfinished.{is_provable-true}
 use Rattle.mm_text.proofs.Lists.{all_back, last_cut, get_parted, split_at}
-use Rattle.mm_frame.proofs.NameLists.{get_unmapped}
+use Rattle.mm_frame.proofs.Names.NameNumbers.{get_unmapped}
 use Rattle.mm_check.proofs.Known.{provable_label, unproved_of-append}
 
 -- what obeys the rules breaks no rule of meaning

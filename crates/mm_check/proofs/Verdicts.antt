@@ -7,7 +7,7 @@ use Rattle.mm_text.specs.declared.fault.LoadRule.TheVariants as load
 use Rattle.mm_text.specs.Statement.{PlainStatement, HasForm}
 use Rattle.mm_text.specs.Files.{PlainFile, BreaksLoad}
 use Rattle.mm_text.specs.Reading.{PlainFault, Reads}
-use Rattle.mm_text.proofs.FormedLaws.{readings_are_formed_in_place}
+use Rattle.mm_text.proofs.Reader.WholeReadings.{readings_are_formed_in_place}
 use Rattle.mm_text.proofs.Lists.{two_cuts}
 use Rattle.mm_frame.specs.declared.rule.MeaningRule.{MeaningRule}
 use Rattle.mm_frame.specs.Sentence.{Sentence, sentence_of}

@@ -11,9 +11,9 @@ use Rattle.mm_text.specs.Statement.{PlainStatement}
 use Rattle.mm_text.specs.Files.{PlainFile, most_bytes}
 use Rattle.mm_text.specs.Reading.{Reads}
 use Rattle.mm_text.specs.Remaining.{Remaining}
-use Rattle.mm_text.proofs.FollowingSpans.{proof_spans_follow_holds}
+use Rattle.mm_text.proofs.Replaced.ProofSpans.{proof_spans_follow_holds}
+use Rattle.mm_text.proofs.Replaced.ProofSpans.{proofs_stand_in_spans_holds}
 use Rattle.mm_text.proofs.Lists.{get_kept, get_parted, zip_push, zip_weaker}
-use Rattle.mm_text.proofs.ProofSpans.{proofs_stand_in_spans_holds}
 use Rattle.mm_proof.specs.declared.profile.Profile.TheVariants.{Lenient}
 use Rattle.mm_proof.specs.Tree.{Trees}
 use Rattle.mm_check.specs.declared.form.Form.{Form}

@@ -34,7 +34,7 @@ const CALM: u32 = 0x0800_0000;
 
 /// Takes any letter behind leading digits of this value (0 for none): puts the code that it ends
 /// in the slot at the place, and answers the place and the leading digits' value behind it.
-#[tactic(auto, using(crate::proofs::Steps::reading_steps))]
+#[tactic(auto, using(crate::proofs::LetterSteps::reading_steps))]
 fn put_any(
     slots: &mut [Code],
     place: usize,
@@ -66,7 +66,7 @@ fn put_any(
 /// largest `u32`: a letter ends a number about as often as not, so no branch asks whether it does.
 /// What a leading digit puts in the slot is put over.
 #[inline(always)]
-#[tactic(auto, using(crate::proofs::Steps::reading_steps))]
+#[tactic(auto, using(crate::proofs::LetterSteps::reading_steps))]
 fn put_calm(
     slots: &mut [Code],
     place: usize,
@@ -135,7 +135,7 @@ fn rule_behind_cut(bytes: &[u8]) -> CodeRule
 }
 
 /// The fault of the letters so far and of these, which follow them.
-#[tactic(auto, using(crate::proofs::Steps::cut_goes_on))]
+#[tactic(auto, using(crate::proofs::LetterSteps::cut_goes_on))]
 fn fault_with(fault: CodeFault, bytes: &[u8]) -> CodeFault
     ensures { (rest : List ℕ) (read : Result (List Code) CodeRule) →
         FaultOf fault (bytes.now ++ rest) read → FaultOf result rest read }

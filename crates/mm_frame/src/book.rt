@@ -210,7 +210,7 @@ impl<'a> Book<'a> {
     }
 
     /// A label. Of a number that no label has, nothing is told: so it is of the next two too.
-    #[tactic(auto, using(crate::proofs::Labelled::numbered_from_get))]
+    #[tactic(auto, using(crate::proofs::Names::LabelNumbers::numbered_from_get))]
     pub fn label(&self, id: LabelId) -> &'a [u8]
         ensures { (s : Sentence) → slice_get (labelled_sentences self.now.statements) id.0 ≡ Some s
             → IsLabelled result.now s }
@@ -223,7 +223,7 @@ impl<'a> Book<'a> {
     }
 
     /// The symbols of a labelled statement.
-    #[tactic(auto, using(crate::proofs::Labelled::numbered_from_get))]
+    #[tactic(auto, using(crate::proofs::Names::LabelNumbers::numbered_from_get))]
     pub fn expression(&self, id: LabelId) -> &[Sym]
         ensures { (s : Sentence) → slice_get (labelled_sentences self.now.statements) id.0 ≡ Some s
             → AreNumbers self.now.statements (map (λ n. n.0) result.now) s.symbols }
@@ -236,7 +236,7 @@ impl<'a> Book<'a> {
     }
 
     /// The kind of a labelled statement.
-    #[tactic(auto, using(crate::proofs::Labelled::numbered_from_get))]
+    #[tactic(auto, using(crate::proofs::Names::LabelNumbers::numbered_from_get))]
     pub fn kind(&self, id: LabelId) -> LabelKind
         ensures { (s : Sentence) → slice_get (labelled_sentences self.now.statements) id.0 ≡ Some s
             → s.kind ≡ kind_behind result }

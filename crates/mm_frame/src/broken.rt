@@ -175,7 +175,7 @@ fn breaks_m13(tables: &Tables, statement: &Statement) -> bool
 }
 
 // Whether the first of some symbols is a variable.
-#[tactic(auto, using(crate::proofs::SoughtLaws::first_says, crate::proofs::SoughtLaws::no_first))]
+#[tactic(auto, using(crate::proofs::Rules::SymbolLookups::first_says, crate::proofs::Rules::SymbolLookups::no_first))]
 fn is_first_variable(tables: &Tables, numbers: &[Sym]) -> bool
     requires { AreTables tables.now }
     ensures { (symbols : List (List ℕ))
@@ -190,7 +190,7 @@ fn is_first_variable(tables: &Tables, numbers: &[Sym]) -> bool
 }
 
 // The first symbol of an expression is a variable.
-#[tactic(auto, using(crate::proofs::Symbols::with_test))]
+#[tactic(auto, using(crate::proofs::Rules::RepeatedSymbols::with_test))]
 fn breaks_m14(tables: &Tables, statement: &Statement, numbers: &[Sym]) -> bool
     requires tables { AreTables tables.now }
     requires numbers { HasNumbers

@@ -172,7 +172,7 @@ fn find_variables(
 }
 
 // The distinct pairs of one variable with some others.
-#[tactic(auto, using(crate::proofs::MandatoryPairs::pair_steps))]
+#[tactic(auto, using(crate::proofs::Frames::MandatoryPairs::pair_steps))]
 fn add_pairs(
     tables: &Tables,
     variable: Sym,

@@ -34,7 +34,7 @@ pub fn active_statements()
 {}
 
 /// As many blocks are open as there are more `${` than `$}`, where no `$}` lacks its `${`.
-#[tactic(auto, using(crate::proofs::OpenPlaces::open_count_holds))]
+#[tactic(auto, using(crate::proofs::Blocks::BlockLaws::open_count_holds))]
 pub fn open_count()
     ensures { OpenCount }
 {}

@@ -77,7 +77,7 @@ pub(crate) fn is_typed(tables: &Tables, variable: &[u8]) -> bool
 }
 
 // The type code that the variable's latest `$f` gives it. Each `$f` before gave the same.
-#[tactic(auto, using(crate::proofs::LookupLaws::code_steps))]
+#[tactic(auto, using(crate::proofs::Rules::SymbolLookups::code_steps))]
 fn latest_code<'a>(tables: &Tables<'a>, variable: &[u8]) -> Option<&'a [u8]>
     requires { AreTables tables.now }
     ensures { MatchOption

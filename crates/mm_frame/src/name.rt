@@ -58,7 +58,7 @@ fn eight_at(bytes: &[u8], at: usize) -> u64
 }
 
 // The first bytes of a name and its last, as numbers.
-#[tactic(auto, using(crate::proofs::NameKeys::end_steps))]
+#[tactic(auto, using(crate::proofs::Names::NameTables::end_steps))]
 fn ends(bytes: &[u8]) -> (u64, u64)
     ensures { result ≡ ends_of bytes.now }
 {

@@ -35,7 +35,7 @@ impl<'a> Model for Names<'a> {
 }
 
 // The table where no name is one byte long.
-#[tactic(auto, using(crate::proofs::ByByte::by_byte_of_none))]
+#[tactic(auto, using(crate::proofs::Names::NameTables::by_byte_of_none))]
 fn no_numbers() -> [Option<u32>; 256]
     ensures { AreByByte [] result }
 {
@@ -102,7 +102,7 @@ impl<'a> Names<'a> {
 
     /// The number of a name, if it is one of them.
     #[inline(always)]
-    #[tactic(auto, using(crate::proofs::ByByte::found_by_byte))]
+    #[tactic(auto, using(crate::proofs::Names::NameTables::found_by_byte))]
     pub(crate) fn find(&self, name: &[u8]) -> Option<u32>
         ensures { MatchOption
             result
@@ -159,7 +159,7 @@ impl<'a> Names<'a> {
     }
 
     /// Takes a name in, at the end where it is new.
-    #[tactic(auto, using(crate::proofs::Numbered::adding_steps))]
+    #[tactic(auto, using(crate::proofs::Names::NameNumbers::adding_steps))]
     pub(crate) fn add(&mut self, name: &'a [u8])
         requires few { length self.old.names + 1 < 4294967296 }
         requires room { 0 < self.old.room }

@@ -77,7 +77,7 @@ impl NotedPlaces {
     }
 
     /// Notes the places of the variables' `$f` among some hypotheses.
-    #[tactic(auto, using(crate::proofs::FirstPlaces::noting_steps))]
+    #[tactic(auto, using(crate::proofs::Frames::VariableIndices::noting_steps))]
     pub(crate) fn note(&mut self, hypotheses: &[Hypothesis]) -> Result<(), AllocError>
         ensures { OnOk result (AreNoted self.new.places.items (variables_of hypotheses.now)) }
     {

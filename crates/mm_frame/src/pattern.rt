@@ -50,7 +50,7 @@ fn push_piece(pieces: &mut Vec<ShortPiece>, piece: Piece) -> Result<(), AllocErr
 }
 
 // Adds the pattern of some symbols, and says where it stands.
-#[tactic(auto, using(crate::proofs::Patterned::pattern_steps))]
+#[tactic(auto, using(crate::proofs::Frames::FramePatterns::pattern_steps))]
 fn push_pattern(
     pieces: &mut Vec<ShortPiece>,
     hypotheses: &[Hypothesis],

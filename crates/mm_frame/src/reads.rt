@@ -104,7 +104,7 @@ pub(crate) fn label_kind(tables: &Tables, id: LabelId) -> LabelKind
 }
 
 // Whether a labelled statement is active after the statements before a place.
-#[tactic(auto, using(crate::proofs::Entries::few_statements))]
+#[tactic(auto, using(crate::proofs::BookLists::GrownLists::few_statements))]
 pub(crate) fn is_label_active(tables: &Tables, id: LabelId, at: usize) -> bool
     requires tables { AreTables tables.now }
     requires within { at ≤ length (statements_of tables.now) }
@@ -146,7 +146,7 @@ fn find_number(tables: &Tables, id: LabelId) -> Found
 }
 
 // What stands under a label.
-#[tactic(auto, using(crate::proofs::ReadLaws::label_reads))]
+#[tactic(auto, using(crate::proofs::BookLists::ReadLabels::label_reads))]
 pub(crate) fn find_label(tables: &Tables, label: &[u8]) -> Found
     requires { AreTables tables.now }
     ensures { Finds (statements_of tables.now) label.now result }
@@ -158,7 +158,7 @@ pub(crate) fn find_label(tables: &Tables, label: &[u8]) -> Found
 }
 
 // What stands under a label, which is looked for by its guess first.
-#[tactic(auto, using(crate::proofs::ReadLaws::label_reads))]
+#[tactic(auto, using(crate::proofs::BookLists::ReadLabels::label_reads))]
 pub(crate) fn find_label_guessed(tables: &Tables, guesses: &mut Guesses, label: &[u8]) -> Found
     requires { AreTables tables.now }
     ensures { Finds (statements_of tables.now) label.now result }

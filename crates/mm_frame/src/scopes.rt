@@ -119,7 +119,7 @@ impl Scopes {
     }
 
     // Takes a `${` in.
-    #[tactic(auto, using(crate::proofs::ScopeCode::begun))]
+    #[tactic(auto, using(crate::proofs::Blocks::ScopeStack::begun))]
     fn begin(&mut self)
         requires room { HasRoom self.old }
         requires scopes { (statements : List Sentence) × HaveScopes statements self.old }
@@ -133,7 +133,7 @@ impl Scopes {
     }
 
     // Takes another statement in.
-    #[tactic(auto, using(crate::proofs::ScopeCode::stayed))]
+    #[tactic(auto, using(crate::proofs::Blocks::ScopeStack::stayed))]
     fn stay(&mut self)
         requires room { HasRoom self.old }
         requires scopes { (statements : List Sentence) × HaveScopes statements self.old }

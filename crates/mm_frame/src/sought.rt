@@ -13,7 +13,7 @@ use mm_text::{Statement, Token};
 use std::alloc::AllocError;
 
 // The number of a symbol. One that isn't declared has the next free number, which no symbol has.
-#[tactic(auto, using(crate::proofs::SoughtLaws::sought_steps))]
+#[tactic(auto, using(crate::proofs::Rules::SymbolLookups::sought_steps))]
 fn number_of(tables: &Tables, symbol: &[u8]) -> Sym
     requires { AreTables tables.now }
     ensures { IsSought (statements_of tables.now) symbol.now result.0 }
@@ -44,7 +44,7 @@ fn look_up_each(
 }
 
 /// Looks the symbols of a statement up that uses symbols.
-#[tactic(auto, using(std::proofs::lemmas::Result::on_ok_weaker, crate::proofs::Symbols::texts))]
+#[tactic(auto, using(std::proofs::lemmas::Result::on_ok_weaker, crate::proofs::Rules::RepeatedSymbols::texts))]
 pub(crate) fn look_up(
     tables: &Tables,
     statement: &Statement,
@@ -104,7 +104,7 @@ pub(crate) fn is_active_number(tables: &Tables, symbol: Sym) -> bool
 }
 
 // Whether the variable with a number has an active `$f`. No other than its latest can be active.
-#[tactic(auto, using(crate::proofs::SoughtLaws::typed_steps))]
+#[tactic(auto, using(crate::proofs::Rules::SymbolLookups::typed_steps))]
 pub(crate) fn is_typed_number(tables: &Tables, variable: Sym) -> bool
     requires { AreTables tables.now }
     ensures { IsTrue result ↔ IsOfNumber

@@ -53,7 +53,7 @@ pub(crate) struct LabelInfo {
 }
 
 /// The symbols of the statement at a place, by the statements and the symbols of a book.
-#[tactic(auto, using(crate::proofs::SymbolsAt::numbers_at))]
+#[tactic(auto, using(crate::proofs::Rules::SymbolLookups::numbers_at))]
 pub(crate) fn symbols_in<'b>(log: &[Entry], flat: &'b [Sym], place: usize) -> &'b [Sym]
     requires { place < length log.now }
     ensures { (t : Tables) (s : Sentence) → AreTables t → t.log.items ≡ log.now
@@ -150,7 +150,7 @@ impl<'a> Tables<'a> {
     }
 
     /// What is known of a symbol by its name.
-    #[tactic(auto, using(crate::proofs::LookupLaws::known_steps))]
+    #[tactic(auto, using(crate::proofs::Rules::SymbolLookups::known_steps))]
     pub(crate) fn symbol_info(&self, symbol: &[u8]) -> Option<SymbolInfo>
         requires { AreTables self.now }
         ensures { MatchOption
@@ -182,7 +182,7 @@ impl<'a> Tables<'a> {
     }
 
     /// The variable of the `$f` at a place.
-    #[tactic(auto, using(crate::proofs::Typings::typing_steps))]
+    #[tactic(auto, using(crate::proofs::Frames::FrameTypings::typing_steps))]
     pub(crate) fn floating_variable(&self, place: usize) -> Option<Sym>
         requires { AreTables self.now }
         ensures { (f : Sentence) → slice_get (statements_of self.now) place ≡ Some f → MatchOption
@@ -204,7 +204,7 @@ impl<'a> Tables<'a> {
     }
 
     /// The type code and the variable of the `$f` at a place.
-    #[tactic(auto, using(crate::proofs::Typings::typing_steps))]
+    #[tactic(auto, using(crate::proofs::Frames::FrameTypings::typing_steps))]
     pub(crate) fn typing(&self, place: usize) -> Option<(Sym, Sym)>
         requires { AreTables self.now }
         ensures { (f : Sentence) → slice_get (statements_of self.now) place ≡ Some f
@@ -223,7 +223,7 @@ impl<'a> Tables<'a> {
     }
 
     /// Whether the statement at a place is active now.
-    #[tactic(auto, using(crate::proofs::LookupLaws::activity_steps))]
+    #[tactic(auto, using(crate::proofs::Rules::SymbolLookups::activity_steps))]
     pub(crate) fn is_active_now(&self, place: usize) -> bool
         requires tables { AreTables self.now }
         requires place { place < length (statements_of self.now) }

@@ -9,9 +9,10 @@ use Rattle.mm_text.specs.declared.statement.Kind.TheVariants.{Distinct}
 use Rattle.mm_frame.specs.Sentence.{Sentence}
 use Rattle.mm_frame.specs.Active.{IsActive, IsVariable}
 use Rattle.mm_frame.specs.Frame.{IsMandatory, AreThose, IsDistinct, IsMandatoryPair}
-use Rattle.mm_frame.proofs.Decided.{dec_both, dec_if, dec_as, dec_some, kind_dec, symbol_dec}
-use Rattle.mm_frame.proofs.Decided.{distinct_dec, mandatory_dec, active_dec, contains_dec, dec_not}
-use Rattle.mm_frame.proofs.Decided.{dec_or, variable_dec}
+use Rattle.mm_frame.proofs.Rules.DecidedStatements.{dec_both, dec_if, dec_as, dec_some, kind_dec}
+use Rattle.mm_frame.proofs.Rules.DecidedStatements.{symbol_dec, distinct_dec, mandatory_dec}
+use Rattle.mm_frame.proofs.Rules.DecidedStatements.{active_dec, contains_dec, dec_not, dec_or}
+use Rattle.mm_frame.proofs.Rules.DecidedStatements.{variable_dec}
 use Rattle.mm_proof.specs.Tree.{ShareNoVariable, AreDistinct}
 
 -- ==== members of lists, by recursion on the list

@@ -15,7 +15,7 @@ use Rattle.mm_proof.specs.Stores.{numbers_in, said_by, all_said_by}
 use Rattle.mm_frame.specs.declared.piece.Piece.{Piece}
 use Rattle.mm_proof.specs.Mirror.Buffer.{parts_of, IsPart, AreParts}
 use Rattle.mm_text.proofs.Lists.{get_from_front}
-use Rattle.mm_frame.proofs.Entries.{slice_left}
+use Rattle.mm_frame.proofs.BookLists.GrownLists.{slice_left}
 
 -- ==== elements of a list that a contract sees as something else
 

@@ -50,7 +50,7 @@ impl<'b, 'a> Site<'b, 'a> {
     ghost use Rattle.mm_proof.specs.Mirror.Sites.{IsSite};
 
     /// Where the proof of the `$p` with the number is judged, under the profile.
-    #[tactic(auto, using(mm_frame::proofs::Labelled::numbered_unique))]
+    #[tactic(auto, using(mm_frame::proofs::Names::LabelNumbers::numbered_unique))]
     pub(crate) fn new(book: &'b Book<'a>, id: LabelId, profile: Profile) -> Site<'b, 'a>
         requires { (place : ℕ) × (s : Sentence) × IsProofNumber book.now.statements id.0 place s }
         ensures site { IsSite result }

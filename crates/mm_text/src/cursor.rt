@@ -41,7 +41,7 @@ impl<'a> Cursor<'a> {
     /// `Load(F2)` where two have one name, `Load(F3)` where they hold over 1,073,741,824 bytes in
     /// all. Else `Memory` alone can be wanting: for their names, and for those that are open at
     /// once.
-    #[tactic(auto, using(crate::proofs::HandedLaws::handed_steps))]
+    #[tactic(auto, using(crate::proofs::Reader::OneToken::handed_steps))]
     pub fn new(
         alloc: Global,
         seed: Seed,

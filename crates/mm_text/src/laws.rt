@@ -15,7 +15,7 @@ ghost use Rattle.mm_text.specs.Replaced.{ReplacedProofsAreRead};
 /// section 4.1.1): each token is the slice of the file at its place and such a run, each such run
 /// is one of the tokens, and they come in the order of their places, no place twice. White space
 /// is the space, the tab, the line feed, the form feed and the carriage return.
-#[tactic(auto, using(crate::proofs::LongestRuns::longest_runs))]
+#[tactic(auto, using(crate::proofs::Tokens::LongestRuns::longest_runs))]
 pub fn tokens_are_longest_runs()
     ensures { TokensAreLongestRuns }
 {}
@@ -23,7 +23,7 @@ pub fn tokens_are_longest_runs()
 /// Any files have exactly one reading (the Metamath book, sections 4.1 and 4.2): there are
 /// statements and an ending, or none, that the grammar allows as their reading, and whatever else
 /// the grammar allows as their reading is the same statements and the same ending.
-#[tactic(auto, using(crate::proofs::ReaderLaws::each_has_one_reading))]
+#[tactic(auto, using(crate::proofs::Reader::WholeReadings::each_has_one_reading))]
 pub fn one_reading()
     ensures { EachHasOneReading }
 {}
@@ -46,13 +46,13 @@ pub fn faults_end_longest_fronts()
 /// Each statement of a reading is one that the grammar knows, with as many symbols as its kind
 /// asks for and with a label exactly if its kind has one (the Metamath book, section 4.2), and
 /// each of its tokens holds a byte and is the slice of its file at the token's place.
-#[tactic(auto, using(crate::proofs::FormedLaws::readings_are_formed_in_place))]
+#[tactic(auto, using(crate::proofs::Reader::WholeReadings::readings_are_formed_in_place))]
 pub fn statements_are_formed_in_place()
     ensures { ReadingsAreFormedInPlace }
 {}
 
 /// The tokens among the files' items hold no more bytes in all than the files.
-#[tactic(auto, using(crate::proofs::TokenWeights::tokens_fit))]
+#[tactic(auto, using(crate::proofs::Inclusions::EachOnce::tokens_fit))]
 pub fn tokens_fit_files()
     ensures { TokensFitFiles }
 {}
@@ -64,27 +64,27 @@ pub fn files_are_put_in_once()
 
 /// The definition of the items puts in so many files as there are beside the top file. That more
 /// could be put in would change nothing, so this bound keeps no file out.
-#[tactic(auto, using(crate::proofs::InclusionsEnd::inclusions_end))]
+#[tactic(auto, using(crate::proofs::Inclusions::EachOnce::inclusions_end))]
 pub fn inclusions_end()
     ensures { InclusionsEnd }
 {}
 
 /// Nothing of any file comes after the top file's end.
-#[tactic(auto, using(crate::proofs::TopEnd::top_file_ends_last))]
+#[tactic(auto, using(crate::proofs::Inclusions::ItemOrder::top_file_ends_last))]
 pub fn top_file_ends_last()
     ensures { TopFileEndsLast }
 {}
 
 /// In a reading no `$}` lacks its `${` (the Metamath book, section 4.2.8): in each front of its
 /// statements there are at most as many `$}` as `${`.
-#[tactic(auto, using(crate::proofs::FormedLaws::readings_are_balanced))]
+#[tactic(auto, using(crate::proofs::Reader::WholeReadings::readings_are_balanced))]
 pub fn readings_are_balanced()
     ensures { ReadingsAreBalanced }
 {}
 
 /// The tokens of a reading's statements have no more bytes than the files: no byte of a file is
 /// read twice. Counted of a statement are its first token, its symbols and its proof.
-#[tactic(auto, using(crate::proofs::FormedLaws::readings_fit))]
+#[tactic(auto, using(crate::proofs::Reader::WholeReadings::readings_fit))]
 pub fn readings_fit()
     ensures { ReadingsFit }
 {}
@@ -93,27 +93,27 @@ pub fn readings_fit()
 /// that show the same outside comments have the same readings, but for the places of their tokens.
 /// They show the same if they have the same tokens there on the same lines and, where a comment of
 /// the one is at fault, the other has a fault of that rule on that line.
-#[tactic(auto, using(crate::proofs::AlikeReadings::alike_files_are_read_alike))]
+#[tactic(auto, using(crate::proofs::Alike::AlikeItems::alike_files_are_read_alike))]
 pub fn alike_files_are_read_alike()
     ensures { AlikeFilesAreReadAlike }
 {}
 
 /// The first file is read in any case: whatever it holds, it isn't left out.
-#[tactic(auto, using(crate::proofs::LeftOut::top_file_is_never_left_out))]
+#[tactic(auto, using(crate::proofs::Inclusions::FilesLeftOut::top_file_is_never_left_out))]
 pub fn top_file_is_never_left_out()
     ensures { TopFileIsNeverLeftOut }
 {}
 
 /// What comments say includes no file: of files with the same names that show the same outside
 /// comments the same are left out.
-#[tactic(auto, using(crate::proofs::LeftOut::alike_files_leave_out_the_same))]
+#[tactic(auto, using(crate::proofs::Inclusions::FilesLeftOut::alike_files_leave_out_the_same))]
 pub fn alike_files_leave_out_the_same()
     ensures { AlikeFilesLeaveOutTheSame }
 {}
 
 /// In the reading of files, also one that a fault ends, the bytes of a proof stand in the file of
 /// its statement's first token, where the statement's span says.
-#[tactic(auto, using(crate::proofs::ProofSpans::proofs_stand_in_spans_holds))]
+#[tactic(auto, using(crate::proofs::Replaced::ProofSpans::proofs_stand_in_spans_holds))]
 pub fn proofs_stand_in_spans()
     ensures { ProofsStandInSpans }
 {}
@@ -121,7 +121,7 @@ pub fn proofs_stand_in_spans()
 /// In the reading of files, also one that a fault ends, the proofs of one file stand in the order
 /// of their statements, without overlap: the proof of a later `$p` stands behind that of an earlier
 /// one.
-#[tactic(auto, using(crate::proofs::FollowingSpans::proof_spans_follow_holds))]
+#[tactic(auto, using(crate::proofs::Replaced::ProofSpans::proof_spans_follow_holds))]
 pub fn proof_spans_follow()
     ensures { ProofSpansFollow }
 {}
@@ -130,7 +130,7 @@ pub fn proof_spans_follow()
 /// and its `$.`, files without a fault are read as the same statements, but for that proof, and but
 /// for the places of what comes after it. Later proofs of that file stand as far behind it as they
 /// did, those of other files where they did.
-#[tactic(auto, using(crate::proofs::ReplacedFiles::replaced_proofs_are_read_holds))]
+#[tactic(auto, using(crate::proofs::Replaced::ReplacedFiles::replaced_proofs_are_read_holds))]
 pub fn replaced_proofs_are_read()
     ensures { ReplacedProofsAreRead }
 {}

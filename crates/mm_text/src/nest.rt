@@ -165,7 +165,7 @@ impl<'a> Nest<'a> {
     /// Finishes the inclusion that a `$[` begins: its file is gone into where it is named for the
     /// first time. Answers where the text is wrong.
     #[inline(never)]
-    #[tactic(auto, using(crate::proofs::NestLaws::nest_steps))]
+    #[tactic(auto, using(crate::proofs::Inclusions::OpenFiles::nest_steps))]
     fn include(&mut self, begin: Token<'a>) -> Option<Wrong<'a>>
         requires nest { IsNest self.old }
         requires naming { self.old.naming ≡ Some begin }
@@ -195,7 +195,7 @@ impl<'a> Nest<'a> {
 
     /// Goes back to the file in which the one that ended stands.
     #[inline(never)]
-    #[tactic(auto, using(crate::proofs::NestLaws::nest_steps))]
+    #[tactic(auto, using(crate::proofs::Inclusions::OpenFiles::nest_steps))]
     fn leave(&mut self)
         requires nest { IsNest self.old }
         requires naming { self.old.naming ≡ None }
@@ -211,7 +211,7 @@ impl<'a> Nest<'a> {
 
     /// Takes the next item outside inclusions.
     #[inline(always)]
-    #[tactic(auto, using(crate::proofs::NestLaws::nest_steps))]
+    #[tactic(auto, using(crate::proofs::Inclusions::OpenFiles::nest_steps))]
     fn take(&mut self) -> Next<'a>
         requires nest { IsNest self.old }
         requires naming { self.old.naming ≡ None }
@@ -231,7 +231,7 @@ impl<'a> Nest<'a> {
 
     /// Takes the next item where it is a word that is told at once; else takes nothing.
     #[inline(always)]
-    #[tactic(auto, using(crate::proofs::NestLaws::nest_steps))]
+    #[tactic(auto, using(crate::proofs::Inclusions::OpenFiles::nest_steps))]
     pub fn word(&mut self) -> Option<Token<'a>>
         requires { IsNest self.old }
         ensures nest { IsNest self.new }

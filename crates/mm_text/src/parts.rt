@@ -137,7 +137,7 @@ fn add_symbol<'a>(
 }
 
 /// Adds a token to the proof of a statement.
-#[tactic(auto, using(crate::proofs::PartLaws::part_steps))]
+#[tactic(auto, using(crate::proofs::Reader::OneToken::part_steps))]
 fn add_to_proof<'a>(
     into: &mut Statement<'a>,
     scope: &Scope,
@@ -152,7 +152,7 @@ fn add_to_proof<'a>(
 }
 
 /// Adds the words that come next to the proof of a statement, as many as are told at once.
-#[tactic(auto, using(crate::proofs::PartLaws::part_steps))]
+#[tactic(auto, using(crate::proofs::Reader::OneToken::part_steps))]
 fn words_of_proof<'a>(
     cursor: &mut Cursor<'a>,
     into: &mut Statement<'a>,
@@ -171,7 +171,7 @@ fn words_of_proof<'a>(
 }
 
 /// Reads the proof of a statement, of which everything up to the `$=` was read, and its `$.`.
-#[tactic(auto, using(crate::proofs::PartLaws::part_steps))]
+#[tactic(auto, using(crate::proofs::Reader::OneToken::part_steps))]
 fn proof<'a>(
     cursor: &mut Cursor<'a>,
     into: &mut Statement<'a>,
@@ -228,7 +228,7 @@ fn after_symbols<'a>(
 }
 
 /// Adds the words that come next to the symbols of a statement, as many as are told at once.
-#[tactic(auto, using(crate::proofs::PartLaws::part_steps))]
+#[tactic(auto, using(crate::proofs::Reader::OneToken::part_steps))]
 fn words_of_body<'a>(
     cursor: &mut Cursor<'a>,
     into: &mut Statement<'a>,
@@ -249,7 +249,7 @@ fn words_of_body<'a>(
 
 /// Reads the symbols of a statement, of which everything up to its keyword was read, and what
 /// follows them.
-#[tactic(auto, using(crate::proofs::PartLaws::part_steps))]
+#[tactic(auto, using(crate::proofs::Reader::OneToken::part_steps))]
 fn body<'a>(
     cursor: &mut Cursor<'a>,
     into: &mut Statement<'a>,
@@ -340,7 +340,7 @@ fn from_word<'a>(
 }
 
 /// Reads a statement from its first token on.
-#[tactic(auto, using(crate::proofs::PartLaws::part_steps))]
+#[tactic(auto, using(crate::proofs::Reader::OneToken::part_steps))]
 fn from_first<'a>(
     cursor: &mut Cursor<'a>,
     into: &mut Statement<'a>,
@@ -384,7 +384,7 @@ fn from_first<'a>(
 
 /// Takes the first token of the next statement, past inclusions and the ends of files; none where
 /// nothing is left.
-#[tactic(auto, using(crate::proofs::PartLaws::part_steps))]
+#[tactic(auto, using(crate::proofs::Reader::OneToken::part_steps))]
 fn first_token<'a>(
     cursor: &mut Cursor<'a>,
     scope: &Scope,

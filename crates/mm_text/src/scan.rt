@@ -141,7 +141,7 @@ fn are_legal(bytes: &[u8]) -> bool
 
 /// Whether all bytes are printable ones, spaces and line feeds, as those of nearly every file are:
 /// two bounds on them tell it, which is faster than to judge each.
-#[tactic(auto, using(crate::proofs::LegalLaws::plain_legal))]
+#[tactic(auto, using(crate::proofs::Tokens::ManyBytes::plain_legal))]
 fn are_plain(bytes: &[u8]) -> bool
     ensures { result ≡ true → list_all is_legal bytes.now ≡ true }
 {

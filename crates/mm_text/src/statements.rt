@@ -75,7 +75,7 @@ impl<'a> Statements<'a> {
     /// `Load(F2)` where two have one name, `Load(F3)` where they hold over 1,073,741,824 bytes in
     /// all. Else `Memory` alone can be wanting: the names and the open files are kept. The hashes
     /// of the files' names begin from the seed.
-    #[tactic(auto, using(crate::proofs::ReaderLaws::start_steps))]
+    #[tactic(auto, using(crate::proofs::Reader::WholeReadings::start_steps))]
     pub fn new(
         alloc: Global,
         seed: Seed,

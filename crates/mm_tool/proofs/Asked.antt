@@ -1,7 +1,7 @@
 -- From what `clap` ensures of a parse to what the words ask for.
 use Rattle.std.proofs.Common.{Bool, Bor, false, ℕ, ◌<◌, length, map, nat_lt, cond, codes}
 use Rattle.std.specs.List.{position, position_or_len}
-use Rattle.mm_text.proofs.NameLaws.{position-names}
+use Rattle.mm_text.proofs.Inclusions.OpenFiles.{position-names}
 use borrow.Author.Tests.{ltb-true}
 use Rattle.std.specs.Global.{Vec}
 use Rattle.std.specs.Str.{bytes_eq}

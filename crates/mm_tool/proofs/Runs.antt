@@ -3,7 +3,7 @@ use Rattle.std.proofs.Common.{◌≡◌, ℕ, List, codes, Option, Result, Ok, E
 use Rattle.std.proofs.Common.{length, map, ap, ◌∙◌}
 use Rattle.std.proofs.lemmas.List.{length-map}
 use Rattle.std.specs.List.{AllZip}
-use Rattle.mm_text.proofs.Lists.{zip_length}
+use Rattle.mm_text.proofs.Lists.{zip_length, error_keeps}
 use Rattle.mm_check.specs.Reply.{AsksHanded, IsReplyTo, WritesBeginningOf}
 use Rattle.mm_check.specs.declared.command.Command.TheVariants.{All}
 use Rattle.mm_tool.specs.ReadFiles.{IsReadAs}
@@ -16,7 +16,6 @@ use Rattle.mm_check.specs.declared.command.Command.{Command}
 use Rattle.mm_check.specs.declared.command.RunFault.{RunFault}
 use Rattle.mm_check.specs.declared.command.RunFault.TheVariants as run
 use Rattle.mm_check.specs.declared.status.Status.{Status}
-use Rattle.mm_text.proofs.Results.{error_keeps}
 use Rattle.mm_tool.specs.Folder.{AreHeld, AreTooLong, KnownFile}
 use Rattle.mm_tool.specs.Answer.{Outcome, quiet}
 use Rattle.mm_tool.specs.Notes.{AreNotesOn}

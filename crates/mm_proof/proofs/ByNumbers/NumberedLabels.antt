@@ -5,7 +5,7 @@ use Rattle.std.proofs.Common.{inr, subst}
 use Rattle.mm_frame.specs.Sentence.{Sentence, IsLabelled}
 use Rattle.mm_frame.specs.Numbers.{labelled_sentences, IsNumbered}
 use Rattle.mm_frame.specs.Rules.{AllMeant}
-use Rattle.mm_frame.proofs.Labelled.{numbered_rise, numbered_unique}
+use Rattle.mm_frame.proofs.Names.LabelNumbers.{numbered_rise, numbered_unique}
 use Rattle.mm_proof.specs.Moves.{Move, name, again, mark}
 use Rattle.mm_proof.specs.Steps.{IsNumberedMove, AreSteps, IsProofNumber, IsUsableMove}
 use Rattle.mm_proof.specs.Mirror.CodeSteps.{IsUnknown, IsReading}

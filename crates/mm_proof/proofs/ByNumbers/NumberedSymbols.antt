@@ -35,9 +35,9 @@ use Rattle.mm_frame.specs.declared.hypothesis.Hypothesis.{Hypothesis}
 use Rattle.mm_proof.specs.Plain.{label_ids}
 use Rattle.std.proofs.lemmas.Bool.Decides.{Decides-eqb}
 use Rattle.mm_proof.specs.Substitution.{instance_of}
-use Rattle.mm_frame.proofs.Decided.{types_dec}
+use Rattle.mm_frame.proofs.Rules.DecidedStatements.{types_dec}
 use Rattle.mm_proof.proofs.ProofSteps.Replacements.{replaced_by, first_of}
-use Rattle.mm_text.proofs.NestLaws.{none_there}
+use Rattle.mm_text.proofs.Inclusions.OpenFiles.{none_there}
 
 -- ==== what replaces a symbol, by numbers: the entry of the hypothesis that types it
 

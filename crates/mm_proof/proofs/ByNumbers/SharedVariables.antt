@@ -3,7 +3,7 @@ use Rattle.std.proofs.Common.{ℕ, List, refl, ◌≡◌, zero, suc, ◌+◌, �
 use Rattle.std.proofs.Common.{drop, get_or, slice_get, Contains, Bool, true, false, not, Option}
 use Rattle.std.proofs.Common.{Some, IsTrue, MatchBool, inl, inr, ⊎_elim, sym, ap, subst, ◌∙◌, arith}
 use Rattle.mm_frame.specs.Sentence.{Sentence, Declares}
-use Rattle.mm_frame.proofs.Those.{distinct_other}
+use Rattle.mm_frame.proofs.Frames.FrameLaws.{distinct_other}
 use Rattle.mm_proof.specs.Tree.{ShareNoVariable, AreDistinct}
 use Rattle.std.proofs.lemmas.Bool.{false≢true, cases_lt}
 use Rattle.std.proofs.lemmas.List.{length-map, get_or-map, get_or_default}
@@ -21,9 +21,8 @@ use Rattle.mm_proof.specs.Mirror.CodeVerify.{AreBelow, IsApartFromEach, AreStack
 use Rattle.mm_proof.specs.Mirror.CodeVerify.{EachValues, SomeValues, pairs_in}
 use Rattle.std.proofs.lemmas.Option.{same_Some, slice_get-map, slice_get-get_or}
 use Rattle.mm_frame.specs.Frame.{IsDistinct}
-use Rattle.mm_frame.proofs.Decided.{distinct_dec}
-use Rattle.mm_frame.proofs.Needed.{some_later}
-use Rattle.mm_frame.proofs.Meant.{one_role}
+use Rattle.mm_frame.proofs.Rules.DecidedStatements.{distinct_dec}
+use Rattle.mm_frame.proofs.Rules.ObeyedRules.{some_later, one_role}
 use Rattle.mm_proof.proofs.ByNumbers.NumberedSymbols.{one_name, within_at, all_rest, value_all}
 
 -- ==== pairs of expressions that are judged in the other order

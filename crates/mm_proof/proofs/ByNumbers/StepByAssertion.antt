@@ -20,8 +20,8 @@ use Rattle.mm_frame.specs.declared.scheme.Scheme.{Scheme}
 use Rattle.mm_frame.specs.Taken.{kind_behind}
 use Rattle.mm_frame.specs.declared.number.LabelKind.{LabelKind}
 use Rattle.mm_frame.specs.Laws.{OneNumber}
-use Rattle.mm_frame.proofs.Meant.{meant_at, allmeant_front}
-use Rattle.mm_frame.proofs.Labelled.{numbered_get}
+use Rattle.mm_frame.proofs.Rules.ObeyedRules.{meant_at, allmeant_front}
+use Rattle.mm_frame.proofs.Names.LabelNumbers.{numbered_get}
 use Rattle.mm_proof.specs.declared.fault.ProofRule.TheVariants.{P8, P9, P10, P11, P12, L1}
 use Rattle.mm_proof.specs.Substitution.{instance_of}
 use Rattle.mm_proof.specs.Tree.{Names, ShareNoVariable, AreDistinct, Trees, roots, MayStandOver}

@@ -21,7 +21,7 @@ use Rattle.std.proofs.lemmas.List.{take-take, length-map, get_or-map, map-append
 use Rattle.std.proofs.lemmas.List.{get_or-set_other}
 use Rattle.mm_frame.specs.Rules.{AllMeant}
 use Rattle.mm_frame.specs.Numbers.{labelled_sentences, IsNumbered, IsAssertionNumber}
-use Rattle.mm_frame.proofs.Labelled.{numbered_from_get, numbered_get}
+use Rattle.mm_frame.proofs.Names.LabelNumbers.{numbered_from_get, numbered_get}
 use Rattle.mm_proof.specs.Steps.{IsNumberedMove, AreNumberedMoves, IsUsable, IsUsableMove}
 use Rattle.mm_proof.specs.Used.{IsUsedNumber}
 use Rattle.mm_proof.proofs.ProofSteps.OneStep.{one_label, hypothesis_or_assertion, not_both_kinds}

@@ -7,7 +7,7 @@ use Rattle.mm_code.specs.declared.code.Code.TheVariants.{Number, Tag}
 use Rattle.mm_frame.specs.Sentence.{Sentence}
 use Rattle.mm_frame.specs.Frame.{AreMandatory, IsMandatoryAt}
 use Rattle.mm_frame.specs.Rules.{AllMeant}
-use Rattle.mm_frame.proofs.Those.{mandatory_unique}
+use Rattle.mm_frame.proofs.Frames.FrameLaws.{mandatory_unique}
 use Rattle.mm_proof.specs.Tree.{Trees, none, tree, spelling}
 use Rattle.mm_proof.specs.Moves.{Move, Makes, name, again, mark}
 use Rattle.mm_proof.specs.Tokens.{Says}
@@ -15,14 +15,14 @@ use Rattle.mm_proof.specs.Sharing.{PairSays, AreFirstUses, IsPacked}
 use Rattle.mm_proof.specs.SharingLaws.{OnePacked, ToldByPacked, SomePacked}
 use Rattle.mm_proof.proofs.ProofSteps.OneStep.{one_label}
 use Rattle.mm_proof.proofs.ProofSteps.Derivations.{zip_once, makes_once}
-use Rattle.mm_frame.proofs.Numbered.{same_somes}
+use Rattle.mm_frame.proofs.Names.NameNumbers.{same_somes}
 use Rattle.mm_proof.proofs.ProofTokens.SaidMoves.{says_once, labelled_at, labels_of}
 use Rattle.mm_proof.proofs.ProofTokens.SaidMoves.{mandatory_active}
 use Rattle.mm_proof.proofs.ProofSteps.Replacements.{those_order}
 use Rattle.mm_proof.proofs.Members.{In, in_contains, in_apart, Once, once_places, places_once}
 use Rattle.mm_proof.proofs.Members.{those_of, in_get, contains_in, in_left, in_right}
 use Rattle.mm_proof.proofs.FullSharing.OneSharing.{shared_once}
-use Rattle.mm_frame.proofs.Decided.{contains_dec, mandatory_at_dec}
+use Rattle.mm_frame.proofs.Rules.DecidedStatements.{contains_dec, mandatory_at_dec}
 use Rattle.mm_proof.specs.BigSubtrees.{IsSubtree}
 use Rattle.mm_proof.specs.Visits.{visits, trees_made}
 use Rattle.mm_proof.proofs.FullSharing.FewestSteps.{made_subtrees}

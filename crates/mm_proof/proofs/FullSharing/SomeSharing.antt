@@ -4,7 +4,7 @@ use Rattle.std.proofs.Common.{◌≡◌, ℕ, ◌≤◌, List, [], ◌∷◌, �
 use Rattle.std.proofs.Common.{sym, ap, subst, ◌∙◌, append_assoc, append-nil}
 use Rattle.std.proofs.Math.Decide.{dec_le}
 use Rattle.std.proofs.lemmas.List.{length-append}
-use Rattle.mm_frame.proofs.Decided.{symbol_dec, dec_as, dec_both, dec_or}
+use Rattle.mm_frame.proofs.Rules.DecidedStatements.{symbol_dec, dec_as, dec_both, dec_or}
 use Rattle.mm_proof.specs.Tree.{Trees, none, tree, spelling}
 use Rattle.mm_proof.specs.BigSubtrees.{nodes, IsBig, IsSubtree}
 use Rattle.mm_proof.specs.Visits.{Visit, makes, repeats, keeps, trees_made}

@@ -32,7 +32,7 @@ use Rattle.mm_frame.specs.Rules.{AllMeant}
 use Rattle.mm_frame.specs.Numbers.{symbols_of, labelled_sentences, IsNumbered}
 use Rattle.mm_frame.specs.FramePlace.{AreItsSymbols}
 use Rattle.mm_frame.specs.Laws.{OneNumber}
-use Rattle.mm_frame.proofs.Labelled.{numbered_from_get}
+use Rattle.mm_frame.proofs.Names.LabelNumbers.{numbered_from_get}
 use Rattle.mm_proof.specs.declared.fault.ProofFault.TheVariants.{Rule, Memory}
 use Rattle.mm_proof.specs.Tree.{tree, none}
 use Rattle.mm_proof.specs.Profiles.{limit_of}

@@ -33,7 +33,7 @@ use Rattle.mm_frame.specs.Form.{AllFormed, IsSound}
 use Rattle.mm_frame.specs.Frame.{AreMandatory}
 use Rattle.mm_frame.specs.Numbers.{labelled_sentences, IsNumbered}
 use Rattle.mm_frame.specs.FramePlace.{FramePlace, AreHypotheses}
-use Rattle.mm_frame.proofs.Meant.{allmeant_front}
+use Rattle.mm_frame.proofs.Rules.ObeyedRules.{allmeant_front}
 use Rattle.mm_proof.specs.OneTree.{MakeTree}
 use Rattle.mm_proof.specs.Sharing.{AreFirstUses}
 use Rattle.mm_proof.specs.Packing.{ArePacked}

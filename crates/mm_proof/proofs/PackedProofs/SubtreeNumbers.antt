@@ -19,7 +19,7 @@ use Rattle.mm_proof.specs.Mirror.CodeSharing.{Adds, AddsNew}
 use Rattle.mm_frame.specs.Sentence.{Sentence}
 use Rattle.mm_frame.specs.Rules.{AllMeant}
 use Rattle.mm_frame.specs.Numbers.{labelled_sentences}
-use Rattle.mm_frame.proofs.Labelled.{numbered_from_get}
+use Rattle.mm_frame.proofs.Names.LabelNumbers.{numbered_from_get}
 use Rattle.mm_proof.specs.Tree.{Trees, none, tree, beside, roots}
 use Rattle.mm_proof.specs.Spelled.{IsNumberOfLabel}
 use Rattle.mm_proof.proofs.ProofSteps.OneStep.{one_label}

@@ -13,7 +13,7 @@ use Rattle.mm_code.specs.Layout.{in_parentheses}
 use Rattle.mm_frame.specs.Sentence.{Sentence, SomeSentence, IsLabelled, IsHypothesis, IsAssertion}
 use Rattle.mm_frame.specs.Active.{IsActive}
 use Rattle.mm_frame.specs.Rules.{AllMeant}
-use Rattle.mm_frame.proofs.Meant.{one_label}
+use Rattle.mm_frame.proofs.Rules.ObeyedRules.{one_label}
 use Rattle.mm_proof.specs.declared.fault.ProofRule.TheVariants.{P1, P2, P3, P4, P5}
 use Rattle.mm_proof.specs.Tree.{Trees, none, tree, spelling, MayStandOver, TreesFit, DeriveAll}
 use Rattle.mm_proof.specs.Moves.{name, Move, mark, Makes}
@@ -28,7 +28,7 @@ use Rattle.mm_proof.proofs.ProofTokens.CodeLetters.{coded_not_broken}
 use Rattle.mm_proof.proofs.Members.{contains_first, contains_later, contains_cases, In, contains_in}
 use Rattle.mm_proof.proofs.Members.{in_get, get_in, once_places}
 use Rattle.mm_proof.proofs.ProofSteps.OneStep.{not_both_kinds}
-use Rattle.mm_frame.proofs.Those.{mandatory_unique}
+use Rattle.mm_frame.proofs.Frames.FrameLaws.{mandatory_unique}
 use Rattle.mm_proof.specs.BigSubtrees.{IsBig}
 use Rattle.mm_proof.specs.Visits.{makes, keeps, visits}
 use Rattle.mm_proof.specs.Strict.{IsStrictList, MarkAssertions, IsStrict}

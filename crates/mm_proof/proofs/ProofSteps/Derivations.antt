@@ -13,7 +13,7 @@ use Rattle.std.proofs.lemmas.List.{length-map, map-append}
 use Rattle.mm_text.specs.declared.statement.Kind.TheVariants.{Floating}
 use Rattle.mm_frame.specs.Frame.{IsMandatory, IsMandatoryAt}
 use Rattle.mm_frame.specs.Rules.{AllMeant}
-use Rattle.mm_frame.proofs.Meant.{allmeant_front}
+use Rattle.mm_frame.proofs.Rules.ObeyedRules.{allmeant_front}
 use Rattle.mm_proof.specs.Substitution.{IsOn, instance_of}
 use Rattle.mm_proof.proofs.ProofSteps.OneStep.{code_is_constant, those_hold, StepTo, step_once}
 use Rattle.mm_proof.proofs.ProofSteps.OneStep.{one_label, one_labelled, hypothesis_or_assertion}

@@ -10,13 +10,14 @@ use Rattle.mm_frame.specs.Sentence.{Sentence, Declares, IsLabelled, Types, IsHyp
 use Rattle.mm_frame.specs.Sentence.{IsAssertion}
 use Rattle.mm_frame.specs.Active.{IsVariable, IsActive, IsTyped}
 use Rattle.mm_frame.specs.Rules.{AllMeant}
-use Rattle.mm_frame.proofs.Meant.{meant_at, one_role, one_label as only_place, allmeant_front}
-use Rattle.mm_frame.proofs.Needed.{some_later, used_declared, mandatory_typed}
+use Rattle.mm_frame.proofs.Rules.ObeyedRules.{meant_at, one_role, one_label as only_place}
+use Rattle.mm_frame.proofs.Rules.ObeyedRules.{allmeant_front, some_later, used_declared}
+use Rattle.mm_frame.proofs.Rules.ObeyedRules.{mandatory_typed}
 use Rattle.mm_frame.specs.Frame.{AreThose, IsMandatory, IsMandatoryAt, AreMandatory}
 use Rattle.mm_frame.specs.Frame.{IsMandatoryPair}
 use Rattle.std.proofs.lemmas.List.{length-append}
 use Rattle.mm_text.specs.declared.statement.Kind.{Kind}
-use Rattle.mm_frame.proofs.Those.{those_unique}
+use Rattle.mm_frame.proofs.Frames.FrameLaws.{those_unique}
 use Rattle.mm_proof.specs.declared.fault.ProofRule.{ProofRule}
 use Rattle.mm_proof.specs.declared.fault.ProofRule.TheVariants.{P8, P9, P10, P11, P12, L1}
 use Rattle.mm_proof.specs.Substitution.{IsOn, instance_of}

@@ -9,7 +9,7 @@ use Rattle.mm_text.proofs.Lists.{zip_push, zip_right, get_beside, zip_left, zip_
 use Rattle.mm_frame.specs.Sentence.{Sentence}
 use Rattle.mm_frame.specs.Frame.{IsMandatoryAt}
 use Rattle.mm_frame.specs.Rules.{AllMeant}
-use Rattle.mm_frame.proofs.Meant.{allmeant_front}
+use Rattle.mm_frame.proofs.Rules.ObeyedRules.{allmeant_front}
 use Rattle.mm_proof.specs.Substitution.{instance_of}
 use Rattle.mm_proof.specs.Tree.{Trees, none, tree, beside, MayStandOver, DeriveAll}
 use Rattle.mm_proof.specs.Moves.{Move, name, again, mark, Makes, MakesOne}

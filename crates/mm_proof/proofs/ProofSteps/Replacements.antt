@@ -11,9 +11,9 @@ use Rattle.mm_frame.specs.Sentence.{Sentence, Types}
 use Rattle.mm_frame.specs.Active.{IsActive}
 use Rattle.mm_frame.specs.Frame.{IsMandatory, IsMandatoryAt, AreThose, AreMandatory}
 use Rattle.mm_frame.specs.Rules.{AllMeant}
-use Rattle.mm_frame.proofs.Decided.{types_dec}
-use Rattle.mm_frame.proofs.Meant.{meant_at, allmeant_front, active_in_front}
-use Rattle.mm_frame.proofs.Needed.{mandatory_typed}
+use Rattle.mm_frame.proofs.Rules.DecidedStatements.{types_dec}
+use Rattle.mm_frame.proofs.Rules.ObeyedRules.{meant_at, allmeant_front, active_in_front}
+use Rattle.mm_frame.proofs.Rules.ObeyedRules.{mandatory_typed}
 use Rattle.mm_proof.specs.Tree.{Names}
 use Rattle.mm_proof.specs.Proof.{MeetsHypotheses}
 use Rattle.mm_text.proofs.Lists.{get_take, get_beside}

@@ -9,10 +9,9 @@ use Rattle.mm_code.specs.declared.code.CodeRule.{CodeRule}
 use Rattle.mm_code.specs.declared.code.CodeRule.TheVariants.{P4, P5}
 use Rattle.mm_code.specs.Letters.{Letters, SaysCode, LettersBreak as Breaks, HasSpelling, code_for}
 use Rattle.mm_code.specs.Mirror.Reading.{reading}
-use Rattle.mm_frame.proofs.Decided.{dec_as}
-use Rattle.mm_code.proofs.LettersFound.{is_read}
-use Rattle.mm_code.proofs.LettersAgain.{is_read_again}
-use Rattle.mm_code.proofs.Faults.{breaks_read, read_breaks}
+use Rattle.mm_frame.proofs.Rules.DecidedStatements.{dec_as}
+use Rattle.mm_code.proofs.ReadLetters.{is_read, is_read_again}
+use Rattle.mm_code.proofs.LetterFaults.{breaks_read, read_breaks}
 use Rattle.std.proofs.lemmas.Bool.{false≢true}
 use Rattle.std.proofs.lemmas.List.{length-map, length-append}
 use Rattle.std.proofs.lemmas.List.Concat.{length-flat_map}
@@ -21,8 +20,8 @@ use Rattle.std.proofs.lemmas.Slice.Zip.{AllZip-long}
 use Rattle.mm_text.proofs.Lists.{all_there, contains_from_at}
 use Rattle.mm_frame.specs.Sentence.{Sentence}
 use Rattle.mm_frame.specs.Form.{AllFormed}
-use Rattle.mm_frame.proofs.Meant.{allformed_front}
-use Rattle.mm_frame.proofs.ReadLaws.{label_named}
+use Rattle.mm_frame.proofs.Rules.ObeyedRules.{allformed_front}
+use Rattle.mm_frame.proofs.BookLists.ReadLabels.{label_named}
 use Rattle.mm_proof.specs.declared.fault.ProofRule.TheVariants.{P2}
 use Rattle.mm_frame.specs.declared.number.LabelId.{LabelId}
 use Rattle.mm_proof.specs.Moves.{Move, name}

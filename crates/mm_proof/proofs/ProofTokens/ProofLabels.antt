@@ -27,7 +27,7 @@ use Rattle.std.proofs.lemmas.Slice.Zip.{AllZip-long}
 use Rattle.mm_code.specs.declared.code.Code.{Code}
 use Rattle.mm_code.specs.declared.code.Code.TheVariants.{Number, Tag}
 use Rattle.mm_frame.specs.Numbers.{labelled_sentences}
-use Rattle.mm_frame.proofs.Labelled.{numbered_get}
+use Rattle.mm_frame.proofs.Names.LabelNumbers.{numbered_get}
 use Rattle.mm_proof.specs.Moves.{Move, name, again, mark}
 use Rattle.mm_proof.specs.Steps.{IsNumberedMove, AreNumberedMoves, IsUsable, IsUsableMove}
 

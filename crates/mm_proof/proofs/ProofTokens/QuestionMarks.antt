@@ -21,11 +21,11 @@ use Rattle.std.proofs.lemmas.List.Elements.{Contains-append_left, Contains-appen
 use Rattle.std.proofs.lemmas.List.Elements.{Contains-append_cases}
 use Rattle.std.proofs.lemmas.Bool.{eqb-true}
 use Rattle.mm_text.specs.Token.{is_label_byte}
-use Rattle.mm_text.proofs.TextFacts.{label_bytes}
+use Rattle.mm_text.proofs.Reader.OneToken.{label_bytes}
 use Rattle.mm_frame.specs.Sentence.{Sentence}
 use Rattle.mm_frame.specs.Form.{AllFormed}
-use Rattle.mm_frame.proofs.Meant.{allformed_front}
-use Rattle.mm_frame.proofs.ReadLaws.{label_named}
+use Rattle.mm_frame.proofs.Rules.ObeyedRules.{allformed_front}
+use Rattle.mm_frame.proofs.BookLists.ReadLabels.{label_named}
 use Rattle.mm_proof.specs.declared.fault.ProofRule.TheVariants.{P2, P4}
 use Rattle.mm_proof.specs.Moves.{Move}
 use Rattle.mm_proof.specs.Proof.{IsWhole}

@@ -14,16 +14,17 @@ use Rattle.mm_code.specs.declared.code.Code.{Code}
 use Rattle.mm_code.specs.declared.code.Code.TheVariants.{Number, Tag}
 use Rattle.mm_code.specs.declared.code.CodeRule.{CodeRule}
 use Rattle.mm_code.specs.Letters.{Letters, LettersBreak as Breaks, HasSpelling}
-use Rattle.mm_code.proofs.Unique.{one_reading_only}
+use Rattle.mm_code.proofs.OneSpelling.{one_reading_only}
 use Rattle.mm_frame.specs.Sentence.{Sentence, SomeSentence, IsHypothesis, IsAssertion, IsLabelled}
 use Rattle.mm_frame.specs.Active.{IsActive}
 use Rattle.mm_frame.specs.Frame.{IsMandatoryAt, AreMandatory}
 use Rattle.mm_frame.specs.Form.{HasItsLabel, AllFormed}
-use Rattle.mm_frame.proofs.Decided.{dec_both, dec_as, dec_some, kind_dec, symbol_dec, contains_dec}
-use Rattle.mm_frame.proofs.Decided.{mandatory_at_dec, sentence_dec, label_dec, dec_not, dec_or}
-use Rattle.mm_frame.proofs.Decided.{active_dec}
-use Rattle.mm_frame.proofs.Those.{those_unique}
-use Rattle.mm_frame.proofs.Numbered.{same_somes}
+use Rattle.mm_frame.proofs.Rules.DecidedStatements.{dec_both, dec_as, dec_some, kind_dec}
+use Rattle.mm_frame.proofs.Rules.DecidedStatements.{symbol_dec, contains_dec, mandatory_at_dec}
+use Rattle.mm_frame.proofs.Rules.DecidedStatements.{sentence_dec, label_dec, dec_not, dec_or}
+use Rattle.mm_frame.proofs.Rules.DecidedStatements.{active_dec}
+use Rattle.mm_frame.proofs.Frames.FrameLaws.{those_unique}
+use Rattle.mm_frame.proofs.Names.NameNumbers.{same_somes}
 use Rattle.mm_proof.specs.declared.fault.ProofRule.{ProofRule}
 use Rattle.mm_proof.specs.declared.fault.ProofRule.TheVariants.{P1, P2, P3, P4, P5}
 use Rattle.mm_proof.specs.Moves.{Move, name, again, mark}

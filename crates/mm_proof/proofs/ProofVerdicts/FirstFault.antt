@@ -34,8 +34,9 @@ use Rattle.std.proofs.Math.Decide.{ℕ_discrete}
 use Rattle.mm_text.specs.declared.statement.Kind.TheVariants.{Floating, Essential}
 use Rattle.mm_frame.specs.Active.{IsActive}
 use Rattle.mm_frame.specs.Frame.{IsMandatoryAt, AreMandatory, IsMandatoryPair}
-use Rattle.mm_frame.proofs.Decided.{dec_both, dec_as, dec_some, kind_dec, symbol_dec, dec_not}
-use Rattle.mm_frame.proofs.Decided.{unless_not, mandatory_at_dec, expression_dec}
+use Rattle.mm_frame.proofs.Rules.DecidedStatements.{dec_both, dec_as, dec_some, kind_dec}
+use Rattle.mm_frame.proofs.Rules.DecidedStatements.{symbol_dec, dec_not, unless_not}
+use Rattle.mm_frame.proofs.Rules.DecidedStatements.{mandatory_at_dec, expression_dec}
 use Rattle.mm_proof.specs.Substitution.{instance_of}
 use Rattle.mm_proof.specs.Steps.{IsUsable, IsUsableMove}
 use Rattle.mm_proof.proofs.ProofSteps.OneStep.{StepTo, hypothesis_or_assertion, meets_enough, Agree}

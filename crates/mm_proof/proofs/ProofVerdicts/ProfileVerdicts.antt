@@ -5,7 +5,7 @@ use Rattle.std.proofs.Common.{IfOk, IfErr, IsOkUnless}
 use Rattle.mm_proof.proofs.ProofTokens.SaidMoves.{compressed_once, some_moves, moves_once}
 use Rattle.mm_frame.specs.Sentence.{Sentence, SomeSentence, IsLabelled, IsAssertion}
 use Rattle.mm_frame.specs.Rules.{AllMeant}
-use Rattle.mm_frame.proofs.Meant.{allmeant_front}
+use Rattle.mm_frame.proofs.Rules.ObeyedRules.{allmeant_front}
 use Rattle.mm_proof.specs.declared.fault.ProofRule.{ProofRule}
 use Rattle.mm_proof.specs.declared.fault.ProofFault.{ProofFault}
 use Rattle.mm_proof.specs.declared.fault.ProofFault.TheVariants.{Rule, Memory}
@@ -36,9 +36,9 @@ use Rattle.mm_frame.specs.Form.{AllFormed}
 use Rattle.mm_text.specs.declared.statement.Kind.TheVariants.{Axiom, Provable}
 use Rattle.mm_text.proofs.Lists.{get_before, get_parted, zip_left, zip_right, get_from_take}
 use Rattle.mm_text.proofs.Lists.{at_from_contains, contains_from_at}
-use Rattle.mm_frame.proofs.Decided.{dec_both, dec_as, dec_some, kind_dec, contains_dec, dec_not}
-use Rattle.mm_frame.proofs.Decided.{dec_or}
-use Rattle.mm_frame.proofs.Those.{mandatory_unique}
+use Rattle.mm_frame.proofs.Rules.DecidedStatements.{dec_both, dec_as, dec_some, kind_dec}
+use Rattle.mm_frame.proofs.Rules.DecidedStatements.{contains_dec, dec_not, dec_or}
+use Rattle.mm_frame.proofs.Frames.FrameLaws.{mandatory_unique}
 use Rattle.mm_proof.specs.Moves.{Move, name, mark}
 use Rattle.mm_proof.specs.Tokens.{SayMoves}
 use Rattle.mm_proof.proofs.ProofVerdicts.StrictForm.{last_of, told_each, once_from, step_before}

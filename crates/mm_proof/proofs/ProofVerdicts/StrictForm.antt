@@ -28,8 +28,8 @@ use Rattle.mm_frame.specs.Rules.{AllMeant}
 use Rattle.mm_frame.specs.Frame.{AreMandatory}
 use Rattle.mm_frame.specs.FramePlace.{AreHypotheses}
 use Rattle.mm_frame.specs.Numbers.{labelled_sentences, IsNumbered}
-use Rattle.mm_frame.proofs.Those.{mandatory_unique}
-use Rattle.mm_frame.proofs.Labelled.{numbered_get, numbered_from_get, numbered_unique}
+use Rattle.mm_frame.proofs.Frames.FrameLaws.{mandatory_unique}
+use Rattle.mm_frame.proofs.Names.LabelNumbers.{numbered_get, numbered_from_get, numbered_unique}
 use Rattle.mm_proof.specs.Tokens.{IsCompressed, opening_token}
 use Rattle.mm_proof.specs.Steps.{IsNumberedMove, AreNumberedMoves, AreSteps, IsUsable, IsUsableMove}
 use Rattle.mm_proof.proofs.Machines.JudgedMoves.{usable_names}

@@ -1,7 +1,7 @@
 -- What was written is what is saved, or why nothing is.
 use Rattle.std.proofs.Common.{map}
 use Rattle.mm_text.specs.Files.{plain_file}
-use Rattle.mm_text.proofs.Results.{error_keeps}
+use Rattle.mm_text.proofs.Lists.{error_keeps}
 use Rattle.mm_check.specs.declared.save_fault.SaveFault.TheVariants as fault
 use Rattle.mm_check.proofs.WrittenFiles.{all_saved, finish_fault}
 use Rattle.mm_check.proofs.save_all.saved_all.Goals as goal

@@ -3,7 +3,7 @@ use Rattle.std.proofs.Common.{map, subst}
 use Rattle.std.proofs.lemmas.Option.{same_Some}
 use Rattle.mm_text.specs.Statement.{plain_statement}
 use Rattle.mm_text.specs.Files.{plain_file}
-use Rattle.mm_text.proofs.Results.{error_keeps}
+use Rattle.mm_text.proofs.Lists.{error_keeps}
 use Rattle.mm_check.specs.Verdict.{Refused, HasVerdict}
 use Rattle.mm_check.specs.Answer.{plain_refusal}
 use Rattle.mm_check.proofs.Course.{at_end, faulty_verdict, goes_on, stopped_verdict}

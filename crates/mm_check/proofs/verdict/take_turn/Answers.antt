@@ -2,7 +2,7 @@
 use Rattle.std.proofs.Common.{true, inr, map, arith}
 use Rattle.mm_text.specs.Statement.{plain_statement}
 use Rattle.mm_text.specs.Files.{plain_file}
-use Rattle.mm_text.proofs.Results.{error_keeps}
+use Rattle.mm_text.proofs.Lists.{error_keeps}
 use Rattle.mm_check.specs.Mirror.Judged.{IsRead, TakesNext}
 use Rattle.mm_check.proofs.OnTheWay.{closes, has_room, few}
 use Rattle.mm_check.proofs.verdict.take_turn.Goals as goal

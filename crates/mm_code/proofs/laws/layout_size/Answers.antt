@@ -1,4 +1,4 @@
-use Rattle.mm_code.proofs.Sizes.{normal_size, compressed_size}
+use Rattle.mm_code.proofs.LaidOutLines.{normal_size, compressed_size}
 use Rattle.mm_code.proofs.laws.layout_size.Goals as goal
 
 pub returns : goal.returns

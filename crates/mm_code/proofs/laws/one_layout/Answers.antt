@@ -1,5 +1,5 @@
-use Rattle.mm_code.proofs.OneLayout.{one_text_of_tokens, one_text_of_compressed}
-use Rattle.mm_code.proofs.SomeLayout.{some_compressed_layout, some_layout}
+use Rattle.mm_code.proofs.LaidOutLines.{one_text_of_tokens, one_text_of_compressed}
+use Rattle.mm_code.proofs.LaidOutLines.{some_compressed_layout, some_layout}
 use Rattle.mm_code.proofs.laws.one_layout.Goals as goal
 
 pub returns : goal.returns

@@ -1,4 +1,4 @@
-use Rattle.mm_code.proofs.Unique.{some_spelling, one_spelling_only, one_number}
+use Rattle.mm_code.proofs.OneSpelling.{some_spelling, one_spelling_only, one_number}
 use Rattle.mm_code.proofs.laws.one_spelling.Goals as goal
 
 pub returns : goal.returns

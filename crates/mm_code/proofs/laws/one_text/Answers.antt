@@ -1,4 +1,4 @@
-use Rattle.mm_code.proofs.Unique.{some_text, one_text_only, one_reading_only}
+use Rattle.mm_code.proofs.OneSpelling.{some_text, one_text_only, one_reading_only}
 use Rattle.mm_code.proofs.laws.one_text.Goals as goal
 
 pub returns : goal.returns

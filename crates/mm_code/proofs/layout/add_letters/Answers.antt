@@ -2,7 +2,7 @@
 use Rattle.std.proofs.Common.{◌≡◌, ◌<◌, [], length, append_assoc, arith}
 use Rattle.std.proofs.lemmas.List.{append-nil, nil_from_length}
 use Rattle.std.proofs.lemmas.Bool.Decides.{nat_tests}
-use Rattle.mm_code.proofs.LetterLines.{letters_laid-nil, letters_laid-begun}
+use Rattle.mm_code.proofs.LaidOutLines.{letters_laid-nil, letters_laid-begun}
 use Rattle.mm_code.proofs.layout.add_letters.Goals as goal
 
 pub loop-rest-preserved : goal.loop-rest-preserved

@@ -1,6 +1,6 @@
 -- A token on the open line, and one on the next, are each a step of `rest_of`.
 use Rattle.std.proofs.Common.{append_assoc, arith}
-use Rattle.mm_code.proofs.Added.{rest_fits, begun_adds}
+use Rattle.mm_code.proofs.LaidOutLines.{rest_fits, begun_adds}
 use Rattle.mm_code.proofs.layout.add_token.Goals as goal
 
 pub returns-then-token-room : goal.returns-then-token-room

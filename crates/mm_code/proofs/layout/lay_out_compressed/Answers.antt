@@ -1,7 +1,7 @@
 -- `(` begins the lines, the labels and `)` follow it, and then the letters.
 use Rattle.std.proofs.Common.{[], ◌∷◌, ◌++◌, refl, ◌∙◌, append_assoc}
 use Rattle.mm_code.specs.Layout.{texts}
-use Rattle.mm_code.proofs.LetterLines.{tokens_laid_out, compressed_laid_out}
+use Rattle.mm_code.proofs.LaidOutLines.{tokens_laid_out, compressed_laid_out}
 use Rattle.mm_code.proofs.layout.lay_out_compressed.Goals as goal
 
 pub returns : goal.returns

@@ -1,6 +1,6 @@
 -- The first label begins the lines, and the others follow it.
 use Rattle.mm_code.specs.Layout.{texts}
-use Rattle.mm_code.proofs.LetterLines.{tokens_laid_out}
+use Rattle.mm_code.proofs.LaidOutLines.{tokens_laid_out}
 use Rattle.mm_code.proofs.layout.lay_out_normal.Goals as goal
 
 pub returns : goal.returns

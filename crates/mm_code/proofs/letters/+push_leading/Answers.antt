@@ -1,5 +1,5 @@
 use Rattle.std.proofs.Common.{arith}
-use Rattle.mm_code.proofs.LettersWritten.{leading-written}
+use Rattle.mm_code.proofs.OneSpelling.{leading-written}
 use Rattle.mm_code.proofs.letters.+push_leading.Goals as goal
 
 pub returns-in_ok-push : goal.returns-in_ok-push

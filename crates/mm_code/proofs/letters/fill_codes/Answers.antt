@@ -1,8 +1,7 @@
 -- The reading on lists gives each clause.
 use Rattle.mm_code.specs.Letters.{joined_tokens}
-use Rattle.mm_code.proofs.Faults.{breaks_read}
-use Rattle.mm_code.proofs.LettersAgain.{is_read_again}
-use Rattle.mm_code.proofs.ReadAnswers.{ok_found, rule_broken}
+use Rattle.mm_code.proofs.LetterFaults.{breaks_read}
+use Rattle.mm_code.proofs.ReadLetters.{is_read_again, ok_found, rule_broken}
 use Rattle.mm_code.proofs.letters.fill_codes.Goals as goal
 
 pub returns : goal.returns

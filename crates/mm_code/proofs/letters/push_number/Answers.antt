@@ -1,5 +1,5 @@
 use Rattle.std.proofs.Common.{arith}
-use Rattle.mm_code.proofs.LettersWritten.{number-written}
+use Rattle.mm_code.proofs.OneSpelling.{number-written}
 use Rattle.mm_code.proofs.letters.push_number.Goals as goal
 
 pub returns : goal.returns

@@ -1,6 +1,6 @@
 -- A code that is put at the place is the next one that is read.
 use Rattle.std.proofs.Common.{arith}
-use Rattle.mm_code.proofs.Steps.{put_last, put_tag}
+use Rattle.mm_code.proofs.LetterSteps.{put_last, put_tag}
 use Rattle.mm_code.proofs.letters.put_any.Goals as goal
 
 pub returns-in-90-clause-reads : goal.returns-in-90-clause-reads

@@ -1,7 +1,7 @@
 -- A code that is put at the place is the next one that is read, or is put over where the letter is a leading digit.
 use Rattle.std.proofs.Common.{arith, ◌+◌, ◌*◌, ◌%◌}
 use Rattle.mm_code.specs.declared.code.Code.TheVariants.{Number}
-use Rattle.mm_code.proofs.Steps.{put_last, put_leading}
+use Rattle.mm_code.proofs.LetterSteps.{put_last, put_leading}
 use Rattle.mm_code.proofs.letters.put_calm.Goals as goal
 
 pub returns-then-digit-lt20-clause-reads : goal.returns-then-digit-lt20-clause-reads

@@ -1,7 +1,7 @@
 -- At the end of the tokens, and at a fault, the invariant gives the answer.
 use Rattle.std.proofs.Common.{Ok, refl, sym, ap, ◌∙◌, arith}
 use Rattle.std.proofs.lemmas.List.{append-nil, drop_all}
-use Rattle.mm_code.proofs.Steps.{read_end, read_cut_by_end, fault_ends}
+use Rattle.mm_code.proofs.LetterSteps.{read_end, read_cut_by_end, fault_ends}
 use Rattle.mm_code.proofs.letters.read_tokens.Goals as goal
 
 pub returns-in-Err : goal.returns-in-Err

@@ -1,6 +1,6 @@
 use Rattle.std.proofs.Common.{arith}
-use Rattle.mm_code.proofs.LettersWritten.{code-written, code_for-more, all_spelled, all_letters}
-use Rattle.mm_code.proofs.Unique.{exact_codes, one_text_only}
+use Rattle.mm_code.proofs.OneSpelling.{code-written, code_for-more, all_spelled, all_letters}
+use Rattle.mm_code.proofs.OneSpelling.{exact_codes, one_text_only}
 use Rattle.mm_code.proofs.letters.write_codes.Goals as goal
 
 pub loop-code-preserved : goal.loop-code-preserved

@@ -2,8 +2,9 @@ use Rattle.std.proofs.Common.{rules, inr, tests}
 use Rattle.std.proofs.lemmas.Iterator.{YieldsList-from_slice}
 use Rattle.mm_frame.specs.Mirror.Layout.{statements_of}
 use Rattle.mm_frame.specs.Sentence.{sentence_in}
-use Rattle.mm_frame.proofs.Symbols.{with_test}
-use Rattle.mm_frame.proofs.SoughtLaws.{number_says, variable_by_number, typed_by_number, neither, both}
+use Rattle.mm_frame.proofs.Rules.RepeatedSymbols.{with_test}
+use Rattle.mm_frame.proofs.Rules.SymbolLookups.{number_says, variable_by_number, typed_by_number}
+use Rattle.mm_frame.proofs.Rules.SymbolLookups.{neither, both}
 use Rattle.mm_frame.proofs.broken.breaks_m15.Goals as goal
 
 pub returns-then-is_stated : goal.returns-then-is_stated

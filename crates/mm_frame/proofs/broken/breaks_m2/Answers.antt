@@ -1,7 +1,7 @@
 use Rattle.std.proofs.Common.{rules, inl, tests}
 use Rattle.std.proofs.lemmas.Iterator.{YieldsList-from_slice}
 use Rattle.mm_frame.specs.Sentence.{sentence_in, StandsTwice}
-use Rattle.mm_frame.proofs.Symbols.{symbol_says, with_test, none_twice, not_so}
+use Rattle.mm_frame.proofs.Rules.RepeatedSymbols.{symbol_says, with_test, none_twice, not_so}
 use Rattle.mm_frame.proofs.broken.breaks_m2.Goals as goal
 
 pub returns-else-repeats : goal.returns-else-repeats

@@ -1,6 +1,6 @@
 use Rattle.std.proofs.Common.{rules, tests}
 use Rattle.std.proofs.lemmas.Iterator.{YieldsList-from_slice}
-use Rattle.mm_frame.proofs.Symbols.{symbol_says, with_test}
+use Rattle.mm_frame.proofs.Rules.RepeatedSymbols.{symbol_says, with_test}
 use Rattle.mm_frame.proofs.broken.breaks_m4.Goals as goal
 
 pub returns-then-eq-2 : goal.returns-then-eq-2

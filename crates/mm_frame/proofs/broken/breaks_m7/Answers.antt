@@ -2,8 +2,8 @@ use Rattle.std.proofs.Common.{rules, tests}
 use Rattle.std.proofs.lemmas.Iterator.{YieldsList-from_slice}
 use Rattle.mm_frame.specs.Mirror.Layout.{statements_of}
 use Rattle.mm_frame.specs.Sentence.{sentence_in}
-use Rattle.mm_frame.proofs.Symbols.{with_test}
-use Rattle.mm_frame.proofs.SoughtLaws.{number_says, active_by_number, neither}
+use Rattle.mm_frame.proofs.Rules.RepeatedSymbols.{with_test}
+use Rattle.mm_frame.proofs.Rules.SymbolLookups.{number_says, active_by_number, neither}
 use Rattle.mm_frame.proofs.broken.breaks_m7.Goals as goal
 
 pub returns-then-is_use : goal.returns-then-is_use

@@ -3,8 +3,8 @@ use Rattle.std.proofs.lemmas.Iterator.{YieldsList-from_slice}
 use Rattle.mm_text.specs.declared.statement.Kind.TheVariants.{Distinct}
 use Rattle.mm_frame.specs.Mirror.Layout.{statements_of}
 use Rattle.mm_frame.specs.Sentence.{sentence_in}
-use Rattle.mm_frame.proofs.Symbols.{with_test}
-use Rattle.mm_frame.proofs.SoughtLaws.{number_says, constant_by_number}
+use Rattle.mm_frame.proofs.Rules.RepeatedSymbols.{with_test}
+use Rattle.mm_frame.proofs.Rules.SymbolLookups.{number_says, constant_by_number}
 use Rattle.mm_frame.proofs.broken.breaks_m8.Goals as goal
 
 pub returns-then-eq : goal.returns-then-eq

@@ -2,7 +2,7 @@ use Rattle.std.proofs.Common.{length, ap, get_or, arith}
 use Rattle.mm_frame.specs.declared.rule.MeaningRule.TheVariants.{M1}
 use Rattle.mm_frame.specs.Mirror.Layout.{statements_of}
 use Rattle.mm_frame.specs.Sentence.{sentence_in}
-use Rattle.mm_frame.proofs.Order.{none_of_more, first_at, all_kept}
+use Rattle.mm_frame.proofs.Rules.RuleOrder.{none_of_more, first_at, all_kept}
 use Rattle.mm_frame.proofs.broken.first_among.Goals as goal
 
 pub loop-rule-init : goal.loop-rule-init

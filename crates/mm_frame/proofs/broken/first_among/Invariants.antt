@@ -1,6 +1,6 @@
 use Rattle.mm_frame.specs.Mirror.Layout.{statements_of}
 use Rattle.mm_frame.specs.Sentence.{sentence_in}
-use Rattle.mm_frame.proofs.Order.{NoneOfFirst}
+use Rattle.mm_frame.proofs.Rules.RuleOrder.{NoneOfFirst}
 use Rattle.mm_frame.proofs.broken.first_among.Given as goal
 
 abbrev pub invariant-loop-rule : goal.invariant-loop-rule

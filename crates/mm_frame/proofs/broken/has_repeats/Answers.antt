@@ -1,6 +1,6 @@
 use Rattle.std.proofs.Common.{rules, arith}
-use Rattle.mm_frame.proofs.Numbered.{once_with_name}
-use Rattle.mm_frame.proofs.RepeatsCode.{found_again, new_name}
+use Rattle.mm_frame.proofs.Names.NameNumbers.{once_with_name}
+use Rattle.mm_frame.proofs.Rules.RepeatedSymbols.{found_again, new_name}
 use Rattle.mm_frame.proofs.broken.has_repeats.Goals as goal
 
 pub returns-then-is_some : goal.returns-then-is_some

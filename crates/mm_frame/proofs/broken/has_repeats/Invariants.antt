@@ -1,5 +1,5 @@
 use Rattle.std.proofs.Common.{◌≡◌, ◌-◌, ◌≤◌, length, take, map}
-use Rattle.mm_frame.proofs.Numbered.{StandOnce}
+use Rattle.mm_frame.proofs.Names.NameNumbers.{StandOnce}
 use Rattle.mm_frame.proofs.broken.has_repeats.Given as goal
 
 abbrev pub invariant-loop-token : goal.invariant-loop-token

@@ -1,5 +1,5 @@
 use Rattle.std.proofs.Common.{take, map}
-use Rattle.mm_frame.proofs.Numbered.{StandOnce}
+use Rattle.mm_frame.proofs.Names.NameNumbers.{StandOnce}
 use Rattle.mm_frame.proofs.broken.has_repeats_among_few.Given as goal
 
 abbrev pub invariant-loop-at : goal.invariant-loop-at

@@ -1,6 +1,6 @@
 use Rattle.std.proofs.Common.{rules}
 use Rattle.mm_frame.specs.Mirror.Layout.{statements_of}
-use Rattle.mm_frame.proofs.SoughtLaws.{first_says}
+use Rattle.mm_frame.proofs.Rules.SymbolLookups.{first_says}
 use Rattle.mm_frame.proofs.broken.is_first_variable.Goals as goal
 
 pub returns-in-Some : goal.returns-in-Some

@@ -6,7 +6,7 @@ use Rattle.std.proofs.lemmas.Slice.Eq.{bytes_eq-Decides}
 use Rattle.std.proofs.str.Laws.{order}
 use Rattle.mm_text.specs.declared.token.Token.{Token}
 use Rattle.mm_text.proofs.Lists.{at_from_contains}
-use Rattle.mm_frame.proofs.RepeatsCode.{text_at, texts_of}
+use Rattle.mm_frame.proofs.Rules.RepeatedSymbols.{text_at, texts_of}
 use Rattle.mm_frame.proofs.broken.place_among.Goals as goal
 
 pub returns-then-eq : goal.returns-then-eq

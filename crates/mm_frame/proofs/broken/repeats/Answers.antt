@@ -2,7 +2,7 @@ use Rattle.std.proofs.Common.{Bool}
 use Rattle.std.proofs.lemmas.Result.{IfOk-weaker}
 use Rattle.mm_frame.specs.Sentence.{sentence_in}
 use Rattle.mm_frame.specs.Mirror.Told.{IsTold}
-use Rattle.mm_frame.proofs.RepeatsCode.{twice_told}
+use Rattle.mm_frame.proofs.Rules.RepeatedSymbols.{twice_told}
 use Rattle.mm_frame.proofs.broken.repeats.Goals as goal
 
 pub returns-then-is_list : goal.returns-then-is_list

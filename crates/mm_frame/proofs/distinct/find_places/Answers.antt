@@ -1,13 +1,13 @@
 use Rattle.std.proofs.Common.{refl, ◌∙◌, take_all}
 use Rattle.std.proofs.lemmas.Option.{slice_get-get_or}
-use Rattle.mm_frame.proofs.Placed.{variables_more}
+use Rattle.mm_frame.proofs.Frames.MandatoryPairs.{indexed_variables_more}
 use Rattle.mm_frame.specs.Pieces.{variables_of, HasPlaces}
-use Rattle.mm_frame.proofs.NameLists.{each_pushed}
+use Rattle.mm_frame.proofs.Names.NameNumbers.{each_pushed}
 use Rattle.mm_frame.proofs.distinct.find_places.Goals as goal
 
 pub loop-pair-preserved : goal.loop-pair-preserved
 loop-pair-preserved c = record {
-  variables = rw c.in_ok-push.ensures.items (variables_more c.args.pairs.now c.loop-pair.pair-index _ c.loop-pair.placed.items _ c.loop-pair-test.true c.loop-pair.invariant.variables refl);
+  variables = rw c.in_ok-push.ensures.items (indexed_variables_more c.args.pairs.now c.loop-pair.pair-index _ c.loop-pair.placed.items _ c.loop-pair-test.true c.loop-pair.invariant.variables refl);
   places = rw c.in_ok-push.ensures.items
       (each_pushed (HasPlaces (variables_of c.args.hypotheses.now)) c.loop-pair.placed.items _ c.loop-pair.invariant.places (c.place_among.ensures, c.place_among-in-loop-pair.ensures));
 }

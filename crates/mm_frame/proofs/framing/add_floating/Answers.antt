@@ -1,7 +1,7 @@
 use Rattle.std.proofs.Common.{sym, ◌∙◌, ap, append-nil, Some, None}
 use Rattle.mm_frame.proofs.framing.add_floating.Goals as goal
 use Rattle.mm_frame.proofs.framing.add_floating.Goals.{in-Some+in_ok-push-in-Some, in-None}
-use Rattle.mm_frame.proofs.Gather.{floatings_more}
+use Rattle.mm_frame.proofs.Frames.MandatoryHypotheses.{floatings_more}
 
 pub loop-symbol-preserved : goal.loop-symbol-preserved
 loop-symbol-preserved c =

@@ -1,10 +1,10 @@
 use Rattle.std.proofs.Common.{◌≡◌, ◌+◌, length, ◌∙◌, ap, arith, sym, subst}
 use Rattle.mm_frame.specs.Mirror.Layout.{statements_of}
-use Rattle.mm_frame.proofs.MandatoryPairs.{pairs_step}
+use Rattle.mm_frame.proofs.Frames.MandatoryPairs.{pairs_step}
 use Rattle.mm_frame.proofs.framing.add_pairs.Goals as goal
 use Rattle.mm_frame.proofs.framing.add_pairs.Goals.{then-is_distinct+in_ok-push, else-is_distinct}
 use Rattle.mm_frame.specs.Mirror.Gathered.{AreFound}
-use Rattle.mm_frame.proofs.Entries.{all_statements}
+use Rattle.mm_frame.proofs.BookLists.GrownLists.{all_statements}
 
 pub loop-other-preserved : goal.loop-other-preserved
 loop-other-preserved c places variables are same at_b first =

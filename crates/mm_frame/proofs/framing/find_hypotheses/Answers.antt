@@ -1,7 +1,7 @@
 use Rattle.std.proofs.Common.{◌+◌, sym, ◌∙◌, ap, subst, take, take_all}
 use Rattle.mm_frame.specs.Mirror.Layout.{statements_of}
 use Rattle.mm_frame.specs.Mirror.Gathered.{AreThoseAt}
-use Rattle.mm_frame.proofs.LabelIds.{those_step, id_at}
+use Rattle.mm_frame.proofs.Frames.FrameTypings.{those_step, id_at}
 use Rattle.mm_frame.proofs.framing.find_hypotheses.Goals as goal
 use Rattle.std.proofs.lemmas.Option.{slice_get-get_or}
 use Rattle.mm_frame.proofs.framing.find_hypotheses.Goals.{in-Some+in_ok-push-in-Some, in-None}

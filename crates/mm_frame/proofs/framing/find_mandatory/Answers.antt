@@ -1,7 +1,6 @@
 use Rattle.std.proofs.Common.{eqb}
 use Rattle.std.proofs.lemmas.List.Filters.{dedup_is}
-use Rattle.mm_frame.proofs.Gather.{gathered_sorted}
-use Rattle.mm_frame.proofs.FrameOf.{places_gathered}
+use Rattle.mm_frame.proofs.Frames.MandatoryHypotheses.{gathered_sorted, places_gathered}
 use Rattle.mm_frame.proofs.framing.find_mandatory.Goals as goal
 
 pub returns : goal.returns

@@ -1,5 +1,5 @@
 use Rattle.std.proofs.Common.{◌≡◌, length, arith}
-use Rattle.mm_frame.proofs.MandatoryPairs.{pairs_from_found}
+use Rattle.mm_frame.proofs.Frames.MandatoryPairs.{pairs_from_found}
 use Rattle.mm_frame.proofs.framing.find_pairs.Goals as goal
 
 pub returns : goal.returns

@@ -1,8 +1,8 @@
 use Rattle.std.proofs.Common.{slice_index_or, ap, ◌∙◌, ◌++◌}
 use Rattle.mm_frame.specs.Mirror.Gathered.{floatings}
-use Rattle.mm_frame.proofs.Gather.{gathered_first, gathered_step}
+use Rattle.mm_frame.proofs.Frames.MandatoryHypotheses.{gathered_first, gathered_step}
 use Rattle.std.proofs.lemmas.Option.{slice_get-get_or}
-use Rattle.mm_frame.proofs.SymbolsAt.{entry_within}
+use Rattle.mm_frame.proofs.Rules.SymbolLookups.{entry_within}
 use Rattle.mm_frame.proofs.framing.find_unsorted.Goals as goal
 
 pub loop-place-init : goal.loop-place-init

@@ -1,5 +1,5 @@
 use Rattle.std.proofs.lemmas.List.{take_all}
-use Rattle.mm_frame.proofs.MandatoryPairs.{variables_step}
+use Rattle.mm_frame.proofs.Frames.MandatoryPairs.{variables_step}
 use Rattle.mm_frame.proofs.framing.find_variables.Goals as goal
 use Rattle.mm_frame.proofs.framing.find_variables.Goals.{in-Some+in_ok-push-in-Some, in-None}
 

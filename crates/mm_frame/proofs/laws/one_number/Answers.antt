@@ -1,4 +1,4 @@
-use Rattle.mm_frame.proofs.Lawful.{one_number_holds}
+use Rattle.mm_frame.proofs.Names.LabelNumbers.{one_number_holds}
 use Rattle.mm_frame.proofs.laws.one_number.Goals as goal
 
 pub returns : goal.returns

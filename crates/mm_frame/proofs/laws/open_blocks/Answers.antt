@@ -1,4 +1,4 @@
-use Rattle.mm_frame.proofs.OpenLaws.{opening_law, closing_law}
+use Rattle.mm_frame.proofs.Blocks.BlockLaws.{opening_law, closing_law}
 use Rattle.mm_frame.proofs.laws.open_blocks.Goals as goal
 
 pub returns : goal.returns

@@ -1,5 +1,5 @@
 use Rattle.std.proofs.Common.{rules}
-use Rattle.mm_frame.proofs.LookupLaws.{other_code}
+use Rattle.mm_frame.proofs.Rules.SymbolLookups.{other_code}
 use Rattle.mm_frame.proofs.lookups.has_other_type.Goals as goal
 
 pub returns-in-Some : goal.returns-in-Some

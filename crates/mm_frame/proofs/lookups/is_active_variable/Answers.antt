@@ -1,4 +1,4 @@
-use Rattle.mm_frame.proofs.LookupLaws.{variable_says}
+use Rattle.mm_frame.proofs.Rules.SymbolLookups.{variable_says}
 use Rattle.mm_frame.proofs.lookups.is_active_variable.Goals as goal
 
 pub returns-in-Some-variable : goal.returns-in-Some-variable

@@ -1,4 +1,4 @@
-use Rattle.mm_frame.proofs.LookupLaws.{constant_says}
+use Rattle.mm_frame.proofs.Rules.SymbolLookups.{constant_says}
 use Rattle.mm_frame.proofs.lookups.is_constant.Goals as goal
 
 pub returns-in-Some : goal.returns-in-Some

@@ -1,4 +1,4 @@
-use Rattle.mm_frame.proofs.LookupLaws.{label_number, found_says, both_ways, turned}
+use Rattle.mm_frame.proofs.Rules.SymbolLookups.{label_number, found_says, both_ways, turned}
 use Rattle.mm_frame.proofs.lookups.is_label.Goals as goal
 
 pub returns : goal.returns

@@ -1,5 +1,5 @@
 use Rattle.mm_frame.specs.Mirror.Layout.{statements_of, GivesType}
-use Rattle.mm_frame.proofs.LookupLaws.{typed_says, untyped, some_of_active}
+use Rattle.mm_frame.proofs.Rules.SymbolLookups.{typed_says, untyped, some_of_active}
 use Rattle.mm_frame.proofs.lookups.is_typed.Goals as goal
 
 pub returns-in-Some-floating : goal.returns-in-Some-floating

@@ -1,8 +1,7 @@
 use Rattle.std.proofs.Common.{rules}
 use Rattle.mm_frame.specs.Sentence.{SomeSentence, Types}
 use Rattle.mm_frame.specs.Mirror.Layout.{statements_of}
-use Rattle.mm_frame.proofs.SymbolsAt.{latest_code_says, code_match}
-use Rattle.mm_frame.proofs.LookupLaws.{untyped, known_latest}
+use Rattle.mm_frame.proofs.Rules.SymbolLookups.{latest_code_says, code_match, untyped, known_latest}
 use Rattle.mm_frame.proofs.lookups.latest_code.Goals as goal
 
 pub returns-in-Some-at : goal.returns-in-Some-at

@@ -1,5 +1,6 @@
 use Rattle.std.proofs.Common.{not, ◌≡◌, length, ap, ◌∙◌, ◌<◌, ◌≤◌, rules, arith, is_some, tests}
-use Rattle.mm_frame.proofs.ByByte.{none_if, by_byte_of_longer, by_byte_of_known, by_byte_of_new}
+use Rattle.mm_frame.proofs.Names.NameTables.{none_if, by_byte_of_longer, by_byte_of_known}
+use Rattle.mm_frame.proofs.Names.NameTables.{by_byte_of_new}
 use Rattle.mm_frame.proofs.name_table.note_byte.Goals as goal
 
 pub returns-then-name-lt1 : goal.returns-then-name-lt1

@@ -1,5 +1,6 @@
 use Rattle.std.proofs.Common.{ℕ, arith, subst, sym, ◌∙◌, length, ◌≡◌}
-use Rattle.mm_frame.proofs.Spans.{IsLeft, step_next, step_found, step_none, left_all}
+use Rattle.mm_frame.proofs.DistinctPairs.AddedPairs.{IsLeft, step_next, step_found, step_none}
+use Rattle.mm_frame.proofs.DistinctPairs.AddedPairs.{left_all}
 use Rattle.std.proofs.lemmas.Option.{slice_get_within}
 use Rattle.mm_frame.proofs.pairs.latest_from.Goals as goal
 

@@ -1,4 +1,4 @@
-use Rattle.mm_frame.proofs.Spans.{IsLeft}
+use Rattle.mm_frame.proofs.DistinctPairs.AddedPairs.{IsLeft}
 use Rattle.mm_frame.proofs.pairs.latest_from.Given as goal
 
 abbrev pub invariant-loop : goal.invariant-loop

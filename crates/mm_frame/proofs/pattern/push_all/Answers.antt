@@ -1,6 +1,6 @@
 use Rattle.std.proofs.Common.{◌<◌, sym, subst}
 use Rattle.mm_frame.specs.Mirror.Patterned.{AreNoted}
-use Rattle.mm_frame.proofs.Patterned.{all_step, variables_same, few_hypotheses}
+use Rattle.mm_frame.proofs.Frames.FramePatterns.{all_step, variables_same, few_hypotheses}
 use Rattle.mm_frame.proofs.pattern.push_all.Goals as goal
 
 pub push_pattern-requires-clause-few : goal.push_pattern-requires-clause-few

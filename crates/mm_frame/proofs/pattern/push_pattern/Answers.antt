@@ -1,6 +1,6 @@
 use Rattle.std.proofs.Common.{◌++◌, ◌∷◌, [], ap, ◌∙◌, append_assoc}
 use Rattle.mm_frame.specs.Pieces.{variables_of}
-use Rattle.mm_frame.proofs.Patterned.{pieces_step}
+use Rattle.mm_frame.proofs.Frames.FramePatterns.{pieces_step}
 use Rattle.mm_frame.proofs.pattern.push_pattern.Goals as goal
 
 pub loop-symbol-preserved : goal.loop-symbol-preserved

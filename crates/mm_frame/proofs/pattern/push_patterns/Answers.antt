@@ -4,9 +4,10 @@ use Rattle.mm_frame.specs.declared.part.Part.{Part}
 use Rattle.mm_frame.specs.Mirror.Patterned.{HaveFirstPatterns, AreNoted}
 use Rattle.std.proofs.lemmas.Option.{slice_get-get_or}
 use Rattle.mm_frame.specs.Mirror.Layout.{statements_of}
-use Rattle.mm_frame.proofs.Entries.{length-sentences}
+use Rattle.mm_frame.proofs.BookLists.GrownLists.{length-sentences}
 use Rattle.mm_text.proofs.Lists.{get_within}
-use Rattle.mm_frame.proofs.Patterned.{longer_more, counted, essential_step, typed_step, variables_same, few_hypotheses}
+use Rattle.mm_frame.proofs.Frames.FramePatterns.{longer_more, counted, essential_step, typed_step}
+use Rattle.mm_frame.proofs.Frames.FramePatterns.{variables_same, few_hypotheses}
 use Rattle.mm_frame.proofs.pattern.push_patterns.Goals as goal
 use Rattle.mm_frame.proofs.pattern.push_patterns.Goals.{then-is_essential+in_ok-pattern, else-is_essential}
 

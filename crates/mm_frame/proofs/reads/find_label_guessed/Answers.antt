@@ -1,4 +1,4 @@
-use Rattle.mm_frame.proofs.LookupLaws.{label_number}
+use Rattle.mm_frame.proofs.Rules.SymbolLookups.{label_number}
 use Rattle.mm_frame.proofs.reads.find_label_guessed.Goals as goal
 
 pub returns-in-None : goal.returns-in-None

@@ -1,5 +1,5 @@
 use Rattle.std.proofs.Common.{rules, ◌<◌, length}
-use Rattle.mm_frame.proofs.ReadLaws.{label_known}
+use Rattle.mm_frame.proofs.BookLists.ReadLabels.{label_known}
 use Rattle.mm_frame.proofs.reads.is_label.Goals as goal
 
 pub returns : goal.returns

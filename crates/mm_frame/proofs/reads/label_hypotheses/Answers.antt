@@ -1,5 +1,5 @@
-use Rattle.mm_frame.proofs.ReadLaws.{frame_hypotheses, frame_typings, few_hypotheses, no_info}
-use Rattle.mm_frame.proofs.ReadLaws.{frame_patterns}
+use Rattle.mm_frame.proofs.BookLists.ReadLabels.{frame_hypotheses, frame_typings, few_hypotheses}
+use Rattle.mm_frame.proofs.BookLists.ReadLabels.{no_info, frame_patterns}
 use Rattle.mm_frame.proofs.reads.label_hypotheses.Goals as goal
 
 pub returns-clause-ids : goal.returns-clause-ids

@@ -1,5 +1,5 @@
 use Rattle.std.proofs.Common.{◌∙◌}
-use Rattle.mm_frame.proofs.ReadLaws.{info_kind, no_info}
+use Rattle.mm_frame.proofs.BookLists.ReadLabels.{info_kind, no_info}
 use Rattle.mm_frame.proofs.reads.label_kind.Goals as goal
 
 pub kind_of-requires : goal.kind_of-requires

@@ -1,4 +1,4 @@
-use Rattle.mm_frame.proofs.ReadLaws.{frame_pairs, mandatory_places, no_info}
+use Rattle.mm_frame.proofs.BookLists.ReadLabels.{frame_pairs, mandatory_places, no_info}
 use Rattle.mm_frame.proofs.reads.label_pairs.Goals as goal
 
 pub returns-clause-variables : goal.returns-clause-variables

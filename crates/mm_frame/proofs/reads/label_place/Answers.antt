@@ -1,4 +1,4 @@
-use Rattle.mm_frame.proofs.ReadLaws.{same_place, no_info}
+use Rattle.mm_frame.proofs.BookLists.ReadLabels.{same_place, no_info}
 use Rattle.mm_frame.proofs.reads.label_place.Goals as goal
 
 pub returns : goal.returns

@@ -1,5 +1,6 @@
-use Rattle.mm_frame.proofs.ReadLaws.{frame_hypotheses, frame_typings, frame_pairs, no_info}
-use Rattle.mm_frame.proofs.ReadLaws.{frame_places, frame_concluded, frame_patterns}
+use Rattle.mm_frame.proofs.BookLists.ReadLabels.{frame_hypotheses, frame_typings, frame_pairs}
+use Rattle.mm_frame.proofs.BookLists.ReadLabels.{no_info, frame_places, frame_concluded}
+use Rattle.mm_frame.proofs.BookLists.ReadLabels.{frame_patterns}
 use Rattle.mm_frame.proofs.reads.label_scheme.Goals as goal
 
 pub returns : goal.returns

@@ -1,5 +1,5 @@
-use Rattle.mm_frame.proofs.SymbolsAt.{numbers_at}
-use Rattle.mm_frame.proofs.ReadLaws.{info_entry, no_info}
+use Rattle.mm_frame.proofs.Rules.SymbolLookups.{numbers_at}
+use Rattle.mm_frame.proofs.BookLists.ReadLabels.{info_entry, no_info}
 use Rattle.mm_frame.proofs.reads.label_symbols.Goals as goal
 
 pub returns : goal.returns

@@ -1,4 +1,4 @@
-use Rattle.mm_frame.proofs.ReadLaws.{label_at}
+use Rattle.mm_frame.proofs.BookLists.ReadLabels.{label_at}
 use Rattle.mm_frame.proofs.reads.label_text.Goals as goal
 
 pub returns : goal.returns

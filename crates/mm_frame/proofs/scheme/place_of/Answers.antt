@@ -1,7 +1,7 @@
 use Rattle.std.proofs.Common.{sym, ap, ◌∙◌, ◌≡◌, None, ⊎_elim, arith, slice_index_or}
 use Rattle.std.proofs.str.Laws.{order}
 use Rattle.mm_frame.specs.Pieces.{is_of, variables_of}
-use Rattle.mm_frame.proofs.Patterns.{variable_at, variables_counted, none_behind}
+use Rattle.mm_frame.proofs.Frames.VariableIndices.{variable_at, variables_counted, none_behind}
 use Rattle.mm_frame.proofs.scheme.place_of.Goals as goal
 
 pub returns-then-is_of : goal.returns-then-is_of

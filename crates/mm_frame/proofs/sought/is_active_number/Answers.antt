@@ -4,8 +4,8 @@ use Rattle.mm_frame.specs.Sentence.{Declares}
 use Rattle.mm_frame.specs.Active.{IsActiveSymbol}
 use Rattle.mm_frame.specs.Mirror.Latest.{IsLatest}
 use Rattle.mm_frame.specs.Mirror.Layout.{statements_of}
-use Rattle.mm_frame.proofs.LookupLaws.{variable_says, has_constant, active_symbol}
-use Rattle.mm_frame.proofs.SoughtLaws.{of_number, no_number, number_info}
+use Rattle.mm_frame.proofs.Rules.SymbolLookups.{variable_says, has_constant, active_symbol}
+use Rattle.mm_frame.proofs.Rules.SymbolLookups.{of_number, no_number, number_info}
 use Rattle.mm_frame.proofs.sought.is_active_number.Goals as goal
 use Rattle.std.proofs.lemmas.Option.{slice_get_within}
 

@@ -1,8 +1,7 @@
 use Rattle.std.proofs.Common.{refl}
 use Rattle.mm_frame.specs.Active.{IsConstant}
 use Rattle.mm_frame.specs.Mirror.Layout.{statements_of}
-use Rattle.mm_frame.proofs.LookupLaws.{constant_says}
-use Rattle.mm_frame.proofs.SoughtLaws.{of_number, no_number, number_info}
+use Rattle.mm_frame.proofs.Rules.SymbolLookups.{constant_says, of_number, no_number, number_info}
 use Rattle.mm_frame.proofs.sought.is_constant_number.Goals as goal
 
 pub returns-in-Some : goal.returns-in-Some

@@ -1,8 +1,8 @@
 use Rattle.std.proofs.Common.{refl}
 use Rattle.mm_frame.specs.Active.{IsTyped}
 use Rattle.mm_frame.specs.Mirror.Layout.{statements_of}
-use Rattle.mm_frame.proofs.LookupLaws.{typed_says, known_latest}
-use Rattle.mm_frame.proofs.SoughtLaws.{of_number, no_number, number_info}
+use Rattle.mm_frame.proofs.Rules.SymbolLookups.{typed_says, known_latest, of_number, no_number}
+use Rattle.mm_frame.proofs.Rules.SymbolLookups.{number_info}
 use Rattle.mm_frame.proofs.sought.is_typed_number.Goals as goal
 use Rattle.std.proofs.lemmas.Option.{slice_get_within}
 

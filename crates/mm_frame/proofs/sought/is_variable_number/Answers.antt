@@ -1,8 +1,7 @@
 use Rattle.std.proofs.Common.{refl}
 use Rattle.mm_frame.specs.Active.{IsVariable}
 use Rattle.mm_frame.specs.Mirror.Layout.{statements_of}
-use Rattle.mm_frame.proofs.LookupLaws.{has_variable}
-use Rattle.mm_frame.proofs.SoughtLaws.{of_number, no_number, number_info}
+use Rattle.mm_frame.proofs.Rules.SymbolLookups.{has_variable, of_number, no_number, number_info}
 use Rattle.mm_frame.proofs.sought.is_variable_number.Goals as goal
 
 pub returns-in-Some : goal.returns-in-Some

@@ -1,5 +1,5 @@
 use Rattle.mm_frame.specs.Mirror.Layout.{statements_of}
-use Rattle.mm_frame.proofs.SoughtLaws.{sought_more}
+use Rattle.mm_frame.proofs.Rules.SymbolLookups.{sought_more}
 use Rattle.std.proofs.Common.{refl}
 use Rattle.mm_frame.proofs.sought.look_up_each.Goals as goal
 

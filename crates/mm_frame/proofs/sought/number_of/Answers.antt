@@ -1,4 +1,4 @@
-use Rattle.mm_frame.proofs.SoughtLaws.{sought_missing}
+use Rattle.mm_frame.proofs.Rules.SymbolLookups.{sought_missing}
 use Rattle.mm_frame.proofs.sought.number_of.Goals as goal
 
 pub returns-in-None : goal.returns-in-None

@@ -2,7 +2,7 @@ use Rattle.std.proofs.Common.{◌≡◌, ℕ, ◌+◌, ◌<◌, ◌≤◌, List,
 use Rattle.mm_frame.specs.Sentence.{Sentence}
 use Rattle.mm_frame.specs.Mirror.ScopesOf.{HaveScopes}
 use Rattle.mm_frame.specs.declared.scopes.TheConstants.{NEVER}
-use Rattle.mm_frame.proofs.Forgotten.{AreDropped}
+use Rattle.mm_frame.proofs.Blocks.ScopeStack.{AreDropped}
 use Rattle.mm_frame.proofs.take_statement.forget_inactive.Given as goal
 
 abbrev pub invariant-loop : goal.invariant-loop

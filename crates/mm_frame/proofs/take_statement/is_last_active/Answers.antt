@@ -1,5 +1,5 @@
 use Rattle.std.proofs.Common.{◌≡◌, ◌-◌, length, ◌∙◌, arith}
-use Rattle.mm_frame.proofs.LookupLaws.{at_end}
+use Rattle.mm_frame.proofs.Rules.SymbolLookups.{at_end}
 use Rattle.mm_frame.proofs.take_statement.is_last_active.Goals as goal
 
 pub returns-in-Some : goal.returns-in-Some

@@ -2,7 +2,7 @@ use Rattle.std.proofs.Common.{◌≡◌, ℕ, ◌-◌, ◌<◌, length, drop, ar
 use Rattle.std.proofs.lemmas.List.{length-drop}
 use Rattle.std.proofs.lemmas.Result.{IfOk-weaker}
 use Rattle.mm_frame.specs.Pieces.{variables_of}
-use Rattle.mm_frame.proofs.Patterns.{variables_counted}
+use Rattle.mm_frame.proofs.Frames.VariableIndices.{variables_counted}
 use Rattle.mm_proof.specs.declared.fault.ProofRule.{ProofRule}
 use Rattle.mm_proof.specs.declared.fault.ProofRule.TheVariants.{P8, P9}
 use Rattle.mm_proof.specs.Plain.{label_ids}

@@ -2,7 +2,7 @@ use Rattle.std.proofs.lemmas.Bool.{MatchBool-at_true, MatchBool-at_false}
 use Rattle.std.proofs.Common.{◌≡◌, ℕ, List, length, drop, take, refl, sym, subst, arith}
 use Rattle.std.proofs.lemmas.List.{length-drop}
 use Rattle.mm_frame.specs.Pieces.{variables_of}
-use Rattle.mm_frame.proofs.Patterns.{variables_counted}
+use Rattle.mm_frame.proofs.Frames.VariableIndices.{variables_counted}
 use Rattle.mm_proof.specs.declared.fault.ProofRule.{ProofRule}
 use Rattle.mm_proof.specs.declared.fault.ProofRule.TheVariants.{L1}
 use Rattle.mm_proof.specs.Mirror.CodeRun.{CarriesOn, StopsAt}

@@ -1,6 +1,6 @@
 use Rattle.std.proofs.Common.{subst}
 use Rattle.mm_frame.specs.Sentence.{Sentence, IsHypothesis}
-use Rattle.mm_frame.proofs.Labelled.{numbered_unique}
+use Rattle.mm_frame.proofs.Names.LabelNumbers.{numbered_unique}
 use Rattle.mm_proof.specs.Mirror.CodeApply.{IsCallOf}
 use Rattle.mm_proof.proofs.ByNumbers.StepByAssertion.{width_hypothesis, width_assertion}
 use Rattle.mm_proof.proofs.builder.width.Goals as goal

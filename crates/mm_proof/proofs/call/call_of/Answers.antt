@@ -1,7 +1,7 @@
 use Rattle.std.proofs.Common.{◌≡◌, ◌<◌, ℕ, sym, subst, ◌∙◌}
 use Rattle.std.proofs.lemmas.Bool.{false≢true}
 use Rattle.mm_frame.specs.Sentence.{IsHypothesis, IsAssertion}
-use Rattle.mm_frame.proofs.Labelled.{numbered_get}
+use Rattle.mm_frame.proofs.Names.LabelNumbers.{numbered_get}
 use Rattle.mm_proof.proofs.ByNumbers.NumberedLabels.{one_place}
 use Rattle.mm_proof.proofs.ByNumbers.StepByAssertion.{is_hypothesis_kind, is_assertion_kind}
 use Rattle.mm_proof.proofs.ByNumbers.UsedAssertions.{scheme_of}

@@ -1,6 +1,6 @@
 use Rattle.std.proofs.Common.{take, subst}
 use Rattle.std.proofs.lemmas.Result.{IfOk-at_ok, IfErr-at_err, IfOk-weaker}
-use Rattle.mm_frame.proofs.Meant.{allmeant_front}
+use Rattle.mm_frame.proofs.Rules.ObeyedRules.{allmeant_front}
 use Rattle.mm_proof.specs.Proof.{IsWithin}
 use Rattle.mm_proof.specs.Profiles.{limit_of}
 use Rattle.mm_proof.specs.Steps.{AreNumberedMoves}

@@ -1,7 +1,7 @@
 use Rattle.std.proofs.Common.{drop, arith}
 use Rattle.std.proofs.lemmas.Option.{slice_get_within, slice_get-get_or}
 use Rattle.mm_frame.specs.Pieces.{variables_of}
-use Rattle.mm_frame.proofs.Patterns.{variables_counted}
+use Rattle.mm_frame.proofs.Frames.VariableIndices.{variables_counted}
 use Rattle.mm_proof.specs.Mirror.CodeVerify.{value_of}
 use Rattle.mm_proof.proofs.ByNumbers.SharedVariables.{pair_at, pairs_more, pairs_length, no_pair}
 use Rattle.mm_proof.proofs.pairs.are_apart_pairs.Goals as goal

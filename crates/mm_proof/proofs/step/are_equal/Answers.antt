@@ -3,7 +3,7 @@ use Rattle.std.proofs.Common.{◌≡◌, length, drop, not, ap, ◌∙◌, arith
 use Rattle.std.proofs.lemmas.Option.{slice_get_within}
 use Rattle.std.proofs.lemmas.List.{length-drop}
 use Rattle.mm_frame.specs.Pieces.{variables_of}
-use Rattle.mm_frame.proofs.Patterns.{variables_counted}
+use Rattle.mm_frame.proofs.Frames.VariableIndices.{variables_counted}
 use Rattle.mm_proof.proofs.ByNumbers.NumberedSymbols.{hypothesis_at, entry_at, entry_below}
 use Rattle.mm_proof.proofs.ByNumbers.NumberedSymbols.{each_next, each_more, as_many, typed_equal}
 use Rattle.mm_proof.proofs.ByNumbers.NumberedSymbols.{floating_equal, variable_typed}

@@ -2,7 +2,7 @@ use Rattle.std.proofs.Common.{◌≡◌, None, inl, inr, arith, subst, sym, ◌�
 use Rattle.std.proofs.lemmas.Option.{slice_get_within, same_Some}
 use Rattle.std.proofs.lemmas.Bool.{false≢true, cases_lt}
 use Rattle.mm_frame.specs.Pieces.{variables_of}
-use Rattle.mm_frame.proofs.Patterns.{variables_counted}
+use Rattle.mm_frame.proofs.Frames.VariableIndices.{variables_counted}
 use Rattle.mm_proof.proofs.ByNumbers.NumberedSymbols.{hypothesis_at, typing_some, entry_at}
 use Rattle.mm_proof.proofs.ByNumbers.NumberedSymbols.{entry_below, each_more, as_many}
 use Rattle.mm_proof.proofs.ByNumbers.NumberedSymbols.{no_hypothesis}

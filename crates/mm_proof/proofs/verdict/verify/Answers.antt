@@ -1,5 +1,5 @@
 use Rattle.std.proofs.Common.{◌≡◌, []}
-use Rattle.mm_frame.proofs.Meant.{allmeant_front}
+use Rattle.mm_frame.proofs.Rules.ObeyedRules.{allmeant_front}
 use Rattle.mm_proof.proofs.ProofVerdicts.KnownPrefixes.{front_accepts, front_refuses, ok_both}
 use Rattle.mm_proof.proofs.ProofVerdicts.KnownPrefixes.{on_ok_at}
 use Rattle.mm_proof.proofs.verdict.verify.Goals as goal

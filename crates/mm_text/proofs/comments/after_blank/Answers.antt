@@ -1,5 +1,5 @@
 use Rattle.std.proofs.Common.{arith}
-use Rattle.mm_text.proofs.TokenLaws.{tokens_from-step}
+use Rattle.mm_text.proofs.Tokens.WordsAndComments.{tokens_from-step}
 use Rattle.mm_text.proofs.comments.after_blank.Goals as goal
 
 pub returns-then-at-legal-clause-same_tokens : goal.returns-then-at-legal-clause-same_tokens

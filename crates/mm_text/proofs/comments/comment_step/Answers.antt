@@ -1,7 +1,10 @@
 use Rattle.std.proofs.Common.{refl, sym, ◌∙◌, ◌+◌, arith}
 use Rattle.std.proofs.lemmas.Bool.{and_parts}
 use Rattle.mm_text.specs.Token.{plain_token}
-use Rattle.mm_text.proofs.CommentLaws.{comment_token, passed_all, in_comment-illegal, in_comment-close, in_comment-mark, in_comment-more, token_printable, token_illegal, later_place, legal_behind_mark, closed_at}
+use Rattle.mm_text.proofs.Tokens.WordsAndComments.{comment_token, passed_all, in_comment-illegal}
+use Rattle.mm_text.proofs.Tokens.WordsAndComments.{in_comment-close, in_comment-mark}
+use Rattle.mm_text.proofs.Tokens.WordsAndComments.{in_comment-more, token_printable, token_illegal}
+use Rattle.mm_text.proofs.Tokens.WordsAndComments.{later_place, legal_behind_mark, closed_at}
 use Rattle.mm_text.proofs.comments.comment_step.Goals as goal
 
 -- no `$)` is left

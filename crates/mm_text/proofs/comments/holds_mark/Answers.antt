@@ -1,7 +1,7 @@
 use Rattle.std.proofs.Common.{◌-◌, ◌≡◌, ◌+◌, ◌≤◌, false, length, drop, sym, ap, ◌∙◌, arith}
 use Rattle.std.proofs.lemmas.List.{length-drop}
 use Rattle.mm_text.specs.Items.{holds_mark}
-use Rattle.mm_text.proofs.CommentLaws.{holds_mark-step, holds_mark-short}
+use Rattle.mm_text.proofs.Tokens.WordsAndComments.{holds_mark-step, holds_mark-short}
 use Rattle.mm_text.proofs.comments.holds_mark.Goals as goal
 
 pub loop-at-preserved : goal.loop-at-preserved

@@ -1,7 +1,7 @@
 use Rattle.std.proofs.Common.{refl, ◌+◌, arith}
 use Rattle.std.proofs.lemmas.Bool.{or_right}
 use Rattle.mm_text.specs.Token.{plain_token}
-use Rattle.mm_text.proofs.CommentLaws.{begins_at, later_place, legal_behind_mark}
+use Rattle.mm_text.proofs.Tokens.WordsAndComments.{begins_at, later_place, legal_behind_mark}
 use Rattle.mm_text.proofs.comments.next_begin.Goals as goal
 
 -- a `$(` is told at once

@@ -3,8 +3,10 @@ use Rattle.std.specs.Cmp.Lexicographic.{bytes_decides}
 use Rattle.std.proofs.lemmas.Result.{err_from_is_err_and}
 use Rattle.mm_text.specs.Token.{PlainToken, plain_token}
 use Rattle.mm_text.specs.Items.{without_comments, holds_dollar, spells}
-use Rattle.mm_text.proofs.TokenLaws.{tokens_from-end}
-use Rattle.mm_text.proofs.CommentLaws.{outside_token, outside-end, outside-illegal, outside-close, outside-begin, outside-clear, token_printable, token_illegal, skipped_legal}
+use Rattle.mm_text.proofs.Tokens.WordsAndComments.{tokens_from-end, outside_token, outside-end}
+use Rattle.mm_text.proofs.Tokens.WordsAndComments.{outside-illegal, outside-close, outside-begin}
+use Rattle.mm_text.proofs.Tokens.WordsAndComments.{outside-clear, token_printable, token_illegal}
+use Rattle.mm_text.proofs.Tokens.WordsAndComments.{skipped_legal}
 use Rattle.mm_text.proofs.comments.take_one.Goals as goal
 
 -- nothing but white space is left

@@ -3,7 +3,8 @@ use Rattle.std.proofs.lemmas.List.{length-map, length-replicate, with_items_is}
 use Rattle.mm_text.specs.Files.{plain_file}
 use Rattle.mm_text.specs.Items.{items}
 use Rattle.mm_text.specs.Mirror.Included.{met_with, unmet}
-use Rattle.mm_text.proofs.LeftOut.{items_of_files, unmet_is_left_out, length-met_with, left_out-few}
+use Rattle.mm_text.proofs.Inclusions.FilesLeftOut.{items_of_files, unmet_is_left_out}
+use Rattle.mm_text.proofs.Inclusions.FilesLeftOut.{length-met_with, left_out-few}
 use Rattle.mm_text.proofs.included.left_out.Goals as goal
 
 pub returns-then-files-le1-clause-whole : goal.returns-then-files-le1-clause-whole

@@ -1,7 +1,7 @@
 use Rattle.std.proofs.Common.{[], ap, ◌∙◌}
 use Rattle.std.proofs.lemmas.Result.{err_from_is_err_and}
 use Rattle.mm_text.specs.Items.{Naming, Closing, pieces}
-use Rattle.mm_text.proofs.InclusionLaws.{pieces-broken, naming-end, closing-end}
+use Rattle.mm_text.proofs.Inclusions.FilePieces.{pieces-broken, naming-end, closing-end}
 use Rattle.mm_text.proofs.nest.take_inner.Goals as goal
 
 pub returns-in_err-found-clause-takes : goal.returns-in_err-found-clause-takes

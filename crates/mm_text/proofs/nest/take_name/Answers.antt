@@ -4,7 +4,8 @@ use Rattle.mm_text.specs.declared.comments.Place.{Place}
 use Rattle.mm_text.specs.Token.{plain_token}
 use Rattle.mm_text.specs.Items.{Naming, Closing, pieces}
 use Rattle.mm_text.specs.Mirror.Place.{shown_at}
-use Rattle.mm_text.proofs.InclusionLaws.{naming-dollar, naming-name, closing-other, closing-close}
+use Rattle.mm_text.proofs.Inclusions.FilePieces.{naming-dollar, naming-name, closing-other}
+use Rattle.mm_text.proofs.Inclusions.FilePieces.{closing-close}
 use Rattle.mm_text.proofs.nest.take_name.Goals as goal
 
 pub returns-then-has_dollar-clause-takes : goal.returns-then-has_dollar-clause-takes

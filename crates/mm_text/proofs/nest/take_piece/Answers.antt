@@ -3,8 +3,9 @@ use Rattle.mm_text.specs.Token.{plain_token}
 use Rattle.mm_text.specs.declared.class.Class.TheVariants as class
 use Rattle.mm_text.specs.Items.{Outside, pieces, Met, End, holds_dollar}
 use Rattle.mm_text.specs.declared.comments.Place.{Place}
-use Rattle.mm_text.proofs.CommentLaws.{no_dollar-spells}
-use Rattle.mm_text.proofs.InclusionLaws.{pieces-end, pieces-broken, pieces-inclusion, pieces-class, class_tells}
+use Rattle.mm_text.proofs.Tokens.WordsAndComments.{no_dollar-spells}
+use Rattle.mm_text.proofs.Inclusions.FilePieces.{pieces-end, pieces-broken, pieces-inclusion}
+use Rattle.mm_text.proofs.Inclusions.FilePieces.{pieces-class, class_tells}
 use Rattle.mm_text.proofs.nest.take_piece.Goals as goal
 
 pub returns-then-is_inclusion-clause-takes : goal.returns-then-is_inclusion-clause-takes

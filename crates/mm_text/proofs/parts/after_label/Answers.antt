@@ -2,8 +2,8 @@ use Rattle.std.proofs.Common.{Some, refl, sym, ap, ◌∙◌}
 use Rattle.mm_text.specs.Token.{plain_token}
 use Rattle.mm_text.specs.Mirror.Reader.{Labelled, InBody, reading_of}
 use Rattle.mm_text.specs.Mirror.Steps.{plain_scope}
-use Rattle.mm_text.proofs.StepLaws.{labelled_by, label_keyword, step_label_word}
-use Rattle.mm_text.proofs.PartLaws.{gives_same, gives_faulty, gives_err, same_more}
+use Rattle.mm_text.proofs.Reader.OneToken.{labelled_by, label_keyword, step_label_word, gives_same}
+use Rattle.mm_text.proofs.Reader.OneToken.{gives_faulty, gives_err, same_more}
 use Rattle.mm_text.proofs.parts.after_label.Goals as goal
 
 pub returns-in_err-token : goal.returns-in_err-token

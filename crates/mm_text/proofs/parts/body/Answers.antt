@@ -2,7 +2,7 @@ use Rattle.std.proofs.Common.{refl, ◌∙◌}
 use Rattle.mm_text.specs.Statement.{plain_statement}
 use Rattle.mm_text.specs.Mirror.Reader.{InBody}
 use Rattle.mm_text.specs.Mirror.Steps.{plain_scope}
-use Rattle.mm_text.proofs.PartLaws.{gives_err, answers_refused}
+use Rattle.mm_text.proofs.Reader.OneToken.{gives_err, answers_refused}
 use Rattle.mm_text.proofs.parts.body.Goals as goal
 
 pub returns-in_err-token : goal.returns-in_err-token

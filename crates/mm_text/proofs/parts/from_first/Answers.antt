@@ -4,7 +4,7 @@ use Rattle.mm_text.specs.Mirror.Class.{keyword_bytes}
 use Rattle.mm_text.specs.Mirror.Next.{items_with}
 use Rattle.mm_text.specs.Mirror.Reader.{Between}
 use Rattle.mm_text.specs.Mirror.Steps.{plain_scope}
-use Rattle.mm_text.proofs.PartLaws.{answers_wrong, closes_block, answers_closing}
+use Rattle.mm_text.proofs.Reader.OneToken.{answers_wrong, closes_block, answers_closing}
 use Rattle.mm_text.proofs.parts.from_first.Goals as goal
 
 pub returns-in-Wrong : goal.returns-in-Wrong

@@ -2,8 +2,8 @@ use Rattle.std.proofs.Common.{None, refl, sym, ap, ◌∙◌}
 use Rattle.mm_text.specs.Token.{plain_token}
 use Rattle.mm_text.specs.Mirror.Reader.{Between, InBody, reading_of}
 use Rattle.mm_text.specs.Mirror.Steps.{plain_scope}
-use Rattle.mm_text.proofs.StepLaws.{start_by, start_keyword}
-use Rattle.mm_text.proofs.PartLaws.{gives_same, gives_faulty, same_more}
+use Rattle.mm_text.proofs.Reader.OneToken.{start_by, start_keyword, gives_same, gives_faulty}
+use Rattle.mm_text.proofs.Reader.OneToken.{same_more}
 use Rattle.mm_text.proofs.parts.from_keyword.Goals as goal
 
 pub returns-in-Some : goal.returns-in-Some

@@ -1,9 +1,8 @@
 use Rattle.std.proofs.Common.{None, refl, sym, ◌∙◌}
 use Rattle.mm_text.specs.Token.{plain_token}
 use Rattle.mm_text.specs.Mirror.Reader.{Between}
-use Rattle.mm_text.proofs.StepLaws.{step_label, step_no_label}
-use Rattle.mm_text.proofs.TextFacts.{symbol-is_keyword}
-use Rattle.mm_text.proofs.PartLaws.{gives_same, gives_faulty, same_more}
+use Rattle.mm_text.proofs.Reader.OneToken.{step_label, step_no_label, symbol-is_keyword, gives_same}
+use Rattle.mm_text.proofs.Reader.OneToken.{gives_faulty, same_more}
 use Rattle.mm_text.proofs.parts.from_word.Goals as goal
 
 pub returns-then-is_label : goal.returns-then-is_label

@@ -3,9 +3,8 @@ use Rattle.mm_text.specs.Token.{plain_token}
 use Rattle.mm_text.specs.Statement.{plain_statement}
 use Rattle.mm_text.specs.Mirror.Reader.{InProof}
 use Rattle.mm_text.specs.Mirror.Steps.{plain_scope}
-use Rattle.mm_text.proofs.StepLaws.{step_ends_proof, step_in_proof}
-use Rattle.mm_text.proofs.PartLaws.{gives_same, gives_faulty, gives_err, answers_refused}
-use Rattle.mm_text.proofs.PartLaws.{gives_whole}
+use Rattle.mm_text.proofs.Reader.OneToken.{step_ends_proof, step_in_proof, gives_same, gives_faulty}
+use Rattle.mm_text.proofs.Reader.OneToken.{gives_err, answers_refused, gives_whole}
 use Rattle.mm_text.proofs.parts.proof.Goals as goal
 
 pub returns-in_err-token : goal.returns-in_err-token

@@ -1,7 +1,8 @@
 use Rattle.std.proofs.Common.{inl, inr}
 use Rattle.mm_text.specs.Token.{plain_token}
 use Rattle.mm_text.specs.Mirror.Steps.{plain_scope}
-use Rattle.mm_text.proofs.PartLaws.{answers_wrong, answers_inclusion, answers_end, answers_nothing}
+use Rattle.mm_text.proofs.Reader.OneToken.{answers_wrong, answers_inclusion, answers_end}
+use Rattle.mm_text.proofs.Reader.OneToken.{answers_nothing}
 use Rattle.mm_text.proofs.parts.token_within.Goals as goal
 
 pub returns-in-Wrong : goal.returns-in-Wrong

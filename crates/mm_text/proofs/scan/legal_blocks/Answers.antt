@@ -3,7 +3,7 @@ use Rattle.std.specs.Prelude.{slice_range}
 use Rattle.std.specs.List.{list_all}
 use Rattle.std.proofs.str.Laws.{order}
 use Rattle.mm_text.specs.Mirror.Place.{is_legal}
-use Rattle.mm_text.proofs.LegalLaws.{legal_in}
+use Rattle.mm_text.proofs.Tokens.ManyBytes.{legal_in}
 use Rattle.mm_text.proofs.scan.legal_blocks.Goals as goal
 
 -- another block

@@ -1,6 +1,5 @@
 use Rattle.std.proofs.Common.{◌∙◌, sym}
-use Rattle.mm_text.proofs.TokenLaws.{tokens_from-step}
-use Rattle.mm_text.proofs.CommentLaws.{below_more_from}
+use Rattle.mm_text.proofs.Tokens.WordsAndComments.{tokens_from-step, below_more_from}
 use Rattle.mm_text.proofs.scan.skip_space.Goals as goal
 
 -- a byte of white space is stepped over

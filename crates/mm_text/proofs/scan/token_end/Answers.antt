@@ -2,9 +2,9 @@ use Rattle.std.proofs.Common.{◌≡◌, ◌<◌, ◌≤◌, ◌==◌, ℕ, List
 use Rattle.std.proofs.Common.{sym, arith}
 use Rattle.std.proofs.str.Laws.{order}
 use Rattle.mm_text.specs.Token.{is_space}
-use Rattle.mm_text.proofs.TokenLaws.{tokens_from-token, space_after}
-use Rattle.mm_text.proofs.DollarLaws.{lacks_dollar, has_dollar}
-use Rattle.mm_text.proofs.LowBytes.{high_ink, high_word, run_on}
+use Rattle.mm_text.proofs.Tokens.WordsAndComments.{tokens_from-token, space_after, lacks_dollar}
+use Rattle.mm_text.proofs.Tokens.WordsAndComments.{has_dollar}
+use Rattle.mm_text.proofs.Tokens.ManyBytes.{high_ink, high_word, run_on}
 use Rattle.mm_text.proofs.scan.token_end.Goals as goal
 
 -- the token ends with the file

@@ -3,7 +3,7 @@ use Rattle.std.proofs.Common.{◌≡◌, ℕ, ◌<◌, List, length, Contains, a
 use Rattle.mm_check.specs.Conclusion.{Conclusion, labels_in}
 use Rattle.mm_check.specs.Answer.{IsKeptOf}
 use Rattle.mm_proof.specs.Plain.{ids_in}
-use Rattle.mm_text.proofs.Results.{error_keeps}
+use Rattle.mm_text.proofs.Lists.{error_keeps}
 use Rattle.mm_check.proofs.Rereading.{read_statements, KeptWell}
 use Rattle.mm_check.proofs.Asked.{report_of, all_within, all_among, axiom_within}
 use Rattle.mm_check.proofs.checked.Checked.axioms.Goals as goal

@@ -10,7 +10,7 @@ use Rattle.mm_check.specs.declared.theorem.Theorem.{Theorem}
 use Rattle.mm_check.specs.Verdict.{CanBeRead, is_proof, sentences}
 use Rattle.mm_check.specs.Rests.{IsNamed}
 use Rattle.mm_check.specs.Mirror.Theorems.{SayStepsOf, AreStepsOf}
-use Rattle.mm_text.proofs.Results.{error_keeps}
+use Rattle.mm_text.proofs.Lists.{error_keeps}
 use Rattle.mm_check.proofs.Rereading.{AreOf, own_statements, read_statements, shown_proof, proof_fits, theorem_steps}
 use Rattle.mm_check.proofs.Rereading.{KeptWell}
 use Rattle.mm_check.specs.Mirror.Rewriting.{IsHomeOf}

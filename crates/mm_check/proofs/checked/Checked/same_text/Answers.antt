@@ -4,7 +4,7 @@ use Rattle.std.proofs.lemmas.Result.{IfOk-weaker}
 use Rattle.mm_proof.specs.declared.profile.Profile.{Profile}
 use Rattle.mm_check.specs.Conclusion.{Conclusion}
 use Rattle.mm_check.specs.Compared.{IsCompared, IsSameFault}
-use Rattle.mm_text.proofs.Results.{error_keeps}
+use Rattle.mm_text.proofs.Lists.{error_keeps}
 use Rattle.mm_check.proofs.Theorems.{why}
 use Rattle.mm_check.proofs.Comparing.{compared_of, same_fault, asked_fault}
 use Rattle.mm_check.proofs.checked.Checked.same_text.Goals as goal

@@ -6,7 +6,7 @@ use Rattle.mm_text.specs.Reading.{Reads}
 use Rattle.mm_check.specs.Conclusion.{Conclusion}
 use Rattle.mm_check.specs.Mirror.Rewriting.{HoldsSpan, IsPutFault}
 use Rattle.mm_check.proofs.OnTheWay.{within_limit}
-use Rattle.mm_text.proofs.Results.{error_keeps}
+use Rattle.mm_text.proofs.Lists.{error_keeps}
 use Rattle.mm_check.proofs.Saving.{holds_span, saved_of, ask_save_fault, text_save_fault, put_save_fault}
 use Rattle.mm_check.proofs.Rereading.{KeptWell}
 use Rattle.mm_check.proofs.checked.Checked.saved.Goals as goal

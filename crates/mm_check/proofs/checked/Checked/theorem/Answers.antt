@@ -5,7 +5,7 @@ use Rattle.mm_frame.specs.Sentence.{Sentence}
 use Rattle.mm_frame.specs.Taken.{kind_behind}
 use Rattle.mm_frame.specs.Form.{IsSound}
 use Rattle.mm_frame.specs.Numbers.{labelled_sentences}
-use Rattle.mm_frame.proofs.Labelled.{numbered_get, numbered_within}
+use Rattle.mm_frame.proofs.Names.LabelNumbers.{numbered_get, numbered_within}
 use Rattle.mm_check.specs.Conclusion.{Conclusion}
 use Rattle.mm_check.proofs.Asked.{found_theorem, found_incomplete, found_other, hypothesis_other, other_kind}
 use Rattle.mm_check.proofs.checked.Checked.theorem.Goals as goal

@@ -1,4 +1,4 @@
-use Rattle.mm_frame.proofs.SameTables.{same_tables}
+use Rattle.mm_frame.proofs.BookLists.GrownLists.{same_tables}
 use Rattle.mm_frame.proofs.book.Book.prepare.Goals as goal
 
 pub invariant_of-self : goal.invariant_of-self

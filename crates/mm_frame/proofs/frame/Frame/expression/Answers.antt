@@ -1,4 +1,4 @@
-use Rattle.mm_frame.proofs.Labelled.{numbered_get}
+use Rattle.mm_frame.proofs.Names.LabelNumbers.{numbered_get}
 use Rattle.mm_frame.proofs.frame.Frame.expression.Goals as goal
 
 pub returns : goal.returns

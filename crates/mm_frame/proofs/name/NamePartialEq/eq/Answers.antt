@@ -1,7 +1,7 @@
 use Rattle.std.proofs.Common.{◌≡◌, ℕ, refl, sym, ◌∙◌}
 use Rattle.std.proofs.lemmas.Slice.Eq.{bytes_eq-Decides}
 use Rattle.mm_frame.specs.Mirror.NameKey.{ends_of}
-use Rattle.mm_frame.proofs.NameKeys.{told_by_key}
+use Rattle.mm_frame.proofs.Names.NameTables.{told_by_key}
 use Rattle.mm_frame.proofs.name.NamePartialEq.eq.Goals as goal
 
 pub returns-then-count-le-MOST_IN_ENDS : goal.returns-then-count-le-MOST_IN_ENDS

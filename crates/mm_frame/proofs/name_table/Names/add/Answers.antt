@@ -1,8 +1,7 @@
 use Rattle.std.proofs.Common.{◌≡◌, ◌<◌, ◌≤◌, ◌+◌, List, [], ◌∷◌, ℕ, inl, inr, length, length-append, sym, ◌∙◌, arith, ap}
 use Rattle.mm_frame.specs.Numbers.{with_name}
 use Rattle.indexmap.specs.IndexSet.{spare}
-use Rattle.mm_frame.proofs.NameLists.{holds_if_ok}
-use Rattle.mm_frame.proofs.Numbered.{with_name_cases}
+use Rattle.mm_frame.proofs.Names.NameNumbers.{holds_if_ok, with_name_cases}
 use Rattle.mm_frame.proofs.name_table.Names.add.Goals as goal
 
 length_with_name : (names : List (List ℕ)) (name : List ℕ) → length (with_name names name) ≤ length names + 1

@@ -1,5 +1,5 @@
 use Rattle.std.proofs.Common.{sym, ◌∙◌}
-use Rattle.mm_frame.proofs.NameLists.{place_of_name}
+use Rattle.mm_frame.proofs.Names.NameNumbers.{place_of_name}
 use Rattle.mm_frame.proofs.name_table.Names.find_key.Goals as goal
 
 pub returns-in-Some : goal.returns-in-Some

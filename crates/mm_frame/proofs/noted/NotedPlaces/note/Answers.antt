@@ -1,6 +1,6 @@
 use Rattle.std.proofs.Common.{take}
 use Rattle.mm_frame.specs.Pieces.{variables_of}
-use Rattle.mm_frame.proofs.FirstPlaces.{noted_untyped, noted_more}
+use Rattle.mm_frame.proofs.Frames.VariableIndices.{noted_untyped, noted_more}
 use Rattle.mm_frame.proofs.noted.NotedPlaces.note.Goals as goal
 use Rattle.mm_frame.proofs.noted.NotedPlaces.note.Goals.{in-Some+in_ok-note_behind, in_default}
 

@@ -1,7 +1,7 @@
 use Rattle.std.proofs.Common.{not, ap, ◌∙◌}
 use Rattle.mm_frame.specs.Pieces.{variables_of}
-use Rattle.mm_frame.proofs.Patterns.{variables_counted}
-use Rattle.mm_frame.proofs.FirstPlaces.{noted_longer, noted_by_some, noted_by_none}
+use Rattle.mm_frame.proofs.Frames.VariableIndices.{variables_counted, noted_longer, noted_by_some}
+use Rattle.mm_frame.proofs.Frames.VariableIndices.{noted_by_none}
 use Rattle.mm_frame.proofs.noted.NotedPlaces.note_behind.Goals as goal
 
 pub returns-then-is_none : goal.returns-then-is_none

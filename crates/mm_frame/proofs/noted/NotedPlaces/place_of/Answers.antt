@@ -1,6 +1,6 @@
 use Rattle.std.proofs.Common.{sym, ap, ◌∙◌, slice_get}
 use Rattle.mm_frame.specs.Pieces.{variables_of}
-use Rattle.mm_frame.proofs.FirstPlaces.{noted_at, noted_nowhere}
+use Rattle.mm_frame.proofs.Frames.VariableIndices.{noted_at, noted_nowhere}
 use Rattle.std.proofs.lemmas.Option.{same_Some}
 use Rattle.mm_frame.proofs.noted.NotedPlaces.place_of.Goals as goal
 

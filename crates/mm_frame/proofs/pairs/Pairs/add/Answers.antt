@@ -2,7 +2,7 @@ use Rattle.std.proofs.Common.{◌≡◌, ◌<◌, ap, ◌∙◌, length, arith, 
 use Rattle.std.specs.Vec.{vec_len, vec_capacity}
 use Rattle.mm_frame.specs.declared.pairs.Span.{Span}
 use Rattle.mm_frame.specs.Mirror.Stated.{newest_of}
-use Rattle.mm_frame.proofs.Spans.{linked_push}
+use Rattle.mm_frame.proofs.DistinctPairs.AddedPairs.{linked_push}
 use Rattle.mm_frame.proofs.pairs.Pairs.add.Goals as goal
 
 pub invariant_of-self : goal.invariant_of-self

@@ -1,6 +1,5 @@
 use Rattle.std.proofs.Common.{◌≡◌, ◌≤◌, length, refl, arith}
-use Rattle.mm_frame.proofs.ScopeCode.{closed, some_under}
-use Rattle.mm_frame.proofs.Depth.{scope_depth}
+use Rattle.mm_frame.proofs.Blocks.ScopeStack.{closed, some_under, scope_depth}
 use Rattle.mm_frame.proofs.scopes.Scopes.close.Goals as goal
 
 pub innermost-outer-requires : goal.innermost-outer-requires

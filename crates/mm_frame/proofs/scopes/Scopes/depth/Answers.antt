@@ -1,5 +1,5 @@
 use Rattle.std.proofs.Common.{arith}
-use Rattle.mm_frame.proofs.Depth.{scope_depth}
+use Rattle.mm_frame.proofs.Blocks.ScopeStack.{scope_depth}
 use Rattle.mm_frame.specs.declared.scopes.TheConstants.{NEVER}
 use Rattle.mm_frame.proofs.scopes.Scopes.depth.Goals as goal
 

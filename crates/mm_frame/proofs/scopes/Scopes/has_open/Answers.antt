@@ -1,5 +1,5 @@
 use Rattle.std.proofs.Common.{rules, ◌≤◌, length}
-use Rattle.mm_frame.proofs.Depth.{scope_some_open}
+use Rattle.mm_frame.proofs.Blocks.ScopeStack.{scope_some_open}
 use Rattle.mm_frame.specs.declared.scopes.TheConstants.{NEVER}
 use Rattle.mm_frame.proofs.scopes.Scopes.has_open.Goals as goal
 

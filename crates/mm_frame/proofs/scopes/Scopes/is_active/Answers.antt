@@ -1,5 +1,5 @@
 use Rattle.std.proofs.Common.{rules, arith}
-use Rattle.mm_frame.proofs.ScopeCode.{active_by_end, no_end}
+use Rattle.mm_frame.proofs.Blocks.ScopeStack.{active_by_end, no_end}
 use Rattle.mm_frame.specs.declared.scopes.TheConstants.{NEVER}
 use Rattle.mm_frame.proofs.scopes.Scopes.is_active.Goals as goal
 

@@ -4,9 +4,9 @@ use Rattle.std.proofs.Math.Seq.{take-length}
 use Rattle.mm_frame.specs.declared.scopes.TheConstants.{NEVER}
 use Rattle.mm_frame.specs.Active.{IsActive}
 use Rattle.mm_frame.specs.Mirror.Layout.{statements_of}
-use Rattle.mm_frame.proofs.WideDistinct.{wide_at, active_next}
+use Rattle.mm_frame.proofs.DistinctPairs.StatedPairs.{wide_at, active_next}
 use Rattle.mm_frame.proofs.tables.Tables.active_wide.Goals as goal
-use Rattle.mm_frame.proofs.Entries.{all_statements}
+use Rattle.mm_frame.proofs.BookLists.GrownLists.{all_statements}
 
 pub is_active-requires-clause-place : goal.is_active-requires-clause-place
 is_active-requires-clause-place c =

@@ -1,6 +1,6 @@
 use Rattle.std.proofs.Common.{◌∙◌}
 use Rattle.mm_text.proofs.Lists.{contains_from_at}
-use Rattle.mm_frame.proofs.Infos.{fresh_name}
+use Rattle.mm_frame.proofs.BookLists.SymbolsAndLabels.{fresh_name}
 use Rattle.mm_frame.proofs.tables.Tables.add_symbol.Goals as goal
 
 pub returns-clause-names : goal.returns-clause-names

@@ -12,11 +12,12 @@ use Rattle.mm_frame.specs.FramePlace.{ArePairs}
 use Rattle.mm_frame.specs.Mirror.Patterned.{AreMandatoryOf}
 use Rattle.mm_frame.specs.Mirror.Grows.{entry_of}
 use Rattle.mm_frame.specs.Mirror.Naming.{label_info}
-use Rattle.mm_frame.proofs.SameTables.{on_err, same_tables}
-use Rattle.mm_frame.proofs.NamedTables.{few_labels, assertion_taken, asserted, framed}
-use Rattle.mm_frame.proofs.FrameLaws.{at_place}
-use Rattle.mm_frame.proofs.Patterned.{typings_same, variables_same, few_hypotheses}
-use Rattle.mm_frame.proofs.Placed.{pairs_among, pairs_named}
+use Rattle.mm_frame.proofs.BookLists.GrownLists.{on_err, same_tables}
+use Rattle.mm_frame.proofs.BookLists.LabelledStatements.{few_labels, assertion_taken, asserted}
+use Rattle.mm_frame.proofs.BookLists.LabelledStatements.{framed}
+use Rattle.mm_frame.proofs.Frames.FrameLaws.{at_place}
+use Rattle.mm_frame.proofs.Frames.FramePatterns.{typings_same, variables_same, few_hypotheses}
+use Rattle.mm_frame.proofs.Frames.MandatoryPairs.{pairs_among, pairs_named}
 use Rattle.mm_frame.proofs.tables.Tables.assert.Goals as goal
 use Rattle.mm_frame.proofs.tables.Tables.assert.Goals.{After-note, After-deref-8}
 

@@ -2,11 +2,11 @@ use Rattle.std.proofs.Common.{refl, ◌∙◌, [], ◌∷◌, ◌++◌, None, ar
 use Rattle.mm_text.specs.declared.statement.Kind.TheVariants.{Closing}
 use Rattle.mm_frame.specs.Sentence.{Sentence}
 use Rattle.mm_frame.specs.Mirror.Layout.{statements_of}
-use Rattle.mm_frame.proofs.Blocks.{adds_block, close_grows, closing_ready, same_scopes}
+use Rattle.mm_frame.proofs.BookLists.UnlabelledStatements.{adds_block, close_grows, closing_ready}
+use Rattle.mm_frame.proofs.BookLists.UnlabelledStatements.{same_scopes}
 use Rattle.mm_frame.proofs.tables.Tables.close.Goals as goal
-use Rattle.mm_frame.proofs.SameTables.{on_err, same_tables}
-use Rattle.mm_frame.proofs.Entries.{all_statements}
-use Rattle.mm_frame.proofs.ScopeLaws.{length_pushed}
+use Rattle.mm_frame.proofs.BookLists.GrownLists.{on_err, same_tables, all_statements}
+use Rattle.mm_frame.proofs.Blocks.NumberedBlocks.{length_pushed}
 use Rattle.mm_frame.specs.declared.scopes.TheConstants.{NEVER}
 
 pub returns-in_err-reserve-clause-err : goal.returns-in_err-reserve-clause-err

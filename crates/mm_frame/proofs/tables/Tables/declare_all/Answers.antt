@@ -3,10 +3,9 @@ use Rattle.std.proofs.lemmas.List.{length-map}
 use Rattle.mm_text.specs.Token.{plain_token}
 use Rattle.mm_text.specs.Statement.{plain_statement}
 use Rattle.mm_frame.specs.Mirror.Declaring.{TakesSymbols}
-use Rattle.mm_frame.proofs.SameTables.{on_err, same_tables}
-use Rattle.mm_frame.proofs.Symbols.{texts}
-use Rattle.mm_frame.proofs.RepeatsCode.{texts_of}
-use Rattle.mm_frame.proofs.Declared.{declares, symbols_fit}
+use Rattle.mm_frame.proofs.BookLists.GrownLists.{on_err, same_tables}
+use Rattle.mm_frame.proofs.Rules.RepeatedSymbols.{texts, texts_of}
+use Rattle.mm_frame.proofs.BookLists.Declarations.{declares, symbols_fit}
 use Rattle.mm_frame.proofs.tables.Tables.declare_all.Goals as goal
 
 pub make_room-requires : goal.make_room-requires

@@ -1,7 +1,8 @@
 use Rattle.std.proofs.Common.{rules, length, Some, ap, ◌∙◌, subst, arith}
 use Rattle.mm_frame.specs.Mirror.Declaring.{HasSpace}
-use Rattle.mm_frame.proofs.RepeatsCode.{texts_of, text_at}
-use Rattle.mm_frame.proofs.DeclaredSymbols.{taken_none, taken_next, latest_variable, latest_none}
+use Rattle.mm_frame.proofs.Rules.RepeatedSymbols.{texts_of, text_at}
+use Rattle.mm_frame.proofs.BookLists.Declarations.{taken_none, taken_next, latest_variable}
+use Rattle.mm_frame.proofs.BookLists.Declarations.{latest_none}
 use Rattle.mm_frame.proofs.tables.Tables.declare_each.Goals.{then-eq, else-eq}
 use Rattle.mm_frame.proofs.tables.Tables.declare_each.Goals as goal
 

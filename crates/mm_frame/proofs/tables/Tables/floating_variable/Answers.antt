@@ -2,12 +2,11 @@ use Rattle.std.proofs.Common.{◌≡◌, sym, ◌∙◌, ap, rules, slice_get, �
 use denote.Enum.Bare.{same_true}
 use Rattle.mm_text.specs.contracts.statement.Kind.{the_type}
 use Rattle.mm_text.specs.declared.statement.Kind.TheVariants.{Floating}
-use Rattle.mm_frame.proofs.PairsOf.{kind_at}
+use Rattle.mm_frame.proofs.Frames.FrameTypings.{kind_at, typing_says}
 use Rattle.mm_frame.proofs.tables.Tables.floating_variable.Goals as goal
 use Rattle.mm_frame.specs.Sentence.{Types}
 use Rattle.mm_frame.specs.Numbers.{IsNumberOf}
 use Rattle.mm_frame.specs.Mirror.Layout.{statements_of}
-use Rattle.mm_frame.proofs.Typings.{typing_says}
 
 pub returns-then-eq : goal.returns-then-eq
 returns-then-eq c f said =

@@ -3,10 +3,11 @@ use Rattle.std.proofs.lemmas.Option.{slice_get-get_or}
 use Rattle.mm_frame.specs.declared.number.Sym.{Sym}
 use Rattle.mm_frame.specs.Mirror.Layout.{statements_of}
 use Rattle.mm_frame.specs.Mirror.Separated.{ArePaired}
-use Rattle.mm_frame.proofs.Separated.{is_old, is_fresh, paired_pass, paired_push, paired_row}
+use Rattle.mm_frame.proofs.DistinctPairs.AddedPairs.{is_old, is_fresh, paired_pass, paired_push}
+use Rattle.mm_frame.proofs.DistinctPairs.AddedPairs.{paired_row}
 use Rattle.mm_frame.proofs.tables.Tables.gather.Goals as goal
 use Rattle.mm_frame.proofs.tables.Tables.gather.Goals.{then-not-is_distinct+in_ok-push, else-not-is_distinct}
-use Rattle.mm_frame.proofs.Entries.{all_statements}
+use Rattle.mm_frame.proofs.BookLists.GrownLists.{all_statements}
 
 pub loop-j-preserved : goal.loop-j-preserved
 loop-j-preserved c =

@@ -1,11 +1,13 @@
 use Rattle.std.proofs.Common.{sym, ap, ◌∙◌, ◌≡◌, length, [], Some, None, arith, slice_get, subst}
 use Rattle.mm_text.specs.declared.statement.Kind.TheVariants.{Floating}
 use Rattle.mm_frame.specs.declared.answer.Taken.TheVariants.{Hypothesis}
-use Rattle.mm_frame.proofs.SameTables.{on_err, same_tables}
-use Rattle.mm_frame.proofs.NamedTables.{IsWritten, few_labels, next_number, before_same, typed, noted, known_info, Before}
+use Rattle.mm_frame.proofs.BookLists.GrownLists.{on_err, same_tables}
+use Rattle.mm_frame.proofs.BookLists.LabelledStatements.{IsWritten, few_labels, next_number}
+use Rattle.mm_frame.proofs.BookLists.LabelledStatements.{before_same, typed, noted, known_info}
+use Rattle.mm_frame.proofs.BookLists.LabelledStatements.{Before}
 use Rattle.mm_frame.proofs.tables.Tables.give_type.Goals as goal
 use Rattle.mm_frame.proofs.tables.Tables.give_type.Goals.{in-Some, in-None}
-use Rattle.mm_frame.proofs.Typings.{typing_says}
+use Rattle.mm_frame.proofs.Frames.FrameTypings.{typing_says}
 use Rattle.mm_frame.specs.Mirror.Layout.{statements_of}
 
 pub returns-in_err-reserve-clause-err : goal.returns-in_err-reserve-clause-err

@@ -1,7 +1,7 @@
 use Rattle.std.proofs.Common.{arith}
 use Rattle.mm_frame.specs.Mirror.Layout.{statements_of}
 use Rattle.mm_frame.proofs.tables.Tables.holds.Goals as goal
-use Rattle.mm_frame.proofs.Entries.{few_statements}
+use Rattle.mm_frame.proofs.BookLists.GrownLists.{few_statements}
 
 pub returns : goal.returns
 returns c =

@@ -1,8 +1,8 @@
 use Rattle.std.proofs.Common.{◌≡◌, length, arith}
 use Rattle.mm_frame.specs.Mirror.Layout.{statements_of}
-use Rattle.mm_frame.proofs.LookupLaws.{at_end}
+use Rattle.mm_frame.proofs.Rules.SymbolLookups.{at_end}
 use Rattle.mm_frame.proofs.tables.Tables.is_active_now.Goals as goal
-use Rattle.mm_frame.proofs.Entries.{few_statements, all_statements}
+use Rattle.mm_frame.proofs.BookLists.GrownLists.{few_statements, all_statements}
 
 pub returns : goal.returns
 returns c =

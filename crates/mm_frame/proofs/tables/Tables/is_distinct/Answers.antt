@@ -1,7 +1,7 @@
 use Rattle.std.proofs.Common.{inl, inr, subst}
 use Rattle.mm_frame.specs.Mirror.Layout.{statements_of}
 use Rattle.mm_frame.specs.Mirror.Stated.{HasSpan}
-use Rattle.mm_frame.proofs.PairsOf.{stated_tells}
+use Rattle.mm_frame.proofs.Frames.FrameTypings.{stated_tells}
 use Rattle.mm_frame.proofs.tables.Tables.is_distinct.Goals as goal
 use Rattle.mm_frame.specs.Mirror.Separated.{ordered_pair}
 

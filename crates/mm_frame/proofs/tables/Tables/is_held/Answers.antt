@@ -1,7 +1,7 @@
 use Rattle.std.proofs.Common.{◌-◌, subst, sym, arith, ◌<◌}
 use Rattle.mm_frame.specs.Mirror.Layout.{statements_of}
 use Rattle.mm_frame.specs.Mirror.Wide.{HoldsPair, NoneFrom}
-use Rattle.mm_frame.proofs.WideDistinct.{wide_at, none_next, held_next}
+use Rattle.mm_frame.proofs.DistinctPairs.StatedPairs.{wide_at, none_next, held_next}
 use Rattle.mm_frame.proofs.tables.Tables.is_held.Goals as goal
 use Rattle.mm_frame.proofs.tables.Tables.is_held.Goals.{then-last-at, else-last-at}
 

@@ -1,7 +1,7 @@
 use Rattle.mm_frame.specs.Mirror.Layout.{statements_of}
-use Rattle.mm_frame.proofs.DistinctAt.{latest_has, none_has}
+use Rattle.mm_frame.proofs.DistinctPairs.StatedPairs.{latest_has, none_has}
 use Rattle.mm_frame.proofs.tables.Tables.is_stated.Goals as goal
-use Rattle.mm_frame.proofs.Entries.{few_statements}
+use Rattle.mm_frame.proofs.BookLists.GrownLists.{few_statements}
 
 pub returns-in-Some : goal.returns-in-Some
 returns-in-Some c =

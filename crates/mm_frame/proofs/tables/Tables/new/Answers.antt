@@ -1,5 +1,5 @@
 use Rattle.std.proofs.Common.{rules, refl}
-use Rattle.mm_frame.proofs.EmptyTables.{empty_tables}
+use Rattle.mm_frame.proofs.BookLists.GrownLists.{empty_tables}
 use Rattle.mm_frame.proofs.tables.Tables.new.Goals as goal
 
 pub returns : goal.returns

@@ -1,6 +1,6 @@
 use Rattle.std.proofs.Common.{sym, ◌∙◌}
 use Rattle.mm_frame.proofs.tables.Tables.new_wide.Goals as goal
-use Rattle.mm_frame.proofs.Entries.{all_statements}
+use Rattle.mm_frame.proofs.BookLists.GrownLists.{all_statements}
 
 pub returns : goal.returns
 returns c = record {

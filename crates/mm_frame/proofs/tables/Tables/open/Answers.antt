@@ -1,7 +1,7 @@
 use Rattle.std.proofs.Common.{refl, ◌∙◌, arith}
-use Rattle.mm_frame.proofs.Blocks.{adds_block, open_grows}
+use Rattle.mm_frame.proofs.BookLists.UnlabelledStatements.{adds_block, open_grows}
 use Rattle.mm_frame.proofs.tables.Tables.open.Goals as goal
-use Rattle.mm_frame.proofs.SameTables.{on_err, same_tables}
+use Rattle.mm_frame.proofs.BookLists.GrownLists.{on_err, same_tables}
 
 pub returns-in_err-reserve-clause-err : goal.returns-in_err-reserve-clause-err
 returns-in_err-reserve-clause-err c = on_err _ (same_tables _ _ c.requires.tables c.reserve.ensures.same)

@@ -1,12 +1,12 @@
 use Rattle.std.proofs.Common.{◌≡◌, ◌++◌, [], ◌∷◌, length, map, ap, sym, ◌∙◌, subst, refl}
 use Rattle.mm_frame.specs.Mirror.Layout.{AreStated, statements_of}
 use Rattle.mm_frame.specs.Mirror.Separated.{stated_at}
-use Rattle.mm_frame.proofs.SameTables.{on_err, same_tables, same_but}
-use Rattle.mm_frame.proofs.SeparatedTables.{IsNewDistinct, has_room, separated, separated_after}
+use Rattle.mm_frame.proofs.BookLists.GrownLists.{on_err, same_tables, same_but, all_statements}
+use Rattle.mm_frame.proofs.BookLists.UnlabelledStatements.{IsNewDistinct, has_room, separated}
+use Rattle.mm_frame.proofs.BookLists.UnlabelledStatements.{separated_after}
 use Rattle.mm_frame.proofs.tables.Tables.separate_pairs.Goals as goal
-use Rattle.mm_frame.proofs.Entries.{all_statements}
-use Rattle.mm_frame.proofs.DistinctAt.{stated_push}
-use Rattle.mm_frame.proofs.Separated.{new_from_paired}
+use Rattle.mm_frame.proofs.DistinctPairs.StatedPairs.{stated_push}
+use Rattle.mm_frame.proofs.DistinctPairs.AddedPairs.{new_from_paired}
 
 pub returns-in_err-reserve-clause-err : goal.returns-in_err-reserve-clause-err
 returns-in_err-reserve-clause-err c = on_err _

@@ -1,10 +1,11 @@
 use Rattle.std.proofs.Common.{◌++◌, [], ◌∷◌, ap, sym, ◌∙◌, subst}
 use Rattle.mm_frame.specs.Mirror.Layout.{AreStated, statements_of}
 use Rattle.mm_frame.specs.Mirror.Stated.{AllStated}
-use Rattle.mm_frame.proofs.SameTables.{on_err, same_tables, same_but}
-use Rattle.mm_frame.proofs.SeparatedTables.{IsNewDistinct, has_room, separated, separated_after}
+use Rattle.mm_frame.proofs.BookLists.GrownLists.{on_err, same_tables, same_but}
+use Rattle.mm_frame.proofs.BookLists.UnlabelledStatements.{IsNewDistinct, has_room, separated}
+use Rattle.mm_frame.proofs.BookLists.UnlabelledStatements.{separated_after}
 use Rattle.mm_frame.proofs.tables.Tables.separate_wide.Goals as goal
-use Rattle.mm_frame.proofs.WideAdded.{stated_wide}
+use Rattle.mm_frame.proofs.DistinctPairs.StatedPairs.{stated_wide}
 
 pub returns-in_err-reserve-clause-err : goal.returns-in_err-reserve-clause-err
 returns-in_err-reserve-clause-err c = on_err _

@@ -1,7 +1,8 @@
 use Rattle.std.proofs.Common.{◌≡◌, ap, ◌∙◌, length, arith, ◌++◌, ◌∷◌, []}
 use Rattle.mm_frame.specs.declared.answer.Taken.TheVariants.{Hypothesis}
-use Rattle.mm_frame.proofs.SameTables.{on_err, same_tables}
-use Rattle.mm_frame.proofs.NamedTables.{few_labels, next_number, before_same, supposed}
+use Rattle.mm_frame.proofs.BookLists.GrownLists.{on_err, same_tables}
+use Rattle.mm_frame.proofs.BookLists.LabelledStatements.{few_labels, next_number, before_same}
+use Rattle.mm_frame.proofs.BookLists.LabelledStatements.{supposed}
 use Rattle.mm_frame.proofs.tables.Tables.suppose.Goals as goal
 
 pub returns-in_err-reserve-clause-err : goal.returns-in_err-reserve-clause-err

@@ -1,4 +1,4 @@
-use Rattle.mm_frame.proofs.LookupLaws.{unknown}
+use Rattle.mm_frame.proofs.Rules.SymbolLookups.{unknown}
 use Rattle.mm_frame.proofs.tables.Tables.symbol_info.Goals as goal
 
 pub returns-in-None : goal.returns-in-None

@@ -1,7 +1,7 @@
 use Rattle.std.proofs.Common.{refl}
 use Rattle.mm_frame.specs.Sentence.{sentence_in}
-use Rattle.mm_frame.proofs.SoughtLaws.{numbers_used}
-use Rattle.mm_frame.proofs.Uses.{numbers_enough, labelled_use, unlabelled_uses}
+use Rattle.mm_frame.proofs.Rules.SymbolLookups.{numbers_used}
+use Rattle.mm_frame.proofs.BookLists.Declarations.{numbers_enough, labelled_use, unlabelled_uses}
 use Rattle.mm_frame.proofs.tables.Tables.take_use.Goals as goal
 
 pub take_labelled-requires-clause-enough : goal.take_labelled-requires-clause-enough

@@ -2,8 +2,7 @@ use Rattle.std.proofs.Common.{◌≡◌, sym, ◌∙◌, ap, rules, Some, subst,
 use denote.Enum.Bare.{same_true}
 use Rattle.mm_text.specs.contracts.statement.Kind.{the_type}
 use Rattle.mm_text.specs.declared.statement.Kind.TheVariants.{Floating}
-use Rattle.mm_frame.proofs.PairsOf.{kind_at}
-use Rattle.mm_frame.proofs.Typings.{typing_says}
+use Rattle.mm_frame.proofs.Frames.FrameTypings.{kind_at, typing_says}
 use Rattle.mm_frame.specs.FramePlace.{IsTypingOf}
 use Rattle.mm_frame.specs.Mirror.Layout.{statements_of}
 use Rattle.mm_frame.proofs.tables.Tables.typing.Goals as goal

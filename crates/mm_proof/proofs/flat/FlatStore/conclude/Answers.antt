@@ -1,7 +1,7 @@
 use Rattle.std.proofs.lemmas.Bool.{MatchBool-at_true, MatchBool-at_false}
 use Rattle.std.proofs.Common.{◌≤◌, length, ap, ◌∙◌, arith}
 use Rattle.std.proofs.lemmas.List.{length-append}
-use Rattle.mm_frame.proofs.SameTables.{on_err}
+use Rattle.mm_frame.proofs.BookLists.GrownLists.{on_err}
 use Rattle.mm_proof.specs.Mirror.Buffer.{AreParts}
 use Rattle.mm_proof.proofs.StoreRanges.{parts-grow, within-later, within-put, concluded}
 use Rattle.mm_proof.proofs.StoreRanges.{concluded-entry}

@@ -1,7 +1,7 @@
 -- What is answered of the tokens is exact, and said of the prover's book; and with an unknown step the
 -- answer is that on the known front.
 use Rattle.std.proofs.lemmas.Result.{IfOk-at_ok, IfErr-at_err}
-use Rattle.mm_frame.proofs.Meant.{allformed_front}
+use Rattle.mm_frame.proofs.Rules.ObeyedRules.{allformed_front}
 use Rattle.std.proofs.Common.{◌≡◌, Ok, Err, sym, ap, ◌∙◌}
 use Rattle.mm_proof.specs.declared.fault.ProofFault.TheVariants.{Rule}
 use Rattle.mm_proof.specs.declared.prover.Proved.{Proved}

@@ -1,6 +1,6 @@
 -- Each piece goes on where the last one ended.
 use Rattle.std.proofs.Common.{rules}
-use Rattle.mm_text.proofs.Pieces.{Appends-piece}
+use Rattle.mm_text.proofs.Lists.{Appends-piece}
 use Rattle.mm_text.proofs.counted.Counted.write_all.Goals as goal
 
 pub loop-written-preserved : goal.loop-written-preserved

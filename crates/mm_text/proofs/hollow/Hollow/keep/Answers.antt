@@ -1,5 +1,5 @@
 use Rattle.std.proofs.Common.{◌∷◌, []}
-use Rattle.mm_text.proofs.Hollowing.{kept_so}
+use Rattle.mm_text.proofs.Alike.HollowFiles.{kept_so}
 use Rattle.mm_text.proofs.hollow.Hollow.keep.Goals as goal
 
 pub returns : goal.returns

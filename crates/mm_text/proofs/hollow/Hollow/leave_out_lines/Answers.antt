@@ -1,5 +1,5 @@
 use Rattle.std.proofs.Common.{◌<◌, length, arith}
-use Rattle.mm_text.proofs.Hollowing.{lines_end, lines_more}
+use Rattle.mm_text.proofs.Alike.HollowFiles.{lines_end, lines_more}
 use Rattle.mm_text.proofs.hollow.Hollow.leave_out_lines.Goals as goal
 
 pub returns-then-end-piece-clause-hollow : goal.returns-then-end-piece-clause-hollow

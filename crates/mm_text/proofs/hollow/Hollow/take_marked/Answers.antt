@@ -1,5 +1,5 @@
 use Rattle.std.proofs.Common.{sym, ◌∙◌}
-use Rattle.mm_text.proofs.Hollowing.{both_told, mark_left_out_so}
+use Rattle.mm_text.proofs.Alike.HollowFiles.{both_told, mark_left_out_so}
 use Rattle.mm_text.proofs.hollow.Hollow.take_marked.Goals as goal
 
 pub returns-then-byte-ne41 : goal.returns-then-byte-ne41

@@ -1,6 +1,6 @@
 use Rattle.std.proofs.Common.{◌≡◌, ◌-◌, ◌++◌, take, drop, sym, ap, subst, ◌∙◌, append-nil, arith}
 use Rattle.mm_text.specs.Mirror.Hollow.{IsHollow}
-use Rattle.mm_text.proofs.Hollowing.{one_of}
+use Rattle.mm_text.proofs.Alike.HollowFiles.{one_of}
 use Rattle.mm_text.proofs.hollow.Hollow.take_some.Goals.{in-Outside+else-end-at, in-Inside+in_ok-end-in-Inside+else-end-at-2, in_default}
 use Rattle.mm_text.proofs.hollow.Hollow.take_some.Goals as goal
 

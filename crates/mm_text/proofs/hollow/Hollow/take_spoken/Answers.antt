@@ -1,5 +1,5 @@
 use Rattle.std.proofs.Common.{sym, ◌∙◌}
-use Rattle.mm_text.proofs.Hollowing.{both_told, left_out}
+use Rattle.mm_text.proofs.Alike.HollowFiles.{both_told, left_out}
 use Rattle.mm_text.proofs.hollow.Hollow.take_spoken.Goals as goal
 
 pub returns-then-is_quiet : goal.returns-then-is_quiet

@@ -2,7 +2,8 @@ use Rattle.std.proofs.Common.{map, sym, ◌∙◌, refl, arith}
 use Rattle.std.proofs.lemmas.Bool.{not-true, not-false}
 use Rattle.std.proofs.lemmas.List.{take_all, length-map}
 use Rattle.mm_text.specs.declared.names.Name.{Name}
-use Rattle.mm_text.proofs.NameLaws.{kept_more, apart_with, twins_found, no_twins, plain_names}
+use Rattle.mm_text.proofs.Inclusions.OpenFiles.{kept_more, apart_with, twins_found, no_twins}
+use Rattle.mm_text.proofs.Inclusions.OpenFiles.{plain_names}
 use Rattle.mm_text.proofs.names.Names.of.Goals as goal
 
 pub loop-file-preserved : goal.loop-file-preserved

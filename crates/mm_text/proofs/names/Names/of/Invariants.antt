@@ -1,5 +1,5 @@
 use Rattle.std.proofs.Common.{◌≡◌, map, take}
-use Rattle.mm_text.proofs.NameLaws.{AreApart}
+use Rattle.mm_text.proofs.Inclusions.OpenFiles.{AreApart}
 use Rattle.mm_text.proofs.names.Names.of.Given as goal
 
 -- the names so far are kept, and no two of them are equal

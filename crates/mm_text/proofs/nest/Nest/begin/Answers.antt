@@ -3,7 +3,7 @@ use Rattle.std.specs.List.{AllByRecursion}
 use Rattle.std.proofs.lemmas.List.{length-replicate}
 use Rattle.mm_text.specs.declared.comments.Place.{Place}
 use Rattle.mm_text.specs.Mirror.Place.{IsPlace}
-use Rattle.mm_text.proofs.NestLaws.{begins, room_at_begin, no_file}
+use Rattle.mm_text.proofs.Inclusions.OpenFiles.{begins, room_at_begin, no_file}
 use Rattle.mm_text.proofs.nest.Nest.begin.Goals as goal
 
 pub returns : goal.returns

@@ -3,7 +3,7 @@ use Rattle.std.specs.Vec.{with_item}
 use Rattle.mm_text.specs.Items.{Outside, pieces}
 use Rattle.mm_text.specs.Mirror.Place.{shown_at}
 use Rattle.mm_text.specs.Mirror.Nest.{put_into, waiting}
-use Rattle.mm_text.proofs.NestLaws.{enters, left_at, file_within, no_file}
+use Rattle.mm_text.proofs.Inclusions.OpenFiles.{enters, left_at, file_within, no_file}
 use Rattle.mm_text.proofs.nest.Nest.enter.Goals as goal
 
 pub begin-begin-requires : goal.begin-begin-requires

@@ -1,5 +1,5 @@
 use Rattle.std.proofs.Common.{refl}
-use Rattle.mm_text.proofs.NestLaws.{leaves_to}
+use Rattle.mm_text.proofs.Inclusions.OpenFiles.{leaves_to}
 use Rattle.mm_text.proofs.nest.Nest.leave.Goals as goal
 
 pub returns-in-Some-clause-leaves : goal.returns-in-Some-clause-leaves

@@ -1,7 +1,7 @@
 use Rattle.std.proofs.Common.{nat_lt, leb, cond, refl, arith}
 use Rattle.std.proofs.lemmas.Simd.{length-chunk}
 use lib.Lanes.{chunk}
-use Rattle.mm_text.proofs.Lanes.{joined, splat_is, itself, run_in}
+use Rattle.mm_text.proofs.Tokens.ManyBytes.{joined, splat_is, itself, run_in}
 use Rattle.mm_text.proofs.sought.LowSought.passed_run.Goals as goal
 
 pub returns : goal.returns

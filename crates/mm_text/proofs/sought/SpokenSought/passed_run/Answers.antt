@@ -2,7 +2,7 @@ use Rattle.std.proofs.Common.{ℕ, leb, cond, refl, arith}
 use Rattle.std.proofs.lemmas.Simd.{zip2_splat, length-chunk}
 use lib.Lanes.{chunk}
 use Rattle.mm_text.specs.Mirror.Hollow.{is_spoken}
-use Rattle.mm_text.proofs.Lanes.{joined, splat_is, run_in}
+use Rattle.mm_text.proofs.Tokens.ManyBytes.{joined, splat_is, run_in}
 use Rattle.mm_text.proofs.sought.SpokenSought.passed_run.Goals as goal
 
 pub returns : goal.returns

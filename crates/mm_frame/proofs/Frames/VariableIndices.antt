@@ -1,0 +1,181 @@
+-- Where a variable's `$f` stands among the hypotheses, and patterns by that.
+use Rattle.std.proofs.Common.{◌≡◌, ℕ, zero, suc, ◌+◌, ◌<◌, ◌⊎◌, inl, inr, length, get_or, take, set}
+use Rattle.std.proofs.Common.{List, [], ◌∷◌, ◌++◌, Bool, true, false, Option, option_map, Some}
+use Rattle.std.proofs.Common.{None, refl, sym, ap, ◌∙◌, subst, length-append, arith, MatchOption}
+use Rattle.std.proofs.Common.{is_some, ◌≤◌, slice_index_or}
+use Rattle.std.specs.List.{slice_get, position_or_len}
+use Rattle.std.proofs.lemmas.Bool.{false≢true, cases_lt}
+use Rattle.std.proofs.lemmas.Bool.Decides.{Decides-eqb}
+use Rattle.std.proofs.lemmas.List.{map_more, get_or_append_left, get_or_push, get_or_past, take_all}
+use Rattle.std.proofs.lemmas.List.{get_or-map, length-map}
+use Rattle.std.proofs.lemmas.Option.{same_Some}
+use Rattle.mm_frame.specs.declared.number.Sym.{Sym}
+use Rattle.mm_frame.specs.declared.hypothesis.Hypothesis.{Hypothesis}
+use Rattle.mm_frame.specs.Pieces.{variables_of, is_of, IsNowhere, IsFirstAt, AreItsPieces}
+use Rattle.mm_frame.specs.Pieces.{HasPattern}
+use Rattle.mm_frame.specs.Mirror.Patterned.{IsLonger, AreNoted}
+use Rattle.mm_text.proofs.Lists.{get_kept, get_set_same, zip_mapped, mapped_zip}
+use Rattle.std.proofs.lemmas.List.Sums.{passes_at_first, fails_before_first}
+use Rattle.mm_frame.specs.declared.piece.Piece.{Piece}
+use Rattle.mm_frame.specs.Sentence.{Sentence}
+use Rattle.mm_frame.proofs.BookLists.GrownLists.{slice_left, longer}
+use Rattle.mm_frame.proofs.Names.LabelNumbers.{labelled_grow}
+use Rattle.mm_frame.proofs.Names.NameNumbers.{symbols_grow}
+
+-- ==== places of variables' `$f` among hypotheses, noted by the variables' numbers
+
+-- ---- the first place
+
+-- where the symbol's `$f` is, or before it, is the first place
+first_before : (n k : ℕ) (variables : List (Option ℕ)) → is_of n (get_or variables k None) ≡ true → (place : ℕ) × IsFirstAt n variables place
+first_before n k variables is = elim (cases_lt k (length variables)) [
+  | inl inside ↦ elim (cases_lt (position_or_len (is_of n) variables) (length variables)) [
+    | inl within ↦ (
+      position_or_len (is_of n) variables,
+      record {
+        within = within;
+        is = passes_at_first (is_of n) variables None within;
+        first = λ j lt. fails_before_first (is_of n) variables j None lt;
+      },
+    )
+    | inr past ↦
+        absurd (false≢true (sym (fails_before_first (is_of n) variables k None (omega arith)) ∙ is))
+  ]
+  | inr outside ↦
+      absurd (false≢true (sym (ap (is_of n) (get_or_past variables k None outside)) ∙ is))
+]
+
+-- what stands at the noted place is the `$f`: so this is the first one
+pub noted_at : (places : List ℕ) (variables : List (Option ℕ)) (n place : ℕ) → slice_get places n ≡ Some place → is_of n (get_or variables place None) ≡ true → AreNoted places variables → IsFirstAt n variables place
+noted_at places variables n place there is noted =
+    let (q, first) = first_before n place variables is in
+    subst (IsFirstAt n variables) (same_Some q place (sym (noted n q first) ∙ there)) first
+
+-- what stands there is another: so there is none
+pub noted_nowhere : (places : List ℕ) (variables : List (Option ℕ)) (n : ℕ) → ((place : ℕ) → slice_get places n ≡ Some place → is_of n (get_or variables place None) ≡ false) → AreNoted places variables → IsNowhere n variables
+noted_nowhere places variables n other noted k = by (is_of n (get_or variables k None)) refl
+  where
+    by : (b : Bool) → is_of n (get_or variables k None) ≡ b → is_of n (get_or variables k None) ≡ false
+    by false none = none
+    by true is =
+        let (q, first) = first_before n k variables is in
+        absurd (false≢true (sym (other q (noted n q first)) ∙ first.is))
+
+-- ---- one variable more
+
+-- an element stays where another place was written
+get_set_other : {X : Type 0} (xs : List X) (i j : ℕ) (x : X) → ¬ (j ≡ i) → slice_get (set xs i x) j ≡ slice_get xs j
+get_set_other (y ∷ xs) zero zero x apart = absurd (apart refl)
+get_set_other (y ∷ xs) (suc i) (suc j) x apart = get_set_other xs i j x (λ same. apart (ap suc same))
+get_set_other xs i j x apart = refl
+
+pub noted_longer : (old new : List ℕ) (variables : List (Option ℕ)) → IsLonger old new → AreNoted old variables → AreNoted new variables
+noted_longer old new variables (more, is) noted n place first =
+    subst (λ ps. slice_get ps n ≡ Some place) (sym is) (get_kept old more n place (noted n place first))
+
+-- the first place is among those before, or is that of the one more
+first_pushed : (n place : ℕ) (variables : List (Option ℕ)) (v : Option ℕ) → IsFirstAt n (variables ++ v ∷ []) place → IsFirstAt n variables place ⊎ ((place ≡ length variables) × (is_of n v ≡ true))
+first_pushed n place variables v first = elim (cases_lt place (length variables)) [
+  | inl before ↦
+      let kept : (k : ℕ) → k < length variables → get_or (variables ++ v ∷ []) k None ≡ get_or variables k None = λ k lt. get_or_append_left variables (v ∷ []) None k lt in
+      inl (record {
+        within = before;
+        is = ap (is_of n) (sym (kept place before)) ∙ first.is;
+        first = λ k lt. ap (is_of n) (sym (kept k (omega arith))) ∙ first.first k lt;
+      })
+  | inr from ↦
+      let last : place ≡ length variables = omega (arith, length-append variables (v ∷ [])) in
+      inr (last, ap (is_of n) (sym (get_or_push variables v None place (sym last))) ∙ first.is)
+]
+
+pub noted_untyped : (places : List ℕ) (variables : List (Option ℕ)) → AreNoted places variables → AreNoted places (variables ++ None ∷ [])
+noted_untyped places variables noted n place first = elim (first_pushed n place variables None first) [
+  | inl before ↦ noted n place before
+  | inr (last, is) ↦ absurd (false≢true is)
+]
+
+-- it is one of those before already
+noted_again : (places : List ℕ) (variables : List (Option ℕ)) (m q : ℕ) → IsFirstAt m variables q → AreNoted places variables → AreNoted places (variables ++ Some m ∷ [])
+noted_again places variables m q known noted n place first = elim (first_pushed n place variables (Some m) first) [
+  | inl before ↦ noted n place before
+  | inr (last, is) ↦
+      let same : m ≡ n = (Decides-eqb m n).0 is in
+      let none = first.first q (let lt = known.within in omega arith) in
+      absurd (false≢true (sym none ∙ ap (is_of n) (get_or_append_left variables (Some m ∷ []) None q known.within) ∙ ap (λ (k : ℕ). is_of k (get_or variables q None)) (sym same) ∙ known.is))
+]
+
+-- it is a new one, and is noted
+noted_new : (places : List ℕ) (variables : List (Option ℕ)) (m : ℕ) → m < length places → IsNowhere m variables → AreNoted places variables → AreNoted (set places m (length variables)) (variables ++ Some m ∷ [])
+noted_new places variables m lt nowhere noted n place first = elim (first_pushed n place variables (Some m) first) [
+  | inl before ↦
+      let apart : ¬ (n ≡ m) = λ same. false≢true (sym (nowhere place) ∙ ap (λ (k : ℕ). is_of k (get_or variables place None)) (sym same) ∙ before.is) in
+      get_set_other places m n (length variables) apart ∙ noted n place before
+  | inr (last, is) ↦
+      let same : m ≡ n = (Decides-eqb m n).0 is in
+      subst (λ k. slice_get (set places m (length variables)) k ≡ Some place) same (get_set_same places m (length variables) lt ∙ ap Some (sym last))
+]
+
+-- by what is told of the symbol among those before
+pub noted_by_none : (places : List ℕ) (variables : List (Option ℕ)) (m : ℕ) (told : Option ℕ) → is_some told ≡ false → MatchOption told (IsNowhere m variables) (IsFirstAt m variables) → m < length places → AreNoted places variables
+    → AreNoted (set places m (length variables)) (variables ++ Some m ∷ [])
+noted_by_none places variables m None is nowhere lt noted = noted_new places variables m lt nowhere noted
+noted_by_none places variables m (Some q) is known lt noted = absurd (cc)
+
+pub noted_by_some : (places : List ℕ) (variables : List (Option ℕ)) (m : ℕ) (told : Option ℕ) → is_some told ≡ true → MatchOption told (IsNowhere m variables) (IsFirstAt m variables) → AreNoted places variables
+    → AreNoted places (variables ++ Some m ∷ [])
+noted_by_some places variables m None is nowhere noted = absurd (cc)
+noted_by_some places variables m (Some q) is known noted = noted_again places variables m q known noted
+
+-- the variables of one hypothesis more
+pub noted_more : (places : List ℕ) (hs : List Hypothesis) (i : ℕ) (d : Hypothesis) (typing : Option (Sym × Sym)) → i < length hs → (get_or hs i d).typing ≡ typing
+    → AreNoted places (variables_of (take i hs) ++ option_map (λ typing. typing.1.0) typing ∷ []) → AreNoted places (variables_of (take (i + 1) hs))
+noted_more places hs i d typing lt is noted =
+    let variable : Option (Sym × Sym) → Option ℕ = option_map (λ typing. typing.1.0) in
+    let pushed : variables_of (take (i + 1) hs) ≡ variables_of (take i hs) ++ variable (get_or hs i d).typing ∷ [] = map_more (λ (h : Hypothesis). variable h.typing) hs i d lt in
+    subst (AreNoted places) (sym (pushed ∙ ap (λ t. variables_of (take i hs) ++ variable t ∷ []) is)) noted
+
+pub ruleset noting_steps = (take_all, noted_untyped, noted_more)
+
+-- ==== places of variables among hypotheses, and patterns by them
+
+-- the variable of the hypothesis at a place
+pub variable_at : (hs : List Hypothesis) (k : ℕ) (d : Hypothesis) → k < length hs → slice_index_or (variables_of hs) k None ≡ option_map (λ typing. typing.1.0) (get_or hs k d).typing
+variable_at hs k d lt =
+    get_or-map (λ (h : Hypothesis). option_map (λ typing. typing.1.0) h.typing) hs k d None lt
+
+-- behind the last there is none
+pub none_behind : (hs : List Hypothesis) (n k : ℕ) → length hs ≤ k → is_of n (slice_index_or (variables_of hs) k None) ≡ false
+none_behind [] n k le = refl
+none_behind (h ∷ hs) n zero le = absurd (omega arith)
+none_behind (h ∷ hs) n (suc k) le = none_behind hs n k (omega arith)
+
+pub variables_counted : (hs : List Hypothesis) → length (variables_of hs) ≡ length hs
+variables_counted hs = length-map hs _
+
+-- ---- patterns stay what they are as statements and pieces are added
+
+-- the pieces of a statement
+pub its_pieces_grow : (st more : List Sentence) (variables : List (Option ℕ)) (s : Sentence) (pieces : List Piece) → AreItsPieces st variables s pieces → AreItsPieces (st ++ more) variables s pieces
+its_pieces_grow st more variables s pieces (numbers, are, says) =
+    let known = mapped_zip _ _ _ (symbols_grow st more) numbers _ are in
+    (numbers, zip_mapped _ _ numbers s.symbols known, says)
+
+pub pattern_grow : (st more : List Sentence) (variables : List (Option ℕ)) (pieces : List Piece) (h : Hypothesis) → HasPattern st variables pieces h → HasPattern (st ++ more) variables pieces h
+pattern_grow st more variables pieces h has = record {
+  ordered = has.ordered;
+  within = has.within;
+  says = λ untyped.
+      let (e, at, are) = has.says untyped in
+      (e, labelled_grow st more h.id.0 e at, its_pieces_grow st more variables e _ are);
+}
+
+pub pattern_longer : (st : List Sentence) (variables : List (Option ℕ)) (pieces c : List Piece) (h : Hypothesis) → HasPattern st variables pieces h → HasPattern st variables (pieces ++ c) h
+pattern_longer st variables pieces c h has =
+    let more = longer pieces c in
+    record {
+      ordered = has.ordered;
+      within = omega arith;
+      says = λ untyped.
+          let (e, at, are) = has.says untyped in
+          (e, at, subst (AreItsPieces st variables e) (sym (slice_left pieces c h.pattern.start h.pattern.end has.ordered has.within)) are);
+    }

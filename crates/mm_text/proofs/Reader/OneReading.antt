@@ -1,0 +1,434 @@
+-- A reading of items is what the reader computes, so there is one reading. The prefix after which a
+-- fault comes is the longest viable one.
+use Rattle.std.proofs.Common.{◌≡◌, ◌≢◌, ℕ, ◌==◌, length, List, [], ◌∷◌, ◌++◌, true, false, refl}
+use Rattle.std.proofs.Common.{sym, ap, subst, ◌∙◌, codes, Option, Some, None, append_assoc, ◌⊎◌}
+use Rattle.std.proofs.Common.{inl, inr, ◌+◌, ◌≤◌, arith}
+use Rattle.std.proofs.lemmas.List.{append-nil}
+use Rattle.std.proofs.lemmas.Bool.{cond-true, cond-false, cond_both, false_from_ne_true, false≢true}
+use Rattle.std.proofs.lemmas.Bool.{eq-eqb, eqb-true}
+use Rattle.mm_text.specs.declared.scope.OpenBlock.{OpenBlock}
+use Rattle.mm_text.specs.declared.fault.TextRule.{TextRule}
+use Rattle.mm_text.specs.declared.fault.TextRule.TheVariants.{X6, X8, S1, S2, S3, S4, S5, S6, S7}
+use Rattle.mm_text.specs.declared.fault.TextRule.TheVariants.{X1}
+use Rattle.mm_text.specs.declared.statement.Kind.{Kind}
+use Rattle.mm_text.specs.declared.statement.Kind.TheVariants.{Floating, Opening, Closing}
+use Rattle.mm_text.specs.Token.{PlainToken, HoldsNoDollar}
+use Rattle.mm_text.specs.Statement.{PlainStatement, SpellsAll, IsKeyword, FitsCount}
+use Rattle.mm_text.specs.Items.{Item, Plain, Wrong, Inclusion, End, plain_tokens, HoldNoFault}
+use Rattle.mm_text.specs.Blocks.{AreBalanced, AreClosed, IsInnermost}
+use Rattle.mm_text.specs.Reading.{PlainFault, closes_symbols, IsBody, IsInProof, IsBeginning}
+use Rattle.mm_text.specs.Reading.{AreOutside, Viable, Meets, MeetsS1, MeetsS2, MeetsS3, MeetsS6}
+use Rattle.mm_text.specs.Reading.{fault_at, EndsInX8, EndsInS7, EndsAt, ReadsAs}
+use Rattle.mm_text.specs.Mirror.Reader.{Part, Between, Labelled, InBody, InProof, Step, More, Whole}
+use Rattle.mm_text.specs.Mirror.Reader.{Opened, Closed, Faulty, step, bare_statement, PlainScope}
+use Rattle.mm_text.specs.Mirror.Reader.{outermost, scope_after_statement, scope_after_opening}
+use Rattle.mm_text.specs.Mirror.Reader.{scope_after_closing, has_none, fault_in, block_fault}
+use Rattle.mm_text.specs.Mirror.Reader.{end_fault, inclusion_fault, unless, PlainReading}
+use Rattle.mm_text.specs.Mirror.Reader.{only_ending, with_statement, reading_of}
+use Rattle.mm_text.proofs.Reader.OneToken.{same_text-ne, is_keyword-true, is_keyword_from}
+use Rattle.mm_text.proofs.Reader.OneToken.{read_nothing, read_end, read_inclusion, read_wrong}
+use Rattle.mm_text.proofs.Reader.OneToken.{read_more, read_whole, read_opened, read_closing}
+use Rattle.mm_text.proofs.Reader.OneToken.{read_faulty, step_closes, step_no_label, step_too_many}
+use Rattle.mm_text.proofs.Reader.OneToken.{IsLongPart, Leads, step_leads}
+use Rattle.mm_text.proofs.Reader.ComputedReadings.{plain_tokens-append, clean_behind, fault_is}
+use Rattle.mm_text.proofs.Reader.Unfinished.{Describes, part_of_body, part_of_proof}
+use Rattle.mm_text.proofs.Reader.Unfinished.{part_of_beginning, first_of_part, closing_sign}
+use Rattle.mm_text.proofs.Reader.SpelledStatements.{Runs, run, run-nil, run_step, with_first}
+use Rattle.mm_text.proofs.Reader.SpelledStatements.{with_all, with_all-runs, run_on, runs_parts}
+use Rattle.mm_text.proofs.Reader.SpelledStatements.{front_of_run, closing_short, spelled_run}
+use Rattle.mm_text.proofs.Reader.SpelledStatements.{whole_run}
+use Rattle.mm_text.proofs.Reader.OpenBlocks.{AreOpen, scope_after, scope_of, scope_body, scope_more}
+use Rattle.mm_text.proofs.Reader.OpenBlocks.{scope_open, closed_scope, unclosed_scope}
+use Rattle.mm_text.proofs.Reader.OpenBlocks.{one_innermost, innermost_unclosed, balanced_front}
+use Rattle.mm_text.proofs.Reader.OpenBlocks.{closing_unbalanced}
+use Rattle.std.proofs.lemmas.Option.{same_Some}
+use Rattle.mm_text.specs.Laws.{FaultsEndLongestFronts}
+
+-- ==== a reading of items is what the reader computes, so there is one reading
+
+-- ---- faulty tokens
+
+-- a token that breaks a rule after these tokens does so in the reader
+pub record Breaks (tokens : List PlainToken) (t : PlainToken) (rule : TextRule) : Type 0 where
+  pub part : Part
+  pub described : Describes part tokens
+  pub faulty : step part t ≡ Faulty rule
+
+breaks_S1 : (tokens : List PlainToken) (t : PlainToken) → MeetsS1 tokens t → Breaks tokens t S1
+unfolding step
+breaks_S1 tokens t m = record {
+  part = Between;
+  described = m.0;
+  faulty = let ne = same_text-ne t.text in
+      rw (is_keyword_from t.text m.1) (simp (ne _ m.2, ne _ m.3, ne _ m.4, ne _ m.5, ne _ m.6));
+}
+
+breaks_S2 : (tokens : List PlainToken) (t : PlainToken) → MeetsS2 tokens t → Breaks tokens t S2
+breaks_S2 tokens t m =
+    let none = false_from_ne_true _ (λ e. m.1 (is_keyword-true t.text e)) in
+    let faulty = step_no_label t none (false_from_ne_true _ m.2) in
+    record { part = Between; described = m.0; faulty = faulty }
+
+breaks_S3 : (tokens : List PlainToken) (t : PlainToken) → MeetsS3 tokens t → Breaks tokens t S3
+unfolding step
+breaks_S3 tokens t m = record {
+  part = Labelled m.0.label;
+  described = (m.0.whole, m.0.named);
+  faulty = let ne = same_text-ne t.text in simp (ne _ m.1, ne _ m.2, ne _ m.3, ne _ m.4);
+}
+
+body_other : (s : PlainStatement) (t : PlainToken) → IsKeyword t.text → t.text ≢ closes_symbols s.kind → step (InBody s) t ≡ Faulty S4
+unfolding step
+body_other s t k ne =
+    rw (is_keyword_from t.text k) (simp (same_text-ne t.text _ (λ e. ne (e ∙ closing_sign s.kind))))
+
+breaks_S4 : (tokens : List PlainToken) (t : PlainToken) → IsKeyword t.text
+    → ((kind : Kind) × (symbols : List PlainToken) × IsBody tokens kind symbols × (t.text ≢ closes_symbols kind)) ⊎ (IsInProof tokens × (t.text ≢ codes "$.")) → Breaks tokens t S4
+unfolding step
+breaks_S4 tokens t k (inl m) =
+    let found = part_of_body tokens m.0 m.1 m.2 in
+    record { part = InBody found.0; described = found.3; faulty = body_other found.0 t k (λ e. m.3 (e ∙ ap closes_symbols found.1)) }
+breaks_S4 tokens t k (inr m) =
+    let found = part_of_proof tokens m.0 in
+    let stop = same_text-ne t.text (codes "$.") m.1 in
+    let faulty : step (InProof found.0) t ≡ Faulty S4 = rw (is_keyword_from t.text k) (simp stop) in
+    record { part = InProof found.0; described = found.1; faulty = faulty }
+
+breaks_S5 : (tokens : List PlainToken) (t : PlainToken) (kind : Kind) (symbols : List PlainToken) → IsBody tokens kind symbols
+    → ((t.text ≡ closes_symbols kind) × ¬ (FitsCount kind (length symbols))) ⊎ (HoldsNoDollar t.text × (kind ≡ Floating) × (length symbols ≡ 2)) → Breaks tokens t S5
+breaks_S5 tokens t kind symbols b (inl m) =
+    let (s, is, same, body) = part_of_body tokens kind symbols b in
+    let short : ¬ (FitsCount s.kind (length s.symbols)) = λ c. m.1 (rw (is, same) at c) in
+    let faulty = closing_short s t (m.0 ∙ ap closes_symbols (sym is)) short in
+    record { part = InBody s; described = body; faulty = faulty }
+breaks_S5 tokens t kind symbols b (inr m) =
+    let (s, is, same, body) = part_of_body tokens kind symbols b in
+    let faulty = step_too_many s t m.0 (rw (is, same, m.1) (eq-eqb (length symbols) 2 m.2)) in
+    record { part = InBody s; described = body; faulty = faulty }
+
+-- ---- the fault after a front
+
+-- after these tokens the reader ends with this fault at this item
+pub record EndsThere (statements : List PlainStatement) (tokens : List PlainToken) (item : Item) (rest : List Item) (fault : PlainFault) : Type 0 where
+  pub part : Part
+  pub described : Describes part tokens
+  pub last : reading_of (scope_of statements) part (item ∷ rest) ≡ only_ending (Some fault)
+
+breaks_ends : (statements : List PlainStatement) (tokens : List PlainToken) (t : PlainToken) (rule : TextRule) (rest : List Item) (fault : PlainFault) → fault ≡ fault_at rule t statements tokens → Breaks tokens t rule → EndsThere statements tokens (Plain t) rest fault
+breaks_ends statements tokens t rule rest fault e b = record {
+  part = b.part;
+  described = b.described;
+  last = read_faulty (scope_of statements) b.part t rest rule b.faulty ∙ ap (λ (f : PlainFault). only_ending (Some f)) (fault_is rule t b.part statements tokens b.described ∙ sym e);
+}
+
+meets_S6 : (statements : List PlainStatement) (tokens : List PlainToken) (t : PlainToken) (rest : List Item) (fault : PlainFault) → fault ≡ fault_at S6 t statements tokens → AreBalanced statements → MeetsS6 statements tokens t → EndsThere statements tokens (Plain t) rest fault
+meets_S6 statements tokens t rest fault e b m = record {
+  part = Between;
+  described = m.0;
+  last = read_closing (scope_of statements) Between t rest (step_closes t m.1)
+      ∙ rw (closed_scope statements b m.2) refl
+      ∙ ap (λ (f : PlainFault). only_ending (Some f)) (fault_is S6 t Between statements tokens m.0 ∙ sym e);
+}
+
+meets_ends : (statements : List PlainStatement) (tokens : List PlainToken) (t : PlainToken) (rule : TextRule) (rest : List Item) (fault : PlainFault) → fault ≡ fault_at rule t statements tokens → AreBalanced statements → Meets statements tokens t rule
+    → EndsThere statements tokens (Plain t) rest fault
+meets_ends statements tokens t S1 rest fault e b m = breaks_ends statements tokens t S1 rest fault e (breaks_S1 tokens t m)
+meets_ends statements tokens t S2 rest fault e b m = breaks_ends statements tokens t S2 rest fault e (breaks_S2 tokens t m)
+meets_ends statements tokens t S3 rest fault e b m = breaks_ends statements tokens t S3 rest fault e (breaks_S3 tokens t m)
+meets_ends statements tokens t S4 rest fault e b m = breaks_ends statements tokens t S4 rest fault e (breaks_S4 tokens t m.0 m.1)
+meets_ends statements tokens t S5 rest fault e b m = breaks_ends statements tokens t S5 rest fault e (breaks_S5 tokens t m.0 m.1 m.2 m.3)
+meets_ends statements tokens t S6 rest fault e b m = meets_S6 statements tokens t rest fault e b m
+meets_ends statements tokens t _ rest fault e b m = absurd m
+
+wrong_ends : (statements : List PlainStatement) (tokens : List PlainToken) (rule : TextRule) (t : PlainToken) (rest : List Item) (fault : PlainFault) → IsBeginning tokens → fault ≡ fault_at rule t statements tokens → EndsThere statements tokens (Wrong rule t) rest fault
+wrong_ends statements tokens rule t rest fault b e =
+    let found = part_of_beginning tokens b in
+    record { part = found.0; described = found.1; last = read_wrong (scope_of statements) found.0 rule t rest ∙ ap (λ (f : PlainFault). only_ending (Some f)) (fault_is rule t found.0 statements tokens found.1 ∙ sym e) }
+
+-- an inclusion in a statement or in a block is a fault
+inclusion_is_fault : (statements : List PlainStatement) (tokens : List PlainToken) (part : Part) (t : PlainToken) → AreBalanced statements → Describes part tokens → (tokens ≢ []) ⊎ ¬ (AreClosed statements)
+    → inclusion_fault (scope_of statements) part t ≡ Some (fault_in (scope_of statements) part X6 t)
+inclusion_is_fault statements tokens part t b d why =
+    elim (first_of_part part tokens d) [
+      | inr some ↦ rw (inclusion_fault, some.2) refl
+      | inl none ↦ elim why [
+        | inl not_empty ↦ absurd (not_empty none.1)
+        | inr some_open ↦
+            rw (none.0, inclusion_fault, unclosed_scope statements b some_open) refl
+      ]
+    ]
+
+inclusion_ends : (statements : List PlainStatement) (tokens : List PlainToken) (t : PlainToken) (rest : List Item) (fault : PlainFault) → IsBeginning tokens → AreBalanced statements → (tokens ≢ []) ⊎ ¬ (AreClosed statements) → fault ≡ fault_at X6 t statements tokens
+    → EndsThere statements tokens (Inclusion t) rest fault
+inclusion_ends statements tokens t rest fault begins b why e =
+    let found = part_of_beginning tokens begins in
+    record {
+      part = found.0;
+      described = found.1;
+      last = read_inclusion (scope_of statements) found.0 t rest ∙ ap (λ (f : Option PlainFault). unless f (reading_of (scope_of statements) found.0 rest)) (inclusion_is_fault statements tokens found.0 t b found.1 why)
+          ∙ ap (λ (f : PlainFault). only_ending (Some f)) (fault_is X6 t found.0 statements tokens found.1 ∙ sym e);
+    }
+
+end_X8 : (statements : List PlainStatement) (tokens : List PlainToken) (file : ℕ) (rest : List Item) (fault : PlainFault) → IsBeginning tokens → EndsInX8 statements tokens fault → EndsThere statements tokens (End file) rest fault
+end_X8 statements tokens file rest fault begins e =
+    let found = part_of_beginning tokens begins in
+    elim (first_of_part found.0 tokens found.1) [
+      | inl none ↦ absurd (cc (none.1, e.2))
+      | inr some ↦
+          let unfinished : end_fault (scope_of statements) found.0 file ≡ Some (fault_in (scope_of statements) found.0 X8 some.0) = rw (end_fault, some.2) refl in
+          let same : some.0 ≡ e.0 = cc (some.3, e.2) in
+          record {
+            part = found.0;
+            described = found.1;
+            last = read_end (scope_of statements) found.0 file rest ∙ ap (λ (f : Option PlainFault). unless f (reading_of (scope_of statements) found.0 rest)) unfinished
+                ∙ ap (λ (f : PlainFault). only_ending (Some f)) (fault_is X8 some.0 found.0 statements tokens found.1 ∙ ap (λ (x : PlainToken). fault_at X8 x statements tokens) same ∙ sym e.3);
+          }
+    ]
+
+-- the fault at the innermost block
+block_is : (statements before : List PlainStatement) (opening : PlainStatement) (blocks : List OpenBlock) → AreBalanced statements → IsInnermost statements before opening → AreOpen statements blocks
+    → block_fault blocks ≡ Some (fault_at S7 opening.first before [])
+block_is statements before opening [] b inner h = absurd (innermost_unclosed statements before opening b inner h.1)
+block_is statements before opening (block ∷ blocks) b inner h =
+    let same = one_innermost statements h.0 before h.1 opening h.2 inner in
+    ap (λ (x : OpenBlock). block_fault (x ∷ blocks)) h.3 ∙ (λ i. Some (fault_at S7 (same.1 i).first (same.0 i) []))
+
+end_S7 : (statements : List PlainStatement) (tokens : List PlainToken) (file : ℕ) (rest : List Item) (fault : PlainFault) → AreBalanced statements → EndsInS7 statements tokens file fault → EndsThere statements tokens (End file) rest fault
+end_S7 statements tokens file rest fault b e = record {
+  part = Between;
+  described = e.0;
+  last = read_end (scope_of statements) Between file rest
+      ∙ ap (λ (f : Option PlainFault). unless f (reading_of (scope_of statements) Between rest)) (ap (end_fault (scope_of statements) Between) e.1 ∙ block_is statements e.2 e.3 (scope_of statements).blocks b e.4 (scope_open statements b))
+      ∙ ap (λ (f : PlainFault). only_ending (Some f)) (sym e.5);
+}
+
+-- a fault ends what the reader computes
+pub ends_there : (statements : List PlainStatement) (tokens : List PlainToken) (item : Item) (rest : List Item) (fault : PlainFault) → IsBeginning tokens → AreBalanced statements → EndsAt statements tokens item fault → EndsThere statements tokens item rest fault
+ends_there statements tokens (Plain t) rest fault begins b e = meets_ends statements tokens t e.0 rest fault e.2 b e.1
+ends_there statements tokens (Wrong rule t) rest fault begins b e = wrong_ends statements tokens rule t rest fault begins e
+ends_there statements tokens (Inclusion t) rest fault begins b e = inclusion_ends statements tokens t rest fault begins b e.0 e.1
+ends_there statements tokens (End file) rest fault begins b (inl e) = end_X8 statements tokens file rest fault begins e
+ends_there statements tokens (End file) rest fault begins b (inr e) = end_S7 statements tokens file rest fault b e
+
+-- ---- along a viable front
+
+-- statements before a reading
+abbrev pub with_statements : List PlainStatement → PlainReading → PlainReading
+with_statements [] reading = reading
+with_statements (s ∷ statements) reading = with_statement s (with_statements statements reading)
+
+with_more : (statements : List PlainStatement) (s : PlainStatement) (reading : PlainReading) → with_statements (statements ++ s ∷ []) reading ≡ with_statements statements (with_statement s reading)
+with_more [] s reading = refl
+with_more (first ∷ statements) s reading = ap (with_statement first) (with_more statements s reading)
+
+-- The reader read a front of a viable front: these statements, and a part of one.
+record IsUnderWay (whole : List Item) (all : List PlainStatement) (last : Part) (pre : List Item) (statements : List PlainStatement) (part : Part) (front : List Item) : Type 0 where
+  cut : whole ≡ pre ++ front
+  done : run Between (plain_tokens pre) ≡ Runs statements part
+  ends : run Between (plain_tokens whole) ≡ Runs all last
+  long : IsLongPart part
+
+-- what is read of the front of a viable front
+so_far : (whole pre front : List Item) (all statements : List PlainStatement) (last part : Part)
+    → IsUnderWay whole all last pre statements part front
+    → (others : List PlainStatement) × (all ≡ statements ++ others)
+    × (run part (plain_tokens front) ≡ Runs others last)
+so_far whole pre front all statements last part w =
+    front_of_run statements (run part (plain_tokens front)) all last
+    (sym (run_on (plain_tokens pre) (plain_tokens front) statements part w.done)
+    ∙ ap (run Between) (sym (ap plain_tokens w.cut ∙ plain_tokens-append pre front)) ∙ w.ends)
+
+-- one item on
+moved : (whole pre front : List Item) (item : Item) (all statements more after : List PlainStatement) (last part next : Part) → IsUnderWay whole all last pre statements part (item ∷ front)
+    → run part (plain_tokens (item ∷ [])) ≡ Runs more next → statements ++ more ≡ after → IsLongPart next → IsUnderWay whole all last (pre ++ item ∷ []) after next front
+moved whole pre front item all statements more after last part next w r is long = record {
+  cut = w.cut ∙ sym (append_assoc pre (item ∷ []) front);
+  done = ap (run Between) (plain_tokens-append pre (item ∷ [])) ∙ run_on (plain_tokens pre) (plain_tokens (item ∷ [])) statements part w.done ∙ ap (with_all statements) r ∙ with_all-runs statements more next
+      ∙ ap (λ (x : List PlainStatement). Runs x next) is;
+  ends = w.ends;
+  long = long;
+}
+
+-- nothing is unfinished where tokens spell statements
+spelled_between : (pre : List Item) (statements earlier : List PlainStatement) (part : Part) → run Between (plain_tokens pre) ≡ Runs statements part → SpellsAll (plain_tokens pre) earlier → (earlier ≡ statements) × (part ≡ Between)
+spelled_between pre statements earlier part done h =
+    let run = whole_run (plain_tokens pre) earlier h in (cc (run, done), cc (run, done))
+
+-- how the items of a viable front may stand, whatever they spell
+record AllowsAll (whole : List Item) (all : List PlainStatement) : Type 0 where
+  clean : HoldNoFault whole
+  balanced : AreBalanced all
+  included : (before after : List Item) (token : PlainToken) → whole ≡ before ++ Inclusion token ∷ after → AreOutside (plain_tokens before)
+  ended : (before after : List Item) (file : ℕ) → whole ≡ before ++ End file ∷ after → (earlier : List PlainStatement) × SpellsAll (plain_tokens before) earlier
+  top_ended : (before after : List Item) → whole ≡ before ++ End 0 ∷ after → AreOutside (plain_tokens before)
+
+-- the reader goes along the rest of a front
+abbrev GoesAlong : List Item → List PlainStatement → Part → List Item → List Item → Type 0
+GoesAlong whole all last front rest =
+    (pre : List Item) (statements : List PlainStatement) (part : Part) → IsUnderWay whole all last pre statements part front
+    → with_statements statements (reading_of (scope_of statements) part (front ++ rest)) ≡ with_statements all (reading_of (scope_of all) last rest)
+
+so_far_balanced : (whole pre front : List Item) (all statements : List PlainStatement) (last part : Part) → AllowsAll whole all → IsUnderWay whole all last pre statements part front → AreBalanced statements
+so_far_balanced whole pre front all statements last part v w =
+    let far = so_far whole pre front all statements last part w in
+    balanced_front statements far.0 (subst AreBalanced far.1 v.balanced)
+
+-- a token that ends a statement
+along_statement : (whole pre front rest : List Item) (all statements : List PlainStatement) (last part : Part) (t : PlainToken) (s : PlainStatement) (scope : PlainScope) → GoesAlong whole all last front rest
+    → IsUnderWay whole all last (pre ++ Plain t ∷ []) (statements ++ s ∷ []) Between front → scope_of (statements ++ s ∷ []) ≡ scope
+    → reading_of (scope_of statements) part (Plain t ∷ front ++ rest) ≡ with_statement s (reading_of scope Between (front ++ rest))
+    → with_statements statements (reading_of (scope_of statements) part (Plain t ∷ front ++ rest)) ≡ with_statements all (reading_of (scope_of all) last rest)
+along_statement whole pre front rest all statements last part t s scope inner w is e =
+    ap (with_statements statements) (e ∙ ap (λ (x : PlainScope). with_statement s (reading_of x Between (front ++ rest))) (sym is))
+    ∙ sym (with_more statements s (reading_of (scope_of (statements ++ s ∷ [])) Between (front ++ rest)))
+    ∙ inner (pre ++ Plain t ∷ []) (statements ++ s ∷ []) Between w
+
+along_closing : (whole pre front rest : List Item) (all statements : List PlainStatement) (last part : Part) (t : PlainToken) → AllowsAll whole all → GoesAlong whole all last front rest → IsUnderWay whole all last pre statements part (Plain t ∷ front)
+    → step part t ≡ Closed → with_statements statements (reading_of (scope_of statements) part (Plain t ∷ front ++ rest)) ≡ with_statements all (reading_of (scope_of all) last rest)
+along_closing whole pre front rest all statements last part t v inner w e =
+    along_statement whole pre front rest all statements last part t s (scope_after_closing (scope_of statements)) inner after (scope_more statements s)
+    (read_closing (scope_of statements) part t (front ++ rest) e ∙ cond-false (has_none (scope_of statements).blocks) _ _ some_open)
+  where
+    s : PlainStatement
+    s = bare_statement Closing t None
+
+    after : IsUnderWay whole all last (pre ++ Plain t ∷ []) (statements ++ s ∷ []) Between front
+    after = moved whole pre front (Plain t) all statements (s ∷ []) (statements ++ s ∷ []) last part Between w (run_step part t [] _ e ∙ ap (with_first s) (run-nil Between)) refl tt
+
+    some_open : has_none (scope_of statements).blocks ≡ false
+    some_open =
+        unclosed_scope statements (so_far_balanced whole pre (Plain t ∷ front) all statements last part v w)
+        (λ c. closing_unbalanced statements s c refl (so_far_balanced whole (pre ++ Plain t ∷ []) front all (statements ++ s ∷ []) last Between v after))
+
+along_token : (whole pre front rest : List Item) (all statements : List PlainStatement) (last part : Part) (t : PlainToken) → AllowsAll whole all → GoesAlong whole all last front rest → IsUnderWay whole all last pre statements part (Plain t ∷ front)
+    → (st : Step) → step part t ≡ st → Leads part st → with_statements statements (reading_of (scope_of statements) part (Plain t ∷ front ++ rest)) ≡ with_statements all (reading_of (scope_of all) last rest)
+along_token whole pre front rest all statements last part t v inner w (More next) e long =
+    ap (with_statements statements) (read_more (scope_of statements) part t (front ++ rest) next e)
+    ∙ inner (pre ++ Plain t ∷ []) statements next (moved whole pre front (Plain t) all statements []
+    statements last part next w (run_step part t [] _ e ∙ run-nil next) (append-nil statements)
+    (long.1 w.long))
+along_token whole pre front rest all statements last part t v inner w (Whole s) e long =
+    along_statement whole pre front rest all statements last part t s (scope_after_statement (scope_of statements)) inner
+    (moved whole pre front (Plain t) all statements (s ∷ []) (statements ++ s ∷ []) last part Between w (run_step part t [] _ e ∙ ap (with_first s) (run-nil Between)) refl tt)
+    (scope_body statements s (long w.long)) (read_whole (scope_of statements) part t (front ++ rest) s e)
+along_token whole pre front rest all statements last part t v inner w Opened e long =
+    let s : PlainStatement = bare_statement Opening t None in
+    along_statement whole pre front rest all statements last part t s (scope_after_opening (scope_of statements) t) inner
+    (moved whole pre front (Plain t) all statements (s ∷ []) (statements ++ s ∷ []) last part Between w (run_step part t [] _ e ∙ ap (with_first s) (run-nil Between)) refl tt)
+    (scope_more statements s) (read_opened (scope_of statements) part t (front ++ rest) e)
+along_token whole pre front rest all statements last part t v inner w Closed e long = along_closing whole pre front rest all statements last part t v inner w e
+along_token whole pre front rest all statements last part t v inner w (Faulty rule) e long =
+    let far = so_far whole pre (Plain t ∷ front) all statements last part w in
+    absurd (cc (run_step part t (plain_tokens front) _ e, far.2))
+
+-- an item between statements at which there is no fault
+along_between : (whole pre front rest : List Item) (item : Item) (all statements : List PlainStatement) (last part : Part) → GoesAlong whole all last front rest → IsUnderWay whole all last pre statements part (item ∷ front) → plain_tokens (item ∷ []) ≡ []
+    → reading_of (scope_of statements) part (item ∷ front ++ rest) ≡ reading_of (scope_of statements) part (front ++ rest)
+    → with_statements statements (reading_of (scope_of statements) part (item ∷ front ++ rest)) ≡ with_statements all (reading_of (scope_of all) last rest)
+along_between whole pre front rest item all statements last part inner w none e =
+    ap (with_statements statements) e
+    ∙ inner (pre ++ item ∷ []) statements part (moved whole pre front item all statements [] statements last part part w (ap (run part) none ∙ run-nil part) (append-nil statements) w.long)
+
+along_inclusion : (whole pre front rest : List Item) (all statements : List PlainStatement) (last part : Part) (t : PlainToken) → AllowsAll whole all → GoesAlong whole all last front rest → IsUnderWay whole all last pre statements part (Inclusion t ∷ front)
+    → with_statements statements (reading_of (scope_of statements) part (Inclusion t ∷ front ++ rest)) ≡ with_statements all (reading_of (scope_of all) last rest)
+along_inclusion whole pre front rest all statements last part t v inner w =
+    let out = v.included pre front t w.cut in
+    let here = spelled_between pre statements out.statements part w.done out.spelled in
+    let none_open = closed_scope statements (so_far_balanced whole pre (Inclusion t ∷ front) all statements last part v w) (subst AreClosed here.0 out.closed) in
+    let none : inclusion_fault (scope_of statements) part t ≡ None = ap (λ (x : Part). inclusion_fault (scope_of statements) x t) here.1 ∙ cond-true (has_none (scope_of statements).blocks) _ _ none_open in
+    along_between whole pre front rest (Inclusion t) all statements last part inner w refl
+    (read_inclusion (scope_of statements) part t (front ++ rest) ∙ ap (λ (f : Option PlainFault). unless f (reading_of (scope_of statements) part (front ++ rest))) none)
+
+no_block : (blocks : List OpenBlock) → has_none blocks ≡ true → block_fault blocks ≡ None
+no_block [] e = refl
+no_block (block ∷ blocks) e = absurd (false≢true e)
+
+along_end : (whole pre front rest : List Item) (all statements : List PlainStatement) (last part : Part) (file : ℕ) → AllowsAll whole all → GoesAlong whole all last front rest → IsUnderWay whole all last pre statements part (End file ∷ front)
+    → with_statements statements (reading_of (scope_of statements) part (End file ∷ front ++ rest)) ≡ with_statements all (reading_of (scope_of all) last rest)
+along_end whole pre front rest all statements last part file v inner w =
+    let out = v.ended pre front file w.cut in
+    let here = spelled_between pre statements out.0 part w.done out.1 in
+    let top : file ≡ 0 → block_fault (scope_of statements).blocks ≡ None = λ first.
+    let outside = v.top_ended pre front (w.cut ∙ ap (λ (x : ℕ). pre ++ End x ∷ front) first) in
+    let same = spelled_between pre statements outside.statements part w.done outside.spelled in
+    no_block (scope_of statements).blocks (closed_scope statements (so_far_balanced whole pre (End file ∷ front) all statements last part v w) (subst AreClosed same.0 outside.closed)) in
+    let none : end_fault (scope_of statements) part file ≡ None =
+    ap (λ (x : Part). end_fault (scope_of statements) x file) here.1
+    ∙ cond_both (file == 0) _ _ (λ (f : Option PlainFault). f ≡ None) (λ first. top (eqb-true file 0 first)) (λ _. refl) in
+    along_between whole pre front rest (End file) all statements last part inner w refl
+    (read_end (scope_of statements) part file (front ++ rest) ∙ ap (λ (f : Option PlainFault). unless f (reading_of (scope_of statements) part (front ++ rest))) none)
+
+goes_along : (whole : List Item) (all : List PlainStatement) (last : Part) (front rest : List Item) → AllowsAll whole all → GoesAlong whole all last front rest
+goes_along whole all last [] rest v pre statements part w =
+    let same = runs_parts statements all part last (sym w.done ∙ ap (λ (x : List Item). run Between (plain_tokens x)) (sym (w.cut ∙ append-nil pre)) ∙ w.ends) in
+    λ i. with_statements (same.0 i) (reading_of (scope_of (same.0 i)) (same.1 i) rest)
+goes_along whole all last (Plain t ∷ front) rest v pre statements part w =
+    along_token whole pre front rest all statements last part t v (goes_along whole all last front rest v) w (step part t) refl (step_leads part t)
+goes_along whole all last (Wrong rule t ∷ front) rest v pre statements part w = absurd (clean_behind pre rule t front (subst HoldNoFault w.cut v.clean))
+goes_along whole all last (Inclusion t ∷ front) rest v pre statements part w = along_inclusion whole pre front rest all statements last part t v (goes_along whole all last front rest v) w
+goes_along whole all last (End file ∷ front) rest v pre statements part w = along_end whole pre front rest all statements last part file v (goes_along whole all last front rest v) w
+
+-- what the reader computes of a viable front and what follows it
+pub front_reading : (front rest : List Item) (statements : List PlainStatement) (unfinished : List PlainToken) (part : Part) → Viable front statements unfinished → Describes part unfinished
+    → reading_of outermost Between (front ++ rest) ≡ with_statements statements (reading_of (scope_of statements) part rest)
+unfolding scope_after
+front_reading front rest statements unfinished part v d =
+    goes_along front statements part front rest (record { clean = v.clean; balanced = v.balanced; included = v.included; ended = v.ended; top_ended = v.top_ended }) [] [] Between
+    (record { cut = refl; done = run-nil Between; ends = spelled_run (plain_tokens front) v.finished unfinished statements part v.whole v.spelled d; long = tt })
+
+-- ---- one reading
+
+with_ended : (statements : List PlainStatement) (ending : Option PlainFault) → with_statements statements (only_ending ending) ≡ record { statements = statements; ending = ending }
+with_ended [] ending = refl
+with_ended (s ∷ statements) ending = ap (with_statement s) (with_ended statements ending)
+
+-- a reading of items is what the reader computes
+pub reads_reading : (its : List Item) (statements : List PlainStatement) (ending : Option PlainFault) → ReadsAs its statements ending → reading_of outermost Between its ≡ record { statements = statements; ending = ending }
+reads_reading its statements None v =
+    ap (reading_of outermost Between) (sym (append-nil its)) ∙ front_reading its [] statements [] Between v refl
+    ∙ ap (with_statements statements) (read_nothing (scope_of statements) Between) ∙ with_ended statements None
+reads_reading its statements (Some fault) r =
+    let there = ends_there statements r.3 r.1 r.2 fault r.5.begun r.5.balanced r.6 in
+    ap (reading_of outermost Between) r.4 ∙ front_reading r.0 (r.1 ∷ r.2) statements r.3 there.part r.5 there.described
+    ∙ ap (with_statements statements) there.last ∙ with_ended statements (Some fault)
+
+-- ==== the front of the items after which a fault comes is the longest viable one
+
+-- a longer front goes on after the shorter one
+longer_front : (longer after front : List Item) (item : Item) (rest : List Item) → longer ++ after ≡ front ++ item ∷ rest
+    → (length longer ≤ length front) ⊎ ((mid : List Item) × (longer ≡ front ++ item ∷ mid))
+longer_front [] after front item rest e = inl (omega arith)
+longer_front (x ∷ longer) after [] item rest e = inr (longer, cc)
+longer_front (x ∷ longer) after (y ∷ front) item rest e =
+    elim (longer_front longer after front item rest cc) [
+      | inl le ↦ inl (omega arith)
+      | inr more ↦ inr (more.0, cc)
+    ]
+
+ending_of : (statements : List PlainStatement) (reading : PlainReading) → (with_statements statements reading).ending ≡ reading.ending
+ending_of [] reading = refl
+ending_of (s ∷ statements) reading = ending_of statements reading
+
+-- a fault comes only after the longest viable front
+pub faults_end_longest_fronts : FaultsEndLongestFronts
+faults_end_longest_fronts files front item rest statements unfinished fault cut v e longer after more left other l =
+    elim (longer_front longer after front item rest (sym other ∙ cut)) [
+      | inl le ↦ le
+      | inr (mid, goes_on) ↦
+          -- what goes on after a fault isn't viable: a token that is wrong, right after it, would be
+          -- the fault that ends the reading
+          let viable = rw goes_on at l in
+          let wrong : PlainToken = record { text = []; file = 0; at = fault.at + 1 } in
+          let last : List Item = Wrong X1 wrong ∷ [] in
+          let there = ends_there statements unfinished item (mid ++ last) fault v.begun v.balanced e in
+          let found = part_of_beginning left viable.begun in
+          let one : (reading_of outermost Between (front ++ (item ∷ mid ++ last))).ending ≡ Some fault =
+          ap (λ (r : PlainReading). r.ending) (front_reading front (item ∷ mid ++ last) statements unfinished there.part v there.described)
+          ∙ ending_of statements (reading_of (scope_of statements) there.part (item ∷ mid ++ last)) ∙ ap (λ (r : PlainReading). r.ending) there.last in
+          let two : (reading_of outermost Between ((front ++ item ∷ mid) ++ last)).ending ≡ Some (fault_in (scope_of more) found.0 X1 wrong) =
+          ap (λ (r : PlainReading). r.ending) (front_reading (front ++ item ∷ mid) last more left found.0 viable found.1)
+          ∙ ending_of more (reading_of (scope_of more) found.0 last) ∙ ap (λ (r : PlainReading). r.ending) (read_wrong (scope_of more) found.0 X1 wrong []) in
+          let same = same_Some fault (fault_in (scope_of more) found.0 X1 wrong) (sym one ∙ ap (λ (x : List Item). (reading_of outermost Between x).ending) (sym (append_assoc front (item ∷ mid) last)) ∙ two) in
+          let place : fault.at ≡ fault.at + 1 = ap (λ (f : PlainFault). f.at) same in
+          absurd (omega arith)
+    ]

@@ -1,0 +1,386 @@
+-- The reading of items in which a statement has another proof.
+use Rattle.std.proofs.Common.{◌≢◌, ◌≡◌, ℕ, ◌+◌, List, [], ◌∷◌, ◌++◌, map, refl, sym, ap, ◌∙◌, subst}
+use Rattle.std.proofs.Common.{codes, Option, Some, None, inl, append_assoc, append-nil}
+use Rattle.std.specs.List.{AllZip}
+use Rattle.std.proofs.lemmas.List.{map-append, append_cancel_left}
+use Rattle.mm_text.specs.declared.statement.Kind.{Kind}
+use Rattle.mm_text.specs.declared.statement.Kind.TheVariants.{Provable}
+use Rattle.mm_text.specs.Token.{PlainToken}
+use Rattle.mm_text.specs.Files.{PlainFile}
+use Rattle.mm_text.specs.Statement.{PlainStatement, AreSymbols, IsTail, EndsInProof, Spells}
+use Rattle.mm_text.specs.Statement.{SpellsAll}
+use Rattle.mm_text.specs.Items.{Item, Plain, Wrong, Inclusion, End, plain_tokens, HoldNoFault}
+use Rattle.mm_text.specs.Items.{items}
+use Rattle.mm_text.specs.Blocks.{AreBalanced}
+use Rattle.mm_text.specs.Reading.{PlainFault, Viable, IsBeginning, ReadsAs, Reads}
+use Rattle.mm_text.specs.Alike.{statement_on, token_on, item_on}
+use Rattle.mm_text.specs.Mirror.Reader.{Part, Between, InProof, PlainScope, outermost, PlainReading}
+use Rattle.mm_text.specs.Mirror.Reader.{with_statement, scope_after_statement, reading_of}
+use Rattle.mm_text.proofs.Reader.ComputedReadings.{plain_tokens-append, clean_behind}
+use Rattle.mm_text.proofs.Reader.SpelledStatements.{beginnings_begin_statements, runs_parts}
+use Rattle.mm_text.proofs.Reader.SpelledStatements.{spelled_run, whole_run, begun}
+use Rattle.mm_text.proofs.Reader.Unfinished.{Describes, IsPartProof, beginning_of_part}
+use Rattle.mm_text.proofs.Reader.Unfinished.{part_of_beginning}
+use Rattle.mm_text.proofs.Reader.OneToken.{read_more, read_whole, step_proof_token, step_ends_proof}
+use Rattle.mm_text.proofs.Reader.OpenBlocks.{scope_of, balanced_front}
+use Rattle.mm_text.proofs.Reader.OneReading.{with_statements, front_reading, reads_reading}
+use Rattle.mm_text.proofs.Reader.WholeReadings.{files_reading, reading_reads}
+use Rattle.mm_text.proofs.Alike.AlikeStatements.{viable_alike, statements_alike, plain_tokens_alike}
+use Rattle.mm_text.proofs.Alike.AlikeItems.{SameItem}
+use Rattle.mm_text.proofs.Lists.{nil_append, nil_split, zip_mapped}
+use Rattle.mm_text.specs.declared.class.Keyword.TheVariants as keyword
+
+-- no place matters
+abbrev pub nowhere : ℕ → ℕ → ℕ
+nowhere file at = 0
+
+-- ---- the parts of tokens and items
+
+-- the tokens of statements, of one after them, and of those after that
+pub record Parts (tokens : List PlainToken) (before : List PlainStatement) (s : PlainStatement) (after : List PlainStatement) : Type 0 where
+  pub front : List PlainToken
+  pub own : List PlainToken
+  pub back : List PlainToken
+  pub whole : tokens ≡ front ++ (own ++ back)
+  pub earlier : SpellsAll front before
+  pub here : Spells own s
+  pub later : SpellsAll back after
+
+pub parts_of : (tokens : List PlainToken) (before : List PlainStatement) (s : PlainStatement) (after : List PlainStatement) → SpellsAll tokens (before ++ s ∷ after) → Parts tokens before s after
+parts_of tokens [] s after h = record { front = []; own = h.0; back = h.1; whole = h.2; earlier = refl; here = h.3; later = h.4 }
+parts_of tokens (b ∷ before) s after h =
+    let p = parts_of h.1 before s after h.4 in
+    record {
+      front = h.0 ++ p.front;
+      own = p.own;
+      back = p.back;
+      whole = h.2 ∙ ap (λ (l : List PlainToken). h.0 ++ l) p.whole ∙ sym (append_assoc h.0 p.front (p.own ++ p.back));
+      earlier = (h.0, p.front, refl, h.3, p.earlier);
+      here = p.here;
+      later = p.later;
+    }
+
+-- tokens that spell statements, and then others
+pub spells_append : (a b : List PlainToken) (xs ys : List PlainStatement) → SpellsAll a xs
+    → SpellsAll b ys → SpellsAll (a ++ b) (xs ++ ys)
+spells_append a b [] ys h k = rw h k
+spells_append a b (x ∷ xs) ys h k =
+    (h.0, h.1 ++ b, rw h.2 (append_assoc h.0 h.1 b), h.3, spells_append h.1 b xs ys h.4 k)
+
+-- tokens spell one list of statements
+pub spelled_once : (tokens : List PlainToken) (xs ys : List PlainStatement) → SpellsAll tokens xs
+    → SpellsAll tokens ys → xs ≡ ys
+spelled_once tokens xs ys h k = cc (whole_run tokens xs h, whole_run tokens ys k)
+
+-- a token among those of items is one of them
+pub record TokenAt (its : List Item) (before : List PlainToken) (t : PlainToken) (after : List PlainToken) : Type 0 where
+  pub front : List Item
+  pub back : List Item
+  pub whole : its ≡ front ++ Plain t ∷ back
+  pub first : plain_tokens front ≡ before
+  pub last : plain_tokens back ≡ after
+
+pub token_at : (its : List Item) (before : List PlainToken) (t : PlainToken) (after : List PlainToken) → plain_tokens its ≡ before ++ t ∷ after → TokenAt its before t after
+token_at [] before t after e = absurd (nil_append before t after e)
+token_at (Plain u ∷ its) [] t after e =
+    record { front = []; back = its; whole = cc; first = refl; last = cc }
+token_at (Plain u ∷ its) (b ∷ before) t after e =
+    let p = token_at its before t after cc in
+    record { front = Plain u ∷ p.front; back = p.back; whole = ap (λ (l : List Item). Plain u ∷ l) p.whole; first = cc (p.first); last = p.last }
+token_at (item ∷ its) before t after e =
+    let p = token_at its before t after e in
+    record { front = item ∷ p.front; back = p.back; whole = ap (λ (l : List Item). item ∷ l) p.whole; first = p.first; last = p.last }
+
+-- ---- fronts of a viable front
+
+clean_front : (a b : List Item) → HoldNoFault (a ++ b) → HoldNoFault a
+clean_front [] b h = tt
+clean_front (Wrong rule t ∷ a) b h = h
+clean_front (item ∷ a) b h = clean_front a b h
+
+-- a front of viable items whose tokens are statements and a beginning of one is viable
+viable_front : (its front rest : List Item) (all before : List PlainStatement)
+    (begun finished left : List PlainToken) → Viable its all begun
+    → its ≡ front ++ rest → plain_tokens front ≡ finished ++ left → SpellsAll finished before
+    → IsBeginning left → AreBalanced before → Viable front before left
+viable_front its front rest all before begun finished left v cut told said begins paired = record {
+  clean = clean_front front rest (subst HoldNoFault cut v.clean);
+  finished = finished;
+  whole = told;
+  spelled = said;
+  begun = begins;
+  balanced = paired;
+  included = λ pre post t e. v.included pre (post ++ rest) t (longer pre post (Inclusion t) e);
+  ended = λ pre post file e. v.ended pre (post ++ rest) file (longer pre post (End file) e);
+  top_ended = λ pre post e. v.top_ended pre (post ++ rest) (longer pre post (End 0) e);
+}
+  where
+    longer : (pre post : List Item) (item : Item) → front ≡ pre ++ item ∷ post
+        → its ≡ pre ++ item ∷ (post ++ rest)
+    longer pre post item e = cc (append_assoc pre (item ∷ post) rest)
+
+-- a front of the items that reads as these statements, with none begun after them
+pub record WholeFront (its : List Item) (statements : List PlainStatement) : Type 0 where
+  pub front : List Item
+  pub rest : List Item
+  pub cut : its ≡ front ++ rest
+  pub viable : Viable front statements []
+
+-- all of the items
+abbrev pub without_rest : (its : List Item) (statements : List PlainStatement)
+    → Viable its statements [] → WholeFront its statements
+without_rest its statements v = record {
+  front = its;
+  rest = [];
+  cut = sym (append-nil its);
+  viable = v;
+}
+
+-- those up to what is begun
+finished_front : (its : List Item) (statements : List PlainStatement)
+    (unfinished : List PlainToken) → Viable its statements unfinished → WholeFront its statements
+finished_front its statements [] v = without_rest its statements v
+finished_front its statements (t ∷ unfinished) v =
+    let p = token_at its v.finished t unfinished v.whole in
+    record {
+      front = p.front;
+      rest = Plain t ∷ p.back;
+      cut = p.whole;
+      viable = viable_front its p.front _ statements _ _ v.finished [] v p.whole
+          (rw append-nil p.first) v.spelled (inl refl) v.balanced;
+    }
+
+-- the statements of a reading are those of a front of its items
+pub reads_front : (its : List Item) (statements : List PlainStatement)
+    (ending : Option PlainFault) → ReadsAs its statements ending → WholeFront its statements
+reads_front its statements None v = without_rest its statements v
+reads_front its statements (Some fault) (front, item, rest, unfinished, cut, v, _) =
+    let f = finished_front front statements unfinished v in
+    record {
+      front = f.front;
+      rest = f.rest ++ item ∷ rest;
+      cut = cc (f.cut, append_assoc f.front f.rest (item ∷ rest));
+      viable = f.viable;
+    }
+
+-- ---- the tokens of a statement
+
+-- a beginning of a statement after statements is no whole statement
+unfinished_not_whole : (front unfinished tokens : List PlainToken) (before earlier : List PlainStatement) → SpellsAll front before → IsBeginning unfinished → unfinished ≢ [] → tokens ≡ front ++ unfinished → ¬ (SpellsAll tokens earlier)
+unfinished_not_whole front unfinished tokens before earlier h b some e all =
+    let (part, described) = part_of_beginning unfinished b in
+    let same : Between ≡ part = (runs_parts earlier before Between part (sym (whole_run tokens earlier all) ∙ spelled_run tokens front unfinished before part e h described)).1 in
+    some (subst (λ (p : Part). Describes p unfinished) (sym same) described)
+
+-- so a token comes next, and nothing else
+next_token : (its : List Item) (statements : List PlainStatement) (v : Viable its statements []) (front back : List Item) (t : PlainToken) (rest : List PlainToken) → its ≡ front ++ back
+    → ((earlier : List PlainStatement) → ¬ (SpellsAll (plain_tokens front) earlier)) → plain_tokens back ≡ t ∷ rest → (more : List Item) × (back ≡ Plain t ∷ more) × (plain_tokens more ≡ rest)
+next_token its statements v front [] t rest e never is = absurd (nil_append [] t rest is)
+next_token its statements v front (Plain u ∷ back) t rest e never is = (back, cc, cc)
+next_token its statements v front (Wrong rule u ∷ back) t rest e never is = absurd (clean_behind front rule u back (subst HoldNoFault e v.clean))
+next_token its statements v front (Inclusion u ∷ back) t rest e never is =
+    absurd (never _ (v.included front back u e).spelled)
+next_token its statements v front (End file ∷ back) t rest e never is =
+    absurd (never _ (v.ended front back file e).1)
+
+-- the tokens of a statement follow each other
+statement_follows : (its : List Item) (statements before : List PlainStatement) (v : Viable its statements []) (front own : List PlainToken) (s : PlainStatement) → SpellsAll front before → Spells own s
+    → (begun rest : List PlainToken) (past back : List Item) (after : List PlainToken) → own ≡ begun ++ rest → begun ≢ [] → its ≡ past ++ back → plain_tokens past ≡ front ++ begun → plain_tokens back ≡ rest ++ after
+    → (more : List Item) × (back ≡ map Plain rest ++ more) × (plain_tokens more ≡ after)
+statement_follows its statements before v front own s earlier h begun [] past back after whole some
+    e done left = (back, refl, left)
+statement_follows its statements before v front own s earlier h begun (t ∷ rest) past back after whole some e done left =
+    let beginning : IsBeginning begun = (beginnings_begin_statements begun).1
+    (record { more = t ∷ rest; some = λ none. cc; statement = s; spelled = rw whole at h }) in
+    let (more, one, others) = next_token its statements v past back t (rest ++ after) e (λ all. unfinished_not_whole front begun (plain_tokens past) before all earlier beginning some done) left in
+    let (last, split, none) = statement_follows its statements before v front own s earlier h
+    (begun ++ t ∷ []) rest (past ++ Plain t ∷ []) more after (rw append_assoc whole)
+    (λ e. nil_append begun t [] (sym e)) (cc (one, append_assoc past (Plain t ∷ []) more))
+    (rw (plain_tokens-append, done) (append_assoc front begun (t ∷ []))) others in
+    (last, cc (one, split), none)
+
+-- so they stand together among the items
+pub own_stands : (its : List Item) (statements before : List PlainStatement) (s : PlainStatement)
+    (after : List PlainStatement) → Viable its statements []
+    → (p : Parts (plain_tokens its) before s after)
+    → (front : List Item) × (back : List Item) × (its ≡ front ++ (map Plain p.own ++ back))
+    × (plain_tokens front ≡ p.front) × (plain_tokens back ≡ p.back)
+own_stands its statements before s after v p =
+    let others : List PlainToken = (p.here.first.0 ++ s.symbols) ++ p.here.tail in
+    let own : p.own ≡ s.first ∷ others = rw p.here.first.1 at p.here.whole in
+    let t = token_at its p.front s.first (others ++ p.back) (rw own at p.whole) in
+    let (more, split, left) = statement_follows its statements before v p.front p.own s p.earlier
+    p.here (s.first ∷ []) others (t.front ++ Plain s.first ∷ []) t.back p.back own (λ none. cc)
+    (cc (t.whole, append_assoc t.front (Plain s.first ∷ []) t.back))
+    (cc (t.first, plain_tokens-append t.front (Plain s.first ∷ []))) t.last in
+    let run = ap (λ (l : List PlainToken). map Plain l ++ more) own in
+    (t.front, more, cc (t.whole, split, run), t.first, left)
+
+-- ---- where the proof stands
+
+-- where the proof of a statement stands among the items
+pub record ProofAt (its : List Item) (before : List PlainStatement) (s : PlainStatement) (after : List PlainStatement) : Type 0 where
+  pub parts : Parts (plain_tokens its) before s after
+  pub kind : s.kind ≡ Provable
+  pub ends : EndsInProof s parts.here.tail
+  pub front : List Item
+  pub back : List Item
+  pub whole : its ≡ front ++ (map Plain (ends.equals ∷ (s.proof ++ ends.stop ∷ [])) ++ back)
+  pub done : plain_tokens front ≡ parts.front ++ (parts.here.head ++ s.symbols)
+  pub left : plain_tokens back ≡ parts.back
+
+all_plain : (tokens : List PlainToken) → plain_tokens (map Plain tokens) ≡ tokens
+all_plain [] = refl
+all_plain (t ∷ tokens) = ap (λ (l : List PlainToken). t ∷ l) (all_plain tokens)
+
+pub proof_at : (its : List Item) (before : List PlainStatement) (s : PlainStatement) (after : List PlainStatement) → Viable its (before ++ s ∷ after) [] → s.kind ≡ Provable → ProofAt its before s after
+proof_at its before s after v p =
+    let parts = parts_of (plain_tokens its) before s after (subst (λ (l : List PlainToken). SpellsAll l (before ++ s ∷ after)) (sym (v.whole ∙ append-nil v.finished)) v.spelled) in
+    let h = parts.here in
+    let k : EndsInProof s h.tail = subst (λ (x : Kind). IsTail s x h.tail) p h.ends in
+    let stated : List PlainToken = h.head ++ s.symbols in
+    let end : List PlainToken = k.equals ∷ (s.proof ++ k.stop ∷ []) in
+    let own : parts.own ≡ stated ++ end = cc (h.whole, k.tokens) in
+    let (front, back, whole, first, left) = own_stands its _ before s after v parts in
+    record {
+      parts = parts;
+      kind = p;
+      ends = k;
+      front = front ++ map Plain stated;
+      back = back;
+      whole = cc (
+        whole,
+        own,
+        map-append Plain stated end,
+        append_assoc (map Plain stated) (map Plain end) back,
+        append_assoc front (map Plain stated) (map Plain end ++ back),
+      );
+      done = plain_tokens-append front (map Plain stated) ∙ (λ i. first i ++ all_plain stated i);
+      left = left;
+    }
+
+-- ---- the reader goes through a proof
+
+proof_reading : (scope : PlainScope) (y : PlainStatement) (proof : List PlainToken) (stop : PlainToken) (rest : List Item) → AreSymbols proof → stop.text ≡ codes "$."
+    → reading_of scope (InProof y) (map Plain (proof ++ stop ∷ []) ++ rest) ≡ with_statement (record y { proof = y.proof ++ proof; span = (y.span.0, stop.at) }) (reading_of (scope_after_statement scope) Between rest)
+proof_reading scope y [] stop rest h sign =
+    read_whole scope (InProof y) stop rest (record y { span = (y.span.0, stop.at) })
+    (step_ends_proof y stop keyword.Stop sign refl)
+    ∙ ap (λ (l : List PlainToken). with_statement (record y { proof = l; span = (y.span.0, stop.at) }) (reading_of (scope_after_statement scope) Between rest)) (sym (append-nil y.proof))
+proof_reading scope y (t ∷ proof) stop rest h sign =
+    let more : PlainStatement = record y { proof = y.proof ++ t ∷ [] } in
+    read_more scope (InProof y) t (map Plain (proof ++ stop ∷ []) ++ rest) (InProof more) (step_proof_token y t h.0)
+    ∙ proof_reading scope more proof stop rest h.1 sign
+    ∙ ap (λ (l : List PlainToken). with_statement (record y { proof = l; span = (y.span.0, stop.at) }) (reading_of (scope_after_statement scope) Between rest)) (append_assoc y.proof (t ∷ []) proof)
+
+statements_read : (before : List PlainStatement) (r : PlainReading) → with_statements before r ≡ record { statements = before ++ r.statements; ending = r.ending }
+statements_read [] r = refl
+statements_read (s ∷ before) r = ap (with_statement s) (statements_read before r)
+
+module _ (its : List Item) (before : List PlainStatement) (s : PlainStatement) (after : List PlainStatement) (v : Viable its (before ++ s ∷ after) []) (a : ProofAt its before s after) where
+  abbrev stated : List PlainToken
+  stated = a.parts.here.head ++ s.symbols
+
+  abbrev proving : PlainStatement
+  proving = record s { proof = []; span = (a.ends.equals.at + 2, 0) }
+
+  abbrev until : List Item
+  until = a.front ++ Plain a.ends.equals ∷ []
+
+  cut : its ≡ until ++ (map Plain (s.proof ++ a.ends.stop ∷ []) ++ a.back)
+  cut = a.whole ∙ sym (append_assoc a.front (Plain a.ends.equals ∷ []) (map Plain (s.proof ++ a.ends.stop ∷ []) ++ a.back))
+
+  begun_here : IsPartProof proving (stated ++ a.ends.equals ∷ [])
+  begun_here = begun a.parts.own s a.parts.here a.ends [] a.kind tt
+
+  -- the items up to the `$=` are a viable front
+  until_viable : Viable until before (stated ++ a.ends.equals ∷ [])
+  until_viable =
+      viable_front its until (map Plain (s.proof ++ a.ends.stop ∷ []) ++ a.back)
+      (before ++ s ∷ after) before [] a.parts.front (stated ++ a.ends.equals ∷ []) v cut
+      (plain_tokens-append a.front (Plain a.ends.equals ∷ [])
+      ∙ ap (λ (l : List PlainToken). l ++ a.ends.equals ∷ []) a.done
+      ∙ append_assoc a.parts.front stated (a.ends.equals ∷ [])) a.parts.earlier
+      (beginning_of_part (InProof proving) (stated ++ a.ends.equals ∷ []) begun_here)
+      (balanced_front before (s ∷ after) v.balanced)
+
+  -- what is read with any proof in place of the own, and any items after it
+  any_proof : (proof : List PlainToken) (stop : PlainToken) (rest : List Item) → AreSymbols proof → stop.text ≡ codes "$."
+      → reading_of outermost Between (a.front ++ (map Plain (a.ends.equals ∷ (proof ++ stop ∷ [])) ++ rest))
+      ≡ with_statements before (with_statement (record s { proof = proof; span = (a.ends.equals.at + 2, stop.at) }) (reading_of (scope_after_statement (scope_of before)) Between rest))
+  any_proof proof stop rest h sign =
+      ap (reading_of outermost Between) (sym (append_assoc a.front (Plain a.ends.equals ∷ []) (map Plain (proof ++ stop ∷ []) ++ rest)))
+      ∙ front_reading until (map Plain (proof ++ stop ∷ []) ++ rest) before
+      (stated ++ a.ends.equals ∷ []) (InProof proving) until_viable begun_here
+      ∙ ap (with_statements before) (proof_reading (scope_of before) proving proof stop rest h sign)
+
+  -- the old proof, and other items after it
+  abbrev before_rest : List Item → List Item
+  before_rest rest = a.front ++ (map Plain (a.ends.equals ∷ (s.proof ++ a.ends.stop ∷ [])) ++ rest)
+
+  -- the tokens of these
+  rest_tokens : (rest : List Item)
+      → plain_tokens (before_rest rest) ≡ a.parts.front ++ (a.parts.own ++ plain_tokens rest)
+  rest_tokens rest =
+      let plain = all_plain (s.proof ++ a.ends.stop ∷ []) in
+      simp (plain_tokens-append, plain, a.done, a.parts.here.whole, a.ends.tokens, append_assoc)
+
+  -- what is read after the proof where the items after it are the old ones but for places
+  abbrev Later : List Item → Type 0
+  Later rest = (others : List PlainStatement)
+      × (reading_of (scope_after_statement (scope_of before)) Between rest
+      ≡ record { statements = others; ending = None })
+      × SpellsAll (plain_tokens rest) others
+      × (map (statement_on nowhere) after ≡ map (statement_on nowhere) others)
+
+  -- with these items after it the statements read are those that their tokens spell
+  rest_read : (rest : List Item) (same others : List PlainStatement)
+      → Viable (before_rest rest) same [] → SpellsAll (plain_tokens rest) others
+      → reading_of (scope_after_statement (scope_of before)) Between rest
+      ≡ record { statements = others; ending = None }
+  rest_read rest same others v told =
+      let mixed : List Item = before_rest rest in
+      let r : PlainReading = reading_of (scope_after_statement (scope_of before)) Between rest in
+      let t : PlainStatement = record s { span = (a.ends.equals.at + 2, a.ends.stop.at) } in
+      let both = sym (statements_read before (with_statement t r))
+      ∙ sym (any_proof s.proof a.ends.stop rest a.ends.proof a.ends.end)
+      ∙ reads_reading mixed same None v in
+      let mine : SpellsAll (plain_tokens mixed) (before ++ s ∷ others) =
+      rw (rest_tokens rest) (spells_append a.parts.front (a.parts.own ++ plain_tokens rest) before
+      (s ∷ others) a.parts.earlier (a.parts.own, plain_tokens rest, refl, a.parts.here, told)) in
+      let theirs : SpellsAll (plain_tokens mixed) same = rw (v.whole, append-nil) v.spelled in
+      let once : t ∷ r.statements ≡ s ∷ others = append_cancel_left before _ _
+      (ap (λ (x : PlainReading). x.statements) both ∙ sym (spelled_once _ _ same mine theirs)) in
+      let is : r.statements ≡ others = cc (once) in
+      λ i. record { statements = is i; ending = (both i).ending }
+
+  later_read : (rest : List Item) → AllZip (SameItem nowhere nowhere) a.back rest → Later rest
+  later_read rest z =
+      let h : Item → Item = item_on nowhere in
+      let mixed : List Item = before_rest rest in
+      let same_rest : map h a.back ≡ map h rest = zip_mapped h h a.back rest z in
+      let same_all : map h its ≡ map h mixed = ap (map h) a.whole ∙ simp (map-append, same_rest) in
+      let (same, nothing, viable, spelled, unfinished) =
+      viable_alike nowhere nowhere its mixed (before ++ s ∷ after) [] same_all v in
+      let none : nothing ≡ [] = nil_split (token_on nowhere) (token_on nowhere) nothing unfinished in
+      let (others, told, alike) =
+      statements_alike nowhere nowhere (plain_tokens a.back) (plain_tokens rest) after
+      (plain_tokens_alike nowhere nowhere a.back rest same_rest) (rw a.left a.parts.later) in
+      (others, rest_read rest same others (subst (Viable mixed same) none viable) told, told, alike)
+
+  -- files with these items read so
+  pub read_so : (others : List PlainFile) (proof : List PlainToken) (stop : PlainToken)
+      (rest : List Item) → AreSymbols proof → stop.text ≡ codes "$."
+      → AllZip (SameItem nowhere nowhere) a.back rest
+      → items others ≡ a.front ++ (map Plain (a.ends.equals ∷ (proof ++ stop ∷ [])) ++ rest)
+      → (later : List PlainStatement) × Reads others (before ++ record s { proof = proof; span = (a.ends.equals.at + 2, stop.at) } ∷ later) None
+      × SpellsAll (plain_tokens rest) later
+      × (map (statement_on nowhere) after ≡ map (statement_on nowhere) later)
+  read_so others proof stop rest h sign z e =
+      let (later, read, told, same) = later_read rest z in
+      let o : PlainStatement = record s { proof = proof; span = (a.ends.equals.at + 2, stop.at) } in
+      let found : files_reading others ≡ record { statements = before ++ o ∷ later; ending = None } =
+      ap (reading_of outermost Between) e ∙ any_proof proof stop rest h sign
+      ∙ ap (λ (r : PlainReading). with_statements before (with_statement o r)) read
+      ∙ statements_read before (with_statement o (record { statements = later; ending = None })) in
+      (later, rw found at (reading_reads others), told, same)
