@@ -2,18 +2,17 @@
 -- letters have, and how many bytes the lines take at most.
 use Rattle.std.proofs.Common.{◌≡◌, ℕ, ◌+◌, ◌-◌, ◌<◌, ◌≤◌, inl, inr, List, [], ◌∷◌, ◌++◌, length}
 use Rattle.std.proofs.Common.{Result, Ok, Err, refl, sym, ap, subst, ◌∙◌, append_assoc, arith, ◌⊎◌}
-use Rattle.std.proofs.Common.{min, take, drop, zero, suc, ◌*◌, ◌/◌, ◌%◌}
-use Rattle.std.specs.Prelude.{IfOk, OnOk}
-use Rattle.std.specs.List.{join_with_byte, flat_map, AllByRecursion}
-use Rattle.std.proofs.lemmas.Bool.{lt-ltb, le-ltb, cases_lt}
-use Rattle.std.proofs.lemmas.List.{length-append, append-nil, length-take, length-drop}
-use Rattle.std.proofs.lemmas.List.{take-append-drop, nil_from_length}
+use Rattle.std.proofs.Common.{min, take, drop, zero, suc, ◌*◌, ◌/◌, ◌%◌, IfOk, OnOk, flat_map}
+use Rattle.std.proofs.Common.{lt-ltb, le-ltb, length-append, append-nil, length-take, length-drop}
+use Rattle.std.proofs.Common.{take-append-drop, le_refl}
+use Rattle.std.specs.List.{join_with_byte, AllByRecursion}
+use Rattle.std.proofs.lemmas.Bool.{cases_lt}
+use Rattle.std.proofs.lemmas.List.{nil_from_length}
+use Rattle.std.proofs.lemmas.List.Sums.{sum_by-append, sum_by-cons}
 use Rattle.mm_code.specs.Layout.{indent, token_line, width, IsLine, IsFull, LaidOut, AreLetterLines}
 use Rattle.mm_code.specs.Layout.{LettersLaidOut, in_parentheses, CompressedLaidOut, IsGreedy}
 use Rattle.mm_code.specs.Layout.{size_of, lines_bound, letters_bound}
 use Rattle.mm_code.specs.Mirror.Lines.{rest_of, room_after, AppendsLetters}
-use Rattle.std.proofs.Math.Nat.{le_refl}
-use Rattle.std.proofs.lemmas.List.Sums.{sum_by-append, sum_by-cons}
 
 -- ==== one step of `rest_of`, and the lines that it makes
 
@@ -21,11 +20,11 @@ pub rest_fits : (room : ℕ) (token : List ℕ) (tokens : List (List ℕ)) → l
 unfolding rest_of
 rest_fits room token tokens lt = rw (lt-ltb (length token) room lt) refl
 
-pub rest_breaks : (room : ℕ) (token : List ℕ) (tokens : List (List ℕ)) → room ≤ length token → rest_of room (token ∷ tokens) ≡ ((10 ∷ indent) ++ token) ++ rest_of (room_after (length token)) tokens
+rest_breaks : (room : ℕ) (token : List ℕ) (tokens : List (List ℕ)) → room ≤ length token → rest_of room (token ∷ tokens) ≡ ((10 ∷ indent) ++ token) ++ rest_of (room_after (length token)) tokens
 unfolding rest_of
 rest_breaks room token tokens le = rw (le-ltb (length token) room le) refl
 
-pub rest_ends : (room : ℕ) → rest_of room [] ≡ 10 ∷ []
+rest_ends : (room : ℕ) → rest_of room [] ≡ 10 ∷ []
 unfolding rest_of
 rest_ends room = refl
 
@@ -44,11 +43,11 @@ join-push first [] token = refl
 join-push first (next ∷ line) token =
     ap (λ (t : List ℕ). first ++ (32 ∷ t)) (join-push next line token) ∙ sym (append_assoc first (32 ∷ join_with_byte 32 (next ∷ line)) (32 ∷ token))
 
-pub token_line-push : (line : List (List ℕ)) (token : List ℕ) → 0 < length line → token_line (line ++ token ∷ []) ≡ token_line line ++ (32 ∷ token)
+token_line-push : (line : List (List ℕ)) (token : List ℕ) → 0 < length line → token_line (line ++ token ∷ []) ≡ token_line line ++ (32 ∷ token)
 token_line-push [] token lt = absurd (omega arith)
 token_line-push (first ∷ line) token lt = ap (λ (t : List ℕ). indent ++ t) (join-push first line token) ∙ sym (append_assoc indent (join_with_byte 32 (first ∷ line)) (32 ∷ token))
 
-pub width-push : (line : List (List ℕ)) (token : List ℕ) → 0 < length line → width (line ++ token ∷ []) ≡ width line + (1 + length token)
+width-push : (line : List (List ℕ)) (token : List ℕ) → 0 < length line → width (line ++ token ∷ []) ≡ width line + (1 + length token)
 width-push line token lt = ap length (token_line-push line token lt) ∙ length-append (token_line line) (32 ∷ token) ∙ omega arith
 
 -- a line has some token
@@ -68,11 +67,11 @@ laid-cons line tokens text is full laid = record {
   printed = ap (λ (t : List ℕ). (token_line line ++ 10 ∷ []) ++ t) laid.printed;
 }
 
-pub laid-nil : LaidOut [] []
+laid-nil : LaidOut [] []
 laid-nil = record { lines = []; in_order = refl; each = tt; greedy = tt; printed = refl }
 
 -- The open line holds some tokens, and its room is what it lacks of 79 bytes.
-pub laid_out_from : (more line : List (List ℕ)) (room : ℕ) → IsLine line → room ≡ 79 - width line → LaidOut (line ++ more) (token_line line ++ rest_of room more)
+laid_out_from : (more line : List (List ℕ)) (room : ℕ) → IsLine line → room ≡ 79 - width line → LaidOut (line ++ more) (token_line line ++ rest_of room more)
 laid_out_from [] line room is left =
     rw (rest_ends room, ← append-nil (token_line line ++ 10 ∷ []))
     (laid-cons line [] [] is tt laid-nil)
@@ -97,7 +96,7 @@ laid_out_from (token ∷ more) line room is left =
     ]
 
 -- the lines that a first token begins
-pub laid_out_begun : (token : List ℕ) (more : List (List ℕ)) → LaidOut (token ∷ more) ((indent ++ token) ++ rest_of (room_after (length token)) more)
+laid_out_begun : (token : List ℕ) (more : List (List ℕ)) → LaidOut (token ∷ more) ((indent ++ token) ++ rest_of (room_after (length token)) more)
 laid_out_begun token more = laid_out_from more (token ∷ []) (room_after (length token)) (inl refl) (omega arith)
 
 -- ==== the lines of letters, and the whole layouts
@@ -267,7 +266,7 @@ one_letter_lines (x ∷ a) (y ∷ b) p q e =
       | shorter letter more whole next ↦ absurd (no_more_letters y b x (flat_map (λ l. l) a) more letter q (some_letters x a p).1 whole next)
     ]
 
-pub one_text_of_letters : (letters a b : List ℕ) → LettersLaidOut letters a → LettersLaidOut letters b → a ≡ b
+one_text_of_letters : (letters a b : List ℕ) → LettersLaidOut letters a → LettersLaidOut letters b → a ≡ b
 one_text_of_letters letters a b p q =
     let lines = one_letter_lines p.lines q.lines p.each q.each (p.in_order ∙ sym q.in_order) in
     p.printed ∙ ap (λ (ls : List (List ℕ)). flat_map (λ line. (indent ++ line) ++ 10 ∷ []) ls) lines ∙ sym q.printed
@@ -353,7 +352,7 @@ letter-lines-few : (lines : List (List ℕ)) → AreLetterLines lines → length
 letter-lines-few [] each = omega arith
 letter-lines-few (line ∷ lines) each = omega (arith, letter-lines-count line lines each)
 
-pub letters_size : (letters text : List ℕ) → LettersLaidOut letters text → length text ≤ letters_bound (length letters)
+letters_size : (letters text : List ℕ) → LettersLaidOut letters text → length text ≤ letters_bound (length letters)
 letters_size letters text laid =
     let size = ap length laid.in_order in
     omega (

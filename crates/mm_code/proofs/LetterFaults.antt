@@ -1,12 +1,10 @@
 -- Which rule the reading answers, and that it is the rule that the letters break.
 use Rattle.std.proofs.Common.{◌≡◌, ℕ, suc, ◌<◌, ◌⊎◌, inl, inr, Bool, true, false, cond, List, []}
 use Rattle.std.proofs.Common.{◌∷◌, ◌++◌, Result, Ok, Err, IsErr, All, refl, sym, ap, ◌∙◌, arith}
-use Rattle.std.specs.Prelude.{Any}
-use Rattle.std.specs.Bool.{Decides}
+use Rattle.std.proofs.Common.{Any, Decides, le-leb, leb-true}
 use Rattle.std.specs.List.{list_all}
 use Rattle.std.specs.Char.{is_ascii_uppercase}
-use Rattle.std.proofs.lemmas.Bool.{cases_eq, cases_Bool, le-leb, leb-true, and_parts, and_from}
-use Rattle.std.proofs.lemmas.Bool.{false_from_ne_true}
+use Rattle.std.proofs.lemmas.Bool.{cases_eq, cases_Bool, and_parts, and_from, false_from_ne_true}
 use Rattle.std.proofs.lemmas.Bool.Decides.{Decides-by_and, not_from_Decides}
 use Rattle.mm_code.specs.declared.code.Code.{Code}
 use Rattle.mm_code.specs.declared.code.CodeRule.{CodeRule}

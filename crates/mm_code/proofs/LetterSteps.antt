@@ -1,11 +1,11 @@
 -- One step of `reading`, for each kind of byte; how a byte is read, to split a proof on.
 use Rattle.std.proofs.Common.{◌≡◌, ℕ, ◌+◌, ◌-◌, ◌<◌, ◌≤◌, Bool, true, false, cond, ◌&&◌, List, []}
 use Rattle.std.proofs.Common.{◌∷◌, ◌++◌, length, get_or, set, take, drop, Bor, Result, Ok, Err}
-use Rattle.std.proofs.Common.{refl, sym, ap, append_assoc, arith, ◌⊎◌, inl, inr}
-use Rattle.std.proofs.lemmas.Bool.{lt-ltb, le-ltb, eq-eqb, ne_eqb}
+use Rattle.std.proofs.Common.{refl, sym, ap, append_assoc, arith, ◌⊎◌, inl, inr, lt-ltb, le-ltb}
+use Rattle.std.proofs.Common.{eq-eqb, ne_eqb, flat_map}
 use Rattle.std.proofs.lemmas.List.{take_more_set, take-set, take_rest, drop_more}
 use Rattle.std.proofs.lemmas.List.Folds.{list_all-append}
-use Rattle.std.specs.List.{list_all, flat_map}
+use Rattle.std.specs.List.{list_all}
 use Rattle.std.specs.Char.{is_ascii_uppercase}
 use Rattle.mm_code.specs.declared.code.Code.{Code}
 use Rattle.mm_code.specs.declared.code.Code.TheVariants.{Number, Tag}
@@ -19,7 +19,7 @@ use Rattle.mm_code.specs.Mirror.Reading.{number_after, FaultOf}
 
 -- ==== one step of `reading`, for each kind of byte
 
-pub with_front-with_front : (a b : List Code) (read : Result (List Code) CodeRule) → with_front a (with_front b read) ≡ with_front (a ++ b) read
+with_front-with_front : (a b : List Code) (read : Result (List Code) CodeRule) → with_front a (with_front b read) ≡ with_front (a ++ b) read
 with_front-with_front a b (Ok codes) = ap Ok (sym (append_assoc a b codes))
 with_front-with_front a b (Err rule) = refl
 
@@ -97,7 +97,7 @@ cut_goes_on bytes rest rule read is h = rw is (cut_cases _ rest read (rw list_al
 -- ---- the end of the letters
 
 -- a fault with nothing behind it is the answer
-pub fault_answers : (fault : CodeFault) (read : Result (List Code) CodeRule) → FaultOf fault [] read → Answers (Err fault) read
+fault_answers : (fault : CodeFault) (read : Result (List Code) CodeRule) → FaultOf fault [] read → Answers (Err fault) read
 unfolding rule_behind
 fault_answers Memory read h = tt
 fault_answers (Rule P4) read h = h

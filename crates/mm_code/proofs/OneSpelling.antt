@@ -2,22 +2,21 @@
 -- steps of writing write.
 use Rattle.std.proofs.Common.{◌≡◌, ℕ, zero, suc, ◌+◌, ◌-◌, ◌*◌, ◌/◌, ◌%◌, ◌<◌, ◌≤◌, inl, inr, min}
 use Rattle.std.proofs.Common.{List, [], ◌∷◌, ◌++◌, map, reverse, All, refl, sym, ap, ◌∙◌, arith}
-use Rattle.std.proofs.Common.{length, get_or, take, append_assoc}
-use Rattle.std.specs.List.{flat_map, AllByRecursion, AllZip}
-use Rattle.std.proofs.lemmas.List.{reverse-reverse, same_from_push, map-append, append-nil}
-use Rattle.std.proofs.lemmas.List.{take_more, take_all, map_push}
+use Rattle.std.proofs.Common.{length, get_or, take, append_assoc, flat_map, append-nil, take_all}
+use Rattle.std.specs.List.{AllByRecursion, AllZip}
+use Rattle.std.proofs.lemmas.List.{reverse-reverse, same_from_push, map-append, take_more, map_push}
 use Rattle.std.proofs.lemmas.List.Elements.{All-head, All-tail}
 use Rattle.std.proofs.lemmas.Grind.{reverse_onto}
 use Rattle.std.proofs.lemmas.Bool.{cases_eq}
+use Rattle.std.proofs.lemmas.List.Concat.{flat_map-append}
 use Rattle.mm_text.proofs.Lists.{all_push, zip_push}
 use Rattle.mm_code.specs.declared.code.Code.{Code}
 use Rattle.mm_code.specs.declared.code.Code.TheVariants.{Number, Tag}
 use Rattle.mm_code.specs.Letters.{last_letter, leading_letter, tag_letter, IsLeadingDigit}
 use Rattle.mm_code.specs.Letters.{leading_value, IsSpelling, SaysCode, SpellsCodes, Letters}
 use Rattle.mm_code.specs.Letters.{code_for, largest, HasSpelling, IsExact}
-use Rattle.mm_code.proofs.ReadLetters.{leading_value-push, is_read_again}
-use Rattle.std.proofs.lemmas.List.Concat.{flat_map-append}
 use Rattle.mm_code.specs.Mirror.Writing.{AppendsLeading, AppendsCode}
+use Rattle.mm_code.proofs.ReadLetters.{leading_value-push, is_read_again}
 
 -- ==== each number from 1 on has exactly one spelling, and each list of codes one text
 
@@ -45,7 +44,7 @@ one_worth (x ∷ a) (y ∷ b) p q e =
     let same : a ≡ b = one_worth a b p.1 q.1 (omega (arith, p.0, q.0)) in
     cc
 
-pub one_leading : (a b : List ℕ) → AllByRecursion IsLeadingDigit a → AllByRecursion IsLeadingDigit b → leading_value a ≡ leading_value b → a ≡ b
+one_leading : (a b : List ℕ) → AllByRecursion IsLeadingDigit a → AllByRecursion IsLeadingDigit b → leading_value a ≡ leading_value b → a ≡ b
 one_leading a b p q e =
     let same = one_worth (reverse a) (reverse b) (leading-reverse a p) (leading-reverse b q)
     (rw (reverse-reverse a, reverse-reverse b) e) in
@@ -87,7 +86,7 @@ some_leading (suc bound) value le =
           leading-push value ((value - 1) / 5) had refl (omega arith)
     ]
 
-pub spelling-of : (number rest : ℕ) (had : HasLeading rest) → rest ≡ (number - 1) / 20 → 1 ≤ number → IsSpelling (map leading_letter had.digits ++ last_letter ((number - 1) % 20 + 1) ∷ []) number
+spelling-of : (number rest : ℕ) (had : HasLeading rest) → rest ≡ (number - 1) / 20 → 1 ≤ number → IsSpelling (map leading_letter had.digits ++ last_letter ((number - 1) % 20 + 1) ∷ []) number
 spelling-of number rest had is positive = record {
   leading = had.digits;
   last = (number - 1) % 20 + 1;

@@ -1,16 +1,16 @@
 -- What is laid out is found again: the tokens of a text, byte by byte, and the words of a laid-out
 -- text, which are its tokens.
 use Rattle.std.proofs.Common.{◌≡◌, ℕ, ◌+◌, ◌==◌, List, [], ◌∷◌, Bool, true, false, refl, sym, cond}
-use Rattle.std.proofs.Common.{ap, ◌∙◌, inl, inr, ◌<◌, ◌++◌, length, append_assoc, arith}
-use Rattle.std.specs.List.{onto_first, flat_map, join_with_byte, AllByRecursion}
+use Rattle.std.proofs.Common.{ap, ◌∙◌, inl, inr, ◌<◌, ◌++◌, length, append_assoc, arith, flat_map}
+use Rattle.std.proofs.Common.{append-nil}
+use Rattle.std.specs.List.{onto_first, join_with_byte, AllByRecursion}
 use Rattle.std.proofs.lemmas.Bool.{cases_Bool}
 use Rattle.mm_text.specs.Token.{PlainToken, is_space, with_byte, tokens_from}
 use Rattle.mm_text.proofs.Tokens.WordsAndComments.{tokens_from-nil, tokens_from-space}
 use Rattle.mm_text.proofs.Tokens.WordsAndComments.{tokens_from-byte, tokens_from-run}
 use Rattle.mm_text.proofs.Tokens.WordsAndComments.{with_byte_joined}
-use Rattle.mm_code.specs.Words.{texts_of, tokens_in, LacksWhiteSpace, IsOneToken}
-use Rattle.std.proofs.lemmas.List.{append-nil}
 use Rattle.mm_text.proofs.Lists.{all_append, all_back, all_front}
+use Rattle.mm_code.specs.Words.{texts_of, tokens_in, LacksWhiteSpace, IsOneToken}
 use Rattle.mm_code.specs.Layout.{indent, token_line, IsLine, LaidOut, AreLetterLines}
 use Rattle.mm_code.specs.Layout.{in_parentheses, CompressedLaidOut}
 use Rattle.mm_code.proofs.LaidOutLines.{line_length, some_letters, other_letters}

@@ -1,25 +1,25 @@
 -- What is read is what the letters say, and what the letters say is read; from that to what the
 -- call promises.
 use Rattle.std.proofs.Common.{◌≡◌, ℕ, ◌+◌, ◌*◌, min, List, [], ◌∷◌, ◌++◌, map, Ok, refl, sym, ap}
-use Rattle.std.proofs.Common.{◌∙◌, append_assoc, arith, ◌-◌, ◌<◌, ◌≤◌, inl, inr, Result, Err}
-use Rattle.std.specs.List.{fold, flat_map, AllByRecursion, AllZip}
+use Rattle.std.proofs.Common.{◌∙◌, append_assoc, arith, ◌-◌, ◌<◌, ◌≤◌, inl, inr, Result, Err, fold}
+use Rattle.std.proofs.Common.{flat_map, OnOk, IsErrOf}
+use Rattle.std.specs.List.{AllByRecursion, AllZip}
+use Rattle.std.proofs.lemmas.List.{map-append}
+use Rattle.std.proofs.lemmas.List.Sums.{fold-append}
+use Rattle.std.proofs.lemmas.Bool.{cases_eq}
+use Rattle.mm_text.proofs.Lists.{all_push}
 use Rattle.mm_code.specs.declared.code.Code.{Code}
 use Rattle.mm_code.specs.declared.code.Code.TheVariants.{Number, Tag}
 use Rattle.mm_code.specs.Letters.{last_letter, leading_letter, IsLeadingDigit, IsLastDigit}
 use Rattle.mm_code.specs.Letters.{SaysCode, Letters, code_for, largest, tag_letter, leading_value}
 use Rattle.mm_code.specs.Letters.{IsSpelling, Fills, LettersBreak}
 use Rattle.mm_code.specs.Mirror.Reading.{with_front, reading, leading_after, number_after}
-use Rattle.mm_code.proofs.LetterSteps.{read_last, read_leading, read_tag, read_end, read_cut_by_end}
-use Rattle.mm_code.proofs.LetterSteps.{EndsCode, not_letter, ends, leading, cut_off, step}
-use Rattle.mm_code.proofs.LetterSteps.{with_front-ok}
-use Rattle.std.proofs.lemmas.List.{map-append}
-use Rattle.std.proofs.lemmas.List.Sums.{fold-append}
-use Rattle.std.proofs.lemmas.Bool.{cases_eq}
-use Rattle.mm_text.proofs.Lists.{all_push}
-use Rattle.std.specs.Prelude.{OnOk, IsErrOf}
 use Rattle.mm_code.specs.declared.code.CodeRule.{CodeRule}
 use Rattle.mm_code.specs.declared.code.CodeFault.{CodeFault}
 use Rattle.mm_code.specs.declared.code.CodeFault.TheVariants.{Rule}
+use Rattle.mm_code.proofs.LetterSteps.{read_last, read_leading, read_tag, read_end, read_cut_by_end}
+use Rattle.mm_code.proofs.LetterSteps.{EndsCode, not_letter, ends, leading, cut_off, step}
+use Rattle.mm_code.proofs.LetterSteps.{with_front-ok}
 use Rattle.mm_code.proofs.LetterFaults.{read_breaks}
 
 -- ==== what the letters say is read
@@ -58,11 +58,11 @@ is_read_again text codes letters =
 
 -- ==== what is read is what the letters say
 
-pub letters-nil : Letters [] []
+letters-nil : Letters [] []
 letters-nil = record { spelled = []; spells = record { pieces = []; each = tt; joined = refl }; are_codes = refl }
 
 -- one more code before those of a text
-pub letters-cons : (piece text : List ℕ) (code : Code) (codes : List Code) → SaysCode piece code → Letters text codes → Letters (piece ++ text) (code_for code ∷ codes)
+letters-cons : (piece text : List ℕ) (code : Code) (codes : List Code) → SaysCode piece code → Letters text codes → Letters (piece ++ text) (code_for code ∷ codes)
 letters-cons piece text code codes says letters = record {
   spelled = code ∷ letters.spelled;
   spells = record {
@@ -81,7 +81,7 @@ grows value [] = omega arith
 grows value (d ∷ digits) = omega (arith, grows (5 * value + d) digits)
 
 -- leading digits that are worth 0 are none
-pub none_if_zero : (digits : List ℕ) → AllByRecursion IsLeadingDigit digits → leading_value digits ≡ 0 → digits ≡ []
+none_if_zero : (digits : List ℕ) → AllByRecursion IsLeadingDigit digits → leading_value digits ≡ 0 → digits ≡ []
 none_if_zero [] ok e = refl
 none_if_zero (d ∷ digits) ok e = absurd (omega (arith, grows (5 * 0 + d) digits, ok.0.0, e))
 

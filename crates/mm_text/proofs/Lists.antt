@@ -3,17 +3,16 @@
 use Rattle.std.proofs.Common.{◌≡◌, ℕ, zero, suc, ◌+◌, ◌<◌, List, [], ◌∷◌, ◌++◌, map, length, take}
 use Rattle.std.proofs.Common.{drop, set, get_or, refl, ap, sym, subst, ◌∙◌, ◌⊎◌, inl, inr, Some}
 use Rattle.std.proofs.Common.{arith, Bool, true, false, cond, filter, Contains, zero-add, suc-add}
-use Rattle.std.proofs.Common.{Result, Ok, Err, IfErr, IsErrAnd, ◌-◌, Option}
-use Rattle.std.specs.List.{AllByRecursion, AllZip, slice_get, list_any}
-use Rattle.std.proofs.lemmas.List.{length-map, get_or-map, length-take, length-append, take_at}
-use Rattle.std.proofs.lemmas.List.{drop_at, take_rest}
+use Rattle.std.proofs.Common.{Result, Ok, Err, IfErr, IsErrAnd, ◌-◌, Option, slice_get, length-take}
+use Rattle.std.proofs.Common.{length-append, take_at, drop_at, take-add}
+use Rattle.std.specs.List.{AllByRecursion, AllZip, list_any}
+use Rattle.std.proofs.lemmas.List.{length-map, get_or-map, take_rest}
 use Rattle.std.proofs.lemmas.List.Elements.{All-filter, All-from_recursion, All-from_get_or}
 use Rattle.std.proofs.lemmas.List.Elements.{recursion_from_All}
 use Rattle.std.proofs.lemmas.Slice.Zip.{AllZip-long}
 use Rattle.std.proofs.lemmas.List.Folds.{list_any_at}
 use Rattle.std.proofs.lemmas.Option.{same_Some, none-some, slice_get_within, slice_get_read}
 use Rattle.std.proofs.lemmas.Option.{get_or_from_slice_get}
-use Rattle.std.proofs.Math.Seq.{take-add}
 use Rattle.std.proofs.KnownBytes.{Appends-trans}
 use Rattle.std.specs.Io.KnownBytes.{Appends}
 

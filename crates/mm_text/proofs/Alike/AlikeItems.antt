@@ -2,10 +2,11 @@
 -- alike.
 use Rattle.std.proofs.Common.{◌≡◌, ℕ, zero, suc, ◌+◌, List, [], ◌∷◌, length, map, replicate, Bool}
 use Rattle.std.proofs.Common.{true, false, cond, not, refl, sym, ap, ◌∙◌, codes, Option, Some, None}
-use Rattle.std.proofs.Common.{arith, inl, inr, ◌++◌}
-use Rattle.std.specs.Prelude.{nat_lt, slice_get, slice_index_or, slice_set, unwrap_or, option_map}
+use Rattle.std.proofs.Common.{arith, inl, inr, ◌++◌, nat_lt, slice_get, slice_index_or, slice_set}
+use Rattle.std.proofs.Common.{unwrap_or, option_map}
 use Rattle.std.specs.List.{AllZip, AllByRecursion, prefix_len}
 use Rattle.std.proofs.lemmas.Slice.Zip.{AllZip-long}
+use Rattle.std.proofs.lemmas.Option.{slice_get_cases, slice_get_past}
 use Rattle.mm_text.specs.declared.fault.TextRule.{TextRule}
 use Rattle.mm_text.specs.declared.fault.TextRule.TheVariants.{X5, X7}
 use Rattle.mm_text.specs.Token.{PlainToken, tokens_from}
@@ -21,7 +22,6 @@ use Rattle.mm_text.proofs.Inclusions.ItemTokens.{StandsIn, tokens_in_place, Show
 use Rattle.mm_text.proofs.Lists.{all_weaker, both_choices, mapped_zip, zip_append, zip_left}
 use Rattle.mm_text.proofs.Lists.{zip_length, zip_mapped, zip_weaker, append_split, cons_split}
 use Rattle.mm_text.proofs.Lists.{nil_split}
-use Rattle.std.proofs.lemmas.Option.{slice_get_cases, slice_get_past}
 use Rattle.mm_text.proofs.Inclusions.FilePieces.{is_wrong, named_related, spliced_met, spliced_name}
 use Rattle.mm_text.proofs.Inclusions.FilePieces.{spliced_nil}
 use Rattle.mm_text.proofs.Alike.AlikeStatements.{text_alike, faulty_alike, viable_alike, ends_alike}
@@ -54,7 +54,7 @@ each_on h k file agree [] home = refl
 each_on h k file agree (s ∷ shown) home = λ i. one_on h k file agree s home.0 i ∷ each_on h k file agree shown home.1 i
 
 -- what the file with a number shows, by the line feeds of all files
-pub shown_of_file : (files : List PlainFile) (n : ℕ) (f : PlainFile) → slice_get files n ≡ Some f → map (shown_on (feeds_in files)) (without_comments None (tokens_from n 0 f.bytes)) ≡ shows n f.bytes
+shown_of_file : (files : List PlainFile) (n : ℕ) (f : PlainFile) → slice_get files n ≡ Some f → map (shown_on (feeds_in files)) (without_comments None (tokens_from n 0 f.bytes)) ≡ shows n f.bytes
 shown_of_file files n f there =
     each_on (feeds_in files) (λ file at. feeds_before f.bytes at) n
     (λ at. ap (λ (o : Option PlainFile). feeds_before (unwrap_or (option_map (λ g. g.bytes) o) []) at) there)

@@ -2,7 +2,10 @@
 -- that show the same are viable alike.
 use Rattle.std.proofs.Common.{◌≡◌, ℕ, ◌≤◌, length, map, List, [], ◌∷◌, ◌++◌, cond, refl, sym, ap}
 use Rattle.std.proofs.Common.{subst, ◌∙◌, Some, None, inl, inr, ◌+◌, take, count_by, Bool}
-use Rattle.std.specs.Prelude.{option_map}
+use Rattle.std.proofs.Common.{option_map, sum}
+use Rattle.std.specs.List.{take-map}
+use Rattle.std.proofs.lemmas.List.Sums.{sum-map}
+use Rattle.std.proofs.Math.Path.{transport}
 use Rattle.mm_text.specs.declared.statement.Kind.{Kind}
 use Rattle.mm_text.specs.declared.statement.Kind.TheVariants.{Floating, Essential, Axiom, Provable}
 use Rattle.mm_text.specs.declared.statement.Kind.TheVariants.{Opening, Closing}
@@ -12,15 +15,12 @@ use Rattle.mm_text.specs.Statement.{IsKeyword, FitsCount, IsTail, Spells, Spells
 use Rattle.mm_text.specs.Reading.{IsBeginning, IsNothing, IsLone, IsBody, IsInProof, PlainFault}
 use Rattle.mm_text.specs.Reading.{Meets, MeetsX6, EndsAt, fault_at, AreOutside, Viable}
 use Rattle.mm_text.specs.Alike.{token_on, faulty_on, item_on, statement_on, fault_on}
-use Rattle.mm_text.proofs.Lists.{append_split, choice_mapped, cons_split, mapped_zip, nil_split}
-use Rattle.mm_text.proofs.Lists.{one_split, same_length, zip_each, zip_mapped}
-use Rattle.std.specs.List.{take-map, sum}
-use Rattle.std.proofs.lemmas.List.Sums.{sum-map}
 use Rattle.mm_text.specs.declared.fault.TextRule.{TextRule}
 use Rattle.mm_text.specs.declared.fault.TextRule.TheVariants.{X6, X8, S1, S2, S3, S4, S5, S6, S7}
 use Rattle.mm_text.specs.Items.{Item, Plain, Wrong, Inclusion, End, plain_tokens, HoldNoFault}
 use Rattle.mm_text.specs.Blocks.{is_opening, is_closing, AreBalanced, AreClosed, IsInnermost}
-use Rattle.std.proofs.Math.Path.{transport}
+use Rattle.mm_text.proofs.Lists.{append_split, choice_mapped, cons_split, mapped_zip, nil_split}
+use Rattle.mm_text.proofs.Lists.{one_split, same_length, zip_each, zip_mapped}
 
 -- ==== a list of tokens and one of the same texts are beginnings of statements alike
 
@@ -30,7 +30,7 @@ module _ (h k : ℕ → ℕ → ℕ) where
   text_alike t u e = ap (λ (x : PlainToken). x.text) e
 
   -- both have the same label
-  pub label_alike : (tokens others : List PlainToken) → map (token_on h) tokens ≡ map (token_on k) others → option_map (token_on h) (label_in tokens) ≡ option_map (token_on k) (label_in others)
+  label_alike : (tokens others : List PlainToken) → map (token_on h) tokens ≡ map (token_on k) others → option_map (token_on h) (label_in tokens) ≡ option_map (token_on k) (label_in others)
   label_alike [] others e = ap (λ (x : List PlainToken). option_map (token_on k) (label_in x)) (sym (nil_split (token_on h) (token_on k) others e))
   label_alike (t ∷ tokens) others e =
       let (u, rest, whole, first, later) = cons_split (token_on h) (token_on k) t tokens others e in
@@ -40,7 +40,7 @@ module _ (h k : ℕ → ℕ → ℕ) where
       ∙ ap (λ (x : List PlainToken). option_map (token_on k) (label_in x)) (sym whole)
 
   -- both are symbols
-  pub symbols_alike : (tokens others : List PlainToken) → map (token_on h) tokens ≡ map (token_on k) others → AreSymbols tokens → AreSymbols others
+  symbols_alike : (tokens others : List PlainToken) → map (token_on h) tokens ≡ map (token_on k) others → AreSymbols tokens → AreSymbols others
   symbols_alike tokens others e s =
       let Same : PlainToken → PlainToken → Type 0 = λ u t. token_on k u ≡ token_on h t in
       zip_each Same (λ u. HoldsNoDollar u.text) (λ t. HoldsNoDollar t.text)
@@ -61,7 +61,7 @@ module _ (h k : ℕ → ℕ → ℕ) where
       }
 
   -- both are what stands before a statement's symbols
-  pub head_alike : (kind : Kind) (head other : List PlainToken) → map (token_on h) head ≡ map (token_on k) other → IsHead kind head → IsHead kind other
+  head_alike : (kind : Kind) (head other : List PlainToken) → map (token_on h) head ≡ map (token_on k) other → IsHead kind head → IsHead kind other
   head_alike Floating head other e b = labelled_alike Floating head other e b
   head_alike Essential head other e b = labelled_alike Essential head other e b
   head_alike Axiom head other e b = labelled_alike Axiom head other e b
@@ -71,18 +71,18 @@ module _ (h k : ℕ → ℕ → ℕ) where
       record { keyword = u; tokens = whole; sign = sym (text_alike b.keyword u first) ∙ b.sign }
 
   -- both are nothing
-  pub nothing_alike : (tokens others : List PlainToken) → map (token_on h) tokens ≡ map (token_on k) others → IsNothing tokens → IsNothing others
+  nothing_alike : (tokens others : List PlainToken) → map (token_on h) tokens ≡ map (token_on k) others → IsNothing tokens → IsNothing others
   nothing_alike tokens others e none = nil_split (token_on h) (token_on k) others (ap (map (token_on h)) (sym none) ∙ e)
 
   -- both are a label alone
-  pub lone_alike : (tokens others : List PlainToken) → map (token_on h) tokens ≡ map (token_on k) others → IsLone tokens → IsLone others
+  lone_alike : (tokens others : List PlainToken) → map (token_on h) tokens ≡ map (token_on k) others → IsLone tokens → IsLone others
   lone_alike tokens others e b =
       let (l, whole, first) = one_split (token_on h) (token_on k) b.label others (ap (map (token_on h)) (sym b.whole) ∙ e) in
       let named = subst IsLabel (text_alike b.label l first) b.named in
       record { label = l; whole = whole; named = named }
 
   -- both are an unfinished statement of a kind, with as many symbols
-  pub body_alike : (tokens others : List PlainToken) (kind : Kind) (symbols : List PlainToken) → map (token_on h) tokens ≡ map (token_on k) others → IsBody tokens kind symbols
+  body_alike : (tokens others : List PlainToken) (kind : Kind) (symbols : List PlainToken) → map (token_on h) tokens ≡ map (token_on k) others → IsBody tokens kind symbols
       → (same : List PlainToken) × IsBody others kind same × (length same ≡ length symbols)
   body_alike tokens others kind symbols e b =
       let (head, same, whole, front, back) = append_split (token_on h) (token_on k) b.head symbols others (ap (map (token_on h)) (sym b.whole) ∙ e) in
@@ -100,7 +100,7 @@ module _ (h k : ℕ → ℕ → ℕ) where
       )
 
   -- both are an unfinished proof
-  pub proof_alike : (tokens others : List PlainToken) → map (token_on h) tokens ≡ map (token_on k) others → IsInProof tokens → IsInProof others
+  proof_alike : (tokens others : List PlainToken) → map (token_on h) tokens ≡ map (token_on k) others → IsInProof tokens → IsInProof others
   proof_alike tokens others e p =
       let (body, tail, whole, front, back) = append_split (token_on h) (token_on k) p.body (p.equals ∷ p.proof) others (ap (map (token_on h)) (sym p.whole) ∙ e) in
       let (equals, proof, cut, first, later) = cons_split (token_on h) (token_on k) p.equals p.proof tail back in
@@ -118,7 +118,7 @@ module _ (h k : ℕ → ℕ → ℕ) where
       }
 
   -- both are nothing, or a beginning of a statement
-  pub beginning_alike : (tokens others : List PlainToken) → map (token_on h) tokens ≡ map (token_on k) others → IsBeginning tokens → IsBeginning others
+  beginning_alike : (tokens others : List PlainToken) → map (token_on h) tokens ≡ map (token_on k) others → IsBeginning tokens → IsBeginning others
   beginning_alike tokens others e (inl none) = inl (nothing_alike tokens others e none)
   beginning_alike tokens others e (inr (inl lone)) = inr (inl (lone_alike tokens others e lone))
   beginning_alike tokens others e (inr (inr (inl (kind, symbols, b)))) =
@@ -132,7 +132,7 @@ module _ (h k : ℕ → ℕ → ℕ) where
 
 module _ (h k : ℕ → ℕ → ℕ) where
   -- both have as many statements of some kinds
-  pub count_alike : (p : Kind → Bool) (statements same : List PlainStatement) → map (statement_on h) statements ≡ map (statement_on k) same
+  count_alike : (p : Kind → Bool) (statements same : List PlainStatement) → map (statement_on h) statements ≡ map (statement_on k) same
       → count_by (λ (s : PlainStatement). p s.kind) statements ≡ count_by (λ (s : PlainStatement). p s.kind) same
   count_alike p statements same e =
       let count : PlainStatement → ℕ = λ s. cond (p s.kind) 1 0 in
@@ -142,11 +142,11 @@ module _ (h k : ℕ → ℕ → ℕ) where
       ∙ sum-map count same
 
   -- both close each block that they open
-  pub closed_alike : (statements same : List PlainStatement) → map (statement_on h) statements ≡ map (statement_on k) same → AreClosed statements → AreClosed same
+  closed_alike : (statements same : List PlainStatement) → map (statement_on h) statements ≡ map (statement_on k) same → AreClosed statements → AreClosed same
   closed_alike statements same e c = sym (count_alike is_opening statements same e) ∙ c ∙ count_alike is_closing statements same e
 
   -- neither has a `$}` that lacks its `${`
-  pub balanced_alike : (statements same : List PlainStatement) → map (statement_on h) statements ≡ map (statement_on k) same → AreBalanced statements → AreBalanced same
+  balanced_alike : (statements same : List PlainStatement) → map (statement_on h) statements ≡ map (statement_on k) same → AreBalanced statements → AreBalanced same
   balanced_alike statements same e b n =
       let fronts : map (statement_on h) (take n statements) ≡ map (statement_on k) (take n same) =
       sym (take-map (statement_on h) n statements) ∙ ap (take n) e ∙ take-map (statement_on k) n same in
@@ -155,7 +155,7 @@ module _ (h k : ℕ → ℕ → ℕ) where
   -- ---- faults
 
   -- a token's fault is the same, but for its place
-  pub fault_alike : (rule other : TextRule) (t u : PlainToken) (statements same : List PlainStatement) (unfinished begun : List PlainToken) → rule ≡ other → faulty_on h t ≡ faulty_on k u
+  fault_alike : (rule other : TextRule) (t u : PlainToken) (statements same : List PlainStatement) (unfinished begun : List PlainToken) → rule ≡ other → faulty_on h t ≡ faulty_on k u
       → map (statement_on h) statements ≡ map (statement_on k) same → map (token_on h) unfinished ≡ map (token_on k) begun
       → fault_on h (fault_at rule t statements unfinished) ≡ fault_on k (fault_at other u same begun)
   fault_alike rule other t u statements same unfinished begun r e es eu =
@@ -166,7 +166,7 @@ module _ (h k : ℕ → ℕ → ℕ) where
   faulty_alike t u e = ap (λ (x : PlainToken). record { text = []; file = x.file; at = x.at }) e
 
 -- a token breaks the same rules
-pub meets_alike : (h k : ℕ → ℕ → ℕ) (statements same : List PlainStatement) (unfinished begun : List PlainToken) (t u : PlainToken) (rule : TextRule) → map (statement_on h) statements ≡ map (statement_on k) same
+meets_alike : (h k : ℕ → ℕ → ℕ) (statements same : List PlainStatement) (unfinished begun : List PlainToken) (t u : PlainToken) (rule : TextRule) → map (statement_on h) statements ≡ map (statement_on k) same
     → map (token_on h) unfinished ≡ map (token_on k) begun → t.text ≡ u.text → Meets statements unfinished t rule → Meets same begun u rule
 meets_alike h k statements same unfinished begun t u S1 es eu e (none, key, a, b, c, d, f) =
     (nothing_alike h k unfinished begun eu none, subst IsKeyword e key, (λ x. a (e ∙ x)), (λ x. b (e ∙ x)), (λ x. c (e ∙ x)), (λ x. d (e ∙ x)), (λ x. f (e ∙ x)))
@@ -190,7 +190,7 @@ meets_alike h k statements same unfinished begun t u S6 es eu e (none, sign, clo
 meets_alike h k statements same unfinished begun t u _ es eu e m = absurd m
 
 -- an inclusion in a statement or in a block is in one in both
-pub inclusion_alike : (h k : ℕ → ℕ → ℕ) (statements same : List PlainStatement) (unfinished begun : List PlainToken) → map (statement_on h) statements ≡ map (statement_on k) same
+inclusion_alike : (h k : ℕ → ℕ → ℕ) (statements same : List PlainStatement) (unfinished begun : List PlainToken) → map (statement_on h) statements ≡ map (statement_on k) same
     → map (token_on h) unfinished ≡ map (token_on k) begun → MeetsX6 statements unfinished → MeetsX6 same begun
 inclusion_alike h k statements same unfinished begun es eu (inl some) = inl (λ none. some (nothing_alike k h begun unfinished (sym eu) none))
 inclusion_alike h k statements same unfinished begun es eu (inr some_open) = inr (λ closed. some_open (closed_alike k h same statements (sym es) closed))
@@ -339,7 +339,7 @@ clean_on h (Wrong rule t ∷ its) = refl
 clean_on h (_ ∷ its) = clean_on h its
 
 -- the one are whole statements with no block open, as the others are
-pub outside_alike : (h k : ℕ → ℕ → ℕ) (tokens others : List PlainToken) → map (token_on h) tokens ≡ map (token_on k) others → AreOutside tokens → AreOutside others
+outside_alike : (h k : ℕ → ℕ → ℕ) (tokens others : List PlainToken) → map (token_on h) tokens ≡ map (token_on k) others → AreOutside tokens → AreOutside others
 outside_alike h k tokens others e out =
     let (same, spelled, sames) = statements_alike h k tokens others out.statements e out.spelled in
     record { statements = same; spelled = spelled; closed = closed_alike h k out.statements same sames out.closed }

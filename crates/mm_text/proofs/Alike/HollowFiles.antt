@@ -4,13 +4,13 @@ use Rattle.std.proofs.Common.{◌≡◌, ℕ, suc, ◌+◌, ◌≤◌, ◌==◌,
 use Rattle.std.proofs.Common.{length, map, take, Bool, true, false, not, cond, refl, sym, ap, ◌∙◌}
 use Rattle.std.proofs.Common.{arith, codes, Option, Some, None, count_by, append_assoc, add-zero}
 use Rattle.std.proofs.Common.{inl, inr, subst, append-nil, length-append, take-add, zero, drop, ◌-◌}
-use Rattle.std.proofs.Common.{◌<◌, get_or, Result, Ok, Err, OnOk}
-use Rattle.std.specs.Prelude.{option_map}
+use Rattle.std.proofs.Common.{◌<◌, get_or, Result, Ok, Err, OnOk, option_map, ne_eqb, eqb-true}
+use Rattle.std.proofs.Common.{leb-true, get_or-drop, length-drop, drop-drop}
 use Rattle.std.specs.List.{list_all}
-use Rattle.std.proofs.lemmas.Bool.{cases_Bool, cond_both, ne_eqb, both_ways, and_parts, and_from}
-use Rattle.std.proofs.lemmas.Bool.{cases_eq, eqb-true, leb-true}
-use Rattle.mm_text.proofs.Lists.{both_choices, choice_mapped}
+use Rattle.std.proofs.lemmas.Bool.{cases_Bool, cond_both, both_ways, and_parts, and_from, cases_eq}
 use Rattle.std.proofs.lemmas.List.Sums.{sum_by-cons}
+use Rattle.std.proofs.lemmas.List.{take_more}
+use Rattle.std.proofs.lemmas.List.Folds.{list_all-append}
 use Rattle.mm_text.specs.Token.{PlainToken, is_space, is_printable, tokens_from}
 use Rattle.mm_text.specs.Items.{Shown, Clear, without_comments, spells, holds_mark}
 use Rattle.mm_text.specs.LineNumbers.{feeds_before}
@@ -18,13 +18,12 @@ use Rattle.mm_text.specs.Alike.{token_on, shown_on, shows}
 use Rattle.mm_text.specs.Mirror.Place.{is_quiet}
 use Rattle.mm_text.specs.Mirror.Hollow.{ShowSame, IsBoundary, IsOpen, ink, feeds, IsHollow, IsAt}
 use Rattle.mm_text.specs.Mirror.Hollow.{held, is_spoken, last_before}
-use Rattle.mm_text.proofs.Tokens.WordsAndComments.{run, ahead, by_place, tokens_ahead, quiet_ink}
-use Rattle.mm_text.proofs.Tokens.WordsAndComments.{outside-begin, in_comment-mark, in_comment-more}
-use Rattle.std.proofs.lemmas.List.{take_more, get_or-drop, length-drop, drop-drop}
-use Rattle.std.proofs.lemmas.List.Folds.{list_all-append}
-use Rattle.mm_text.proofs.Tokens.ManyBytes.{shown_legal}
 use Rattle.mm_text.specs.declared.hollow.State.TheVariants.{Inside, Marked}
 use Rattle.mm_text.specs.declared.hollow.State.{State}
+use Rattle.mm_text.proofs.Lists.{both_choices, choice_mapped}
+use Rattle.mm_text.proofs.Tokens.WordsAndComments.{run, ahead, by_place, tokens_ahead, quiet_ink}
+use Rattle.mm_text.proofs.Tokens.WordsAndComments.{outside-begin, in_comment-mark, in_comment-more}
+use Rattle.mm_text.proofs.Tokens.ManyBytes.{shown_legal}
 
 -- ==== a byte of what a comment says may be left out: the file shows the same
 
@@ -305,19 +304,19 @@ dropped bytes more last b comment same file rest =
     ∙ sym (left_told file (Some begin) n b rest (is_space b) refl)))
 
 -- a byte of what a comment says may be left out so, but for its line feed and for the last byte of a word
-pub byte_dropped : (bytes : List ℕ) (last b : ℕ) → IsOpen bytes → is_quiet last ≡ true → is_quiet b ≡ true → ShowSame (bytes ++ ink last ++ b ∷ []) (bytes ++ feeds (b ∷ []) ++ ink b)
+byte_dropped : (bytes : List ℕ) (last b : ℕ) → IsOpen bytes → is_quiet last ≡ true → is_quiet b ≡ true → ShowSame (bytes ++ ink last ++ b ∷ []) (bytes ++ feeds (b ∷ []) ++ ink b)
 byte_dropped bytes last b comment q r =
     dropped bytes [] last b comment (λ file begin n rest. byte_told file begin n last b rest (is_space last) (is_space b) refl refl q r)
 
 -- and so may a `$` before such a byte, where the two are no mark
-pub dollar_dropped : (bytes : List ℕ) (last b : ℕ) → IsOpen bytes → is_quiet last ≡ true → is_quiet b ≡ true → b ≢ 40 → b ≢ 41 → ShowSame (bytes ++ ink last ++ 36 ∷ b ∷ []) (bytes ++ feeds (b ∷ []) ++ ink b)
+dollar_dropped : (bytes : List ℕ) (last b : ℕ) → IsOpen bytes → is_quiet last ≡ true → is_quiet b ≡ true → b ≢ 40 → b ≢ 41 → ShowSame (bytes ++ ink last ++ 36 ∷ b ∷ []) (bytes ++ feeds (b ∷ []) ++ ink b)
 dollar_dropped bytes last b comment q r left right =
     dropped bytes (36 ∷ []) last b comment (λ file begin n rest. dollar_told file begin n last b rest (is_space last) (is_space b) refl refl q r left right)
 
 -- ==== what is kept of a file as its bytes come
 
 -- what comes behind both shows the same too
-pub kept_as_it_is : (bytes others more : List ℕ) → ShowSame bytes others → ShowSame (bytes ++ more) (others ++ more)
+kept_as_it_is : (bytes others more : List ℕ) → ShowSame bytes others → ShowSame (bytes ++ more) (others ++ more)
 kept_as_it_is bytes others more same file rest =
     ap (shows file) (append_assoc bytes more rest) ∙ same file (more ++ rest) ∙ sym (ap (shows file) (append_assoc others more rest))
 

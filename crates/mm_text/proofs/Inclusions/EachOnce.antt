@@ -4,19 +4,19 @@
 use Rattle.std.proofs.Common.{add-zero, ◌≡◌, ℕ, zero, suc, ◌+◌, ◌≤◌, List, [], ◌∷◌, ◌++◌, length}
 use Rattle.std.proofs.Common.{Bool, true, false, cond, refl, ap, Some, replicate, arith, None}
 use Rattle.std.proofs.Common.{Option, ◌<◌, ◌==◌, ◌&&◌, sym, ◌∙◌, subst, eqb-true, count_by, not}
-use Rattle.std.specs.Prelude.{slice_index_or, slice_set, slice_get, sum_by}
+use Rattle.std.proofs.Common.{slice_index_or, slice_set, slice_get, sum_by, ne_eqb}
+use Rattle.std.proofs.lemmas.List.Sums.{sum_by_from}
+use Rattle.std.proofs.lemmas.Bool.{and_parts, cond_both}
 use Rattle.mm_text.specs.declared.fault.TextRule.{TextRule}
 use Rattle.mm_text.specs.Token.{PlainToken, tokens_from}
 use Rattle.mm_text.specs.Files.{PlainFile, total_bytes}
-use Rattle.mm_text.proofs.Tokens.StepByStep.{put_before_by, put_in_by, tokens_by, shown_by}
-use Rattle.mm_text.proofs.Tokens.StepByStep.{pieces_by}
 use Rattle.mm_text.specs.Items.{Item, Wrong, Piece, Met, Named, pieces_of, put_before, put_in}
 use Rattle.mm_text.specs.Items.{items, Plain, Inclusion, End, Shown, Clear, Broken}
 use Rattle.mm_text.specs.Items.{without_comments, Spot, Outside, pieces, plain_tokens, file_number}
 use Rattle.mm_text.specs.Items.{with_inclusions}
-use Rattle.std.proofs.lemmas.List.Sums.{sum_by_from}
-use Rattle.std.proofs.lemmas.Bool.{and_parts, cond_both, ne_eqb}
 use Rattle.mm_text.specs.ItemLaws.{ends_of, FilesArePutInOnce, InclusionsEnd}
+use Rattle.mm_text.proofs.Tokens.StepByStep.{put_before_by, put_in_by, tokens_by, shown_by}
+use Rattle.mm_text.proofs.Tokens.StepByStep.{pieces_by}
 use Rattle.mm_text.proofs.Inclusions.FilePieces.{named_related}
 use Rattle.mm_text.proofs.Inclusions.OpenFiles.{in_range, count_named, count_top}
 
@@ -92,7 +92,7 @@ module _ (w : Item → ℕ) where
         omega (arith, inner, put_before_weight files flags n qs new)) left named ps
 
     -- the items of the files count at most what each file counts once
-    pub items_weight : (files : List PlainFile) → weigh (items files) ≤ each_once 0 files
+    items_weight : (files : List PlainFile) → weigh (items files) ≤ each_once 0 files
     items_weight [] = omega arith
     items_weight (top ∷ others) =
         omega (arith, put_in_weight (top ∷ others) (length others) (true ∷ replicate (length others) false) (pieces_of 0 top), unnamed_all (0 + 1) others)
@@ -117,14 +117,14 @@ module _ (v : PlainToken → ℕ) where
   weigh_tokens [] = 0
   weigh_tokens (t ∷ rest) = v t + weigh_tokens rest
 
-  pub uncommented_weight : (begin : Option PlainToken) (tokens : List PlainToken) → weigh_shown (without_comments begin tokens) ≤ weigh_tokens tokens
+  uncommented_weight : (begin : Option PlainToken) (tokens : List PlainToken) → weigh_shown (without_comments begin tokens) ≤ weigh_tokens tokens
   uncommented_weight begin tokens =
       shown_by (λ ts shown. weigh_shown shown ≤ weigh_tokens ts) (omega arith)
       (λ ts rule t. omega arith) (λ t ts shown inner. omega arith) (λ t ts shown inner. omega arith)
       begin tokens
 
   module _ (e : ℕ → ℕ) where
-    pub pieces_weight : (file : ℕ) (spot : Spot) (shown : List Shown) → weigh_pieces (weight_of v e) (pieces file spot shown) ≤ weigh_shown shown + e file
+    pieces_weight : (file : ℕ) (spot : Spot) (shown : List Shown) → weigh_pieces (weight_of v e) (pieces file spot shown) ≤ weigh_shown shown + e file
     pieces_weight file spot shown =
         pieces_by file (λ rest ps. weigh_pieces (weight_of v e) ps ≤ weigh_shown rest + e file)
         (omega arith) (λ rest rule t. omega arith) (λ t rest ps inner. omega arith)
@@ -151,12 +151,12 @@ bytes_once k [] = omega arith
 bytes_once k (f ∷ files) =
     omega (arith, bytes_once (k + 1) files, file_weight bytes_of (λ n. 0) k f, tokens_bytes k 0 f.bytes, sum_by_from (λ (g : PlainFile). length g.bytes) (0 + length f.bytes) files)
 
-pub weigh_plain : (v : PlainToken → ℕ) (its : List Item) → weigh (weight_of v (λ n. 0)) its ≡ sum_by v (plain_tokens its)
+weigh_plain : (v : PlainToken → ℕ) (its : List Item) → weigh (weight_of v (λ n. 0)) its ≡ sum_by v (plain_tokens its)
 weigh_plain v [] = refl
 weigh_plain v (Plain t ∷ rest) = omega (arith, weigh_plain v rest, sum_by_from v (0 + v t) (plain_tokens rest))
 weigh_plain v (item ∷ rest) = omega (arith, weigh_plain v rest)
 
-pub no_fault_weight : (v : PlainToken → ℕ) (e : ℕ → ℕ) (rule : TextRule) (t : PlainToken) → weight_of v e (Wrong rule t) ≡ 0
+no_fault_weight : (v : PlainToken → ℕ) (e : ℕ → ℕ) (rule : TextRule) (t : PlainToken) → weight_of v e (Wrong rule t) ≡ 0
 no_fault_weight v e rule t = refl
 
 pub tokens_fit : (files : List PlainFile) → sum_by (λ t. length t.text) (plain_tokens (items files)) ≤ total_bytes files
@@ -173,7 +173,7 @@ module _ (w : Item → ℕ) (file : ℕ) (bound : (k : ℕ) (f : PlainFile) → 
       let here : weigh_pieces w (pieces_of k f) ≤ 0 = subst (λ b. weigh_pieces w (pieces_of k f) ≤ cond b 1 0) (ne_eqb k file (λ e. omega (arith, e))) (bound k f) in
       omega (arith, here, later_none (k + 1) files (omega arith))
 
-  pub at_most_once : (k : ℕ) (files : List PlainFile) → each_once w k files ≤ 1
+  at_most_once : (k : ℕ) (files : List PlainFile) → each_once w k files ≤ 1
   at_most_once k [] = omega arith
   at_most_once k (f ∷ files) =
       let rest = at_most_once (k + 1) files in
@@ -187,7 +187,7 @@ module _ (w : Item → ℕ) (file : ℕ) (bound : (k : ℕ) (f : PlainFile) → 
 abbrev end_weight : ℕ → ℕ → ℕ
 end_weight file n = cond (n == file) 1 0
 
-pub no_tokens : (tokens : List PlainToken) → weigh_tokens (λ t. 0) tokens ≡ 0
+no_tokens : (tokens : List PlainToken) → weigh_tokens (λ t. 0) tokens ≡ 0
 no_tokens [] = refl
 no_tokens (t ∷ tokens) = omega (arith, no_tokens tokens)
 

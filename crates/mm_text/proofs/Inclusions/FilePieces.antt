@@ -2,9 +2,10 @@
 -- each other stand in one file where no end of a file and no inclusion lies between them.
 use Rattle.std.proofs.Common.{◌≡◌, ℕ, zero, suc, List, [], ◌∷◌, ◌++◌, Bool, true, false, cond, refl}
 use Rattle.std.proofs.Common.{sym, ap, ◌∙◌, Some, None, append_assoc, append-nil, Option, inl, inr}
-use Rattle.std.proofs.Common.{length, map, replicate, subst}
+use Rattle.std.proofs.Common.{length, map, replicate, subst, codes, slice_index_or, slice_set}
+use Rattle.std.proofs.Common.{slice_get}
 use Rattle.std.proofs.lemmas.Bool.{cases_Bool}
-use Rattle.std.specs.Prelude.{codes, slice_index_or, slice_set, slice_get}
+use Rattle.std.proofs.lemmas.List.{map-append}
 use Rattle.mm_text.specs.declared.fault.TextRule.{TextRule}
 use Rattle.mm_text.specs.declared.fault.TextRule.TheVariants.{X5, X7}
 use Rattle.mm_text.specs.declared.class.Keyword.{Keyword}
@@ -22,7 +23,6 @@ use Rattle.mm_text.specs.Mirror.Place.{shown_at}
 use Rattle.mm_text.specs.Mirror.Next.{IsOfClass}
 use Rattle.mm_text.specs.Mirror.Nest.{pieces_with, waiting}
 use Rattle.mm_text.proofs.Tokens.WordsAndComments.{no_dollar-spells}
-use Rattle.std.proofs.lemmas.List.{map-append}
 use Rattle.mm_text.proofs.Tokens.StepByStep.{put_before_by, put_in_by}
 use Rattle.mm_text.specs.declared.class.Class.TheVariants as class
 
@@ -43,7 +43,7 @@ pub pieces-inclusion : (file : ℕ) (t : PlainToken) (rest : List Shown) → spe
 unfolding pieces
 pieces-inclusion file t rest e = simp e
 
-pub pieces-wrong : (file : ℕ) (t : PlainToken) (rest : List Shown) (rule : TextRule) → spells t.text (codes "$[") ≡ false → broken_outside t.text ≡ Some rule → pieces file Outside (Clear t ∷ rest) ≡ Met (Wrong rule t) ∷ []
+pieces-wrong : (file : ℕ) (t : PlainToken) (rest : List Shown) (rule : TextRule) → spells t.text (codes "$[") ≡ false → broken_outside t.text ≡ Some rule → pieces file Outside (Clear t ∷ rest) ≡ Met (Wrong rule t) ∷ []
 unfolding pieces
 pieces-wrong file t rest rule e b =
     ap (λ c. cond c (Met (Inclusion t) ∷ pieces file (Naming t) rest) (elim (broken_outside t.text) [ Some r ↦ Met (Wrong r t) ∷ [] | None ↦ Met (Plain t) ∷ pieces file Outside rest ])) e
@@ -351,7 +351,7 @@ put_in_follows files left named ps h =
     behind (Some at) name ps its inner h = absurd h
 
 -- the items of files follow each other so
-pub items_follow : (files : List PlainFile) → Follow files None (items files)
+items_follow : (files : List PlainFile) → Follow files None (items files)
 items_follow [] = tt
 items_follow (top ∷ others) =
     put_in_follows (top ∷ others) (length others) (true ∷ replicate (length others) false) (pieces_of 0 top)

@@ -2,8 +2,7 @@
 -- nothing comes after the top file's end.
 use Rattle.std.proofs.Common.{◌≡◌, ◌≢◌, ℕ, ◌+◌, ◌<◌, ◌≤◌, List, [], ◌∷◌, ◌++◌, length, replicate}
 use Rattle.std.proofs.Common.{Bool, true, false, refl, sym, ap, ◌∙◌, subst, Option, None, ◌⊎◌, inl}
-use Rattle.std.proofs.Common.{inr, append_assoc, append-nil, arith}
-use Rattle.std.specs.Prelude.{slice_index_or, slice_set}
+use Rattle.std.proofs.Common.{inr, append_assoc, append-nil, arith, slice_index_or, slice_set}
 use Rattle.std.specs.List.{AllByRecursion}
 use Rattle.std.proofs.Math.Decide.{ℕ_discrete}
 use Rattle.std.proofs.lemmas.Bool.{both_ways, false_from_ne_true}
@@ -12,10 +11,10 @@ use Rattle.mm_text.specs.Files.{PlainFile}
 use Rattle.mm_text.specs.Items.{Shown, Clear, Broken, without_comments, Spot, Outside, Piece, Met}
 use Rattle.mm_text.specs.Items.{Named, pieces, pieces_of, put_before, put_in, plain_tokens, items}
 use Rattle.mm_text.specs.Items.{Item, End}
+use Rattle.mm_text.specs.ItemLaws.{TopFileEndsLast}
 use Rattle.mm_text.proofs.Inclusions.EachOnce.{Rises, rises_earlier, tokens_rise}
 use Rattle.mm_text.proofs.Tokens.StepByStep.{shown_by, pieces_by, put_before_by, put_in_by}
 use Rattle.mm_text.proofs.Replaced.ReplacedItems.{still_named, now_named}
-use Rattle.mm_text.specs.ItemLaws.{TopFileEndsLast}
 
 -- ==== among the items of files the tokens of each file come in the order of their places
 

@@ -2,13 +2,11 @@
 -- place.
 use Rattle.std.proofs.Common.{◌≡◌, ℕ, suc, ◌+◌, length, take, drop, List, ◌∷◌, refl, sym, ap, ◌∙◌}
 use Rattle.std.proofs.Common.{zero, ◌-◌, ◌&&◌, ◌≤◌, [], replicate, Bool, true, false, cond, not}
-use Rattle.std.proofs.Common.{codes, Option, Some, None, ◌⊎◌, inl, inr, arith}
+use Rattle.std.proofs.Common.{codes, Option, Some, None, ◌⊎◌, inl, inr, arith, drop-drop, slice_get}
+use Rattle.std.proofs.Common.{slice_set}
 use Rattle.std.specs.List.{AllByRecursion, list_any, list_all}
-use Rattle.std.proofs.lemmas.List.{drop-drop}
-use Rattle.mm_text.specs.Token.{PlainToken, tokens_from, HoldsNoDollar, is_printable}
-use Rattle.mm_text.proofs.Tokens.StepByStep.{tokens_by, put_before_by}
-use Rattle.std.specs.Prelude.{slice_get, slice_set}
 use Rattle.std.proofs.lemmas.Bool.{cond_both}
+use Rattle.mm_text.specs.Token.{PlainToken, tokens_from, HoldsNoDollar, is_printable}
 use Rattle.mm_text.specs.declared.fault.TextRule.{TextRule}
 use Rattle.mm_text.specs.declared.fault.TextRule.TheVariants.{X4, X9}
 use Rattle.mm_text.specs.Statement.{IsKeyword, keywords}
@@ -19,6 +17,7 @@ use Rattle.mm_text.specs.Items.{Naming, Closing, Piece, Met, Named, broken_outsi
 use Rattle.mm_text.specs.Items.{pieces_of, file_number, with_inclusions, put_before, put_in}
 use Rattle.mm_text.specs.Items.{plain_tokens, items}
 use Rattle.mm_text.specs.Reading.{IsSliceOf}
+use Rattle.mm_text.proofs.Tokens.StepByStep.{tokens_by, put_before_by}
 use Rattle.mm_text.proofs.Reader.OneToken.{IsSigned, is_keyword-true}
 use Rattle.mm_text.proofs.Lists.{all_append, all_weaker}
 use Rattle.mm_text.proofs.Inclusions.FilePieces.{named_related}

@@ -3,25 +3,24 @@
 use Rattle.std.proofs.Common.{◌≡◌, ◌≢◌, ℕ, zero, suc, ◌+◌, ◌<◌, ◌≤◌, List, [], ◌∷◌, map, length}
 use Rattle.std.proofs.Common.{get_or, take, Bool, ◌||◌, true, false, Some, None, cond, nat_lt, refl}
 use Rattle.std.proofs.Common.{sym, ap, ◌∙◌, arith, ⊎_elim, if◌then◌else◌, not, ◌++◌, ◌-◌, Option}
-use Rattle.std.proofs.Common.{count_by, drop, replicate, append-nil}
-use Rattle.std.specs.Prelude.{slice_get, position, slice_index_or, slice_set}
+use Rattle.std.proofs.Common.{count_by, drop, replicate, append-nil, slice_get, position}
+use Rattle.std.proofs.Common.{slice_index_or, slice_set, get_or-take, length-take-le, is_some}
+use Rattle.std.proofs.Common.{option_map}
 use Rattle.std.specs.List.{list_any, position_or_len}
 use Rattle.std.specs.Cmp.Lexicographic.{bytes_decides}
 use Rattle.std.proofs.lemmas.Bool.{both_ways}
-use Rattle.std.proofs.lemmas.List.{get_or_default, get_or-take, length-take-le, length-map}
-use Rattle.std.proofs.lemmas.List.{map-append, get_or-map, take_more, nil_from_length}
+use Rattle.std.proofs.lemmas.List.{get_or_default, length-map, map-append, get_or-map, take_more}
+use Rattle.std.proofs.lemmas.List.{nil_from_length}
 use Rattle.std.proofs.str.Laws.{order}
 use Rattle.std.proofs.lemmas.Option.{slice_get_within, slice_get-map, slice_get-get_or}
 use Rattle.std.proofs.lemmas.List.Folds.{list_any_at, Any-from_list_any, sum_by-replicate}
+use Rattle.std.proofs.lemmas.List.Sums.{sum_by-set, sum_by_from}
+use Rattle.std.proofs.lemmas.List.Quantifiers.{position-Some}
 use Rattle.mm_text.specs.declared.file.File.{File}
 use Rattle.mm_text.specs.Files.{PlainFile, plain_file, HasTwins, total_bytes}
 use Rattle.mm_text.specs.Items.{spells, Inclusion, End, Piece, Met, Named, Outside, Naming, pieces}
 use Rattle.mm_text.specs.Items.{pieces_of, without_comments, holds_dollar, file_number, put_before}
 use Rattle.mm_text.specs.Items.{put_in}
-use Rattle.mm_text.proofs.Lists.{get_within}
-use Rattle.std.specs.Option.{is_some, option_map}
-use Rattle.std.proofs.lemmas.List.Sums.{sum_by-set, sum_by_from}
-use Rattle.std.proofs.lemmas.List.Quantifiers.{position-Some}
 use Rattle.mm_text.specs.declared.comments.Place.{Place}
 use Rattle.mm_text.specs.declared.comments.Wrong.{Wrong}
 use Rattle.mm_text.specs.declared.class.Class.{Class}
@@ -33,8 +32,9 @@ use Rattle.mm_text.specs.Mirror.Place.{IsSameFile, TakesWordAt, shown_at}
 use Rattle.mm_text.specs.Mirror.Next.{items_with, TakesWord}
 use Rattle.mm_text.specs.Mirror.Nest.{IsNest, pieces_with, wrong_item, waiting, spot_of, put_into}
 use Rattle.mm_text.specs.Mirror.Nest.{pieces_left, items_after, items_left}
-use Rattle.mm_text.proofs.Tokens.WordsAndComments.{no_dollar-spells}
 use Rattle.mm_text.specs.declared.fault.TextRule.TheVariants.{X7}
+use Rattle.mm_text.proofs.Lists.{get_within}
+use Rattle.mm_text.proofs.Tokens.WordsAndComments.{no_dollar-spells}
 use Rattle.mm_text.proofs.Inclusions.FilePieces.{pieces-class, put_in-plain, put_in-wrong}
 use Rattle.mm_text.proofs.Inclusions.FilePieces.{put_in-inclusion, put_in-end, put_in-nil}
 use Rattle.mm_text.proofs.Inclusions.FilePieces.{put_in-unknown, put_in-again, put_in-first}
@@ -54,7 +54,7 @@ name_at (f ∷ files) zero file e = let same : plain_file f ≡ file = cc in ap 
 name_at (f ∷ files) (suc i) file e = name_at files i file e
 
 -- two equal names are those of two files
-pub twins_from_names : (files : List File) (i j : ℕ) → i < j → j < length files
+twins_from_names : (files : List File) (i j : ℕ) → i < j → j < length files
     → get_or (map (λ f. f.name.now) files) i [] ≡ get_or (map (λ f. f.name.now) files) j [] → HasTwins (map plain_file files)
 twins_from_names files i j apart within same =
     let one = get_within (map plain_file files) i (omega (arith, length-map files plain_file)) in
@@ -68,7 +68,7 @@ no_twins files n all apart twins =
     apart twins.i twins.j twins.apart within (name_at files twins.i twins.one twins.at_i ∙ twins.same ∙ sym (name_at files twins.j twins.other twins.at_j))
 
 -- the name at a place is among those before it, or isn't
-pub apart_more : (names : List (List ℕ)) (n : ℕ) → n < length names → AreApart names n → list_any (spells (get_or names n [])) (take n names) ≡ false → AreApart names (n + 1)
+apart_more : (names : List (List ℕ)) (n : ℕ) → n < length names → AreApart names n → list_any (spells (get_or names n [])) (take n names) ≡ false → AreApart names (n + 1)
 apart_more names n within apart none i j less more same =
     ⊎_elim (λ (below : j < n). apart i j less below same)
     (λ (last : n ≤ j).
@@ -79,7 +79,7 @@ apart_more names n within apart none i j less more same =
     both_ways _ none (list_any_at (spells (get_or names n [])) (take n names) i [] (omega arith) spelled))
     (order j n)
 
-pub equal_before : (names : List (List ℕ)) (n : ℕ) → n < length names → list_any (spells (get_or names n [])) (take n names) ≡ true → (i : ℕ) × (i < n) × (get_or names i [] ≡ get_or names n [])
+equal_before : (names : List (List ℕ)) (n : ℕ) → n < length names → list_any (spells (get_or names n [])) (take n names) ≡ true → (i : ℕ) × (i < n) × (get_or names i [] ≡ get_or names n [])
 equal_before names n within some =
     let found = Any-from_list_any (spells (get_or names n [])) (take n names) some in
     let low : found.0 < n = omega (arith, found.2, length-take-le n names (omega arith)) in
@@ -104,7 +104,7 @@ file_name files n d lt = sym (get_or-map (λ f. f.name.now) files n d [] lt)
 
 module _ {K : Type 0} (g : K → List ℕ) (ks : List K) (files : List File) (n : ℕ) (d : File) where
   -- whether a file's name is among the keys, where those are the names before it
-  pub among_names : n < length files → map g ks ≡ take n (map (λ f. f.name.now) files)
+  among_names : n < length files → map g ks ≡ take n (map (λ f. f.name.now) files)
       → list_any (λ k. spells (get_or files n d).name.now (g k)) ks ≡ list_any (spells (get_or (map (λ f. f.name.now) files) n [])) (take n (map (λ f. f.name.now) files))
   among_names lt kept =
       list_any-map g (spells (get_or files n d).name.now) ks

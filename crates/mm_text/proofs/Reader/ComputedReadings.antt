@@ -1,13 +1,13 @@
 -- What the reader computes of items is a reading of them.
 use Rattle.std.proofs.Common.{◌≡◌, List, [], ◌∷◌, ◌++◌, refl, ap, ◌≢◌, ℕ, ◌+◌, ◌==◌, sym, subst}
 use Rattle.std.proofs.Common.{◌∙◌, Option, Some, None, append_assoc, arith, ◌⊎◌, inl, inr}
+use Rattle.std.proofs.Common.{append-nil, eqb-true}
+use Rattle.std.specs.List.{AllByRecursion}
+use Rattle.std.proofs.Math.Path.{transport}
+use Rattle.std.proofs.lemmas.Bool.{cases_Bool, cond-true, cond-false, eqb-false}
 use Rattle.mm_text.specs.declared.fault.TextRule.{TextRule}
 use Rattle.mm_text.specs.Token.{PlainToken}
 use Rattle.mm_text.specs.Items.{Item, Plain, Wrong, plain_tokens, HoldNoFault, Inclusion, End}
-use Rattle.std.specs.List.{AllByRecursion}
-use Rattle.std.proofs.Math.Path.{transport}
-use Rattle.std.proofs.lemmas.List.{append-nil}
-use Rattle.std.proofs.lemmas.Bool.{cases_Bool, cond-true, cond-false, eqb-true, eqb-false}
 use Rattle.mm_text.specs.declared.scope.OpenBlock.{OpenBlock}
 use Rattle.mm_text.specs.declared.fault.TextRule.TheVariants.{X6, X8, S6, S7}
 use Rattle.mm_text.specs.declared.statement.Kind.TheVariants.{Opening, Closing}
@@ -40,7 +40,7 @@ plain_tokens-append [] b = refl
 plain_tokens-append (Plain t ∷ a) b = ap (λ (x : List PlainToken). t ∷ x) (plain_tokens-append a b)
 plain_tokens-append (_ ∷ a) b = plain_tokens-append a b
 
-pub clean_append : (a b : List Item) → HoldNoFault a → HoldNoFault b → HoldNoFault (a ++ b)
+clean_append : (a b : List Item) → HoldNoFault a → HoldNoFault b → HoldNoFault (a ++ b)
 clean_append [] b h k = k
 clean_append (Wrong rule t ∷ a) b h k = absurd h
 clean_append (_ ∷ a) b h k = clean_append a b h k

@@ -2,10 +2,9 @@
 -- fault comes is the longest viable one.
 use Rattle.std.proofs.Common.{◌≡◌, ◌≢◌, ℕ, ◌==◌, length, List, [], ◌∷◌, ◌++◌, true, false, refl}
 use Rattle.std.proofs.Common.{sym, ap, subst, ◌∙◌, codes, Option, Some, None, append_assoc, ◌⊎◌}
-use Rattle.std.proofs.Common.{inl, inr, ◌+◌, ◌≤◌, arith}
-use Rattle.std.proofs.lemmas.List.{append-nil}
+use Rattle.std.proofs.Common.{inl, inr, ◌+◌, ◌≤◌, arith, append-nil, eq-eqb, eqb-true}
 use Rattle.std.proofs.lemmas.Bool.{cond-true, cond-false, cond_both, false_from_ne_true, false≢true}
-use Rattle.std.proofs.lemmas.Bool.{eq-eqb, eqb-true}
+use Rattle.std.proofs.lemmas.Option.{same_Some}
 use Rattle.mm_text.specs.declared.scope.OpenBlock.{OpenBlock}
 use Rattle.mm_text.specs.declared.fault.TextRule.{TextRule}
 use Rattle.mm_text.specs.declared.fault.TextRule.TheVariants.{X6, X8, S1, S2, S3, S4, S5, S6, S7}
@@ -25,6 +24,7 @@ use Rattle.mm_text.specs.Mirror.Reader.{outermost, scope_after_statement, scope_
 use Rattle.mm_text.specs.Mirror.Reader.{scope_after_closing, has_none, fault_in, block_fault}
 use Rattle.mm_text.specs.Mirror.Reader.{end_fault, inclusion_fault, unless, PlainReading}
 use Rattle.mm_text.specs.Mirror.Reader.{only_ending, with_statement, reading_of}
+use Rattle.mm_text.specs.Laws.{FaultsEndLongestFronts}
 use Rattle.mm_text.proofs.Reader.OneToken.{same_text-ne, is_keyword-true, is_keyword_from}
 use Rattle.mm_text.proofs.Reader.OneToken.{read_nothing, read_end, read_inclusion, read_wrong}
 use Rattle.mm_text.proofs.Reader.OneToken.{read_more, read_whole, read_opened, read_closing}
@@ -41,8 +41,6 @@ use Rattle.mm_text.proofs.Reader.OpenBlocks.{AreOpen, scope_after, scope_of, sco
 use Rattle.mm_text.proofs.Reader.OpenBlocks.{scope_open, closed_scope, unclosed_scope}
 use Rattle.mm_text.proofs.Reader.OpenBlocks.{one_innermost, innermost_unclosed, balanced_front}
 use Rattle.mm_text.proofs.Reader.OpenBlocks.{closing_unbalanced}
-use Rattle.std.proofs.lemmas.Option.{same_Some}
-use Rattle.mm_text.specs.Laws.{FaultsEndLongestFronts}
 
 -- ==== a reading of items is what the reader computes, so there is one reading
 
@@ -203,7 +201,7 @@ end_S7 statements tokens file rest fault b e = record {
 }
 
 -- a fault ends what the reader computes
-pub ends_there : (statements : List PlainStatement) (tokens : List PlainToken) (item : Item) (rest : List Item) (fault : PlainFault) → IsBeginning tokens → AreBalanced statements → EndsAt statements tokens item fault → EndsThere statements tokens item rest fault
+ends_there : (statements : List PlainStatement) (tokens : List PlainToken) (item : Item) (rest : List Item) (fault : PlainFault) → IsBeginning tokens → AreBalanced statements → EndsAt statements tokens item fault → EndsThere statements tokens item rest fault
 ends_there statements tokens (Plain t) rest fault begins b e = meets_ends statements tokens t e.0 rest fault e.2 b e.1
 ends_there statements tokens (Wrong rule t) rest fault begins b e = wrong_ends statements tokens rule t rest fault begins e
 ends_there statements tokens (Inclusion t) rest fault begins b e = inclusion_ends statements tokens t rest fault begins b e.0 e.1

@@ -3,11 +3,11 @@
 use Rattle.std.proofs.Common.{◌≡◌, ◌≢◌, ℕ, ◌≤◌, ◌==◌, length, List, [], ◌∷◌, Bool, true, false}
 use Rattle.std.proofs.Common.{refl, sym, ap, ◌∙◌, arith, ◌⊎◌, inl, inr, ◌+◌, ◌++◌, cond}
 use Rattle.std.proofs.Common.{if◌then◌else◌, Option, Some, None, codes, subst, Result, Ok, Err}
-use Rattle.std.proofs.Common.{IsErrAnd, map}
+use Rattle.std.proofs.Common.{IsErrAnd, map, eqb-true, option_map}
 use Rattle.std.specs.List.{list_any, list_all}
 use Rattle.std.specs.Cmp.Lexicographic.{bytes_decides}
 use Rattle.std.proofs.lemmas.Bool.{or_parts, and_parts, false≢true, both_ways, false_from_ne_true}
-use Rattle.std.proofs.lemmas.Bool.{eqb-true, cond_both, cond-true, cond-false}
+use Rattle.std.proofs.lemmas.Bool.{cond_both, cond-true, cond-false}
 use Rattle.std.proofs.lemmas.List.{get_or_default, map_push}
 use Rattle.std.proofs.lemmas.List.Folds.{Any-from_list_any, list_any_at}
 use Rattle.mm_text.specs.Items.{spells, Item, Plain, Wrong, Inclusion, End}
@@ -31,7 +31,6 @@ use Rattle.mm_text.specs.Mirror.Steps.{is_block_sign, bare_kind, labelled_kind, 
 use Rattle.mm_text.specs.Mirror.Steps.{fault_of, AnswersFault, GivesPart, GivesFirst, TellsFault}
 use Rattle.mm_text.specs.Mirror.Steps.{Opens, Closes, StepsTo, ReadsOn}
 use Rattle.mm_text.specs.Reading.{PlainFault, TellsMore}
-use Rattle.std.specs.Prelude.{option_map}
 use Rattle.mm_text.specs.declared.token.Token.{Token}
 use Rattle.mm_text.specs.declared.fault.TextFault.{TextFault}
 use Rattle.mm_text.specs.declared.fault.TextFault.TheVariants.{Load, Fault, Memory}
@@ -47,7 +46,7 @@ use Rattle.mm_text.specs.declared.class.Keyword.TheVariants as keyword
 pub same_text-true : (a b : List ℕ) → spells a b ≡ true → a ≡ b
 same_text-true a b e = (bytes_decides a b).0 e
 
-pub same_text_from : (a b : List ℕ) → a ≡ b → spells a b ≡ true
+same_text_from : (a b : List ℕ) → a ≡ b → spells a b ≡ true
 same_text_from a b e = (bytes_decides a b).1 e
 
 pub same_text-ne : (a b : List ℕ) → a ≢ b → spells a b ≡ false
@@ -83,7 +82,7 @@ any_of_dollars text (x ∷ xs) all none =
     let here : spells text x ≡ false = same_text-ne text x (λ e. both_ways _ none (ap begins_dollar e ∙ parts.0)) in
     rw here (any_of_dollars text xs parts.1 none)
 
-pub no_keyword : (text : List ℕ) → begins_dollar text ≡ false → is_keyword text ≡ false
+no_keyword : (text : List ℕ) → begins_dollar text ≡ false → is_keyword text ≡ false
 no_keyword text none = any_of_dollars text keywords refl none
 
 no_dollar-begins : (text : List ℕ) → HoldsNoDollar text → begins_dollar text ≡ false
@@ -100,7 +99,7 @@ pub label_bytes : (text : List ℕ) → IsLabel text → list_all is_label_byte 
 label_bytes [] h = refl
 label_bytes (b ∷ bytes) h = h
 
-pub label-begins : (text : List ℕ) → IsLabel text → begins_dollar text ≡ false
+label-begins : (text : List ℕ) → IsLabel text → begins_dollar text ≡ false
 label-begins [] h = refl
 label-begins (b ∷ bytes) h =
     let byte = (and_parts (is_label_byte b) (list_all is_label_byte bytes) h).0 in
@@ -111,7 +110,7 @@ pub symbol-is_keyword : (text : List ℕ) → HoldsNoDollar text → is_keyword 
 symbol-is_keyword text h = no_keyword text (no_dollar-begins text h)
 
 -- and what is no keyword is none of them
-pub other_sign : (text key : List ℕ) → is_keyword text ≡ false → is_keyword key ≡ true
+other_sign : (text key : List ℕ) → is_keyword text ≡ false → is_keyword key ≡ true
     → spells text key ≡ false
 other_sign text key none k = same_text-ne text key (λ e. both_ways _ none (ap is_keyword e ∙ k))
 
@@ -170,7 +169,7 @@ read_faulty scope part t items rule e = rw (e, reading_of) refl
 
 -- ---- words and keywords
 
-pub keyword_is_one : (k : Keyword) → is_keyword (keyword_bytes k) ≡ true
+keyword_is_one : (k : Keyword) → is_keyword (keyword_bytes k) ≡ true
 keyword_is_one keyword.Constants = refl
 keyword_is_one _ = refl
 
@@ -335,7 +334,7 @@ HasMore reading = TellsMore reading.statements reading.ending
 fault_more : (fault : PlainFault) → HasMore (only_ending (Some fault))
 fault_more fault = inr (λ e. cc)
 
-pub statement_more : (s : PlainStatement) (reading : PlainReading) → HasMore (with_statement s reading)
+statement_more : (s : PlainStatement) (reading : PlainReading) → HasMore (with_statement s reading)
 statement_more s reading = inl (λ e. cc)
 
 unless_more : (fault : Option PlainFault) (reading : PlainReading) → HasMore reading → HasMore (unless fault reading)
@@ -350,7 +349,7 @@ nothing_more scope (Labelled label) h = fault_more _
 nothing_more scope _ h = fault_more _
 
 -- whatever follows, an unfinished statement is given or comes to a fault
-pub more_left : (scope : PlainScope) (part : Part) (items : List Item) → IsUnfinished part → HasMore (reading_of scope part items)
+more_left : (scope : PlainScope) (part : Part) (items : List Item) → IsUnfinished part → HasMore (reading_of scope part items)
 unfolding reading_of
 more_left scope part [] h = nothing_more scope part h
 more_left scope part (End file ∷ items) h = unless_more (end_fault scope part file) (reading_of scope part items) (more_left scope part items h)
@@ -377,7 +376,7 @@ fault_with : (scope : PlainScope) (part : Part) (t : PlainToken) (rule : TextRul
 fault_with scope part t rule label e = λ i. record { rule = rule; file = t.file; at = t.at; statement = scope.count + 1; label = e i }
 
 -- a fault of a token is answered where the reading ends so
-pub answers_at : (scope : PlainScope) (part : Part) (t : PlainToken) (rule : TextRule) (label : Option Token) (reading : PlainReading) (fault : TextFault) → part_label part ≡ option_map plain_token label
+answers_at : (scope : PlainScope) (part : Part) (t : PlainToken) (rule : TextRule) (label : Option Token) (reading : PlainReading) (fault : TextFault) → part_label part ≡ option_map plain_token label
     → fault ≡ Fault rule t.file t.at (scope.count + 1) label → reading ≡ only_ending (Some (fault_in scope part rule t)) → AnswersFault reading fault
 answers_at scope part t rule label reading fault named e h =
     subst (AnswersFault reading) (sym e) (h ∙ ap (λ (f : PlainFault). only_ending (Some f)) (fault_with scope part t rule label named))

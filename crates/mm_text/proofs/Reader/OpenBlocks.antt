@@ -1,8 +1,8 @@
 -- Blocks: what a reader keeps of them, against the statements that were read.
 use Rattle.std.proofs.Common.{◌≡◌, ℕ, zero, suc, ◌+◌, ◌-◌, ◌≤◌, length, take, drop, List, [], ◌∷◌}
 use Rattle.std.proofs.Common.{◌++◌, true, false, refl, sym, ap, subst, ◌∙◌, arith, append_assoc}
-use Rattle.std.proofs.Common.{inl, inr}
-use Rattle.std.proofs.lemmas.List.{append-nil, length-append, take-append-le, take_all, take_at}
+use Rattle.std.proofs.Common.{inl, inr, append-nil, length-append, take_all, take_at}
+use Rattle.std.proofs.lemmas.List.{take-append-le}
 use Rattle.std.proofs.Math.Seq.{take-append-add, take-length, take-nil}
 use Rattle.std.proofs.lemmas.List.Sums.{sum_by-append}
 use Rattle.std.proofs.lemmas.Bool.{cases_lt, false≢true, false_from_ne_true, true_from_ne_false}
@@ -73,7 +73,7 @@ balanced_front a b h n =
     ]
 
 -- in all there are at most as many `$}` as `${`
-pub balanced_whole : (a : List PlainStatement) → AreBalanced a → closings a ≤ openings a
+balanced_whole : (a : List PlainStatement) → AreBalanced a → closings a ≤ openings a
 balanced_whole a h = rw (take-length a) at (h (length a))
 
 -- closed statements before balanced and closed ones

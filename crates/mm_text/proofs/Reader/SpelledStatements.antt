@@ -2,7 +2,9 @@
 -- beginning of a statement can be finished.
 use Rattle.std.proofs.Common.{◌≡◌, List, [], ◌∷◌, ◌++◌, refl, sym, ap, ◌∙◌, None, ℕ, ◌+◌, ◌<◌, ◌≤◌}
 use Rattle.std.proofs.Common.{length, true, false, cond, subst, codes, Option, Some, arith}
-use Rattle.std.proofs.Common.{append_assoc, ◌⊎◌, inl, inr, ◌≢◌}
+use Rattle.std.proofs.Common.{append_assoc, ◌⊎◌, inl, inr, ◌≢◌, append-nil, length-append, ne_eqb}
+use Rattle.std.proofs.lemmas.List.{nil_from_length}
+use Rattle.std.proofs.lemmas.Bool.{cond-true, cond-false, false_from_ne_true}
 use Rattle.mm_text.specs.declared.statement.Kind.TheVariants.{Opening, Closing, Constants}
 use Rattle.mm_text.specs.declared.statement.Kind.TheVariants.{Variables, Distinct, Floating}
 use Rattle.mm_text.specs.declared.statement.Kind.TheVariants.{Essential, Axiom, Provable}
@@ -12,8 +14,6 @@ use Rattle.mm_text.specs.Statement.{AreSymbols, FitsCount, label_in, keyword_of,
 use Rattle.mm_text.specs.Statement.{IsTail, EndsAtOnce, EndsInProof, is_provable}
 use Rattle.mm_text.specs.Mirror.Reader.{Part, Between, Step, More, Whole, Opened, Closed, Faulty}
 use Rattle.mm_text.specs.Mirror.Reader.{step, bare_statement, Labelled, InBody, InProof, is_full}
-use Rattle.std.proofs.lemmas.List.{append-nil, length-append, nil_from_length}
-use Rattle.std.proofs.lemmas.Bool.{cond-true, cond-false, ne_eqb, false_from_ne_true}
 use Rattle.mm_text.specs.Items.{spells}
 use Rattle.mm_text.specs.declared.fault.TextRule.TheVariants.{S5}
 use Rattle.mm_text.specs.declared.statement.Kind.{Kind}
@@ -21,6 +21,7 @@ use Rattle.mm_text.specs.declared.class.Keyword.{Keyword}
 use Rattle.mm_text.specs.Mirror.Class.{keyword_bytes}
 use Rattle.mm_text.specs.Mirror.Steps.{is_block_sign, bare_kind, labelled_kind, ends_symbols}
 use Rattle.mm_text.specs.Reading.{closes_symbols, IsBeginning, IsBody}
+use Rattle.mm_text.specs.Laws.{BeginsStatement, BeginningsBeginStatements}
 use Rattle.mm_text.proofs.Reader.Unfinished.{IsPartBody, IsPartProof, Describes, has_count_from}
 use Rattle.mm_text.proofs.Reader.Unfinished.{has_count-true, started}
 use Rattle.mm_text.proofs.Lists.{cons_parts, all_append, all_front, nil_append}
@@ -28,7 +29,6 @@ use Rattle.mm_text.proofs.Reader.OneToken.{step_opens, step_closes, start_by, st
 use Rattle.mm_text.proofs.Reader.OneToken.{step_label, labelled_by, label_keyword, step_too_few}
 use Rattle.mm_text.proofs.Reader.OneToken.{step_whole, step_to_proof, step_symbol, step_proof_token}
 use Rattle.mm_text.proofs.Reader.OneToken.{step_ends_proof}
-use Rattle.mm_text.specs.Laws.{BeginsStatement, BeginningsBeginStatements}
 use Rattle.mm_text.specs.declared.class.Keyword.TheVariants as keyword
 
 -- ==== what the reader makes of tokens alone: statements and a part of one, or a fault
@@ -71,7 +71,7 @@ pub with_all-runs : (statements more : List PlainStatement) (part : Part) → wi
 with_all-runs [] more part = refl
 with_all-runs (s ∷ statements) more part = ap (with_first s) (with_all-runs statements more part)
 
-pub with_all-fails : (statements : List PlainStatement) → with_all statements Fails ≡ Fails
+with_all-fails : (statements : List PlainStatement) → with_all statements Fails ≡ Fails
 with_all-fails [] = refl
 with_all-fails (s ∷ statements) = ap (with_first s) (with_all-fails statements)
 
@@ -245,7 +245,7 @@ proving_run s tokens rest d =
     ∙ proof_run proving _ _ d.steps ∙ (λ i. run (InProof (record s { span = sym d.span i })) rest)
 
 -- the reader has what the tokens are
-pub part_run : (part : Part) (tokens : List PlainToken) (rest : List PlainToken) → Describes part tokens → run Between (tokens ++ rest) ≡ run part rest
+part_run : (part : Part) (tokens : List PlainToken) (rest : List PlainToken) → Describes part tokens → run Between (tokens ++ rest) ≡ run part rest
 part_run Between tokens rest d = ap (λ (x : List PlainToken). run Between (x ++ rest)) d
 part_run (Labelled label) tokens rest d = ap (λ (x : List PlainToken). run Between (x ++ rest)) d.0 ∙ run_step Between label rest _ (step_label label d.1)
 part_run (InBody s) tokens rest d = body_run s tokens rest d
@@ -253,19 +253,19 @@ part_run (InProof s) tokens rest d = proving_run s tokens rest d
 
 -- ---- whole statements
 
-pub tail_cases : (s : PlainStatement) (kind : Kind) (tail : List PlainToken) → HasBody kind → IsTail s kind tail → ((is_provable kind ≡ false) × (closes_symbols kind ≡ codes "$.") × EndsAtOnce s tail) ⊎ ((kind ≡ Provable) × EndsInProof s tail)
+tail_cases : (s : PlainStatement) (kind : Kind) (tail : List PlainToken) → HasBody kind → IsTail s kind tail → ((is_provable kind ≡ false) × (closes_symbols kind ≡ codes "$.") × EndsAtOnce s tail) ⊎ ((kind ≡ Provable) × EndsInProof s tail)
 tail_cases s Provable tail h k = inr (refl, k)
 tail_cases s Opening tail h k = absurd h
 tail_cases s Closing tail h k = absurd h
 tail_cases s _ tail h k = inl (refl, refl, k)
 
 -- a statement has symbols, or is a `${` or a `$}`
-pub kind_cases : (kind : Kind) → HasBody kind ⊎ (kind ≡ Opening) ⊎ (kind ≡ Closing)
+kind_cases : (kind : Kind) → HasBody kind ⊎ (kind ≡ Opening) ⊎ (kind ≡ Closing)
 kind_cases Opening = inr (inl refl)
 kind_cases Closing = inr (inr refl)
 kind_cases _ = inl tt
 
-pub room_of : (kind : Kind) (n : ℕ) → FitsCount kind n → kind ≡ Floating → n ≤ 2
+room_of : (kind : Kind) (n : ℕ) → FitsCount kind n → kind ≡ Floating → n ≤ 2
 room_of Floating n c k = omega arith
 room_of _ n c k = absurd cc
 
@@ -339,13 +339,13 @@ block_sign tokens s kind h k no_label bare none ended =
       same = λ i. record { kind = k i; first = sym first i; label = label i; symbols = symbols i; proof = proof i; span = span i };
     }
 
-pub opening_sign : (tokens : List PlainToken) (s : PlainStatement) (h : Spells tokens s) → s.kind ≡ Opening → IsBlockSign tokens s Opening
+opening_sign : (tokens : List PlainToken) (s : PlainStatement) (h : Spells tokens s) → s.kind ≡ Opening → IsBlockSign tokens s Opening
 opening_sign tokens s h k = block_sign tokens s Opening h k refl (λ b. b) (λ n. n) (λ e. e)
 
-pub closing_sign_of : (tokens : List PlainToken) (s : PlainStatement) (h : Spells tokens s) → s.kind ≡ Closing → IsBlockSign tokens s Closing
+closing_sign_of : (tokens : List PlainToken) (s : PlainStatement) (h : Spells tokens s) → s.kind ≡ Closing → IsBlockSign tokens s Closing
 closing_sign_of tokens s h k = block_sign tokens s Closing h k refl (λ b. b) (λ n. n) (λ e. e)
 
-pub statement_run : (tokens : List PlainToken) (s : PlainStatement) (rest : List PlainToken) → Spells tokens s → run Between (tokens ++ rest) ≡ with_first s (run Between rest)
+statement_run : (tokens : List PlainToken) (s : PlainStatement) (rest : List PlainToken) → Spells tokens s → run Between (tokens ++ rest) ≡ with_first s (run Between rest)
 statement_run tokens s rest h =
     elim (kind_cases s.kind) [
       | inl long ↦ elim (tail_cases s s.kind h.tail long h.ends) [
@@ -360,7 +360,7 @@ statement_run tokens s rest h =
           ap (λ (x : List PlainToken). run Between (x ++ rest)) b.alone ∙ run_step Between b.sign rest _ (step_closes b.sign b.text) ∙ ap (λ (x : PlainStatement). with_first x (run Between rest)) (sym b.same)
     ]
 
-pub statements_run : (tokens : List PlainToken) (statements : List PlainStatement) (rest : List PlainToken) → SpellsAll tokens statements → run Between (tokens ++ rest) ≡ with_all statements (run Between rest)
+statements_run : (tokens : List PlainToken) (statements : List PlainStatement) (rest : List PlainToken) → SpellsAll tokens statements → run Between (tokens ++ rest) ≡ with_all statements (run Between rest)
 statements_run tokens [] rest h = ap (λ (x : List PlainToken). run Between (x ++ rest)) h
 statements_run tokens (s ∷ statements) rest h =
     ap (λ (x : List PlainToken). run Between (x ++ rest)) h.2

@@ -2,7 +2,9 @@
 -- grammar says.
 use Rattle.std.proofs.Common.{◌≡◌, ◌+◌, ◌≤◌, length, List, [], ◌∷◌, ◌++◌, refl, sym, ap, subst, ◌∙◌}
 use Rattle.std.proofs.Common.{codes, append_assoc, Some, ◌⊎◌, inl, inr, ◌≢◌, ℕ, Bool, true, false}
-use Rattle.std.proofs.Common.{cond, Option, None, arith}
+use Rattle.std.proofs.Common.{cond, Option, None, arith, append-nil, length-append, eqb-true}
+use Rattle.std.proofs.Common.{leb-true, le-leb, eq-eqb}
+use Rattle.std.proofs.lemmas.Bool.{both_ways, cond_both, eqb-false}
 use Rattle.mm_text.specs.declared.statement.Kind.{Kind}
 use Rattle.mm_text.specs.declared.statement.Kind.TheVariants.{Floating, Essential, Axiom, Provable}
 use Rattle.mm_text.specs.declared.statement.Kind.TheVariants.{Constants, Variables, Distinct}
@@ -14,9 +16,6 @@ use Rattle.mm_text.specs.Reading.{IsBeginning, IsBody, IsInProof, closes_symbols
 use Rattle.mm_text.specs.Mirror.Reader.{Part, Between, Labelled, InBody, InProof, part_label}
 use Rattle.mm_text.specs.Mirror.Reader.{part_first, Step, More, Whole, Opened, Closed, Faulty, step}
 use Rattle.mm_text.specs.Mirror.Reader.{is_keyword, bare_statement, has_count, is_full}
-use Rattle.std.proofs.lemmas.List.{append-nil, length-append}
-use Rattle.std.proofs.lemmas.Bool.{both_ways, cond_both, eqb-true, eqb-false, leb-true, le-leb}
-use Rattle.std.proofs.lemmas.Bool.{eq-eqb}
 use Rattle.mm_text.specs.Items.{spells}
 use Rattle.mm_text.proofs.Reader.OneToken.{same_text-true, same_text-false, is_keyword-true}
 use Rattle.mm_text.proofs.Reader.OneToken.{is_keyword-false, IsSigned, signed_word}
@@ -62,7 +61,7 @@ Describes (InBody s) tokens = IsPartBody s tokens
 Describes (InProof s) tokens = IsPartProof s tokens
 
 -- the label of the head is the label of all tokens
-pub label_in-front : (head : List PlainToken) (first : PlainToken) (others more : List PlainToken) → head ≡ first ∷ others → label_in (head ++ more) ≡ label_in head
+label_in-front : (head : List PlainToken) (first : PlainToken) (others more : List PlainToken) → head ≡ first ∷ others → label_in (head ++ more) ≡ label_in head
 label_in-front head first others more e = subst (λ (h : List PlainToken). label_in (h ++ more) ≡ label_in h) (sym e) refl
 
 pub Describes-label : (part : Part) (tokens : List PlainToken) → Describes part tokens → label_in tokens ≡ part_label part
@@ -108,10 +107,10 @@ part_of_beginning tokens (inr (inr (inl b))) = let found = part_of_body tokens b
 part_of_beginning tokens (inr (inr (inr p))) = let found = part_of_proof tokens p in (InProof found.0, found.1)
 
 -- and the other way round
-pub body_of_part : (s : PlainStatement) (tokens : List PlainToken) → IsPartBody s tokens → IsBody tokens s.kind s.symbols
+body_of_part : (s : PlainStatement) (tokens : List PlainToken) → IsPartBody s tokens → IsBody tokens s.kind s.symbols
 body_of_part s tokens d = record { head = d.head; whole = d.whole; begins = d.begins; long = d.long; spelled = d.spelled; room = d.room }
 
-pub proof_of_part : (s : PlainStatement) (tokens : List PlainToken) → IsPartProof s tokens → IsInProof tokens
+proof_of_part : (s : PlainStatement) (tokens : List PlainToken) → IsPartProof s tokens → IsInProof tokens
 proof_of_part s tokens d = record {
   body = d.head ++ s.symbols;
   symbols = s.symbols;
@@ -164,16 +163,16 @@ pub closing_sign : (kind : Kind) → cond (is_provable kind) (codes "$=") (codes
 closing_sign Provable = refl
 closing_sign _ = refl
 
-pub is_full-true : (kind : Kind) (n : ℕ) → is_full kind n ≡ true → (kind ≡ Floating) × (n ≡ 2)
+is_full-true : (kind : Kind) (n : ℕ) → is_full kind n ≡ true → (kind ≡ Floating) × (n ≡ 2)
 is_full-true Floating n e = (refl, eqb-true n 2 e)
 is_full-true _ n e = absurd cc
 
-pub is_full-false : (kind : Kind) (n : ℕ) → is_full kind n ≡ false → kind ≡ Floating → n ≢ 2
+is_full-false : (kind : Kind) (n : ℕ) → is_full kind n ≡ false → kind ≡ Floating → n ≢ 2
 is_full-false Floating n e f = eqb-false n 2 e
 is_full-false _ n e f = absurd cc
 
 -- what ends the symbols of a statement with no proof ends the statement
-pub tail_at_once : (s : PlainStatement) (kind : Kind) (tail : List PlainToken) → is_provable kind ≡ false → HasBody kind → EndsAtOnce s tail → IsTail s kind tail
+tail_at_once : (s : PlainStatement) (kind : Kind) (tail : List PlainToken) → is_provable kind ≡ false → HasBody kind → EndsAtOnce s tail → IsTail s kind tail
 tail_at_once s Provable tail e h k = absurd cc
 tail_at_once s Opening tail e h k = absurd h
 tail_at_once s Closing tail e h k = absurd h

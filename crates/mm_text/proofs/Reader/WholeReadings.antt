@@ -2,8 +2,7 @@
 -- grammar and stand in the files, and after each token a fault or the end of a file comes.
 use Rattle.std.proofs.Common.{◌≡◌, ℕ, ◌+◌, ◌≤◌, length, List, [], ◌∷◌, ◌++◌, sym, ap, subst, ◌∙◌}
 use Rattle.std.proofs.Common.{Option, Some, None, IfSome, append_assoc, arith, Bool, true, false}
-use Rattle.std.proofs.Common.{not, replicate, count_by, ◌≢◌, ◌<◌, refl}
-use Rattle.std.specs.Prelude.{sum_by}
+use Rattle.std.proofs.Common.{not, replicate, count_by, ◌≢◌, ◌<◌, refl, sum_by}
 use Rattle.std.specs.List.{AllByRecursion}
 use Rattle.std.proofs.lemmas.Bool.{cond_both, cond-true, cond-false}
 use Rattle.std.proofs.lemmas.List.Sums.{sum_by-append, sum_by-cons}
@@ -17,17 +16,9 @@ use Rattle.mm_text.specs.Items.{Item, plain_tokens, items, Plain, Wrong, End, Sh
 use Rattle.mm_text.specs.Items.{without_comments, Spot, Outside, Piece, Met, pieces, pieces_of}
 use Rattle.mm_text.specs.Items.{put_before, put_in}
 use Rattle.mm_text.specs.Reading.{PlainFault, ReadsAs, Reads, IsSliceOf, IsInPlace}
-use Rattle.mm_text.proofs.Reader.ComputedReadings.{plain_tokens-append, ComesToStop, AreSettled}
-use Rattle.mm_text.proofs.Reader.ComputedReadings.{items_read}
-use Rattle.mm_text.proofs.Lists.{all_front, all_back}
 use Rattle.mm_text.specs.Files.{PlainFile, total_bytes, most_bytes, HasTwins, BreaksLoad}
 use Rattle.mm_text.specs.Laws.{ReadingsAreFormedInPlace, ReadingsAreBalanced, ReadingsFit}
 use Rattle.mm_text.specs.Laws.{AreFormedInPlace, EachHasOneReading}
-use Rattle.mm_text.proofs.Inclusions.ItemTokens.{HoldsByte, items_in_place, items_some}
-use Rattle.mm_text.proofs.Inclusions.ItemTokens.{items_signed}
-use Rattle.mm_text.proofs.Inclusions.EachOnce.{tokens_fit}
-use Rattle.mm_text.proofs.Inclusions.OpenFiles.{in_range, count_named, count_top}
-use Rattle.mm_text.proofs.Tokens.StepByStep.{pieces_by, put_before_by, put_in_by}
 use Rattle.mm_text.specs.declared.fault.LoadRule.{LoadRule}
 use Rattle.mm_text.specs.declared.fault.LoadRule.TheVariants.{F1, F2, F3}
 use Rattle.mm_text.specs.declared.statements.State.{State}
@@ -35,6 +26,14 @@ use Rattle.mm_text.specs.declared.statements.State.TheVariants.{Reading}
 use Rattle.mm_text.specs.Mirror.Reader.{PlainReading, PlainScope, Between, outermost, reading_of}
 use Rattle.mm_text.specs.Remaining.{IsUnread}
 use Rattle.mm_text.specs.Mirror.ReaderState.{remaining_in, AreFew}
+use Rattle.mm_text.proofs.Reader.ComputedReadings.{plain_tokens-append, ComesToStop, AreSettled}
+use Rattle.mm_text.proofs.Reader.ComputedReadings.{items_read}
+use Rattle.mm_text.proofs.Lists.{all_front, all_back}
+use Rattle.mm_text.proofs.Inclusions.ItemTokens.{HoldsByte, items_in_place, items_some}
+use Rattle.mm_text.proofs.Inclusions.ItemTokens.{items_signed}
+use Rattle.mm_text.proofs.Inclusions.EachOnce.{tokens_fit}
+use Rattle.mm_text.proofs.Inclusions.OpenFiles.{in_range, count_named, count_top}
+use Rattle.mm_text.proofs.Tokens.StepByStep.{pieces_by, put_before_by, put_in_by}
 use Rattle.mm_text.proofs.Reader.OneReading.{reads_reading}
 
 -- ==== what holds of all tokens of a reading holds of those of its statements
@@ -57,7 +56,7 @@ pub record AreAll (P : PlainToken → Type 0) (s : PlainStatement) : Type 0 wher
   pub symbols : AllByRecursion P s.symbols
   pub proof : AllByRecursion P s.proof
 
-pub all_of_statement : (P : PlainToken → Type 0) (tokens : List PlainToken) (s : PlainStatement) → Spells tokens s → AllByRecursion P tokens → AreAll P s
+all_of_statement : (P : PlainToken → Type 0) (tokens : List PlainToken) (s : PlainStatement) → Spells tokens s → AllByRecursion P tokens → AreAll P s
 all_of_statement P tokens s h all =
     let parts = subst (AllByRecursion P) h.whole all in
     let front = all_front P (h.head ++ s.symbols) h.tail parts in
@@ -70,7 +69,7 @@ all_of_statement P tokens s h all =
     }
 
 -- what follows for each of the statements
-pub each_statement : (P : PlainToken → Type 0) (Q : PlainStatement → Type 0) → ((tokens : List PlainToken) (s : PlainStatement) → Spells tokens s → AllByRecursion P tokens → Q s)
+each_statement : (P : PlainToken → Type 0) (Q : PlainStatement → Type 0) → ((tokens : List PlainToken) (s : PlainStatement) → Spells tokens s → AllByRecursion P tokens → Q s)
     → (tokens : List PlainToken) (statements : List PlainStatement) → SpellsAll tokens statements → AllByRecursion P tokens → AllByRecursion Q statements
 each_statement P Q f tokens [] h all = tt
 each_statement P Q f tokens (s ∷ statements) h all =
@@ -84,7 +83,7 @@ pub record SpellsFront (its : List Item) (statements : List PlainStatement) : Ty
   pub whole : plain_tokens its ≡ finished ++ rest
   pub spelled : SpellsAll finished statements
 
-pub reading_front : (its : List Item) (statements : List PlainStatement) (ending : Option PlainFault) → ReadsAs its statements ending → SpellsFront its statements
+reading_front : (its : List Item) (statements : List PlainStatement) (ending : Option PlainFault) → ReadsAs its statements ending → SpellsFront its statements
 reading_front its statements None v = record { finished = v.finished; rest = []; whole = v.whole; spelled = v.spelled }
 reading_front its statements (Some fault) r = record {
   finished = r.5.finished;
@@ -93,7 +92,7 @@ reading_front its statements (Some fault) r = record {
   spelled = r.5.spelled;
 }
 
-pub each_read : (P : PlainToken → Type 0) (Q : PlainStatement → Type 0) → ((tokens : List PlainToken) (s : PlainStatement) → Spells tokens s → AllByRecursion P tokens → Q s)
+each_read : (P : PlainToken → Type 0) (Q : PlainStatement → Type 0) → ((tokens : List PlainToken) (s : PlainStatement) → Spells tokens s → AllByRecursion P tokens → Q s)
     → (its : List Item) (statements : List PlainStatement) → SpellsFront its statements → AllByRecursion P (plain_tokens its) → AllByRecursion Q statements
 each_read P Q f its statements front all = each_statement P Q f front.finished statements
     front.spelled (all_front P front.finished front.rest (subst (AllByRecursion P) front.whole all))
@@ -104,7 +103,7 @@ each_read P Q f its statements front all = each_statement P Q f front.finished s
 abbrev pub text_bytes : List PlainToken → ℕ
 text_bytes tokens = sum_by (λ t. length t.text) tokens
 
-pub bytes-append : (a b : List PlainToken) → text_bytes (a ++ b) ≡ text_bytes a + text_bytes b
+bytes-append : (a b : List PlainToken) → text_bytes (a ++ b) ≡ text_bytes a + text_bytes b
 bytes-append a b = sum_by-append _ a b
 
 tail_bytes : (s : PlainStatement) (kind : Kind) (tail : List PlainToken) → IsTail s kind tail → text_bytes s.proof ≤ text_bytes tail
@@ -114,7 +113,7 @@ tail_bytes s Closing tail k = omega (arith, ap text_bytes k.1)
 tail_bytes s _ tail k = omega (arith, ap text_bytes k.proof)
 
 -- the tokens that a statement counts are among those that spell it
-pub statement_bytes : (tokens : List PlainToken) (s : PlainStatement) → Spells tokens s → bytes_in s ≤ text_bytes tokens
+statement_bytes : (tokens : List PlainToken) (s : PlainStatement) → Spells tokens s → bytes_in s ≤ text_bytes tokens
 statement_bytes tokens s h =
     let head : text_bytes h.head ≡ text_bytes (s.first ∷ h.first.0) = ap text_bytes h.first.1 in
     let first = sum_by-cons (λ (u : PlainToken). length u.text) s.first h.first.0 in
@@ -122,7 +121,7 @@ statement_bytes tokens s h =
     let stated = bytes-append h.head s.symbols in
     omega (arith, ap text_bytes h.whole, bytes-append (h.head ++ s.symbols) h.tail)
 
-pub statements_bytes : (tokens : List PlainToken) (statements : List PlainStatement) → SpellsAll tokens statements → sum_by bytes_in statements ≤ text_bytes tokens
+statements_bytes : (tokens : List PlainToken) (statements : List PlainStatement) → SpellsAll tokens statements → sum_by bytes_in statements ≤ text_bytes tokens
 statements_bytes tokens [] h = omega arith
 statements_bytes tokens (s ∷ statements) h =
     let one = statement_bytes h.0 s h.3 in
@@ -239,7 +238,7 @@ put_in_settles files left named ps le all = (put_in_by files (λ room flags qs i
     let (soon, all) = put_before_stops files n qs in (λ h. so.0 (soon h), λ h. so.1 (all h)))
     left named ps le).1 all
 
-pub items_settled : (files : List PlainFile) → AreSettled (items files)
+items_settled : (files : List PlainFile) → AreSettled (items files)
 items_settled [] = tt
 items_settled (top ∷ others) =
     put_in_settles (top ∷ others) (length others) (true ∷ replicate (length others) false) (pieces_of 0 top) (omega (arith, count_top (length others))) (pieces_stop 0 Outside (without_comments None (tokens_from 0 0 top.bytes))).1

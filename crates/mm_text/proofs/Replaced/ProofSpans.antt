@@ -3,27 +3,27 @@
 -- an earlier one.
 use Rattle.std.proofs.Common.{◌≡◌, List, [], ◌∷◌, ◌++◌, map, refl, sym, ap, ◌∙◌, append_assoc, ℕ}
 use Rattle.std.proofs.Common.{◌+◌, length, None, ◌<◌, subst, append-nil, arith}
+use Rattle.std.proofs.lemmas.List.{map-append}
 use Rattle.mm_text.specs.Token.{PlainToken, tokens_from}
 use Rattle.mm_text.specs.Files.{PlainFile}
 use Rattle.mm_text.specs.Statement.{PlainStatement, EndsInProof, IsTail, SpellsAll}
 use Rattle.mm_text.specs.Items.{Item, Plain, plain_tokens, items, Shown, Clear, without_comments}
+use Rattle.mm_text.specs.Replaced.{ProofsStandInSpans, ProofSpansFollow}
+use Rattle.mm_text.specs.declared.statement.Kind.{Kind}
+use Rattle.mm_text.specs.declared.statement.Kind.TheVariants.{Provable}
 use Rattle.mm_text.proofs.Inclusions.FilePieces.{StandsInFile, run_stands}
 use Rattle.mm_text.proofs.Replaced.ReplacedReading.{Parts, WholeFront, own_stands, reads_front}
 use Rattle.mm_text.proofs.Replaced.ReplacedReading.{proof_at, parts_of, spells_append}
 use Rattle.mm_text.proofs.Replaced.ReplacedProofs.{home, run_home}
-use Rattle.std.proofs.lemmas.List.{map-append}
-use Rattle.mm_text.specs.Replaced.{ProofsStandInSpans, ProofSpansFollow}
 use Rattle.mm_text.proofs.Tokens.CutTokens.{IsSpaced, ReplacedBetween, replaced_between}
 use Rattle.mm_text.proofs.Tokens.CutTokens.{clear_shown}
-use Rattle.mm_text.specs.declared.statement.Kind.{Kind}
-use Rattle.mm_text.specs.declared.statement.Kind.TheVariants.{Provable}
 use Rattle.mm_text.proofs.Reader.ComputedReadings.{plain_tokens-append}
 use Rattle.mm_text.proofs.Inclusions.ItemOrder.{tokens_in_order}
 
 -- ==== all tokens of a statement stand in one file
 
 -- a run of tokens in a front stands in one file
-pub front_run_stands : (files : List PlainFile) (statements : List PlainStatement)
+front_run_stands : (files : List PlainFile) (statements : List PlainStatement)
     (f : WholeFront (items files) statements) (before after : List Item) (t : PlainToken)
     (tokens : List PlainToken) → f.front ≡ before ++ (map Plain (t ∷ tokens) ++ after)
     → StandsInFile files t tokens
@@ -37,7 +37,7 @@ front_run_stands files statements f before after t tokens e =
     ))
 
 -- each token of a statement after its first is of the file of the first
-pub one_home : (files : List PlainFile) (statements before after : List PlainStatement)
+one_home : (files : List PlainFile) (statements before after : List PlainStatement)
     (f : WholeFront (items files) statements) (s : PlainStatement)
     (p : Parts (plain_tokens f.front) before s after)
     (others earlier later : List PlainToken) (u : PlainToken) → p.own ≡ s.first ∷ others

@@ -1,9 +1,9 @@
 -- The law of replaced proofs, by the file in which the statement stands. Where tokens have moved, so
 -- have the proofs of the statements that they spell.
 use Rattle.std.proofs.Common.{◌≡◌, ◌≢◌, ℕ, ◌+◌, List, [], ◌∷◌, ◌++◌, length, map, refl, sym, ap}
-use Rattle.std.proofs.Common.{◌∙◌, subst, append_assoc, append-nil, arith, None}
+use Rattle.std.proofs.Common.{◌∙◌, subst, append_assoc, append-nil, arith, None, length-append}
+use Rattle.std.proofs.Common.{slice_set}
 use Rattle.std.specs.List.{AllZip}
-use Rattle.std.proofs.lemmas.List.{length-append}
 use Rattle.mm_text.specs.declared.statement.Kind.{Kind}
 use Rattle.mm_text.specs.declared.statement.Kind.TheVariants.{Provable}
 use Rattle.mm_text.specs.Token.{PlainToken, tokens_from}
@@ -20,7 +20,6 @@ use Rattle.mm_text.proofs.Replaced.ReplacedReading.{proof_at, read_so, spelled_o
 use Rattle.mm_text.proofs.Replaced.ProofSpans.{ends_home}
 use Rattle.mm_text.proofs.Lists.{append_split, cons_parts, nil_split, same_length, zip_mapped}
 use Rattle.mm_text.proofs.Lists.{zip_weaker}
-use Rattle.std.specs.Prelude.{slice_set}
 use Rattle.mm_text.proofs.Alike.AlikeItems.{SameItem}
 use Rattle.mm_text.proofs.Replaced.ReplacedProofs.{home, same_nowhere, stands, put, symbols, last}
 use Rattle.mm_text.proofs.Replaced.ReplacedProofs.{others, one, other, altered}
@@ -136,7 +135,7 @@ module _ (number end other_end : ℕ) where
     }
 
     -- the statements behind one have moved so where their tokens have
-    pub statements_moved : (before : List PlainStatement) (s : PlainStatement)
+    statements_moved : (before : List PlainStatement) (s : PlainStatement)
         (after : List PlainStatement) (p : Parts tokens before s after) (others : List PlainToken)
         → map (token_on was) p.back ≡ map (token_on now) others
         → (later : List PlainStatement) × SpellsAll others later × AllZip MovesSo after later

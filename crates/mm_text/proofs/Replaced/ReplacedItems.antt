@@ -3,10 +3,13 @@
 use Rattle.std.proofs.Common.{◌≡◌, ◌≢◌, ℕ, ◌+◌, ◌-◌, ◌≤◌, ◌==◌, Bool, true, cond, eq-eqb, List, []}
 use Rattle.std.proofs.Common.{◌∷◌, ◌++◌, length, map, refl, sym, ap, ◌∙◌, subst, codes, None}
 use Rattle.std.proofs.Common.{append_assoc, arith, zero, suc, false, Some, ◌⊎◌, inl, inr, replicate}
+use Rattle.std.proofs.Common.{ne_eqb, length-append, get_or-set_other, slice_get, slice_index_or}
+use Rattle.std.proofs.Common.{slice_set}
 use Rattle.std.specs.List.{AllZip, AllByRecursion}
-use Rattle.std.proofs.lemmas.Bool.{ne_eqb}
-use Rattle.std.proofs.lemmas.List.{map-append, length-append, get_or-set_other, get_or-replicate}
+use Rattle.std.proofs.lemmas.List.{map-append, get_or-replicate}
 use Rattle.std.proofs.Math.Seq.{take-append_seam, drop-append_seam}
+use Rattle.std.proofs.Math.Decide.{ℕ_discrete}
+use Rattle.std.proofs.lemmas.Option.{slice_get_cases, same_Some, slice_get_within}
 use Rattle.mm_text.specs.Token.{PlainToken, tokens_from}
 use Rattle.mm_text.specs.Files.{PlainFile}
 use Rattle.mm_text.specs.Items.{Plain, Shown, Clear, without_comments, Outside, Piece, Met, pieces}
@@ -25,9 +28,6 @@ use Rattle.mm_text.proofs.Alike.HollowFiles.{seen, lines_seen}
 use Rattle.mm_text.proofs.Tokens.CutTokens.{IsSpaced, replaced_between, clear_shown}
 use Rattle.mm_text.proofs.Inclusions.EachOnce.{Rises, rises_earlier, tokens_rise}
 use Rattle.mm_text.proofs.Lists.{all_push, all_weaker, mapped_zip, zip_append, get_set_same}
-use Rattle.std.specs.Prelude.{slice_get, slice_index_or, slice_set}
-use Rattle.std.proofs.Math.Decide.{ℕ_discrete}
-use Rattle.std.proofs.lemmas.Option.{slice_get_cases, same_Some, slice_get_within}
 
 -- ==== the pieces of a file in which other bytes stand between the `$=` and the `$.` of a statement
 
@@ -341,7 +341,7 @@ module _ (h j : ℕ → ℕ → ℕ) (files others : List PlainFile) (k : ℕ) (
     | inr (past, e) ↦ (a, λ ps. rw (e, put_before) refl)
   ]
 
-  pub put_in_within : (left : ℕ) (named : List Bool) → slice_index_or named k true ≡ true
+  put_in_within : (left : ℕ) (named : List Bool) → slice_index_or named k true ≡ true
       → (a b c : List Piece) → R b c
       → Differ (put_in files left named (a ++ (met p ++ b)))
       (put_in others left named (a ++ (met q ++ c)))
@@ -377,7 +377,7 @@ module _ (h j : ℕ → ℕ → ℕ) (files others : List PlainFile) (k : ℕ) (
         (spliced_before ps z.1) (λ n e. goes n ps e z.1) (file_number files t.text) _
         (numbers t.text)))
 
-  pub put_in_before : (left : ℕ) (named : List Bool) → slice_index_or named k true ≡ false
+  put_in_before : (left : ℕ) (named : List Bool) → slice_index_or named k true ≡ false
       → (ps : List Piece) → R ps ps
       → Differ (put_in files left named ps) (put_in others left named ps)
   unfolding put_in

@@ -1,28 +1,27 @@
 -- The items of files with another proof of a statement: the same, but for it and for places.
 use Rattle.std.proofs.Common.{◌≡◌, ℕ, ◌+◌, ◌≤◌, ◌==◌, ◌&&◌, List, [], ◌∷◌, ◌++◌, length, map, Bool}
 use Rattle.std.proofs.Common.{true, false, cond, refl, sym, ap, ◌∙◌, subst, codes, inl, inr, arith}
-use Rattle.std.proofs.Common.{eq-eqb}
-use Rattle.std.specs.Prelude.{count_by}
+use Rattle.std.proofs.Common.{eq-eqb, count_by}
 use Rattle.std.specs.List.{AllZip, AllByRecursion, list_any}
 use Rattle.std.proofs.lemmas.List.Sums.{sum_by-append, sum_by-cons}
+use Rattle.std.proofs.lemmas.List.{map-append, append_cancel_left}
+use Rattle.std.proofs.lemmas.Bool.{cond_both}
 use Rattle.mm_text.specs.Token.{PlainToken, tokens_from, HoldsNoDollar}
 use Rattle.mm_text.specs.Files.{PlainFile}
 use Rattle.mm_text.specs.Statement.{PlainStatement, AreSymbols}
 use Rattle.mm_text.specs.Items.{Item, Plain, Clear, Shown, Piece, Met, plain_tokens, pieces_of}
 use Rattle.mm_text.specs.Items.{items}
 use Rattle.mm_text.specs.Alike.{item_on}
+use Rattle.mm_text.specs.Replaced.{IsProofToken, IsProofText, with_span}
 use Rattle.mm_text.proofs.Reader.ComputedReadings.{plain_tokens-append}
 use Rattle.mm_text.proofs.Inclusions.EachOnce.{weigh_pieces, weigh_pieces-append, weight_of}
 use Rattle.mm_text.proofs.Inclusions.EachOnce.{file_weight, token_weight, one_token, tokens_rise}
 use Rattle.mm_text.proofs.Inclusions.EachOnce.{files_are_put_in_once}
 use Rattle.mm_text.proofs.Alike.AlikeItems.{AtHome, SameItem, shown_at_home}
 use Rattle.mm_text.proofs.Inclusions.FilePieces.{StandsInFile, run_stands}
-use Rattle.mm_text.specs.Replaced.{IsProofToken, IsProofText, with_span}
 use Rattle.mm_text.proofs.Replaced.ReplacedItems.{further, met, replaced_pieces, Alter, with_file}
 use Rattle.mm_text.proofs.Replaced.ReplacedItems.{replaced_items, set_there}
 use Rattle.mm_text.proofs.Replaced.ReplacedReading.{nowhere, ProofAt}
-use Rattle.std.proofs.lemmas.List.{map-append, append_cancel_left}
-use Rattle.std.proofs.lemmas.Bool.{cond_both}
 use Rattle.mm_text.proofs.Lists.{all_front, all_back, all_weaker, two_cuts}
 
 -- ---- the file of a token

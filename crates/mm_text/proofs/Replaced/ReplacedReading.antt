@@ -80,7 +80,7 @@ pub record TokenAt (its : List Item) (before : List PlainToken) (t : PlainToken)
   pub first : plain_tokens front ≡ before
   pub last : plain_tokens back ≡ after
 
-pub token_at : (its : List Item) (before : List PlainToken) (t : PlainToken) (after : List PlainToken) → plain_tokens its ≡ before ++ t ∷ after → TokenAt its before t after
+token_at : (its : List Item) (before : List PlainToken) (t : PlainToken) (after : List PlainToken) → plain_tokens its ≡ before ++ t ∷ after → TokenAt its before t after
 token_at [] before t after e = absurd (nil_append before t after e)
 token_at (Plain u ∷ its) [] t after e =
     record { front = []; back = its; whole = cc; first = refl; last = cc }

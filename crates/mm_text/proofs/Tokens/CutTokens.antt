@@ -2,11 +2,12 @@
 -- of tokens from one of them on.
 use Rattle.std.proofs.Common.{◌≡◌, ℕ, ◌+◌, ◌==◌, List, [], ◌∷◌, ◌++◌, length, map, Bool, true}
 use Rattle.std.proofs.Common.{false, refl, sym, ap, ◌∙◌, subst, arith, add-zero, inl, inr}
-use Rattle.std.proofs.Common.{append_assoc, codes, Option, Some, None}
-use Rattle.std.proofs.lemmas.List.{append-nil, length-append}
+use Rattle.std.proofs.Common.{append_assoc, codes, Option, Some, None, append-nil, length-append}
 use Rattle.std.proofs.lemmas.Bool.{cases_Bool}
+use Rattle.std.specs.List.{list_all}
 use Rattle.mm_text.specs.Token.{PlainToken, is_space, with_byte, tokens_from, is_printable}
 use Rattle.mm_text.specs.Alike.{token_on}
+use Rattle.mm_text.specs.Items.{Shown, Clear, without_comments, spells, holds_mark}
 use Rattle.mm_text.proofs.Lists.{choice_mapped, cons_parts, nil_append}
 use Rattle.mm_text.proofs.Tokens.WordsAndComments.{ahead, begin_far, by_place, run, tokens_ahead}
 use Rattle.mm_text.proofs.Tokens.WordsAndComments.{tokens_from-space, tokens_from-nil}
@@ -16,8 +17,6 @@ use Rattle.mm_text.proofs.Tokens.WordsAndComments.{in_comment-illegal, in_commen
 use Rattle.mm_text.proofs.Tokens.WordsAndComments.{in_comment-mark, in_comment-more, in_comment-end}
 use Rattle.mm_text.proofs.Tokens.WordsAndComments.{outside-end, outside-illegal, outside-begin}
 use Rattle.mm_text.proofs.Tokens.WordsAndComments.{outside-close, outside-clear}
-use Rattle.std.specs.List.{list_all}
-use Rattle.mm_text.specs.Items.{Shown, Clear, without_comments, spells, holds_mark}
 
 -- ==== tokens of bytes that are cut apart, put behind others, or in place of others
 
@@ -30,7 +29,7 @@ byte_before file at b (t ∷ tokens) others h =
     choice_mapped (λ l. l) (λ l. l ++ others) (t.at == at + 1) _ _ _ _ refl refl
 
 -- tokens on both sides of a byte of white space
-pub tokens_cut : (file at : ℕ) (bytes : List ℕ) (b : ℕ) (rest : List ℕ) → is_space b ≡ true
+tokens_cut : (file at : ℕ) (bytes : List ℕ) (b : ℕ) (rest : List ℕ) → is_space b ≡ true
     → tokens_from file at (bytes ++ b ∷ rest) ≡ tokens_from file at bytes ++ tokens_from file (at + length bytes + 1) rest
 unfolding tokens_from
 tokens_cut file at [] b rest space = rw (space, add-zero at) refl
@@ -62,7 +61,7 @@ moved_ahead line file s at to (b ∷ bytes) moves =
     (λ i. record { text = b ∷ run bytes; file = file; at = here i } ∷ rest true i))
 
 -- the tokens of bytes that stand elsewhere
-pub tokens_moved : (line : ℕ → ℕ → ℕ) (file at to : ℕ) (bytes : List ℕ) → Moves line file at to → tokens_from file to bytes ≡ map (token_on line) (tokens_from file at bytes)
+tokens_moved : (line : ℕ → ℕ → ℕ) (file at to : ℕ) (bytes : List ℕ) → Moves line file at to → tokens_from file to bytes ≡ map (token_on line) (tokens_from file at bytes)
 tokens_moved line file at to bytes moves =
     rw (tokens_ahead file to bytes, tokens_ahead file at bytes)
     (moved_ahead line file false at to bytes moves)
@@ -131,7 +130,7 @@ first_stands file at (b ∷ bytes) t after is = elim (cases_Bool (is_space b)) [
 ]
 
 -- each token of bytes stands somewhere among them
-pub stands_at : (file at : ℕ) (bytes : List ℕ) (before : List PlainToken) (t : PlainToken) (after : List PlainToken) → tokens_from file at bytes ≡ before ++ t ∷ after → StandsAt file at bytes before t after
+stands_at : (file at : ℕ) (bytes : List ℕ) (before : List PlainToken) (t : PlainToken) (after : List PlainToken) → tokens_from file at bytes ≡ before ++ t ∷ after → StandsAt file at bytes before t after
 stands_at file at bytes [] t after is = first_stands file at bytes t after is
 stands_at file at bytes (u ∷ before) t after is =
     let f = first_stands file at bytes u (before ++ t ∷ after) is in

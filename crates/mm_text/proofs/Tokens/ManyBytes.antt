@@ -3,20 +3,19 @@
 use Rattle.std.proofs.Common.{◌≡◌, ℕ, ◌+◌, ◌-◌, ◌%◌, ◌^◌, ◌<◌, ◌≤◌, Bool, true, false, not, List}
 use Rattle.std.proofs.Common.{[], ◌∷◌, map, length, get_or, replicate, Fits, w8, refl, sym, ap, ap₂}
 use Rattle.std.proofs.Common.{◌∙◌, subst, arith, inl, inr, ◌⊎◌, ⊎_elim, drop, ◌&&◌, ◌||◌, suc, ◌==◌}
+use Rattle.std.proofs.Common.{eq-eqb, ne_eqb, le-leb, ltb-true, map-id, get_or-drop, get_or-take}
+use Rattle.std.proofs.Common.{length-drop, length-take-le, slice_range, nat_le, nat_lt}
 use Rattle.std.proofs.lemmas.Bool.{agree_below, agree_below_at, not-true, not-false, cases_eq}
-use Rattle.std.proofs.lemmas.Bool.{eq-eqb, ne_eqb, cond-true, cond-false, both_ways}
-use Rattle.std.proofs.lemmas.Bool.{true_from_ne_false, le-leb, ltb-true}
+use Rattle.std.proofs.lemmas.Bool.{cond-true, cond-false, both_ways, true_from_ne_false}
 use Rattle.std.proofs.lemmas.Simd.{map-map, mask_l-mod, length-chunk, get_or-chunk}
 use Rattle.std.proofs.lemmas.Simd.{leading_from_mask_l, trailing_mask_l}
-use Rattle.std.proofs.lemmas.List.{length-map, map-id, get_or-drop, get_or-take, length-drop}
-use Rattle.std.proofs.lemmas.List.{length-take-le}
+use Rattle.std.proofs.lemmas.List.{length-map}
 use Rattle.std.proofs.lemmas.List.Sums.{prefix_len-le-length, prefix_len_passes, prefix_len_stops}
 use Rattle.std.specs.List.{prefix_len, list_all}
 use lib.Lanes.{chunk, zip2, mask_l, top}
-use Rattle.mm_text.specs.Mirror.Sought.{IsRunIn, first_set}
-use Rattle.std.specs.Prelude.{slice_range, nat_le, nat_lt}
 use Rattle.std.proofs.lemmas.List.Folds.{list_all_at}
 use Rattle.std.proofs.str.Laws.{order}
+use Rattle.mm_text.specs.Mirror.Sought.{IsRunIn, first_set}
 use Rattle.mm_text.specs.Token.{is_space}
 use Rattle.mm_text.specs.Mirror.Place.{is_legal}
 

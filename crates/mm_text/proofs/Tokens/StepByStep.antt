@@ -1,10 +1,10 @@
 -- From the bytes of files to their items, in four layers: tokens, what is shown of them, pieces,
 -- items. For each layer: what every step of it keeps holds of the whole.
 use Rattle.std.proofs.Common.{◌≡◌, ℕ, zero, suc, ◌+◌, ◌==◌, List, [], ◌∷◌, ◌++◌, Bool, true, false}
-use Rattle.std.proofs.Common.{cond, not, codes, refl, Option, Some, None}
-use Rattle.std.specs.Prelude.{slice_get, slice_index_or, slice_set}
+use Rattle.std.proofs.Common.{cond, not, codes, refl, Option, Some, None, slice_get, slice_index_or}
+use Rattle.std.proofs.Common.{slice_set, eqb-true}
 use Rattle.std.specs.List.{list_all}
-use Rattle.std.proofs.lemmas.Bool.{cond_both, eqb-true}
+use Rattle.std.proofs.lemmas.Bool.{cond_both}
 use Rattle.mm_text.specs.declared.fault.TextRule.{TextRule}
 use Rattle.mm_text.specs.declared.fault.TextRule.TheVariants.{X1, X2, X3, X4, X5, X7}
 use Rattle.mm_text.specs.Token.{PlainToken, is_printable, is_space, with_byte, tokens_from}

@@ -3,26 +3,24 @@
 use Rattle.std.proofs.Common.{◌≡◌, ℕ, ◌+◌, ◌-◌, ◌<◌, ◌≤◌, ◌==◌, List, [], ◌∷◌, ◌++◌, length, get_or}
 use Rattle.std.proofs.Common.{drop, true, false, refl, sym, ap, ◌∙◌, subst, arith, eq-eqb, add-zero}
 use Rattle.std.proofs.Common.{⊎_elim, append-nil, ◌&&◌, ◌||◌, take, Bool, cond, not, Some, None}
-use Rattle.std.proofs.Common.{◌⊎◌, inl, inr}
-use Rattle.std.specs.Prelude.{slice_range, codes}
+use Rattle.std.proofs.Common.{◌⊎◌, inl, inr, slice_range, codes, drop-drop, take-append-drop}
+use Rattle.std.proofs.Common.{get_or-drop, get_or-take, length-drop, length-take-le, ne_eqb}
 use Rattle.std.specs.List.{AllByRecursion, list_any, list_all}
-use Rattle.std.proofs.lemmas.List.{drop_more, drop_all, drop-drop, take-append-drop, get_or-drop}
-use Rattle.std.proofs.lemmas.List.{get_or-take, length-drop, length-take-le}
-use Rattle.std.proofs.lemmas.Bool.{ne_eqb, cases_Bool, cases_lt, cond_both, or_parts, or_right}
-use Rattle.std.proofs.lemmas.Bool.{both_ways}
-use Rattle.mm_text.specs.Token.{PlainToken, is_space, with_byte, tokens_from, is_printable}
-use Rattle.mm_text.proofs.Tokens.StepByStep.{tokens_by}
-use Rattle.mm_text.proofs.Lists.{all_places, choice_mapped}
+use Rattle.std.proofs.lemmas.List.{drop_more, drop_all}
+use Rattle.std.proofs.lemmas.Bool.{cases_Bool, cases_lt, cond_both, or_parts, or_right, both_ways}
 use Rattle.std.proofs.str.Laws.{order}
 use Rattle.std.proofs.lemmas.List.Folds.{list_all_at, list_any_at, list_any_none}
+use Rattle.std.proofs.lemmas.List.Elements.{All-from_get_or}
+use Rattle.mm_text.specs.Token.{PlainToken, is_space, with_byte, tokens_from, is_printable}
 use Rattle.mm_text.specs.declared.fault.TextRule.TheVariants.{X1, X2, X3, X4}
 use Rattle.mm_text.specs.Items.{Clear, Broken, without_comments, spells, holds_mark, holds_dollar}
 use Rattle.mm_text.specs.Mirror.Place.{is_legal, is_quiet, IsLegalFront, IsLegalUpTo, IsMarkAt}
 use Rattle.mm_text.specs.Mirror.Place.{IsClosedAt, IsLater, comment_at, shown_at}
-use Rattle.mm_text.proofs.Tokens.ManyBytes.{all_from_places}
 use Rattle.mm_text.specs.declared.comments.Place.{Place}
 use Rattle.mm_text.specs.Files.{most_bytes}
-use Rattle.std.proofs.lemmas.List.Elements.{All-from_get_or}
+use Rattle.mm_text.proofs.Tokens.StepByStep.{tokens_by}
+use Rattle.mm_text.proofs.Lists.{all_places, choice_mapped}
+use Rattle.mm_text.proofs.Tokens.ManyBytes.{all_from_places}
 
 -- ==== how the tokens of a file come from its bytes: white space is skipped, and a run of other
 -- bytes is one token
@@ -47,7 +45,7 @@ BeginFrom at [] = Unit {0}
 BeginFrom at (t ∷ tokens) = at ≤ t.at
 
 -- what begins after a place begins at or after it
-pub begin_earlier : (at : ℕ) (tokens : List PlainToken) → BeginFrom (at + 1) tokens → BeginFrom at tokens
+begin_earlier : (at : ℕ) (tokens : List PlainToken) → BeginFrom (at + 1) tokens → BeginFrom at tokens
 begin_earlier at [] h = tt
 begin_earlier at (t ∷ tokens) h = omega arith
 
@@ -108,7 +106,7 @@ tokens_from-step bytes file at within space =
 pub tokens_from-end : (bytes : List ℕ) (file at : ℕ) → length bytes ≤ at → tokens_from file at (drop at bytes) ≡ []
 tokens_from-end bytes file at past = ap (tokens_from file at) (drop_all at bytes past) ∙ tokens_from-nil file at
 
-pub space_from_place : (bytes : List ℕ) → (0 < length bytes → is_space (get_or bytes 0 0) ≡ true) → BeginsWithSpace bytes
+space_from_place : (bytes : List ℕ) → (0 < length bytes → is_space (get_or bytes 0 0) ≡ true) → BeginsWithSpace bytes
 space_from_place [] h = tt
 space_from_place (b ∷ bytes) h = h (omega arith)
 
@@ -308,7 +306,7 @@ passed_space begin bytes file at n within quiet space =
     (ap (without_comments (Some begin)) (tokens_from-step bytes file (at + n) (omega arith) space))
 
 -- in a comment quiet bytes are passed over, up to a place after white space
-pub passed_to : (begin : PlainToken) (bytes : List ℕ) (file at start : ℕ) → at ≤ start → start ≤ length bytes → ((k : ℕ) → at ≤ k → k < start → is_quiet (get_or bytes k 0) ≡ true)
+passed_to : (begin : PlainToken) (bytes : List ℕ) (file at start : ℕ) → at ≤ start → start ≤ length bytes → ((k : ℕ) → at ≤ k → k < start → is_quiet (get_or bytes k 0) ≡ true)
     → (start ≡ at) ⊎ ((k : ℕ) → k + 1 ≡ start → is_space (get_or bytes k 0) ≡ true)
     → without_comments (Some begin) (tokens_from file at (drop at bytes)) ≡ without_comments (Some begin) (tokens_from file start (drop start bytes))
 passed_to begin bytes file at start from within quiet (inl same) = ap (λ n. without_comments (Some begin) (tokens_from file n (drop n bytes))) (sym same)
@@ -355,7 +353,7 @@ legal_ink : (b : ℕ) → is_space b ≡ false → is_printable b ≡ is_legal b
 legal_ink b ink =
     rw ink (elim (is_printable b) as (λ p. p ≡ (p || false)) [ true ↦ refl | false ↦ refl ])
 
-pub slice_byte : (bytes : List ℕ) (start stop k : ℕ) → start + k < stop → get_or (slice_range bytes start stop) k 0 ≡ get_or bytes (start + k) 0
+slice_byte : (bytes : List ℕ) (start stop k : ℕ) → start + k < stop → get_or (slice_range bytes start stop) k 0 ≡ get_or bytes (start + k) 0
 slice_byte bytes start stop k lt = get_or-take (stop - start) (drop start bytes) k 0 (omega arith) ∙ get_or-drop start bytes k 0
 
 -- a token before the first byte that may not stand there holds none
