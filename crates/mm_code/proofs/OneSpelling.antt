@@ -1,24 +1,19 @@
--- Each number from 1 on has exactly one spelling, and each list of codes one text, which the
--- steps of writing write.
+-- Each number from 1 on has exactly one spelling, and each list of codes one text.
 use Rattle.std.proofs.Common.{◌≡◌, ℕ, zero, suc, ◌+◌, ◌-◌, ◌*◌, ◌/◌, ◌%◌, ◌<◌, ◌≤◌, inl, inr, min}
 use Rattle.std.proofs.Common.{List, [], ◌∷◌, ◌++◌, map, reverse, All, refl, sym, ap, ◌∙◌, arith}
-use Rattle.std.proofs.Common.{length, get_or, take, append_assoc, flat_map, append-nil, take_all}
+use Rattle.std.proofs.Common.{flat_map}
 use Rattle.std.specs.List.{AllByRecursion, AllZip}
-use Rattle.std.proofs.lemmas.List.{reverse-reverse, same_from_push, map-append, take_more, map_push}
+use Rattle.std.proofs.lemmas.List.{reverse-reverse, same_from_push}
 use Rattle.std.proofs.lemmas.List.Elements.{All-head, All-tail}
 use Rattle.std.proofs.lemmas.Grind.{reverse_onto}
 use Rattle.std.proofs.lemmas.Bool.{cases_eq}
-use Rattle.std.proofs.lemmas.List.Concat.{flat_map-append}
-use Rattle.mm_text.proofs.Lists.{all_push, zip_push}
+use Rattle.mm_text.proofs.Lists.{all_push}
 use Rattle.mm_code.specs.declared.code.Code.{Code}
 use Rattle.mm_code.specs.declared.code.Code.TheVariants.{Number, Tag}
 use Rattle.mm_code.specs.Letters.{last_letter, leading_letter, tag_letter, IsLeadingDigit}
 use Rattle.mm_code.specs.Letters.{leading_value, IsSpelling, SaysCode, SpellsCodes, Letters}
 use Rattle.mm_code.specs.Letters.{code_for, largest, HasSpelling, IsExact}
-use Rattle.mm_code.specs.Mirror.Writing.{AppendsLeading, AppendsCode}
 use Rattle.mm_code.proofs.ReadLetters.{leading_value-push, is_read_again}
-
--- ==== each number from 1 on has exactly one spelling, and each list of codes one text
 
 -- ---- leading digits, from the last one on
 
@@ -86,7 +81,7 @@ some_leading (suc bound) value le =
           leading-push value ((value - 1) / 5) had refl (omega arith)
     ]
 
-spelling-of : (number rest : ℕ) (had : HasLeading rest) → rest ≡ (number - 1) / 20 → 1 ≤ number → IsSpelling (map leading_letter had.digits ++ last_letter ((number - 1) % 20 + 1) ∷ []) number
+pub spelling-of : (number rest : ℕ) (had : HasLeading rest) → rest ≡ (number - 1) / 20 → 1 ≤ number → IsSpelling (map leading_letter had.digits ++ last_letter ((number - 1) % 20 + 1) ∷ []) number
 spelling-of number rest had is positive = record {
   leading = had.digits;
   last = (number - 1) % 20 + 1;
@@ -167,55 +162,3 @@ exact_codes (c ∷ codes) (s ∷ spelled) exact e =
     let others = exact_codes codes spelled (All-tail IsExact c codes exact) (cc) in
     cc
 exact_codes codes spelled exact e = cc
-
--- ==== the steps of writing, on lists
-
--- one more leading digit's letter
-pub leading-written : (old between new : List ℕ) (value rest byte : ℕ) → AppendsLeading old between rest → new ≡ between ++ byte ∷ [] → rest ≡ (value - 1) / 5 → byte ≡ 85 + (value - 1) % 5 → 0 < value → AppendsLeading old new value
-leading-written old between new value rest byte had is quotient letter positive =
-    let had_digits : HasLeading rest =
-    record { digits = had.digits; ok = had.are_leading; is = had.is_worth } in
-    let grown = leading-push value rest had_digits quotient positive in
-    let same : byte ≡ leading_letter ((value - 1) % 5 + 1) = omega arith in
-    record {
-      digits = grown.digits;
-      are_leading = grown.ok;
-      is_worth = grown.is;
-      text = rw (is, had.text, same, map-append) (append_assoc old _ _);
-    }
-
--- the last digit's letter
-pub number-written : (old between new : List ℕ) (number rest byte : ℕ) → AppendsLeading old between rest → new ≡ between ++ byte ∷ [] → rest ≡ (number - 1) / 20 → byte ≡ 65 + (number - 1) % 20 → 1 ≤ number → AppendsCode old new (Number number)
-number-written old between new number rest byte had is quotient letter positive =
-    let leading : HasLeading rest = record { digits = had.digits; ok = had.are_leading; is = had.is_worth } in
-    let digit = (number - 1) % 20 + 1 in
-    let same : byte ≡ last_letter digit = omega arith in
-    record {
-      piece = map leading_letter had.digits ++ last_letter digit ∷ [];
-      says = spelling-of number rest leading quotient positive;
-      text = rw (is, had.text, same) (append_assoc old _ _);
-    }
-
--- one more code's letters
-pub code-written : (old new : List ℕ) (codes : List Code) (i : ℕ) (d : Code) → i < length codes → SpellsCodes old (take i codes) → AppendsCode old new (get_or codes i d) → SpellsCodes new (take (i + 1) codes)
-code-written old new codes i d lt spells more =
-    rw (take_more codes i d lt) (record {
-      pieces = spells.pieces ++ more.piece ∷ [];
-      each = zip_push SaysCode spells.pieces (take i codes) more.piece (get_or codes i d) spells.each more.says;
-      joined = rw (more.text, spells.joined, flat_map-append, append-nil);
-    })
-
-pub code_for-more : (codes : List Code) (i : ℕ) (d : Code) → i < length codes → map code_for (take i codes) ≡ take i codes → code_for (get_or codes i d) ≡ get_or codes i d → map code_for (take (i + 1) codes) ≡ take (i + 1) codes
-code_for-more codes i d lt before here =
-    rw (take_more codes i d lt, map_push, before, here)
-
-pub all_spelled : (text : List ℕ) (codes : List Code) (i : ℕ) → length codes ≤ i → SpellsCodes text (take i codes) → SpellsCodes text codes
-all_spelled text codes i le spells =
-    rw (take_all i codes le) at spells
-
-pub all_letters : (text : List ℕ) (codes : List Code) (i : ℕ) → length codes ≤ i → SpellsCodes text (take i codes) → map code_for (take i codes) ≡ take i codes → Letters text codes
-all_letters text codes i le spells are_codes = record {
-  spelled = codes;
-  spells = all_spelled text codes i le spells;
-  are_codes = sym (rw (take_all i codes le) at are_codes);
-}

@@ -1,8 +1,6 @@
--- What is read is what the letters say, and what the letters say is read; from that to what the
--- call promises.
+-- What is read is what the letters say, and what the letters say is read.
 use Rattle.std.proofs.Common.{◌≡◌, ℕ, ◌+◌, ◌*◌, min, List, [], ◌∷◌, ◌++◌, map, Ok, refl, sym, ap}
-use Rattle.std.proofs.Common.{◌∙◌, append_assoc, arith, ◌-◌, ◌<◌, ◌≤◌, inl, inr, Result, Err, fold}
-use Rattle.std.proofs.Common.{flat_map, OnOk, IsErrOf}
+use Rattle.std.proofs.Common.{◌∙◌, append_assoc, arith, ◌-◌, ◌<◌, ◌≤◌, inl, inr, fold, flat_map}
 use Rattle.std.specs.List.{AllByRecursion, AllZip}
 use Rattle.std.proofs.lemmas.List.{map-append}
 use Rattle.std.proofs.lemmas.List.Sums.{fold-append}
@@ -12,15 +10,11 @@ use Rattle.mm_code.specs.declared.code.Code.{Code}
 use Rattle.mm_code.specs.declared.code.Code.TheVariants.{Number, Tag}
 use Rattle.mm_code.specs.Letters.{last_letter, leading_letter, IsLeadingDigit, IsLastDigit}
 use Rattle.mm_code.specs.Letters.{SaysCode, Letters, code_for, largest, tag_letter, leading_value}
-use Rattle.mm_code.specs.Letters.{IsSpelling, Fills, LettersBreak}
+use Rattle.mm_code.specs.Letters.{IsSpelling}
 use Rattle.mm_code.specs.Mirror.Reading.{with_front, reading, leading_after, number_after}
-use Rattle.mm_code.specs.declared.code.CodeRule.{CodeRule}
-use Rattle.mm_code.specs.declared.code.CodeFault.{CodeFault}
-use Rattle.mm_code.specs.declared.code.CodeFault.TheVariants.{Rule}
 use Rattle.mm_code.proofs.LetterSteps.{read_last, read_leading, read_tag, read_end, read_cut_by_end}
 use Rattle.mm_code.proofs.LetterSteps.{EndsCode, not_letter, ends, leading, cut_off, step}
 use Rattle.mm_code.proofs.LetterSteps.{with_front-ok}
-use Rattle.mm_code.proofs.LetterFaults.{read_breaks}
 
 -- ==== what the letters say is read
 
@@ -139,13 +133,3 @@ is_read (byte ∷ text) digits codes ok e =
           rw (map-append, append_assoc, is_byte) at letters
       | cut_off tagged some is ↦ absurd (cc (is, e))
     ]
-
--- ==== from what the reading gives to what the call promises
-
-pub ok_found : {X : Type 0} (text : List ℕ) (result : Result X CodeFault) (codes : List Code) → Fills result codes (reading 0 text) → OnOk result (Letters text codes)
-ok_found text (Ok done) codes given = is_read text [] codes tt given
-ok_found text (Err fault) codes given = tt
-
-pub rule_broken : {X : Type 0} (text : List ℕ) (result : Result X CodeFault) (codes : List Code) (rule : CodeRule) → Fills result codes (reading 0 text) → IsErrOf result (Rule rule) → LettersBreak rule text
-rule_broken text (Err (Rule other)) codes rule given is = read_breaks rule text (given ∙ ap Err (cc))
-rule_broken text _ codes rule given is = absurd cc

@@ -3,18 +3,16 @@
 use Rattle.std.proofs.Common.{◌≡◌, ℕ, zero, suc, ◌+◌, ◌<◌, List, [], ◌∷◌, ◌++◌, map, length, take}
 use Rattle.std.proofs.Common.{drop, set, get_or, refl, ap, sym, subst, ◌∙◌, ◌⊎◌, inl, inr, Some}
 use Rattle.std.proofs.Common.{arith, Bool, true, false, cond, filter, Contains, zero-add, suc-add}
-use Rattle.std.proofs.Common.{Result, Ok, Err, IfErr, IsErrAnd, ◌-◌, Option, slice_get, length-take}
-use Rattle.std.proofs.Common.{length-append, take_at, drop_at, take-add}
+use Rattle.std.proofs.Common.{Result, Ok, Err, IfErr, IsErrAnd, ◌-◌, slice_get, length-take}
+use Rattle.std.proofs.Common.{length-append, take_at, drop_at}
 use Rattle.std.specs.List.{AllByRecursion, AllZip, list_any}
-use Rattle.std.proofs.lemmas.List.{length-map, get_or-map, take_rest}
+use Rattle.std.proofs.lemmas.List.{length-map, get_or-map}
 use Rattle.std.proofs.lemmas.List.Elements.{All-filter, All-from_recursion, All-from_get_or}
 use Rattle.std.proofs.lemmas.List.Elements.{recursion_from_All}
 use Rattle.std.proofs.lemmas.Slice.Zip.{AllZip-long}
 use Rattle.std.proofs.lemmas.List.Folds.{list_any_at}
 use Rattle.std.proofs.lemmas.Option.{same_Some, none-some, slice_get_within, slice_get_read}
 use Rattle.std.proofs.lemmas.Option.{get_or_from_slice_get}
-use Rattle.std.proofs.KnownBytes.{Appends-trans}
-use Rattle.std.specs.Io.KnownBytes.{Appends}
 
 -- ---- choices
 
@@ -468,19 +466,10 @@ zip_parts {A} R (x ∷ xs) (b ∷ before) y after zip =
       later = rest.later;
     }
 
--- ==== results
+-- ---- results
 
 -- an error that is handed on keeps what is known of it
 pub error_keeps : {A E : Type 0} (result : Result A E) (fault : E) (P : E → Type 0)
     → IsErrAnd result (λ e. e ≡ fault) → P fault → IfErr result P
 error_keeps (Ok x) fault P same known = tt
 error_keeps (Err e) fault P same known = subst P (sym same) known
-
--- ==== bytes that are written piece by piece
-
--- the first i bytes were written, and then n bytes of the rest
-pub Appends-piece : (a b c : Option (List ℕ)) (bytes : List ℕ) (i n : ℕ) → Appends a b (take i bytes)
-    → Appends b c (take n (take (length bytes - i) (drop i bytes))) → Appends a c (take (i + n) bytes)
-Appends-piece a b c bytes i n before piece =
-    let joined = take-add i n bytes ∙ ap (λ rest. take i bytes ++ take n rest) (sym (take_rest bytes i)) in
-    subst (Appends a c) (sym joined) (Appends-trans a b c _ _ before piece)

@@ -1,10 +1,9 @@
--- Many bytes at once: those that may stand in a file, those above `$`, which belong to words, and
--- the mask of one load.
+-- Many bytes at once: the mask of one load, and bytes of which all may stand in a file.
 use Rattle.std.proofs.Common.{◌≡◌, ℕ, ◌+◌, ◌-◌, ◌%◌, ◌^◌, ◌<◌, ◌≤◌, Bool, true, false, not, List}
 use Rattle.std.proofs.Common.{[], ◌∷◌, map, length, get_or, replicate, Fits, w8, refl, sym, ap, ap₂}
-use Rattle.std.proofs.Common.{◌∙◌, subst, arith, inl, inr, ◌⊎◌, ⊎_elim, drop, ◌&&◌, ◌||◌, suc, ◌==◌}
-use Rattle.std.proofs.Common.{eq-eqb, ne_eqb, le-leb, ltb-true, map-id, get_or-drop, get_or-take}
-use Rattle.std.proofs.Common.{length-drop, length-take-le, slice_range, nat_le, nat_lt}
+use Rattle.std.proofs.Common.{◌∙◌, subst, arith, inl, inr, ◌⊎◌, ⊎_elim, drop, ◌&&◌, ◌||◌, suc}
+use Rattle.std.proofs.Common.{eq-eqb, ne_eqb, le-leb, map-id, get_or-drop, get_or-take, length-drop}
+use Rattle.std.proofs.Common.{length-take-le, slice_range, nat_le}
 use Rattle.std.proofs.lemmas.Bool.{agree_below, agree_below_at, not-true, not-false, cases_eq}
 use Rattle.std.proofs.lemmas.Bool.{cond-true, cond-false, both_ways, true_from_ne_false}
 use Rattle.std.proofs.lemmas.Simd.{map-map, mask_l-mod, length-chunk, get_or-chunk}
@@ -107,25 +106,3 @@ pub plain_legal : (bytes : List ℕ) (least greatest : ℕ) → 32 ≤ least →
     → list_all is_legal bytes ≡ true
 plain_legal bytes least greatest from to low high = all_from_places is_legal bytes (λ k lt.
     ⊎_elim (λ (feed : get_or bytes k 0 ≡ 10). ap is_legal feed) (λ (more : least ≤ get_or bytes k 0). shown_legal (get_or bytes k 0) (omega arith) (omega (arith, high k lt))) (low k lt))
-
--- ==== bytes above `$` belong to words
-
--- a byte above `$` is no white space
-pub high_ink : (b : ℕ) → nat_lt 36 b ≡ true → is_space b ≡ false
-high_ink b high =
-    let above : 36 < b = ltb-true 36 b high in
-    rw (ne_eqb b 32 (λ e. omega arith), ne_eqb b 9 (λ e. omega arith), ne_eqb b 10 (λ e. omega arith), ne_eqb b 12 (λ e. omega arith), ne_eqb b 13 (λ e. omega arith)) refl
-
--- and it is no `$`
-pub high_word : (b : ℕ) → nat_lt 36 b ≡ true → (b == 36) ≡ false
-high_word b high = let above : 36 < b = ltb-true 36 b high in ne_eqb b 36 (λ e. omega arith)
-
--- what no byte was up to one place, and none is that is passed over, none was up to the next
-pub run_on : (bytes : List ℕ) (start from at : ℕ) (q : ℕ → Bool) → ((b : ℕ) → nat_lt 36 b ≡ true → q b ≡ false)
-    → ((k : ℕ) → start ≤ k → k < from → q (get_or bytes k 0) ≡ false)
-    → ((k : ℕ) → from ≤ k → k < at → nat_lt 36 (get_or bytes k 0) ≡ true)
-    → (k : ℕ) → start ≤ k → k < at → q (get_or bytes k 0) ≡ false
-run_on bytes start from at q each before passed k low high = ⊎_elim
-    (λ (less : k < from). before k low less)
-    (λ (more : from ≤ k). each (get_or bytes k 0) (passed k more high))
-    (order k from)

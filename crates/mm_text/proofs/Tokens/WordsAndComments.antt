@@ -1,5 +1,5 @@
 -- How the tokens of a file come from its bytes: white space is skipped, a run of other bytes is
--- one token, and a comment is skipped up to its end. Whether a token holds a `$`.
+-- one token, and a comment is skipped up to its end.
 use Rattle.std.proofs.Common.{◌≡◌, ℕ, ◌+◌, ◌-◌, ◌<◌, ◌≤◌, ◌==◌, List, [], ◌∷◌, ◌++◌, length, get_or}
 use Rattle.std.proofs.Common.{drop, true, false, refl, sym, ap, ◌∙◌, subst, arith, eq-eqb, add-zero}
 use Rattle.std.proofs.Common.{⊎_elim, append-nil, ◌&&◌, ◌||◌, take, Bool, cond, not, Some, None}
@@ -9,11 +9,10 @@ use Rattle.std.specs.List.{AllByRecursion, list_any, list_all}
 use Rattle.std.proofs.lemmas.List.{drop_more, drop_all}
 use Rattle.std.proofs.lemmas.Bool.{cases_Bool, cases_lt, cond_both, or_parts, or_right, both_ways}
 use Rattle.std.proofs.str.Laws.{order}
-use Rattle.std.proofs.lemmas.List.Folds.{list_all_at, list_any_at, list_any_none}
-use Rattle.std.proofs.lemmas.List.Elements.{All-from_get_or}
+use Rattle.std.proofs.lemmas.List.Folds.{list_all_at}
 use Rattle.mm_text.specs.Token.{PlainToken, is_space, with_byte, tokens_from, is_printable}
 use Rattle.mm_text.specs.declared.fault.TextRule.TheVariants.{X1, X2, X3, X4}
-use Rattle.mm_text.specs.Items.{Clear, Broken, without_comments, spells, holds_mark, holds_dollar}
+use Rattle.mm_text.specs.Items.{Clear, Broken, without_comments, spells, holds_mark}
 use Rattle.mm_text.specs.Mirror.Place.{is_legal, is_quiet, IsLegalFront, IsLegalUpTo, IsMarkAt}
 use Rattle.mm_text.specs.Mirror.Place.{IsClosedAt, IsLater, comment_at, shown_at}
 use Rattle.mm_text.specs.declared.comments.Place.{Place}
@@ -353,7 +352,7 @@ legal_ink : (b : ℕ) → is_space b ≡ false → is_printable b ≡ is_legal b
 legal_ink b ink =
     rw ink (elim (is_printable b) as (λ p. p ≡ (p || false)) [ true ↦ refl | false ↦ refl ])
 
-slice_byte : (bytes : List ℕ) (start stop k : ℕ) → start + k < stop → get_or (slice_range bytes start stop) k 0 ≡ get_or bytes (start + k) 0
+pub slice_byte : (bytes : List ℕ) (start stop k : ℕ) → start + k < stop → get_or (slice_range bytes start stop) k 0 ≡ get_or bytes (start + k) 0
 slice_byte bytes start stop k lt = get_or-take (stop - start) (drop start bytes) k 0 (omega arith) ∙ get_or-drop start bytes k 0
 
 -- a token before the first byte that may not stand there holds none
@@ -486,33 +485,3 @@ begins_at p start legal t skipped mark same =
     ap (without_comments None) (skipped p.file ∙ mark_token bytes p.file 40 start mark refl)
     ∙ outside-begin begin _ refl refl
     ∙ ap (λ (u : PlainToken). comment_at u (record p { at = start + 2; legal = legal })) token
-
--- ==== whether a token holds a `$`, by its bytes' places in the file
-
-slice_length : (bytes : List ℕ) (start stop : ℕ) → start ≤ stop → stop ≤ length bytes
-    → length (slice_range bytes start stop) ≡ stop - start
-slice_length bytes start stop from within =
-    length-take-le (stop - start) (drop start bytes) (omega (arith, length-drop start bytes))
-
--- a token none of whose bytes is a `$`
-pub lacks_dollar : (bytes : List ℕ) (start stop : ℕ) → start ≤ stop → stop ≤ length bytes
-    → ((k : ℕ) → start ≤ k → k < stop → (get_or bytes k 0 == 36) ≡ false)
-    → holds_dollar (slice_range bytes start stop) ≡ false
-lacks_dollar bytes start stop from within other =
-    let text = slice_range bytes start stop in
-    let long : length text ≡ stop - start = slice_length bytes start stop from within in
-    list_any_none (λ b. b == 36) text (All-from_get_or (λ b. (b == 36) ≡ false) text 0 (λ k lt.
-    ap (λ b. b == 36) (slice_byte bytes start stop k (omega arith))
-    ∙ other (start + k) (omega arith) (omega arith)))
-
--- a token one of whose bytes is a `$`
-pub has_dollar : (bytes : List ℕ) (start at stop : ℕ) → start ≤ at → at < stop
-    → stop ≤ length bytes → get_or bytes at 0 ≡ 36
-    → holds_dollar (slice_range bytes start stop) ≡ true
-has_dollar bytes start at stop from before within dollar =
-    let text = slice_range bytes start stop in
-    let long : length text ≡ stop - start = slice_length bytes start stop (omega arith) within in
-    let place : start + (at - start) ≡ at = omega arith in
-    let byte : get_or text (at - start) 0 ≡ 36 =
-    slice_byte bytes start stop (at - start) (omega arith) ∙ ap (λ n. get_or bytes n 0) place ∙ dollar in
-    list_any_at (λ b. b == 36) text (at - start) 0 (omega arith) (ap (λ b. b == 36) byte)
