@@ -2,7 +2,7 @@
 use Rattle.std.proofs.Common.{◌≡◌, ℕ, ◌+◌, ◌≤◌, inl, inr, length, List, map, Option, Some, None}
 use Rattle.std.proofs.Common.{Result, refl, sym, ap, subst, arith, ◌∷◌, [], option_map, IfOk, suc}
 use Rattle.std.proofs.Common.{◌<◌, take, ◌++◌, ◌∙◌, append-nil, slice_get, unwrap_or, append_assoc}
-use Rattle.std.proofs.Common.{◌⊎◌, Contains, length-append, slice_range}
+use Rattle.std.proofs.Common.{◌⊎◌, Contains, slice_range}
 use Rattle.std.specs.List.{AllByRecursion, sum_by}
 use Rattle.std.proofs.lemmas.Result.{IfOk-weaker}
 use Rattle.std.proofs.lemmas.List.{length-map}
@@ -36,22 +36,21 @@ use Rattle.mm_frame.specs.Mirror.Declaring.{ChangesSymbols, TakesSymbol, TakesSy
 use Rattle.mm_frame.proofs.Names.NameNumbers.{map_snoc, get_unmapped, declared_from_number}
 use Rattle.mm_frame.proofs.Names.NameNumbers.{symbols_unique}
 use Rattle.mm_frame.proofs.Blocks.NumberedBlocks.{length_pushed}
-use Rattle.mm_frame.proofs.BookLists.GrownLists.{length-sentences, names_same, same_tables}
-use Rattle.mm_frame.proofs.BookLists.GrownLists.{added_part, same_sentence, AreGrown, AreAppended}
-use Rattle.mm_frame.proofs.BookLists.GrownLists.{assembled, entry_at, get_sliced}
+use Rattle.mm_frame.proofs.BookLists.UnlabelledStatements.{unlabelled_grows}
+use Rattle.mm_frame.proofs.BookLists.GrownLists.{all_statements, names_same, same_tables}
+use Rattle.mm_frame.proofs.BookLists.GrownLists.{same_sentence}
+use Rattle.mm_frame.proofs.BookLists.GrownLists.{entry_at, get_sliced}
 use Rattle.mm_frame.proofs.BookLists.SymbolsAndLabels.{of_kind, infos_known, infos_known_constant}
 use Rattle.mm_frame.proofs.BookLists.SymbolsAndLabels.{infos_other, declaring_all, infos_fresh}
-use Rattle.mm_frame.proofs.BookLists.SymbolsAndLabels.{latest_declared, labels_none}
+use Rattle.mm_frame.proofs.BookLists.SymbolsAndLabels.{latest_declared}
 use Rattle.mm_frame.proofs.BookLists.SymbolsAndLabels.{essentials_other}
 use Rattle.std.proofs.lemmas.Bool.{cases_lt}
 use Rattle.indexmap.proofs.IndexTableLemmas.Probe.{pigeonhole}
 use Rattle.mm_text.specs.Files.{most_bytes}
-use Rattle.mm_frame.specs.declared.tables.Entry.{Entry}
 use Rattle.mm_frame.specs.Active.{IsConstant, IsVariable}
 use Rattle.mm_frame.specs.Database.{Database}
 use Rattle.mm_frame.specs.Mirror.ScopesOf.{HaveScopes}
-use Rattle.mm_frame.proofs.Frames.FrameTypings.{typings_grow}
-use Rattle.mm_frame.proofs.Frames.FrameLaws.{placed, frames_other, stated_other}
+use Rattle.mm_frame.proofs.Frames.FrameLaws.{stated_other}
 
 -- ==== statements that used symbols, and what they say by numbers
 
@@ -177,7 +176,7 @@ taken_more old now new kind xs x variable tables which is taken one = elim one.k
     st = statements_of old
 
     latest : variable ≡ latest_by kind (length st)
-    latest = is ∙ ap (latest_by kind) (sym (length-sentences old.symbols.names old.labels.names old.flat.items old.log.items))
+    latest = is ∙ ap (latest_by kind) (sym (all_statements old))
 
     flat : new.flat.items ≡ old.flat.items ++ (taken.numbers ++ one.number ∷ [])
     flat = one.flat ∙ ap (λ (f : List Sym). f ++ one.number ∷ []) taken.flat ∙ append_assoc old.flat.items taken.numbers (one.number ∷ [])
@@ -247,70 +246,51 @@ taken_next old now new kind xs i x variable tables which is there taken one =
 not_kind : (kind other : Kind) → IsDeclaration kind → ¬ (other ≡ Constants) → ¬ (other ≡ Variables) → ¬ (kind ≡ other)
 not_kind kind other which no_constants no_variables is = elim which [ inl c ↦ no_constants (sym is ∙ c) | inr v ↦ no_variables (sym is ∙ v) ]
 
--- what was appended to the lists
-appended : (t d v : Tables) (s : Sentence) (bytes : ℕ) → s.label ≡ None → (taken : TakesSymbols t d s.kind s.symbols) → Entered d v s.kind None (length t.flat.items) bytes
-    → AreAppended t v taken.added [] taken.numbers (entry_of s.kind None (length t.flat.items) (length d.flat.items)) s
-appended t d v s bytes none taken entered =
-    let labels : d.labels.names ≡ t.labels.names = ap (λ (u : Tables). u.labels.names) taken.others in
-    let log : d.log.items ≡ t.log.items = ap (λ (u : Tables). u.log.items) taken.others in
-    let flat = taken.flat in
-    let sizes = length-append t.flat.items taken.numbers in
-    let end : length d.flat.items ≡ length (t.flat.items ++ taken.numbers) = ap length flat in
-    let part : slice_range (t.flat.items ++ taken.numbers) (length t.flat.items) (length d.flat.items) ≡ taken.numbers =
-    ap (slice_range (t.flat.items ++ taken.numbers) (length t.flat.items)) end ∙ added_part t.flat.items taken.numbers in
-    let symbols : names_by (t.symbols.names ++ taken.added) (slice_range (t.flat.items ++ taken.numbers) (length t.flat.items) (length d.flat.items)) ≡ s.symbols =
-    ap (names_by (t.symbols.names ++ taken.added)) part ∙ ap (λ names. names_by names taken.numbers) (sym taken.names) ∙ taken.named in
-    record {
-      symbols = entered.symbols ∙ taken.names;
-      labels = entered.labels ∙ labels ∙ sym (append-nil t.labels.names);
-      flat = entered.flat ∙ flat;
-      log = entered.log ∙ ap (λ (es : List Entry). es ++ entry_of s.kind None (length t.flat.items) (length d.flat.items) ∷ []) log;
-      said = same_sentence s s.kind None _ refl (sym none) symbols;
-      within = record { ordered = omega arith; within = omega arith };
-      numbers = subst (λ (names : List (List ℕ)). (i : ℕ) (n : Sym) → slice_get taken.numbers i ≡ Some n → n.0 < length names) taken.names taken.within;
-      label = λ id is. absurd (cc);
-    }
-
--- what holds of the other lists
-grown : (t d v : Tables) (s : Sentence) (bytes : ℕ) → AreTables t → IsDeclaration s.kind → s.label ≡ None → (taken : TakesSymbols t d s.kind s.symbols)
-    → Entered d v s.kind None (length t.flat.items) bytes → AreGrown t v s
-grown t d v s bytes tables which none taken entered =
-    let st = statements_of t in
-    let e = entered in
-    let new = entry_of s.kind None (length t.flat.items) (length d.flat.items) in
-    let labels : v.labels.names ≡ t.labels.names = e.labels ∙ ap (λ (u : Tables). u.labels.names) taken.others in
-    let named : v.named.items ≡ t.named.items = e.named ∙ ap (λ (u : Tables). u.named.items) taken.others in
-    let log : v.log.items ≡ t.log.items ++ new ∷ [] = e.log ∙ ap (λ (u : Tables). u.log.items ++ new ∷ []) taken.others in
-    let essentials : v.essentials.items ≡ t.essentials.items = e.essentials ∙ ap (λ (u : Tables). u.essentials.items) taken.others in
-    let kept : v.hypotheses.items ≡ t.hypotheses.items = e.hypotheses ∙ ap (λ (u : Tables). u.hypotheses.items) taken.others in
-    let hypotheses : v.hypotheses.items ≡ t.hypotheses.items ++ [] = kept ∙ sym (append-nil t.hypotheses.items) in
-    let pairs : v.pairs.items ≡ t.pairs.items ++ [] = e.pairs ∙ ap (λ (u : Tables). u.pairs.items) taken.others ∙ sym (append-nil t.pairs.items) in
-    let pieces : v.pieces.items ≡ t.pieces.items ++ [] = e.pieces ∙ ap (λ (u : Tables). u.pieces.items) taken.others ∙ sym (append-nil t.pieces.items) in
-    let stated : v.distinct.stated ≡ t.distinct.stated = e.stated ∙ ap (λ (u : Tables). u.distinct.stated) taken.others in
-    let names : v.symbols.names ≡ t.symbols.names ++ taken.added = e.symbols ∙ taken.names in
-    let size = length-sentences t.symbols.names t.labels.names t.flat.items t.log.items in
-    let infos : AreInfos (st ++ s ∷ []) d.symbols.names d.infos.items = subst (λ (u : Sentence). AreInfos (st ++ u ∷ []) d.symbols.names d.infos.items) (same_sentence s s.kind None s.symbols refl (sym none) refl) taken.infos in
-    let all : t.symbols.names ++ taken.added ≡ _ = sym taken.names ∙ infos.all in
-    let scopes : HaveScopes st d.scopes = subst (λ (u : Tables). HaveScopes st u.scopes) (sym taken.others) tables.scopes in
-    record {
-      infos = rw (e.symbols, e.infos) infos;
-      labels = rw (labels, named, log) (labels_none st t.labels.names t.named.items t.log.items s new tables.labels none refl (sym size));
-      scopes = e.scopes st s scopes refl (λ is. absurd (not_kind s.kind Closing which (λ h. absurd (cc)) (λ h. absurd (cc)) is));
-      essentials = rw essentials (essentials_other st t.essentials.items s tables.essentials
-          (not_kind s.kind Essential which (λ h. absurd (cc)) (λ h. absurd (cc))) (not_kind s.kind Closing which (λ h. absurd (cc)) (λ h. absurd (cc))));
-      frames = rw (hypotheses, pairs, pieces, named) (frames_other st s t.hypotheses.items [] t.pairs.items [] t.pieces.items [] t.named.items (placed st t.labels.names t.named.items t.log.items tables.labels) tables.frames);
-      typed = rw kept (typings_grow st (s ∷ []) t.hypotheses.items tables.typed);
-      stated = rw (names, stated) (stated_other st s t.symbols.names taken.added t.distinct.stated tables.sound.0 tables.infos.all all tables.stated
-          (not_kind s.kind Distinct which (λ h. absurd (cc)) (λ h. absurd (cc))));
-    }
-
 -- the lists hold one statement more
-declared : (t d v : Tables) (s : Sentence) (bytes : ℕ) → AreTables t → IsMeant (statements_of t) s → IsFormedSentence s → IsDeclaration s.kind → s.label ≡ None
-    → TakesSymbols t d s.kind s.symbols → Entered d v s.kind None (length t.flat.items) bytes → 1 + length s.symbols ≤ bytes → t.bytes + bytes ≤ most_bytes → Grows t v s bytes
-declared t d v s bytes tables meant formed which none taken entered enough room =
-    let size : length taken.numbers ≡ length s.symbols = sym (length-map taken.numbers _) ∙ ap length taken.named in
-    assembled _ _ _ _ _ _ _ bytes tables meant formed (appended t d v s bytes none taken entered) (grown t d v s bytes tables which none taken entered)
-    (entered.counted ∙ ap (λ (u : Tables). u.bytes + bytes) taken.others) (omega arith) room
+declared : (t d v : Tables) (s : Sentence) (bytes : ℕ) → AreTables t → IsMeant (statements_of t) s
+    → IsFormedSentence s → IsDeclaration s.kind → s.label ≡ None
+    → TakesSymbols t d s.kind s.symbols → Entered d v s.kind None (length t.flat.items) bytes
+    → 1 + length s.symbols ≤ bytes → t.bytes + bytes ≤ most_bytes → Grows t v s bytes
+declared t d v s bytes tables meant formed which none taken e enough room =
+    let st = statements_of t in
+    let size : length taken.numbers ≡ length s.symbols =
+    sym (length-map taken.numbers _) ∙ ap length taken.named in
+    let no_closing = not_kind s.kind Closing which (λ h. absurd (cc)) (λ h. absurd (cc)) in
+    let no_essential = not_kind s.kind Essential which (λ h. absurd (cc)) (λ h. absurd (cc)) in
+    let no_distinct = not_kind s.kind Distinct which (λ h. absurd (cc)) (λ h. absurd (cc)) in
+    let infos : AreInfos (st ++ s ∷ []) d.symbols.names d.infos.items =
+    subst (λ (u : Sentence). AreInfos (st ++ u ∷ []) d.symbols.names d.infos.items)
+    (same_sentence s s.kind None s.symbols refl (sym none) refl) taken.infos in
+    let all : t.symbols.names ++ taken.added ≡ _ = sym taken.names ∙ infos.all in
+    let scopes : HaveScopes st d.scopes =
+    subst (λ (u : Tables). HaveScopes st u.scopes) (sym taken.others) tables.scopes in
+    unlabelled_grows t v s taken.added taken.numbers bytes tables (record {
+      label = none;
+      meant = meant;
+      formed = formed;
+      symbols = e.symbols ∙ taken.names;
+      said = rw (← taken.names) taken.named;
+      within = rw (← taken.names) taken.within;
+      infos = rw (e.symbols, e.infos) infos;
+      labels = e.labels ∙ ap (λ (u : Tables). u.labels.names) taken.others;
+      named = e.named ∙ ap (λ (u : Tables). u.named.items) taken.others;
+      log = rw (← taken.flat) (e.log ∙ ap (λ (u : Tables). u.log.items
+          ++ entry_of s.kind None (length t.flat.items) (length d.flat.items) ∷ []) taken.others);
+      flat = e.flat ∙ taken.flat;
+      scopes = e.scopes st s scopes refl (λ is. absurd (no_closing is));
+      essentials = rw (e.essentials ∙ ap (λ (u : Tables). u.essentials.items) taken.others)
+          (essentials_other st _ s tables.essentials no_essential no_closing);
+      hypotheses = e.hypotheses ∙ ap (λ (u : Tables). u.hypotheses.items) taken.others;
+      pairs = e.pairs ∙ ap (λ (u : Tables). u.pairs.items) taken.others;
+      pieces = e.pieces ∙ ap (λ (u : Tables). u.pieces.items) taken.others;
+      stated = rw (
+        e.symbols ∙ taken.names,
+        e.stated ∙ ap (λ (u : Tables). u.distinct.stated) taken.others,
+      )
+          (stated_other st s _ taken.added _ tables.sound.0 tables.infos.all all tables.stated
+          no_distinct);
+      counted = e.counted ∙ ap (λ (u : Tables). u.bytes + bytes) taken.others;
+    }) (omega arith) room
 
 -- the same, where the lists before had less room
 grows_from : (t u v : Tables) (s : Sentence) (bytes : ℕ) → IsSame t u → Grows u v s bytes → Grows t v s bytes

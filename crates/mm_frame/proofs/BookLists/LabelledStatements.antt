@@ -40,9 +40,9 @@ use Rattle.mm_frame.proofs.Names.LabelNumbers.{labelled_few}
 use Rattle.mm_frame.proofs.BookLists.SymbolsAndLabels.{labels_counted, labels_some}
 use Rattle.mm_frame.proofs.BookLists.SymbolsAndLabels.{essentials_essential, essentials_other}
 use Rattle.mm_frame.proofs.BookLists.SymbolsAndLabels.{infos_other, infos_floating}
-use Rattle.mm_frame.proofs.BookLists.GrownLists.{length-sentences, longer, added_part}
+use Rattle.mm_frame.proofs.BookLists.GrownLists.{all_statements, longer, added_part}
 use Rattle.mm_frame.proofs.BookLists.GrownLists.{names_numbered, same_sentence, AreAppended}
-use Rattle.mm_frame.proofs.BookLists.GrownLists.{AreGrown, assembled}
+use Rattle.mm_frame.proofs.BookLists.GrownLists.{assembled}
 use Rattle.mm_frame.proofs.Frames.FrameLaws.{at_place, stated_other, placed, frames_hypothesis}
 use Rattle.mm_frame.proofs.Frames.FrameLaws.{frames_assertion}
 use Rattle.mm_frame.proofs.Frames.FrameTypings.{typings_grow, typings_join}
@@ -55,7 +55,7 @@ pub few_labels : (t : Tables) (bytes : ℕ) → AreTables t → t.bytes + bytes 
 few_labels t bytes are room =
     let counted = labels_counted (statements_of t) t.labels.names t.named.items t.log.items are.labels in
     let few = labelled_few (statements_of t) in
-    let size = length-sentences t.symbols.names t.labels.names t.flat.items t.log.items in
+    let size = all_statements t in
     omega arith
 
 -- the number of the next label
@@ -102,77 +102,86 @@ pub record IsWritten (t : Tables) (s : Sentence) (kind : Kind) (l : List ℕ) (n
   pub meant : IsMeant (statements_of t) s
   pub formed : IsFormedSentence s
 
-appended : (t u v : Tables) (s : Sentence) (kind : Kind) (l : List ℕ) (numbers : List Sym) (frame : FrameParts) (id : LabelId) (a : List Hypothesis) (b : List DistinctPair) (c : List Piece) (bytes : ℕ)
-    → AreTables t → Before t u a b c → Named u v kind l numbers frame id bytes → id.0 ≡ length u.labels.names → IsWritten t s kind l numbers
-    → AreAppended t v [] (l ∷ []) numbers (entry_of kind (Some id) (length t.flat.items) (length (t.flat.items ++ numbers))) s
-appended t u v s kind l numbers frame id a b c bytes are before named number is =
-    let names = rw (← are.infos.all) at is.numbered in
-    let more : t.symbols.names ++ [] ≡ t.symbols.names = append-nil t.symbols.names in
-    let number' : id.0 ≡ length t.labels.names = number ∙ ap length before.labels in
-    let new = label_new (statements_of t) t.labels.names t.named.items t.log.items s l are.labels is.meant is.label in
-    let size = length-append t.labels.names (l ∷ []) in
-    record {
-      symbols = named.symbols ∙ before.symbols ∙ sym more;
-      labels = named.labels ∙ ap (λ ys. with_name ys l) before.labels ∙ new;
-      flat = named.flat ∙ ap (λ ys. ys ++ numbers) before.flat;
-      log = named.log ∙ ap (λ (ys : List Entry). ys ++ entry_of kind (Some id) (length u.flat.items) (length (u.flat.items ++ numbers)) ∷ []) before.log
-          ∙ ap (λ (fs : List Sym). t.log.items ++ entry_of kind (Some id) (length fs) (length (fs ++ numbers)) ∷ []) before.flat;
-      said = same_sentence s kind _ _ (sym is.kinds)
-          (ap (slice_get (t.labels.names ++ l ∷ [])) number' ∙ get_pushed t.labels.names l ∙ sym is.label)
-          (ap (names_by (t.symbols.names ++ [])) (added_part t.flat.items numbers) ∙ ap (λ ys. names_by ys numbers) more ∙ names_numbered t.symbols.names numbers s.symbols names);
-      within = record { ordered = longer t.flat.items numbers; within = omega arith };
-      numbers = λ i n there. subst (λ (ys : List (List ℕ)). n.0 < length ys) (sym more) (numbers_within t.symbols.names numbers s.symbols names i n there);
-      label = λ other same. let e : id ≡ other = cc in let f : id.0 ≡ other.0 = ap (λ (i : LabelId). i.0) e in omega arith;
-    }
-
 -- a statement that declares nothing leaves the symbols as they are
-same_symbols : (t : Tables) (s : Sentence) → AreTables t → declared_by s ≡ [] → t.symbols.names ++ [] ≡ symbols_of (statements_of t ++ s ∷ [])
-same_symbols t s are none = append-nil t.symbols.names ∙ are.infos.all ∙ sym (symbols_push (statements_of t) s ∙ ap (fold with_name (symbols_of (statements_of t))) none)
+same_symbols : (t : Tables) (s : Sentence) → AreTables t → declared_by s ≡ []
+    → t.symbols.names ++ [] ≡ symbols_of (statements_of t ++ s ∷ [])
+same_symbols t s are none = append-nil t.symbols.names ∙ are.infos.all
+    ∙ sym (symbols_push (statements_of t) s ∙ ap (fold with_name (symbols_of (statements_of t))) none)
 
--- the lists once a label and its statement are written, but for infos, essentials and frames
-grown : (t u v : Tables) (s : Sentence) (kind : Kind) (l : List ℕ) (numbers : List Sym) (frame : FrameParts) (id : LabelId) (a : List Hypothesis) (b : List DistinctPair) (c : List Piece) (bytes : ℕ)
-    → AreTables t → Before t u a b c → Named u v kind l numbers frame id bytes → id.0 ≡ length u.labels.names → IsWritten t s kind l numbers
-    → declared_by s ≡ [] → ¬ (kind ≡ Closing) → ¬ (kind ≡ Distinct)
-    → AreInfos (statements_of t ++ s ∷ []) t.symbols.names u.infos.items → AreEssentials (statements_of t ++ s ∷ []) u.essentials.items
-    → AreFrames (statements_of t ++ s ∷ []) (t.hypotheses.items ++ a) (t.pairs.items ++ b) (t.pieces.items ++ c) (t.named.items ++ label_info (length t.log.items) (entry_of kind (Some id) (length t.flat.items) (length (t.flat.items ++ numbers))) frame ∷ [])
-    → HaveTypings (statements_of t) a → AreGrown t v s
-grown t u v s kind l numbers frame id a b c bytes are before named number is none unclosed together infos essentials frames typings =
-    let st = statements_of t in
-    let new = entry_of kind (Some id) (length t.flat.items) (length (t.flat.items ++ numbers)) in
-    let app = appended t u v s kind l numbers frame id a b c bytes are before named number is in
-    let size = length-sentences t.symbols.names t.labels.names t.flat.items t.log.items in
-    let labels = labels_some _ _ _ _ s new l id (label_info (length t.log.items) new frame) are.labels
-    is.label refl (number ∙ ap length before.labels) (sym size) refl refl (sym size) in
-    let held : HaveScopes st u.scopes = rw (before.scopes.blocks, before.scopes.ends, before.scopes.open_blocks) are.scopes in
-    let old = entry_of kind (Some id) (length u.flat.items) (length (u.flat.items ++ numbers)) in
-    let names : v.named.items ≡ t.named.items ++ label_info (length t.log.items) new frame ∷ [] =
-    named.named ∙ ap (λ (ys : List LabelInfo). ys ++ label_info (length u.log.items) old frame ∷ []) before.named
-    ∙ ap (λ (ys : List Entry). t.named.items ++ label_info (length ys) old frame ∷ []) before.log
-    ∙ ap (λ (fs : List Sym). t.named.items ++ label_info (length t.log.items) (entry_of kind (Some id) (length fs) (length (fs ++ numbers))) frame ∷ []) before.flat in
-    let kept = stated_other _ s _ [] _ are.sound.0 are.infos.all (same_symbols _ s are none) are.stated
-    (λ distinct. together (sym is.kinds ∙ distinct)) in
-    record {
-      infos = rw (named.symbols ∙ before.symbols, named.infos) infos;
-      labels = rw (app.labels, names, app.log) labels;
-      scopes = named.scopes st s held is.kinds (λ closes. absurd (unclosed closes));
-      essentials = rw named.essentials essentials;
-      frames = rw (named.hypotheses, before.hypotheses, named.pairs, before.pairs, named.pieces, before.pieces, names) frames;
-      typed = rw (named.hypotheses, before.hypotheses) (typings_grow st (s ∷ []) (t.hypotheses.items ++ a) (typings_join st t.hypotheses.items a are.typed typings));
-      stated = rw (app.symbols, named.stated, before.stated) kept;
-    }
+-- the entry of the statement
+abbrev entry_at_end : Tables → Kind → LabelId → List Sym → Entry
+entry_at_end t kind id numbers =
+    entry_of kind (Some id) (length t.flat.items) (length (t.flat.items ++ numbers))
 
-pub named_grows : (t u v : Tables) (s : Sentence) (kind : Kind) (l : List ℕ) (numbers : List Sym) (frame : FrameParts) (id : LabelId) (a : List Hypothesis) (b : List DistinctPair) (c : List Piece) (bytes : ℕ)
-    → AreTables t → Before t u a b c → Named u v kind l numbers frame id bytes → id.0 ≡ length u.labels.names → IsWritten t s kind l numbers
-    → declared_by s ≡ [] → ¬ (kind ≡ Closing) → ¬ (kind ≡ Distinct)
-    → AreInfos (statements_of t ++ s ∷ []) t.symbols.names u.infos.items → AreEssentials (statements_of t ++ s ∷ []) u.essentials.items
-    → AreFrames (statements_of t ++ s ∷ []) (t.hypotheses.items ++ a) (t.pairs.items ++ b) (t.pieces.items ++ c) (t.named.items ++ label_info (length t.log.items) (entry_of kind (Some id) (length t.flat.items) (length (t.flat.items ++ numbers))) frame ∷ [])
-    → HaveTypings (statements_of t) a → 1 + length numbers ≤ bytes → t.bytes + bytes ≤ most_bytes → Grows t v s bytes
-named_grows t u v s kind l numbers frame id a b c bytes are before named number is none unclosed together infos essentials frames typings enough room =
-    let new = entry_of kind (Some id) (length t.flat.items) (length (t.flat.items ++ numbers)) in
-    assembled t v s new [] (l ∷ []) numbers bytes are is.meant is.formed
-    (appended t u v s kind l numbers frame id a b c bytes are before named number is)
-    (grown t u v s kind l numbers frame id a b c bytes are before named number is none unclosed together infos essentials frames typings)
-    (named.counted ∙ ap (λ n. n + bytes) before.bytes) enough room
+module _ {t u v : Tables} {s : Sentence} {kind : Kind} {l : List ℕ} {numbers : List Sym}
+    {frame : FrameParts} {id : LabelId} {a : List Hypothesis} {b : List DistinctPair}
+    {c : List Piece} {bytes : ℕ} (are : AreTables t) (before : Before t u a b c)
+    (named : Named u v kind l numbers frame id bytes) (number : id.0 ≡ length u.labels.names)
+    (is : IsWritten t s kind l numbers) where
+  appended : AreAppended t v [] (l ∷ []) numbers (entry_at_end t kind id numbers) s
+  appended =
+      let names = rw (← are.infos.all) at is.numbered in
+      let more : t.symbols.names ++ [] ≡ t.symbols.names = append-nil t.symbols.names in
+      let number' : id.0 ≡ length t.labels.names = number ∙ ap length before.labels in
+      let new = label_new (statements_of t) t.labels.names t.named.items t.log.items s l are.labels
+      is.meant is.label in
+      let size = length-append t.labels.names (l ∷ []) in
+      record {
+        symbols = named.symbols ∙ before.symbols ∙ sym more;
+        labels = named.labels ∙ ap (λ ys. with_name ys l) before.labels ∙ new;
+        flat = named.flat ∙ ap (λ ys. ys ++ numbers) before.flat;
+        log = rw (← before.flat, ← before.log) named.log;
+        said = same_sentence s kind _ _ (sym is.kinds)
+            (ap (slice_get (t.labels.names ++ l ∷ [])) number' ∙ get_pushed t.labels.names l
+            ∙ sym is.label)
+            (ap (names_by (t.symbols.names ++ [])) (added_part t.flat.items numbers)
+            ∙ ap (λ ys. names_by ys numbers) more ∙ names_numbered t.symbols.names numbers _ names);
+        within = record { ordered = longer t.flat.items numbers; within = omega arith };
+        numbers = λ i n there.
+            rw more (numbers_within t.symbols.names numbers s.symbols names i n there);
+        label = λ other same. let f : id.0 ≡ other.0 = cc in omega arith;
+      }
+
+  -- the lists hold one statement more, where those of infos, essentials and frames do
+  pub named_grows : declared_by s ≡ [] → ¬ (kind ≡ Closing) → ¬ (kind ≡ Distinct)
+      → AreInfos (statements_of t ++ s ∷ []) t.symbols.names u.infos.items
+      → AreEssentials (statements_of t ++ s ∷ []) u.essentials.items
+      → AreFrames (statements_of t ++ s ∷ []) (t.hypotheses.items ++ a) (t.pairs.items ++ b)
+      (t.pieces.items ++ c)
+      (t.named.items ++ label_info (length t.log.items) (entry_at_end t kind id numbers) frame ∷ [])
+      → HaveTypings (statements_of t) a → 1 + length numbers ≤ bytes
+      → t.bytes + bytes ≤ most_bytes → Grows t v s bytes
+  named_grows none unclosed together infos essentials frames typings enough room =
+      let st = statements_of t in
+      let new = entry_at_end t kind id numbers in
+      let size = all_statements t in
+      let labels = labels_some _ _ _ _ s new l id (label_info (length t.log.items) new frame)
+      are.labels is.label refl (number ∙ ap length before.labels) (sym size) refl refl (sym size) in
+      let held : HaveScopes st u.scopes =
+      rw (before.scopes.blocks, before.scopes.ends, before.scopes.open_blocks) are.scopes in
+      let names : v.named.items ≡ t.named.items ++ label_info (length t.log.items) new frame ∷ [] =
+      rw (← before.flat, ← before.log, ← before.named) named.named in
+      let kept = stated_other _ s _ [] _ are.sound.0 are.infos.all (same_symbols _ s are none)
+      are.stated (λ distinct. together (sym is.kinds ∙ distinct)) in
+      let app = appended in
+      assembled t v s new [] (l ∷ []) numbers bytes are is.meant is.formed app
+      (record {
+        infos = rw (named.symbols ∙ before.symbols, named.infos) infos;
+        labels = rw (app.labels, names, app.log) labels;
+        scopes = named.scopes st s held is.kinds (λ closes. absurd (unclosed closes));
+        essentials = rw named.essentials essentials;
+        frames = rw (
+          named.hypotheses ∙ before.hypotheses,
+          named.pairs ∙ before.pairs,
+          named.pieces ∙ before.pieces,
+          names,
+        ) frames;
+        typed = rw (named.hypotheses ∙ before.hypotheses)
+            (typings_grow st (s ∷ []) (t.hypotheses.items ++ a)
+            (typings_join st t.hypotheses.items a are.typed typings));
+        stated = rw (app.symbols, named.stated, before.stated) kept;
+      })
+      (named.counted ∙ ap (λ n. n + bytes) before.bytes) enough room
 
 no_assertion : (s : Sentence) → IsHypothesis s.kind → ¬ (IsAssertion s.kind)
 no_assertion s (inl is) asserts = elim asserts [ inl e ↦ absurd cc | inr e ↦ absurd cc ]
@@ -184,7 +193,7 @@ hypothesis_frames : (t : Tables) (s : Sentence) (e : Entry) (frame : FrameParts)
 hypothesis_frames t s e frame are other =
     frames_hypothesis (statements_of t) s t.hypotheses.items [] t.pairs.items [] t.pieces.items [] t.named.items (label_info (length t.log.items) e frame)
     (placed (statements_of t) t.labels.names t.named.items t.log.items are.labels) are.frames
-    (sym (length-sentences t.symbols.names t.labels.names t.flat.items t.log.items)) other
+    (sym (all_statements t)) other
 
 -- a `$e`
 pub supposed : (t u v : Tables) (s : Sentence) (l : List ℕ) (numbers : List Sym) (frame : FrameParts) (id : LabelId) (bytes : ℕ)
@@ -194,11 +203,11 @@ pub supposed : (t u v : Tables) (s : Sentence) (l : List ℕ) (numbers : List Sy
 supposed t u v s l numbers frame id bytes are before infos essentials named number is enough room =
     let st = statements_of t in
     let none : declared_by s ≡ [] = ap (λ k. declared_in k s.symbols) is.kinds in
-    let size = length-sentences t.symbols.names t.labels.names t.flat.items t.log.items in
+    let size = all_statements t in
     let known = infos_other _ _ _ s are.infos none (λ floats. let e = is.kinds in absurd (cc)) in
     let active = rw size at (essentials_essential _ _ s are.essentials is.kinds) in
-    named_grows _ _ _ _ _ _ _ _ _ _ _ _ _ are before named number is none (λ e. absurd (cc)) (λ e. absurd (cc))
-    (rw infos known) (rw essentials active) (hypothesis_frames _ s (entry_of Essential (Some id) (length t.flat.items) (length (t.flat.items ++ numbers))) frame are (no_assertion s (inr is.kinds))) (λ i h at. absurd (cc)) enough room
+    named_grows are before named number is none (λ e. absurd (cc)) (λ e. absurd (cc))
+    (rw infos known) (rw essentials active) (hypothesis_frames _ s (entry_at_end t Essential id numbers) frame are (no_assertion s (inr is.kinds))) (λ i h at. absurd (cc)) enough room
 
 -- a `$f`
 pub typed : (t u v : Tables) (s : Sentence) (code x : List ℕ) (n : Sym) (info : SymbolInfo) (l : List ℕ) (numbers : List Sym) (frame : FrameParts) (id : LabelId) (bytes : ℕ)
@@ -209,18 +218,18 @@ pub typed : (t u v : Tables) (s : Sentence) (code x : List ℕ) (n : Sym) (info 
 typed t u v s code x n info l numbers frame id bytes are before says at there infos essentials named number is enough room =
     let st = statements_of t in
     let none : declared_by s ≡ [] = ap (λ k. declared_in k s.symbols) is.kinds in
-    let size = length-sentences t.symbols.names t.labels.names t.flat.items t.log.items in
+    let size = all_statements t in
     let known : AreInfos (st ++ s ∷ []) t.symbols.names (set t.infos.items n.0 (record info { floating = Some (length t.log.items) })) =
     rw size at (infos_floating _ _ _ s code x n.0 info are.infos is.kinds says at there) in
     let active = essentials_other _ _ s are.essentials (λ e. let k = is.kinds in absurd (cc)) (λ e. let k = is.kinds in absurd (cc)) in
-    named_grows _ _ _ _ _ _ _ _ _ _ _ _ _ are before named number is none (λ e. absurd (cc)) (λ e. absurd (cc))
-    (rw infos known) (rw essentials active) (hypothesis_frames _ s (entry_of Floating (Some id) (length t.flat.items) (length (t.flat.items ++ numbers))) frame are (no_assertion s (inl is.kinds))) (λ i h at. absurd (cc)) enough room
+    named_grows are before named number is none (λ e. absurd (cc)) (λ e. absurd (cc))
+    (rw infos known) (rw essentials active) (hypothesis_frames _ s (entry_at_end t Floating id numbers) frame are (no_assertion s (inl is.kinds))) (λ i h at. absurd (cc)) enough room
 
 -- a `$a` or `$p`
 pub asserted : (t u v : Tables) (s : Sentence) (kind : Kind) (l : List ℕ) (numbers : List Sym) (frame : FrameParts) (id : LabelId) (a : List Hypothesis) (b : List DistinctPair) (c : List Piece) (bytes : ℕ)
     → AreTables t → IsAssertion kind → Before t u a b c → u.infos.items ≡ t.infos.items → u.essentials.items ≡ t.essentials.items
     → Named u v kind l numbers frame id bytes → id.0 ≡ length u.labels.names → IsWritten t s kind l numbers
-    → IsFrameInfo (statements_of t ++ s ∷ []) (t.hypotheses.items ++ a) (t.pairs.items ++ b) (t.pieces.items ++ c) (label_info (length t.log.items) (entry_of kind (Some id) (length t.flat.items) (length (t.flat.items ++ numbers))) frame)
+    → IsFrameInfo (statements_of t ++ s ∷ []) (t.hypotheses.items ++ a) (t.pairs.items ++ b) (t.pieces.items ++ c) (label_info (length t.log.items) (entry_at_end t kind id numbers) frame)
     → HaveTypings (statements_of t) a → 1 + length numbers ≤ bytes → t.bytes + bytes ≤ most_bytes → Grows t v s bytes
 asserted t u v s kind l numbers frame id a b c bytes are which before infos essentials named number is framed typings enough room =
     let st = statements_of t in
@@ -231,7 +240,7 @@ asserted t u v s kind l numbers frame id a b c bytes are which before infos esse
     let typeless : ¬ (s.kind ≡ Floating) = λ e. let k = is.kinds in elim which [ inl f ↦ absurd (cc) | inr f ↦ absurd (cc) ] in
     let unsupposed : ¬ (s.kind ≡ Essential) = λ e. let k = is.kinds in elim which [ inl f ↦ absurd (cc) | inr f ↦ absurd (cc) ] in
     let active = essentials_other _ _ s are.essentials unsupposed (λ e. unclosed (sym is.kinds ∙ e)) in
-    named_grows _ _ _ _ _ _ _ _ _ _ _ _ _ are before named number is none unclosed apart
+    named_grows are before named number is none unclosed apart
     (rw infos (infos_other _ _ _ s are.infos none typeless)) (rw essentials active)
     (frames_assertion st s t.hypotheses.items a t.pairs.items b t.pieces.items c t.named.items _
     (placed _ _ _ _ are.labels) are.frames framed) typings enough room
@@ -258,7 +267,7 @@ pub framed : (t : Tables) (s : Sentence) (e : Entry) (places numbers : List ℕ)
     → IsFrameInfo (statements_of t ++ s ∷ []) (t.hypotheses.items ++ a) (t.pairs.items ++ b) (t.pieces.items ++ c) (label_info (length t.log.items) e (part_after t.hypotheses.items a, part_after t.pairs.items b, conclusion))
 framed t s e places numbers old a b c conclusion are at those pairs placed numbered patterned =
     let st = statements_of t in
-    let size = length-sentences t.symbols.names t.labels.names t.flat.items t.log.items in
+    let size = all_statements t in
     let hs : AreHypotheses (at_place (st ++ s ∷ []) (length st)) (map (λ h. h.id.0) a) =
     rw (ids_same old a patterned.same, those.numbers) (hypotheses_from_places st places s [] are.sound.1 at) in
     let all_h = added_part t.hypotheses.items a in

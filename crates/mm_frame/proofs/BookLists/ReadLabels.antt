@@ -27,7 +27,7 @@ use Rattle.mm_frame.proofs.Names.NameNumbers.{get_alike}
 use Rattle.mm_frame.proofs.Names.LabelNumbers.{numbered_get, numbered_within, numbered_unique}
 use Rattle.mm_frame.proofs.Names.LabelNumbers.{numbered_from_get}
 use Rattle.mm_frame.proofs.BookLists.SymbolsAndLabels.{labels_counted}
-use Rattle.mm_frame.proofs.BookLists.GrownLists.{length-sentences, get_sliced}
+use Rattle.mm_frame.proofs.BookLists.GrownLists.{all_statements, get_sliced}
 use Rattle.mm_frame.proofs.Frames.FrameLaws.{at_place}
 use Rattle.mm_frame.proofs.Frames.FrameTypings.{kind_at}
 use Rattle.mm_frame.specs.declared.part.Part.{Part}
@@ -91,7 +91,7 @@ few_hypotheses t place hs tables are =
     let front = length-take-le place st (omega arith) in
     let numbers = same_length (slice_get (labelled_sentences st)) Some _ _ are.numbered in
     let same = length-map hs (λ h. h.id.0) in
-    let all = length-sentences t.symbols.names t.labels.names t.flat.items t.log.items in
+    let all = all_statements t in
     omega arith
 
 -- a labelled statement

@@ -25,7 +25,7 @@ use Rattle.mm_text.proofs.Lists.{get_within, get_set_cases, zip_push, zip_mapped
 use Rattle.mm_text.proofs.Lists.{same_length}
 use Rattle.mm_frame.proofs.Names.NameNumbers.{get_mapped, get_alike}
 use Rattle.mm_frame.proofs.Names.LabelNumbers.{numbered_at, numbered_get}
-use Rattle.mm_frame.proofs.BookLists.GrownLists.{length-sentences, longer, added_part}
+use Rattle.mm_frame.proofs.BookLists.GrownLists.{all_statements, longer, added_part}
 use Rattle.mm_frame.proofs.Frames.MandatoryHypotheses.{place_named}
 use Rattle.mm_frame.proofs.Frames.VariableIndices.{pattern_longer}
 use Rattle.std.proofs.lemmas.Result.{IfOk-weaker}
@@ -76,7 +76,7 @@ pub few_hypotheses : (t : Tables) (log : List Entry) (flat : List Sym) (places :
 few_hypotheses t log flat places hs of =
     let all = hypotheses_counted t log flat places hs of in
     let few = rising_few places (length (statements_of t)) of.are_places.rising of.are_places.within in
-    let size = length-sentences t.symbols.names t.labels.names t.flat.items t.log.items in
+    let size = all_statements t in
     omega arith
 
 -- there is a hypothesis at each place

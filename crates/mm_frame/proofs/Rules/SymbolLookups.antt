@@ -14,7 +14,7 @@ use Rattle.mm_frame.specs.Mirror.Layout.{names_by, sentences_by, sentence_by, st
 use Rattle.mm_frame.specs.Mirror.Layout.{AreEntries, GivesType, IsLatestIn, IsKnown, IsDeclared}
 use Rattle.mm_frame.specs.Mirror.Layout.{AreInfos}
 use Rattle.mm_frame.specs.Mirror.Latest.{IsLatest}
-use Rattle.mm_frame.proofs.BookLists.GrownLists.{sentence_at, get_sliced, length-sentences}
+use Rattle.mm_frame.proofs.BookLists.GrownLists.{sentence_at, get_sliced}
 use Rattle.mm_frame.proofs.BookLists.GrownLists.{few_statements, all_statements}
 use Rattle.mm_text.proofs.Lists.{get_within, contains_from_at, at_from_contains, pushed_cases}
 use Rattle.mm_text.proofs.Lists.{take_next}
@@ -100,7 +100,7 @@ pub entry_within : (t : Tables) (place : ℕ) (s : Sentence)
     → slice_get (statements_of t) place ≡ Some s → place < length t.log.items
 entry_within t place s said =
     let lt = slice_get_within (statements_of t) place s said in
-    let all = length-sentences t.symbols.names t.labels.names t.flat.items t.log.items in
+    let all = all_statements t in
     omega arith
 
 -- what a text's look-up is, by its bytes

@@ -4,7 +4,7 @@ use Rattle.mm_frame.specs.declared.part.Part.{Part}
 use Rattle.mm_frame.specs.Mirror.Patterned.{HaveFirstPatterns, AreNoted}
 use Rattle.std.proofs.lemmas.Option.{slice_get-get_or}
 use Rattle.mm_frame.specs.Mirror.Layout.{statements_of}
-use Rattle.mm_frame.proofs.BookLists.GrownLists.{length-sentences}
+use Rattle.mm_frame.proofs.BookLists.GrownLists.{all_statements}
 use Rattle.mm_text.proofs.Lists.{get_within}
 use Rattle.mm_frame.proofs.Frames.FramePatterns.{longer_more, counted, essential_step, typed_step}
 use Rattle.mm_frame.proofs.Frames.FramePatterns.{variables_same, few_hypotheses}
@@ -65,7 +65,7 @@ symbols_in-requires c =
     let (t, of) = c.requires.mandatory in
     let there = slice_get-get_or c.args.places.now c.loop-i.i 0 c.loop-i-test.true in
     let within = of.are_places.within c.loop-i.i _ there in
-    let all = length-sentences t.symbols.names t.labels.names t.flat.items t.log.items in
+    let all = all_statements t in
     omega (arith, ap length of.log_is)
 
 pub push_pattern-requires-clause-few : goal.push_pattern-requires-clause-few

@@ -41,6 +41,8 @@ returns-clause-ok c = (
       let left = rw (c.enter.ensures.essentials ∙ c.reserve.ensures.same.essentials) at
       (c.forget_inactive.ensures (st ++ s ∷ [])
       (adds.scopes st s c.requires.tables.scopes is (λ k. c.requires.closes)) small) in
-      close_grows _ _ _ c.args.bytes c.requires.tables (search adds)
-      left is unlabelled bare c.requires.closes c.requires.some c.requires.room meant formed,
+      close_grows {members = []} c.requires.tables (search adds)
+      (record { kind = is; label = unlabelled; numbered = rw bare refl; meant = meant; formed = formed })
+      c.requires.some c.requires.room refl (c.enter.ensures.stated ∙ c.reserve.ensures.same.stated)
+      left c.requires.closes,
 )

@@ -9,7 +9,9 @@ returns-in_err-reserve-clause-err c = on_err _ (same_tables _ _ c.requires.table
 pub returns-clause-ok : goal.returns-clause-ok
 returns-clause-ok c = (
   refl,
-  λ s is unlabelled bare meant formed. open_grows _ _ _ _ c.requires.tables
+  λ s is unlabelled bare meant formed. open_grows c.requires.tables
       (adds_block _ _ _ _ _ _ c.reserve.ensures.same c.enter.ensures (omega arith))
-      (c.enter.ensures.essentials ∙ c.reserve.ensures.same.essentials) is unlabelled bare c.requires.some c.requires.room meant formed,
+      (record { kind = is; label = unlabelled; numbered = rw bare refl; meant = meant; formed = formed })
+      c.requires.some c.requires.room refl (c.enter.ensures.stated ∙ c.reserve.ensures.same.stated)
+      (c.enter.ensures.essentials ∙ c.reserve.ensures.same.essentials),
 )

@@ -2,8 +2,7 @@ use Rattle.std.proofs.Common.{◌≡◌, ◌++◌, [], ◌∷◌, length, map, a
 use Rattle.mm_frame.specs.Mirror.Layout.{AreStated, statements_of}
 use Rattle.mm_frame.specs.Mirror.Separated.{stated_at}
 use Rattle.mm_frame.proofs.BookLists.GrownLists.{on_err, same_tables, same_but, all_statements}
-use Rattle.mm_frame.proofs.BookLists.UnlabelledStatements.{IsNewDistinct, has_room, separated}
-use Rattle.mm_frame.proofs.BookLists.UnlabelledStatements.{separated_after}
+use Rattle.mm_frame.proofs.BookLists.UnlabelledStatements.{has_room, distinct_grows, adds_distinct}
 use Rattle.mm_frame.proofs.tables.Tables.separate_pairs.Goals as goal
 use Rattle.mm_frame.proofs.DistinctPairs.StatedPairs.{stated_push}
 use Rattle.mm_frame.proofs.DistinctPairs.AddedPairs.{new_from_paired}
@@ -37,13 +36,11 @@ returns-clause-ok c = (
         wide = before.wide;
       } = e.stated ∙ c.state.ensures
       ∙ rw (c.reserve-2.ensures.stated, same.stated, c.deref.ensures.value, place) refl in
-      let new : IsNewDistinct t s c.args.numbers.now =
-      record { kind = kind; label = label; numbered = numbers; meant = meant; formed = formed } in
-      separated _ _ _ _ _ c.requires.tables c.requires.room c.requires.enough
-      (separated_after _ _ _ _ _ _ c.requires.tables same e)
+      distinct_grows c.requires.tables (adds_distinct _ _ _ _ _ _ same e)
+      (record { kind = kind; label = label; numbered = numbers; meant = meant; formed = formed })
+      c.requires.enough c.requires.room refl (e.essentials ∙ same.essentials)
       (subst (AreStated (st ++ s ∷ []) t.symbols.names) (sym stated)
       (stated_push _ _ _ _ _ c.requires.tables.infos.all
       c.requires.tables.stated kind (new_from_paired _ s t.symbols.names _ _
-      c.requires.tables.infos.all kind meant numbers c.in_ok-pairs.ensures)))
-      new,
+      c.requires.tables.infos.all kind meant numbers c.in_ok-pairs.ensures))),
 )

@@ -1,9 +1,8 @@
-use Rattle.std.proofs.Common.{◌++◌, [], ◌∷◌, ap, sym, ◌∙◌, subst}
+use Rattle.std.proofs.Common.{◌++◌, [], ◌∷◌, ap, sym, ◌∙◌, subst, refl}
 use Rattle.mm_frame.specs.Mirror.Layout.{AreStated, statements_of}
 use Rattle.mm_frame.specs.Mirror.Stated.{AllStated}
 use Rattle.mm_frame.proofs.BookLists.GrownLists.{on_err, same_tables, same_but}
-use Rattle.mm_frame.proofs.BookLists.UnlabelledStatements.{IsNewDistinct, has_room, separated}
-use Rattle.mm_frame.proofs.BookLists.UnlabelledStatements.{separated_after}
+use Rattle.mm_frame.proofs.BookLists.UnlabelledStatements.{has_room, distinct_grows, adds_distinct}
 use Rattle.mm_frame.proofs.tables.Tables.separate_wide.Goals as goal
 use Rattle.mm_frame.proofs.DistinctPairs.StatedPairs.{stated_wide}
 
@@ -29,12 +28,10 @@ returns-clause-ok c = (
       let same = c.reserve.ensures.same in
       let stated = e.stated ∙ c.in_ok-widen.ensures.ok
       ∙ ap (λ (x : AllStated). record { pairs = x.pairs; wide = x.wide ++ w ∷ [] }) same.stated in
-      let new : IsNewDistinct t s c.args.numbers.now =
-      record { kind = kind; label = label; numbered = numbers; meant = meant; formed = formed } in
-      separated _ _ _ _ _ c.requires.tables c.requires.room c.requires.enough
-      (separated_after _ _ _ _ _ _ c.requires.tables same e)
+      distinct_grows c.requires.tables (adds_distinct _ _ _ _ _ _ same e)
+      (record { kind = kind; label = label; numbered = numbers; meant = meant; formed = formed })
+      c.requires.enough c.requires.room refl (e.essentials ∙ same.essentials)
       (subst (AreStated ((statements_of t) ++ s ∷ []) t.symbols.names) (sym stated)
       (stated_wide _ s _ _ _ _ c.requires.tables.infos.all
-      c.requires.tables.stated kind numbers c.in_ok-wide.ensures))
-      new,
+      c.requires.tables.stated kind numbers c.in_ok-wide.ensures)),
 )
