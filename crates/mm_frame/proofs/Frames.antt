@@ -1,8 +1,7 @@
 -- The frame of an assertion: its hypotheses, pairs and patterns.
--- `FrameLaws` first: there is one frame, and it stays what it is as statements are added. How it
--- is made: its hypotheses in `MandatoryHypotheses` and `FrameTypings`, its pairs in `MandatoryPairs`,
--- its patterns in `FramePatterns`, over `VariableIndices`. `Frame` and `Scheme` rest on them, with
--- the law `one_frame`.
+-- `FrameLaws` first: there is one frame, and it stays what it is as statements are added. The
+-- others say how it is made: its hypotheses, their typings and patterns, and its pairs. `Frame` and
+-- `Scheme` rest on them, with the law `one_frame`.
 pub mod FrameLaws
 pub mod MandatoryHypotheses
 pub mod FrameTypings

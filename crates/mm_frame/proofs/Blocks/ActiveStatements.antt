@@ -25,30 +25,6 @@ pub unclosed_shorter : (xs : List Sentence) (n m x : ℕ) → n ≤ m → IsUncl
 unclosed_shorter xs n m x le still =
     subst (λ ys. IsUnclosed ys x) (take-take n m xs le) (unclosed_front (take m xs) n x still)
 
--- a block is open after the front that ends with its `$}` or earlier
-unclosed_until : (never : ℕ) (st : List Sentence) (blocks ends stack : List ℕ) → (a : AreScopes never st blocks ends stack) → (b x c q : ℕ) → slice_get a.starts b ≡ Some x → slice_get ends b ≡ Some c
-    → q ≤ length st → q ≤ c → IsUnclosed (take q st) x
-unclosed_until never st blocks ends stack a b x c q begins ends_at le until =
-    elim (a.ended b x c begins ends_at) [
-      | inl (is_never, k, on) ↦
-          let h = a.on_stack k b on in
-          let same : h.start ≡ x = let there = h.there in cc in
-          unclosed_front st q x (subst (λ y. IsUnclosed st y) same h.unclosed)
-      | inr end ↦ unclosed_shorter st q c x until end.before
-    ]
-
--- a block that is open after a front has its `$}` no earlier
-until_unclosed : (never : ℕ) (st : List Sentence) (blocks ends stack : List ℕ) → (a : AreScopes never st blocks ends stack) → (b x c q : ℕ) → slice_get a.starts b ≡ Some x → slice_get ends b ≡ Some c
-    → q ≤ length st → length st ≤ never → IsUnclosed (take q st) x → q ≤ c
-until_unclosed never st blocks ends stack a b x c q begins ends_at le room still =
-    elim (a.ended b x c begins ends_at) [
-      | inl (is_never, k, on) ↦ omega arith
-      | inr end ↦ elim (cases_lt c q) [
-        | inl lt ↦ absurd (end.after (unclosed_shorter st (suc c) q x (omega arith) still))
-        | inr ge ↦ ge
-      ]
-    ]
-
 -- what a block holds in a front, where the front holds the statement
 pub holds_kept : (st : List Sentence) (q p outer : ℕ) → p < q → Holds (take q st) outer p → Holds st outer p
 holds_kept st q p outer lt (before, still) = (before, rw (take-take (suc p) q st (omega arith)) at still)
@@ -56,47 +32,74 @@ holds_kept st q p outer lt (before, still) = (before, rw (take-take (suc p) q st
 pub holds_back : (st : List Sentence) (q p outer : ℕ) → p < q → Holds st outer p → Holds (take q st) outer p
 holds_back st q p outer lt (before, still) = (before, rw (take-take (suc p) q st (omega arith)) still)
 
--- the statement is active, while the block that directly holds it is open
-pub active_while : (never : ℕ) (st : List Sentence) (blocks ends stack : List ℕ) → AreScopes never st blocks ends stack → (p q b c : ℕ) → slice_get blocks p ≡ Some b → slice_get ends b ≡ Some c
-    → p < q → q ≤ length st → q ≤ c → IsActive (take q st) p
-active_while never st blocks ends stack a p q b c holder ends_at lt le until =
-    let h = a.holders p b holder in
-    let x = h.start in
-    record {
-      within = let e = length-take-le q st le in omega arith;
-      kept = λ outer holds.
-          let held = holds_kept st q p outer lt holds in
-          let opened = held.1 in
-          let there = get_from_front st (suc p) outer opened.opening opened.there in
-          open_in opened (get_in_front st q outer opened.opening (omega arith) there)
-          (unclosed_outer (take q st) x (suc outer) (h.nearest outer held)
-          (rw (take-take x q st (omega arith)) (unclosed_shorter st x (suc p) (suc outer) (omega arith) opened.unclosed))
-          (unclosed_until _ _ _ _ _ a b x c q h.there ends_at le until));
-    }
+module _ {never : ℕ} {st : List Sentence} {blocks ends stack : List ℕ}
+    (a : AreScopes never st blocks ends stack) where
+  -- a block is open after the front that ends with its `$}` or earlier
+  unclosed_until : (b x c q : ℕ) → slice_get a.starts b ≡ Some x → slice_get ends b ≡ Some c
+      → q ≤ length st → q ≤ c → IsUnclosed (take q st) x
+  unclosed_until b x c q begins ends_at le until =
+      elim (a.ended b x c begins ends_at) [
+        | inl (is_never, k, on) ↦
+            let h = a.on_stack k b on in
+            let same : h.start ≡ x = let there = h.there in cc in
+            unclosed_front st q x (subst (λ y. IsUnclosed st y) same h.unclosed)
+        | inr end ↦ unclosed_shorter st q c x until end.before
+      ]
 
-pub while_active : (never : ℕ) (st : List Sentence) (blocks ends stack : List ℕ) → AreScopes never st blocks ends stack → length st ≤ never → (p q b c : ℕ) → slice_get blocks p ≡ Some b → slice_get ends b ≡ Some c
-    → p < q → q ≤ length st → IsActive (take q st) p → q ≤ c
-while_active never st blocks ends stack a room p q b c holder ends_at lt le active =
-    let h = a.holders p b holder in
-    until_unclosed _ _ _ _ _ a b h.start c q h.there ends_at le room (still never st blocks ends stack a p q b h.start h.there lt le h.before h.unclosed active)
-  where
-    still : (never : ℕ) (st : List Sentence) (blocks ends stack : List ℕ) → (a : AreScopes never st blocks ends stack) → (p q b x : ℕ) → slice_get a.starts b ≡ Some x
-        → p < q → q ≤ length st → x ≤ p → IsUnclosed (take (suc p) st) x → IsActive (take q st) p → IsUnclosed (take q st) x
-    still never st blocks ends stack a p q zero x begins lt le before unclosed active =
-        let h = a.on_stack 0 0 a.bottom in
-        let same : h.start ≡ x = let there = h.there in cc in
-        unclosed_front st q x (rw same at h.unclosed)
-    still never st blocks ends stack a p q (suc b) x begins lt le before unclosed active =
-        let begun = a.begun b x begins in
-        let next = begun.next in
-        let outer = begun.place in
-        let opened : IsOpen (take (suc p) st) outer = record {
-          opening = begun.opening;
-          there = get_in_front st (suc p) outer begun.opening (omega arith) begun.there;
-          opened = begun.opened;
-          unclosed = rw next at unclosed;
-        } in
-        rw next (active.kept outer (holds_back st q p outer lt (omega arith, opened))).unclosed
+  -- a block that is open after a front has its `$}` no earlier
+  until_unclosed : (b x c q : ℕ) → slice_get a.starts b ≡ Some x → slice_get ends b ≡ Some c
+      → q ≤ length st → length st ≤ never → IsUnclosed (take q st) x → q ≤ c
+  until_unclosed b x c q begins ends_at le room still =
+      elim (a.ended b x c begins ends_at) [
+        | inl (is_never, k, on) ↦ omega arith
+        | inr end ↦ elim (cases_lt c q) [
+          | inl lt ↦ absurd (end.after (unclosed_shorter st (suc c) q x (omega arith) still))
+          | inr ge ↦ ge
+        ]
+      ]
+
+  -- the statement is active, while the block that directly holds it is open
+  pub active_while : (p q b c : ℕ) → slice_get blocks p ≡ Some b → slice_get ends b ≡ Some c → p < q
+      → q ≤ length st → q ≤ c → IsActive (take q st) p
+  active_while p q b c holder ends_at lt le until =
+      let h = a.holders p b holder in
+      let x = h.start in
+      record {
+        within = let e = length-take-le q st le in omega arith;
+        kept = λ outer holds.
+            let held = holds_kept st q p outer lt holds in
+            let opened = held.1 in
+            let there = get_from_front st (suc p) outer opened.opening opened.there in
+            open_in opened (get_in_front st q outer opened.opening (omega arith) there)
+            (unclosed_outer (take q st) x (suc outer) (h.nearest outer held)
+            (rw (take-take x q st (omega arith)) (unclosed_shorter st x (suc p) (suc outer) (omega arith) opened.unclosed))
+            (unclosed_until b x c q h.there ends_at le until));
+      }
+
+  pub while_active : length st ≤ never → (p q b c : ℕ) → slice_get blocks p ≡ Some b
+      → slice_get ends b ≡ Some c → p < q → q ≤ length st → IsActive (take q st) p → q ≤ c
+  while_active room p q b c holder ends_at lt le active =
+      let h = a.holders p b holder in
+      until_unclosed b h.start c q h.there ends_at le room
+      (still p q b h.start h.there lt le h.before h.unclosed active)
+    where
+      still : (p q b x : ℕ) → slice_get a.starts b ≡ Some x → p < q → q ≤ length st → x ≤ p
+          → IsUnclosed (take (suc p) st) x → IsActive (take q st) p → IsUnclosed (take q st) x
+      still p q zero x begins lt le before unclosed active =
+          let h = a.on_stack 0 0 a.bottom in
+          let same : h.start ≡ x = let there = h.there in cc in
+          unclosed_front st q x (rw same at h.unclosed)
+      still p q (suc b) x begins lt le before unclosed active =
+          let begun = a.begun b x begins in
+          let next = begun.next in
+          let outer = begun.place in
+          let opened : IsOpen (take (suc p) st) outer = record {
+            opening = begun.opening;
+            there = get_in_front st (suc p) outer begun.opening (omega arith) begun.there;
+            opened = begun.opened;
+            unclosed = rw next at unclosed;
+          } in
+          rw next (active.kept outer (holds_back st q p outer lt (omega arith, opened))).unclosed
 
 -- ==== what stays active, without numbers of blocks
 

@@ -11,6 +11,7 @@ use Rattle.mm_frame.proofs.Blocks.NumberedBlocks.{openings-append, closings-appe
 use Rattle.mm_frame.proofs.Blocks.NumberedBlocks.{closings_one, unclosed_pushed, unclosed_all}
 use Rattle.mm_frame.proofs.Blocks.NumberedBlocks.{unclosed_new, unclosed_front, open_in}
 use Rattle.mm_frame.proofs.Blocks.NumberedBlocks.{length_pushed, open_before, opened_last}
+use Rattle.mm_frame.proofs.Blocks.NumberedBlocks.{rising_grown}
 use Rattle.std.proofs.lemmas.Bool.{cases_lt}
 use Rattle.std.proofs.lemmas.Option.{slice_get_within}
 use Rattle.std.proofs.lemmas.List.{drop-append-le, drop-drop}
@@ -271,7 +272,7 @@ Counted st = (places : List ℕ) × AreOpen st places × (close_marks st + lengt
 
 open_stay : (st : List Sentence) (e : Sentence) (places : List ℕ) → ¬ (e.kind ≡ Closing) → ¬ (e.kind ≡ Opening) → AreOpen st places → AreOpen (st ++ e ∷ []) places
 open_stay st e places other ordinary a = record {
-  rising = λ i j p q at_i at_j lt. a.rising i j p q at_i at_j lt;
+  rising = a.rising;
   each = λ p. (
     (λ still. elim ((opening_law st e p other).0 still) [
       | inl before ↦ (a.each p).0 before
@@ -284,7 +285,7 @@ open_stay st e places other ordinary a = record {
 open_more : (st : List Sentence) (e : Sentence) (places : List ℕ) → ¬ (e.kind ≡ Closing) → e.kind ≡ Opening → AreOpen st places
     → AreOpen (st ++ e ∷ []) (places ++ length st ∷ [])
 open_more st e places other kind a = record {
-  rising = λ i j p q at_i at_j lt. rise i j p q at_i at_j lt;
+  rising = rising_grown places (length st) a.rising within;
   each = λ p. (
     (λ still. elim ((opening_law st e p other).0 still) [
       | inl before ↦
@@ -304,18 +305,6 @@ open_more st e places other kind a = record {
   where
     within : (i p : ℕ) → slice_get places i ≡ Some p → p < length st
     within i p at = let still = (a.each p).1 (contains_from_at places p (i, at)) in slice_get_within st p still.opening still.there
-
-    rise : (i j p q : ℕ) → slice_get (places ++ length st ∷ []) i ≡ Some p → slice_get (places ++ length st ∷ []) j ≡ Some q → i < j → p < q
-    rise i j p q at_i at_j lt = elim (pushed_cases places (length st) i p at_i) [
-      | inl one ↦ elim (pushed_cases places (length st) j q at_j) [
-        | inl other ↦ a.rising i j p q one other lt
-        | inr (last, same) ↦ let h = within i p one in omega arith
-      ]
-      | inr (last, same) ↦ elim (pushed_cases places (length st) j q at_j) [
-        | inl other ↦ let h = slice_get_within places j q other in absurd (omega arith)
-        | inr (end, again) ↦ absurd (omega arith)
-      ]
-    ]
 
 -- the last of the places is that of the innermost block
 last_innermost : (st : List Sentence) (places : List ℕ) (k m : ℕ) → length places ≡ suc k → slice_get places k ≡ Some m → AreOpen st places → IsInnermostOpen st m

@@ -11,7 +11,9 @@ use Rattle.std.proofs.lemmas.Bool.{cases_lt, cases_order}
 use Rattle.mm_frame.specs.Sentence.{Sentence}
 use Rattle.mm_frame.specs.Active.{open_marks, close_marks, IsOpen}
 use Rattle.mm_text.specs.Blocks.{is_closing, is_opening}
+use Rattle.mm_frame.specs.Mirror.Gathered.{AreRisingPlaces}
 use Rattle.mm_frame.specs.Mirror.Scopes.{IsUnclosed, IsBegun, IsEnd, IsOnStack, DirectlyHolds}
+use Rattle.mm_frame.specs.Mirror.Gathered.{AreRisingPlaces}
 use Rattle.mm_frame.specs.Mirror.Scopes.{AreScopes}
 use Rattle.std.proofs.lemmas.Option.{slice_get_within}
 use Rattle.mm_text.specs.declared.statement.Kind.TheVariants.{Opening, Closing}
@@ -193,8 +195,8 @@ start_within never xs blocks ends stack a (suc b) x there =
     omega arith
 
 -- the last block on the stack begins after each other block on it
-innermost : (starts stack : List ℕ) (k top x j b outer : ℕ) → ((a b x y : ℕ) → slice_get starts a ≡ Some x → slice_get starts b ≡ Some y → a < b → x < y)
-    → ((j k a b : ℕ) → slice_get stack j ≡ Some a → slice_get stack k ≡ Some b → j < k → a < b) → length stack ≡ suc k → slice_get stack k ≡ Some top
+innermost : (starts stack : List ℕ) (k top x j b outer : ℕ) → AreRisingPlaces starts
+    → AreRisingPlaces stack → length stack ≡ suc k → slice_get stack k ≡ Some top
     → slice_get starts top ≡ Some x → slice_get stack j ≡ Some b → slice_get starts b ≡ Some (suc outer) → outer < x
 innermost starts stack k top x j b outer rising stacked size last there on begins =
     let lt = slice_get_within stack j b on in
@@ -268,8 +270,8 @@ scopes_ordinary never xs e blocks ends stack k top a size last not_opening not_c
     }
 
 -- the elements of a list and one more rise, where the one more is above all
-rising_grown : (xs : List ℕ) (y : ℕ) → ((j k a b : ℕ) → slice_get xs j ≡ Some a → slice_get xs k ≡ Some b → j < k → a < b) → ((k a : ℕ) → slice_get xs k ≡ Some a → a < y)
-    → (j k a b : ℕ) → slice_get (xs ++ y ∷ []) j ≡ Some a → slice_get (xs ++ y ∷ []) k ≡ Some b → j < k → a < b
+pub rising_grown : (xs : List ℕ) (y : ℕ) → AreRisingPlaces xs
+    → ((k a : ℕ) → slice_get xs k ≡ Some a → a < y) → AreRisingPlaces (xs ++ y ∷ [])
 rising_grown xs y rising below j k a b at_j at_k lt =
     elim (pushed_cases xs y k b at_k) [
       | inl k_before ↦

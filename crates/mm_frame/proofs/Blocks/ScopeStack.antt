@@ -1,6 +1,6 @@
 -- What the scopes' code does with the stack of open blocks.
 use Rattle.std.proofs.Common.{◌≡◌, ◌↔◌, ℕ, zero, suc, ◌-◌, ◌<◌, ◌≤◌, length, List, Some, subst}
-use Rattle.std.proofs.Common.{arith, slice_get, ◌+◌, drop, IsTrue, IsSome, false, leb, take, set}
+use Rattle.std.proofs.Common.{arith, slice_get, ◌+◌, IsTrue, IsSome, false, leb, take, set}
 use Rattle.std.proofs.Common.{[], ◌∷◌, ◌++◌, Option, None, refl, sym, ap, ◌∙◌, rules}
 use Rattle.std.proofs.Common.{option_to_list, append_assoc, append-nil}
 use Rattle.std.proofs.lemmas.Option.{slice_get_within}
@@ -19,84 +19,97 @@ use Rattle.mm_frame.specs.Mirror.Forgotten.{AreForgotten}
 -- ==== what the stack of open blocks tells: the depth, whether a block is open, and how many blocks
 -- there can be
 
--- the open blocks are one more than the `${` that no `$}` has closed
-pub scope_depth : (never : ℕ) (st : List Sentence) (blocks ends stack : List ℕ) → AreScopes never st blocks ends stack → (length stack ≡ suc (open_marks st - close_marks st)) × (close_marks st ≤ open_marks st)
-scope_depth never st blocks ends stack a =
-    let h = a.on_stack 0 0 a.bottom in
-    let same : h.start ≡ 0 = let there = h.there in cc in
-    let sum : open_marks st + 1 ≡ close_marks st + length stack =
-    subst (λ x. open_marks (drop x st) + 1 ≡ close_marks (drop x st) + length stack) same h.above in
-    let lt = slice_get_within stack 0 0 a.bottom in
-    (omega arith, omega arith)
+module _ {never : ℕ} {st : List Sentence} {blocks ends stack : List ℕ}
+    (a : AreScopes never st blocks ends stack) where
+  -- the open blocks are one more than the `${` that no `$}` has closed
+  pub scope_depth : (length stack ≡ suc (open_marks st - close_marks st))
+      × (close_marks st ≤ open_marks st)
+  scope_depth =
+      let h = a.on_stack 0 0 a.bottom in
+      let same : h.start ≡ 0 = let there = h.there in cc in
+      let sum : open_marks st + 1 ≡ close_marks st + length stack = rw same at h.above in
+      let lt = slice_get_within stack 0 0 a.bottom in
+      (omega arith, omega arith)
 
--- some block is open exactly if more than the whole database stands on the stack
-pub scope_some_open : (never : ℕ) (st : List Sentence) (blocks ends stack : List ℕ) → AreScopes never st blocks ends stack → ((p : ℕ) × IsOpen st p) ↔ (2 ≤ length stack)
-scope_some_open never st blocks ends stack a =
-    let bottom = a.bottom in (
-      (λ (p, still).
-          let (k, b, on, begins) = a.complete p still in
-          above never st blocks ends stack a p k b on begins),
-      (λ enough.
-          let (b, on) = get_within stack 1 (omega arith) in
-          let h = a.on_stack 1 b on in
-          let positive : 0 < b = a.stacked 0 1 0 b bottom on (omega arith) in
-          opened never st blocks ends stack a b h.start positive h.there h.unclosed),
-    )
-  where
-    above : (never : ℕ) (st : List Sentence) (blocks ends stack : List ℕ) → (a : AreScopes never st blocks ends stack) → (p k b : ℕ) → slice_get stack k ≡ Some b → slice_get a.starts b ≡ Some (suc p) → 2 ≤ length stack
-    above never st blocks ends stack a p zero b on begins =
-        let same : b ≡ 0 = cc in
-        absurd (let at = subst (λ m. slice_get a.starts m ≡ Some (suc p)) same begins in cc)
-    above never st blocks ends stack a p (suc k) b on begins = let lt = slice_get_within stack (suc k) b on in omega arith
+  -- some block is open exactly if more than the whole database stands on the stack
+  pub scope_some_open : ((p : ℕ) × IsOpen st p) ↔ (2 ≤ length stack)
+  scope_some_open =
+      let bottom = a.bottom in (
+        (λ (p, still).
+            let (k, b, on, begins) = a.complete p still in
+            above p k b on begins),
+        (λ enough.
+            let (b, on) = get_within stack 1 (omega arith) in
+            let h = a.on_stack 1 b on in
+            let positive : 0 < b = a.stacked 0 1 0 b bottom on (omega arith) in
+            opened b h.start positive h.there h.unclosed),
+      )
+    where
+      above : (p k b : ℕ) → slice_get stack k ≡ Some b → slice_get a.starts b ≡ Some (suc p)
+          → 2 ≤ length stack
+      above p zero b on begins =
+          let bottom = a.bottom in
+          let same : b ≡ 0 = cc in
+          absurd (let at = rw same at begins in let outer = a.outermost in cc)
+      above p (suc k) b on begins =
+          let lt = slice_get_within stack (suc k) b on in omega arith
 
-    opened : (never : ℕ) (st : List Sentence) (blocks ends stack : List ℕ) → (a : AreScopes never st blocks ends stack) → (b x : ℕ) → 0 < b → slice_get a.starts b ≡ Some x → IsUnclosed st x → (p : ℕ) × IsOpen st p
-    opened never st blocks ends stack a zero x positive there still = absurd (omega arith)
-    opened never st blocks ends stack a (suc b) x positive there still =
-        let begun = a.begun b x there in
-        (begun.place, record { opening = begun.opening; there = begun.there; opened = begun.opened; unclosed = subst (λ y. IsUnclosed st y) begun.next still })
+      opened : (b x : ℕ) → 0 < b → slice_get a.starts b ≡ Some x → IsUnclosed st x
+          → (p : ℕ) × IsOpen st p
+      opened zero x positive there still = absurd (omega arith)
+      opened (suc b) x positive there still =
+          let begun = a.begun b x there in (
+            begun.place,
+            record {
+              opening = begun.opening;
+              there = begun.there;
+              opened = begun.opened;
+              unclosed = rw begun.next at still;
+            },
+          )
 
--- ==== what the scopes' code does, in terms of the laws of blocks by numbers
+  -- the stack has a block
+  pub stack_some : (k : ℕ) × (length stack ≡ suc k)
+  stack_some = (length stack - 1, let d = scope_depth in omega (arith, d.0))
 
--- the stack has a block
-pub stack_some : (never : ℕ) (st : List Sentence) (blocks ends stack : List ℕ) → AreScopes never st blocks ends stack → (k : ℕ) × (length stack ≡ suc k)
-stack_some never st blocks ends stack a = (length stack - 1, let d = scope_depth never st blocks ends stack a in omega (arith, d.0))
+  -- what a look-up of a block and its end says
+  pub active_by_end : (p q b c : ℕ) → slice_get blocks p ≡ Some b → slice_get ends b ≡ Some c
+      → length st ≤ never → p < q → q ≤ length st → IsTrue (leb q c) ↔ IsActive (take q st) p
+  active_by_end p q b c there end small lt le = (
+    (λ t. active_while a p q b c there end lt le (search rules)),
+    (λ active.
+        let until : q ≤ c = while_active a small p q b c there end lt le active in
+        search rules),
+  )
 
--- what a look-up of a block and its end says
-pub active_by_end : (never : ℕ) (st : List Sentence) (blocks ends stack : List ℕ) (p q b c : ℕ) → slice_get blocks p ≡ Some b → slice_get ends b ≡ Some c
-    → AreScopes never st blocks ends stack → length st ≤ never → p < q → q ≤ length st → IsTrue (leb q c) ↔ IsActive (take q st) p
-active_by_end never st blocks ends stack p q b c there end a small lt le = (
-  (λ t. active_while never st blocks ends stack a p q b c there end lt le (search rules)),
-  (λ active.
-      let until : q ≤ c = while_active _ _ _ _ _ a small p q b c there end lt le active in
-      search rules),
-)
-
--- each block that holds a statement has an end
-pub no_end : (never : ℕ) (st : List Sentence) (blocks ends stack : List ℕ) (p b : ℕ)
-    → slice_get blocks p ≡ Some b → slice_get ends b ≡ None
-    → AreScopes never st blocks ends stack → ⊥
-no_end never st blocks ends stack p b there none a =
-    let h = a.holders p b there in
-    let lt = slice_get_within a.starts b h.start h.there in
-    let (c, end) = get_within ends b (omega arith) in cc
+  -- each block that holds a statement has an end
+  pub no_end : (p b : ℕ) → slice_get blocks p ≡ Some b → slice_get ends b ≡ None → ⊥
+  no_end p b there none =
+      let h = a.holders p b there in
+      let lt = slice_get_within a.starts b h.start h.there in
+      let (c, end) = get_within ends b (omega arith) in cc
 
 not_opening : (kind : Kind) → ¬ (kind ≡ Opening) → is_opening kind ≡ false
 not_opening Opening apart = absurd (apart refl)
 not_opening kind apart = refl
 
--- after a statement that opens and closes no block
-pub stayed : (never : ℕ) (st : List Sentence) (e : Sentence) (blocks ends stack : List ℕ) (top : ℕ) → ((k : ℕ) → length stack ≡ suc k → slice_get stack k ≡ Some top)
-    → AreScopes never st blocks ends stack → ¬ (e.kind ≡ Opening) → ¬ (e.kind ≡ Closing) → AreScopes never (st ++ e ∷ []) (blocks ++ top ∷ []) ends stack
-stayed never st e blocks ends stack top inner a no_open no_close =
-    let (k, is) = stack_some never st blocks ends stack a in
-    scopes_ordinary never st e blocks ends stack k top a is (inner k is) (not_opening e.kind no_open) (not_closing e.kind no_close)
+module _ {never : ℕ} {st : List Sentence} (e : Sentence) {blocks ends stack : List ℕ}
+    (top : ℕ) (inner : (k : ℕ) → length stack ≡ suc k → slice_get stack k ≡ Some top)
+    (a : AreScopes never st blocks ends stack) where
+  -- after a statement that opens and closes no block
+  pub stayed : ¬ (e.kind ≡ Opening) → ¬ (e.kind ≡ Closing)
+      → AreScopes never (st ++ e ∷ []) (blocks ++ top ∷ []) ends stack
+  stayed no_open no_close =
+      let (k, is) = stack_some a in
+      scopes_ordinary never st e blocks ends stack k top a is (inner k is) (not_opening e.kind no_open) (not_closing e.kind no_close)
 
--- after a `${`
-pub begun : (never : ℕ) (st : List Sentence) (e : Sentence) (blocks ends stack : List ℕ) (top : ℕ) → ((k : ℕ) → length stack ≡ suc k → slice_get stack k ≡ Some top)
-    → AreScopes never st blocks ends stack → e.kind ≡ Opening → AreScopes never (st ++ e ∷ []) (blocks ++ top ∷ []) (ends ++ never ∷ []) (stack ++ length ends ∷ [])
-begun never st e blocks ends stack top inner a opened =
-    let (k, is) = stack_some never st blocks ends stack a in
-    scopes_opening never st e blocks ends stack k top a is (inner k is) opened
+  -- after a `${`
+  pub begun : e.kind ≡ Opening
+      → AreScopes never (st ++ e ∷ []) (blocks ++ top ∷ []) (ends ++ never ∷ [])
+      (stack ++ length ends ∷ [])
+  begun opened =
+      let (k, is) = stack_some a in
+      scopes_opening never st e blocks ends stack k top a is (inner k is) opened
 
 -- a list with an element is the elements before its last, and the last
 pub split_last : (stack below : List ℕ) (popped : Option ℕ) → IsSome popped → stack ≡ below ++ option_to_list popped
@@ -119,7 +132,7 @@ pub closed : (never : ℕ) (st : List Sentence) (e : Sentence) (blocks ends stac
     → AreScopes never st blocks ends stack → e.kind ≡ Closing → close_marks st < open_marks st
     → (top < length ends) × AreScopes never (st ++ e ∷ []) (blocks ++ under ∷ []) (set ends top (length blocks)) below
 closed never st e blocks ends stack below popped top under inner outer split len a is_close more =
-    let d = scope_depth never st blocks ends stack a in
+    let d = scope_depth a in
     let two : 2 ≤ length stack = omega (arith, d.0) in
     let (t, whole, at_end, shorter) = split_last stack below popped (len (omega arith)) split in
     let same : Some top ≡ Some t = sym (inner (length below) (omega arith)) ∙ at_end in

@@ -5,7 +5,7 @@ use Rattle.std.proofs.Common.{◌<◌, take, ◌++◌, ◌∙◌, append-nil, sl
 use Rattle.std.proofs.Common.{◌⊎◌, Contains, slice_range}
 use Rattle.std.specs.List.{AllByRecursion, sum_by}
 use Rattle.std.proofs.lemmas.Result.{IfOk-weaker}
-use Rattle.std.proofs.lemmas.List.{length-map}
+use Rattle.std.proofs.lemmas.List.{length-map, map-append}
 use Rattle.mm_text.specs.declared.token.Token.{Token}
 use Rattle.mm_text.specs.declared.statement.Kind.{Kind}
 use Rattle.mm_text.specs.declared.statement.Kind.TheVariants.{Distinct, Floating, Essential, Axiom}
@@ -33,7 +33,7 @@ use Rattle.std.proofs.lemmas.Option.{slice_get_within}
 use Rattle.mm_frame.specs.declared.tables.SymbolInfo.{SymbolInfo}
 use Rattle.mm_frame.specs.Mirror.Declaring.{IsDeclaration, latest_by, AreNoted, IsNoted, IsAdded}
 use Rattle.mm_frame.specs.Mirror.Declaring.{ChangesSymbols, TakesSymbol, TakesSymbols}
-use Rattle.mm_frame.proofs.Names.NameNumbers.{map_snoc, get_unmapped, declared_from_number}
+use Rattle.mm_frame.proofs.Names.NameNumbers.{get_unmapped, declared_from_number}
 use Rattle.mm_frame.proofs.Names.NameNumbers.{symbols_unique}
 use Rattle.mm_frame.proofs.Blocks.NumberedBlocks.{length_pushed}
 use Rattle.mm_frame.proofs.BookLists.UnlabelledStatements.{unlabelled_grows}
@@ -108,25 +108,27 @@ GrowsBy t v kind label numbers bytes =
     (s : Sentence) → s.kind ≡ kind → s.label ≡ label → AreNumbers (statements_of t) (map (λ n. n.0) numbers) s.symbols
     → IsMeant (statements_of t) s → IsFormedSentence s → Grows t v s bytes
 
-pub labelled_use : {E : Type 0} (r : Result Taken E) (t v : Tables) (s : Statement) (label : Token) (numbers : List Sym) (bytes : ℕ) → s.label ≡ Some label
-    → AreNumbers (statements_of t) (map (λ n. n.0) numbers) (sentence_in s).symbols → IsMeant (statements_of t) (sentence_in s) → HasForm (plain_statement s)
-    → IfOk r (λ taken. TakenAs (statements_of t) s.kind taken × GrowsBy t v s.kind (Some label.text.now) numbers bytes)
-    → IfOk r (λ taken. Grows t v (sentence_in s) bytes × TakenAs (statements_of t) s.kind taken)
-labelled_use r t v s label numbers bytes is are meant form ok = IfOk-weaker r _ _
-    (λ taken (said_as, grows). (grows (sentence_in s) refl (label_said s label is) are meant (formed_said (plain_statement s) form), said_as)) ok
+module _ {E : Type 0} (r : Result Taken E) (t v : Tables) (s : Statement) (numbers : List Sym)
+    (bytes : ℕ)
+    (are : AreNumbers (statements_of t) (map (λ n. n.0) numbers) (sentence_in s).symbols)
+    (meant : IsMeant (statements_of t) (sentence_in s)) (form : HasForm (plain_statement s)) where
+  pub labelled_use : (label : Token) → s.label ≡ Some label
+      → IfOk r (λ taken. TakenAs (statements_of t) s.kind taken × GrowsBy t v s.kind (Some label.text.now) numbers bytes)
+      → IfOk r (λ taken. Grows t v (sentence_in s) bytes × TakenAs (statements_of t) s.kind taken)
+  labelled_use label is ok = IfOk-weaker r _ _
+      (λ taken (said_as, grows). (grows (sentence_in s) refl (label_said s label is) are meant (formed_said (plain_statement s) form), said_as)) ok
 
-pub unlabelled_uses : {E : Type 0} (r : Result Taken E) (t v : Tables) (s : Statement) (numbers : List Sym) (bytes : ℕ) → s.label ≡ None → IsUse s.kind
-    → AreNumbers (statements_of t) (map (λ n. n.0) numbers) (sentence_in s).symbols → IsMeant (statements_of t) (sentence_in s) → HasForm (plain_statement s)
-    → IfOk r (λ taken. (taken ≡ Declared) × GrowsBy t v Distinct None numbers bytes)
-    → IfOk r (λ taken. Grows t v (sentence_in s) bytes × TakenAs (statements_of t) s.kind taken)
-unlabelled_uses r t v s numbers bytes none used are meant form ok =
-    let bare : (plain_statement s).label ≡ None = ap (option_map plain_token) none in
-    let is : s.kind ≡ Distinct = unlabelled_use s.kind (plain_statement s).label form.label used bare in
-    IfOk-weaker r _ _
-    (λ taken (said_as, grows). (
-      grows (sentence_in s) is (ap (option_map (λ (t : PlainToken). t.text)) bare) are meant (formed_said (plain_statement s) form),
-      subst (λ k. TakenAs (statements_of t) k taken) (sym is) said_as,
-    )) ok
+  pub unlabelled_uses : s.label ≡ None → IsUse s.kind
+      → IfOk r (λ taken. (taken ≡ Declared) × GrowsBy t v Distinct None numbers bytes)
+      → IfOk r (λ taken. Grows t v (sentence_in s) bytes × TakenAs (statements_of t) s.kind taken)
+  unlabelled_uses none used ok =
+      let bare : (plain_statement s).label ≡ None = ap (option_map plain_token) none in
+      let is : s.kind ≡ Distinct = unlabelled_use s.kind (plain_statement s).label form.label used bare in
+      IfOk-weaker r _ _
+      (λ taken (said_as, grows). (
+        grows (sentence_in s) is (ap (option_map (λ (t : PlainToken). t.text)) bare) are meant (formed_said (plain_statement s) form),
+        subst (λ k. TakenAs (statements_of t) k taken) (sym is) said_as,
+      )) ok
 
 -- ==== taking the symbols of a `$c` or `$v` in, one after the other
 
@@ -147,7 +149,7 @@ infos_noted st kind symbols xs infos new x n which there = elim which [
 -- the names of numbers, with one more
 names_pushed : (names : List (List ℕ)) (numbers : List Sym) (n : Sym) (x : List ℕ) → slice_get names n.0 ≡ Some x → names_by names (numbers ++ n ∷ []) ≡ names_by names numbers ++ x ∷ []
 names_pushed names numbers n x there =
-    map_snoc (λ (m : Sym). unwrap_or (slice_get names m.0) []) numbers n ∙ ap (λ o. names_by names numbers ++ unwrap_or o [] ∷ []) there
+    map-append (λ (m : Sym). unwrap_or (slice_get names m.0) []) numbers (n ∷ []) ∙ ap (λ o. names_by names numbers ++ unwrap_or o [] ∷ []) there
 
 -- before its symbols are taken in
 pub taken_none : (old : Tables) (kind : Kind) → AreTables old → IsDeclaration kind → TakesSymbols old old kind []
@@ -167,63 +169,6 @@ changed_twice : (old now new : Tables) → ChangesSymbols old now → ChangesSym
 changed_twice old now new one other =
     other ∙ ap (λ (t : Tables). let u : Tables = record t { symbols = new.symbols; infos = new.infos; flat = new.flat } in u) one
 
--- one symbol more
-pub taken_more : (old now new : Tables) (kind : Kind) (xs : List (List ℕ)) (x : List ℕ) (variable : Option ℕ) → AreTables old → IsDeclaration kind → variable ≡ latest_by kind (length old.log.items)
-    → TakesSymbols old now kind xs → TakesSymbol now new x variable → TakesSymbols old new kind (xs ++ x ∷ [])
-taken_more old now new kind xs x variable tables which is taken one = elim one.known [ inl noted ↦ again noted | inr added ↦ first added ]
-  where
-    st : List Sentence
-    st = statements_of old
-
-    latest : variable ≡ latest_by kind (length st)
-    latest = is ∙ ap (latest_by kind) (sym (all_statements old))
-
-    flat : new.flat.items ≡ old.flat.items ++ (taken.numbers ++ one.number ∷ [])
-    flat = one.flat ∙ ap (λ (f : List Sym). f ++ one.number ∷ []) taken.flat ∙ append_assoc old.flat.items taken.numbers (one.number ∷ [])
-
-    within : (names : List (List ℕ)) → length now.symbols.names ≤ length names → one.number.0 < length names
-        → (i : ℕ) (n : Sym) → slice_get (taken.numbers ++ one.number ∷ []) i ≡ Some n → n.0 < length names
-    within names more lt i n there = elim (pushed_cases taken.numbers one.number i n there) [
-      | inl before ↦ let less = taken.within i n before in omega arith
-      | inr (last, same) ↦ rw same at lt
-    ]
-
-    again : IsNoted now new x one.number.0 variable → TakesSymbols old new kind (xs ++ x ∷ [])
-    again noted =
-        let lt = slice_get_within now.symbols.names one.number.0 x noted.there in
-        let infos = infos_noted st kind _ xs _ new.infos.items x one.number.0 which noted.there taken.infos (rw latest at noted.infos) in
-        record {
-          added = taken.added;
-          numbers = taken.numbers ++ one.number ∷ [];
-          names = noted.names ∙ taken.names;
-          flat = flat;
-          named = ap (λ names. names_by names (taken.numbers ++ one.number ∷ [])) noted.names ∙ names_pushed now.symbols.names taken.numbers one.number x noted.there ∙ ap (λ ys. ys ++ x ∷ []) taken.named;
-          within = rw noted.names (within now.symbols.names (omega arith) lt);
-          infos = rw noted.names infos;
-          others = changed_twice old now new taken.others one.others;
-        }
-
-    first : IsAdded now new x one.number.0 variable → TakesSymbols old new kind (xs ++ x ∷ [])
-    first added =
-        let size = length_pushed now.symbols.names x in
-        let next = added.next in
-        let there : slice_get (now.symbols.names ++ x ∷ []) one.number.0 ≡ Some x = rw next (get_pushed now.symbols.names x) in
-        let infos = infos_fresh st kind _ xs _ x _ tables.sound.0 which
-        taken.infos added.fresh (latest_declared st kind _ xs _ x which taken.infos added.fresh) in
-        let news : now.infos.items ++ record { variable = latest_by kind (length st); floating = None } ∷ [] ≡ new.infos.items =
-        sym (added.infos ∙ ap (λ v. now.infos.items ++ record { variable = v; floating = None } ∷ []) latest) in
-        record {
-          added = taken.added ++ x ∷ [];
-          numbers = taken.numbers ++ one.number ∷ [];
-          names = added.names ∙ ap (λ names. names ++ x ∷ []) taken.names ∙ append_assoc old.symbols.names taken.added (x ∷ []);
-          flat = flat;
-          named = ap (λ names. names_by names (taken.numbers ++ one.number ∷ [])) added.names ∙ names_pushed (now.symbols.names ++ x ∷ []) taken.numbers one.number x there
-              ∙ ap (λ ys. ys ++ x ∷ []) (names_same now.symbols.names (x ∷ []) taken.numbers taken.within ∙ taken.named);
-          within = rw added.names (within (now.symbols.names ++ x ∷ []) (omega arith) (omega arith));
-          infos = rw (← news) (rw added.names infos);
-          others = changed_twice old now new taken.others one.others;
-        }
-
 -- the place of a `$v`, and of no other
 pub latest_variable : (kind : Kind) (place : ℕ) → kind ≡ Variables → Some place ≡ latest_by kind place
 latest_variable kind place is = ap (λ k. latest_by k place) (sym is)
@@ -231,14 +176,75 @@ latest_variable kind place is = ap (λ k. latest_by k place) (sym is)
 pub latest_none : (kind : Kind) (place : ℕ) → IsDeclaration kind → ¬ (kind ≡ Variables) → None ≡ latest_by kind place
 latest_none kind place which other = elim which [ inl c ↦ ap (λ k. latest_by k place) (sym c) | inr v ↦ absurd (other v) ]
 
--- the symbols that were taken in, with one more
-pub taken_next : (old now new : Tables) (kind : Kind) (xs : List (List ℕ)) (i : ℕ) (x : List ℕ) (variable : Option ℕ) → AreTables old → IsDeclaration kind
-    → variable ≡ latest_by kind (length old.log.items) → slice_get xs i ≡ Some x
-    → TakesSymbols old now kind (take i xs) → TakesSymbol now new x variable → TakesSymbols old new kind (take (i + 1) xs)
-taken_next old now new kind xs i x variable tables which is there taken one =
-    let more : suc i ≡ i + 1 = omega arith in
-    let next : take i xs ++ x ∷ [] ≡ take (i + 1) xs = sym (take_next xs i x there) ∙ ap (λ (k : ℕ). take k xs) more in
-    subst (λ (ys : List (List ℕ)). TakesSymbols old new kind ys) next (taken_more old now new kind (take i xs) x variable tables which is taken one)
+module _ {old now new : Tables} {kind : Kind} {x : List ℕ} {variable : Option ℕ}
+    (tables : AreTables old) (which : IsDeclaration kind)
+    (is : variable ≡ latest_by kind (length old.log.items))
+    (one : TakesSymbol now new x variable) where
+  -- one symbol more
+  pub taken_more : (xs : List (List ℕ)) → TakesSymbols old now kind xs
+      → TakesSymbols old new kind (xs ++ x ∷ [])
+  taken_more xs taken = elim one.known [ inl noted ↦ again noted | inr added ↦ first added ]
+    where
+      st : List Sentence
+      st = statements_of old
+
+      latest : variable ≡ latest_by kind (length st)
+      latest = is ∙ ap (latest_by kind) (sym (all_statements old))
+
+      flat : new.flat.items ≡ old.flat.items ++ (taken.numbers ++ one.number ∷ [])
+      flat = one.flat ∙ ap (λ (f : List Sym). f ++ one.number ∷ []) taken.flat ∙ append_assoc old.flat.items taken.numbers (one.number ∷ [])
+
+      within : (names : List (List ℕ)) → length now.symbols.names ≤ length names → one.number.0 < length names
+          → (i : ℕ) (n : Sym) → slice_get (taken.numbers ++ one.number ∷ []) i ≡ Some n → n.0 < length names
+      within names more lt i n there = elim (pushed_cases taken.numbers one.number i n there) [
+        | inl before ↦ let less = taken.within i n before in omega arith
+        | inr (last, same) ↦ rw same at lt
+      ]
+
+      again : IsNoted now new x one.number.0 variable → TakesSymbols old new kind (xs ++ x ∷ [])
+      again noted =
+          let lt = slice_get_within now.symbols.names one.number.0 x noted.there in
+          let infos = infos_noted st kind _ xs _ new.infos.items x one.number.0 which noted.there taken.infos (rw latest at noted.infos) in
+          record {
+            added = taken.added;
+            numbers = taken.numbers ++ one.number ∷ [];
+            names = noted.names ∙ taken.names;
+            flat = flat;
+            named = ap (λ names. names_by names (taken.numbers ++ one.number ∷ [])) noted.names ∙ names_pushed now.symbols.names taken.numbers one.number x noted.there ∙ ap (λ ys. ys ++ x ∷ []) taken.named;
+            within = rw noted.names (within now.symbols.names (omega arith) lt);
+            infos = rw noted.names infos;
+            others = changed_twice old now new taken.others one.others;
+          }
+
+      first : IsAdded now new x one.number.0 variable → TakesSymbols old new kind (xs ++ x ∷ [])
+      first added =
+          let size = length_pushed now.symbols.names x in
+          let next = added.next in
+          let there : slice_get (now.symbols.names ++ x ∷ []) one.number.0 ≡ Some x = rw next (get_pushed now.symbols.names x) in
+          let infos = infos_fresh st kind _ xs _ x _ tables.sound.0 which
+          taken.infos added.fresh (latest_declared st kind _ xs _ x which taken.infos added.fresh) in
+          let news : now.infos.items ++ record { variable = latest_by kind (length st); floating = None } ∷ [] ≡ new.infos.items =
+          sym (added.infos ∙ ap (λ v. now.infos.items ++ record { variable = v; floating = None } ∷ []) latest) in
+          record {
+            added = taken.added ++ x ∷ [];
+            numbers = taken.numbers ++ one.number ∷ [];
+            names = added.names ∙ ap (λ names. names ++ x ∷ []) taken.names ∙ append_assoc old.symbols.names taken.added (x ∷ []);
+            flat = flat;
+            named = ap (λ names. names_by names (taken.numbers ++ one.number ∷ [])) added.names ∙ names_pushed (now.symbols.names ++ x ∷ []) taken.numbers one.number x there
+                ∙ ap (λ ys. ys ++ x ∷ []) (names_same now.symbols.names (x ∷ []) taken.numbers taken.within ∙ taken.named);
+            within = rw added.names (within (now.symbols.names ++ x ∷ []) (omega arith) (omega arith));
+            infos = rw (← news) (rw added.names infos);
+            others = changed_twice old now new taken.others one.others;
+          }
+
+  -- the symbols that were taken in, with one more
+  pub taken_next : (xs : List (List ℕ)) (i : ℕ) → slice_get xs i ≡ Some x
+      → TakesSymbols old now kind (take i xs) → TakesSymbols old new kind (take (i + 1) xs)
+  taken_next xs i there taken =
+      let more : suc i ≡ i + 1 = omega arith in
+      let next : take i xs ++ x ∷ [] ≡ take (i + 1) xs = sym (take_next xs i x there) ∙ ap (λ (k : ℕ). take k xs) more in
+      subst (λ (ys : List (List ℕ)). TakesSymbols old new kind ys) next (taken_more (take i xs)
+      taken)
 
 -- ==== a book's lists once a `$c` or `$v` was taken in
 

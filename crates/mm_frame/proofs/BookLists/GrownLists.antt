@@ -89,26 +89,31 @@ label_same : (labels more : List (List ℕ)) (label : Option LabelId) → ((id :
 label_same labels more None within = refl
 label_same labels more (Some id) within = get_left labels more id.0 (within id refl)
 
--- what an entry says stays
-pub sentence_same : (symbols labels : List (List ℕ)) (flat : List Sym) (log : List Entry) (a b : List (List ℕ)) (c : List Sym) (place : ℕ) (e : Entry) → AreEntries symbols labels flat log
-    → slice_get log place ≡ Some e → sentence_by (symbols ++ a) (labels ++ b) (flat ++ c) e ≡ sentence_by symbols labels flat e
-sentence_same symbols labels flat log a b c place e entries there =
-    let within = entries.within place e there in
-    let part = slice_left flat c e.symbols.start e.symbols.end within.ordered within.within in
-    same_sentence (sentence_by symbols labels flat e) e.kind _ _ refl
-    (label_same labels b e.label (λ id is. entries.named place e id there is))
-    (ap (names_by (symbols ++ a)) part
-    ∙ names_same symbols a (slice_range flat e.symbols.start e.symbols.end)
-    (λ i n at. let (j, in_flat) = get_sliced flat e.symbols.start e.symbols.end i n at in entries.numbered j n in_flat))
+module _ {symbols labels : List (List ℕ)} {flat : List Sym} {log : List Entry}
+    (a b : List (List ℕ)) (c : List Sym) (entries : AreEntries symbols labels flat log) where
+  -- what an entry says stays
+  pub sentence_same : (place : ℕ) (e : Entry) → slice_get log place ≡ Some e
+      → sentence_by (symbols ++ a) (labels ++ b) (flat ++ c) e ≡ sentence_by symbols labels flat e
+  sentence_same place e there =
+      let within = entries.within place e there in
+      let part = slice_left flat c e.symbols.start e.symbols.end within.ordered within.within in
+      same_sentence (sentence_by symbols labels flat e) e.kind _ _ refl
+      (label_same labels b e.label (λ id is. entries.named place e id there is))
+      (ap (names_by (symbols ++ a)) part
+      ∙ names_same symbols a (slice_range flat e.symbols.start e.symbols.end)
+      (λ i n at. let (j, in_flat) = get_sliced flat e.symbols.start e.symbols.end i n at in entries.numbered j n in_flat))
 
--- one entry more is one statement more
-pub sentences_push : (symbols labels : List (List ℕ)) (flat : List Sym) (log : List Entry) (a b : List (List ℕ)) (c : List Sym) (new : Entry) → AreEntries symbols labels flat log
-    → sentences_by (symbols ++ a) (labels ++ b) (flat ++ c) (log ++ new ∷ []) ≡ sentences_by symbols labels flat log ++ sentence_by (symbols ++ a) (labels ++ b) (flat ++ c) new ∷ []
-unfolding sentences_by
-sentences_push symbols labels flat log a b c new entries =
-    map-append (sentence_by (symbols ++ a) (labels ++ b) (flat ++ c)) log (new ∷ [])
-    ∙ ap (λ ys. ys ++ sentence_by (symbols ++ a) (labels ++ b) (flat ++ c) new ∷ [])
-    (map_agree (sentence_by (symbols ++ a) (labels ++ b) (flat ++ c)) (sentence_by symbols labels flat) log (λ i e there. sentence_same symbols labels flat log a b c i e entries there))
+  -- one entry more is one statement more
+  pub sentences_push : (new : Entry)
+      → sentences_by (symbols ++ a) (labels ++ b) (flat ++ c) (log ++ new ∷ [])
+      ≡ sentences_by symbols labels flat log
+      ++ sentence_by (symbols ++ a) (labels ++ b) (flat ++ c) new ∷ []
+  unfolding sentences_by
+  sentences_push new =
+      map-append (sentence_by (symbols ++ a) (labels ++ b) (flat ++ c)) log (new ∷ [])
+      ∙ ap (λ ys. ys ++ sentence_by (symbols ++ a) (labels ++ b) (flat ++ c) new ∷ [])
+      (map_agree (sentence_by (symbols ++ a) (labels ++ b) (flat ++ c)) (sentence_by symbols labels flat) log (λ i e there. sentence_same
+      i e there))
 
 pub length-sentences : (symbols labels : List (List ℕ)) (flat : List Sym) (log : List Entry) → length (sentences_by symbols labels flat log) ≡ length log
 unfolding sentences_by
@@ -220,7 +225,7 @@ pub record AreAppended (t v : Tables) (a b : List (List ℕ)) (c : List Sym) (ne
 pub assembled : (t v : Tables) (s : Sentence) (new : Entry) (a b : List (List ℕ)) (c : List Sym) (bytes : ℕ) → AreTables t → IsMeant (statements_of t) s → IsFormedSentence s
     → AreAppended t v a b c new s → AreGrown t v s → v.bytes ≡ t.bytes + bytes → 1 + length c ≤ bytes → t.bytes + bytes ≤ most_bytes → Grows t v s bytes
 assembled t v s new a b c bytes tables meant formed app grown counted enough room =
-    let pushed = sentences_push _ _ _ _ a b c new tables.entries in
+    let pushed = sentences_push a b c tables.entries new in
     let st : statements_of v ≡ statements_of t ++ s ∷ [] =
     rw (app.symbols, app.labels, app.flat, app.log) (pushed ∙ ap (λ (x : Sentence). statements_of t ++ x ∷ []) app.said) in
     let logs = length-append t.log.items (new ∷ []) in

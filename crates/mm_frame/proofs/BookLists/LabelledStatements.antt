@@ -191,39 +191,49 @@ no_assertion s (inr is) asserts = elim asserts [ inl e ↦ absurd cc | inr e ↦
 hypothesis_frames : (t : Tables) (s : Sentence) (e : Entry) (frame : FrameParts) → AreTables t → ¬ (IsAssertion s.kind)
     → AreFrames (statements_of t ++ s ∷ []) (t.hypotheses.items ++ []) (t.pairs.items ++ []) (t.pieces.items ++ []) (t.named.items ++ label_info (length t.log.items) e frame ∷ [])
 hypothesis_frames t s e frame are other =
-    frames_hypothesis (statements_of t) s t.hypotheses.items [] t.pairs.items [] t.pieces.items [] t.named.items (label_info (length t.log.items) e frame)
-    (placed (statements_of t) t.labels.names t.named.items t.log.items are.labels) are.frames
-    (sym (all_statements t)) other
+    frames_hypothesis _ s t.hypotheses.items [] t.pairs.items [] t.pieces.items [] t.named.items
+    (placed _ _ _ _ are.labels) are.frames _ (sym (all_statements t)) other
 
--- a `$e`
-pub supposed : (t u v : Tables) (s : Sentence) (l : List ℕ) (numbers : List Sym) (frame : FrameParts) (id : LabelId) (bytes : ℕ)
-    → AreTables t → Before t u [] [] [] → u.infos.items ≡ t.infos.items → u.essentials.items ≡ t.essentials.items ++ length t.log.items ∷ []
-    → Named u v Essential l numbers frame id bytes → id.0 ≡ length u.labels.names → IsWritten t s Essential l numbers
-    → 1 + length numbers ≤ bytes → t.bytes + bytes ≤ most_bytes → Grows t v s bytes
-supposed t u v s l numbers frame id bytes are before infos essentials named number is enough room =
-    let st = statements_of t in
-    let none : declared_by s ≡ [] = ap (λ k. declared_in k s.symbols) is.kinds in
-    let size = all_statements t in
-    let known = infos_other _ _ _ s are.infos none (λ floats. let e = is.kinds in absurd (cc)) in
-    let active = rw size at (essentials_essential _ _ s are.essentials is.kinds) in
-    named_grows are before named number is none (λ e. absurd (cc)) (λ e. absurd (cc))
-    (rw infos known) (rw essentials active) (hypothesis_frames _ s (entry_at_end t Essential id numbers) frame are (no_assertion s (inr is.kinds))) (λ i h at. absurd (cc)) enough room
+module _ {t u v : Tables} {s : Sentence} {kind : Kind} {l : List ℕ} {numbers : List Sym}
+    {frame : FrameParts} {id : LabelId} {bytes : ℕ} (are : AreTables t)
+    (before : Before t u [] [] []) (named : Named u v kind l numbers frame id bytes)
+    (number : id.0 ≡ length u.labels.names) (is : IsWritten t s kind l numbers)
+    (enough : 1 + length numbers ≤ bytes) (room : t.bytes + bytes ≤ most_bytes) where
+  -- a `$e` or a `$f`
+  hypothesis_grows : IsHypothesis kind
+      → AreInfos (statements_of t ++ s ∷ []) t.symbols.names u.infos.items
+      → AreEssentials (statements_of t ++ s ∷ []) u.essentials.items → Grows t v s bytes
+  hypothesis_grows which infos essentials =
+      let own = is.kinds in
+      named_grows are before named number is
+      (elim which [ inl e ↦ rw (own ∙ e) refl | inr e ↦ rw (own ∙ e) refl ])
+      (λ closes. elim which [ inl e ↦ absurd (cc) | inr e ↦ absurd (cc) ])
+      (λ closes. elim which [ inl e ↦ absurd (cc) | inr e ↦ absurd (cc) ])
+      infos essentials
+      (hypothesis_frames _ s (entry_at_end t kind id numbers) frame are
+      (no_assertion s (rw own which))) (λ i h at. absurd (cc)) enough room
 
--- a `$f`
-pub typed : (t u v : Tables) (s : Sentence) (code x : List ℕ) (n : Sym) (info : SymbolInfo) (l : List ℕ) (numbers : List Sym) (frame : FrameParts) (id : LabelId) (bytes : ℕ)
-    → AreTables t → Before t u [] [] [] → s.symbols ≡ code ∷ x ∷ [] → slice_get t.symbols.names n.0 ≡ Some x → slice_get t.infos.items n.0 ≡ Some info
-    → u.infos.items ≡ set t.infos.items n.0 (record info { floating = Some (length t.log.items) }) → u.essentials.items ≡ t.essentials.items
-    → Named u v Floating l numbers frame id bytes → id.0 ≡ length u.labels.names → IsWritten t s Floating l numbers
-    → 1 + length numbers ≤ bytes → t.bytes + bytes ≤ most_bytes → Grows t v s bytes
-typed t u v s code x n info l numbers frame id bytes are before says at there infos essentials named number is enough room =
-    let st = statements_of t in
-    let none : declared_by s ≡ [] = ap (λ k. declared_in k s.symbols) is.kinds in
-    let size = all_statements t in
-    let known : AreInfos (st ++ s ∷ []) t.symbols.names (set t.infos.items n.0 (record info { floating = Some (length t.log.items) })) =
-    rw size at (infos_floating _ _ _ s code x n.0 info are.infos is.kinds says at there) in
-    let active = essentials_other _ _ s are.essentials (λ e. let k = is.kinds in absurd (cc)) (λ e. let k = is.kinds in absurd (cc)) in
-    named_grows are before named number is none (λ e. absurd (cc)) (λ e. absurd (cc))
-    (rw infos known) (rw essentials active) (hypothesis_frames _ s (entry_at_end t Floating id numbers) frame are (no_assertion s (inl is.kinds))) (λ i h at. absurd (cc)) enough room
+  -- a `$e`
+  pub supposed : kind ≡ Essential → u.infos.items ≡ t.infos.items
+      → u.essentials.items ≡ t.essentials.items ++ length t.log.items ∷ [] → Grows t v s bytes
+  supposed kind infos essentials =
+      let own = is.kinds ∙ kind in
+      hypothesis_grows (inr kind)
+      (rw infos (infos_other _ _ _ s are.infos (rw own refl) (λ floats. absurd (cc))))
+      (rw essentials (rw (all_statements t) at (essentials_essential _ _ s are.essentials own)))
+
+  -- a `$f`
+  pub typed : (code x : List ℕ) (n : Sym) (info : SymbolInfo) → kind ≡ Floating
+      → s.symbols ≡ code ∷ x ∷ [] → slice_get t.symbols.names n.0 ≡ Some x
+      → slice_get t.infos.items n.0 ≡ Some info
+      → u.infos.items ≡ set t.infos.items n.0 (record info { floating = Some (length t.log.items) })
+      → u.essentials.items ≡ t.essentials.items → Grows t v s bytes
+  typed code x n info kind says at there infos essentials =
+      let own = is.kinds ∙ kind in
+      hypothesis_grows (inl kind)
+      (rw infos (rw (all_statements t) at
+      (infos_floating _ _ _ s code x n.0 info are.infos own says at there)))
+      (rw essentials (essentials_other _ _ s are.essentials (λ e. absurd (cc)) (λ e. absurd (cc))))
 
 -- a `$a` or `$p`
 pub asserted : (t u v : Tables) (s : Sentence) (kind : Kind) (l : List ℕ) (numbers : List Sym) (frame : FrameParts) (id : LabelId) (a : List Hypothesis) (b : List DistinctPair) (c : List Piece) (bytes : ℕ)
@@ -242,8 +252,8 @@ asserted t u v s kind l numbers frame id a b c bytes are which before infos esse
     let active = essentials_other _ _ s are.essentials unsupposed (λ e. unclosed (sym is.kinds ∙ e)) in
     named_grows are before named number is none unclosed apart
     (rw infos (infos_other _ _ _ s are.infos none typeless)) (rw essentials active)
-    (frames_assertion st s t.hypotheses.items a t.pairs.items b t.pieces.items c t.named.items _
-    (placed _ _ _ _ are.labels) are.frames framed) typings enough room
+    (frames_assertion st s t.hypotheses.items a t.pairs.items b t.pieces.items c t.named.items
+    (placed _ _ _ _ are.labels) are.frames _ framed) typings enough room
 
 -- what is known of a symbol that has a number
 pub known_info : (t : Tables) (n : Sym) (x : List ℕ) → AreTables t → slice_get t.symbols.names n.0 ≡ Some x → (info : SymbolInfo) × (slice_get t.infos.items n.0 ≡ Some info)

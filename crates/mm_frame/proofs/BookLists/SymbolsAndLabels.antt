@@ -17,7 +17,7 @@ use Rattle.mm_frame.specs.Mirror.Layout.{AreEssentials}
 use Rattle.mm_text.proofs.Lists.{get_kept, get_pushed, pushed_cases, get_before, get_set_cases}
 use Rattle.mm_text.proofs.Lists.{at_from_contains, contains_from_at, get_within, append_cases}
 use Rattle.mm_text.proofs.Lists.{same_length}
-use Rattle.mm_frame.proofs.Blocks.NumberedBlocks.{length_pushed}
+use Rattle.mm_frame.proofs.Blocks.NumberedBlocks.{rising_grown, length_pushed}
 use Rattle.mm_frame.proofs.Rules.ObeyedRules.{meant_at, typed_variable, some_later, active_in_front}
 use Rattle.mm_frame.proofs.Names.NameNumbers.{At, symbols_push, symbols_unique}
 use Rattle.mm_frame.proofs.Names.NameNumbers.{number_from_declared, with_name_cases}
@@ -377,14 +377,9 @@ essentials_other st places e are other stays = record {
 
 pub essentials_essential : (st : List Sentence) (places : List ℕ) (e : Sentence) → AreEssentials st places → e.kind ≡ Essential → AreEssentials (st ++ e ∷ []) (places ++ length st ∷ [])
 essentials_essential st places e are kind = record {
-  rising = λ i j p q lt at_i at_j. elim (pushed_cases places (length st) j q at_j) [
-    | inl j_before ↦
-        let within = slice_get_within places j q j_before in
-        are.rising i j p q lt (get_before places (length st ∷ []) i p (omega arith) at_i) j_before
-    | inr (last, same) ↦
-        let (s, at, is, active) = are.only i p (get_before places _ i p (omega arith) at_i) in
-        omega arith
-  ];
+  rising = λ i j p q lt at_i at_j. rising_grown places (length st)
+      (λ i j p q at_i at_j lt. are.rising i j p q lt at_i at_j)
+      (λ i p there. (are.only i p there).3.within) i j p q at_i at_j lt;
   only = λ i p there. elim (pushed_cases places (length st) i p there) [
     | inl before ↦ let (s, at, is, active) = are.only i p before in (s, get_kept st (e ∷ []) p s at, is, active_stays st e p (λ closes. absurd (cc)) active)
     | inr (last, same) ↦ (e, subst (λ n. slice_get (st ++ e ∷ []) n ≡ Some e) same (get_pushed st e), kind, subst (λ n. IsActive (st ++ e ∷ []) n) same (active_last st e))

@@ -228,73 +228,74 @@ paired_row st members i pairs are = record {
   each = λ u v a b passed. are.each u v a b (passed_in_row i u v passed);
 }
 
--- One pair of members more, that is distinct already.
-pub paired_pass : (st : List Sentence) (members : List Sym) (i j : ℕ) (a b : Sym) (pairs : List (ℕ × ℕ)) → slice_get members j ≡ Some a → slice_get members i ≡ Some b → IsOld st b.0 a.0
-    → ArePaired st members i j pairs → ArePaired st members i (j + 1) pairs
-paired_pass st members i j a b pairs at_j at_i old are = record {
-  only = λ k pair there. let (u, v, c, d, passed, at_u, at_v, is, fresh) = are.only k pair there in (u, v, c, d, passed_more i j u v passed, at_u, at_v, is, fresh);
-  once = are.once;
-  each = λ u v c d passed at_u at_v. elim (passed_cases i j u v passed) [
-    | inl before ↦ are.each u v c d before at_u at_v
-    | inr (is_j, is_i) ↦
-        let first : a ≡ c = let at = subst (λ n. slice_get members n ≡ Some c) is_j at_u in cc in
-        let second : b ≡ d = let at = subst (λ n. slice_get members n ≡ Some d) is_i at_v in cc in
-        inr (subst (λ (n : Sym). IsOld st d.0 n.0) first (subst (λ (n : Sym). IsOld st n.0 a.0) second old))
-  ];
-}
+module _ {st : List Sentence} {members : List Sym} {i j : ℕ} {a b : Sym}
+    {pairs : List (ℕ × ℕ)} (at_j : slice_get members j ≡ Some a)
+    (at_i : slice_get members i ≡ Some b) (are : ArePaired st members i j pairs) where
+  -- One pair of members more, that is distinct already.
+  pub paired_pass : IsOld st b.0 a.0 → ArePaired st members i (j + 1) pairs
+  paired_pass old = record {
+    only = λ k pair there. let (u, v, c, d, passed, at_u, at_v, is, fresh) = are.only k pair there in (u, v, c, d, passed_more i j u v passed, at_u, at_v, is, fresh);
+    once = are.once;
+    each = λ u v c d passed at_u at_v. elim (passed_cases i j u v passed) [
+      | inl before ↦ are.each u v c d before at_u at_v
+      | inr (is_j, is_i) ↦
+          let first : a ≡ c = let at = subst (λ n. slice_get members n ≡ Some c) is_j at_u in cc in
+          let second : b ≡ d = let at = subst (λ n. slice_get members n ≡ Some d) is_i at_v in cc in
+          inr (subst (λ (n : Sym). IsOld st d.0 n.0) first (subst (λ (n : Sym). IsOld st n.0 a.0) second old))
+    ];
+  }
 
--- One pair of members more, that isn't distinct yet.
-pub paired_push : (st : List Sentence) (members : List Sym) (i j : ℕ) (a b : Sym) (pairs : List (ℕ × ℕ)) → j < i → slice_get members j ≡ Some a → slice_get members i ≡ Some b → IsFresh st b.0 a.0
-    → ArePaired st members i j pairs → ArePaired st members i (j + 1) (pairs ++ ordered_pair b.0 a.0 ∷ [])
-paired_push st members i j a b pairs less at_j at_i fresh are = record {
-  only = λ k pair there. elim (pushed_cases pairs (ordered_pair b.0 a.0) k pair there) [
-    | inl before ↦ let (u, v, c, d, passed, at_u, at_v, is, none) = are.only k pair before in (u, v, c, d, passed_more i j u v passed, at_u, at_v, is, none)
-    | inr (last, is) ↦ (j, i, a, b, (less, inr (refl, omega arith)), at_j, at_i, sym is, fresh)
-  ];
-  once = λ stand. once_pushed pairs (ordered_pair b.0 a.0) (are.once stand) (absent stand);
-  each = λ u v c d passed at_u at_v. elim (passed_cases i j u v passed) [
-    | inl before ↦ elim (are.each u v c d before at_u at_v) [
-      | inl (k, at) ↦ inl (k, get_kept pairs (ordered_pair b.0 a.0 ∷ []) k (ordered_pair d.0 c.0) at)
-      | inr old ↦ inr old
-    ]
-    | inr (is_j, is_i) ↦
-        let first : a ≡ c = let at = subst (λ n. slice_get members n ≡ Some c) is_j at_u in cc in
-        let second : b ≡ d = let at = subst (λ n. slice_get members n ≡ Some d) is_i at_v in cc in
-        inl (length pairs, get_pushed pairs (ordered_pair b.0 a.0) ∙ ap (λ (n : Sym). Some (ordered_pair n.0 a.0)) second ∙ ap (λ (n : Sym). Some (ordered_pair d.0 n.0)) first)
-  ];
-}
-  where
-    absent : StandOnce members → ¬ (At pairs (ordered_pair b.0 a.0))
-    absent stand (k, there) =
-        let (u, v, c, d, passed, at_u, at_v, is, none) = are.only k (ordered_pair b.0 a.0) there in
-        elim (same_two b.0 a.0 d.0 c.0 is) [
-          | inl (same_b, same_a) ↦
-              let e = stand i v b at_i (at_v ∙ ap (λ n. Some n) (sym (same_number b d same_b))) in
-              let f = stand j u a at_j (at_u ∙ ap (λ n. Some n) (sym (same_number a c same_a))) in
-              again u v passed e f
-          | inr (same_b, same_a) ↦
-              let e = stand i u b at_i (at_u ∙ ap (λ n. Some n) (sym (same_number b c same_b))) in
-              omega arith
-        ]
-      where
-        again : (u v : ℕ) → IsPassed i j u v → i ≡ v → j ≡ u → ⊥
-        again u v (lt, inl before) e f = omega arith
-        again u v (lt, inr (is, early)) e f = omega arith
+  -- One pair of members more, that isn't distinct yet.
+  pub paired_push : j < i → IsFresh st b.0 a.0
+      → ArePaired st members i (j + 1) (pairs ++ ordered_pair b.0 a.0 ∷ [])
+  paired_push less fresh = record {
+    only = λ k pair there. elim (pushed_cases pairs (ordered_pair b.0 a.0) k pair there) [
+      | inl before ↦ let (u, v, c, d, passed, at_u, at_v, is, none) = are.only k pair before in (u, v, c, d, passed_more i j u v passed, at_u, at_v, is, none)
+      | inr (last, is) ↦ (j, i, a, b, (less, inr (refl, omega arith)), at_j, at_i, sym is, fresh)
+    ];
+    once = λ stand. once_pushed pairs (ordered_pair b.0 a.0) (are.once stand) (absent stand);
+    each = λ u v c d passed at_u at_v. elim (passed_cases i j u v passed) [
+      | inl before ↦ elim (are.each u v c d before at_u at_v) [
+        | inl (k, at) ↦ inl (k, get_kept pairs (ordered_pair b.0 a.0 ∷ []) k (ordered_pair d.0 c.0) at)
+        | inr old ↦ inr old
+      ]
+      | inr (is_j, is_i) ↦
+          let first : a ≡ c = let at = subst (λ n. slice_get members n ≡ Some c) is_j at_u in cc in
+          let second : b ≡ d = let at = subst (λ n. slice_get members n ≡ Some d) is_i at_v in cc in
+          inl (length pairs, get_pushed pairs (ordered_pair b.0 a.0) ∙ ap (λ (n : Sym). Some (ordered_pair n.0 a.0)) second ∙ ap (λ (n : Sym). Some (ordered_pair d.0 n.0)) first)
+    ];
+  }
+    where
+      absent : StandOnce members → ¬ (At pairs (ordered_pair b.0 a.0))
+      absent stand (k, there) =
+          let (u, v, c, d, passed, at_u, at_v, is, none) = are.only k (ordered_pair b.0 a.0) there in
+          elim (same_two b.0 a.0 d.0 c.0 is) [
+            | inl (same_b, same_a) ↦
+                let e = stand i v b at_i (at_v ∙ ap (λ n. Some n) (sym (same_number b d same_b))) in
+                let f = stand j u a at_j (at_u ∙ ap (λ n. Some n) (sym (same_number a c same_a))) in
+                again u v passed e f
+            | inr (same_b, same_a) ↦
+                let e = stand i u b at_i (at_u ∙ ap (λ n. Some n) (sym (same_number b c same_b))) in
+                omega arith
+          ]
+        where
+          again : (u v : ℕ) → IsPassed i j u v → i ≡ v → j ≡ u → ⊥
+          again u v (lt, inl before) e f = omega arith
+          again u v (lt, inr (is, early)) e f = omega arith
 
--- the test says that two symbols are distinct already
-pub is_old : (st : List Sentence) (a b n : ℕ) (r : Bool) → n ≡ length st
-    → ((x y : List ℕ) → IsNumberOf st x a → IsNumberOf st y b
-    → (IsTrue r ↔ IsDistinct (take n st) x y)) → r ≡ true → IsOld st a b
-is_old st a b n r all says holds x y at_x at_y =
-    rw (ap (λ m. take m st) all ∙ take-length st) at ((says x y at_x at_y).0 holds)
+module _ (st : List Sentence) (a b n : ℕ) (r : Bool) (all : n ≡ length st)
+    (says : (x y : List ℕ) → IsNumberOf st x a → IsNumberOf st y b
+    → (IsTrue r ↔ IsDistinct (take n st) x y)) where
+  -- the test says that two symbols are distinct already
+  pub is_old : r ≡ true → IsOld st a b
+  is_old holds x y at_x at_y =
+      rw (ap (λ m. take m st) all ∙ take-length st) at ((says x y at_x at_y).0 holds)
 
-pub is_fresh : (st : List Sentence) (a b n : ℕ) (r : Bool) → n ≡ length st
-    → ((x y : List ℕ) → IsNumberOf st x a → IsNumberOf st y b
-    → (IsTrue r ↔ IsDistinct (take n st) x y)) → r ≡ false → IsFresh st a b
-is_fresh st a b n r all says fails x y at_x at_y distinct =
-    let whole : take n st ≡ st = ap (λ m. take m st) all ∙ take-length st in
-    let holds : r ≡ true = (says x y at_x at_y).1 (rw whole distinct) in
-    absurd (cc)
+  pub is_fresh : r ≡ false → IsFresh st a b
+  is_fresh fails x y at_x at_y distinct =
+      let whole : take n st ≡ st = ap (λ m. take m st) all ∙ take-length st in
+      let holds : r ≡ true = (says x y at_x at_y).1 (rw whole distinct) in
+      absurd (cc)
 
 -- no member of a `$d` that breaks no rule stands twice
 members_once : (st : List Sentence) (s : Sentence) (members : List Sym) → s.kind ≡ Distinct → IsMeant st s → AreNumbers st (map (λ n. n.0) members) s.symbols → StandOnce members

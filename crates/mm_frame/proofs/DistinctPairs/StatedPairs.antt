@@ -62,63 +62,60 @@ active_shorter st k n q lt le within active =
     let size = length-take-le q st within in
     rw (take-take n q st le) at (active_in_front _ _ n lt (omega arith) active)
 
--- one that stands before a place passes none that is active there
-pub passes_none : (st : List Sentence) (symbols : List (List ℕ)) (wide : List WideDistinct)
-    (i k q : ℕ) (w v : WideDistinct) → AreWide st symbols wide → slice_get wide i ≡ Some w
-    → slice_get wide k ≡ Some v → w.older ≤ k → k < i → w.place < q → q ≤ length st
-    → ¬ (IsActive (take q st) v.place)
-passes_none st symbols wide i k q w v are at_i at_k le lt before within active =
-    let (less, inactive) = are.passed i k w v at_i at_k le lt in
-    inactive (active_shorter st v.place w.place q less (omega arith) within active)
+module _ {st : List Sentence} {symbols : List (List ℕ)} {wide : List WideDistinct}
+    (are : AreWide st symbols wide) where
+  -- one that stands before a place passes none that is active there
+  pub passes_none : (i k q : ℕ) (w v : WideDistinct) → slice_get wide i ≡ Some w
+      → slice_get wide k ≡ Some v → w.older ≤ k → k < i → w.place < q → q ≤ length st
+      → ¬ (IsActive (take q st) v.place)
+  passes_none i k q w v at_i at_k le lt before within active =
+      let (less, inactive) = are.passed i k w v at_i at_k le lt in
+      inactive (active_shorter st v.place w.place q less (omega arith) within active)
 
--- what a step of the search for one that holds two symbols leaves
-pub held_next : (st : List Sentence) (symbols : List (List ℕ)) (wide : List WideDistinct)
-    (q a b n : ℕ) (w : WideDistinct) → AreWide st symbols wide → q ≤ length st → 0 < n
-    → slice_get wide (n - 1) ≡ Some w → ¬ (HoldsPair st q a b w)
-    → NoneFrom (HoldsPair st q a b) wide n → w.place < q
-    → NoneFrom (HoldsPair st q a b) wide w.older
-held_next st symbols wide q a b n w are within some there other none before =
-    none_older (HoldsPair st q a b) wide (n - 1) w.older
-    (λ k v le lt at (early, in_a, in_b, active).
-    passes_none st symbols wide (n - 1) k q w v are there at le lt before within active)
-    (none_next (HoldsPair st q a b) wide n w some there other none)
+  -- what a step of the search for one that holds two symbols leaves
+  pub held_next : (q a b n : ℕ) (w : WideDistinct) → q ≤ length st → 0 < n
+      → slice_get wide (n - 1) ≡ Some w → ¬ (HoldsPair st q a b w)
+      → NoneFrom (HoldsPair st q a b) wide n → w.place < q
+      → NoneFrom (HoldsPair st q a b) wide w.older
+  held_next q a b n w within some there other none before =
+      none_older (HoldsPair st q a b) wide (n - 1) w.older
+      (λ k v le lt at (early, in_a, in_b, active).
+      passes_none (n - 1) k q w v there at le lt before within active)
+      (none_next (HoldsPair st q a b) wide n w some there other none)
 
--- and of the search for one that is active
-pub active_next : (st : List Sentence) (symbols : List (List ℕ)) (wide : List WideDistinct)
-    (n : ℕ) (w : WideDistinct) → AreWide st symbols wide → 0 < n
-    → slice_get wide (n - 1) ≡ Some w → ¬ (IsActive st w.place)
-    → NoneFrom (λ v. IsActive st v.place) wide n → NoneFrom (λ v. IsActive st v.place) wide w.older
-active_next st symbols wide n w are some there other none =
-    let is = are.each (n - 1) w there in
-    let lt = slice_get_within st w.place is.d is.there in
-    none_older (λ v. IsActive st v.place) wide (n - 1) w.older
-    (λ k v le less at active. passes_none st symbols wide (n - 1) k (length st) w v are there at le
-    less lt
-    (omega arith) (subst (λ ys. IsActive ys v.place) (sym (take-length st)) active))
-    (none_next (λ v. IsActive st v.place) wide n w some there other none)
+  -- and of the search for one that is active
+  pub active_next : (n : ℕ) (w : WideDistinct) → 0 < n → slice_get wide (n - 1) ≡ Some w
+      → ¬ (IsActive st w.place) → NoneFrom (λ v. IsActive st v.place) wide n
+      → NoneFrom (λ v. IsActive st v.place) wide w.older
+  active_next n w some there other none =
+      let is = are.each (n - 1) w there in
+      let lt = slice_get_within st w.place is.d is.there in
+      none_older (λ v. IsActive st v.place) wide (n - 1) w.older
+      (λ k v le less at active. passes_none (n - 1) k (length st) w v there at le
+      less lt
+      (omega arith) (subst (λ ys. IsActive ys v.place) (sym (take-length st)) active))
+      (none_next (λ v. IsActive st v.place) wide n w some there other none)
 
--- the members of one that is active are distinct
-pub held_distinct : (st : List Sentence) (symbols : List (List ℕ)) (wide : List WideDistinct)
-    (a b q : ℕ) (x y : List ℕ) → symbols ≡ symbols_of st → AreWide st symbols wide
-    → slice_get symbols a ≡ Some x → slice_get symbols b ≡ Some y → a ≢ b
-    → IsHeld st wide q a b → IsDistinct (take q st) x y
-held_distinct st symbols wide a b q x y all are at_a at_b apart
-    (i, w, there, (before, in_a, in_b, active)) =
-    let is = are.each i w there in
-    let (u, at_u, in_u) = is.only a in_a in
-    let (v, at_v, in_v) = is.only b in_b in
-    let same_x : u ≡ x = cc in
-    let same_y : v ≡ y = cc in (
-      (λ same. apart (symbols_unique st a b x (rw all at at_a)
-          (rw all at (at_b ∙ ap (λ z. Some z) (sym same))))),
-      (
-        w.place,
-        is.d,
-        get_in_front st q w.place is.d before is.there,
-        active,
-        (is.kind, rw same_x at in_u, rw same_y at in_v),
-      ),
-    )
+  -- the members of one that is active are distinct
+  pub held_distinct : (a b q : ℕ) (x y : List ℕ) → symbols ≡ symbols_of st
+      → slice_get symbols a ≡ Some x → slice_get symbols b ≡ Some y → a ≢ b → IsHeld st wide q a b
+      → IsDistinct (take q st) x y
+  held_distinct a b q x y all at_a at_b apart (i, w, there, (before, in_a, in_b, active)) =
+      let is = are.each i w there in
+      let (u, at_u, in_u) = is.only a in_a in
+      let (v, at_v, in_v) = is.only b in_b in
+      let same_x : u ≡ x = cc in
+      let same_y : v ≡ y = cc in (
+        (λ same. apart (symbols_unique st a b x (rw all at at_a)
+            (rw all at (at_b ∙ ap (λ z. Some z) (sym same))))),
+        (
+          w.place,
+          is.d,
+          get_in_front st q w.place is.d before is.there,
+          active,
+          (is.kind, rw same_x at in_u, rw same_y at in_v),
+        ),
+      )
 
 -- one statement more leaves them, where the symbols that they hold keep their numbers
 pub wide_grow : (st : List Sentence) (e : Sentence) (symbols more : List (List ℕ))
@@ -158,83 +155,80 @@ active_then st s p q le lt at_p at_q =
       | inr (inr after) ↦ absurd (omega arith)
     ]
 
--- an active pair was stated by an active `$d`, as a pair or by one of many variables
-pub distinct_stated : (st : List Sentence) (symbols : List (List ℕ)) (stated : AllStated)
-    (a b q : ℕ) (x y : List ℕ) → AreStated st symbols stated → slice_get symbols a ≡ Some x
-    → slice_get symbols b ≡ Some y → a < b
-    → IsDistinct (take q st) x y → HasSpan st stated.pairs (a, b) q ⊎ IsHeld st stated.wide q a b
-distinct_stated st symbols stated a b q x y are at_a at_b lt
-    (apart, (p, d, there, active, (kind, in_x, in_y))) =
-    let (p_before, at_d) = get_from_take st q _ _ there in
-    elim (are.each p a b d x y at_d kind at_a at_b lt in_x in_y) [
-      | inl (i, span, at, pair, le, at_p) ↦
-          inl (record {
-            i = i;
-            span = span;
-            there = at;
-            same = pair;
-            early = omega arith;
-            active = active_then st _ _ q le p_before at_p active;
-          })
-      | inr (i, w, at, in_a, in_b, le, at_p) ↦
-          inr (i, w, at, (omega arith, in_a, in_b, active_then st _ _ q le p_before at_p active))
-    ]
+module _ {st : List Sentence} {symbols : List (List ℕ)} {stated : AllStated}
+    (are : AreStated st symbols stated) where
+  -- an active pair was stated by an active `$d`, as a pair or by one of many variables
+  pub distinct_stated : (a b q : ℕ) (x y : List ℕ) → slice_get symbols a ≡ Some x
+      → slice_get symbols b ≡ Some y → a < b → IsDistinct (take q st) x y
+      → HasSpan st stated.pairs (a, b) q ⊎ IsHeld st stated.wide q a b
+  distinct_stated a b q x y at_a at_b lt (apart, (p, d, there, active, (kind, in_x, in_y))) =
+      let (p_before, at_d) = get_from_take st q _ _ there in
+      elim (are.each p a b d x y at_d kind at_a at_b lt in_x in_y) [
+        | inl (i, span, at, pair, le, at_p) ↦
+            inl (record {
+              i = i;
+              span = span;
+              there = at;
+              same = pair;
+              early = omega arith;
+              active = active_then st _ _ q le p_before at_p active;
+            })
+        | inr (i, w, at, in_a, in_b, le, at_p) ↦
+            inr (i, w, at, (omega arith, in_a, in_b, active_then st _ _ q le p_before at_p active))
+      ]
 
--- an active `$d` states active pairs
-pub span_distinct : (st : List Sentence) (symbols : List (List ℕ)) (stated : AllStated) (a b q : ℕ)
-    (x y : List ℕ) → symbols ≡ symbols_of st → AreStated st symbols stated
-    → slice_get symbols a ≡ Some x
-    → slice_get symbols b ≡ Some y → a < b → HasSpan st stated.pairs (a, b) q
-    → IsDistinct (take q st) x y
-span_distinct st symbols stated a b q x y all are at_a at_b lt has =
-    let (d, there, kind, less, u, v, at_u, at_v, in_u, in_v) = are.only has.i has.span has.there in
-    let first : has.span.pair.0 ≡ a = ap (λ p. p.0) has.same in
-    let second : has.span.pair.1 ≡ b = ap (λ p. p.1) has.same in
-    let same_x : u ≡ x = let at = subst (λ n. slice_get symbols n ≡ Some u) first at_u in cc in
-    let same_y : v ≡ y = let at = subst (λ n. slice_get symbols n ≡ Some v) second at_v in cc in (
-      (λ same.
-          let one : a ≡ b = symbols_unique st a b x (subst (λ xs. slice_get xs a ≡ Some x) all at_a) (subst (λ xs. slice_get xs b ≡ Some x) all (at_b ∙ ap (λ z. Some z) (sym same))) in
-          omega arith),
-      (
-        has.span.place,
-        d,
-        get_in_front st q has.span.place d has.early there,
-        has.active,
-        (kind, rw same_x at in_u, rw same_y at in_v),
-      ),
-    )
+  -- an active `$d` states active pairs
+  pub span_distinct : (a b q : ℕ) (x y : List ℕ) → symbols ≡ symbols_of st
+      → slice_get symbols a ≡ Some x → slice_get symbols b ≡ Some y → a < b
+      → HasSpan st stated.pairs (a, b) q → IsDistinct (take q st) x y
+  span_distinct a b q x y all at_a at_b lt has =
+      let (d, there, kind, less, u, v, at_u, at_v, in_u, in_v) = are.only has.i has.span has.there in
+      let first : has.span.pair.0 ≡ a = ap (λ p. p.0) has.same in
+      let second : has.span.pair.1 ≡ b = ap (λ p. p.1) has.same in
+      let same_x : u ≡ x = let at = subst (λ n. slice_get symbols n ≡ Some u) first at_u in cc in
+      let same_y : v ≡ y = let at = subst (λ n. slice_get symbols n ≡ Some v) second at_v in cc in (
+        (λ same.
+            let one : a ≡ b = symbols_unique st a b x (subst (λ xs. slice_get xs a ≡ Some x) all at_a) (subst (λ xs. slice_get xs b ≡ Some x) all (at_b ∙ ap (λ z. Some z) (sym same))) in
+            omega arith),
+        (
+          has.span.place,
+          d,
+          get_in_front st q has.span.place d has.early there,
+          has.active,
+          (kind, rw same_x at in_u, rw same_y at in_v),
+        ),
+      )
 
--- The latest span of a pair before a place is active there exactly if one is.
-pub latest_has : (st : List Sentence) (symbols : List (List ℕ)) (stated : AllStated) (pair : ℕ × ℕ)
-    (q place : ℕ) → AreStated st symbols stated → q ≤ length st
-    → IsLatestStated stated.pairs pair q (Some place)
-    → (place < q) × (IsActive (take q st) place ↔ HasSpan st stated.pairs pair q)
-latest_has st symbols stated pair q place are within (i, span, there, same, is, before, last) = (
-  before,
-  (
-    (λ active. record {
-      i = i;
-      span = span;
-      there = there;
-      same = same;
-      early = rw is before;
-      active = subst (IsActive (take q st)) (sym is) active;
-    }),
-    (λ has.
-        elim (cases_order has.i i) [
-          | inl one ↦
-              let e : has.span ≡ span = let at = rw one at has.there in cc in
-              subst (IsActive (take q st)) is (rw e at has.active)
-          | inr (inl older) ↦
-              let (less, inactive) = are.apart _ _ _ _ older has.there there
-              (has.same ∙ sym same) in
-              absurd (inactive (active_shorter st _ span.place q less
-              (omega (arith, is, before)) within has.active))
-          | inr (inr newer) ↦ absurd (let h = last has.i has.span newer has.there has.same in
-              let g = has.early in omega arith)
-        ]),
-  ),
-)
+  -- The latest span of a pair before a place is active there exactly if one is.
+  pub latest_has : (pair : ℕ × ℕ) (q place : ℕ) → q ≤ length st
+      → IsLatestStated stated.pairs pair q (Some place)
+      → (place < q) × (IsActive (take q st) place ↔ HasSpan st stated.pairs pair q)
+  latest_has pair q place within (i, span, there, same, is, before, last) = (
+    before,
+    (
+      (λ active. record {
+        i = i;
+        span = span;
+        there = there;
+        same = same;
+        early = rw is before;
+        active = subst (IsActive (take q st)) (sym is) active;
+      }),
+      (λ has.
+          elim (cases_order has.i i) [
+            | inl one ↦
+                let e : has.span ≡ span = let at = rw one at has.there in cc in
+                subst (IsActive (take q st)) is (rw e at has.active)
+            | inr (inl older) ↦
+                let (less, inactive) = are.apart _ _ _ _ older has.there there
+                (has.same ∙ sym same) in
+                absurd (inactive (active_shorter st _ span.place q less
+                (omega (arith, is, before)) within has.active))
+            | inr (inr newer) ↦ absurd (let h = last has.i has.span newer has.there has.same in
+                let g = has.early in omega arith)
+          ]),
+    ),
+  )
 
 -- Where no span before a place states the pair, none is active there.
 pub none_has : (st : List Sentence) (spans : List Stated) (pair : ℕ × ℕ) (q : ℕ)
@@ -347,8 +341,8 @@ stated_push st e symbols stated new all are kind news =
                     omega arith,
                     rw (taken_at st e place last, here) (active_last st e),
                   )
-              | inr distinct ↦ elim (distinct_stated _ _ _ a b (length st) x y are at_a
-                  at_b lt (rw (take-length st) distinct)) [
+              | inr distinct ↦ elim (distinct_stated are a b (length st) x y at_a at_b lt
+                  (rw (take-length st) distinct)) [
                     | inl has ↦
                         inl (
                           has.i,
@@ -391,8 +385,8 @@ stated_push st e symbols stated new all are kind news =
         let whole : take (length st) st ≡ st = take-length st in
         let front : take newer.place (st ++ e ∷ []) ≡ st = ap (λ n. take n (st ++ e ∷ [])) place ∙ take-append-le (length st) st (e ∷ []) (omega arith) ∙ whole in (
           omega arith,
-          λ active. apart (rw whole at (span_distinct _ _ _ newer.pair.0 newer.pair.1 (length st)
-              x y all are at_x at_y lt (record {
+          λ active. apart (rw whole at (span_distinct are newer.pair.0 newer.pair.1 (length st) x y
+              all at_x at_y lt (record {
                 i = i;
                 span = older;
                 there = at_i;
@@ -404,91 +398,87 @@ stated_push st e symbols stated new all are kind news =
 
 -- ==== a new `$d` of many variables, as it is kept
 
--- what is kept of a new `$d` is right
-wide_new : (st : List Sentence) (s : Sentence) (symbols : List (List ℕ)) (members : List Sym)
-    (wide : List WideDistinct) (w : WideDistinct) → symbols ≡ symbols_of st → s.kind ≡ Distinct
-    → AreNumbers st (map (λ n. n.0) members) s.symbols → IsNewWide st wide members w
-    → IsWide (st ++ s ∷ []) symbols w
-wide_new st s symbols members wide w all kind numbers new = record {
-  d = s;
-  there = rw new.place (get_pushed st s);
-  kind = kind;
-  only = λ n in_it.
-      let among = Contains-permutation w.members.items (map (λ n. n.0) members) n
-      (IsPermutation-sym (map (λ n. n.0) members) w.members.items new.among) in_it in
-      let (u, at_u) = at_from_contains (map (λ n. n.0) members) n among in
-      let (m, at_m, is) = get_unmapped (λ (n : Sym). n.0) members u n at_u in
-      let (x, in_u, name) = member_name (symbols_of st) members s.symbols u m numbers at_m in
-      let here : slice_get symbols m.0 ≡ Some x = rw all name in
-      (x, rw is at here, contains_from_at s.symbols x (u, in_u));
-  each = λ n x at in_d.
-      let (u, at_u) = at_from_contains s.symbols x in_d in
-      let (m, m_at, m_name) = name_member (symbols_of st) members s.symbols u x numbers at_u in
-      let is : m.0 ≡ n = symbols_unique st m.0 n x m_name (rw all at (at)) in
-      let there = get_mapped (λ (n : Sym). n.0) members u m m_at in
-      let among = contains_from_at (map (λ n. n.0) members) n (u, there ∙ ap (λ z. Some z) is) in
-      Contains-permutation (map (λ n. n.0) members) w.members.items n new.among among;
-  sorted = new.sorted;
-}
+module _ (st : List Sentence) (s : Sentence) (symbols : List (List ℕ)) (members : List Sym)
+    (w : WideDistinct) (all : symbols ≡ symbols_of st) (kind : s.kind ≡ Distinct)
+    (numbers : AreNumbers st (map (λ n. n.0) members) s.symbols) where
+  -- what is kept of a new `$d` is right
+  wide_new : (wide : List WideDistinct) → IsNewWide st wide members w
+      → IsWide (st ++ s ∷ []) symbols w
+  wide_new wide new = record {
+    d = s;
+    there = rw new.place (get_pushed st s);
+    kind = kind;
+    only = λ n in_it.
+        let among = Contains-permutation w.members.items (map (λ n. n.0) members) n
+        (IsPermutation-sym (map (λ n. n.0) members) w.members.items new.among) in_it in
+        let (u, at_u) = at_from_contains (map (λ n. n.0) members) n among in
+        let (m, at_m, is) = get_unmapped (λ (n : Sym). n.0) members u n at_u in
+        let (x, in_u, name) = member_name (symbols_of st) members s.symbols u m numbers at_m in
+        let here : slice_get symbols m.0 ≡ Some x = rw all name in
+        (x, rw is at here, contains_from_at s.symbols x (u, in_u));
+    each = λ n x at in_d.
+        let (u, at_u) = at_from_contains s.symbols x in_d in
+        let (m, m_at, m_name) = name_member (symbols_of st) members s.symbols u x numbers at_u in
+        let is : m.0 ≡ n = symbols_unique st m.0 n x m_name (rw all at (at)) in
+        let there = get_mapped (λ (n : Sym). n.0) members u m m_at in
+        let among = contains_from_at (map (λ n. n.0) members) n (u, there ∙ ap (λ z. Some z) is) in
+        Contains-permutation (map (λ n. n.0) members) w.members.items n new.among among;
+    sorted = new.sorted;
+  }
 
--- the list with a new one
-wide_push : (st : List Sentence) (s : Sentence) (symbols : List (List ℕ)) (members : List Sym)
-    (wide : List WideDistinct) (w : WideDistinct) → symbols ≡ symbols_of st → s.kind ≡ Distinct
-    → AreNumbers st (map (λ n. n.0) members) s.symbols → AreWide (st ++ s ∷ []) symbols wide
-    → AreWide st symbols wide → IsNewWide st wide members w
-    → AreWide (st ++ s ∷ []) symbols (wide ++ w ∷ [])
-wide_push st s symbols members wide w all kind numbers kept before new = record {
-  each = each_pushed (IsWide (st ++ s ∷ []) symbols) wide w kept.each
-      (wide_new _ s symbols _ _ _ all kind numbers new);
-  older = λ i v there. elim (pushed_cases wide w i v there) [
-    | inl at ↦ kept.older i v at
-    | inr (last, same) ↦ let h = new.older in rw (← same) (omega arith)
-  ];
-  passed = λ i k v u at_i at_k le lt. elim (pushed_cases wide w i v at_i) [
-    | inl at ↦
-        let within = slice_get_within wide i v at in
-        kept.passed i k v u at (get_before wide (w ∷ []) k u (omega arith) at_k) le lt
-    | inr (last, same) ↦
-        let at = get_before wide (w ∷ []) k u (omega arith) at_k in
-        let is = before.each k u at in
-        let within = slice_get_within st u.place is.d is.there in
-        let front : take w.place (st ++ s ∷ []) ≡ st = ap (λ n. take n (st ++ s ∷ [])) new.place
-        ∙ take-append-le (length st) st (s ∷ []) (omega arith) ∙ take-length st in
-        rw (← same) (omega arith, rw front (new.passed k u (rw same le) at))
-  ];
-}
+  -- the list with a new one
+  wide_push : (wide : List WideDistinct) → AreWide (st ++ s ∷ []) symbols wide
+      → AreWide st symbols wide → IsNewWide st wide members w
+      → AreWide (st ++ s ∷ []) symbols (wide ++ w ∷ [])
+  wide_push wide kept before new = record {
+    each = each_pushed (IsWide (st ++ s ∷ []) symbols) wide w kept.each
+        (wide_new _ new);
+    older = λ i v there. elim (pushed_cases wide w i v there) [
+      | inl at ↦ kept.older i v at
+      | inr (last, same) ↦ let h = new.older in rw (← same) (omega arith)
+    ];
+    passed = λ i k v u at_i at_k le lt. elim (pushed_cases wide w i v at_i) [
+      | inl at ↦
+          let within = slice_get_within wide i v at in
+          kept.passed i k v u at (get_before wide (w ∷ []) k u (omega arith) at_k) le lt
+      | inr (last, same) ↦
+          let at = get_before wide (w ∷ []) k u (omega arith) at_k in
+          let is = before.each k u at in
+          let within = slice_get_within st u.place is.d is.there in
+          let front : take w.place (st ++ s ∷ []) ≡ st = ap (λ n. take n (st ++ s ∷ [])) new.place
+          ∙ take-append-le (length st) st (s ∷ []) (omega arith) ∙ take-length st in
+          rw (← same) (omega arith, rw front (new.passed k u (rw same le) at))
+    ];
+  }
 
--- A `$d` of many variables, with what is kept of it.
-pub stated_wide : (st : List Sentence) (s : Sentence) (symbols : List (List ℕ)) (members : List Sym)
-    (stated : AllStated) (w : WideDistinct) → symbols ≡ symbols_of st → AreStated st symbols stated
-    → s.kind ≡ Distinct → AreNumbers st (map (λ n. n.0) members) s.symbols
-    → IsNewWide st stated.wide members w
-    → AreStated (st ++ s ∷ []) symbols
-    (record { pairs = stated.pairs; wide = stated.wide ++ w ∷ [] })
-unfolding wide_new
-stated_wide st s symbols members stated w all are kind numbers new =
-    let kept = stated_more _ s _ _ are in
-    let is = wide_new _ s symbols _ _ _ all kind numbers new in
-    record {
-      only = kept.only;
-      each = λ place a b d x y there kinds at_a at_b lt in_x in_y. elim
-          (pushed_cases st s place d there) [
-            | inl before ↦ elim (kept.each place a b d x y before kinds at_a at_b lt in_x in_y) [
-              | inl span ↦ inl span
-              | inr (i, v, at, in_a, in_b, le, active) ↦
-                  inr (i, v, get_kept stated.wide (w ∷ []) i v at, in_a, in_b, le, active)
-            ]
-            | inr (last, same) ↦
-                inr (
-                  length stated.wide,
-                  w,
-                  get_pushed stated.wide w,
-                  is.each a x at_a (rw (← same) at in_x),
-                  is.each b y at_b (rw (← same) at in_y),
-                  omega arith,
-                  rw (taken_at st s place last, new.place) (active_last st s),
-                )
-          ];
-      apart = kept.apart;
-      wide = wide_push _ s _ _ _ _ all kind numbers kept.wide are.wide new;
-    }
+  -- A `$d` of many variables, with what is kept of it.
+  pub stated_wide : (stated : AllStated) → AreStated st symbols stated
+      → IsNewWide st stated.wide members w
+      → AreStated (st ++ s ∷ []) symbols (record { pairs = stated.pairs; wide = stated.wide ++ w ∷ [] })
+  unfolding wide_new
+  stated_wide stated are new =
+      let kept = stated_more _ s _ _ are in
+      let is = wide_new _ new in
+      record {
+        only = kept.only;
+        each = λ place a b d x y there kinds at_a at_b lt in_x in_y. elim
+            (pushed_cases st s place d there) [
+              | inl before ↦ elim (kept.each place a b d x y before kinds at_a at_b lt in_x in_y) [
+                | inl span ↦ inl span
+                | inr (i, v, at, in_a, in_b, le, active) ↦
+                    inr (i, v, get_kept stated.wide (w ∷ []) i v at, in_a, in_b, le, active)
+              ]
+              | inr (last, same) ↦
+                  inr (
+                    length stated.wide,
+                    w,
+                    get_pushed stated.wide w,
+                    is.each a x at_a (rw (← same) at in_x),
+                    is.each b y at_b (rw (← same) at in_y),
+                    omega arith,
+                    rw (taken_at st s place last, new.place) (active_last st s),
+                  )
+            ];
+        apart = kept.apart;
+        wide = wide_push _ kept.wide are.wide new;
+      }

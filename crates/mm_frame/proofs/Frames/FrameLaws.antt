@@ -3,6 +3,7 @@ use Rattle.std.proofs.Common.{◌≡◌, ◌↔◌, ℕ, zero, suc, ◌+◌, ◌
 use Rattle.std.proofs.Common.{[], ◌∷◌, map, Contains, Some, refl, sym, ap, ◌∙◌, arith, slice_get}
 use Rattle.std.proofs.Common.{length-drop, take, ◌++◌, subst}
 use Rattle.std.proofs.lemmas.Bool.{cases_eq}
+use Rattle.mm_frame.specs.Mirror.Gathered.{AreRisingPlaces}
 use Rattle.mm_frame.specs.Sentence.{Sentence, IsAssertion}
 use Rattle.mm_frame.specs.Frame.{AreThose, AreMandatory, IsMandatoryAt, IsDistinct}
 use Rattle.mm_text.proofs.Lists.{at_from_contains, contains_from_at, get_kept, get_pushed}
@@ -53,10 +54,6 @@ mandatory_unique before s hs gs one other = those_unique (IsMandatoryAt before s
 pub distinct_other : (before : List Sentence) (x y : List ℕ) → IsDistinct before x y → IsDistinct before y x
 distinct_other before x y (apart, (p, d, there, active, (kind, x_in, y_in))) = ((λ e. apart (sym e)), (p, d, there, active, (kind, y_in, x_in)))
 
--- the places rise
-abbrev pub Rise : List ℕ → Type 0
-Rise places = (i j p q : ℕ) → slice_get places i ≡ Some p → slice_get places j ≡ Some q → i < j → p < q
-
 -- what a list begins with that is the rest of another from a place on
 rest_first : {X : Type 0} (whole : List X) (n : ℕ) (x : X) (xs : List X) → drop n whole ≡ x ∷ xs → (slice_get whole n ≡ Some x) × (drop (suc n) whole ≡ xs)
 rest_first [] zero x xs e = absurd (cc)
@@ -66,7 +63,7 @@ rest_first (y ∷ whole) (suc n) x xs e = rest_first whole n x xs e
 
 -- places rise, lie from a place on within the list, and are those where P holds
 record AreAll {X : Type 0} (P : ℕ → X → Type 0) (whole : List X) (n : ℕ) (places : List ℕ) : Type 0 where
-  rise : Rise places
+  rise : AreRisingPlaces places
   within : (i p : ℕ) → slice_get places i ≡ Some p → (n ≤ p) × (p < length whole)
   each : (p : ℕ) (x : X) → n ≤ p → slice_get whole p ≡ Some x → P p x → At places p
   only : (i p : ℕ) (x : X) → slice_get places i ≡ Some p → slice_get whole p ≡ Some x → P p x
@@ -125,12 +122,12 @@ those_from {X} P whole n (x ∷ xs) (p ∷ places) is all =
           (ys, inr (absent, rw more those), values)
     ]
   where
-    above_first : (n p : ℕ) (places : List ℕ) → n < p → Rise (p ∷ places) → (i q : ℕ) → slice_get (p ∷ places) i ≡ Some q → n < q
+    above_first : (n p : ℕ) (places : List ℕ) → n < p → AreRisingPlaces (p ∷ places) → (i q : ℕ) → slice_get (p ∷ places) i ≡ Some q → n < q
     above_first n p places lt rise zero q there = let e : p ≡ q = cc in omega arith
     above_first n p places lt rise (suc i) q there = let h = rise 0 (suc i) p q refl there (omega arith) in omega arith
 
 -- The elements at places that rise are those of which P holds, if P holds exactly at these places.
-pub those_by_places : {X : Type 0} (P : ℕ → X → Type 0) (xs : List X) (places : List ℕ) → Rise places → ((i p : ℕ) → slice_get places i ≡ Some p → p < length xs)
+pub those_by_places : {X : Type 0} (P : ℕ → X → Type 0) (xs : List X) (places : List ℕ) → AreRisingPlaces places → ((i p : ℕ) → slice_get places i ≡ Some p → p < length xs)
     → ((p : ℕ) (x : X) → slice_get xs p ≡ Some x → P p x ↔ Contains places p) → (ys : List X) × AreThose P 0 xs ys × (map (slice_get xs) places ≡ map (λ y. Some y) ys)
 those_by_places P xs places rise within tells = those_from P xs 0 xs places refl record {
   rise = rise;
@@ -212,30 +209,33 @@ ArePlaced st named = (id : ℕ) (info : LabelInfo) → slice_get named id ≡ So
 pub placed : (st : List Sentence) (labels : List (List ℕ)) (named : List LabelInfo) (log : List _) → AreLabelInfos st labels named log → ArePlaced st named
 placed st labels named log are id info there = let (s, numbered) = are.each id info there in slice_get_within st info.place s numbered.there
 
--- a statement with no label
-pub frames_other : (st : List Sentence) (e : Sentence) (hs a : List Hypothesis) (pairs b : List DistinctPair) (pieces c : List Piece) (named : List LabelInfo) → ArePlaced st named → AreFrames st hs pairs pieces named
-    → AreFrames (st ++ e ∷ []) (hs ++ a) (pairs ++ b) (pieces ++ c) named
-frames_other st e hs a pairs b pieces c named within are id info s there at is =
-    frame_grow st (e ∷ []) hs a pairs b pieces c info (are id info s there (get_before st (e ∷ []) info.place s (within id info there) at) is)
+module _ (st : List Sentence) (e : Sentence) (hs a : List Hypothesis)
+    (pairs b : List DistinctPair) (pieces c : List Piece) (named : List LabelInfo)
+    (within : ArePlaced st named) (are : AreFrames st hs pairs pieces named) where
+  -- a statement with no label
+  pub frames_other : AreFrames (st ++ e ∷ []) (hs ++ a) (pairs ++ b) (pieces ++ c) named
+  frames_other id info s there at is =
+      frame_grow st (e ∷ []) hs a pairs b pieces c info (are id info s there (get_before st (e ∷ []) info.place s (within id info there) at) is)
 
--- a hypothesis
-pub frames_hypothesis : (st : List Sentence) (e : Sentence) (hs a : List Hypothesis) (pairs b : List DistinctPair) (pieces c : List Piece) (named : List LabelInfo) (new : LabelInfo) → ArePlaced st named → AreFrames st hs pairs pieces named
-    → new.place ≡ length st → ¬ (IsAssertion e.kind) → AreFrames (st ++ e ∷ []) (hs ++ a) (pairs ++ b) (pieces ++ c) (named ++ new ∷ [])
-frames_hypothesis st e hs a pairs b pieces c named new within are place other id info s there at is = elim (pushed_cases named new id info there) [
-  | inl before ↦ frames_other st e hs a pairs b pieces c named within are id info s before at is
-  | inr (last, same) ↦
-      let here : info.place ≡ length st = ap (λ (i : LabelInfo). i.place) (sym same) ∙ place in
-      let e_is : e ≡ s = let one = get_pushed st e in cc in
-      absurd (other (rw e_is is))
-]
+  -- a hypothesis
+  pub frames_hypothesis : (new : LabelInfo) → new.place ≡ length st → ¬ (IsAssertion e.kind)
+      → AreFrames (st ++ e ∷ []) (hs ++ a) (pairs ++ b) (pieces ++ c) (named ++ new ∷ [])
+  frames_hypothesis new place other id info s there at is = elim (pushed_cases named new id info there) [
+    | inl before ↦ frames_other id info s before at is
+    | inr (last, same) ↦
+        let here : info.place ≡ length st = ap (λ (i : LabelInfo). i.place) (sym same) ∙ place in
+        let e_is : e ≡ s = let one = get_pushed st e in cc in
+        absurd (other (rw e_is is))
+  ]
 
--- an assertion
-pub frames_assertion : (st : List Sentence) (e : Sentence) (hs a : List Hypothesis) (pairs b : List DistinctPair) (pieces c : List Piece) (named : List LabelInfo) (new : LabelInfo) → ArePlaced st named → AreFrames st hs pairs pieces named
-    → IsFrameInfo (st ++ e ∷ []) (hs ++ a) (pairs ++ b) (pieces ++ c) new → AreFrames (st ++ e ∷ []) (hs ++ a) (pairs ++ b) (pieces ++ c) (named ++ new ∷ [])
-frames_assertion st e hs a pairs b pieces c named new within are frame id info s there at is = elim (pushed_cases named new id info there) [
-  | inl before ↦ frames_other st e hs a pairs b pieces c named within are id info s before at is
-  | inr (last, same) ↦ rw same at frame
-]
+  -- an assertion
+  pub frames_assertion : (new : LabelInfo)
+      → IsFrameInfo (st ++ e ∷ []) (hs ++ a) (pairs ++ b) (pieces ++ c) new
+      → AreFrames (st ++ e ∷ []) (hs ++ a) (pairs ++ b) (pieces ++ c) (named ++ new ∷ [])
+  frames_assertion new frame id info s there at is = elim (pushed_cases named new id info there) [
+    | inl before ↦ frames_other id info s before at is
+    | inr (last, same) ↦ rw same at frame
+  ]
 
 -- ---- the pairs that `$d` state
 

@@ -64,27 +64,8 @@ rising_few (x ∷ places) n rise within =
     let less = within (length places) p at in
     omega arith
 
--- there is a hypothesis for each place
-pub hypotheses_counted : (t : Tables) (log : List Entry) (flat : List Sym) (places : List ℕ) (hs : List Hypothesis) → AreMandatoryOf t log flat places hs → length hs ≡ length places
-hypotheses_counted t log flat places hs of = same_length _ _ hs places of.those.numbers
-
 pub same_counted : (old new : List Hypothesis) → AreSameButPatterns old new → length new ≡ length old
 same_counted old new same = sym (length-map new told) ∙ ap length same ∙ length-map old told
-
--- there are fewer hypotheses than numbers for places among them
-pub few_hypotheses : (t : Tables) (log : List Entry) (flat : List Sym) (places : List ℕ) (hs : List Hypothesis) → AreMandatoryOf t log flat places hs → length hs < 4294967296
-few_hypotheses t log flat places hs of =
-    let all = hypotheses_counted t log flat places hs of in
-    let few = rising_few places (length (statements_of t)) of.are_places.rising of.are_places.within in
-    let size = all_statements t in
-    omega arith
-
--- there is a hypothesis at each place
-pub counted : (t : Tables) (log : List Entry) (flat : List Sym) (places : List ℕ) (old hs : List Hypothesis) (i : ℕ) → AreMandatoryOf t log flat places old → AreSameButPatterns old hs → i < length places → i < length hs
-counted t log flat places old hs i of same lt =
-    let all = hypotheses_counted t log flat places old of in
-    let size = same_counted old hs same in
-    omega arith
 
 -- the label of the hypothesis at a place
 pub id_same : (st : List Sentence) (places : List ℕ) (hs : List Hypothesis) (i place : ℕ) (h : Hypothesis) → map (λ h. h.id.0) hs ≡ map (λ p. length (labelled_sentences (take p st))) places
@@ -95,23 +76,6 @@ id_same st places hs i place h numbers there at =
     let three = subst (λ ns. slice_get ns i ≡ Some h.id.0) numbers one in
     let joined : Some (length (labelled_sentences (take place st))) ≡ Some h.id.0 = sym two ∙ three in
     cc
-
--- a pattern of the statement at the place is that of the hypothesis
-pub pattern_has : (t : Tables) (log : List Entry) (flat : List Sym) (places numbers : List ℕ) (old hs : List Hypothesis) (pieces : List Piece) (i place : ℕ) (h : Hypothesis) (part : Part) → AreMandatoryOf t log flat places old
-    → AreSameButPatterns old hs → slice_get places i ≡ Some place → slice_get hs i ≡ Some h
-    → ((e : Sentence) → slice_get (statements_of t) place ≡ Some e → AreNumbers (statements_of t) numbers e.symbols)
-    → IsPatternAt (variables_of old) numbers pieces part → HasPattern (statements_of t) (variables_of old) pieces (record h { pattern = part })
-pattern_has t log flat places numbers old hs pieces i place h part of same there at says is =
-    let st = statements_of t in
-    let (e, at_e) = get_within st place (of.are_places.within i place there) in
-    let n = length (labelled_sentences (take place st)) in
-    let id : n ≡ h.id.0 = id_same st places hs i place h (ids_same old hs same ∙ of.those.numbers) there at in
-    let numbered = numbered_get st n place e (numbered_at st place e at_e (place_named st of.assertion places i place e of.tables.sound.1 of.are_places there at_e)) in
-    record {
-      ordered = is.ordered;
-      within = is.within;
-      says = λ untyped. (e, subst (λ k. slice_get (labelled_sentences st) k ≡ Some e) id numbered, (numbers, says e at_e, is.says));
-    }
 
 -- one hypothesis more
 pub first_step : (st : List Sentence) (old hs : List Hypothesis) (pieces c : List Piece) (i : ℕ) (h : Hypothesis) (part : Part) → HaveFirstPatterns st old hs pieces i → slice_get hs i ≡ Some h
@@ -164,19 +128,6 @@ pieces_added variables numbers old new more part is are at =
       says = subst (ArePieces variables numbers) (sym (added_part old more)) are;
     }))
 
--- the pattern of a `$e` was added
-pub essential_step : (t : Tables) (log : List Entry) (flat : List Sym) (places numbers : List ℕ) (old hs new : List Hypothesis) (pieces pieces' : List Piece) (i place : ℕ) (h : Hypothesis) (part : Part) → AreMandatoryOf t log flat places old
-    → HaveFirstPatterns (statements_of t) old hs pieces i → slice_get places i ≡ Some place → slice_get hs i ≡ Some h
-    → ((e : Sentence) → slice_get (statements_of t) place ≡ Some e → AreNumbers (statements_of t) numbers e.symbols)
-    → (length hs < 4294967296 → IsPatternAt (variables_of hs) numbers pieces' part) → IsLonger pieces pieces' → new ≡ set hs i (record h { pattern = part })
-    → HaveFirstPatterns (statements_of t) old new pieces' (i + 1)
-essential_step t log flat places numbers old hs new pieces pieces' i place h part of have there at says is (c, more) set_is =
-    let few = few_hypotheses t log flat places old of in
-    let size = same_counted old hs have.same in
-    let pattern = rw (variables_same old hs have.same) at (is (omega arith)) in
-    let has = rw more at (pattern_has _ _ _ _ numbers _ hs pieces' i place h part of have.same there at says pattern) in
-    rw set_is (rw more (first_step _ _ _ _ c _ h part have at has))
-
 -- a `$f` gets none
 pub typed_step : (st : List Sentence) (old hs new : List Hypothesis) (pieces : List Piece) (i : ℕ) (h : Hypothesis) → HaveFirstPatterns st old hs pieces i → slice_get hs i ≡ Some h → is_none h.typing ≡ false
     → new ≡ set hs i (record h { pattern = record { start = 0; end = 0 } }) → HaveFirstPatterns st old new pieces (i + 1)
@@ -185,17 +136,77 @@ typed_step st old hs new pieces i h have at typed set_is =
     rw set_is (rw (append-nil pieces) at
     (first_step _ _ _ _ [] _ h none have at (record { ordered = omega arith; within = omega arith; says = λ untyped. absurd cc })))
 
--- the patterns of the `$e` were added, and then that of the assertion
-pub all_step : {E : Type 0} (t : Tables) (log : List Entry) (flat : List Sym) (places numbers : List ℕ) (old hs shown : List Hypothesis) (pieces pieces' : List Piece) → AreMandatoryOf t log flat places old
-    → HaveFirstPatterns (statements_of t) old hs pieces (length places) → shown ≡ hs → IsLonger pieces pieces' → (result : Result Part E)
-    → (length shown < 4294967296 → IfOk result (IsPatternAt (variables_of shown) numbers pieces')) → IfOk result (ArePatterned (statements_of t) numbers old hs pieces')
-all_step t log flat places numbers old hs shown pieces pieces' of have is (c, more) result pattern =
-    let few = few_hypotheses t log flat places old of in
-    let size = same_counted old hs have.same in
-    let shown_size = ap length is in
-    let all = hypotheses_counted _ _ _ _ _ of in
-    IfOk-weaker result _ _ (λ part at. rw more
-    (first_all _ _ _ _ _ c _ _ have (sym all) (rw (← more) (rw is at (at)))))
-    (pattern (omega arith))
+module _ {t : Tables} {log : List Entry} {flat : List Sym} {places : List ℕ}
+    {old : List Hypothesis} (of : AreMandatoryOf t log flat places old) where
+  -- there is a hypothesis for each place
+  pub hypotheses_counted : length old ≡ length places
+  hypotheses_counted = same_length _ _ old places of.those.numbers
+
+  -- there are fewer hypotheses than numbers for places among them
+  pub few_hypotheses : length old < 4294967296
+  few_hypotheses =
+      let all = hypotheses_counted in
+      let few = rising_few places (length (statements_of t)) of.are_places.rising of.are_places.within in
+      let size = all_statements t in
+      omega arith
+
+  -- there is a hypothesis at each place
+  pub counted : (hs : List Hypothesis) (i : ℕ) → AreSameButPatterns old hs → i < length places
+      → i < length hs
+  counted hs i same lt =
+      let all = hypotheses_counted in
+      let size = same_counted old hs same in
+      omega arith
+
+  -- a pattern of the statement at the place is that of the hypothesis
+  pub pattern_has : (numbers : List ℕ) (hs : List Hypothesis) (pieces : List Piece) (i place : ℕ)
+      (h : Hypothesis) (part : Part)
+      → AreSameButPatterns old hs → slice_get places i ≡ Some place → slice_get hs i ≡ Some h
+      → ((e : Sentence) → slice_get (statements_of t) place ≡ Some e → AreNumbers (statements_of t) numbers e.symbols)
+      → IsPatternAt (variables_of old) numbers pieces part
+      → HasPattern (statements_of t) (variables_of old) pieces (record h { pattern = part })
+  pattern_has numbers hs pieces i place h part same there at says is =
+      let st = statements_of t in
+      let (e, at_e) = get_within st place (of.are_places.within i place there) in
+      let n = length (labelled_sentences (take place st)) in
+      let id : n ≡ h.id.0 = id_same st places hs i place h (ids_same old hs same ∙ of.those.numbers) there at in
+      let numbered = numbered_get st n place e (numbered_at st place e at_e (place_named st of.assertion places i place e of.tables.sound.1 of.are_places there at_e)) in
+      record {
+        ordered = is.ordered;
+        within = is.within;
+        says = λ untyped. (e, subst (λ k. slice_get (labelled_sentences st) k ≡ Some e) id numbered, (numbers, says e at_e, is.says));
+      }
+
+  -- the pattern of a `$e` was added
+  pub essential_step : (numbers : List ℕ) (hs new : List Hypothesis) (pieces pieces' : List Piece)
+      (i place : ℕ) (h : Hypothesis) (part : Part)
+      → HaveFirstPatterns (statements_of t) old hs pieces i → slice_get places i ≡ Some place
+      → slice_get hs i ≡ Some h
+      → ((e : Sentence) → slice_get (statements_of t) place ≡ Some e → AreNumbers (statements_of t) numbers e.symbols)
+      → (length hs < 4294967296 → IsPatternAt (variables_of hs) numbers pieces' part)
+      → IsLonger pieces pieces' → new ≡ set hs i (record h { pattern = part })
+      → HaveFirstPatterns (statements_of t) old new pieces' (i + 1)
+  essential_step numbers hs new pieces pieces' i place h part have there at says is (c, more) set_is =
+      let few = few_hypotheses in
+      let size = same_counted old hs have.same in
+      let pattern = rw (variables_same old hs have.same) at (is (omega arith)) in
+      let has = rw more at (pattern_has numbers hs pieces' i place h part have.same there at says pattern) in
+      rw set_is (rw more (first_step _ _ _ _ c _ h part have at has))
+
+  -- the patterns of the `$e` were added, and then that of the assertion
+  pub all_step : {E : Type 0} (numbers : List ℕ) (hs shown : List Hypothesis)
+      (pieces pieces' : List Piece)
+      → HaveFirstPatterns (statements_of t) old hs pieces (length places) → shown ≡ hs
+      → IsLonger pieces pieces' → (result : Result Part E)
+      → (length shown < 4294967296 → IfOk result (IsPatternAt (variables_of shown) numbers pieces'))
+      → IfOk result (ArePatterned (statements_of t) numbers old hs pieces')
+  all_step numbers hs shown pieces pieces' have is (c, more) result pattern =
+      let few = few_hypotheses in
+      let size = same_counted old hs have.same in
+      let shown_size = ap length is in
+      let all = hypotheses_counted in
+      IfOk-weaker result _ _ (λ part at. rw more
+      (first_all _ _ _ _ _ c _ _ have (sym all) (rw (← more) (rw is at (at)))))
+      (pattern (omega arith))
 
 pub ruleset pattern_steps = (take_all, pieces_step, pieces_added, same_part)

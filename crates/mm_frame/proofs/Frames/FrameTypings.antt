@@ -14,7 +14,8 @@ use Rattle.mm_frame.specs.declared.wide.WideDistinct.{WideDistinct}
 use Rattle.mm_frame.proofs.Frames.FrameLaws.{distinct_other}
 use Rattle.mm_frame.proofs.DistinctPairs.StatedPairs.{distinct_stated, span_distinct, held_distinct}
 use Rattle.mm_frame.specs.Mirror.Layout.{sentences_by, sentence_by, AreStated, label_by}
-use Rattle.mm_frame.specs.Mirror.Layout.{AreLabelInfos}
+use Rattle.mm_frame.specs.Mirror.Layout.{AreLabelInfos, statements_of}
+use Rattle.mm_frame.specs.declared.tables.Tables.{Tables}
 use Rattle.mm_frame.proofs.BookLists.GrownLists.{sentence_at, entry_at}
 use Rattle.mm_frame.specs.Mirror.Separated.{ordered_pair}
 use Rattle.mm_frame.proofs.DistinctPairs.AddedPairs.{ordered_less, ordered_more}
@@ -30,7 +31,6 @@ use Rattle.mm_frame.proofs.Frames.MandatoryHypotheses.{place_named}
 use Rattle.std.proofs.lemmas.Option.{slice_get-get_or}
 use Rattle.std.proofs.lemmas.List.{take_more, map-append}
 use Rattle.mm_frame.specs.declared.number.LabelId.{LabelId}
-use Rattle.mm_frame.specs.declared.tables.LabelInfo.{LabelInfo}
 
 -- ==== the variables that `$f` type, and their distinct pairs, by numbers
 
@@ -62,11 +62,10 @@ stated_below st names stated a b q x y all are at_a at_b lt =
     let here_a : slice_get names a ≡ Some x = rw all at_a in
     let here_b : slice_get names b ≡ Some y = rw all at_b in (
       (λ either. elim either [
-        | inl has ↦ span_distinct st names stated a b q x y all are here_a here_b lt has
-        | inr held ↦ held_distinct st names stated.wide a b q x y all are.wide here_a here_b
-            (λ same. omega arith) held
+        | inl has ↦ span_distinct are a b q x y all here_a here_b lt has
+        | inr held ↦ held_distinct are.wide a b q x y all here_a here_b (λ same. omega arith) held
       ]),
-      (λ distinct. distinct_stated st names stated a b q x y are here_a here_b lt distinct),
+      (λ distinct. distinct_stated are a b q x y here_a here_b lt distinct),
     )
 
 held_other : (st : List Sentence) (wide : List WideDistinct) (q a b : ℕ) → IsHeld st wide q a b
@@ -153,34 +152,37 @@ entry_labelled : (labels : List (List ℕ)) (label : Option LabelId) → is_some
 entry_labelled labels None named = absurd (cc)
 entry_labelled labels (Some id) named = (id, refl)
 
--- the label's number at the place of a mandatory hypothesis
-pub id_at : (symbols labels : List (List ℕ)) (flat : List Sym) (log : List Entry) (named : List LabelInfo) (s : Sentence) (places : List ℕ) (i p : ℕ) → AreLabelInfos (sentences_by symbols labels flat log) labels named log
-    → AllFormed (sentences_by symbols labels flat log) → ArePlaces (sentences_by symbols labels flat log) s places → slice_get places i ≡ Some p
-    → (id : LabelId) × (option_and_then (λ e. e.label) (slice_get log p) ≡ Some id) × (id.0 ≡ length (labelled_sentences (take p (sentences_by symbols labels flat log))))
-id_at symbols labels flat log named s places i p are formed are_places there =
-    let st = sentences_by symbols labels flat log in
-    let (h, at) = get_within st p (are_places.within i p there) in
-    let (e, at_e, says) = entry_at symbols labels flat log p h at in
-    let has : is_some h.label ≡ true = place_named st s places i p h formed are_places there at in
-    let (id, is) = entry_labelled labels e.label (ap (λ (t : Sentence). is_some t.label) says ∙ has) in
-    (id, ap (option_and_then (λ e. e.label)) at_e ∙ is, sym (are.logged p e id at_e is))
+module _ (t : Tables) {s : Sentence} {places : List ℕ} (i : ℕ)
+    (are : AreLabelInfos (statements_of t) t.labels.names t.named.items t.log.items)
+    (formed : AllFormed (statements_of t)) (are_places : ArePlaces (statements_of t) s places) where
+  -- the label's number at the place of a mandatory hypothesis
+  pub id_at : (p : ℕ) → slice_get places i ≡ Some p
+      → (id : LabelId) × (option_and_then (λ e. e.label) (slice_get t.log.items p) ≡ Some id)
+      × (id.0 ≡ length (labelled_sentences (take p (statements_of t))))
+  id_at p there =
+      let st = statements_of t in
+      let (h, at) = get_within st p (are_places.within i p there) in
+      let (e, at_e, says) = entry_at t.symbols.names t.labels.names t.flat.items t.log.items p h at in
+      let has : is_some h.label ≡ true = place_named st s places i p h formed are_places there at in
+      let (id, is) = entry_labelled t.labels.names e.label (ap (λ (u : Sentence). is_some u.label) says ∙ has) in
+      (id, ap (option_and_then (λ e. e.label)) at_e ∙ is, sym (are.logged p e id at_e is))
 
--- one place more
-pub those_step : (symbols labels : List (List ℕ)) (flat : List Sym) (log : List Entry) (named : List LabelInfo) (s : Sentence) (places : List ℕ) (i : ℕ) (new : Hypothesis) (hs : List Hypothesis)
-    → AreLabelInfos (sentences_by symbols labels flat log) labels named log → AllFormed (sentences_by symbols labels flat log) → ArePlaces (sentences_by symbols labels flat log) s places → i < length places
-    → option_and_then (λ e. e.label) (slice_get log (get_or places i 0)) ≡ Some new.id
-    → ((f : Sentence) → slice_get (sentences_by symbols labels flat log) (get_or places i 0) ≡ Some f → IsHypothesis f.kind → IsTypingOf (sentences_by symbols labels flat log) new.typing f)
-    → AreThoseAt (sentences_by symbols labels flat log) (take i places) hs
-    → AreThoseAt (sentences_by symbols labels flat log) (take (i + 1) places) (hs ++ new ∷ [])
-those_step symbols labels flat log named s places i new hs are formed are_places lt found says so_far =
-    let st = sentences_by symbols labels flat log in
-    let number : ℕ → ℕ = λ p. length (labelled_sentences (take p st)) in
-    let p = get_or places i 0 in
-    let there = slice_get-get_or places i 0 lt in
-    let (other, is, value) = id_at symbols labels flat log named s places i p are formed are_places there in
-    let same : new.id.0 ≡ number p = let e : other ≡ new.id = cc in ap (λ (j : LabelId). j.0) (sym e) ∙ value in
-    record {
-      numbers = map-append (λ (h : Hypothesis). h.id.0) hs (new ∷ []) ∙ ap (λ ns. ns ++ new.id.0 ∷ []) so_far.numbers ∙ ap (λ n. map number (take i places) ++ n ∷ []) same
-          ∙ sym (ap (map number) (take_more places i 0 lt) ∙ map-append number (take i places) (p ∷ []));
-      typed = each_pushed (HasTyping st) hs new so_far.typed (typing_at st s places i p new formed are_places there same says);
-    }
+  -- one place more
+  pub those_step : (new : Hypothesis) (hs : List Hypothesis) → i < length places
+      → option_and_then (λ e. e.label) (slice_get t.log.items (get_or places i 0)) ≡ Some new.id
+      → ((f : Sentence) → slice_get (statements_of t) (get_or places i 0) ≡ Some f
+      → IsHypothesis f.kind → IsTypingOf (statements_of t) new.typing f)
+      → AreThoseAt (statements_of t) (take i places) hs
+      → AreThoseAt (statements_of t) (take (i + 1) places) (hs ++ new ∷ [])
+  those_step new hs lt found says so_far =
+      let st = statements_of t in
+      let number : ℕ → ℕ = λ p. length (labelled_sentences (take p st)) in
+      let p = get_or places i 0 in
+      let there = slice_get-get_or places i 0 lt in
+      let (other, is, value) = id_at p there in
+      let same : new.id.0 ≡ number p = let e : other ≡ new.id = cc in ap (λ (j : LabelId). j.0) (sym e) ∙ value in
+      record {
+        numbers = map-append (λ (h : Hypothesis). h.id.0) hs (new ∷ []) ∙ ap (λ ns. ns ++ new.id.0 ∷ []) so_far.numbers ∙ ap (λ n. map number (take i places) ++ n ∷ []) same
+            ∙ sym (ap (map number) (take_more places i 0 lt) ∙ map-append number (take i places) (p ∷ []));
+        typed = each_pushed (HasTyping st) hs new so_far.typed (typing_at st s places i p new formed are_places there same says);
+      }

@@ -30,7 +30,7 @@ use Rattle.mm_frame.specs.Form.{AllFormed, HasItsLabel}
 use Rattle.mm_frame.specs.Frame.{IsMandatoryAt}
 use Rattle.mm_frame.specs.FramePlace.{AreHypotheses}
 use Rattle.mm_frame.proofs.Names.LabelNumbers.{numbered_get, numbered_at, labelled_grow}
-use Rattle.mm_frame.proofs.Frames.FrameLaws.{Rise, those_by_places, at_place}
+use Rattle.mm_frame.proofs.Frames.FrameLaws.{those_by_places, at_place}
 use Rattle.mm_frame.proofs.Rules.ObeyedRules.{mandatory_places, latest_is_variable}
 
 -- ==== gathering the places of the mandatory hypotheses
@@ -131,55 +131,60 @@ in_left xs ys p (i, there) = (i, get_kept xs ys i p there)
 in_right : (xs ys : List ℕ) (p : ℕ) → IsIn ys p → IsIn (xs ++ ys) p
 in_right xs ys p (i, there) = (length xs + i, get_after xs ys i p there)
 
--- one `$e` more
-pub gathered_more : (st : List Sentence) (names : List (List ℕ)) (infos : List SymbolInfo) (es : List ℕ) (q : ℕ) (h s : Sentence) (ns : List Sym) (places : List ℕ) → AreInfos st names infos → slice_get st q ≡ Some h
-    → AreNumbers st (map (λ n. n.0) ns) h.symbols → AreGathered st es s places → AreGathered st (es ++ q ∷ []) s ((places ++ q ∷ []) ++ floatings infos ns)
-gathered_more st names infos es q h s ns places are at_q numbers gathered =
-    let widen : (x : List ℕ) → StandsIn st es s x → StandsIn st (es ++ q ∷ []) s x = λ x stands. elim stands [
-      | inl in_it ↦ inl in_it
-      | inr (k, e, at, there, in_e) ↦ inr (k, e, in_left es (q ∷ []) k at, there, in_e)
-    ] in
-    let tell = λ (p : ℕ). floatings_tell st names infos ns h.symbols p are numbers in
-    record {
-      only = λ i p there. elim (append_cases (places ++ q ∷ []) (floatings infos ns) i p there) [
-        | inl front ↦ elim (pushed_cases places q i p front) [
-          | inl before ↦ elim (gathered.only i p before) [
-            | inl at ↦ inl (in_left es (q ∷ []) p at)
-            | inr (x, stands, latest) ↦ inr (x, widen x stands, latest)
+module _ {st : List Sentence} {names : List (List ℕ)} {infos : List SymbolInfo} (s : Sentence)
+    (ns : List Sym) (places : List ℕ) (are : AreInfos st names infos) where
+  -- one `$e` more
+  pub gathered_more : (es : List ℕ) (q : ℕ) (h : Sentence) → slice_get st q ≡ Some h
+      → AreNumbers st (map (λ n. n.0) ns) h.symbols → AreGathered st es s places
+      → AreGathered st (es ++ q ∷ []) s ((places ++ q ∷ []) ++ floatings infos ns)
+  gathered_more es q h at_q numbers gathered =
+      let widen : (x : List ℕ) → StandsIn st es s x → StandsIn st (es ++ q ∷ []) s x = λ x stands. elim stands [
+        | inl in_it ↦ inl in_it
+        | inr (k, e, at, there, in_e) ↦ inr (k, e, in_left es (q ∷ []) k at, there, in_e)
+      ] in
+      let tell = λ (p : ℕ). floatings_tell st names infos ns h.symbols p are numbers in
+      record {
+        only = λ i p there. elim (append_cases (places ++ q ∷ []) (floatings infos ns) i p there) [
+          | inl front ↦ elim (pushed_cases places q i p front) [
+            | inl before ↦ elim (gathered.only i p before) [
+              | inl at ↦ inl (in_left es (q ∷ []) p at)
+              | inr (x, stands, latest) ↦ inr (x, widen x stands, latest)
+            ]
+            | inr (last, same) ↦ inl (subst (IsIn (es ++ q ∷ [])) same (length es, get_pushed es q))
           ]
-          | inr (last, same) ↦ inl (subst (IsIn (es ++ q ∷ [])) same (length es, get_pushed es q))
-        ]
-        | inr (j, is, at) ↦ let (x, in_it, latest) = (tell p).0 (j, at) in
-            inr (x, inr (q, h, (length es, get_pushed es q), at_q, in_it), latest)
-      ];
-      each = λ p is. elim is [
-        | inl (i, at) ↦ elim (pushed_cases es q i p at) [
-          | inl before ↦ in_left (places ++ q ∷ []) (floatings infos ns) p (in_left places (q ∷ []) p (gathered.each p (inl (i, before))))
-          | inr (last, same) ↦ in_left (places ++ q ∷ []) (floatings infos ns) p (subst (IsIn (places ++ q ∷ [])) same (length places, get_pushed places q))
-        ]
-        | inr (x, stands, latest) ↦ elim stands [
-          | inl in_it ↦ in_left (places ++ q ∷ []) (floatings infos ns) p (in_left places (q ∷ []) p (gathered.each p (inr (x, inl in_it, latest))))
-          | inr (k, e, (i, at), there, in_e) ↦ elim (pushed_cases es q i k at) [
-            | inl before ↦ in_left (places ++ q ∷ []) (floatings infos ns) p (in_left places (q ∷ []) p (gathered.each p (inr (x, inr (k, e, (i, before), there, in_e), latest))))
-            | inr (last, same) ↦
-                let e_is : e ≡ h = let there_q = subst (λ m. slice_get st m ≡ Some e) (sym same) there in cc in
-                in_right (places ++ q ∷ []) (floatings infos ns) p ((tell p).1 (x, subst (λ (t : Sentence). Contains t.symbols x) e_is in_e, latest))
+          | inr (j, is, at) ↦ let (x, in_it, latest) = (tell p).0 (j, at) in
+              inr (x, inr (q, h, (length es, get_pushed es q), at_q, in_it), latest)
+        ];
+        each = λ p is. elim is [
+          | inl (i, at) ↦ elim (pushed_cases es q i p at) [
+            | inl before ↦ in_left (places ++ q ∷ []) (floatings infos ns) p (in_left places (q ∷ []) p (gathered.each p (inl (i, before))))
+            | inr (last, same) ↦ in_left (places ++ q ∷ []) (floatings infos ns) p (subst (IsIn (places ++ q ∷ [])) same (length places, get_pushed places q))
           ]
-        ]
-      ];
-    }
+          | inr (x, stands, latest) ↦ elim stands [
+            | inl in_it ↦ in_left (places ++ q ∷ []) (floatings infos ns) p (in_left places (q ∷ []) p (gathered.each p (inr (x, inl in_it, latest))))
+            | inr (k, e, (i, at), there, in_e) ↦ elim (pushed_cases es q i k at) [
+              | inl before ↦ in_left (places ++ q ∷ []) (floatings infos ns) p (in_left places (q ∷ []) p (gathered.each p (inr (x, inr (k, e, (i, before), there, in_e), latest))))
+              | inr (last, same) ↦
+                  let e_is : e ≡ h = let there_q = subst (λ m. slice_get st m ≡ Some e) (sym same) there in cc in
+                  in_right (places ++ q ∷ []) (floatings infos ns) p ((tell p).1 (x, subst (λ (t : Sentence). Contains t.symbols x) e_is in_e, latest))
+            ]
+          ]
+        ];
+      }
 
-pub gathered_step : (st : List Sentence) (names : List (List ℕ)) (infos : List SymbolInfo) (es xs : List ℕ) (i : ℕ) (s : Sentence) (ns : List Sym) (places pushed now : List ℕ) → AreInfos st names infos → AreEssentials st es
-    → xs ≡ es → i < length xs → ((h : Sentence) → slice_get st (get_or xs i 0) ≡ Some h → AreNumbers st (map (λ n. n.0) ns) h.symbols) → pushed ≡ places ++ get_or xs i 0 ∷ [] → now ≡ pushed ++ floatings infos ns
-    → AreGathered st (take i es) s places → AreGathered st (take (i + 1) es) s now
-gathered_step st names infos es xs i s ns places pushed now are essentials same lt says push add gathered =
-    let q = get_or xs i 0 in
-    let at : slice_get es i ≡ Some q = subst (λ ys. slice_get ys i ≡ Some q) same (slice_get-get_or xs i 0 lt) in
-    let (h, there, kind, active) = essentials.only i q at in
-    let front : take (i + 1) es ≡ take i es ++ q ∷ [] = subst (λ ys. take (i + 1) ys ≡ take i ys ++ q ∷ []) same (take_more xs i 0 lt) in
-    let more = gathered_more st names infos (take i es) q h s ns places are there (says h there) gathered in
-    let result : (places ++ q ∷ []) ++ floatings infos ns ≡ now = sym (add ∙ ap (λ ys. ys ++ floatings infos ns) push) in
-    subst (λ ys. AreGathered st ys s now) (sym front) (subst (λ ys. AreGathered st (take i es ++ q ∷ []) s ys) result more)
+  pub gathered_step : (es xs : List ℕ) (i : ℕ) (pushed now : List ℕ) → AreEssentials st es → xs ≡ es
+      → i < length xs
+      → ((h : Sentence) → slice_get st (get_or xs i 0) ≡ Some h → AreNumbers st (map (λ n. n.0) ns) h.symbols)
+      → pushed ≡ places ++ get_or xs i 0 ∷ [] → now ≡ pushed ++ floatings infos ns
+      → AreGathered st (take i es) s places → AreGathered st (take (i + 1) es) s now
+  gathered_step es xs i pushed now essentials same lt says push add gathered =
+      let q = get_or xs i 0 in
+      let at : slice_get es i ≡ Some q = subst (λ ys. slice_get ys i ≡ Some q) same (slice_get-get_or xs i 0 lt) in
+      let (h, there, kind, active) = essentials.only i q at in
+      let front : take (i + 1) es ≡ take i es ++ q ∷ [] = subst (λ ys. take (i + 1) ys ≡ take i ys ++ q ∷ []) same (take_more xs i 0 lt) in
+      let more = gathered_more (take i es) q h there (says h there) gathered in
+      let result : (places ++ q ∷ []) ++ floatings infos ns ≡ now = sym (add ∙ ap (λ ys. ys ++ floatings infos ns) push) in
+      subst (λ ys. AreGathered st ys s now) (sym front) (subst (λ ys. AreGathered st (take i es ++ q ∷ []) s ys) result more)
 
 -- ---- in order, each once
 
@@ -249,15 +254,6 @@ mandatory_gathered st essentials s p h meant last stated are there =
       ]),
     )
 
--- a hypothesis has a label
-hypothesis_named : (st : List Sentence) (s : Sentence) (p : ℕ) (h : Sentence) → AllFormed st → slice_get st p ≡ Some h → IsMandatoryAt st s p h → is_some h.label ≡ true
-hypothesis_named st s p h formed there (active, which) =
-    let named = (formed p h there).label in
-    elim which [
-      | inl essential ↦ let (l, is, label) = subst (λ k. HasItsLabel k h.label) essential named in ap is_some is
-      | inr (code, x, types, mandatory) ↦ let (l, is, label) = subst (λ k. HasItsLabel k h.label) types.0 named in ap is_some is
-    ]
-
 -- the numbers of the labels of the statements at places
 abbrev pub numbers_at : List Sentence → List ℕ → List ℕ
 numbers_at st places = map (λ p. length (labelled_sentences (take p st))) places
@@ -274,7 +270,7 @@ numbered_all st more (p ∷ places) (h ∷ hs) are named =
     cc
 
 -- Rising places, exactly those that are gathered, are those of the mandatory hypotheses.
-pub places_gathered : (st : List Sentence) (essentials places : List ℕ) (s : Sentence) → AllMeant st → IsMeant st s → IsStated s.kind → AreEssentials st essentials → Rise places → AreGathered st essentials s places → ArePlaces st s places
+pub places_gathered : (st : List Sentence) (essentials places : List ℕ) (s : Sentence) → AllMeant st → IsMeant st s → IsStated s.kind → AreEssentials st essentials → AreRisingPlaces places → AreGathered st essentials s places → ArePlaces st s places
 places_gathered st essentials places s meant last stated are rise gathered = record {
   rising = rise;
   within = λ i p there. elim (gathered.only i p there) [
@@ -290,7 +286,12 @@ places_gathered st essentials places s meant last stated are rise gathered = rec
 
 -- a mandatory hypothesis has a label
 pub place_named : (st : List Sentence) (s : Sentence) (places : List ℕ) (i p : ℕ) (h : Sentence) → AllFormed st → ArePlaces st s places → slice_get places i ≡ Some p → slice_get st p ≡ Some h → is_some h.label ≡ true
-place_named st s places i p h formed are there at = hypothesis_named st s p h formed at ((are.exact p h at).1 (contains_from_at places p (i, there)))
+place_named st s places i p h formed are there at =
+    let named = (formed p h at).label in
+    elim ((are.exact p h at).1 (contains_from_at places p (i, there))).1 [
+      | inl essential ↦ let (l, is, label) = subst (λ k. HasItsLabel k h.label) essential named in ap is_some is
+      | inr (code, x, types, mandatory) ↦ let (l, is, label) = subst (λ k. HasItsLabel k h.label) types.0 named in ap is_some is
+    ]
 
 -- The labels' numbers at these places are those of the mandatory hypotheses, once the assertion is added.
 pub hypotheses_from_places : (st : List Sentence) (places : List ℕ) (s : Sentence) (more : List Sentence) → AllFormed st → ArePlaces st s places → AreHypotheses (at_place (st ++ s ∷ more) (length st)) (numbers_at st places)

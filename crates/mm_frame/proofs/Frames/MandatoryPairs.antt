@@ -2,6 +2,7 @@
 use Rattle.std.proofs.Common.{◌≡◌, ◌↔◌, ℕ, ◌+◌, ◌<◌, inl, inr, Bool, true, false, IsTrue, length}
 use Rattle.std.proofs.Common.{take, get_or, List, [], ◌∷◌, ◌++◌, map, Contains, Option, Some, None}
 use Rattle.std.proofs.Common.{refl, sym, ap, ◌∙◌, subst, arith, slice_get, MatchOption, option_map}
+use Rattle.std.proofs.lemmas.Simd.{map-map}
 use Rattle.std.proofs.lemmas.Option.{slice_get_within, slice_get-get_or, slice_get_read}
 use Rattle.std.proofs.lemmas.Option.{get_or_from_slice_get}
 use Rattle.std.proofs.lemmas.Bool.{cases_order, false≢true}
@@ -39,6 +40,9 @@ use Rattle.mm_frame.proofs.Frames.FramePatterns.{id_same}
 one_name : (st : List Sentence) (n m : ℕ) (x y : List ℕ) → IsNumberOf st x n → IsNumberOf st y m → n ≡ m → x ≡ y
 one_name st n m x y at_n at_m same = cc
 
+pub second_of : (a b c d : List ℕ) (symbols : List (List ℕ)) → symbols ≡ a ∷ b ∷ [] → symbols ≡ c ∷ d ∷ [] → b ≡ d
+second_of a b c d symbols one other = cc
+
 -- two mandatory places whose `$f` type one variable are one
 one_type : (st : List Sentence) (s : Sentence) (places : List ℕ) (i j p q : ℕ) (f g : Sentence) (c d x : List ℕ) → AllMeant st → ArePlaces st s places → slice_get places i ≡ Some p → slice_get places j ≡ Some q
     → slice_get st p ≡ Some f → slice_get st q ≡ Some g → Types c x f → Types d x g → p ≡ q
@@ -61,56 +65,56 @@ typed_longer st places more n is = record {
   number = is.number;
 }
 
--- one place more, of a `$e`
-variables_pass : (st : List Sentence) (places : List ℕ) (p : ℕ) (f : Sentence) (variables : List Sym) → slice_get st p ≡ Some f → ¬ (f.kind ≡ Floating) → AreVariables st places variables → AreVariables st (places ++ p ∷ []) variables
-variables_pass st places p f variables there other are = record {
-  only = λ i n at. typed_longer st places (p ∷ []) n (are.only i n at);
-  each = λ k q g code x at_k at_q types. elim (pushed_cases places p k q at_k) [
-    | inl before ↦ are.each k q g code x before at_q types
-    | inr (last, same) ↦
-        let e = one_there st p f g there (subst (λ m. slice_get st m ≡ Some g) (sym same) at_q) in
-        absurd (other (ap (λ (s : Sentence). s.kind) e ∙ types.0))
-  ];
-  once = are.once;
-}
+module _ {st : List Sentence} {places : List ℕ} (p : ℕ) {f : Sentence} {variables : List Sym}
+    (there : slice_get st p ≡ Some f) (are : AreVariables st places variables) where
+  -- one place more, of a `$e`
+  variables_pass : ¬ (f.kind ≡ Floating) → AreVariables st (places ++ p ∷ []) variables
+  variables_pass other = record {
+    only = λ i n at. typed_longer st places (p ∷ []) n (are.only i n at);
+    each = λ k q g code x at_k at_q types. elim (pushed_cases places p k q at_k) [
+      | inl before ↦ are.each k q g code x before at_q types
+      | inr (last, same) ↦
+          let e = one_there st p f g there (subst (λ m. slice_get st m ≡ Some g) (sym same) at_q) in
+          absurd (other (ap (λ (s : Sentence). s.kind) e ∙ types.0))
+    ];
+    once = are.once;
+  }
 
-pub second_of : (a b c d : List ℕ) (symbols : List (List ℕ)) → symbols ≡ a ∷ b ∷ [] → symbols ≡ c ∷ d ∷ [] → b ≡ d
-second_of a b c d symbols one other = cc
-
--- one place more, of a `$f`
-variables_more : (st : List Sentence) (places : List ℕ) (p : ℕ) (f : Sentence) (code x : List ℕ) (n : Sym) (variables : List Sym) → slice_get st p ≡ Some f → Types code x f → IsNumberOf st x n.0
-    → ((i : ℕ) (m : Sym) → slice_get variables i ≡ Some m → ¬ (m.0 ≡ n.0)) → AreVariables st places variables → AreVariables st (places ++ p ∷ []) (variables ++ n ∷ [])
-variables_more st places p f code x n variables there types number new are = record {
-  only = each_pushed (IsTypedBy st (places ++ p ∷ [])) variables n
-      (λ i m at. typed_longer st places (p ∷ []) m (are.only i m at)) (record {
-        k = length places;
-        place = p;
-        in_places = get_pushed places p;
-        floating = f;
-        there = there;
-        code = code;
-        variable = x;
-        types = types;
-        number = number;
-      });
-  each = λ k q g c y at_k at_q types_g. elim (pushed_cases places p k q at_k) [
-    | inl before ↦ let (i, m, at, is) = are.each k q g c y before at_q types_g in (i, m, get_kept variables (n ∷ []) i m at, is)
-    | inr (last, same) ↦
-        let e = one_there st p f g there (subst (λ m. slice_get st m ≡ Some g) (sym same) at_q) in
-        let y_is : x ≡ y = second_of code x c y f.symbols types.1 (ap (λ (s : Sentence). s.symbols) e ∙ types_g.1) in
-        (length variables, n, get_pushed variables n, subst (λ z. IsNumberOf st z n.0) y_is number)
-  ];
-  once = λ i j a b at_i at_j same. elim (pushed_cases variables n i a at_i) [
-    | inl i_before ↦ elim (pushed_cases variables n j b at_j) [
-      | inl j_before ↦ are.once i j a b i_before j_before same
-      | inr (j_last, j_same) ↦ absurd (new i a i_before (same ∙ ap (λ (m : Sym). m.0) (sym j_same)))
-    ]
-    | inr (i_last, i_same) ↦ elim (pushed_cases variables n j b at_j) [
-      | inl j_before ↦ absurd (new j b j_before (sym same ∙ ap (λ (m : Sym). m.0) (sym i_same)))
-      | inr (j_last, j_same) ↦ i_last ∙ sym j_last
-    ]
-  ];
-}
+  -- one place more, of a `$f`
+  variables_more : (code x : List ℕ) (n : Sym) → Types code x f → IsNumberOf st x n.0
+      → ((i : ℕ) (m : Sym) → slice_get variables i ≡ Some m → ¬ (m.0 ≡ n.0))
+      → AreVariables st (places ++ p ∷ []) (variables ++ n ∷ [])
+  variables_more code x n types number new = record {
+    only = each_pushed (IsTypedBy st (places ++ p ∷ [])) variables n
+        (λ i m at. typed_longer st places (p ∷ []) m (are.only i m at)) (record {
+          k = length places;
+          place = p;
+          in_places = get_pushed places p;
+          floating = f;
+          there = there;
+          code = code;
+          variable = x;
+          types = types;
+          number = number;
+        });
+    each = λ k q g c y at_k at_q types_g. elim (pushed_cases places p k q at_k) [
+      | inl before ↦ let (i, m, at, is) = are.each k q g c y before at_q types_g in (i, m, get_kept variables (n ∷ []) i m at, is)
+      | inr (last, same) ↦
+          let e = one_there st p f g there (subst (λ m. slice_get st m ≡ Some g) (sym same) at_q) in
+          let y_is : x ≡ y = second_of code x c y f.symbols types.1 (ap (λ (s : Sentence). s.symbols) e ∙ types_g.1) in
+          (length variables, n, get_pushed variables n, subst (λ z. IsNumberOf st z n.0) y_is number)
+    ];
+    once = λ i j a b at_i at_j same. elim (pushed_cases variables n i a at_i) [
+      | inl i_before ↦ elim (pushed_cases variables n j b at_j) [
+        | inl j_before ↦ are.once i j a b i_before j_before same
+        | inr (j_last, j_same) ↦ absurd (new i a i_before (same ∙ ap (λ (m : Sym). m.0) (sym j_same)))
+      ]
+      | inr (i_last, i_same) ↦ elim (pushed_cases variables n j b at_j) [
+        | inl j_before ↦ absurd (new j b j_before (sym same ∙ ap (λ (m : Sym). m.0) (sym i_same)))
+        | inr (j_last, j_same) ↦ i_last ∙ sym j_last
+      ]
+    ];
+  }
 
 -- one place more
 pub variables_step : (st : List Sentence) (s : Sentence) (places : List ℕ) (i : ℕ) (found : Option Sym) (variables : List Sym) → AllMeant st → ArePlaces st s places → i < length places
@@ -119,7 +123,8 @@ pub variables_step : (st : List Sentence) (s : Sentence) (places : List ℕ) (i 
 variables_step st s places i None variables meant are lt says so_far =
     let p = get_or places i 0 in
     let (f, there) = get_within st p (are.within i p (slice_get-get_or places i 0 lt)) in
-    subst (λ ys. AreVariables st ys variables) (sym (take_more places i 0 lt)) (variables_pass st (take i places) p f variables there (says f there) so_far)
+    subst (λ ys. AreVariables st ys variables) (sym (take_more places i 0 lt)) (variables_pass p
+    there so_far (says f there))
 variables_step st s places i (Some n) variables meant are lt says so_far =
     let p = get_or places i 0 in
     let at_i : slice_get places i ≡ Some p = slice_get-get_or places i 0 lt in
@@ -134,7 +139,8 @@ variables_step st s places i (Some n) variables meant are lt says so_far =
     let place = one_type st s places typed.k i typed.place p typed.floating f typed.code code x meant are at_k at_i typed.there there (subst (λ y. Types typed.code y typed.floating) name typed.types) types in
     let below = are.rising typed.k i typed.place p at_k at_i (omega arith) in
     omega arith in
-    subst (λ ys. AreVariables st ys (variables ++ n ∷ [])) (sym (take_more places i 0 lt)) (variables_more st (take i places) p f code x n variables there types number new so_far)
+    subst (λ ys. AreVariables st ys (variables ++ n ∷ [])) (sym (take_more places i 0 lt)) (variables_more
+    p there so_far code x n types number new)
 
 -- ---- pairs
 
@@ -152,71 +158,73 @@ found_next st variables i pairs found = record {
   once = found.once;
 }
 
--- one pair more is no distinct pair
-pub found_passed : (st : List Sentence) (variables : List Sym) (i count : ℕ) (a b : Sym) (pairs : List (Sym × Sym)) → slice_get variables count ≡ Some a → slice_get variables i ≡ Some b → ¬ (AreApart st a b)
-    → AreFound st variables i count pairs → AreFound st variables i (count + 1) pairs
-found_passed st variables i count a b pairs at_a at_b not_apart found = record {
-  only = λ m pair there.
-      let (j, k, at_j, at_k, lt, reached, apart) = found.only m pair there in
-      (j, k, at_j, at_k, lt, elim reached [ inl below ↦ inl below | inr (same, below) ↦ inr (same, omega arith) ], apart);
-  each = λ j k c d at_j at_k lt reached apart. elim reached [
-    | inl below ↦ found.each j k c d at_j at_k lt (inl below) apart
-    | inr (same, below) ↦ elim (cases_order j count) [
-      | inl here ↦
-          let first : a ≡ c = let at = subst (λ n. slice_get variables n ≡ Some c) here at_j in cc in
-          let second : b ≡ d = let at = subst (λ n. slice_get variables n ≡ Some d) same at_k in cc in
-          absurd (not_apart (subst (λ m. AreApart st m b) (sym first) (subst (λ m. AreApart st c m) (sym second) apart)))
-      | inr (inl less) ↦ found.each j k c d at_j at_k lt (inr (same, less)) apart
-      | inr (inr more) ↦ absurd (omega arith)
-    ]
-  ];
-  once = found.once;
-}
+module _ {st : List Sentence} {variables : List Sym} {i count : ℕ} {a b : Sym}
+    {pairs : List (Sym × Sym)} (at_a : slice_get variables count ≡ Some a)
+    (at_b : slice_get variables i ≡ Some b) (found : AreFound st variables i count pairs) where
+  -- one pair more is no distinct pair
+  pub found_passed : ¬ (AreApart st a b) → AreFound st variables i (count + 1) pairs
+  found_passed not_apart = record {
+    only = λ m pair there.
+        let (j, k, at_j, at_k, lt, reached, apart) = found.only m pair there in
+        (j, k, at_j, at_k, lt, elim reached [ inl below ↦ inl below | inr (same, below) ↦ inr (same, omega arith) ], apart);
+    each = λ j k c d at_j at_k lt reached apart. elim reached [
+      | inl below ↦ found.each j k c d at_j at_k lt (inl below) apart
+      | inr (same, below) ↦ elim (cases_order j count) [
+        | inl here ↦
+            let first : a ≡ c = let at = subst (λ n. slice_get variables n ≡ Some c) here at_j in cc in
+            let second : b ≡ d = let at = subst (λ n. slice_get variables n ≡ Some d) same at_k in cc in
+            absurd (not_apart (subst (λ m. AreApart st m b) (sym first) (subst (λ m. AreApart st c m) (sym second) apart)))
+        | inr (inl less) ↦ found.each j k c d at_j at_k lt (inr (same, less)) apart
+        | inr (inr more) ↦ absurd (omega arith)
+      ]
+    ];
+    once = found.once;
+  }
 
--- one distinct pair more
-pub found_more : (st : List Sentence) (places : List ℕ) (variables : List Sym) (i count : ℕ) (a b : Sym) (pairs : List (Sym × Sym)) → AreVariables st places variables → slice_get variables count ≡ Some a → slice_get variables i ≡ Some b
-    → count < i → AreApart st a b → AreFound st variables i count pairs → AreFound st variables i (count + 1) (pairs ++ (a, b) ∷ [])
-found_more st places variables i count a b pairs are at_a at_b lt_i apart_ab found = record {
-  only = λ m pair there. elim (pushed_cases pairs (a, b) m pair there) [
-    | inl before ↦
-        let (j, k, at_j, at_k, lt, reached, apart) = found.only m pair before in
-        (j, k, at_j, at_k, lt, elim reached [ inl below ↦ inl below | inr (same, below) ↦ inr (same, omega arith) ], apart)
-    | inr (last, same) ↦ (
-      count,
-      i,
-      at_a ∙ ap (λ (p : Sym × Sym). Some p.0) same,
-      at_b ∙ ap (λ (p : Sym × Sym). Some p.1) same,
-      lt_i,
-      inr (refl, omega arith),
-      subst (λ (p : Sym × Sym). AreApart st p.0 p.1) same apart_ab,
-    )
-  ];
-  each = λ j k c d at_j at_k lt reached apart. elim reached [
-    | inl below ↦ let (m, there) = found.each j k c d at_j at_k lt (inl below) apart in (m, get_kept pairs ((a, b) ∷ []) m (c, d) there)
-    | inr (same, below) ↦ elim (cases_order j count) [
-      | inl here ↦ (length pairs, cc (get_pushed pairs (a, b)))
-      | inr (inl less) ↦ let (m, there) = found.each j k c d at_j at_k lt (inr (same, less)) apart in (m, get_kept pairs ((a, b) ∷ []) m (c, d) there)
-      | inr (inr more) ↦ absurd (omega arith)
-    ]
-  ];
-  once = λ m n p q at_m at_n first second. elim (pushed_cases pairs (a, b) m p at_m) [
-    | inl m_before ↦ elim (pushed_cases pairs (a, b) n q at_n) [
-      | inl n_before ↦ found.once m n p q m_before n_before first second
-      | inr (n_last, n_same) ↦ absurd (new_one m p m_before (first ∙ ap (λ (r : Sym × Sym). r.0.0) (sym n_same)) (second ∙ ap (λ (r : Sym × Sym). r.1.0) (sym n_same)))
-    ]
-    | inr (m_last, m_same) ↦ elim (pushed_cases pairs (a, b) n q at_n) [
-      | inl n_before ↦ absurd (new_one n q n_before (sym first ∙ ap (λ (r : Sym × Sym). r.0.0) (sym m_same)) (sym second ∙ ap (λ (r : Sym × Sym). r.1.0) (sym m_same)))
-      | inr (n_last, n_same) ↦ m_last ∙ sym n_last
-    ]
-  ];
-}
-  where
-    new_one : (m : ℕ) (p : Sym × Sym) → slice_get pairs m ≡ Some p → p.0.0 ≡ a.0 → p.1.0 ≡ b.0 → ⊥
-    new_one m p there first second =
-        let (j, k, at_j, at_k, lt, reached, apart) = found.only m p there in
-        let here = are.once j count p.0 a at_j at_a first in
-        let next = are.once k i p.1 b at_k at_b second in
-        elim reached [ inl below ↦ absurd (omega arith) | inr (same, below) ↦ absurd (omega arith) ]
+  -- one distinct pair more
+  pub found_more : (places : List ℕ) → AreVariables st places variables → count < i → AreApart st a b
+      → AreFound st variables i (count + 1) (pairs ++ (a, b) ∷ [])
+  found_more places are lt_i apart_ab = record {
+    only = λ m pair there. elim (pushed_cases pairs (a, b) m pair there) [
+      | inl before ↦
+          let (j, k, at_j, at_k, lt, reached, apart) = found.only m pair before in
+          (j, k, at_j, at_k, lt, elim reached [ inl below ↦ inl below | inr (same, below) ↦ inr (same, omega arith) ], apart)
+      | inr (last, same) ↦ (
+        count,
+        i,
+        at_a ∙ ap (λ (p : Sym × Sym). Some p.0) same,
+        at_b ∙ ap (λ (p : Sym × Sym). Some p.1) same,
+        lt_i,
+        inr (refl, omega arith),
+        subst (λ (p : Sym × Sym). AreApart st p.0 p.1) same apart_ab,
+      )
+    ];
+    each = λ j k c d at_j at_k lt reached apart. elim reached [
+      | inl below ↦ let (m, there) = found.each j k c d at_j at_k lt (inl below) apart in (m, get_kept pairs ((a, b) ∷ []) m (c, d) there)
+      | inr (same, below) ↦ elim (cases_order j count) [
+        | inl here ↦ (length pairs, cc (get_pushed pairs (a, b)))
+        | inr (inl less) ↦ let (m, there) = found.each j k c d at_j at_k lt (inr (same, less)) apart in (m, get_kept pairs ((a, b) ∷ []) m (c, d) there)
+        | inr (inr more) ↦ absurd (omega arith)
+      ]
+    ];
+    once = λ m n p q at_m at_n first second. elim (pushed_cases pairs (a, b) m p at_m) [
+      | inl m_before ↦ elim (pushed_cases pairs (a, b) n q at_n) [
+        | inl n_before ↦ found.once m n p q m_before n_before first second
+        | inr (n_last, n_same) ↦ absurd (new_one m p m_before (first ∙ ap (λ (r : Sym × Sym). r.0.0) (sym n_same)) (second ∙ ap (λ (r : Sym × Sym). r.1.0) (sym n_same)))
+      ]
+      | inr (m_last, m_same) ↦ elim (pushed_cases pairs (a, b) n q at_n) [
+        | inl n_before ↦ absurd (new_one n q n_before (sym first ∙ ap (λ (r : Sym × Sym). r.0.0) (sym m_same)) (sym second ∙ ap (λ (r : Sym × Sym). r.1.0) (sym m_same)))
+        | inr (n_last, n_same) ↦ m_last ∙ sym n_last
+      ]
+    ];
+  }
+    where
+      new_one : (m : ℕ) (p : Sym × Sym) → slice_get pairs m ≡ Some p → p.0.0 ≡ a.0 → p.1.0 ≡ b.0 → ⊥
+      new_one m p there first second =
+          let (j, k, at_j, at_k, lt, reached, apart) = found.only m p there in
+          let here = are.once j count p.0 a at_j at_a first in
+          let next = are.once k i p.1 b at_k at_b second in
+          elim reached [ inl below ↦ absurd (omega arith) | inr (same, below) ↦ absurd (omega arith) ]
 
 -- ---- the mandatory pairs
 
@@ -333,13 +341,13 @@ pairs_step st places variables others b i n d r pairs are same at_b lt all tells
     let b_is = are.only (length others) b at_b in
     let whole : take n st ≡ st = ap (λ m. take m st) all ∙ take-length st in
     let tell = tells a_is.variable b_is.variable a_is.number b_is.number in (
-      (λ is. found_more st places variables (length others) i a b pairs are at_a at_b lt
-          (a_is.variable, b_is.variable, a_is.number, b_is.number, subst (λ ys. IsDistinct ys a_is.variable b_is.variable) whole (tell.0 is)) found),
-      (λ is. found_passed st variables (length others) i a b pairs at_a at_b (λ (x, y, at_x, at_y, distinct).
+      (λ is. found_more at_a at_b found places are lt
+          (a_is.variable, b_is.variable, a_is.number, b_is.number, subst (λ ys. IsDistinct ys a_is.variable b_is.variable) whole (tell.0 is))),
+      (λ is. found_passed at_a at_b found (λ (x, y, at_x, at_y, distinct).
           let x_is = one_name st a.0 a.0 x a_is.variable at_x a_is.number refl in
           let y_is = one_name st b.0 b.0 y b_is.variable at_y b_is.number refl in
           let true_is = tell.1 (subst (λ ys. IsDistinct ys a_is.variable b_is.variable) (sym whole) (subst (λ z. IsDistinct st z b_is.variable) x_is (subst (λ z. IsDistinct st x z) y_is distinct))) in
-          cc) found),
+          cc)),
     )
 
 pub ruleset pair_steps = (pairs_step, found_next, all_statements)
@@ -385,13 +393,12 @@ pairs_among st s places hs pairs sound last stated are those pairs_are i pair th
     )
 
 -- the pairs with their places are the same pairs
-same_pairs : (placed : List DistinctPair) → map {B = ℕ × ℕ} (λ pair. (pair.variables.0.0, pair.variables.1.0)) placed ≡ map {B = ℕ × ℕ} (λ pair. (pair.0.0, pair.1.0)) (map (λ pair. pair.variables) placed)
-same_pairs [] = refl
-same_pairs (pair ∷ placed) = ap (λ (ns : List (ℕ × ℕ)). (pair.variables.0.0, pair.variables.1.0) ∷ ns) (same_pairs placed)
-
 pub pairs_named : (frame : FramePlace) (pairs : List (Sym × Sym)) (placed : List DistinctPair) → map (λ pair. pair.variables) placed ≡ pairs → ArePairs frame (map (λ pair. (pair.0.0, pair.1.0)) pairs)
     → ArePairs frame (map (λ pair. (pair.variables.0.0, pair.variables.1.0)) placed)
-pairs_named frame pairs placed is are = subst (ArePairs frame) (sym (same_pairs placed ∙ ap (λ (ps : List (Sym × Sym)). map {B = ℕ × ℕ} (λ pair. (pair.0.0, pair.1.0)) ps) is)) are
+pairs_named frame pairs placed is are =
+    let numbers : Sym × Sym → ℕ × ℕ = λ pair. (pair.0.0, pair.1.0) in
+    let variables : DistinctPair → Sym × Sym = λ pair. pair.variables in
+    subst (ArePairs frame) (ap (map numbers) (sym is) ∙ map-map numbers variables placed) are
 
 -- ---- one pair more
 

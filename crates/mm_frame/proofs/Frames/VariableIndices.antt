@@ -94,19 +94,11 @@ noted_untyped places variables noted n place first = elim (first_pushed n place 
   | inr (last, is) ↦ absurd (false≢true is)
 ]
 
--- it is one of those before already
-noted_again : (places : List ℕ) (variables : List (Option ℕ)) (m q : ℕ) → IsFirstAt m variables q → AreNoted places variables → AreNoted places (variables ++ Some m ∷ [])
-noted_again places variables m q known noted n place first = elim (first_pushed n place variables (Some m) first) [
-  | inl before ↦ noted n place before
-  | inr (last, is) ↦
-      let same : m ≡ n = (Decides-eqb m n).0 is in
-      let none = first.first q (let lt = known.within in omega arith) in
-      absurd (false≢true (sym none ∙ ap (is_of n) (get_or_append_left variables (Some m ∷ []) None q known.within) ∙ ap (λ (k : ℕ). is_of k (get_or variables q None)) (sym same) ∙ known.is))
-]
-
--- it is a new one, and is noted
-noted_new : (places : List ℕ) (variables : List (Option ℕ)) (m : ℕ) → m < length places → IsNowhere m variables → AreNoted places variables → AreNoted (set places m (length variables)) (variables ++ Some m ∷ [])
-noted_new places variables m lt nowhere noted n place first = elim (first_pushed n place variables (Some m) first) [
+-- by what is told of the symbol among those before: it is none of them, and is noted
+pub noted_by_none : (places : List ℕ) (variables : List (Option ℕ)) (m : ℕ) (told : Option ℕ) → is_some told ≡ false → MatchOption told (IsNowhere m variables) (IsFirstAt m variables) → m < length places → AreNoted places variables
+    → AreNoted (set places m (length variables)) (variables ++ Some m ∷ [])
+noted_by_none places variables m (Some q) is known lt noted n place first = absurd (cc)
+noted_by_none places variables m None is nowhere lt noted n place first = elim (first_pushed n place variables (Some m) first) [
   | inl before ↦
       let apart : ¬ (n ≡ m) = λ same. false≢true (sym (nowhere place) ∙ ap (λ (k : ℕ). is_of k (get_or variables place None)) (sym same) ∙ before.is) in
       get_set_other places m n (length variables) apart ∙ noted n place before
@@ -115,16 +107,17 @@ noted_new places variables m lt nowhere noted n place first = elim (first_pushed
       subst (λ k. slice_get (set places m (length variables)) k ≡ Some place) same (get_set_same places m (length variables) lt ∙ ap Some (sym last))
 ]
 
--- by what is told of the symbol among those before
-pub noted_by_none : (places : List ℕ) (variables : List (Option ℕ)) (m : ℕ) (told : Option ℕ) → is_some told ≡ false → MatchOption told (IsNowhere m variables) (IsFirstAt m variables) → m < length places → AreNoted places variables
-    → AreNoted (set places m (length variables)) (variables ++ Some m ∷ [])
-noted_by_none places variables m None is nowhere lt noted = noted_new places variables m lt nowhere noted
-noted_by_none places variables m (Some q) is known lt noted = absurd (cc)
-
+-- it is one of those before already
 pub noted_by_some : (places : List ℕ) (variables : List (Option ℕ)) (m : ℕ) (told : Option ℕ) → is_some told ≡ true → MatchOption told (IsNowhere m variables) (IsFirstAt m variables) → AreNoted places variables
     → AreNoted places (variables ++ Some m ∷ [])
-noted_by_some places variables m None is nowhere noted = absurd (cc)
-noted_by_some places variables m (Some q) is known noted = noted_again places variables m q known noted
+noted_by_some places variables m None is nowhere noted n place first = absurd (cc)
+noted_by_some places variables m (Some q) is known noted n place first = elim (first_pushed n place variables (Some m) first) [
+  | inl before ↦ noted n place before
+  | inr (last, is) ↦
+      let same : m ≡ n = (Decides-eqb m n).0 is in
+      let none = first.first q (let lt = known.within in omega arith) in
+      absurd (false≢true (sym none ∙ ap (is_of n) (get_or_append_left variables (Some m ∷ []) None q known.within) ∙ ap (λ (k : ℕ). is_of k (get_or variables q None)) (sym same) ∙ known.is))
+]
 
 -- the variables of one hypothesis more
 pub noted_more : (places : List ℕ) (hs : List Hypothesis) (i : ℕ) (d : Hypothesis) (typing : Option (Sym × Sym)) → i < length hs → (get_or hs i d).typing ≡ typing
@@ -143,14 +136,13 @@ pub variable_at : (hs : List Hypothesis) (k : ℕ) (d : Hypothesis) → k < leng
 variable_at hs k d lt =
     get_or-map (λ (h : Hypothesis). option_map (λ typing. typing.1.0) h.typing) hs k d None lt
 
--- behind the last there is none
-pub none_behind : (hs : List Hypothesis) (n k : ℕ) → length hs ≤ k → is_of n (slice_index_or (variables_of hs) k None) ≡ false
-none_behind [] n k le = refl
-none_behind (h ∷ hs) n zero le = absurd (omega arith)
-none_behind (h ∷ hs) n (suc k) le = none_behind hs n k (omega arith)
-
 pub variables_counted : (hs : List Hypothesis) → length (variables_of hs) ≡ length hs
 variables_counted hs = length-map hs _
+
+-- behind the last there is none
+pub none_behind : (hs : List Hypothesis) (n k : ℕ) → length hs ≤ k → is_of n (slice_index_or (variables_of hs) k None) ≡ false
+none_behind hs n k le =
+    ap (is_of n) (get_or_past (variables_of hs) k None (omega (arith, variables_counted hs)))
 
 -- ---- patterns stay what they are as statements and pieces are added
 

@@ -22,15 +22,12 @@ use Rattle.mm_frame.proofs.Names.NameNumbers.{declared_from_number}
 pub labelled_append : (st more : List Sentence) → labelled_sentences (st ++ more) ≡ labelled_sentences st ++ labelled_sentences more
 labelled_append st more = filter-append (λ (s : Sentence). is_some s.label) st more
 
-one_labelled : (e : Sentence) (b : Bool) → is_some e.label ≡ b → labelled_sentences (e ∷ []) ≡ cond b (e ∷ []) []
-one_labelled e b is = ap (λ c. cond c (e ∷ []) []) is
-
 -- one statement more, with a label or without
 pub labelled_push : (st : List Sentence) (e : Sentence) → is_some e.label ≡ true → labelled_sentences (st ++ e ∷ []) ≡ labelled_sentences st ++ e ∷ []
-labelled_push st e is = labelled_append st (e ∷ []) ∙ ap (λ ys. labelled_sentences st ++ ys) (one_labelled e true is)
+labelled_push st e is = labelled_append st (e ∷ []) ∙ ap (λ ys. labelled_sentences st ++ ys) (ap (λ c. cond c (e ∷ []) []) is)
 
 pub labelled_pass : (st : List Sentence) (e : Sentence) → is_some e.label ≡ false → labelled_sentences (st ++ e ∷ []) ≡ labelled_sentences st
-labelled_pass st e is = labelled_append st (e ∷ []) ∙ ap (λ ys. labelled_sentences st ++ ys) (one_labelled e false is) ∙ append-nil (labelled_sentences st)
+labelled_pass st e is = labelled_append st (e ∷ []) ∙ ap (λ ys. labelled_sentences st ++ ys) (ap (λ c. cond c (e ∷ []) []) is) ∙ append-nil (labelled_sentences st)
 
 -- the labelled statements before one, it, and those after it
 labelled_parts : (st : List Sentence) (p : ℕ) (s : Sentence) → slice_get st p ≡ Some s → is_some s.label ≡ true → labelled_sentences st ≡ labelled_sentences (take p st) ++ s ∷ labelled_sentences (drop (suc p) st)

@@ -2,10 +2,11 @@
 use Rattle.std.proofs.Common.{◌≡◌, ℕ, zero, suc, ◌<◌, inl, inr, List, [], ◌∷◌, ◌++◌, map, length}
 use Rattle.std.proofs.Common.{Option, Some, None, Contains, refl, sym, ap, ◌∙◌, subst, arith}
 use Rattle.std.proofs.Common.{MatchOption, Result, Ok, Err, IsOk, IfOk, bytes_eq, ◌⊎◌, true}
-use Rattle.std.proofs.Common.{append-nil, ◌+◌, get_or, if◌then◌else◌}
+use Rattle.std.proofs.Common.{append-nil, ◌+◌, get_or, if◌then◌else◌, option_map}
 use Rattle.std.specs.List.{slice_get, position, position_or_len, fold, flat_map, list_any}
 use Rattle.std.proofs.lemmas.Slice.Eq.{bytes_eq-Decides}
-use Rattle.std.proofs.lemmas.Option.{slice_get_within, slice_get-get_or, get_or_from_slice_get}
+use Rattle.std.proofs.lemmas.Option.{slice_get_within, slice_get-get_or, slice_get-map}
+use Rattle.std.proofs.lemmas.Option.{get_or_from_slice_get}
 use Rattle.std.proofs.lemmas.Bool.{cases_lt, false≢true, lt-ltb, cases_Bool}
 use Rattle.mm_frame.specs.declared.number.Sym.{Sym}
 use Rattle.std.proofs.lemmas.List.Quantifiers.{position-Some}
@@ -21,10 +22,6 @@ use Rattle.mm_frame.specs.Numbers.{declared_in, declared_by, with_name, symbols_
 use Rattle.std.proofs.lemmas.List.Folds.{Any-from_list_any, list_any_at}
 
 -- ==== names in lists of keys, by their bytes
-
-pub map_snoc : {X Y : Type 0} (f : X → Y) (xs : List X) (x : X) → map f (xs ++ x ∷ []) ≡ map f xs ++ f x ∷ []
-map_snoc f [] x = refl
-map_snoc f (y ∷ xs) x = ap (λ ys. f y ∷ ys) (map_snoc f xs x)
 
 -- what a name's place among keys says of the names
 pub place_of_name : (name : List ℕ) (xs : List (List ℕ)) (o : Option ℕ) → position (bytes_eq name) xs ≡ o
@@ -46,9 +43,7 @@ holds_if_ok (Err e) P ok h = absurd (cc ok)
 
 -- the element at a place of a mapped list
 pub get_mapped : {X Y : Type 0} (f : X → Y) (xs : List X) (i : ℕ) (x : X) → slice_get xs i ≡ Some x → slice_get (map f xs) i ≡ Some (f x)
-get_mapped f [] i x there = absurd (cc)
-get_mapped f (z ∷ xs) zero x there = let same : z ≡ x = cc in ap (λ y. Some (f y)) same
-get_mapped f (z ∷ xs) (suc i) x there = get_mapped f xs i x there
+get_mapped f xs i x there = slice_get-map f xs i ∙ ap (option_map f) there
 
 pub get_unmapped : {X Y : Type 0} (f : X → Y) (xs : List X) (i : ℕ) (y : Y) → slice_get (map f xs) i ≡ Some y → (x : X) × (slice_get xs i ≡ Some x) × (f x ≡ y)
 get_unmapped f [] i y there = absurd (cc)

@@ -7,14 +7,14 @@ use Rattle.std.specs.Int.{Width, w16, w32, w64, from_le_bytes, to_le_bytes}
 use Rattle.std.proofs.lemmas.Bool.{cases_lt, lt-ltb, le-ltb}
 use Rattle.std.proofs.lemmas.List.{drop-drop, take-append-drop, get_or-take, get_or-drop}
 use Rattle.std.proofs.lemmas.List.{length-take, length-drop, length-take-le, take_all, get_or_past}
-use Rattle.std.proofs.lemmas.List.{length-replicate, get_or-replicate, get_or-set_same}
-use Rattle.std.proofs.lemmas.List.{get_or-set_other, length-set}
+use Rattle.std.proofs.lemmas.List.{length-replicate, get_or-replicate}
+use Rattle.std.proofs.lemmas.List.{length-set}
 use Rattle.std.proofs.lemmas.Nat.{le_bytes_2, le_bytes_4, le_bytes_8}
 use Rattle.mm_frame.specs.Mirror.NameKey.{number_at, ends_by, ends_of}
 use Rattle.std.proofs.lemmas.Option.{slice_get_within, get_or_from_slice_get, slice_get-get_or}
 use Rattle.mm_frame.specs.Mirror.NameTable.{AreByByte}
 use Rattle.mm_frame.specs.Numbers.{with_name}
-use Rattle.mm_text.proofs.Lists.{get_pushed, pushed_cases, at_from_contains, contains_from_at}
+use Rattle.mm_text.proofs.Lists.{get_set_cases, get_pushed, pushed_cases, at_from_contains, contains_from_at}
 use Rattle.mm_frame.proofs.Names.NameNumbers.{with_name_cases, kept_with_name}
 
 -- ==== a name of 2 to 16 bytes is told by its first bytes and its last, as numbers
@@ -171,7 +171,15 @@ pub by_byte_of_new : (names : List (List ℕ)) (by_byte : List (Option ℕ)) (na
     → length names ≡ number → AreByByte names by_byte → AreByByte (with_name names name) (set by_byte (get_or name 0 0) (Some number))
 by_byte_of_new names by_byte name number one small unknown count are = record {
   count = length-set by_byte only (Some number) ∙ are.count;
-  each = λ byte found there. by byte found there (cases_lt byte only) (cases_lt only byte);
+  each = λ byte found there. elim (get_set_cases by_byte only byte (Some number) found there) [
+    | inl (here, told) ↦
+        let text : name ≡ byte ∷ [] = one_byte name one ∙ ap (λ (b : ℕ). b ∷ []) (sym here) in
+        subst (λ (o : Option ℕ). IsTold (with_name names name) (byte ∷ []) o) told
+        (rw (← count) (newly_told names name new) ∙ ap (λ (x : List ℕ). Some x) text)
+    | inr (apart, old) ↦ still_told names name (byte ∷ []) found
+        (λ e same. apart (sym (ap (λ (text : List ℕ). get_or text 0 0) same)))
+        (are.each byte found old)
+  ];
 }
   where
     only : ℕ
@@ -182,24 +190,6 @@ by_byte_of_new names by_byte name number one small unknown count are = record {
 
     new : ¬ (Contains names name)
     new = subst (λ (text : List ℕ). ¬ (Contains names text)) (sym (one_byte name one)) (are.each only None (slice_get-get_or by_byte only None within ∙ ap (λ (o : Option ℕ). Some o) unknown))
-
-    other : (byte : ℕ) (found : Option ℕ) → slice_get (set by_byte only (Some number)) byte ≡ Some found → byte ≢ only → IsTold (with_name names name) (byte ∷ []) found
-    other byte found there differ =
-        let inside : byte < length (set by_byte only (Some number)) = slice_get_within _ byte found there in
-        let long : length (set by_byte only (Some number)) ≡ length by_byte = length-set by_byte only (Some number) in
-        let old : get_or by_byte byte None ≡ found = sym (get_or-set_other by_byte only byte (Some number) None differ) ∙ get_or_from_slice_get _ byte found None there in
-        still_told names name (byte ∷ []) found (λ e same. differ (sym (ap (λ (text : List ℕ). get_or text 0 0) same)))
-        (are.each byte found (slice_get-get_or by_byte byte None (omega arith) ∙ ap (λ (o : Option ℕ). Some o) old))
-
-    by : (byte : ℕ) (found : Option ℕ) → slice_get (set by_byte only (Some number)) byte ≡ Some found → (byte < only) ⊎ (only ≤ byte) → (only < byte) ⊎ (byte ≤ only) → IsTold (with_name names name) (byte ∷ []) found
-    by byte found there (inl less) above = other byte found there (λ e. absurd (omega arith))
-    by byte found there (inr least) (inl more) = other byte found there (λ e. absurd (omega arith))
-    by byte found there (inr least) (inr most) =
-        let here : only ≡ byte = omega arith in
-        let told : Some number ≡ found = sym (get_or-set_same by_byte only (Some number) None within) ∙ ap (λ (i : ℕ). get_or (set by_byte only (Some number)) i None) here ∙ get_or_from_slice_get _ byte found None there in
-        let text : name ≡ byte ∷ [] = one_byte name one ∙ ap (λ (b : ℕ). b ∷ []) here in
-        let at : slice_get (with_name names name) number ≡ Some name = subst (λ (n : ℕ). slice_get (with_name names name) n ≡ Some name) count (newly_told names name new) in
-        subst (λ (o : Option ℕ). IsTold (with_name names name) (byte ∷ []) o) told (at ∙ ap (λ (x : List ℕ). Some x) text)
 
 -- what the table tells of a name of one byte
 pub found_by_byte : (names : List (List ℕ)) (by_byte : List (Option ℕ)) (name : List ℕ) → length name ≡ 1 → get_or name 0 0 < 256 → AreByByte names by_byte

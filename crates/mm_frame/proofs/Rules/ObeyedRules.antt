@@ -1,10 +1,9 @@
 -- What follows where no statement breaks a rule after those before it.
 use Rattle.std.proofs.Common.{◌≡◌, ◌≢◌, ◌↔◌, ℕ, suc, ◌<◌, ◌≤◌, inl, inr, length, take, drop, List}
 use Rattle.std.proofs.Common.{[], ◌∷◌, ◌++◌, Some, sym, ap, ◌∙◌, subst, append_assoc, arith}
-use Rattle.std.proofs.Common.{slice_get, Decides, bytes_eq, length-take-le, ◌⊎◌, Contains, refl}
+use Rattle.std.proofs.Common.{slice_get, length-take-le, ◌⊎◌, Contains, refl}
 use Rattle.std.proofs.lemmas.Option.{slice_get_within}
-use Rattle.std.proofs.lemmas.Bool.{cases_order, cases_Bool}
-use Rattle.std.proofs.lemmas.Slice.Eq.{bytes_eq-Decides}
+use Rattle.std.proofs.lemmas.Bool.{cases_order}
 use Rattle.std.proofs.lemmas.List.{take-append-drop, take-append-le}
 use Rattle.std.proofs.Math.Seq.{take-append_seam, take-length}
 use Rattle.mm_text.specs.declared.statement.Kind.TheVariants.{Constants, Variables, Essential}
@@ -24,7 +23,7 @@ use Rattle.mm_frame.proofs.Blocks.ActiveStatements.{unclosed_shorter, active_fal
 use Rattle.mm_frame.proofs.Blocks.ActiveStatements.{active_stays}
 use Rattle.mm_frame.proofs.Blocks.NumberedBlocks.{open_in}
 use Rattle.mm_frame.specs.Frame.{IsMandatory, IsMandatoryAt}
-use Rattle.mm_frame.proofs.Rules.DecidedStatements.{dec_or, variable_dec, constant_dec, typed_dec}
+use Rattle.mm_frame.proofs.Rules.DecidedStatements.{symbol_dec, dec_or, variable_dec, constant_dec, typed_dec}
 use Rattle.mm_frame.proofs.Rules.DecidedStatements.{unless_not}
 
 -- ==== what it gives that no statement breaks a rule after those before it
@@ -89,18 +88,10 @@ pub latest_typed : (st : List Sentence) (x : List ℕ) (p : ℕ) → AllMeant st
 latest_typed st x p meant latest =
     latest_active (λ f. (code : List ℕ) × Types code x f) st p (λ s there (code, types) some. meant_at st p s meant there M12 (code, x, types, some)) latest
 
-same_bytes : (c d : List ℕ) → ¬ (c ≢ d) → c ≡ d
-same_bytes c d apart_not =
-    let decides : Decides (bytes_eq c d) (c ≡ d) = bytes_eq-Decides c d in
-    elim (cases_Bool (bytes_eq c d)) [
-      | inl is ↦ decides.0 is
-      | inr is_not ↦ absurd (apart_not (λ e. let t = decides.1 e in cc))
-    ]
-
 -- A variable has one type code (by M13).
 one_code_ordered : (st : List Sentence) (x c d : List ℕ) (i j : ℕ) (f g : Sentence) → AllMeant st → i < j → slice_get st i ≡ Some f → slice_get st j ≡ Some g → Types c x f → Types d x g → c ≡ d
 one_code_ordered st x c d i j f g meant lt at_i at_j types_f types_g =
-    same_bytes c d (λ apart. meant_at st j g meant at_j M13 (d, x, types_g, some_earlier st (λ h. (other : List ℕ) × Types other x h × (other ≢ d)) i j f lt at_i (c, types_f, apart)))
+    unless_not (symbol_dec c d) (λ apart. meant_at st j g meant at_j M13 (d, x, types_g, some_earlier st (λ h. (other : List ℕ) × Types other x h × (other ≢ d)) i j f lt at_i (c, types_f, apart)))
 
 pub one_code : (st : List Sentence) (x c d : List ℕ) (i j : ℕ) (f g : Sentence) → AllMeant st → slice_get st i ≡ Some f → slice_get st j ≡ Some g → Types c x f → Types d x g → c ≡ d
 one_code st x c d i j f g meant at_i at_j types_f types_g = elim (cases_order i j) [

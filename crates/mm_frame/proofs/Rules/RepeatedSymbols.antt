@@ -8,13 +8,13 @@ use Rattle.std.specs.Iterator.{YieldsThen}
 use Rattle.std.specs.Fn.{Called}
 use denote.Param.Members.{Mut}
 use Rattle.std.proofs.lemmas.Option.{slice_get-map, slice_get_read, slice_get_cases}
-use Rattle.std.proofs.lemmas.Option.{slice_get_within, get_or_from_slice_get, slice_get-get_or}
+use Rattle.std.proofs.lemmas.Option.{slice_get-get_or}
 use Rattle.std.proofs.lemmas.Iterator.{YieldsList, cases_from_any}
 use Rattle.mm_text.specs.declared.token.Token.{Token}
 use Rattle.mm_text.specs.Token.{plain_token}
 use Rattle.mm_frame.specs.Sentence.{Sentence, StandsTwice}
 use Rattle.mm_frame.specs.Rules.{SomeSymbol}
-use Rattle.mm_text.proofs.Lists.{contains_from_at, take_next, get_from_take}
+use Rattle.mm_text.proofs.Lists.{at_from_contains, contains_from_at, take_next, get_from_take}
 use Rattle.mm_frame.specs.Numbers.{with_name}
 use Rattle.mm_frame.proofs.Names.NameNumbers.{with_name_cases, get_mapped}
 
@@ -23,10 +23,6 @@ use Rattle.mm_frame.proofs.Names.NameNumbers.{with_name_cases, get_mapped}
 -- some element is so, by its place
 abbrev pub SomeAt : {X : Type 0} → List X → (X → Type 0) → Type 0
 SomeAt {X} xs P = (place : ℕ) × (x : X) × (slice_get xs place ≡ Some x) × P x
-
-pub some_from_any : {X Y : Type 0} (v : X → Y) (P : Y → Type 0) (xs : List X) → Any (λ x. P (v x)) xs → SomeAt (map v xs) P
-some_from_any v P xs (k, x, lt, is, p) =
-    (k, v x, slice_get-map v xs k ∙ ap (λ o. option_map v o) (slice_get_read xs (length xs) k x refl lt (sym is)), p)
 
 -- the element of which it is said
 pub said_at : {X Y : Type 0} (v : X → Y) (P : Y → Type 0) (xs : List X) (k : ℕ) (y : Y) → slice_get (map v xs) k ≡ Some y → P y → (x : X) × (k < length xs) × (slice_index_or xs k x ≡ x) × P (v x)
@@ -38,9 +34,6 @@ said_at v P xs k y there p =
       | inr (le, none) ↦ absurd (let e = slice_get-map v xs k in cc)
     ]
 
-pub any_from_some : {X Y : Type 0} (v : X → Y) (P : Y → Type 0) (xs : List X) → SomeAt (map v xs) P → Any (λ x. P (v x)) xs
-any_from_some v P xs (k, y, there, p) = let (x, lt, is, q) = said_at v P xs k y there p in (k, x, lt, is, q)
-
 any_from_cases : {X : Type 0} (P : X → Type 0) (xs : List X) (r : Bool) → MatchBool r ((k : ℕ) × (k < length xs) × HoldsAt P xs k) (AllWithin (λ x. ¬ (P x)) xs 0 (length xs)) → IsTrue r ↔ Any P xs
 any_from_cases P xs true (k, lt, holds) =
     let here = elim (slice_get_cases xs k).1 as (λ _. Any P xs) [
@@ -50,19 +43,24 @@ any_from_cases P xs true (k, lt, holds) =
     ((λ _. here), (λ _. refl))
 any_from_cases P xs false h = ((λ t. absurd (cc t)), (λ (k, x, lt, is, p). absurd (h k x (omega arith) lt (subst P (sym is) p))))
 
-any_says : {S A B F : Type 0} {steps : S → Option A → S → Type 0} {v : A → B} {g : Mut F (A × Unit {0}) Bool} {s : S} {all : List B} (u : S) (f : F) (r : Bool) (P : B → Type 0)
-    → (xs : List A) × (o : Option A) × (j : F) × YieldsThen steps s xs o u × FoldsTo (λ p x q. Called g p (x, tt) false q) f xs j × MatchOption o (r ≡ false) (λ x. (r ≡ true) × ((h : F) × Called g j (x, tt) true h))
-    → YieldsList steps v s all → ((x : A) (b : Bool) (q : F) → Called g f (x, tt) b q → (q ≡ f) × (IsTrue b ↔ P (v x))) → IsTrue r ↔ Any P all
-any_says u f r P ran list calls =
-    any_from_cases P _ r (cases_from_any u f r P (λ x. ¬ (P x)) ran list (λ x q k. (calls x true q k).1.0 refl) (λ x q k. ((calls x false q k).0, λ p. absurd (let t : IsTrue false = (calls x false q k).1.1 p in cc t))))
-
 -- what `any` answers, where the closure answers whether P holds of what is said by the element
 pub some_says : {S A B F Y : Type 0} {steps : S → Option A → S → Type 0} {v : A → B} {g : Mut F (A × Unit {0}) Bool} {s : S} {all : List B} (w : B → Y) (P : Y → Type 0) (u : S) (f : F) (r : Bool)
     → (xs : List A) × (o : Option A) × (j : F) × YieldsThen steps s xs o u × FoldsTo (λ p x q. Called g p (x, tt) false q) f xs j × MatchOption o (r ≡ false) (λ x. (r ≡ true) × ((h : F) × Called g j (x, tt) true h))
     → YieldsList steps v s all → ((x : A) (b : Bool) (q : F) → Called g f (x, tt) b q → (q ≡ f) × (IsTrue b ↔ P (w (v x)))) → IsTrue r ↔ SomeAt (map w all) P
 some_says {all = all} w P u f r ran list calls =
-    let any = any_says u f r (λ x. P (w x)) ran list calls in
-    ((λ t. some_from_any w P all (any.0 t)), (λ s. any.1 (any_from_some w P all s)))
+    let any = any_from_cases (λ x. P (w x)) all r
+    (cases_from_any u f r (λ x. P (w x)) (λ x. ¬ (P (w x))) ran list
+    (λ x q k. (calls x true q k).1.0 refl)
+    (λ x q k. ((calls x false q k).0, λ p. absurd (cc ((calls x false q k).1.1 p))))) in (
+      (λ t. let (k, x, lt, is, p) = any.0 t in (
+        k,
+        w x,
+        slice_get-map w all k
+            ∙ ap (option_map w) (slice_get_read all (length all) k x refl lt (sym is)),
+        p,
+      )),
+      (λ (k, y, there, p). let (x, lt, is, q) = said_at w P all k y there p in any.1 (k, x, lt, is, q)),
+    )
 
 -- ==== the symbols of a statement, as its tokens spell them
 
@@ -74,20 +72,18 @@ pub texts : (tokens : List Token) → map (λ t. t.text) (map plain_token tokens
 texts [] = refl
 texts (t ∷ tokens) = ap (λ ts. t.text.now ∷ ts) (texts tokens)
 
-contains_from_some : {X : Type 0} (P : X → Type 0) (xs : List X) → SomeAt xs P → (x : X) × Contains xs x × P x
-contains_from_some P xs (k, x, there, p) = (x, (k, slice_get_within xs k x there, get_or_from_slice_get xs k x x there), p)
-
-some_from_contains : {X : Type 0} (P : X → Type 0) (xs : List X) → (x : X) × Contains xs x × P x → SomeAt xs P
-some_from_contains P xs (x, (k, lt, is), p) = (k, x, slice_get_read xs (length xs) k x refl lt (sym is), p)
-
 -- what `any` answers over the tokens of symbols, where the closure answers whether P holds of the symbol
 pub symbol_says : {S A F : Type 0} {steps : S → Option A → S → Type 0} {v : A → Token} {g : Mut F (A × Unit {0}) Bool} {s : S} {all : List Token} (P : List ℕ → Type 0) (u : S) (f : F) (r : Bool)
     → (xs : List A) × (o : Option A) × (j : F) × YieldsThen steps s xs o u × FoldsTo (λ p x q. Called g p (x, tt) false q) f xs j × MatchOption o (r ≡ false) (λ x. (r ≡ true) × ((h : F) × Called g j (x, tt) true h))
     → YieldsList steps v s all → ((x : A) (b : Bool) (q : F) → Called g f (x, tt) b q → (q ≡ f) × (IsTrue b ↔ P ((v x).text.now))) → IsTrue r ↔ SomeToken all P
 symbol_says {all = all} P u f r ran list calls =
     let said = some_says (λ (t : Token). t.text.now) P u f r ran list calls in
-    let Q : List (List ℕ) → Type 0 = λ xs. (x : List ℕ) × Contains xs x × P x in
-    ((λ t. subst Q (sym (texts all)) (contains_from_some P _ (said.0 t))), (λ q. said.1 (some_from_contains P _ (subst Q (texts all) q))))
+    let Q : List (List ℕ) → Type 0 = λ xs. (x : List ℕ) × Contains xs x × P x in (
+      (λ t. let (k, x, there, p) = said.0 t in
+          subst Q (sym (texts all)) (x, contains_from_at _ x (k, there), p)),
+      (λ q. let (x, in_it, p) = subst Q (texts all) q in
+          let (k, there) = at_from_contains _ x in_it in said.1 (k, x, there, p)),
+    )
 
 -- a test that holds, and then another
 pub with_test : {K Q : Type 0} (r : Bool) → K → (IsTrue r ↔ Q) → IsTrue r ↔ (K × Q)

@@ -5,6 +5,7 @@ use Rattle.std.proofs.Common.{option_map, unwrap_or, ◌≢◌, ◌⊎◌, inl, 
 use Rattle.std.proofs.Common.{false, take, Contains, is_some, not, rules, ◌+◌, get_or, ◌++◌}
 use Rattle.std.proofs.Common.{length-append}
 use Rattle.std.proofs.lemmas.Option.{slice_get_within, slice_get_cases}
+use Rattle.std.proofs.lemmas.List.{map-append}
 use Rattle.mm_frame.specs.declared.number.Sym.{Sym}
 use Rattle.mm_frame.specs.declared.tables.Entry.{Entry}
 use Rattle.mm_frame.specs.declared.tables.Tables.{Tables}
@@ -19,7 +20,7 @@ use Rattle.mm_frame.proofs.BookLists.GrownLists.{few_statements, all_statements}
 use Rattle.mm_text.proofs.Lists.{get_within, contains_from_at, at_from_contains, pushed_cases}
 use Rattle.mm_text.proofs.Lists.{take_next}
 use Rattle.mm_frame.proofs.Names.NameNumbers.{name_member, declared_from_number}
-use Rattle.mm_frame.proofs.Names.NameNumbers.{number_from_declared, get_alike, map_snoc}
+use Rattle.mm_frame.proofs.Names.NameNumbers.{number_from_declared, get_alike}
 use Rattle.mm_text.specs.declared.statement.Kind.TheVariants.{Variables}
 use Rattle.mm_frame.specs.declared.tables.SymbolInfo.{SymbolInfo}
 use Rattle.mm_frame.specs.Active.{IsActive, SomeActive, IsConstant, IsVariable, IsActiveSymbol}
@@ -364,7 +365,7 @@ sought_more st numbers n tokens i d lt are is =
     let one : i + 1 ≡ suc i = omega arith in
     let next : take (i + 1) (texts_of tokens) ≡ take i (texts_of tokens) ++ x ∷ [] =
     ap (λ k. take k (texts_of tokens)) one ∙ take_next (texts_of tokens) i x (text_at tokens i d lt) in
-    rw (map_snoc (λ (m : Sym). m.0) numbers n) (rw next (sought_pushed _ _ _ n.0 x are is))
+    rw (map-append (λ (m : Sym). m.0) numbers (n ∷ [])) (rw next (sought_pushed _ _ _ n.0 x are is))
 
 -- the numbers of declared symbols
 numbers_each : (st : List Sentence) (ns : List ℕ) (xs : List (List ℕ)) → length ns ≡ length xs

@@ -15,12 +15,13 @@ loop-place-preserved c s are =
     elim c.match-label_at.branch [
       | in-Some+in_ok-push-in-Some w ↦
           subst (AreThoseAt st (take (i + 1) places)) (sym (ap (λ v. v.items) w.hypotheses-is ∙ w.in_ok-push-in-Some.ensures.items))
-          (those_step t.symbols.names t.labels.names t.flat.items t.log.items t.named.items s places i (record { id = w.in-Some.id; typing = w.typing.result; pattern = record { start = 0; end = 0 } }) c.loop-place.hypotheses.items
-          c.requires.labels c.requires.sound.1 are c.loop-place-test.true (sym c.label_at.ensures ∙ w.in-Some.is) w.typing.ensures (c.loop-place.invariant s are))
+          (those_step t i c.requires.labels c.requires.sound.1 are
+          (record { id = w.in-Some.id; typing = w.typing.result; pattern = record { start = 0; end = 0 } })
+          c.loop-place.hypotheses.items c.loop-place-test.true
+          (sym c.label_at.ensures ∙ w.in-Some.is) w.typing.ensures (c.loop-place.invariant s are))
       | in-None w ↦
           let place = slice_get-get_or places i 0 c.loop-place-test.true in
-          let (id, is, value) = id_at t.symbols.names t.labels.names t.flat.items t.log.items
-          t.named.items s places i _ c.requires.labels c.requires.sound.1 are place in
+          let (id, is, value) = id_at t i c.requires.labels c.requires.sound.1 are _ place in
           absurd (cc (is, sym c.label_at.ensures ∙ w.in-None.is))
     ]
 

@@ -22,6 +22,7 @@ symbols_at-requires-clause-within c =
 
 pub loop-place-preserved : goal.loop-place-preserved
 loop-place-preserved c s numbers =
-    gathered_step _ _ _ _ _ c.loop-place.place-index _ c.symbols_at.result.now _ c.push.new.self.items
-    c.add_floating-in-loop-place.new.places.items c.requires.infos c.requires.essentials c.deref-place-items.ensures.value c.loop-place-test.true c.symbols_at.ensures c.in_ok-push.ensures.items c.in_ok-add_floating-2.ensures
-    (c.loop-place.invariant s numbers)
+    gathered_step _ c.symbols_at.result.now _ c.requires.infos _ _ c.loop-place.place-index
+    c.push.new.self.items c.add_floating-in-loop-place.new.places.items c.requires.essentials
+    c.deref-place-items.ensures.value c.loop-place-test.true c.symbols_at.ensures
+    c.in_ok-push.ensures.items c.in_ok-add_floating-2.ensures (c.loop-place.invariant s numbers)

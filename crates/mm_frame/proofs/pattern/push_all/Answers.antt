@@ -6,7 +6,7 @@ use Rattle.mm_frame.proofs.pattern.push_all.Goals as goal
 pub push_pattern-requires-clause-few : goal.push_pattern-requires-clause-few
 push_pattern-requires-clause-few c =
     let (t, of) = c.requires.mandatory in
-    let few = few_hypotheses t _ _ _ c.args.hypotheses.now.items of in
+    let few = few_hypotheses of in
     rw c.deref.ensures.value (subst (λ n. n < 4294967296) (sym c.push_patterns.ensures.count) few)
 
 pub push_pattern-requires-clause-noted : goal.push_pattern-requires-clause-noted
@@ -19,5 +19,6 @@ push_pattern-requires-clause-noted c =
 pub returns-clause-patterned : goal.returns-clause-patterned
 returns-clause-patterned c t of =
     let have = c.in_ok-push_patterns.ensures.patterned t of in
-    all_step t c.args.log.now c.args.flat.now c.args.places.now _ c.args.hypotheses.now.items c.push_patterns.new.hypotheses.items c.deref.result.now c.push_patterns.new.pieces.items c.push_pattern.new.pieces.items of
-    have c.deref.ensures.value c.push_pattern.ensures.longer c.push_pattern.result (λ few. c.push_pattern.ensures.part)
+    all_step of _ c.push_patterns.new.hypotheses.items c.deref.result.now
+    c.push_patterns.new.pieces.items c.push_pattern.new.pieces.items have c.deref.ensures.value
+    c.push_pattern.ensures.longer c.push_pattern.result (λ few. c.push_pattern.ensures.part)

@@ -30,9 +30,10 @@ loop-i-preserved c =
         patterned = λ t of.
             let have = c.loop-i.invariant.patterned t of in
             let there = slice_get-get_or c.args.places.now i 0 c.loop-i-test.true in
-            let (h, at) = get_within hs i (counted _ _ _ _ _ hs i of have.same c.loop-i-test.true) in
+            let (h, at) = get_within hs i (counted of hs i have.same c.loop-i-test.true) in
             let part = rw w.deref-then-is_essential.ensures.value at w.in_ok-pattern.ensures.part in
-            rw w.pieces-is (essential_step _ _ _ _ _ _ _ c.set_pattern.new.hypotheses.items _ w.push_pattern.new.pieces.items _ _ h w.in_ok-pattern.pattern of have there at
+            rw w.pieces-is (essential_step of _ _ c.set_pattern.new.hypotheses.items _
+            w.push_pattern.new.pieces.items _ _ h w.in_ok-pattern.pattern have there at
             (λ e at_e. w.symbols_in.ensures t e of.tables of.log_is of.flat_is at_e)
             (λ few. part) w.push_pattern.ensures.longer
             (c.set_pattern.ensures.noted h at ∙ ap (λ (part : Part). set hs i (record h { pattern = part })) w.pattern-is));
@@ -42,7 +43,7 @@ loop-i-preserved c =
         count = c.set_pattern.ensures.count ∙ c.loop-i.invariant.count;
         patterned = λ t of.
             let have = c.loop-i.invariant.patterned t of in
-            let (h, at) = get_within hs i (counted _ _ _ _ _ hs i of have.same c.loop-i-test.true) in
+            let (h, at) = get_within hs i (counted of hs i have.same c.loop-i-test.true) in
             let seen : slice_get c.deref.result.now i ≡ Some h = ap (λ ks. slice_get ks i) c.deref.ensures.value ∙ at in
             rw w.pieces-is (typed_step _ _ _ c.set_pattern.new.hypotheses.items _ _ h have at (sym (c.is_essential.ensures h seen) ∙ w.if-is_essential.false)
             (c.set_pattern.ensures.noted h at ∙ ap (λ (part : Part). set hs i (record h { pattern = part })) w.pattern-is));
@@ -58,7 +59,7 @@ pub is_essential-requires : goal.is_essential-requires
 is_essential-requires c =
     let (t, of) = c.requires.mandatory in
     let have = c.loop-i.invariant.patterned t of in
-    rw c.deref.ensures.value (counted _ _ _ _ _ _ _ of have.same c.loop-i-test.true)
+    rw c.deref.ensures.value (counted of _ _ have.same c.loop-i-test.true)
 
 pub symbols_in-requires : goal.symbols_in-requires
 symbols_in-requires c =
@@ -71,7 +72,8 @@ symbols_in-requires c =
 pub push_pattern-requires-clause-few : goal.push_pattern-requires-clause-few
 push_pattern-requires-clause-few c =
     let (t, of) = c.requires.mandatory in
-    rw c.deref-then-is_essential.ensures.value (omega (arith, c.loop-i.invariant.count, few_hypotheses t _ _ _ c.args.hypotheses.now.items of))
+    let few = few_hypotheses of in
+    rw c.deref-then-is_essential.ensures.value (omega (arith, c.loop-i.invariant.count))
 
 pub push_pattern-requires-clause-noted : goal.push_pattern-requires-clause-noted
 push_pattern-requires-clause-noted c =
@@ -83,4 +85,4 @@ push_pattern-requires-clause-noted c =
 pub set_pattern-requires : goal.set_pattern-requires
 set_pattern-requires c =
     let (t, of) = c.requires.mandatory in
-    counted _ _ _ _ _ _ _ of (c.loop-i.invariant.patterned t of).same c.loop-i-test.true
+    counted of _ _ (c.loop-i.invariant.patterned t of).same c.loop-i-test.true

@@ -7,7 +7,7 @@ innermost-outer-requires c =
     let s = c.args.self.now in
     let (st, a, more) = c.requires.scopes in
     let closes = more refl in
-    let two : 2 ≤ length s.open.items = omega (arith, (scope_depth _ _ _ _ _ a).0) in
+    let two : 2 ≤ length s.open.items = omega (arith, (scope_depth a).0) in
     some_under s.open.items c.pop.new.self.items c.pop.result two c.pop.ensures.items
     (λ some. c.pop.ensures.variant.1 (omega arith))
 

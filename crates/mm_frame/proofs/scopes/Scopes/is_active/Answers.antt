@@ -1,15 +1,13 @@
 use Rattle.std.proofs.Common.{rules, arith}
 use Rattle.mm_frame.proofs.Blocks.ScopeStack.{active_by_end, no_end}
-use Rattle.mm_frame.specs.declared.scopes.TheConstants.{NEVER}
 use Rattle.mm_frame.proofs.scopes.Scopes.is_active.Goals as goal
 
 pub returns : goal.returns
 returns c st a small =
-    active_by_end NEVER st _ _ _ c.args.place c.args.at c.in-Some.block c.in-Some-at_place.end
-    (search rules) (search rules) a small c.requires.place
-    (omega (arith, a.held, c.requires.within))
+    active_by_end a c.args.place c.args.at c.in-Some.block c.in-Some-at_place.end (search rules)
+    (search rules) small c.requires.place (omega (arith, a.held, c.requires.within))
 
 pub unreachable-requires : goal.unreachable-requires
 unreachable-requires c =
     let (st, a) = c.requires.scopes in
-    no_end NEVER st _ _ _ c.args.place c.in-Some.block (search rules) (search rules) a
+    no_end a c.args.place c.in-Some.block (search rules) (search rules)

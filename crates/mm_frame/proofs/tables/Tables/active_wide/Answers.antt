@@ -43,6 +43,5 @@ loop-preserved c =
     let not = c.if-is_active.false in cc) in
     record {
       within = omega arith;
-      none = active_next st t.symbols.names wide n w c.requires.stated.wide some there no
-          c.loop.invariant.none;
+      none = active_next c.requires.stated.wide n w some there no c.loop.invariant.none;
     }

@@ -91,7 +91,7 @@ find_places-requires-clause-few c =
     let (s, kind, numbered, meant) = c.requires.meant in
     let here = goal.at.find_places-requires-clause-few c in
     rw c.deref-4.ensures.value
-    (few_hypotheses c.args.self.now _ _ _ _ (found here.After-note s kind numbered meant))
+    (few_hypotheses (found here.After-note s kind numbered meant))
 
 pub find_places-requires-clause-among : goal.find_places-requires-clause-among
 find_places-requires-clause-among c =

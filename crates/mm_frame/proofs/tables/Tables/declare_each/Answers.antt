@@ -18,8 +18,10 @@ loop-token-init c = record {
 
 pub loop-token-preserved : goal.loop-token-preserved
 loop-token-preserved c = record {
-  taken = taken_next c.args.self.now c.loop-token.self c.declare.new.self c.args.kind (texts_of c.args.symbols.now) c.loop-token.token-index _ _ c.requires.tables c.requires.kind
-      c.loop-token.invariant.latest (text_at c.args.symbols.now c.loop-token.token-index _ (search rules)) c.loop-token.invariant.taken c.declare.ensures.taken;
+  taken = taken_next c.requires.tables c.requires.kind c.loop-token.invariant.latest
+      c.declare.ensures.taken (texts_of c.args.symbols.now) c.loop-token.token-index
+      (text_at c.args.symbols.now c.loop-token.token-index _ (search rules))
+      c.loop-token.invariant.taken;
   space = c.declare.ensures.room _ (subst (HasSpace c.loop-token.self) (omega arith) c.loop-token.invariant.space);
   latest = c.loop-token.invariant.latest;
 }

@@ -26,11 +26,13 @@ loop-j-preserved c =
       | then-not-is_distinct+in_ok-push w ↦
           let fresh = is_fresh st b.0 a.0 c.len.result c.is_distinct.result all c.is_distinct.ensures w.if-not-is_distinct.true in
           let pushed = ap (λ p. p.items) w.pairs-is ∙ w.in_ok-push.ensures.items ∙ ap (λ p. so_far ++ p ∷ []) w.in_order.ensures in
-          subst (ArePaired st members i (j + 1)) (sym pushed) (paired_push st members i j a b so_far c.loop-j-test.true at_j at_i fresh c.loop-j.invariant)
+          subst (ArePaired st members i (j + 1)) (sym pushed) (paired_push at_j at_i
+          c.loop-j.invariant c.loop-j-test.true fresh)
       | else-not-is_distinct w ↦
           let old = is_old st b.0 a.0 c.len.result c.is_distinct.result all c.is_distinct.ensures w.if-not-is_distinct.false in
           let same = ap (λ p. p.items) w.pairs-is in
-          subst (ArePaired st members i (j + 1)) (sym same) (paired_pass st members i j a b so_far at_j at_i old c.loop-j.invariant)
+          subst (ArePaired st members i (j + 1)) (sym same) (paired_pass at_j at_i
+          c.loop-j.invariant old)
     ]
 
 pub returns : goal.returns

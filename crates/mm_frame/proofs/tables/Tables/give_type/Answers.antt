@@ -1,4 +1,4 @@
-use Rattle.std.proofs.Common.{sym, ap, ◌∙◌, ◌≡◌, length, [], Some, None, arith, slice_get, subst}
+use Rattle.std.proofs.Common.{refl, sym, ap, ◌∙◌, ◌≡◌, length, [], Some, None, arith, slice_get, subst}
 use Rattle.mm_text.specs.declared.statement.Kind.TheVariants.{Floating}
 use Rattle.mm_frame.specs.declared.answer.Taken.TheVariants.{Hypothesis}
 use Rattle.mm_frame.proofs.BookLists.GrownLists.{on_err, same_tables}
@@ -45,13 +45,12 @@ returns-clause-ok c =
                 let found : Some w.in-Some.variable ≡ Some n = sym w.in-Some.is ∙ c.at.ensures ∙ second in
                 let is_second : w.in-Some.variable ≡ n = cc in
                 let place : w.len.result ≡ length t.log.items = let size = ap length same.log in omega arith in
-                typed t c.match-at.self c.name-id.new.self s code x n info c.args.label.now c.args.numbers.now _ c.name-id.result c.args.bytes c.requires.tables
-                (subst (λ u. Before t u [] [] []) (sym w.self-is) (search b))
-                types.1 named there
+                typed c.requires.tables (subst (λ u. Before t u [] [] []) (sym w.self-is) (search b))
+                c.name-id.ensures.named c.name-id.ensures.id is c.requires.enough c.requires.room
+                code x n info refl types.1 named there
                 (rw w.self-is (noted c.reserve.new.self.infos.items t.infos.items w.note_floating.new.infos.items w.in-Some.variable n info w.len.result (length t.log.items)
                 same.infos is_second place there w.note_floating.ensures))
                 (rw w.self-is same.essentials)
-                c.name-id.ensures.named c.name-id.ensures.id is c.requires.enough c.requires.room
             | in-None w ↦ absurd (let found : None ≡ Some n = sym w.in-None.is ∙ c.at.ensures ∙ second in cc)
           ],
     )

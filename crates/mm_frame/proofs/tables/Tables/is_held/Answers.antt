@@ -37,8 +37,8 @@ loop-preserved c =
       | then-last-at x ↦ record {
         within = let is = x.left-is in omega arith;
         none = subst (NoneFrom P wide) (sym x.left-is)
-            (held_next st t.symbols.names wide c.args.at c.args.a.0 c.args.b.0 n w
-            wides c.requires.within some there no c.loop.invariant.none x.if-last-at.true);
+            (held_next wides c.args.at c.args.a.0 c.args.b.0 n w c.requires.within some there no
+            c.loop.invariant.none x.if-last-at.true);
       }
       | else-last-at x ↦ record {
         within = let is = x.left-is in omega arith;

@@ -32,6 +32,6 @@ returns-clause-ok c = (
       (record { kind = kind; label = label; numbered = numbers; meant = meant; formed = formed })
       c.requires.enough c.requires.room refl (e.essentials ∙ same.essentials)
       (subst (AreStated ((statements_of t) ++ s ∷ []) t.symbols.names) (sym stated)
-      (stated_wide _ s _ _ _ _ c.requires.tables.infos.all
-      c.requires.tables.stated kind numbers c.in_ok-wide.ensures)),
+      (stated_wide _ s _ _ _ c.requires.tables.infos.all kind numbers _ c.requires.tables.stated
+      c.in_ok-wide.ensures)),
 )

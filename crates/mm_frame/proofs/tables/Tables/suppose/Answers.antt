@@ -1,4 +1,4 @@
-use Rattle.std.proofs.Common.{◌≡◌, ap, ◌∙◌, length, arith, ◌++◌, ◌∷◌, []}
+use Rattle.std.proofs.Common.{◌≡◌, refl, ap, ◌∙◌, length, arith, ◌++◌, ◌∷◌, []}
 use Rattle.mm_frame.specs.declared.answer.Taken.TheVariants.{Hypothesis}
 use Rattle.mm_frame.proofs.BookLists.GrownLists.{on_err, same_tables}
 use Rattle.mm_frame.proofs.BookLists.LabelledStatements.{few_labels, next_number, before_same}
@@ -19,10 +19,10 @@ returns-clause-ok c =
     let b = before_same _ _ same in (
       ap Hypothesis (next_number _ c.name-id.result c.requires.tables (c.name-id.ensures.id ∙ ap length same.labels)),
       λ s kind label numbered meant formed.
-          supposed _ (record c.reserve.new.self { essentials = c.put.new.list }) _ s _ _ _ _ _
-          c.requires.tables (search b) same.infos
-          (c.put.ensures ∙ ap (λ ys. ys ++ c.len.result ∷ []) same.essentials ∙ ap (λ n. t.essentials.items ++ n ∷ []) place)
-          c.name-id.ensures.named c.name-id.ensures.id
+          supposed {u = record c.reserve.new.self { essentials = c.put.new.list }} c.requires.tables
+          (search b) c.name-id.ensures.named c.name-id.ensures.id
           (record { kinds = kind; label = label; numbered = numbered; meant = meant; formed = formed })
-          c.requires.enough c.requires.room,
+          c.requires.enough c.requires.room refl same.infos
+          (c.put.ensures ∙ ap (λ ys. ys ++ c.len.result ∷ []) same.essentials
+          ∙ ap (λ n. t.essentials.items ++ n ∷ []) place),
     )

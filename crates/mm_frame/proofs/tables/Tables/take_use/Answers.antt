@@ -13,9 +13,8 @@ take_labelled-requires-clause-enough c =
 pub returns-in-Some-clause-ok : goal.returns-in-Some-clause-ok
 returns-in-Some-clause-ok c =
     let are = numbers_used _ _ _ c.requires.numbers c.requires.meant c.requires.kind in
-    labelled_use c.take_labelled.result c.args.self.now _ c.args.statement.now c.in-Some.label
-    c.args.numbers.now _ c.in-Some.is are c.requires.meant c.requires.formed
-    c.take_labelled.ensures.ok
+    labelled_use c.take_labelled.result c.args.self.now _ c.args.statement.now c.args.numbers.now _
+    are c.requires.meant c.requires.formed c.in-Some.label c.in-Some.is c.take_labelled.ensures.ok
 
 pub separate_all-requires-clause-enough : goal.separate_all-requires-clause-enough
 separate_all-requires-clause-enough c =
@@ -26,9 +25,8 @@ separate_all-requires-clause-enough c =
 pub returns-in-None-clause-ok : goal.returns-in-None-clause-ok
 returns-in-None-clause-ok c =
     let are = numbers_used _ _ _ c.requires.numbers c.requires.meant c.requires.kind in
-    unlabelled_uses c.separate_all.result c.args.self.now _ c.args.statement.now
-    c.args.numbers.now _ c.in-None.is c.requires.kind are c.requires.meant c.requires.formed
-    c.separate_all.ensures.ok
+    unlabelled_uses c.separate_all.result c.args.self.now _ c.args.statement.now c.args.numbers.now
+    _ are c.requires.meant c.requires.formed c.in-None.is c.requires.kind c.separate_all.ensures.ok
 
 pub take_labelled-requires-clause-meant : goal.take_labelled-requires-clause-meant
 take_labelled-requires-clause-meant c =
