@@ -310,16 +310,16 @@ get_push xs x y i e = ⊎_elim inl (λ last. inr last.1) (pushed_cases xs x i y 
 -- ---- marks
 
 pub marked_none : (entries : List ℕ) (marks : List Bool) → ((place : ℕ) → get_or marks place false ≡ false) → AreMarked entries [] marks
-marked_none entries marks none = record {
-  named = λ place t. absurd (false≢true (sym (none place) ∙ t));
+marked_none entries marks unset = record {
+  named = λ place t. absurd (false≢true (sym (unset place) ∙ t));
   marked = λ i id e. absurd (none-some (name id) e);
 }
 
 pub none_more : (marks : List Bool) → ((place : ℕ) → get_or marks place false ≡ false) → (place : ℕ) → get_or (marks ++ false ∷ []) place false ≡ false
-none_more [] none zero = refl
-none_more [] none (suc place) = refl
-none_more (m ∷ marks) none zero = none 0
-none_more (m ∷ marks) none (suc place) = none_more marks (λ k. none (suc k)) place
+none_more [] unset zero = refl
+none_more [] unset (suc place) = refl
+none_more (m ∷ marks) unset zero = unset 0
+none_more (m ∷ marks) unset (suc place) = none_more marks (λ k. unset (suc k)) place
 
 pub ruleset mark_steps = (marked_none, none_more)
 

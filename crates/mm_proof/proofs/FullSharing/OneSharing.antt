@@ -49,7 +49,7 @@ covers_apart (tree label below right) b v p =
 
 module _ (label : List ℕ) (below : Trees) where
   -- one tree, made or repeated
-  covers_made_one : (v : List Visit) → Covers below v
+  pub covers_made_one : (v : List Visit) → Covers below v
       → Covers (tree label below none) (v ++ makes (tree label below none) ∷ [])
   covers_made_one v p =
       let steps : List Visit = v ++ makes (tree label below none) ∷ [] in
@@ -69,7 +69,7 @@ ones_push kept label below ones t h = ⊎_elim (λ a. ones t a) (λ e. (label, b
     (in_push kept (tree label below none) t h)
 
 -- what moves do covers what they make
-pub covers_made : (before : List Sentence) (moves : List (Move (List ℕ))) (row : Trees)
+covers_made : (before : List Sentence) (moves : List (Move (List ℕ))) (row : Trees)
     (kept : List Trees) (row' : Trees) (kept' : List Trees)
     (m : Makes before moves row kept row' kept') (v : List Visit)
     → AreOnes kept → Covers row v → Covers row'

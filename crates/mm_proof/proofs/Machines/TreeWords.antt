@@ -116,14 +116,14 @@ parts_make stack items shelf item rest below kept label end many whole begins en
           (zip_weaker _ _ (part_later _ (label ∷ [])) shelf kept h.shelved);
     }
 
-pub parts_repeat : (stack shelf : List Part) (item again : Part) (row : Trees) (kept : List Trees) (label : List ℕ) (below : Trees) → IsKept shelf kept item label below → again.start ≡ length (spelling row)
-    → again.end ≡ again.start + (item.end - item.start) → ArePartsOf stack row shelf kept → ArePartsOf (stack ++ again ∷ []) (beside row (tree label below none)) shelf kept
-parts_repeat stack shelf item again row kept label below is start end h =
+pub parts_repeat : (stack shelf : List Part) (item repeated : Part) (row : Trees) (kept : List Trees) (label : List ℕ) (below : Trees) → IsKept shelf kept item label below → repeated.start ≡ length (spelling row)
+    → repeated.end ≡ repeated.start + (item.end - item.start) → ArePartsOf stack row shelf kept → ArePartsOf (stack ++ repeated ∷ []) (beside row (tree label below none)) shelf kept
+parts_repeat stack shelf item repeated row kept label below is start end h =
     let t : Trees = tree label below none in
     let count = part_count (spelling row) item t (kept_part stack shelf item row kept label below is h) in
     let long = length-append (spelling below) (label ∷ []) in
     record {
-      parts = parts_join 0 stack (again ∷ []) row t h.parts (omega arith, omega arith, tt);
+      parts = parts_join 0 stack (repeated ∷ []) row t h.parts (omega arith, omega arith, tt);
       shelved = rw spelling-beside (zip_weaker _ _ (part_later _ (spelling t)) shelf kept h.shelved);
     }
 

@@ -122,14 +122,14 @@ some_unless (Some x) h = refl
 module _ (before : List Sentence) (label : List ℕ) (place : ℕ) (assertion : Sentence)
     (hypotheses : List Sentence) where
   module _ (entries : List (List (List ℕ))) where
-    found_mandatory : Names before label place assertion hypotheses → (x : List ℕ)
+    pub found_mandatory : Names before label place assertion hypotheses → (x : List ℕ)
         → IsSome (replaced_by hypotheses entries x) → IsMandatory (take place before) assertion x
     found_mandatory names x some =
         let f = replaced_found hypotheses entries x some in
         let t = typing_of before label place assertion hypotheses f.0 f.1 names f.3 f.4.0 in
         subst (IsMandatory (take place before) assertion) (same_typing f.1 t.0 t.1 f.2 x t.2 f.4).1 t.3
 
-    mandatory_found : AllMeant before → Names before label place assertion hypotheses
+    pub mandatory_found : AllMeant before → Names before label place assertion hypotheses
         → length entries ≡ length hypotheses → IsTypedOnce hypotheses → (x : List ℕ)
         → IsMandatory (take place before) assertion x → IsSome (replaced_by hypotheses entries x)
     mandatory_found all names paired once x m = some_unless (replaced_by hypotheses entries x)
@@ -140,7 +140,7 @@ module _ (before : List Sentence) (label : List ℕ) (place : ℕ) (assertion : 
         let e = get_beside hypotheses entries f.0 f.1 paired f.3 in
         none-some (drop 1 e.0) (sym none ∙ replaced_at hypotheses entries once f.0 f.1 e.0 f.2 x f.3 e.1 f.4))
 
-  names_once : AllMeant before → Names before label place assertion hypotheses
+  pub names_once : AllMeant before → Names before label place assertion hypotheses
       → IsTypedOnce hypotheses
   names_once all names = typed_once (take place before) assertion hypotheses (allmeant_front before place all) names.mandatory
 
