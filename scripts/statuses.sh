@@ -1,11 +1,16 @@
 #!/bin/sh
-# usage: scripts/statuses.sh [PROGRAM]
+# usage: scripts/statuses.sh [--plain] [PROGRAM]
 # Drives the built program, through the launcher or by the absolute path given: each status that it
 # can end with, with the bytes of standard output and of standard error, each text that it prints,
 # and the commands of the documents. No contract reaches `main` nor says what the texts are, so this
-# is what tests them.
+# is what tests them. With --plain the program is that of scripts/plain-rust, whose version says so.
 set -eu
 top=$(CDPATH='' cd -- "$(dirname -- "$0")/.." && pwd)
+is_plain=
+if [ "${1-}" = --plain ]; then
+    is_plain=yes
+    shift
+fi
 mm=${1-$top/mm}
 folder=$(mktemp -d)
 trap 'rm -rf "$folder"' EXIT
@@ -262,12 +267,19 @@ ends 2 '' "mm: no command has the name nonsense\nthe commands are $(echo $comman
     sed 's/ /, /g')\n" help nonsense
 ends 2 '' "mm: no command has the name \nthe commands are $(echo $commands |
     sed 's/ /, /g')\n" help ''
-if command -v rt >/dev/null 2>&1; then
-    printf 'mm 0.1.0, proved with %s\n' "$(rt version)" >version.txt
-    prints version.txt --version
-    prints version.txt -V
-    prints version.txt version
+kit=$(sed -n 's/.*"mm 0.1.0, proved with \(.*\)\\n";$/\1/p' "$top/crates/mm_tool/src/texts.rt")
+if [ -n "$is_plain" ]; then
+    printf 'mm 0.1.0, plain Rust: the source that is proved with %s, compiled by %s\n' \
+        "$kit" 'another compiler; nothing is proved on this machine' >version.txt
+else
+    if command -v rt >/dev/null 2>&1; then
+        kit=$(rt version)
+    fi
+    printf 'mm 0.1.0, proved with %s\n' "$kit" >version.txt
 fi
+prints version.txt --version
+prints version.txt -V
+prints version.txt version
 literal code_lines.rt CODES >codes.txt
 prints codes.txt explain
 explanations >rules.txt

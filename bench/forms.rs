@@ -1,8 +1,8 @@
 // Times three calls of the library on each proof of a file: what `mm` does with all of a proof's
 // tokens to check it, and `verify` and `compress` on its steps.
 #![allow(warnings)]
-#![feature(portable_simd)]
-#[path = "../library.rs"]
+#[macro_use]
+#[path = "../library/mod.rs"]
 mod library;
 #[path = "../mm_code/mod.rs"]
 mod mm_code;

@@ -1,0 +1,56 @@
+//! The program `mm` in plain Rust. The modules whose names begin with `mm_` are the sources that
+//! are proved elsewhere, without their contracts: scripts/plain-rust of the repository writes them.
+//! `library` is what they use of the kit's library and crates.
+#![allow(warnings)]
+#![cfg_attr(unix, no_main)]
+
+#[macro_use]
+mod library;
+mod mm_check;
+mod mm_code;
+mod mm_frame;
+mod mm_proof;
+mod mm_text;
+mod mm_tool;
+
+use library::HostRuntime;
+
+/// Where the host begins: before it Rust's library takes no memory, which it might not get.
+#[cfg(unix)]
+#[no_mangle]
+pub extern "C" fn main(count: i32, words: *const *const std::ffi::c_char) -> i32 {
+    extern "C" {
+        fn signal(number: i32, handler: usize) -> usize;
+    }
+    const BROKEN_PIPE: i32 = 13;
+    const IGNORED: usize = 1;
+    // A write to a reader that has gone is an error of the write, and no end of the program.
+    unsafe { signal(BROKEN_PIPE, IGNORED) };
+    let mut texts: Vec<&[u8]> = Vec::new();
+    if texts.try_reserve_exact(count as usize).is_err() {
+        return refused();
+    }
+    for number in 0..count as usize {
+        // The host gives so many words, each of which ends in a zero.
+        let word = unsafe { std::ffi::CStr::from_ptr(*words.add(number)) };
+        texts.push(word.to_bytes());
+    }
+    i32::from(mm_tool::main(HostRuntime { words: &texts }).0)
+}
+
+/// Tells that there is no memory for the words.
+#[cfg(unix)]
+fn refused() -> i32 {
+    use std::io::Write;
+    let _ = HostRuntime { words: &[] }.stderr().write(b"mm: out of memory\n");
+    4
+}
+
+#[cfg(not(unix))]
+fn main() -> std::process::ExitCode {
+    let words: Vec<Vec<u8>> = std::env::args_os()
+        .map(|word| word.into_encoded_bytes())
+        .collect();
+    let texts: Vec<&[u8]> = words.iter().map(Vec::as_slice).collect();
+    mm_tool::main(HostRuntime { words: &texts }).0.into()
+}
