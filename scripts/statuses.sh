@@ -506,39 +506,110 @@ if [ -w /dev/full ]; then
     full 4 'mm: cannot write\n' check first.mm empty.mm
 fi
 
-# Each command of README.md as it is typed at the top of the repository, in the order of the
-# document: in a folder that has the program and copies of the examples. One that wants the network,
-# metamath-exe or its databases is left out. What stands behind `# prints: ` is compared.
-mkdir top
-ln -s "$mm" top/mm
-cp -r "$top/examples" top/examples
-awk '
-    /^```/ { is_command = !is_command; next }
-    !is_command || /^(apt-get|metamath) / || /metamath\/databases/ { next }
+# typed DOCUMENT FOLDER: each command of the document, in its order, typed in the folder: each line
+# of a block without a tag, or each loop. One that wants the network, cargo, metamath-exe or its
+# databases, or puts the program elsewhere, is left out. What stands behind `# prints: ` is
+# compared.
+typed() {
+    rm -f command??
+    awk '
+    /^```/ { is_block = !is_block; is_command = is_block && $0 == "```"; next }
+    !is_command || /^(apt-get|cargo|metamath|ln|scripts\/[a-z-]*) / { next }
+    /metamath\/databases/ { next }
     !is_loop { count++ }
     { print >(sprintf("command%02d", count)) }
     /^for / { is_loop = 1 }
-    /^done/ { is_loop = 0 }' "$top/README.md"
-for command in command??; do
-    if [ ! -e "$command" ]; then
-        echo 'statuses.sh: README.md has no command' >&2
+    /^done/ { is_loop = 0 }' "$top/$1"
+    for command in command??; do
+        if [ ! -e "$command" ]; then
+            echo "statuses.sh: $1 has no command" >&2
+            failures=$((failures + 1))
+            break
+        fi
+        printed=$(sed -n 's/.*# prints: //p' "$command")
+        case $printed in
+        'no '*) wanted=1 ;;
+        *) wanted=0 ;;
+        esac
+        status=0
+        (cd "$2" && sh "../$command") >got.out 2>got.err </dev/null || status=$?
+        if [ "$status" != "$wanted" ] || [ -s got.err ] ||
+            { [ -n "$printed" ] && [ "$(cat got.out)" != "$printed" ]; }; then
+            echo "statuses.sh: $1: $(cat "$command"): status $status, wanted $wanted" >&2
+            cat got.out got.err >&2
+            failures=$((failures + 1))
+        fi
+    done
+}
+
+# README.md is typed at the top of the repository: in a folder that has the program and copies of
+# the examples.
+mkdir top
+ln -s "$mm" top/mm
+cp -r "$top/examples" top/examples
+typed README.md top
+
+# docs/USING.md is typed where the program is on the PATH, and beside databases of these names.
+PATH=$folder/top:$PATH
+export PATH
+mkdir using
+cp "$top/examples/demo0c.mm" using/set.mm
+cp "$top/examples/demo0.mm" using/old.mm
+cp "$top/examples/demo0c.mm" using/new.mm
+cp "$top/examples/faults.mm" using/faults.mm
+typed docs/USING.md using
+
+# block TAG: the lines of the blocks of docs/USING.md with this tag.
+block() {
+    awk -v tag="$1" '
+    /^```/ { is_wanted = !is_wanted && $0 == "```" tag; next }
+    is_wanted' "$top/docs/USING.md"
+}
+
+# shows WHAT WANTED GOT: what a tool that the page speaks of shows of examples/faults.mm.
+shows() {
+    if [ "$2" != "$3" ]; then
+        echo "statuses.sh: docs/USING.md: $1: $3, wanted $2" >&2
         failures=$((failures + 1))
-        break
     fi
-    printed=$(sed -n 's/.*# prints: //p' "$command")
-    case $printed in
-    'no '*) wanted=1 ;;
-    *) wanted=0 ;;
-    esac
-    status=0
-    (cd top && sh "../$command") >got.out 2>got.err </dev/null || status=$?
-    if [ "$status" != "$wanted" ] || [ -s got.err ] ||
-        { [ -n "$printed" ] && [ "$(cat got.out)" != "$printed" ]; }; then
-        echo "statuses.sh: README.md: $(cat "$command"): status $status, wanted $wanted" >&2
-        cat got.out got.err >&2
-        failures=$((failures + 1))
-    fi
-done
+}
+
+# A job fails on a refusal, and on an unfinished proof where that may not be.
+grep '^reply=' "$top/docs/USING.md" | sed 's/set\.mm/faults.mm/g' >using/job
+grep '^mm check .* = 3' "$top/docs/USING.md" | sed 's/set\.mm/unfinished.mm/g' >using/pass
+cp "$top/examples/unfinished.mm" using
+shows 'the job' "1 no faults.mm 3 p P14 2 no faults.mm 3 p P14 2 no faults.mm 5 r P2 0" \
+    "$(cd using && status=0 && out=$(sh job) || status=$?; echo $status $out)"
+shows 'the job that lets unfinished proofs pass' '0 incomplete 2 u1 u2' \
+    "$(cd using && status=0 && out=$(sh pass) || status=$?; echo $status $out)"
+if command -v make >/dev/null 2>&1; then
+    block make >using/makefile
+    (cd using && make set.checked set.packed) >got.out 2>&1 || cat got.out >&2
+    (cd using && make -k faults.checked faults.packed) >got.out 2>&1 || :
+    shows make 'set.checked set.packed' "$(cd using && echo *.checked *.packed |
+        sed 's/old.packed //; s/new.packed //')"
+    shows 'the packed file' "$("$mm" packed --all demo0c.mm demo0c.mm)" "$(cat using/set.packed)"
+fi
+if command -v vim >/dev/null 2>&1; then
+    block vim >using/vimrc
+    (cd using && vim -es -N -u vimrc faults.mm -c 'silent make!' -c 'redir! > list' \
+        -c 'silent clist' -c 'redir END' -c 'qa!') </dev/null >got.out 2>&1 || cat got.out >&2
+    shows vim '1 faults.mm:3: p P14 2 2 faults.mm:5: r P2 0' "$(echo $(cat using/list))"
+fi
+if command -v emacs >/dev/null 2>&1; then
+    block elisp >using/mm.el
+    cat >using/list.el <<'END'
+(with-current-buffer (compile "mm faults faults.mm")
+  (while (get-buffer-process (current-buffer)) (accept-process-output nil 0.1))
+  (compilation--ensure-parse (point-max))
+  (goto-char (point-min))
+  (dotimes (_ compilation-num-errors-found)
+    (compilation-next-error 1)
+    (let ((place (compilation--message->loc (get-text-property (point) 'compilation-message))))
+      (princ (format "%s " (compilation--loc->line place))))))
+END
+    shows emacs '3 5' "$(cd using && echo $(emacs -Q --batch -l ./mm.el -l ./list.el 2>../got.err))"
+fi
 
 # The commands in the text of the documents, which end in several ways: the program understands
 # them, and reads the files that they name.
