@@ -2,8 +2,9 @@
 # usage: scripts/plain.sh
 # Builds the program as plain Rust (scripts/plain-rust), as somebody without the kit does, and asks
 # of it what is asked of the proved one: its replies, statuses and texts, how it ends where a call
-# fails, that deep nesting takes no stack, and the answers for the databases of Debian's package
-# where that is installed. Left out where there is no cargo. No network is needed.
+# fails, that deep nesting takes no stack, that it ends as the proved one does over random command
+# lines where that one is built, and the answers for the databases of Debian's package where that is
+# installed. Left out where there is no cargo. No network is needed.
 set -eu
 top=$(CDPATH='' cd -- "$(dirname -- "$0")/.." && pwd)
 if ! command -v cargo >/dev/null 2>&1; then
@@ -34,6 +35,9 @@ cargo install --quiet --offline --root "$folder" --path "$folder/package" 2>"$fo
 }
 "$top/scripts/statuses.sh" --plain "$mm"
 "$top/scripts/failing" "$mm"
+if [ -x "$top/crates/mm_tool/out/mm" ]; then
+    "$top/scripts/alike" "$top/crates/mm_tool/out/mm" "$mm" || failures=1
+fi
 
 awk 'BEGIN {
     for (i = 0; i < 100000; i++) { print "${" }
