@@ -12,7 +12,8 @@ if ! command -v cargo >/dev/null 2>&1; then
     exit 0
 fi
 folder=$(mktemp -d)
-trap 'rm -rf "$folder"' EXIT
+failing=
+trap '[ -z "$failing" ] || kill "$failing" 2>/dev/null || :; rm -rf "$folder"' EXIT
 trap 'exit 1' HUP INT TERM
 mm=$folder/bin/mm
 failures=0
@@ -33,8 +34,11 @@ cargo install --quiet --offline --root "$folder" --path "$folder/package" 2>"$fo
     cat "$folder/log" >&2
     exit 1
 }
-"$top/scripts/statuses.sh" --plain "$mm"
-"$top/scripts/failing" "$mm"
+
+# This takes the longest, and so runs beside the rest.
+"$top/scripts/failing" "$mm" >"$folder/failing.txt" 2>&1 &
+failing=$!
+"$top/scripts/statuses.sh" --plain "$mm" || failures=1
 if [ -x "$top/crates/mm_tool/out/mm" ]; then
     "$top/scripts/alike" "$top/crates/mm_tool/out/mm" "$mm" || failures=1
 fi
@@ -60,6 +64,9 @@ if [ -n "$package" ] && grep -q "$package" "$top/docs/PERFORMANCE.md"; then
     done <"$folder/answers"
     echo "plain.sh: $(wc -l <"$folder/answers") databases have their answers"
 fi
+wait "$failing" || failures=1
+failing=
+cat "$folder/failing.txt"
 if [ "$failures" != 0 ]; then
     exit 1
 fi
