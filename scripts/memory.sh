@@ -8,8 +8,8 @@
 #   and as a value only to be passed on in the same way.
 # - A pattern has no other variant beside `Memory`: another fault would be told as want of memory.
 # - No room is asked for by the greatest number of a type, which is refused whatever memory there
-#   is. Two places need that, where a number passes what is stored in 32 bits: `reserve_numbered` of
-#   mm_frame's lists.rt and `push_piece` of its pattern.rt.
+#   is. Three places need that, where a number passes what is stored in 32 bits: `reserve_numbered` of
+#   mm_frame's lists.rt, `push_piece` of its pattern.rt, and `make_entry_room` of mm_proof's parse.rt.
 set -eu
 top=$(CDPATH='' cd -- "$(dirname -- "$0")/.." && pwd)
 cd "$top"
@@ -81,6 +81,7 @@ find crates -name out -prune -o -path crates/mm_tests -prune -o -path '*/src/*' 
     BEGIN {
         needs_it["crates/mm_frame/src/lists.rt:reserve_numbered"]
         needs_it["crates/mm_frame/src/pattern.rt:push_piece"]
+        needs_it["crates/mm_proof/src/parse.rt:make_entry_room"]
     }
     FNR == 1 {
         end_pattern()

@@ -94,6 +94,19 @@ fn make_places(places: &mut Vec<u32>, count: usize) -> Result<(), AllocError>
     Ok(())
 }
 
+// Makes room for one more entry, for which a number of 32 bits stands. No book has more labels than
+// that says; where there were, more is asked for than there can be, so that it is refused.
+fn make_entry_room(entries: &mut Vec<LabelId>) -> Result<(), AllocError>
+    ensures entries { entries.new.items ≡ entries.old.items }
+    ensures few { OnOk result (length entries.old.items < 4294967295) }
+{
+    if entries.len() < u32::MAX as usize {
+        entries.reserve(1)
+    } else {
+        entries.reserve(usize::MAX)
+    }
+}
+
 // The place of the label among the entries, which it is put behind where it isn't among them. What
 // was noted of it for another proof is told by what stands at the place.
 fn place_of(
@@ -114,11 +127,8 @@ fn place_of(
     if is_entry(entries, noted as usize, id) && noted < u32::MAX {
         return Ok(noted as usize);
     }
-    // No book has so many labels, and a code holds no greater number.
     let place = entries.len();
-    if place >= u32::MAX as usize {
-        return Err(ProofFault::Memory);
-    }
+    make_entry_room(entries)?;
     entries.push(id)?;
     places[at] = place as u32;
     Ok(place)
