@@ -1,238 +1,298 @@
--- The course of checking: statement after statement, up to the first fault.
-use Rattle.std.proofs.Common.{◌≡◌, ℕ, List, [], ◌∷◌, ◌++◌, map, length, slice_get, true, false, Option, Some, None, Result, Ok, Err, IsErrAnd, inl, inr, refl, sym, ap, subst, ◌∙◌, append_assoc, append-nil}
+-- The course of checking: statement after statement, each of which obeys the rules or is listed.
+use Rattle.std.proofs.Common.{◌≡◌, ℕ, ◌≤◌, List, [], ◌∷◌, ◌++◌, Bool, true, false, cond, Option, Some, None, inl, inr, refl, sym, ap, subst, ◌∙◌, arith, append_assoc, append-nil}
+use Rattle.std.specs.List.{AllByRecursion}
 use Rattle.mm_text.specs.Statement.{PlainStatement, HasForm}
 use Rattle.mm_text.specs.Files.{PlainFile}
 use Rattle.mm_text.specs.Reading.{PlainFault, Reads}
 use Rattle.mm_text.specs.Remaining.{Remaining, IsUnread}
-use Rattle.mm_frame.specs.Sentence.{Sentence}
+use Rattle.mm_text.proofs.Reader.WholeReadings.{readings_are_formed_in_place}
+use Rattle.mm_frame.specs.declared.rule.MeaningRule.{MeaningRule}
+use Rattle.mm_frame.specs.Sentence.{Sentence, sentence_of}
+use Rattle.mm_frame.specs.Rules.{FirstBroken, IsMeant}
 use Rattle.mm_proof.specs.declared.profile.Profile.{Profile}
-use Rattle.mm_check.specs.declared.fault.CheckFault.{CheckFault}
 use Rattle.mm_check.specs.declared.fault.Refusal.{Refusal}
-use Rattle.mm_check.specs.declared.rule.Rule.{Rule}
+use Rattle.mm_check.specs.declared.fault.Stop.TheVariants as stop
+use Rattle.mm_check.specs.declared.judge.Judged.{Judged}
+use Rattle.mm_check.specs.declared.judge.Judged.TheVariants.{Theorem, Other, Faulty}
 use Rattle.mm_check.specs.declared.progress.Progress.{Progress}
-use Rattle.mm_check.specs.Conclusion.{Conclusion, labels_in}
-use Rattle.mm_check.specs.declared.rule.Rule.TheVariants as rules
-use Rattle.mm_check.specs.Verdict.{PlainRefusal, Verdict, Refused, HasFault, Obeys, HasVerdict, AreAccepted, CanBeRead, labels_of, unproved_of, proofs_of, refusal_of}
-use Rattle.mm_check.specs.Answer.{plain_refusal, verdict_of_fault, verdict_of_conclusion, verdict_where_incomplete, labels_at, IsVerdict, KeepsLabels, KeepsCounts, KeepsUses}
-use Rattle.mm_check.specs.Mirror.Judged.{IsUnderWay, IsAtEnd, GoesOn, Knows, Takes}
-use Rattle.mm_check.specs.Mirror.Judged.{RefusesEnd, StopsTurn, TakesFaulty, TakesNext}
-use Rattle.mm_check.specs.Mirror.Marks.{IsKeptWell}
-use Rattle.mm_check.proofs.Unproved.{one_more, no_statement}
-use Rattle.mm_check.proofs.Asked.{backward}
-use Rattle.mm_check.proofs.Known.{ids, knows_more, labels_said, names_of_ids}
-use Rattle.mm_check.proofs.Numbers.{names_at, numbers_within}
-use Rattle.mm_check.proofs.Rereading.{same_reading}
+use Rattle.mm_check.specs.declared.rule.Rule.TheVariants as rule_of
+use Rattle.mm_check.specs.Verdict.{PlainRefusal, CanBeRead, IsProofFault, Obeys, is_proof}
+use Rattle.mm_check.specs.Verdict.{refusal_of, text_refusal, sentences}
+use Rattle.mm_check.specs.Answer.{plain_refusal}
+use Rattle.mm_check.specs.Faults.{AreRefused, HaveFaults, IsMeaningRefusal, IsProofRefusal}
+use Rattle.mm_check.specs.Mirror.Judged.{Begins, HasTaken, IsAtEnd, IsRead, IsTaken, IsUnderWay}
+use Rattle.mm_check.specs.Mirror.Judged.{Knows, StopsTurn, Takes}
+use Rattle.mm_check.specs.Mirror.Judged.{TakesFaulty, TakesNext}
+use Rattle.mm_check.specs.Mirror.Visits.{ComesTo, IsMet, refusals_in}
+use Rattle.mm_check.proofs.FaultLists.{meant_more, none_meant, some_of_statements}
+use Rattle.mm_check.proofs.Known.{knows_more, taken_more}
+use Rattle.mm_check.proofs.Unproved.{no_statement, one_more}
 
--- ## What holds on the way
+-- ## Lists of refusals
+
+module _ (profile : Profile) (files : List PlainFile) (earlier : List PlainStatement)
+    (ending : Option PlainFault) (listed : List PlainRefusal) (s : PlainStatement)
+    (left : List PlainStatement)
+    (begins : Begins profile files earlier (s ∷ left) ending listed) where
+  more_obeying : Obeys profile (sentences earlier) s
+      → Begins profile files (earlier ++ s ∷ []) left ending listed
+  more_obeying obeys later h =
+      rw (append_assoc earlier (s ∷ []) left) (begins later (inl (obeys, h)))
+
+  more_faulty : (first : PlainRefusal) → IsProofRefusal profile files earlier s first
+      → Begins profile files (earlier ++ s ∷ []) left ending (listed ++ first ∷ [])
+  more_faulty first refusal later h =
+      rw (append_assoc earlier (s ∷ []) left, append_assoc listed (first ∷ []) later)
+      (begins (first ∷ later) (inr (inl (first, refusal, later, h, refl))))
+
+-- a list with one more isn't empty
+none_more : {X : Type 0} (xs : List X) (x : X) → xs ++ x ∷ [] ≡ [] → ⊥
+none_more [] x e = absurd cc
+none_more (y ∷ xs) x e = absurd cc
+
+-- ## The beginning
 
 pub starts : (profile : Profile) (files : List PlainFile) (p : Progress) (left : Remaining)
-    → IsUnread files left → CanBeRead files → Knows [] p
-    → (way : IsUnderWay profile files p left) × (way.earlier ≡ [])
-starts profile files p left unread readable known = (
+    → IsUnread files left → CanBeRead files → HasTaken [] p → Knows [] p
+    → (way : IsUnderWay profile files p left []) × (way.read.earlier ≡ [])
+starts profile files p left unread readable taken known = (
   record {
-    earlier = [];
-    readable = readable;
-    reads = unread.reads;
-    obeyed = no_statement profile;
-    known = known;
+    read = record {
+      earlier = [];
+      readable = readable;
+      reads = unread.reads;
+      taken = taken;
+    };
+    meant = none_meant;
+    begins = λ later h. h;
+    obeyed = λ none. no_statement profile;
+    known = λ none. known;
   },
   refl,
 )
 
--- the statement taken goes over from those that are left to those so far
-pub goes_on : (profile : Profile) (files : List PlainFile) (s : PlainStatement) (p q : Progress)
-    (old new : Remaining) → TakesNext old true s new → HasForm s → Takes profile p s q
-    → GoesOn profile files p old true s q new
-goes_on profile files s p q old new taken formed takes = (
-  taken.0,
-  λ way.
-      let plain : List PlainStatement = way.earlier in
-      let ending : old.ending ≡ new.ending = sym (ap (λ (r : Remaining). r.ending) taken.1) in
-      let obeys = subst (λ (b : List Sentence). Obeys profile b s) way.known.book takes.obeys in (
-        record {
-          earlier = plain ++ s ∷ [];
-          readable = way.readable;
-          reads = rw (taken.0, ending, ← append_assoc plain (s ∷ []) new.statements) at way.reads;
-          obeyed = one_more profile plain s way.obeyed obeys;
-          known = knows_more profile plain s p q formed way.known takes;
-        },
-        refl,
-      ),
-)
+-- ## One statement more
 
--- ## What is answered
+at_most_one : (b : Bool) → cond b 1 0 ≤ 1
+at_most_one true = omega arith
+at_most_one false = omega arith
 
--- a fault that tells a verdict tells this one
-told : (fault : CheckFault) (v w : Verdict) → verdict_of_fault fault ≡ Some v → verdict_of_fault fault ≡ Some w → v ≡ w
-told fault v w e f = cc
+module _ (profile : Profile) (files : List PlainFile) (listed : List PlainRefusal)
+    (p q : Progress) (old new : Remaining) (s : PlainStatement) (taken : TakesNext old true s new)
+    (way : IsUnderWay profile files p old listed) where
+  abbrev earlier : List PlainStatement
+  earlier = way.read.earlier
 
--- a fault that is passed on tells the verdict that it told
-pub passed_on : (profile : Profile) (files : List PlainFile) (answer : Result Conclusion CheckFault) (fault : CheckFault) → IsErrAnd answer (λ e. e ≡ fault)
-    → ((v : Verdict) → verdict_of_fault fault ≡ Some v → HasVerdict profile files v) → IsVerdict profile files answer
-passed_on profile files (Ok c) fault same holds v e = absurd same
-passed_on profile files (Err other) fault same holds v e = holds v (ap verdict_of_fault (sym same) ∙ e)
+  same_ending : old.ending ≡ new.ending
+  same_ending = sym (ap (λ (r : Remaining). r.ending) taken.1)
 
-pub end_verdict : (profile : Profile) (files : List PlainFile) (p : Progress) (left : Remaining) (fault : CheckFault) → IsUnderWay profile files p left
-    → RefusesEnd files left fault → (v : Verdict) → verdict_of_fault fault ≡ Some v → HasVerdict profile files v
-end_verdict profile files p left fault way (inl none) v e = cc
-end_verdict profile files p left fault way (inr end) v e =
-    subst (λ (w : Verdict). HasVerdict profile files w) (told fault _ v end.3 e) (
-      way.readable,
-      way.earlier,
-      left.ending,
-      rw (end.0, append-nil) at way.reads,
-      inr (record { obeyed = way.obeyed; fault = end.1; ended = end.2; refused = refl }),
-    )
+  next_reads : Reads files (earlier ++ s ∷ new.statements) new.ending
+  next_reads = rw (taken.0, same_ending) at way.read.reads
 
--- the statement that is next is refused for its fault
-refused_next : (profile : Profile) (files : List PlainFile) (p : Progress) (s : PlainStatement) (old new : Remaining) (rule : Rule) (step : ℕ)
-    → IsUnderWay profile files p old → TakesNext old true s new
-    → HasFault profile p.prover.book.statements s rule step
-    → HasVerdict profile files (Refused (refusal_of files p.count s rule step))
-refused_next profile files p s old new rule step way taken fault =
-    let plain : List PlainStatement = way.earlier in (
-      way.readable,
-      plain ++ old.statements,
-      old.ending,
-      way.reads,
-      inl (record {
-        before = plain;
-        s = s;
-        after = new.statements;
-        split = ap (λ (ss : List PlainStatement). plain ++ ss) taken.0;
-        obeyed = way.obeyed;
+  next_begins : Begins profile files earlier (s ∷ new.statements) new.ending listed
+  next_begins = rw (taken.0, same_ending) at way.begins
+
+  obeys_here : Takes profile p s q → Obeys profile (sentences earlier) s
+  obeys_here takes =
+      subst (λ (ss : List Sentence). Obeys profile ss s) way.read.taken.book takes.obeys
+
+  refused_here : (refusal : Refusal) → TakesFaulty profile files p s refusal q
+      → IsProofRefusal profile files earlier s (plain_refusal refusal)
+  refused_here refusal faulty =
+      let rule = faulty.rule in
+      let step = faulty.step in
+      record {
+        meant = subst (λ (ss : List Sentence). IsMeant ss (sentence_of s)) way.read.taken.book
+            faulty.meant;
         rule = rule;
         step = step;
-        fault = subst (λ (ss : List Sentence). HasFault profile ss s rule step) way.known.book fault;
-        refused = ap (λ (n : ℕ). refusal_of files n s rule step) way.known.count;
-      }),
-    )
+        fault = subst (λ (ss : List Sentence). IsProofFault profile ss s rule step)
+            way.read.taken.book faulty.fault;
+        refused = faulty.told
+            ∙ ap (λ (k : ℕ). refusal_of files k s (rule_of.Proof rule) step) way.read.taken.count;
+      }
 
-pub stopped_verdict : (profile : Profile) (files : List PlainFile) (p : Progress) (old : Remaining) (fault : CheckFault)
-    → IsUnderWay profile files p old → StopsTurn files p old fault
-    → (v : Verdict) → verdict_of_fault fault ≡ Some v → HasVerdict profile files v
-stopped_verdict profile files p old fault way (inl end) v e =
-    end_verdict profile files p old fault way end v e
-stopped_verdict profile files p old fault way (inr (s, rest, taken, inl none)) v e = cc
-stopped_verdict profile files p old fault way (inr (s, rest, taken, inr (broken, first, is))) v e =
-    subst (λ (w : Verdict). HasVerdict profile files w) (told fault _ v is e)
-    (refused_next profile files p s old rest (rules.Meaning broken) 0 way taken
-    (inl (broken, first, refl, refl)))
+  -- what it came to, in the words of the statements
+  comes_to : (judged : Judged) → IsTaken profile files p s judged q
+      → ComesTo profile files earlier q.prover.book.statements s judged
+  comes_to (Theorem id) is = (is.0, is.1, obeys_here is.2)
+  comes_to Other is = (is.0, obeys_here is.1)
+  comes_to (Faulty refusal) is = refused_here refusal is
 
-pub faulty_verdict : (profile : Profile) (files : List PlainFile) (p q : Progress) (s : PlainStatement) (old new : Remaining) (refusal : Refusal)
-    → IsUnderWay profile files p old → TakesNext old true s new
-    → TakesFaulty profile files p s refusal q
-    → HasVerdict profile files (Refused (plain_refusal refusal))
-faulty_verdict profile files p q s old new refusal way taken faulty =
-    subst (λ (r : PlainRefusal). HasVerdict profile files (Refused r)) (sym faulty.told)
-    (refused_next profile files p s old new (rules.Proof faulty.rule) faulty.step way taken
-    (inr (faulty.meant, faulty.rule, faulty.fault, refl)))
+  takes_on : Takes profile p s q → HasTaken (earlier ++ s ∷ []) q
+  takes_on takes =
+      taken_more earlier s p q way.read.taken takes.statements takes.bytes takes.count
+      (omega (arith, takes.proofs, at_most_one (is_proof s)))
 
--- what is kept of the progress
-pub record Concludes (p : Progress) (c : Conclusion) : Type 0 where
-  pub statements : c.statements ≡ p.count
-  pub proofs : c.proofs ≡ p.proofs
-  pub incomplete : c.incomplete ≡ ids p.incomplete.items
-  pub labels : c.labels ≡ labels_in p.prover.book.statements
-  pub sentences : c.sentences ≡ p.prover.book.statements
-  pub uses : c.uses ≡ p.kept
+  taken_on : (judged : Judged) → IsTaken profile files p s judged q
+      → HasTaken (earlier ++ s ∷ []) q
+  taken_on (Theorem id) is = takes_on is.2
+  taken_on Other is = takes_on is.1
+  taken_on (Faulty refusal) is =
+      taken_more earlier s p q way.read.taken is.statements is.bytes is.count
+      (omega (arith, is.proofs))
 
--- numbers that name these proofs tell yes where there are none, else these proofs
-concluded_as : (profile : Profile) (files : List PlainFile) (c : Conclusion) (statements : List PlainStatement) (numbers : List ℕ) (unproved : List (List ℕ))
-    → AreAccepted profile files statements → unproved ≡ unproved_of statements → map (slice_get c.labels) numbers ≡ map Some unproved
-    → c.statements ≡ length statements → c.proofs ≡ proofs_of statements
-    → HasVerdict profile files (verdict_where_incomplete c numbers)
-concluded_as profile files c statements [] [] accepted same named count proofs = (statements, accepted, sym same, count, proofs)
-concluded_as profile files c statements (n ∷ numbers) (u ∷ unproved) accepted same named count proofs =
-    let told : labels_at c.labels (n ∷ numbers) ≡ u ∷ unproved = names_at c.labels (n ∷ numbers) (u ∷ unproved) named in
-    (statements, accepted, told ∙ same, λ e. cc (told, e))
-concluded_as profile files c statements _ _ accepted same named count proofs = absurd cc
-
-module _ {profile : Profile} {files : List PlainFile} {p : Progress} {left : Remaining}
-    (end : IsAtEnd profile files p left) where
-  pub read_to_end : Reads files end.way.earlier None
-  read_to_end = rw (end.none, append-nil, end.ending) at end.way.reads
-
-  pub end_accepted : AreAccepted profile files end.way.earlier
-  end_accepted =
-      record { readable = end.way.readable; reads = read_to_end; obeyed = end.way.obeyed }
-
-  -- the numbers of the incomplete proofs name these
-  named : map (slice_get (labels_of end.way.earlier)) (ids p.incomplete.items)
-      ≡ map Some (unproved_of end.way.earlier)
-  named =
-      sym (names_of_ids (labels_of end.way.earlier) p.incomplete.items) ∙ end.way.known.incomplete
-
-  own_reading : (statements : List PlainStatement) (ending : Option PlainFault)
-      → Reads files statements ending → end.way.earlier ≡ statements
-  own_reading statements ending reads =
-      (same_reading files end.way.earlier statements None ending read_to_end reads).0
-
-  module _ {c : Conclusion} (kept : Concludes p c) where
-    own_labels : c.labels ≡ labels_of end.way.earlier
-    own_labels = kept.labels ∙ ap labels_in end.way.known.book ∙ labels_said end.way.earlier
-
-    -- what is kept of a database that is read to its end tells its verdict
-    pub end_concludes : HasVerdict profile files (verdict_of_conclusion c)
-    end_concludes =
-        let names : map (slice_get c.labels) c.incomplete ≡ map Some (unproved_of end.way.earlier) =
-        rw (kept.incomplete, own_labels) named in
-        concluded_as profile files c end.way.earlier c.incomplete (unproved_of end.way.earlier)
-        end_accepted refl names (kept.statements ∙ end.way.known.count)
-        (kept.proofs ∙ end.way.known.proofs)
-
-    pub labels_kept : KeepsLabels files c
-    labels_kept statements ending reads =
-        own_labels ∙ ap labels_of (own_reading statements ending reads)
-
-    pub counts_kept : KeepsCounts files c
-    counts_kept statements ending reads =
-        let same = own_reading statements ending reads in (
-          kept.statements ∙ end.way.known.count ∙ ap length same,
-          kept.proofs ∙ end.way.known.proofs ∙ ap proofs_of same,
-        )
-
-    pub uses_kept : KeepsUses files c
-    uses_kept statements ending reads =
-        rw (← own_reading statements ending reads) (record {
-          sentences = kept.sentences ∙ end.way.known.book;
-          incomplete = rw kept.incomplete end.way.known.noted;
-          uses = rw kept.uses end.way.known.kept;
-        })
-
-  -- what is kept at the end
-  pub kept_well : IsKeptWell profile files p.prover.book.statements (ids p.incomplete.items) p.kept
-  kept_well = record {
-    in_range = rw (ap labels_in end.way.known.book ∙ labels_said end.way.earlier)
-        (numbers_within (labels_of end.way.earlier) (ids p.incomplete.items)
-        (unproved_of end.way.earlier) named);
-    rising = end.way.known.noted.rising;
-    backward = backward end.way.earlier p.kept end.way.known.kept;
-    origin = record {
-      statements = end.way.earlier;
-      accepted = end_accepted;
-      sentences = end.way.known.book;
-      incomplete = end.way.known.noted;
-      uses = end.way.known.kept;
-    };
+  -- so a visitor meets it
+  pub meets : (judged : Judged) → IsTaken profile files p s judged q
+      → IsMet profile files earlier listed q.prover.book.statements s judged
+  meets judged is = record {
+    readable = way.read.readable;
+    left = new;
+    reads = next_reads;
+    obeyed = way.obeyed;
+    same = (taken_on judged is).book;
+    came = comes_to judged is;
   }
 
--- where nothing is left, the progress is at its end
-pub at_end : (profile : Profile) (files : List PlainFile) (p : Progress) (old new : Remaining)
-    (s : PlainStatement) → TakesNext old false s new → GoesOn profile files p old false s p new
-at_end profile files p old new s taken = λ way.
-    subst (λ (left : Remaining).
-    (end : IsAtEnd profile files p left) × (end.way.earlier ≡ way.earlier)) (sym taken.2) (
+  -- it goes over from those that are left to those so far
+  abbrev Goes : (more : List PlainRefusal) → Type 0
+  Goes more =
+      (on : IsUnderWay profile files q new (listed ++ more))
+      × (on.read.earlier ≡ earlier ++ s ∷ [])
+
+  abbrev read_on : HasTaken (earlier ++ s ∷ []) q → IsRead files q new
+  read_on has = record {
+    earlier = earlier ++ s ∷ [];
+    readable = way.read.readable;
+    reads = rw (← append_assoc earlier (s ∷ []) new.statements) at next_reads;
+    taken = has;
+  }
+
+  obeying_on : HasForm s → Takes profile p s q → Goes []
+  obeying_on formed takes =
+      let obeys = obeys_here takes in
+      rw (append-nil listed) (
+        record {
+          read = read_on (takes_on takes);
+          meant = meant_more earlier s way.meant obeys.meant;
+          begins = more_obeying profile files earlier new.ending listed s new.statements next_begins
+              obeys;
+          obeyed = λ none. one_more profile earlier s (way.obeyed none) obeys;
+          known = λ none.
+              knows_more profile earlier s p q formed way.read.taken.book (way.known none) takes;
+        },
+        refl,
+      )
+
+  faulty_on : (refusal : Refusal) → TakesFaulty profile files p s refusal q
+      → Goes (plain_refusal refusal ∷ [])
+  faulty_on refusal faulty =
+      let first : PlainRefusal = plain_refusal refusal in
+      let refused = refused_here refusal faulty in (
+        record {
+          read = read_on (taken_on (Faulty refusal) faulty);
+          meant = meant_more earlier s way.meant refused.meant;
+          begins = more_faulty profile files earlier new.ending listed s new.statements next_begins
+              first refused;
+          obeyed = λ none. absurd (none_more listed first none);
+          known = λ none. absurd (none_more listed first none);
+        },
+        refl,
+      )
+
+  pub goes_on : (judged : Judged) → HasForm s → IsTaken profile files p s judged q
+      → Goes (refusals_in judged)
+  goes_on (Theorem id) formed is = obeying_on formed is.2
+  goes_on Other formed is = obeying_on formed is.1
+  goes_on (Faulty refusal) formed is = faulty_on refusal is
+
+  -- where it is refused, others may follow
+  pub refused_next : (refusal : Refusal) → TakesFaulty profile files p s refusal q
+      → (others : List PlainRefusal)
+      × HaveFaults profile files (listed ++ plain_refusal refusal ∷ others)
+  refused_next refusal faulty =
+      let first : PlainRefusal = plain_refusal refusal in
+      let refused = refused_here refusal faulty in
+      let statements : List PlainStatement = earlier ++ s ∷ new.statements in
+      let formed : AllByRecursion HasForm statements =
+      (readings_are_formed_in_place files statements new.ending next_reads).formed in
+      let rest = some_of_statements profile files (earlier ++ s ∷ []) new.statements new.ending
+      (meant_more earlier s way.meant refused.meant)
+      (rw (append_assoc earlier (s ∷ []) new.statements) formed) in (
+        rest.0,
+        record {
+          readable = way.read.readable;
+          statements = statements;
+          ending = new.ending;
+          reads = next_reads;
+          refused = next_begins (first ∷ rest.0) (inr (inl (first, refused, rest.0, rest.1, refl)));
+        },
+      )
+
+-- ## The end
+
+module _ (profile : Profile) (files : List PlainFile) (listed : List PlainRefusal)
+    (p : Progress) (old : Remaining) (way : IsUnderWay profile files p old listed) where
+  -- none is left, and the text has no fault
+  module _ (s : PlainStatement) (new : Remaining) (none : TakesNext old false s new) where
+    read_to_end : Reads files way.read.earlier None
+    read_to_end = rw (none.0, append-nil, none.1) at way.read.reads
+
+    pub all_listed : HaveFaults profile files listed
+    all_listed = record {
+      readable = way.read.readable;
+      statements = way.read.earlier;
+      ending = None;
+      reads = read_to_end;
+      refused = rw (append-nil way.read.earlier, append-nil listed)
+          at ((rw (none.0, none.1) at way.begins) [] refl);
+    }
+
+    pub at_end : listed ≡ []
+        → (end : IsAtEnd profile files p) × (end.statements ≡ way.read.earlier)
+    at_end clean = (
       record {
-        way = record {
-          earlier = way.earlier;
-          readable = way.readable;
-          reads = way.reads;
-          obeyed = way.obeyed;
-          known = way.known;
+        statements = way.read.earlier;
+        accepted = record {
+          readable = way.read.readable;
+          reads = read_to_end;
+          obeyed = way.obeyed clean;
         };
-        none = taken.0;
-        ending = taken.1;
+        taken = way.read.taken;
+        known = way.known clean;
       },
       refl,
     )
+
+  -- the refusal for which nothing is taken
+  last_text : (last : PlainRefusal) (at : PlainFault) → old.statements ≡ []
+      → old.ending ≡ Some at → last ≡ text_refusal files at
+      → HaveFaults profile files (listed ++ last ∷ [])
+  last_text last at none ended same =
+      let refused : AreRefused profile files way.read.earlier [] (Some at) (last ∷ []) =
+      ap (λ (r : PlainRefusal). r ∷ []) same in
+      record {
+        readable = way.read.readable;
+        statements = way.read.earlier ++ [];
+        ending = Some at;
+        reads = rw (none, ended) at way.read.reads;
+        refused = (rw (none, ended) at way.begins) (last ∷ []) refused;
+      }
+
+  last_meaning : (last : PlainRefusal) (t : PlainStatement) (rest : Remaining)
+      (broken : MeaningRule) → TakesNext old true t rest
+      → FirstBroken broken p.prover.book.statements (sentence_of t)
+      → last ≡ refusal_of files p.count t (rule_of.Meaning broken) 0
+      → HaveFaults profile files (listed ++ last ∷ [])
+  last_meaning last t rest broken taken first same =
+      let refused : IsMeaningRefusal files way.read.earlier t last = record {
+        rule = broken;
+        broken = subst (λ (ss : List Sentence). FirstBroken broken ss (sentence_of t))
+            way.read.taken.book first;
+        refused = same
+            ∙ ap (λ (k : ℕ). refusal_of files k t (rule_of.Meaning broken) 0) way.read.taken.count;
+      } in
+      record {
+        readable = way.read.readable;
+        statements = way.read.earlier ++ t ∷ rest.statements;
+        ending = old.ending;
+        reads = rw taken.0 at way.read.reads;
+        refused = (rw taken.0 at way.begins) (last ∷ []) (inr (inr (last, refused, refl)));
+      }
+
+  pub refused_last : (refusal : Refusal) → StopsTurn files p old (stop.Refused refusal)
+      → HaveFaults profile files (listed ++ plain_refusal refusal ∷ [])
+  refused_last refusal (inl (none, at, ended, same)) =
+      last_text (plain_refusal refusal) at none ended same
+  refused_last refusal (inr (t, rest, taken, broken)) =
+      last_meaning (plain_refusal refusal) t rest broken.0 taken broken.1 broken.2

@@ -15,7 +15,7 @@ use Rattle.mm_proof.specs.declared.profile.Profile.{Profile}
 use Rattle.mm_check.specs.declared.rule.Rule.{Rule}
 use Rattle.mm_check.specs.declared.rule.Rule.TheVariants as rules
 use Rattle.mm_check.specs.Verdict.{PlainRefusal, Verdict, Load, Refused, Incomplete, Yes, AllObey, AreAccepted, HasFault, HasVerdict, RefusesStatement, RefusesText, sentences, refusal_of, text_refusal}
-use Rattle.mm_check.specs.Faults.{AreRefused, IsMeaningRefusal, IsProofRefusal, refusal_in}
+use Rattle.mm_check.specs.Faults.{AreRefused, HaveFaults, IsMeaningRefusal, IsProofRefusal, refusal_in}
 use Rattle.mm_check.specs.FaultLaws.{FirstFaultIsTold, OneListOfFaults, SomeListOfFaults}
 use Rattle.mm_check.proofs.Existence.{formed_sentences, proof_obeys_or_fails}
 use Rattle.mm_check.proofs.Meanings.{some_meaning}
@@ -92,27 +92,36 @@ none_told profile files statements (Refused refusal) accepted v =
 none_told profile files statements (Incomplete labels) accepted v = refl
 none_told profile files statements (Yes count proofs) accepted v = refl
 
+-- files without a fault are accepted
+no_fault : (profile : Profile) (files : List PlainFile) (h : HaveFaults profile files [])
+    → AreAccepted profile files h.statements
+no_fault profile files h =
+    let opens = opened profile files [] h.statements h.ending [] (no_statement profile) h.refused in
+    record { readable = h.readable; reads = rw opens.1 at h.reads; obeyed = opens.0 }
+
+-- else the first fault is the verdict
+pub first_told : (profile : Profile) (files : List PlainFile) (first : PlainRefusal)
+    (others : List PlainRefusal) → HaveFaults profile files (first ∷ others)
+    → HasVerdict profile files (Refused first)
+first_told profile files first others h = (
+  h.readable,
+  h.statements,
+  h.ending,
+  h.reads,
+  opened profile files [] h.statements h.ending (first ∷ others) (no_statement profile) h.refused,
+)
+
 pub first_fault : FirstFaultIsTold
 first_fault profile files [] verdict h v =
-    let opens = opened profile files [] h.statements h.ending [] (no_statement profile) h.refused in
-    none_told profile files h.statements verdict
-    (record {
-      readable = h.readable;
-      reads = rw opens.1 at h.reads;
-      obeyed = opens.0;
-    })
-    v
+    none_told profile files h.statements verdict (no_fault profile files h) v
 first_fault profile files (first ∷ others) verdict h v =
-    let opens =
-    opened profile files [] h.statements h.ending (first ∷ others) (no_statement profile) h.refused in
     ap refusal_in
-    (one_verdict profile files (Refused first) verdict
-    (h.readable, h.statements, h.ending, h.reads, opens) v)
+    (one_verdict profile files (Refused first) verdict (first_told profile files first others h) v)
 
 -- ## One list
 
 -- one more statement breaks no rule of meaning
-meant_more : (before : List PlainStatement) (s : PlainStatement) → AllMeant (sentences before)
+pub meant_more : (before : List PlainStatement) (s : PlainStatement) → AllMeant (sentences before)
     → IsMeant (sentences before) (sentence_of s) → AllMeant (sentences (before ++ s ∷ []))
 meant_more before s earlier meant =
     rw (map-append sentence_of before (s ∷ []))
@@ -169,7 +178,7 @@ one_of_statements profile files before (s ∷ left) ending refusals others earli
     h.2 ∙ ap (λ (r : PlainRefusal). r ∷ []) last ∙ sym k.2
 
 -- before any statement
-none_meant : AllMeant (sentences [])
+pub none_meant : AllMeant (sentences [])
 none_meant [] after s e = absurd cc
 none_meant (t ∷ before) after s e = absurd cc
 
@@ -182,7 +191,7 @@ one_list profile files refusals others h k =
 
 -- ## Some list
 
-some_of_statements : (profile : Profile) (files : List PlainFile)
+pub some_of_statements : (profile : Profile) (files : List PlainFile)
     (before left : List PlainStatement) (ending : Option PlainFault)
     → AllMeant (sentences before) → AllByRecursion HasForm (before ++ left)
     → (refusals : List PlainRefusal) × AreRefused profile files before left ending refusals

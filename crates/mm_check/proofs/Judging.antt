@@ -1,6 +1,5 @@
 -- What is said of the last statement's proof, from what the parser and the verifier say.
-use Rattle.std.proofs.Common.{◌≡◌, ℕ, List, [], ◌∷◌, ◌++◌, map, take, length, slice_get, is_some, Bool, true, false, ◌||◌, Option, option_map, Result, Ok, Err, MatchResult, inl, inr, refl, sym, ap, ◌∙◌}
-use Rattle.std.specs.List.{list_any}
+use Rattle.std.proofs.Common.{◌≡◌, ℕ, List, [], ◌∷◌, ◌++◌, map, take, length, slice_get, is_some, Bool, true, false, Option, option_map, Result, Ok, Err, MatchResult, inl, inr, refl, sym, ap, ◌∙◌}
 use Rattle.std.proofs.lemmas.Bool.{both_ways, false_from_ne_true}
 use Rattle.std.proofs.Math.Seq.{take-append_seam}
 use Rattle.mm_text.specs.declared.token.Token.{Token}
@@ -35,13 +34,6 @@ use Rattle.mm_check.proofs.Unproved.{proof_there, unproved_there}
 pub texts_of : (tokens : List Token) → map (λ (t : Token). t.text.now) tokens ≡ map (λ (t : PlainToken). t.text) (map plain_token tokens)
 texts_of [] = refl
 texts_of (t ∷ tokens) = ap (λ (rest : List (List ℕ)). t.text.now ∷ rest) (texts_of tokens)
-
--- a test of each of them
-pub any_texts : (test : List ℕ → Bool) (tokens : List Token)
-    → list_any test (map (λ (t : PlainToken). t.text) (map plain_token tokens))
-    ≡ list_any (λ (t : Token). test t.text.now) tokens
-any_texts test [] = refl
-any_texts test (t ∷ tokens) = ap (λ (b : Bool). test t.text.now || b) (any_texts test tokens)
 
 -- ## The number of the last statement
 

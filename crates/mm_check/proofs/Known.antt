@@ -1,5 +1,5 @@
 -- What the progress knows of one statement more, and what it tells in the end.
-use Rattle.std.proofs.Common.{◌≡◌, ℕ, ◌+◌, List, [], ◌∷◌, ◌++◌, map, filter, length, slice_get, is_some, count_by, Bool, true, false, not, ◌&&◌, cond, Option, Some, refl, sym, ap, subst, ◌∙◌, arith, append-nil, length-append}
+use Rattle.std.proofs.Common.{◌≡◌, ℕ, ◌+◌, ◌≤◌, List, [], ◌∷◌, ◌++◌, map, filter, length, slice_get, is_some, count_by, Bool, true, false, not, ◌&&◌, cond, Option, Some, refl, sym, ap, subst, ◌∙◌, arith, append-nil, length-append}
 use Rattle.std.proofs.lemmas.List.{map-append}
 use Rattle.std.proofs.lemmas.List.Sums.{sum_by-append}
 use Rattle.std.proofs.lemmas.List.Elements.{filter-append}
@@ -21,7 +21,7 @@ use Rattle.mm_check.specs.declared.progress.Progress.{Progress}
 use Rattle.mm_check.specs.Conclusion.{labels_in}
 use Rattle.mm_check.specs.Verdict.{sentences, labels_of, label_of, unproved_of, is_proof, is_unproved, proof_of}
 use Rattle.mm_text.proofs.Lists.{get_pushed}
-use Rattle.mm_check.specs.Mirror.Judged.{Knows, Takes, KeepsProof}
+use Rattle.mm_check.specs.Mirror.Judged.{HasTaken, Knows, Takes, KeepsProof}
 use Rattle.mm_check.specs.Rests.{IsNumberWhere, AreInOrder}
 use Rattle.mm_check.proofs.Trees.{one_more_number, uses_more}
 use Rattle.mm_check.proofs.Numbers.{named_more, count_by-one, count_labelled}
@@ -79,15 +79,16 @@ more_unproved names numbers unproved s count formed counted named true e =
     ∙ sym (map-append Some unproved (text ∷ []))
     ∙ ap (λ (ls : List (List ℕ)). map Some (unproved ++ ls)) (sym (append-nil (label_of s) ∙ label))
 
-incomplete_more : (profile : Profile) (statements : List PlainStatement) (s : PlainStatement) (p q : Progress) → HasForm s → Knows statements p → Takes profile p s q
+incomplete_more : (profile : Profile) (statements : List PlainStatement) (s : PlainStatement) (p q : Progress) → HasForm s
+    → p.prover.book.statements ≡ sentences statements → Knows statements p → Takes profile p s q
     → map (λ (id : LabelId). slice_get (labels_of (statements ++ s ∷ [])) id.0) q.incomplete.items ≡ map Some (unproved_of (statements ++ s ∷ []))
-incomplete_more profile statements s p q formed known takes =
+incomplete_more profile statements s p q formed book known takes =
     let names : List (List ℕ) = labels_of statements in
     let numbers : List ℕ = ids p.incomplete.items in
     let count : ℕ = length (labelled_sentences p.prover.book.statements) in
     let counted : count ≡ length names =
     count_labelled (λ (t : Sentence). t.label) p.prover.book.statements
-    ∙ ap length (ap labels_in known.book ∙ labels_said statements) in
+    ∙ ap length (ap labels_in book ∙ labels_said statements) in
     let named = sym (names_of_ids names p.incomplete.items) ∙ known.incomplete in
     let longer : labels_of (statements ++ s ∷ []) ≡ names ++ label_of s =
     flat_map-append label_of statements (s ∷ [])
@@ -98,22 +99,35 @@ incomplete_more profile statements s p q formed known takes =
     ∙ more_unproved names numbers (unproved_of statements) s count formed counted named (is_unproved s) refl
     ∙ sym (ap (λ (ls : List (List ℕ)). map Some ls) (unproved_of-append statements (s ∷ [])))
 
-noted_more : (profile : Profile) (statements : List PlainStatement) (s : PlainStatement) (p q : Progress) → HasForm s → Knows statements p → Takes profile p s q
+noted_more : (profile : Profile) (statements : List PlainStatement) (s : PlainStatement) (p q : Progress) → HasForm s
+    → p.prover.book.statements ≡ sentences statements → Knows statements p → Takes profile p s q
     → AreInOrder (IsNumberWhere (statements ++ s ∷ []) (λ t. is_unproved t ≡ true)) (ids q.incomplete.items)
-noted_more profile statements s p q formed known takes =
-    rw (takes.incomplete, known.book)
+noted_more profile statements s p q formed book known takes =
+    rw (takes.incomplete, book)
     (one_more_number is_unproved statements s (ids p.incomplete.items) (labelled_provable s (is_incomplete (proof_of s)) formed) known.noted (is_unproved s) refl)
 
-pub knows_more : (profile : Profile) (statements : List PlainStatement) (s : PlainStatement) (p q : Progress) → HasForm s → Knows statements p → Takes profile p s q
+-- what the progress has of one statement more
+pub taken_more : (statements : List PlainStatement) (s : PlainStatement) (p q : Progress) → HasTaken statements p
+    → q.prover.book.statements ≡ p.prover.book.statements ++ sentence_of s ∷ []
+    → q.prover.book.bytes ≡ p.prover.book.bytes + bytes_in s
+    → q.count ≡ p.count + 1 → q.proofs ≤ p.proofs + 1
+    → HasTaken (statements ++ s ∷ []) q
+taken_more statements s p q taken book bytes count proofs = record {
+  book = book ∙ ap (λ (ss : List Sentence). ss ++ sentence_of s ∷ []) taken.book ∙ sym (map-append sentence_of statements (s ∷ []));
+  bytes = omega (arith, bytes, taken.bytes, sum_by-append bytes_in statements (s ∷ []));
+  count = omega (arith, count, taken.count, length-append statements (s ∷ []));
+  proofs = omega (arith, proofs, taken.proofs, length-append statements (s ∷ []));
+}
+
+-- what it knows of it
+pub knows_more : (profile : Profile) (statements : List PlainStatement) (s : PlainStatement) (p q : Progress) → HasForm s
+    → p.prover.book.statements ≡ sentences statements → Knows statements p → Takes profile p s q
     → Knows (statements ++ s ∷ []) q
-knows_more profile statements s p q formed known takes = record {
-  book = takes.statements ∙ ap (λ (ss : List Sentence). ss ++ sentence_of s ∷ []) known.book ∙ sym (map-append sentence_of statements (s ∷ []));
-  bytes = omega (arith, takes.bytes, known.bytes, sum_by-append bytes_in statements (s ∷ []));
-  count = omega (arith, takes.count, known.count, length-append statements (s ∷ []));
+knows_more profile statements s p q formed book known takes = record {
   proofs = takes.proofs ∙ ap (λ (n : ℕ). n + cond (is_proof s) 1 0) known.proofs
       ∙ sym (count_append is_proof statements (s ∷ []) ∙ ap (λ (n : ℕ). count_by is_proof statements + n) (count_by-one is_proof s));
-  incomplete = incomplete_more profile statements s p q formed known takes;
-  noted = noted_more profile statements s p q formed known takes;
+  incomplete = incomplete_more profile statements s p q formed book known takes;
+  noted = noted_more profile statements s p q formed book known takes;
   kept = uses_more profile statements s p.kept q.kept (labelled_provable s (not (is_incomplete (proof_of s))) formed) known.kept (is_proof s) refl
-      (subst (λ (ss : List Sentence). KeepsProof profile ss s (length (labelled_sentences ss)) (is_proof s) p.kept q.kept) known.book takes.kept);
+      (subst (λ (ss : List Sentence). KeepsProof profile ss s (length (labelled_sentences ss)) (is_proof s) p.kept q.kept) book takes.kept);
 }

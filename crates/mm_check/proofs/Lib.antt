@@ -12,11 +12,12 @@ pub mod Existence
 pub mod Lines
 pub mod Replies
 pub mod Verdicts
+pub mod Visits
 pub mod OnTheWay
 pub mod Marking
 pub mod Asked
 pub mod Course
-pub mod Noting
+pub mod Concluding
 pub mod Handed
 pub mod FaultLists
 pub mod Rereading

@@ -1,7 +1,7 @@
 -- What the next statement may ask of the progress: a block to close, and room.
 use Rattle.std.proofs.Common.{◌≡◌, suc, ◌+◌, ◌<◌, ◌≤◌, List, [], ◌∷◌, ◌++◌, take, length, sum_by, count_by, Bool, true, cond, inl, inr, refl, sym, ap, subst, ◌∙◌, arith, length-append}
 use Rattle.std.proofs.lemmas.Bool.{cases_lt}
-use Rattle.std.proofs.lemmas.List.Sums.{count_by-le-length, sum_by-append, sum_by-cons}
+use Rattle.std.proofs.lemmas.List.Sums.{sum_by-append, sum_by-cons}
 use Rattle.mm_text.specs.declared.fault.LoadRule.TheVariants.{F1, F2, F3}
 use Rattle.mm_text.specs.declared.statement.Kind.{Kind}
 use Rattle.mm_text.specs.declared.statement.Kind.TheVariants.{Closing}
@@ -13,10 +13,9 @@ use Rattle.mm_text.proofs.Reader.WholeReadings.{readings_are_balanced, readings_
 use Rattle.mm_frame.specs.Sentence.{Sentence, sentence_of}
 use Rattle.mm_frame.specs.Active as frame
 use Rattle.mm_frame.proofs.Blocks.NumberedBlocks.{count_append}
-use Rattle.mm_proof.specs.declared.profile.Profile.{Profile}
 use Rattle.mm_check.specs.declared.progress.Progress.{Progress}
-use Rattle.mm_check.specs.Verdict.{CanBeRead, sentences, is_proof}
-use Rattle.mm_check.specs.Mirror.Judged.{IsRead, IsUnderWay, TakesNext}
+use Rattle.mm_check.specs.Verdict.{CanBeRead, sentences}
+use Rattle.mm_check.specs.Mirror.Judged.{IsRead, TakesNext}
 use Rattle.mm_check.proofs.Numbers.{count_by-one}
 
 -- ## The limit
@@ -68,7 +67,7 @@ closes files p old new s way taken closing =
     let closed : frame.close_marks (sentences earlier) ≡ text.closings earlier = counted_alike text.is_closing earlier in
     let opened : frame.open_marks (sentences earlier) ≡ text.openings earlier = counted_alike text.is_opening earlier in
     let plain : frame.close_marks (sentences earlier) < frame.open_marks (sentences earlier) = omega (arith, less, closed, opened) in
-    subst (λ (ss : List Sentence). frame.close_marks ss < frame.open_marks ss) (sym way.book) plain
+    subst (λ (ss : List Sentence). frame.close_marks ss < frame.open_marks ss) (sym way.taken.book) plain
 
 -- ## Room
 
@@ -80,28 +79,9 @@ has_room files p old new s way taken =
     let whole : earlier ++ old.statements ≡ earlier ++ s ∷ new.statements = ap (λ (ss : List PlainStatement). earlier ++ ss) taken.0 in
     let fits : sum_by bytes_in (earlier ++ s ∷ new.statements) ≤ total_bytes files =
     subst (λ (ss : List PlainStatement). sum_by bytes_in ss ≤ total_bytes files) whole (readings_fit files (earlier ++ old.statements) old.ending way.reads) in
-    omega (arith, fits, way.bytes, within_limit files way.readable, sum_by-append bytes_in earlier (s ∷ new.statements), sum_by-cons bytes_in s new.statements)
+    omega (arith, fits, way.taken.bytes, within_limit files way.readable, sum_by-append bytes_in earlier (s ∷ new.statements), sum_by-cons bytes_in s new.statements)
 
 -- the statements so far are few
 pub few : (files : List PlainFile) (p : Progress) (left : Remaining) (way : IsRead files p left) → length way.earlier ≤ most_bytes
 few files p left way =
     omega (arith, readings_few files (way.earlier ++ left.statements) left.ending way.reads, length-append way.earlier left.statements, within_limit files way.readable)
-
--- ## What is under way
-
--- statements that obey the rules so far are read so far
-pub read_so_far : (profile : Profile) (files : List PlainFile) (p : Progress) (left : Remaining)
-    → (way : IsUnderWay profile files p left)
-    → (read : IsRead files p left) × (read.earlier ≡ way.earlier)
-read_so_far profile files p left way = (
-  record {
-    earlier = way.earlier;
-    readable = way.readable;
-    reads = way.reads;
-    book = way.known.book;
-    bytes = way.known.bytes;
-    count = way.known.count;
-    proofs = omega (arith, way.known.proofs, count_by-le-length is_proof way.earlier);
-  },
-  refl,
-)

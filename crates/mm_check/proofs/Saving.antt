@@ -12,7 +12,7 @@ use Rattle.mm_text.specs.Replaced.{with_span, with_bytes, IsProofSpan}
 use Rattle.mm_text.proofs.Reader.WholeReadings.{readings_are_formed_in_place}
 use Rattle.mm_text.proofs.Replaced.ProofSpans.{proofs_stand_in_spans_holds}
 use Rattle.mm_text.proofs.Lists.{all_at, split_at}
-use Rattle.mm_text.proofs.Inclusions.OpenFiles.{file_there, file_within as handed_within}
+use Rattle.mm_text.proofs.Inclusions.OpenFiles.{file_there}
 use Rattle.mm_frame.specs.Sentence.{Sentence}
 use Rattle.mm_frame.specs.Rules.{AllMeant}
 use Rattle.mm_proof.specs.ReadSteps.{ReadSteps}
@@ -48,9 +48,6 @@ file_within files k f is =
     let Long : PlainFile → ℕ = λ g. length g.bytes in
     let own = get_or-le-sum_by Long files k f (slice_get_within files k f is) in
     omega (arith, own, ap Long (get_or_from_slice_get files k f f is))
-
-pub own_within : (files : List File) (k : ℕ) (d : File) (total : ℕ) → k < length files → total ≡ total_bytes (map plain_file files) → length (slice_index_or files k d).bytes.now ≤ total
-own_within files k d total less same = omega (arith, handed_within files k d less, same)
 
 -- with others in their place
 replaced_at : (files : List PlainFile) (k : ℕ) (f g : PlainFile) → slice_get files k ≡ Some f → total_bytes (slice_set files k g) + length f.bytes ≡ total_bytes files + length g.bytes

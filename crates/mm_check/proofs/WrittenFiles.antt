@@ -1,43 +1,45 @@
 -- A file on its way to being written anew, statement by statement.
-use Rattle.std.proofs.Common.{◌≡◌, ℕ, ◌≤◌, ◌⊎◌, List, [], ◌∷◌, ◌++◌, true, false, Bool, take, drop}
+use Rattle.std.proofs.Common.{◌≡◌, ℕ, ◌≤◌, ◌⊎◌, List, [], ◌∷◌, ◌++◌, true, false, take, drop}
 use Rattle.std.proofs.Common.{length, slice_get, Option, Some, None, option_map, inl, inr, refl}
-use Rattle.std.proofs.Common.{sym, ap, subst, ◌∙◌, arith, append_assoc}
+use Rattle.std.proofs.Common.{sym, ap, subst, ◌∙◌, arith, append_assoc, append-nil}
 use Rattle.std.proofs.lemmas.Bool.{cases_lt, false_from_ne_true}
-use Rattle.std.proofs.lemmas.List.{take-append-le}
+use Rattle.std.proofs.lemmas.List.{take-append-le, length-map, map-append}
 use Rattle.std.proofs.lemmas.List.Elements.{filter-append}
 use Rattle.std.proofs.lemmas.Option.{slice_get_within}
 use Rattle.std.specs.List.{AllZip}
-use Rattle.mm_text.specs.Statement.{PlainStatement}
+use Rattle.mm_text.specs.Statement.{PlainStatement, HasForm}
 use Rattle.mm_text.specs.Files.{PlainFile, most_bytes}
-use Rattle.mm_text.specs.Reading.{Reads}
-use Rattle.mm_text.specs.Remaining.{Remaining}
 use Rattle.mm_text.proofs.Replaced.ProofSpans.{proof_spans_follow_holds}
 use Rattle.mm_text.proofs.Replaced.ProofSpans.{proofs_stand_in_spans_holds}
 use Rattle.mm_text.proofs.Lists.{get_kept, get_parted, zip_push, zip_weaker}
+use Rattle.mm_frame.specs.declared.number.LabelId.{LabelId}
+use Rattle.mm_frame.specs.Sentence.{Sentence, sentence_of}
+use Rattle.mm_proof.specs.declared.profile.Profile.{Profile}
 use Rattle.mm_proof.specs.declared.profile.Profile.TheVariants.{Lenient}
 use Rattle.mm_proof.specs.Tree.{Trees}
 use Rattle.mm_check.specs.declared.form.Form.{Form}
 use Rattle.mm_check.specs.declared.form.Form.TheVariants.{Normal}
 use Rattle.mm_check.specs.declared.ask.AskFault.{AskFault}
-use Rattle.mm_check.specs.declared.progress.Progress.{Progress}
+use Rattle.mm_check.specs.declared.judge.Judged.TheVariants.{Theorem}
 use Rattle.mm_check.specs.declared.save_fault.SaveFault.TheVariants as fault
 use Rattle.mm_check.specs.declared.save_all.NewFile.{NewFile}
-use Rattle.mm_check.specs.Verdict.{AreAccepted}
+use Rattle.mm_check.specs.declared.progress.Progress.{Progress}
+use Rattle.mm_check.specs.Verdict.{AreAccepted, PlainRefusal, sentences}
 use Rattle.mm_check.specs.Forms.{HasProofTree}
 use Rattle.mm_check.specs.Saved.{FitsSaved, total_with}
 use Rattle.mm_check.specs.AllSaved.{Replacement, IsReplacement, with_replaced, is_theorem_of}
 use Rattle.mm_check.specs.AllSaved.{theorems_of, IsAllSaved, IsFirstTooLong, IsSavingAllFault}
-use Rattle.mm_check.specs.Mirror.Judged.{GoesOn, IsUnderWay}
+use Rattle.mm_check.specs.Mirror.Visits.{HasVisited, IsMet}
 use Rattle.mm_check.specs.Mirror.AllSaving.{IsTheoremAmong, replacement, IsLastEnd, IsAllWritten}
 use Rattle.mm_check.specs.Mirror.AllSaving.{PutsProof, KeepsLabel, IsWhole, IsFinishFault}
-use Rattle.mm_check.specs.Mirror.AllSaving.{AreReplacedSoFar, IsSoFar, IsWrittenSoFar}
-use Rattle.mm_check.proofs.Course.{end_accepted}
-use Rattle.mm_check.proofs.FileTheorems.{theorem_complete, theorem_home, theorems_parted}
+use Rattle.mm_check.specs.Mirror.AllSaving.{AreReplacedSoFar, IsSoFar, IsWrittenSoFar, HasWritten}
+use Rattle.mm_check.proofs.FileTheorems.{theorem_there, theorems_parted}
 use Rattle.mm_check.proofs.FileTheorems.{theorems_passed, replaced_by, first_too_long}
 use Rattle.mm_check.proofs.ReplacedSpans.{spans_push, one_more_replaced, all_replaced}
+use Rattle.mm_check.proofs.Judging.{last_number}
 use Rattle.mm_check.proofs.Rereading.{proof_fits}
-use Rattle.mm_check.proofs.Saving.{provable_proof}
 use Rattle.mm_check.proofs.SavedSpans.{ends_within}
+use Rattle.mm_check.proofs.Unproved.{one_more}
 
 -- ---- more statements
 
@@ -89,20 +91,6 @@ last_kept number at taken s (inr (before, t, between, parts, kind, same, ends)) 
     let more = append_assoc before (t ∷ between) (s ∷ []) in
     inr (before, t, between ++ s ∷ [], rw parts more, kind, same, ends)
 
--- ---- the statement that was judged last
-
--- the files hold it
-abbrev Holds : List PlainFile → (taken : List PlainStatement) → PlainStatement → Remaining → Type 0
-Holds files taken s left = Reads files (taken ++ s ∷ left.statements) left.ending
-
--- it goes over to those so far
-pub judged_on : (files : List PlainFile) (p q : Progress) (old new : Remaining)
-    (s : PlainStatement) (more : Bool) → GoesOn Lenient files p old more s q new → more ≡ true
-    → (way : IsUnderWay Lenient files p old)
-    → (on : IsUnderWay Lenient files q new) × (on.earlier ≡ way.earlier ++ s ∷ [])
-judged_on files p q old new s more goes is =
-    (subst (λ (b : Bool). GoesOn Lenient files p old b s q new) is goes).1
-
 -- ---- one statement more
 
 -- one that isn't a theorem of the file; or there is one that is too long
@@ -123,7 +111,7 @@ unmapped : {A B : Type 0} (f : A → B) (o : Option A) → option_map f o ≡ No
 unmapped f None _ = refl
 unmapped f (Some x) is = absurd cc
 
-pub passed_over : (files : List PlainFile) (taken : List PlainStatement) (s : PlainStatement)
+passed_over : (files : List PlainFile) (taken : List PlainStatement) (s : PlainStatement)
     (file : NewFile) → IsWrittenSoFar files taken file
     → ¬ ((file.too_long ≡ None) × (is_theorem_of file.number s ≡ true))
     → IsWrittenSoFar files (taken ++ s ∷ []) file
@@ -139,6 +127,20 @@ passed_over files taken s file w unwanted = record {
       unwanted (unmapped (λ l. l.now) file.too_long short, is))) w.so_far;
 }
 
+-- the same, with what it was at first
+pub passed_by : (profile : Profile) (files : List PlainFile) (first file : NewFile)
+    (taken : List PlainStatement) (listed : List PlainRefusal) (s : PlainStatement)
+    → ¬ ((file.too_long ≡ None) × (is_theorem_of file.number s ≡ true))
+    → HasWritten profile files first file taken listed
+    → HasWritten profile files first file (taken ++ s ∷ []) (listed ++ [])
+passed_by profile files first file taken listed s unwanted w = record {
+  lenient = w.lenient;
+  none = append-nil listed ∙ w.none;
+  so_far = passed_over files taken s file w.so_far unwanted;
+  number = w.number;
+  form = w.form;
+}
+
 -- where no proof is too long, those so far are replaced
 replaced_so_far : (files : List PlainFile) (taken : List PlainStatement) (file : NewFile)
     → IsWrittenSoFar files taken file → file.too_long ≡ None → AreReplacedSoFar taken file
@@ -146,39 +148,35 @@ replaced_so_far files taken file w short =
     subst (λ (o : Option (List ℕ)). IsSoFar taken file o)
     (ap (option_map (λ l. l.now)) short) w.so_far
 
-module _ {files : List PlainFile} {p : Progress} {left : Remaining} (taken : List PlainStatement)
-    (s : PlainStatement) (on : IsUnderWay Lenient files p left)
-    (all : on.earlier ≡ taken ++ s ∷ []) where
-  held : Holds files taken s left
-  held = rw (all, append_assoc) at on.reads
-
+module _ {files : List PlainFile} {told : List Sentence} {id : LabelId}
+    {listed : List PlainRefusal} (taken : List PlainStatement) (s : PlainStatement)
+    (met : IsMet Lenient files taken listed told s (Theorem id)) (none : listed ≡ []) where
   -- a theorem
-  pub theorem_met : (number : ℕ) → is_theorem_of number s ≡ true
-      → (t : IsTheoremAmong p.prover.book.statements s) × (t.statements ≡ taken ++ s ∷ [])
-  theorem_met number is = (
-    record {
-      statements = on.earlier;
-      same = on.known.book;
-      obeyed = on.obeyed;
-      place = length taken;
-      there = rw all (get_parted taken [] s);
-      complete = theorem_complete number s is;
-      room = proof_fits files (taken ++ s ∷ left.statements) left.ending (length taken) s
-          on.readable held (get_parted taken left.statements s);
-    },
-    all,
-  )
+  abbrev pub theorem_met : HasForm s → IsTheoremAmong told id.0 s
+  theorem_met formed = record {
+    statements = taken ++ s ∷ [];
+    same = met.same;
+    obeyed = one_more Lenient taken s (met.obeyed none) met.came.2;
+    place = length taken;
+    there = get_parted taken [] s;
+    number = rw (length-map taken sentence_of) at (last_number told id.0 s formed met.came.1
+        (sentences taken) (met.same ∙ map-append sentence_of taken (s ∷ [])));
+    complete = met.came.0;
+    room = proof_fits files (taken ++ s ∷ met.left.statements) met.left.ending (length taken) s
+        met.readable met.reads (get_parted taken met.left.statements s);
+  }
 
   module _ {file : NewFile} (w : IsWrittenSoFar files taken file)
-      (is : is_theorem_of file.number s ≡ true) where
+      (home : s.first.file ≡ file.number) where
+    is : is_theorem_of file.number s ≡ true
+    is = theorem_there file.number s met.came.0 home
+
     -- it stands in the file
     pub span_stands : (s.span.0 ≤ s.span.1) × (s.span.1 ≤ length file.source.now)
     span_stands =
-        let complete = theorem_complete file.number s is in
-        let home = theorem_home file.number s is in
         rw w.source (ends_within s w.own.bytes
-        (proofs_stand_in_spans_holds files taken s left.statements left.ending w.own held
-        (provable_proof s complete) (ap (slice_get files) home ∙ w.handed)))
+        (proofs_stand_in_spans_holds files taken s met.left.statements met.left.ending w.own
+        met.reads met.came.1.provable (ap (slice_get files) home ∙ w.handed)))
 
     -- behind what was taken
     pub span_follows : file.taken ≤ s.span.0
@@ -186,19 +184,17 @@ module _ {files : List PlainFile} {p : Progress} {left : Remaining} (taken : Lis
         elim w.last [
           | inl begin ↦ omega (arith, begin)
           | inr (before, t, between, parts, kind, same, ends) ↦
-              let after = proof_spans_follow_holds files before between left.statements t s
-              left.ending (rw parts at held) kind
-              (provable_proof s (theorem_complete file.number s is))
-              (same ∙ sym (theorem_home file.number s is)) in omega (arith, after, ends)
+              let after = proof_spans_follow_holds files before between met.left.statements t s
+              met.left.ending (rw parts at met.reads) kind met.came.1.provable
+              (same ∙ sym home) in omega (arith, after, ends)
         ]
 
     -- its proof was put
     written_anew : (next : NewFile) → file.too_long ≡ None
-        → PutsProof p.prover.book.statements file s next
+        → HasForm s → PutsProof told id.0 file s next
         → IsWrittenSoFar files (taken ++ s ∷ []) next
-    written_anew next short put =
+    written_anew next short formed put =
         let (order, within) = span_stands in
-        let (t, among) = theorem_met file.number is in
         let more : List PlainStatement = taken ++ s ∷ [] in
         let old : AreReplacedSoFar taken file = replaced_so_far files taken file w short in
         let new : Replacement = replacement s put.text in
@@ -209,38 +205,36 @@ module _ {files : List PlainFile} {p : Progress} {left : Remaining} (taken : Lis
           replaced = old.replaced ++ new ∷ [];
           each = rw (same.form, same.number, theorems_parted file.number taken s [] is)
               (zip_push (IsReplacement file.form more) _ old.replaced s new
-              (all_kept taken (s ∷ []) file.form _ _ old.each) (rw among at (put.anew t)));
+              (all_kept taken (s ∷ []) file.form _ _ old.each) (put.anew (theorem_met formed)));
           spans = rw put.puts.taken
               (spans_push 0 file.taken old.replaced new old.spans span_follows order);
           put = rw (same.most, same.source, put.puts.taken, one) (put.puts.put _ old.put);
         } in
-        let kind = provable_proof s (theorem_complete file.number s is) in
-        let home = theorem_home file.number s is ∙ sym same.number in
         record {
           own = w.own;
           handed = ap (slice_get files) same.number ∙ w.handed;
           source = same.source ∙ w.source;
           limit = rw (same.number, same.most) w.limit;
           within = omega (arith, within, put.puts.taken, ap length same.source);
-          last = inr (taken, s, [], refl, kind, home, put.puts.taken);
+          last = inr
+              (taken, s, [], refl, met.came.1.provable, home ∙ sym same.number, put.puts.taken);
           so_far = rw (ap (option_map (λ l. l.now)) (put.puts.long ∙ short)) so_far;
         }
 
     -- its normal proof is too long
     label_kept : (next : NewFile) → file.too_long ≡ None
-        → KeepsLabel p.prover.book.statements file s next
+        → HasForm s → KeepsLabel told id.0 file s next
         → IsWrittenSoFar files (taken ++ s ∷ []) next
-    label_kept next short kept =
-        let (t, among) = theorem_met file.number is in
+    label_kept next short formed kept =
         let more : List PlainStatement = taken ++ s ∷ [] in
         let old : AreReplacedSoFar taken file = replaced_so_far files taken file w short in
         let same = kept.same in
         let (normal, long) = kept.long in
-        let (place, root, below, proof, over) = long t in
+        let (place, root, below, proof, over) = long (theorem_met formed) in
         let first = first_too_long more file.number kept.label (theorems_of file.number taken) s []
         old.replaced (theorems_parted file.number taken s [] is)
         (simp normal at (all_kept taken (s ∷ []) file.form _ old.replaced old.each))
-        (place, root, below, rw among at proof, over) in
+        (place, root, below, proof, over) in
         record {
           own = w.own;
           handed = ap (slice_get files) same.number ∙ w.handed;
@@ -253,30 +247,44 @@ module _ {files : List PlainFile} {p : Progress} {left : Remaining} (taken : Lis
         }
 
     -- either was
-    pub written_on : (next : NewFile) → file.too_long ≡ None
-        → PutsProof p.prover.book.statements file s next
-        ⊎ KeepsLabel p.prover.book.statements file s next
-        → IsWrittenSoFar files on.earlier next × (next.number ≡ file.number)
-        × (next.form ≡ file.form)
-    written_on next short (inl put) =
-        (rw all (written_anew next short put), put.puts.same.number, put.puts.same.form)
-    written_on next short (inr kept) =
-        (rw all (label_kept next short kept), kept.same.number, kept.same.form)
+    pub written_on : (first next : NewFile) → file.too_long ≡ None → HasForm s
+        → (file.number ≡ first.number) → (file.form ≡ first.form)
+        → PutsProof told id.0 file s next ⊎ KeepsLabel told id.0 file s next
+        → HasWritten Lenient files first next (taken ++ s ∷ []) (listed ++ [])
+    written_on first next short formed number form (inl put) = record {
+      lenient = refl;
+      none = append-nil listed ∙ none;
+      so_far = written_anew next short formed put;
+      number = put.puts.same.number ∙ number;
+      form = put.puts.same.form ∙ form;
+    }
+    written_on first next short formed number form (inr kept) = record {
+      lenient = refl;
+      none = append-nil listed ∙ none;
+      so_far = label_kept next short formed kept;
+      number = kept.same.number ∙ number;
+      form = kept.same.form ∙ form;
+    }
 
 -- ---- the end
 
--- no statement is left, so that those so far are all of them
-pub judged_all : (files : List PlainFile) (p q : Progress) (old new : Remaining)
-    (s : PlainStatement) (more : Bool) (file : NewFile)
-    → GoesOn Lenient files p old more s q new → more ≡ false
-    → (way : IsUnderWay Lenient files p old) → IsWrittenSoFar files way.earlier file
-    → IsAllWritten files file
-judged_all files p q old new s more file goes is way w =
-    let (end, same) = (subst (λ (b : Bool). GoesOn Lenient files p old b s q new) is goes) way in (
-      end.way.earlier,
-      end_accepted end,
-      subst (λ (ss : List PlainStatement). IsWrittenSoFar files ss file) (sym same) w,
-    )
+-- all statements were seen, and none is at fault
+pub all_written : (files : List PlainFile) (first file : NewFile) (p : Progress)
+    → HasVisited HasWritten Lenient files first file p → IsAllWritten files first file
+all_written files first file p visited =
+    let none = visited.seen.none in
+    let (end, same) = visited.clean none in
+    (visited.statements, rw same at end.accepted, rw none at visited.seen)
+
+-- some normal proof is too long
+pub long_fault : (form : Form) (files : List PlainFile) (number : ℕ) (first file : NewFile)
+    (label : List ℕ) → first.form ≡ form → first.number ≡ number
+    → option_map (λ l. l.now) file.too_long ≡ Some label → IsAllWritten files first file
+    → (form ≡ Normal) × (statements : List PlainStatement) × AreAccepted Lenient files statements
+    × IsFirstTooLong statements number label
+long_fault form files number first file label same home long (statements, accepted, all) =
+    let (normal, too_long) = rw long at all.so_far.so_far in
+    rw (← (all.form ∙ same), ← (all.number ∙ home)) (normal, statements, accepted, too_long)
 
 -- the bytes up to the last span, and what wasn't taken
 abbrev made_of : (statements : List PlainStatement) (file : NewFile)
@@ -304,13 +312,15 @@ SavesAll form files number bytes =
     (statements : List PlainStatement) × AreAccepted Lenient files statements
     × IsAllSaved form files statements number bytes × FitsSaved files number bytes
 
-pub all_saved : (form : Form) (files : List PlainFile) (number : ℕ) (file : NewFile)
-    (bytes : List ℕ) → file.form ≡ form → file.number ≡ number → file.too_long ≡ None
-    → IsAllWritten files file → IsWhole file bytes → length bytes ≤ file.most
+pub all_saved : (form : Form) (files : List PlainFile) (number : ℕ) (first file : NewFile)
+    (bytes : List ℕ) → first.form ≡ form → first.number ≡ number → file.too_long ≡ None
+    → IsAllWritten files first file → IsWhole file bytes → length bytes ≤ file.most
     → SavesAll form files number bytes
-all_saved form files number file bytes same home short (statements, accepted, w) whole few =
+all_saved form files number first file bytes same home short (statements, accepted, all) whole
+    few =
+    let w = all.so_far in
     let h : AreReplacedSoFar statements file = replaced_so_far files statements file w short in
-    rw (← same, ← home) (
+    rw (← (all.form ∙ same), ← (all.number ∙ home)) (
       statements,
       accepted,
       whole_so files statements file bytes w h (whole (made_of statements file h) h.put),
@@ -321,16 +331,18 @@ all_saved form files number file bytes same home short (statements, accepted, w)
     )
 
 -- or why they aren't
-pub finish_fault : (form : Form) (files : List PlainFile) (number : ℕ) (file : NewFile)
-    (why : AskFault) → file.form ≡ form → file.number ≡ number → file.too_long ≡ None
-    → IsAllWritten files file → IsFinishFault file why
+pub finish_fault : (form : Form) (files : List PlainFile) (number : ℕ) (first file : NewFile)
+    (why : AskFault) → first.form ≡ form → first.number ≡ number → file.too_long ≡ None
+    → IsAllWritten files first file → IsFinishFault file why
     → IsSavingAllFault form files number (fault.Ask why)
-finish_fault form files number file why same home short (statements, accepted, w) (inl memory) =
-    rw (← same, ← home, memory) (statements, accepted, tt)
-finish_fault form files number file why same home short (statements, accepted, w)
+finish_fault form files number first file why same home short (statements, accepted, all)
+    (inl memory) =
+    rw (← (all.form ∙ same), ← (all.number ∙ home), memory) (statements, accepted, tt)
+finish_fault form files number first file why same home short (statements, accepted, all)
     (inr (is, over)) =
+    let w = all.so_far in
     let h : AreReplacedSoFar statements file = replaced_so_far files statements file w short in
     let bytes : List ℕ = made_of statements file h ++ drop file.taken file.source.now in
     let too_many = (w.limit bytes).0 (over (made_of statements file h) h.put) in
-    rw (← same, ← home, is)
+    rw (← (all.form ∙ same), ← (all.number ∙ home), is)
     (statements, accepted, (bytes, whole_so files statements file bytes w h refl, too_many))

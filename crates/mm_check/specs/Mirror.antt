@@ -4,10 +4,9 @@
 pub mod Ordered
 pub mod Ranges
 pub mod Theorems
-pub mod Questions
 pub mod Comparisons
 pub mod Rewriting
 pub mod AllSaving
 pub mod Marks
 pub mod Judged
-pub mod Noted
+pub mod Visits

@@ -22,8 +22,11 @@ use Rattle.mm_check.specs.Answer.{verdict_of_answer, labels_at}
 use Rattle.mm_check.specs.declared.ask.AskFault.{AskFault}
 use Rattle.mm_check.specs.declared.ask.AskFault.TheVariants as ask
 use Rattle.mm_check.specs.declared.command.Command.{Command}
-use Rattle.mm_check.specs.declared.command.Command.TheVariants.{Check, Faults, Axioms, Show}
-use Rattle.mm_check.specs.declared.command.Command.TheVariants.{Normal, Packed, Same, All}
+use Rattle.mm_check.specs.declared.command.Command.TheVariants.{Whole, About, File}
+use Rattle.mm_check.specs.declared.question.Question.{Question}
+use Rattle.mm_check.specs.declared.question.Question.TheVariants as question
+use Rattle.mm_check.specs.declared.question.WholeQuestion.{WholeQuestion}
+use Rattle.mm_check.specs.declared.question.WholeQuestion.TheVariants.{Check, Faults}
 use Rattle.mm_check.specs.Rests.{IsAskFault, IsReport}
 use Rattle.mm_check.specs.Shown.{ShowsProof}
 use Rattle.mm_check.specs.declared.form.Form.{Form}
@@ -215,6 +218,29 @@ IsSavedReply form files label statements text status =
     ⊎ ((number : ℕ) × IsSaved form files statements label number text
     × FitsSaved files number text × (status ≡ 0))
 
+-- the reply to the question for the proof of the theorem with a label in a form, or for its whole file
+-- with that proof
+abbrev pub IsFormReply : (whole : Bool) → Form → List PlainFile → List ℕ → List PlainStatement
+    → List ℕ → ℕ → Type 0
+IsFormReply true wanted files label statements text status =
+    IsSavedReply wanted files label statements text status
+IsFormReply false form.Normal files label statements text status =
+    IsNormalReply label statements text status
+IsFormReply false form.Packed files label statements text status =
+    IsPackedReply label statements text status
+
+-- the reply to a question about the theorem with a label
+abbrev pub IsAnswerTo : Question → List PlainFile → (label : List ℕ) → List PlainStatement → List ℕ
+    → ℕ → Type 0
+IsAnswerTo question.Axioms files label statements text status =
+    IsAxiomsReply label statements text status
+IsAnswerTo question.Show files label statements text status =
+    IsShowReply label statements text status
+IsAnswerTo (question.Form wanted whole) files label statements text status =
+    IsFormReply whole wanted files label statements text status
+IsAnswerTo (question.Same proof) files label statements text status =
+    IsSameReply label proof.now statements text status
+
 -- the reply to the question for the file with a number, with each complete proof in a form: the bytes
 -- of the file, and nothing else; or the label of the first theorem whose proof is too long, or the
 -- name of the file, where the files would have too many bytes
@@ -241,28 +267,21 @@ IsQuestionReply files Answers text status =
 
 -- a file that the command asks for by its number is one of those that are handed in
 abbrev pub AsksHanded : List PlainFile → Command → Type 0
-AsksHanded files (All form number) = number < length files
+AsksHanded files (File form number) = number < length files
 AsksHanded files command = Unit {0}
 
--- This is the text and the status of the reply to a command. Questions are answered where the lenient
--- profile accepts the files.
+-- the reply to a question about the whole database, in the profile
+abbrev pub IsWholeReply : WholeQuestion → Profile → List PlainFile → List ℕ → ℕ → Type 0
+IsWholeReply Check profile files text status = IsReply profile files text status
+IsWholeReply Faults profile files text status = IsFaultsReply profile files text status
+
+-- This is the text and the status of the reply to a command. Questions about a theorem, and those for
+-- a file, are answered where the lenient profile accepts the files.
 abbrev pub IsReplyTo : List PlainFile → Command → List ℕ → ℕ → Type 0
-IsReplyTo files (Check profile) text status = IsReply profile files text status
-IsReplyTo files (Faults profile) text status = IsFaultsReply profile files text status
-IsReplyTo files (Axioms label) text status =
-    IsQuestionReply files (IsAxiomsReply label.now) text status
-IsReplyTo files (Show label) text status = IsQuestionReply files (IsShowReply label.now) text status
-IsReplyTo files (Normal label false) text status =
-    IsQuestionReply files (IsNormalReply label.now) text status
-IsReplyTo files (Normal label true) text status =
-    IsQuestionReply files (IsSavedReply form.Normal files label.now) text status
-IsReplyTo files (Packed label false) text status =
-    IsQuestionReply files (IsPackedReply label.now) text status
-IsReplyTo files (Same label proof) text status =
-    IsQuestionReply files (IsSameReply label.now proof.now) text status
-IsReplyTo files (Packed label true) text status =
-    IsQuestionReply files (IsSavedReply form.Packed files label.now) text status
-IsReplyTo files (All wanted number) text status =
+IsReplyTo files (Whole profile asked) text status = IsWholeReply asked profile files text status
+IsReplyTo files (About label asked) text status =
+    IsQuestionReply files (IsAnswerTo asked files label.now) text status
+IsReplyTo files (File wanted number) text status =
     IsQuestionReply files (IsAllSavedReply wanted files number) text status
 
 -- The reply's text was put after what the writer held, where that is known.

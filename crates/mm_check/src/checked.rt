@@ -166,7 +166,9 @@ impl<'a> Checked<'a> {
             Found::None => Err(AskFault::Rule(AskRule::A1)),
             Found::Hypothesis { .. } => Err(AskFault::Rule(AskRule::A2)),
             Found::Assertion(id) => match self.book.kind(id) {
-                LabelKind::Proof if is_among(&self.incomplete, id) => Err(AskFault::Rule(AskRule::A3)),
+                LabelKind::Proof if is_among(&self.incomplete, id) => Err(AskFault::Rule(
+                    AskRule::A3,
+                )),
                 LabelKind::Proof => Ok(id),
                 _ => Err(AskFault::Rule(AskRule::A2)),
             },

@@ -4,14 +4,13 @@ ghost use Rattle.std.specs.Prelude.{◌≡◌, ◌+◌, ◌<◌, ◌↔◌, map,
 ghost use Rattle.mm_text.specs.Files.{plain_file};
 ghost use Rattle.mm_text.specs.Device.{faults_of, inner_of};
 ghost use Rattle.mm_check.specs.Status.{number_of};
-ghost use Rattle.mm_check.specs.Mirror.Questions.{question_in};
 ghost use Rattle.mm_check.specs.Reply.{AsksHanded, IsReplyTo, Writes};
 ghost use Rattle.mm_check.specs.Reply.{WritesBeginningOf};
 ghost use Rattle.mm_check.specs.declared.command.RunFault.TheVariants.{Memory};
 
 use crate::form::Form;
 use crate::question::{
-    Question, Reply, all_saved_reply, axioms_reply, check_reply, faults_reply, question_reply,
+    Question, Reply, WholeQuestion, all_saved_reply, question_reply, whole_reply,
 };
 use crate::status::Status;
 use mm_proof::Profile;
@@ -23,25 +22,23 @@ use thiserror::Error;
 /// What the program is asked.
 #[derive(Clone, Copy, PartialEq, Eq, Debug)]
 pub enum Command<'a> {
-    /// Whether the database is accepted under this profile. All other commands but `Faults` ask
-    /// under the lenient one.
-    Check { profile: Profile },
-    /// For all faults of the database under this profile, in one run.
-    Faults { profile: Profile },
-    /// What the theorem with this label rests on.
-    Axioms { label: &'a [u8] },
-    /// How the theorem with this label is proved, step by step.
-    Show { label: &'a [u8] },
-    /// The normal proof of the theorem with this label; of its whole file the bytes, with this
-    /// proof in place of its own, if `whole`.
-    Normal { label: &'a [u8], whole: bool },
-    /// The fully shared proof of the theorem with this label, or its whole file with this proof.
-    Packed { label: &'a [u8], whole: bool },
-    /// Whether this text is the same proof as that of the theorem with this label.
-    Same { label: &'a [u8], text: &'a [u8] },
-    /// The bytes of the handed file with this number, which is below the count of files, with each
-    /// complete proof in this form.
-    All { form: Form, file: usize },
+    /// A question about the whole database under this profile. The other commands ask under the
+    /// lenient one.
+    Whole {
+        profile: Profile,
+        question: WholeQuestion,
+    },
+    /// A question about the theorem with this label.
+    About {
+        label: &'a [u8],
+        question: Question<'a>,
+    },
+    /// For the bytes of the handed file with this number, which is below the count of files, with
+    /// each complete proof in this form.
+    File {
+        form: Form,
+        file: usize,
+    },
 }
 
 /// Why a reply wasn't written, or not to its end.
@@ -63,17 +60,6 @@ impl From<AllocError> for RunFault {
     }
 }
 
-/// The question for the proof of a theorem in a form, or for its whole file with it.
-fn question_for<'a>(form: Form, whole: bool) -> Question<'a>
-    ensures { result ≡ question_in form whole }
-{
-    match form {
-        _ if whole => Question::Saved(form),
-        Form::Normal => Question::Normal,
-        Form::Packed => Question::Packed,
-    }
-}
-
 /// The reply to a command over the files.
 fn reply_to(
     alloc: Global,
@@ -86,32 +72,11 @@ fn reply_to(
         reply.text.items (number_of reply.status)) }
 {
     match command {
-        Command::Check { profile } => check_reply(alloc, seed, *profile, files),
-        Command::Faults { profile } => faults_reply(alloc, seed, *profile, files),
-        Command::Axioms { label } => axioms_reply(alloc, seed, files, label),
-        Command::Show { label } => question_reply(alloc, seed, files, &Question::Show, label),
-        Command::Normal { label, whole } => {
-            question_reply(
-                alloc,
-                seed,
-                files,
-                &question_for(Form::Normal, *whole),
-                label,
-            )
+        Command::Whole { profile, question } => {
+            whole_reply(alloc, seed, files, *profile, *question)
         }
-        Command::Packed { label, whole } => {
-            question_reply(
-                alloc,
-                seed,
-                files,
-                &question_for(Form::Packed, *whole),
-                label,
-            )
-        }
-        Command::Same { label, text } => {
-            question_reply(alloc, seed, files, &Question::Same(text), label)
-        }
-        Command::All { form, file } => all_saved_reply(alloc, seed, files, *form, *file),
+        Command::About { label, question } => question_reply(alloc, seed, files, question, label),
+        Command::File { form, file } => all_saved_reply(alloc, seed, files, *form, *file),
     }
 }
 

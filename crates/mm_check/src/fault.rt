@@ -2,6 +2,8 @@
 
 ghost use Rattle.std.specs.Prelude.{◌≡◌};
 ghost use Rattle.mm_check.specs.declared.fault.CheckFault.TheVariants.{Memory};
+ghost use Rattle.mm_check.specs.declared.fault.Stop.TheVariants as stop;
+ghost use Rattle.mm_check.specs.Mirror.Judged.{fault_of};
 
 use crate::rule::Rule;
 use std::alloc::{AllocError, AllocFailed};
@@ -52,5 +54,33 @@ impl<'a, T: Drop> From<AllocFailed<T>> for CheckFault<'a> {
 
     fn from(_e: AllocFailed<T>) -> CheckFault<'a> {
         CheckFault::Memory
+    }
+}
+
+/// What ends the way through the statements of a database.
+#[derive(Drop)]
+pub(crate) enum Stop<'a> {
+    /// A statement is at fault.
+    Refused(Refusal<'a>),
+    /// A growth was refused.
+    Memory,
+}
+
+impl<'a> From<AllocError> for Stop<'a> {
+    ghost from_gives = { λ _ e. e ≡ stop.Memory };
+
+    fn from(_e: AllocError) -> Stop<'a> {
+        Stop::Memory
+    }
+}
+
+impl<'a> From<Stop<'a>> for CheckFault<'a> {
+    ghost from_gives = { λ stop fault. fault ≡ fault_of stop };
+
+    fn from(stop: Stop<'a>) -> CheckFault<'a> {
+        match stop {
+            Stop::Refused(refusal) => CheckFault::Refused(refusal),
+            Stop::Memory => CheckFault::Memory,
+        }
     }
 }

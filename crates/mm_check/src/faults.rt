@@ -1,23 +1,23 @@
 //! All faults of a database, in one run.
 
-ghost use Rattle.std.specs.Prelude.{◌≡◌, [], map, IfOk, IfErr, OnOk};
+ghost use Rattle.std.specs.Prelude.{◌≡◌, [], ◌∷◌, ◌++◌, map, IfOk, IfErr, OnOk};
 ghost use Rattle.mm_text.specs.Files.{plain_file};
-ghost use Rattle.mm_text.specs.Remaining.{IsUnread};
-ghost use Rattle.mm_check.specs.Verdict.{CanBeRead, HasVerdict};
+ghost use Rattle.mm_check.specs.Verdict.{HasVerdict};
 ghost use Rattle.mm_check.specs.Answer.{KeepsLabels, KeepsCounts, KeepsUses, KeepsFiles};
-ghost use Rattle.mm_check.specs.Answer.{verdict_of_conclusion};
+ghost use Rattle.mm_check.specs.Answer.{plain_refusal, verdict_of_conclusion};
 ghost use Rattle.mm_check.specs.Faults.{AreAllFaults, HaveFaults};
-ghost use Rattle.mm_check.specs.Mirror.Noted.{IsNoted, IsAllNoted, NotesNext};
 ghost use Rattle.mm_check.specs.declared.faults.AllFaults.TheVariants.{Memory};
 
 use crate::checked::Checked;
-use crate::fault::{CheckFault, Refusal};
-use crate::progress::Progress;
+use crate::fault::{CheckFault, Refusal, Stop};
+use crate::judge::Judged;
 use crate::rule::Rule;
-use crate::verdict::{Turn, beginning, conclude, load, take_turn};
+use crate::verdict::{conclude, judge_files};
+use crate::visitor::Visitor;
+use mm_frame::Book;
 use mm_proof::Profile;
-use mm_text::{File, Seed, Statement, Statements};
-use std::alloc::{AllocError, AllocFailed, Global};
+use mm_text::{File, Seed, Statement};
+use std::alloc::{AllocError, Global};
 use thiserror::Error;
 
 /// What is found where a database isn't accepted.
@@ -42,80 +42,38 @@ impl<'a> From<AllocError> for AllFaults<'a> {
     }
 }
 
-/// Reads the next statement, judges it, and notes the refusal of it, or that of the fault of the
-/// text; `false` where there is nothing to go on with.
-fn note_next<'a>(
-    profile: Profile,
-    files: &[File<'a>],
-    statements: &mut Statements<'a>,
-    progress: &mut Progress<'a>,
-    into: &mut Statement<'a>,
-    noted: &mut Vec<Refusal<'a>>,
-) -> Result<bool, AllocError>
-    requires { IsNoted profile (map plain_file files.now) progress.old statements.old
-        noted.old.items }
-    ensures { IfOk result (λ more. NotesNext profile (map plain_file files.now) statements.old more
-        progress.new statements.new noted.new.items) }
-{
-    match take_turn(profile, files, statements, progress, into) {
-        Ok(Turn::End) => Ok(false),
-        Ok(Turn::Obeys) => Ok(true),
-        Ok(Turn::Faulty(refusal)) => {
-            noted.push(refusal)?;
-            Ok(true)
-        }
-        Err(CheckFault::Refused(refusal)) => {
-            noted.push(refusal)?;
-            Ok(false)
-        }
-        Err(CheckFault::Memory) => Err(AllocError),
-        // The files could be taken.
-        Err(CheckFault::Load(_)) => unreachable!(),
+/// A visitor that lists the refusals of all proofs that are at fault.
+#[derive(Drop)]
+struct Faults<'a> {
+    refusals: Vec<Refusal<'a>>,
+}
+
+impl<'a> Faults<'a> {
+    /// Lists one more refusal.
+    fn list(&mut self, refusal: Refusal<'a>) -> Result<(), AllocError>
+        ensures { OnOk result (self.new.refusals.items ≡ self.old.refusals.items
+            ++ refusal.entry ∷ []) }
+    {
+        self.refusals.push(refusal)?;
+        Ok(())
     }
 }
 
-/// Reads the statements that are left, judges each, and notes the refusals of all.
-fn note_rest<'a>(
-    alloc: Global,
-    profile: Profile,
-    files: &[File<'a>],
-    statements: &mut Statements<'a>,
-    progress: &mut Progress<'a>,
-    noted: &mut Vec<Refusal<'a>>,
-) -> Result<(), AllocError>
-    requires { IsNoted profile (map plain_file files.now) progress.old statements.old
-        noted.old.items }
-    ensures { OnOk result (IsAllNoted profile (map plain_file files.now) progress.new
-        statements.new noted.new.items) }
-{
-    let mut statement = Statement::empty(alloc);
-    while note_next(profile, files, statements, progress, &mut statement, noted)? {}
-    Ok(())
-}
+impl<'a> Visitor<'a> for Faults<'a> {
+    ghost has_seen = { λ profile files first now statements listed.
+        listed ≡ map plain_refusal now.refusals.items };
 
-/// Judges all statements that a new reader has: what checking comes to, and all refusals.
-fn last_noted<'a>(
-    alloc: Global,
-    seed: Seed,
-    profile: Profile,
-    files: &[File<'a>],
-    statements: &mut Statements<'a>,
-    noted: &mut Vec<Refusal<'a>>,
-) -> Result<Progress<'a>, AllocError>
-    requires unread { IsUnread (map plain_file files.now) statements.old }
-    requires readable { CanBeRead (map plain_file files.now) }
-    requires empty { noted.old.items ≡ [] }
-    ensures { IfOk result (λ progress. IsAllNoted profile (map plain_file files.now) progress
-        statements.new noted.new.items) }
-{
-    let Ok(mut progress) = beginning(alloc, seed) else {
-        return Err(AllocError);
-    };
-    match note_rest(alloc, profile, files, statements, &mut progress, noted) {
-        Ok(()) => Ok(progress),
-        Err(fault) => {
-            drop(progress);
-            Err(fault)
+    ghost may_stop = { ⊥ };
+
+    fn see(
+        &mut self,
+        _book: &Book<'a>,
+        _statement: &Statement<'a>,
+        judged: Judged<'a>,
+    ) -> Result<(), Stop<'a>> {
+        match judged {
+            Judged::Faulty(refusal) => Ok(self.list(refusal)?),
+            _ => Ok(()),
         }
     }
 }
@@ -148,21 +106,22 @@ pub fn all_faults<'a>(
     // Else these are all faults.
     ensures faults { IfErr result (AreAllFaults profile (map plain_file files.now)) }
 {
-    let mut statements = match load(alloc, seed, files) {
-        Ok(statements) => statements,
-        Err(CheckFault::Load(rule)) => return Err(AllFaults::Load(rule)),
-        Err(CheckFault::Memory) => return Err(AllFaults::Memory),
-        // No statement was judged.
-        Err(CheckFault::Refused(_)) => unreachable!(),
+    let mut faults = Faults {
+        refusals: Vec::new(alloc),
     };
-    let mut noted = Vec::new(alloc);
-    let outcome = last_noted(alloc, seed, profile, files, &mut statements, &mut noted);
-    drop(statements);
-    let progress = outcome?;
-    if noted.is_empty() {
-        Ok(conclude(profile, files, progress))
-    } else {
-        drop(progress);
-        Err(AllFaults::Refused(noted))
+    match judge_files(alloc, seed, profile, files, &mut faults) {
+        Ok(progress) => {
+            if faults.refusals.is_empty() {
+                return Ok(conclude(profile, files, progress));
+            }
+            drop(progress);
+            Err(AllFaults::Refused(faults.refusals))
+        }
+        Err(CheckFault::Refused(last)) => {
+            faults.list(last)?;
+            Err(AllFaults::Refused(faults.refusals))
+        }
+        Err(CheckFault::Load(rule)) => Err(AllFaults::Load(rule)),
+        Err(CheckFault::Memory) => Err(AllFaults::Memory),
     }
 }

@@ -10,7 +10,7 @@ ghost use Rattle.mm_check.specs.Mirror.Judged.{IsLastProof, IsTaken, JudgesProof
 ghost use Rattle.mm_check.specs.Mirror.Judged.{RefusesMeaning, TriesProof};
 ghost use Rattle.mm_check.specs.Answer.{plain_refusal};
 
-use crate::fault::{CheckFault, Refusal};
+use crate::fault::{Refusal, Stop};
 use crate::place::line_of;
 use crate::progress::Progress;
 use crate::rule::Rule;
@@ -18,6 +18,17 @@ use mm_frame::{LabelId, RuleFault, Taken};
 use mm_proof::{Profile, ProofFault, Proved, Prover};
 use mm_text::{File, Kind, Statement};
 use std::alloc::AllocError;
+
+/// What a statement came to that breaks no rule of meaning.
+#[derive(Clone, Copy)]
+pub(crate) enum Judged<'a> {
+    /// A theorem: a `$p` with a complete proof, by its number.
+    Theorem(LabelId),
+    /// Another statement that obeys the rules.
+    Other,
+    /// A `$p` whose proof, or what is known of it, is refused.
+    Faulty(Refusal<'a>),
+}
 
 /// The text of the statement's label, if it has one.
 fn label_of<'a>(statement: &Statement<'a>) -> Option<&'a [u8]>
@@ -70,7 +81,7 @@ fn judge_proof<'a>(
 }
 
 /// Judges the proof of a `$p`, which the book took last, counts it and keeps what it uses; or
-/// judges what is known of it, and notes that it is incomplete. Where either has a fault, gives back
+/// judges what is known of it, and notes that it is incomplete. Where either has a fault, answers
 /// the refusal for it, and counts nothing.
 fn prove<'a>(
     profile: Profile,
@@ -78,35 +89,35 @@ fn prove<'a>(
     progress: &mut Progress<'a>,
     id: LabelId,
     statement: &Statement<'a>,
-) -> Result<Option<Refusal<'a>>, AllocError>
+) -> Result<Judged<'a>, AllocError>
     requires formed { HasForm (plain_statement statement.now) }
     requires last { IsLastProof progress.old.prover.book.statements id.0
         (plain_statement statement.now) }
     requires count { progress.old.count < 2 ^ 63 }
     requires proofs { progress.old.proofs < 2 ^ 63 }
-    ensures { IfOk result (λ fault. TriesProof profile (map plain_file files.now) progress.old id.0
-        (plain_statement statement.now) fault progress.new) }
+    ensures { IfOk result (λ judged. TriesProof profile (map plain_file files.now) progress.old
+        id.0 (plain_statement statement.now) judged progress.new) }
 {
     match judge_proof(&mut progress.prover, profile, id, statement) {
         Ok(Proved::Complete) => {
             progress.kept.push(id, progress.prover.used())?;
             progress.proofs += 1;
-            Ok(None)
+            Ok(Judged::Theorem(id))
         }
         Ok(Proved::Incomplete) => {
             progress.incomplete.push(id)?;
-            Ok(None)
+            Ok(Judged::Other)
         }
         Err(ProofFault::Rule { rule, step }) => {
             let refusal = refusal(files, progress.count, statement, Rule::Proof(rule), step);
-            Ok(Some(refusal))
+            Ok(Judged::Faulty(refusal))
         }
         Err(ProofFault::Memory) => Err(AllocError),
     }
 }
 
 /// Judges a statement after those that the progress has: its meaning, and then its proof. Takes it
-/// into the progress unless it breaks a rule of meaning. Where its proof has a fault, gives back the
+/// into the progress unless it breaks a rule of meaning. Where its proof has a fault, answers the
 /// refusal for it: the statement stands all the same, since what a later proof may use doesn't
 /// depend on earlier proofs.
 pub(crate) fn judge<'a>(
@@ -114,7 +125,7 @@ pub(crate) fn judge<'a>(
     files: &[File<'a>],
     progress: &mut Progress<'a>,
     statement: &Statement<'a>,
-) -> Result<Option<Refusal<'a>>, CheckFault<'a>>
+) -> Result<Judged<'a>, Stop<'a>>
     requires formed { HasForm (plain_statement statement.now) }
     requires closes { statement.now.kind ≡ Closing
         → close_marks progress.old.prover.book.statements
@@ -123,23 +134,23 @@ pub(crate) fn judge<'a>(
         + bytes_in (plain_statement statement.now) ≤ most_bytes }
     requires count { progress.old.count < 2 ^ 62 }
     requires proofs { progress.old.proofs < 2 ^ 62 }
-    ensures taken { IfOk result (λ fault. IsTaken profile (map plain_file files.now) progress.old
-        (plain_statement statement.now) fault progress.new) }
+    ensures taken { IfOk result (λ judged. IsTaken profile (map plain_file files.now) progress.old
+        (plain_statement statement.now) judged progress.new) }
     ensures refused { IfErr result (RefusesMeaning (map plain_file files.now)
         progress.old.prover.book.statements progress.old.count
         (plain_statement statement.now)) }
 {
-    let fault = match progress.prover.take(statement) {
+    let judged = match progress.prover.take(statement) {
         Ok(Taken::Assertion(id)) if statement.kind == Kind::Provable => {
             prove(profile, files, progress, id, statement)?
         }
-        Ok(_) => None,
+        Ok(_) => Judged::Other,
         Err(RuleFault::Rule(rule)) => {
             let refusal = refusal(files, progress.count, statement, Rule::Meaning(rule), 0);
-            return Err(CheckFault::Refused(refusal));
+            return Err(Stop::Refused(refusal));
         }
-        Err(RuleFault::Memory) => return Err(CheckFault::Memory),
+        Err(RuleFault::Memory) => return Err(Stop::Memory),
     };
     progress.count += 1;
-    Ok(fault)
+    Ok(judged)
 }

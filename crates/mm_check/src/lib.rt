@@ -29,6 +29,7 @@ mod status;
 mod text;
 mod theorem;
 mod verdict;
+mod visitor;
 mod words;
 
 pub use ask::AskFault;
@@ -45,6 +46,7 @@ pub use laws::{
     saving_changes_no_answer, saving_in_turn_is_saving_all, some_list_of_faults, some_verdict,
 };
 pub use mm_frame::LabelId;
+pub use question::{Question, WholeQuestion};
 pub use report::Report;
 pub use rule::{AskRule, Rule};
 pub use save::saved;

@@ -4,7 +4,7 @@ use crate::kept::Kept;
 use mm_frame::LabelId;
 use mm_proof::Prover;
 
-/// The statements that were taken so far, all of which obey the rules.
+/// The statements that were taken so far, and what is known of their proofs where none is refused.
 #[derive(Drop)]
 pub(crate) struct Progress<'a> {
     /// Its book holds these statements.

@@ -17,9 +17,8 @@ ghost use Rattle.mm_check.specs.Reply.{ask_status as ask_status_at};
 ghost use Rattle.mm_check.specs.Reply.{IsReply, IsAskReply, IsAxiomsReply, IsShowReply};
 ghost use Rattle.mm_check.specs.Reply.{IsFaultsReply, refusals_text, refusal_status};
 ghost use Rattle.mm_check.specs.Reply.{IsNormalReply, IsPackedReply, IsSavedReply, IsSameReply};
-ghost use Rattle.mm_check.specs.Reply.{IsAllSavedReply};
+ghost use Rattle.mm_check.specs.Reply.{IsAllSavedReply, IsAnswerTo, IsFormReply, IsWholeReply};
 ghost use Rattle.mm_check.specs.Reply.{same_text, same_status, text_status as text_status_at};
-ghost use Rattle.mm_check.specs.Mirror.Questions.{Answers};
 ghost use Rattle.mm_check.specs.Reply.{IsQuestionReply, report_text as report_text_at};
 ghost use Rattle.mm_check.specs.Reply.{report_status as report_status_at};
 
@@ -50,19 +49,27 @@ pub(crate) struct Reply {
     pub(crate) status: Status,
 }
 
-/// A question about the proof of a theorem.
-#[derive(Clone, Copy)]
-pub(crate) enum Question<'a> {
-    /// How the theorem is proved, step by step.
+/// A question about the whole database.
+#[derive(Clone, Copy, PartialEq, Eq, Debug)]
+pub enum WholeQuestion {
+    /// Whether it is accepted.
+    Check,
+    /// For all its faults, in one run.
+    Faults,
+}
+
+/// A question about the theorem with a label.
+#[derive(Clone, Copy, PartialEq, Eq, Debug)]
+pub enum Question<'a> {
+    /// What it rests on.
+    Axioms,
+    /// How it is proved, step by step.
     Show,
-    /// For its normal proof.
-    Normal,
-    /// For its packed proof.
-    Packed,
+    /// For its proof in this form; if `whole`, for the bytes of its file, with this proof in place of
+    /// its own.
+    Form { form: Form, whole: bool },
     /// Whether this text is the same proof.
     Same(&'a [u8]),
-    /// For the bytes of its file, with its proof in this form.
-    Saved(Form),
 }
 
 /// A line for the label of each of these numbers, after a question mark.
@@ -305,25 +312,46 @@ fn saved_answer(
     }
 }
 
-/// The reply of a database in which nothing is at fault to a question about a proof.
+/// The reply of a database in which nothing is at fault to the question for a proof in a form, or
+/// for the bytes of its file with it.
+fn form_answer(
+    alloc: Global,
+    checked: &Checked,
+    label: &[u8],
+    form: Form,
+    whole: bool,
+) -> Result<Reply, AllocError>
+    ensures { IfOk result (λ reply. (statements : List PlainStatement)
+        → Reads checked.now.files statements None
+        → IsFormReply whole form checked.now.files label.now statements reply.text.items
+        (number_of reply.status)) }
+{
+    match form {
+        _ if whole => saved_answer(alloc, checked, label, form),
+        Form::Normal => normal_answer(alloc, checked, label),
+        Form::Packed => packed_answer(alloc, checked, label),
+    }
+}
+
+/// The reply of a database in which nothing is at fault to a question about a theorem.
 fn answer_to(
     alloc: Global,
     checked: &Checked,
     question: &Question,
     label: &[u8],
 ) -> Result<Reply, AllocError>
-    requires { checked.now.profile ≡ Lenient }
+    requires profile { checked.now.profile ≡ Lenient }
+    requires labels { KeepsLabels checked.now.files checked.now }
     ensures { IfOk result (λ reply. (statements : List PlainStatement)
         → Reads checked.now.files statements None
-        → Answers checked.now.files question.now label.now statements reply.text.items
+        → IsAnswerTo question.now checked.now.files label.now statements reply.text.items
         (number_of reply.status)) }
 {
     match question {
+        Question::Axioms => axioms_answer(alloc, checked, label),
         Question::Show => show_answer(alloc, checked, label),
-        Question::Normal => normal_answer(alloc, checked, label),
-        Question::Packed => packed_answer(alloc, checked, label),
+        Question::Form { form, whole } => form_answer(alloc, checked, label, *form, *whole),
         Question::Same(text) => same_answer(alloc, checked, label, text),
-        Question::Saved(form) => saved_answer(alloc, checked, label, *form),
     }
 }
 
@@ -345,7 +373,7 @@ fn verdict_reply(
 }
 
 /// The reply to `check` under a profile.
-pub(crate) fn check_reply(
+fn check_reply(
     alloc: Global,
     seed: Seed,
     profile: Profile,
@@ -375,7 +403,7 @@ fn refusals_reply(alloc: Global, files: &[File], refusals: &[Refusal]) -> Result
 }
 
 /// The reply to `faults` under a profile.
-pub(crate) fn faults_reply(
+fn faults_reply(
     alloc: Global,
     seed: Seed,
     profile: Profile,
@@ -392,44 +420,24 @@ pub(crate) fn faults_reply(
     }
 }
 
-/// The reply to the question what the theorem with a label rests on, where this is the answer of
-/// `check`.
-fn axioms_or_verdict(
-    alloc: Global,
-    files: &[File],
-    answer: &Result<Checked, CheckFault>,
-    label: &[u8],
-) -> Result<Reply, AllocError>
-    requires verdict { IsVerdict Lenient (map plain_file files.now) answer.now }
-    requires labels { IfOk answer.now (KeepsLabels (map plain_file files.now)) }
-    requires files { IfOk answer.now (KeepsFiles (map plain_file files.now)) }
-    ensures { IfOk result (λ reply. IsQuestionReply (map plain_file files.now)
-        (IsAxiomsReply label.now) reply.text.items (number_of reply.status)) }
-{
-    match answer {
-        Ok(checked) => axioms_answer(alloc, checked, label),
-        Err(_) => verdict_reply(alloc, files, answer),
-    }
-}
-
-/// The reply to the question what the theorem with a label rests on.
-pub(crate) fn axioms_reply(
+/// The reply to a question about the whole database under a profile.
+pub(crate) fn whole_reply(
     alloc: Global,
     seed: Seed,
     files: &[File],
-    label: &[u8],
+    profile: Profile,
+    question: WholeQuestion,
 ) -> Result<Reply, AllocError>
-    ensures { IfOk result (λ reply. IsQuestionReply (map plain_file files.now)
-        (IsAxiomsReply label.now) reply.text.items (number_of reply.status)) }
+    ensures { IfOk result (λ reply. IsWholeReply question profile (map plain_file files.now)
+        reply.text.items (number_of reply.status)) }
 {
-    let answer = check(alloc, seed, files);
-    let reply = axioms_or_verdict(alloc, files, &answer, label);
-    drop(answer);
-    reply
+    match question {
+        WholeQuestion::Check => check_reply(alloc, seed, profile, files),
+        WholeQuestion::Faults => faults_reply(alloc, seed, profile, files),
+    }
 }
 
-/// The reply to a question about the proof of the theorem with a label, where this is the answer of
-/// `check`.
+/// The reply to a question about the theorem with a label, where this is the answer of `check`.
 fn answer_or_verdict(
     alloc: Global,
     files: &[File],
@@ -438,10 +446,11 @@ fn answer_or_verdict(
     label: &[u8],
 ) -> Result<Reply, AllocError>
     requires verdict { IsVerdict Lenient (map plain_file files.now) answer.now }
+    requires labels { IfOk answer.now (KeepsLabels (map plain_file files.now)) }
     requires files { IfOk answer.now (KeepsFiles (map plain_file files.now)) }
     requires profile { IfOk answer.now (λ checked. checked.profile ≡ Lenient) }
     ensures { IfOk result (λ reply. IsQuestionReply (map plain_file files.now)
-        (Answers (map plain_file files.now) question.now label.now) reply.text.items
+        (IsAnswerTo question.now (map plain_file files.now) label.now) reply.text.items
         (number_of reply.status)) }
 {
     match answer {
@@ -450,7 +459,7 @@ fn answer_or_verdict(
     }
 }
 
-/// The reply to a question about the proof of the theorem with a label.
+/// The reply to a question about the theorem with a label.
 pub(crate) fn question_reply(
     alloc: Global,
     seed: Seed,
@@ -459,7 +468,7 @@ pub(crate) fn question_reply(
     label: &[u8],
 ) -> Result<Reply, AllocError>
     ensures { IfOk result (λ reply. IsQuestionReply (map plain_file files.now)
-        (Answers (map plain_file files.now) question.now label.now) reply.text.items
+        (IsAnswerTo question.now (map plain_file files.now) label.now) reply.text.items
         (number_of reply.status)) }
 {
     let answer = check(alloc, seed, files);

@@ -35,14 +35,14 @@ fn with_text(
 
 /// The most bytes that the file with a number may have, so that the files have no more than they
 /// may.
-#[tactic(auto, using(crate::proofs::Saving::own_within, crate::proofs::Saving::file_most))]
+#[tactic(auto, using(crate::proofs::Saving::file_most))]
 pub(crate) fn most_for(files: &[File], number: usize) -> usize
-    requires there { number < length files.now }
-    requires within { total_bytes (map plain_file files.now) ≤ most_bytes }
-    ensures { IsMostFor (map plain_file files.now) number result }
+    requires { number < length files.now }
+    ensures { total_bytes (map plain_file files.now) ≤ most_bytes
+        → IsMostFor (map plain_file files.now) number result }
 {
-    let others = size_of(files) - files[number].bytes.len();
-    BYTE_LIMIT - others
+    let others = size_of(files).saturating_sub(files[number].bytes.len());
+    BYTE_LIMIT.saturating_sub(others)
 }
 
 /// Whether the files have more bytes than they may, with so many in the file with a number.

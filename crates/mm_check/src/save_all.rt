@@ -1,41 +1,35 @@
 //! A file with each complete proof written anew.
 
 ghost use Rattle.std.specs.Prelude.{◌≡◌, ◌<◌, ◌≤◌, ◌↔◌, [], List, map, length};
-ghost use Rattle.std.specs.Prelude.{ℕ, slice_get, OnOk, IfOk, IfErr, IsTrue, true, Some, None, ◌⊎◌};
-ghost use Rattle.std.specs.List.{list_any};
+ghost use Rattle.std.specs.Prelude.{OnOk, IfOk, IfErr, IsTrue, None, ◌⊎◌};
 ghost use Rattle.mm_text.specs.declared.statement.Kind.TheVariants.{Provable};
 ghost use Rattle.mm_text.specs.Statement.{PlainStatement, plain_statement, HasForm};
 ghost use Rattle.mm_text.specs.Files.{most_bytes, plain_file, total_bytes};
-ghost use Rattle.mm_text.specs.Remaining.{IsUnread};
-ghost use Rattle.mm_frame.specs.Sentence.{Sentence, SomeSentence, sentence_in, IsLabelled};
+ghost use Rattle.mm_frame.specs.Sentence.{sentence_in, IsLabelled};
 ghost use Rattle.mm_proof.specs.declared.profile.Profile.TheVariants.{Lenient};
-ghost use Rattle.mm_proof.specs.Steps.{IsProofNumber};
-ghost use Rattle.mm_proof.specs.Tokens.{is_unknown};
-ghost use Rattle.mm_check.specs.declared.fault.CheckFault.TheVariants.{Memory};
-ghost use Rattle.mm_check.specs.Verdict.{AreAccepted, CanBeRead, proof_of};
+ghost use Rattle.mm_check.specs.Verdict.{AreAccepted, proof_of};
 ghost use Rattle.mm_check.specs.Saved.{FitsSaved};
 ghost use Rattle.mm_check.specs.AllSaved.{IsAllSaved, IsReplacement, IsSavingAllFault};
-ghost use Rattle.mm_check.specs.AllSaved.{is_theorem_of};
-ghost use Rattle.mm_check.specs.Mirror.Judged.{IsUnderWay, TellsVerdict};
 ghost use Rattle.mm_check.specs.Mirror.AllSaving.{IsTheoremAmong, IsTheoremFault, replacement};
-ghost use Rattle.mm_check.specs.Mirror.AllSaving.{PutsAfter, PutsText, IsMostFor};
+ghost use Rattle.mm_check.specs.Mirror.AllSaving.{PutsAfter, PutsText};
 ghost use Rattle.mm_check.specs.Mirror.AllSaving.{PutsProof, KeepsLabel, IsWrittenSoFar};
-ghost use Rattle.mm_check.specs.Mirror.AllSaving.{IsAllWritten, IsWhole, IsFinishFault};
+ghost use Rattle.mm_check.specs.Mirror.AllSaving.{IsWhole, IsFinishFault};
 
 use crate::ask::AskFault;
-use crate::fault::CheckFault;
+use crate::fault::{CheckFault, Stop};
 use crate::form::Form;
 use crate::forms::proof_text;
-use crate::progress::Progress;
+use crate::judge::Judged;
 use crate::reread::read_proof;
 use crate::rewrite::most_for;
 use crate::rule::AskRule;
 use crate::save_fault::SaveFault;
 use crate::theorem::theorem_of;
-use crate::verdict::{beginning, judge_next, load};
-use mm_frame::{Book, Found, LabelId};
-use mm_proof::{Profile, is_unknown};
-use mm_text::{File, Kind, Seed, Statement, Statements};
+use crate::verdict::judge_files;
+use crate::visitor::Visitor;
+use mm_frame::{Book, LabelId};
+use mm_proof::Profile;
+use mm_text::{File, Seed, Statement};
 use std::alloc::{AllocError, Global};
 
 /// A file that is written anew on the way through its database, up to a place in its bytes.
@@ -56,6 +50,10 @@ struct NewFile<'a> {
     /// The label of the first theorem whose normal proof is too long, if there is one. No proof is
     /// put from there on.
     too_long: Option<&'a [u8]>,
+    /// From where memory comes.
+    alloc: Global,
+    /// The tokens of the proof that is written, in a list that is used again.
+    tokens: Vec<&'a [u8]>,
 }
 
 /// Puts bytes after others, unless those are more than `most` already.
@@ -76,9 +74,9 @@ fn new_file<'a>(
     number: usize,
     form: Form,
 ) -> Result<NewFile<'a>, AllocError>
-    requires there { number < length files.now }
-    requires within { total_bytes (map plain_file files.now) ≤ most_bytes }
-    ensures begun { IfOk result (λ file. IsWrittenSoFar (map plain_file files.now) [] file) }
+    requires { number < length files.now }
+    ensures begun { total_bytes (map plain_file files.now) ≤ most_bytes
+        → IfOk result (λ file. IsWrittenSoFar (map plain_file files.now) [] file) }
     ensures number { IfOk result (λ file. file.number ≡ number) }
     ensures form { IfOk result (λ file. file.form ≡ form) }
 {
@@ -92,23 +90,9 @@ fn new_file<'a>(
         bytes: Vec::with_capacity(alloc, room)?,
         most: most_for(files, number),
         too_long: None,
+        alloc,
+        tokens: Vec::new(alloc),
     })
-}
-
-/// Whether some token of a statement's proof holds a `?`.
-fn has_unknown(statement: &Statement) -> bool
-    ensures { result ≡ list_any (λ token. is_unknown token.text.now)
-        statement.now.proof.items }
-{
-    statement.proof.iter().any(|token| is_unknown(token.text))
-}
-
-/// Whether a statement is a `$p` of the file with a number, with a complete proof.
-#[tactic(auto, using(crate::proofs::Judging::any_texts))]
-fn is_theorem(statement: &Statement, number: usize) -> bool
-    ensures { result ≡ is_theorem_of number (plain_statement statement.now) }
-{
-    statement.kind == Kind::Provable && !has_unknown(statement) && statement.first.file == number
 }
 
 /// The label of a `$p`.
@@ -124,50 +108,36 @@ fn label_of<'a>(statement: &Statement<'a>) -> &'a [u8]
     }
 }
 
-/// The number of the `$p` with a label, which is one of a book.
-fn number_of(book: &Book, label: &[u8]) -> LabelId
-    requires { SomeSentence book.now.statements
-        (λ s. IsLabelled label.now s × (s.kind ≡ Provable)) }
-    ensures { (place : ℕ) (s : Sentence) → slice_get book.now.statements place ≡ Some s
-        → IsLabelled label.now s → IsProofNumber book.now.statements result.0 place s }
-{
-    match book.find(label) {
-        Found::Assertion(id) => id,
-        // The book has a `$p` with this label.
-        _ => unreachable!(),
-    }
-}
-
 /// The text of the proof of a theorem in a form, whose tokens are these.
 fn text_of<'a>(
     alloc: Global,
     form: Form,
     book: &Book<'a>,
+    id: LabelId,
     statement: &Statement<'a>,
     tokens: &[&'a [u8]],
 ) -> Result<Vec<u8>, AskFault>
-    requires theorem { IsTheoremAmong book.now.statements (plain_statement statement.now) }
+    requires theorem { IsTheoremAmong book.now.statements id.0 (plain_statement statement.now) }
     requires tokens { map (λ t. t.now) tokens.now ≡ proof_of (plain_statement statement.now) }
     requires formed { HasForm (plain_statement statement.now) }
     ensures text { IfOk result (λ text.
-        (theorem : IsTheoremAmong book.now.statements (plain_statement statement.now))
+        (theorem : IsTheoremAmong book.now.statements id.0 (plain_statement statement.now))
         → IsReplacement form theorem.statements (plain_statement statement.now)
         (replacement (plain_statement statement.now) text.items)) }
-    ensures fault { IfErr result (IsTheoremFault form book.now.statements
+    ensures fault { IfErr result (IsTheoremFault form book.now.statements id.0
         (plain_statement statement.now)) }
 {
-    let id = number_of(book, label_of(statement));
     let theorem = theorem_of(alloc, Profile::Lenient, book, id, statement, tokens)?;
     proof_text(alloc, book, &theorem, form)
 }
 
 impl<'a> NewFile<'a> {
-    /// Whether a statement is a theorem of the file whose proof is to be put.
+    /// Whether the proof of a theorem is to be put.
     fn wants(&self, statement: &Statement) -> bool
         ensures { IsTrue result ↔ ((self.now.too_long ≡ None)
-            × (is_theorem_of self.now.number (plain_statement statement.now) ≡ true)) }
+            × ((plain_statement statement.now).first.file ≡ self.now.number)) }
     {
-        self.too_long.is_none() && is_theorem(statement, self.number)
+        self.too_long.is_none() && statement.first.file == self.number
     }
 
     /// Takes the bytes up to a span, and puts a line feed and a text in place of the span.
@@ -186,33 +156,34 @@ impl<'a> NewFile<'a> {
     }
 
     /// Puts the proof of a theorem of a book in place of the one that it has; or keeps the
-    /// theorem's label, where its normal proof is too long. What the list of tokens held is lost.
+    /// theorem's label, where its normal proof is too long.
     fn write(
         &mut self,
-        alloc: Global,
         book: &Book<'a>,
+        id: LabelId,
         statement: &Statement<'a>,
-        tokens: &mut Vec<&'a [u8]>,
-    ) -> Result<(), CheckFault<'a>>
-        requires theorem { IsTheoremAmong book.now.statements (plain_statement statement.now) }
+    ) -> Result<(), AllocError>
+        requires theorem { IsTheoremAmong book.now.statements id.0
+            (plain_statement statement.now) }
         requires formed { HasForm (plain_statement statement.now) }
         requires after { self.old.taken ≤ statement.now.span.0 }
         requires order { statement.now.span.0 ≤ statement.now.span.1 }
         requires within { statement.now.span.1 ≤ length self.old.source.now }
-        ensures written { OnOk result (PutsProof book.now.statements self.old
-            (plain_statement statement.now) self.new ⊎ KeepsLabel book.now.statements self.old
+        ensures { OnOk result (PutsProof book.now.statements id.0 self.old
+            (plain_statement statement.now) self.new ⊎ KeepsLabel book.now.statements id.0 self.old
             (plain_statement statement.now) self.new) }
-        ensures memory { IfErr result (λ fault. fault ≡ Memory) }
     {
-        read_proof(tokens, statement)?;
-        match text_of(alloc, self.form, book, statement, tokens) {
-            Ok(text) => self.put(statement.span, &text)?,
-            Err(AskFault::Rule(AskRule::L2)) => self.too_long = Some(label_of(statement)),
-            Err(AskFault::Memory) => return Err(CheckFault::Memory),
+        read_proof(&mut self.tokens, statement)?;
+        match text_of(self.alloc, self.form, book, id, statement, &self.tokens) {
+            Ok(text) => self.put(statement.span, &text),
+            Err(AskFault::Rule(AskRule::L2)) => {
+                self.too_long = Some(label_of(statement));
+                Ok(())
+            }
+            Err(AskFault::Memory) => Err(AllocError),
             // The theorem's proof is complete and accepted.
             Err(_) => unreachable!(),
         }
-        Ok(())
     }
 
     /// The whole file, once all statements were judged: what wasn't taken is kept.
@@ -231,64 +202,24 @@ impl<'a> NewFile<'a> {
     }
 }
 
-/// Reads the statements that are left and judges each, and writes anew each complete proof of a
-/// file as it is met.
-fn write_rest<'a>(
-    alloc: Global,
-    files: &[File<'a>],
-    statements: &mut Statements<'a>,
-    progress: &mut Progress<'a>,
-    file: &mut NewFile<'a>,
-) -> Result<(), CheckFault<'a>>
-    requires { (way : IsUnderWay Lenient (map plain_file files.now) progress.old statements.old)
-        × IsWrittenSoFar (map plain_file files.now) way.earlier file.old }
-    ensures written { OnOk result (IsAllWritten (map plain_file files.now) file.new) }
-    ensures number { OnOk result (file.new.number ≡ file.old.number) }
-    ensures form { OnOk result (file.new.form ≡ file.old.form) }
-    ensures refused { IfErr result (TellsVerdict Lenient (map plain_file files.now)) }
-{
-    let mut statement = Statement::empty(alloc);
-    let mut tokens = Vec::new(alloc);
-    while judge_next(
-        Profile::Lenient,
-        files,
-        statements,
-        progress,
-        &mut statement,
-    )? {
-        if file.wants(&statement) {
-            file.write(alloc, progress.prover.book(), &statement, &mut tokens)?;
-        }
-    }
-    Ok(())
-}
+// It writes each theorem of the file as soon as that is judged.
+impl<'a> Visitor<'a> for NewFile<'a> {
+    ghost use Rattle.mm_check.specs.Mirror.AllSaving.{HasWritten};
 
-/// The file with a number, once all statements that a new reader has are judged.
-fn written<'a>(
-    alloc: Global,
-    seed: Seed,
-    files: &'a [File<'a>],
-    number: usize,
-    form: Form,
-    statements: &mut Statements<'a>,
-) -> Result<NewFile<'a>, CheckFault<'a>>
-    requires there { number < length files.now }
-    requires unread { IsUnread (map plain_file files.now) statements.old }
-    requires readable { CanBeRead (map plain_file files.now) }
-    ensures written { IfOk result (IsAllWritten (map plain_file files.now)) }
-    ensures number { IfOk result (λ file. file.number ≡ number) }
-    ensures form { IfOk result (λ file. file.form ≡ form) }
-    ensures refused { IfErr result (TellsVerdict Lenient (map plain_file files.now)) }
-{
-    let mut file = new_file(alloc, files, number, form)?;
-    let mut progress = beginning(alloc, seed)?;
-    let outcome = write_rest(alloc, files, statements, &mut progress, &mut file);
-    drop(progress);
-    match outcome {
-        Ok(()) => Ok(file),
-        Err(fault) => {
-            drop(file);
-            Err(fault)
+    ghost has_seen = { HasWritten };
+
+    ghost may_stop = { Unit {0} };
+
+    fn see(
+        &mut self,
+        book: &Book<'a>,
+        statement: &Statement<'a>,
+        judged: Judged<'a>,
+    ) -> Result<(), Stop<'a>> {
+        match judged {
+            Judged::Theorem(id) if self.wants(statement) => Ok(self.write(book, id, statement)?),
+            Judged::Faulty(refusal) => Err(Stop::Refused(refusal)),
+            _ => Ok(()),
         }
     }
 }
@@ -318,16 +249,17 @@ pub fn saved_all<'a>(
         × FitsSaved (map plain_file files.now) number new.items) }
     ensures fault { IfErr result (IsSavingAllFault form (map plain_file files.now) number) }
 {
-    let mut statements = match load(alloc, seed, files) {
-        Ok(statements) => statements,
-        Err(fault) => return Err(SaveFault::Check(fault)),
-    };
-    let outcome = written(alloc, seed, files, number, form, &mut statements);
-    drop(statements);
-    let file = match outcome {
+    let mut file = match new_file(alloc, files, number, form) {
         Ok(file) => file,
-        Err(fault) => return Err(SaveFault::Check(fault)),
+        Err(fault) => return Err(SaveFault::Check(CheckFault::from(fault))),
     };
+    match judge_files(alloc, seed, Profile::Lenient, files, &mut file) {
+        Ok(progress) => drop(progress),
+        Err(fault) => {
+            drop(file);
+            return Err(SaveFault::Check(fault));
+        }
+    }
     match file.too_long {
         Some(label) => Err(SaveFault::TooLong { label }),
         None => Ok(file.finish()?),

@@ -1,11 +1,10 @@
 //! The verdict over a database.
 
 ghost use Rattle.std.specs.Prelude.{◌≡◌, ◌⊎◌, true, map, option_map, [], IfOk, IfErr, OnOk, Ok};
-ghost use Rattle.std.specs.Prelude.{IsOkUnless};
 ghost use Rattle.mm_text.specs.Token.{plain_token};
 ghost use Rattle.mm_text.specs.Statement.{plain_statement, HasForm};
 ghost use Rattle.mm_text.specs.Files.{plain_file};
-ghost use Rattle.mm_text.specs.Remaining.{IsUnread, Remaining};
+ghost use Rattle.mm_text.specs.Remaining.{IsUnread};
 ghost use Rattle.mm_proof.specs.declared.profile.Profile.TheVariants.{Lenient};
 ghost use Rattle.mm_check.specs.Verdict.{ObeyTheProfile, CanBeRead, HasVerdict};
 ghost use Rattle.mm_check.specs.Verdict.{text_refusal as text_refusal_at};
@@ -13,25 +12,26 @@ ghost use Rattle.mm_check.specs.Answer.{IsYes, IsOverLimit, IsWantOfMemory, IsVe
 ghost use Rattle.mm_check.specs.Answer.{IsOnlyVerdict, KeepsLabels, KeepsCounts, KeepsUses};
 ghost use Rattle.mm_check.specs.Answer.{KeepsFiles, NamesFile, plain_refusal};
 ghost use Rattle.mm_check.specs.Answer.{verdict_of_conclusion};
-ghost use Rattle.mm_check.specs.Mirror.Judged.{TakesNext, RefusesEnd, RefusesLoad, Knows};
-ghost use Rattle.mm_check.specs.Mirror.Judged.{IsUnderWay, IsAtEnd, GoesOn, TellsVerdict};
-ghost use Rattle.mm_check.specs.Mirror.Judged.{IsRead, StopsTurn, Turns};
+ghost use Rattle.mm_check.specs.Mirror.Judged.{TakesNext, RefusesEnd, RefusesLoad, HasTaken, Knows};
+ghost use Rattle.mm_check.specs.Mirror.Judged.{IsRead, IsAtEnd, StopsTurn, Turns};
+ghost use Rattle.mm_check.specs.Mirror.Visits.{IsVisiting, HasVisited, HasStopped};
 
 use crate::checked::Checked;
-use crate::fault::{CheckFault, Refusal};
-use crate::judge::judge;
+use crate::fault::{CheckFault, Refusal, Stop};
+use crate::judge::{Judged, judge};
 use crate::kept::Kept;
 use crate::place::line_of;
 use crate::progress::Progress;
 use crate::rule::Rule;
 use crate::size::size_of;
+use crate::visitor::{Nobody, Visitor};
 use mm_frame::RuleFault;
 use mm_proof::{Profile, Prover};
 use mm_text::{File, Seed, Statement, Statements, TextFault, TextRule, Token};
-use std::alloc::Global;
+use std::alloc::{AllocError, Global};
 
 /// A reader of the files, or why they can't be taken as a whole.
-pub(crate) fn load<'a>(
+fn load<'a>(
     alloc: Global,
     seed: Seed,
     files: &'a [File<'a>],
@@ -82,7 +82,7 @@ fn next<'a>(
     files: &[File<'a>],
     statements: &mut Statements<'a>,
     into: &mut Statement<'a>,
-) -> Result<bool, CheckFault<'a>>
+) -> Result<bool, Stop<'a>>
     ensures taken { IfOk result (λ more. TakesNext statements.old more
         (plain_statement into.new) statements.new) }
     ensures formed { result ≡ Ok true → HasForm (plain_statement into.new) }
@@ -100,18 +100,18 @@ fn next<'a>(
             },
         ) => {
             let refusal = text_refusal(files, rule, file, at, statement, label);
-            Err(CheckFault::Refused(refusal))
+            Err(Stop::Refused(refusal))
         }
-        Err(TextFault::Memory) => Err(CheckFault::Memory),
+        Err(TextFault::Memory) => Err(Stop::Memory),
         // A rule of the files as a whole is told by `load`.
         Err(TextFault::Load(_)) => unreachable!(),
     }
 }
 
 /// The progress before any statement.
-pub(crate) fn beginning<'a>(alloc: Global, seed: Seed) -> Result<Progress<'a>, CheckFault<'a>>
-    ensures ok { IfOk result (Knows []) }
-    ensures fault { IsOkUnless result CheckFault.Memory }
+fn beginning<'a>(alloc: Global, seed: Seed) -> Result<Progress<'a>, AllocError>
+    ensures taken { IfOk result (HasTaken []) }
+    ensures known { IfOk result (Knows []) }
 {
     match Prover::new(alloc, seed) {
         Ok(prover) => Ok(Progress {
@@ -121,7 +121,7 @@ pub(crate) fn beginning<'a>(alloc: Global, seed: Seed) -> Result<Progress<'a>, C
             incomplete: Vec::new(alloc),
             kept: Kept::new(alloc),
         }),
-        Err(RuleFault::Memory) => Err(CheckFault::Memory),
+        Err(RuleFault::Memory) => Err(AllocError),
         // No statement was taken, so that no rule is broken.
         Err(RuleFault::Rule(_)) => unreachable!(),
     }
@@ -139,97 +139,71 @@ fn make_room<'a>(files: &[File<'a>], progress: &mut Progress<'a>)
     }
 }
 
-/// What reading and judging the next statement came to.
-#[derive(Clone, Copy)]
-pub(crate) enum Turn<'a> {
-    /// There is none, and the text has no fault.
-    End,
-    /// The statement obeys the rules.
-    Obeys,
-    /// It breaks no rule of meaning, and its proof is refused.
-    Faulty(Refusal<'a>),
-}
-
 /// Reads the next statement, judges it, and takes it into the progress, also where its proof is
-/// refused. Whether to go on then is the caller's choice.
-pub(crate) fn take_turn<'a>(
+/// refused: what it came to, or nothing where there is none.
+fn judge_next<'a>(
     profile: Profile,
     files: &[File<'a>],
     statements: &mut Statements<'a>,
     progress: &mut Progress<'a>,
     into: &mut Statement<'a>,
-) -> Result<Turn<'a>, CheckFault<'a>>
+) -> Result<Option<Judged<'a>>, Stop<'a>>
     requires { IsRead (map plain_file files.now) progress.old statements.old }
-    ensures turned { IfOk result (λ turn. Turns profile (map plain_file files.now) progress.old
-        statements.old turn (plain_statement into.new) progress.new statements.new) }
+    ensures turned { IfOk result (λ judged. Turns profile (map plain_file files.now) progress.old
+        statements.old judged (plain_statement into.new) progress.new statements.new) }
     ensures stopped { IfErr result (StopsTurn (map plain_file files.now) progress.old
         statements.old) }
 {
     if !next(files, statements, into)? {
-        return Ok(Turn::End);
+        return Ok(None);
     }
     make_room(files, progress);
-    match judge(profile, files, progress, into)? {
-        None => Ok(Turn::Obeys),
-        Some(refusal) => Ok(Turn::Faulty(refusal)),
-    }
+    Ok(Some(judge(profile, files, progress, into)?))
 }
 
-/// Reads the next statement and judges it; `false` where there is none.
-pub(crate) fn judge_next<'a>(
-    profile: Profile,
-    files: &[File<'a>],
-    statements: &mut Statements<'a>,
-    progress: &mut Progress<'a>,
-    into: &mut Statement<'a>,
-) -> Result<bool, CheckFault<'a>>
-    requires { IsUnderWay profile (map plain_file files.now) progress.old statements.old }
-    ensures judged { IfOk result (λ more. GoesOn profile (map plain_file files.now) progress.old
-        statements.old more (plain_statement into.new) progress.new statements.new) }
-    ensures formed { result ≡ Ok true → HasForm (plain_statement into.new) }
-    ensures refused { IfErr result (TellsVerdict profile (map plain_file files.now)) }
-{
-    match take_turn(profile, files, statements, progress, into)? {
-        Turn::End => Ok(false),
-        Turn::Obeys => Ok(true),
-        Turn::Faulty(refusal) => Err(CheckFault::Refused(refusal)),
-    }
-}
-
-/// Reads the statements that are left, one after the other, and judges each, up to the first fault.
-fn judge_rest<'a>(
+/// Reads the statements that are left, one after the other, and judges each; the visitor sees them,
+/// as long as it goes on.
+fn judge_rest<'a, V: Visitor<'a>>(
     alloc: Global,
     profile: Profile,
     files: &[File<'a>],
     statements: &mut Statements<'a>,
     progress: &mut Progress<'a>,
+    visitor: &mut V,
 ) -> Result<(), CheckFault<'a>>
-    requires { IsUnderWay profile (map plain_file files.now) progress.old statements.old }
-    ensures done { OnOk result (IsAtEnd profile (map plain_file files.now) progress.new
-        statements.new) }
-    ensures refused { IfErr result (TellsVerdict profile (map plain_file files.now)) }
+    requires { IsVisiting V.has_seen profile (map plain_file files.now) visitor.old visitor.old
+        progress.old statements.old }
+    ensures visited { OnOk result (HasVisited V.has_seen profile (map plain_file files.now)
+        visitor.old visitor.new progress.new) }
+    ensures stopped { IfErr result (HasStopped V.has_seen V.may_stop profile
+        (map plain_file files.now) visitor.old visitor.new) }
 {
     let mut statement = Statement::empty(alloc);
-    while judge_next(profile, files, statements, progress, &mut statement)? {}
+    while let Some(judged) = judge_next(profile, files, statements, progress, &mut statement)? {
+        visitor.see(progress.prover.book(), &statement, judged)?;
+    }
     Ok(())
 }
 
-/// Judges the statements that a new reader has, up to the first fault: what checking comes to.
-fn last_progress<'a>(
+/// Judges the statements that a new reader has, and answers what checking comes to.
+fn last_progress<'a, V: Visitor<'a>>(
     alloc: Global,
     seed: Seed,
     profile: Profile,
     files: &[File<'a>],
     statements: &mut Statements<'a>,
+    visitor: &mut V,
 ) -> Result<Progress<'a>, CheckFault<'a>>
     requires unread { IsUnread (map plain_file files.now) statements.old }
     requires readable { CanBeRead (map plain_file files.now) }
-    ensures done { IfOk result (λ progress.
-        IsAtEnd profile (map plain_file files.now) progress statements.new) }
-    ensures refused { IfErr result (TellsVerdict profile (map plain_file files.now)) }
+    requires begun { V.has_seen profile (map plain_file files.now) visitor.old visitor.old [] [] }
+    ensures visited { IfOk result (HasVisited V.has_seen profile (map plain_file files.now)
+        visitor.old visitor.new) }
+    ensures stopped { IfErr result (HasStopped V.has_seen V.may_stop profile
+        (map plain_file files.now) visitor.old visitor.new) }
 {
-    let mut progress = beginning(alloc, seed)?;
-    match judge_rest(alloc, profile, files, statements, &mut progress) {
+    let mut progress: Progress<'a> = beginning(alloc, seed)?;
+    match judge_rest(alloc, profile, files, statements, &mut progress, visitor) {
         Ok(()) => Ok(progress),
         Err(fault) => {
             drop(progress);
@@ -238,14 +212,36 @@ fn last_progress<'a>(
     }
 }
 
+/// Judges the statements of the files in a profile, one after the other; the visitor sees each as
+/// soon as it is judged. Whether to go on past a proof that is refused is its choice. What breaks a
+/// rule of meaning ends the way, and so does a fault of the text.
+pub(crate) fn judge_files<'a, V: Visitor<'a>>(
+    alloc: Global,
+    seed: Seed,
+    profile: Profile,
+    files: &'a [File<'a>],
+    visitor: &mut V,
+) -> Result<Progress<'a>, CheckFault<'a>>
+    requires { CanBeRead (map plain_file files.now)
+        → V.has_seen profile (map plain_file files.now) visitor.old visitor.old [] [] }
+    ensures visited { IfOk result (HasVisited V.has_seen profile (map plain_file files.now)
+        visitor.old visitor.new) }
+    ensures stopped { IfErr result (HasStopped V.has_seen V.may_stop profile
+        (map plain_file files.now) visitor.old visitor.new) }
+{
+    let mut statements = load(alloc, seed, files)?;
+    let outcome = last_progress(alloc, seed, profile, files, &mut statements, visitor);
+    drop(statements);
+    outcome
+}
+
 /// What is kept of a database once all its statements are judged, and nothing is at fault.
 pub(crate) fn conclude<'a>(
     profile: Profile,
     files: &'a [File<'a>],
     progress: Progress<'a>,
 ) -> Checked<'a>
-    requires { (left : Remaining)
-        × IsAtEnd profile (map plain_file files.now) progress left }
+    requires { IsAtEnd profile (map plain_file files.now) progress }
     ensures verdict { HasVerdict profile (map plain_file files.now)
         (verdict_of_conclusion result) }
     ensures labels { KeepsLabels (map plain_file files.now) result }
@@ -257,7 +253,7 @@ pub(crate) fn conclude<'a>(
     Checked::new(profile, files, progress)
 }
 
-/// Judges all statements of the files in a profile.
+/// Judges the statements of the files in a profile, up to the first fault.
 fn judge_all<'a>(
     alloc: Global,
     seed: Seed,
@@ -271,10 +267,7 @@ fn judge_all<'a>(
     ensures files { IfOk result (KeepsFiles (map plain_file files.now)) }
     ensures profile { IfOk result (λ checked. checked.profile ≡ profile) }
 {
-    let mut statements = load(alloc, seed, files)?;
-    let outcome = last_progress(alloc, seed, profile, files, &mut statements);
-    drop(statements);
-    let progress = outcome?;
+    let progress = judge_files(alloc, seed, profile, files, &mut Nobody)?;
     Ok(conclude(profile, files, progress))
 }
 

@@ -3,7 +3,9 @@
 
 use crate::tests::{contents_of, expect_reply, files_of, joined};
 use crate::{Asked, forms, sameness, saving, saving_all};
-use mm_check::{AskFault, Checked, Command, Form, SaveFault, check, saved, saved_all};
+use mm_check::{
+    AskFault, AskRule, Checked, Command, Form, Question, Rule, SaveFault, check, saved, saved_all,
+};
 use mm_text::{File, Seed};
 use std::alloc::Global;
 use std::process::Abort;
@@ -24,14 +26,23 @@ fn sameness_line(alloc: Global, same: bool) -> Result<Vec<u8>, Fail> {
 
 /// What the call of a question answers over accepted files.
 fn answer_of(alloc: Global, checked: &Checked, command: &Command) -> Result<Answered, Fail> {
-    match command {
-        Command::Normal { label, .. } => Ok(checked.normal(alloc, label)),
-        Command::Packed { label, .. } => Ok(checked.packed(alloc, label)),
-        Command::Same { label, text } => match checked.same_text(alloc, label, text) {
+    let Command::About { label, question } = command else {
+        return Err(Fail::from("another command"));
+    };
+    match question {
+        Question::Form {
+            form: Form::Normal,
+            ..
+        } => Ok(checked.normal(alloc, label)),
+        Question::Form {
+            form: Form::Packed,
+            ..
+        } => Ok(checked.packed(alloc, label)),
+        Question::Same(text) => match checked.same_text(alloc, label, text) {
             Ok(same) => Ok(Ok(sameness_line(alloc, same)?)),
             Err(fault) => Ok(Err(fault)),
         },
-        _ => Err(Fail::from("another command")),
+        _ => Err(Fail::from("another question")),
     }
 }
 
@@ -66,8 +77,10 @@ fn saved_of(alloc: Global, label: &[u8], form: Form, files: &[File]) -> Result<A
 /// What the call that goes with a command answers over the files.
 fn called(alloc: Global, command: &Command, files: &[File]) -> Result<Answer, Fail> {
     match command {
-        Command::Normal { label, whole: true } => saved_of(alloc, label, Form::Normal, files),
-        Command::Packed { label, whole: true } => saved_of(alloc, label, Form::Packed, files),
+        Command::About {
+            label,
+            question: Question::Form { form, whole: true },
+        } => saved_of(alloc, label, *form, files),
         _ => asked_of(alloc, command, files),
     }
 }
@@ -75,13 +88,8 @@ fn called(alloc: Global, command: &Command, files: &[File]) -> Result<Answer, Fa
 /// The label that a command asks about.
 fn label_of<'a>(command: &Command<'a>) -> &'a [u8] {
     match command {
-        Command::Check { .. } | Command::Faults { .. } => b"",
-        Command::Axioms { label }
-        | Command::Show { label }
-        | Command::Normal { label, .. }
-        | Command::Packed { label, .. }
-        | Command::Same { label, .. } => label,
-        Command::All { .. } => b"",
+        Command::Whole { .. } | Command::File { .. } => b"",
+        Command::About { label, .. } => label,
     }
 }
 
@@ -89,8 +97,10 @@ fn label_of<'a>(command: &Command<'a>) -> &'a [u8] {
 fn fault_line(alloc: Global, label: &[u8], fault: AskFault) -> Result<Vec<u8>, Fail> {
     let label = from_utf8(label)?;
     let line = match fault {
-        AskFault::Text { rule, step } => format!(in alloc; "text {rule:?} {step}\n")?,
-        other => format!(in alloc; "ask {other:?} {label}\n")?,
+        AskFault::Text { rule, step } => format!(in alloc; "text {rule} {step}\n")?,
+        AskFault::Rule(rule) => format!(in alloc; "ask {} {label}\n", Rule::Ask(rule))?,
+        AskFault::F3 => format!(in alloc; "ask F3 {label}\n")?,
+        AskFault::Memory => return Err(Fail::from("memory")),
     };
     Ok(line.into_bytes())
 }
@@ -108,7 +118,11 @@ fn all_saved_of(
     };
     match saved_all(alloc, Seed::known(), files, number, form) {
         Ok(bytes) => Ok(Some(bytes)),
-        Err(SaveFault::TooLong { label }) => Ok(Some(fault_line(alloc, label, AskFault::L2)?)),
+        Err(SaveFault::TooLong { label }) => Ok(Some(fault_line(
+            alloc,
+            label,
+            AskFault::Rule(AskRule::L2),
+        )?)),
         Err(SaveFault::Ask(fault)) => Ok(Some(fault_line(alloc, file.name, fault)?)),
         Err(SaveFault::Check(_)) => Ok(None),
     }
@@ -117,7 +131,7 @@ fn all_saved_of(
 /// The text of what the call that goes with a command answers over the files; nothing where they
 /// are refused.
 fn text_of(alloc: Global, command: &Command, files: &[File]) -> Result<Option<Vec<u8>>, Fail> {
-    if let Command::All { form, file } = command {
+    if let Command::File { form, file } = command {
         return all_saved_of(alloc, *form, *file, files);
     }
     match called(alloc, command, files)? {

@@ -4,7 +4,8 @@
 use crate::Case;
 use crate::Part::Text;
 use crate::tests::{compare, compare_commands};
-use mm_check::Command::{self, Axioms, Check, Normal, Packed, Show};
+use mm_check::Command::{self, About, Whole};
+use mm_check::{Form, Question, WholeQuestion};
 use mm_proof::Profile;
 use std::test::Fail;
 
@@ -203,8 +204,9 @@ fn language_2(rt: HostRuntime) -> Result<(), Fail> {
 /// The other commands among the examples.
 const COMMANDS_1: [(Command<'static>, Case); 9] = [
     (
-        Check {
+        Whole {
             profile: Profile::Strict,
+            question: WholeQuestion::Check,
         },
         Case {
             name: "Two profiles (own), in docs/LANGUAGE.md",
@@ -224,9 +226,12 @@ const COMMANDS_1: [(Command<'static>, Case); 9] = [
         },
     ),
     (
-        Packed {
+        About {
             label: b"th",
-            whole: false,
+            question: Question::Form {
+                form: Form::Packed,
+                whole: false,
+            },
         },
         Case {
             name: "One proof, two forms (own), in docs/LANGUAGE.md",
@@ -244,8 +249,9 @@ const COMMANDS_1: [(Command<'static>, Case); 9] = [
         },
     ),
     (
-        Check {
+        Whole {
             profile: Profile::Strict,
+            question: WholeQuestion::Check,
         },
         Case {
             name: "P15, in docs/RULES.md",
@@ -258,8 +264,9 @@ const COMMANDS_1: [(Command<'static>, Case); 9] = [
         },
     ),
     (
-        Check {
+        Whole {
             profile: Profile::Strict,
+            question: WholeQuestion::Check,
         },
         Case {
             name: "P15, in docs/RULES.md",
@@ -275,8 +282,9 @@ const COMMANDS_1: [(Command<'static>, Case); 9] = [
         },
     ),
     (
-        Check {
+        Whole {
             profile: Profile::Strict,
+            question: WholeQuestion::Check,
         },
         Case {
             name: "P15, in docs/RULES.md",
@@ -292,8 +300,9 @@ const COMMANDS_1: [(Command<'static>, Case); 9] = [
         },
     ),
     (
-        Check {
+        Whole {
             profile: Profile::Strict,
+            question: WholeQuestion::Check,
         },
         Case {
             name: "P15, in docs/RULES.md",
@@ -309,7 +318,10 @@ const COMMANDS_1: [(Command<'static>, Case); 9] = [
         },
     ),
     (
-        Axioms { label: b"b" },
+        About {
+            label: b"b",
+            question: Question::Axioms,
+        },
         Case {
             name: "A1, in docs/RULES.md",
             files: &[(
@@ -321,7 +333,10 @@ const COMMANDS_1: [(Command<'static>, Case); 9] = [
         },
     ),
     (
-        Axioms { label: b"one" },
+        About {
+            label: b"one",
+            question: Question::Axioms,
+        },
         Case {
             name: "A2, in docs/RULES.md",
             files: &[(
@@ -333,7 +348,10 @@ const COMMANDS_1: [(Command<'static>, Case); 9] = [
         },
     ),
     (
-        Show { label: b"p" },
+        About {
+            label: b"p",
+            question: Question::Show,
+        },
         Case {
             name: "A3, in docs/RULES.md",
             files: &[(
@@ -353,9 +371,12 @@ fn commands_1(rt: HostRuntime) -> Result<(), Fail> {
 
 /// The next other commands among the examples.
 const COMMANDS_2: [(Command<'static>, Case); 1] = [(
-    Normal {
+    About {
         label: b"p",
-        whole: false,
+        question: Question::Form {
+            form: Form::Normal,
+            whole: false,
+        },
     },
     Case {
         name: "L2, in docs/RULES.md",

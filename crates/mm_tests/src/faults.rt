@@ -3,13 +3,17 @@
 use crate::Case;
 use crate::Part::{Text, Times};
 use crate::databases::{FIRST, LIMIT};
-use mm_check::Command::{self, Faults};
+use mm_check::Command::{self, Whole};
+use mm_check::WholeQuestion;
 use mm_proof::Profile::{Lenient, Strict};
 
 /// Databases with several faults, with one, and with none.
 pub(crate) const FAULTS: [(Command<'static>, Case); 10] = [
     (
-        Faults { profile: Lenient },
+        Whole {
+            profile: Lenient,
+            question: WholeQuestion::Faults,
+        },
         Case {
             name: "a proof that uses a faulty theorem between two faults",
             files: &[(
@@ -24,7 +28,10 @@ pub(crate) const FAULTS: [(Command<'static>, Case); 10] = [
         },
     ),
     (
-        Faults { profile: Lenient },
+        Whole {
+            profile: Lenient,
+            question: WholeQuestion::Faults,
+        },
         Case {
             name: "a rule of meaning ends the run",
             files: &[(
@@ -39,7 +46,10 @@ pub(crate) const FAULTS: [(Command<'static>, Case); 10] = [
         },
     ),
     (
-        Faults { profile: Lenient },
+        Whole {
+            profile: Lenient,
+            question: WholeQuestion::Faults,
+        },
         Case {
             name: "a rule of meaning before a proof",
             files: &[(
@@ -51,7 +61,10 @@ pub(crate) const FAULTS: [(Command<'static>, Case); 10] = [
         },
     ),
     (
-        Faults { profile: Lenient },
+        Whole {
+            profile: Lenient,
+            question: WholeQuestion::Faults,
+        },
         Case {
             name: "a fault of the text ends the run",
             files: &[(
@@ -66,7 +79,10 @@ pub(crate) const FAULTS: [(Command<'static>, Case); 10] = [
         },
     ),
     (
-        Faults { profile: Lenient },
+        Whole {
+            profile: Lenient,
+            question: WholeQuestion::Faults,
+        },
         Case {
             name: "a fault before an unknown step, and an incomplete proof",
             files: &[(
@@ -78,7 +94,10 @@ pub(crate) const FAULTS: [(Command<'static>, Case); 10] = [
         },
     ),
     (
-        Faults { profile: Strict },
+        Whole {
+            profile: Strict,
+            question: WholeQuestion::Faults,
+        },
         Case {
             name: "two loose proofs",
             files: &[(
@@ -93,7 +112,10 @@ pub(crate) const FAULTS: [(Command<'static>, Case); 10] = [
         },
     ),
     (
-        Faults { profile: Lenient },
+        Whole {
+            profile: Lenient,
+            question: WholeQuestion::Faults,
+        },
         Case {
             name: "a limit first",
             files: &[(
@@ -110,7 +132,10 @@ pub(crate) const FAULTS: [(Command<'static>, Case); 10] = [
         },
     ),
     (
-        Faults { profile: Lenient },
+        Whole {
+            profile: Lenient,
+            question: WholeQuestion::Faults,
+        },
         Case {
             name: "no fault",
             files: &[(b"first.mm", &[Text(FIRST)])],
@@ -119,7 +144,10 @@ pub(crate) const FAULTS: [(Command<'static>, Case); 10] = [
         },
     ),
     (
-        Faults { profile: Lenient },
+        Whole {
+            profile: Lenient,
+            question: WholeQuestion::Faults,
+        },
         Case {
             name: "no fault beside an incomplete proof",
             files: &[(b"f.mm", &[Text(b"$c a $. p $p a $= ? $. q $p a $= p $.\n")])],
@@ -128,7 +156,10 @@ pub(crate) const FAULTS: [(Command<'static>, Case); 10] = [
         },
     ),
     (
-        Faults { profile: Lenient },
+        Whole {
+            profile: Lenient,
+            question: WholeQuestion::Faults,
+        },
         Case {
             name: "files that cannot be taken",
             files: &[

@@ -7,15 +7,19 @@ use crate::doublings::{
     HUNDRED, HUNDRED_LINES, HUNDRED_TURNED, SIX_HUNDRED_AND_TWENTY_LINES, TWENTY_FOUR,
     TWENTY_FOUR_LINES,
 };
-use mm_check::Command::{Normal, Packed};
+use mm_check::Command::About;
+use mm_check::{Form, Question};
 
 /// Packed proofs.
 pub(crate) const PACKED: [Asked; 9] = [
     Asked {
         name: "the packed form of the demonstration theorem",
-        command: Packed {
+        command: About {
             label: b"th1",
-            whole: false,
+            question: Question::Form {
+                form: Form::Packed,
+                whole: false,
+            },
         },
         files: &[(b"demo0.mm", &[Text(DEMO)])],
         reply: &[
@@ -26,9 +30,12 @@ pub(crate) const PACKED: [Asked; 9] = [
     },
     Asked {
         name: "the packed form of the compressed demonstration theorem",
-        command: Packed {
+        command: About {
             label: b"th1",
-            whole: false,
+            question: Question::Form {
+                form: Form::Packed,
+                whole: false,
+            },
         },
         files: &[(b"demo0c.mm", &[Text(DEMO_COMPRESSED)])],
         reply: &[
@@ -39,9 +46,12 @@ pub(crate) const PACKED: [Asked; 9] = [
     },
     Asked {
         name: "the packed form of a proof with tags that are not needed",
-        command: Packed {
+        command: About {
             label: b"th2",
-            whole: false,
+            question: Question::Form {
+                form: Form::Packed,
+                whole: false,
+            },
         },
         files: &[(
             b"h.mm",
@@ -55,9 +65,12 @@ pub(crate) const PACKED: [Asked; 9] = [
     },
     Asked {
         name: "the packed form of a proof with a label twice in its list",
-        command: Packed {
+        command: About {
             label: b"th2",
-            whole: false,
+            question: Question::Form {
+                form: Form::Packed,
+                whole: false,
+            },
         },
         files: &[(
             b"h.mm",
@@ -71,9 +84,12 @@ pub(crate) const PACKED: [Asked; 9] = [
     },
     Asked {
         name: "the packed form of a proof with an unused label in its list",
-        command: Packed {
+        command: About {
             label: b"th1",
-            whole: false,
+            question: Question::Form {
+                form: Form::Packed,
+                whole: false,
+            },
         },
         files: &[(
             b"h.mm",
@@ -91,9 +107,12 @@ pub(crate) const PACKED: [Asked; 9] = [
     },
     Asked {
         name: "the packed form of a hypothesis",
-        command: Packed {
+        command: About {
             label: b"h1",
-            whole: false,
+            question: Question::Form {
+                form: Form::Packed,
+                whole: false,
+            },
         },
         files: &[(b"h.mm", &[Text(HEAD), Text(b"h1 $p term t $= tt $.\n")])],
         reply: &[Text(b"      ( )\n"), Text(b"      A\n")],
@@ -101,9 +120,12 @@ pub(crate) const PACKED: [Asked; 9] = [
     },
     Asked {
         name: "the packed form of a small theorem",
-        command: Packed {
+        command: About {
             label: b"th",
-            whole: false,
+            question: Question::Form {
+                form: Form::Packed,
+                whole: false,
+            },
         },
         files: &[(b"first.mm", &[Text(FIRST)])],
         reply: &[Text(b"      ( tze tpl )\n"), Text(b"      AAB\n")],
@@ -111,9 +133,12 @@ pub(crate) const PACKED: [Asked; 9] = [
     },
     Asked {
         name: "the packed form shares what the proof repeats",
-        command: Packed {
+        command: About {
             label: b"th",
-            whole: false,
+            question: Question::Form {
+                form: Form::Packed,
+                whole: false,
+            },
         },
         files: &[(
             b"cat.mm",
@@ -127,9 +152,12 @@ pub(crate) const PACKED: [Asked; 9] = [
     },
     Asked {
         name: "the packed form of a theorem that rests on an incomplete one",
-        command: Packed {
+        command: About {
             label: b"u2",
-            whole: false,
+            question: Question::Form {
+                form: Form::Packed,
+                whole: false,
+            },
         },
         files: &[(
             b"h.mm",
@@ -147,9 +175,12 @@ pub(crate) const PACKED: [Asked; 9] = [
 pub(crate) const NORMAL: [Asked; 5] = [
     Asked {
         name: "the normal form of the compressed demonstration theorem",
-        command: Normal {
+        command: About {
             label: b"th1",
-            whole: false,
+            question: Question::Form {
+                form: Form::Normal,
+                whole: false,
+            },
         },
         files: &[(b"demo0c.mm", &[Text(DEMO_COMPRESSED)])],
         reply: &[
@@ -161,9 +192,12 @@ pub(crate) const NORMAL: [Asked; 5] = [
     },
     Asked {
         name: "the normal form of the demonstration theorem",
-        command: Normal {
+        command: About {
             label: b"th1",
-            whole: false,
+            question: Question::Form {
+                form: Form::Normal,
+                whole: false,
+            },
         },
         files: &[(b"demo0.mm", &[Text(DEMO)])],
         reply: &[
@@ -175,9 +209,12 @@ pub(crate) const NORMAL: [Asked; 5] = [
     },
     Asked {
         name: "the normal form of a hypothesis",
-        command: Normal {
+        command: About {
             label: b"h1",
-            whole: false,
+            question: Question::Form {
+                form: Form::Normal,
+                whole: false,
+            },
         },
         files: &[(b"h.mm", &[Text(HEAD), Text(b"h1 $p term t $= tt $.\n")])],
         reply: &[Text(b"      tt\n")],
@@ -185,9 +222,12 @@ pub(crate) const NORMAL: [Asked; 5] = [
     },
     Asked {
         name: "the normal form of a small theorem",
-        command: Normal {
+        command: About {
             label: b"th",
-            whole: false,
+            question: Question::Form {
+                form: Form::Normal,
+                whole: false,
+            },
         },
         files: &[(b"first.mm", &[Text(FIRST)])],
         reply: &[Text(b"      tze tze tpl\n")],
@@ -195,9 +235,12 @@ pub(crate) const NORMAL: [Asked; 5] = [
     },
     Asked {
         name: "the normal form of a short shared proof",
-        command: Normal {
+        command: About {
             label: b"th",
-            whole: false,
+            question: Question::Form {
+                form: Form::Normal,
+                whole: false,
+            },
         },
         files: &[(
             b"cat.mm",
@@ -212,9 +255,12 @@ pub(crate) const NORMAL: [Asked; 5] = [
 pub(crate) const DOUBLINGS: [Asked; 6] = [
     Asked {
         name: "the normal form of a proof whose expansion has millions of labels",
-        command: Normal {
+        command: About {
             label: b"th",
-            whole: false,
+            question: Question::Form {
+                form: Form::Normal,
+                whole: false,
+            },
         },
         files: &[(
             b"cat.mm",
@@ -230,9 +276,12 @@ pub(crate) const DOUBLINGS: [Asked; 6] = [
     },
     Asked {
         name: "the packed form of a proof whose expansion has millions of labels",
-        command: Packed {
+        command: About {
             label: b"th",
-            whole: false,
+            question: Question::Form {
+                form: Form::Packed,
+                whole: false,
+            },
         },
         files: &[(
             b"cat.mm",
@@ -248,9 +297,12 @@ pub(crate) const DOUBLINGS: [Asked; 6] = [
     },
     Asked {
         name: "the normal form of one hundred doublings",
-        command: Normal {
+        command: About {
             label: b"th",
-            whole: false,
+            question: Question::Form {
+                form: Form::Normal,
+                whole: false,
+            },
         },
         files: &[(
             b"cat.mm",
@@ -266,9 +318,12 @@ pub(crate) const DOUBLINGS: [Asked; 6] = [
     },
     Asked {
         name: "the packed form of one hundred doublings",
-        command: Packed {
+        command: About {
             label: b"th",
-            whole: false,
+            question: Question::Form {
+                form: Form::Packed,
+                whole: false,
+            },
         },
         files: &[(
             b"cat.mm",
@@ -284,9 +339,12 @@ pub(crate) const DOUBLINGS: [Asked; 6] = [
     },
     Asked {
         name: "the packed form of six hundred and twenty doublings",
-        command: Packed {
+        command: About {
             label: b"th",
-            whole: false,
+            question: Question::Form {
+                form: Form::Packed,
+                whole: false,
+            },
         },
         files: &[(
             b"cat.mm",
@@ -302,9 +360,12 @@ pub(crate) const DOUBLINGS: [Asked; 6] = [
     },
     Asked {
         name: "the packed form of one hundred doublings that were listed the other way round",
-        command: Packed {
+        command: About {
             label: b"th",
-            whole: false,
+            question: Question::Form {
+                form: Form::Packed,
+                whole: false,
+            },
         },
         files: &[(
             b"cat.mm",
@@ -324,9 +385,12 @@ pub(crate) const DOUBLINGS: [Asked; 6] = [
 pub(crate) const LINES_OF_LABELS: [Asked; 5] = [
     Asked {
         name: "twenty-four labels on one line",
-        command: Normal {
+        command: About {
             label: b"th",
-            whole: false,
+            question: Question::Form {
+                form: Form::Normal,
+                whole: false,
+            },
         },
         files: &[(
             b"l.mm",
@@ -342,9 +406,12 @@ pub(crate) const LINES_OF_LABELS: [Asked; 5] = [
     },
     Asked {
         name: "a twenty-fifth label on a line of its own",
-        command: Normal {
+        command: About {
             label: b"th",
-            whole: false,
+            question: Question::Form {
+                form: Form::Normal,
+                whole: false,
+            },
         },
         files: &[(
             b"l.mm",
@@ -365,9 +432,12 @@ pub(crate) const LINES_OF_LABELS: [Asked; 5] = [
     },
     Asked {
         name: "a line of exactly seventy-nine bytes",
-        command: Normal {
+        command: About {
             label: b"th",
-            whole: false,
+            question: Question::Form {
+                form: Form::Normal,
+                whole: false,
+            },
         },
         files: &[(
             b"l.mm",
@@ -385,9 +455,12 @@ pub(crate) const LINES_OF_LABELS: [Asked; 5] = [
     },
     Asked {
         name: "a label that would make a line of eighty bytes",
-        command: Normal {
+        command: About {
             label: b"th",
-            whole: false,
+            question: Question::Form {
+                form: Form::Normal,
+                whole: false,
+            },
         },
         files: &[(
             b"l.mm",
@@ -410,9 +483,12 @@ pub(crate) const LINES_OF_LABELS: [Asked; 5] = [
     },
     Asked {
         name: "labels longer than a line",
-        command: Normal {
+        command: About {
             label: b"th",
-            whole: false,
+            question: Question::Form {
+                form: Form::Normal,
+                whole: false,
+            },
         },
         files: &[(
             b"l.mm",
@@ -444,9 +520,12 @@ pub(crate) const LINES_OF_LABELS: [Asked; 5] = [
 pub(crate) const LINES_OF_LETTERS: [Asked; 5] = [
     Asked {
         name: "the packed form with a label longer than a line",
-        command: Packed {
+        command: About {
             label: b"th",
-            whole: false,
+            question: Question::Form {
+                form: Form::Packed,
+                whole: false,
+            },
         },
         files: &[(
             b"l.mm",
@@ -471,9 +550,12 @@ pub(crate) const LINES_OF_LETTERS: [Asked; 5] = [
     },
     Asked {
         name: "the packed form with a list of exactly seventy-nine bytes",
-        command: Packed {
+        command: About {
             label: b"th",
-            whole: false,
+            question: Question::Form {
+                form: Form::Packed,
+                whole: false,
+            },
         },
         files: &[(
             b"l.mm",
@@ -496,9 +578,12 @@ pub(crate) const LINES_OF_LETTERS: [Asked; 5] = [
     },
     Asked {
         name: "the packed form with a list that is cut before its bracket",
-        command: Packed {
+        command: About {
             label: b"th",
-            whole: false,
+            question: Question::Form {
+                form: Form::Packed,
+                whole: false,
+            },
         },
         files: &[(
             b"l.mm",
@@ -522,9 +607,12 @@ pub(crate) const LINES_OF_LETTERS: [Asked; 5] = [
     },
     Asked {
         name: "seventy-three letters on one line",
-        command: Packed {
+        command: About {
             label: b"th",
-            whole: false,
+            question: Question::Form {
+                form: Form::Packed,
+                whole: false,
+            },
         },
         files: &[(
             b"l.mm",
@@ -545,9 +633,12 @@ pub(crate) const LINES_OF_LETTERS: [Asked; 5] = [
     },
     Asked {
         name: "a seventy-fourth letter on a line of its own",
-        command: Packed {
+        command: About {
             label: b"th",
-            whole: false,
+            question: Question::Form {
+                form: Form::Packed,
+                whole: false,
+            },
         },
         files: &[(
             b"l.mm",
@@ -573,9 +664,12 @@ pub(crate) const LINES_OF_LETTERS: [Asked; 5] = [
 pub(crate) const UNANSWERED: [Asked; 8] = [
     Asked {
         name: "the normal form of a label that is not there",
-        command: Normal {
+        command: About {
             label: b"none",
-            whole: false,
+            question: Question::Form {
+                form: Form::Normal,
+                whole: false,
+            },
         },
         files: &[(b"demo0.mm", &[Text(DEMO)])],
         reply: &[Text(b"ask A1 none\n")],
@@ -583,9 +677,12 @@ pub(crate) const UNANSWERED: [Asked; 8] = [
     },
     Asked {
         name: "the normal form of an axiom",
-        command: Normal {
+        command: About {
             label: b"a1",
-            whole: false,
+            question: Question::Form {
+                form: Form::Normal,
+                whole: false,
+            },
         },
         files: &[(b"demo0.mm", &[Text(DEMO)])],
         reply: &[Text(b"ask A2 a1\n")],
@@ -593,9 +690,12 @@ pub(crate) const UNANSWERED: [Asked; 8] = [
     },
     Asked {
         name: "the normal form of an incomplete proof",
-        command: Normal {
+        command: About {
             label: b"u1",
-            whole: false,
+            question: Question::Form {
+                form: Form::Normal,
+                whole: false,
+            },
         },
         files: &[(
             b"h.mm",
@@ -609,9 +709,12 @@ pub(crate) const UNANSWERED: [Asked; 8] = [
     },
     Asked {
         name: "the normal form in a refused database",
-        command: Normal {
+        command: About {
             label: b"th2",
-            whole: false,
+            question: Question::Form {
+                form: Form::Normal,
+                whole: false,
+            },
         },
         files: &[(b"h.mm", &[Text(HEAD), Text(b"th2 $p term t $= tt tt $.\n")])],
         reply: &[Text(b"no h.mm 20 th2 P13 3\n")],
@@ -619,9 +722,12 @@ pub(crate) const UNANSWERED: [Asked; 8] = [
     },
     Asked {
         name: "the packed form of a label that is not there",
-        command: Packed {
+        command: About {
             label: b"none",
-            whole: false,
+            question: Question::Form {
+                form: Form::Packed,
+                whole: false,
+            },
         },
         files: &[(b"demo0.mm", &[Text(DEMO)])],
         reply: &[Text(b"ask A1 none\n")],
@@ -629,9 +735,12 @@ pub(crate) const UNANSWERED: [Asked; 8] = [
     },
     Asked {
         name: "the packed form of an axiom",
-        command: Packed {
+        command: About {
             label: b"a1",
-            whole: false,
+            question: Question::Form {
+                form: Form::Packed,
+                whole: false,
+            },
         },
         files: &[(b"demo0.mm", &[Text(DEMO)])],
         reply: &[Text(b"ask A2 a1\n")],
@@ -639,9 +748,12 @@ pub(crate) const UNANSWERED: [Asked; 8] = [
     },
     Asked {
         name: "the packed form of an incomplete proof",
-        command: Packed {
+        command: About {
             label: b"u1",
-            whole: false,
+            question: Question::Form {
+                form: Form::Packed,
+                whole: false,
+            },
         },
         files: &[(
             b"h.mm",
@@ -655,9 +767,12 @@ pub(crate) const UNANSWERED: [Asked; 8] = [
     },
     Asked {
         name: "the packed form in a refused database",
-        command: Packed {
+        command: About {
             label: b"th2",
-            whole: false,
+            question: Question::Form {
+                form: Form::Packed,
+                whole: false,
+            },
         },
         files: &[(b"h.mm", &[Text(HEAD), Text(b"th2 $p term t $= tt tt $.\n")])],
         reply: &[Text(b"no h.mm 20 th2 P13 3\n")],

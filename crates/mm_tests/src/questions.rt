@@ -3,12 +3,16 @@
 use crate::Case;
 use crate::Part::{Text, Times};
 use crate::databases::{CAT, DEMO, DEMO_COMPRESSED, FIRST, HEAD, LIMIT};
-use mm_check::Command::{self, Axioms, Show};
+use mm_check::Command::{self, About};
+use mm_check::Question;
 
 /// Theorems that rest on axioms alone, or on nothing.
 pub(crate) const AXIOMS: [(Command<'static>, Case); 8] = [
     (
-        Axioms { label: b"th1" },
+        About {
+            label: b"th1",
+            question: Question::Axioms,
+        },
         Case {
             name: "the axioms of the demonstration theorem",
             files: &[(b"demo0.mm", &[Text(DEMO)])],
@@ -17,7 +21,10 @@ pub(crate) const AXIOMS: [(Command<'static>, Case); 8] = [
         },
     ),
     (
-        Axioms { label: b"th1" },
+        About {
+            label: b"th1",
+            question: Question::Axioms,
+        },
         Case {
             name: "the axioms of the compressed demonstration theorem",
             files: &[(b"demo0c.mm", &[Text(DEMO_COMPRESSED)])],
@@ -26,7 +33,10 @@ pub(crate) const AXIOMS: [(Command<'static>, Case); 8] = [
         },
     ),
     (
-        Axioms { label: b"th1" },
+        About {
+            label: b"th1",
+            question: Question::Axioms,
+        },
         Case {
             name: "the axioms of a proof that lists one it does not use",
             files: &[(
@@ -42,7 +52,10 @@ pub(crate) const AXIOMS: [(Command<'static>, Case); 8] = [
         },
     ),
     (
-        Axioms { label: b"h1" },
+        About {
+            label: b"h1",
+            question: Question::Axioms,
+        },
         Case {
             name: "a theorem that rests on no incomplete one beside it",
             files: &[(
@@ -57,7 +70,10 @@ pub(crate) const AXIOMS: [(Command<'static>, Case); 8] = [
         },
     ),
     (
-        Axioms { label: b"th" },
+        About {
+            label: b"th",
+            question: Question::Axioms,
+        },
         Case {
             name: "the axioms of a small theorem",
             files: &[(b"first.mm", &[Text(FIRST)])],
@@ -66,7 +82,10 @@ pub(crate) const AXIOMS: [(Command<'static>, Case); 8] = [
         },
     ),
     (
-        Axioms { label: b"h1" },
+        About {
+            label: b"h1",
+            question: Question::Axioms,
+        },
         Case {
             name: "a theorem that rests on nothing",
             files: &[(b"h.mm", &[Text(HEAD), Text(b"h1 $p term t $= tt $.\n")])],
@@ -75,7 +94,10 @@ pub(crate) const AXIOMS: [(Command<'static>, Case); 8] = [
         },
     ),
     (
-        Axioms { label: b"th3" },
+        About {
+            label: b"th3",
+            question: Question::Axioms,
+        },
         Case {
             name: "the axioms of a theorem that uses the demonstration theorem",
             files: &[(
@@ -87,7 +109,10 @@ pub(crate) const AXIOMS: [(Command<'static>, Case); 8] = [
         },
     ),
     (
-        Axioms { label: b"th2" },
+        About {
+            label: b"th2",
+            question: Question::Axioms,
+        },
         Case {
             name: "a theorem that lists its own hypothesis rests on nothing",
             files: &[(
@@ -103,7 +128,10 @@ pub(crate) const AXIOMS: [(Command<'static>, Case); 8] = [
 /// Theorems that rest on unproved ones.
 pub(crate) const UNPROVED: [(Command<'static>, Case); 5] = [
     (
-        Axioms { label: b"u2" },
+        About {
+            label: b"u2",
+            question: Question::Axioms,
+        },
         Case {
             name: "the axioms of a theorem that rests on an unknown step",
             files: &[(
@@ -118,7 +146,10 @@ pub(crate) const UNPROVED: [(Command<'static>, Case); 5] = [
         },
     ),
     (
-        Axioms { label: b"u2" },
+        About {
+            label: b"u2",
+            question: Question::Axioms,
+        },
         Case {
             name: "the axioms of a theorem that rests on an unknown step before a bracket",
             files: &[(
@@ -133,7 +164,10 @@ pub(crate) const UNPROVED: [(Command<'static>, Case); 5] = [
         },
     ),
     (
-        Axioms { label: b"u2" },
+        About {
+            label: b"u2",
+            question: Question::Axioms,
+        },
         Case {
             name: "the axioms of a theorem that rests on an unknown step in a list of labels",
             files: &[(
@@ -148,7 +182,10 @@ pub(crate) const UNPROVED: [(Command<'static>, Case); 5] = [
         },
     ),
     (
-        Axioms { label: b"u2" },
+        About {
+            label: b"u2",
+            question: Question::Axioms,
+        },
         Case {
             name: "axioms and an unproved theorem",
             files: &[(
@@ -164,7 +201,10 @@ pub(crate) const UNPROVED: [(Command<'static>, Case); 5] = [
         },
     ),
     (
-        Axioms { label: b"u3" },
+        About {
+            label: b"u3",
+            question: Question::Axioms,
+        },
         Case {
             name: "axioms and an unproved theorem, through another theorem",
             files: &[(
@@ -184,7 +224,10 @@ pub(crate) const UNPROVED: [(Command<'static>, Case); 5] = [
 /// Labels about which nothing can be told.
 pub(crate) const AXIOMS_UNANSWERED: [(Command<'static>, Case); 7] = [
     (
-        Axioms { label: b"u1" },
+        About {
+            label: b"u1",
+            question: Question::Axioms,
+        },
         Case {
             name: "the axioms of a theorem that is an unknown step",
             files: &[(
@@ -199,7 +242,10 @@ pub(crate) const AXIOMS_UNANSWERED: [(Command<'static>, Case); 7] = [
         },
     ),
     (
-        Axioms { label: b"u1" },
+        About {
+            label: b"u1",
+            question: Question::Axioms,
+        },
         Case {
             name: "the axioms of a theorem that is an unknown step before a bracket",
             files: &[(
@@ -214,7 +260,10 @@ pub(crate) const AXIOMS_UNANSWERED: [(Command<'static>, Case); 7] = [
         },
     ),
     (
-        Axioms { label: b"u1" },
+        About {
+            label: b"u1",
+            question: Question::Axioms,
+        },
         Case {
             name: "the axioms of a theorem that is an unknown step in a list of labels",
             files: &[(
@@ -229,7 +278,10 @@ pub(crate) const AXIOMS_UNANSWERED: [(Command<'static>, Case); 7] = [
         },
     ),
     (
-        Axioms { label: b"none" },
+        About {
+            label: b"none",
+            question: Question::Axioms,
+        },
         Case {
             name: "the axioms of a label that is not there",
             files: &[(b"demo0.mm", &[Text(DEMO)])],
@@ -238,7 +290,10 @@ pub(crate) const AXIOMS_UNANSWERED: [(Command<'static>, Case); 7] = [
         },
     ),
     (
-        Axioms { label: b"a1" },
+        About {
+            label: b"a1",
+            question: Question::Axioms,
+        },
         Case {
             name: "the axioms of an axiom",
             files: &[(b"demo0.mm", &[Text(DEMO)])],
@@ -247,7 +302,10 @@ pub(crate) const AXIOMS_UNANSWERED: [(Command<'static>, Case); 7] = [
         },
     ),
     (
-        Axioms { label: b"min" },
+        About {
+            label: b"min",
+            question: Question::Axioms,
+        },
         Case {
             name: "the axioms of a hypothesis",
             files: &[(b"demo0.mm", &[Text(DEMO)])],
@@ -256,7 +314,10 @@ pub(crate) const AXIOMS_UNANSWERED: [(Command<'static>, Case); 7] = [
         },
     ),
     (
-        Axioms { label: b"wff" },
+        About {
+            label: b"wff",
+            question: Question::Axioms,
+        },
         Case {
             name: "the axioms of a symbol",
             files: &[(b"demo0.mm", &[Text(DEMO)])],
@@ -269,7 +330,10 @@ pub(crate) const AXIOMS_UNANSWERED: [(Command<'static>, Case); 7] = [
 /// Databases that are refused: the reply is that of `check`.
 pub(crate) const AXIOMS_REFUSED: [(Command<'static>, Case); 3] = [
     (
-        Axioms { label: b"th" },
+        About {
+            label: b"th",
+            question: Question::Axioms,
+        },
         Case {
             name: "the axioms in a database that is loaded twice",
             files: &[(b"first.mm", &[Text(FIRST)]), (b"first.mm", &[Text(FIRST)])],
@@ -278,7 +342,10 @@ pub(crate) const AXIOMS_REFUSED: [(Command<'static>, Case); 3] = [
         },
     ),
     (
-        Axioms { label: b"th2" },
+        About {
+            label: b"th2",
+            question: Question::Axioms,
+        },
         Case {
             name: "the axioms in a refused database",
             files: &[(b"h.mm", &[Text(HEAD), Text(b"th2 $p term t $= tt tt $.\n")])],
@@ -287,7 +354,10 @@ pub(crate) const AXIOMS_REFUSED: [(Command<'static>, Case); 3] = [
         },
     ),
     (
-        Axioms { label: b"none" },
+        About {
+            label: b"none",
+            question: Question::Axioms,
+        },
         Case {
             name: "the axioms of a label that is not there in a refused database",
             files: &[(b"h.mm", &[Text(HEAD), Text(b"th2 $p term t $= tt tt $.\n")])],
@@ -300,7 +370,10 @@ pub(crate) const AXIOMS_REFUSED: [(Command<'static>, Case); 3] = [
 /// Listings of proofs.
 pub(crate) const STEPS: [(Command<'static>, Case); 9] = [
     (
-        Show { label: b"u2" },
+        About {
+            label: b"u2",
+            question: Question::Show,
+        },
         Case {
             name: "the steps of a theorem that rests on an incomplete one",
             files: &[(
@@ -315,7 +388,10 @@ pub(crate) const STEPS: [(Command<'static>, Case); 9] = [
         },
     ),
     (
-        Show { label: b"th" },
+        About {
+            label: b"th",
+            question: Question::Show,
+        },
         Case {
             name: "the steps of a proof with a shared part",
             files: &[(
@@ -327,7 +403,10 @@ pub(crate) const STEPS: [(Command<'static>, Case); 9] = [
         },
     ),
     (
-        Show { label: b"th" },
+        About {
+            label: b"th",
+            question: Question::Show,
+        },
         Case {
             name: "the steps of a small theorem",
             files: &[(b"first.mm", &[Text(FIRST)])],
@@ -336,7 +415,10 @@ pub(crate) const STEPS: [(Command<'static>, Case); 9] = [
         },
     ),
     (
-        Show { label: b"th2" },
+        About {
+            label: b"th2",
+            question: Question::Show,
+        },
         Case {
             name: "the steps of a proof with a tag after a reference",
             files: &[(
@@ -359,7 +441,10 @@ pub(crate) const STEPS: [(Command<'static>, Case); 9] = [
         },
     ),
     (
-        Show { label: b"th2" },
+        About {
+            label: b"th2",
+            question: Question::Show,
+        },
         Case {
             name: "the steps of a proof with a tagged hypothesis",
             files: &[(
@@ -374,7 +459,10 @@ pub(crate) const STEPS: [(Command<'static>, Case); 9] = [
         },
     ),
     (
-        Show { label: b"th2" },
+        About {
+            label: b"th2",
+            question: Question::Show,
+        },
         Case {
             name: "the steps of a proof that lists a mandatory hypothesis",
             files: &[(
@@ -389,7 +477,10 @@ pub(crate) const STEPS: [(Command<'static>, Case); 9] = [
         },
     ),
     (
-        Show { label: b"th" },
+        About {
+            label: b"th",
+            question: Question::Show,
+        },
         Case {
             name: "the steps of a proof with variables replaced by nothing",
             files: &[(
@@ -401,7 +492,10 @@ pub(crate) const STEPS: [(Command<'static>, Case); 9] = [
         },
     ),
     (
-        Show { label: b"th1" },
+        About {
+            label: b"th1",
+            question: Question::Show,
+        },
         Case {
             name: "the steps of the demonstration theorem",
             files: &[(b"demo0.mm", &[Text(DEMO)])],
@@ -444,7 +538,10 @@ pub(crate) const STEPS: [(Command<'static>, Case); 9] = [
         },
     ),
     (
-        Show { label: b"th1" },
+        About {
+            label: b"th1",
+            question: Question::Show,
+        },
         Case {
             name: "the steps of the compressed demonstration theorem",
             files: &[(b"demo0c.mm", &[Text(DEMO_COMPRESSED)])],
@@ -478,7 +575,10 @@ pub(crate) const STEPS: [(Command<'static>, Case); 9] = [
 /// Questions without a listing.
 pub(crate) const STEPS_UNANSWERED: [(Command<'static>, Case); 4] = [
     (
-        Show { label: b"u1" },
+        About {
+            label: b"u1",
+            question: Question::Show,
+        },
         Case {
             name: "the steps of an incomplete theorem",
             files: &[(
@@ -493,7 +593,10 @@ pub(crate) const STEPS_UNANSWERED: [(Command<'static>, Case); 4] = [
         },
     ),
     (
-        Show { label: b"none" },
+        About {
+            label: b"none",
+            question: Question::Show,
+        },
         Case {
             name: "the steps of a label that is not there",
             files: &[(b"demo0.mm", &[Text(DEMO)])],
@@ -502,7 +605,10 @@ pub(crate) const STEPS_UNANSWERED: [(Command<'static>, Case); 4] = [
         },
     ),
     (
-        Show { label: b"a1" },
+        About {
+            label: b"a1",
+            question: Question::Show,
+        },
         Case {
             name: "the steps of an axiom",
             files: &[(b"demo0.mm", &[Text(DEMO)])],
@@ -511,7 +617,10 @@ pub(crate) const STEPS_UNANSWERED: [(Command<'static>, Case); 4] = [
         },
     ),
     (
-        Show { label: b"th" },
+        About {
+            label: b"th",
+            question: Question::Show,
+        },
         Case {
             name: "the steps in a database over a limit",
             files: &[(

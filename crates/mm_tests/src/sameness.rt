@@ -6,15 +6,16 @@ use crate::databases::{CAT, DEMO, DEMO_COMPRESSED, DIST, FIRST, HEAD, LIMIT};
 use crate::doublings::{
     HUNDRED, HUNDRED_TURNED, NINETY_NINE, NINETY_NINE_TURNED, TWENTY_FOUR, TWENTY_FOUR_LINES,
 };
-use mm_check::Command::Same;
+use mm_check::Command::About;
+use mm_check::Question;
 
 /// Texts of the same proof.
 pub(crate) const SAME: [Asked; 8] = [
     Asked {
         name: "the packed text of the demonstration theorem",
-        command: Same {
+        command: About {
             label: b"th1",
-            text: b"( tze tpl weq a2 wim a1 mp ) ABCZADZAADZAEZJJKFLIAAGHH\n",
+            question: Question::Same(b"( tze tpl weq a2 wim a1 mp ) ABCZADZAADZAEZJJKFLIAAGHH\n"),
         },
         files: &[(b"demo0.mm", &[Text(DEMO)])],
         reply: &[Text(b"same\n")],
@@ -22,9 +23,11 @@ pub(crate) const SAME: [Asked; 8] = [
     },
     Asked {
         name: "the laid-out packed text of the demonstration theorem",
-        command: Same {
+        command: About {
             label: b"th1",
-            text: b"      ( tze tpl weq a2 wim a1 mp )\n      ABCZADZAADZAEZJJKFLIAAGHH\n",
+            question: Question::Same(
+                b"      ( tze tpl weq a2 wim a1 mp )\n      ABCZADZAADZAEZJJKFLIAAGHH\n",
+            ),
         },
         files: &[(b"demo0.mm", &[Text(DEMO)])],
         reply: &[Text(b"same\n")],
@@ -32,11 +35,13 @@ pub(crate) const SAME: [Asked; 8] = [
     },
     Asked {
         name: "the normal text of the demonstration theorem",
-        command: Same {
+        command: About {
             label: b"th1",
-            text: b"      tt tze tpl tt weq tt tt weq tt a2 tt tze tpl tt weq tt tze tpl tt weq tt
+            question: Question::Same(
+                b"      tt tze tpl tt weq tt tt weq tt a2 tt tze tpl tt weq tt tze tpl tt weq tt
       tt weq wim tt a2 tt tze tpl tt tt a1 mp mp
 ",
+            ),
         },
         files: &[(b"demo0c.mm", &[Text(DEMO_COMPRESSED)])],
         reply: &[Text(b"same\n")],
@@ -44,9 +49,9 @@ pub(crate) const SAME: [Asked; 8] = [
     },
     Asked {
         name: "one hundred doublings listed the other way round",
-        command: Same {
+        command: About {
             label: b"th",
-            text: HUNDRED_TURNED,
+            question: Question::Same(HUNDRED_TURNED),
         },
         files: &[(
             b"cat.mm",
@@ -62,9 +67,9 @@ pub(crate) const SAME: [Asked; 8] = [
     },
     Asked {
         name: "the packed text of a proof whose expansion has millions of labels",
-        command: Same {
+        command: About {
             label: b"th",
-            text: TWENTY_FOUR_LINES,
+            question: Question::Same(TWENTY_FOUR_LINES),
         },
         files: &[(
             b"cat.mm",
@@ -80,9 +85,9 @@ pub(crate) const SAME: [Asked; 8] = [
     },
     Asked {
         name: "a text with lenient tags",
-        command: Same {
+        command: About {
             label: b"th2",
-            text: b"( tpl ) AZZCB\n",
+            question: Question::Same(b"( tpl ) AZZCB\n"),
         },
         files: &[(
             b"h.mm",
@@ -93,9 +98,9 @@ pub(crate) const SAME: [Asked; 8] = [
     },
     Asked {
         name: "a text with a mandatory hypothesis in its list",
-        command: Same {
+        command: About {
             label: b"h1",
-            text: b"( tt ) A\n",
+            question: Question::Same(b"( tt ) A\n"),
         },
         files: &[(b"h.mm", &[Text(HEAD), Text(b"h1 $p term t $= tt $.\n")])],
         reply: &[Text(b"same\n")],
@@ -103,9 +108,9 @@ pub(crate) const SAME: [Asked; 8] = [
     },
     Asked {
         name: "a text with other white space",
-        command: Same {
+        command: About {
             label: b"th",
-            text: b"tze\x0ctze\r\n\ttpl",
+            question: Question::Same(b"tze\x0ctze\r\n\ttpl"),
         },
         files: &[(b"first.mm", &[Text(FIRST)])],
         reply: &[Text(b"same\n")],
@@ -117,9 +122,9 @@ pub(crate) const SAME: [Asked; 8] = [
 pub(crate) const DIFFERENT: [Asked; 3] = [
     Asked {
         name: "a text of another tree",
-        command: Same {
+        command: About {
             label: b"th",
-            text: b"nil\n",
+            question: Question::Same(b"nil\n"),
         },
         files: &[(
             b"cat.mm",
@@ -130,9 +135,9 @@ pub(crate) const DIFFERENT: [Asked; 3] = [
     },
     Asked {
         name: "ninety-nine doublings",
-        command: Same {
+        command: About {
             label: b"th",
-            text: NINETY_NINE,
+            question: Question::Same(NINETY_NINE),
         },
         files: &[(
             b"cat.mm",
@@ -148,9 +153,9 @@ pub(crate) const DIFFERENT: [Asked; 3] = [
     },
     Asked {
         name: "ninety-nine doublings listed the other way round",
-        command: Same {
+        command: About {
             label: b"th",
-            text: NINETY_NINE_TURNED,
+            question: Question::Same(NINETY_NINE_TURNED),
         },
         files: &[(
             b"cat.mm",
@@ -170,9 +175,9 @@ pub(crate) const DIFFERENT: [Asked; 3] = [
 pub(crate) const NO_TEXTS: [Asked; 9] = [
     Asked {
         name: "a text with a keyword",
-        command: Same {
+        command: About {
             label: b"th1",
-            text: b"$= tt\n",
+            question: Question::Same(b"$= tt\n"),
         },
         files: &[(b"demo0.mm", &[Text(DEMO)])],
         reply: &[Text(b"text X9 0\n")],
@@ -180,9 +185,9 @@ pub(crate) const NO_TEXTS: [Asked; 9] = [
     },
     Asked {
         name: "a text with an unknown step",
-        command: Same {
+        command: About {
             label: b"th1",
-            text: b"?\n",
+            question: Question::Same(b"?\n"),
         },
         files: &[(b"demo0.mm", &[Text(DEMO)])],
         reply: &[Text(b"text A3 0\n")],
@@ -190,9 +195,9 @@ pub(crate) const NO_TEXTS: [Asked; 9] = [
     },
     Asked {
         name: "a text with a comment",
-        command: Same {
+        command: About {
             label: b"th1",
-            text: b"tt $( c $)\n",
+            question: Question::Same(b"tt $( c $)\n"),
         },
         files: &[(b"demo0.mm", &[Text(DEMO)])],
         reply: &[Text(b"text X9 0\n")],
@@ -200,9 +205,9 @@ pub(crate) const NO_TEXTS: [Asked; 9] = [
     },
     Asked {
         name: "a text with a byte out of range",
-        command: Same {
+        command: About {
             label: b"th1",
-            text: b"tt\n\x80\n",
+            question: Question::Same(b"tt\n\x80\n"),
         },
         files: &[(b"demo0.mm", &[Text(DEMO)])],
         reply: &[Text(b"text X1 0\n")],
@@ -210,9 +215,9 @@ pub(crate) const NO_TEXTS: [Asked; 9] = [
     },
     Asked {
         name: "a byte out of range comes before a keyword",
-        command: Same {
+        command: About {
             label: b"th1",
-            text: b"$= ? \x80\n",
+            question: Question::Same(b"$= ? \x80\n"),
         },
         files: &[(b"demo0.mm", &[Text(DEMO)])],
         reply: &[Text(b"text X1 0\n")],
@@ -220,9 +225,9 @@ pub(crate) const NO_TEXTS: [Asked; 9] = [
     },
     Asked {
         name: "a token with a dollar sign comes before an unknown step",
-        command: Same {
+        command: About {
             label: b"th1",
-            text: b"? nope a$b\n",
+            question: Question::Same(b"? nope a$b\n"),
         },
         files: &[(b"demo0.mm", &[Text(DEMO)])],
         reply: &[Text(b"text X9 0\n")],
@@ -230,9 +235,9 @@ pub(crate) const NO_TEXTS: [Asked; 9] = [
     },
     Asked {
         name: "an unknown step comes before an unknown label",
-        command: Same {
+        command: About {
             label: b"th1",
-            text: b"nope ?\n",
+            question: Question::Same(b"nope ?\n"),
         },
         files: &[(b"demo0.mm", &[Text(DEMO)])],
         reply: &[Text(b"text A3 0\n")],
@@ -240,9 +245,9 @@ pub(crate) const NO_TEXTS: [Asked; 9] = [
     },
     Asked {
         name: "an unknown step after too few entries",
-        command: Same {
+        command: About {
             label: b"th1",
-            text: b"tt weq ?\n",
+            question: Question::Same(b"tt weq ?\n"),
         },
         files: &[(b"demo0.mm", &[Text(DEMO)])],
         reply: &[Text(b"text A3 0\n")],
@@ -250,9 +255,9 @@ pub(crate) const NO_TEXTS: [Asked; 9] = [
     },
     Asked {
         name: "a text that breaks a rule before the unknown step is incomplete",
-        command: Same {
+        command: About {
             label: b"th1",
-            text: b"( nope ) A?\n",
+            question: Question::Same(b"( nope ) A?\n"),
         },
         files: &[(b"demo0.mm", &[Text(DEMO)])],
         reply: &[Text(b"text A3 0\n")],
@@ -264,9 +269,9 @@ pub(crate) const NO_TEXTS: [Asked; 9] = [
 pub(crate) const FAULTS_OF_TEXTS: [Asked; 9] = [
     Asked {
         name: "a text with a list that is not closed",
-        command: Same {
+        command: About {
             label: b"th1",
-            text: b"( tze A\n",
+            question: Question::Same(b"( tze A\n"),
         },
         files: &[(
             b"demo0.mm",
@@ -277,9 +282,9 @@ pub(crate) const FAULTS_OF_TEXTS: [Asked; 9] = [
     },
     Asked {
         name: "a text with an unknown label",
-        command: Same {
+        command: About {
             label: b"th1",
-            text: b"nope\n",
+            question: Question::Same(b"nope\n"),
         },
         files: &[(
             b"demo0.mm",
@@ -290,9 +295,9 @@ pub(crate) const FAULTS_OF_TEXTS: [Asked; 9] = [
     },
     Asked {
         name: "a text with the asked label",
-        command: Same {
+        command: About {
             label: b"th1",
-            text: b"th1\n",
+            question: Question::Same(b"th1\n"),
         },
         files: &[(
             b"demo0.mm",
@@ -303,9 +308,9 @@ pub(crate) const FAULTS_OF_TEXTS: [Asked; 9] = [
     },
     Asked {
         name: "a text with a later label",
-        command: Same {
+        command: About {
             label: b"th1",
-            text: b"th3\n",
+            question: Question::Same(b"th3\n"),
         },
         files: &[(
             b"demo0.mm",
@@ -316,9 +321,9 @@ pub(crate) const FAULTS_OF_TEXTS: [Asked; 9] = [
     },
     Asked {
         name: "a text with a hypothesis of a closed block",
-        command: Same {
+        command: About {
             label: b"th1",
-            text: b"min\n",
+            question: Question::Same(b"min\n"),
         },
         files: &[(
             b"demo0.mm",
@@ -329,9 +334,9 @@ pub(crate) const FAULTS_OF_TEXTS: [Asked; 9] = [
     },
     Asked {
         name: "a text with a small letter",
-        command: Same {
+        command: About {
             label: b"th1",
-            text: b"( ) Aa\n",
+            question: Question::Same(b"( ) Aa\n"),
         },
         files: &[(
             b"demo0.mm",
@@ -342,9 +347,9 @@ pub(crate) const FAULTS_OF_TEXTS: [Asked; 9] = [
     },
     Asked {
         name: "a text with leading digits at the end",
-        command: Same {
+        command: About {
             label: b"th1",
-            text: b"( ) U\n",
+            question: Question::Same(b"( ) U\n"),
         },
         files: &[(
             b"demo0.mm",
@@ -355,9 +360,9 @@ pub(crate) const FAULTS_OF_TEXTS: [Asked; 9] = [
     },
     Asked {
         name: "a text with a number over what there is",
-        command: Same {
+        command: About {
             label: b"th1",
-            text: b"( tze ) C\n",
+            question: Question::Same(b"( tze ) C\n"),
         },
         files: &[(
             b"demo0.mm",
@@ -368,9 +373,9 @@ pub(crate) const FAULTS_OF_TEXTS: [Asked; 9] = [
     },
     Asked {
         name: "a text with a tag before any step",
-        command: Same {
+        command: About {
             label: b"th1",
-            text: b"( ) Z\n",
+            question: Question::Same(b"( ) Z\n"),
         },
         files: &[(
             b"demo0.mm",
@@ -385,9 +390,9 @@ pub(crate) const FAULTS_OF_TEXTS: [Asked; 9] = [
 pub(crate) const FAULTS_OF_STEPS: [Asked; 9] = [
     Asked {
         name: "a text of another expression",
-        command: Same {
+        command: About {
             label: b"th1",
-            text: b"tt\n",
+            question: Question::Same(b"tt\n"),
         },
         files: &[(b"demo0.mm", &[Text(DEMO)])],
         reply: &[Text(b"text P14 2\n")],
@@ -395,9 +400,9 @@ pub(crate) const FAULTS_OF_STEPS: [Asked; 9] = [
     },
     Asked {
         name: "an empty text",
-        command: Same {
+        command: About {
             label: b"th1",
-            text: b"",
+            question: Question::Same(b""),
         },
         files: &[(b"demo0.mm", &[Text(DEMO)])],
         reply: &[Text(b"text P13 1\n")],
@@ -405,9 +410,9 @@ pub(crate) const FAULTS_OF_STEPS: [Asked; 9] = [
     },
     Asked {
         name: "a text with too few entries",
-        command: Same {
+        command: About {
             label: b"th1",
-            text: b"tt weq\n",
+            question: Question::Same(b"tt weq\n"),
         },
         files: &[(
             b"demo0.mm",
@@ -418,9 +423,9 @@ pub(crate) const FAULTS_OF_STEPS: [Asked; 9] = [
     },
     Asked {
         name: "a text with an entry of another type",
-        command: Same {
+        command: About {
             label: b"th1",
-            text: b"wp tt weq\n",
+            question: Question::Same(b"wp tt weq\n"),
         },
         files: &[(
             b"demo0.mm",
@@ -431,9 +436,9 @@ pub(crate) const FAULTS_OF_STEPS: [Asked; 9] = [
     },
     Asked {
         name: "a text with a hypothesis that differs from its entry",
-        command: Same {
+        command: About {
             label: b"th1",
-            text: b"wp wq wp wq mp\n",
+            question: Question::Same(b"wp wq wp wq mp\n"),
         },
         files: &[(
             b"demo0.mm",
@@ -444,9 +449,9 @@ pub(crate) const FAULTS_OF_STEPS: [Asked; 9] = [
     },
     Asked {
         name: "a text with two entries left",
-        command: Same {
+        command: About {
             label: b"th1",
-            text: b"tt tt\n",
+            question: Question::Same(b"tt tt\n"),
         },
         files: &[(
             b"demo0.mm",
@@ -457,9 +462,9 @@ pub(crate) const FAULTS_OF_STEPS: [Asked; 9] = [
     },
     Asked {
         name: "a text with a shared variable",
-        command: Same {
+        command: About {
             label: b"t3",
-            text: b"vz vz ax\n",
+            question: Question::Same(b"vz vz ax\n"),
         },
         files: &[(
             b"dist.mm",
@@ -473,9 +478,9 @@ pub(crate) const FAULTS_OF_STEPS: [Asked; 9] = [
     },
     Asked {
         name: "a text with a pair that is not active",
-        command: Same {
+        command: About {
             label: b"t3",
-            text: b"vx vy ax\n",
+            question: Question::Same(b"vx vy ax\n"),
         },
         files: &[(
             b"dist.mm",
@@ -489,9 +494,9 @@ pub(crate) const FAULTS_OF_STEPS: [Asked; 9] = [
     },
     Asked {
         name: "a text with a step that pushes too long an expression",
-        command: Same {
+        command: About {
             label: b"th",
-            text: b"( one odd end ) ABBBBBBBBBBBBBBBBBBBBZDC\n",
+            question: Question::Same(b"( one odd end ) ABBBBBBBBBBBBBBBBBBBBZDC\n"),
         },
         files: &[(
             b"limit.mm",
@@ -506,9 +511,9 @@ pub(crate) const FAULTS_OF_STEPS: [Asked; 9] = [
 pub(crate) const BEFORE_THE_TEXT: [Asked; 6] = [
     Asked {
         name: "a label that is not there comes before the text",
-        command: Same {
+        command: About {
             label: b"none",
-            text: b"$=\n",
+            question: Question::Same(b"$=\n"),
         },
         files: &[(b"demo0.mm", &[Text(DEMO)])],
         reply: &[Text(b"ask A1 none\n")],
@@ -516,9 +521,9 @@ pub(crate) const BEFORE_THE_TEXT: [Asked; 6] = [
     },
     Asked {
         name: "an axiom comes before the text",
-        command: Same {
+        command: About {
             label: b"a1",
-            text: b"$=\n",
+            question: Question::Same(b"$=\n"),
         },
         files: &[(b"demo0.mm", &[Text(DEMO)])],
         reply: &[Text(b"ask A2 a1\n")],
@@ -526,9 +531,9 @@ pub(crate) const BEFORE_THE_TEXT: [Asked; 6] = [
     },
     Asked {
         name: "an incomplete theorem comes before the text",
-        command: Same {
+        command: About {
             label: b"u1",
-            text: b"$=\n",
+            question: Question::Same(b"$=\n"),
         },
         files: &[(
             b"h.mm",
@@ -542,9 +547,9 @@ pub(crate) const BEFORE_THE_TEXT: [Asked; 6] = [
     },
     Asked {
         name: "a refused database comes before the text",
-        command: Same {
+        command: About {
             label: b"none",
-            text: b"$=\n",
+            question: Question::Same(b"$=\n"),
         },
         files: &[(b"h.mm", &[Text(HEAD), Text(b"th2 $p term t $= tt tt $.\n")])],
         reply: &[Text(b"no h.mm 20 th2 P13 3\n")],
@@ -552,9 +557,9 @@ pub(crate) const BEFORE_THE_TEXT: [Asked; 6] = [
     },
     Asked {
         name: "a text under the name of a database",
-        command: Same {
+        command: About {
             label: b"th1",
-            text: DEMO,
+            question: Question::Same(DEMO),
         },
         files: &[(b"demo0.mm", &[Text(DEMO)])],
         reply: &[Text(b"text X9 0\n")],
@@ -562,9 +567,9 @@ pub(crate) const BEFORE_THE_TEXT: [Asked; 6] = [
     },
     Asked {
         name: "a database handed in twice beside a text",
-        command: Same {
+        command: About {
             label: b"th1",
-            text: b"tt\n",
+            question: Question::Same(b"tt\n"),
         },
         files: &[(b"demo0.mm", &[Text(DEMO)]), (b"demo0.mm", &[Text(DEMO)])],
         reply: &[Text(b"load F2\n")],

@@ -4,15 +4,19 @@ use crate::Asked;
 use crate::Part::Text;
 use crate::databases::{CAT, DEMO, DEMO_COMPRESSED, DIST, FIRST, FIRST_HEAD, HEAD};
 use crate::doublings::{TWENTY_FOUR, TWENTY_FOUR_LINES};
-use mm_check::Command::{Normal, Packed};
+use mm_check::Command::About;
+use mm_check::{Form, Question};
 
 /// Files with a proof written anew.
 pub(crate) const SAVED: [Asked; 9] = [
     Asked {
         name: "the compressed demonstration database saved in normal form",
-        command: Normal {
+        command: About {
             label: b"th1",
-            whole: true,
+            question: Question::Form {
+                form: Form::Normal,
+                whole: true,
+            },
         },
         files: &[(b"demo0c.mm", &[Text(DEMO_COMPRESSED)])],
         reply: &[Text(DEMO)],
@@ -20,9 +24,12 @@ pub(crate) const SAVED: [Asked; 9] = [
     },
     Asked {
         name: "the demonstration database saved in packed form",
-        command: Packed {
+        command: About {
             label: b"th1",
-            whole: true,
+            question: Question::Form {
+                form: Form::Packed,
+                whole: true,
+            },
         },
         files: &[(b"demo0.mm", &[Text(DEMO)])],
         reply: &[Text(DEMO_COMPRESSED)],
@@ -30,9 +37,12 @@ pub(crate) const SAVED: [Asked; 9] = [
     },
     Asked {
         name: "the demonstration database saved in normal form",
-        command: Normal {
+        command: About {
             label: b"th1",
-            whole: true,
+            question: Question::Form {
+                form: Form::Normal,
+                whole: true,
+            },
         },
         files: &[(b"demo0.mm", &[Text(DEMO)])],
         reply: &[Text(DEMO)],
@@ -40,9 +50,12 @@ pub(crate) const SAVED: [Asked; 9] = [
     },
     Asked {
         name: "the compressed demonstration database saved in packed form",
-        command: Packed {
+        command: About {
             label: b"th1",
-            whole: true,
+            question: Question::Form {
+                form: Form::Packed,
+                whole: true,
+            },
         },
         files: &[(b"demo0c.mm", &[Text(DEMO_COMPRESSED)])],
         reply: &[Text(DEMO_COMPRESSED)],
@@ -50,9 +63,12 @@ pub(crate) const SAVED: [Asked; 9] = [
     },
     Asked {
         name: "a theorem of an included file saved in packed form",
-        command: Packed {
+        command: About {
             label: b"th",
-            whole: true,
+            question: Question::Form {
+                form: Form::Packed,
+                whole: true,
+            },
         },
         files: &[
             (b"top.mm", &[Text(b"$[ a.mm $]")]),
@@ -69,9 +85,12 @@ pub(crate) const SAVED: [Asked; 9] = [
     },
     Asked {
         name: "a theorem of an included file that was saved in packed form saved again",
-        command: Packed {
+        command: About {
             label: b"th",
-            whole: true,
+            question: Question::Form {
+                form: Form::Packed,
+                whole: true,
+            },
         },
         files: &[
             (b"top.mm", &[Text(b"$[ a.mm $]")]),
@@ -97,9 +116,12 @@ pub(crate) const SAVED: [Asked; 9] = [
     },
     Asked {
         name: "a proof whose expansion has millions of labels is saved in packed form",
-        command: Packed {
+        command: About {
             label: b"th",
-            whole: true,
+            question: Question::Form {
+                form: Form::Packed,
+                whole: true,
+            },
         },
         files: &[(
             b"cat.mm",
@@ -120,9 +142,12 @@ pub(crate) const SAVED: [Asked; 9] = [
     },
     Asked {
         name: "a theorem beside an incomplete one is saved",
-        command: Normal {
+        command: About {
             label: b"u2",
-            whole: true,
+            question: Question::Form {
+                form: Form::Normal,
+                whole: true,
+            },
         },
         files: &[(
             b"h.mm",
@@ -141,9 +166,12 @@ pub(crate) const SAVED: [Asked; 9] = [
     },
     Asked {
         name: "a proof with a lenient list is saved in packed form",
-        command: Packed {
+        command: About {
             label: b"th2",
-            whole: true,
+            question: Question::Form {
+                form: Form::Packed,
+                whole: true,
+            },
         },
         files: &[(
             b"h.mm",
@@ -167,9 +195,12 @@ pub(crate) const SAVED: [Asked; 9] = [
 pub(crate) const KEPT: [Asked; 7] = [
     Asked {
         name: "comments in a replaced proof are dropped",
-        command: Normal {
+        command: About {
             label: b"th",
-            whole: true,
+            question: Question::Form {
+                form: Form::Normal,
+                whole: true,
+            },
         },
         files: &[(
             b"first.mm",
@@ -188,9 +219,12 @@ pub(crate) const KEPT: [Asked; 7] = [
     },
     Asked {
         name: "a saved proof whose comments were dropped saved again",
-        command: Normal {
+        command: About {
             label: b"th",
-            whole: true,
+            question: Question::Form {
+                form: Form::Normal,
+                whole: true,
+            },
         },
         files: &[(
             b"first.mm",
@@ -211,9 +245,12 @@ pub(crate) const KEPT: [Asked; 7] = [
     },
     Asked {
         name: "a comment in a replaced proof that holds an end of a statement",
-        command: Packed {
+        command: About {
             label: b"th",
-            whole: true,
+            question: Question::Form {
+                form: Form::Packed,
+                whole: true,
+            },
         },
         files: &[(
             b"first.mm",
@@ -233,9 +270,12 @@ pub(crate) const KEPT: [Asked; 7] = [
     },
     Asked {
         name: "comments beside a replaced proof are kept",
-        command: Packed {
+        command: About {
             label: b"th",
-            whole: true,
+            question: Question::Form {
+                form: Form::Packed,
+                whole: true,
+            },
         },
         files: &[(
             b"first.mm",
@@ -256,9 +296,12 @@ pub(crate) const KEPT: [Asked; 7] = [
     },
     Asked {
         name: "other white space beside a replaced proof is kept",
-        command: Packed {
+        command: About {
             label: b"th",
-            whole: true,
+            question: Question::Form {
+                form: Form::Packed,
+                whole: true,
+            },
         },
         files: &[(
             b"first.mm",
@@ -289,9 +332,12 @@ pub(crate) const KEPT: [Asked; 7] = [
     },
     Asked {
         name: "statements after a replaced proof are kept",
-        command: Normal {
+        command: About {
             label: b"th",
-            whole: true,
+            question: Question::Form {
+                form: Form::Normal,
+                whole: true,
+            },
         },
         files: &[(
             b"first.mm",
@@ -308,9 +354,12 @@ pub(crate) const KEPT: [Asked; 7] = [
     },
     Asked {
         name: "a proof in a block is saved in its place",
-        command: Packed {
+        command: About {
             label: b"t4",
-            whole: true,
+            question: Question::Form {
+                form: Form::Packed,
+                whole: true,
+            },
         },
         files: &[(
             b"dist.mm",
@@ -334,9 +383,12 @@ pub(crate) const KEPT: [Asked; 7] = [
 pub(crate) const NOT_SAVED: [Asked; 6] = [
     Asked {
         name: "a proof whose expansion has millions of labels is not saved in normal form",
-        command: Normal {
+        command: About {
             label: b"th",
-            whole: true,
+            question: Question::Form {
+                form: Form::Normal,
+                whole: true,
+            },
         },
         files: &[(
             b"cat.mm",
@@ -352,9 +404,12 @@ pub(crate) const NOT_SAVED: [Asked; 6] = [
     },
     Asked {
         name: "a label that is not there is not saved",
-        command: Packed {
+        command: About {
             label: b"none",
-            whole: true,
+            question: Question::Form {
+                form: Form::Packed,
+                whole: true,
+            },
         },
         files: &[(b"demo0.mm", &[Text(DEMO)])],
         reply: &[Text(b"ask A1 none\n")],
@@ -362,9 +417,12 @@ pub(crate) const NOT_SAVED: [Asked; 6] = [
     },
     Asked {
         name: "an axiom is not saved",
-        command: Normal {
+        command: About {
             label: b"a1",
-            whole: true,
+            question: Question::Form {
+                form: Form::Normal,
+                whole: true,
+            },
         },
         files: &[(b"demo0.mm", &[Text(DEMO)])],
         reply: &[Text(b"ask A2 a1\n")],
@@ -372,9 +430,12 @@ pub(crate) const NOT_SAVED: [Asked; 6] = [
     },
     Asked {
         name: "an incomplete proof is not saved",
-        command: Normal {
+        command: About {
             label: b"u1",
-            whole: true,
+            question: Question::Form {
+                form: Form::Normal,
+                whole: true,
+            },
         },
         files: &[(
             b"h.mm",
@@ -388,9 +449,12 @@ pub(crate) const NOT_SAVED: [Asked; 6] = [
     },
     Asked {
         name: "a refused database is not saved",
-        command: Normal {
+        command: About {
             label: b"th2",
-            whole: true,
+            question: Question::Form {
+                form: Form::Normal,
+                whole: true,
+            },
         },
         files: &[(b"h.mm", &[Text(HEAD), Text(b"th2 $p term t $= tt tt $.\n")])],
         reply: &[Text(b"no h.mm 20 th2 P13 3\n")],
@@ -398,9 +462,12 @@ pub(crate) const NOT_SAVED: [Asked; 6] = [
     },
     Asked {
         name: "equal names are not saved",
-        command: Packed {
+        command: About {
             label: b"th",
-            whole: true,
+            question: Question::Form {
+                form: Form::Packed,
+                whole: true,
+            },
         },
         files: &[(b"first.mm", &[Text(FIRST)]), (b"first.mm", &[Text(FIRST)])],
         reply: &[Text(b"load F2\n")],

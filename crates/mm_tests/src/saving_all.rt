@@ -4,14 +4,14 @@ use crate::Asked;
 use crate::Part::Text;
 use crate::databases::{CAT, DEMO, DEMO_COMPRESSED, DIST, FIRST, FIRST_HEAD, HEAD};
 use crate::doublings::{TWENTY_FOUR, TWENTY_FOUR_LINES};
-use mm_check::Command::All;
+use mm_check::Command::File;
 use mm_check::Form::{Normal, Packed};
 
 /// Files with each complete proof written anew.
 pub(crate) const SAVED: [Asked; 9] = [
     Asked {
         name: "the compressed demonstration database saved whole in normal form",
-        command: All {
+        command: File {
             form: Normal,
             file: 0,
         },
@@ -21,7 +21,7 @@ pub(crate) const SAVED: [Asked; 9] = [
     },
     Asked {
         name: "the demonstration database saved whole in packed form",
-        command: All {
+        command: File {
             form: Packed,
             file: 0,
         },
@@ -31,7 +31,7 @@ pub(crate) const SAVED: [Asked; 9] = [
     },
     Asked {
         name: "all proofs of the top file saved, and none of the file that it includes",
-        command: All {
+        command: File {
             form: Packed,
             file: 0,
         },
@@ -52,7 +52,7 @@ pub(crate) const SAVED: [Asked; 9] = [
     },
     Asked {
         name: "all proofs of an included file saved, and none of the file that includes it",
-        command: All {
+        command: File {
             form: Packed,
             file: 1,
         },
@@ -74,7 +74,7 @@ pub(crate) const SAVED: [Asked; 9] = [
     },
     Asked {
         name: "proofs before and after an included file saved",
-        command: All {
+        command: File {
             form: Normal,
             file: 0,
         },
@@ -104,7 +104,7 @@ pub(crate) const SAVED: [Asked; 9] = [
     },
     Asked {
         name: "three proofs of one file saved in packed form",
-        command: All {
+        command: File {
             form: Packed,
             file: 0,
         },
@@ -133,7 +133,7 @@ pub(crate) const SAVED: [Asked; 9] = [
     },
     Asked {
         name: "three proofs of one file that were saved in packed form saved again",
-        command: All {
+        command: File {
             form: Packed,
             file: 0,
         },
@@ -170,7 +170,7 @@ pub(crate) const SAVED: [Asked; 9] = [
     },
     Asked {
         name: "a proof whose expansion has millions of labels beside others is saved in packed form",
-        command: All {
+        command: File {
             form: Packed,
             file: 0,
         },
@@ -199,7 +199,7 @@ pub(crate) const SAVED: [Asked; 9] = [
     },
     Asked {
         name: "a proof that is too long in another file stands in no way",
-        command: All {
+        command: File {
             form: Normal,
             file: 0,
         },
@@ -228,7 +228,7 @@ pub(crate) const SAVED: [Asked; 9] = [
 pub(crate) const KEPT: [Asked; 7] = [
     Asked {
         name: "incomplete proofs among complete ones are kept",
-        command: All {
+        command: File {
             form: Normal,
             file: 0,
         },
@@ -252,7 +252,7 @@ pub(crate) const KEPT: [Asked; 7] = [
     },
     Asked {
         name: "a file with incomplete proofs alone is kept",
-        command: All {
+        command: File {
             form: Packed,
             file: 0,
         },
@@ -265,7 +265,7 @@ pub(crate) const KEPT: [Asked; 7] = [
     },
     Asked {
         name: "comments in replaced proofs are dropped, and those beside them kept",
-        command: All {
+        command: File {
             form: Normal,
             file: 0,
         },
@@ -293,7 +293,7 @@ pub(crate) const KEPT: [Asked; 7] = [
     },
     Asked {
         name: "other white space between replaced proofs is kept",
-        command: All {
+        command: File {
             form: Packed,
             file: 0,
         },
@@ -321,7 +321,7 @@ pub(crate) const KEPT: [Asked; 7] = [
     },
     Asked {
         name: "a file without theorems is kept",
-        command: All {
+        command: File {
             form: Packed,
             file: 1,
         },
@@ -337,7 +337,7 @@ pub(crate) const KEPT: [Asked; 7] = [
     },
     Asked {
         name: "a file that isn't included is kept",
-        command: All {
+        command: File {
             form: Packed,
             file: 1,
         },
@@ -350,7 +350,7 @@ pub(crate) const KEPT: [Asked; 7] = [
     },
     Asked {
         name: "proofs in blocks are saved in their places",
-        command: All {
+        command: File {
             form: Packed,
             file: 0,
         },
@@ -380,7 +380,7 @@ pub(crate) const KEPT: [Asked; 7] = [
 pub(crate) const NOT_SAVED: [Asked; 6] = [
     Asked {
         name: "the second theorem's expansion has millions of labels, and so has the third's",
-        command: All {
+        command: File {
             form: Normal,
             file: 0,
         },
@@ -400,7 +400,7 @@ pub(crate) const NOT_SAVED: [Asked; 6] = [
     },
     Asked {
         name: "a wrong proof behind one whose expansion has millions of labels comes first",
-        command: All {
+        command: File {
             form: Normal,
             file: 0,
         },
@@ -418,7 +418,7 @@ pub(crate) const NOT_SAVED: [Asked; 6] = [
     },
     Asked {
         name: "so does a statement of another file that the file's end cuts",
-        command: All {
+        command: File {
             form: Normal,
             file: 1,
         },
@@ -439,7 +439,7 @@ pub(crate) const NOT_SAVED: [Asked; 6] = [
     },
     Asked {
         name: "a refused database is not saved whole",
-        command: All {
+        command: File {
             form: Normal,
             file: 0,
         },
@@ -449,7 +449,7 @@ pub(crate) const NOT_SAVED: [Asked; 6] = [
     },
     Asked {
         name: "a database that is refused in another file is not saved whole",
-        command: All {
+        command: File {
             form: Packed,
             file: 1,
         },
@@ -465,7 +465,7 @@ pub(crate) const NOT_SAVED: [Asked; 6] = [
     },
     Asked {
         name: "equal names are not saved whole",
-        command: All {
+        command: File {
             form: Packed,
             file: 1,
         },

@@ -9,7 +9,7 @@ use crate::{
     Case, Part, compressed, damaged, faults, files, fronts, incomplete, names, one_file, orders,
     profiles, proofs, questions, scopes,
 };
-use mm_check::{Checked, Command, Status, check, run};
+use mm_check::{Checked, Command, Status, WholeQuestion, check, run};
 use mm_proof::Profile;
 use mm_text::{Counted, File, Seed, Statement, Statements};
 use std::alloc::Global;
@@ -38,7 +38,7 @@ pub(crate) fn asks_handed(command: &Command, files: &[File<'_>]) -> bool
     ensures { IsTrue result → AsksHanded (map plain_file files.now) command.now }
 {
     match command {
-        Command::All { file, .. } => *file < files.len(),
+        Command::File { file, .. } => *file < files.len(),
         _ => true,
     }
 }
@@ -121,8 +121,9 @@ fn compare_case(
 }
 
 /// What the program is asked by `check` without an option.
-pub(crate) const CHECK: Command<'static> = Command::Check {
+pub(crate) const CHECK: Command<'static> = Command::Whole {
     profile: Profile::Lenient,
+    question: WholeQuestion::Check,
 };
 
 /// Runs the cases of a table of `check` under a profile.
@@ -133,7 +134,15 @@ fn compare_under(
     cases: &[Case],
 ) -> Result<(), Fail> {
     for case in cases {
-        compare_case(rt, alloc, &Command::Check { profile }, case)?;
+        compare_case(
+            rt,
+            alloc,
+            &Command::Whole {
+                profile,
+                question: WholeQuestion::Check,
+            },
+            case,
+        )?;
     }
     Ok(())
 }

@@ -16,7 +16,7 @@ use Rattle.clap.specs.declared.parser.matches.Found.{Found}
 use Rattle.clap.proofs.OnLiterals.{clap_on_literals}
 use Rattle.clap.proofs.WalkLemmas.{first_value-rows, raw_values-rows}
 use Rattle.mm_check.specs.declared.command.Command.{Command}
-use Rattle.mm_check.specs.declared.command.Command.TheVariants.{All}
+use Rattle.mm_check.specs.declared.command.Command.TheVariants.{File}
 use Rattle.mm_check.specs.declared.form.Form.{Form}
 use Rattle.mm_tool.specs.Ending.{AsksNamed}
 use Rattle.mm_tool.specs.Words.{AsksForm, AsksRun, IsAllFault, IsGiven, name_of_form, number_among}
@@ -155,7 +155,7 @@ number_found names name number found =
 -- The file about which the words ask is one of those that they name.
 pub named_by_words : (words : List Text) (command : Command) (names : List Text)
     → AsksRun words command names → AsksNamed command names
-named_by_words words (All form number) names (rows, commands, file, all, found, same) =
+named_by_words words (File form number) names (rows, commands, file, all, found, same) =
     number_found names (unwrap_or (first_of (codes "LABEL") rows) []) number found
 named_by_words words command names asked = tt
 
@@ -173,7 +173,7 @@ module _ (rows : List Row) (form : Form) (whole given : Bool) (name : Text)
   -- The words ask for all proofs of a file by the request for them.
   pub all_asked : (names : Vec (Bor Text)) (r : Result Request Stop)
       → map (λ n. n.now) names.items ≡ unwrap_or (all_of (codes "FILES") rows) []
-      → IfOk r (λ request. (number : ℕ) × (request ≡ Run (All form number) names) × (whole ≡ false)
+      → IfOk r (λ request. (number : ℕ) × (request ≡ Run (File form number) names) × (whole ≡ false)
       × (number_among (map (λ n. n.now) names.items) name ≡ Some number))
       → IfOk r (λ request. (words : List Text) → Commands words (name_of_form form) rows
       → Asks words request)

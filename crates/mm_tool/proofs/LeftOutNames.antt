@@ -15,7 +15,8 @@ use Rattle.mm_text.proofs.Lists.{all_at, all_weaker}
 use Rattle.mm_proof.specs.declared.profile.Profile.{Profile}
 use Rattle.mm_check.specs.Reply.{name_of}
 use Rattle.mm_check.specs.declared.command.Command.{Command}
-use Rattle.mm_check.specs.declared.command.Command.TheVariants.{Check}
+use Rattle.mm_check.specs.declared.command.Command.TheVariants.{Whole}
+use Rattle.mm_check.specs.declared.question.WholeQuestion.TheVariants.{Check}
 use Rattle.mm_check.proofs.AlikeVerdicts.{alike_back, breaks_alike, name_alike}
 use Rattle.mm_tool.specs.Notes.{AreLeftOut, AreNotesOn}
 use Rattle.mm_tool.specs.ReadFiles.{IsReadAs}
@@ -118,7 +119,7 @@ names_left_out_alike law files others alike small short names are = record {
 
 -- The notes on files as they were read are those on the whole files.
 pub notes_over : AlikeFilesLeaveOutTheSame → (comments : Comments) (command : Command) (max : ℕ)
-    → (comments ≡ LeftOut → ((profile : Profile) × (command ≡ Check profile)) × (max ≤ most_bytes))
+    → (comments ≡ LeftOut → ((profile : Profile) × (command ≡ Whole profile Check)) × (max ≤ most_bytes))
     → (wholes reads : List PlainFile) → AllZip (IsReadAs comments) wholes reads
     → total_bytes wholes ≤ max → (notes : List ℕ) → AreNotesOn reads notes → AreNotesOn wholes notes
 notes_over law Kept command max only wholes reads all within notes on =

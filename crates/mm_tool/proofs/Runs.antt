@@ -5,7 +5,7 @@ use Rattle.std.proofs.lemmas.List.{length-map}
 use Rattle.std.specs.List.{AllZip}
 use Rattle.mm_text.proofs.Lists.{zip_length, error_keeps}
 use Rattle.mm_check.specs.Reply.{AsksHanded, IsReplyTo, WritesBeginningOf}
-use Rattle.mm_check.specs.declared.command.Command.TheVariants.{All}
+use Rattle.mm_check.specs.declared.command.Command.TheVariants.{File}
 use Rattle.mm_tool.specs.ReadFiles.{IsReadAs}
 use Rattle.mm_tool.specs.Ending.{AsksNamed, BreaksOff, StopsRun, stop_of}
 use Rattle.mm_tool.specs.declared.files.Comments.{Comments}
@@ -70,7 +70,7 @@ module _ {O : Type 0} (contents : O → Option (List ℕ)) (holds : List ℕ →
 -- names.
 pub asks_handed : (command : Command) (names : List (List ℕ)) (files : List PlainFile)
     → length files ≡ length names → AsksNamed command names → AsksHanded files command
-asks_handed (All form number) names files same named = rw same named
+asks_handed (File form number) names files same named = rw same named
 asks_handed command names files same named = tt
 
 -- Of the files that were read there are as many as names.

@@ -8,7 +8,8 @@ use Rattle.mm_text.specs.Files.{most_bytes, PlainFile, total_bytes}
 use Rattle.mm_check.specs.Alike.{AlikeFilesHaveOneReply}
 use Rattle.mm_check.specs.Reply.{IsReplyTo}
 use Rattle.mm_check.specs.declared.command.Command.{Command}
-use Rattle.mm_check.specs.declared.command.Command.TheVariants.{Check}
+use Rattle.mm_check.specs.declared.command.Command.TheVariants.{Whole}
+use Rattle.mm_check.specs.declared.question.WholeQuestion.TheVariants.{Check}
 use Rattle.mm_proof.specs.declared.profile.Profile.{Profile}
 use Rattle.mm_tool.specs.declared.files.Comments.{Comments}
 use Rattle.mm_tool.specs.declared.files.Comments.TheVariants.{Kept, LeftOut}
@@ -59,7 +60,7 @@ fewer_bytes (whole ∷ wholes) (read ∷ reads) all =
     omega (arith, rest, first, one, other)
 fewer_bytes wholes reads all = absurd all
 
-pub reply_over : AlikeFilesHaveOneReply → (comments : Comments) (command : Command) (max : ℕ) → (comments ≡ LeftOut → ((profile : Profile) × (command ≡ Check profile)) × (max ≤ most_bytes)) → (wholes reads : List PlainFile) → AllZip (IsReadAs comments) wholes reads → total_bytes wholes ≤ max
+pub reply_over : AlikeFilesHaveOneReply → (comments : Comments) (command : Command) (max : ℕ) → (comments ≡ LeftOut → ((profile : Profile) × (command ≡ Whole profile Check)) × (max ≤ most_bytes)) → (wholes reads : List PlainFile) → AllZip (IsReadAs comments) wholes reads → total_bytes wholes ≤ max
     → (text : List ℕ) (status : ℕ) → IsReplyTo reads command text status → IsReplyTo wholes command text status
 reply_over law Kept command max only wholes reads all within text status reply =
     subst (λ l. IsReplyTo l command text status) (same_files wholes reads all) reply

@@ -13,8 +13,8 @@ use Rattle.mm_text.specs.declared.counted.Counted.{Counted}
 use Rattle.mm_check.specs.Reply.{IsReplyTo}
 use Rattle.mm_check.specs.Status.{number_of}
 use Rattle.mm_check.specs.declared.command.Command.{Command}
-use Rattle.mm_check.specs.declared.command.Command.TheVariants.{All, Axioms, Check, Faults}
-use Rattle.mm_check.specs.declared.command.Command.TheVariants.{Normal, Packed, Same, Show}
+use Rattle.mm_check.specs.declared.command.Command.TheVariants.{Whole, About, File}
+use Rattle.mm_check.specs.declared.question.Question.TheVariants.{Same}
 use Rattle.mm_check.specs.declared.command.RunFault.{RunFault}
 use Rattle.mm_check.specs.declared.command.RunFault.TheVariants as run
 use Rattle.mm_check.specs.declared.status.Status.{Status}
@@ -66,7 +66,7 @@ IsReplyOver holds command names max text outcome =
 
 -- the command asks whether this text is the same proof as that of the theorem with this label
 abbrev pub IsSameCommand : (label text : List ℕ) → Command → Type 0
-IsSameCommand label text (Same asked given) = (asked.now ≡ label) × (given.now ≡ text)
+IsSameCommand label text (About asked (Same given)) = (asked.now ≡ label) × (given.now ≡ text)
 IsSameCommand label text other = ⊥
 
 -- The file with the proof was read, and holds no more bytes than it may.
@@ -168,18 +168,13 @@ error_line Memory = codes "mm: out of memory\n"
 
 -- the label that a command asks about
 abbrev pub label_of : Command → Option Text
-label_of (Check profile) = None
-label_of (Faults profile) = None
-label_of (Axioms label) = Some label.now
-label_of (Show label) = Some label.now
-label_of (Normal label whole) = Some label.now
-label_of (Packed label whole) = Some label.now
-label_of (Same label text) = Some label.now
-label_of (All form number) = None
+label_of (Whole profile question) = None
+label_of (About label question) = Some label.now
+label_of (File form number) = None
 
 -- the file about which a command asks is one of those with these names
 abbrev pub AsksNamed : Command → List Text → Type 0
-AsksNamed (All form number) names = number < length names
+AsksNamed (File form number) names = number < length names
 AsksNamed other names = Unit {0}
 
 -- The end is the same; where a file can't be read, the word that was taken for the label is told too.

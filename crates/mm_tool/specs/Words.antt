@@ -16,9 +16,11 @@ use Rattle.clap.specs.declared.error.kind.ErrorKind.{ErrorKind}
 use Rattle.clap.specs.declared.error.kind.ErrorKind.TheVariants.{DisplayHelp, DisplayVersion}
 use Rattle.clap.specs.declared.error.kind.ErrorKind.TheVariants.{OutOfMemory}
 use Rattle.mm_check.specs.declared.command.Command.{Command}
-use Rattle.mm_check.specs.declared.command.Command.TheVariants.{Check, Faults, Axioms, Show}
-use Rattle.mm_check.specs.declared.command.Command.TheVariants.{Same, All}
-use Rattle.mm_check.specs.declared.command.Command.TheVariants as command
+use Rattle.mm_check.specs.declared.command.Command.TheVariants.{Whole, About, File}
+use Rattle.mm_check.specs.declared.question.Question.{Question}
+use Rattle.mm_check.specs.declared.question.Question.TheVariants as question
+use Rattle.mm_check.specs.declared.question.WholeQuestion.{WholeQuestion}
+use Rattle.mm_check.specs.declared.question.WholeQuestion.TheVariants.{Check, Faults}
 use Rattle.mm_check.specs.declared.form.Form.{Form}
 use Rattle.mm_check.specs.declared.form.Form.TheVariants.{Normal, Packed}
 use Rattle.mm_proof.specs.declared.profile.Profile.{Profile}
@@ -282,19 +284,25 @@ AsksSame words label proof names =
     × (unwrap_or (first_of (codes "PROOF") rows) [] ≡ proof)
     × (unwrap_or (all_of (codes "FILES") rows) [] ≡ names)
 
--- They ask to run this command over the files with these names. No words alone ask to compare a
--- text: it stands in a further file, which `AsksSame` names.
+-- the command that asks a question about the whole database
+abbrev pub name_of_whole : WholeQuestion → Text
+name_of_whole Check = codes "check"
+name_of_whole Faults = codes "faults"
+
+-- They ask this question about the theorem with this label in the files with these names. No words
+-- alone ask to compare a text: it stands in a further file, which `AsksSame` names.
+abbrev pub AsksAbout : List Text → (label : Text) → Question → List Text → Type 0
+AsksAbout words label question.Axioms names = AsksQuestion (codes "axioms") words label names
+AsksAbout words label question.Show names = AsksQuestion (codes "show") words label names
+AsksAbout words label (question.Form form whole) names =
+    AsksForm (name_of_form form) words label whole names
+AsksAbout words label (question.Same text) names = ⊥
+
+-- They ask to run this command over the files with these names.
 abbrev pub AsksRun : List Text → Command → List Text → Type 0
-AsksRun words (Check profile) names = AsksUnder (codes "check") words profile names
-AsksRun words (Faults profile) names = AsksUnder (codes "faults") words profile names
-AsksRun words (Axioms label) names = AsksQuestion (codes "axioms") words label.now names
-AsksRun words (Show label) names = AsksQuestion (codes "show") words label.now names
-AsksRun words (command.Normal label whole) names =
-    AsksForm (name_of_form Normal) words label.now whole names
-AsksRun words (command.Packed label whole) names =
-    AsksForm (name_of_form Packed) words label.now whole names
-AsksRun words (All form number) names = AsksAll words form number names
-AsksRun words (Same label text) names = ⊥
+AsksRun words (Whole profile asked) names = AsksUnder (name_of_whole asked) words profile names
+AsksRun words (About label asked) names = AsksAbout words label.now asked names
+AsksRun words (File form number) names = AsksAll words form number names
 
 -- They ask for what the request says.
 abbrev pub Asks : List Text → Request → Type 0

@@ -9,9 +9,10 @@ ghost use Rattle.mm_tool.specs.Ending.{BreaksOff, Ends, EndsWithoutWords, Answer
 ghost use Rattle.mm_tool.specs.Ending.{IsReplyOver};
 ghost use Rattle.mm_tool.specs.Answer.{outcome_of, quiet};
 ghost use Rattle.mm_tool.specs.Ending.{Stops, TellsNotes};
-ghost use Rattle.mm_tool.specs.Ending.{AsksNamed, IsSameReplyOver, StopsSame};
+ghost use Rattle.mm_tool.specs.Ending.{AsksNamed, IsSameCommand, IsSameReplyOver, StopsSame};
 ghost use Rattle.mm_tool.specs.Ending.{StopsRun, TakesWhole, TellsLine, error_line, stop_status};
-ghost use Rattle.mm_check.specs.declared.command.Command.TheVariants.{Check};
+ghost use Rattle.mm_check.specs.declared.command.Command.TheVariants.{Whole};
+ghost use Rattle.mm_check.specs.declared.question.WholeQuestion.TheVariants.{Check};
 ghost use Rattle.mm_proof.specs.declared.profile.Profile.{Profile};
 ghost use Rattle.mm_tool.specs.Folder.{plain_read};
 ghost use Rattle.mm_tool.specs.declared.files.Comments.TheVariants.{LeftOut};
@@ -27,7 +28,7 @@ use crate::stop::Stop;
 use crate::texts::Texts;
 use crate::unread::{asked_label, labelled, tell_unread};
 use crate::words::{Comparison, Request, request_of};
-use mm_check::{Command, Status, alike_files_have_one_reply, run};
+use mm_check::{Command, Question, Status, WholeQuestion, alike_files_have_one_reply, run};
 use mm_text::{BYTE_LIMIT, Counted, File, Seed, alike_files_leave_out_the_same};
 use std::alloc::{AllocError, Global};
 use std::io::Write;
@@ -80,11 +81,14 @@ fn plain_files<'f>(alloc: Global, files: &'f [ReadFile<'_>]) -> Result<Vec<File<
 /// What becomes of comments as files are read for a command. Its law is about `check`, and about
 /// files that `check` takes.
 fn comments_for(command: &Command<'_>, max: usize) -> Comments
-    ensures { result ≡ LeftOut → ((profile : Profile) × (command.now ≡ Check profile))
+    ensures { result ≡ LeftOut → ((profile : Profile) × (command.now ≡ Whole profile Check))
         × (max ≤ BYTE_LIMIT) }
 {
     match command {
-        Command::Check { .. } if max <= BYTE_LIMIT => Comments::LeftOut,
+        Command::Whole {
+            question: WholeQuestion::Check,
+            ..
+        } if max <= BYTE_LIMIT => Comments::LeftOut,
         _ => Comments::Kept,
     }
 }
@@ -129,6 +133,14 @@ pub(crate) fn run_over<'a, F: Folder, O: Write>(
     Ok(Answer { status, notes })
 }
 
+/// The question whether this text is the same proof as that of the theorem with a label.
+fn same_command<'c>(label: &'c [u8], text: &'c [u8]) -> Command<'c>
+    ensures { IsSameCommand label.now text.now result }
+{
+    let question = Question::Same(text);
+    Command::About { label, question }
+}
+
 /// Answers the question whether two proofs are the same, and writes the reply. The file with the
 /// proof is read first; its bytes are counted apart.
 ///
@@ -157,10 +169,7 @@ fn compare_over<'a, F: Folder, O: Write>(
         Err(FileFault::TooLong) => return reply(out, TOO_LONG_PROOF, Status::Stopped),
         Err(FileFault::Memory) => return Err(Stop::Memory),
     };
-    let command = Command::Same {
-        label: asked.label.as_bytes(),
-        text: &file.bytes,
-    };
+    let command = same_command(asked.label.as_bytes(), &file.bytes);
     run_over(alloc, seed, folder, &command, &asked.names, max, out)
 }
 

@@ -9,7 +9,7 @@ use crate::serve::{run_over, serve, start};
 use crate::texts::Texts;
 use failing::{FailingFolder, Failure, Wordless, failing_writer};
 use folder::{Entry, Shelf};
-use mm_check::{Command, Status};
+use mm_check::{Command, Status, WholeQuestion};
 use mm_proof::Profile;
 use mm_text::{Counted, Seed};
 use std::alloc::Global;
@@ -17,8 +17,9 @@ use std::cell::Cell;
 use std::io::ErrorKind;
 
 /// What `mm check` asks without an option.
-const CHECK: Command<'static> = Command::Check {
+const CHECK: Command<'static> = Command::Whole {
     profile: Profile::Lenient,
+    question: WholeQuestion::Check,
 };
 
 const FIRST: &[u8] = b"$c 0 + ( ) term $.

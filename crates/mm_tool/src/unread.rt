@@ -24,12 +24,8 @@ pub(crate) fn asked_label<'a>(command: &Command<'a>) -> Option<&'a [u8]>
     ensures { option_map (λ label. label.now) result ≡ label_of command.now }
 {
     match command {
-        Command::Check { .. } | Command::Faults { .. } | Command::All { .. } => None,
-        Command::Axioms { label }
-        | Command::Show { label }
-        | Command::Normal { label, .. }
-        | Command::Packed { label, .. }
-        | Command::Same { label, .. } => Some(*label),
+        Command::Whole { .. } | Command::File { .. } => None,
+        Command::About { label, .. } => Some(*label),
     }
 }
 

@@ -15,14 +15,15 @@ ghost use Rattle.mm_tool.specs.Words.{help_line, label_rule, question_line, show
 ghost use Rattle.mm_tool.specs.Words.{proof_rule, normal_line, packed_line, same_line, forms_line};
 ghost use Rattle.mm_tool.specs.Words.{is_strict, flag_rule, Commands, IsAllFault, name_of_form};
 ghost use Rattle.mm_tool.specs.Words.{NamesNoForm, IsGiven, form_line, number_among};
+ghost use Rattle.mm_tool.specs.Words.{name_of_whole, AsksQuestion, AsksAbout};
 ghost use Rattle.mm_tool.specs.declared.words.Request.TheVariants.{Run};
-ghost use Rattle.mm_check.specs.declared.command.Command.TheVariants.{All};
+ghost use Rattle.mm_check.specs.declared.command.Command.TheVariants.{File};
 ghost use Rattle.mm_tool.specs.Words.{NamesNoText, first_command, topic_rule, version_line};
 
 use crate::stop::Stop;
 use clap::error::ErrorKind;
 use clap::{Arg, ArgAction, ArgMatches, Command, Error};
-use mm_check::Form;
+use mm_check::{Form, Question, WholeQuestion};
 use mm_proof::Profile;
 use std::alloc::{AllocError, Global};
 
@@ -497,7 +498,7 @@ fn all_request<'a>(
     names: Vec<&'a str>,
 ) -> Result<Request<'a>, Stop<'a>>
     ensures request { IfOk result (λ request. (number : ℕ)
-        × (request ≡ Run (All form number) names.entry) × (whole ≡ false)
+        × (request ≡ Run (File form number) names.entry) × (whole ≡ false)
         × (number_among (map (λ n. n.now) names.entry.items) name.now ≡ Some number)) }
     ensures fault { IfErr result (IsAllFault whole name.now
         (map (λ n. n.now) names.entry.items)) }
@@ -513,8 +514,48 @@ fn all_request<'a>(
             "mm: {name} is none of the files\nUsage: mm {command} --all NAME FILES..\n"
         )?));
     };
-    let command = mm_check::Command::All { form, file };
+    let command = mm_check::Command::File { form, file };
     Ok(Request::Run { command, names })
+}
+
+/// What the matches of the command that asks this question about the whole database ask for.
+fn whole_request<'a>(
+    alloc: Global,
+    matches: &ArgMatches<'a>,
+    question: WholeQuestion,
+) -> Result<Request<'a>, AllocError>
+    ensures { IfOk result (λ request. (words : List Text)
+        → Commands words (name_of_whole question) (rows_of (found_of matches.now))
+        → Asks words request) }
+{
+    Ok(Request::Run {
+        command: mm_check::Command::Whole {
+            profile: asked_profile(matches, STRICT),
+            question,
+        },
+        names: values_of(alloc, matches, FILES)?,
+    })
+}
+
+/// What the matches of a command that asks this question about the theorem with a label ask for.
+fn label_request<'a>(
+    alloc: Global,
+    matches: &ArgMatches<'a>,
+    question: Question<'a>,
+) -> Result<Request<'a>, AllocError>
+    ensures { IfOk result (λ request. (words : List Text) (name : Text)
+        → Commands words name (rows_of (found_of matches.now))
+        → ((label : Text) (names : List Text) → AsksQuestion name words label names
+        → AsksAbout words label question.entry names)
+        → Asks words request) }
+{
+    Ok(Request::Run {
+        command: mm_check::Command::About {
+            label: asked_word(matches, LABEL).as_bytes(),
+            question,
+        },
+        names: values_of(alloc, matches, FILES)?,
+    })
 }
 
 /// What the matches of the command that asks for proofs in a form ask for.
@@ -537,9 +578,9 @@ fn proof_request<'a>(
         return all_request(alloc, form, whole, word, names);
     }
     let label = word.as_bytes();
-    let command = match form {
-        Form::Normal => mm_check::Command::Normal { label, whole },
-        Form::Packed => mm_check::Command::Packed { label, whole },
+    let command = mm_check::Command::About {
+        label,
+        question: Question::Form { form, whole },
     };
     Ok(Request::Run { command, names })
 }
@@ -608,36 +649,16 @@ fn request_of_matches<'a>(
         → AreMatchesOf words matches.now → IsWordFault words stop) }
 {
     if let Some(check) = matches.subcommand_matches(CHECK) {
-        return Ok(Request::Run {
-            command: mm_check::Command::Check {
-                profile: asked_profile(check, STRICT),
-            },
-            names: values_of(alloc, check, FILES)?,
-        });
+        return Ok(whole_request(alloc, check, WholeQuestion::Check)?);
     }
     if let Some(faults) = matches.subcommand_matches(FAULTS) {
-        return Ok(Request::Run {
-            command: mm_check::Command::Faults {
-                profile: asked_profile(faults, STRICT),
-            },
-            names: values_of(alloc, faults, FILES)?,
-        });
+        return Ok(whole_request(alloc, faults, WholeQuestion::Faults)?);
     }
     if let Some(axioms) = matches.subcommand_matches(AXIOMS) {
-        return Ok(Request::Run {
-            command: mm_check::Command::Axioms {
-                label: asked_word(axioms, LABEL).as_bytes(),
-            },
-            names: values_of(alloc, axioms, FILES)?,
-        });
+        return Ok(label_request(alloc, axioms, Question::Axioms)?);
     }
     if let Some(show) = matches.subcommand_matches(SHOW) {
-        return Ok(Request::Run {
-            command: mm_check::Command::Show {
-                label: asked_word(show, LABEL).as_bytes(),
-            },
-            names: values_of(alloc, show, FILES)?,
-        });
+        return Ok(label_request(alloc, show, Question::Show)?);
     }
     if let Some(request) = form_request(alloc, matches)? {
         return Ok(request);

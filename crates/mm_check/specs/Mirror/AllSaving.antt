@@ -8,6 +8,8 @@ use Rattle.mm_text.specs.Statement.{PlainStatement}
 use Rattle.mm_text.specs.Files.{PlainFile, most_bytes}
 use Rattle.mm_frame.specs.Sentence.{Sentence, sentence_of, IsLabelled}
 use Rattle.mm_proof.specs.declared.profile.Profile.TheVariants.{Lenient}
+use Rattle.mm_proof.specs.declared.profile.Profile.{Profile}
+use Rattle.mm_proof.specs.Steps.{IsProofNumber}
 use Rattle.mm_proof.specs.Tree.{Trees, none, tree, spelling}
 use Rattle.mm_check.specs.declared.form.Form.{Form}
 use Rattle.mm_check.specs.declared.form.Form.TheVariants.{Normal}
@@ -15,7 +17,8 @@ use Rattle.mm_check.specs.declared.ask.AskFault.{AskFault}
 use Rattle.mm_check.specs.declared.ask.AskFault.TheVariants.{Rule, F3, Memory}
 use Rattle.mm_check.specs.declared.rule.AskRule.TheVariants.{L2}
 use Rattle.mm_check.specs.declared.save_all.NewFile.{NewFile}
-use Rattle.mm_check.specs.Verdict.{AllObey, AreAccepted, is_proof, proof_of, sentences}
+use Rattle.mm_check.specs.Verdict.{AllObey, AreAccepted, PlainRefusal, is_proof, proof_of}
+use Rattle.mm_check.specs.Verdict.{sentences}
 use Rattle.mm_check.specs.Forms.{HasProofTree, most_labels}
 use Rattle.mm_check.specs.Saved.{total_with}
 use Rattle.mm_check.specs.AllSaved.{Replacement, IsReplacement, with_replaced, theorems_of}
@@ -23,13 +26,15 @@ use Rattle.mm_check.specs.AllSaved.{IsFirstTooLong}
 
 -- ---- one theorem
 
--- the statement is a `$p` with a complete proof among statements that obey the rules and say this
-pub record IsTheoremAmong (told : List Sentence) (s : PlainStatement) : Type 0 where
+-- the statement is a `$p` with this number and a complete proof among statements that obey the
+-- rules and say this
+pub record IsTheoremAmong (told : List Sentence) (id : ℕ) (s : PlainStatement) : Type 0 where
   pub statements : List PlainStatement
   pub same : told ≡ sentences statements
   pub obeyed : AllObey Lenient statements
   pub place : ℕ
   pub there : slice_get statements place ≡ Some s
+  pub number : IsProofNumber told id place (sentence_of s)
   pub complete : is_proof s ≡ true
   pub room : sum_by length (proof_of s) ≤ most_bytes
 
@@ -45,16 +50,16 @@ HasTooLongProof statements s label =
     × (most_labels < length (spelling (tree root below none)))
 
 -- the form is the normal one, and the proof has more labels than may be written
-abbrev pub IsTooLongAmong : Form → List Sentence → PlainStatement → (label : List ℕ) → Type 0
-IsTooLongAmong form told s label =
+abbrev pub IsTooLongAmong : Form → List Sentence → ℕ → PlainStatement → (label : List ℕ) → Type 0
+IsTooLongAmong form told id s label =
     (form ≡ Normal)
-    × ((theorem : IsTheoremAmong told s) → HasTooLongProof theorem.statements s label)
+    × ((theorem : IsTheoremAmong told id s) → HasTooLongProof theorem.statements s label)
 
 -- why its proof isn't written in this form
-abbrev pub IsTheoremFault : Form → List Sentence → PlainStatement → AskFault → Type 0
-IsTheoremFault form told s (Rule L2) =
-    (label : List ℕ) → IsLabelled label (sentence_of s) → IsTooLongAmong form told s label
-IsTheoremFault form told s fault = fault ≡ Memory
+abbrev pub IsTheoremFault : Form → List Sentence → ℕ → PlainStatement → AskFault → Type 0
+IsTheoremFault form told id s (Rule L2) =
+    (label : List ℕ) → IsLabelled label (sentence_of s) → IsTooLongAmong form told id s label
+IsTheoremFault form told id s fault = fault ≡ Memory
 
 -- ---- the bytes of a file
 
@@ -96,21 +101,21 @@ pub record PutsText (old : NewFile) (span : ℕ × ℕ) (text : List ℕ) (new :
       old.bytes.items new.bytes.items
 
 -- a theorem's proof was put in place of the one that it had
-pub record PutsProof (told : List Sentence) (old : NewFile) (s : PlainStatement)
+pub record PutsProof (told : List Sentence) (id : ℕ) (old : NewFile) (s : PlainStatement)
     (new : NewFile) : Type 0 where
   pub text : List ℕ
   pub puts : PutsText old s.span text new
-  pub anew : (theorem : IsTheoremAmong told s)
+  pub anew : (theorem : IsTheoremAmong told id s)
       → IsReplacement old.form theorem.statements s (replacement s text)
 
 -- the theorem's label was kept, since its normal proof is too long
-pub record KeepsLabel (told : List Sentence) (old : NewFile) (s : PlainStatement)
+pub record KeepsLabel (told : List Sentence) (id : ℕ) (old : NewFile) (s : PlainStatement)
     (new : NewFile) : Type 0 where
   pub label : List ℕ
   pub kept : option_map (λ l. l.now) new.too_long ≡ Some label
   pub same : IsSameFile old new
   pub taken : new.taken ≡ old.taken
-  pub long : IsTooLongAmong old.form told s label
+  pub long : IsTooLongAmong old.form told id s label
 
 -- these are the bytes of the new file with what wasn't taken of the old one
 abbrev pub IsWhole : NewFile → (bytes : List ℕ) → Type 0
@@ -162,8 +167,17 @@ pub record IsWrittenSoFar (files : List PlainFile) (taken : List PlainStatement)
   pub last : IsLastEnd file.number taken file.taken
   pub so_far : IsSoFar taken file (option_map (λ l. l.now) file.too_long)
 
+-- the same, with what it was at first; no proof is at fault
+pub record HasWritten (profile : Profile) (files : List PlainFile) (first now : NewFile)
+    (taken : List PlainStatement) (listed : List PlainRefusal) : Type 0 where
+  pub lenient : profile ≡ Lenient
+  pub none : listed ≡ []
+  pub so_far : IsWrittenSoFar files taken now
+  pub number : now.number ≡ first.number
+  pub form : now.form ≡ first.form
+
 -- the new file, after all statements of the files, which are accepted
-abbrev pub IsAllWritten : List PlainFile → NewFile → Type 0
-IsAllWritten files file =
+abbrev pub IsAllWritten : List PlainFile → (first now : NewFile) → Type 0
+IsAllWritten files first now =
     (statements : List PlainStatement) × AreAccepted Lenient files statements
-    × IsWrittenSoFar files statements file
+    × HasWritten Lenient files first now statements []

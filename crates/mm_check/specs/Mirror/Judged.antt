@@ -12,7 +12,7 @@ use Rattle.mm_text.specs.Reading.{PlainFault, Reads}
 use Rattle.mm_text.specs.Remaining.{Remaining}
 use Rattle.mm_frame.specs.Sentence.{Sentence, sentence_of}
 use Rattle.mm_frame.specs.declared.rule.MeaningRule.{MeaningRule}
-use Rattle.mm_frame.specs.Rules.{FirstBroken, IsMeant}
+use Rattle.mm_frame.specs.Rules.{FirstBroken, IsMeant, AllMeant}
 use Rattle.mm_frame.specs.Numbers.{labelled_sentences}
 use Rattle.mm_proof.specs.declared.fault.ProofRule.{ProofRule}
 use Rattle.mm_proof.specs.declared.fault.ProofFault.{ProofFault}
@@ -27,43 +27,50 @@ use Rattle.mm_proof.specs.Strict.{HasFormOf}
 use Rattle.mm_proof.specs.UnderProfile.{IsFrontAllowedUnder}
 use Rattle.mm_proof.specs.Tokens.{is_incomplete}
 use Rattle.mm_check.specs.declared.fault.CheckFault.{CheckFault}
+use Rattle.mm_check.specs.declared.fault.CheckFault.TheVariants as check
 use Rattle.mm_check.specs.declared.fault.Refusal.{Refusal}
+use Rattle.mm_check.specs.declared.fault.Stop.{Stop}
+use Rattle.mm_check.specs.declared.fault.Stop.TheVariants as stop
+use Rattle.mm_check.specs.declared.judge.Judged.{Judged}
+use Rattle.mm_check.specs.declared.judge.Judged.TheVariants as came
 use Rattle.mm_check.specs.declared.progress.Progress.{Progress}
-use Rattle.mm_check.specs.declared.verdict.Turn.{Turn}
-use Rattle.mm_check.specs.declared.verdict.Turn.TheVariants as turn
-use Rattle.mm_check.specs.Verdict.{Verdict, HasVerdict, Load, Refused, Obeys, AllObey}
 use Rattle.mm_check.specs.declared.rule.Rule.TheVariants as rules
+use Rattle.mm_check.specs.Verdict.{Verdict, HasVerdict, Obeys, AllObey, AreAccepted, PlainRefusal}
 use Rattle.mm_check.specs.Verdict.{CanBeRead, refusal_of, text_refusal}
 use Rattle.mm_check.specs.Verdict.{sentences, proof_of, proofs_of, labels_of, unproved_of}
 use Rattle.mm_check.specs.Verdict.{is_proof, is_unproved, IsProofFault}
 use Rattle.mm_check.specs.Answer.{verdict_of_fault, plain_refusal}
 use Rattle.mm_check.specs.Conclusion.{ProofUses}
+use Rattle.mm_check.specs.Faults.{AreRefused}
 use Rattle.mm_check.specs.Mirror.Ordered.{ordered}
 use Rattle.mm_check.specs.Rests.{tree_of, IsNumberWhere, AreInOrder, AreUses}
 
--- Memory was wanting, or the statement, which comes after so many others, is refused for the first
--- rule of meaning that it breaks.
-abbrev pub RefusesMeaning : List PlainFile → List Sentence → ℕ → PlainStatement → CheckFault
-    → Type 0
-RefusesMeaning files before count s fault =
-    (verdict_of_fault fault ≡ None)
-    ⊎ ((broken : MeaningRule) × FirstBroken broken before (sentence_of s)
-    × (verdict_of_fault fault
-    ≡ Some (Refused (refusal_of files count s (rules.Meaning broken) 0))))
+-- what ends the way through the statements, as why the database isn't accepted
+abbrev pub fault_of : Stop → CheckFault
+fault_of (stop.Refused refusal) = check.Refused refusal
+fault_of stop.Memory = check.Memory
 
--- Memory was wanting, or no statement is left and the text's fault is answered.
-abbrev pub RefusesEnd : List PlainFile → Remaining → CheckFault → Type 0
-RefusesEnd files left fault =
-    (verdict_of_fault fault ≡ None)
-    ⊎ ((left.statements ≡ []) × (at : PlainFault) × (left.ending ≡ Some at)
-    × (verdict_of_fault fault ≡ Some (Refused (text_refusal files at))))
+-- The statement, which comes after so many others, is refused for the first rule of meaning that it
+-- breaks; or memory was wanting.
+abbrev pub RefusesMeaning : List PlainFile → List Sentence → ℕ → PlainStatement → Stop → Type 0
+RefusesMeaning files before count s (stop.Refused refusal) =
+    (broken : MeaningRule) × FirstBroken broken before (sentence_of s)
+    × (plain_refusal refusal ≡ refusal_of files count s (rules.Meaning broken) 0)
+RefusesMeaning files before count s stop.Memory = Unit {0}
 
--- Memory was wanting, or the files break this rule as a whole.
+-- No statement is left, and the text's fault is answered; or memory was wanting.
+abbrev pub RefusesEnd : List PlainFile → Remaining → Stop → Type 0
+RefusesEnd files left (stop.Refused refusal) =
+    (left.statements ≡ []) × (at : PlainFault) × (left.ending ≡ Some at)
+    × (plain_refusal refusal ≡ text_refusal files at)
+RefusesEnd files left stop.Memory = Unit {0}
+
+-- The files break this rule as a whole; or memory was wanting. No statement is refused.
 abbrev pub RefusesLoad : List PlainFile → CheckFault → Type 0
-RefusesLoad files fault =
-    (verdict_of_fault fault ≡ None)
-    ⊎ ((broken : LoadRule) × BreaksLoad files broken
-    × (verdict_of_fault fault ≡ Some (Load (rules.Load broken))))
+RefusesLoad files (check.Load rule) =
+    (broken : LoadRule) × BreaksLoad files broken × (rule ≡ rules.Load broken)
+RefusesLoad files (check.Refused refusal) = ⊥
+RefusesLoad files check.Memory = Unit {0}
 
 -- The next statement was taken from what is left; or there is none, and no fault.
 abbrev pub TakesNext : Remaining → Bool → PlainStatement → Remaining → Type 0
@@ -144,11 +151,16 @@ pub record FailsProof (profile : Profile) (files : List PlainFile) (old : Progre
   pub count : new.count ≡ old.count
   pub proofs : new.proofs ≡ old.proofs
 
--- the proof of the last statement was counted, or this is the refusal for its fault
-abbrev pub TriesProof : Profile → List PlainFile → (old : Progress) → ℕ → PlainStatement
-    → Option Refusal → (new : Progress) → Type 0
-TriesProof profile files old id s None new = CountsProof profile old id s new
-TriesProof profile files old id s (Some refusal) new = FailsProof profile files old s refusal new
+-- The proof of the last statement, which has the number, was counted, as a complete one or as an
+-- incomplete one; or this is the refusal for its fault.
+abbrev pub TriesProof : Profile → List PlainFile → (old : Progress) → ℕ → PlainStatement → Judged
+    → (new : Progress) → Type 0
+TriesProof profile files old id s (came.Theorem own) new =
+    (own.0 ≡ id) × (is_incomplete (proof_of s) ≡ false) × CountsProof profile old id s new
+TriesProof profile files old id s came.Other new =
+    (is_incomplete (proof_of s) ≡ true) × CountsProof profile old id s new
+TriesProof profile files old id s (came.Faulty refusal) new =
+    FailsProof profile files old s refusal new
 
 -- The statement obeys the rules, and is taken into the progress.
 pub record Takes (profile : Profile) (old : Progress) (s : PlainStatement)
@@ -178,17 +190,25 @@ pub record TakesFaulty (profile : Profile) (files : List PlainFile) (old : Progr
   pub count : new.count ≡ old.count + 1
   pub proofs : new.proofs ≡ old.proofs
 
--- the statement is taken: it obeys the rules, or this is the refusal for the fault of its proof
-abbrev pub IsTaken : Profile → List PlainFile → (old : Progress) → PlainStatement → Option Refusal
+-- The statement is taken, and came to this: a theorem with this number, or another statement, which
+-- obeys the rules; or this is the refusal for the fault of its proof.
+abbrev pub IsTaken : Profile → List PlainFile → (old : Progress) → PlainStatement → Judged
     → (new : Progress) → Type 0
-IsTaken profile files old s None new = Takes profile old s new
-IsTaken profile files old s (Some refusal) new = TakesFaulty profile files old s refusal new
+IsTaken profile files old s (came.Theorem id) new =
+    (is_proof s ≡ true) × IsLastProof new.prover.book.statements id.0 s × Takes profile old s new
+IsTaken profile files old s came.Other new = (is_proof s ≡ false) × Takes profile old s new
+IsTaken profile files old s (came.Faulty refusal) new =
+    TakesFaulty profile files old s refusal new
 
--- what the progress knows of the statements so far
-pub record Knows (statements : List PlainStatement) (p : Progress) : Type 0 where
+-- what the progress has of the statements so far, whatever their proofs
+pub record HasTaken (statements : List PlainStatement) (p : Progress) : Type 0 where
   pub book : p.prover.book.statements ≡ sentences statements
   pub bytes : p.prover.book.bytes ≡ sum_by bytes_in statements
   pub count : p.count ≡ length statements
+  pub proofs : p.proofs ≤ length statements
+
+-- what it knows of them where all of them obey the rules
+pub record Knows (statements : List PlainStatement) (p : Progress) : Type 0 where
   pub proofs : p.proofs ≡ proofs_of statements
   pub incomplete : map (λ id. slice_get (labels_of statements) id.0) p.incomplete.items
       ≡ map Some (unproved_of statements)
@@ -196,62 +216,53 @@ pub record Knows (statements : List PlainStatement) (p : Progress) : Type 0 wher
       (map (λ id. id.0) p.incomplete.items)
   pub kept : AreUses statements p.kept
 
--- The statements so far and those that are left are the reading of the files, and the book holds
+-- The statements so far and those that are left are the reading of the files, and the progress has
 -- those so far. Of their proofs nothing is known.
 pub record IsRead (files : List PlainFile) (p : Progress) (left : Remaining) : Type 0 where
   pub earlier : List PlainStatement
   pub readable : CanBeRead files
   pub reads : Reads files (earlier ++ left.statements) left.ending
-  pub book : p.prover.book.statements ≡ sentences earlier
-  pub bytes : p.prover.book.bytes ≡ sum_by bytes_in earlier
-  pub count : p.count ≡ length earlier
-  pub proofs : p.proofs ≤ length earlier
+  pub taken : HasTaken earlier p
 
--- What the turn came to in which the next statement is read and judged.
-abbrev pub Turns : Profile → List PlainFile → (old : Progress) → Remaining → Turn → PlainStatement
-    → (new : Progress) → Remaining → Type 0
-Turns profile files old left turn.End s new rest = TakesNext left false s rest × (new ≡ old)
-Turns profile files old left turn.Obeys s new rest =
-    TakesNext left true s rest × HasForm s × Takes profile old s new
-Turns profile files old left (turn.Faulty refusal) s new rest =
-    TakesNext left true s rest × HasForm s × TakesFaulty profile files old s refusal new
-
--- Memory was wanting; or the fault of the text is answered, or the rule of meaning that the next
--- statement breaks.
-abbrev pub StopsTurn : List PlainFile → Progress → Remaining → CheckFault → Type 0
-StopsTurn files p left fault =
-    RefusesEnd files left fault
-    ⊎ ((s : PlainStatement) × (rest : Remaining) × TakesNext left true s rest
-    × RefusesMeaning files p.prover.book.statements p.count s fault)
-
--- The statements so far and those that are left are the reading of the files, and those so far obey
--- the rules.
-pub record IsUnderWay (profile : Profile) (files : List PlainFile) (p : Progress)
-    (left : Remaining) : Type 0 where
-  pub earlier : List PlainStatement
-  pub readable : CanBeRead files
-  pub reads : Reads files (earlier ++ left.statements) left.ending
-  pub obeyed : AllObey profile earlier
-  pub known : Knows earlier p
-
--- No statement is left, and the text has no fault.
-pub record IsAtEnd (profile : Profile) (files : List PlainFile) (p : Progress)
-    (left : Remaining) : Type 0 where
-  pub way : IsUnderWay profile files p left
-  pub none : left.statements ≡ []
-  pub ending : left.ending ≡ None
-
--- The next statement goes over from those that are left to those so far; or none is left, and those
--- so far are all of them.
-abbrev pub GoesOn : Profile → List PlainFile → (old : Progress) → Remaining → (more : Bool)
+-- What reading and judging the next statement came to; nothing where there is none.
+abbrev pub Turns : Profile → List PlainFile → (old : Progress) → Remaining → Option Judged
     → PlainStatement → (new : Progress) → Remaining → Type 0
-GoesOn profile files old left true s new rest =
-    (left.statements ≡ s ∷ rest.statements)
-    × ((way : IsUnderWay profile files old left)
-    → (on : IsUnderWay profile files new rest) × (on.earlier ≡ way.earlier ++ s ∷ []))
-GoesOn profile files old left false s new rest =
-    (way : IsUnderWay profile files old left)
-    → (end : IsAtEnd profile files new rest) × (end.way.earlier ≡ way.earlier)
+Turns profile files old left None s new rest = TakesNext left false s rest × (new ≡ old)
+Turns profile files old left (Some judged) s new rest =
+    TakesNext left true s rest × HasForm s × IsTaken profile files old s judged new
+
+-- The fault of the text is answered, or the rule of meaning that the next statement breaks; or
+-- memory was wanting.
+abbrev pub StopsTurn : List PlainFile → Progress → Remaining → Stop → Type 0
+StopsTurn files p left stop =
+    RefusesEnd files left stop
+    ⊎ ((s : PlainStatement) × (rest : Remaining) × TakesNext left true s rest
+    × RefusesMeaning files p.prover.book.statements p.count s stop)
+
+-- With those of the statements that are left, after these earlier ones, the refusals listed are
+-- all: each of the earlier statements obeys the rules or is listed.
+abbrev pub Begins : Profile → List PlainFile → (earlier left : List PlainStatement)
+    → Option PlainFault → List PlainRefusal → Type 0
+Begins profile files earlier left ending listed =
+    (later : List PlainRefusal) → AreRefused profile files earlier left ending later
+    → AreRefused profile files [] (earlier ++ left) ending (listed ++ later)
+
+-- The statements so far are read, and none breaks a rule of meaning. Those whose proofs are at
+-- fault are listed; where there are none, all obey the rules, and the progress knows them.
+pub record IsUnderWay (profile : Profile) (files : List PlainFile) (p : Progress) (left : Remaining)
+    (listed : List PlainRefusal) : Type 0 where
+  pub read : IsRead files p left
+  pub meant : AllMeant (sentences read.earlier)
+  pub begins : Begins profile files read.earlier left.statements left.ending listed
+  pub obeyed : listed ≡ [] → AllObey profile read.earlier
+  pub known : listed ≡ [] → Knows read.earlier p
+
+-- The statements of the files are accepted, and the progress has them and knows them.
+pub record IsAtEnd (profile : Profile) (files : List PlainFile) (p : Progress) : Type 0 where
+  pub statements : List PlainStatement
+  pub accepted : AreAccepted profile files statements
+  pub taken : HasTaken statements p
+  pub known : Knows statements p
 
 -- The verdict that the fault tells holds of the files; want of memory tells none.
 abbrev pub TellsVerdict : Profile → List PlainFile → CheckFault → Type 0

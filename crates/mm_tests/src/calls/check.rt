@@ -3,11 +3,12 @@
 use crate::calls::failing::failing_writer;
 use crate::tests::{CHECK, reply_to};
 use mm_check::{
-    AllFaults, AskFault, CheckFault, Checked, Command, Refusal, Report, Rule, RunFault, Status,
-    all_faults, check, run,
+    AllFaults, AskFault, AskRule, CheckFault, Checked, Command, Question, Refusal, Report, Rule,
+    RunFault, Status, all_faults, check, run,
 };
-use mm_proof::Profile;
-use mm_text::{File, Seed};
+use mm_frame::MeaningRule;
+use mm_proof::{Profile, ProofRule};
+use mm_text::{File, LoadRule, Seed};
 use std::alloc::Global;
 use std::test::Fail;
 
@@ -79,8 +80,8 @@ const FAULTY: &[u8] = b"$c a b $. one $a a $. p $p b $= one $. q $p b $= p $. r 
 fn are_of_p_and_r(refusals: &[Refusal]) -> bool {
     match refusals {
         [p, r] => {
-            (p.statement, p.rule, p.step) == (3, Rule::P14, 2)
-                && (r.statement, r.rule, r.step) == (5, Rule::P2, 0)
+            (p.statement, p.rule, p.step) == (3, Rule::Proof(ProofRule::P14), 2)
+                && (r.statement, r.rule, r.step) == (5, Rule::Proof(ProofRule::P2), 0)
         }
         _ => false,
     }
@@ -144,9 +145,9 @@ fn reports_an_unproved_theorem(rt: HostRuntime) -> Result<(), Fail> {
 
 #[test]
 fn refuses_questions(rt: HostRuntime) -> Result<(), Fail> {
-    assert!(rt; ask_axioms(rt.alloc(), b"none")?.err() == Some(AskFault::A1));
-    assert!(rt; ask_axioms(rt.alloc(), b"p")?.err() == Some(AskFault::A2));
-    assert!(rt; ask_axioms(rt.alloc(), b"q")?.err() == Some(AskFault::A3));
+    assert!(rt; ask_axioms(rt.alloc(), b"none")?.err() == Some(AskFault::Rule(AskRule::A1)));
+    assert!(rt; ask_axioms(rt.alloc(), b"p")?.err() == Some(AskFault::Rule(AskRule::A2)));
+    assert!(rt; ask_axioms(rt.alloc(), b"q")?.err() == Some(AskFault::Rule(AskRule::A3)));
     Ok(())
 }
 
@@ -196,12 +197,15 @@ fn writes_the_reply(rt: HostRuntime) -> Result<(), Fail> {
 #[test]
 fn statuses_and_rules_have_names(rt: HostRuntime) {
     assert!(rt; Status::Done.number() == 0);
-    assert!(rt; Rule::M15.code() == b"M15".as_slice());
+    assert!(rt; Rule::Meaning(MeaningRule::M15).code() == b"M15".as_slice());
 }
 
 #[test]
 fn writes_what_a_theorem_rests_on(rt: HostRuntime) -> Result<(), Fail> {
-    let command = Command::Axioms { label: b"th" };
+    let command = Command::About {
+        label: b"th",
+        question: Question::Axioms,
+    };
     let answer = (Status::Done, b"tze\ntpl\n".as_slice());
     assert!(rt; replies_of_first(rt.alloc(), &command, answer)?);
     Ok(())
@@ -209,7 +213,10 @@ fn writes_what_a_theorem_rests_on(rt: HostRuntime) -> Result<(), Fail> {
 
 #[test]
 fn writes_how_a_theorem_is_proved(rt: HostRuntime) -> Result<(), Fail> {
-    let command = Command::Show { label: b"th" };
+    let command = Command::About {
+        label: b"th",
+        question: Question::Show,
+    };
     let text = b"1 tze term 0\n2 tze term 0\n3 tpl term ( 0 + 0 )\n".as_slice();
     assert!(rt; replies_of_first(rt.alloc(), &command, (Status::Done, text))?);
     Ok(())
@@ -217,7 +224,10 @@ fn writes_how_a_theorem_is_proved(rt: HostRuntime) -> Result<(), Fail> {
 
 #[test]
 fn writes_why_a_question_has_no_answer(rt: HostRuntime) -> Result<(), Fail> {
-    let command = Command::Axioms { label: b"tt" };
+    let command = Command::About {
+        label: b"tt",
+        question: Question::Axioms,
+    };
     let answer = (Status::Refused, b"ask A2 tt\n".as_slice());
     assert!(rt; replies_of_first(rt.alloc(), &command, answer)?);
     Ok(())
@@ -226,7 +236,7 @@ fn writes_why_a_question_has_no_answer(rt: HostRuntime) -> Result<(), Fail> {
 #[test]
 fn refuses_no_files(rt: HostRuntime) -> Result<(), Fail> {
     let fault = fault_of(rt.alloc(), &[])?;
-    assert!(rt; matches!(fault, CheckFault::Load(Rule::F1)));
+    assert!(rt; matches!(fault, CheckFault::Load(Rule::Load(LoadRule::F1))));
     let answer = (Status::Stopped, b"load F1\n".as_slice());
     assert!(rt; replies(rt.alloc(), &CHECK, &[], answer)?);
     Ok(())

@@ -3,7 +3,7 @@
 use crate::calls::failing::failing_writer;
 use crate::databases::DEMO;
 use crate::tests::{asks_handed, reply_to};
-use mm_check::{Command, RunFault, run};
+use mm_check::{Command, Form, Question, RunFault, run};
 use mm_text::{File, Seed};
 use std::alloc::Global;
 use std::test::Fail;
@@ -51,16 +51,22 @@ fn stops_at_each(alloc: Global, command: &Command, count: usize) -> Result<bool,
 // A writer that takes one byte a call is called once for each of them.
 #[test]
 fn listing_stops_at_each_byte(rt: HostRuntime) -> Result<(), Fail> {
-    let command = Command::Show { label: b"th1" };
+    let command = Command::About {
+        label: b"th1",
+        question: Question::Show,
+    };
     assert!(rt; stops_at_each(rt.alloc(), &command, 631)?);
     Ok(())
 }
 
 #[test]
 fn file_stops_at_each_byte(rt: HostRuntime) -> Result<(), Fail> {
-    let command = Command::Packed {
+    let command = Command::About {
         label: b"th1",
-        whole: true,
+        question: Question::Form {
+            form: Form::Packed,
+            whole: true,
+        },
     };
     assert!(rt; stops_at_each(rt.alloc(), &command, 461)?);
     Ok(())

@@ -10,8 +10,8 @@ use crate::calls::load::{HOLLOW, failing_reader};
 use crate::databases::{DEMO, DEMO_COMPRESSED};
 use crate::tests::{CHECK, asks_handed};
 use mm_check::{
-    AskFault, CheckFault, Checked, Command, Form, RunFault, SaveFault, Status, check, run, saved,
-    saved_all,
+    AskFault, CheckFault, Checked, Command, Form, Question, RunFault, SaveFault, Status,
+    WholeQuestion, check, run, saved, saved_all,
 };
 use mm_code::write_codes;
 use mm_proof::Profile;
@@ -182,26 +182,50 @@ fn expect_replies(alloc: Global, command: &Command) -> Result<(), Fail> {
 fn growths_of_check(rt: HostRuntime) -> Result<(), Fail> {
     expect_replies(rt.alloc(), &CHECK)?;
     let profile = Profile::Strict;
-    expect_replies(rt.alloc(), &Command::Check { profile })
+    expect_replies(
+        rt.alloc(),
+        &Command::Whole {
+            profile,
+            question: WholeQuestion::Check,
+        },
+    )
 }
 
 #[test]
 fn growths_of_questions(rt: HostRuntime) -> Result<(), Fail> {
     let label = b"th1".as_slice();
-    expect_replies(rt.alloc(), &Command::Axioms { label })?;
-    expect_replies(rt.alloc(), &Command::Show { label })?;
-    expect_replies(rt.alloc(), &Command::Same { label, text: PROOF })
+    expect_replies(
+        rt.alloc(),
+        &Command::About {
+            label,
+            question: Question::Axioms,
+        },
+    )?;
+    expect_replies(
+        rt.alloc(),
+        &Command::About {
+            label,
+            question: Question::Show,
+        },
+    )?;
+    expect_replies(
+        rt.alloc(),
+        &Command::About {
+            label,
+            question: Question::Same(PROOF),
+        },
+    )
 }
 
 #[test]
 fn growths_of_forms(rt: HostRuntime) -> Result<(), Fail> {
     let label = b"th1".as_slice();
-    for whole in [false, true] {
-        expect_replies(rt.alloc(), &Command::Normal { label, whole })?;
-        expect_replies(rt.alloc(), &Command::Packed { label, whole })?;
-    }
     for form in [Form::Normal, Form::Packed] {
-        expect_replies(rt.alloc(), &Command::All { form, file: 0 })?;
+        for whole in [false, true] {
+            let question = Question::Form { form, whole };
+            expect_replies(rt.alloc(), &Command::About { label, question })?;
+        }
+        expect_replies(rt.alloc(), &Command::File { form, file: 0 })?;
     }
     Ok(())
 }
@@ -216,34 +240,54 @@ fn axioms_text(alloc: Global, checked: &Checked, label: &[u8]) -> Result<Vec<u8>
     Ok(text)
 }
 
-/// What the call of a question answers, as a text.
-fn answer_of(alloc: Global, checked: &Checked, command: &Command) -> Result<Vec<u8>, AskFault> {
-    match command {
-        Command::Axioms { label } => axioms_text(alloc, checked, label),
-        Command::Show { label } => checked.show(alloc, label),
-        Command::Normal { label, .. } => checked.normal(alloc, label),
-        Command::Packed { label, .. } => checked.packed(alloc, label),
-        Command::Same { label, text } => {
+/// What the call of a question answers about a theorem, as a text.
+fn answer_to(
+    alloc: Global,
+    checked: &Checked,
+    label: &[u8],
+    question: &Question,
+) -> Result<Vec<u8>, AskFault> {
+    match question {
+        Question::Axioms => axioms_text(alloc, checked, label),
+        Question::Show => checked.show(alloc, label),
+        Question::Form {
+            form: Form::Normal,
+            ..
+        } => checked.normal(alloc, label),
+        Question::Form {
+            form: Form::Packed,
+            ..
+        } => checked.packed(alloc, label),
+        Question::Same(text) => {
             let is_same = checked.same_text(alloc, label, text)?;
             Ok(Vec::from_slice(alloc, if is_same { b"same" } else { b"no" })?)
         }
-        _ => Err(AskFault::A1),
     }
 }
 
 /// What the call answers, asked once more where memory was wanting the first time.
-fn ask_on(alloc: Global, checked: &Checked, command: &Command) -> Result<Vec<u8>, Fail> {
-    match answer_of(alloc, checked, command) {
-        Err(AskFault::Memory) => once_more(answer_of(alloc, checked, command)),
+fn ask_on(
+    alloc: Global,
+    checked: &Checked,
+    label: &[u8],
+    question: &Question,
+) -> Result<Vec<u8>, Fail> {
+    match answer_to(alloc, checked, label, question) {
+        Err(AskFault::Memory) => once_more(answer_to(alloc, checked, label, question)),
         answer => Ok(answer?),
     }
 }
 
 /// Whether each question is answered alike twice.
-fn answers_alike(alloc: Global, checked: &Checked, asked: &[Command]) -> Result<bool, Fail> {
-    for command in asked {
-        let first = ask_on(alloc, checked, command)?;
-        if first.is_empty() || first != ask_on(alloc, checked, command)? {
+fn answers_alike(
+    alloc: Global,
+    checked: &Checked,
+    label: &[u8],
+    asked: &[Question],
+) -> Result<bool, Fail> {
+    for question in asked {
+        let first = ask_on(alloc, checked, label, question)?;
+        if first.is_empty() || first != ask_on(alloc, checked, label, question)? {
             return Ok(false);
         }
     }
@@ -263,16 +307,18 @@ fn checked_on<'a>(alloc: Global, files: &'a [File<'a>]) -> Result<Checked<'a>, F
 #[test]
 fn growths_of_calls(rt: HostRuntime) -> Result<(), Fail> {
     let label = b"th1".as_slice();
-    let whole = false;
-    let asked = [
-        Command::Axioms { label },
-        Command::Show { label },
-        Command::Normal { label, whole },
-        Command::Packed { label, whole },
-        Command::Same { label, text: PROOF },
-    ];
+    let normal = Question::Form {
+        form: Form::Normal,
+        whole: false,
+    };
+    let packed = Question::Form {
+        form: Form::Packed,
+        whole: false,
+    };
+    let same = Question::Same(PROOF);
+    let asked = [Question::Axioms, Question::Show, normal, packed, same];
     let checked = checked_on(rt.alloc(), &FILES)?;
-    let answer = answers_alike(rt.alloc(), &checked, &asked);
+    let answer = answers_alike(rt.alloc(), &checked, label, &asked);
     drop(checked);
     expect(answer?, "another answer after want of memory")
 }

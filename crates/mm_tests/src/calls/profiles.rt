@@ -2,10 +2,10 @@
 
 use crate::databases::{DEMO, DEMO_COMPRESSED, HEAD};
 use mm_check::{
-    AskFault, CheckFault, Checked, Form, Rule, between_profiles, check, check_with, saved,
+    AskFault, AskRule, CheckFault, Checked, Form, Rule, between_profiles, check, check_with, saved,
     saved_proof_is_strict,
 };
-use mm_proof::Profile;
+use mm_proof::{Profile, ProofRule};
 use mm_text::{File, Seed};
 use std::alloc::Global;
 use std::process::Abort;
@@ -14,10 +14,26 @@ use std::test::Fail;
 /// Texts as proofs of a sum, and what is told of them under the strict profile and the lenient one.
 const TEXTS: [(&[u8], Told, Told); 5] = [
     (b"( tpl ) AAB", None, None),
-    (b"( tpl ) AZZCB", Some((Rule::P15, 0)), None),
-    (b"( tpl tpl tt ) ADC", Some((Rule::P15, 0)), None),
-    (b"( tt ) U", Some((Rule::P5, 0)), Some((Rule::P5, 0))),
-    (b"( tt ) ZA", Some((Rule::P15, 0)), Some((Rule::P7, 1))),
+    (
+        b"( tpl ) AZZCB",
+        Some((Rule::Proof(ProofRule::P15), 0)),
+        None,
+    ),
+    (
+        b"( tpl tpl tt ) ADC",
+        Some((Rule::Proof(ProofRule::P15), 0)),
+        None,
+    ),
+    (
+        b"( tt ) U",
+        Some((Rule::Proof(ProofRule::P5), 0)),
+        Some((Rule::Proof(ProofRule::P5), 0)),
+    ),
+    (
+        b"( tt ) ZA",
+        Some((Rule::Proof(ProofRule::P15), 0)),
+        Some((Rule::Proof(ProofRule::P7), 1)),
+    ),
 ];
 
 /// What is told of a text: its rule and step; nothing where it is the same proof.
@@ -78,7 +94,7 @@ fn a_text_with_an_unknown_step_is_incomplete(rt: HostRuntime) -> Result<(), Fail
     let alloc = rt.alloc();
     let bytes = database_with(alloc, SUM)?;
     let files = file(&bytes);
-    let incomplete = Some((Rule::A3, 0));
+    let incomplete = Some((Rule::Ask(AskRule::A3), 0));
     for text in UNKNOWN {
         assert!(rt; told(alloc, Profile::Strict, &files, text)? == incomplete);
         assert!(rt; told(alloc, Profile::Lenient, &files, text)? == incomplete);
@@ -126,9 +142,21 @@ fn check_is_lenient(rt: HostRuntime) -> Result<(), Fail> {
     expect_outcomes(&rt, alloc, DEMO, Ok((19, 1)), Ok((19, 1)))?;
     expect_outcomes(&rt, alloc, DEMO_COMPRESSED, Ok((19, 1)), Ok((19, 1)))?;
     let loose = database_with(alloc, b"th2 $p term ( t + t ) $= ( tpl ) AZZCB $.\n")?;
-    expect_outcomes(&rt, alloc, &loose, Ok((19, 1)), Err(Rule::P15))?;
+    expect_outcomes(
+        &rt,
+        alloc,
+        &loose,
+        Ok((19, 1)),
+        Err(Rule::Proof(ProofRule::P15)),
+    )?;
     let tag = database_with(alloc, b"th2 $p term t $= ( tze ) ZA $.\n")?;
-    expect_outcomes(&rt, alloc, &tag, Err(Rule::P7), Err(Rule::P15))
+    expect_outcomes(
+        &rt,
+        alloc,
+        &tag,
+        Err(Rule::Proof(ProofRule::P7)),
+        Err(Rule::Proof(ProofRule::P15)),
+    )
 }
 
 /// Whether the theorem `th2` of a database is saved in packed form as this one.
@@ -149,7 +177,13 @@ fn what_is_saved_is_strict(rt: HostRuntime) -> Result<(), Fail> {
         b"th2 $p term ( t + t ) $=\n      ( tpl )\n      AAB\n$.\n",
     )?;
     assert!(rt; saves(alloc, &loose, &packed)?);
-    expect_outcomes(&rt, alloc, &loose, Ok((19, 1)), Err(Rule::P15))?;
+    expect_outcomes(
+        &rt,
+        alloc,
+        &loose,
+        Ok((19, 1)),
+        Err(Rule::Proof(ProofRule::P15)),
+    )?;
     expect_outcomes(&rt, alloc, &packed, Ok((19, 1)), Ok((19, 1)))
 }
 

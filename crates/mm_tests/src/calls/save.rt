@@ -5,10 +5,10 @@ ghost use Rattle.std.specs.Prelude.{◌≡◌, ◌≤◌, length};
 use crate::databases::FIRST;
 use crate::tests::reply_to;
 use mm_check::{
-    Command, Form, Status, all_saved_proofs_are_strict, one_all_saved, one_save_all_answer,
-    one_save_answer, one_saved, packed_files_are_strict, packed_texts_tell, saved, saved_all,
-    saving_again_changes_nothing, saving_all_again_changes_nothing, saving_all_changes_no_answer,
-    saving_changes_no_answer, saving_in_turn_is_saving_all,
+    Command, Form, Question, Status, all_saved_proofs_are_strict, one_all_saved,
+    one_save_all_answer, one_save_answer, one_saved, packed_files_are_strict, packed_texts_tell,
+    saved, saved_all, saving_again_changes_nothing, saving_all_again_changes_nothing,
+    saving_all_changes_no_answer, saving_changes_no_answer, saving_in_turn_is_saving_all,
 };
 use mm_text::{File, Seed};
 use std::alloc::{AllocError, Global};
@@ -89,9 +89,12 @@ fn saving_again_gives_equal_bytes(rt: HostRuntime) -> Result<(), Fail> {
 
 #[test]
 fn the_whole_file_is_answered(rt: HostRuntime) -> Result<(), Fail> {
-    let command = Command::Packed {
+    let command = Command::About {
         label: b"th",
-        whole: true,
+        question: Question::Form {
+            form: Form::Packed,
+            whole: true,
+        },
     };
     let (text, status) = reply_to(rt.alloc(), &command, &two_files(OLD))?;
     assert!(rt; status == Status::Done && text.as_slice() == PACKED);
@@ -100,9 +103,12 @@ fn the_whole_file_is_answered(rt: HostRuntime) -> Result<(), Fail> {
 
 #[test]
 fn unknown_labels_are_refused(rt: HostRuntime) -> Result<(), Fail> {
-    let command = Command::Normal {
+    let command = Command::About {
         label: b"none",
-        whole: true,
+        question: Question::Form {
+            form: Form::Normal,
+            whole: true,
+        },
     };
     let (text, status) = reply_to(rt.alloc(), &command, &two_files(OLD))?;
     assert!(rt; status == Status::Refused && text.as_slice() == b"ask A1 none\n".as_slice());
@@ -163,7 +169,7 @@ fn saved_full(alloc: Global, first: &[u8]) -> Result<(Vec<u8>, Status), Fail> {
         return Err(Fail::from("the first file is longer than the filler"));
     }
     let files = full_files(alloc, first, &filler)?;
-    let command = Command::All {
+    let command = Command::File {
         form: Form::Normal,
         file: 0,
     };

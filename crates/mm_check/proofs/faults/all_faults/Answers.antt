@@ -1,22 +1,21 @@
--- Where no refusal is noted, all statements are judged to their end.
-use Rattle.std.proofs.Common.{List, map, subst, sym}
-use Rattle.mm_text.specs.Files.{plain_file}
-use Rattle.mm_check.specs.declared.fault.Refusal.{Refusal}
+-- Where no refusal is listed, the files are accepted; else these are all.
+use Rattle.std.proofs.Common.{map, refl, sym, ap, ◌∙◌}
 use Rattle.mm_check.specs.Answer.{plain_refusal}
-use Rattle.mm_check.specs.Faults.{HaveFaults}
-use Rattle.mm_check.proofs.Noting.{none_there}
+use Rattle.mm_check.proofs.Visits.{none_there}
 use Rattle.mm_check.proofs.faults.all_faults.Goals as goal
 
+pub judge_files-requires : goal.judge_files-requires
+judge_files-requires c κs =
+    ((refl, tt), λ readable. sym (ap (map plain_refusal) c.new.ensures.items))
+
 pub conclude-requires : goal.conclude-requires
-conclude-requires c = (
-  c.last_noted-outcome.new.statements,
-  c.in_ok-progress.ensures.clean
-      (none_there c.last_noted-outcome.new.noted (sym c.if-is_empty.ensures)),
-)
+conclude-requires c =
+    let v = c.in-Ok.ensures.visited in
+    (v.clean (v.seen ∙ ap (map plain_refusal)
+    (none_there c.judge_files.new.visitor.refusals (sym c.if-is_empty.ensures)))).0
 
 pub returns-then-is_empty-clause-none : goal.returns-then-is_empty-clause-none
 returns-then-is_empty-clause-none c =
-    subst (λ (noted : List Refusal).
-    HaveFaults c.args.profile (map plain_file c.args.files.now) (map plain_refusal noted))
-    (none_there c.last_noted-outcome.new.noted (sym c.if-is_empty.ensures))
-    c.in_ok-progress.ensures.faults
+    let v = c.in-Ok.ensures.visited in
+    rw (v.seen ∙ ap (map plain_refusal)
+    (none_there c.judge_files.new.visitor.refusals (sym c.if-is_empty.ensures))) at v.faults

@@ -1,9 +1,8 @@
 -- The refusal tells the fault of the statement.
-use Rattle.std.proofs.Common.{Some, Err, inr, map, refl, ap, ◌∙◌}
+use Rattle.std.proofs.Common.{Err, map, refl, ap, ◌∙◌}
 use Rattle.mm_text.specs.Statement.{PlainStatement, plain_statement}
 use Rattle.mm_text.specs.Files.{plain_file}
 use Rattle.mm_check.specs.declared.rule.Rule.TheVariants as rules
-use Rattle.mm_check.specs.Verdict.{Refused}
 use Rattle.mm_check.proofs.Judging.{same_refusal}
 use Rattle.mm_check.proofs.judge.judge.Goals as goal
 
@@ -12,9 +11,8 @@ returns-in-Err-Rule-clause-refused c =
     let s : PlainStatement = plain_statement c.args.statement.now in
     let same =
     same_refusal (map plain_file c.args.files.now) c.args.progress.now.count s
-    (ap rules.Meaning c.in-Err-Rule.rule-is) refl in
-    inr (
+    (ap rules.Meaning c.in-Err-Rule.rule-is) refl in (
       c.in-Err-Rule.rule,
       c.take.ensures.rule c.in-Err-Rule.rule (c.in-Err-Rule.is ∙ ap Err c.in-Err-Rule.field-0-is),
-      ap (λ r. Some (Refused r)) (c.refusal-refusal.ensures ∙ same),
+      c.refusal-refusal.ensures ∙ same,
     )

@@ -1,22 +1,51 @@
 -- What was written is what is saved, or why nothing is.
-use Rattle.std.proofs.Common.{map}
+use Rattle.std.proofs.Common.{map, option_map, refl, ap}
 use Rattle.mm_text.specs.Files.{plain_file}
 use Rattle.mm_text.proofs.Lists.{error_keeps}
 use Rattle.mm_check.specs.declared.save_fault.SaveFault.TheVariants as fault
-use Rattle.mm_check.proofs.WrittenFiles.{all_saved, finish_fault}
+use Rattle.mm_check.proofs.OnTheWay.{within_limit}
+use Rattle.mm_check.proofs.Visits.{verdict_told}
+use Rattle.mm_check.proofs.WrittenFiles.{all_saved, all_written, finish_fault, long_fault}
 use Rattle.mm_check.proofs.save_all.saved_all.Goals as goal
+
+pub judge_files-requires : goal.judge_files-requires
+judge_files-requires c κs = (
+  (refl, tt),
+  λ readable. record {
+    lenient = refl;
+    none = refl;
+    so_far = c.in-Ok.ensures.begun (within_limit (map plain_file c.args.files.now) readable);
+    number = refl;
+    form = refl;
+  },
+)
 
 pub returns-clause-saved : goal.returns-clause-saved
 returns-clause-saved c =
-    all_saved c.args.form (map plain_file c.args.files.now) c.args.number c.in-Ok-outcome.file
-    c.in_ok-finish-in-None.field-0.items c.in-Ok-outcome.ensures.form
-    c.in-Ok-outcome.ensures.number c.in-None.is c.in-Ok-outcome.ensures.written
+    all_saved c.args.form (map plain_file c.args.files.now) c.args.number c.in-Ok.file
+    c.judge_files.new.visitor c.in_ok-finish-in-None.field-0.items c.in-Ok.ensures.form
+    c.in-Ok.ensures.number c.in-None.is (all_written (map plain_file c.args.files.now)
+    c.in-Ok.file c.judge_files.new.visitor _ c.in-Ok-judge_files.ensures.visited)
     c.in_ok-finish-in-None.ensures.whole c.in_ok-finish-in-None.ensures.fits
 
 pub returns-in_err-finish-in-None-clause-fault : goal.returns-in_err-finish-in-None-clause-fault
 returns-in_err-finish-in-None-clause-fault c =
     error_keeps c.from_residual.result (fault.Ask c.in_err-finish-in-None.field-0.0) _
     c.from_residual.ensures.1
-    (finish_fault c.args.form (map plain_file c.args.files.now) c.args.number c.in-Ok-outcome.file
-    c.in_err-finish-in-None.field-0.0 c.in-Ok-outcome.ensures.form c.in-Ok-outcome.ensures.number
-    c.in-None.is c.in-Ok-outcome.ensures.written c.in_err-finish-in-None.ensures.fault)
+    (finish_fault c.args.form (map plain_file c.args.files.now) c.args.number c.in-Ok.file
+    c.judge_files.new.visitor c.in_err-finish-in-None.field-0.0 c.in-Ok.ensures.form
+    c.in-Ok.ensures.number c.in-None.is (all_written (map plain_file c.args.files.now)
+    c.in-Ok.file c.judge_files.new.visitor _ c.in-Ok-judge_files.ensures.visited)
+    c.in_err-finish-in-None.ensures.fault)
+
+pub returns-in-Err-judge_files-clause-fault : goal.returns-in-Err-judge_files-clause-fault
+returns-in-Err-judge_files-clause-fault c =
+    verdict_told _ _ _ (map plain_file c.args.files.now) _ _ (λ taken listed w. w.none)
+    c.in-Err-judge_files.fault c.in-Err-judge_files.ensures.stopped
+
+pub returns-in-Some-clause-fault : goal.returns-in-Some-clause-fault
+returns-in-Some-clause-fault c =
+    long_fault c.args.form (map plain_file c.args.files.now) c.args.number c.in-Ok.file
+    c.judge_files.new.visitor c.in-Some.label.now c.in-Ok.ensures.form c.in-Ok.ensures.number
+    (ap (option_map (λ l. l.now)) c.in-Some.is) (all_written (map plain_file c.args.files.now)
+    c.in-Ok.file c.judge_files.new.visitor _ c.in-Ok-judge_files.ensures.visited)

@@ -1,9 +1,9 @@
 -- What the progress tells in the end is the verdict.
-use Rattle.mm_check.proofs.Course.{Concludes, end_concludes, labels_kept, counts_kept, uses_kept, kept_well}
+use Rattle.mm_check.proofs.Concluding.{Concludes, end_concludes, labels_kept, counts_kept, uses_kept, kept_well}
 use Rattle.mm_check.proofs.verdict.conclude.Goals as goal
 
 pub new-requires : goal.new-requires
-new-requires c = kept_well c.requires.1
+new-requires c = kept_well c.requires
 
 -- what is kept of the progress
 kept : (c : goal.After-new) → Concludes c.args.progress c.new.result
@@ -17,13 +17,13 @@ kept c = record {
 }
 
 pub returns-clause-verdict : goal.returns-clause-verdict
-returns-clause-verdict c = end_concludes c.requires.1 (kept c)
+returns-clause-verdict c = end_concludes c.requires (kept c)
 
 pub returns-clause-labels : goal.returns-clause-labels
-returns-clause-labels c = labels_kept c.requires.1 (kept c)
+returns-clause-labels c = labels_kept c.requires (kept c)
 
 pub returns-clause-counts : goal.returns-clause-counts
-returns-clause-counts c = counts_kept c.requires.1 (kept c)
+returns-clause-counts c = counts_kept c.requires (kept c)
 
 pub returns-clause-uses : goal.returns-clause-uses
-returns-clause-uses c = uses_kept c.requires.1 (kept c)
+returns-clause-uses c = uses_kept c.requires (kept c)

@@ -1,44 +1,40 @@
--- The turn tells how checking goes on.
-use Rattle.std.proofs.Common.{map, subst}
-use Rattle.std.proofs.lemmas.Option.{same_Some}
+-- The next statement is judged where one is left.
+use Rattle.std.proofs.Common.{true, inr, map, arith}
 use Rattle.mm_text.specs.Statement.{plain_statement}
 use Rattle.mm_text.specs.Files.{plain_file}
 use Rattle.mm_text.proofs.Lists.{error_keeps}
-use Rattle.mm_check.specs.Verdict.{Refused, HasVerdict}
-use Rattle.mm_check.specs.Answer.{plain_refusal}
-use Rattle.mm_check.proofs.Course.{at_end, faulty_verdict, goes_on, stopped_verdict}
-use Rattle.mm_check.proofs.OnTheWay.{read_so_far}
+use Rattle.mm_check.specs.Mirror.Judged.{IsRead, TakesNext}
+use Rattle.mm_check.proofs.OnTheWay.{closes, has_room, few}
 use Rattle.mm_check.proofs.verdict.judge_next.Goals as goal
 
-pub take_turn-requires : goal.take_turn-requires
-take_turn-requires c =
-    (read_so_far c.args.profile (map plain_file c.args.files.now) c.args.progress.now
-    c.args.statements.now c.requires).0
+-- what holds where the statement is to be judged
+way : (c : goal.After-judge-arg-1) → IsRead (map plain_file c.args.files.now)
+    c.make_room.new.progress c.args.statements.now
+way c = rw c.make_room.ensures c.requires
 
-pub returns-in_err-take_turn-clause-refused : goal.returns-in_err-take_turn-clause-refused
-returns-in_err-take_turn-clause-refused c =
-    error_keeps c.from_residual.result c.in_err-take_turn.field-0.0 _ c.from_residual.ensures.1
-    (stopped_verdict c.args.profile _ c.args.progress.now _ c.in_err-take_turn.field-0.0 c.requires
-    c.in_err-take_turn.ensures.stopped)
+taken : (c : goal.After-judge-arg-1) → TakesNext c.args.statements.now true
+    (plain_statement c.next.new.into) c.next.new.statements
+taken c = rw c.if-not-branch.false at c.in_ok-next.ensures.taken
 
-pub returns-in-End-clause-judged : goal.returns-in-End-clause-judged
-returns-in-End-clause-judged c =
-    let (taken, same) = rw c.in-End.is at c.in_ok-take_turn.ensures.turned in
-    rw same
-    (at_end c.args.profile (map plain_file c.args.files.now) c.args.progress.now
-    c.args.statements.now c.take_turn.new.statements (plain_statement c.take_turn.new.into) taken)
+pub judge-requires-clause-closes : goal.judge-requires-clause-closes
+judge-requires-clause-closes c = closes _ _ _ _ _ (way c) (taken c)
 
-pub returns-in-Obeys-clause-judged : goal.returns-in-Obeys-clause-judged
-returns-in-Obeys-clause-judged c =
-    let (taken, formed, takes) = rw c.in-Obeys.is at c.in_ok-take_turn.ensures.turned in
-    goes_on c.args.profile (map plain_file c.args.files.now)
-    (plain_statement c.take_turn.new.into) c.args.progress.now c.take_turn.new.progress
-    c.args.statements.now c.take_turn.new.statements taken formed takes
+pub judge-requires-clause-room : goal.judge-requires-clause-room
+judge-requires-clause-room c = has_room _ _ _ _ _ (way c) (taken c)
 
-pub returns-in-Faulty-clause-refused : goal.returns-in-Faulty-clause-refused
-returns-in-Faulty-clause-refused c = λ verdict e.
-    let (taken, formed, faulty) = rw c.in-Faulty.is at c.in_ok-take_turn.ensures.turned in
-    subst (HasVerdict c.args.profile (map plain_file c.args.files.now))
-    (same_Some (Refused (plain_refusal c.in-Faulty.refusal)) verdict e)
-    (faulty_verdict c.args.profile _ c.args.progress.now _ (plain_statement c.take_turn.new.into)
-    _ _ c.in-Faulty.refusal c.requires taken faulty)
+pub judge-requires-clause-count : goal.judge-requires-clause-count
+judge-requires-clause-count c = omega (arith, few _ _ _ (way c), (way c).taken.count)
+
+pub judge-requires-clause-proofs : goal.judge-requires-clause-proofs
+judge-requires-clause-proofs c = omega (arith, few _ _ _ (way c), (way c).taken.proofs)
+
+pub returns-in_err-judge-clause-stopped : goal.returns-in_err-judge-clause-stopped
+returns-in_err-judge-clause-stopped c =
+    error_keeps c.from_residual-in_err-judge.result c.in_err-judge.field-0.0 _
+    c.from_residual-in_err-judge.ensures.1
+    (inr (
+      plain_statement c.next.new.into,
+      c.next.new.statements,
+      rw c.if-not-branch.false at c.in_ok-next.ensures.taken,
+      rw c.make_room.ensures at c.in_err-judge.ensures.refused,
+    ))

@@ -1,6 +1,5 @@
 -- Once the proof is read, the comparison ends as the command over the files does.
 use Rattle.std.proofs.Common.{◌≤◌, Err, length, ap, arith, ◌∙◌}
-use Rattle.mm_check.specs.declared.command.Command.TheVariants.{Same}
 use Rattle.mm_tool.proofs.Answering.{same_replies, same_stops, same_too_long}
 use Rattle.mm_tool.proofs.serve.compare_over.Goals as goal
 
@@ -19,8 +18,8 @@ returns-clause-replies g c =
     let few = c.in-Ok.ensures.within in omega (arith, count, few) in
     same_replies g.O.Write.contents (g.F.Folder.holds c.args.folder.now) c.args.max
     c.args.asked.now.label.now c.args.asked.now.proof.now _
-    (Same c.as_bytes.result c.deref.result) whole c.run_over.result _ _
-    (named, held, within) (c.as_bytes.ensures.value, c.deref.ensures.value ∙ reads.1)
+    c.same_command-command.result whole c.run_over.result _ _ (named, held, within)
+    (rw (c.as_bytes.ensures.value, c.deref.ensures.value ∙ reads.1) at c.same_command-command.ensures)
     (rw c.deref-2.ensures.value at c.run_over.ensures.replies)
 
 pub returns-clause-stops : goal.returns-clause-stops
@@ -31,6 +30,6 @@ returns-clause-stops g c =
     same_stops g.O.Write.contents (g.F.Folder.holds c.args.folder.now)
     (g.F.Folder.may_fail c.args.folder.now) c.args.max
     c.args.asked.now.label.now c.args.asked.now.proof.now _
-    (Same c.as_bytes.result c.deref.result) whole c.run_over.result _ _
-    (named, held, within) (c.as_bytes.ensures.value, c.deref.ensures.value ∙ reads.1)
+    c.same_command-command.result whole c.run_over.result _ _ (named, held, within)
+    (rw (c.as_bytes.ensures.value, c.deref.ensures.value ∙ reads.1) at c.same_command-command.ensures)
     (rw c.deref-2.ensures.value at c.run_over.ensures.stops)

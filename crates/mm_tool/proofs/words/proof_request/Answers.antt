@@ -1,11 +1,7 @@
 -- The words ask for what the matches of their command say.
 use Rattle.std.proofs.Common.{List, map, ◌∙◌}
 use Rattle.clap.specs.Words.{Row, found_of, rows_of}
-use Rattle.mm_check.specs.declared.form.Form.{Form}
-use Rattle.mm_check.specs.declared.form.Form.TheVariants.{Normal, Packed}
-use Rattle.mm_tool.specs.Words.{Commands, name_of_form}
 use Rattle.mm_tool.proofs.Asked.{all_asked, all_refused, form_asked}
-use Rattle.mm_tool.proofs.words.proof_request.Goals.{in-Normal, in-Packed}
 use Rattle.mm_tool.proofs.words.proof_request.Goals as goal
 
 pub returns-then-is_given-clause-request : goal.returns-then-is_given-clause-request
@@ -26,11 +22,6 @@ pub returns-clause-request : goal.returns-clause-request
 returns-clause-request c = λ words commands.
     let rows : List Row = rows_of (found_of c.args.matches.now) in
     let label = c.as_bytes-label.ensures.value ∙ c.asked_word-word.ensures in
-    let asked = λ (form : Form) (named : Commands words (name_of_form form) rows).
-    form_asked words form rows c.is_given-whole.result c.is_given.result c.as_bytes-label.result.now
-    (map (λ n. n.now) c.in_ok-names.names.items) named c.is_given-whole.ensures c.is_given.ensures
-    c.if-is_given.false label c.in_ok-names.ensures in
-    elim c.match-form.branch [
-      | in-Normal w ↦ rw w.command-is (asked Normal (rw w.in-Normal.is at commands))
-      | in-Packed w ↦ rw w.command-is (asked Packed (rw w.in-Packed.is at commands))
-    ]
+    form_asked words c.args.form rows c.is_given-whole.result c.is_given.result c.as_bytes-label.result.now
+    (map (λ n. n.now) c.in_ok-names.names.items) commands c.is_given-whole.ensures c.is_given.ensures
+    c.if-is_given.false label c.in_ok-names.ensures

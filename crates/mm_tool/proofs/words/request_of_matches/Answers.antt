@@ -1,39 +1,25 @@
 -- The words ask for what their matches say.
-use Rattle.std.proofs.Common.{◌∙◌, inl, inr, refl, sym}
+use Rattle.std.proofs.Common.{inl, inr, refl}
 use Rattle.mm_tool.proofs.Asked.{commands_met, none_there, not_commanded}
 use Rattle.mm_tool.proofs.words.request_of_matches.Goals as goal
 
 pub returns-in-Some-clause-request : goal.returns-in-Some-clause-request
-returns-in-Some-clause-request c = λ words met. (
-  _,
-  commands_met words c.args.matches.now _ _ met (c.in-Some.ensures.found.0 refl) c.in-Some.ensures.rows,
-  c.asked_profile.ensures,
-  sym c.in_ok-values_of.ensures,
-)
+returns-in-Some-clause-request c = λ words met. c.in_ok-whole_request.ensures words
+    (commands_met words c.args.matches.now _ _ met (c.in-Some.ensures.found.0 refl) c.in-Some.ensures.rows)
 
 pub returns-in-Some-subcommand_matches-clause-request : goal.returns-in-Some-subcommand_matches-clause-request
-returns-in-Some-subcommand_matches-clause-request c = λ words met. (
-  _,
-  commands_met words c.args.matches.now _ _ met (c.in-Some-subcommand_matches.ensures.found.0 refl) c.in-Some-subcommand_matches.ensures.rows,
-  c.asked_profile-in-Some-subcommand_matches.ensures,
-  sym c.in_ok-values_of-2.ensures,
-)
+returns-in-Some-subcommand_matches-clause-request c = λ words met. c.in_ok-whole_request-2.ensures words
+    (commands_met words c.args.matches.now _ _ met (c.in-Some-subcommand_matches.ensures.found.0 refl) c.in-Some-subcommand_matches.ensures.rows)
 
 pub returns-in-Some-subcommand_matches-2-clause-request : goal.returns-in-Some-subcommand_matches-2-clause-request
-returns-in-Some-subcommand_matches-2-clause-request c = λ words met. (
-  _,
-  commands_met words c.args.matches.now _ _ met (c.in-Some-subcommand_matches-2.ensures.found.0 refl) c.in-Some-subcommand_matches-2.ensures.rows,
-  sym (c.as_bytes.ensures.value ∙ c.asked_word.ensures),
-  sym c.in_ok-values_of-3.ensures,
-)
+returns-in-Some-subcommand_matches-2-clause-request c = λ words met. c.in_ok-label_request.ensures words _
+    (commands_met words c.args.matches.now _ _ met (c.in-Some-subcommand_matches-2.ensures.found.0 refl) c.in-Some-subcommand_matches-2.ensures.rows)
+    (λ label names asks. asks)
 
 pub returns-in-Some-subcommand_matches-3-clause-request : goal.returns-in-Some-subcommand_matches-3-clause-request
-returns-in-Some-subcommand_matches-3-clause-request c = λ words met. (
-  _,
-  commands_met words c.args.matches.now _ _ met (c.in-Some-subcommand_matches-3.ensures.found.0 refl) c.in-Some-subcommand_matches-3.ensures.rows,
-  sym (c.as_bytes-in-Some-subcommand_matches-3.ensures.value ∙ c.asked_word-in-Some-subcommand_matches-3.ensures),
-  sym c.in_ok-values_of-4.ensures,
-)
+returns-in-Some-subcommand_matches-3-clause-request c = λ words met. c.in_ok-label_request-2.ensures words _
+    (commands_met words c.args.matches.now _ _ met (c.in-Some-subcommand_matches-3.ensures.found.0 refl) c.in-Some-subcommand_matches-3.ensures.rows)
+    (λ label names asks. asks)
 
 pub returns-clause-fault : goal.returns-clause-fault
 returns-clause-fault c = λ words met.
