@@ -6,7 +6,7 @@
 #   `AllocFailed`. Everything else passes it on, by `?`, or in an arm of a `match` whose pattern is
 #   itself `Memory` (or `OutOfMemory`). An `AllocError` or `AllocFailed` is named as a type alone,
 #   and as a value only to be passed on in the same way.
-# - A pattern has no other variant beside `Memory`: another fault would be told as want of memory.
+# - A pattern has no other variant beside `Memory`: another fault would be told as lack of memory.
 # - No room is asked for by the greatest number of a type, which is refused whatever memory there
 #   is. Three places need that, where a number passes what is stored in 32 bits: `reserve_numbered` of
 #   mm_frame's lists.rt, `push_piece` of its pattern.rt, and `make_entry_room` of mm_proof's parse.rt.
@@ -131,7 +131,7 @@ find crates -name out -prune -o -path crates/mm_tests -prune -o -path '*/src/*' 
         values = without_types(body)
         makes = values ~ /::Memory/ || values ~ /Alloc(Error|Failed)/
         if (makes && !conversion && !passes) {
-            complain(FILENAME, FNR, "makes a want of memory that no growth refused", $0)
+            complain(FILENAME, FNR, "makes a lack of memory that no growth refused", $0)
         }
     }
     END {

@@ -11,7 +11,7 @@ ghost use Rattle.mm_check.specs.Mirror.Judged.{RefusesMeaning, TriesProof};
 ghost use Rattle.mm_check.specs.Answer.{plain_refusal};
 
 use crate::fault::{Refusal, Stop};
-use crate::place::line_of;
+use crate::position::line_of;
 use crate::progress::Progress;
 use crate::rule::Rule;
 use mm_frame::{LabelId, RuleFault, Taken};

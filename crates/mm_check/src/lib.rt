@@ -12,7 +12,7 @@ mod forms;
 mod judge;
 mod kept;
 mod laws;
-mod place;
+mod position;
 mod progress;
 mod question;
 mod reply;

@@ -117,7 +117,7 @@ fn report_status(report: &Report) -> Status
 }
 
 /// The line that says why a question about a label has no answer.
-#[tactic(auto, using(crate::proofs::Lines::three_words))]
+#[tactic(auto, using(crate::proofs::ReplyTexts::three_words))]
 fn ask_text(alloc: Global, rule: Rule, label: &[u8]) -> Result<Vec<u8>, AllocError>
     ensures { IfOk result (λ text. text.items
         ≡ line_with (codes "ask") (code_of rule ∷ label.now ∷ [])) }
@@ -142,7 +142,7 @@ fn ask_status(rule: AskRule) -> Status
 }
 
 /// The line that says why a proof's text that is handed in is refused.
-#[tactic(auto, using(crate::proofs::Lines::three_words))]
+#[tactic(auto, using(crate::proofs::ReplyTexts::three_words))]
 fn refused_text(alloc: Global, rule: Rule, step: usize) -> Result<Vec<u8>, AllocError>
     ensures { IfOk result (λ text. text.items
         ≡ line_with (codes "text") (code_of rule ∷ decimal step ∷ [])) }

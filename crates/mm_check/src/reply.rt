@@ -67,7 +67,7 @@ fn push_load(out: &mut Vec<u8>, rule: Rule) -> Result<(), AllocError>
 }
 
 /// The line of yes.
-#[tactic(auto, using(crate::proofs::Lines::five_words))]
+#[tactic(auto, using(crate::proofs::ReplyTexts::five_words))]
 fn push_yes(out: &mut Vec<u8>, statements: usize, proofs: usize) -> Result<(), AllocError>
     ensures { OnOk result (out.new.items ≡ out.old.items
         ++ line_with (codes "yes") (decimal statements ∷ codes "statements"
@@ -98,7 +98,7 @@ pub(crate) fn push_label(
 }
 
 /// A line for the label of each of these numbers.
-#[tactic(auto, using(crate::proofs::Lines::one_more_line))]
+#[tactic(auto, using(crate::proofs::ReplyTexts::one_more_line))]
 pub(crate) fn push_labels(
     out: &mut Vec<u8>,
     checked: &Checked,
@@ -115,7 +115,7 @@ pub(crate) fn push_labels(
 }
 
 /// The lines that list the incomplete proofs.
-#[tactic(auto, using(crate::proofs::Lines::incomplete_lines))]
+#[tactic(auto, using(crate::proofs::ReplyTexts::incomplete_lines))]
 fn push_incomplete(
     out: &mut Vec<u8>,
     checked: &Checked,
@@ -133,7 +133,7 @@ fn push_incomplete(
 }
 
 /// The lines of a database in which nothing is at fault.
-#[tactic(auto, using(crate::proofs::Lines::text_of_some))]
+#[tactic(auto, using(crate::proofs::ReplyTexts::text_of_some))]
 fn push_conclusion(out: &mut Vec<u8>, checked: &Checked) -> Result<(), AllocError>
     ensures { OnOk result (out.new.items ≡ out.old.items
         ++ text_at [] (verdict_of_conclusion checked.now)) }
@@ -156,7 +156,7 @@ fn refusal_status(rule: Rule) -> Status
 }
 
 /// The line of a refusal.
-#[tactic(auto, using(crate::proofs::Lines::six_words))]
+#[tactic(auto, using(crate::proofs::ReplyTexts::six_words))]
 fn push_refusal(out: &mut Vec<u8>, files: &[File], refusal: &Refusal) -> Result<(), AllocError>
     ensures { OnOk result (out.new.items ≡ out.old.items
         ++ text_at (map plain_file files.now) (Refused (plain_refusal refusal.now))) }
@@ -172,7 +172,7 @@ fn push_refusal(out: &mut Vec<u8>, files: &[File], refusal: &Refusal) -> Result<
 }
 
 /// A line for each refusal.
-#[tactic(auto, using(crate::proofs::Lines::one_more_refusal))]
+#[tactic(auto, using(crate::proofs::ReplyTexts::one_more_refusal))]
 pub(crate) fn push_refusals(
     out: &mut Vec<u8>,
     files: &[File],

@@ -107,7 +107,7 @@ pub(crate) fn reread<'a>(
 }
 
 /// Reads the texts of the tokens of a statement's proof, in place of what the list held.
-#[tactic(auto, using(std::proofs::lemmas::List::take_all, crate::proofs::Judging::texts_of))]
+#[tactic(auto, using(std::proofs::lemmas::List::take_all, crate::proofs::Verdicts::JudgedProofs::texts_of))]
 pub(crate) fn read_proof<'a>(
     tokens: &mut Vec<&'a [u8]>,
     statement: &Statement<'a>,

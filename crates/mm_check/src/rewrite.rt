@@ -35,7 +35,7 @@ fn with_text(
 
 /// The most bytes that the file with a number may have, so that the files have no more than they
 /// may.
-#[tactic(auto, using(crate::proofs::Saving::file_most))]
+#[tactic(auto, using(crate::proofs::Saving::SavedFiles::file_most))]
 pub(crate) fn most_for(files: &[File], number: usize) -> usize
     requires { number < length files.now }
     ensures { total_bytes (map plain_file files.now) ≤ most_bytes

@@ -36,7 +36,7 @@ fn push_name(out: &mut Vec<u8>, book: &Book, name: Name) -> Result<(), AllocErro
 }
 
 /// Puts a space and the symbol at the end, for each of these symbols.
-#[tactic(auto, using(crate::proofs::Listings::symbol_steps))]
+#[tactic(auto, using(crate::proofs::Questions::ShownSteps::symbol_steps))]
 fn push_symbols(out: &mut Vec<u8>, book: &Book, symbols: &[Sym]) -> Result<(), AllocError>
     requires { AllByRecursion (λ n. n < length (symbols_of book.now.statements))
         (numbers_in symbols.now) }

@@ -67,7 +67,7 @@ fn is_printable(token: &[u8]) -> bool
 }
 
 /// Whether each byte of the tokens is one that a token may hold.
-#[tactic(auto, using(crate::proofs::Texts::all_fail))]
+#[tactic(auto, using(crate::proofs::Questions::ComparedTexts::all_fail))]
 fn all_printable(tokens: &[&[u8]]) -> bool
     ensures { result ≡ are_printable (texts tokens.now) }
 {

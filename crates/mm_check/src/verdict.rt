@@ -20,7 +20,7 @@ use crate::checked::Checked;
 use crate::fault::{CheckFault, Refusal, Stop};
 use crate::judge::{Judged, judge};
 use crate::kept::Kept;
-use crate::place::line_of;
+use crate::position::line_of;
 use crate::progress::Progress;
 use crate::rule::Rule;
 use crate::size::size_of;

@@ -1,16 +1,39 @@
--- From the reading of one file to that of all.
-use Rattle.std.proofs.Common.{◌≡◌, ℕ, suc, ◌+◌, ◌<◌, List, ◌∷◌, ◌++◌, length, map, take, drop, get_or, Result, Err, IsErrOf, refl, sym, ap, ◌∙◌, arith, Bor}
+-- Files as they are read, one after the other, and the notes on those that weren't included.
+use Rattle.std.proofs.Common.{◌≡◌, ℕ, suc, ◌+◌, ◌<◌, List, ◌∷◌, ◌++◌, length, map, take, drop}
+use Rattle.std.proofs.Common.{get_or, Result, Err, IsErrOf, refl, sym, ap, ◌∙◌, arith, Bor}
+use Rattle.std.proofs.Common.{take-append-drop, ◌≤◌, [], ap₂, subst, Option, Some, IfSome, zero}
+use Rattle.std.proofs.Common.{filter, Bool, true, false, cond, append_assoc, Ok, OnOk, is_ok}
+use Rattle.std.proofs.Common.{if◌then◌else◌}
 use Rattle.std.proofs.Math.Seq.{drop-cons}
-use Rattle.std.proofs.lemmas.List.{map-append}
-use Rattle.std.proofs.Common.{take-append-drop}
-use Rattle.std.specs.List.{AllByRecursion}
-use Rattle.mm_text.specs.Files.{PlainFile, total_bytes}
-use Rattle.mm_tool.proofs.AskedCodes.{texts_in}
-use Rattle.mm_tool.specs.Folder.{ComesNext, IsFileFault, IsHeld, KnownFile, MayHold}
-use Rattle.mm_tool.specs.Folder.{Unknown, Absent, Holds}
+use Rattle.std.proofs.lemmas.List.{map-append, take_more, length-map}
+use Rattle.std.specs.List.{AllByRecursion, AllZip, range_with_len}
+use Rattle.mm_text.specs.Files.{PlainFile, total_bytes, most_bytes, plain_file, BreaksLoad}
+use Rattle.mm_tool.proofs.AskedWords.{texts_in}
+use Rattle.mm_tool.specs.Folder.{ComesNext, IsFileFault, IsHeld, KnownFile, MayHold, Unknown}
+use Rattle.mm_tool.specs.Folder.{Absent, Holds}
 use Rattle.mm_tool.specs.declared.files.FileFault.{FileFault}
 use Rattle.mm_tool.specs.declared.files.FileFault.TheVariants.{CannotRead, TooLong, Memory}
 use Rattle.mm_tool.specs.declared.files.ReadFile.{ReadFile}
+use Rattle.std.proofs.lemmas.List.Sums.{sum_by-append, sum_by_push}
+use Rattle.mm_text.specs.Alike.{AreAlike}
+use Rattle.mm_check.specs.Alike.{AlikeFilesHaveOneReply}
+use Rattle.mm_check.specs.Reply.{IsReplyTo, name_of}
+use Rattle.mm_check.specs.declared.command.Command.{Command}
+use Rattle.mm_check.specs.declared.command.Command.TheVariants.{Whole}
+use Rattle.mm_check.specs.declared.question.WholeQuestion.TheVariants.{Check}
+use Rattle.mm_proof.specs.declared.profile.Profile.{Profile}
+use Rattle.mm_tool.specs.declared.files.Comments.{Comments}
+use Rattle.mm_tool.specs.declared.files.Comments.TheVariants.{Kept, LeftOut}
+use Rattle.mm_tool.specs.ReadFiles.{IsReadAs}
+use Rattle.std.proofs.lemmas.Option.{slice_get-get_or}
+use Rattle.mm_text.specs.declared.fault.LoadRule.{LoadRule}
+use Rattle.mm_text.specs.declared.file.File.{File}
+use Rattle.mm_text.specs.Included.{AlikeFilesLeaveOutTheSame, is_left_out, left_out}
+use Rattle.mm_text.proofs.Lists.{all_at, all_weaker}
+use Rattle.mm_check.proofs.Verdicts.AlikeVerdicts.{alike_back, breaks_alike, name_alike}
+use Rattle.mm_tool.specs.Notes.{AreLeftOut, AreNotesOn}
+
+-- ==== from the reading of one file to that of all
 
 -- the names are those before a place, the one there, and those after it
 pub texts_at : (names : List (Bor (List ℕ))) (i : ℕ) (d : Bor (List ℕ)) → i < length names
@@ -51,3 +74,180 @@ file_fault_at holds may_fail names max name left next whole TooLong named fails 
     more Absent h = absurd h
     more (Holds all) h = omega arith
 file_fault_at holds may_fail names max name left next whole Memory named fails over = tt
+
+-- ==== files that were read, beside what they are read of
+
+-- ## One file more
+
+byte_count : (file : PlainFile) (files : List PlainFile) → total_bytes (file ∷ files) ≡ length file.bytes + total_bytes files
+byte_count file files =
+    let parts = sum_by-append (λ (f : PlainFile). length f.bytes) (file ∷ []) files in
+    omega (arith, parts)
+
+pub more_bytes : (files : List PlainFile) (file : PlainFile) → total_bytes (files ++ file ∷ []) ≡ total_bytes files + length file.bytes
+more_bytes files file = sum_by_push (λ (f : PlainFile). length f.bytes) files file
+
+pub more_names : (files : List PlainFile) (file : PlainFile) (names : List (Bor (List ℕ))) (i : ℕ) (d : Bor (List ℕ)) → i < length names → map (λ f. f.name) files ≡ map (λ n. n.now) (take i names) → file.name ≡ (get_or names i d).now
+    → map (λ f. f.name) (files ++ file ∷ []) ≡ map (λ n. n.now) (take (i + 1) names)
+more_names files file names i d within named name =
+    rw (map-append, take_more names i d within, map-append, named, name) refl
+
+-- ## The reply over what was read is that over the whole files
+
+-- nothing was left out
+pub same_files : (wholes reads : List PlainFile) → AllZip (IsReadAs Kept) wholes reads → reads ≡ wholes
+same_files [] [] all = refl
+same_files (whole ∷ wholes) (read ∷ reads) all =
+    let name = all.0.0 in
+    let bytes = all.0.1 in
+    let rest = same_files wholes reads all.1 in
+    let first : read ≡ whole = ap₂ (λ (n b : List ℕ). let f : PlainFile = record { name = n; bytes = b } in f) (sym name) bytes in
+    ap (λ f. f ∷ reads) first ∙ ap (λ l. whole ∷ l) rest
+same_files wholes reads all = absurd all
+
+-- what comments say was left out
+pub alike_files : (wholes reads : List PlainFile) → AllZip (IsReadAs LeftOut) wholes reads → AllZip AreAlike reads wholes
+alike_files [] [] all = tt
+alike_files (whole ∷ wholes) (read ∷ reads) all = ((sym all.0.0, λ file. sym (all.0.1.0 file)), alike_files wholes reads all.1)
+alike_files wholes reads all = absurd all
+
+pub fewer_bytes : (wholes reads : List PlainFile) → AllZip (IsReadAs LeftOut) wholes reads → total_bytes reads ≤ total_bytes wholes
+fewer_bytes [] [] all = omega arith
+fewer_bytes (whole ∷ wholes) (read ∷ reads) all =
+    let rest = fewer_bytes wholes reads all.1 in
+    let first = all.0.1.1 in
+    let one = byte_count whole wholes in
+    let other = byte_count read reads in
+    omega (arith, rest, first, one, other)
+fewer_bytes wholes reads all = absurd all
+
+pub reply_over : AlikeFilesHaveOneReply → (comments : Comments) (command : Command) (max : ℕ) → (comments ≡ LeftOut → ((profile : Profile) × (command ≡ Whole profile Check)) × (max ≤ most_bytes)) → (wholes reads : List PlainFile) → AllZip (IsReadAs comments) wholes reads → total_bytes wholes ≤ max
+    → (text : List ℕ) (status : ℕ) → IsReplyTo reads command text status → IsReplyTo wholes command text status
+reply_over law Kept command max only wholes reads all within text status reply =
+    subst (λ l. IsReplyTo l command text status) (same_files wholes reads all) reply
+reply_over law LeftOut command max only wholes reads all within text status reply =
+    let (named, few) = only refl in
+    let fewer = fewer_bytes wholes reads all in
+    subst (λ k. IsReplyTo wholes k text status) (sym named.1)
+    (law named.0 reads wholes (alike_files wholes reads all) (omega (arith, fewer, within, few)) (omega (arith, within, few)) text status
+    (subst (λ k. IsReplyTo reads k text status) named.1 reply))
+
+-- ## One file
+
+-- what is so of the bytes that a source holds is so of what its file holds
+pub held_by : (P : List ℕ → Type 0) (known : KnownFile) (left : Option (List ℕ))
+    → MayHold known (λ bytes. left ≡ Some bytes) → IfSome left P → MayHold known P
+held_by P Unknown left one other = tt
+held_by P Absent left one other = absurd one
+held_by P (Holds bytes) left one other = rw one at other
+
+-- ==== the names of files that weren't included, by their numbers, and the notes on these files
+
+-- ---- numbers
+
+-- What is left of a range of numbers lies in it.
+each_below : (p : ℕ → Bool) (low count : ℕ)
+    → AllByRecursion (λ n. n < low + count) (filter p (range_with_len low count))
+each_below p low zero = tt
+each_below p low (suc count) =
+    let rest = filter p (range_with_len (low + 1) count) in
+    let high : AllByRecursion (λ n. n < low + suc count) rest =
+    all_weaker (λ n. n < low + 1 + count) (λ n. n < low + suc count) (λ n h. omega arith) _
+    (each_below p (low + 1) count) in
+    elim (p low) as (λ b. AllByRecursion (λ n. n < low + suc count) (cond b (low ∷ rest) rest))
+    [ true ↦ (omega arith, high) | false ↦ high ]
+
+-- Each of the numbers of the files that weren't included is the number of a file.
+pub number_within : (files : List File) (numbers given : List ℕ) → given ≡ numbers
+    → (((rule : LoadRule) → BreaksLoad (map plain_file files) rule → ⊥)
+    → numbers ≡ left_out (map plain_file files))
+    → ((rule : LoadRule) → BreaksLoad (map plain_file files) rule → numbers ≡ [])
+    → (i d : ℕ) → i < length given → get_or given i d < length files
+number_within files numbers given same whole broken i d less =
+    let count = length-map files plain_file in
+    let none : (rule : LoadRule) → BreaksLoad (map plain_file files) rule → ⊥ =
+    λ rule breaks. let empty = ap length (same ∙ broken rule breaks) in absurd (omega arith) in
+    let all : AllByRecursion (λ n. n < length files) given =
+    subst (AllByRecursion (λ n. n < length files)) (sym (same ∙ whole none))
+    (all_weaker (λ n. n < 0 + length (map plain_file files)) (λ n. n < length files)
+    (λ n h. omega arith) _
+    (each_below (is_left_out (map plain_file files)) 0 (length (map plain_file files)))) in
+    all_at (λ n. n < length files) given i (get_or given i d) all (slice_get-get_or given i d less)
+
+-- ---- names
+
+-- The name of the file with a number.
+pub name_at : (files : List File) (n : ℕ) (d : File) → n < length files
+    → (get_or files n d).name.now ≡ name_of (map plain_file files) n
+name_at [] n d less = absurd (omega arith)
+name_at (f ∷ fs) zero d less = refl
+name_at (f ∷ fs) (suc n) d less = name_at fs n d (omega arith)
+
+-- The name of one file more.
+pub name_more : (files : List PlainFile) (names : List (List ℕ)) (numbers : List ℕ) (i d : ℕ)
+    (name : List ℕ) → i < length numbers → names ≡ map (name_of files) (take i numbers)
+    → name ≡ name_of files (get_or numbers i d)
+    → names ++ name ∷ [] ≡ map (name_of files) (take (i + 1) numbers)
+name_more files names numbers i d name less so_far this =
+    rw (so_far, this, take_more numbers i d less, map-append)
+
+-- The names by these numbers are those of the files that weren't included.
+pub names_told : (files : List PlainFile) (numbers given : List ℕ) (names : List (List ℕ))
+    → given ≡ numbers → (((rule : LoadRule) → BreaksLoad files rule → ⊥) → numbers ≡ left_out files)
+    → ((rule : LoadRule) → BreaksLoad files rule → numbers ≡ [])
+    → names ≡ map (name_of files) given → AreLeftOut files names
+names_told files numbers given names same whole broken by = record {
+  whole = λ none. by ∙ ap (map (name_of files)) (same ∙ whole none);
+  broken = λ rule breaks. by ∙ ap (map (name_of files)) (same ∙ broken rule breaks);
+}
+
+-- ---- lines
+
+-- What was put at the end in three parts.
+pub three_parts : {T E : Type 0} (r : Result T E) (old first second new a b d : List ℕ)
+    → first ≡ old ++ a → second ≡ first ++ b → new ≡ (if is_ok r then second ++ d else second)
+    → OnOk r (new ≡ old ++ (a ++ (b ++ d)))
+three_parts (Ok v) old first second new a b d one two three =
+    rw (three, two, one) (simp append_assoc)
+three_parts (Err e) old first second new a b d one two three = tt
+
+-- ---- files that were read
+
+-- the names by numbers are the same
+names_alike : (files others : List PlainFile) → AllZip AreAlike files others → (numbers : List ℕ)
+    → map (name_of files) numbers ≡ map (name_of others) numbers
+names_alike files others alike [] = refl
+names_alike files others alike (n ∷ ns) =
+    ap₂ (λ (x : List ℕ) (xs : List (List ℕ)). x ∷ xs) (name_alike files others alike n)
+    (names_alike files others alike ns)
+
+-- Of files that show the same, the same are left out.
+names_left_out_alike : AlikeFilesLeaveOutTheSame → (files others : List PlainFile)
+    → AllZip AreAlike files others → total_bytes files ≤ most_bytes
+    → total_bytes others ≤ most_bytes
+    → (names : List (List ℕ)) → AreLeftOut files names → AreLeftOut others names
+names_left_out_alike law files others alike small short names are = record {
+  whole = λ none.
+      are.whole (λ rule broken. none rule (breaks_alike files others alike small rule broken))
+      ∙ ap (map (name_of files)) (law files others alike)
+      ∙ names_alike files others alike (left_out others);
+  broken = λ rule broken.
+      are.broken rule
+      (breaks_alike others files (alike_back files others alike) short rule broken);
+}
+
+-- The notes on files as they were read are those on the whole files.
+pub notes_over : AlikeFilesLeaveOutTheSame → (comments : Comments) (command : Command) (max : ℕ)
+    → (comments ≡ LeftOut → ((profile : Profile) × (command ≡ Whole profile Check)) × (max ≤ most_bytes))
+    → (wholes reads : List PlainFile) → AllZip (IsReadAs comments) wholes reads
+    → total_bytes wholes ≤ max → (notes : List ℕ) → AreNotesOn reads notes → AreNotesOn wholes notes
+notes_over law Kept command max only wholes reads all within notes on =
+    subst (λ files. AreNotesOn files notes) (same_files wholes reads all) on
+notes_over law LeftOut command max only wholes reads all within notes (names, are, made) =
+    let few = (only refl).1 in
+    let fewer = fewer_bytes wholes reads all in
+    let alike = alike_files wholes reads all in (
+      names,
+      names_left_out_alike law reads wholes alike (omega arith) (omega arith) names are,
+      made,
+    )

@@ -1,9 +1,3 @@
-pub mod Answering
-pub mod Asked
-pub mod AskedCodes
-pub mod Found
+pub mod AskedWords
 pub mod FilesRead
-pub mod LeftOutNames
-pub mod PartsWritten
-pub mod Runs
-pub mod WholeFiles
+pub mod AnsweredWords

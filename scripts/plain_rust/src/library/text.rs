@@ -53,7 +53,7 @@ impl fmt::Write for String {
     }
 }
 
-/// What `format_in!` makes. Nothing but want of memory stops it.
+/// What `format_in!` makes. Nothing but lack of memory stops it.
 pub fn formatted(alloc: Global, parts: fmt::Arguments) -> Result<String, AllocError> {
     let mut text = String::new(alloc);
     fmt::write(&mut text, parts).map_err(|_| AllocError)?;

@@ -1,5 +1,5 @@
 -- The test finds the number where it stands.
-use Rattle.mm_check.proofs.Asked.{any_among}
+use Rattle.mm_check.proofs.Questions.AskedTheorems.{any_among}
 use Rattle.mm_check.proofs.checked.is_among.Goals as goal
 
 pub returns : goal.returns

@@ -1,6 +1,6 @@
 -- The tokens are those of the text.
-use Rattle.mm_check.proofs.Comparing.{text_refused}
-use Rattle.mm_check.proofs.Theorems.{why}
+use Rattle.mm_check.proofs.Questions.ComparedTexts.{text_refused}
+use Rattle.mm_check.proofs.Questions.AskedTheorems.{why}
 use Rattle.mm_check.proofs.comparison.handed_steps.Goals as goal
 
 pub proved_steps-requires-clause-complete : goal.proved_steps-requires-clause-complete

@@ -1,6 +1,6 @@
 -- Both make one tree, and so they are compared.
-use Rattle.mm_check.proofs.Comparing.{compared_with}
-use Rattle.mm_check.proofs.Theorems.{steps_make}
+use Rattle.mm_check.proofs.Questions.ComparedTexts.{compared_with}
+use Rattle.mm_check.proofs.Questions.AskedTheorems.{steps_make}
 use Rattle.mm_check.proofs.comparison.is_same.Goals as goal
 
 pub same-requires-clause-first_makes : goal.same-requires-clause-first_makes

@@ -1,7 +1,7 @@
 -- What is accepted is proved; what is not has its first fault.
 use Rattle.std.proofs.Common.{Err, ap}
 use Rattle.mm_check.specs.Compared.{text_fault}
-use Rattle.mm_check.proofs.Comparing.{fails_as}
+use Rattle.mm_check.proofs.Questions.ComparedTexts.{fails_as}
 use Rattle.mm_text.proofs.Lists.{error_keeps}
 use Rattle.mm_check.proofs.comparison.judge_steps.Goals as goal
 

@@ -3,7 +3,7 @@ use Rattle.std.proofs.Common.{Ok, Err, inl, ap}
 use Rattle.std.proofs.lemmas.Bool.{both_ways}
 use Rattle.mm_code.specs.Layout.{texts}
 use Rattle.mm_check.specs.Compared.{text_fault}
-use Rattle.mm_check.proofs.Comparing.{fails_as, unproved_of}
+use Rattle.mm_check.proofs.Questions.ComparedTexts.{fails_as, unproved_of}
 use Rattle.mm_text.proofs.Lists.{error_keeps}
 use Rattle.mm_check.proofs.comparison.proved_steps.Goals as goal
 

@@ -1,7 +1,7 @@
 -- Where no refusal is listed, the files are accepted; else these are all.
 use Rattle.std.proofs.Common.{map, refl, sym, ap, ◌∙◌}
 use Rattle.mm_check.specs.Answer.{plain_refusal}
-use Rattle.mm_check.proofs.Visits.{none_there}
+use Rattle.mm_check.proofs.Verdicts.LoopOverStatements.{none_there}
 use Rattle.mm_check.proofs.faults.all_faults.Goals as goal
 
 pub judge_files-requires : goal.judge_files-requires

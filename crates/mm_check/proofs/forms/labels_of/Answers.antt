@@ -2,7 +2,7 @@
 use Rattle.std.proofs.Common.{[], ◌∷◌, ◌++◌, length, Err, inr, refl, ap, ◌∙◌}
 use Rattle.mm_proof.specs.Tree.{spelling}
 use Rattle.mm_check.specs.Forms.{most_labels}
-use Rattle.mm_check.proofs.Theorems.{steps_make, given_is_within, refused_is_over}
+use Rattle.mm_check.proofs.Questions.AskedTheorems.{steps_make, given_is_within, refused_is_over}
 use Rattle.mm_check.proofs.forms.labels_of.Goals as goal
 
 pub expand-requires-clause-makes : goal.expand-requires-clause-makes

@@ -2,7 +2,7 @@
 use Rattle.std.proofs.Common.{◌≡◌, ℕ, ◌≤◌, List, [], ◌∷◌, ◌++◌, length, take, add-one, Bor, sym, ap, ◌∙◌, arith}
 use Rattle.std.proofs.lemmas.List.{take_all, map-append}
 use Rattle.mm_code.specs.Layout.{texts}
-use Rattle.mm_check.proofs.Theorems.{next_name, as_many_names}
+use Rattle.mm_check.proofs.Questions.AskedTheorems.{next_name, as_many_names}
 use Rattle.mm_check.proofs.forms.names_of.Goals as goal
 
 pub loop-id-preserved : goal.loop-id-preserved

@@ -3,7 +3,7 @@ use Rattle.std.proofs.Common.{Err, map, refl, ap, ◌∙◌}
 use Rattle.mm_text.specs.Statement.{PlainStatement, plain_statement}
 use Rattle.mm_text.specs.Files.{plain_file}
 use Rattle.mm_check.specs.declared.rule.Rule.TheVariants as rules
-use Rattle.mm_check.proofs.Judging.{same_refusal}
+use Rattle.mm_check.proofs.Verdicts.JudgedProofs.{same_refusal}
 use Rattle.mm_check.proofs.judge.judge.Goals as goal
 
 pub returns-in-Err-Rule-clause-refused : goal.returns-in-Err-Rule-clause-refused

@@ -5,7 +5,7 @@ use Rattle.mm_frame.specs.Sentence.{Sentence, sentence_of}
 use Rattle.mm_proof.specs.declared.fault.ProofFault.TheVariants.{Rule}
 use Rattle.mm_text.specs.Files.{plain_file}
 use Rattle.mm_check.specs.declared.rule.Rule.TheVariants as rules
-use Rattle.mm_check.proofs.Judging.{same_refusal}
+use Rattle.mm_check.proofs.Verdicts.JudgedProofs.{same_refusal}
 use Rattle.mm_check.specs.Mirror.Judged.{Fails}
 use Rattle.mm_check.proofs.judge.prove.Goals as goal
 

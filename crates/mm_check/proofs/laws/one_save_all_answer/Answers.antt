@@ -1,4 +1,4 @@
-use Rattle.mm_check.proofs.AllSavedAnswers.{one_save_all_answer}
+use Rattle.mm_check.proofs.Saving.AllSavedAnswers.{one_save_all_answer}
 use Rattle.mm_check.proofs.laws.one_save_all_answer.Goals as goal
 
 pub returns : goal.returns

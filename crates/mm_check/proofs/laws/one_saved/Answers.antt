@@ -1,4 +1,4 @@
-use Rattle.mm_check.proofs.SavedOnce.{one_saved}
+use Rattle.mm_check.proofs.Saving.SavedOnce.{one_saved}
 use Rattle.mm_check.proofs.laws.one_saved.Goals as goal
 
 pub returns : goal.returns

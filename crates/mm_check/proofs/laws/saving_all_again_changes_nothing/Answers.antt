@@ -1,4 +1,4 @@
-use Rattle.mm_check.proofs.AllSavedAgain.{saving_all_again_changes_nothing}
+use Rattle.mm_check.proofs.Saving.AllSavedFiles.{saving_all_again_changes_nothing}
 use Rattle.mm_check.proofs.laws.saving_all_again_changes_nothing.Goals as goal
 
 pub returns : goal.returns

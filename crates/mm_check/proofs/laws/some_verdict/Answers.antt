@@ -1,5 +1,5 @@
 -- By the law that files have a verdict.
-use Rattle.mm_check.proofs.Existence as existence
+use Rattle.mm_check.proofs.Verdicts.OneVerdict as existence
 use Rattle.mm_check.proofs.laws.some_verdict.Goals as goal
 
 pub returns : goal.returns

@@ -5,7 +5,7 @@ use Rattle.mm_text.specs.Files.{PlainFile, plain_file}
 use Rattle.mm_check.specs.declared.ask.AskFault.{AskFault}
 use Rattle.mm_check.specs.declared.fault.CheckFault.{CheckFault}
 use Rattle.mm_check.specs.Reply.{IsAllSavedReply}
-use Rattle.mm_check.proofs.Replies.{made_both, asked_all, question_refused}
+use Rattle.mm_check.proofs.ReplyTexts.{made_both, asked_all, question_refused}
 use Rattle.mm_check.proofs.question.all_saved_reply.Goals as goal
 
 pub returns-in-Err-Ask : goal.returns-in-Err-Ask

@@ -6,7 +6,7 @@ use Rattle.mm_proof.specs.declared.profile.Profile.TheVariants.{Lenient}
 use Rattle.mm_check.specs.Conclusion.{Conclusion}
 use Rattle.mm_check.specs.Answer.{KeepsFiles, KeepsLabels}
 use Rattle.mm_check.specs.Reply.{IsAnswerTo}
-use Rattle.mm_check.proofs.Replies.{made_both, at_ok, question_read, question_refused}
+use Rattle.mm_check.proofs.ReplyTexts.{made_both, at_ok, question_read, question_refused}
 use Rattle.mm_check.proofs.question.answer_or_verdict.Goals as goal
 
 pub answer_to-requires-clause-profile : goal.answer_to-requires-clause-profile

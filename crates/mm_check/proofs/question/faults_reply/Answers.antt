@@ -3,7 +3,7 @@ use Rattle.std.proofs.Common.{map, refl, inl}
 use Rattle.mm_text.specs.Files.{plain_file}
 use Rattle.mm_check.specs.Answer.{verdict_of_conclusion}
 use Rattle.mm_check.specs.Verdict.{Load}
-use Rattle.mm_check.proofs.Replies.{made_both, no_refusal, told_all}
+use Rattle.mm_check.proofs.ReplyTexts.{made_both, no_refusal, told_all}
 use Rattle.mm_check.proofs.question.faults_reply.Goals as goal
 
 pub returns-in-Ok : goal.returns-in-Ok

@@ -5,7 +5,7 @@ use Rattle.mm_frame.specs.declared.number.LabelId.{LabelId}
 use Rattle.mm_check.specs.Reply.{lines_of}
 use Rattle.mm_check.specs.Answer.{labels_at}
 use Rattle.mm_check.proofs.Numbers.{all_at}
-use Rattle.mm_check.proofs.Lines.{one_more_question}
+use Rattle.mm_check.proofs.ReplyTexts.{one_more_question}
 use Rattle.mm_check.proofs.question.push_unproved.Goals as goal
 
 pub push_label-requires : goal.push_label-requires

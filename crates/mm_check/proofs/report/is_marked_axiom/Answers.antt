@@ -1,6 +1,6 @@
 -- The book tells the kind.
 use Rattle.std.proofs.Common.{sym, ◌∙◌}
-use Rattle.mm_check.proofs.Asked.{axiom_kind, no_axiom_kind}
+use Rattle.mm_check.proofs.Questions.AskedTheorems.{axiom_kind, no_axiom_kind}
 use Rattle.mm_check.proofs.report.is_marked_axiom.Goals as goal
 
 pub returns-in-Axiom : goal.returns-in-Axiom

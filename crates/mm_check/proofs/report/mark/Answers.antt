@@ -4,7 +4,7 @@ use Rattle.std.proofs.lemmas.Option.{slice_get-get_or}
 use Rattle.mm_frame.specs.declared.number.LabelId.{LabelId}
 use Rattle.mm_frame.proofs.Names.NameNumbers.{get_mapped}
 use Rattle.mm_text.proofs.Lists.{contains_from_at}
-use Rattle.mm_check.proofs.Marking.{marked_next}
+use Rattle.mm_check.proofs.Questions.RestsOn.{marked_next}
 use Rattle.mm_check.proofs.report.mark.Goals as goal
 
 pub bounds-marks-number : goal.bounds-marks-number

@@ -1,6 +1,6 @@
 -- The numbers so far are marked.
 use Rattle.std.proofs.Common.{map, take}
-use Rattle.mm_check.proofs.Marking.{IsMarkedBy}
+use Rattle.mm_check.proofs.Questions.RestsOn.{IsMarkedBy}
 use Rattle.mm_check.proofs.report.mark.Given as goal
 
 abbrev pub invariant-loop-number : goal.invariant-loop-number

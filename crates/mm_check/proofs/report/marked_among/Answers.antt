@@ -5,7 +5,7 @@ use Rattle.std.proofs.lemmas.Option.{slice_get-get_or}
 use Rattle.mm_frame.specs.declared.number.LabelId.{LabelId}
 use Rattle.mm_check.specs.Rests.{AreInOrder}
 use Rattle.mm_check.specs.Mirror.Marks.{IsMarked}
-use Rattle.mm_check.proofs.Marking.{among_taken, among_passed}
+use Rattle.mm_check.proofs.Questions.RestsOn.{among_taken, among_passed}
 use Rattle.mm_check.proofs.report.marked_among.Goals as goal
 use Rattle.mm_check.proofs.report.marked_among.Goals.{then-is_marked+in_ok-push, else-is_marked}
 

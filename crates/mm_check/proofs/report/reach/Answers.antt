@@ -5,7 +5,8 @@ use Rattle.mm_frame.specs.declared.number.LabelId.{LabelId}
 use Rattle.mm_text.proofs.Lists.{get_within, contains_from_at}
 use Rattle.mm_check.specs.Conclusion.{ProofUses}
 use Rattle.mm_check.specs.Mirror.Marks.{IsMarked}
-use Rattle.mm_check.proofs.Marking.{IsMarkedBy, marked_as, marked_within, marking_starts, marking_passes, marking_marks, marking_ends}
+use Rattle.mm_check.proofs.Questions.RestsOn.{IsMarkedBy, marked_as, marked_within, marking_starts}
+use Rattle.mm_check.proofs.Questions.RestsOn.{marking_passes, marking_marks, marking_ends}
 use Rattle.mm_check.proofs.report.reach.Goals as goal
 use Rattle.mm_check.proofs.report.reach.Goals.{then-is_reached, else-is_reached}
 

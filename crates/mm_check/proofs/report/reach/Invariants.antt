@@ -1,6 +1,6 @@
 -- The proofs from the last one down to this place were passed.
 use Rattle.std.proofs.Common.{◌-◌, length}
-use Rattle.mm_check.proofs.Marking.{IsMarking}
+use Rattle.mm_check.proofs.Questions.RestsOn.{IsMarking}
 use Rattle.mm_check.proofs.report.reach.Given as goal
 
 abbrev pub invariant-loop-step : goal.invariant-loop-step

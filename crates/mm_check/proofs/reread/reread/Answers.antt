@@ -3,7 +3,7 @@ use Rattle.std.proofs.Common.{List, map, None, sym, subst}
 use Rattle.mm_text.specs.Statement.{PlainStatement, plain_statement}
 use Rattle.mm_text.specs.Files.{plain_file}
 use Rattle.mm_check.specs.Shown.{Stands}
-use Rattle.mm_check.proofs.Rereading.{same_reading}
+use Rattle.mm_check.proofs.Verdicts.AcceptedStatements.{same_reading}
 use Rattle.mm_check.proofs.reread.reread.Goals as goal
 
 pub seek-found-requires-clause-faultless : goal.seek-found-requires-clause-faultless

@@ -2,7 +2,7 @@
 use Rattle.std.proofs.Common.{Bool, true, subst}
 use Rattle.mm_text.specs.Statement.{PlainStatement, plain_statement}
 use Rattle.mm_check.specs.Mirror.Judged.{TakesNext}
-use Rattle.mm_check.proofs.Rereading.{sought_on, sought_found}
+use Rattle.mm_check.proofs.Verdicts.AcceptedStatements.{sought_on, sought_found}
 use Rattle.mm_check.proofs.reread.seek.Goals as goal
 
 pub returns-then-has_label-clause-found : goal.returns-then-has_label-clause-found

@@ -1,6 +1,6 @@
 -- The bytes are those of the file with the number.
 use Rattle.std.proofs.Common.{◌≡◌, length, inr, refl, sym, ◌∙◌}
-use Rattle.mm_check.proofs.Saving.{number_within}
+use Rattle.mm_check.proofs.Saving.SavedFiles.{number_within}
 use Rattle.mm_text.proofs.Inclusions.OpenFiles.{file_there}
 use Rattle.mm_check.proofs.rewrite.put_in.Goals as goal
 

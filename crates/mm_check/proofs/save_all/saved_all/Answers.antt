@@ -3,9 +3,9 @@ use Rattle.std.proofs.Common.{map, option_map, refl, ap}
 use Rattle.mm_text.specs.Files.{plain_file}
 use Rattle.mm_text.proofs.Lists.{error_keeps}
 use Rattle.mm_check.specs.declared.save_fault.SaveFault.TheVariants as fault
-use Rattle.mm_check.proofs.OnTheWay.{within_limit}
-use Rattle.mm_check.proofs.Visits.{verdict_told}
-use Rattle.mm_check.proofs.WrittenFiles.{all_saved, all_written, finish_fault, long_fault}
+use Rattle.mm_check.proofs.Verdicts.AcceptedStatements.{within_limit}
+use Rattle.mm_check.proofs.Verdicts.LoopOverStatements.{verdict_told}
+use Rattle.mm_check.proofs.Saving.WrittenFiles.{all_saved, all_written, finish_fault, long_fault}
 use Rattle.mm_check.proofs.save_all.saved_all.Goals as goal
 
 pub judge_files-requires : goal.judge_files-requires

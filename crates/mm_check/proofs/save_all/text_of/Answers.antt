@@ -3,9 +3,9 @@ use Rattle.std.proofs.Common.{ℕ, List, map}
 use Rattle.std.proofs.lemmas.Result.{IfOk-weaker}
 use Rattle.mm_text.specs.Statement.{PlainStatement, plain_statement}
 use Rattle.mm_frame.specs.Sentence.{Sentence}
-use Rattle.mm_check.proofs.Theorems.{why}
-use Rattle.mm_check.proofs.WrittenTheorems.{label_there, proof_among}
-use Rattle.mm_check.proofs.WrittenTheorems.{theorem_replaced, theorem_fault}
+use Rattle.mm_check.proofs.Questions.AskedTheorems.{why}
+use Rattle.mm_check.proofs.Saving.WrittenFiles.{label_there, proof_among, theorem_replaced}
+use Rattle.mm_check.proofs.Saving.WrittenFiles.{theorem_fault}
 use Rattle.mm_check.proofs.save_all.text_of.Goals as goal
 
 pub theorem_of-requires-clause-proof : goal.theorem_of-requires-clause-proof

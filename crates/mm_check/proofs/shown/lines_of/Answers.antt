@@ -1,6 +1,6 @@
 -- The moves prove the statement, so they are listed.
 use Rattle.std.proofs.Common.{Err, ap, ◌∙◌}
-use Rattle.mm_check.proofs.Listings.{no_rule_fault}
+use Rattle.mm_check.proofs.Questions.ShownSteps.{no_rule_fault}
 use Rattle.mm_check.proofs.shown.lines_of.Goals as goal
 
 pub unreachable-requires : goal.unreachable-requires

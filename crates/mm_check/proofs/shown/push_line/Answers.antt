@@ -7,7 +7,7 @@ use Rattle.mm_frame.specs.Numbers.{symbols_of}
 use Rattle.mm_proof.specs.Stores.{numbers_in}
 use Rattle.mm_check.specs.Answer.{labels_at}
 use Rattle.mm_check.specs.Shown.{symbols_text}
-use Rattle.mm_check.proofs.Listings.{numbers_told, line_told}
+use Rattle.mm_check.proofs.Questions.ShownSteps.{numbers_told, line_told}
 use Rattle.mm_check.proofs.shown.push_line.Goals as goal
 
 pub push_symbols-requires : goal.push_symbols-requires

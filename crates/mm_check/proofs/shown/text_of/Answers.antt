@@ -5,7 +5,7 @@ use Rattle.mm_frame.specs.Sentence.{Sentence}
 use Rattle.mm_proof.specs.declared.lines.Line.{Line}
 use Rattle.mm_proof.specs.Listing.{ListedStep, TellsStep}
 use Rattle.mm_check.specs.Shown.{step_text, steps_text}
-use Rattle.mm_check.proofs.Listings.{told_at, as_many, one_more_line}
+use Rattle.mm_check.proofs.Questions.ShownSteps.{told_at, as_many, one_more_line}
 use Rattle.mm_check.proofs.shown.text_of.Goals as goal
 
 pub push_line-requires : goal.push_line-requires

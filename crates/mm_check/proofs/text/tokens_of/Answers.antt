@@ -3,7 +3,7 @@ use Rattle.std.proofs.Common.{◌≡◌, ℕ, List, [], ◌∷◌, ◌++◌, Bor
 use Rattle.std.proofs.lemmas.List.{map-append}
 use Rattle.mm_code.specs.Layout.{texts}
 use Rattle.mm_check.specs.Mirror.Comparisons.{AreFrontTokens}
-use Rattle.mm_check.proofs.Texts.{front_passed, front_taken, front_all}
+use Rattle.mm_check.proofs.Questions.ComparedTexts.{front_passed, front_taken, front_all}
 use Rattle.mm_check.proofs.text.tokens_of.Goals as goal
 
 pub loop-first-preserved-then-is_space : goal.loop-first-preserved-then-is_space

@@ -1,6 +1,6 @@
 -- The proof is complete, and breaks no rule over the whole of it.
 use Rattle.std.proofs.Common.{Ok, Err, ap, ◌∙◌}
-use Rattle.mm_check.proofs.Theorems.{no_text_fault}
+use Rattle.mm_check.proofs.Questions.AskedTheorems.{no_text_fault}
 use Rattle.mm_check.proofs.theorem.steps_of.Goals as goal
 
 pub unreachable-requires-in-Err-Rule : goal.unreachable-requires-in-Err-Rule

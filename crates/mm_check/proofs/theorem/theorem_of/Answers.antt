@@ -1,7 +1,7 @@
 -- The steps are those that the tokens say, and so they prove the theorem.
 use Rattle.std.proofs.Common.{map}
 use Rattle.mm_check.specs.Mirror.Theorems.{SayStepsOf}
-use Rattle.mm_check.proofs.Theorems.{steps_prove}
+use Rattle.mm_check.proofs.Questions.AskedTheorems.{steps_prove}
 use Rattle.mm_check.proofs.theorem.theorem_of.Goals as goal
 
 pub returns-clause-said : goal.returns-clause-said

@@ -1,7 +1,7 @@
 -- What the verdict says, by the laws of verdicts.
-use Rattle.mm_check.proofs.Verdicts.{only_told, yes_obeys, accepted_told}
+use Rattle.mm_check.proofs.Verdicts.OneVerdict.{only_told, yes_obeys, accepted_told}
 use Rattle.mm_check.specs.Verdict.{Yes}
-use Rattle.mm_check.proofs.Handed.{names_file}
+use Rattle.mm_check.proofs.Verdicts.JudgedProofs.{names_file}
 use Rattle.mm_check.proofs.verdict.check_with.Goals as goal
 
 pub returns-clause-only : goal.returns-clause-only

@@ -1,5 +1,6 @@
 -- What the progress tells in the end is the verdict.
-use Rattle.mm_check.proofs.Concluding.{Concludes, end_concludes, labels_kept, counts_kept, uses_kept, kept_well}
+use Rattle.mm_check.proofs.Verdicts.AcceptedStatements.{Concludes, end_concludes, labels_kept}
+use Rattle.mm_check.proofs.Verdicts.AcceptedStatements.{counts_kept, uses_kept, kept_well}
 use Rattle.mm_check.proofs.verdict.conclude.Goals as goal
 
 pub new-requires : goal.new-requires

@@ -4,8 +4,8 @@ use Rattle.std.proofs.lemmas.Option.{same_Some}
 use Rattle.mm_text.specs.Files.{plain_file}
 use Rattle.mm_check.specs.Verdict.{HasVerdict}
 use Rattle.mm_check.specs.Answer.{verdict_of_conclusion}
-use Rattle.mm_check.proofs.Concluding.{passed_on}
-use Rattle.mm_check.proofs.Visits.{all_accepted, verdict_told}
+use Rattle.mm_check.proofs.Verdicts.AcceptedStatements.{passed_on}
+use Rattle.mm_check.proofs.Verdicts.LoopOverStatements.{all_accepted, verdict_told}
 use Rattle.mm_check.proofs.verdict.judge_all.Goals as goal
 
 pub judge_files-requires : goal.judge_files-requires

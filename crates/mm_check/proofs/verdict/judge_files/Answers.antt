@@ -2,7 +2,7 @@
 use Rattle.std.proofs.Common.{map}
 use Rattle.mm_text.specs.Files.{plain_file}
 use Rattle.mm_text.proofs.Lists.{error_keeps}
-use Rattle.mm_check.proofs.Visits.{load_stops}
+use Rattle.mm_check.proofs.Verdicts.LoopOverStatements.{load_stops}
 use Rattle.mm_check.proofs.verdict.judge_files.Goals as goal
 
 pub returns-in_err-statements-clause-stopped : goal.returns-in_err-statements-clause-stopped

@@ -4,7 +4,7 @@ use Rattle.mm_text.specs.Statement.{plain_statement}
 use Rattle.mm_text.specs.Files.{plain_file}
 use Rattle.mm_text.proofs.Lists.{error_keeps}
 use Rattle.mm_check.specs.Mirror.Judged.{IsRead, TakesNext}
-use Rattle.mm_check.proofs.OnTheWay.{closes, has_room, few}
+use Rattle.mm_check.proofs.Verdicts.AcceptedStatements.{closes, has_room, few}
 use Rattle.mm_check.proofs.verdict.judge_next.Goals as goal
 
 -- what holds where the statement is to be judged

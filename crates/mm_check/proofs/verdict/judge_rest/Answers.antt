@@ -5,8 +5,8 @@ use Rattle.mm_text.specs.Files.{PlainFile, plain_file}
 use Rattle.mm_text.proofs.Lists.{error_keeps}
 use Rattle.mm_check.specs.Mirror.Judged.{fault_of}
 use Rattle.mm_check.specs.Mirror.Visits.{IsMet, refusals_in}
-use Rattle.mm_check.proofs.Course.{goes_on, meets}
-use Rattle.mm_check.proofs.Visits.{met_last, stopped_at, visited_all}
+use Rattle.mm_check.proofs.Verdicts.LoopOverStatements.{goes_on, meets, met_last, stopped_at}
+use Rattle.mm_check.proofs.Verdicts.LoopOverStatements.{visited_all}
 use Rattle.mm_check.proofs.verdict.judge_rest.Goals as goal
 
 pub see-requires : goal.see-requires

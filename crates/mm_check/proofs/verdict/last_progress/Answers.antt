@@ -1,7 +1,7 @@
 -- A new reader has all statements left, and the progress is that before any.
 use Rattle.std.proofs.Common.{List, map, refl}
 use Rattle.mm_text.specs.Files.{PlainFile, plain_file}
-use Rattle.mm_check.proofs.Course.{starts}
+use Rattle.mm_check.proofs.Verdicts.LoopOverStatements.{starts}
 use Rattle.mm_check.proofs.verdict.last_progress.Goals as goal
 
 pub judge_rest-requires : goal.judge_rest-requires

@@ -4,7 +4,7 @@ use Rattle.std.specs.List.{slice_split}
 use Rattle.std.proofs.lemmas.Iterator.Consumers.{map_from_collect}
 use Rattle.std.proofs.lemmas.Iterator.Splits.{YieldsList-from_str_split}
 use Rattle.mm_tool.specs.Explained.{code_in_reply}
-use Rattle.mm_tool.proofs.AskedCodes.{line_asks}
+use Rattle.mm_tool.proofs.AskedWords.{line_asks}
 use Rattle.mm_tool.proofs.explain.asked_code.Goals as goal
 
 pub returns : goal.returns

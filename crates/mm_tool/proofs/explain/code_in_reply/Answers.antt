@@ -1,7 +1,7 @@
 -- The first word says where the code stands.
 use Rattle.std.proofs.Common.{◌≡◌, true, false, ap, sym, ◌∙◌, slice_get, arith}
 use Rattle.std.specs.Option.{option_copied}
-use Rattle.mm_tool.proofs.AskedCodes.{last_told, looked_up, none_told, tells_last, tells_second}
+use Rattle.mm_tool.proofs.AskedWords.{last_told, looked_up, none_told, tells_last, tells_second}
 use Rattle.mm_tool.proofs.explain.code_in_reply.Goals as goal
 use Rattle.mm_tool.proofs.explain.code_in_reply.Goals.{then-eq-via-then-eq}
 use Rattle.mm_tool.proofs.explain.code_in_reply.Goals.{then-eq-via-else-eq+then-eq-2}

@@ -1,6 +1,6 @@
 -- The words are put on a line, which asks for the code.
 use Rattle.std.proofs.Common.{sym, ◌∙◌}
-use Rattle.mm_tool.proofs.AskedCodes.{capitals_asked, explains, explains_none}
+use Rattle.mm_tool.proofs.AskedWords.{capitals_asked, explains, explains_none}
 use Rattle.mm_tool.proofs.explain.explanation.Goals as goal
 
 pub returns-in-Some-clause-text : goal.returns-in-Some-clause-text

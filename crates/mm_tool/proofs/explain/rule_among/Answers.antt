@@ -1,7 +1,7 @@
 -- A rule of a chapter is one of the rules; one more chapter has none.
 use Rattle.std.proofs.Common.{◌≢◌}
 use Rattle.mm_tool.specs.declared.rule_text.RuleText.{RuleText}
-use Rattle.mm_tool.proofs.Found.{all_made_more, contains_made}
+use Rattle.mm_tool.proofs.AskedWords.{all_made_more, contains_made}
 use Rattle.mm_tool.proofs.explain.rule_among.Goals as goal
 
 pub returns-in-Some-clause-found : goal.returns-in-Some-clause-found

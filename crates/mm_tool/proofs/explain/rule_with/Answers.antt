@@ -1,7 +1,7 @@
 -- One more rule has another code.
 use Rattle.std.proofs.Common.{◌≢◌, sym, ◌∙◌}
 use Rattle.mm_tool.specs.declared.rule_text.RuleText.{RuleText}
-use Rattle.mm_tool.proofs.Found.{all_more, different}
+use Rattle.mm_tool.proofs.AskedWords.{all_more, different}
 use Rattle.mm_tool.proofs.explain.rule_with.Goals as goal
 
 pub loop-rule-preserved : goal.loop-rule-preserved

@@ -1,5 +1,5 @@
 use Rattle.std.proofs.Common.{◌≡◌, refl}
-use Rattle.mm_tool.proofs.WholeFiles.{held_by}
+use Rattle.mm_tool.proofs.FilesRead.{held_by}
 use Rattle.mm_tool.proofs.files.read_file.Goals as goal
 
 pub returns-in-Ok-read_bytes-clause-read : goal.returns-in-Ok-read_bytes-clause-read

@@ -4,8 +4,7 @@ use Rattle.std.specs.List.{AllZip}
 use Rattle.mm_text.proofs.Lists.{all_push, zip_push, error_keeps}
 use Rattle.mm_tool.specs.Folder.{IsHeld, plain_read}
 use Rattle.mm_tool.specs.ReadFiles.{IsReadAs}
-use Rattle.mm_tool.proofs.FilesRead.{comes_next, file_fault_at}
-use Rattle.mm_tool.proofs.WholeFiles.{more_bytes, more_names}
+use Rattle.mm_tool.proofs.FilesRead.{comes_next, file_fault_at, more_bytes, more_names}
 use Rattle.mm_tool.proofs.files.read_files.Goals as goal
 
 pub loop-name-preserved : goal.loop-name-preserved

@@ -1,7 +1,7 @@
 -- One more page is that of another command.
 use Rattle.std.proofs.Common.{◌≢◌, sym, ◌∙◌}
 use Rattle.mm_tool.specs.declared.pages.Page.{Page}
-use Rattle.mm_tool.proofs.Found.{all_more, different}
+use Rattle.mm_tool.proofs.AskedWords.{all_more, different}
 use Rattle.mm_tool.proofs.help.page_with.Goals as goal
 
 pub loop-page-preserved : goal.loop-page-preserved

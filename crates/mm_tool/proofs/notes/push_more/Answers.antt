@@ -1,6 +1,6 @@
 -- The line is made of three parts.
 use Rattle.std.proofs.Common.{◌∙◌, ap, ◌++◌}
-use Rattle.mm_tool.proofs.LeftOutNames.{three_parts}
+use Rattle.mm_tool.proofs.FilesRead.{three_parts}
 use Rattle.mm_tool.proofs.notes.push_more.Goals as goal
 
 pub returns : goal.returns

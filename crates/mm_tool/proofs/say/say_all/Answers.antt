@@ -1,7 +1,7 @@
 -- The texts are written one after the other.
 use Rattle.std.proofs.Common.{◌++◌}
-use Rattle.mm_tool.proofs.PartsWritten.{all_both, beginning_both, breaks_before, breaks_both}
-use Rattle.mm_tool.proofs.PartsWritten.{on_failure, takes_both}
+use Rattle.mm_tool.proofs.AnsweredWords.{all_both, beginning_both, breaks_before, breaks_both}
+use Rattle.mm_tool.proofs.AnsweredWords.{on_failure, takes_both}
 use Rattle.mm_tool.proofs.say.say_all.Goals as goal
 
 pub returns-in_err-say_text-clause-beginning : goal.returns-in_err-say_text-clause-beginning

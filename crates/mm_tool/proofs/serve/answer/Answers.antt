@@ -1,10 +1,9 @@
 -- The words are answered by the request that they make.
 use Rattle.std.proofs.Common.{Some, inl, inr, refl, ap}
 use Rattle.mm_tool.specs.Answer.{quiet}
-use Rattle.mm_tool.proofs.Answering.{answers_text, asks_run, explained, helped, stops_answer}
-use Rattle.mm_tool.proofs.Answering.{stops_command, stops_help, stops_same}
-use Rattle.mm_tool.proofs.Asked.{named_by_words}
-use Rattle.mm_tool.proofs.AskedCodes.{texts_in}
+use Rattle.mm_tool.proofs.AnsweredWords.{answers_text, asks_run, explained, helped, stops_answer}
+use Rattle.mm_tool.proofs.AnsweredWords.{stops_command, stops_help, stops_same}
+use Rattle.mm_tool.proofs.AskedWords.{named_by_words, texts_in}
 use Rattle.mm_tool.proofs.serve.answer.Goals as goal
 
 pub returns-in-Help-clause-answers : goal.returns-in-Help-clause-answers

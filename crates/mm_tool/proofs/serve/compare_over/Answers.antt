@@ -1,6 +1,6 @@
 -- Once the proof is read, the comparison ends as the command over the files does.
 use Rattle.std.proofs.Common.{◌≤◌, Err, length, ap, arith, ◌∙◌}
-use Rattle.mm_tool.proofs.Answering.{same_replies, same_stops, same_too_long}
+use Rattle.mm_tool.proofs.AnsweredWords.{same_replies, same_stops, same_too_long}
 use Rattle.mm_tool.proofs.serve.compare_over.Goals as goal
 
 pub returns-in-Err-TooLong-clause-stops : goal.returns-in-Err-TooLong-clause-stops

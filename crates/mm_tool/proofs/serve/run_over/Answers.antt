@@ -6,9 +6,8 @@ use Rattle.mm_tool.specs.declared.files.FileFault.{FileFault}
 use Rattle.mm_check.specs.Reply.{IsReplyTo}
 use Rattle.mm_check.specs.Status.{number_of}
 use Rattle.mm_tool.specs.Notes.{AreNotesOn}
-use Rattle.mm_tool.proofs.LeftOutNames.{notes_over}
-use Rattle.mm_tool.proofs.Runs.{as_many, asks_handed, stops_at_run, stops_too_long}
-use Rattle.mm_tool.proofs.WholeFiles.{reply_over}
+use Rattle.mm_tool.proofs.FilesRead.{notes_over, reply_over}
+use Rattle.mm_tool.proofs.AnsweredWords.{as_many, asks_handed, stops_at_run, stops_too_long}
 use Rattle.mm_tool.proofs.serve.run_over.Goals as goal
 
 pub returns-in-Err-TooLong-clause-stops : goal.returns-in-Err-TooLong-clause-stops

@@ -1,7 +1,7 @@
 -- The words were answered, or standard error was told why not.
 use Rattle.std.proofs.Common.{map, rules}
 use Rattle.mm_tool.specs.Answer.{outcome_of}
-use Rattle.mm_tool.proofs.Answering.{ends_answered}
+use Rattle.mm_tool.proofs.AnsweredWords.{ends_answered}
 use Rattle.mm_tool.proofs.serve.serve.Goals as goal
 
 pub returns-in-Ok-clause-ends : goal.returns-in-Ok-clause-ends

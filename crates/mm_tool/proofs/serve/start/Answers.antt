@@ -1,6 +1,6 @@
 -- The words that are served are those with which the program was started.
 use Rattle.std.proofs.Common.{map, inl, inr, ap, Err, rules}
-use Rattle.mm_tool.proofs.Answering.{ends_unread}
+use Rattle.mm_tool.proofs.AnsweredWords.{ends_unread}
 use Rattle.mm_tool.proofs.serve.start.Goals as goal
 
 pub returns-in-Ok-texts_of-clause-ends : goal.returns-in-Ok-texts_of-clause-ends

@@ -1,5 +1,5 @@
 -- The line that was said is that of the stop.
-use Rattle.mm_tool.proofs.PartsWritten.{told_line}
+use Rattle.mm_tool.proofs.AnsweredWords.{told_line}
 use Rattle.mm_tool.proofs.serve.tell.Goals as goal
 
 pub returns-in-NotText-clause-told : goal.returns-in-NotText-clause-told

@@ -1,8 +1,8 @@
 -- The line on the order of the words is written in parts.
 use Rattle.std.proofs.Common.{◌≡◌, List, ℕ, ◌++◌, Bor, Option, Some, Bool, true, codes, option_map}
 use Rattle.mm_tool.specs.Ending.{looks_like_file, order_line}
-use Rattle.mm_tool.proofs.PartsWritten.{beginning_both, breaks_before, breaks_both, on_failure}
-use Rattle.mm_tool.proofs.PartsWritten.{all_both, takes_both}
+use Rattle.mm_tool.proofs.AnsweredWords.{beginning_both, breaks_before, breaks_both, on_failure}
+use Rattle.mm_tool.proofs.AnsweredWords.{all_both, takes_both}
 use Rattle.mm_tool.proofs.unread.tell_order.Goals as goal
 
 -- its first part

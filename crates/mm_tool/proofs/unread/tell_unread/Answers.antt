@@ -1,8 +1,8 @@
 -- The lines are written one after the other.
 use Rattle.std.proofs.Common.{List, ℕ, ◌++◌, codes, option_map}
 use Rattle.mm_tool.specs.Ending.{input_line, order_line}
-use Rattle.mm_tool.proofs.PartsWritten.{all_both, beginning_both, breaks_before, breaks_both}
-use Rattle.mm_tool.proofs.PartsWritten.{on_failure, takes_both}
+use Rattle.mm_tool.proofs.AnsweredWords.{all_both, beginning_both, breaks_before, breaks_both}
+use Rattle.mm_tool.proofs.AnsweredWords.{on_failure, takes_both}
 use Rattle.mm_tool.proofs.unread.tell_unread.Goals as goal
 
 -- the first of the lines

@@ -1,6 +1,6 @@
 -- The name is the first of the names that is it, or none is.
 use Rattle.std.proofs.Common.{None, Some, inr, refl, sym, ◌∙◌}
-use Rattle.mm_tool.proofs.Asked.{number_named}
+use Rattle.mm_tool.proofs.AskedWords.{number_named}
 use Rattle.mm_tool.proofs.words.all_request.Goals as goal
 
 pub returns-in_default-clause-fault : goal.returns-in_default-clause-fault

@@ -1,7 +1,7 @@
 -- The word that clap gives is that of the row of the argument.
 use Rattle.std.proofs.Common.{Some, None}
 use Rattle.clap.specs.Words.{found_of}
-use Rattle.mm_tool.proofs.Asked.{value_is}
+use Rattle.mm_tool.proofs.AskedWords.{value_is}
 use Rattle.mm_tool.proofs.words.asked_word.Goals as goal
 
 pub returns-in-Some : goal.returns-in-Some

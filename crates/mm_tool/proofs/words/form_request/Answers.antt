@@ -2,7 +2,7 @@
 use Rattle.std.proofs.Common.{List, refl}
 use Rattle.clap.specs.Words.{Text}
 use Rattle.mm_tool.specs.Words.{AreMatchesOf, IsWordFault}
-use Rattle.mm_tool.proofs.Asked.{commands_met}
+use Rattle.mm_tool.proofs.AskedWords.{commands_met}
 use Rattle.mm_text.proofs.Lists.{error_keeps}
 use Rattle.mm_tool.proofs.words.form_request.Goals as goal
 

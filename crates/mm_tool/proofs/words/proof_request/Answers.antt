@@ -1,7 +1,7 @@
 -- The words ask for what the matches of their command say.
 use Rattle.std.proofs.Common.{List, map, ◌∙◌}
 use Rattle.clap.specs.Words.{Row, found_of, rows_of}
-use Rattle.mm_tool.proofs.Asked.{all_asked, all_refused, form_asked}
+use Rattle.mm_tool.proofs.AskedWords.{all_asked, all_refused, form_asked}
 use Rattle.mm_tool.proofs.words.proof_request.Goals as goal
 
 pub returns-then-is_given-clause-request : goal.returns-then-is_given-clause-request

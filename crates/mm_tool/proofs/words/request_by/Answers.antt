@@ -2,7 +2,7 @@
 use Rattle.std.proofs.Common.{ℕ, List, map, option_map}
 use Rattle.clap.specs.Words.{app_of}
 use Rattle.std.proofs.lemmas.Result.{IfErr-weaker, IfOk-weaker}
-use Rattle.mm_tool.proofs.Asked.{fault_met, matches_met, request_asked}
+use Rattle.mm_tool.proofs.AskedWords.{fault_met, matches_met, request_asked}
 use Rattle.mm_tool.proofs.words.request_by.Goals as goal
 
 pub returns-in-Ok-clause-request : goal.returns-in-Ok-clause-request

@@ -1,6 +1,6 @@
 -- The words ask for what their matches say.
 use Rattle.std.proofs.Common.{inl, inr, refl}
-use Rattle.mm_tool.proofs.Asked.{commands_met, none_there, not_commanded}
+use Rattle.mm_tool.proofs.AskedWords.{commands_met, none_there, not_commanded}
 use Rattle.mm_tool.proofs.words.request_of_matches.Goals as goal
 
 pub returns-in-Some-clause-request : goal.returns-in-Some-clause-request

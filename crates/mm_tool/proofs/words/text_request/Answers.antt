@@ -3,7 +3,7 @@ use Rattle.std.proofs.Common.{Bor, IsSome, refl, rules, sym, ◌∙◌, codes, i
 use Rattle.clap.specs.Words.{found_of, rows_of}
 use Rattle.clap.specs.declared.parser.matches.ArgMatches.{ArgMatches}
 use Rattle.clap.proofs.WalkLemmas.{first_value-rows}
-use Rattle.mm_tool.proofs.Asked.{commands_met, rows_there}
+use Rattle.mm_tool.proofs.AskedWords.{commands_met, rows_there}
 use Rattle.mm_tool.proofs.words.text_request.Goals as goal
 
 pub returns-in-Some-subcommand_matches-clause-request :

@@ -2,7 +2,7 @@
 use Rattle.std.proofs.Common.{ℕ, List, Some, None, map, ap, ◌∙◌, Bor}
 use Rattle.std.proofs.lemmas.Result.{IfOk-weaker}
 use Rattle.clap.specs.Words.{found_of}
-use Rattle.mm_tool.proofs.Asked.{values_are}
+use Rattle.mm_tool.proofs.AskedWords.{values_are}
 use Rattle.mm_tool.proofs.words.values_of.Goals as goal
 
 abbrev texts : List (Bor (List ℕ)) → List (List ℕ)

@@ -4,7 +4,7 @@ use Rattle.std.proofs.lemmas.Result.{IfOk-weaker}
 use Rattle.mm_check.specs.Conclusion.{Conclusion}
 use Rattle.mm_check.specs.Forms.{IsNormalText}
 use Rattle.mm_text.proofs.Lists.{error_keeps}
-use Rattle.mm_check.proofs.Theorems.{told_of_tree, normal_fault, ask_fault, why}
+use Rattle.mm_check.proofs.Questions.AskedTheorems.{told_of_tree, normal_fault, ask_fault, why}
 use Rattle.mm_check.proofs.checked.Checked.normal.Goals as goal
 
 pub normal_text-requires-clause-proved : goal.normal_text-requires-clause-proved

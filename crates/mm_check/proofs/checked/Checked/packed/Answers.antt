@@ -3,7 +3,7 @@ use Rattle.std.proofs.Common.{ap, ◌∙◌}
 use Rattle.std.proofs.lemmas.Result.{IfOk-weaker}
 use Rattle.mm_check.specs.Conclusion.{Conclusion}
 use Rattle.mm_check.specs.Forms.{IsPackedText}
-use Rattle.mm_check.proofs.Theorems.{told_of_tree}
+use Rattle.mm_check.proofs.Questions.AskedTheorems.{told_of_tree}
 use Rattle.mm_check.proofs.checked.Checked.packed.Goals as goal
 
 pub packed_text-requires-clause-proved : goal.packed_text-requires-clause-proved

@@ -11,12 +11,13 @@ use Rattle.mm_check.specs.Verdict.{CanBeRead, is_proof, sentences}
 use Rattle.mm_check.specs.Rests.{IsNamed}
 use Rattle.mm_check.specs.Mirror.Theorems.{SayStepsOf, AreStepsOf}
 use Rattle.mm_text.proofs.Lists.{error_keeps}
-use Rattle.mm_check.proofs.Rereading.{AreOf, own_statements, read_statements, shown_proof, proof_fits, theorem_steps}
-use Rattle.mm_check.proofs.Rereading.{KeptWell}
+use Rattle.mm_check.proofs.Verdicts.AcceptedStatements.{AreOf, own_statements, read_statements}
+use Rattle.mm_check.proofs.Verdicts.AcceptedStatements.{shown_proof, proof_fits, theorem_steps}
+use Rattle.mm_check.proofs.Verdicts.AcceptedStatements.{KeptWell}
 use Rattle.mm_check.specs.Mirror.Rewriting.{IsHomeOf}
 use Rattle.mm_frame.specs.Rules.{AllMeant}
-use Rattle.mm_check.proofs.Replies.{made_both}
-use Rattle.mm_check.proofs.Saving.{home_of}
+use Rattle.mm_check.proofs.ReplyTexts.{made_both}
+use Rattle.mm_check.proofs.Saving.SavedFiles.{home_of}
 use Rattle.mm_check.proofs.checked.Checked.read_theorem.Goals as goal
 
 pub returns-in_err-id-clause-fault : goal.returns-in_err-id-clause-fault

@@ -5,8 +5,8 @@ use Rattle.mm_proof.specs.declared.profile.Profile.{Profile}
 use Rattle.mm_check.specs.Conclusion.{Conclusion}
 use Rattle.mm_check.specs.Compared.{IsCompared, IsSameFault}
 use Rattle.mm_text.proofs.Lists.{error_keeps}
-use Rattle.mm_check.proofs.Theorems.{why}
-use Rattle.mm_check.proofs.Comparing.{compared_of, same_fault, asked_fault}
+use Rattle.mm_check.proofs.Questions.AskedTheorems.{why}
+use Rattle.mm_check.proofs.Questions.ComparedTexts.{compared_of, same_fault, asked_fault}
 use Rattle.mm_check.proofs.checked.Checked.same_text.Goals as goal
 
 pub is_same-requires-clause-proved : goal.is_same-requires-clause-proved

@@ -2,7 +2,7 @@
 use Rattle.std.proofs.Common.{ap, ◌∙◌}
 use Rattle.std.proofs.lemmas.Result.{IfOk-weaker}
 use Rattle.mm_check.specs.Conclusion.{Conclusion}
-use Rattle.mm_check.proofs.Theorems.{shown_of}
+use Rattle.mm_check.proofs.Questions.AskedTheorems.{shown_of}
 use Rattle.mm_check.proofs.checked.Checked.show.Goals as goal
 
 pub listing_text-requires-clause-proved : goal.listing_text-requires-clause-proved

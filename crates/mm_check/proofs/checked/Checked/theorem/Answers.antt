@@ -7,7 +7,8 @@ use Rattle.mm_frame.specs.Form.{IsSound}
 use Rattle.mm_frame.specs.Numbers.{labelled_sentences}
 use Rattle.mm_frame.proofs.Names.LabelNumbers.{numbered_get, numbered_within}
 use Rattle.mm_check.specs.Conclusion.{Conclusion}
-use Rattle.mm_check.proofs.Asked.{found_theorem, found_incomplete, found_other, hypothesis_other, other_kind}
+use Rattle.mm_check.proofs.Questions.AskedTheorems.{found_theorem, found_incomplete, found_other}
+use Rattle.mm_check.proofs.Questions.AskedTheorems.{hypothesis_other, other_kind}
 use Rattle.mm_check.proofs.checked.Checked.theorem.Goals as goal
 
 pub returns-in-Hypothesis-clause-fault : goal.returns-in-Hypothesis-clause-fault

@@ -2,7 +2,7 @@
 use Rattle.std.proofs.Common.{◌++◌, [], ◌∷◌, List, map, length, ap, ◌∙◌, arith}
 use Rattle.mm_check.specs.Conclusion.{ProofUses}
 use Rattle.mm_check.specs.Mirror.Ordered.{ordered}
-use Rattle.mm_check.proofs.Ranges.{uses_push}
+use Rattle.mm_check.proofs.Numbers.{uses_push}
 use Rattle.mm_check.proofs.kept.Kept.push.Goals as goal
 
 pub returns : goal.returns

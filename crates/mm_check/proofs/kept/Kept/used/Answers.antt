@@ -1,5 +1,5 @@
 -- The range has the numbers that are kept of the proof there.
-use Rattle.mm_check.proofs.Ranges.{uses_there}
+use Rattle.mm_check.proofs.Numbers.{uses_there}
 use Rattle.mm_check.proofs.kept.Kept.used.Goals as goal
 
 pub returns : goal.returns

@@ -1,8 +1,8 @@
 -- A theorem of the file is written, and another statement is passed over.
 use Rattle.mm_text.specs.Statement.{PlainStatement, plain_statement}
-use Rattle.mm_check.proofs.FileTheorems.{theorem_complete, theorem_home}
-use Rattle.mm_check.proofs.WrittenFiles.{theorem_met, span_stands, span_follows}
-use Rattle.mm_check.proofs.WrittenFiles.{written_on, passed_by}
+use Rattle.mm_check.proofs.Saving.FileSpans.{theorem_complete, theorem_home}
+use Rattle.mm_check.proofs.Saving.WrittenFiles.{theorem_met, span_stands, span_follows, written_on}
+use Rattle.mm_check.proofs.Saving.WrittenFiles.{passed_by}
 use Rattle.mm_check.proofs.save_all.NewFileVisitor.see.Goals as goal
 use Rattle.mm_check.proofs.save_all.NewFileVisitor.see.Goals.{in_default-via-in-Theorem+else-wants, in_default-via-in_default}
 

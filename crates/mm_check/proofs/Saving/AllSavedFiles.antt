@@ -1,0 +1,483 @@
+-- Files in which the proofs of all theorems of one file are put in, from the last one to the first;
+-- doing so again changes nothing.
+use Rattle.std.proofs.Common.{◌≡◌, ℕ, zero, suc, ◌+◌, List, [], ◌∷◌, ◌++◌, map, take, length, cond}
+use Rattle.std.proofs.Common.{slice_get, Bool, true, false, Some, None, refl, sym, ap, subst, ◌∙◌}
+use Rattle.std.proofs.Common.{append_assoc, append-nil, length-append, Contains}
+use Rattle.std.specs.List.{AllZip, AllByRecursion}
+use Rattle.std.proofs.Math.Seq.{take-append_seam}
+use Rattle.std.proofs.lemmas.List.{map-append}
+use Rattle.mm_text.specs.Statement.{PlainStatement}
+use Rattle.mm_text.specs.Files.{PlainFile}
+use Rattle.mm_text.specs.Reading.{Reads}
+use Rattle.mm_text.specs.Replaced.{placeless, with_span, with_bytes}
+use Rattle.mm_text.proofs.Lists.{cons_parts, get_parted, all_filtered, at_from_contains, zip_weaker}
+use Rattle.mm_text.proofs.Lists.{zip_on}
+use Rattle.mm_frame.specs.Sentence.{Sentence, sentence_of}
+use Rattle.mm_frame.proofs.Rules.ObeyedRules.{one_label}
+use Rattle.mm_proof.specs.Strict.{IsStrict}
+use Rattle.mm_proof.specs.declared.profile.Profile.{Profile}
+use Rattle.mm_check.specs.declared.form.Form.{Form}
+use Rattle.mm_check.specs.Verdict.{AreAccepted, AllObey, sentences, proof_of}
+use Rattle.mm_check.specs.Saved.{FitsSaved}
+use Rattle.mm_check.specs.AllSaved.{is_theorem_of, theorems_of, Replacement, IsReplacement}
+use Rattle.mm_check.specs.AllSaved.{with_replaced, IsAllSaved}
+use Rattle.mm_check.specs.AllSavedLaws.{SavingAllChangesNoAnswer, SavingAllAgainChangesNothing}
+use Rattle.mm_check.proofs.Verdicts.AlikeVerdicts.{same_sentence, same_proof}
+use Rattle.mm_check.proofs.Saving.FileSpans.{theorem_home, theorem_there, theorem_placeless}
+use Rattle.mm_check.proofs.Saving.FileSpans.{theorems_parted, theorems_passed, Slot, filled}
+use Rattle.mm_check.proofs.Saving.FileSpans.{HasSlots, slots_put_anew, theorems_zip, replaced_by}
+use Rattle.mm_check.proofs.Saving.FileSpans.{woven, IsCut, all_filled, cut_into_slots}
+use Rattle.mm_check.proofs.Verdicts.AcceptedStatements.{said_there, same_reading, one_stands}
+use Rattle.mm_check.proofs.Verdicts.StatementByStatement.{all_meant}
+use Rattle.mm_check.proofs.Saving.SavedFiles.{nowhere, put_anew, readable_anew, handed_anew}
+use Rattle.mm_check.proofs.Saving.SavedFiles.{with_bytes_again, with_bytes_own, SayAlike}
+use Rattle.mm_check.proofs.Saving.SavedFiles.{say_themselves, say_on, said_same, Carries}
+use Rattle.mm_check.proofs.Saving.SavedOnce.{IsToPut, to_put, anew_of, are_put_anew, read_anew}
+use Rattle.mm_check.proofs.Saving.SavedOnce.{put_says_alike, HasText, text_carried, one_all_saved}
+use Rattle.std.proofs.lemmas.List.Elements.{recursion_from_All, All-contains_itself}
+use Rattle.std.proofs.lemmas.Option.{same_Some}
+
+-- ==== files in which the proofs of all theorems of one file are put in, from the last one to the
+-- first
+
+-- ---- the statements with the new proofs
+
+-- A statement that stands where another stood: its proof is strict if it is a theorem of the file,
+-- and else the other's.
+pub record IsSavedAs (number : ℕ) (front : List Sentence) (s t : PlainStatement) : Type 0 where
+  pub said : sentence_of s ≡ sentence_of t
+  pub home : s.first.file ≡ t.first.file
+  pub theorem : is_theorem_of number s ≡ is_theorem_of number t
+  pub strict : is_theorem_of number t ≡ true → IsStrict front (sentence_of t) (proof_of t)
+  pub kept : is_theorem_of number t ≡ false → proof_of s ≡ proof_of t
+
+-- each is, behind those before it
+abbrev pub AreSavedAs : ℕ → List Sentence → (after later : List PlainStatement) → Type 0
+AreSavedAs number front [] [] = Unit {0}
+AreSavedAs number front [] (t ∷ later) = ⊥
+AreSavedAs number front (s ∷ after) [] = ⊥
+AreSavedAs number front (s ∷ after) (t ∷ later) =
+    IsSavedAs number front s t × AreSavedAs number (front ++ sentence_of t ∷ []) after later
+
+saved_as_moved : (number : ℕ) (front : List Sentence) (s t u : PlainStatement)
+    → placeless t ≡ placeless u → IsSavedAs number front s t → IsSavedAs number front s u
+saved_as_moved number front s t u same saved =
+    let said = same_sentence nowhere nowhere t u same in
+    let proof = same_proof nowhere nowhere t u same in
+    let theorem = theorem_placeless number t u same in
+    record {
+      said = saved.said ∙ said;
+      home = saved.home ∙ ap (λ (v : PlainStatement). v.first.file) same;
+      theorem = saved.theorem ∙ theorem;
+      strict = λ is. rw (said, proof) at (saved.strict (theorem ∙ is));
+      kept = λ is. saved.kept (theorem ∙ is) ∙ proof;
+    }
+
+all_saved_as_moved : (number : ℕ) (front : List Sentence) (after later last : List PlainStatement)
+    → map placeless later ≡ map placeless last → AreSavedAs number front after later
+    → AreSavedAs number front after last
+all_saved_as_moved number front [] [] [] same all = tt
+all_saved_as_moved number front [] [] (u ∷ last) same all = absurd cc
+all_saved_as_moved number front (s ∷ after) (t ∷ later) [] same all = absurd cc
+all_saved_as_moved number front (s ∷ after) (t ∷ later) (u ∷ last) same all =
+    let (first, rest) = cons_parts (placeless t) (placeless u) (map placeless later)
+    (map placeless last) same in
+    let moved = all_saved_as_moved number _ after later last rest all.1 in (
+      saved_as_moved number front s t u first all.0,
+      rw (← same_sentence nowhere nowhere t u first) moved,
+    )
+all_saved_as_moved number front after later last same all = absurd all
+
+-- the one at a place
+pub saved_as_at : (number : ℕ) (front : List Sentence) (after later : List PlainStatement)
+    → AreSavedAs number front after later → (place : ℕ) (t : PlainStatement)
+    → slice_get later place ≡ Some t
+    → (s : PlainStatement) × (slice_get after place ≡ Some s)
+    × IsSavedAs number (front ++ sentences (take place later)) s t
+saved_as_at number front [] [] all place t there = absurd cc
+saved_as_at number front (s ∷ after) (u ∷ later) all zero t there =
+    let same : u ≡ t = cc in
+    (s, refl, rw (append-nil front, ← same) all.0)
+saved_as_at number front (s ∷ after) (u ∷ later) all (suc place) t there =
+    let (v, here, saved) = saved_as_at number _ after later all.1 place t there in
+    (v, here, rw append_assoc at saved)
+saved_as_at number front after later all place t there = absurd all
+
+-- ---- the proofs behind some statements
+
+-- with these bytes, the slots of the theorems among these are filled, and those of the ones before
+-- aren't
+abbrev AreFilledBehind : (files : List PlainFile) → (number : ℕ) → (bytes : List ℕ)
+    → (before : List PlainStatement) → (statements all : List PlainStatement)
+    → (news : List Replacement) → Type 0
+AreFilledBehind files number bytes before statements all news =
+    (first : List ℕ) (front back : List Slot)
+    → length front ≡ length (theorems_of number before)
+    → HasSlots files statements number first (front ++ back)
+    → AllZip (λ slot new. new.text ≡ slot.put) back news
+    → HasSlots (with_bytes files number bytes) all number first (front ++ map filled back)
+
+-- The files with these bytes read as the statements before, and others, which say what those after
+-- them said; the theorems of the file among them have new proofs.
+record ArePutBehind (profile : Profile) (files : List PlainFile) (number : ℕ) (bytes : List ℕ)
+    (whole : List PlainStatement → List PlainStatement) (before after : List PlainStatement)
+    (news : List Replacement) : Type 0 where
+  pub later : List PlainStatement
+  pub reads : Reads (with_bytes files number bytes) (whole later) None
+  pub obeyed : AllObey profile (whole later)
+  pub alike : SayAlike (whole after) (whole later)
+  pub each : AreSavedAs number (sentences before) after later
+  pub fill : AreFilledBehind files number bytes before (whole after) (whole later) news
+
+-- it is so behind the statements before, whatever the theorems after them are replaced by
+abbrev PutsBehind : Profile → Form → List PlainFile → ℕ → PlainFile
+    → (whole : List PlainStatement → List PlainStatement) → (before after : List PlainStatement)
+    → Type 0
+PutsBehind profile f files number file whole before after =
+    (news : List Replacement) → Reads files (whole after) None → AllObey profile (whole after)
+    → AllZip (IsReplacement f (whole after)) (theorems_of number after) news
+    → ArePutBehind profile files number (with_replaced file.bytes news) whole before after news
+
+-- a statement that is no theorem of the file is passed over
+passed_over : (profile : Profile) (files : List PlainFile) (number : ℕ) (bytes : List ℕ)
+    (before : List PlainStatement) (s : PlainStatement) (after : List PlainStatement)
+    (news : List Replacement) → is_theorem_of number s ≡ false
+    → ArePutBehind profile files number bytes (λ rest. before ++ s ∷ rest) (before ++ s ∷ [])
+    after news
+    → ArePutBehind profile files number bytes (λ rest. before ++ rest) before (s ∷ after) news
+passed_over profile files number bytes before s after news other put = record {
+  later = s ∷ put.later;
+  reads = put.reads;
+  obeyed = put.obeyed;
+  alike = put.alike;
+  each = (
+    record {
+      said = refl;
+      home = refl;
+      theorem = refl;
+      strict = λ is. absurd cc;
+      kept = λ is. refl;
+    },
+    rw (map-append sentence_of before (s ∷ [])) at put.each,
+  );
+  fill = λ first front back long has texts.
+      put.fill first front back
+      (long ∙ ap length (sym (theorems_passed number before s other))) has texts;
+}
+
+module _ (profile : Profile) (f : Form) (files : List PlainFile) (number : ℕ) (file : PlainFile)
+    (handed : slice_get files number ≡ Some file) where
+  -- Its slot is filled behind which all are.
+  filled_one : (bytes : List ℕ) {before : List PlainStatement} {s : PlainStatement}
+      (after : List PlainStatement) {later : List PlainStatement} {new : Replacement}
+      (news : List Replacement) (r : IsReplacement f (before ++ s ∷ after) s new)
+      (p : IsToPut profile f (with_bytes files number bytes) before s later
+      (record file { bytes = bytes }) r.text) → is_theorem_of number s ≡ true
+      → AreFilledBehind files number bytes (before ++ s ∷ []) (before ++ s ∷ after)
+      (before ++ s ∷ later) news
+      → AreFilledBehind files number (with_span bytes new.span new.text) before
+      (before ++ s ∷ after) (read_anew p) (new ∷ news)
+  filled_one bytes after news r p is fill first front [] long has texts = absurd texts
+  filled_one bytes {before} {s} after {later} news r p is fill first front (slot ∷ back) long has
+      texts =
+      let others : List PlainFile = with_bytes files number bytes in
+      let one = append_assoc front (slot ∷ []) in
+      let longer : length (front ++ slot ∷ []) ≡ length (theorems_of number (before ++ s ∷ [])) =
+      length-append front (slot ∷ []) ∙ ap (λ (n : ℕ). n + 1) long
+      ∙ sym (length-append (theorems_of number before) (s ∷ []))
+      ∙ sym (ap length (theorems_parted number before s [] is)) in
+      let behind = rw (one (map filled back)) at
+      (fill first (front ++ slot ∷ []) back longer (rw (one back) has) texts.1) in
+      subst (λ (fs : List PlainFile).
+      HasSlots fs (read_anew p) number first (front ++ map filled (slot ∷ back)))
+      (with_bytes_again files number file bytes (with_span bytes s.span slot.put) handed
+      ∙ (λ i. with_bytes files number (with_span bytes (sym r.span i) (sym texts.0 i))))
+      (slots_put_anew p number first front slot (map filled back) (theorem_home number s is)
+      (sym texts.0 ∙ r.put) long behind)
+
+  -- and it is put in
+  put_in : (bytes : List ℕ) (before : List PlainStatement) (s : PlainStatement)
+      (after : List PlainStatement) (new : Replacement) (news : List Replacement)
+      → AllObey profile (before ++ s ∷ after) → IsReplacement f (before ++ s ∷ after) s new
+      → is_theorem_of number s ≡ true
+      → ArePutBehind profile files number bytes (λ rest. before ++ s ∷ rest) (before ++ s ∷ [])
+      after news
+      → ArePutBehind profile files number (with_span bytes new.span new.text)
+      (λ rest. before ++ rest) before (s ∷ after) (new ∷ news)
+  put_in bytes before s after new news obeyed r is next =
+      let home : s.first.file ≡ number = theorem_home number s is in
+      let others : List PlainFile = with_bytes files number bytes in
+      let st : List PlainStatement = before ++ s ∷ after in
+      let here = one_label (sentences st) r.label r.place (length before) (sentence_of s)
+      (sentence_of s) (all_meant profile st obeyed) (said_there st r.place s r.proof.there)
+      (said_there st (length before) s (get_parted before after s)) r.proof.named r.proof.named in
+      let front : sentences (take r.place st) ≡ sentences before = rw (here, take-append_seam) in
+      let p = to_put r.proof r.laid front next.reads next.obeyed
+      (ap (slice_get others) home ∙ handed_anew files number file bytes handed) in
+      let put = are_put_anew p in
+      let anew = anew_of p in
+      let theorem = theorem_there number (put_anew s (10 ∷ r.text)) anew.complete home in
+      let changed = (λ i. with_bytes others (home i) (with_span bytes (sym r.span i) (sym r.put i)))
+      ∙ with_bytes_again files number file bytes (with_span bytes new.span new.text) handed in
+      record {
+        later = put_anew s (10 ∷ r.text) ∷ put.later;
+        reads = subst (λ (fs : List PlainFile). Reads fs (read_anew p) None) changed put.reads;
+        obeyed = put.obeyed;
+        alike = say_on next.alike (put_says_alike p);
+        each = (
+          record {
+            said = refl;
+            home = refl;
+            theorem = is ∙ sym theorem;
+            strict = λ so. anew.strict;
+            kept = λ none. absurd cc;
+          },
+          all_saved_as_moved number (sentences before ++ sentence_of s ∷ []) after next.later
+              put.later put.same
+              (rw (map-append sentence_of before (s ∷ [])) at next.each),
+        );
+        fill = filled_one bytes after news r p is next.fill;
+      }
+
+  -- ---- all of them
+
+  -- a statement before those that are put in, by whether it is a theorem of the file
+  behind_one : (before : List PlainStatement) (s : PlainStatement) (after : List PlainStatement)
+      → PutsBehind profile f files number file (λ rest. before ++ s ∷ rest) (before ++ s ∷ []) after
+      → (b : Bool) → is_theorem_of number s ≡ b → (news : List Replacement)
+      → Reads files (before ++ s ∷ after) None → AllObey profile (before ++ s ∷ after)
+      → AllZip (IsReplacement f (before ++ s ∷ after))
+      (cond b (s ∷ theorems_of number after) (theorems_of number after)) news
+      → ArePutBehind profile files number (with_replaced file.bytes news) (λ rest. before ++ rest)
+      before (s ∷ after) news
+  behind_one before s after so false is news reads obeyed each =
+      passed_over profile files number (with_replaced file.bytes news) before s after news is
+      (so news reads obeyed each)
+  behind_one before s after so true is [] reads obeyed each = absurd each
+  behind_one before s after so true is (new ∷ news) reads obeyed each =
+      put_in (with_replaced file.bytes news) before s after new news obeyed each.0 is
+      (so news reads obeyed each.1)
+
+  put_behind : (before after : List PlainStatement)
+      → PutsBehind profile f files number file (λ rest. before ++ rest) before after
+  put_behind before [] [] reads obeyed each = record {
+    later = [];
+    reads = rw (with_bytes_own files number file handed) reads;
+    obeyed = obeyed;
+    alike = say_themselves (before ++ []);
+    each = tt;
+    fill = fill;
+  }
+    where
+      fill : AreFilledBehind files number file.bytes before (before ++ []) (before ++ []) []
+      fill first front [] long has texts = rw (with_bytes_own files number file handed) has
+      fill first front (slot ∷ back) long has texts = absurd texts
+  put_behind before [] (new ∷ news) reads obeyed each = absurd each
+  put_behind before (s ∷ after) news reads obeyed each =
+      let same : (λ (rest : List PlainStatement). (before ++ s ∷ []) ++ rest)
+      ≡ (λ (rest : List PlainStatement). before ++ s ∷ rest) =
+      λ i rest. append_assoc before (s ∷ []) rest i in
+      behind_one before s after
+      (subst (λ (whole : List PlainStatement → List PlainStatement).
+      PutsBehind profile f files number file whole (before ++ s ∷ []) after) same
+      (put_behind (before ++ s ∷ []) after))
+      (is_theorem_of number s) refl news reads obeyed each
+
+-- The files with what is saved are accepted as these statements, which say what the old ones said:
+-- each slot is filled.
+pub record AreAllPut (profile : Profile) (files : List PlainFile)
+    (statements : List PlainStatement) (number : ℕ) (bytes : List ℕ)
+    (news : List Replacement) : Type 0 where
+  pub same : List PlainStatement
+  pub accepted : AreAccepted profile (with_bytes files number bytes) same
+  pub alike : SayAlike statements same
+  pub each : AreSavedAs number [] statements same
+  pub fill : (first : List ℕ) (slots : List Slot) → HasSlots files statements number first slots
+      → AllZip (λ slot new. new.text ≡ slot.put) slots news
+      → HasSlots (with_bytes files number bytes) same number first (map filled slots)
+
+pub are_all_put : (profile : Profile) (f : Form) (files : List PlainFile)
+    (statements : List PlainStatement) (number : ℕ) (bytes : List ℕ)
+    → AreAccepted profile files statements → (sv : IsAllSaved f files statements number bytes)
+    → FitsSaved files number bytes
+    → AreAllPut profile files statements number bytes sv.replaced
+are_all_put profile f files statements number bytes accepted sv fits =
+    let put = put_behind profile f files number sv.file sv.handed [] statements sv.replaced
+    accepted.reads accepted.obeyed sv.each in
+    record {
+      same = put.later;
+      accepted = record {
+        readable = readable_anew files number sv.file bytes sv.handed fits accepted.readable;
+        reads = subst (λ (bs : List ℕ). Reads (with_bytes files number bs) put.later None)
+            (sym sv.whole) put.reads;
+        obeyed = put.obeyed;
+      };
+      alike = put.alike;
+      each = put.each;
+      fill = λ first slots has texts.
+          subst (λ (bs : List ℕ). HasSlots (with_bytes files number bs) put.later number first
+          (map filled slots)) (sym sv.whole) (put.fill first [] slots refl has texts);
+    }
+
+pub saving_all_changes_no_answer : SavingAllChangesNoAnswer
+saving_all_changes_no_answer profile f files statements number bytes accepted sv fits =
+    let put = are_all_put profile f files statements number bytes accepted sv fits in (
+      put.same,
+      said_same profile files (with_bytes files number bytes) statements put.same accepted
+          put.accepted put.alike,
+    )
+
+-- ==== saving all proofs of a file again changes nothing
+
+-- ---- the theorems say what they said
+
+abbrev SayAsTheorems : (number : ℕ) → PlainStatement → PlainStatement → Type 0
+SayAsTheorems number s t =
+    (is_theorem_of number s ≡ is_theorem_of number t) × (sentence_of s ≡ sentence_of t)
+
+saved_zip : (number : ℕ) (front : List Sentence) (after later : List PlainStatement)
+    → AreSavedAs number front after later → AllZip (SayAsTheorems number) after later
+saved_zip number front [] [] all = tt
+saved_zip number front (s ∷ after) (t ∷ later) all = (
+  (all.0.theorem, all.0.said),
+  saved_zip number (front ++ sentence_of t ∷ []) after later all.1,
+)
+saved_zip number front after later all = absurd all
+
+-- ---- what was put in for them is put in again
+
+-- the text is that of the other
+abbrev PutsTextOf : Replacement → Replacement → Type 0
+PutsTextOf new again = again.text ≡ new.text
+
+-- and for all of them
+record AreReplacedAgain (f : Form) (others theorems : List PlainStatement)
+    (news : List Replacement) : Type 0 where
+  pub again : List Replacement
+  pub each : AllZip (IsReplacement f others) theorems again
+  pub texts : AllZip PutsTextOf news again
+
+module _ (profile : Profile) (f : Form) (statements others : List PlainStatement)
+    (obeyed : AllObey profile statements) (still : AllObey profile others)
+    (carries : Carries statements others) where
+  -- for one, in its own span
+  replaced_again : (s t : PlainStatement) (new : Replacement) → sentence_of s ≡ sentence_of t
+      → Contains others t → IsReplacement f statements s new
+      → IsReplacement f others t (record { span = t.span; text = new.text })
+  replaced_again s t new said there r =
+      let (u, has) = text_carried profile f statements others r.label r.place s r.root r.below
+      r.text obeyed carries (record { proof = r.proof; laid = r.laid }) in
+      let (k, here) = at_from_contains others t there in
+      let named = sym (ap (λ (x : Sentence). x.label) said) ∙ r.proof.named in
+      let same : u ≡ t =
+      sym (one_stands others r.label r.place u t (all_meant profile others still) has.proof.there
+      has.proof.named (k, here, named)) in
+      let own : HasText f others r.label r.place t r.root r.below r.text = rw same at has in
+      replaced_by f r.text own.proof own.laid refl r.put
+
+  all_replaced_again : (theorems later : List PlainStatement) (news : List Replacement)
+      → AllZip (λ s t. sentence_of s ≡ sentence_of t) theorems later
+      → AllByRecursion (Contains others) later
+      → AllZip (IsReplacement f statements) theorems news → AreReplacedAgain f others later news
+  all_replaced_again [] [] [] said there each = record { again = []; each = tt; texts = tt }
+  all_replaced_again [] [] (new ∷ news) said there each = absurd each
+  all_replaced_again (s ∷ theorems) (t ∷ later) [] said there each = absurd each
+  all_replaced_again (s ∷ theorems) (t ∷ later) (new ∷ news) (own, said) (here, there) (r, each) =
+      let rest = all_replaced_again theorems later news said there each in
+      record {
+        again = record { span = t.span; text = new.text } ∷ rest.again;
+        each = (replaced_again s t new own here r, rest.each);
+        texts = (refl, rest.texts);
+      }
+  all_replaced_again theorems later news said there each = absurd said
+
+again_put : (profile : Profile) (f : Form) (files : List PlainFile)
+    (statements : List PlainStatement) (number : ℕ) (bytes : List ℕ)
+    (sv : IsAllSaved f files statements number bytes) → AllObey profile statements
+    → (put : AreAllPut profile files statements number bytes sv.replaced)
+    → AreReplacedAgain f put.same (theorems_of number put.same) sv.replaced
+again_put profile f files statements number bytes sv obeyed put =
+    let Says : PlainStatement → PlainStatement → Type 0 = λ s t. sentence_of s ≡ sentence_of t in
+    let said : AllZip Says (theorems_of number statements) (theorems_of number put.same) =
+    theorems_zip number (SayAsTheorems number) Says (λ s t both. both.0) (λ s t is both. both.1)
+    statements put.same (saved_zip number [] statements put.same put.each) in
+    let there : AllByRecursion (Contains put.same) (theorems_of number put.same) =
+    all_filtered (Contains put.same) (is_theorem_of number) put.same
+    (recursion_from_All (Contains put.same) put.same (All-contains_itself put.same)) in
+    all_replaced_again profile f statements put.same obeyed put.accepted.obeyed put.alike.to
+    (theorems_of number statements) (theorems_of number put.same) sv.replaced said there sv.each
+
+-- ---- so all stands already where it is put
+
+filled_twice : (slots : List Slot) → map filled (map filled slots) ≡ map filled slots
+filled_twice [] = refl
+filled_twice (slot ∷ slots) = ap (λ (l : List Slot). filled slot ∷ l) (filled_twice slots)
+
+filled_texts : (slots : List Slot) (news : List Replacement)
+    → AllZip (λ slot new. new.text ≡ slot.put) slots news
+    → AllZip (λ slot new. new.text ≡ slot.put) (map filled slots) news
+filled_texts [] [] texts = tt
+filled_texts (slot ∷ slots) (new ∷ news) (text, texts) = (text, filled_texts slots news texts)
+filled_texts slots news texts = absurd texts
+
+-- what is woven of the filled slots, with the same texts put in
+woven_again : (f : Form) (files : List PlainFile) (number : ℕ) (same : List PlainStatement)
+    (first : List ℕ) (slots : List Slot) (news : List Replacement)
+    → HasSlots files same number first (map filled slots)
+    → AllZip (λ slot new. new.text ≡ slot.put) slots news
+    → (a : AreReplacedAgain f same (theorems_of number same) news)
+    → with_replaced (woven first (map filled slots)) a.again ≡ woven first (map filled slots)
+woven_again f files number same first slots news has texts a =
+    let theorems : List PlainStatement = theorems_of number same in
+    let spans : AllZip (λ t new. new.span ≡ t.span) theorems a.again =
+    zip_weaker (IsReplacement f same) (λ t new. new.span ≡ t.span) (λ t new r. r.span) theorems
+    a.again a.each in
+    let put : AllZip (λ slot new. new.text ≡ slot.put) slots a.again =
+    zip_on (λ slot new. new.text ≡ slot.put) PutsTextOf (λ slot new. new.text ≡ slot.put)
+    (λ slot new again own same. same ∙ own) slots news a.again texts a.texts in
+    all_filled [] first (map filled slots) theorems a.again has.stand spans
+    (filled_texts slots a.again put)
+    ∙ ap (woven first) (filled_twice slots)
+
+-- The bytes are what is saved again.
+saved_again : (profile : Profile) (f : Form) (files : List PlainFile)
+    (statements : List PlainStatement) (number : ℕ) (bytes : List ℕ) → AllObey profile statements
+    → (sv : IsAllSaved f files statements number bytes)
+    → (c : IsCut (IsReplacement f statements) 0 sv.file.bytes (theorems_of number statements)
+    sv.replaced)
+    → (put : AreAllPut profile files statements number bytes sv.replaced)
+    → IsAllSaved f (with_bytes files number bytes) put.same number bytes
+saved_again profile f files statements number bytes obeyed sv c put =
+    let anew : List PlainFile = with_bytes files number bytes in
+    let has : HasSlots anew put.same number c.first (map filled c.slots) =
+    put.fill c.first c.slots
+    (record { file = sv.file; handed = sv.handed; whole = c.whole; stand = c.stands }) c.texts in
+    let own : PlainFile = record sv.file { bytes = bytes } in
+    let there = handed_anew files number sv.file bytes sv.handed in
+    let whole : bytes ≡ woven c.first (map filled c.slots) =
+    ap (λ (g : PlainFile). g.bytes) (same_Some own has.file (sym there ∙ has.handed)) ∙ has.whole in
+    let a = again_put profile f files statements number bytes sv obeyed put in
+    record {
+      file = own;
+      handed = there;
+      replaced = a.again;
+      each = a.each;
+      whole = whole
+          ∙ sym (woven_again f anew number put.same c.first c.slots sv.replaced has c.texts a)
+          ∙ ap (λ (l : List ℕ). with_replaced l a.again) (sym whole);
+    }
+
+pub saving_all_again_changes_nothing : SavingAllAgainChangesNothing
+saving_all_again_changes_nothing profile f files statements same number bytes accepted sv fits reads
+    =
+    let anew : List PlainFile = with_bytes files number bytes in
+    let put = are_all_put profile f files statements number bytes accepted sv fits in
+    let read = (same_reading anew same put.same None None reads put.accepted.reads).0 in
+    let c =
+    cut_into_slots (IsReplacement f statements) files statements number sv.file sv.replaced
+    accepted.reads sv.handed sv.each in
+    let own = saved_again profile f files statements number bytes accepted.obeyed sv c put in (
+      rw read own,
+      λ others sw. sym (one_all_saved profile f anew put.same number bytes others
+          put.accepted own (rw read at sw)),
+    )

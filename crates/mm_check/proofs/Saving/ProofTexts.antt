@@ -1,0 +1,575 @@
+-- A text in a form is a proof of its theorem; that of a packed proof tells its labels and its codes,
+-- and is small enough to be written.
+use Rattle.std.proofs.Common.{◌≡◌, ◌≢◌, ℕ, ◌+◌, ◌≤◌, ◌==◌, ◌||◌, ◌&&◌, List, [], ◌∷◌, ◌++◌, map}
+use Rattle.std.proofs.Common.{Bool, true, false, refl, sym, subst, ◌∙◌, arith, append_assoc}
+use Rattle.std.proofs.Common.{append-nil, Contains, ◌↔◌, zero, suc, take, None, inl, inr, ap, ◌<◌}
+use Rattle.std.proofs.Common.{min, length, Option, Some, option_map, unwrap_or}
+use Rattle.std.specs.Prelude.{nat_le}
+use Rattle.std.specs.List.{AllByRecursion, AllZip, flat_map, list_all, list_any, sum_by}
+use Rattle.std.proofs.lemmas.Bool.{leb-true, eqb-true, le-leb, ne_eqb, and_parts}
+use Rattle.mm_text.specs.Token.{PlainToken, is_space, is_printable, is_label_byte, IsLabel}
+use Rattle.mm_text.specs.Token.{HoldsNoDollar, tokens_from}
+use Rattle.mm_text.specs.Replaced.{IsProofToken, IsProofText}
+use Rattle.mm_text.proofs.Reader.OneToken.{label_held, label_bytes}
+use Rattle.mm_text.proofs.Lists.{all_append, all_front, all_back, all_weaker, contains_from_at}
+use Rattle.mm_text.proofs.Lists.{same_length}
+use Rattle.mm_code.specs.declared.code.Code.{Code}
+use Rattle.mm_code.specs.declared.code.Code.TheVariants.{Number, Tag}
+use Rattle.mm_code.specs.Letters.{IsLeadingDigit, leading_letter, last_letter, SaysCode}
+use Rattle.mm_code.specs.Letters.{SpellsCodes, Letters, HasSpelling, code_for, largest}
+use Rattle.mm_code.specs.Layout.{indent, token_line, LaidOut, CompressedLaidOut, in_parentheses}
+use Rattle.mm_code.specs.Words.{texts_of, tokens_in, LacksWhiteSpace, IsOneToken}
+use Rattle.mm_code.proofs.ReadBack.{texts_in, tokens_in-space, normal_read_back}
+use Rattle.mm_code.proofs.ReadBack.{compressed_read_back}
+use Rattle.mm_proof.specs.Tokens.{is_incomplete, SayMoves, IsNormal, opening_token, closing_token}
+use Rattle.mm_proof.specs.Tokens.{IsCompressed, Says}
+use Rattle.mm_frame.specs.Sentence.{Sentence, SomeSentence, IsLabelled}
+use Rattle.mm_frame.specs.Form.{AllFormed}
+use Rattle.mm_frame.specs.Rules.{AllMeant}
+use Rattle.mm_frame.proofs.BookLists.ReadLabels.{label_named, those_few}
+use Rattle.mm_proof.specs.Tree.{Trees, none, tree, spelling, TreesFit, DeriveAll}
+use Rattle.mm_proof.specs.Moves.{Move, Makes, name, again, mark}
+use Rattle.mm_proof.specs.OneTree.{MakeTree, MakeSameTree}
+use Rattle.mm_proof.specs.Proof.{IsProvedWithin, IsWhole}
+use Rattle.mm_proof.specs.Strict.{IsStrict}
+use Rattle.mm_proof.proofs.ProofSteps.Derivations.{makes_once}
+use Rattle.mm_proof.proofs.ProofTokens.SaidMoves.{moves_once, compressed_once}
+use Rattle.mm_proof.proofs.PackedProofs.WrittenProofs.{normal_is_strict, packed_is_strict}
+use Rattle.mm_proof.proofs.PackedProofs.WrittenProofs.{label_fits, stands_known, IsProofBy}
+use Rattle.mm_proof.proofs.PackedProofs.WrittenProofs.{spelled_proves, packed_listed, packed_proves}
+use Rattle.mm_check.specs.declared.form.Form.{Form}
+use Rattle.mm_check.specs.Forms.{IsPackedText}
+use Rattle.mm_check.specs.Saved.{IsTextIn}
+use Rattle.mm_check.proofs.Questions.AskedTheorems.{all_within, map-take}
+use Rattle.mm_code.proofs.LaidOutLines.{one_text_of_compressed, some_compressed_layout}
+use Rattle.mm_code.proofs.OneSpelling.{one_text_only, one_reading_only, some_text}
+use Rattle.mm_proof.specs.Sharing.{AreFirstUses, ShareAll, IsPacked}
+use Rattle.mm_proof.proofs.Machines.TreeWords.{made_word}
+use Rattle.mm_proof.proofs.FullSharing.OneSharedProof.{told_by_packed_holds, uses_apart}
+use Rattle.mm_proof.proofs.FullSharing.OneSharedProof.{some_packed_holds}
+use Rattle.mm_text.proofs.Reader.WholeReadings.{readings_are_formed_in_place}
+use Rattle.mm_frame.proofs.Rules.ObeyedRules.{allformed_front, allmeant_front}
+use Rattle.mm_check.specs.Verdict.{sentences}
+use Rattle.mm_check.specs.FormLaws.{PackedTextsTell}
+use Rattle.mm_check.proofs.Verdicts.OneVerdict.{formed_sentences}
+use Rattle.mm_check.proofs.Verdicts.StatementByStatement.{all_meant}
+use Rattle.std.proofs.Math.Nat.{min-eq_left}
+use Rattle.std.proofs.lemmas.List.{length-map, length-append}
+use Rattle.std.proofs.lemmas.List.Elements.{All-from_recursion}
+use Rattle.std.proofs.lemmas.List.Sums.{sum_by-cons}
+use Rattle.std.proofs.lemmas.Option.{slice_get_within, slice_get-map}
+use Rattle.mm_text.specs.Files.{most_bytes}
+use Rattle.mm_frame.specs.Frame.{IsMandatoryAt}
+use Rattle.mm_proof.specs.BigSubtrees.{IsSubtree}
+use Rattle.mm_proof.specs.Visits.{Visit, keeps, visits, trees_made}
+use Rattle.mm_proof.proofs.FullSharing.FewestSteps.{made_subtrees, subtrees_made, sum_within}
+use Rattle.mm_proof.proofs.ProofTokens.CodeLetters.{said_moves}
+use Rattle.mm_proof.proofs.Members.{In, in_get, get_in, in_contains, places_once}
+use Rattle.mm_proof.proofs.FullSharing.OneSharing.{kept_are, kept_stays, shared_kept_once}
+use Rattle.mm_proof.proofs.FullSharing.OneSharing.{kept_visit, visit_made}
+use Rattle.mm_check.specs.declared.form.Form.TheVariants as form
+
+-- ==== the tokens of a text that is laid out in lines are those of a proof
+
+-- ---- bytes of labels and letters
+
+-- a byte that a token of a complete proof may hold
+abbrev pub IsFine : ℕ → Type 0
+IsFine b = (33 ≤ b) × ((b ≤ 126) × ((b ≢ 36) × (b ≢ 63)))
+
+abbrev pub AreFine : List ℕ → Type 0
+AreFine text = AllByRecursion IsFine text
+
+one_of_six : (a b c d e f : Bool) (P : Type 0) → (a || b || c || d || e || f) ≡ true → (a ≡ true → P) → (b ≡ true → P) → (c ≡ true → P) → (d ≡ true → P) → (e ≡ true → P) → (f ≡ true → P) → P
+one_of_six true b c d e f P h pa pb pc pd pe pf = pa refl
+one_of_six false true c d e f P h pa pb pc pd pe pf = pb refl
+one_of_six false false true d e f P h pa pb pc pd pe pf = pc refl
+one_of_six false false false true e f P h pa pb pc pd pe pf = pd refl
+one_of_six false false false false true f P h pa pb pc pd pe pf = pe refl
+one_of_six false false false false false true P h pa pb pc pd pe pf = pf refl
+one_of_six false false false false false false P h pa pb pc pd pe pf = absurd cc
+
+label_range : (b low high : ℕ) → (nat_le low b && nat_le b high) ≡ true → (low ≤ b) × (b ≤ high)
+label_range b low high h = let both = and_parts (nat_le low b) (nat_le b high) h in (leb-true low b both.0, leb-true b high both.1)
+
+pub fine_in : (b low high : ℕ) → low ≤ b → b ≤ high → 42 ≤ low → high ≤ 126 → ((low ≤ 63) → high ≤ 62) → IsFine b
+fine_in b low high more less from to apart =
+    (omega (arith, more, from), (omega (arith, less, to), ((λ e. omega (arith, e, more, from)), (λ e. let up : high ≤ 62 = apart (omega (arith, e, more)) in omega (arith, e, less, up)))))
+
+pub label_fine : (b : ℕ) → is_label_byte b ≡ true → IsFine b × (42 ≤ b)
+label_fine b h =
+    one_of_six (nat_le 65 b && nat_le b 90) (nat_le 97 b && nat_le b 122) (nat_le 48 b && nat_le b 57) (b == 45) (b == 95) (b == 46) (IsFine b × (42 ≤ b)) h
+    (λ e. let r = label_range b 65 90 e in (fine_in b 65 90 r.0 r.1 (omega arith) (omega arith) (λ x. absurd (omega (arith, x))), omega (arith, r.0)))
+    (λ e. let r = label_range b 97 122 e in (fine_in b 97 122 r.0 r.1 (omega arith) (omega arith) (λ x. absurd (omega (arith, x))), omega (arith, r.0)))
+    (λ e. let r = label_range b 48 57 e in (fine_in b 48 57 r.0 r.1 (omega arith) (omega arith) (λ x. omega arith), omega (arith, r.0)))
+    (λ e. let r = eqb-true b 45 e in (fine_in b 45 45 (omega (arith, r)) (omega (arith, r)) (omega arith) (omega arith) (λ x. omega arith), omega (arith, r)))
+    (λ e. let r = eqb-true b 95 e in (fine_in b 95 95 (omega (arith, r)) (omega (arith, r)) (omega arith) (omega arith) (λ x. absurd (omega (arith, x))), omega (arith, r)))
+    (λ e. let r = eqb-true b 46 e in (fine_in b 46 46 (omega (arith, r)) (omega (arith, r)) (omega arith) (omega arith) (λ x. omega arith), omega (arith, r)))
+
+bytes_fine : (text : List ℕ) → list_all is_label_byte text ≡ true → AreFine text
+bytes_fine [] h = tt
+bytes_fine (b ∷ text) h =
+    let both = and_parts (is_label_byte b) (list_all is_label_byte text) h in
+    ((label_fine b both.0).0, bytes_fine text both.1)
+
+pub label_all_fine : (text : List ℕ) → IsLabel text → AreFine text
+label_all_fine text is = bytes_fine text (label_bytes text is)
+
+-- a parenthesis is no label
+pub no_parenthesis : (b : ℕ) → b ≤ 41 → ¬ (IsLabel (b ∷ []))
+no_parenthesis b small h =
+    absurd (omega (arith, (label_fine b (and_parts (is_label_byte b) true h).0).1, small))
+
+-- ---- letters
+
+leading_fine : (digits : List ℕ) → AllByRecursion IsLeadingDigit digits → AreFine (map leading_letter digits)
+leading_fine [] h = tt
+leading_fine (d ∷ digits) h =
+    let more = h.0.0 in let less = h.0.1 in
+    (fine_in (84 + d) 85 89 (omega (arith, more)) (omega (arith, less)) (omega arith) (omega arith) (λ x. absurd (omega (arith, x))), leading_fine digits h.1)
+
+piece_fine : (piece : List ℕ) (code : Code) → SaysCode piece code → AreFine piece
+piece_fine piece (Number number) s =
+    let more = s.is_last.0 in let less = s.is_last.1 in
+    subst AreFine (sym s.letters) (all_append IsFine (map leading_letter s.leading) (last_letter s.last ∷ []) (leading_fine s.leading s.are_leading)
+    (fine_in (64 + s.last) 65 84 (omega (arith, more)) (omega (arith, less)) (omega arith) (omega arith) (λ x. absurd (omega (arith, x))), tt))
+piece_fine piece Tag s = subst AreFine (sym s) (fine_in 90 90 90 (omega arith) (omega arith) (omega arith) (omega arith) (λ x. absurd (omega (arith, x))), tt)
+
+pieces_fine : (pieces : List (List ℕ)) (codes : List Code) → AllZip SaysCode pieces codes → AreFine (flat_map (λ piece. piece) pieces)
+pieces_fine [] codes h = tt
+pieces_fine (piece ∷ pieces) [] h = absurd h
+pieces_fine (piece ∷ pieces) (code ∷ codes) h = all_append IsFine piece (flat_map (λ p. p) pieces) (piece_fine piece code h.0) (pieces_fine pieces codes h.1)
+
+pub letters_fine : (letters : List ℕ) (codes : List Code) → SpellsCodes letters codes → AreFine letters
+letters_fine letters codes s = subst AreFine (sym s.joined) (pieces_fine s.pieces codes s.each)
+
+pub cut_fine : (pieces : List (List ℕ)) → AreFine (flat_map (λ piece. piece) pieces) → AllByRecursion AreFine pieces
+cut_fine [] h = tt
+cut_fine (piece ∷ pieces) h =
+    (all_front IsFine piece (flat_map (λ p. p) pieces) h, cut_fine pieces (all_back IsFine piece (flat_map (λ p. p) pieces) h))
+
+-- ---- tokens of fine bytes
+
+fine_dark : (b : ℕ) → IsFine b → is_space b ≡ false
+fine_dark b f =
+    let apart : (n : ℕ) → n ≤ 32 → (b == n) ≡ false =
+    λ n less. ne_eqb b n (λ e. omega (arith, e, less, f.0)) in
+    rw (apart 32 (omega arith), apart 9 (omega arith), apart 10 (omega arith))
+    (rw (apart 12 (omega arith), apart 13 (omega arith)))
+
+pub fine_lacks : (text : List ℕ) → AreFine text → LacksWhiteSpace text
+fine_lacks [] h = tt
+fine_lacks (b ∷ text) h = (fine_dark b h.0, fine_lacks text h.1)
+
+-- a label is one token
+pub label_token : (label : List ℕ) → IsLabel label → IsOneToken label
+label_token label is = (omega (arith, label_held label is), fine_lacks label (label_all_fine label is))
+
+fine_printable : (text : List ℕ) → AreFine text → list_all is_printable text ≡ true
+fine_printable [] h = refl
+fine_printable (b ∷ text) h =
+    rw (le-leb 33 b h.0.0, le-leb b 126 h.0.1.0) (fine_printable text h.1)
+
+fine_dollar : (text : List ℕ) → AreFine text → HoldsNoDollar text
+fine_dollar [] h = refl
+fine_dollar (b ∷ text) h = rw (ne_eqb b 36 h.0.1.1.0) (fine_dollar text h.1)
+
+fine_known : (text : List ℕ) → AreFine text → list_any (λ b. b == 63) text ≡ false
+fine_known [] h = refl
+fine_known (b ∷ text) h = rw (ne_eqb b 63 h.0.1.1.1) (fine_known text h.1)
+
+pub fine_complete : (tokens : List (List ℕ)) → AllByRecursion AreFine tokens → is_incomplete tokens ≡ false
+fine_complete [] h = refl
+fine_complete (t ∷ tokens) h = rw (fine_known t h.0) (fine_complete tokens h.1)
+
+fine_tokens : (tokens : List PlainToken) → AllByRecursion AreFine (texts_of tokens) → AllByRecursion IsProofToken tokens
+fine_tokens [] h = tt
+fine_tokens (t ∷ tokens) h = ((fine_printable t.text h.0, fine_dollar t.text h.0), fine_tokens tokens h.1)
+
+-- ---- the end of the text
+
+-- after a line feed, the text ends in one
+abbrev pub EndsLine : List ℕ → Type 0
+EndsLine text = (inner : List ℕ) × (10 ∷ text ≡ inner ++ 10 ∷ [])
+
+line_before : (line text : List ℕ) → EndsLine text → EndsLine ((line ++ 10 ∷ []) ++ text)
+line_before line text (inner, e) =
+    (10 ∷ (line ++ inner), rw (append_assoc line (10 ∷ []) text, e, append_assoc line inner))
+
+lines_end : (lines : List (List (List ℕ))) (text : List ℕ) → EndsLine text → EndsLine (flat_map (λ line. token_line line ++ 10 ∷ []) lines ++ text)
+lines_end [] text h = h
+lines_end (line ∷ lines) text h =
+    rw append_assoc (line_before (token_line line) _ (lines_end lines text h))
+
+letter_lines_end : (lines : List (List ℕ)) (front : List ℕ) → EndsLine (flat_map (λ line. (front ++ line) ++ 10 ∷ []) lines)
+letter_lines_end [] front = ([], refl)
+letter_lines_end (line ∷ lines) front = line_before (front ++ line) (flat_map (λ l. (front ++ l) ++ 10 ∷ []) lines) (letter_lines_end lines front)
+
+pub laid_ends : (tokens : List (List ℕ)) (text more : List ℕ) → LaidOut tokens text → EndsLine more → EndsLine (text ++ more)
+laid_ends tokens text more laid h = subst (λ (l : List ℕ). EndsLine (l ++ more)) (sym laid.printed) (lines_end laid.lines more h)
+
+pub normal_ends : (tokens : List (List ℕ)) (text : List ℕ) → LaidOut tokens text → EndsLine text
+normal_ends tokens text laid = subst EndsLine (append-nil text) (laid_ends tokens text [] laid ([], refl))
+
+pub compressed_ends : (labels : List (List ℕ)) (letters text : List ℕ) → CompressedLaidOut labels letters text → EndsLine text
+compressed_ends labels letters text laid =
+    let block : EndsLine laid.block = subst EndsLine (sym laid.letters_laid_out.printed) (letter_lines_end laid.letters_laid_out.lines indent) in
+    subst EndsLine (sym laid.whole) (laid_ends (in_parentheses labels) laid.list laid.block laid.list_laid_out block)
+
+-- ---- a text that may stand between a `$=` and a `$.`
+
+pub words_after_feed : (text : List ℕ) → tokens_in (10 ∷ text) ≡ tokens_in text
+words_after_feed text = tokens_in-space 10 text refl
+
+pub is_proof_text : (text : List ℕ) (tokens : List (List ℕ)) → tokens_in text ≡ tokens → AllByRecursion AreFine tokens → EndsLine text → IsProofText (10 ∷ text)
+is_proof_text text tokens read fine (inner, ends) = record {
+  first = 10;
+  more = text;
+  begins = refl;
+  first_space = refl;
+  inner = inner;
+  last = 10;
+  ends = ends;
+  last_space = refl;
+  tokens = λ file at. fine_tokens (tokens_from file at (10 ∷ text)) (subst (AllByRecursion AreFine) (sym (texts_in file at (10 ∷ text) ∙ words_after_feed text ∙ read)) fine);
+}
+
+-- ==== a text in one of the two forms is a proof of its theorem
+
+-- ---- its tokens
+
+-- what a text says where it stands for a proof of the statement by this tree
+pub record ReadsAsProof (before : List Sentence) (s : Sentence) (root : List ℕ) (below : Trees) (text : List ℕ) : Type 1 where
+  pub tokens : List (List ℕ)
+  pub read : tokens_in text ≡ tokens
+  pub fine : AllByRecursion AreFine tokens
+  pub ends : EndsLine text
+  pub strict : IsStrict before s tokens
+  pub proves : (Fits : List (List ℕ) → Type 0) → DeriveAll Fits before (tree root below none) (s.symbols ∷ []) → IsProofBy Fits before s tokens root below
+
+spelled_labels : (before : List Sentence) (trees : Trees) → AllFormed before → TreesFit before trees
+    → (label : List ℕ) → Contains (spelling trees) label → IsLabel label
+spelled_labels before trees formed fit label c =
+    let f = label_fits before trees label fit c in
+    label_named before label formed (stands_known before label f.0 f.1)
+
+normal_reads : (before : List Sentence) (s : Sentence) (root : List ℕ) (below : Trees) (text : List ℕ) → AllMeant before → AllFormed before → TreesFit before (tree root below none)
+    → LaidOut (spelling (tree root below none)) text → ReadsAsProof before s root below text
+normal_reads before s root below text meant formed fit laid =
+    let tokens : List (List ℕ) = spelling (tree root below none) in
+    let words : AllByRecursion IsLabel tokens = all_within IsLabel tokens (spelled_labels before (tree root below none) formed fit) in
+    let apart : ¬ (Contains tokens opening_token) = λ c.
+    no_parenthesis 40 (omega arith)
+    (spelled_labels before (tree root below none) formed fit opening_token c) in
+    let normal : IsNormal tokens = λ e. apart (contains_from_at tokens opening_token (0, e)) in
+    record {
+      tokens = tokens;
+      read = normal_read_back tokens text (all_weaker IsLabel IsOneToken label_token tokens words) laid;
+      fine = all_weaker IsLabel AreFine label_all_fine tokens words;
+      ends = normal_ends tokens text laid;
+      strict = normal_is_strict before s tokens normal;
+      proves = λ Fits derived. spelled_proves Fits before s root below meant apart derived;
+    }
+
+packed_reads : (before : List Sentence) (s : Sentence) (root : List ℕ) (below : Trees) (text : List ℕ) → AllMeant before → AllFormed before → TreesFit before (tree root below none)
+    → IsPackedText before s (tree root below none) text → ReadsAsProof before s root below text
+packed_reads before s root below text meant formed fit p =
+    let trees : Trees = tree root below none in
+    let words : AllByRecursion IsLabel p.listed = all_within IsLabel p.listed (λ label c. spelled_labels before trees formed fit label (packed_listed before s trees p.listed p.codes label p.packed c)) in
+    let letters : AreFine p.letters = letters_fine p.letters p.codes p.spelled in
+    let (pieces, read, joined) = compressed_read_back p.listed p.letters text (all_weaker IsLabel IsOneToken label_token p.listed words) (fine_lacks p.letters letters) p.laid in
+    let listed : AllByRecursion AreFine p.listed = all_weaker IsLabel AreFine label_all_fine p.listed words in
+    let apart : ¬ (Contains (spelling trees) closing_token) = λ c.
+    no_parenthesis 41 (omega arith) (spelled_labels before trees formed fit closing_token c) in
+    let left : AreFine (40 ∷ []) = ((omega arith, (omega arith, ((λ e. omega (arith, e)), (λ e. omega (arith, e))))), tt) in
+    let right : AreFine (41 ∷ []) = ((omega arith, (omega arith, ((λ e. omega (arith, e)), (λ e. omega (arith, e))))), tt) in
+    record {
+      tokens = in_parentheses p.listed ++ pieces;
+      read = read;
+      fine = all_append AreFine (in_parentheses p.listed) pieces
+          (left, all_append AreFine p.listed ((41 ∷ []) ∷ []) listed (right, tt))
+          (cut_fine pieces (subst AreFine (sym joined) letters));
+      ends = compressed_ends p.listed p.letters text p.laid;
+      strict = packed_is_strict before s trees p.listed p.codes p.letters pieces p.packed p.coded
+          joined apart;
+      proves = λ Fits derived. packed_proves Fits before s root below p.listed p.codes p.letters pieces meant p.packed p.coded joined
+          apart derived;
+    }
+
+pub text_reads : (f : Form) (before : List Sentence) (s : Sentence) (root : List ℕ) (below : Trees) (text : List ℕ) → AllMeant before → AllFormed before → TreesFit before (tree root below none)
+    → IsTextIn f before s (tree root below none) text → ReadsAsProof before s root below text
+text_reads form.Normal before s root below text meant formed fit laid = normal_reads before s root below text meant formed fit laid.1
+text_reads form.Packed before s root below text meant formed fit laid = packed_reads before s root below text meant formed fit laid
+
+-- ---- the tree of a proof
+
+pub tree_is : (Fits : List (List ℕ) → Type 0) (before : List Sentence) (s : Sentence) (tokens : List (List ℕ)) (moves : List (Move (List ℕ))) (root : List ℕ) (below : Trees) → AllMeant before
+    → (p : IsProvedWithin Fits before s tokens) → SayMoves before s tokens moves → MakeTree before moves root below → tree p.proves.label p.proves.below none ≡ tree root below none
+tree_is Fits before s tokens moves root below meant p told made =
+    let same : p.moves ≡ moves = moves_once before s tokens p.moves moves p.said told in
+    (makes_once before moves none (tree p.proves.label p.proves.below none) (tree root below none) [] p.proves.kept made.kept meant
+    (subst (λ (ms : List (Move (List ℕ))). Makes before ms none [] (tree p.proves.label p.proves.below none) p.proves.kept) same p.proves.made) made.made).0
+
+pub tree_derives : (Fits : List (List ℕ) → Type 0) (before : List Sentence) (s : Sentence) (tokens : List (List ℕ)) (moves : List (Move (List ℕ))) (root : List ℕ) (below : Trees) → AllMeant before
+    → IsProvedWithin Fits before s tokens → SayMoves before s tokens moves → MakeTree before moves root below → DeriveAll Fits before (tree root below none) (s.symbols ∷ [])
+tree_derives Fits before s tokens moves root below meant p told made =
+    subst (λ (t : Trees). DeriveAll Fits before t (s.symbols ∷ [])) (tree_is Fits before s tokens moves root below meant p told made) p.proves.derived
+
+-- ==== the text of a packed proof tells its labels and its codes
+
+-- ---- labels
+
+fit_labelled : (before : List Sentence) (trees : Trees) → TreesFit before trees → AllByRecursion (λ label. SomeSentence before (IsLabelled label)) (spelling trees)
+fit_labelled before none fit = tt
+fit_labelled before (tree label below right) fit =
+    all_append (λ x. SomeSentence before (IsLabelled x)) (spelling below) (label ∷ spelling right) (fit_labelled before below fit.1)
+    (stands_known before label below fit.0, fit_labelled before right fit.2)
+
+uses_among : (P : List ℕ → Type 0) (word seen listed : List (List ℕ)) → AreFirstUses seen word listed → AllByRecursion P word → AllByRecursion P listed
+uses_among P [] seen listed uses all = subst (AllByRecursion P) (sym uses) tt
+uses_among P (label ∷ word) seen listed (inl h) all = uses_among P word seen listed h.1 all.1
+uses_among P (label ∷ word) seen listed (inr (new, others, is, uses)) all =
+    subst (AllByRecursion P) (sym is) (all.0, uses_among P word (label ∷ seen) others uses all.1)
+
+-- a label of a statement
+abbrev IsProper : List ℕ → Type 0
+IsProper label = IsOneToken label × ¬ (label ≡ closing_token)
+
+proper_label : (before : List Sentence) (label : List ℕ) → AllFormed before
+    → SomeSentence before (IsLabelled label) → IsProper label
+proper_label before label formed named =
+    let is : IsLabel label = label_named before label formed named in
+    (label_token label is, λ same. no_parenthesis 41 (omega arith) (subst IsLabel same is))
+
+none_closing : (listed : List (List ℕ)) → AllByRecursion IsProper listed → ¬ (Contains listed closing_token)
+none_closing [] all h = absurd (omega (arith, h.1))
+none_closing (label ∷ listed) all (zero, less, is) = all.0.1 is
+none_closing (label ∷ listed) all (suc i, less, is) = none_closing listed all.1 (i, omega (arith, less), is)
+
+-- ---- the law
+
+listed_proper : (before : List Sentence) (s : Sentence) (trees : Trees) (text : List ℕ) → AllFormed before → (p : IsPackedText before s trees text)
+    → AllByRecursion IsProper p.listed
+listed_proper before s trees text formed p =
+    let fit : TreesFit before trees = (made_word before p.packed.moves trees p.packed.shared.kept p.packed.shared.made).1 in
+    uses_among IsProper (spelling trees) p.packed.says.labels p.listed p.packed.uses
+    (all_weaker (λ label. SomeSentence before (IsLabelled label)) IsProper (λ label h. proper_label before label formed h) (spelling trees) (fit_labelled before trees fit))
+
+same_parts : (before : List Sentence) (s : Sentence) (t u : Trees) (text other : List ℕ) → AllFormed before → (p : IsPackedText before s t text) → (q : IsPackedText before s u other)
+    → text ≡ other → (p.listed ≡ q.listed) × (p.codes ≡ q.codes)
+same_parts before s t u text other formed p q same =
+    let first = listed_proper before s t text formed p in
+    let second = listed_proper before s u other formed q in
+    let one = compressed_read_back p.listed p.letters text (all_weaker IsProper IsOneToken (λ label h. h.0) p.listed first) (fine_lacks p.letters (letters_fine p.letters p.codes p.spelled)) p.laid in
+    let two = compressed_read_back q.listed q.letters other (all_weaker IsProper IsOneToken (λ label h. h.0) q.listed second) (fine_lacks q.letters (letters_fine q.letters q.codes q.spelled)) q.laid in
+    let tokens : List (List ℕ) = tokens_in text in
+    let mine : IsCompressed tokens p.listed one.0 = record { whole = one.1 ∙ ap (λ (ws : List (List ℕ)). (40 ∷ []) ∷ ws) (append_assoc p.listed ((41 ∷ []) ∷ []) one.0); first = none_closing p.listed first } in
+    let yours : IsCompressed tokens q.listed two.0 = record { whole = ap tokens_in same ∙ two.1 ∙ ap (λ (ws : List (List ℕ)). (40 ∷ []) ∷ ws) (append_assoc q.listed ((41 ∷ []) ∷ []) two.0); first = none_closing q.listed second } in
+    let parts = compressed_once tokens p.listed q.listed one.0 two.0 mine yours in
+    let letters : p.letters ≡ q.letters = sym one.2 ∙ ap (λ (ps : List (List ℕ)). flat_map (λ (piece : List ℕ). piece) ps) parts.1 ∙ two.2 in
+    (parts.0, one_reading_only q.letters p.codes q.codes (subst (λ (ls : List ℕ). Letters ls p.codes) letters p.coded) q.coded)
+
+told_by_texts : (before : List Sentence) (s : Sentence) (moves others : List (Move (List ℕ))) (l m : List ℕ) (a b : Trees) (text other : List ℕ)
+    → AllMeant before → AllFormed before → MakeTree before moves l a → MakeTree before others m b
+    → IsPackedText before s (tree l a none) text → IsPackedText before s (tree m b none) other → MakeSameTree before moves others ↔ (text ≡ other)
+told_by_texts before s moves others l m a b text other all formed made made' p q = (
+  λ same.
+      let first = (makes_once before moves none (tree same.0 same.1 none) (tree l a none) [] same.2.kept made.kept all same.2.made made.made).0 in
+      let second = (makes_once before others none (tree same.0 same.1 none) (tree m b none) [] same.3.kept made'.kept all same.3.made made'.made).0 in
+      let parts = (told_by_packed_holds before s l m a b p.listed q.listed p.codes q.codes all p.packed q.packed).0 (sym first ∙ second) in
+      let letters : p.letters ≡ q.letters = one_text_only p.letters q.letters q.codes (subst (SpellsCodes p.letters) parts.1 p.spelled) q.spelled in
+      one_text_of_compressed q.listed q.letters text other
+      (subst (λ (ls : List (List ℕ)). CompressedLaidOut ls q.letters text) parts.0 (subst (λ (cs : List ℕ). CompressedLaidOut p.listed cs text) letters p.laid)) q.laid,
+  λ same.
+      let parts = same_parts before s (tree l a none) (tree m b none) text other formed p q same in
+      let trees = (told_by_packed_holds before s l m a b p.listed q.listed p.codes q.codes all p.packed q.packed).1 parts in
+      (m, b, record { kept = made.kept; made = subst (λ (t : Trees). Makes before moves none [] t made.kept) trees made.made }, made'),
+)
+
+-- ---- statements of files
+
+pub packed_texts : PackedTextsTell
+packed_texts profile files statements place s moves others l m a b text other accepted made made' p q =
+    let before : List Sentence = sentences (take place statements) in
+    let front : before ≡ take place (sentences statements) = map-take place statements in
+    let formed : AllFormed (sentences statements) = formed_sentences statements (readings_are_formed_in_place files statements None accepted.reads).formed in
+    let meant : AllMeant (sentences statements) = all_meant profile statements accepted.obeyed in
+    told_by_texts before s moves others l m a b text other (subst AllMeant (sym front) (allmeant_front (sentences statements) place meant))
+    (subst AllFormed (sym front) (allformed_front (sentences statements) place formed)) made made' p q
+
+-- ==== the fully shared proof of a theorem's tree is small enough to be written: it lists no more
+-- labels than there are statements, and keeps no more trees than the theorem's own proof has bytes
+
+-- ---- the trees that are kept
+
+-- what is kept is made, so it is a subtree
+kept_subtree : (before : List Sentence) (trees : Trees) (moves : List (Move (List ℕ)))
+    (shared : ShareAll before trees moves) (t : Trees) → In shared.kept t → IsSubtree trees t
+kept_subtree before trees moves shared t has =
+    let v : List Visit = visits before moves none [] trees shared.kept shared.made in
+    let kept = rw (kept_are before moves none [] trees shared.kept shared.made) at has in
+    let (i, there) = in_get v (keeps t) (kept_visit v t kept) in
+    let (big, j, next, made) = shared.marked i t there in
+    made_subtrees before moves none [] trees shared.kept shared.made t
+    (visit_made v t (get_in v j _ made))
+
+one_each : {X : Type 0} (xs : List X) → sum_by (λ (x : X). 1) xs ≡ length xs
+one_each [] = refl
+one_each {X} (x ∷ xs) = omega (arith, sum_by-cons (λ (y : X). 1) x xs, one_each xs)
+
+-- steps make no more trees than there are moves
+few_made : (before : List Sentence) (moves : List (Move (List ℕ))) (row : Trees)
+    (kept : List Trees) (row' : Trees) (kept' : List Trees)
+    (m : Makes before moves row kept row' kept')
+    → length (trees_made (visits before moves row kept row' kept' m)) ≤ length moves
+few_made before [] row kept row' kept' m = omega arith
+few_made before (name label ∷ moves) row kept row' kept' m =
+    let rest = few_made before moves m.0 m.1 row' kept' m.3 in omega (arith, rest)
+few_made before (move ∷ moves) row kept row' kept' m =
+    let rest = few_made before moves m.0 m.1 row' kept' m.3 in omega (arith, rest)
+
+-- They are no more than the moves that any proof of the tree has.
+few_kept : (before : List Sentence) (trees : Trees) (moves others : List (Move (List ℕ)))
+    (kept : List Trees) (shared : ShareAll before trees moves)
+    → Makes before others none [] trees kept → length shared.kept ≤ length others
+few_kept before trees moves others kept shared m =
+    let made : List Trees = trees_made (visits before others none [] trees kept m) in
+    let once = places_once shared.kept (shared_kept_once before trees moves shared) in
+    let within : (t : Trees) → In shared.kept t → In made t = λ t has.
+    subtrees_made (In made) before others none [] trees kept m (λ u h. absurd h)
+    (λ u w h. absurd h) (λ u h. h) t (kept_subtree before trees moves shared t has) in
+    let most = sum_within (λ (t : Trees). 1) shared.kept made once within in
+    let few = few_made before others none [] trees kept m in
+    omega (arith, most, one_each shared.kept, one_each made, few)
+
+-- ---- the labels
+
+-- a label, or none at all
+abbrev name_or_none : Sentence → List ℕ
+name_or_none s = unwrap_or s.label []
+
+-- and neither are the listed labels: each is that of a statement, and none stands twice
+few_listed : (before : List Sentence) (s : Sentence) (trees : Trees) (listed : List (List ℕ))
+    (codes : List Code) → TreesFit before trees → IsPacked before s trees listed codes
+    → length listed ≤ length before
+few_listed before s trees listed codes fit p =
+    let names : List (List ℕ) = map name_or_none before in
+    let known : (label : List ℕ) → In listed label → In names label = λ label has.
+    let f =
+    label_fits before trees label fit
+    (packed_listed before s trees listed codes label p (in_contains listed label has)) in
+    let (place, t, there, named) = stands_known before label f.0 f.1 in
+    get_in names place label
+    (slice_get-map name_or_none before place ∙ ap (option_map name_or_none) there
+    ∙ ap (λ (o : Option (List ℕ)). Some (unwrap_or o [])) named) in
+    let most =
+    sum_within (λ (label : List ℕ). 1) listed names
+    (uses_apart (spelling trees) p.says.labels listed p.uses).0 known in
+    omega (arith, most, one_each listed, one_each names, length-map before name_or_none)
+
+-- ---- the codes
+
+abbrev IsTagBelow : ℕ → Move (List ℕ) → Type 0
+IsTagBelow most (name label) = Unit {0}
+IsTagBelow most (again tag) = tag < most
+IsTagBelow most mark = Unit {0}
+
+-- each tag is that of a kept tree
+tags_below : (before : List Sentence) (moves : List (Move (List ℕ))) (row : Trees)
+    (kept : List Trees) (row' : Trees) (kept' : List Trees)
+    → Makes before moves row kept row' kept'
+    → AllByRecursion (IsTagBelow (length kept')) moves
+tags_below before [] row kept row' kept' m = tt
+tags_below before (again tag ∷ moves) row kept row' kept' m = (
+  slice_get_within kept' tag m.2.0
+      (kept_stays before (again tag ∷ moves) row kept row' kept' m tag m.2.0 m.2.1),
+  tags_below before moves m.0 m.1 row' kept' m.3,
+)
+tags_below before (move ∷ moves) row kept row' kept' m =
+    (tt, tags_below before moves m.0 m.1 row' kept' m.3)
+
+-- the number is from 1 on and within the most
+abbrev IsWithinMost : ℕ → Code → Type 0
+IsWithinMost most (Number number) = (1 ≤ number) × (number ≤ most)
+IsWithinMost most Tag = Unit {0}
+
+says_within : (labels : List (List ℕ)) (count most : ℕ) (code : Code) (move : Move (List ℕ))
+    → length labels + count ≤ most → Says labels code move → IsTagBelow count move
+    → IsWithinMost most code
+says_within labels count most (Number number) move room
+    (place, at, inl (label, there, same)) below =
+    let within : place < length labels = slice_get_within labels place label there in
+    (omega (arith, at), omega (arith, at, within, room))
+says_within labels count most (Number number) move room (place, at, inr (tag, far, same)) below =
+    let less : tag < count = subst (IsTagBelow count) same below in
+    (omega (arith, at), omega (arith, at, far, less, room))
+says_within labels count most Tag move room said below = tt
+
+lengths_within : (labels : List (List ℕ)) (count most : ℕ) (codes : List Code)
+    (moves : List (Move (List ℕ))) → length labels + count ≤ most
+    → AllZip (Says labels) codes moves → AllByRecursion (IsTagBelow count) moves
+    → AllByRecursion (IsWithinMost most) codes
+lengths_within labels count most [] [] room said below = tt
+lengths_within labels count most (code ∷ codes) (move ∷ moves) room said below = (
+  says_within labels count most code move room said.0 below.0,
+  lengths_within labels count most codes moves room said.1 below.1,
+)
+lengths_within labels count most codes moves room said below = absurd said
+
+within_spelled : (code : Code) → IsWithinMost largest code → HasSpelling code
+within_spelled (Number number) within = within.0
+within_spelled Tag within = tt
+
+-- each stands for itself
+within_exact : (codes : List Code) → AllByRecursion (IsWithinMost largest) codes
+    → codes ≡ map code_for codes
+within_exact [] within = refl
+within_exact (Number number ∷ codes) within =
+    let same : number ≡ min number largest = sym (min-eq_left within.0.1) in
+    λ i. Number (same i) ∷ within_exact codes within.1 i
+within_exact (Tag ∷ codes) within =
+    ap (λ (cs : List Code). Tag ∷ cs) (within_exact codes within.1)
+
+-- ---- so there is a text
+
+-- where the statements are few, and so are the bytes of some proof of the tree
+pub some_packed_text : (before : List Sentence) (s : Sentence) (root : List ℕ) (below : Trees)
+    (tokens : List (List ℕ)) (moves : List (Move (List ℕ))) (kept : List Trees) → AllFormed before
+    → TreesFit before (tree root below none) → IsWhole before tokens
+    → SayMoves before s tokens moves → Makes before moves none [] (tree root below none) kept
+    → length before ≤ most_bytes → sum_by length tokens ≤ most_bytes
+    → (text : List ℕ) × IsPackedText before s (tree root below none) text
+some_packed_text before s root below tokens moves kept formed fit whole said made few room =
+    let trees : Trees = tree root below none in
+    let (listed, codes, p) = some_packed_holds before s root below formed fit in
+    let labels : List (List ℕ) = p.says.labels in
+    let many : length (labels ++ listed) + length p.shared.kept ≤ largest =
+    omega (
+      arith,
+      few,
+      room,
+      length-append labels listed,
+      same_length (λ (h : Sentence). h.label) (λ (l : List ℕ). Some l) p.says.hypotheses labels
+          p.says.labelled,
+      those_few (IsMandatoryAt before s) 0 before p.says.hypotheses p.says.mandatory,
+      few_listed before s trees listed codes fit p,
+      few_kept before trees p.moves moves kept p.shared made,
+      said_moves before s tokens moves formed whole said,
+    ) in
+    let within : AllByRecursion (IsWithinMost largest) codes =
+    lengths_within (labels ++ listed) (length p.shared.kept) largest codes p.moves many p.says.each
+    (tags_below before p.moves none [] trees p.shared.kept p.shared.made) in
+    let spelled = all_weaker (IsWithinMost largest) HasSpelling within_spelled codes within in
+    let (letters, spells) = some_text codes (All-from_recursion HasSpelling codes spelled) in
+    let (text, laid) = some_compressed_layout listed letters in (
+      text,
+      record {
+        listed = listed;
+        codes = codes;
+        letters = letters;
+        packed = p;
+        spelled = spells;
+        coded = record { spelled = codes; spells = spells; are_codes = within_exact codes within };
+        laid = laid;
+      },
+    )

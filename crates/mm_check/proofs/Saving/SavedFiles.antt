@@ -1,0 +1,637 @@
+-- Files in which one proof is put in for another: what is put in, why nothing is, and that the files
+-- are accepted alike.
+use Rattle.std.proofs.Common.{◌≡◌, ℕ, List, take, slice_get, true, not, ◌&&◌, Some, refl, sym, ap}
+use Rattle.std.proofs.Common.{subst, ◌∙◌, suc, ◌+◌, ◌-◌, ◌<◌, ◌≤◌, ◌↔◌, ◌∷◌, ◌++◌, map, drop}
+use Rattle.std.proofs.Common.{length, slice_set, slice_index_or, Option, None, Result, Ok, inl, inr}
+use Rattle.std.proofs.Common.{arith, length-append, zero, [], filter, flat_map, count_by, cond}
+use Rattle.std.proofs.Common.{Bool, false, ◌⊎◌, append_assoc}
+use Rattle.mm_text.specs.declared.statement.Kind.TheVariants.{Axiom, Provable}
+use Rattle.mm_text.specs.Statement.{PlainStatement, is_provable}
+use Rattle.mm_frame.specs.Sentence.{Sentence, sentence_of, IsLabelled}
+use Rattle.mm_frame.specs.Numbers.{IsNumbered}
+use Rattle.mm_proof.specs.Tree.{Trees, none, tree, AnyExpression}
+use Rattle.mm_proof.specs.Proof.{IsProved, IsProvedWithin, IsWithin}
+use Rattle.mm_proof.specs.Used.{IsUsedNumber}
+use Rattle.mm_proof.specs.Tokens.{is_incomplete, SayMoves}
+use Rattle.mm_check.specs.Verdict.{sentences, proof_of, is_proof, is_unproved, AreAccepted, Verdict}
+use Rattle.mm_check.specs.Verdict.{Load, Refused, Incomplete, Yes, HasVerdict, AllObey, Obeys}
+use Rattle.mm_check.specs.Verdict.{CanBeRead, label_of, unproved_of, proofs_of}
+use Rattle.mm_check.specs.Rests.{IsAt, IsNumberWhere, AreInOrder, HasTree, Uses, RestsOn, IsReport}
+use Rattle.mm_check.specs.Rests.{tree_of, IsAskFault}
+use Rattle.mm_check.proofs.Questions.AskedTheorems.{map-take, rests_as, tree_told, normal_fault}
+use Rattle.mm_check.proofs.Questions.AskedTheorems.{ask_fault, same_tree}
+use Rattle.mm_check.proofs.Numbers.{in_order_same}
+use Rattle.std.proofs.lemmas.List.Sums.{get_or-le-sum_by, sum_by-set}
+use Rattle.std.proofs.lemmas.List.{length-map, length-set, set-set, set-get_or}
+use Rattle.std.proofs.lemmas.Option.{slice_get_within, get_or_from_slice_get}
+use Rattle.mm_text.specs.declared.file.File.{File}
+use Rattle.mm_text.specs.Files.{most_bytes, PlainFile, plain_file, total_bytes, BreaksLoad}
+use Rattle.mm_text.specs.Reading.{Reads, IsInPlace}
+use Rattle.mm_text.specs.Replaced.{with_span, with_bytes, IsProofSpan, placeless}
+use Rattle.mm_text.proofs.Reader.WholeReadings.{readings_are_formed_in_place}
+use Rattle.mm_text.proofs.Replaced.ProofSpans.{proofs_stand_in_spans_holds}
+use Rattle.mm_text.proofs.Lists.{all_at, split_at, same_length, get_parted, zip_left, mapped_zip}
+use Rattle.mm_text.proofs.Lists.{get_set_cases}
+use Rattle.mm_text.proofs.Inclusions.OpenFiles.{file_there}
+use Rattle.mm_frame.specs.Rules.{AllMeant}
+use Rattle.mm_proof.specs.ReadSteps.{ReadSteps}
+use Rattle.mm_proof.specs.declared.profile.Profile.{Profile}
+use Rattle.mm_check.specs.declared.form.Form.{Form}
+use Rattle.mm_check.specs.declared.ask.AskFault.{AskFault}
+use Rattle.mm_check.specs.declared.fault.CheckFault.{CheckFault}
+use Rattle.mm_check.specs.Conclusion.{Conclusion}
+use Rattle.mm_check.specs.Answer.{verdict_of_answer, verdict_of_conclusion, IsVerdict}
+use Rattle.mm_check.specs.Shown.{Stands}
+use Rattle.mm_check.specs.Saved.{IsTextIn, IsSaved, total_with, IsFormFault, IsSaveFault}
+use Rattle.mm_check.specs.Mirror.Theorems.{AreProvedSteps, AreStepsOf}
+use Rattle.mm_check.specs.Mirror.Rewriting.{IsHomeOf, IsTextOf, IsTextFault, HoldsSpan, IsPutIn}
+use Rattle.mm_check.specs.Mirror.Rewriting.{IsPutFault}
+use Rattle.mm_check.proofs.ReplyTexts.{accepted_with}
+use Rattle.mm_check.proofs.Verdicts.AcceptedStatements.{one_stands, same_reading}
+use Rattle.mm_check.proofs.Verdicts.StatementByStatement.{provable_kind, unproved_of-append}
+use Rattle.mm_check.proofs.Verdicts.StatementByStatement.{any_proof, proof_there}
+use Rattle.mm_check.proofs.Verdicts.StatementByStatement.{proof_not_unproved}
+use Rattle.std.proofs.Math.Seq.{take-append_seam, drop-append_seam}
+use Rattle.mm_text.specs.declared.fault.LoadRule.{LoadRule}
+use Rattle.mm_text.specs.Token.{tokens_from}
+use Rattle.mm_text.proofs.Replaced.ReplacedItems.{set_there}
+use Rattle.mm_code.proofs.ReadBack.{texts_in}
+use Rattle.mm_frame.proofs.Blocks.NumberedBlocks.{count_append}
+use Rattle.mm_proof.specs.Moves.{Move}
+use Rattle.mm_proof.specs.OneTree.{MakeTree}
+use Rattle.mm_proof.specs.Strict.{IsStrict, HasFormOf}
+use Rattle.mm_proof.specs.UnderProfile.{IsProvedUnder}
+use Rattle.mm_proof.specs.declared.profile.Profile.TheVariants.{Strict, Lenient}
+use Rattle.mm_proof.specs.Profiles.{limit_of}
+use Rattle.mm_proof.proofs.PackedProofs.WrittenProofs.{IsProofBy}
+use Rattle.mm_check.specs.SavedLaws.{SayTheSame}
+use Rattle.mm_check.proofs.Verdicts.AlikeVerdicts.{moved, obeys_alike, same_sentence, same_proof}
+use Rattle.mm_check.proofs.Verdicts.AlikeVerdicts.{same_sentences, same_proofs, same_unproved}
+use Rattle.mm_check.proofs.Verdicts.OneVerdict.{accepted_or_refused}
+use Rattle.mm_check.proofs.Saving.ProofTexts.{words_after_feed, fine_complete, ReadsAsProof}
+use Rattle.mm_check.proofs.Saving.ProofTexts.{tree_is, tree_derives}
+use Rattle.mm_check.specs.declared.form.Form.TheVariants as form
+use Rattle.mm_check.specs.declared.ask.AskFault.TheVariants as ask
+use Rattle.mm_text.specs.declared.fault.LoadRule.TheVariants as load
+
+-- ==== what is said of theorems is said where other proofs of the same trees stand
+
+-- ---- two statements at one place
+
+pub record AreAlikeAt (front : List Sentence) (s t : PlainStatement) : Type 0 where
+  pub said : sentence_of s ≡ sentence_of t
+  pub proofs : is_proof s ≡ is_proof t
+  pub unproved : is_unproved s ≡ is_unproved t
+  pub tree : is_proof s ≡ true → (p : IsProved front (sentence_of s) (proof_of s)) → (q : IsProved front (sentence_of t) (proof_of t)) × (tree_of p ≡ tree_of q)
+
+pub alike_at : (front : List Sentence) (s t : PlainStatement) → sentence_of s ≡ sentence_of t → proof_of s ≡ proof_of t → AreAlikeAt front s t
+alike_at front s t said proof = record {
+  said = said;
+  proofs = λ i. is_provable (said i).kind && not (is_incomplete (proof i));
+  unproved = λ i. is_provable (said i).kind && is_incomplete (proof i);
+  tree = λ complete p. subst (λ (z : List (List ℕ)).
+      (q : IsProved front (sentence_of t) z) × (tree_of p ≡ tree_of q)) proof
+      (subst (λ (w : Sentence). (q : IsProved front w (proof_of s)) × (tree_of p ≡ tree_of q)) said
+      (p, refl));
+}
+
+-- ---- two lists of statements
+
+pub record Carries (statements others : List PlainStatement) : Type 0 where
+  pub told : sentences statements ≡ sentences others
+  pub at : (place : ℕ) (s : PlainStatement) → slice_get statements place ≡ Some s
+      → (t : PlainStatement) × (slice_get others place ≡ Some t) × AreAlikeAt (sentences (take place statements)) s t
+
+pub front_told : (statements others : List PlainStatement) (place : ℕ) → sentences statements ≡ sentences others → sentences (take place statements) ≡ sentences (take place others)
+front_told statements others place told = map-take place statements ∙ ap (take place) told ∙ sym (map-take place others)
+
+-- to themselves
+pub carries_self : (statements : List PlainStatement) → Carries statements statements
+carries_self statements = record {
+  told = refl;
+  at = λ place s there.
+      (s, there, alike_at (sentences (take place statements)) s s refl refl);
+}
+
+-- and on
+alike_on : (front : List Sentence) (s t u : PlainStatement) → AreAlikeAt front s t
+    → AreAlikeAt front t u → AreAlikeAt front s u
+alike_on front s t u one other = record {
+  said = one.said ∙ other.said;
+  proofs = one.proofs ∙ other.proofs;
+  unproved = one.unproved ∙ other.unproved;
+  tree = λ complete p.
+      let (q, same) = one.tree complete p in
+      let (r, alike) = other.tree (sym one.proofs ∙ complete) q in
+      (r, same ∙ alike);
+}
+
+pub carries_on : {statements others more : List PlainStatement} → Carries statements others
+    → Carries others more → Carries statements more
+carries_on {statements} {others} one other = record {
+  told = one.told ∙ other.told;
+  at = λ place s there.
+      let (t, here, alike) = one.at place s there in
+      let (u, found, further) = other.at place t here in
+      let front = sym (front_told statements others place one.told) in
+      let moved = subst (λ (ss : List Sentence). AreAlikeAt ss t u) front further in
+      (u, found, alike_on (sentences (take place statements)) s t u alike moved);
+}
+
+place_carried : (statements others : List PlainStatement) (id place : ℕ) (s t : PlainStatement) → sentences statements ≡ sentences others → sentence_of s ≡ sentence_of t → slice_get others place ≡ Some t
+    → IsAt statements id place s → IsAt others id place t
+place_carried statements others id place s t told said there at = record {
+  there = there;
+  numbered = subst (λ (x : Sentence). IsNumbered (sentences others) id place x) said (subst (λ (ss : List Sentence). IsNumbered ss id place (sentence_of s)) told at.numbered);
+}
+
+-- the tree of a proof
+pub tree_carried : (statements others : List PlainStatement) (id place : ℕ) (t : Trees) → Carries statements others → HasTree statements id place t → HasTree others id place t
+tree_carried statements others id place t carries has =
+    let (u, there, alike) = carries.at place has.s has.at.there in
+    let (q, same) = alike.tree has.complete has.proof in
+    let moved : (p : IsProved (sentences (take place others)) (sentence_of u) (proof_of u)) × (t ≡ tree_of p) =
+    subst (λ (front : List Sentence). (p : IsProved front (sentence_of u) (proof_of u)) × (t ≡ tree_of p)) (front_told statements others place carries.told) (q, has.spelled ∙ same) in
+    record {
+      s = u;
+      at = place_carried statements others id place has.s u carries.told alike.said there has.at;
+      complete = sym alike.proofs ∙ has.complete;
+      proof = moved.0;
+      spelled = moved.1;
+    }
+
+uses_carried : (statements others : List PlainStatement) (id used : ℕ) → Carries statements others → Uses statements id used → Uses others id used
+uses_carried statements others id used carries (place, t, has, number) =
+    (place, t, tree_carried statements others id place t carries has, subst (λ (front : List Sentence). IsUsedNumber front t used) (front_told statements others place carries.told) number)
+
+rests_carried : (statements others : List PlainStatement) (theorem id : ℕ) → Carries statements others → RestsOn (Uses statements) theorem id → RestsOn (Uses others) theorem id
+rests_carried statements others theorem id carries =
+    rests_as (Uses statements) (Uses others)
+    (λ n used. uses_carried statements others n used carries) theorem id
+
+-- the number of a statement
+number_carried : (statements others : List PlainStatement) (P : PlainStatement → Type 0) (id : ℕ) → Carries statements others
+    → ((front : List Sentence) (s t : PlainStatement) → AreAlikeAt front s t → P s → P t) → IsNumberWhere statements P id → IsNumberWhere others P id
+number_carried statements others P id carries so (place, s, at, is) =
+    let (t, there, alike) = carries.at place s at.there in
+    (place, t, place_carried statements others id place s t carries.told alike.said there at, so (sentences (take place statements)) s t alike is)
+
+-- the numbers of those that the theorem rests on, in order
+order_carried : (statements others : List PlainStatement) (P : PlainStatement → Type 0)
+    (theorem : ℕ) (ids : List ℕ) → Carries statements others → Carries others statements
+    → ((front : List Sentence) (s t : PlainStatement) → AreAlikeAt front s t → P s → P t)
+    → AreInOrder (λ n. IsNumberWhere statements P n × RestsOn (Uses statements) theorem n) ids
+    → AreInOrder (λ n. IsNumberWhere others P n × RestsOn (Uses others) theorem n) ids
+order_carried statements others P theorem ids to from so order = in_order_same _ _ ids order (λ n. (
+  (λ h. (number_carried _ _ P n to so h.0, rests_carried statements others theorem n to h.1)),
+  λ h. (number_carried _ _ P n from so h.0, rests_carried others statements theorem n from h.1),
+))
+
+-- a report
+pub report_carried : (statements others : List PlainStatement) (label : List ℕ) (axioms unproved : List ℕ) → Carries statements others → Carries others statements
+    → IsReport statements label axioms unproved → IsReport others label axioms unproved
+report_carried statements others label axioms unproved to from r = record {
+  id = r.id;
+  theorem = number_carried statements others (λ s. IsLabelled label (sentence_of s) × (is_proof s ≡ true)) r.id to
+      (λ front s t alike is. (subst (IsLabelled label) alike.said is.0, sym alike.proofs ∙ is.1)) r.theorem;
+  are_axioms = order_carried statements others (λ s. s.kind ≡ Axiom) r.id axioms to from
+      (λ front s t alike is. sym (ap (λ (x : Sentence). x.kind) alike.said) ∙ is) r.are_axioms;
+  are_unproved = order_carried statements others (λ s. is_unproved s ≡ true) r.id unproved to from
+      (λ front s t alike is. sym alike.unproved ∙ is) r.are_unproved;
+}
+
+-- ==== what is put into a file, and why nothing is
+
+-- ---- files
+
+pub number_within : (files : List File) (k : ℕ) (f : PlainFile) → slice_get (map plain_file files) k ≡ Some f → k < length files
+number_within files k f is =
+    omega (arith, slice_get_within (map plain_file files) k f is, length-map files plain_file)
+
+-- it has no more bytes than all
+pub file_within : (files : List PlainFile) (k : ℕ) (f : PlainFile) → slice_get files k ≡ Some f → length f.bytes ≤ total_bytes files
+file_within files k f is =
+    let Long : PlainFile → ℕ = λ g. length g.bytes in
+    let own = get_or-le-sum_by Long files k f (slice_get_within files k f is) in
+    omega (arith, own, ap Long (get_or_from_slice_get files k f f is))
+
+-- with others in their place
+replaced_at : (files : List PlainFile) (k : ℕ) (f g : PlainFile) → slice_get files k ≡ Some f → total_bytes (slice_set files k g) + length f.bytes ≡ total_bytes files + length g.bytes
+replaced_at files k f g is =
+    let Long : PlainFile → ℕ = λ x. length x.bytes in
+    let all = sum_by-set Long files k g f (slice_get_within files k f is) in
+    omega (arith, all, ap Long (get_or_from_slice_get files k f f is))
+
+pub with_bytes_is : (files : List PlainFile) (k : ℕ) (f : PlainFile) (bytes : List ℕ) → slice_get files k ≡ Some f → with_bytes files k bytes ≡ slice_set files k (record f { bytes = bytes })
+with_bytes_is files k f bytes there = ap (λ (o : Option PlainFile). elim o [ None ↦ files | Some g ↦ slice_set files k (record g { bytes = bytes }) ]) there
+
+-- the most that it may have
+pub most_is : (files : List PlainFile) (k : ℕ) (f : PlainFile) (bytes : List ℕ) (total : ℕ)
+    → slice_get files k ≡ Some f → total_bytes files ≤ most_bytes → total ≡ total_bytes files
+    → (most_bytes - (total - length f.bytes) < length bytes)
+    ↔ (most_bytes < total_with files k bytes)
+most_is files k f bytes total there within same =
+    let own = file_within files k f there in
+    let put = replaced_at files k f (record f { bytes = bytes }) there in
+    let with_it = ap total_bytes (with_bytes_is files k f bytes there) in (
+      λ less. omega (arith, less, own, put, with_it, same, within),
+      λ over. omega (arith, over, own, put, with_it, same, within),
+    )
+
+pub file_most : (files : List File) (k : ℕ) (d : File) (bytes : List ℕ) (total : ℕ)
+    → k < length files → total_bytes (map plain_file files) ≤ most_bytes
+    → total ≡ total_bytes (map plain_file files)
+    → (most_bytes - (total - length (slice_index_or files k d).bytes.now) < length bytes)
+    ↔ (most_bytes < total_with (map plain_file files) k bytes)
+file_most files k d bytes total less within same =
+    most_is (map plain_file files) k (plain_file (slice_index_or files k d)) bytes total
+    (file_there files k d less) within same
+
+-- ---- where a theorem stands
+
+pub home_file : (files : List PlainFile) (statements : List PlainStatement) (place : ℕ) (s : PlainStatement) → Reads files statements None → slice_get statements place ≡ Some s
+    → (file : PlainFile) × (slice_get files s.first.file ≡ Some file)
+home_file files statements place s reads there =
+    let placed : IsInPlace files s = all_at (IsInPlace files) statements place s (readings_are_formed_in_place files statements None reads).in_place there in
+    (placed.first.0, placed.first.1)
+
+pub provable_proof : (s : PlainStatement) → is_proof s ≡ true → s.kind ≡ Provable
+provable_proof s complete = provable_kind s.kind (not (is_incomplete (proof_of s))) complete
+
+pub within_bytes : (s : PlainStatement) (bytes : List ℕ) → IsProofSpan s bytes → (s.span.0 ≤ length bytes) × (s.span.1 ≤ length bytes)
+within_bytes s bytes p =
+    let long : length bytes ≡ length p.front + (length p.within + length p.back) =
+    ap length p.whole ∙ length-append p.front (p.within ++ p.back) ∙ ap (λ (n : ℕ). length p.front + n) (length-append p.within p.back) in
+    (omega (arith, long, p.start), omega (arith, long, p.stop))
+
+pub holds_span : (files : List PlainFile) (statements : List PlainStatement) (place : ℕ) (s : PlainStatement) (number : ℕ) (span : ℕ × ℕ) → Reads files statements None → slice_get statements place ≡ Some s
+    → is_proof s ≡ true → number ≡ s.first.file → span ≡ s.span → HoldsSpan files number span
+holds_span files statements place s number span reads there complete home same =
+    let parted : statements ≡ take place statements ++ s ∷ drop (suc place) statements = split_at statements place s there in
+    let (file, handed) = home_file files statements place s reads there in
+    let stands : IsProofSpan s file.bytes =
+    proofs_stand_in_spans_holds files (take place statements) s (drop (suc place) statements) None
+    file (rw parted at reads) (provable_proof s complete) handed in
+    let (start, stop) = within_bytes s file.bytes stands in
+    (file, ap (slice_get files) home ∙ handed, rw same start, rw same stop)
+
+-- what stands under a label stands in one place
+pub home_of : (statements : List PlainStatement) (label : List ℕ) (t : PlainStatement) (number : ℕ) (span : ℕ × ℕ) → AllMeant (sentences statements) → Stands statements label t
+    → number ≡ t.first.file → span ≡ t.span → IsHomeOf statements label number span
+home_of statements label t number span all stands home same s (place, there, named) =
+    let one : t ≡ s = one_stands statements label place s t all there named stands in
+    (home ∙ ap (λ (u : PlainStatement). u.first.file) one, same ∙ ap (λ (u : PlainStatement). u.span) one)
+
+-- ---- its file with another proof
+
+pub saved_of : (form : Form) (ss : List Sentence) (files : List PlainFile) (statements : List PlainStatement) (label : List ℕ) (id : ℕ) (steps : ReadSteps) (number : ℕ) (span : ℕ × ℕ) (text bytes : List ℕ)
+    → ss ≡ sentences statements → AreStepsOf statements label id steps.moves → AreProvedSteps ss id steps → IsTextOf form ss id steps.moves text
+    → IsHomeOf statements label number span → IsPutIn files number span text bytes → IsSaved form files statements label number bytes
+saved_of form ss files statements label id steps number span text bytes same r proved laid home put =
+    let (root, below, has, told) =
+    tree_told ss statements label id steps same r proved
+    (λ before s trees. IsTextIn form before s trees text) laid in
+    let at = home r.s (r.place, r.there, r.named) in
+    record {
+      place = r.place;
+      s = r.s;
+      root = root;
+      below = below;
+      proof = has;
+      text = text;
+      laid = told;
+      home = at.0;
+      file = put.0;
+      handed = put.1;
+      whole = put.2 ∙ ap (λ (p : ℕ × ℕ). with_span put.0.bytes p (10 ∷ text)) at.1;
+    }
+
+-- ---- why there is none
+
+form_save_fault : (form : Form) (files : List PlainFile) (statements : List PlainStatement) (label : List ℕ) (fault : AskFault) → IsFormFault form statements label fault → IsSaveFault form files statements label fault
+form_save_fault form.Normal files statements label ask.F3 h = absurd h
+form_save_fault form.Packed files statements label ask.F3 h = absurd h
+form_save_fault form files statements label _ h = h
+
+asked_fault : (form : Form) (statements : List PlainStatement) (label : List ℕ) (fault : AskFault) → IsAskFault statements label fault → IsFormFault form statements label fault
+asked_fault form.Normal statements label fault h = ask_fault statements label fault h
+asked_fault form.Packed statements label fault h = h
+
+pub ask_save_fault : (form : Form) (files : List PlainFile) (statements : List PlainStatement) (label : List ℕ) (fault : AskFault) → IsAskFault statements label fault → IsSaveFault form files statements label fault
+ask_save_fault form files statements label fault h = form_save_fault form files statements label fault (asked_fault form statements label fault h)
+
+memory_fault : (form : Form) (files : List PlainFile) (statements : List PlainStatement) (label : List ℕ) (fault : AskFault) → fault ≡ ask.Memory → IsSaveFault form files statements label fault
+memory_fault form files statements label fault is = ask_save_fault form files statements label fault (subst (IsAskFault statements label) (sym is) tt)
+
+pub text_save_fault : (form : Form) (ss : List Sentence) (files : List PlainFile) (statements : List PlainStatement) (label : List ℕ) (id : ℕ) (steps : ReadSteps) (fault : AskFault)
+    → ss ≡ sentences statements → AreStepsOf statements label id steps.moves → AreProvedSteps ss id steps → IsTextFault form ss id steps.moves fault → IsSaveFault form files statements label fault
+text_save_fault form.Normal ss files statements label id steps fault same r proved why =
+    form_save_fault form.Normal files statements label fault (normal_fault ss statements label id steps fault same r proved why)
+text_save_fault form.Packed ss files statements label id steps fault same r proved why = memory_fault form.Packed files statements label fault why
+
+pub put_save_fault : (form : Form) (ss : List Sentence) (files : List PlainFile) (statements : List PlainStatement) (label : List ℕ) (id : ℕ) (steps : ReadSteps) (number : ℕ) (span : ℕ × ℕ) (text : List ℕ) (fault : AskFault)
+    → ss ≡ sentences statements → AreStepsOf statements label id steps.moves → AreProvedSteps ss id steps → IsTextOf form ss id steps.moves text
+    → IsHomeOf statements label number span → IsPutFault files number span text fault → IsSaveFault form files statements label fault
+put_save_fault form ss files statements label id steps number span text fault same r proved laid home (inl memory) = memory_fault form files statements label fault memory
+put_save_fault form ss files statements label id steps number span text fault same r proved laid home (inr (is, bytes, put, over)) =
+    let saved = saved_of form ss files statements label id steps number span text bytes same r
+    proved laid home put in
+    rw is (number, bytes, saved, over)
+
+-- ---- files that are accepted
+
+pub accepted_of : (profile : Profile) (files : List PlainFile) (answer : Result Conclusion CheckFault) (c : Conclusion) → answer ≡ Ok c → IsVerdict profile files answer → (statements : List PlainStatement) × AreAccepted profile files statements
+accepted_of profile files answer c is holds =
+    let told : verdict_of_answer answer ≡ Some (verdict_of_conclusion c) = ap verdict_of_answer is in
+    accepted_with profile files c c.incomplete (holds (verdict_of_conclusion c) told)
+
+-- ==== files in which one proof is put in for another are accepted alike
+
+-- ---- the statement with its new proof
+
+abbrev pub nowhere : ℕ → ℕ → ℕ
+nowhere file at = 0
+
+-- with the tokens of a text as its proof
+abbrev pub put_anew : PlainStatement → List ℕ → PlainStatement
+put_anew s text = record s { proof = tokens_from s.first.file s.span.0 text; span = (s.span.0, s.span.0 + length text) }
+
+-- what is told of its proof
+pub record IsProvedAnew (profile : Profile) (front : List Sentence) (t : PlainStatement) (root : List ℕ) (below : Trees) : Type 0 where
+  pub complete : is_proof t ≡ true
+  pub strict : IsStrict front (sentence_of t) (proof_of t)
+  pub under : IsProvedUnder profile front (sentence_of t) (proof_of t)
+  pub proof : IsProved front (sentence_of t) (proof_of t)
+  pub spelled : tree_of proof ≡ tree root below none
+
+-- the strict form is the one that either profile demands
+form_of_strict : (profile : Profile) (front : List Sentence) (s : Sentence)
+    (tokens : List (List ℕ)) → IsStrict front s tokens → HasFormOf profile front s tokens
+form_of_strict Strict front s tokens strict = strict
+form_of_strict Lenient front s tokens strict = tt
+
+pub proved_anew : (profile : Profile) (front : List Sentence) (s : PlainStatement) (root : List ℕ) (below : Trees) (moves : List (Move (List ℕ))) (text : List ℕ) → AllMeant front → is_proof s ≡ true
+    → IsProvedWithin (IsWithin (limit_of profile)) front (sentence_of s) (proof_of s) → SayMoves front (sentence_of s) (proof_of s) moves → MakeTree front moves root below
+    → ReadsAsProof front (sentence_of s) root below text → IsProvedAnew profile front (put_anew s (10 ∷ text)) root below
+proved_anew profile front s root below moves text meant complete old told made ra =
+    let t : PlainStatement = put_anew s (10 ∷ text) in
+    let Fits : List (List ℕ) → Type 0 = IsWithin (limit_of profile) in
+    let tokens : proof_of t ≡ ra.tokens = texts_in s.first.file s.span.0 (10 ∷ text) ∙ words_after_feed text ∙ ra.read in
+    let within : IsProofBy Fits front (sentence_of s) ra.tokens root below = ra.proves Fits (tree_derives Fits front (sentence_of s) (proof_of s) moves root below meant old told made) in
+    let any : IsProofBy AnyExpression front (sentence_of s) ra.tokens root below =
+    ra.proves AnyExpression (tree_derives AnyExpression front (sentence_of s) (proof_of s) moves root below meant (any_proof profile front (sentence_of s) (proof_of s) old) told made) in
+    let strict : IsStrict front (sentence_of s) (proof_of t) = rw tokens ra.strict in
+    let here : IsProofBy AnyExpression front (sentence_of s) (proof_of t) root below = subst (λ (ts : List (List ℕ)). IsProofBy AnyExpression front (sentence_of s) ts root below) (sym tokens) any in
+    record {
+      complete = proof_there t (provable_proof s complete) (ap is_incomplete tokens ∙ fine_complete ra.tokens ra.fine);
+      strict = strict;
+      under = (form_of_strict profile front (sentence_of s) _ strict, rw tokens within.0);
+      proof = here.0;
+      spelled = here.1;
+    }
+
+-- it is alike, one way and the other
+pub anew_alike : (profile : Profile) (front : List Sentence) (s : PlainStatement) (root : List ℕ) (below : Trees) (moves : List (Move (List ℕ))) (text : List ℕ) → AllMeant front → is_proof s ≡ true
+    → SayMoves front (sentence_of s) (proof_of s) moves → MakeTree front moves root below → IsProvedAnew profile front (put_anew s text) root below → AreAlikeAt front s (put_anew s text)
+anew_alike profile front s root below moves text meant complete told made new = record {
+  said = refl;
+  proofs = complete ∙ sym new.complete;
+  unproved = proof_not_unproved s complete ∙ sym (proof_not_unproved (put_anew s text) new.complete);
+  tree = λ c p. (new.proof, tree_is AnyExpression front (sentence_of s) (proof_of s) moves root below meant p told made ∙ sym new.spelled);
+}
+
+pub alike_turned : (front : List Sentence) (s t : PlainStatement) → AllMeant front
+    → is_proof s ≡ true → IsProved front (sentence_of s) (proof_of s) → AreAlikeAt front s t
+    → AreAlikeAt front t s
+alike_turned front s t meant complete old alike =
+    let (new, same) = alike.tree complete old in
+    record {
+      said = sym alike.said;
+      proofs = sym alike.proofs;
+      unproved = sym alike.unproved;
+      tree = λ c p. (old, same_tree front (sentence_of t) (proof_of t) p new meant ∙ sym same);
+    }
+
+-- ---- the statements, one by one
+
+abbrev pub Near : ℕ → (s t : PlainStatement) → (place : ℕ) → (x y : PlainStatement) → Type 0
+Near n s t place x y = ((sentence_of x ≡ sentence_of y) × (proof_of x ≡ proof_of y)) ⊎ ((place ≡ n) × ((x ≡ s) × (y ≡ t)))
+
+placeless_at : (after later : List PlainStatement) → map placeless after ≡ map placeless later → (place : ℕ) (x : PlainStatement) → slice_get after place ≡ Some x
+    → (y : PlainStatement) × (slice_get later place ≡ Some y) × (placeless x ≡ placeless y)
+placeless_at after later same place x e =
+    let Alike : PlainStatement → PlainStatement → Type 0 = λ s t. placeless s ≡ placeless t in
+    zip_left Alike _ _ place x (mapped_zip placeless placeless Alike (λ s t is. is) _ _ same) e
+
+pub near_at : (before : List PlainStatement) (s t : PlainStatement) (after later : List PlainStatement) → map placeless after ≡ map placeless later → (place : ℕ) (x : PlainStatement)
+    → slice_get (before ++ s ∷ after) place ≡ Some x → (y : PlainStatement) × (slice_get (before ++ t ∷ later) place ≡ Some y) × Near (length before) s t place x y
+near_at [] s t after later same zero x e = let is : s ≡ x = cc in (t, refl, inr (refl, (sym is, refl)))
+near_at [] s t after later same (suc place) x e =
+    let (y, there, is) = placeless_at after later same place x e in
+    (y, there, inl (same_sentence nowhere nowhere x y is, same_proof nowhere nowhere x y is))
+near_at (b ∷ before) s t after later same zero x e = let is : b ≡ x = cc in (b, refl, inl (ap sentence_of (sym is), ap proof_of (sym is)))
+near_at (b ∷ before) s t after later same (suc place) x e =
+    let (y, there, near) = near_at before s t after later same place x e in (y, there, further near)
+  where
+    further : {y : PlainStatement} → Near (length before) s t place x y → Near (suc (length before)) s t (suc place) x y
+    further (inl h) = inl h
+    further (inr (is, both)) = inr (ap suc is, both)
+
+pub said_alike : (before : List PlainStatement) (s t : PlainStatement) (after later : List PlainStatement) → sentence_of s ≡ sentence_of t → map placeless after ≡ map placeless later
+    → sentences (before ++ s ∷ after) ≡ sentences (before ++ t ∷ later)
+said_alike [] s t after later own same = let rest = same_sentences nowhere nowhere after later same in λ i. own i ∷ rest i
+said_alike (b ∷ before) s t after later own same = ap (λ (ss : List Sentence). sentence_of b ∷ ss) (said_alike before s t after later own same)
+
+pub carries_of : (before : List PlainStatement) (s t : PlainStatement) (after later : List PlainStatement) → map placeless after ≡ map placeless later → AreAlikeAt (sentences before) s t
+    → Carries (before ++ s ∷ after) (before ++ t ∷ later)
+carries_of before s t after later same own = record {
+  told = said_alike before s t after later own.said same;
+  at = λ place x e.
+      let (y, there, near) = near_at before s t after later same place x e in (
+        y,
+        there,
+        elim near [
+          | inl both ↦ alike_at (sentences (take place (before ++ s ∷ after))) x y both.0 both.1
+          | inr (is, both) ↦
+              let front : sentences before ≡ sentences (take place (before ++ s ∷ after)) =
+              rw (is, take-append_seam before (s ∷ after)) in
+              moved AreAlikeAt (sentences before) (sentences (take place (before ++ s ∷ after))) s x t y front (sym both.0) (sym both.1) own
+        ],
+      );
+}
+
+-- ---- each obeys the rules
+
+obeys_at : (profile : Profile) (before : List PlainStatement) (s t : PlainStatement) (after later : List PlainStatement) → sentence_of s ≡ sentence_of t → map placeless after ≡ map placeless later → AllObey profile (before ++ s ∷ after)
+    → Obeys profile (sentences before) t → (place : ℕ) (y : PlainStatement) → slice_get (before ++ t ∷ later) place ≡ Some y → Obeys profile (sentences (take place (before ++ t ∷ later))) y
+obeys_at profile before s t after later own same obeyed new place y there =
+    let st : List PlainStatement = before ++ s ∷ after in
+    let su : List PlainStatement = before ++ t ∷ later in
+    let (x, at, near) = near_at before t s later after (sym same) place y there in
+    let front : sentences (take place st) ≡ sentences (take place su) = front_told st su place (said_alike before s t after later own same) in
+    elim near [
+      | inl both ↦ obeys_alike profile (sentences (take place st)) (sentences (take place su)) x y front (sym both.0) (sym both.1) (obeyed (take place st) (drop (suc place) st) x (split_at st place x at))
+      | inr (is, both) ↦
+          let here : sentences before ≡ sentences (take place su) = ap sentences (sym (ap (λ (n : ℕ). take n su) is ∙ take-append_seam before (t ∷ later))) in
+          subst (λ (u : PlainStatement). Obeys profile (sentences (take place su)) u) (sym both.0) (subst (λ (ss : List Sentence). Obeys profile ss t) here new)
+    ]
+
+pub all_obey_anew : (profile : Profile) (before : List PlainStatement) (s t : PlainStatement) (after later : List PlainStatement) → sentence_of s ≡ sentence_of t → map placeless after ≡ map placeless later → AllObey profile (before ++ s ∷ after)
+    → Obeys profile (sentences before) t → AllObey profile (before ++ t ∷ later)
+all_obey_anew profile before s t after later own same obeyed new earlier rest y split =
+    let su : List PlainStatement = before ++ t ∷ later in
+    let there : slice_get su (length earlier) ≡ Some y = rw split (get_parted earlier rest y) in
+    let front : take (length earlier) su ≡ earlier = ap (take (length earlier)) split ∙ take-append_seam earlier (y ∷ rest) in
+    subst (λ (ss : List PlainStatement). Obeys profile (sentences ss) y) front (obeys_at profile before s t after later own same obeyed new (length earlier) y there)
+
+-- ---- the bytes of a file
+
+-- a text between two parts is replaced
+pub span_put : (front now back put : List ℕ) (span : ℕ × ℕ) → span.0 ≡ length front
+    → span.1 ≡ length front + length now
+    → with_span (front ++ (now ++ back)) span put ≡ front ++ (put ++ back)
+span_put front now back put span start stop =
+    let after : drop span.1 (front ++ (now ++ back)) ≡ back =
+    rw (stop, ← length-append front now, ← append_assoc front now back)
+    (drop-append_seam (front ++ now) back) in
+    rw (start, take-append_seam front (now ++ back), after)
+
+-- ---- one file among the files
+
+-- it is there with the new bytes
+pub handed_anew : (files : List PlainFile) (k : ℕ) (f : PlainFile) (bytes : List ℕ)
+    → slice_get files k ≡ Some f
+    → slice_get (with_bytes files k bytes) k ≡ Some (record f { bytes = bytes })
+handed_anew files k f bytes there =
+    rw (with_bytes_is files k f bytes there) (set_there files k f _ there)
+
+-- its bytes are the last ones
+pub with_bytes_again : (files : List PlainFile) (k : ℕ) (f : PlainFile) (bytes others : List ℕ)
+    → slice_get files k ≡ Some f
+    → with_bytes (with_bytes files k bytes) k others ≡ with_bytes files k others
+with_bytes_again files k f bytes others there =
+    with_bytes_is (with_bytes files k bytes) k (record f { bytes = bytes }) others
+    (handed_anew files k f bytes there)
+    ∙ ap (λ (fs : List PlainFile). slice_set fs k (record f { bytes = others }))
+    (with_bytes_is files k f bytes there)
+    ∙ set-set files k (record f { bytes = bytes }) (record f { bytes = others })
+    ∙ sym (with_bytes_is files k f others there)
+
+-- and its own ones change nothing
+pub with_bytes_own : (files : List PlainFile) (k : ℕ) (f : PlainFile)
+    → slice_get files k ≡ Some f → with_bytes files k f.bytes ≡ files
+with_bytes_own files k f there =
+    with_bytes_is files k f f.bytes there
+    ∙ ap (λ (g : PlainFile). slice_set files k g) (sym (get_or_from_slice_get files k f f there))
+    ∙ set-get_or files k f
+
+-- ---- the files as a whole
+
+named_back : (files : List PlainFile) (k : ℕ) (f : PlainFile) (bytes : List ℕ) → slice_get files k ≡ Some f → (i : ℕ) (x : PlainFile) → slice_get (slice_set files k (record f { bytes = bytes })) i ≡ Some x
+    → (y : PlainFile) × (slice_get files i ≡ Some y) × (y.name ≡ x.name)
+named_back files k f bytes there i x e =
+    elim (get_set_cases files k i (record f { bytes = bytes }) x e) [
+      | inl (here, same) ↦ (f, rw here there, ap (λ (u : PlainFile). u.name) same)
+      | inr (apart, old) ↦ (x, old, refl)
+    ]
+
+pub readable_anew : (files : List PlainFile) (k : ℕ) (f : PlainFile) (bytes : List ℕ) → slice_get files k ≡ Some f → total_with files k bytes ≤ most_bytes → CanBeRead files → CanBeRead (with_bytes files k bytes)
+readable_anew files k f bytes there fits readable rule broken = by_rule rule (subst (λ (fs : List PlainFile). BreaksLoad fs rule) (with_bytes_is files k f bytes there) broken)
+  where
+    less : k < length files
+    less = slice_get_within files k f there
+
+    by_rule : (r : LoadRule) → BreaksLoad (slice_set files k (record f { bytes = bytes })) r → ⊥
+    by_rule load.F1 e =
+        omega (arith, less, ap length e, length-set files k (record f { bytes = bytes }))
+    by_rule load.F2 (some, twins) =
+        let (x, at_i, one) = named_back files k f bytes there twins.i twins.one twins.at_i in
+        let (y, at_j, two) = named_back files k f bytes there twins.j twins.other twins.at_j in
+        readable load.F2 ((λ none. omega (arith, less, ap length none)), record { i = twins.i; j = twins.j; one = x; other = y; apart = twins.apart; at_i = at_i; at_j = at_j; same = one ∙ twins.same ∙ sym two })
+    by_rule load.F3 e =
+        let more : most_bytes < total_bytes (slice_set files k (record f { bytes = bytes })) = e.2 in
+        omega (arith, more, ap total_bytes (with_bytes_is files k f bytes there), fits)
+
+-- ---- the verdict
+
+pub verdict_carried : (profile : Profile) (files others : List PlainFile) (st su : List PlainStatement) → AreAccepted profile files st → AreAccepted profile others su → unproved_of st ≡ unproved_of su → length st ≡ length su → proofs_of st ≡ proofs_of su
+    → (v : Verdict) → HasVerdict profile files v → HasVerdict profile others v
+verdict_carried profile files others st su one other unproved long proofs (Load rule) (broken, breaks, is) = absurd (one.readable broken breaks)
+verdict_carried profile files others st su one other unproved long proofs (Refused refusal) holds = absurd (accepted_or_refused profile files st holds.1 holds.2 refusal one holds.3 holds.4)
+verdict_carried profile files others st su one other unproved long proofs (Incomplete labels) (ss, accepted, is, some) =
+    let same : ss ≡ st = (same_reading files ss st None None accepted.reads one.reads).0 in
+    (su, other, is ∙ ap unproved_of same ∙ unproved, some)
+verdict_carried profile files others st su one other unproved long proofs (Yes count done) (ss, accepted, none_left, counted, proved) =
+    let same : ss ≡ st = (same_reading files ss st None None accepted.reads one.reads).0 in
+    (su, other, sym unproved ∙ sym (ap unproved_of same) ∙ none_left, counted ∙ ap (λ (l : List PlainStatement). length l) same ∙ long, proved ∙ ap proofs_of same ∙ proofs)
+
+skipped : (s : PlainStatement) (after : List PlainStatement) → is_unproved s ≡ false → unproved_of (s ∷ after) ≡ unproved_of after
+skipped s after e = ap (λ (b : Bool). flat_map label_of (cond b (s ∷ filter is_unproved after) (filter is_unproved after))) e
+
+pub same_left : (before : List PlainStatement) (s t : PlainStatement) (after later : List PlainStatement) → is_unproved s ≡ false → is_unproved t ≡ false → map placeless after ≡ map placeless later
+    → unproved_of (before ++ s ∷ after) ≡ unproved_of (before ++ t ∷ later)
+same_left before s t after later e f same =
+    unproved_of-append before (s ∷ after)
+    ∙ ap (λ (ls : List (List ℕ)). unproved_of before ++ ls) (skipped s after e ∙ same_unproved nowhere nowhere after later same ∙ sym (skipped t later f))
+    ∙ sym (unproved_of-append before (t ∷ later))
+
+pub same_count : (before : List PlainStatement) (s t : PlainStatement) (after later : List PlainStatement) → is_proof s ≡ is_proof t → map placeless after ≡ map placeless later
+    → proofs_of (before ++ s ∷ after) ≡ proofs_of (before ++ t ∷ later)
+same_count before s t after later e same =
+    let one : count_by is_proof (s ∷ []) ≡ count_by is_proof (t ∷ []) = ap (λ (b : Bool). 0 + cond b 1 0) e in
+    let own : count_by is_proof (s ∷ after) ≡ count_by is_proof (t ∷ later) =
+    count_append is_proof (s ∷ []) after ∙ (λ i. one i + same_proofs nowhere nowhere after later same i) ∙ sym (count_append is_proof (t ∷ []) later) in
+    count_append is_proof before (s ∷ after) ∙ ap (λ (n : ℕ). proofs_of before + n) own ∙ sym (count_append is_proof before (t ∷ later))
+
+pub same_many : (before : List PlainStatement) (s t : PlainStatement) (after later : List PlainStatement) → map placeless after ≡ map placeless later → length (before ++ s ∷ after) ≡ length (before ++ t ∷ later)
+same_many before s t after later same =
+    length-append before (s ∷ after) ∙ ap (λ (n : ℕ). length before + suc n) (same_length placeless placeless after later same) ∙ sym (length-append before (t ∷ later))
+
+-- ---- all that is answered
+
+-- What is said of the statements is said of the others: of each theorem, how many statements there
+-- are and how many proofs, and which theorems have none.
+pub record SayAlike (statements others : List PlainStatement) : Type 0 where
+  pub to : Carries statements others
+  pub from : Carries others statements
+  pub left : unproved_of statements ≡ unproved_of others
+  pub many : length statements ≡ length others
+  pub count : proofs_of statements ≡ proofs_of others
+
+pub say_themselves : (statements : List PlainStatement) → SayAlike statements statements
+say_themselves statements = record {
+  to = carries_self statements;
+  from = carries_self statements;
+  left = refl;
+  many = refl;
+  count = refl;
+}
+
+pub say_on : {statements others more : List PlainStatement} → SayAlike statements others
+    → SayAlike others more → SayAlike statements more
+say_on one other = record {
+  to = carries_on one.to other.to;
+  from = carries_on other.from one.from;
+  left = one.left ∙ other.left;
+  many = one.many ∙ other.many;
+  count = one.count ∙ other.count;
+}
+
+pub said_same : (profile : Profile) (files others : List PlainFile) (st su : List PlainStatement)
+    → AreAccepted profile files st → AreAccepted profile others su → SayAlike st su
+    → SayTheSame profile files others st su
+said_same profile files others st su one other alike = record {
+  accepted = other;
+  told = alike.to.told;
+  verdict = λ v. (
+    verdict_carried profile files others st su one other alike.left alike.many alike.count v,
+    verdict_carried profile others files su st other one (sym alike.left) (sym alike.many)
+        (sym alike.count) v,
+  );
+  trees = λ id place t.
+      (tree_carried st su id place t alike.to, tree_carried su st id place t alike.from);
+  rests = λ label axioms unproved. (
+    report_carried st su label axioms unproved alike.to alike.from,
+    report_carried su st label axioms unproved alike.from alike.to,
+  );
+}

@@ -1,0 +1,572 @@
+-- A file on its way to being written anew: statement by statement, from the first span on.
+use Rattle.std.proofs.Common.{◌≡◌, ℕ, ◌+◌, ◌-◌, ◌≤◌, List, [], ◌∷◌, ◌++◌, take, drop, length}
+use Rattle.std.proofs.Common.{slice_range, refl, sym, ap, ◌∙◌, arith, append_assoc, append-nil}
+use Rattle.std.proofs.Common.{length-append, ◌<◌, Option, Some, None, is_some, true, option_map}
+use Rattle.std.proofs.Common.{inl, inr, ◌⊎◌, false, slice_get, subst}
+use Rattle.std.proofs.Math.ListN.{drop_of_length-le}
+use Rattle.std.proofs.lemmas.List.{take-append-le, drop-append-le, take-append-drop, take-take}
+use Rattle.std.proofs.lemmas.List.{length-take-le, drop-take, length-map, map-append}
+use Rattle.mm_text.specs.Replaced.{with_span}
+use Rattle.mm_check.specs.AllSaved.{Replacement, with_replaced, IsReplacement, is_theorem_of}
+use Rattle.mm_check.specs.AllSaved.{theorems_of, IsAllSaved, IsFirstTooLong, IsSavingAllFault}
+use Rattle.mm_check.specs.Mirror.AllSaving.{AreSpansWithin, PutsAfter, IsTheoremAmong}
+use Rattle.mm_check.specs.Mirror.AllSaving.{IsTheoremFault, replacement, IsLastEnd, IsAllWritten}
+use Rattle.mm_check.specs.Mirror.AllSaving.{PutsProof, KeepsLabel, IsWhole, IsFinishFault}
+use Rattle.mm_check.specs.Mirror.AllSaving.{AreReplacedSoFar, IsSoFar, IsWrittenSoFar, HasWritten}
+use Rattle.mm_text.specs.declared.statement.Kind.TheVariants.{Provable}
+use Rattle.mm_text.specs.Statement.{PlainStatement, HasForm}
+use Rattle.mm_frame.specs.Sentence.{Sentence, sentence_of, IsLabelled}
+use Rattle.mm_proof.specs.declared.profile.Profile.TheVariants.{Lenient}
+use Rattle.mm_proof.specs.ReadSteps.{ReadSteps}
+use Rattle.mm_proof.specs.Tree.{spelling, Trees}
+use Rattle.mm_check.specs.declared.form.Form.{Form}
+use Rattle.mm_check.specs.declared.ask.AskFault.{AskFault}
+use Rattle.mm_check.specs.Verdict.{proof_of, AreAccepted, PlainRefusal, sentences}
+use Rattle.mm_check.specs.Forms.{most_labels, HasProofTree}
+use Rattle.mm_check.specs.Rests.{IsAt}
+use Rattle.mm_check.specs.Saved.{IsTextIn, FitsSaved, total_with}
+use Rattle.mm_check.specs.Mirror.Theorems.{IsProofOf, SayStepsOf, AreProvedSteps, AreStepsOf}
+use Rattle.mm_check.specs.Mirror.Rewriting.{IsTextOf, IsTextFault}
+use Rattle.mm_check.proofs.Questions.AskedTheorems.{map-take, tree_told}
+use Rattle.mm_check.proofs.Verdicts.AcceptedStatements.{proof_stands, proof_fits}
+use Rattle.mm_check.proofs.Saving.FileSpans.{replaced_by, theorem_there, theorems_parted}
+use Rattle.mm_check.proofs.Saving.FileSpans.{theorems_passed, first_too_long, ends_within}
+use Rattle.mm_check.proofs.Verdicts.JudgedProofs.{labelled_said, last_number}
+use Rattle.std.proofs.lemmas.Bool.{cases_lt, false_from_ne_true}
+use Rattle.std.proofs.lemmas.List.Elements.{filter-append}
+use Rattle.std.proofs.lemmas.Option.{slice_get_within}
+use Rattle.std.specs.List.{AllZip}
+use Rattle.mm_text.specs.Files.{PlainFile, most_bytes}
+use Rattle.mm_text.proofs.Replaced.ProofSpans.{proof_spans_follow_holds}
+use Rattle.mm_text.proofs.Replaced.ProofSpans.{proofs_stand_in_spans_holds}
+use Rattle.mm_text.proofs.Lists.{get_kept, get_parted, zip_push, zip_weaker}
+use Rattle.mm_frame.specs.declared.number.LabelId.{LabelId}
+use Rattle.mm_proof.specs.declared.profile.Profile.{Profile}
+use Rattle.mm_check.specs.declared.form.Form.TheVariants.{Normal}
+use Rattle.mm_check.specs.declared.judge.Judged.TheVariants.{Theorem}
+use Rattle.mm_check.specs.declared.save_all.NewFile.{NewFile}
+use Rattle.mm_check.specs.declared.progress.Progress.{Progress}
+use Rattle.mm_check.specs.Mirror.Visits.{HasVisited, IsMet}
+use Rattle.mm_check.proofs.Verdicts.StatementByStatement.{one_more}
+use Rattle.mm_check.specs.declared.form.Form.TheVariants as form
+use Rattle.mm_check.specs.declared.save_fault.SaveFault.TheVariants as fault
+
+-- ==== bytes in which several spans are replaced, from the first one on
+
+-- ---- one span
+
+-- bytes after the span are kept
+with_span-append : (xs ys : List ℕ) (span : ℕ × ℕ) (text : List ℕ) → span.0 ≤ length xs
+    → span.1 ≤ length xs → with_span (xs ++ ys) span text ≡ with_span xs span text ++ ys
+with_span-append xs ys span text start stop =
+    ap (λ (front : List ℕ). front ++ (text ++ drop span.1 (xs ++ ys)))
+    (take-append-le span.0 xs ys start)
+    ∙ ap (λ (back : List ℕ). take span.0 xs ++ (text ++ back)) (drop-append-le span.1 xs ys stop)
+    ∙ ap (λ (rest : List ℕ). take span.0 xs ++ rest) (sym (append_assoc text (drop span.1 xs) ys))
+    ∙ sym (append_assoc (take span.0 xs) (text ++ drop span.1 xs) ys)
+
+-- so are those before it
+take-with_span : (n : ℕ) (xs : List ℕ) (span : ℕ × ℕ) (text : List ℕ) → n ≤ span.0
+    → span.0 ≤ length xs → take n (with_span xs span text) ≡ take n xs
+take-with_span n xs span text before start =
+    let long : length (take span.0 xs) ≡ span.0 = length-take-le span.0 xs start in
+    take-append-le n (take span.0 xs) (text ++ drop span.1 xs) (omega (arith, long, before))
+    ∙ take-take n span.0 xs before
+
+length-with_span : (n : ℕ) (xs : List ℕ) (span : ℕ × ℕ) (text : List ℕ) → n ≤ span.0
+    → span.0 ≤ length xs → n ≤ length (with_span xs span text)
+length-with_span n xs span text before start =
+    omega (
+      arith,
+      before,
+      length-take-le span.0 xs start,
+      length-append (take span.0 xs) (text ++ drop span.1 xs),
+    )
+
+-- ---- several spans
+
+spans_rise : (start stop : ℕ) (news : List Replacement) → AreSpansWithin start stop news
+    → start ≤ stop
+spans_rise start stop [] h = h
+spans_rise start stop (new ∷ news) h =
+    omega (arith, h.0, h.1, spans_rise new.span.1 stop news h.2)
+
+-- what stands before the first of them is kept
+front_kept : (start stop : ℕ) (xs : List ℕ) (news : List Replacement)
+    → AreSpansWithin start stop news → stop ≤ length xs
+    → (start ≤ length (with_replaced xs news)) × (take start (with_replaced xs news) ≡ take start xs)
+front_kept start stop xs [] h within = (omega (arith, h, within), refl)
+front_kept start stop xs (new ∷ news) h within =
+    let later = front_kept new.span.1 stop xs news h.2 within in
+    let inner : List ℕ = with_replaced xs news in
+    let begins : new.span.0 ≤ length inner = omega (arith, h.1, later.0) in
+    let before : start ≤ new.span.1 = omega (arith, h.0, h.1) in (
+      length-with_span start inner new.span new.text h.0 begins,
+      take-with_span start inner new.span new.text h.0 begins
+          ∙ sym (take-take start new.span.1 inner before) ∙ ap (take start) later.1
+          ∙ take-take start new.span.1 xs before,
+    )
+
+-- and so is what stands behind the last
+with_replaced-append : (start stop : ℕ) (xs ys : List ℕ) (news : List Replacement)
+    → AreSpansWithin start stop news → stop ≤ length xs
+    → with_replaced (xs ++ ys) news ≡ with_replaced xs news ++ ys
+with_replaced-append start stop xs ys [] h within = refl
+with_replaced-append start stop xs ys (new ∷ news) h within =
+    let later = front_kept new.span.1 stop xs news h.2 within in
+    ap (λ (bytes : List ℕ). with_span bytes new.span new.text)
+    (with_replaced-append new.span.1 stop xs ys news h.2 within)
+    ∙ with_span-append (with_replaced xs news) ys new.span new.text (omega (arith, h.1, later.0))
+    later.0
+
+with_replaced-push : (xs : List ℕ) (news : List Replacement) (new : Replacement)
+    → with_replaced xs (news ++ new ∷ []) ≡ with_replaced (with_span xs new.span new.text) news
+with_replaced-push xs [] new = refl
+with_replaced-push xs (first ∷ news) new =
+    ap (λ (bytes : List ℕ). with_span bytes first.span first.text) (with_replaced-push xs news new)
+
+-- a span that stands behind the others
+pub spans_push : (start stop : ℕ) (news : List Replacement) (new : Replacement)
+    → AreSpansWithin start stop news → stop ≤ new.span.0 → new.span.0 ≤ new.span.1
+    → AreSpansWithin start new.span.1 (news ++ new ∷ [])
+spans_push start stop [] new h after order =
+    (omega (arith, h, after), order, omega arith)
+spans_push start stop (first ∷ news) new h after order =
+    (h.0, h.1, spans_push first.span.1 stop news new h.2 after order)
+
+-- the bytes up to it, of which those after a place stand before it
+cut_at : (at : ℕ) (xs : List ℕ) (span : ℕ × ℕ) (text : List ℕ) → at ≤ span.0
+    → span.0 ≤ span.1 → span.1 ≤ length xs
+    → with_span (take span.1 xs) span text ≡ take at xs ++ (slice_range xs at span.0 ++ text)
+cut_at at xs span text after order within =
+    let long : length (take span.1 xs) ≡ span.1 = length-take-le span.1 xs within in
+    let none = drop_of_length-le (take span.1 xs) {i = span.1} (omega (arith, long)) in
+    let sum : at + (span.0 - at) ≡ span.0 = omega (arith, after) in
+    let between = ap (λ (n : ℕ). drop at (take n xs)) (sym sum) ∙ drop-take at (span.0 - at) xs in
+    let front : take span.0 xs ≡ take at xs ++ slice_range xs at span.0 =
+    sym (take-append-drop at (take span.0 xs))
+    ∙ ap (λ (ys : List ℕ). ys ++ drop at (take span.0 xs)) (take-take at span.0 xs after)
+    ∙ ap (λ (ys : List ℕ). take at xs ++ ys) between in
+    ap (λ (ys : List ℕ). ys ++ (text ++ drop span.1 (take span.1 xs)))
+    (take-take span.0 span.1 xs order ∙ front)
+    ∙ ap (λ (ys : List ℕ). (take at xs ++ slice_range xs at span.0) ++ (text ++ ys)) none
+    ∙ ap (λ (ys : List ℕ). (take at xs ++ slice_range xs at span.0) ++ ys) (append-nil text)
+    ∙ append_assoc (take at xs) (slice_range xs at span.0) text
+
+-- one span more: what stands between the others and it is kept, and then comes its text
+pub one_more_replaced : (at : ℕ) (xs : List ℕ) (news : List Replacement) (new : Replacement)
+    → AreSpansWithin 0 at news → at ≤ new.span.0 → new.span.0 ≤ new.span.1
+    → new.span.1 ≤ length xs
+    → with_replaced (take new.span.1 xs) (news ++ new ∷ [])
+    ≡ with_replaced (take at xs) news ++ (slice_range xs at new.span.0 ++ new.text)
+one_more_replaced at xs news new h after order within =
+    let long : length (take at xs) ≡ at = length-take-le at xs (omega (arith, after, order, within)) in
+    with_replaced-push (take new.span.1 xs) news new
+    ∙ ap (λ (bytes : List ℕ). with_replaced bytes news)
+    (cut_at at xs new.span new.text after order within)
+    ∙ with_replaced-append 0 at (take at xs) (slice_range xs at new.span.0 ++ new.text) news h
+    (omega (arith, long))
+
+-- what stands behind all of them is kept
+pub all_replaced : (at : ℕ) (xs : List ℕ) (news : List Replacement) → AreSpansWithin 0 at news
+    → at ≤ length xs → with_replaced (take at xs) news ++ drop at xs ≡ with_replaced xs news
+all_replaced at xs news h within =
+    let long : length (take at xs) ≡ at = length-take-le at xs within in
+    sym (with_replaced-append 0 at (take at xs) (drop at xs) news h (omega (arith, long)))
+    ∙ ap (λ (bytes : List ℕ). with_replaced bytes news) (take-append-drop at xs)
+
+-- ---- up to a most
+
+pub put_twice : (most : ℕ) (first then old between new : List ℕ)
+    → PutsAfter most first old between → PutsAfter most then between new
+    → PutsAfter most (first ++ then) old new
+put_twice most first then old between new one other whole h =
+    rw append_assoc at (other (whole ++ first) (one whole h))
+
+-- ==== what is told of a theorem whose proof is written anew
+
+-- ---- its label
+
+some_label : (o : Option (List ℕ)) → is_some o ≡ true → (label : List ℕ) × (o ≡ Some label)
+some_label (Some label) _ = (label, refl)
+some_label None is = absurd cc
+
+pub label_there : (s : PlainStatement) → HasForm s → s.kind ≡ Provable
+    → (label : List ℕ) × IsLabelled label (sentence_of s)
+label_there s formed provable =
+    some_label (option_map (λ t. t.text) s.label)
+    (labelled_said s.kind s.label formed.label provable)
+
+-- ---- its proof
+
+pub proof_among : (told : List Sentence) (s : PlainStatement) (id : ℕ)
+    (tokens : List (List ℕ)) (t : IsTheoremAmong told id s) → tokens ≡ proof_of s
+    → IsProofOf Lenient told id tokens
+proof_among told s id tokens t texts =
+    let at : IsAt t.statements id t.place s =
+    record { there = t.there; numbered = rw t.same at t.number.numbered } in
+    rw (texts, t.same)
+    (proof_stands Lenient t.statements id t.place s t.obeyed at t.complete)
+
+abbrev steps_among : (told : List Sentence) (s : PlainStatement) (label : List ℕ)
+    (id : ℕ) (steps : ReadSteps) (t : IsTheoremAmong told id s)
+    → IsLabelled label (sentence_of s) → SayStepsOf told id (proof_of s) steps.moves
+    → AreStepsOf t.statements label id steps.moves
+steps_among told s label id steps t named said =
+    let own = rw t.same at t.number in
+    let here = rw t.same at said in
+    let moves = here t.place (sentence_of s) own in
+    record {
+      place = t.place;
+      s = s;
+      there = t.there;
+      named = named;
+      complete = t.complete;
+      number = own;
+      moves = moves.0;
+      told = rw map-take moves.1;
+      numbered = moves.2;
+    }
+
+-- written in a form
+pub theorem_replaced : (form : Form) (told : List Sentence)
+    (s : PlainStatement) (label : List ℕ) (id : ℕ) (steps : ReadSteps) (text : List ℕ)
+    (t : IsTheoremAmong told id s) → IsLabelled label (sentence_of s)
+    → SayStepsOf told id (proof_of s) steps.moves → AreProvedSteps told id steps
+    → IsTextOf form told id steps.moves text
+    → IsReplacement form t.statements s (replacement s text)
+theorem_replaced form told s label id steps text t named said proved laid =
+    let (root, below, has, written) =
+    tree_told told t.statements label id steps t.same
+    (steps_among told s label id steps t named said) proved
+    (λ before u trees. IsTextIn form before u trees text) laid in
+    replaced_by form text has written refl refl
+
+-- why it isn't written
+
+pub theorem_fault : (f : Form) (told : List Sentence) (s : PlainStatement) (id : ℕ)
+    (steps : ReadSteps) (why : AskFault)
+    → SayStepsOf told id (proof_of s) steps.moves → AreProvedSteps told id steps
+    → IsTextFault f told id steps.moves why → IsTheoremFault f told id s why
+theorem_fault form.Packed told s id steps why said proved memory =
+    rw memory refl
+theorem_fault form.Normal told s id steps why said proved (inl memory) =
+    rw memory refl
+theorem_fault form.Normal told s id steps why said proved (inr (is, long)) =
+    rw is (λ label named. (
+      refl,
+      λ t.
+          let (root, below, has, over) =
+          tree_told told t.statements label id steps t.same
+          (steps_among told s label id steps t named said) proved
+          (λ before u trees. most_labels < length (spelling trees)) long in
+          (t.place, root, below, has, over),
+    ))
+
+-- ==== a file on its way to being written anew, statement by statement
+
+-- ---- more statements
+
+module _ (statements more : List PlainStatement) where
+  -- a proof keeps its tree when more statements come
+  tree_kept : {label : List ℕ} {place : ℕ} {s : PlainStatement} {root : List ℕ} {below : Trees}
+      → HasProofTree statements label place s root below
+      → HasProofTree (statements ++ more) label place s root below
+      × (take place (statements ++ more) ≡ take place statements)
+  tree_kept {place = place} {s = s} proof =
+      let within = slice_get_within statements place s proof.there in
+      let front = take-append-le place statements more (omega (arith, within)) in (
+        record {
+          there = get_kept statements more place s proof.there;
+          named = proof.named;
+          complete = proof.complete;
+          moves = proof.moves;
+          told = rw front proof.told;
+          made = rw front proof.made;
+        },
+        front,
+      )
+
+  -- so it is written anew as before
+  all_kept : (form : Form) (theorems : List PlainStatement) (news : List Replacement)
+      → AllZip (IsReplacement form statements) theorems news
+      → AllZip (IsReplacement form (statements ++ more)) theorems news
+  all_kept form =
+      zip_weaker (IsReplacement form statements) (IsReplacement form (statements ++ more))
+      (λ s new r. let (proof, front) = tree_kept r.proof in
+      replaced_by form r.text proof (rw front r.laid) r.span r.put)
+
+  -- the first theorem whose normal proof is too long stays the first one
+  long_kept : (number : ℕ) (label : List ℕ) → IsFirstTooLong statements number label
+      → IsFirstTooLong (statements ++ more) number label
+  long_kept number label first =
+      let later : List PlainStatement = theorems_of number more in
+      let split = filter-append (is_theorem_of number) statements more
+      ∙ ap (λ (ss : List PlainStatement). ss ++ later) first.split
+      ∙ append_assoc first.before (first.s ∷ first.after) later in
+      first_too_long (statements ++ more) number label first.before first.s (first.after ++ later)
+      first.news split (all_kept Normal first.before first.news first.fit)
+      (first.place, first.root, first.below, (tree_kept first.proof).0, first.long)
+
+last_kept : (number at : ℕ) (taken : List PlainStatement) (s : PlainStatement)
+    → IsLastEnd number taken at → IsLastEnd number (taken ++ s ∷ []) at
+last_kept number at taken s (inl begin) = inl begin
+last_kept number at taken s (inr (before, t, between, parts, kind, same, ends)) =
+    let more = append_assoc before (t ∷ between) (s ∷ []) in
+    inr (before, t, between ++ s ∷ [], rw parts more, kind, same, ends)
+
+-- ---- one statement more
+
+-- one that isn't a theorem of the file; or there is one that is too long
+passed_so : (taken : List PlainStatement) (s : PlainStatement) (file : NewFile)
+    (kept : Option (List ℕ)) → ((kept ≡ None) → is_theorem_of file.number s ≡ false)
+    → IsSoFar taken file kept → IsSoFar (taken ++ s ∷ []) file kept
+passed_so taken s file (Some label) other (normal, first) =
+    (normal, long_kept taken (s ∷ []) file.number label first)
+passed_so taken s file None other h = record {
+  replaced = h.replaced;
+  each = rw (theorems_passed file.number taken s (other refl))
+      (all_kept taken (s ∷ []) file.form (theorems_of file.number taken) h.replaced h.each);
+  spans = h.spans;
+  put = h.put;
+}
+
+unmapped : {A B : Type 0} (f : A → B) (o : Option A) → option_map f o ≡ None → o ≡ None
+unmapped f None _ = refl
+unmapped f (Some x) is = absurd cc
+
+passed_over : (files : List PlainFile) (taken : List PlainStatement) (s : PlainStatement)
+    (file : NewFile) → IsWrittenSoFar files taken file
+    → ¬ ((file.too_long ≡ None) × (is_theorem_of file.number s ≡ true))
+    → IsWrittenSoFar files (taken ++ s ∷ []) file
+passed_over files taken s file w unwanted = record {
+  own = w.own;
+  handed = w.handed;
+  source = w.source;
+  limit = w.limit;
+  within = w.within;
+  last = last_kept file.number file.taken taken s w.last;
+  so_far = passed_so taken s file (option_map (λ l. l.now) file.too_long)
+      (λ short. false_from_ne_true (is_theorem_of file.number s) (λ is.
+      unwanted (unmapped (λ l. l.now) file.too_long short, is))) w.so_far;
+}
+
+-- the same, with what it was at first
+pub passed_by : (profile : Profile) (files : List PlainFile) (first file : NewFile)
+    (taken : List PlainStatement) (listed : List PlainRefusal) (s : PlainStatement)
+    → ¬ ((file.too_long ≡ None) × (is_theorem_of file.number s ≡ true))
+    → HasWritten profile files first file taken listed
+    → HasWritten profile files first file (taken ++ s ∷ []) (listed ++ [])
+passed_by profile files first file taken listed s unwanted w = record {
+  lenient = w.lenient;
+  none = append-nil listed ∙ w.none;
+  so_far = passed_over files taken s file w.so_far unwanted;
+  number = w.number;
+  form = w.form;
+}
+
+-- where no proof is too long, those so far are replaced
+replaced_so_far : (files : List PlainFile) (taken : List PlainStatement) (file : NewFile)
+    → IsWrittenSoFar files taken file → file.too_long ≡ None → AreReplacedSoFar taken file
+replaced_so_far files taken file w short =
+    subst (λ (o : Option (List ℕ)). IsSoFar taken file o)
+    (ap (option_map (λ l. l.now)) short) w.so_far
+
+module _ {files : List PlainFile} {told : List Sentence} {id : LabelId}
+    {listed : List PlainRefusal} (taken : List PlainStatement) (s : PlainStatement)
+    (met : IsMet Lenient files taken listed told s (Theorem id)) (none : listed ≡ []) where
+  -- a theorem
+  abbrev pub theorem_met : HasForm s → IsTheoremAmong told id.0 s
+  theorem_met formed = record {
+    statements = taken ++ s ∷ [];
+    same = met.same;
+    obeyed = one_more Lenient taken s (met.obeyed none) met.came.2;
+    place = length taken;
+    there = get_parted taken [] s;
+    number = rw (length-map taken sentence_of) at (last_number told id.0 s formed met.came.1
+        (sentences taken) (met.same ∙ map-append sentence_of taken (s ∷ [])));
+    complete = met.came.0;
+    room = proof_fits files (taken ++ s ∷ met.left.statements) met.left.ending (length taken) s
+        met.readable met.reads (get_parted taken met.left.statements s);
+  }
+
+  module _ {file : NewFile} (w : IsWrittenSoFar files taken file)
+      (home : s.first.file ≡ file.number) where
+    is : is_theorem_of file.number s ≡ true
+    is = theorem_there file.number s met.came.0 home
+
+    -- it stands in the file
+    pub span_stands : (s.span.0 ≤ s.span.1) × (s.span.1 ≤ length file.source.now)
+    span_stands =
+        rw w.source (ends_within s w.own.bytes
+        (proofs_stand_in_spans_holds files taken s met.left.statements met.left.ending w.own
+        met.reads met.came.1.provable (ap (slice_get files) home ∙ w.handed)))
+
+    -- behind what was taken
+    pub span_follows : file.taken ≤ s.span.0
+    span_follows =
+        elim w.last [
+          | inl begin ↦ omega (arith, begin)
+          | inr (before, t, between, parts, kind, same, ends) ↦
+              let after = proof_spans_follow_holds files before between met.left.statements t s
+              met.left.ending (rw parts at met.reads) kind met.came.1.provable
+              (same ∙ sym home) in omega (arith, after, ends)
+        ]
+
+    -- its proof was put
+    written_anew : (next : NewFile) → file.too_long ≡ None
+        → HasForm s → PutsProof told id.0 file s next
+        → IsWrittenSoFar files (taken ++ s ∷ []) next
+    written_anew next short formed put =
+        let (order, within) = span_stands in
+        let more : List PlainStatement = taken ++ s ∷ [] in
+        let old : AreReplacedSoFar taken file = replaced_so_far files taken file w short in
+        let new : Replacement = replacement s put.text in
+        let same = put.puts.same in
+        let one = one_more_replaced file.taken file.source.now old.replaced new old.spans
+        span_follows order within in
+        let so_far : AreReplacedSoFar more next = record {
+          replaced = old.replaced ++ new ∷ [];
+          each = rw (same.form, same.number, theorems_parted file.number taken s [] is)
+              (zip_push (IsReplacement file.form more) _ old.replaced s new
+              (all_kept taken (s ∷ []) file.form _ _ old.each) (put.anew (theorem_met formed)));
+          spans = rw put.puts.taken
+              (spans_push 0 file.taken old.replaced new old.spans span_follows order);
+          put = rw (same.most, same.source, put.puts.taken, one) (put.puts.put _ old.put);
+        } in
+        record {
+          own = w.own;
+          handed = ap (slice_get files) same.number ∙ w.handed;
+          source = same.source ∙ w.source;
+          limit = rw (same.number, same.most) w.limit;
+          within = omega (arith, within, put.puts.taken, ap length same.source);
+          last = inr
+              (taken, s, [], refl, met.came.1.provable, home ∙ sym same.number, put.puts.taken);
+          so_far = rw (ap (option_map (λ l. l.now)) (put.puts.long ∙ short)) so_far;
+        }
+
+    -- its normal proof is too long
+    label_kept : (next : NewFile) → file.too_long ≡ None
+        → HasForm s → KeepsLabel told id.0 file s next
+        → IsWrittenSoFar files (taken ++ s ∷ []) next
+    label_kept next short formed kept =
+        let more : List PlainStatement = taken ++ s ∷ [] in
+        let old : AreReplacedSoFar taken file = replaced_so_far files taken file w short in
+        let same = kept.same in
+        let (normal, long) = kept.long in
+        let (place, root, below, proof, over) = long (theorem_met formed) in
+        let first = first_too_long more file.number kept.label (theorems_of file.number taken) s []
+        old.replaced (theorems_parted file.number taken s [] is)
+        (simp normal at (all_kept taken (s ∷ []) file.form _ old.replaced old.each))
+        (place, root, below, proof, over) in
+        record {
+          own = w.own;
+          handed = ap (slice_get files) same.number ∙ w.handed;
+          source = same.source ∙ w.source;
+          limit = rw (same.number, same.most) w.limit;
+          within = omega (arith, w.within, kept.taken, ap length same.source);
+          last = rw (same.number, kept.taken)
+              (last_kept file.number file.taken taken s w.last);
+          so_far = rw kept.kept (same.form ∙ normal, rw same.number first);
+        }
+
+    -- either was
+    pub written_on : (first next : NewFile) → file.too_long ≡ None → HasForm s
+        → (file.number ≡ first.number) → (file.form ≡ first.form)
+        → PutsProof told id.0 file s next ⊎ KeepsLabel told id.0 file s next
+        → HasWritten Lenient files first next (taken ++ s ∷ []) (listed ++ [])
+    written_on first next short formed number form (inl put) = record {
+      lenient = refl;
+      none = append-nil listed ∙ none;
+      so_far = written_anew next short formed put;
+      number = put.puts.same.number ∙ number;
+      form = put.puts.same.form ∙ form;
+    }
+    written_on first next short formed number form (inr kept) = record {
+      lenient = refl;
+      none = append-nil listed ∙ none;
+      so_far = label_kept next short formed kept;
+      number = kept.same.number ∙ number;
+      form = kept.same.form ∙ form;
+    }
+
+-- ---- the end
+
+-- all statements were seen, and none is at fault
+pub all_written : (files : List PlainFile) (first file : NewFile) (p : Progress)
+    → HasVisited HasWritten Lenient files first file p → IsAllWritten files first file
+all_written files first file p visited =
+    let none = visited.seen.none in
+    let (end, same) = visited.clean none in
+    (visited.statements, rw same at end.accepted, rw none at visited.seen)
+
+-- some normal proof is too long
+pub long_fault : (form : Form) (files : List PlainFile) (number : ℕ) (first file : NewFile)
+    (label : List ℕ) → first.form ≡ form → first.number ≡ number
+    → option_map (λ l. l.now) file.too_long ≡ Some label → IsAllWritten files first file
+    → (form ≡ Normal) × (statements : List PlainStatement) × AreAccepted Lenient files statements
+    × IsFirstTooLong statements number label
+long_fault form files number first file label same home long (statements, accepted, all) =
+    let (normal, too_long) = rw long at all.so_far.so_far in
+    rw (← (all.form ∙ same), ← (all.number ∙ home)) (normal, statements, accepted, too_long)
+
+-- the bytes up to the last span, and what wasn't taken
+abbrev made_of : (statements : List PlainStatement) (file : NewFile)
+    → AreReplacedSoFar statements file → List ℕ
+made_of statements file h = with_replaced (take file.taken file.source.now) h.replaced
+
+-- are those of the file with all proofs in its form
+whole_so : (files : List PlainFile) (statements : List PlainStatement) (file : NewFile)
+    (bytes : List ℕ) (w : IsWrittenSoFar files statements file)
+    (h : AreReplacedSoFar statements file)
+    → bytes ≡ made_of statements file h ++ drop file.taken file.source.now
+    → IsAllSaved file.form files statements file.number bytes
+whole_so files statements file bytes w h is = record {
+  file = w.own;
+  handed = w.handed;
+  replaced = h.replaced;
+  each = h.each;
+  whole = is ∙ all_replaced file.taken file.source.now h.replaced h.spans w.within
+      ∙ ap (λ (own : List ℕ). with_replaced own h.replaced) w.source;
+}
+
+-- what is saved of the files with the number
+abbrev pub SavesAll : Form → List PlainFile → (number : ℕ) → (bytes : List ℕ) → Type 0
+SavesAll form files number bytes =
+    (statements : List PlainStatement) × AreAccepted Lenient files statements
+    × IsAllSaved form files statements number bytes × FitsSaved files number bytes
+
+pub all_saved : (form : Form) (files : List PlainFile) (number : ℕ) (first file : NewFile)
+    (bytes : List ℕ) → first.form ≡ form → first.number ≡ number → file.too_long ≡ None
+    → IsAllWritten files first file → IsWhole file bytes → length bytes ≤ file.most
+    → SavesAll form files number bytes
+all_saved form files number first file bytes same home short (statements, accepted, all) whole
+    few =
+    let w = all.so_far in
+    let h : AreReplacedSoFar statements file = replaced_so_far files statements file w short in
+    rw (← (all.form ∙ same), ← (all.number ∙ home)) (
+      statements,
+      accepted,
+      whole_so files statements file bytes w h (whole (made_of statements file h) h.put),
+      elim (cases_lt most_bytes (total_with files file.number bytes)) [
+        | inl over ↦ absurd (omega (arith, few, (w.limit bytes).1 over))
+        | inr within ↦ within
+      ],
+    )
+
+-- or why they aren't
+pub finish_fault : (form : Form) (files : List PlainFile) (number : ℕ) (first file : NewFile)
+    (why : AskFault) → first.form ≡ form → first.number ≡ number → file.too_long ≡ None
+    → IsAllWritten files first file → IsFinishFault file why
+    → IsSavingAllFault form files number (fault.Ask why)
+finish_fault form files number first file why same home short (statements, accepted, all)
+    (inl memory) =
+    rw (← (all.form ∙ same), ← (all.number ∙ home), memory) (statements, accepted, tt)
+finish_fault form files number first file why same home short (statements, accepted, all)
+    (inr (is, over)) =
+    let w = all.so_far in
+    let h : AreReplacedSoFar statements file = replaced_so_far files statements file w short in
+    let bytes : List ℕ = made_of statements file h ++ drop file.taken file.source.now in
+    let too_many = (w.limit bytes).0 (over (made_of statements file h) h.put) in
+    rw (← (all.form ∙ same), ← (all.number ∙ home), is)
+    (statements, accepted, (bytes, whole_so files statements file bytes w h refl, too_many))

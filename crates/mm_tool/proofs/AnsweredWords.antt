@@ -1,0 +1,315 @@
+-- How the program ends: texts are written one after the other, a command over files ends as its parts
+-- do, and so the words are answered.
+use Rattle.std.proofs.Common.{ℕ, ◌+◌, ◌≤◌, List, ◌++◌, length, length-append, take, Option, Result}
+use Rattle.std.proofs.Common.{Ok, Err, OnOk, OnErr, inl, inr, ap, ◌∙◌, arith, ◌≡◌, codes, IfErr}
+use Rattle.std.proofs.Common.{IsErrAnd, IsErrOf, refl, sym, map, ◌<◌, IfOk, subst, Bor, Some}
+use Rattle.std.proofs.Common.{option_map}
+use Rattle.std.proofs.lemmas.List.{take-append-le, length-map}
+use Rattle.std.proofs.Math.Seq.{take-append-add}
+use Rattle.std.proofs.KnownBytes.{Appends-trans}
+use Rattle.mm_text.specs.declared.counted.Counted.{Counted}
+use Rattle.mm_tool.specs.Ending.{BreaksOff, TakesWhole, TellsLine, AsksNamed, StopsRun, stop_of}
+use Rattle.mm_tool.specs.Ending.{IsProofRead, IsSameReplyOver, IsSameCommand, StopsSame, Ends}
+use Rattle.mm_tool.specs.Ending.{EndsWithoutWords, AnswersWords, IsReplyOver, Stops, TellsNotes}
+use Rattle.mm_tool.specs.Ending.{error_line, stop_status, unread_stop, AddsLabel, IsHelp}
+use Rattle.mm_tool.specs.Ending.{IsHelpFault, label_of}
+use Rattle.std.specs.List.{AllZip}
+use Rattle.mm_text.proofs.Lists.{zip_length, error_keeps}
+use Rattle.mm_check.specs.Reply.{AsksHanded, IsReplyTo, WritesBeginningOf}
+use Rattle.mm_check.specs.declared.command.Command.TheVariants.{File}
+use Rattle.mm_tool.specs.ReadFiles.{IsReadAs}
+use Rattle.mm_tool.specs.declared.files.Comments.{Comments}
+use Rattle.mm_text.specs.Device.{faults_of, inner_of}
+use Rattle.mm_text.specs.Files.{PlainFile, total_bytes}
+use Rattle.mm_check.specs.declared.command.Command.{Command}
+use Rattle.mm_check.specs.declared.command.RunFault.{RunFault}
+use Rattle.mm_check.specs.declared.status.Status.{Status}
+use Rattle.mm_tool.specs.Folder.{AreHeld, AreTooLong, KnownFile, MayHold}
+use Rattle.mm_tool.specs.Answer.{Outcome, quiet, outcome_of}
+use Rattle.mm_tool.specs.Notes.{AreNotesOn}
+use Rattle.mm_tool.specs.declared.stop.Stop.{Stop}
+use Rattle.mm_tool.specs.declared.stop.Stop.TheVariants.{CannotWrite, Memory, Usage, CannotRead}
+use Rattle.std.specs.Global.{Vec}
+use Rattle.mm_check.specs.Status.{number_of}
+use Rattle.mm_tool.specs.Words.{Asks, AsksExplain, AsksHelp, AsksRun, AsksSame}
+use Rattle.mm_tool.specs.Explained.{IsExplanation}
+use Rattle.mm_tool.specs.declared.words.Request.{Request}
+use Rattle.mm_tool.specs.declared.words.Request.TheVariants.{Help, Explain, Run}
+use Rattle.mm_tool.specs.declared.answer.Answer.{Answer}
+use Rattle.mm_tool.specs.declared.folder.ArgumentFault.{ArgumentFault}
+use Rattle.mm_tool.specs.declared.texts.Texts.{Texts}
+use Rattle.mm_check.specs.declared.command.RunFault.TheVariants as run
+use Rattle.mm_tool.specs.declared.folder.ArgumentFault.TheVariants as argument
+
+-- ==== texts that are written one after the other
+
+-- Where the second text was written after the first, both were.
+pub takes_both : {E : Type 0} (contents : E → Option (List ℕ)) (first second : List ℕ)
+    (a b d : Counted E) → TakesWhole contents first a b → TakesWhole contents second b d
+    → TakesWhole contents (first ++ second) a d
+takes_both contents first second a b d one other =
+    (Appends-trans _ _ _ first second one.0 other.0, other.1 ∙ one.1)
+
+-- Where the second broke off after the first, both broke off.
+pub breaks_both : {E : Type 0} (contents : E → Option (List ℕ)) (first second : List ℕ)
+    (a b d : Counted E) → TakesWhole contents first a b → BreaksOff contents second b d
+    → BreaksOff contents (first ++ second) a d
+breaks_both contents first second a b d one ((k, less, put), counted) = (
+  (
+    length first + k,
+    omega (arith, length-append first second),
+    rw (take-append-add first second k) (Appends-trans _ _ _ first (take k second) one.0 put),
+  ),
+  counted ∙ ap (λ n. n + 1) one.1,
+)
+
+-- Where a text broke off, so did each that goes on behind it.
+pub breaks_before : {E : Type 0} (contents : E → Option (List ℕ)) (first second : List ℕ)
+    (a b : Counted E) → BreaksOff contents first a b → BreaksOff contents (first ++ second) a b
+breaks_before contents first second a b ((k, less, put), counted) =
+    let few : k ≤ length first = omega arith in
+    let enough = length-append first second in
+    ((k, omega (arith, enough), rw (take-append-le k first second few) put), counted)
+
+-- The second text was written after the first, or broke off there.
+pub all_both : {E T F : Type 0} (contents : E → Option (List ℕ)) (first second : List ℕ)
+    (r : Result T F) (a b d : Counted E) → TakesWhole contents first a b
+    → OnOk r (TakesWhole contents second b d) → OnOk r (TakesWhole contents (first ++ second) a d)
+all_both contents first second (Ok v) a b d one other = takes_both contents first second a b d one other
+all_both contents first second (Err e) a b d one other = tt
+
+pub beginning_both : {E T F : Type 0} (contents : E → Option (List ℕ)) (first second : List ℕ)
+    (r : Result T F) (a b d : Counted E) → TakesWhole contents first a b
+    → OnErr r (BreaksOff contents second b d) → OnErr r (BreaksOff contents (first ++ second) a d)
+beginning_both contents first second (Ok v) a b d one other = tt
+beginning_both contents first second (Err e) a b d one other =
+    breaks_both contents first second a b d one other
+
+-- What holds, holds where a call failed.
+pub on_failure : {T F : Type 0} (r : Result T F) {P : Type 0} → P → OnErr r P
+on_failure (Ok v) h = tt
+on_failure (Err e) h = h
+
+-- A text that was written, or broke off, was told.
+pub told_line : {E T F : Type 0} (contents : E → Option (List ℕ)) (text : List ℕ) (r : Result T F)
+    (a b : Counted E) → OnOk r (TakesWhole contents text a b) → OnErr r (BreaksOff contents text a b)
+    → TellsLine contents text a b
+told_line contents text (Ok v) a b whole broke = inl whole
+told_line contents text (Err e) a b whole broke = inr broke
+
+-- ==== how a command over files ends, from how its parts end
+
+abbrev run_error : RunFault → Result Status RunFault
+run_error fault = Err fault
+
+module _ {O : Type 0} (contents : O → Option (List ℕ)) (holds : List ℕ → KnownFile)
+    (may_fail : List ℕ → Type 0) (command : Command) (names : List (List ℕ)) (max : ℕ) where
+  -- The line that the files hold too many bytes broke off.
+  pub stops_too_long : {T : Type 0} (r : Result T Stop) (old new : Counted O)
+      → IfErr r (λ stop. stop ≡ CannotWrite)
+      → OnErr r (BreaksOff contents (codes "load F3\n") old new) → AreTooLong holds names max
+      → IfErr r (λ stop. StopsRun contents holds may_fail command names max stop old new)
+  stops_too_long (Ok v) old new stop broke long = tt
+  stops_too_long (Err s) old new stop broke long =
+      rw stop (codes "load F3\n", quiet 4, inr (long, refl, refl), broke)
+
+  -- The reply over the files that were read broke off, or memory for it was wanting.
+  pub stops_at_run : {T : Type 0} (r : Result T Stop) (fault : RunFault)
+      (given files : List PlainFile) (notes : List ℕ) (old new : Counted O)
+      → IsErrAnd r (λ stop. stop ≡ stop_of fault)
+      → ((text : List ℕ) (status : ℕ) → IsReplyTo given command text status
+      → IsReplyTo files command text status)
+      → AreHeld holds names files → total_bytes files ≤ max → AreNotesOn files notes
+      → (IsErrOf (run_error fault) run.Device
+      → WritesBeginningOf given command (contents (inner_of old)) (contents (inner_of new)))
+      → (IsErrOf (run_error fault) run.Memory → inner_of new ≡ inner_of old)
+      → (IsErrOf (run_error fault) run.Device → faults_of new ≡ faults_of old + 1)
+      → ((IsErrOf (run_error fault) run.Device → ⊥) → faults_of new ≡ faults_of old)
+      → IfErr r (λ stop. StopsRun contents holds may_fail command names max stop old new)
+  stops_at_run r run.Device given files notes old new is same held within noted device memory
+      counted uncounted =
+      let (text, status, reply, beginning) = device refl in
+      let outcome : Outcome = record { status = status; notes = notes } in
+      error_keeps r CannotWrite
+      (λ stop. StopsRun contents holds may_fail command names max stop old new) is (
+        text,
+        outcome,
+        inl (files, held, within, same text status reply, noted),
+        (beginning, counted refl),
+      )
+  stops_at_run r run.Memory given files notes old new is same held within noted device memory
+      counted uncounted =
+      error_keeps r Memory
+      (λ stop. StopsRun contents holds may_fail command names max stop old new) is
+      (memory refl, uncounted (λ other. absurd (cc)))
+
+-- The file about which a command asks is one of those that were read, of which there are as many as
+-- names.
+pub asks_handed : (command : Command) (names : List (List ℕ)) (files : List PlainFile)
+    → length files ≡ length names → AsksNamed command names → AsksHanded files command
+asks_handed (File form number) names files same named = rw same named
+asks_handed command names files same named = tt
+
+-- Of the files that were read there are as many as names.
+pub as_many : (comments : Comments) (names : List (List ℕ)) (wholes files : List PlainFile)
+    → map (λ f. f.name) wholes ≡ names → AllZip (IsReadAs comments) wholes files
+    → length files ≡ length names
+as_many comments names wholes files named reads =
+    sym (zip_length (IsReadAs comments) wholes files reads)
+    ∙ sym (length-map wholes (λ (f : PlainFile). f.name)) ∙ ap length named
+
+-- ==== how the words are answered, from how the parts of the program answer
+
+-- An answer was written.
+pub answers_text : {O E : Type 0} (contents : O → Option (List ℕ)) (holds : List ℕ → KnownFile)
+    (texts : Texts) (max : ℕ) (words : List (List ℕ)) (r : Result Answer E) (text : List ℕ)
+    (outcome : Outcome) (old new : Counted O) → IfOk r (λ answer. outcome_of answer ≡ outcome)
+    → OnOk r (TakesWhole contents text old new) → AnswersWords holds texts max words text outcome
+    → IfOk r (λ answer. (t : List ℕ) × AnswersWords holds texts max words t (outcome_of answer)
+    × TakesWhole contents t old new)
+answers_text contents holds texts max words (Ok answer) text outcome old new same written answers =
+    (text, subst (AnswersWords holds texts max words text) (sym same) answers, written)
+answers_text contents holds texts max words (Err e) text outcome old new same written answers = tt
+
+-- The page for a request for help answers the words.
+pub helped : (holds : List ℕ → KnownFile) (texts : Texts) (max : ℕ) (words : List (List ℕ))
+    (request : Request) (topic : Option (Bor (List ℕ))) (page text : List ℕ) → Asks words request
+    → request ≡ Help topic → IsHelp texts (option_map (λ name. name.now) topic) page → text ≡ page
+    → AnswersWords holds texts max words text (quiet 0)
+helped holds texts max words request topic page text asked is helps same =
+    inl (_, rw is at asked, rw same helps, refl)
+
+-- And so does the text for a request for an explanation.
+pub explained : (holds : List ℕ → KnownFile) (texts : Texts) (max : ℕ) (words : List (List ℕ))
+    (request : Request) (asked : Vec (Bor (List ℕ))) (given : List (Bor (List ℕ)))
+    (said text : List ℕ) → Asks words request → request ≡ Explain asked → given ≡ asked.items
+    → IsExplanation texts (map (λ code. code.now) given) said → text ≡ said
+    → AnswersWords holds texts max words text (quiet 0)
+explained holds texts max words request asked given said text asks is same explains written =
+    let named : AsksExplain words (map (λ code. code.now) given) = rw same (rw is at asks) in
+    inr (inr (inl (_, named, rw written explains, refl)))
+
+-- The words ask for the command of their request over the files that it names.
+pub asks_run : (words : List (List ℕ)) (request : Request) (command : Command)
+    (names : Vec (Bor (List ℕ))) (given : List (Bor (List ℕ))) → Asks words request
+    → request ≡ Run command names → given ≡ names.items
+    → AsksRun words command (map (λ name. name.now) given)
+asks_run words request command names given asked is same = rw same (rw is at asked)
+
+module _ {O : Type 0} (contents : O → Option (List ℕ)) (holds : List ℕ → KnownFile)
+    (may_fail : List ℕ → Type 0) (texts : Texts) (max : ℕ) (words : List (List ℕ)) where
+  -- An answer broke off.
+  pub stops_answer : {T : Type 0} (r : Result T Stop) (text : List ℕ) (outcome : Outcome)
+      (old new : Counted O) → IfErr r (λ stop. stop ≡ CannotWrite)
+      → OnErr r (BreaksOff contents text old new) → AnswersWords holds texts max words text outcome
+      → IfErr r (λ stop. Stops contents holds may_fail texts max words stop old new)
+  stops_answer (Ok v) text outcome old new stop broke answers = tt
+  stops_answer (Err s) text outcome old new stop broke answers =
+      rw stop (text, outcome, answers, broke)
+
+  -- No command has the name on which the words ask for help, or memory was wanting.
+  pub stops_help : {T : Type 0} (topic : Option (List ℕ)) (r : Result T Stop) (stop : Stop)
+      (out : Counted O) → AsksHelp words topic → IsHelpFault texts topic stop
+      → IsErrAnd r (λ s. s ≡ stop)
+      → IfErr r (λ s. Stops contents holds may_fail texts max words s out out)
+  stops_help topic (Ok v) stop out asked fault is = tt
+  stops_help topic (Err s) (Usage text) out asked fault is =
+      rw is (inr (inr (topic, asked, fault)), (refl, refl))
+  stops_help topic (Err s) Memory out asked fault is = rw is (refl, refl)
+  stops_help topic (Err s) stop out asked fault is = absurd fault
+
+  -- Where the command that the words ask for ended without a reply, the words have no answer.
+  pub stops_command : (command : Command) (names : List (List ℕ))
+      (label : Option (Bor (List ℕ))) (ended told : Stop) (old new : Counted O)
+      → AsksRun words command names → option_map (λ l. l.now) label ≡ label_of command
+      → AddsLabel label ended told
+      → StopsRun contents holds may_fail command names max ended old new
+      → Stops contents holds may_fail texts max words told old new
+  stops_command command names label (CannotRead name before) told old new asked given adds h =
+      rw adds (inl (command, names, asked, h.0, given), h.1)
+  stops_command command names label CannotWrite told old new asked given adds
+      (text, outcome, reply, broke) =
+      rw adds (text, outcome, inr (inr (inr (inl (command, names, asked, reply)))), broke)
+  stops_command command names label Memory told old new asked given adds h = rw adds h
+  stops_command command names label ended told old new asked given adds h = absurd h
+
+  -- Where the comparison that they ask for ended without a reply, the words have no answer.
+  pub stops_same : (asked_label proof : List ℕ) (names : List (List ℕ))
+      (label : Option (Bor (List ℕ))) (ended told : Stop) (old new : Counted O)
+      → AsksSame words asked_label proof names → option_map (λ l. l.now) label ≡ Some asked_label
+      → AddsLabel label ended told
+      → StopsSame contents holds may_fail asked_label proof names max ended old new
+      → Stops contents holds may_fail texts max words told old new
+  stops_same word proof names label (CannotRead name before) told old new asked given adds h =
+      rw adds (inr (word, proof, names, asked, h.0, given), h.1)
+  stops_same word proof names label CannotWrite told old new asked given adds
+      (text, outcome, reply, broke) =
+      rw adds (text, outcome, inr (inr (inr (inr (word, proof, names, asked, reply)))), broke)
+  stops_same word proof names label Memory told old new asked given adds h = rw adds h
+  stops_same word proof names label ended told old new asked given adds h = absurd h
+
+-- A comparison ends as the command over the files does, once the proof is read.
+pub same_replies : {O E : Type 0} (contents : O → Option (List ℕ)) (holds : List ℕ → KnownFile) (max : ℕ) (label proof : List ℕ) (names : List (List ℕ)) (command : Command)
+    (given : PlainFile) (r : Result Answer E) (old new : Counted O) → IsProofRead holds proof max given → IsSameCommand label given.bytes command
+    → IfOk r (λ answer. (text : List ℕ) × IsReplyOver holds command names max text (outcome_of answer) × TakesWhole contents text old new)
+    → IfOk r (λ answer. (text : List ℕ) × IsSameReplyOver holds label proof names max text (outcome_of answer) × TakesWhole contents text old new)
+same_replies contents holds max label proof names command given (Ok answer) old new read asks (text, reply, taken) =
+    (text, inr (given, read, command, asks, reply), taken)
+same_replies contents holds max label proof names command given (Err e) old new read asks h = tt
+
+pub same_stops : {O T : Type 0} (contents : O → Option (List ℕ)) (holds : List ℕ → KnownFile) (may_fail : List ℕ → Type 0) (max : ℕ) (label proof : List ℕ) (names : List (List ℕ))
+    (command : Command) (given : PlainFile) (r : Result T Stop) (old new : Counted O) → IsProofRead holds proof max given
+    → IsSameCommand label given.bytes command
+    → IfErr r (λ stop. StopsRun contents holds may_fail command names max stop old new)
+    → IfErr r (λ stop. StopsSame contents holds may_fail label proof names max stop old new)
+same_stops contents holds may_fail max label proof names command given (Ok v) old new read asks h = tt
+same_stops contents holds may_fail max label proof names command given (Err (CannotRead name told)) old new read asks h = (inr (given, read, h.0), h.1)
+same_stops contents holds may_fail max label proof names command given (Err CannotWrite) old new read asks (text, outcome, reply, broke) =
+    (text, outcome, inr (given, read, command, asks, reply), broke)
+same_stops contents holds may_fail max label proof names command given (Err Memory) old new read asks h = h
+same_stops contents holds may_fail max label proof names command given (Err s) old new read asks h =
+    absurd h
+
+-- The line that the proof holds too many bytes broke off.
+pub same_too_long : {O T : Type 0} (contents : O → Option (List ℕ)) (holds : List ℕ → KnownFile) (may_fail : List ℕ → Type 0)
+    (label proof : List ℕ) (names : List (List ℕ)) (max : ℕ) (r : Result T Stop) (old new : Counted O)
+    → IfErr r (λ stop. stop ≡ CannotWrite) → OnErr r (BreaksOff contents (codes "text F3 0\n") old new) → MayHold (holds proof) (λ all. max < length all)
+    → IfErr r (λ stop. StopsSame contents holds may_fail label proof names max stop old new)
+same_too_long contents holds may_fail label proof names max (Ok v) old new stop broke long = tt
+same_too_long contents holds may_fail label proof names max (Err s) old new stop broke long =
+    rw stop (codes "text F3 0\n", quiet 4, inl (long, refl, refl), broke)
+
+-- The words were answered, and standard error was told the notes.
+pub ends_answered : {O E : Type 0} (contents : O → Option (List ℕ)) (said : E → Option (List ℕ))
+    (holds : List ℕ → KnownFile) (may_fail : List ℕ → Type 0) (texts : Texts) (max : ℕ)
+    (words : List (List ℕ)) (outcome : Outcome) (number : ℕ) (notes : List ℕ)
+    (old new : Counted O) (err err' : Counted E)
+    → number ≡ outcome.status → notes ≡ outcome.notes → TellsNotes said notes err err'
+    → ((text : List ℕ) × AnswersWords holds texts max words text outcome
+    × TakesWhole contents text old new)
+    → Ends contents said holds may_fail texts max words number old new err err'
+ends_answered contents said holds may_fail texts max words outcome number notes old new err err'
+    same noted told (text, answers, taken) =
+    inl (record {
+      text = text;
+      notes = outcome.notes;
+      answers = rw same answers;
+      written = taken;
+      noted = rw noted at told;
+    })
+
+-- The words were not read, and standard error was told why.
+pub ends_unread : {O E : Type 0} (said : E → Option (List ℕ)) (may_fail : Type 0) (status : Status) (number : ℕ) (stop : Stop) (fault : ArgumentFault)
+    (out : Counted O) (err err' : Counted E)
+    → number ≡ number_of status → status ≡ stop_status stop → stop ≡ unread_stop fault → (fault ≡ argument.NotText → may_fail)
+    → TellsLine said (error_line stop) err err'
+    → EndsWithoutWords said may_fail number out out err err'
+ends_unread said may_fail status number stop fault out err err' same is reason cause told = record {
+  stop = stop;
+  fault = fault;
+  cause = cause;
+  reason = reason;
+  silent = (refl, refl);
+  ends = sym (same ∙ ap number_of is);
+  told = told;
+}

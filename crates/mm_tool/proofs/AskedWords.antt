@@ -1,0 +1,362 @@
+-- From what `clap` ensures of a parse to what the words ask for, and the rule whose code they name.
+use Rattle.std.proofs.Common.{◌≡◌, ◌≢◌, false, ℕ, suc, zero, ◌+◌, ◌<◌, List, [], ◌∷◌, length, take}
+use Rattle.std.proofs.Common.{get_or, Contains, arith, Bool, Bor, map, nat_lt, cond, codes, Option}
+use Rattle.std.proofs.Common.{Some, None, option_map, Result, Ok, Err, IfOk, IfErr, IsSome, IfSome}
+use Rattle.std.proofs.Common.{inl, inr, refl, ap, subst, sym, ◌∙◌, true, unwrap_or, ◌-◌, ◌==◌, ◌||◌}
+use Rattle.std.proofs.Common.{slice_get, ◌++◌}
+use Rattle.std.proofs.lemmas.Slice.Eq.{bytes_eq-Decides}
+use Rattle.std.proofs.lemmas.Bool.Decides.{not_from_Decides}
+use Rattle.std.proofs.lemmas.Grind.{flat_map-append}
+use Rattle.std.proofs.lemmas.List.{take_more, append-nil, length-map}
+use Rattle.std.proofs.lemmas.List.Elements.{Contains-append_left, Contains-append_right}
+use Rattle.std.specs.List.{AllByRecursion, flat_map, position, position_or_len, join_by}
+use Rattle.std.specs.List.{slice_split}
+use Rattle.std.specs.Str.{bytes_eq}
+use Rattle.mm_text.proofs.Lists.{all_append, all_push, all_weaker}
+use Rattle.mm_text.proofs.Inclusions.OpenFiles.{position-names}
+use borrow.Author.Tests.{ltb-true}
+use Rattle.std.specs.Global.{Vec}
+use Rattle.clap.specs.Words.{App, HasKind, HasMatchesOf, IsAmong, Row, Text, all_of, fault_of}
+use Rattle.clap.specs.Words.{first_of, first_value, is_simple, is_simple_and_free, kind_of}
+use Rattle.clap.specs.Words.{matched_of, raw_values, rows_of, subcommand_name_of, subcommand_of}
+use Rattle.clap.specs.Words.{subcommand_rows_of}
+use Rattle.clap.specs.declared.error.Error.{Error}
+use Rattle.clap.specs.declared.error.kind.ErrorKind.{ErrorKind}
+use Rattle.clap.specs.declared.error.kind.ErrorKind.TheVariants.{DisplayHelp, DisplayVersion}
+use Rattle.clap.specs.declared.error.kind.ErrorKind.TheVariants.{OutOfMemory}
+use Rattle.clap.specs.declared.parser.matches.ArgMatches.{ArgMatches}
+use Rattle.clap.specs.declared.parser.matches.ArgMatches.TheViews.{out-ArgMatches}
+use Rattle.clap.specs.declared.parser.matches.Found.{Found}
+use Rattle.clap.proofs.OnLiterals.{clap_on_literals}
+use Rattle.clap.proofs.WalkLemmas.{first_value-rows, raw_values-rows}
+use Rattle.mm_check.specs.declared.command.Command.{Command}
+use Rattle.mm_check.specs.declared.command.Command.TheVariants.{File}
+use Rattle.mm_check.specs.declared.form.Form.{Form}
+use Rattle.mm_tool.specs.Ending.{AsksNamed}
+use Rattle.mm_tool.specs.Words.{AsksForm, AsksRun, IsAllFault, IsGiven, name_of_form, number_among}
+use Rattle.mm_tool.specs.Words.{AreMatchesOf, Asks, Commands, IsAccepted, IsFaultOfKind, IsOfKind}
+use Rattle.mm_tool.specs.Words.{IsWordFault, command_line, first_command}
+use Rattle.mm_tool.specs.declared.words.Request.{Request}
+use Rattle.mm_tool.specs.declared.words.Request.TheVariants.{Help, Version, Run}
+use Rattle.mm_tool.specs.declared.stop.Stop.{Stop}
+use Rattle.mm_tool.specs.declared.stop.Stop.TheVariants.{Usage, Memory}
+use Rattle.std.proofs.lemmas.Bool.{cond-true}
+use Rattle.std.proofs.lemmas.List.Folds.{flat_map-map}
+use Rattle.std.proofs.lemmas.Option.{slice_get-map, slice_get_past, slice_get_read}
+use Rattle.std.specs.Char.{to_ascii_uppercase}
+use Rattle.std.specs.Option.{option_copied}
+use Rattle.std.specs.Slice.{IsGetResult}
+use Rattle.mm_tool.specs.Explained.{asked_code, code_in_reply, line_of, rules_in, IsAskedFor}
+use Rattle.mm_tool.specs.Explained.{IsExplanation, IsUnknownCode}
+use Rattle.mm_tool.specs.declared.rule_text.RuleText.{RuleText}
+use Rattle.mm_tool.specs.declared.texts.Texts.{Texts}
+
+-- ==== what is found in a list, or in several
+
+-- ---- each of a list
+
+-- One more is so.
+pub all_more : {X : Type 0} (P : X → Type 0) (xs : List X) (i : ℕ) (d : X) → i < length xs
+    → AllByRecursion P (take i xs) → P (get_or xs i d) → AllByRecursion P (take (i + 1) xs)
+all_more P xs i d less h p =
+    rw (take_more xs i d less) (all_push P (take i xs) (get_or xs i d) h p)
+
+-- Each of what one more is made of is so.
+pub all_made_more : {X Y : Type 0} (P : Y → Type 0) (f : X → List Y) (xs : List X) (i : ℕ) (d : X)
+    → i < length xs → AllByRecursion P (flat_map f (take i xs))
+    → AllByRecursion P (f (get_or xs i d))
+    → AllByRecursion P (flat_map f (take (i + 1) xs))
+all_made_more P f xs i d less h p =
+    rw (take_more xs i d less, flat_map-append, append-nil)
+    (all_append P (flat_map f (take i xs)) (f (get_or xs i d)) h p)
+
+-- ---- one of a list
+
+-- What one of several is made of, all are made of.
+pub contains_made : {X Y : Type 0} (f : X → List Y) (xs : List X) (i : ℕ) (d : X) (y : Y)
+    → i < length xs → Contains (f (get_or xs i d)) y → Contains (flat_map f xs) y
+contains_made f [] i d y less h = absurd (omega arith)
+contains_made f (x ∷ xs) zero d y less h = Contains-append_left (f x) (flat_map f xs) y h
+contains_made f (x ∷ xs) (suc i) d y less h =
+    Contains-append_right (f x) (flat_map f xs) y (contains_made f xs i d y (omega arith) h)
+
+-- Texts that differ in a byte are two.
+pub different : (a b : List ℕ) → bytes_eq a b ≡ false → a ≢ b
+different a b h = not_from_Decides (bytes_eq a b) (bytes_eq-Decides a b) h
+
+-- ==== from what `clap` ensures of a parse to what the words ask for
+
+is_free_line : is_simple_and_free command_line ≡ true
+unfolding clap_on_literals
+is_free_line = refl
+
+is_simple_line : is_simple command_line ≡ true
+unfolding clap_on_literals
+is_simple_line = refl
+
+-- The values of an argument are those of its row.
+pub values_are : (f : Found) (id : Text) (values : Option (List Text)) → values ≡ option_map raw_values (matched_of f id)
+    → unwrap_or values [] ≡ unwrap_or (all_of id (rows_of f)) []
+values_are f id values e =
+    ap (λ (o : Option (List Text)). unwrap_or o []) (e ∙ raw_values-rows f id)
+
+-- The first value of an argument is that of its row.
+pub value_is : (f : Found) (id : Text) (value : Option Text) → value ≡ first_value f id
+    → unwrap_or value [] ≡ unwrap_or (first_of id (rows_of f)) []
+value_is f id value e =
+    ap (λ (o : Option Text). unwrap_or o []) (e ∙ first_value-rows f id)
+
+-- the kind of an error is wanting memory, or one of the faults of the words
+kind_among : (app : App) (words : List Text) (e : Error) → app ≡ command_line
+    → (is_simple_and_free app ≡ true → HasKind (fault_of app words) e) → HasKind (fault_of command_line words) e
+kind_among app words e is kinds =
+    let Kind : App → Type 0 = λ a. HasKind (fault_of a words) e in
+    subst Kind is (kinds (ap is_simple_and_free is ∙ is_free_line))
+
+-- A fault that isn't want of memory is one of those of the words.
+among_faults : (words : List Text) (e : Error) (kind : ErrorKind) → HasKind (fault_of command_line words) e → kind_of e ≡ kind → kind ≢ OutOfMemory
+    → IsAmong kind (fault_of command_line words)
+among_faults words e kind (inl memory) is other = absurd (other (sym is ∙ memory))
+among_faults words e kind (inr among) is other = rw is at among
+
+-- Help or the version is the request only where the words ask for it.
+pub request_asked : (app : App) (words : List Text) (topic : Option Text) (e : Error)
+    (r : Result Request Stop) → app ≡ command_line → topic ≡ first_command words
+    → (is_simple_and_free app ≡ true → HasKind (fault_of app words) e)
+    → IfOk r (IsOfKind (kind_of e) topic) → IfOk r (Asks words)
+request_asked app words topic e (Ok (Help asked)) is first kinds h = inl (
+  among_faults words e DisplayHelp (kind_among app words e is kinds) h.0 (λ same. absurd (cc)),
+  sym first ∙ h.1,
+)
+request_asked app words topic e (Ok Version) is first kinds h =
+    inl (among_faults words e DisplayVersion (kind_among app words e is kinds) h
+    (λ same. absurd (cc)))
+request_asked app words topic e (Err fault) is first kinds h = h
+request_asked app words topic e request is first kinds h = absurd h
+
+-- Else the words are refused, or memory was wanting.
+pub fault_met : (app : App) (words : List Text) (e : Error) (r : Result Request Stop) → app ≡ command_line
+    → (is_simple_and_free app ≡ true → HasKind (fault_of app words) e)
+    → IfErr r (IsFaultOfKind (kind_of e)) → IfErr r (IsWordFault words)
+fault_met app words e (Ok request) is kinds h = h
+fault_met app words e (Err (Usage text)) is kinds h =
+    inl (kind_of e, among_faults words e (kind_of e) (kind_among app words e is kinds) refl h.0, h.1, h.2)
+fault_met app words e (Err Memory) is kinds h = tt
+fault_met app words e (Err other) is kinds h = absurd h
+
+abbrev pair_in : {X : Type 0} → (X → Text) → (X → List Row) → Option X → Option (Text × List Row)
+pair_in f g o = option_map {U = Text × List Row} (λ b. (f b, g b)) o
+
+-- A name and rows that are known apart are known together.
+pair_known : {X : Type 0} (f : X → Text) (g : X → List Row) (o : Option X) (name : Text) (rows : List Row)
+    → option_map f o ≡ Some name → option_map (λ (p : Text × List Row). p.1) (pair_in f g o) ≡ Some rows
+    → pair_in f g o ≡ Some (name, rows)
+pair_known f g None name rows e h = absurd (cc)
+pair_known f g (Some b) name rows e h = cc
+
+-- the name alone
+first_only : {X : Type 0} (f : X → Text) (g : X → List Row) (o : Option X) (name : Text) (rows : List Row)
+    → pair_in f g o ≡ Some (name, rows) → option_map f o ≡ Some name
+first_only f g None name rows e = absurd (cc)
+first_only f g (Some b) name rows e = ap (option_map {U = Text} (λ (p : Text × List Row). p.0)) e
+
+-- Words without a fault are accepted.
+pub is_accepted : (app : App) (words : List Text) → app ≡ command_line → (is_simple_and_free app ≡ true → fault_of app words ≡ []) → IsAccepted words
+is_accepted app words is free =
+    rw is at (free (ap is_simple_and_free is ∙ is_free_line))
+
+rows_met : (app : App) (words : List Text) (m : ArgMatches) → app ≡ command_line → HasMatchesOf app words m
+    → subcommand_rows_of m ≡ subcommand_of command_line words
+rows_met app words m is matched = rw is at ((matched (ap is_simple is ∙ is_simple_line)).1)
+
+-- What the parse met are the matches of the words.
+pub matches_met : (app : App) (words : List Text) (m : ArgMatches) → app ≡ command_line
+    → (is_simple_and_free app ≡ true → fault_of app words ≡ []) → HasMatchesOf app words m → AreMatchesOf words m
+matches_met app words m is free matched = (is_accepted app words is free, rows_met app words m is matched)
+
+-- The command in the matches is that of the words, with its values.
+pub commands_met : (words : List Text) (m : ArgMatches) (name : Text) (rows : List Row) → AreMatchesOf words m
+    → subcommand_name_of m ≡ Some name → option_map (λ (p : Text × List Row). p.1) (subcommand_rows_of m) ≡ Some rows
+    → Commands words name rows
+commands_met words m name rows met same values =
+    (met.0, sym met.1 ∙ pair_known _ _ (out-ArgMatches m).subcommand name rows same values)
+
+-- A command that isn't in the matches isn't that of the words.
+pub not_commanded : (words : List Text) (m : ArgMatches) (name : Text) (rows : List Row) → AreMatchesOf words m
+    → (subcommand_name_of m ≡ Some name → ⊥) → Commands words name rows → ⊥
+not_commanded words m name rows met other asked =
+    other (first_only _ _ (out-ArgMatches m).subcommand name rows (met.1 ∙ asked.1))
+
+-- No matches are there where none were found.
+pub none_there : {X : Type 0} (o : Option X) → o ≡ None → IsSome o → ⊥
+none_there None is there = absurd (cc)
+none_there (Some x) is there = absurd (cc)
+
+-- Where matches were found, there are rows.
+pub rows_there : {M X : Type 0} (rows_in : M → X) (o : Option M) (met : Option X) → IsSome o → IfSome o (λ m. met ≡ Some (rows_in m))
+    → (rows : X) × (met ≡ Some rows)
+rows_there rows_in None met there h = absurd (cc)
+rows_there rows_in (Some m) met there h = (rows_in m, h)
+
+-- A choice that found something found it where its test passed.
+chosen : (b : Bool) (i number : ℕ) → cond b (Some i) None ≡ Some number
+    → (b ≡ true) × (i ≡ number)
+chosen true i number e = (refl, cc)
+chosen false i number e = absurd (cc)
+
+-- A number that is found among names is that of one of them.
+pub number_found : (names : List Text) (name : Text) (number : ℕ)
+    → number_among names name ≡ Some number → number < length names
+number_found names name number found =
+    let place : ℕ = position_or_len (λ other. bytes_eq other name) names in
+    let (before, is) = chosen (nat_lt place (length names)) place number found in
+    rw is at (ltb-true place (length names) before)
+
+-- The file about which the words ask is one of those that they name.
+pub named_by_words : (words : List Text) (command : Command) (names : List Text)
+    → AsksRun words command names → AsksNamed command names
+named_by_words words (File form number) names (rows, commands, file, all, found, same) =
+    number_found names (unwrap_or (first_of (codes "LABEL") rows) []) number found
+named_by_words words command names asked = tt
+
+-- The place of a name among names is that among their texts.
+pub number_named : (items given : List (Bor Text)) (name : Text) (found : Option ℕ)
+    → given ≡ items → found ≡ position (λ other. bytes_eq other.now name) given
+    → number_among (map (λ n. n.now) items) name ≡ found
+number_named items given name found same is =
+    sym (position-names (λ (n : Bor Text). n.now) (λ other. bytes_eq other name) items)
+    ∙ ap (position (λ (n : Bor Text). bytes_eq n.now name)) (sym same) ∙ sym is
+
+module _ (rows : List Row) (form : Form) (whole given : Bool) (name : Text)
+    (file : IsGiven (codes "file") rows whole) (all : IsGiven (codes "all") rows given)
+    (is_given : given ≡ true) (word : name ≡ unwrap_or (first_of (codes "LABEL") rows) []) where
+  -- The words ask for all proofs of a file by the request for them.
+  pub all_asked : (names : Vec (Bor Text)) (r : Result Request Stop)
+      → map (λ n. n.now) names.items ≡ unwrap_or (all_of (codes "FILES") rows) []
+      → IfOk r (λ request. (number : ℕ) × (request ≡ Run (File form number) names) × (whole ≡ false)
+      × (number_among (map (λ n. n.now) names.items) name ≡ Some number))
+      → IfOk r (λ request. (words : List Text) → Commands words (name_of_form form) rows
+      → Asks words request)
+  all_asked names (Ok request) files (number, is, alone, found) = λ words commands.
+      rw is (rows, commands, rw alone at file, rw is_given at all, rw word at found, sym files)
+  all_asked names (Err stop) files h = tt
+
+  -- Where there is no such request, the words are refused.
+  pub all_refused : (names : List Text) (r : Result Request Stop)
+      → names ≡ unwrap_or (all_of (codes "FILES") rows) [] → IfErr r (IsAllFault whole name names)
+      → IfErr r (λ stop. (words : List Text) → Commands words (name_of_form form) rows
+      → IsWordFault words stop)
+  all_refused names (Ok request) files h = tt
+  all_refused names (Err (Usage text)) files (inl both) = λ words commands.
+      inr (inr (form, rows, commands, rw is_given at all, inl (rw both at file)))
+  all_refused names (Err (Usage text)) files (inr none) = λ words commands.
+      inr (inr (form, rows, commands, rw is_given at all, inr (rw (word, files) at none)))
+  all_refused names (Err Memory) files h = λ words commands. tt
+  all_refused names (Err other) files h = absurd h
+
+-- They ask for the proof of a theorem in a form, or for its file, where `--all` isn't given.
+pub form_asked : (words : List Text) (form : Form) (rows : List Row) (whole given : Bool)
+    (label : Text) (names : List Text) → Commands words (name_of_form form) rows
+    → IsGiven (codes "file") rows whole → IsGiven (codes "all") rows given → given ≡ false
+    → label ≡ unwrap_or (first_of (codes "LABEL") rows) []
+    → names ≡ unwrap_or (all_of (codes "FILES") rows) []
+    → AsksForm (name_of_form form) words label whole names
+form_asked words form rows whole given label names commands file all not_given word files =
+    (rows, commands, sym word, file, rw not_given at all, sym files)
+
+-- ==== the code that words ask for, and the rule that has it
+
+abbrev pub texts_in : List (Bor (List ℕ)) → List (List ℕ)
+texts_in words = map (λ word. word.now) words
+
+-- ---- the code in a reply
+
+-- what `get` gives is what stands there
+pub looked_up : {X : Type 0} (xs : List X) (i : ℕ) (r : Option (Bor X)) → IsGetResult xs i i r
+    → option_copied r ≡ slice_get xs i
+looked_up xs i None h = sym (slice_get_past xs i h.3)
+looked_up xs i (Some x) h = sym (slice_get_read xs (length xs) i x.now refl h.3.0 h.1)
+
+-- the first word is `no` or `limit`, `load`, `ask` or `text`
+abbrev pub tells_last : List ℕ → Bool
+tells_last first = bytes_eq first (codes "no") || bytes_eq first (codes "limit")
+
+abbrev pub tells_second : List ℕ → Bool
+tells_second first =
+    bytes_eq first (codes "load") || bytes_eq first (codes "ask") || bytes_eq first (codes "text")
+
+pub last_told : (words : List (Bor (List ℕ))) (first : Bor (List ℕ))
+    → slice_get words 0 ≡ Some first → tells_last first.now ≡ true
+    → option_copied (slice_get words (length words - 2)) ≡ code_in_reply (texts_in words)
+last_told [] first at tells = absurd (cc)
+last_told (w ∷ ws) first at tells =
+    let same : w ≡ first = cc in
+    let here : tells_last w.now ≡ true = subst (λ x. tells_last x.now ≡ true) (sym same) tells in
+    let place : length (w ∷ ws) - 2 ≡ length (texts_in ws) - 1 =
+    omega (arith, length-map ws (λ (x : Bor (List ℕ)). x.now)) in
+    sym (slice_get-map (λ (x : Bor (List ℕ)). x.now) (w ∷ ws) (length (w ∷ ws) - 2))
+    ∙ ap (slice_get (texts_in (w ∷ ws))) place
+    ∙ sym (cond-true (tells_last w.now) _ _ here)
+
+pub none_told : (words : List (Bor (List ℕ))) (first : Bor (List ℕ))
+    → slice_get words 0 ≡ Some first → tells_last first.now ≡ false → tells_second first.now ≡ false
+    → code_in_reply (texts_in words) ≡ None
+none_told [] first at other more = absurd (cc)
+none_told (w ∷ ws) first at other more =
+    let same : w ≡ first = cc in
+    rw (same, other, more) refl
+
+-- ---- the code that a line asks for
+
+copied_or : (r : Option (Bor (List ℕ))) (line : Bor (List ℕ))
+    → (unwrap_or r line).now ≡ unwrap_or (option_copied r) line.now
+copied_or None line = refl
+copied_or (Some code) line = refl
+
+pub line_asks : (words : List (Bor (List ℕ))) (line : Bor (List ℕ)) (r : Option (Bor (List ℕ)))
+    → texts_in words ≡ slice_split (λ b. b == 32) line.now
+    → option_copied r ≡ code_in_reply (texts_in words)
+    → (unwrap_or r line).now ≡ asked_code line.now
+line_asks words line r cut named =
+    copied_or r line ∙ ap (λ o. unwrap_or o line.now) (named ∙ ap code_in_reply cut)
+
+-- ---- the rule
+
+-- words that are joined are on one line
+joined : (words : List (Bor (List ℕ)))
+    → join_by (λ (word : Bor (List ℕ)). word.now) (codes " ") words ≡ line_of (texts_in words)
+joined [] = refl
+joined (w ∷ ws) =
+    ap (λ l. w.now ++ l)
+    (sym (flat_map-map (λ y. codes " " ++ y) (λ (x : Bor (List ℕ)). x.now) ws))
+
+-- The capitals are of the code that the line of the words asks for.
+pub capitals_asked : (words : List (Bor (List ℕ))) (line code capitals : List ℕ)
+    → line ≡ join_by (λ (word : Bor (List ℕ)). word.now) (codes " ") words → code ≡ asked_code line
+    → capitals ≡ map to_ascii_uppercase code
+    → capitals ≡ map to_ascii_uppercase (asked_code (line_of (texts_in words)))
+capitals_asked words line code capitals is_line is_code are =
+    are ∙ ap (map to_ascii_uppercase) (is_code ∙ ap asked_code (is_line ∙ joined words))
+
+-- The text of the rule with these capitals is the explanation.
+pub explains : (texts : Texts) (words : List (Bor (List ℕ))) (capitals : List ℕ) (rule : RuleText)
+    → (length words == 0) ≡ false
+    → capitals ≡ map to_ascii_uppercase (asked_code (line_of (texts_in words)))
+    → Contains (rules_in texts.chapters.now) rule → rule.code.now ≡ capitals
+    → IsExplanation texts (texts_in words) rule.text.now
+explains texts [] capitals rule some are there same = absurd (cc)
+explains texts (w ∷ ws) capitals rule some are there same =
+    (rule, there, same ∙ are, refl)
+
+-- No rule has these capitals, and so none is asked for.
+pub explains_none : (texts : Texts) (words : List (Bor (List ℕ))) (capitals : List ℕ)
+    → (length words == 0) ≡ false
+    → capitals ≡ map to_ascii_uppercase (asked_code (line_of (texts_in words)))
+    → AllByRecursion (λ rule. rule.code.now ≢ capitals) (rules_in texts.chapters.now)
+    → IsUnknownCode texts (texts_in words)
+explains_none texts [] capitals some are none = absurd (cc)
+explains_none texts (w ∷ ws) capitals some are none =
+    all_weaker (λ (rule : RuleText). rule.code.now ≢ capitals)
+    (λ (rule : RuleText). ¬ IsAskedFor (texts_in (w ∷ ws)) rule)
+    (λ rule other same. other (same ∙ sym are))
+    (rules_in texts.chapters.now) none
