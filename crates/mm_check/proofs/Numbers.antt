@@ -268,7 +268,7 @@ label_named label ss n l less told =
     let there = get_within (filter (λ s. is_some (label s)) ss) n less in
     label_at label ss n there.0 l there.1 (told there.0 there.1)
 
--- what holds of each of some numbers holds of the one at a place
+-- what holds of each of some numbers holds of the one at an index
 pub all_at : {I : Type 0} (number : I → ℕ) (P : ℕ → Type 0) (is : List I) (k : ℕ) (d : I) → AllByRecursion P (map number is) → k < length is
     → P (number (get_or is k d))
 all_at number P [] k d all less = absurd (omega arith)

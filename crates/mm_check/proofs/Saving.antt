@@ -1,7 +1,7 @@
 -- From the tree of a theorem to a file with its proof written anew, and to a file with all of them.
 -- Begin with `ProofTexts` for the texts, `SavedFiles` for one proof in its file, `FileSpans` for all.
 -- On this room rest the contracts of `saved` and `saved_all`, and the laws that begin with `saving`,
--- `one_saved`, `one_all_saved` and `packed`.
+-- `one_saved`, `one_all_saved`, `packed_files_are_strict` and `packed_texts_tell`.
 pub mod ProofTexts
 pub mod SavedFiles
 pub mod SavedOnce

@@ -39,12 +39,12 @@ pub record Replacement : Type 0 where
 pub record IsReplacement (form : Form) (statements : List PlainStatement) (s : PlainStatement)
     (new : Replacement) : Type 0 where
   pub label : List ℕ
-  pub place : ℕ
+  pub index : ℕ
   pub root : List ℕ
   pub below : Trees
-  pub proof : HasProofTree statements label place s root below
+  pub proof : HasProofTree statements label index s root below
   pub text : List ℕ
-  pub laid : IsTextIn form (sentences (take place statements)) (sentence_of s)
+  pub laid : IsTextIn form (sentences (take index statements)) (sentence_of s)
       (tree root below none) text
   pub span : new.span ≡ s.span
   pub put : new.text ≡ 10 ∷ text
@@ -75,14 +75,14 @@ pub record IsFirstTooLong (statements : List PlainStatement) (number : ℕ)
   pub split : theorems_of number statements ≡ before ++ s ∷ after
   pub news : List Replacement
   pub fit : AllZip (IsReplacement Normal statements) before news
-  pub place : ℕ
+  pub index : ℕ
   pub root : List ℕ
   pub below : Trees
-  pub proof : HasProofTree statements label place s root below
+  pub proof : HasProofTree statements label index s root below
   pub long : most_labels < length (spelling (tree root below none))
 
 -- Why the file isn't written anew, where nothing is at fault: the files would have more bytes than
--- they may, or memory was wanting.
+-- they may, or memory ran out.
 abbrev pub IsAllSaveFault : Form → List PlainFile → List PlainStatement → (number : ℕ) → AskFault
     → Type 0
 IsAllSaveFault form files statements number F3 =

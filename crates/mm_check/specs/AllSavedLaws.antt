@@ -38,9 +38,9 @@ AllSavedProofsAreStrict =
     → AreAccepted profile files statements
     → IsAllSaved form files statements number bytes → FitsSaved files number bytes
     → Reads (with_bytes files number bytes) same None
-    → (label : List ℕ) (place : ℕ) (s : PlainStatement) → IsTheorem same label place s
+    → (label : List ℕ) (index : ℕ) (s : PlainStatement) → IsTheorem same label index s
     → s.first.file ≡ number
-    → HasFormOf Strict (sentences (take place same)) (sentence_of s) (proof_of s)
+    → HasFormOf Strict (sentences (take index same)) (sentence_of s) (proof_of s)
 
 -- what is saved is one
 abbrev pub OneAllSaved : Type 0
@@ -66,7 +66,7 @@ pub record HasOneAnswer (files : List PlainFile) (statements : List PlainStateme
   -- The label is one.
   pub one_label : (label other : List ℕ) → IsFirstTooLong statements number label
       → IsFirstTooLong statements number other → label ≡ other
-  -- Where its bytes are due, there is no other fault than want of memory, or that the files would
+  -- Where its bytes are due, there is no other fault than lack of memory, or that the files would
   -- have too many bytes, and that only if they would.
   pub one_fault : (form : Form) (bytes : List ℕ) (fault : AskFault)
       → IsAllSaved form files statements number bytes

@@ -41,13 +41,13 @@ verdict_where_incomplete c (number ∷ numbers) = Incomplete (labels_at c.labels
 abbrev pub verdict_of_conclusion : Conclusion → Verdict
 verdict_of_conclusion c = verdict_where_incomplete c c.incomplete
 
--- the verdict of a fault; none for want of memory
+-- the verdict of a fault; none for lack of memory
 abbrev pub verdict_of_fault : CheckFault → Option Verdict
 verdict_of_fault (fault.Load rule) = Some (Load rule)
 verdict_of_fault (fault.Refused r) = Some (Refused (plain_refusal r))
 verdict_of_fault fault.Memory = None
 
--- the verdict that an answer tells; none for want of memory
+-- the verdict that an answer tells; none for lack of memory
 abbrev pub verdict_of_answer : Result Conclusion CheckFault → Option Verdict
 verdict_of_answer (Ok c) = Some (verdict_of_conclusion c)
 verdict_of_answer (Err e) = verdict_of_fault e
@@ -62,16 +62,16 @@ IsOverLimit answer =
     (refusal : PlainRefusal) × (verdict_of_answer answer ≡ Some (Refused refusal))
     × (refusal.rule ≡ rules.Proof L1)
 
--- memory was wanting
+-- memory ran out
 abbrev pub IsWantOfMemory : Result Conclusion CheckFault → Type 0
 IsWantOfMemory answer = verdict_of_answer answer ≡ None
 
--- The answer is the verdict over the files, unless memory was wanting.
+-- The answer is the verdict over the files, unless memory ran out.
 abbrev pub IsVerdict : Profile → List PlainFile → Result Conclusion CheckFault → Type 0
 IsVerdict profile files answer =
     (verdict : Verdict) → verdict_of_answer answer ≡ Some verdict → HasVerdict profile files verdict
 
--- A verdict that holds of the files is the one answered, unless memory was wanting.
+-- A verdict that holds of the files is the one answered, unless memory ran out.
 abbrev pub IsOnlyVerdict : Profile → List PlainFile → Result Conclusion CheckFault → Type 0
 IsOnlyVerdict profile files answer =
     (verdict : Verdict) → HasVerdict profile files verdict

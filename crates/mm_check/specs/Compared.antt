@@ -69,10 +69,10 @@ abbrev pub text_fault : ProofFault → AskFault
 text_fault (proof_faults.Rule rule step) = Text (rules.Proof rule) step
 text_fault proof_faults.Memory = Memory
 
--- a theorem with the label, whose proof is complete, stands at this place
-pub record IsTheorem (statements : List PlainStatement) (label : List ℕ) (place : ℕ)
+-- a theorem with the label, whose proof is complete, stands at this index
+pub record IsTheorem (statements : List PlainStatement) (label : List ℕ) (index : ℕ)
     (s : PlainStatement) : Type 0 where
-  pub there : slice_get statements place ≡ Some s
+  pub there : slice_get statements index ≡ Some s
   pub named : IsLabelled label (sentence_of s)
   pub complete : is_proof s ≡ true
 
@@ -80,20 +80,20 @@ pub record IsTheorem (statements : List PlainStatement) (label : List ℕ) (plac
 -- makes the same tree as the theorem's own proof.
 pub record IsCompared (profile : Profile) (statements : List PlainStatement) (label text : List ℕ)
     (same : Bool) : Type 0 where
-  pub place : ℕ
+  pub index : ℕ
   pub s : PlainStatement
-  pub theorem : IsTheorem statements label place s
+  pub theorem : IsTheorem statements label index s
   pub moves : List (Move (List ℕ))
-  pub told : SayMoves (sentences (take place statements)) (sentence_of s) (proof_of s) moves
+  pub told : SayMoves (sentences (take index statements)) (sentence_of s) (proof_of s) moves
   pub legal : IsProofText text
-  pub proved : IsProvedUnder profile (sentences (take place statements)) (sentence_of s)
+  pub proved : IsProvedUnder profile (sentences (take index statements)) (sentence_of s)
       (tokens_in text)
-  pub answer : IsTrue same ↔ MakeSameTree (sentences (take place statements)) moves proved.1.moves
+  pub answer : IsTrue same ↔ MakeSameTree (sentences (take index statements)) moves proved.1.moves
 
 -- Why the text is not compared with the theorem's proof: a fault of the question, or else of the
 -- text as a proof of the theorem under the profile.
 abbrev pub IsSameFault : Profile → List PlainStatement → (label text : List ℕ) → AskFault → Type 0
 IsSameFault profile statements label text (Text rule step) =
-    (place : ℕ) × (s : PlainStatement) × IsTheorem statements label place s
-    × IsTextFault profile (sentences (take place statements)) (sentence_of s) text rule step
+    (index : ℕ) × (s : PlainStatement) × IsTheorem statements label index s
+    × IsTextFault profile (sentences (take index statements)) (sentence_of s) text rule step
 IsSameFault profile statements label text fault = IsAskFault statements label fault

@@ -14,7 +14,7 @@ pub record ProofUses : Type 0 where
 -- The profile that it obeys; the files that hold it; how many statements it has, and how many of its `$p` are proved; the
 -- numbers of the incomplete `$p`, and the labels of all labelled statements, both in database
 -- order; what its statements say, and what its complete proofs use. The number of a label is its
--- place among the labels.
+-- index among the labels.
 pub record Conclusion : Type 0 where
   pub profile : Profile
   pub files : List PlainFile

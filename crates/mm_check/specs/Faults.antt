@@ -63,7 +63,7 @@ pub record HaveFaults (profile : Profile) (files : List PlainFile)
   pub refused : AreRefused profile files [] statements ending refusals
 
 -- what is answered where the files aren't accepted: why they can't be taken; or all faults, of which
--- there is one; or that memory was wanting
+-- there is one; or that memory ran out
 abbrev pub AreAllFaults : Profile → List PlainFile → AllFaults → Type 0
 AreAllFaults profile files (all.Load rule) = HasVerdict profile files (Load rule)
 AreAllFaults profile files (all.Refused refusals) =

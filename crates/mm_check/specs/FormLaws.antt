@@ -10,17 +10,17 @@ use Rattle.mm_proof.specs.declared.profile.Profile.{Profile}
 use Rattle.mm_check.specs.Verdict.{AreAccepted, sentences}
 use Rattle.mm_check.specs.Forms.{IsPackedText}
 
--- In files in which nothing is at fault, two lists of moves after the statements before a place, as
--- proofs of one statement, make the same tree exactly if the texts of the packed proofs of their
+-- In files in which nothing is at fault, two lists of moves after the statements before an index,
+-- as proofs of one statement, make the same tree exactly if the texts of the packed proofs of their
 -- trees are equal.
 abbrev pub PackedTextsTell : Type 0
 PackedTextsTell =
-    (profile : Profile) (files : List PlainFile) (statements : List PlainStatement) (place : ℕ)
+    (profile : Profile) (files : List PlainFile) (statements : List PlainStatement) (index : ℕ)
     (s : Sentence)
     (moves others : List (Move (List ℕ))) (l m : List ℕ) (a b : Trees) (text other : List ℕ)
     → AreAccepted profile files statements
-    → MakeTree (sentences (take place statements)) moves l a
-    → MakeTree (sentences (take place statements)) others m b
-    → IsPackedText (sentences (take place statements)) s (tree l a none) text
-    → IsPackedText (sentences (take place statements)) s (tree m b none) other
-    → MakeSameTree (sentences (take place statements)) moves others ↔ (text ≡ other)
+    → MakeTree (sentences (take index statements)) moves l a
+    → MakeTree (sentences (take index statements)) others m b
+    → IsPackedText (sentences (take index statements)) s (tree l a none) text
+    → IsPackedText (sentences (take index statements)) s (tree m b none) other
+    → MakeSameTree (sentences (take index statements)) moves others ↔ (text ≡ other)

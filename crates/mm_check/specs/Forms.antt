@@ -22,16 +22,16 @@ use Rattle.mm_check.specs.Rests.{IsAskFault}
 abbrev pub most_labels : ℕ
 most_labels = 16777216
 
--- The theorem with the label stands at this place, its proof is complete, and the moves that its
+-- The theorem with the label stands at this index, its proof is complete, and the moves that its
 -- tokens say make this one tree.
-pub record HasProofTree (statements : List PlainStatement) (label : List ℕ) (place : ℕ)
+pub record HasProofTree (statements : List PlainStatement) (label : List ℕ) (index : ℕ)
     (s : PlainStatement) (root : List ℕ) (below : Trees) : Type 0 where
-  pub there : slice_get statements place ≡ Some s
+  pub there : slice_get statements index ≡ Some s
   pub named : IsLabelled label (sentence_of s)
   pub complete : is_proof s ≡ true
   pub moves : List (Move (List ℕ))
-  pub told : SayMoves (sentences (take place statements)) (sentence_of s) (proof_of s) moves
-  pub made : MakeTree (sentences (take place statements)) moves root below
+  pub told : SayMoves (sentences (take index statements)) (sentence_of s) (proof_of s) moves
+  pub made : MakeTree (sentences (take index statements)) moves root below
 
 -- the text is the labels that the trees spell, in lines; they are no more than may be written
 abbrev pub IsNormalText : Trees → (text : List ℕ) → Type 0
@@ -52,22 +52,22 @@ pub record IsPackedText (before : List Sentence) (s : Sentence) (trees : Trees)
 -- the text is the normal proof of the theorem with the label
 abbrev pub IsNormalOf : List PlainStatement → (label : List ℕ) → (text : List ℕ) → Type 0
 IsNormalOf statements label text =
-    (place : ℕ) × (s : PlainStatement) × (root : List ℕ) × (below : Trees)
-    × HasProofTree statements label place s root below
+    (index : ℕ) × (s : PlainStatement) × (root : List ℕ) × (below : Trees)
+    × HasProofTree statements label index s root below
     × IsNormalText (tree root below none) text
 
 -- the text is the packed proof of the theorem with the label
 abbrev pub IsPackedOf : List PlainStatement → (label : List ℕ) → (text : List ℕ) → Type 0
 IsPackedOf statements label text =
-    (place : ℕ) × (s : PlainStatement) × (root : List ℕ) × (below : Trees)
-    × HasProofTree statements label place s root below
-    × IsPackedText (sentences (take place statements)) (sentence_of s) (tree root below none) text
+    (index : ℕ) × (s : PlainStatement) × (root : List ℕ) × (below : Trees)
+    × HasProofTree statements label index s root below
+    × IsPackedText (sentences (take index statements)) (sentence_of s) (tree root below none) text
 
 -- Why the theorem with the label has no normal proof that is written: besides the faults of each
 -- question, that its tree spells more labels than may be written.
 abbrev pub IsNormalFault : List PlainStatement → (label : List ℕ) → AskFault → Type 0
 IsNormalFault statements label (Rule L2) =
-    (place : ℕ) × (s : PlainStatement) × (root : List ℕ) × (below : Trees)
-    × HasProofTree statements label place s root below
+    (index : ℕ) × (s : PlainStatement) × (root : List ℕ) × (below : Trees)
+    × HasProofTree statements label index s root below
     × (most_labels < length (spelling (tree root below none)))
 IsNormalFault statements label fault = IsAskFault statements label fault

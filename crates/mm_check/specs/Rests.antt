@@ -18,16 +18,16 @@ use Rattle.mm_check.specs.Verdict.{proof_of, is_proof, is_unproved, sentences}
 
 -- ---- numbers of statements
 
--- the labelled statement with a number, and its place
-pub record IsAt (statements : List PlainStatement) (id place : ℕ)
+-- the labelled statement with a number, and its index
+pub record IsAt (statements : List PlainStatement) (id index : ℕ)
     (s : PlainStatement) : Type 0 where
-  pub there : slice_get statements place ≡ Some s
-  pub numbered : IsNumbered (sentences statements) id place (sentence_of s)
+  pub there : slice_get statements index ≡ Some s
+  pub numbered : IsNumbered (sentences statements) id index (sentence_of s)
 
 -- the statement with the number is so
 abbrev pub IsNumberWhere : List PlainStatement → (PlainStatement → Type 0) → ℕ → Type 0
 IsNumberWhere statements P id =
-    (place : ℕ) × (s : PlainStatement) × IsAt statements id place s × P s
+    (index : ℕ) × (s : PlainStatement) × IsAt statements id index s × P s
 
 -- each number is less than those after it: the order is that of the database, and none stands twice
 abbrev pub AreRising : List ℕ → Type 0
@@ -47,26 +47,26 @@ abbrev pub tree_of : {Fits : List (List ℕ) → Type 0} {before : List Sentence
 tree_of proof = tree proof.proves.label proof.proves.below none
 
 -- the number is that of a `$p` with a complete proof, which spells this tree
-pub record HasTree (statements : List PlainStatement) (id place : ℕ) (t : Trees) : Type 0 where
+pub record HasTree (statements : List PlainStatement) (id index : ℕ) (t : Trees) : Type 0 where
   pub s : PlainStatement
-  pub at : IsAt statements id place s
+  pub at : IsAt statements id index s
   pub complete : is_proof s ≡ true
-  pub proof : IsProved (sentences (take place statements)) (sentence_of s) (proof_of s)
+  pub proof : IsProved (sentences (take index statements)) (sentence_of s) (proof_of s)
   pub spelled : t ≡ tree_of proof
 
 -- the second number is that of an assertion in the tree of the proof of the first
 abbrev pub Uses : List PlainStatement → ℕ → ℕ → Type 0
 Uses statements id used =
-    (place : ℕ) × (t : Trees) × HasTree statements id place t
-    × IsUsedNumber (sentences (take place statements)) t used
+    (index : ℕ) × (t : Trees) × HasTree statements id index t
+    × IsUsedNumber (sentences (take index statements)) t used
 
 -- these are the uses of all complete proofs: of each its number, and those of the assertions in its
 -- tree
 pub record AreUses (statements : List PlainStatement) (uses : List ProofUses) : Type 0 where
   pub proofs : AreInOrder (IsNumberWhere statements (λ s. is_proof s ≡ true)) (numbers_of uses)
   pub each : (u : ProofUses) → Contains uses u
-      → (place : ℕ) × (t : Trees) × HasTree statements u.number place t
-      × AreUsed (sentences (take place statements)) t u.used
+      → (index : ℕ) × (t : Trees) × HasTree statements u.number index t
+      × AreUsed (sentences (take index statements)) t u.used
 
 -- ---- the least set
 

@@ -28,13 +28,13 @@ IsTextIn Packed before s trees text = IsPackedText before s trees text
 -- a line feed and its proof in this form in place of what stands between its `$=` and its `$.`.
 pub record IsSaved (form : Form) (files : List PlainFile) (statements : List PlainStatement)
     (label : List ℕ) (number : ℕ) (bytes : List ℕ) : Type 0 where
-  pub place : ℕ
+  pub index : ℕ
   pub s : PlainStatement
   pub root : List ℕ
   pub below : Trees
-  pub proof : HasProofTree statements label place s root below
+  pub proof : HasProofTree statements label index s root below
   pub text : List ℕ
-  pub laid : IsTextIn form (sentences (take place statements)) (sentence_of s) (tree root below none)
+  pub laid : IsTextIn form (sentences (take index statements)) (sentence_of s) (tree root below none)
       text
   pub home : number ≡ s.first.file
   pub file : PlainFile
@@ -64,7 +64,7 @@ IsSaveFault form files statements label F3 =
 IsSaveFault form files statements label fault = IsFormFault form statements label fault
 
 -- Why saving gives nothing: the verdict over the files isn't that they are accepted, or they are, and
--- no file is written anew; or, in either part, memory was wanting.
+-- no file is written anew; or, in either part, memory ran out.
 abbrev pub IsSavingFault : Form → List PlainFile → (label : List ℕ) → SaveFault → Type 0
 IsSavingFault form files label (Check fault) =
     (verdict : Verdict) → verdict_of_fault fault ≡ Some verdict → HasVerdict Lenient files verdict

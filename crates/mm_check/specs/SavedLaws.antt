@@ -24,7 +24,7 @@ pub record SayTheSame (profile : Profile) (files others : List PlainFile)
   pub accepted : AreAccepted profile others same
   pub told : sentences statements ≡ sentences same
   pub verdict : (v : Verdict) → HasVerdict profile files v ↔ HasVerdict profile others v
-  pub trees : (id place : ℕ) (t : Trees) → HasTree statements id place t ↔ HasTree same id place t
+  pub trees : (id index : ℕ) (t : Trees) → HasTree statements id index t ↔ HasTree same id index t
   pub rests : (label : List ℕ) (axioms unproved : List ℕ)
       → IsReport statements label axioms unproved ↔ IsReport same label axioms unproved
 
@@ -46,8 +46,8 @@ SavedProofIsStrict =
     → AreAccepted profile files statements
     → IsSaved form files statements label number bytes → FitsSaved files number bytes
     → Reads (with_bytes files number bytes) same None
-    → (place : ℕ) × (s : PlainStatement) × IsTheorem same label place s
-    × HasFormOf Strict (sentences (take place same)) (sentence_of s) (proof_of s)
+    → (index : ℕ) × (s : PlainStatement) × IsTheorem same label index s
+    × HasFormOf Strict (sentences (take index same)) (sentence_of s) (proof_of s)
 
 -- what is saved is one
 abbrev pub OneSaved : Type 0
@@ -59,8 +59,8 @@ OneSaved =
     → IsSaved form files statements label other others
     → (number ≡ other) × (bytes ≡ others)
 
--- Where a theorem can be saved, there is no other fault than want of memory, or that the files would
--- have too many bytes, and that only if they would.
+-- Where a theorem can be saved, there is no other fault than lack of memory, or that the files
+-- would have too many bytes, and that only if they would.
 abbrev pub OneSaveAnswer : Type 0
 OneSaveAnswer =
     (profile : Profile) (form : Form) (files : List PlainFile) (statements : List PlainStatement)

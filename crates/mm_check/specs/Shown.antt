@@ -47,14 +47,14 @@ pub record IsListingText (before : List Sentence) (s : Sentence) (tokens : List 
 -- a statement with this label
 abbrev pub Stands : List PlainStatement → List ℕ → PlainStatement → Type 0
 Stands statements label s =
-    (place : ℕ) × (slice_get statements place ≡ Some s) × IsLabelled label (sentence_of s)
+    (index : ℕ) × (slice_get statements index ≡ Some s) × IsLabelled label (sentence_of s)
 
 -- the text is that of the listing of the proof of the theorem with the label, which is complete
 pub record ShowsProof (statements : List PlainStatement) (label : List ℕ)
     (text : List ℕ) : Type 0 where
-  pub place : ℕ
+  pub index : ℕ
   pub s : PlainStatement
-  pub there : slice_get statements place ≡ Some s
+  pub there : slice_get statements index ≡ Some s
   pub named : IsLabelled label (sentence_of s)
   pub complete : is_proof s ≡ true
-  pub shown : IsListingText (sentences (take place statements)) (sentence_of s) (proof_of s) text
+  pub shown : IsListingText (sentences (take index statements)) (sentence_of s) (proof_of s) text

@@ -19,8 +19,8 @@ use Rattle.mm_proof.specs.declared.profile.Profile.{Profile}
 use Rattle.mm_proof.specs.Tokens.{is_incomplete}
 use Rattle.mm_proof.specs.Proof.{IsProved}
 use Rattle.mm_proof.specs.Strict.{HasFormOf}
-use Rattle.mm_proof.specs.UnderProfile.{IsProvedUnder, IsFaultUnder, IsFrontAllowedUnder}
-use Rattle.mm_proof.specs.UnderProfile.{IsFrontFaultUnder}
+use Rattle.mm_proof.specs.UnderProfile.{IsProvedUnder, IsFaultUnder, IsPrefixAllowedUnder}
+use Rattle.mm_proof.specs.UnderProfile.{IsPrefixFaultUnder}
 use Rattle.mm_check.specs.declared.rule.Rule.{Rule}
 use Rattle.mm_check.specs.declared.rule.Rule.TheVariants as rules
 
@@ -83,7 +83,7 @@ pub record Obeys (profile : Profile) (before : List Sentence) (s : PlainStatemen
   pub meant : IsMeant before (sentence_of s)
   pub proved : is_proof s ≡ true → IsProvedUnder profile before (sentence_of s) (proof_of s)
   pub known : is_unproved s ≡ true
-      → IsFrontAllowedUnder profile before (sentence_of s) (proof_of s)
+      → IsPrefixAllowedUnder profile before (sentence_of s) (proof_of s)
 
 -- each of the statements does
 abbrev pub AllObey : Profile → List PlainStatement → Type 0
@@ -96,7 +96,7 @@ abbrev pub IsProofFault : Profile → List Sentence → PlainStatement → Proof
 IsProofFault profile before s rule step =
     ((is_proof s ≡ true) × IsFaultUnder profile before (sentence_of s) (proof_of s) rule step)
     ⊎ ((is_unproved s ≡ true)
-    × IsFrontFaultUnder profile before (sentence_of s) (proof_of s) rule step)
+    × IsPrefixFaultUnder profile before (sentence_of s) (proof_of s) rule step)
 
 -- The fault of a statement: the first rule of meaning that it breaks, else the first fault of its
 -- proof.

@@ -213,7 +213,7 @@ impl<'a> Checked<'a> {
             AreSteps self.now.sentences theorem.id.0 theorem.steps.moves) }
         ensures proved { IfOk result (λ theorem.
             AreProvedSteps self.now.sentences theorem.id.0 theorem.steps) }
-        ensures whole { IfOk result (λ theorem. theorem.steps.front ≡ false) }
+        ensures whole { IfOk result (λ theorem. theorem.steps.prefix ≡ false) }
         ensures read { IfOk result (λ theorem. (statements : List PlainStatement)
             → Reads self.now.files statements None
             → (self.now.sentences ≡ sentences statements)

@@ -25,7 +25,7 @@ use std::alloc::Global;
 /// Whether the steps of a whole proof prove the `$p`, or their first fault.
 fn judge_steps(alloc: Global, book: &Book, id: LabelId, steps: &Steps) -> Result<(), AskFault>
     requires steps { AreSteps book.now.statements id.0 steps.now.moves }
-    requires whole { steps.now.front ≡ false }
+    requires whole { steps.now.prefix ≡ false }
     ensures proved { OnOk result (AreProvedSteps book.now.statements id.0 steps.now) }
     ensures fault { IfErr result (FailsAs book.now.statements id.0 steps.now) }
 {
@@ -42,18 +42,18 @@ fn proved_steps(
     id: LabelId,
     tokens: &[&[u8]],
 ) -> Result<Steps, AskFault>
-    requires proof { (place : ℕ) × (s : Sentence)
-        × IsProofNumber book.now.statements id.0 place s }
+    requires proof { (index : ℕ) × (s : Sentence)
+        × IsProofNumber book.now.statements id.0 index s }
     requires room { sum_by length (texts tokens.now) ≤ most_bytes }
     requires complete { is_incomplete (texts tokens.now) ≡ false }
     ensures said { IfOk result (λ steps.
         SayWholeSteps book.now.statements id.0 (texts tokens.now) steps.moves) }
-    ensures form { OnOk result (OfProof book.now.statements id.0 (λ place s.
-        HasFormOf profile (take place book.now.statements) s (texts tokens.now))) }
+    ensures form { OnOk result (OfProof book.now.statements id.0 (λ index s.
+        HasFormOf profile (take index book.now.statements) s (texts tokens.now))) }
     ensures usable { IfOk result (λ steps. AreSteps book.now.statements id.0 steps.moves) }
     ensures proved { IfOk result (λ steps. AreProvedSteps book.now.statements id.0 steps) }
     ensures profile { IfOk result (λ steps. steps.profile ≡ profile) }
-    ensures whole { IfOk result (λ steps. steps.front ≡ false) }
+    ensures whole { IfOk result (λ steps. steps.prefix ≡ false) }
     ensures fault { IfErr result (IsUnproved profile book.now.statements id.0 (texts tokens.now)) }
 {
     match Steps::parse(alloc, profile, book, id, tokens)? {
@@ -74,16 +74,16 @@ fn handed_steps(
     id: LabelId,
     text: &[u8],
 ) -> Result<Steps, AskFault>
-    requires { (place : ℕ) × (s : Sentence) × IsProofNumber book.now.statements id.0 place s }
+    requires { (index : ℕ) × (s : Sentence) × IsProofNumber book.now.statements id.0 index s }
     ensures legal { IfOk result (λ steps. IsProofText text.now) }
     ensures said { IfOk result (λ steps.
         SayWholeSteps book.now.statements id.0 (tokens_in text.now) steps.moves) }
-    ensures form { OnOk result (OfProof book.now.statements id.0 (λ place s.
-        HasFormOf profile (take place book.now.statements) s (tokens_in text.now))) }
+    ensures form { OnOk result (OfProof book.now.statements id.0 (λ index s.
+        HasFormOf profile (take index book.now.statements) s (tokens_in text.now))) }
     ensures usable { IfOk result (λ steps. AreSteps book.now.statements id.0 steps.moves) }
     ensures proved { IfOk result (λ steps. AreProvedSteps book.now.statements id.0 steps) }
     ensures profile { IfOk result (λ steps. steps.profile ≡ profile) }
-    ensures whole { IfOk result (λ steps. steps.front ≡ false) }
+    ensures whole { IfOk result (λ steps. steps.prefix ≡ false) }
     ensures fault { IfErr result (IsTextRefused profile book.now.statements id.0 text.now) }
 {
     let tokens = proof_tokens(alloc, text)?;
@@ -101,7 +101,7 @@ pub(crate) fn is_same(
 ) -> Result<bool, AskFault>
     requires steps { AreSteps book.now.statements theorem.now.id.0 theorem.now.steps.moves }
     requires proved { AreProvedSteps book.now.statements theorem.now.id.0 theorem.now.steps }
-    requires whole { theorem.now.steps.front ≡ false }
+    requires whole { theorem.now.steps.prefix ≡ false }
     ensures compared { IfOk result (IsComparedWith profile book.now.statements theorem.now.id.0
         theorem.now.steps.moves text.now) }
     ensures fault { IfErr result (IsTextRefused profile book.now.statements theorem.now.id.0

@@ -15,7 +15,7 @@ use thiserror::Error;
 pub struct Refusal<'a> {
     /// The number of the handed file, from 0.
     pub file: usize,
-    /// The line of the fault's place in its file, from 1.
+    /// The line of the fault's position in its file, from 1.
     pub line: usize,
     /// The number of the statement in reading order, from 1.
     pub statement: usize,

@@ -45,15 +45,15 @@ fn names_of<'a>(
 fn labels_of(alloc: Global, book: &Book, theorem: &Theorem) -> Result<Vec<LabelId>, AskFault>
     requires steps { AreSteps book.now.statements theorem.now.id.0 theorem.now.steps.moves }
     requires proved { AreProvedSteps book.now.statements theorem.now.id.0 theorem.now.steps }
-    requires whole { theorem.now.steps.front ≡ false }
+    requires whole { theorem.now.steps.prefix ≡ false }
     ensures spelled { IfOk result (λ labels.
         OfMoves book.now.statements theorem.now.id.0 theorem.now.steps.moves
-        (λ place s moves. OfSpelling (take place book.now.statements) moves (λ spelled.
+        (λ index s moves. OfSpelling (take index book.now.statements) moves (λ spelled.
         AreLabelsOf book.now.statements labels.items spelled
         × (length spelled ≤ most_labels)))) }
     ensures fault { IfErr result (λ fault. (fault ≡ Memory) ⊎ ((fault ≡ Rule L2)
         × OfMoves book.now.statements theorem.now.id.0 theorem.now.steps.moves
-        (λ place s moves. OfSpelling (take place book.now.statements) moves (λ spelled.
+        (λ index s moves. OfSpelling (take index book.now.statements) moves (λ spelled.
         most_labels < length spelled)))) }
 {
     match expand(alloc, book, theorem.id, &theorem.steps, MOST_LABELS) {
@@ -71,14 +71,14 @@ pub(crate) fn normal_text(
 ) -> Result<Vec<u8>, AskFault>
     requires steps { AreSteps book.now.statements theorem.now.id.0 theorem.now.steps.moves }
     requires proved { AreProvedSteps book.now.statements theorem.now.id.0 theorem.now.steps }
-    requires whole { theorem.now.steps.front ≡ false }
+    requires whole { theorem.now.steps.prefix ≡ false }
     ensures text { IfOk result (λ text.
         OfMoves book.now.statements theorem.now.id.0 theorem.now.steps.moves
-        (λ place s moves. OfTree (take place book.now.statements) moves
+        (λ index s moves. OfTree (take index book.now.statements) moves
         (λ trees. IsNormalText trees text.items))) }
     ensures fault { IfErr result (λ fault. (fault ≡ Memory) ⊎ ((fault ≡ Rule L2)
         × OfMoves book.now.statements theorem.now.id.0 theorem.now.steps.moves
-        (λ place s moves. OfTree (take place book.now.statements) moves
+        (λ index s moves. OfTree (take index book.now.statements) moves
         (λ trees. most_labels < length (spelling trees))))) }
 {
     let labels = labels_of(alloc, book, theorem)?;
@@ -94,11 +94,11 @@ pub(crate) fn packed_text(
 ) -> Result<Vec<u8>, AskFault>
     requires steps { AreSteps book.now.statements theorem.now.id.0 theorem.now.steps.moves }
     requires proved { AreProvedSteps book.now.statements theorem.now.id.0 theorem.now.steps }
-    requires whole { theorem.now.steps.front ≡ false }
+    requires whole { theorem.now.steps.prefix ≡ false }
     ensures text { IfOk result (λ text.
         OfMoves book.now.statements theorem.now.id.0 theorem.now.steps.moves
-        (λ place s moves. OfTree (take place book.now.statements) moves
-        (λ trees. IsPackedText (take place book.now.statements) s trees text.items))) }
+        (λ index s moves. OfTree (take index book.now.statements) moves
+        (λ trees. IsPackedText (take index book.now.statements) s trees text.items))) }
     ensures memory { IfErr result (λ fault. fault ≡ Memory) }
 {
     let packed = compress(alloc, book, theorem.id, &theorem.steps)?;
@@ -116,7 +116,7 @@ pub(crate) fn proof_text(
 ) -> Result<Vec<u8>, AskFault>
     requires steps { AreSteps book.now.statements theorem.now.id.0 theorem.now.steps.moves }
     requires proved { AreProvedSteps book.now.statements theorem.now.id.0 theorem.now.steps }
-    requires whole { theorem.now.steps.front ≡ false }
+    requires whole { theorem.now.steps.prefix ≡ false }
     ensures text { IfOk result (λ text. IsTextOf form book.now.statements theorem.now.id.0
         theorem.now.steps.moves text.items) }
     ensures fault { IfErr result (IsTextFault form book.now.statements theorem.now.id.0

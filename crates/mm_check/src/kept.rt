@@ -82,7 +82,7 @@ impl Kept {
         self.proofs.len()
     }
 
-    /// The number of the `$p` whose proof is at a place.
+    /// The number of the `$p` whose proof is at an index.
     pub(crate) fn proof(&self, at: usize) -> LabelId
         requires { at < length self.now }
         ensures { (u : ProofUses) → slice_get self.now at ≡ Some u → result.0 ≡ u.number }
@@ -90,7 +90,7 @@ impl Kept {
         self.proofs[at].id
     }
 
-    /// The numbers of the assertions that the proof at a place uses, in any order, each once or
+    /// The numbers of the assertions that the proof at an index uses, in any order, each once or
     /// more.
     pub(crate) fn used(&self, at: usize) -> &[LabelId]
         requires { at < length self.now }

@@ -83,7 +83,7 @@ pub fn one_saved()
     ensures { OneSaved }
 {}
 
-/// Where the new bytes of a theorem's file are defined, no fault is told of it but want of memory,
+/// Where the new bytes of a theorem's file are defined, no fault is told of it but lack of memory,
 /// and F3 only if the files would have too many bytes.
 pub fn one_save_answer()
     ensures { OneSaveAnswer }
@@ -114,7 +114,7 @@ pub fn one_all_saved()
 
 /// Where all proofs of a file that was handed in are to be saved in a form, one answer is due: the
 /// bytes; or, in normal form, the label of the first theorem whose normal proof is too long; and
-/// never both. Where bytes are due, no fault is told but want of memory, and F3 only if the files
+/// never both. Where bytes are due, no fault is told but lack of memory, and F3 only if the files
 /// would have too many bytes.
 pub fn one_save_all_answer()
     ensures { OneSaveAllAnswer }

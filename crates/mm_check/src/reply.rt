@@ -196,7 +196,7 @@ pub(crate) fn first_status(refusals: &[Refusal]) -> Status
     refusal_status(refusals[0].rule)
 }
 
-/// The text of the reply that tells an answer. For want of memory there is none.
+/// The text of the reply that tells an answer. For lack of memory there is none.
 pub(crate) fn text_of(
     alloc: Global,
     files: &[File],

@@ -53,7 +53,7 @@ fn mark(marks: &mut [bool], numbers: &[LabelId])
 /// Marks, among the numbers before a theorem, those of the assertions that it rests on.
 ///
 /// Each proof uses earlier assertions alone. So once all proofs from the last one down to some
-/// place were passed, it is settled for each number from there on whether it is marked.
+/// index were passed, it is settled for each number from there on whether it is marked.
 pub(crate) fn reach(alloc: Global, kept: &Kept, theorem: LabelId) -> Result<Vec<bool>, AllocError>
     requires { AreBackward kept.now }
     ensures length { IfOk result (λ marks. length marks.items ≡ theorem.0) }

@@ -32,7 +32,7 @@ use mm_proof::Profile;
 use mm_text::{File, Seed, Statement};
 use std::alloc::{AllocError, Global};
 
-/// A file that is written anew on the way through its database, up to a place in its bytes.
+/// A file that is written anew on the way through its database, up to a position in its bytes.
 #[derive(Drop)]
 struct NewFile<'a> {
     /// Its number among the handed files.

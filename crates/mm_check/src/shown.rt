@@ -82,10 +82,10 @@ fn text_of(alloc: Global, book: &Book, lines: &[Line]) -> Result<Vec<u8>, AllocE
 fn lines_of(alloc: Global, book: &Book, theorem: &Theorem) -> Result<Vec<Line>, AskFault>
     requires steps { AreSteps book.now.statements theorem.now.id.0 theorem.now.steps.moves }
     requires proved { AreProvedSteps book.now.statements theorem.now.id.0 theorem.now.steps }
-    requires whole { theorem.now.steps.front ≡ false }
+    requires whole { theorem.now.steps.prefix ≡ false }
     ensures listed { IfOk result (λ lines.
         OfMoves book.now.statements theorem.now.id.0 theorem.now.steps.moves
-        (λ place s moves. AreLinesOf book.now.statements (take place book.now.statements) moves
+        (λ index s moves. AreLinesOf book.now.statements (take index book.now.statements) moves
         lines.items)) }
     ensures memory { IfErr result (λ fault. fault ≡ Memory) }
 {
@@ -105,10 +105,10 @@ pub(crate) fn listing_text(
 ) -> Result<Vec<u8>, AskFault>
     requires steps { AreSteps book.now.statements theorem.now.id.0 theorem.now.steps.moves }
     requires proved { AreProvedSteps book.now.statements theorem.now.id.0 theorem.now.steps }
-    requires whole { theorem.now.steps.front ≡ false }
+    requires whole { theorem.now.steps.prefix ≡ false }
     ensures text { IfOk result (λ text.
         OfMoves book.now.statements theorem.now.id.0 theorem.now.steps.moves
-        (λ place s moves. IsListingOf (take place book.now.statements) moves text.items)) }
+        (λ index s moves. IsListingOf (take index book.now.statements) moves text.items)) }
     ensures memory { IfErr result (λ fault. fault ≡ Memory) }
 {
     let lines = lines_of(alloc, book, theorem)?;

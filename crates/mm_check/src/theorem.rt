@@ -34,11 +34,11 @@ fn steps_of(
 ) -> Result<Steps, AskFault>
     requires proof { IsProofOf profile book.now.statements id.0 (map (λ t. t.now) tokens.now) }
     requires room { sum_by length (map (λ t. t.now) tokens.now) ≤ most_bytes }
-    ensures said { IfOk result (λ steps. OfProof book.now.statements id.0 (λ place s.
-        SaySteps book.now.statements place s (map (λ t. t.now) tokens.now) steps.moves)) }
+    ensures said { IfOk result (λ steps. OfProof book.now.statements id.0 (λ index s.
+        SaySteps book.now.statements index s (map (λ t. t.now) tokens.now) steps.moves)) }
     ensures usable { IfOk result (λ steps. AreSteps book.now.statements id.0 steps.moves) }
     ensures profile { IfOk result (λ steps. steps.profile ≡ profile) }
-    ensures whole { IfOk result (λ steps. steps.front ≡ false) }
+    ensures whole { IfOk result (λ steps. steps.prefix ≡ false) }
     ensures memory { IfErr result (λ fault. fault ≡ Memory) }
 {
     match Steps::parse(alloc, profile, book, id, tokens) {
@@ -71,7 +71,7 @@ pub(crate) fn theorem_of(
         AreSteps book.now.statements theorem.id.0 theorem.steps.moves) }
     ensures proved { IfOk result (λ theorem.
         AreProvedSteps book.now.statements theorem.id.0 theorem.steps) }
-    ensures whole { IfOk result (λ theorem. theorem.steps.front ≡ false) }
+    ensures whole { IfOk result (λ theorem. theorem.steps.prefix ≡ false) }
     ensures memory { IfErr result (λ fault. fault ≡ Memory) }
 {
     let steps = steps_of(alloc, profile, book, id, tokens)?;

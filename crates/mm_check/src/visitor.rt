@@ -1,4 +1,4 @@
-//! What goes along on the way through a database.
+//! Visitors: what goes along with the one loop over statements.
 
 ghost use Rattle.std.specs.Prelude.{◌≡◌, []};
 

@@ -180,19 +180,19 @@ some_compressed_layout labels letters =
 
 -- ==== tokens have one layout, and letters have one
 
--- Of two fronts of one list, they are the same, or one goes on where the other ends.
-data Fronts {A : Type 0} (a c b d : List A) : Type 0 where
-  same : a ≡ b → c ≡ d → Fronts a c b d
-  longer : (x : A) (more : List A) → b ≡ a ++ x ∷ more → c ≡ (x ∷ more) ++ d → Fronts a c b d
-  shorter : (x : A) (more : List A) → a ≡ b ++ x ∷ more → d ≡ (x ∷ more) ++ c → Fronts a c b d
+-- Of two prefixes of one list, they are the same, or one goes on where the other ends.
+data Prefixes {A : Type 0} (a c b d : List A) : Type 0 where
+  same : a ≡ b → c ≡ d → Prefixes a c b d
+  longer : (x : A) (more : List A) → b ≡ a ++ x ∷ more → c ≡ (x ∷ more) ++ d → Prefixes a c b d
+  shorter : (x : A) (more : List A) → a ≡ b ++ x ∷ more → d ≡ (x ∷ more) ++ c → Prefixes a c b d
 
-fronts : {A : Type 0} (a c b d : List A) → a ++ c ≡ b ++ d → Fronts a c b d
-fronts [] c [] d e = same refl e
-fronts [] c (y ∷ b) d e = longer y b refl e
-fronts (x ∷ a) c [] d e = shorter x a refl (sym e)
-fronts (x ∷ a) c (y ∷ b) d e =
+prefixes : {A : Type 0} (a c b d : List A) → a ++ c ≡ b ++ d → Prefixes a c b d
+prefixes [] c [] d e = same refl e
+prefixes [] c (y ∷ b) d e = longer y b refl e
+prefixes (x ∷ a) c [] d e = shorter x a refl (sym e)
+prefixes (x ∷ a) c (y ∷ b) d e =
     let head : x ≡ y = cc in
-    elim (fronts a c b d (cc)) [
+    elim (prefixes a c b d (cc)) [
       | same first rest ↦ same (cc) rest
       | longer z more whole rest ↦ longer z more (cc) rest
       | shorter z more whole rest ↦ shorter z more (cc) rest
@@ -231,7 +231,7 @@ one_lines [] [] p q g h e = refl
 one_lines [] (y ∷ b) p q g h e = absurd (no_items y b (line_length y q.0) e)
 one_lines (x ∷ a) [] p q g h e = absurd (no_items x a (line_length x p.0) (sym e))
 one_lines (x ∷ a) (y ∷ b) p q g h e =
-    elim (fronts x (flat_map (λ l. l) a) y (flat_map (λ l. l) b) e) [
+    elim (prefixes x (flat_map (λ l. l) a) y (flat_map (λ l. l) b) e) [
       | same first others ↦ let rest : a ≡ b = one_lines a b p.1 q.1 g.1 h.1 others in cc
       | longer token more whole next ↦ absurd (not_longer x (flat_map (λ l. l) a) y (flat_map (λ l. l) b) more token p.0 g.0 q.0 whole next)
       | shorter token more whole next ↦ absurd (not_longer y (flat_map (λ l. l) b) x (flat_map (λ l. l) a) more token q.0 h.0 p.0 whole next)
@@ -260,7 +260,7 @@ one_letter_lines [] [] p q e = refl
 one_letter_lines [] (y ∷ b) p q e = absurd (no_items y b (some_letters y b q).0 e)
 one_letter_lines (x ∷ a) [] p q e = absurd (no_items x a (some_letters x a p).0 (sym e))
 one_letter_lines (x ∷ a) (y ∷ b) p q e =
-    elim (fronts x (flat_map (λ l. l) a) y (flat_map (λ l. l) b) e) [
+    elim (prefixes x (flat_map (λ l. l) a) y (flat_map (λ l. l) b) e) [
       | same first others ↦ let rest : a ≡ b = one_letter_lines a b (other_letters x a p) (other_letters y b q) others in cc
       | longer letter more whole next ↦ absurd (no_more_letters x a y (flat_map (λ l. l) b) more letter p (some_letters y b q).1 whole next)
       | shorter letter more whole next ↦ absurd (no_more_letters y b x (flat_map (λ l. l) a) more letter q (some_letters x a p).1 whole next)

@@ -10,9 +10,9 @@ use Rattle.mm_code.specs.declared.code.Code.{Code}
 use Rattle.mm_code.specs.declared.code.CodeRule.{CodeRule}
 use Rattle.mm_code.specs.declared.code.CodeRule.TheVariants.{P4, P5}
 use Rattle.mm_code.specs.Letters.{IsLetter, IsLeadingLetter, IsEndOrTag, IsCut, LettersBreak}
-use Rattle.mm_code.specs.Mirror.Reading.{with_front, reading, rule_behind, leading_after}
+use Rattle.mm_code.specs.Mirror.Reading.{with_prefix, reading, rule_behind, leading_after}
 use Rattle.mm_code.proofs.LetterSteps.{read_leading, read_cut_by_tag, read_end, read_cut_by_end}
-use Rattle.mm_code.proofs.LetterSteps.{not_letter, ends, leading, cut_off, step, with_front-err}
+use Rattle.mm_code.proofs.LetterSteps.{not_letter, ends, leading, cut_off, step, with_prefix-err}
 
 -- ---- the tests of the code
 
@@ -64,10 +64,10 @@ tells-letter : (byte : ℕ) (text : List ℕ) (read : Result (List Code) CodeRul
 tells-letter byte text (Ok codes) is tells = and_from _ _ ((letter_decides byte).1 is) tells
 tells-letter byte text (Err rule) is tells = tells ∙ sym (rule_behind-cons byte text is)
 
-tells-front : (front : List Code) (text : List ℕ) (read : Result (List Code) CodeRule)
-    → Tells read text → Tells (with_front front read) text
-tells-front front text (Ok codes) tells = tells
-tells-front front text (Err rule) tells = tells
+tells-prefix : (prefix : List Code) (text : List ℕ) (read : Result (List Code) CodeRule)
+    → Tells read text → Tells (with_prefix prefix read) text
+tells-prefix prefix text (Ok codes) tells = tells
+tells-prefix prefix text (Err rule) tells = tells
 
 reads : (value : ℕ) (text : List ℕ) → Tells (reading value text) text
 reads value [] =
@@ -82,7 +82,7 @@ reads value (byte ∷ text) =
           rw e (sym (rule_behind-is (byte ∷ text) false (rw no_letter refl)))
       | ends code is means e ↦
           let tells = tells-letter byte text _ is (reads 0 text) in
-          rw e (tells-front (code ∷ []) (byte ∷ text) _ tells)
+          rw e (tells-prefix (code ∷ []) (byte ∷ text) _ tells)
       | leading from e ↦
           rw e (tells-letter byte text _ (omega arith, omega arith) (reads _ text))
       | cut_off tagged some e ↦
@@ -132,16 +132,16 @@ reads_cut value (byte ∷ text) e =
     elim (step value byte text) [
       | not_letter not is ↦ absurd (cc (is, e))
       | ends code letter means is ↦
-          let rest = with_front-err (code ∷ []) P5 (reading 0 text) (sym is ∙ e) in
+          let rest = with_prefix-err (code ∷ []) P5 (reading 0 text) (sym is ∙ e) in
           inl (cut-later byte text (cut_inside text (reads_cut 0 text rest)))
       | leading from is ↦ inl (cut-here byte _ text from (reads_cut _ text (sym is ∙ e)))
       | cut_off tagged some is ↦ inr (some, tagged)
     ]
 
-fails-front : (front : List Code) (read : Result (List Code) CodeRule) → IsErr read
-    → IsErr (with_front front read)
-fails-front front (Ok codes) fails = absurd cc
-fails-front front (Err rule) fails = refl
+fails-prefix : (prefix : List Code) (read : Result (List Code) CodeRule) → IsErr read
+    → IsErr (with_prefix prefix read)
+fails-prefix prefix (Ok codes) fails = absurd cc
+fails-prefix prefix (Err rule) fails = refl
 
 -- leading digits that are cut off are not read
 cut_fails : (before : List ℕ) (value digit : ℕ) (after : List ℕ) → IsLeadingLetter digit
@@ -156,7 +156,7 @@ cut_fails (byte ∷ before) value digit after is stops =
     elim (step value byte (before ++ digit ∷ after)) [
       | not_letter not e ↦ rw e refl
       | ends code letter means e ↦
-          rw e (fails-front (code ∷ []) _ (cut_fails before 0 digit after is stops))
+          rw e (fails-prefix (code ∷ []) _ (cut_fails before 0 digit after is stops))
       | leading from e ↦ rw e (cut_fails before _ digit after is stops)
       | cut_off tagged some e ↦ rw e refl
     ]

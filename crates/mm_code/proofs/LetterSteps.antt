@@ -14,14 +14,14 @@ use Rattle.mm_code.specs.declared.code.CodeRule.TheVariants.{P4, P5}
 use Rattle.mm_code.specs.declared.code.CodeFault.{CodeFault}
 use Rattle.mm_code.specs.declared.code.CodeFault.TheVariants.{Rule, Memory}
 use Rattle.mm_code.specs.Letters.{Answers, IsLetter, IsLeadingLetter, tag_letter}
-use Rattle.mm_code.specs.Mirror.Reading.{with_front, reading, rule_behind, leading_after}
+use Rattle.mm_code.specs.Mirror.Reading.{with_prefix, reading, rule_behind, leading_after}
 use Rattle.mm_code.specs.Mirror.Reading.{number_after, FaultOf}
 
 -- ==== one step of `reading`, for each kind of byte
 
-with_front-with_front : (a b : List Code) (read : Result (List Code) CodeRule) → with_front a (with_front b read) ≡ with_front (a ++ b) read
-with_front-with_front a b (Ok codes) = ap Ok (sym (append_assoc a b codes))
-with_front-with_front a b (Err rule) = refl
+with_prefix-with_prefix : (a b : List Code) (read : Result (List Code) CodeRule) → with_prefix a (with_prefix b read) ≡ with_prefix (a ++ b) read
+with_prefix-with_prefix a b (Ok codes) = ap Ok (sym (append_assoc a b codes))
+with_prefix-with_prefix a b (Err rule) = refl
 
 pub read_below : (value byte : ℕ) (bytes : List ℕ) → byte < 65 → reading value (byte ∷ bytes) ≡ Err P4
 unfolding reading
@@ -32,7 +32,7 @@ unfolding reading
 read_above value byte bytes h =
     rw (le-ltb byte 65 (omega arith), le-ltb byte 85 (omega arith), le-ltb byte 90 (omega arith), ne_eqb byte 90 (λ e. omega arith)) refl
 
-pub read_last : (value byte : ℕ) (bytes : List ℕ) → 65 ≤ byte → byte < 85 → reading value (byte ∷ bytes) ≡ with_front (Number (number_after value byte) ∷ []) (reading 0 bytes)
+pub read_last : (value byte : ℕ) (bytes : List ℕ) → 65 ≤ byte → byte < 85 → reading value (byte ∷ bytes) ≡ with_prefix (Number (number_after value byte) ∷ []) (reading 0 bytes)
 unfolding reading
 read_last value byte bytes low high = rw (le-ltb byte 65 low, lt-ltb byte 85 high) refl
 
@@ -40,7 +40,7 @@ pub read_leading : (value byte : ℕ) (bytes : List ℕ) → 85 ≤ byte → byt
 unfolding reading
 read_leading value byte bytes low high = rw (le-ltb byte 65 (omega arith), le-ltb byte 85 low, lt-ltb byte 90 high) refl
 
-pub read_tag : (value byte : ℕ) (bytes : List ℕ) → byte ≡ 90 → value ≡ 0 → reading value (byte ∷ bytes) ≡ with_front (Tag ∷ []) (reading 0 bytes)
+pub read_tag : (value byte : ℕ) (bytes : List ℕ) → byte ≡ 90 → value ≡ 0 → reading value (byte ∷ bytes) ≡ with_prefix (Tag ∷ []) (reading 0 bytes)
 unfolding reading
 read_tag value byte bytes is h =
     rw (le-ltb byte 65 (omega arith), le-ltb byte 85 (omega arith), le-ltb byte 90 (omega arith), eq-eqb byte 90 is, eq-eqb value 0 h) refl
@@ -61,24 +61,24 @@ read_cut_by_end value h = rw (ne_eqb value 0 (λ e. omega arith)) refl
 -- `grind` takes these by their names.
 pub ruleset reading_steps = (read_below, read_above, read_cut_by_tag, read_leading)
 
--- The same where the codes so far fill slots up to a place, and a code is put there.
-pub put_last : (slots : List Code) (place next value byte number : ℕ) (rest : List ℕ) → place < length slots → next ≡ place + 1 → 65 ≤ byte → byte < 85 → number ≡ number_after value byte
-    → with_front (take next (set slots place (Number number))) (reading 0 rest) ≡ with_front (take place slots) (reading value (byte ∷ rest))
-put_last slots place next value byte number rest lt on low high is =
-    rw (on, take_more_set slots place (Number number) lt, is, read_last value byte rest low high)
-    (sym (with_front-with_front (take place slots) (Number _ ∷ []) (reading 0 rest)))
+-- The same where the codes so far fill slots up to an index, and a code is put there.
+pub put_last : (slots : List Code) (index next value byte number : ℕ) (rest : List ℕ) → index < length slots → next ≡ index + 1 → 65 ≤ byte → byte < 85 → number ≡ number_after value byte
+    → with_prefix (take next (set slots index (Number number))) (reading 0 rest) ≡ with_prefix (take index slots) (reading value (byte ∷ rest))
+put_last slots index next value byte number rest lt on low high is =
+    rw (on, take_more_set slots index (Number number) lt, is, read_last value byte rest low high)
+    (sym (with_prefix-with_prefix (take index slots) (Number _ ∷ []) (reading 0 rest)))
 
-pub put_tag : (slots : List Code) (place value byte : ℕ) (rest : List ℕ) → place < length slots → byte ≡ 90 → value ≡ 0
-    → with_front (take (place + 1) (set slots place Tag)) (reading 0 rest) ≡ with_front (take place slots) (reading value (byte ∷ rest))
-put_tag slots place value byte rest lt is none =
-    rw (take_more_set slots place Tag lt, read_tag value byte rest is none)
-    (sym (with_front-with_front (take place slots) (Tag ∷ []) (reading 0 rest)))
+pub put_tag : (slots : List Code) (index value byte : ℕ) (rest : List ℕ) → index < length slots → byte ≡ 90 → value ≡ 0
+    → with_prefix (take (index + 1) (set slots index Tag)) (reading 0 rest) ≡ with_prefix (take index slots) (reading value (byte ∷ rest))
+put_tag slots index value byte rest lt is none =
+    rw (take_more_set slots index Tag lt, read_tag value byte rest is none)
+    (sym (with_prefix-with_prefix (take index slots) (Tag ∷ []) (reading 0 rest)))
 
--- A leading digit leaves the codes before the place, whatever is put there.
-pub put_leading : (slots : List Code) (place next value byte longer : ℕ) (code : Code) (rest : List ℕ) → next ≡ place → 85 ≤ byte → byte < 90 → longer ≡ leading_after value byte
-    → with_front (take next (set slots place code)) (reading longer rest) ≡ with_front (take place slots) (reading value (byte ∷ rest))
-put_leading slots place next value byte longer code rest on low high is =
-    rw (on, take-set slots place code, is, read_leading value byte rest low high)
+-- A leading digit leaves the codes before the index, whatever is put there.
+pub put_leading : (slots : List Code) (index next value byte longer : ℕ) (code : Code) (rest : List ℕ) → next ≡ index → 85 ≤ byte → byte < 90 → longer ≡ leading_after value byte
+    → with_prefix (take next (set slots index code)) (reading longer rest) ≡ with_prefix (take index slots) (reading value (byte ∷ rest))
+put_leading slots index next value byte longer code rest on low high is =
+    rw (on, take-set slots index code, is, read_leading value byte rest low high)
 
 -- ---- a fault, with more bytes
 
@@ -105,9 +105,9 @@ fault_answers (Rule P5) read h = h
 
 -- a fault in the token at i is the answer once the tokens behind it are looked at
 pub fault_ends : (fault found : CodeFault) (codes : List Code) (value : ℕ) (tokens : List (Bor (List ℕ))) (i : ℕ) (d : Bor (List ℕ)) (read : Result (List Code) CodeRule) → i < length tokens
-    → ((rest : List ℕ) → FaultOf fault rest (with_front codes (reading value ((get_or tokens i d).now ++ rest))))
+    → ((rest : List ℕ) → FaultOf fault rest (with_prefix codes (reading value ((get_or tokens i d).now ++ rest))))
     → ((r : Result (List Code) CodeRule) → FaultOf fault (flat_map (λ token. token.now) (take (length tokens - (i + 1)) (drop (i + 1) tokens))) r → FaultOf found [] r)
-    → with_front codes (reading value (flat_map (λ token. token.now) (drop i tokens))) ≡ read → Answers (Err found) read
+    → with_prefix codes (reading value (flat_map (λ token. token.now) (drop i tokens))) ≡ read → Answers (Err found) read
 fault_ends fault found codes value tokens i d read lt here behind so_far =
     let after = flat_map (λ token. token.now) (drop (i + 1) tokens) in
     fault_answers found read
@@ -125,7 +125,7 @@ EndsCode value byte Tag = (byte ≡ tag_letter) × (value ≡ 0)
 pub data Step (value byte : ℕ) (bytes : List ℕ) (read : Result (List Code) CodeRule) : Type 0 where
   not_letter : ¬ (IsLetter byte) → read ≡ Err P4 → Step value byte bytes read
   ends : (code : Code) → IsLetter byte → EndsCode value byte code
-      → read ≡ with_front (code ∷ []) (reading 0 bytes) → Step value byte bytes read
+      → read ≡ with_prefix (code ∷ []) (reading 0 bytes) → Step value byte bytes read
   leading : IsLeadingLetter byte → read ≡ reading (leading_after value byte) bytes
       → Step value byte bytes read
   cut_off : byte ≡ tag_letter → 0 < value → read ≡ Err (rule_behind bytes)
@@ -149,11 +149,11 @@ step value byte bytes = elim (kinds value byte) [
       cut_off is some (read_cut_by_tag value byte bytes is some)
 ]
 
--- a reading behind a front is of the same kind as the reading
-pub with_front-ok : (front codes : List Code) (read : Result (List Code) CodeRule) → with_front front read ≡ Ok codes → (rest : List Code) × (read ≡ Ok rest) × (codes ≡ front ++ rest)
-with_front-ok front codes (Ok rest) e = (rest, refl, cc)
-with_front-ok front codes (Err rule) e = absurd cc
+-- a reading behind a prefix is of the same kind as the reading
+pub with_prefix-ok : (prefix codes : List Code) (read : Result (List Code) CodeRule) → with_prefix prefix read ≡ Ok codes → (rest : List Code) × (read ≡ Ok rest) × (codes ≡ prefix ++ rest)
+with_prefix-ok prefix codes (Ok rest) e = (rest, refl, cc)
+with_prefix-ok prefix codes (Err rule) e = absurd cc
 
-pub with_front-err : (front : List Code) (rule : CodeRule) (read : Result (List Code) CodeRule) → with_front front read ≡ Err rule → read ≡ Err rule
-with_front-err front rule (Ok rest) e = absurd cc
-with_front-err front rule (Err other) e = cc
+pub with_prefix-err : (prefix : List Code) (rule : CodeRule) (read : Result (List Code) CodeRule) → with_prefix prefix read ≡ Err rule → read ≡ Err rule
+with_prefix-err prefix rule (Ok rest) e = absurd cc
+with_prefix-err prefix rule (Err other) e = cc

@@ -9,7 +9,7 @@ use Rattle.mm_text.specs.Token.{PlainToken, is_space, with_byte, tokens_from}
 use Rattle.mm_text.proofs.Tokens.WordsAndComments.{tokens_from-nil, tokens_from-space}
 use Rattle.mm_text.proofs.Tokens.WordsAndComments.{tokens_from-byte, tokens_from-run}
 use Rattle.mm_text.proofs.Tokens.WordsAndComments.{with_byte_joined}
-use Rattle.mm_text.proofs.Lists.{all_append, all_back, all_front}
+use Rattle.mm_text.proofs.Lists.{all_append, all_back, all_prefix}
 use Rattle.mm_code.specs.Words.{texts_of, tokens_in, LacksWhiteSpace, IsOneToken}
 use Rattle.mm_code.specs.Layout.{indent, token_line, IsLine, LaidOut, AreLetterLines}
 use Rattle.mm_code.specs.Layout.{in_parentheses, CompressedLaidOut}
@@ -17,9 +17,9 @@ use Rattle.mm_code.proofs.LaidOutLines.{line_length, some_letters, other_letters
 
 -- ==== the tokens of a text, byte by byte. Their bytes are the same wherever the text begins
 
--- ---- from a place on
+-- ---- from an index on
 
--- the bytes of the tokens of a file from a place on
+-- the bytes of the tokens of a file from an index on
 abbrev texts_from : ℕ → ℕ → List ℕ → List (List ℕ)
 texts_from file at bytes = texts_of (tokens_from file at bytes)
 
@@ -63,14 +63,14 @@ texts_step file at b (next ∷ bytes) = elim (cases_Bool (is_space b)) [
 -- ---- wherever the text begins
 
 -- the tokens have the same bytes
-wherever : (file at other place : ℕ) (bytes : List ℕ)
-    → texts_from file at bytes ≡ texts_from other place bytes
-wherever file at other place [] =
-    ap texts_of (tokens_from-nil file at ∙ sym (tokens_from-nil other place))
-wherever file at other place (b ∷ bytes) =
+wherever : (file at other index : ℕ) (bytes : List ℕ)
+    → texts_from file at bytes ≡ texts_from other index bytes
+wherever file at other index [] =
+    ap texts_of (tokens_from-nil file at ∙ sym (tokens_from-nil other index))
+wherever file at other index (b ∷ bytes) =
     texts_step file at b bytes
-    ∙ ap (texts_with b bytes) (wherever file (at + 1) other (place + 1) bytes)
-    ∙ sym (texts_step other place b bytes)
+    ∙ ap (texts_with b bytes) (wherever file (at + 1) other (index + 1) bytes)
+    ∙ sym (texts_step other index b bytes)
 
 -- ---- the tokens of a text
 
@@ -146,7 +146,7 @@ tokens_in-lines [] bytes each are = refl
 tokens_in-lines (line ∷ lines) bytes each are =
     let others = flat_map (λ l. token_line l ++ 10 ∷ []) lines in
     ap tokens_in (append_assoc (token_line line ++ 10 ∷ []) others bytes)
-    ∙ tokens_in-line line (others ++ bytes) (line_length line each.0) (all_front IsOneToken line (flat_map (λ l. l) lines) are)
+    ∙ tokens_in-line line (others ++ bytes) (line_length line each.0) (all_prefix IsOneToken line (flat_map (λ l. l) lines) are)
     ∙ ap (λ (ws : List (List ℕ)). line ++ ws) (tokens_in-lines lines bytes each.1 (all_back IsOneToken line (flat_map (λ l. l) lines) are))
     ∙ sym (append_assoc line (flat_map (λ l. l) lines) (tokens_in bytes))
 
@@ -166,7 +166,7 @@ tokens_in-letters [] each dark = tokens_in-nil
 tokens_in-letters (line ∷ lines) each dark =
     let others = flat_map (λ l. (indent ++ l) ++ 10 ∷ []) lines in
     let is_dark = λ (byte : ℕ). is_space byte ≡ false in
-    let is : IsOneToken line = (omega (arith, (some_letters line lines each).0), all_front is_dark line (flat_map (λ l. l) lines) dark) in
+    let is : IsOneToken line = (omega (arith, (some_letters line lines each).0), all_prefix is_dark line (flat_map (λ l. l) lines) dark) in
     ap tokens_in (append_assoc (indent ++ line) (10 ∷ []) others) ∙ tokens_in-indent (line ++ 10 ∷ others) ∙ tokens_in-token line 10 others is refl
     ∙ ap (λ (ws : List (List ℕ)). line ∷ ws) (tokens_in-letters lines (other_letters line lines each) (all_back is_dark line (flat_map (λ l. l) lines) dark))
 

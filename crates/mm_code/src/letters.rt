@@ -8,7 +8,7 @@ ghost use Rattle.std.specs.Char.{is_ascii_uppercase};
 ghost use Rattle.mm_code.specs.Letters.{largest, SpellsCodes, Letters, code_for, HasSpelling};
 ghost use Rattle.mm_code.specs.Letters.{IsExact, Answers, Fills, LettersBreak, joined_tokens};
 ghost use Rattle.mm_code.specs.Mirror.Writing.{AppendsLeading, AppendsCode};
-ghost use Rattle.mm_code.specs.Mirror.Reading.{with_front, reading, rule_behind, FaultOf};
+ghost use Rattle.mm_code.specs.Mirror.Reading.{with_prefix, reading, rule_behind, FaultOf};
 ghost use Rattle.mm_code.specs.Mirror.Reading.{ReadsOn, PutsOn, calm_value};
 
 use crate::code::{Code, CodeFault, CodeRule};
@@ -33,29 +33,29 @@ fn number_after(value: u32, digit: u8) -> u32
 const CALM: u32 = 0x0800_0000;
 
 /// Takes any letter behind leading digits of this value (0 for none): puts the code that it ends
-/// in the slot at the place, and answers the place and the leading digits' value behind it.
+/// in the slot at the index, and answers the index and the leading digits' value behind it.
 #[tactic(auto, using(crate::proofs::LetterSteps::reading_steps))]
 fn put_any(
     slots: &mut [Code],
-    place: usize,
+    index: usize,
     value: u32,
     byte: u8,
 ) -> Result<(usize, u32), CodeFault>
-    requires { place < length slots.old }
+    requires { index < length slots.old }
     ensures size { length slots.new ≡ length slots.old }
-    ensures next { IfOk result (λ next. next.0 ≤ place + 1) }
+    ensures next { IfOk result (λ next. next.0 ≤ index + 1) }
     ensures reads { (rest : List ℕ) → PutsOn slots.new result rest
-        (with_front (take place slots.old) (reading value (byte ∷ rest))) }
+        (with_prefix (take index slots.old) (reading value (byte ∷ rest))) }
 {
     match byte {
         b'A'..=b'T' => {
-            slots[place] = Code::Number(number_after(value, byte - b'A' + 1));
-            Ok((place + 1, 0))
+            slots[index] = Code::Number(number_after(value, byte - b'A' + 1));
+            Ok((index + 1, 0))
         }
-        b'U'..=b'Y' => Ok((place, leading_after(value, byte - b'U' + 1))),
+        b'U'..=b'Y' => Ok((index, leading_after(value, byte - b'U' + 1))),
         b'Z' if value == 0 => {
-            slots[place] = Code::Tag;
-            Ok((place + 1, 0))
+            slots[index] = Code::Tag;
+            Ok((index + 1, 0))
         }
         b'Z' => Err(CodeFault::Rule(CodeRule::P5)),
         _ => Err(CodeFault::Rule(CodeRule::P4)),
@@ -69,48 +69,48 @@ fn put_any(
 #[tactic(auto, using(crate::proofs::LetterSteps::reading_steps))]
 fn put_calm(
     slots: &mut [Code],
-    place: usize,
+    index: usize,
     value: u32,
     byte: u8,
 ) -> Result<(usize, u32), CodeFault>
-    requires slot { place < length slots.old }
+    requires slot { index < length slots.old }
     requires calm { value ≤ calm_value }
     ensures size { length slots.new ≡ length slots.old }
-    ensures next { IfOk result (λ next. next.0 ≤ place + 1) }
+    ensures next { IfOk result (λ next. next.0 ≤ index + 1) }
     ensures reads { (rest : List ℕ) → PutsOn slots.new result rest
-        (with_front (take place slots.old) (reading value (byte ∷ rest))) }
+        (with_prefix (take index slots.old) (reading value (byte ∷ rest))) }
 {
     // 65 is the letter `A`. It is counted in 32 bits, as all that follows is.
     let digit = u32::from(byte).wrapping_sub(65);
     if digit >= 25 {
-        return put_any(slots, place, value, byte);
+        return put_any(slots, index, value, byte);
     }
     let longer = (5 * value + digit).wrapping_sub(19);
-    slots[place] = Code::Number(20 * value + digit + 1);
+    slots[index] = Code::Number(20 * value + digit + 1);
     if digit < 20 {
-        Ok((place + 1, 0))
+        Ok((index + 1, 0))
     } else {
-        Ok((place, longer))
+        Ok((index, longer))
     }
 }
 
 /// Does as `put_any`, and sooner for nearly every value.
 fn put_letter(
     slots: &mut [Code],
-    place: usize,
+    index: usize,
     value: u32,
     byte: u8,
 ) -> Result<(usize, u32), CodeFault>
-    requires { place < length slots.old }
+    requires { index < length slots.old }
     ensures size { length slots.new ≡ length slots.old }
-    ensures next { IfOk result (λ next. next.0 ≤ place + 1) }
+    ensures next { IfOk result (λ next. next.0 ≤ index + 1) }
     ensures reads { (rest : List ℕ) → PutsOn slots.new result rest
-        (with_front (take place slots.old) (reading value (byte ∷ rest))) }
+        (with_prefix (take index slots.old) (reading value (byte ∷ rest))) }
 {
     if value <= CALM {
-        put_calm(slots, place, value, byte)
+        put_calm(slots, index, value, byte)
     } else {
-        put_any(slots, place, value, byte)
+        put_any(slots, index, value, byte)
     }
 }
 
@@ -148,7 +148,7 @@ fn fault_with(fault: CodeFault, bytes: &[u8]) -> CodeFault
 }
 
 /// Puts the codes of a token's letters behind leading digits of this value in the slots from the
-/// place on, and answers the place and the leading digits' value behind the token.
+/// index on, and answers the index and the leading digits' value behind the token.
 fn put_token(
     slots: &mut [Code],
     from: usize,
@@ -158,30 +158,30 @@ fn put_token(
     requires { from + length token.now ≤ length slots.old }
     ensures size { length slots.new ≡ length slots.old }
     ensures reads { (rest : List ℕ) → PutsOn slots.new result rest
-        (with_front (take from slots.old) (reading leading (token.now ++ rest))) }
+        (with_prefix (take from slots.old) (reading leading (token.now ++ rest))) }
 {
-    let mut place = from;
+    let mut index = from;
     let mut value = leading;
-    // By place, since a letter at fault is told with those behind it.
+    // By index, since a letter at fault is told with those behind it.
     for at in 0..token.len() {
-        match put_letter(slots, place, value, token[at]) {
-            Ok(next) => (place, value) = next,
+        match put_letter(slots, index, value, token[at]) {
+            Ok(next) => (index, value) = next,
             Err(fault) => return Err(fault_with(fault, &token[at + 1..])),
         }
     }
-    Ok((place, value))
+    Ok((index, value))
 }
 
 /// Takes a token's letters behind leading digits of this value, and answers their value behind the
 /// token.
 fn read_token(codes: &mut Vec<Code>, leading: u32, token: &[u8]) -> Result<u32, CodeFault>
     ensures { (rest : List ℕ) → ReadsOn codes.new.items result rest
-        (with_front codes.old.items (reading leading (token.now ++ rest))) }
+        (with_prefix codes.old.items (reading leading (token.now ++ rest))) }
 {
     let from = codes.len();
     codes.resize(from + token.len(), Code::Tag)?;
-    let (place, value) = put_token(codes.as_mut_slice(), from, leading, token)?;
-    codes.truncate(place);
+    let (index, value) = put_token(codes.as_mut_slice(), from, leading, token)?;
+    codes.truncate(index);
     Ok(value)
 }
 

@@ -1,7 +1,7 @@
 //! The letter code of compressed proofs, and the lines in which proofs are printed and saved.
 //!
 //! A compressed proof is a list of labels and a row of letters. The letters spell numbers, each the
-//! place of a step's hypothesis, label or tagged step, and `Z` tags a step (the Metamath book,
+//! index of a step's hypothesis, label or tagged step, and `Z` tags a step (the Metamath book,
 //! appendix B). White space may cut the letters anywhere, so they come as tokens. This crate reads
 //! and writes them, and lays out both kinds of proof in lines of a bounded width. Its laws speak of
 //! the tokens that `mm_text` finds in a text.

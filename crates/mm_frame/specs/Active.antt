@@ -1,4 +1,4 @@
--- What is active at a place (the Metamath book, section 4.2.8, on scopes).
+-- What is active at an index (the Metamath book, section 4.2.8, on scopes).
 use Rattle.std.specs.Prelude.{◌≡◌, ℕ, suc, ◌<◌, ◌≤◌, List, length, take, drop, count_by, slice_get}
 use Rattle.std.specs.Prelude.{Some, ◌⊎◌}
 use Rattle.mm_text.specs.declared.statement.Kind.TheVariants.{Constants, Variables, Opening}
@@ -12,31 +12,31 @@ open_marks statements = count_by (λ s. is_opening s.kind) statements
 abbrev pub close_marks : List Sentence → ℕ
 close_marks statements = count_by (λ s. is_closing s.kind) statements
 
--- The block that the statement at a place opens is open after these statements: no front of the
+-- The block that the statement at an index opens is open after these statements: no prefix of the
 -- statements after it has more `$}` than `${`.
-pub record IsOpen (statements : List Sentence) (place : ℕ) : Type 0 where
+pub record IsOpen (statements : List Sentence) (index : ℕ) : Type 0 where
   pub opening : Sentence
-  pub there : slice_get statements place ≡ Some opening
+  pub there : slice_get statements index ≡ Some opening
   pub opened : opening.kind ≡ Opening
   pub unclosed : (n : ℕ)
-      → close_marks (take n (drop (suc place) statements)) ≤ open_marks
-      (take n (drop (suc place) statements))
+      → close_marks (take n (drop (suc index) statements)) ≤ open_marks
+      (take n (drop (suc index) statements))
 
--- The block that is opened at one place holds another: the other comes after its `${` and before
+-- The block that is opened at one index holds another: the other comes after its `${` and before
 -- its `$}`.
 abbrev pub Holds : List Sentence → ℕ → ℕ → Type 0
-Holds statements outer place = (outer < place) × IsOpen (take (suc place) statements) outer
+Holds statements outer index = (outer < index) × IsOpen (take (suc index) statements) outer
 
--- The statement at a place is active after these statements: each block that holds it is open
+-- The statement at an index is active after these statements: each block that holds it is open
 -- still.
-pub record IsActive (statements : List Sentence) (place : ℕ) : Type 0 where
-  pub within : place < length statements
-  pub kept : (outer : ℕ) → Holds statements outer place → IsOpen statements outer
+pub record IsActive (statements : List Sentence) (index : ℕ) : Type 0 where
+  pub within : index < length statements
+  pub kept : (outer : ℕ) → Holds statements outer index → IsOpen statements outer
 
 -- some active statement is so
 abbrev pub SomeActive : List Sentence → (Sentence → Type 0) → Type 0
 SomeActive statements P =
-    (place : ℕ) × (s : Sentence) × (slice_get statements place ≡ Some s) × IsActive statements place
+    (index : ℕ) × (s : Sentence) × (slice_get statements index ≡ Some s) × IsActive statements index
     × P s
 
 -- a symbol that some `$c`, or some `$v`, declares, active or not

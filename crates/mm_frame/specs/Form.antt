@@ -23,7 +23,7 @@ pub record IsFormedSentence (s : Sentence) : Type 0 where
 -- each of the statements has
 abbrev pub AllFormed : List Sentence → Type 0
 AllFormed statements =
-    (place : ℕ) (s : Sentence) → slice_get statements place ≡ Some s → IsFormedSentence s
+    (index : ℕ) (s : Sentence) → slice_get statements index ≡ Some s → IsFormedSentence s
 
 -- the statements break no rule of meaning, and are formed
 abbrev pub IsSound : List Sentence → Type 0

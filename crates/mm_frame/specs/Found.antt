@@ -10,9 +10,9 @@ use Rattle.mm_frame.specs.Numbers.{IsNumbered}
 abbrev pub Finds : List Sentence → List ℕ → Found → Type 0
 Finds statements label found.None = ¬ (SomeSentence statements (IsLabelled label))
 Finds statements label (found.Hypothesis id active) =
-    (place : ℕ) × (s : Sentence) × IsNumbered statements id.0 place s × IsLabelled label s
+    (index : ℕ) × (s : Sentence) × IsNumbered statements id.0 index s × IsLabelled label s
     × IsHypothesis s.kind
-    × (IsTrue active ↔ IsActive statements place)
+    × (IsTrue active ↔ IsActive statements index)
 Finds statements label (found.Assertion id) =
-    (place : ℕ) × (s : Sentence) × IsNumbered statements id.0 place s × IsLabelled label s
+    (index : ℕ) × (s : Sentence) × IsNumbered statements id.0 index s × IsLabelled label s
     × IsAssertion s.kind

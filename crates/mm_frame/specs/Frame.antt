@@ -13,18 +13,18 @@ IsMandatory before s x =
 
 -- a mandatory hypothesis: an active `$e`, or the active `$f` of a mandatory variable
 abbrev pub IsMandatoryAt : List Sentence → Sentence → ℕ → Sentence → Type 0
-IsMandatoryAt before s place h =
-    IsActive before place
+IsMandatoryAt before s index h =
+    IsActive before index
     × ((h.kind ≡ Essential)
     ⊎ ((code : List ℕ) × (x : List ℕ) × Types code x h × IsMandatory before s x))
 
--- the second list has those elements of the first, from a place on and in their order, of which P
+-- the second list has those elements of the first, from an index on and in their order, of which P
 -- holds
 abbrev pub AreThose : {X : Type 0} → (ℕ → X → Type 0) → ℕ → List X → List X → Type 0
-AreThose P place [] those = those ≡ []
-AreThose {X} P place (x ∷ xs) those =
-    (P place x × (others : List X) × (those ≡ x ∷ others) × AreThose P (place + 1) xs others)
-    ⊎ (¬ (P place x) × AreThose P (place + 1) xs those)
+AreThose P index [] those = those ≡ []
+AreThose {X} P index (x ∷ xs) those =
+    (P index x × (others : List X) × (those ≡ x ∷ others) × AreThose P (index + 1) xs others)
+    ⊎ (¬ (P index x) × AreThose P (index + 1) xs those)
 
 -- the mandatory hypotheses, in database order
 abbrev pub AreMandatory : List Sentence → Sentence → List Sentence → Type 0

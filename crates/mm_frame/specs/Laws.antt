@@ -18,7 +18,7 @@ OneNumber =
     × ((n : ℕ) → IsNumberOf statements x n → IsNumberOf (statements ++ more) x n)
 
 -- A labelled statement has a number, and one only; a number is that of one statement; it stays so;
--- and the number is the statement's place among the labelled ones.
+-- and the number is the statement's index among the labelled ones.
 abbrev pub OneLabelNumber : Type 0
 OneLabelNumber =
     (statements more : List Sentence) (p : ℕ) (s : Sentence)
@@ -32,9 +32,9 @@ OneLabelNumber =
     ↔ ((q : ℕ) × IsNumbered statements n q s))
 
 -- the innermost open block
-pub record IsInnermostOpen (statements : List Sentence) (place : ℕ) : Type 0 where
-  pub still : IsOpen statements place
-  pub last : (other : ℕ) → IsOpen statements other → other ≤ place
+pub record IsInnermostOpen (statements : List Sentence) (index : ℕ) : Type 0 where
+  pub still : IsOpen statements index
+  pub last : (other : ℕ) → IsOpen statements other → other ≤ index
 
 -- A `${` opens a block, and a `$}` closes the innermost one; no other block opens or closes.
 abbrev pub OpenBlocks : Type 0
@@ -46,7 +46,7 @@ OpenBlocks =
     × ((m : ℕ) → s.kind ≡ Closing → IsInnermostOpen before m
     → (IsOpen (before ++ s ∷ []) p ↔ (IsOpen before p × p < m)))
 
--- A statement is active from its place on. A `$}` ends all that is active and comes after the `${`
+-- A statement is active from its index on. A `$}` ends all that is active and comes after the `${`
 -- of the innermost block; nothing else ends, and nothing begins again.
 abbrev pub ActiveStatements : Type 0
 ActiveStatements =
@@ -56,19 +56,19 @@ ActiveStatements =
     × ((m : ℕ) → s.kind ≡ Closing → IsInnermostOpen before m
     → (IsActive (before ++ s ∷ []) p ↔ ((IsActive before p × p ≤ m) ⊎ (p ≡ length before))))
 
--- these are the places of the open blocks, the outermost first
-pub record AreOpen (statements : List Sentence) (places : List ℕ) : Type 0 where
-  pub rising : (i j p q : ℕ) → slice_get places i ≡ Some p → slice_get places j ≡ Some q → i < j
+-- these are the indices of the open blocks, the outermost first
+pub record AreOpen (statements : List Sentence) (indices : List ℕ) : Type 0 where
+  pub rising : (i j p q : ℕ) → slice_get indices i ≡ Some p → slice_get indices j ≡ Some q → i < j
       → p < q
-  pub each : (p : ℕ) → IsOpen statements p ↔ Contains places p
+  pub each : (p : ℕ) → IsOpen statements p ↔ Contains indices p
 
 -- Where no `$}` lacks its `${`, as many blocks are open as there are more `${` than `$}`.
 abbrev pub OpenCount : Type 0
 OpenCount =
     (statements : List Sentence)
     → ((n : ℕ) → close_marks (take n statements) ≤ open_marks (take n statements))
-    → (places : List ℕ) × AreOpen statements places
-    × (close_marks statements + length places ≡ open_marks statements)
+    → (indices : List ℕ) × AreOpen statements indices
+    × (close_marks statements + length indices ≡ open_marks statements)
 
 -- An assertion has one list of mandatory hypotheses.
 abbrev pub OneFrame : Type 0

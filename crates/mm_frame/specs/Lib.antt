@@ -10,5 +10,5 @@ pub mod Database
 pub mod Numbers
 pub mod Found
 pub mod Taken
-pub mod FramePlace
+pub mod FrameIndex
 pub mod Laws

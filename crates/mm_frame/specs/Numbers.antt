@@ -1,4 +1,4 @@
--- Numbers for symbols and labels: their places in the order of first declaration, and of
+-- Numbers for symbols and labels: their indices in the order of first declaration, and of
 -- statements.
 use Rattle.std.specs.Prelude.{◌≡◌, ℕ, List, [], ◌∷◌, ◌++◌, length, map, filter, take, slice_get}
 use Rattle.std.specs.Prelude.{is_some, true, Some, if◌then◌else◌}
@@ -22,7 +22,7 @@ abbrev pub with_name : List (List ℕ) → List ℕ → List (List ℕ)
 with_name names name = if list_any (bytes_eq name) names then names else (names ++ name ∷ [])
 
 -- the declared symbols, each once, in the order of their first declarations: a symbol's number is
--- its place here
+-- its index here
 unfoldable pub symbols_of : List Sentence → List (List ℕ)
 symbols_of statements = fold with_name [] (flat_map declared_by statements)
 
@@ -35,21 +35,21 @@ abbrev pub AreNumbers : List Sentence → List ℕ → List (List ℕ) → Type 
 AreNumbers statements numbers symbols =
     map (slice_get (symbols_of statements)) numbers ≡ map Some symbols
 
--- the labelled statements in their order: a label's number is its statement's place here
+-- the labelled statements in their order: a label's number is its statement's index here
 abbrev pub labelled_sentences : List Sentence → List Sentence
 labelled_sentences statements = filter (λ s. is_some s.label) statements
 
--- the labelled statement with a number, and its place
-pub record IsNumbered (statements : List Sentence) (id place : ℕ) (s : Sentence) : Type 0 where
-  pub there : slice_get statements place ≡ Some s
+-- the labelled statement with a number, and its index
+pub record IsNumbered (statements : List Sentence) (id index : ℕ) (s : Sentence) : Type 0 where
+  pub there : slice_get statements index ≡ Some s
   pub named : is_some s.label ≡ true
-  pub number : length (labelled_sentences (take place statements)) ≡ id
+  pub number : length (labelled_sentences (take index statements)) ≡ id
 
 -- the number is that of a labelled statement
 abbrev pub IsLabelNumber : List Sentence → ℕ → Type 0
-IsLabelNumber statements id = (place : ℕ) × (s : Sentence) × IsNumbered statements id place s
+IsLabelNumber statements id = (index : ℕ) × (s : Sentence) × IsNumbered statements id index s
 
 -- the number is that of an assertion
 abbrev pub IsAssertionNumber : List Sentence → ℕ → Type 0
 IsAssertionNumber statements id =
-    (place : ℕ) × (s : Sentence) × IsNumbered statements id place s × IsAssertion s.kind
+    (index : ℕ) × (s : Sentence) × IsNumbered statements id index s × IsAssertion s.kind

@@ -1,6 +1,6 @@
 -- Patterns: the symbols of an assertion and of its `$e`, as a step by the assertion takes them (the
--- Metamath book, section 4.1.4). A variable stands there as the place of its `$f` among the
--- mandatory hypotheses. Likewise each distinct pair has the places of the `$f` of its variables.
+-- Metamath book, section 4.1.4). A variable stands there as the index of its `$f` among the
+-- mandatory hypotheses. Likewise each distinct pair has the indices of the `$f` of its variables.
 use Rattle.std.specs.Prelude.{◌≡◌, ℕ, ◌<◌, ◌≤◌, ◌==◌, List, length, map, slice_get, slice_range}
 use Rattle.std.specs.Prelude.{slice_index_or, Bool, true, false, Option, Some, None, option_map}
 use Rattle.std.specs.List.{AllZip}
@@ -10,17 +10,17 @@ use Rattle.mm_frame.specs.declared.piece.Piece.{Piece}
 use Rattle.mm_frame.specs.declared.piece.Piece.TheVariants.{Symbol, Value}
 use Rattle.mm_frame.specs.Sentence.{Sentence}
 use Rattle.mm_frame.specs.Numbers.{labelled_sentences, AreNumbers}
-use Rattle.mm_frame.specs.FramePlace.{FramePlace, AreHypotheses, HaveTypings}
+use Rattle.mm_frame.specs.FrameIndex.{FrameIndex, AreHypotheses, HaveTypings}
 
--- the number of a piece: that of its symbol, or its place
+-- the number of a piece: that of its symbol, or its index
 abbrev pub number_in : Piece → ℕ
 number_in (Symbol symbol) = symbol.0
-number_in (Value place) = place
+number_in (Value index) = index
 
 -- a value replaces the piece
 abbrev pub IsReplaced : Piece → Type 0
 IsReplaced (Symbol symbol) = ⊥
-IsReplaced (Value place) = Unit {0}
+IsReplaced (Value index) = Unit {0}
 
 -- for each hypothesis the number of its variable, if it is a `$f`; and none for a `$e`
 abbrev pub variables_of : List Hypothesis → List (Option ℕ)
@@ -35,17 +35,17 @@ is_of n (Some m) = m == n
 abbrev pub IsNowhere : ℕ → List (Option ℕ) → Type 0
 IsNowhere n variables = (k : ℕ) → is_of n (slice_index_or variables k None) ≡ false
 
--- the `$f` at this place among the hypotheses is of the symbol, and none before it
-pub record IsFirstAt (n : ℕ) (variables : List (Option ℕ)) (place : ℕ) : Type 0 where
-  pub within : place < length variables
-  pub is : is_of n (slice_index_or variables place None) ≡ true
-  pub first : (k : ℕ) → k < place → is_of n (slice_index_or variables k None) ≡ false
+-- the `$f` at this index among the hypotheses is of the symbol, and none before it
+pub record IsFirstAt (n : ℕ) (variables : List (Option ℕ)) (index : ℕ) : Type 0 where
+  pub within : index < length variables
+  pub is : is_of n (slice_index_or variables index None) ≡ true
+  pub first : (k : ℕ) → k < index → is_of n (slice_index_or variables k None) ≡ false
 
 -- The piece says the symbol with the number. A symbol that no mandatory `$f` is of is a constant,
 -- since each variable of an assertion and of its `$e` has an active `$f` (M15).
 abbrev pub IsPieceOf : List (Option ℕ) → ℕ → Piece → Type 0
 IsPieceOf variables n (Symbol symbol) = (symbol.0 ≡ n) × IsNowhere n variables
-IsPieceOf variables n (Value place) = IsFirstAt n variables place
+IsPieceOf variables n (Value index) = IsFirstAt n variables index
 
 -- the pieces say the symbols with these numbers
 abbrev pub ArePieces : List (Option ℕ) → List ℕ → List Piece → Type 0
@@ -75,25 +75,25 @@ HavePatterns statements variables pieces hypotheses =
 
 -- each of these hypotheses of the frame has its pattern in some one list of pieces, as in that of
 -- the frame's scheme
-abbrev pub HaveMandatoryPatterns : FramePlace → List Hypothesis → Type 0
+abbrev pub HaveMandatoryPatterns : FrameIndex → List Hypothesis → Type 0
 HaveMandatoryPatterns frame hypotheses =
     (pieces : List Piece)
     × HavePatterns frame.statements (variables_of hypotheses) pieces hypotheses
 
--- with each variable of the pair stands the place, from 0, of its `$f` among the hypotheses
-abbrev pub HasPlaces : List (Option ℕ) → DistinctPair → Type 0
-HasPlaces variables pair =
-    IsFirstAt pair.variables.0.0 variables pair.places.0
-    × IsFirstAt pair.variables.1.0 variables pair.places.1
+-- with each variable of the pair stands the index, from 0, of its `$f` among the hypotheses
+abbrev pub HasIndices : List (Option ℕ) → DistinctPair → Type 0
+HasIndices variables pair =
+    IsFirstAt pair.variables.0.0 variables pair.indices.0
+    × IsFirstAt pair.variables.1.0 variables pair.indices.1
 
--- each of these pairs has the places of its `$f`
-abbrev pub HavePlaces : List (Option ℕ) → List DistinctPair → Type 0
-HavePlaces variables pairs =
-    (i : ℕ) (pair : DistinctPair) → slice_get pairs i ≡ Some pair → HasPlaces variables pair
+-- each of these pairs has the indices of its `$f`
+abbrev pub HaveIndices : List (Option ℕ) → List DistinctPair → Type 0
+HaveIndices variables pairs =
+    (i : ℕ) (pair : DistinctPair) → slice_get pairs i ≡ Some pair → HasIndices variables pair
 
--- with each of these pairs stand the places, from 0, of the `$f` of its two variables among the
+-- with each of these pairs stand the indices, from 0, of the `$f` of its two variables among the
 -- mandatory hypotheses of the assertion; which pairs these are, `ArePairs` says
-abbrev pub HaveMandatoryPlaces : FramePlace → List DistinctPair → Type 0
-HaveMandatoryPlaces frame pairs =
+abbrev pub HaveMandatoryIndices : FrameIndex → List DistinctPair → Type 0
+HaveMandatoryIndices frame pairs =
     (hypotheses : List Hypothesis) × AreHypotheses frame (map (λ h. h.id.0) hypotheses)
-    × HaveTypings frame.statements hypotheses × HavePlaces (variables_of hypotheses) pairs
+    × HaveTypings frame.statements hypotheses × HaveIndices (variables_of hypotheses) pairs

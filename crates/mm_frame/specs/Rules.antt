@@ -28,7 +28,7 @@ ItsTyping s P = (code : List ℕ) × (variable : List ℕ) × Types code variabl
 
 -- the statement breaks the rule after the statements before it
 abbrev pub Breaks : MeaningRule → List Sentence → Sentence → Type 0
-Breaks M1 before s = (s.kind ≡ Constants) × (place : ℕ) × IsOpen before place
+Breaks M1 before s = (s.kind ≡ Constants) × (index : ℕ) × IsOpen before index
 Breaks M2 before s =
     (s.kind ≡ Constants)
     × SomeSymbol s (λ x. IsConstant before x ⊎ IsVariable before x ⊎ StandsTwice s.symbols x)
@@ -54,7 +54,7 @@ Breaks M14 before s = IsStated s.kind × ItsFirst s (IsVariable before)
 Breaks M15 before s =
     IsStated s.kind × SomeSymbol s (λ x. IsVariable before x × ¬ (IsTyped before x))
 
--- the place of a rule in the order in which the rules are judged
+-- the index of a rule in the order in which the rules are judged
 abbrev pub rank : MeaningRule → ℕ
 rank M1 = 1
 rank M2 = 2

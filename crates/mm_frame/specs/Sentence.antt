@@ -26,7 +26,7 @@ sentence_in s = sentence_of (plain_statement s)
 -- some of the statements is so
 abbrev pub SomeSentence : List Sentence → (Sentence → Type 0) → Type 0
 SomeSentence statements P =
-    (place : ℕ) × (s : Sentence) × (slice_get statements place ≡ Some s) × P s
+    (index : ℕ) × (s : Sentence) × (slice_get statements index ≡ Some s) × P s
 
 -- a `$f` or a `$e`
 abbrev pub IsHypothesis : Kind → Type 0

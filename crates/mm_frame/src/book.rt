@@ -17,8 +17,8 @@ ghost use Rattle.mm_frame.specs.Numbers.{symbols_of, labelled_sentences, IsNumbe
 ghost use Rattle.mm_frame.specs.Numbers.{IsNumbered, IsLabelNumber, IsAssertionNumber};
 ghost use Rattle.mm_frame.specs.Found.{Finds};
 ghost use Rattle.mm_frame.specs.Taken.{TakenAs, kind_behind};
-ghost use Rattle.mm_frame.specs.FramePlace.{AreHypotheses, HaveTypings, ArePairs};
-ghost use Rattle.mm_frame.specs.Pieces.{HaveMandatoryPatterns, HaveMandatoryPlaces};
+ghost use Rattle.mm_frame.specs.FrameIndex.{AreHypotheses, HaveTypings, ArePairs};
+ghost use Rattle.mm_frame.specs.Pieces.{HaveMandatoryPatterns, HaveMandatoryIndices};
 ghost use Rattle.mm_frame.specs.Mirror.Patterned.{IsSchemeOf};
 
 use crate::answer::{Found, RuleFault, Taken};
@@ -167,11 +167,11 @@ impl<'a> Book<'a> {
         find_label_guessed(&self.tables, guesses, label)
     }
 
-    // Whether a labelled statement is active after the statements before a place.
+    // Whether a labelled statement is active after the statements before an index.
     pub(crate) fn is_active(&self, id: LabelId, at: usize) -> bool
         requires within { at ≤ length self.now.statements }
-        ensures { (place : ℕ) (s : Sentence) → IsNumbered self.now.statements id.0 place s
-            → (IsTrue result ↔ IsActive (take at self.now.statements) place) }
+        ensures { (index : ℕ) (s : Sentence) → IsNumbered self.now.statements id.0 index s
+            → (IsTrue result ↔ IsActive (take at self.now.statements) index) }
     {
         is_label_active(&self.tables, id, at)
     }
@@ -248,7 +248,7 @@ impl<'a> Book<'a> {
         }
     }
 
-    // Whether two symbols are a distinct pair after the statements before a place.
+    // Whether two symbols are a distinct pair after the statements before an index.
     pub(crate) fn is_distinct(&self, a: Sym, b: Sym, at: usize) -> bool
         requires { at ≤ length self.now.statements }
         ensures { (x y : List ℕ) → IsNumberOf self.now.statements x a.0
@@ -261,20 +261,20 @@ impl<'a> Book<'a> {
     // The mandatory hypotheses of an assertion.
     pub(crate) fn hypotheses(&self, id: LabelId) -> &[Hypothesis]
         requires { IsAssertionNumber self.now.statements id.0 }
-        ensures ids { (place : ℕ) (s : Sentence) → IsNumbered self.now.statements id.0 place s
+        ensures ids { (index : ℕ) (s : Sentence) → IsNumbered self.now.statements id.0 index s
             → IsAssertion s.kind → AreHypotheses
-            (record { statements = self.now.statements; place = place })
+            (record { statements = self.now.statements; index = index })
             (map (λ h. h.id.0) result.now) }
-        ensures typed { (place : ℕ) (s : Sentence)
-            → IsNumbered self.now.statements id.0 place s → IsAssertion s.kind
+        ensures typed { (index : ℕ) (s : Sentence)
+            → IsNumbered self.now.statements id.0 index s → IsAssertion s.kind
             → HaveTypings self.now.statements result.now }
-        ensures few { (place : ℕ) (s : Sentence)
-            → IsNumbered self.now.statements id.0 place s → IsAssertion s.kind
+        ensures few { (index : ℕ) (s : Sentence)
+            → IsNumbered self.now.statements id.0 index s → IsAssertion s.kind
             → length result.now < most_bytes }
-        ensures patterns { (place : ℕ) (s : Sentence)
-            → IsNumbered self.now.statements id.0 place s → IsAssertion s.kind
+        ensures patterns { (index : ℕ) (s : Sentence)
+            → IsNumbered self.now.statements id.0 index s → IsAssertion s.kind
             → HaveMandatoryPatterns
-            (record { statements = self.now.statements; place = place }) result.now }
+            (record { statements = self.now.statements; index = index }) result.now }
     {
         label_hypotheses(&self.tables, id)
     }
@@ -282,14 +282,14 @@ impl<'a> Book<'a> {
     // The mandatory distinct pairs of an assertion.
     pub(crate) fn pairs(&self, id: LabelId) -> &[DistinctPair]
         requires { IsAssertionNumber self.now.statements id.0 }
-        ensures variables { (place : ℕ) (s : Sentence) → IsNumbered self.now.statements id.0 place s
+        ensures variables { (index : ℕ) (s : Sentence) → IsNumbered self.now.statements id.0 index s
             → IsAssertion s.kind → ArePairs
-            (record { statements = self.now.statements; place = place })
+            (record { statements = self.now.statements; index = index })
             (map (λ pair. (pair.variables.0.0, pair.variables.1.0)) result.now) }
-        ensures places { (place : ℕ) (s : Sentence)
-            → IsNumbered self.now.statements id.0 place s → IsAssertion s.kind
-            → HaveMandatoryPlaces
-            (record { statements = self.now.statements; place = place }) result.now }
+        ensures indices { (index : ℕ) (s : Sentence)
+            → IsNumbered self.now.statements id.0 index s → IsAssertion s.kind
+            → HaveMandatoryIndices
+            (record { statements = self.now.statements; index = index }) result.now }
     {
         label_pairs(&self.tables, id)
     }
@@ -297,9 +297,9 @@ impl<'a> Book<'a> {
     // What a step by an assertion asks of it.
     pub(crate) fn scheme(&self, id: LabelId) -> Scheme<'_>
         requires { IsAssertionNumber self.now.statements id.0 }
-        ensures { (place : ℕ) (s : Sentence) → IsNumbered self.now.statements id.0 place s
+        ensures { (index : ℕ) (s : Sentence) → IsNumbered self.now.statements id.0 index s
             → IsAssertion s.kind
-            → IsSchemeOf (record { statements = self.now.statements; place = place }) result }
+            → IsSchemeOf (record { statements = self.now.statements; index = index }) result }
     {
         label_scheme(&self.tables, id)
     }

@@ -302,16 +302,16 @@ fn is_list(kind: Kind) -> bool
     kind == Kind::Constants || kind == Kind::Variables || kind == Kind::Distinct
 }
 
-// The place of a text among those of some tokens.
-fn place_among(tokens: &[Token], text: &[u8]) -> Option<usize>
+// The index of a text among those of some tokens.
+fn index_among(tokens: &[Token], text: &[u8]) -> Option<usize>
     ensures { MatchOption
         result
         (¬ (Contains (map (λ token. token.text.now) tokens.now) text.now))
-        (λ place. slice_get (map (λ token. token.text.now) tokens.now) place ≡ Some text.now) }
+        (λ index. slice_get (map (λ token. token.text.now) tokens.now) index ≡ Some text.now) }
 {
-    for (place, token) in tokens.iter().enumerate() {
+    for (index, token) in tokens.iter().enumerate() {
         if token.text == text {
-            return Some(place);
+            return Some(index);
         }
     }
     None
@@ -323,7 +323,7 @@ fn has_repeats_among_few(symbols: &[Token]) -> bool
         ↔ ((symbol : List ℕ) × StandsTwice (map (λ token. token.text.now) symbols.now) symbol) }
 {
     for (at, token) in symbols.iter().enumerate() {
-        if place_among(&symbols[..at], token.text).is_some() {
+        if index_among(&symbols[..at], token.text).is_some() {
             return true;
         }
     }

@@ -1,4 +1,4 @@
-//! Whether two symbols are a distinct pair at a place.
+//! Whether two symbols are a distinct pair at an index.
 
 ghost use Rattle.std.specs.Prelude.{◌↔◌, ◌≤◌, ℕ, List, IsTrue, length, take};
 ghost use Rattle.std.specs.List.Sorted.{IsNonDecreasing};
@@ -14,7 +14,7 @@ use crate::tables::Tables;
 use crate::wide::{WideDistinct, are_among};
 
 impl<'a> Tables<'a> {
-    // Whether the latest `$d` before a place that states a pair is active there.
+    // Whether the latest `$d` before an index that states a pair is active there.
     fn is_stated(&self, pair: (u32, u32), at: usize) -> bool
         requires tables { AreTables self.now }
         requires within { at ≤ length (statements_of self.now) }
@@ -22,28 +22,28 @@ impl<'a> Tables<'a> {
             ↔ HasSpan (statements_of self.now) self.now.distinct.stated.pairs pair at }
     {
         match self.distinct.latest(pair, at) {
-            Some(place) => self.scopes.is_active(place, at),
+            Some(index) => self.scopes.is_active(index, at),
             None => false,
         }
     }
 
-    // Whether a `$d` of many variables is active at a place and holds two symbols.
+    // Whether a `$d` of many variables is active at an index and holds two symbols.
     fn holds(&self, wide: &WideDistinct, a: Sym, b: Sym, at: usize) -> bool
         requires tables { AreTables self.now }
         requires sorted { IsNonDecreasing wide.now.members.items }
         requires within { at ≤ length (statements_of self.now) }
         ensures { IsTrue result ↔ HoldsPair (statements_of self.now) at a.0 b.0 wide.now }
     {
-        if wide.place >= at {
+        if wide.index >= at {
             return false;
         }
         if !are_among(&wide.members, a.0, b.0) {
             return false;
         }
-        self.scopes.is_active(wide.place, at)
+        self.scopes.is_active(wide.index, at)
     }
 
-    // Whether some `$d` of many variables is active at a place and holds two symbols. There is
+    // Whether some `$d` of many variables is active at an index and holds two symbols. There is
     // hardly ever one.
     fn is_held(&self, a: Sym, b: Sym, at: usize) -> bool
         requires tables { AreTables self.now }
@@ -61,7 +61,7 @@ impl<'a> Tables<'a> {
             if self.holds(last, a, b, at) {
                 return true;
             }
-            left = if last.place < at {
+            left = if last.index < at {
                 last.older
             } else {
                 left - 1
@@ -70,7 +70,7 @@ impl<'a> Tables<'a> {
         false
     }
 
-    /// Whether two symbols are a distinct pair after the statements before a place.
+    /// Whether two symbols are a distinct pair after the statements before an index.
     pub(crate) fn is_distinct(&self, a: Sym, b: Sym, at: usize) -> bool
         requires tables { AreTables self.now }
         requires within { at ≤ length (statements_of self.now) }

@@ -7,16 +7,16 @@ ghost use Rattle.mm_frame.specs.Active.{IsActive};
 ghost use Rattle.mm_frame.specs.Frame.{IsDistinct};
 ghost use Rattle.mm_frame.specs.Form.{IsSound};
 ghost use Rattle.mm_frame.specs.Numbers.{IsNumbered, IsNumberOf, IsAssertionNumber};
-ghost use Rattle.mm_frame.specs.FramePlace.{AreHypotheses, HaveTypings, ArePairs};
-ghost use Rattle.mm_frame.specs.FramePlace.{AreItsSymbols, before_it};
+ghost use Rattle.mm_frame.specs.FrameIndex.{AreHypotheses, HaveTypings, ArePairs};
+ghost use Rattle.mm_frame.specs.FrameIndex.{AreItsSymbols, before_it};
 ghost use Rattle.mm_frame.specs.Pieces.{variables_of, AreItsPieces, HavePatterns};
-ghost use Rattle.mm_frame.specs.Pieces.{HavePlaces, HaveMandatoryPatterns, HaveMandatoryPlaces};
+ghost use Rattle.mm_frame.specs.Pieces.{HaveIndices, HaveMandatoryPatterns, HaveMandatoryIndices};
 
 use crate::book::Book;
 use crate::distinct::DistinctPair;
 use crate::hypothesis::Hypothesis;
 use crate::number::{LabelId, Sym};
-use crate::reads::label_place;
+use crate::reads::label_index;
 use crate::scheme::Scheme;
 use std::marker::Model;
 
@@ -26,21 +26,21 @@ use std::marker::Model;
 pub struct Frame<'b, 'a> {
     pub(crate) book: &'b Book<'a>,
     pub(crate) id: LabelId,
-    pub(crate) place: usize,
+    pub(crate) index: usize,
 }
 
 impl<'b, 'a> Model for Frame<'b, 'a> {
     ghost use Rattle.mm_frame.specs.Sentence.{Sentence, IsAssertion};
     ghost use Rattle.mm_frame.specs.Numbers.{IsNumbered};
-    ghost use Rattle.mm_frame.specs.FramePlace.{FramePlace};
+    ghost use Rattle.mm_frame.specs.FrameIndex.{FrameIndex};
 
-    ghost Value = { FramePlace };
+    ghost Value = { FrameIndex };
 
-    ghost view = { λ f. record { statements = f.book.now.statements; place = f.place } };
+    ghost view = { λ f. record { statements = f.book.now.statements; index = f.index } };
 
     // It is the frame of an assertion of its book.
     ghost invariant = { λ f. (s : Sentence)
-        × IsNumbered f.book.now.statements f.id.0 f.place s × IsAssertion s.kind };
+        × IsNumbered f.book.now.statements f.id.0 f.index s × IsAssertion s.kind };
 }
 
 impl<'b, 'a> Frame<'b, 'a> {
@@ -50,9 +50,9 @@ impl<'b, 'a> Frame<'b, 'a> {
         ensures typed { HaveTypings self.now.statements result.hypotheses.now }
         ensures pairs { ArePairs self.now
             (map (λ pair. (pair.variables.0.0, pair.variables.1.0)) result.pairs.now) }
-        ensures places { HavePlaces (variables_of result.hypotheses.now) result.pairs.now }
+        ensures indices { HaveIndices (variables_of result.hypotheses.now) result.pairs.now }
         ensures conclusion { (s : Sentence)
-            × (slice_get self.now.statements self.now.place ≡ Some s)
+            × (slice_get self.now.statements self.now.index ≡ Some s)
             × AreItsPieces self.now.statements (variables_of result.hypotheses.now) s
             result.conclusion.now }
         ensures patterns { HavePatterns self.now.statements (variables_of result.hypotheses.now)
@@ -75,7 +75,7 @@ impl<'b, 'a> Frame<'b, 'a> {
     pub fn pairs(&self) -> &'b [DistinctPair]
         ensures variables { ArePairs self.now
             (map (λ pair. (pair.variables.0.0, pair.variables.1.0)) result.now) }
-        ensures places { HaveMandatoryPlaces self.now result.now }
+        ensures indices { HaveMandatoryIndices self.now result.now }
     {
         self.book.pairs(self.id)
     }
@@ -87,22 +87,22 @@ impl<'b, 'a> Frame<'b, 'a> {
         self.book.expression(self.id)
     }
 
-    /// Whether a hypothesis is active at the assertion's place.
+    /// Whether a hypothesis is active at the assertion's index.
     pub fn active(&self, hypothesis: LabelId) -> bool
-        ensures { (place : ℕ) (s : Sentence)
-            → IsNumbered self.now.statements hypothesis.0 place s
-            → (IsTrue result ↔ IsActive (before_it self.now) place) }
+        ensures { (index : ℕ) (s : Sentence)
+            → IsNumbered self.now.statements hypothesis.0 index s
+            → (IsTrue result ↔ IsActive (before_it self.now) index) }
     {
-        self.book.is_active(hypothesis, self.place)
+        self.book.is_active(hypothesis, self.index)
     }
 
-    /// Whether two variables are a distinct pair at the assertion's place.
+    /// Whether two variables are a distinct pair at the assertion's index.
     pub fn distinct(&self, a: Sym, b: Sym) -> bool
         ensures { (x y : List ℕ) → IsNumberOf self.now.statements x a.0
             → IsNumberOf self.now.statements y b.0
             → (IsTrue result ↔ IsDistinct (before_it self.now) x y) }
     {
-        self.book.is_distinct(a, b, self.place)
+        self.book.is_distinct(a, b, self.index)
     }
 }
 
@@ -111,14 +111,14 @@ impl<'a> Book<'a> {
     pub fn frame(&self, id: LabelId) -> Frame<'_, 'a>
         requires { IsAssertionNumber self.now.statements id.0 }
         ensures book { result.statements ≡ self.now.statements }
-        ensures place { (s : Sentence) × IsNumbered self.now.statements id.0 result.place s
+        ensures index { (s : Sentence) × IsNumbered self.now.statements id.0 result.index s
             × IsAssertion s.kind }
         ensures sound { IsSound self.now.statements }
     {
         Frame {
             book: self,
             id,
-            place: label_place(&self.tables, id),
+            index: label_index(&self.tables, id),
         }
     }
 }

@@ -6,16 +6,16 @@ ghost use Rattle.std.specs.Option.{option_and_then};
 ghost use Rattle.mm_frame.specs.Sentence.{Sentence, IsStated};
 ghost use Rattle.mm_frame.specs.Rules.{IsMeant};
 ghost use Rattle.mm_frame.specs.Numbers.{AreNumbers};
-ghost use Rattle.mm_frame.specs.FramePlace.{ArePairs};
+ghost use Rattle.mm_frame.specs.FrameIndex.{ArePairs};
 ghost use Rattle.mm_frame.specs.declared.number.Sym.{Sym};
 ghost use Rattle.mm_frame.specs.Mirror.Layout.{AreTables, statements_of};
-ghost use Rattle.mm_frame.specs.Mirror.Gathered.{floating_of, floatings, AreGathered, ArePlaces};
+ghost use Rattle.mm_frame.specs.Mirror.Gathered.{floating_of, floatings, AreGathered, AreIndices};
 ghost use Rattle.mm_frame.specs.Mirror.Gathered.{AreVariables, AreFound, AreThoseAt};
 
 use crate::distinct::DistinctPair;
 use crate::hypothesis::Hypothesis;
 use crate::lists::at;
-use crate::noted::NotedPlaces;
+use crate::noted::NotedIndices;
 use crate::number::{LabelId, Sym};
 use crate::part::NO_PART;
 use crate::tables::Tables;
@@ -25,33 +25,33 @@ use std::alloc::{AllocError, Global};
 /// assertion, and nothing of what they held before is told of the next.
 #[derive(Drop)]
 pub(crate) struct FrameLists {
-    /// The places of the mandatory hypotheses, and the hypotheses that stand there.
-    pub(crate) places: Vec<usize>,
+    /// The indices of the mandatory hypotheses, and the hypotheses that stand there.
+    pub(crate) indices: Vec<usize>,
     pub(crate) hypotheses: Vec<Hypothesis>,
     /// Where the `$f` of each variable stands among them.
-    pub(crate) noted: NotedPlaces,
+    pub(crate) noted: NotedIndices,
     /// The variables of those that are `$f`.
     pub(crate) variables: Vec<Sym>,
-    /// The mandatory distinct pairs, and the same with the places of their variables.
+    /// The mandatory distinct pairs, and the same with the indices of their variables.
     pub(crate) pairs: Vec<(Sym, Sym)>,
-    pub(crate) placed: Vec<DistinctPair>,
+    pub(crate) indexed: Vec<DistinctPair>,
 }
 
 impl FrameLists {
     /// Empty lists. They take no memory.
     pub(crate) fn new(alloc: Global) -> FrameLists {
         FrameLists {
-            places: Vec::new(alloc),
+            indices: Vec::new(alloc),
             hypotheses: Vec::new(alloc),
-            noted: NotedPlaces::new(alloc),
+            noted: NotedIndices::new(alloc),
             variables: Vec::new(alloc),
             pairs: Vec::new(alloc),
-            placed: Vec::new(alloc),
+            indexed: Vec::new(alloc),
         }
     }
 }
 
-// The place of the latest `$f` of a symbol, if it has one.
+// The index of the latest `$f` of a symbol, if it has one.
 fn floating(tables: &Tables, symbol: Sym) -> Option<u32>
     ensures { result ≡ floating_of tables.now.infos.items symbol }
 {
@@ -61,88 +61,88 @@ fn floating(tables: &Tables, symbol: Sym) -> Option<u32>
     }
 }
 
-// Notes the places of the `$f` of the variables in an expression.
+// Notes the indices of the `$f` of the variables in an expression.
 fn add_floating(
     tables: &Tables,
     expression: &[Sym],
-    places: &mut Vec<usize>,
+    indices: &mut Vec<usize>,
 ) -> Result<(), AllocError>
     ensures { OnOk result
-        (places.new.items ≡ places.old.items ++ floatings tables.now.infos.items expression.now) }
+        (indices.new.items ≡ indices.old.items ++ floatings tables.now.infos.items expression.now) }
 {
     for symbol in expression {
         match floating(tables, *symbol) {
-            Some(place) => places.push(place as usize)?,
+            Some(index) => indices.push(index as usize)?,
             None => {}
         }
     }
     Ok(())
 }
 
-// Finds the places of the mandatory hypotheses, in no order and with repetitions.
+// Finds the indices of the mandatory hypotheses, in no order and with repetitions.
 fn find_unsorted(
     tables: &Tables,
     expression: &[Sym],
-    places: &mut Vec<usize>,
+    indices: &mut Vec<usize>,
 ) -> Result<(), AllocError>
     requires { AreTables tables.now }
     ensures { (s : Sentence)
         → AreNumbers (statements_of tables.now) (map (λ n. n.0) expression.now) s.symbols
         → OnOk result (AreGathered
-        (statements_of tables.now) tables.now.essentials.items s places.new.items) }
+        (statements_of tables.now) tables.now.essentials.items s indices.new.items) }
 {
-    places.clear();
-    add_floating(tables, expression, places)?;
-    for place in &tables.essentials {
-        places.push(*place)?;
-        add_floating(tables, tables.symbols_at(*place), places)?;
+    indices.clear();
+    add_floating(tables, expression, indices)?;
+    for index in &tables.essentials {
+        indices.push(*index)?;
+        add_floating(tables, tables.symbols_at(*index), indices)?;
     }
     Ok(())
 }
 
-/// Finds the places of the mandatory hypotheses of an assertion, in order.
+/// Finds the indices of the mandatory hypotheses of an assertion, in order.
 pub(crate) fn find_mandatory(
     tables: &Tables,
     expression: &[Sym],
-    places: &mut Vec<usize>,
+    indices: &mut Vec<usize>,
 ) -> Result<(), AllocError>
     requires { AreTables tables.now }
     ensures { (s : Sentence) → IsMeant (statements_of tables.now) s → IsStated s.kind
         → AreNumbers (statements_of tables.now) (map (λ n. n.0) expression.now) s.symbols
-        → OnOk result (ArePlaces (statements_of tables.now) s places.new.items) }
+        → OnOk result (AreIndices (statements_of tables.now) s indices.new.items) }
 {
-    find_unsorted(tables, expression, places)?;
-    places.sort_unstable();
-    places.dedup();
+    find_unsorted(tables, expression, indices)?;
+    indices.sort_unstable();
+    indices.dedup();
     Ok(())
 }
 
-// The number of the label of the statement at a place, if it has one.
-fn label_at(tables: &Tables, place: usize) -> Option<LabelId>
-    ensures { result ≡ option_and_then (λ e. e.label) (slice_get tables.now.log.items place) }
+// The number of the label of the statement at an index, if it has one.
+fn label_at(tables: &Tables, index: usize) -> Option<LabelId>
+    ensures { result ≡ option_and_then (λ e. e.label) (slice_get tables.now.log.items index) }
 {
-    match at(&tables.log, place) {
+    match at(&tables.log, index) {
         Some(entry) => entry.label,
         None => None,
     }
 }
 
-/// Finds the mandatory hypotheses that stand at some places.
+/// Finds the mandatory hypotheses that stand at some indices.
 pub(crate) fn find_hypotheses(
     tables: &Tables,
-    places: &[usize],
+    indices: &[usize],
     hypotheses: &mut Vec<Hypothesis>,
 ) -> Result<(), AllocError>
     requires { AreTables tables.now }
-    ensures { (s : Sentence) → ArePlaces (statements_of tables.now) s places.now
-        → OnOk result (AreThoseAt (statements_of tables.now) places.now hypotheses.new.items) }
+    ensures { (s : Sentence) → AreIndices (statements_of tables.now) s indices.now
+        → OnOk result (AreThoseAt (statements_of tables.now) indices.now hypotheses.new.items) }
 {
     hypotheses.clear();
-    for place in places {
-        match label_at(tables, *place) {
+    for index in indices {
+        match label_at(tables, *index) {
             Some(id) => hypotheses.push(Hypothesis {
                 id,
-                typing: tables.typing(*place),
+                typing: tables.typing(*index),
                 pattern: NO_PART,
             })?,
             None => {}
@@ -151,19 +151,19 @@ pub(crate) fn find_hypotheses(
     Ok(())
 }
 
-// Finds the variables of the `$f` at some places, and nothing of a `$e`.
+// Finds the variables of the `$f` at some indices, and nothing of a `$e`.
 fn find_variables(
     tables: &Tables,
-    places: &[usize],
+    indices: &[usize],
     variables: &mut Vec<Sym>,
 ) -> Result<(), AllocError>
     requires { AreTables tables.now }
-    ensures { (s : Sentence) → ArePlaces (statements_of tables.now) s places.now
-        → OnOk result (AreVariables (statements_of tables.now) places.now variables.new.items) }
+    ensures { (s : Sentence) → AreIndices (statements_of tables.now) s indices.now
+        → OnOk result (AreVariables (statements_of tables.now) indices.now variables.new.items) }
 {
     variables.clear();
-    for place in places {
-        match tables.floating_variable(*place) {
+    for index in indices {
+        match tables.floating_variable(*index) {
             Some(variable) => variables.push(variable)?,
             None => {}
         }
@@ -180,8 +180,8 @@ fn add_pairs(
     pairs: &mut Vec<(Sym, Sym)>,
 ) -> Result<(), AllocError>
     requires { AreTables tables.now }
-    ensures { (places : List ℕ) (variables : List Sym)
-        → AreVariables (statements_of tables.now) places variables
+    ensures { (indices : List ℕ) (variables : List Sym)
+        → AreVariables (statements_of tables.now) indices variables
         → others.now ≡ take (length others.now) variables
         → slice_get variables (length others.now) ≡ Some variable
         → AreFound (statements_of tables.now) variables (length others.now) 0 pairs.old.items
@@ -196,25 +196,25 @@ fn add_pairs(
     Ok(())
 }
 
-/// The mandatory distinct pairs of an assertion whose mandatory hypotheses stand at these places.
+/// The mandatory distinct pairs of an assertion whose mandatory hypotheses stand at these indices.
 /// The variables of the hypotheses are left in `variables`.
 pub(crate) fn find_pairs(
     tables: &Tables,
-    places: &[usize],
+    indices: &[usize],
     variables: &mut Vec<Sym>,
     pairs: &mut Vec<(Sym, Sym)>,
 ) -> Result<(), AllocError>
     requires { AreTables tables.now }
     ensures { (s : Sentence) (more : List Sentence) → IsMeant (statements_of tables.now) s
-        → IsStated s.kind → ArePlaces (statements_of tables.now) s places.now
+        → IsStated s.kind → AreIndices (statements_of tables.now) s indices.now
         → OnOk result (ArePairs
         (record {
           statements = statements_of tables.now ++ s ∷ more;
-          place = length (statements_of tables.now);
+          index = length (statements_of tables.now);
         })
         (map (λ pair. (pair.0.0, pair.1.0)) pairs.new.items)) }
 {
-    find_variables(tables, places, variables)?;
+    find_variables(tables, indices, variables)?;
     pairs.clear();
     for i in 0..variables.len() {
         add_pairs(tables, variables[i], &variables[..i], pairs)?;

@@ -1,6 +1,6 @@
 //! Guesses of the numbers of labels.
 
-use crate::lists::{at as at_place, write};
+use crate::lists::{at as at_index, write};
 use std::alloc::Global;
 
 /// How many guesses there are.
@@ -22,18 +22,18 @@ impl Guesses {
         Guesses { numbers }
     }
 
-    /// The guess at a place.
+    /// The guess at an index.
     #[inline(always)]
-    pub(crate) fn at(&self, place: usize) -> u32 {
-        match at_place(&self.numbers, place) {
+    pub(crate) fn at(&self, index: usize) -> u32 {
+        match at_index(&self.numbers, index) {
             Some(number) => number,
             None => 0,
         }
     }
 
-    /// Notes a number as the guess at a place.
+    /// Notes a number as the guess at an index.
     #[inline(always)]
-    pub(crate) fn set(&mut self, place: usize, number: u32) {
-        write(&mut self.numbers, place, number);
+    pub(crate) fn set(&mut self, index: usize, number: u32) {
+        write(&mut self.numbers, index, number);
     }
 }

@@ -15,7 +15,7 @@ pub fn one_number()
 ///
 /// Exactly the labelled statements have numbers. None has two, and no number is that of two
 /// statements. A number stays what it is as statements are added. The number is the statement's
-/// place among the labelled ones.
+/// index among the labelled ones.
 pub fn one_label_number()
     ensures { OneLabelNumber }
 {}
@@ -25,7 +25,7 @@ pub fn open_blocks()
     ensures { OpenBlocks }
 {}
 
-/// A statement is active from its place on, until the `$}` of the innermost block that holds it.
+/// A statement is active from its index on, until the `$}` of the innermost block that holds it.
 ///
 /// A `$}` ends what is active after the `${` of the innermost block, and nothing else. What has
 /// ended does not begin again.

@@ -48,4 +48,4 @@ pub use number::{LabelId, LabelKind, Sym};
 pub use part::Part;
 pub use piece::{Piece, ShortPiece};
 pub use rule::MeaningRule;
-pub use scheme::{Scheme, place_of};
+pub use scheme::{Scheme, index_of};

@@ -1,15 +1,15 @@
-//! Reading and writing lists at a place.
+//! Reading and writing lists at an index.
 
 ghost use Rattle.std.specs.Prelude.{◌≡◌, ◌+◌, ◌<◌, ◌≤◌, ◌∷◌, [], ◌++◌, length, slice_get};
 ghost use Rattle.std.specs.Prelude.{slice_set, vec_len, vec_capacity, OnOk};
 
 use std::alloc::AllocError;
 
-/// The element at a place, if there is one.
-pub(crate) fn at<T: Copy>(list: &[T], place: usize) -> Option<T>
-    ensures { result ≡ slice_get list.now place }
+/// The element at an index, if there is one.
+pub(crate) fn at<T: Copy>(list: &[T], index: usize) -> Option<T>
+    ensures { result ≡ slice_get list.now index }
 {
-    match list.get(place) {
+    match list.get(index) {
         Some(element) => Some(*element),
         None => None,
     }
@@ -23,8 +23,8 @@ pub(crate) fn put<T: Drop>(list: &mut Vec<T>, value: T)
     let _ = list.push(value);
 }
 
-/// Makes room for elements in a list whose places are told by numbers of 32 bits. Where it would be
-/// longer than such numbers can say, more is asked for than there can be, so that it is refused.
+/// Makes room for elements in a list whose indices are told by numbers of 32 bits. Where it would
+/// be longer than such numbers can say, more is asked for than there can be, so that it is refused.
 pub(crate) fn reserve_numbered<T: Drop>(list: &mut Vec<T>, more: usize) -> Result<(), AllocError>
     ensures items { list.new.items ≡ list.old.items }
     ensures room { OnOk result (vec_len list.new + more ≤ vec_capacity list.new) }
@@ -36,12 +36,12 @@ pub(crate) fn reserve_numbered<T: Drop>(list: &mut Vec<T>, more: usize) -> Resul
     }
 }
 
-/// Writes an element over the one at a place.
-pub(crate) fn write(list: &mut Vec<u32>, place: usize, value: u32)
-    ensures { place < length list.old.items
-        → list.new.items ≡ slice_set list.old.items place value }
+/// Writes an element over the one at an index.
+pub(crate) fn write(list: &mut Vec<u32>, index: usize, value: u32)
+    ensures { index < length list.old.items
+        → list.new.items ≡ slice_set list.old.items index value }
 {
-    if place < list.len() {
-        list[place] = value;
+    if index < list.len() {
+        list[index] = value;
     }
 }

@@ -55,7 +55,7 @@ pub(crate) fn is_active_variable(tables: &Tables, symbol: &[u8]) -> bool
 {
     match tables.symbol_info(symbol) {
         Some(info) => match info.variable {
-            Some(place) => tables.is_active_now(place as usize),
+            Some(index) => tables.is_active_now(index as usize),
             None => false,
         },
         None => false,
@@ -69,7 +69,7 @@ pub(crate) fn is_typed(tables: &Tables, variable: &[u8]) -> bool
 {
     match tables.symbol_info(variable) {
         Some(info) => match info.floating {
-            Some(place) => tables.is_active_now(place as usize),
+            Some(index) => tables.is_active_now(index as usize),
             None => false,
         },
         None => false,
@@ -87,7 +87,7 @@ fn latest_code<'a>(tables: &Tables<'a>, variable: &[u8]) -> Option<&'a [u8]>
 {
     match tables.symbol_info(variable) {
         Some(info) => match info.floating {
-            Some(place) => match at(tables.symbols_at(place as usize), 0) {
+            Some(index) => match at(tables.symbols_at(index as usize), 0) {
                 Some(code) => tables.symbols.name(code.0),
                 None => None,
             },

@@ -14,17 +14,17 @@ const FEWEST_WITH_ENDS: usize = 2;
 // A name of more bytes has some that are none of its ends.
 const MOST_IN_ENDS: usize = 16;
 
-// For the place of a name's guess its back is turned by so many bits before it meets its front, so
+// For the index of a name's guess its back is turned by so many bits before it meets its prefix, so
 // that the two ends of a short name don't cancel each other.
 const BACK_TURN: u32 = 29;
 
 // What comes of them is multiplied by this, 2 to the 64 over the golden ratio.
 const SPREAD: u64 = 0x9e37_79b9_7f4a_7c15;
 
-// The place is what the product has from this bit on: all bits of the ends have a say in these.
-const PLACE_SHIFT: u32 = 52;
+// The index is what the product has from this bit on: all bits of the ends have a say in these.
+const INDEX_SHIFT: u32 = 52;
 
-// Two bytes from a place on, as a number.
+// Two bytes from an index on, as a number.
 fn two_at(bytes: &[u8], at: usize) -> u16
     requires { at + 2 ≤ length bytes.now }
     ensures { result ≡ number_at w16 2 bytes.now at }
@@ -32,7 +32,7 @@ fn two_at(bytes: &[u8], at: usize) -> u16
     u16::from_le_bytes([bytes[at], bytes[at + 1]])
 }
 
-// Four bytes from a place on, as a number.
+// Four bytes from an index on, as a number.
 fn four_at(bytes: &[u8], at: usize) -> u32
     requires { at + 4 ≤ length bytes.now }
     ensures { result ≡ number_at w32 4 bytes.now at }
@@ -40,7 +40,7 @@ fn four_at(bytes: &[u8], at: usize) -> u32
     u32::from_le_bytes([bytes[at], bytes[at + 1], bytes[at + 2], bytes[at + 3]])
 }
 
-// Eight bytes from a place on, as a number.
+// Eight bytes from an index on, as a number.
 fn eight_at(bytes: &[u8], at: usize) -> u64
     requires { at + 8 ≤ length bytes.now }
     ensures { result ≡ number_at w64 8 bytes.now at }
@@ -67,14 +67,14 @@ fn ends(bytes: &[u8]) -> (u64, u64)
         return (eight_at(bytes, 0), eight_at(bytes, count - 8));
     }
     if count >= 4 {
-        let front = four_at(bytes, 0);
+        let prefix = four_at(bytes, 0);
         let back = four_at(bytes, count - 4);
-        return (u64::from(front), u64::from(back));
+        return (u64::from(prefix), u64::from(back));
     }
     if count >= FEWEST_WITH_ENDS {
-        let front = two_at(bytes, 0);
+        let prefix = two_at(bytes, 0);
         let back = two_at(bytes, count - 2);
-        return (u64::from(front), u64::from(back));
+        return (u64::from(prefix), u64::from(back));
     }
     (0, 0)
 }
@@ -87,7 +87,7 @@ fn ends(bytes: &[u8]) -> (u64, u64)
 #[derive(Drop)]
 pub struct Name<'a> {
     bytes: &'a [u8],
-    front: u64,
+    prefix: u64,
     back: u64,
 }
 
@@ -99,7 +99,7 @@ impl<'a> Model for Name<'a> {
 
     ghost view = { λ n. n.bytes.now };
 
-    ghost invariant = { λ n. IsKey n.bytes.now n.front n.back };
+    ghost invariant = { λ n. IsKey n.bytes.now n.prefix n.back };
 }
 
 impl<'a> Name<'a> {
@@ -107,8 +107,12 @@ impl<'a> Name<'a> {
     pub(crate) fn new(bytes: &'a [u8]) -> Name<'a>
         ensures { result ≡ bytes.now }
     {
-        let (front, back) = ends(bytes);
-        Name { bytes, front, back }
+        let (prefix, back) = ends(bytes);
+        Name {
+            bytes,
+            prefix,
+            back,
+        }
     }
 
     /// The name.
@@ -118,13 +122,13 @@ impl<'a> Name<'a> {
         self.bytes
     }
 
-    /// The place of the guess of its number, which its ends tell.
+    /// The index of the guess of its number, which its ends tell.
     #[inline(always)]
-    pub(crate) fn place(&self) -> usize
+    pub(crate) fn index(&self) -> usize
         ensures below { result < 4096 }
     {
-        let ends = self.front ^ self.back.rotate_left(BACK_TURN);
-        (ends.wrapping_mul(SPREAD) >> PLACE_SHIFT) as usize % GUESSES
+        let ends = self.prefix ^ self.back.rotate_left(BACK_TURN);
+        (ends.wrapping_mul(SPREAD) >> INDEX_SHIFT) as usize % GUESSES
     }
 }
 
@@ -138,7 +142,7 @@ impl PartialEq for Name<'_> {
     ghost laws = { Prim.search (comparing, rules) };
 
     fn eq(&self, other: &Self) -> bool {
-        if self.front != other.front || self.back != other.back {
+        if self.prefix != other.prefix || self.back != other.back {
             return false;
         }
         let count = self.bytes.len();
@@ -173,7 +177,7 @@ impl Hash for Name<'_> {
         if self.bytes.len() > MOST_IN_ENDS {
             state.write(self.bytes);
         } else {
-            state.write_u64(self.front);
+            state.write_u64(self.prefix);
             state.write_u64(self.back);
         }
     }

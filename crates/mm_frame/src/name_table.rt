@@ -12,7 +12,7 @@ use mm_text::Seed;
 use std::alloc::{AllocError, Global};
 use std::marker::Model;
 
-/// Names, each once: a name's number is its place.
+/// Names, each once: a name's number is its index.
 #[derive(Drop)]
 pub struct Names<'a> {
     table: IndexSet<Name<'a>, Seed>,
@@ -48,9 +48,9 @@ fn note_byte(by_byte: &mut [Option<u32>; 256], name: &[u8], number: u32)
         → AreByByte (with_name names name.now) by_byte.new }
 {
     if let [only] = name {
-        let place = *only as usize;
-        if by_byte[place].is_none() {
-            by_byte[place] = Some(number);
+        let index = *only as usize;
+        if by_byte[index].is_none() {
+            by_byte[index] = Some(number);
         }
     }
 }
@@ -115,7 +115,7 @@ impl<'a> Names<'a> {
         self.find_by_hash(name)
     }
 
-    /// The number of a name, if it is one of them, as `find` tells it, by the guess at its place,
+    /// The number of a name, if it is one of them, as `find` tells it, by the guess at its index,
     /// or else by its hash. The guess is replaced where it is that of another name, so a name that
     /// was looked up lately is found sooner.
     #[inline(never)]
@@ -126,8 +126,8 @@ impl<'a> Names<'a> {
             (λ number. slice_get self.now.names number ≡ Some name.now) }
     {
         let key = Name::new(name);
-        let place = key.place();
-        let guess = guesses.at(place);
+        let index = key.index();
+        let guess = guesses.at(index);
         if let Some(other) = self.table.get_index(guess as usize) {
             if *other == key {
                 return Some(guess);
@@ -135,7 +135,7 @@ impl<'a> Names<'a> {
         }
         let found = self.find_key(&key);
         if let Some(number) = found {
-            guesses.set(place, number);
+            guesses.set(index, number);
         }
         found
     }

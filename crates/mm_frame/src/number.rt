@@ -1,10 +1,10 @@
 //! Numbers that stand for symbols and labels.
 
-/// A symbol, by its place among the declared symbols.
+/// A symbol, by its index among the declared symbols.
 #[derive(Clone, Copy, PartialEq, Eq, PartialOrd, Ord, Debug)]
 pub struct Sym(pub u32);
 
-/// A label, by the place of its statement among the labelled statements.
+/// A label, by the index of its statement among the labelled statements.
 #[derive(Clone, Copy, PartialEq, Eq, PartialOrd, Ord, Debug)]
 pub struct LabelId(pub u32);
 

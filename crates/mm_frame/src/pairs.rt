@@ -1,4 +1,4 @@
-//! Distinct pairs of variables, by the places of the `$d` that state them, and the `$d` of many
+//! Distinct pairs of variables, by the indices of the `$d` that state them, and the `$d` of many
 //! variables.
 
 ghost use Rattle.std.specs.Prelude.{◌≡◌, ℕ, ◌+◌, ◌<◌, ◌≤◌, [], ◌∷◌, ◌++◌, length, map, slice_get};
@@ -7,7 +7,7 @@ ghost use Rattle.std.specs.Option.{option_and_then};
 ghost use Rattle.std.specs.Map.{update};
 ghost use Rattle.indexmap.specs.IndexMap.{get, spare};
 ghost use Rattle.mm_frame.specs.Mirror.Stated.{IsLatestStated, IsLastSpan, AreOlder, stated_by};
-ghost use Rattle.mm_frame.specs.Mirror.Stated.{near_place, newest_of, is_same_key};
+ghost use Rattle.mm_frame.specs.Mirror.Stated.{near_index, newest_of, is_same_key};
 
 use crate::lists::{at, reserve_numbered};
 use crate::wide::WideDistinct;
@@ -21,8 +21,8 @@ use std::marker::Model;
 pub(crate) struct Span {
     /// The numbers of the two variables, the lesser one first.
     pub(crate) pair: (u32, u32),
-    /// The place of the `$d`.
-    pub(crate) place: u32,
+    /// The index of the `$d`.
+    pub(crate) index: u32,
     /// The span of the same pair before it.
     pub(crate) older: Option<u32>,
 }
@@ -31,7 +31,7 @@ pub(crate) struct Span {
 #[derive(Drop)]
 pub struct Pairs {
     spans: Vec<Span>,
-    /// The newest span of each pair of two numbers below 256, at the place that they make. Nearly
+    /// The newest span of each pair of two numbers below 256, at the index that they make. Nearly
     /// all pairs are such, and are found sooner in this table than by a hash. It is empty before it
     /// is prepared.
     near: Vec<Option<u32>>,
@@ -58,7 +58,7 @@ fn span_at(spans: &[Span], number: Option<u32>) -> Option<Span>
     }
 }
 
-// The place of the latest span before a place, from the newest of a pair on.
+// The index of the latest span before an index, from the newest of a pair on.
 fn latest_from(spans: &[Span], newest: Option<u32>, before: usize) -> Option<usize>
     requires { AreOlder spans.now }
     ensures { (pair : ℕ × ℕ) → IsLastSpan spans.now (length spans.now) pair newest
@@ -67,7 +67,7 @@ fn latest_from(spans: &[Span], newest: Option<u32>, before: usize) -> Option<usi
     let mut next = newest;
     for _ in 0..spans.len() {
         match span_at(spans, next) {
-            Some(span) if (span.place as usize) < before => return Some(span.place as usize),
+            Some(span) if (span.index as usize) < before => return Some(span.index as usize),
             Some(span) => next = span.older,
             None => return None,
         }
@@ -75,16 +75,16 @@ fn latest_from(spans: &[Span], newest: Option<u32>, before: usize) -> Option<usi
     None
 }
 
-// A pair has a place in the table if both of its numbers are below this.
+// A pair has an index in the table if both of its numbers are below this.
 const NEAR: u32 = 256;
 
-// So many pairs have a place in it.
+// So many pairs have an index in it.
 const NEAR_PAIRS: usize = 65_536;
 
-// The place of a pair in the table, if it may have one.
+// The index of a pair in the table, if it may have one.
 #[inline(always)]
-fn near_place(pair: (u32, u32)) -> Option<usize>
-    ensures { result ≡ near_place pair }
+fn near_index(pair: (u32, u32)) -> Option<usize>
+    ensures { result ≡ near_index pair }
 {
     if pair.0 < NEAR && pair.1 < NEAR {
         Some((pair.0 * NEAR + pair.1) as usize)
@@ -112,8 +112,8 @@ fn newest_of(
 ) -> Option<u32>
     ensures { result ≡ newest_of near.now far.now pair }
 {
-    match near_place(pair) {
-        Some(place) if place < near.len() => near[place],
+    match near_index(pair) {
+        Some(index) if index < near.len() => near[index],
         _ => far_newest(far, pair),
     }
 }
@@ -130,8 +130,8 @@ fn note_newest(
         ≡ update is_same_key (newest_of near.old.items far.old) pair (Some number) q }
     ensures room { spare far.old ≤ spare far.new + 1 }
 {
-    match near_place(pair) {
-        Some(place) if place < near.len() => near[place] = Some(number),
+    match near_index(pair) {
+        Some(index) if index < near.len() => near[index] = Some(number),
         _ => {
             let _ = far.insert(pair, number);
         }
@@ -186,7 +186,7 @@ impl Pairs {
         }
     }
 
-    /// The place of the latest `$d` before a place that states a pair.
+    /// The index of the latest `$d` before an index that states a pair.
     pub(crate) fn latest(&self, pair: (u32, u32), before: usize) -> Option<usize>
         ensures { IsLatestStated self.now.stated.pairs pair before result }
     {
@@ -198,11 +198,11 @@ impl Pairs {
     }
 
     /// Takes a pair of a `$d` in.
-    pub(crate) fn add(&mut self, pair: (u32, u32), place: usize)
+    pub(crate) fn add(&mut self, pair: (u32, u32), index: usize)
         requires room { 0 < self.old.room }
-        requires place { place < 4294967296 }
+        requires index { index < 4294967296 }
         ensures stated { self.new.stated ≡ record {
-          pairs = self.old.stated.pairs ++ record { pair = pair; place = place } ∷ [];
+          pairs = self.old.stated.pairs ++ record { pair = pair; index = index } ∷ [];
           wide = self.old.stated.wide;
         } }
         ensures room { self.old.room ≤ self.new.room + 1 }
@@ -211,7 +211,7 @@ impl Pairs {
         let older = newest_of(&self.near, &self.newest, pair);
         let _ = self.spans.push(Span {
             pair,
-            place: place as u32,
+            index: index as u32,
             older,
         });
         note_newest(&mut self.near, &mut self.newest, pair, number);

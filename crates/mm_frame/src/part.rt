@@ -2,7 +2,7 @@
 
 ghost use Rattle.std.specs.Prelude.{◌≡◌, ◌≤◌, length, slice_range};
 
-/// A part of a list: the places from `start` up to and without `end`.
+/// A part of a list: the indices from `start` up to and without `end`.
 #[derive(Clone, Copy, PartialEq, Eq, Debug)]
 pub struct Part {
     pub start: u32,

@@ -12,21 +12,21 @@ ghost use Rattle.mm_frame.specs.Mirror.Patterned.{HaveFirstPatterns, ArePatterne
 
 use crate::hypothesis::Hypothesis;
 use crate::lists::reserve_numbered;
-use crate::noted::NotedPlaces;
+use crate::noted::NotedIndices;
 use crate::number::Sym;
 use crate::part::{NO_PART, Part};
 use crate::piece::{Piece, ShortPiece};
 use crate::tables::{Entry, symbols_in};
 use std::alloc::AllocError;
 
-// The piece that says a symbol, by the places that are noted of the hypotheses.
-fn piece_of(hypotheses: &[Hypothesis], noted: &NotedPlaces, symbol: Sym) -> Piece
+// The piece that says a symbol, by the indices that are noted of the hypotheses.
+fn piece_of(hypotheses: &[Hypothesis], noted: &NotedIndices, symbol: Sym) -> Piece
     requires few { length hypotheses.now < 4294967296 }
-    requires noted { AreNoted noted.now.places.items (variables_of hypotheses.now) }
+    requires noted { AreNoted noted.now.indices.items (variables_of hypotheses.now) }
     ensures { IsPieceOf (variables_of hypotheses.now) symbol.0 result }
 {
-    match noted.place_of(hypotheses, symbol) {
-        Some(place) => Piece::Value(place as u32),
+    match noted.index_of(hypotheses, symbol) {
+        Some(index) => Piece::Value(index as u32),
         None => Piece::Symbol(symbol),
     }
 }
@@ -54,11 +54,11 @@ fn push_piece(pieces: &mut Vec<ShortPiece>, piece: Piece) -> Result<(), AllocErr
 fn push_pattern(
     pieces: &mut Vec<ShortPiece>,
     hypotheses: &[Hypothesis],
-    noted: &NotedPlaces,
+    noted: &NotedIndices,
     symbols: &[Sym],
 ) -> Result<Part, AllocError>
     requires few { length hypotheses.now < 4294967296 }
-    requires noted { AreNoted noted.now.places.items (variables_of hypotheses.now) }
+    requires noted { AreNoted noted.now.indices.items (variables_of hypotheses.now) }
     ensures longer { IsLonger pieces.old.items pieces.new.items }
     ensures part { IfOk result (IsPatternAt
         (variables_of hypotheses.now) (map (λ n. n.0) symbols.now) pieces.new.items) }
@@ -74,48 +74,48 @@ fn push_pattern(
     })
 }
 
-// Whether the hypothesis at a place among others is a `$e`.
-fn is_essential(hypotheses: &[Hypothesis], place: usize) -> bool
-    requires { place < length hypotheses.now }
-    ensures { (h : Hypothesis) → slice_get hypotheses.now place ≡ Some h
+// Whether the hypothesis at an index among others is a `$e`.
+fn is_essential(hypotheses: &[Hypothesis], index: usize) -> bool
+    requires { index < length hypotheses.now }
+    ensures { (h : Hypothesis) → slice_get hypotheses.now index ≡ Some h
         → result ≡ is_none h.typing }
 {
-    hypotheses[place].typing.is_none()
+    hypotheses[index].typing.is_none()
 }
 
-// Notes where the pattern of the hypothesis at a place among others stands.
-fn set_pattern(hypotheses: &mut Vec<Hypothesis>, place: usize, pattern: Part)
-    requires { place < length hypotheses.old.items }
+// Notes where the pattern of the hypothesis at an index among others stands.
+fn set_pattern(hypotheses: &mut Vec<Hypothesis>, index: usize, pattern: Part)
+    requires { index < length hypotheses.old.items }
     ensures count { length hypotheses.new.items ≡ length hypotheses.old.items }
-    ensures noted { (h : Hypothesis) → slice_get hypotheses.old.items place ≡ Some h
+    ensures noted { (h : Hypothesis) → slice_get hypotheses.old.items index ≡ Some h
         → hypotheses.new.items
-        ≡ set hypotheses.old.items place (record h { pattern = pattern }) }
+        ≡ set hypotheses.old.items index (record h { pattern = pattern }) }
 {
-    hypotheses[place].pattern = pattern;
+    hypotheses[index].pattern = pattern;
 }
 
-// Adds the patterns of the `$e` among the hypotheses that stand at some places, and notes where.
+// Adds the patterns of the `$e` among the hypotheses that stand at some indices, and notes where.
 fn push_patterns(
     pieces: &mut Vec<ShortPiece>,
     hypotheses: &mut Vec<Hypothesis>,
-    noted: &NotedPlaces,
-    places: &[usize],
+    noted: &NotedIndices,
+    indices: &[usize],
     log: &[Entry],
     flat: &[Sym],
 ) -> Result<(), AllocError>
     requires mandatory { (t : Tables)
-        × AreMandatoryOf t log.now flat.now places.now hypotheses.old.items }
-    requires noted { AreNoted noted.now.places.items (variables_of hypotheses.old.items) }
+        × AreMandatoryOf t log.now flat.now indices.now hypotheses.old.items }
+    requires noted { AreNoted noted.now.indices.items (variables_of hypotheses.old.items) }
     ensures longer { IsLonger pieces.old.items pieces.new.items }
     ensures count { length hypotheses.new.items ≡ length hypotheses.old.items }
     ensures patterned { (t : Tables)
-        → AreMandatoryOf t log.now flat.now places.now hypotheses.old.items
+        → AreMandatoryOf t log.now flat.now indices.now hypotheses.old.items
         → OnOk result (HaveFirstPatterns (statements_of t) hypotheses.old.items
-        hypotheses.new.items pieces.new.items (length places.now)) }
+        hypotheses.new.items pieces.new.items (length indices.now)) }
 {
-    for (i, place) in places.iter().enumerate() {
+    for (i, index) in indices.iter().enumerate() {
         let pattern = if is_essential(hypotheses, i) {
-            push_pattern(pieces, hypotheses, noted, symbols_in(log, flat, *place))?
+            push_pattern(pieces, hypotheses, noted, symbols_in(log, flat, *index))?
         } else {
             NO_PART
         };
@@ -129,51 +129,51 @@ fn push_patterns(
 fn push_all(
     pieces: &mut Vec<ShortPiece>,
     hypotheses: &mut Vec<Hypothesis>,
-    noted: &NotedPlaces,
-    places: &[usize],
+    noted: &NotedIndices,
+    indices: &[usize],
     log: &[Entry],
     flat: &[Sym],
     numbers: &[Sym],
 ) -> Result<Part, AllocError>
     requires mandatory { (t : Tables)
-        × AreMandatoryOf t log.now flat.now places.now hypotheses.old.items }
-    requires noted { AreNoted noted.now.places.items (variables_of hypotheses.old.items) }
+        × AreMandatoryOf t log.now flat.now indices.now hypotheses.old.items }
+    requires noted { AreNoted noted.now.indices.items (variables_of hypotheses.old.items) }
     ensures longer { IsLonger pieces.old.items pieces.new.items }
     ensures count { length hypotheses.new.items ≡ length hypotheses.old.items }
     ensures patterned { (t : Tables)
-        → AreMandatoryOf t log.now flat.now places.now hypotheses.old.items
+        → AreMandatoryOf t log.now flat.now indices.now hypotheses.old.items
         → IfOk result (ArePatterned (statements_of t) (map (λ n. n.0) numbers.now)
         hypotheses.old.items hypotheses.new.items pieces.new.items) }
 {
-    push_patterns(pieces, hypotheses, noted, places, log, flat)?;
+    push_patterns(pieces, hypotheses, noted, indices, log, flat)?;
     push_pattern(pieces, hypotheses, noted, numbers)
 }
 
 /// Adds the patterns of an assertion, whose symbols have these numbers, and of its `$e`, which are
-/// among the hypotheses that stand at some places, and of which the places of the variables' `$f`
+/// among the hypotheses that stand at some indices, and of which the indices of the variables' `$f`
 /// are noted. Notes in each `$e` where its pattern stands, and says where the assertion's stands.
 pub(crate) fn add_patterns(
     pieces: &mut Vec<ShortPiece>,
     hypotheses: &mut Vec<Hypothesis>,
-    noted: &NotedPlaces,
-    places: &[usize],
+    noted: &NotedIndices,
+    indices: &[usize],
     log: &[Entry],
     flat: &[Sym],
     numbers: &[Sym],
 ) -> Result<Part, AllocError>
     requires mandatory { (t : Tables)
-        × AreMandatoryOf t log.now flat.now places.now hypotheses.old.items }
-    requires noted { AreNoted noted.now.places.items (variables_of hypotheses.old.items) }
+        × AreMandatoryOf t log.now flat.now indices.now hypotheses.old.items }
+    requires noted { AreNoted noted.now.indices.items (variables_of hypotheses.old.items) }
     ensures longer { IsLonger pieces.old.items pieces.new.items }
     ensures count { length hypotheses.new.items ≡ length hypotheses.old.items }
     ensures patterned { (t : Tables)
-        → AreMandatoryOf t log.now flat.now places.now hypotheses.old.items
+        → AreMandatoryOf t log.now flat.now indices.now hypotheses.old.items
         → IfOk result (ArePatterned (statements_of t) (map (λ n. n.0) numbers.now)
         hypotheses.old.items hypotheses.new.items pieces.new.items) }
     ensures err { OnErr result (pieces.new.items ≡ pieces.old.items) }
 {
     let start = pieces.len();
-    let conclusion = push_all(pieces, hypotheses, noted, places, log, flat, numbers);
+    let conclusion = push_all(pieces, hypotheses, noted, indices, log, flat, numbers);
     if conclusion.is_err() {
         pieces.truncate(start);
     }

@@ -12,11 +12,11 @@ use std::marker::Model;
 pub enum Piece {
     /// A symbol that nothing replaces: a constant.
     Symbol(Sym),
-    /// A variable: what replaces it is the value of the mandatory hypothesis at this place.
+    /// A variable: what replaces it is the value of the mandatory hypothesis at this index.
     Value(u32),
 }
 
-// A symbol is stored as its number, and a place p as `u32::MAX - p`. Both numbers are below this,
+// A symbol is stored as its number, and an index p as `u32::MAX - p`. Both numbers are below this,
 // so that the two are apart.
 const NUMBERS: u32 = 2_147_483_648;
 
@@ -52,9 +52,9 @@ impl ShortPiece {
                     return Some(ShortPiece(symbol.0));
                 }
             }
-            Piece::Value(place) => {
-                if place < NUMBERS {
-                    return Some(ShortPiece(u32::MAX - place));
+            Piece::Value(index) => {
+                if index < NUMBERS {
+                    return Some(ShortPiece(u32::MAX - index));
                 }
             }
         }
@@ -62,7 +62,7 @@ impl ShortPiece {
     }
 
     /// The symbol; none where a value replaces the piece. A loop over pieces asks for this and then
-    /// for the place: of `piece` the compiler makes both numbers before it asks which one it is.
+    /// for the index: of `piece` the compiler makes both numbers before it asks which one it is.
     #[inline(always)]
     pub fn symbol(self) -> Option<Sym>
         ensures { MatchOption result (IsReplaced self) (λ symbol. self ≡ Symbol symbol) }
@@ -74,9 +74,9 @@ impl ShortPiece {
         }
     }
 
-    /// The place of the mandatory hypothesis whose value replaces the piece.
+    /// The index of the mandatory hypothesis whose value replaces the piece.
     #[inline(always)]
-    pub fn place(self) -> u32
+    pub fn index(self) -> u32
         requires { IsReplaced self }
         ensures { self ≡ Value result }
     {

@@ -9,8 +9,8 @@ ghost use Rattle.mm_frame.specs.Form.{HasItsLabel};
 ghost use Rattle.mm_frame.specs.Numbers.{AreNumbers, IsNumbered, IsLabelNumber, IsAssertionNumber};
 ghost use Rattle.mm_frame.specs.Found.{Finds};
 ghost use Rattle.mm_frame.specs.Taken.{kind_behind};
-ghost use Rattle.mm_frame.specs.FramePlace.{AreHypotheses, HaveTypings, ArePairs};
-ghost use Rattle.mm_frame.specs.Pieces.{variables_of, HavePatterns, HaveMandatoryPlaces};
+ghost use Rattle.mm_frame.specs.FrameIndex.{AreHypotheses, HaveTypings, ArePairs};
+ghost use Rattle.mm_frame.specs.Pieces.{variables_of, HavePatterns, HaveMandatoryIndices};
 ghost use Rattle.mm_frame.specs.Mirror.Layout.{AreTables, statements_of};
 ghost use Rattle.mm_frame.specs.Mirror.Patterned.{IsSchemeOf};
 
@@ -32,15 +32,15 @@ pub(crate) fn is_label(tables: &Tables, id: LabelId) -> bool
     (id.0 as usize) < tables.named.len()
 }
 
-// The place of a labelled statement.
-pub(crate) fn label_place(tables: &Tables, id: LabelId) -> usize
+// The index of a labelled statement.
+pub(crate) fn label_index(tables: &Tables, id: LabelId) -> usize
     requires tables { AreTables tables.now }
     requires known { IsLabelNumber (statements_of tables.now) id.0 }
-    ensures { (place : ℕ) (s : Sentence) → IsNumbered (statements_of tables.now) id.0 place s
-        → result ≡ place }
+    ensures { (index : ℕ) (s : Sentence) → IsNumbered (statements_of tables.now) id.0 index s
+        → result ≡ index }
 {
     match tables.label_info(id) {
-        Some(info) => info.place as usize,
+        Some(info) => info.index as usize,
         // Each number below the count of labels has an entry.
         None => unreachable!(),
     }
@@ -50,7 +50,7 @@ pub(crate) fn label_place(tables: &Tables, id: LabelId) -> usize
 pub(crate) fn label_text<'a>(tables: &Tables<'a>, id: LabelId) -> &'a [u8]
     requires tables { AreTables tables.now }
     requires known { IsLabelNumber (statements_of tables.now) id.0 }
-    ensures { (place : ℕ) (s : Sentence) → IsNumbered (statements_of tables.now) id.0 place s
+    ensures { (index : ℕ) (s : Sentence) → IsNumbered (statements_of tables.now) id.0 index s
         → IsLabelled result.now s }
 {
     match tables.labels.name(id.0) {
@@ -64,7 +64,7 @@ pub(crate) fn label_text<'a>(tables: &Tables<'a>, id: LabelId) -> &'a [u8]
 pub(crate) fn label_symbols<'b>(tables: &'b Tables, id: LabelId) -> &'b [Sym]
     requires tables { AreTables tables.now }
     requires known { IsLabelNumber (statements_of tables.now) id.0 }
-    ensures { (place : ℕ) (s : Sentence) → IsNumbered (statements_of tables.now) id.0 place s
+    ensures { (index : ℕ) (s : Sentence) → IsNumbered (statements_of tables.now) id.0 index s
         → AreNumbers (statements_of tables.now) (map (λ n. n.0) result.now) s.symbols }
 {
     match tables.label_info(id) {
@@ -93,7 +93,7 @@ fn kind_of(kind: Kind) -> LabelKind
 pub(crate) fn label_kind(tables: &Tables, id: LabelId) -> LabelKind
     requires tables { AreTables tables.now }
     requires known { IsLabelNumber (statements_of tables.now) id.0 }
-    ensures { (place : ℕ) (s : Sentence) → IsNumbered (statements_of tables.now) id.0 place s
+    ensures { (index : ℕ) (s : Sentence) → IsNumbered (statements_of tables.now) id.0 index s
         → s.kind ≡ kind_behind result }
 {
     match tables.label_info(id) {
@@ -103,37 +103,37 @@ pub(crate) fn label_kind(tables: &Tables, id: LabelId) -> LabelKind
     }
 }
 
-// Whether a labelled statement is active after the statements before a place.
+// Whether a labelled statement is active after the statements before an index.
 #[tactic(auto, using(crate::proofs::BookLists::GrownLists::few_statements))]
 pub(crate) fn is_label_active(tables: &Tables, id: LabelId, at: usize) -> bool
     requires tables { AreTables tables.now }
     requires within { at ≤ length (statements_of tables.now) }
-    ensures { (place : ℕ) (s : Sentence) → IsNumbered (statements_of tables.now) id.0 place s
-        → (IsTrue result ↔ IsActive (take at (statements_of tables.now)) place) }
+    ensures { (index : ℕ) (s : Sentence) → IsNumbered (statements_of tables.now) id.0 index s
+        → (IsTrue result ↔ IsActive (take at (statements_of tables.now)) index) }
 {
     if !is_label(tables, id) {
         return false;
     }
-    let place = label_place(tables, id);
-    place < at && tables.scopes.is_active(place, at)
+    let index = label_index(tables, id);
+    index < at && tables.scopes.is_active(index, at)
 }
 
 // Whether a labelled statement is active now.
 fn is_label_active_now(tables: &Tables, id: LabelId) -> bool
     requires tables { AreTables tables.now }
     requires known { IsLabelNumber (statements_of tables.now) id.0 }
-    ensures { (place : ℕ) (s : Sentence) → IsNumbered (statements_of tables.now) id.0 place s
-        → (IsTrue result ↔ IsActive (statements_of tables.now) place) }
+    ensures { (index : ℕ) (s : Sentence) → IsNumbered (statements_of tables.now) id.0 index s
+        → (IsTrue result ↔ IsActive (statements_of tables.now) index) }
 {
-    tables.is_active_now(label_place(tables, id))
+    tables.is_active_now(label_index(tables, id))
 }
 
 // What stands under a label's number.
 fn find_number(tables: &Tables, id: LabelId) -> Found
     requires tables { AreTables tables.now }
     requires known { IsLabelNumber (statements_of tables.now) id.0 }
-    ensures { (label : List ℕ) (place : ℕ) (s : Sentence)
-        → IsNumbered (statements_of tables.now) id.0 place s → IsLabelled label s
+    ensures { (label : List ℕ) (index : ℕ) (s : Sentence)
+        → IsNumbered (statements_of tables.now) id.0 index s → IsLabelled label s
         → Finds (statements_of tables.now) label result }
 {
     match label_kind(tables, id) {
@@ -173,18 +173,18 @@ pub(crate) fn find_label_guessed(tables: &Tables, guesses: &mut Guesses, label: 
 pub(crate) fn label_hypotheses<'b>(tables: &'b Tables, id: LabelId) -> &'b [Hypothesis]
     requires tables { AreTables tables.now }
     requires assertion { IsAssertionNumber (statements_of tables.now) id.0 }
-    ensures ids { (place : ℕ) (s : Sentence)
-        → IsNumbered (statements_of tables.now) id.0 place s → IsAssertion s.kind → AreHypotheses
-        (record { statements = statements_of tables.now; place = place })
+    ensures ids { (index : ℕ) (s : Sentence)
+        → IsNumbered (statements_of tables.now) id.0 index s → IsAssertion s.kind → AreHypotheses
+        (record { statements = statements_of tables.now; index = index })
         (map (λ h. h.id.0) result.now) }
-    ensures typed { (place : ℕ) (s : Sentence)
-        → IsNumbered (statements_of tables.now) id.0 place s → IsAssertion s.kind
+    ensures typed { (index : ℕ) (s : Sentence)
+        → IsNumbered (statements_of tables.now) id.0 index s → IsAssertion s.kind
         → HaveTypings (statements_of tables.now) result.now }
-    ensures few { (place : ℕ) (s : Sentence)
-        → IsNumbered (statements_of tables.now) id.0 place s → IsAssertion s.kind
+    ensures few { (index : ℕ) (s : Sentence)
+        → IsNumbered (statements_of tables.now) id.0 index s → IsAssertion s.kind
         → length result.now < most_bytes }
-    ensures patterns { (place : ℕ) (s : Sentence)
-        → IsNumbered (statements_of tables.now) id.0 place s → IsAssertion s.kind → HavePatterns
+    ensures patterns { (index : ℕ) (s : Sentence)
+        → IsNumbered (statements_of tables.now) id.0 index s → IsAssertion s.kind → HavePatterns
         (statements_of tables.now) (variables_of result.now) tables.now.pieces.items result.now }
 {
     match tables.label_info(id) {
@@ -198,14 +198,14 @@ pub(crate) fn label_hypotheses<'b>(tables: &'b Tables, id: LabelId) -> &'b [Hypo
 pub(crate) fn label_pairs<'b>(tables: &'b Tables, id: LabelId) -> &'b [DistinctPair]
     requires tables { AreTables tables.now }
     requires assertion { IsAssertionNumber (statements_of tables.now) id.0 }
-    ensures variables { (place : ℕ) (s : Sentence)
-        → IsNumbered (statements_of tables.now) id.0 place s → IsAssertion s.kind → ArePairs
-        (record { statements = statements_of tables.now; place = place })
+    ensures variables { (index : ℕ) (s : Sentence)
+        → IsNumbered (statements_of tables.now) id.0 index s → IsAssertion s.kind → ArePairs
+        (record { statements = statements_of tables.now; index = index })
         (map (λ pair. (pair.variables.0.0, pair.variables.1.0)) result.now) }
-    ensures places { (place : ℕ) (s : Sentence)
-        → IsNumbered (statements_of tables.now) id.0 place s → IsAssertion s.kind
-        → HaveMandatoryPlaces
-        (record { statements = statements_of tables.now; place = place }) result.now }
+    ensures indices { (index : ℕ) (s : Sentence)
+        → IsNumbered (statements_of tables.now) id.0 index s → IsAssertion s.kind
+        → HaveMandatoryIndices
+        (record { statements = statements_of tables.now; index = index }) result.now }
 {
     match tables.label_info(id) {
         Some(info) => part_of(&tables.pairs, info.pairs),
@@ -218,9 +218,9 @@ pub(crate) fn label_pairs<'b>(tables: &'b Tables, id: LabelId) -> &'b [DistinctP
 pub(crate) fn label_scheme<'b>(tables: &'b Tables, id: LabelId) -> Scheme<'b>
     requires tables { AreTables tables.now }
     requires assertion { IsAssertionNumber (statements_of tables.now) id.0 }
-    ensures { (place : ℕ) (s : Sentence) → IsNumbered (statements_of tables.now) id.0 place s
+    ensures { (index : ℕ) (s : Sentence) → IsNumbered (statements_of tables.now) id.0 index s
         → IsAssertion s.kind
-        → IsSchemeOf (record { statements = statements_of tables.now; place = place }) result }
+        → IsSchemeOf (record { statements = statements_of tables.now; index = index }) result }
 {
     match tables.label_info(id) {
         Some(info) => Scheme {

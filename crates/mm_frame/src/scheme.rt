@@ -35,16 +35,16 @@ impl<'b> Scheme<'b> {
     }
 }
 
-/// The place of the `$f` of a variable among hypotheses.
-pub fn place_of(hypotheses: &[Hypothesis], symbol: Sym) -> Option<usize>
+/// The index of the `$f` of a variable among hypotheses.
+pub fn index_of(hypotheses: &[Hypothesis], symbol: Sym) -> Option<usize>
     ensures { MatchOption
         result
         (IsNowhere symbol.0 (variables_of hypotheses.now))
-        (λ place. IsFirstAt symbol.0 (variables_of hypotheses.now) place) }
+        (λ index. IsFirstAt symbol.0 (variables_of hypotheses.now) index) }
 {
-    for (place, hypothesis) in hypotheses.iter().enumerate() {
+    for (index, hypothesis) in hypotheses.iter().enumerate() {
         if hypothesis.is_of(symbol) {
-            return Some(place);
+            return Some(index);
         }
     }
     None

@@ -1,4 +1,4 @@
-//! Blocks by number, and what is active at a place.
+//! Blocks by number, and what is active at an index.
 
 ghost use Rattle.std.specs.Prelude.{◌≡◌, ◌↔◌, ℕ, suc, ◌-◌, ◌<◌, ◌≤◌, List, [], ◌∷◌, ◌++◌, length};
 ghost use Rattle.std.specs.Prelude.{take, slice_get, Some, IsTrue, IfOk, OnOk};
@@ -7,7 +7,7 @@ ghost use Rattle.mm_frame.specs.Sentence.{Sentence};
 ghost use Rattle.mm_frame.specs.Active.{IsOpen, IsActive, open_marks, close_marks};
 ghost use Rattle.mm_frame.specs.Mirror.ScopesOf.{HaveScopes, CanTake, HasRoom, HaveSameLists};
 
-use crate::lists::{at as at_place, put, reserve_numbered, write};
+use crate::lists::{at as at_index, put, reserve_numbered, write};
 use mm_text::Kind;
 use std::alloc::{AllocError, Global};
 
@@ -20,7 +20,7 @@ pub(crate) const NEVER: u32 = 4294967295;
 pub struct Scopes {
     /// The block that directly holds each statement.
     pub(crate) blocks: Vec<u32>,
-    /// The place of each block's `$}`, or `NEVER`.
+    /// The index of each block's `$}`, or `NEVER`.
     pub(crate) ends: Vec<u32>,
     /// The open blocks, the outermost first.
     pub(crate) open: Vec<u32>,
@@ -42,17 +42,17 @@ impl Scopes {
         })
     }
 
-    /// Whether the statement at a place is active after the statements before another.
-    pub(crate) fn is_active(&self, place: usize, at: usize) -> bool
+    /// Whether the statement at an index is active after the statements before another.
+    pub(crate) fn is_active(&self, index: usize, at: usize) -> bool
         requires scopes { (statements : List Sentence) × HaveScopes statements self.now }
-        requires place { place < at }
+        requires index { index < at }
         requires within { at ≤ length self.now.blocks.items }
         ensures { (statements : List Sentence) → HaveScopes statements self.now
             → length statements ≤ NEVER
-            → (IsTrue result ↔ IsActive (take at statements) place) }
+            → (IsTrue result ↔ IsActive (take at statements) index) }
     {
-        match at_place(&self.blocks, place) {
-            Some(block) => match at_place(&self.ends, block as usize) {
+        match at_index(&self.blocks, index) {
+            Some(block) => match at_index(&self.ends, block as usize) {
                 Some(end) => at <= end as usize,
                 // Each block has an entry for its end.
                 None => unreachable!(),
@@ -74,7 +74,7 @@ impl Scopes {
     /// Whether a block is open.
     pub(crate) fn has_open(&self) -> bool
         ensures { (statements : List Sentence) → HaveScopes statements self.now
-            → (IsTrue result ↔ ((place : ℕ) × IsOpen statements place)) }
+            → (IsTrue result ↔ ((index : ℕ) × IsOpen statements index)) }
     {
         self.open.len() >= 2
     }
@@ -110,9 +110,9 @@ impl Scopes {
             → e.kind ≡ Closing → close_marks statements < open_marks statements
             → HaveScopes (statements ++ e ∷ []) self.new }
     {
-        let place = self.blocks.len() as u32;
+        let index = self.blocks.len() as u32;
         let block = self.innermost();
-        write(&mut self.ends, block as usize, place);
+        write(&mut self.ends, block as usize, index);
         let _ = self.open.pop();
         let outer = self.innermost();
         put(&mut self.blocks, outer);

@@ -96,7 +96,7 @@ pub(crate) fn is_active_number(tables: &Tables, symbol: Sym) -> bool
 {
     match tables.info(symbol) {
         Some(info) => match info.variable {
-            Some(place) => tables.is_active_now(place as usize),
+            Some(index) => tables.is_active_now(index as usize),
             None => true,
         },
         None => false,
@@ -112,7 +112,7 @@ pub(crate) fn is_typed_number(tables: &Tables, variable: Sym) -> bool
 {
     match tables.info(variable) {
         Some(info) => match info.floating {
-            Some(place) => tables.is_active_now(place as usize),
+            Some(index) => tables.is_active_now(index as usize),
             None => false,
         },
         None => false,

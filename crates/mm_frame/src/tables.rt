@@ -30,17 +30,17 @@ pub(crate) struct Entry {
 /// A declared symbol.
 #[derive(Clone, Copy)]
 pub(crate) struct SymbolInfo {
-    /// The place of the latest `$v` that declares it; a constant has none.
+    /// The index of the latest `$v` that declares it; a constant has none.
     pub(crate) variable: Option<u32>,
-    /// The place of its latest `$f`.
+    /// The index of its latest `$f`.
     pub(crate) floating: Option<u32>,
 }
 
 /// A labelled statement. What the steps of proofs ask of it stands together, as they name labels in
-/// any order: so one place of memory is read, and not that of the entry too.
+/// any order: so one index of memory is read, and not that of the entry too.
 #[derive(Clone, Copy)]
 pub(crate) struct LabelInfo {
-    pub(crate) place: u32,
+    pub(crate) index: u32,
     /// What its entry says.
     pub(crate) kind: Kind,
     pub(crate) symbols: Part,
@@ -52,17 +52,17 @@ pub(crate) struct LabelInfo {
     pub(crate) conclusion: Part,
 }
 
-/// The symbols of the statement at a place, by the statements and the symbols of a book.
+/// The symbols of the statement at an index, by the statements and the symbols of a book.
 #[tactic(auto, using(crate::proofs::Rules::SymbolLookups::numbers_at))]
-pub(crate) fn symbols_in<'b>(log: &[Entry], flat: &'b [Sym], place: usize) -> &'b [Sym]
-    requires { place < length log.now }
+pub(crate) fn symbols_in<'b>(log: &[Entry], flat: &'b [Sym], index: usize) -> &'b [Sym]
+    requires { index < length log.now }
     ensures { (t : Tables) (s : Sentence) → AreTables t → t.log.items ≡ log.now
-        → t.flat.items ≡ flat.now → slice_get (statements_of t) place ≡ Some s
+        → t.flat.items ≡ flat.now → slice_get (statements_of t) index ≡ Some s
         → AreNumbers (statements_of t) (map (λ n. n.0) result.now) s.symbols }
 {
-    match at(log, place) {
+    match at(log, index) {
         Some(entry) => part_of(flat, entry.symbols),
-        // The place is below the count of statements.
+        // The index is below the count of statements.
         None => unreachable!(),
     }
 }
@@ -92,7 +92,7 @@ pub struct Tables<'a> {
     pub(crate) log: Vec<Entry>,
     pub(crate) flat: Vec<Sym>,
     pub(crate) scopes: Scopes,
-    /// The places of the active `$e`, in order.
+    /// The indices of the active `$e`, in order.
     pub(crate) essentials: Vec<usize>,
     /// The mandatory hypotheses of all assertions, one after the other, and their distinct pairs.
     pub(crate) hypotheses: Vec<Hypothesis>,
@@ -112,7 +112,7 @@ impl<'a> Tables<'a> {
     ghost use Rattle.mm_frame.specs.Sentence.{Sentence, Types, IsHypothesis};
     ghost use Rattle.mm_frame.specs.Numbers.{AreNumbers, IsNumberOf};
     ghost use Rattle.mm_frame.specs.Active.{IsActive};
-    ghost use Rattle.mm_frame.specs.FramePlace.{IsTypingOf};
+    ghost use Rattle.mm_frame.specs.FrameIndex.{IsTypingOf};
     ghost use Rattle.mm_frame.specs.Mirror.Layout.{AreTables, statements_of, database_of};
     ghost use Rattle.mm_frame.specs.Mirror.Layout.{IsDeclared};
     ghost use Rattle.mm_frame.specs.Mirror.Layout.{IsKnown};
@@ -171,30 +171,30 @@ impl<'a> Tables<'a> {
         at(&self.named, id.0 as usize)
     }
 
-    /// The symbols of the statement at a place.
-    pub(crate) fn symbols_at(&self, place: usize) -> &[Sym]
+    /// The symbols of the statement at an index.
+    pub(crate) fn symbols_at(&self, index: usize) -> &[Sym]
         requires tables { AreTables self.now }
-        requires within { place < length self.now.log.items }
-        ensures { (s : Sentence) → slice_get (statements_of self.now) place ≡ Some s
+        requires within { index < length self.now.log.items }
+        ensures { (s : Sentence) → slice_get (statements_of self.now) index ≡ Some s
             → AreNumbers (statements_of self.now) (map (λ n. n.0) result.now) s.symbols }
     {
-        symbols_in(&self.log, &self.flat, place)
+        symbols_in(&self.log, &self.flat, index)
     }
 
-    /// The variable of the `$f` at a place.
+    /// The variable of the `$f` at an index.
     #[tactic(auto, using(crate::proofs::Frames::FrameTypings::typing_steps))]
-    pub(crate) fn floating_variable(&self, place: usize) -> Option<Sym>
+    pub(crate) fn floating_variable(&self, index: usize) -> Option<Sym>
         requires { AreTables self.now }
-        ensures { (f : Sentence) → slice_get (statements_of self.now) place ≡ Some f → MatchOption
+        ensures { (f : Sentence) → slice_get (statements_of self.now) index ≡ Some f → MatchOption
             result
             (¬ (f.kind ≡ Floating))
             (λ n. (code : List ℕ) × (x : List ℕ) × Types code x f
             × IsNumberOf (statements_of self.now) x n.0) }
     {
-        match at(&self.log, place) {
+        match at(&self.log, index) {
             Some(entry) => {
                 if entry.kind == Kind::Floating {
-                    at(self.symbols_at(place), 1)
+                    at(self.symbols_at(index), 1)
                 } else {
                     None
                 }
@@ -203,17 +203,17 @@ impl<'a> Tables<'a> {
         }
     }
 
-    /// The type code and the variable of the `$f` at a place.
+    /// The type code and the variable of the `$f` at an index.
     #[tactic(auto, using(crate::proofs::Frames::FrameTypings::typing_steps))]
-    pub(crate) fn typing(&self, place: usize) -> Option<(Sym, Sym)>
+    pub(crate) fn typing(&self, index: usize) -> Option<(Sym, Sym)>
         requires { AreTables self.now }
-        ensures { (f : Sentence) → slice_get (statements_of self.now) place ≡ Some f
+        ensures { (f : Sentence) → slice_get (statements_of self.now) index ≡ Some f
             → IsHypothesis f.kind → IsTypingOf (statements_of self.now) result f }
     {
-        match at(&self.log, place) {
+        match at(&self.log, index) {
             Some(entry) => {
                 if entry.kind == Kind::Floating {
-                    first_two(self.symbols_at(place))
+                    first_two(self.symbols_at(index))
                 } else {
                     None
                 }
@@ -222,13 +222,13 @@ impl<'a> Tables<'a> {
         }
     }
 
-    /// Whether the statement at a place is active now.
+    /// Whether the statement at an index is active now.
     #[tactic(auto, using(crate::proofs::Rules::SymbolLookups::activity_steps))]
-    pub(crate) fn is_active_now(&self, place: usize) -> bool
+    pub(crate) fn is_active_now(&self, index: usize) -> bool
         requires tables { AreTables self.now }
-        requires place { place < length (statements_of self.now) }
-        ensures { IsTrue result ↔ IsActive (statements_of self.now) place }
+        requires index { index < length (statements_of self.now) }
+        ensures { IsTrue result ↔ IsActive (statements_of self.now) index }
     {
-        self.scopes.is_active(place, self.log.len())
+        self.scopes.is_active(index, self.log.len())
     }
 }

@@ -21,7 +21,7 @@ use mm_text::{Kind, Statement, Token};
 use std::alloc::AllocError;
 
 impl<'a> Tables<'a> {
-    // Notes the place of the latest `$v` that declares a symbol.
+    // Notes the index of the latest `$v` that declares a symbol.
     fn note_variable(&mut self, number: u32, variable: u32)
         ensures infos { (info : SymbolInfo) → slice_get self.old.infos.items number ≡ Some info
             → self.new.infos.items ≡ slice_set self.old.infos.items number
@@ -30,9 +30,9 @@ impl<'a> Tables<'a> {
         ensures room { vec_capacity self.new.infos ≡ vec_capacity self.old.infos }
         ensures others { self.new ≡ record self.old { infos = self.new.infos } }
     {
-        let place = number as usize;
-        if place < self.infos.len() {
-            self.infos[place].variable = Some(variable);
+        let index = number as usize;
+        if index < self.infos.len() {
+            self.infos[index].variable = Some(variable);
         }
     }
 
@@ -65,8 +65,8 @@ impl<'a> Tables<'a> {
     {
         match self.symbols.find(symbol) {
             Some(number) => {
-                if let Some(place) = variable {
-                    self.note_variable(number, place);
+                if let Some(index) = variable {
+                    self.note_variable(number, index);
                 }
                 self.flat.push_reserved(Sym(number));
             }

@@ -28,17 +28,17 @@ use std::alloc::AllocError;
 // people write have no greater one.
 const MOST_PAIRED: usize = 64;
 
-// Notes that a `$d` at a place states some pairs.
-fn state(distinct: &mut Pairs, pairs: &[(u32, u32)], place: usize)
+// Notes that a `$d` at an index states some pairs.
+fn state(distinct: &mut Pairs, pairs: &[(u32, u32)], index: usize)
     requires room { length pairs.now ≤ distinct.old.room }
-    requires place { place < 4294967296 }
+    requires index { index < 4294967296 }
     ensures { distinct.new.stated ≡ record {
-      pairs = distinct.old.stated.pairs ++ map (stated_at place) pairs.now;
+      pairs = distinct.old.stated.pairs ++ map (stated_at index) pairs.now;
       wide = distinct.old.stated.wide;
     } }
 {
     for pair in pairs {
-        distinct.add(*pair, place);
+        distinct.add(*pair, index);
     }
 }
 
@@ -82,7 +82,7 @@ impl<'a> Tables<'a> {
         requires { AreTables self.now }
         ensures within { result ≤ length self.now.distinct.stated.wide }
         ensures passed { NoneFrom
-            (λ w. IsActive (statements_of self.now) w.place) self.now.distinct.stated.wide result }
+            (λ w. IsActive (statements_of self.now) w.index) self.now.distinct.stated.wide result }
     {
         let wide = self.distinct.wide();
         let at = self.log.len();
@@ -92,7 +92,7 @@ impl<'a> Tables<'a> {
                 return 0;
             }
             let last = &wide[left - 1];
-            if self.scopes.is_active(last.place, at) {
+            if self.scopes.is_active(last.index, at) {
                 return left;
             }
             left = last.older;
@@ -108,7 +108,7 @@ impl<'a> Tables<'a> {
     {
         let numbers = numbers_in_order(self.alloc, members)?;
         Ok(WideDistinct {
-            place: self.log.len(),
+            index: self.log.len(),
             members: numbers,
             older: self.active_wide(),
         })
@@ -143,8 +143,8 @@ impl<'a> Tables<'a> {
         let pairs = self.new_pairs(numbers)?;
         self.reserve(numbers.len())?;
         self.distinct.reserve(pairs.len())?;
-        let place = self.log.len();
-        state(&mut self.distinct, &pairs, place);
+        let index = self.log.len();
+        state(&mut self.distinct, &pairs, index);
         Ok(self.enter_members(numbers, bytes))
     }
 

@@ -16,7 +16,7 @@ ghost use Rattle.mm_frame.specs.Mirror.ScopesOf.{CanTake};
 ghost use Rattle.mm_frame.specs.Mirror.Naming.{Named, HaveNameRoom, part_after};
 
 use crate::answer::Taken;
-use crate::distinct::find_places;
+use crate::distinct::find_indices;
 use crate::framing::{FrameLists, find_hypotheses, find_mandatory, find_pairs};
 use crate::lists::{at, put, reserve_numbered};
 use crate::number::{LabelId, Sym};
@@ -44,13 +44,13 @@ fn add_part<T: Copy + Drop>(list: &mut Vec<T>, more: &[T]) -> Part
     }
 }
 
-// Notes the place of a variable's latest `$f`.
-fn note_floating(infos: &mut Vec<SymbolInfo>, variable: Sym, place: u32)
+// Notes the index of a variable's latest `$f`.
+fn note_floating(infos: &mut Vec<SymbolInfo>, variable: Sym, index: u32)
     ensures { (info : SymbolInfo) → slice_get infos.old.items variable.0 ≡ Some info
-        → infos.new.items ≡ set infos.old.items variable.0 (record info { floating = Some place }) }
+        → infos.new.items ≡ set infos.old.items variable.0 (record info { floating = Some index }) }
 {
     if let Some(info) = infos.get_mut(variable.0 as usize) {
-        info.floating = Some(place);
+        info.floating = Some(index);
     }
 }
 
@@ -72,7 +72,7 @@ impl<'a> Tables<'a> {
         ensures named { Named self.old self.new kind label.now numbers.now frame result bytes }
     {
         let id = LabelId(self.labels.len() as u32);
-        let place = self.log.len() as u32;
+        let index = self.log.len() as u32;
         let start = self.flat.len() as u32;
         let _ = self.flat.extend_from_slice(numbers);
         let symbols = Part {
@@ -83,7 +83,7 @@ impl<'a> Tables<'a> {
         put(
             &mut self.named,
             LabelInfo {
-                place,
+                index,
                 kind,
                 symbols,
                 hypotheses: frame.0,
@@ -167,30 +167,30 @@ impl<'a> Tables<'a> {
             → Grows self.old self.new s bytes)) }
         ensures err { OnErr result (IsSame self.old self.new) }
     {
-        find_mandatory(self, numbers, &mut lists.places)?;
-        find_hypotheses(self, &lists.places, &mut lists.hypotheses)?;
+        find_mandatory(self, numbers, &mut lists.indices)?;
+        find_hypotheses(self, &lists.indices, &mut lists.hypotheses)?;
         lists.noted.note(&lists.hypotheses)?;
-        find_pairs(self, &lists.places, &mut lists.variables, &mut lists.pairs)?;
-        find_places(
+        find_pairs(self, &lists.indices, &mut lists.variables, &mut lists.pairs)?;
+        find_indices(
             &lists.hypotheses,
             &lists.noted,
             &lists.pairs,
-            &mut lists.placed,
+            &mut lists.indexed,
         )?;
         self.reserve(numbers.len())?;
         reserve_numbered(&mut self.hypotheses, lists.hypotheses.len())?;
-        reserve_numbered(&mut self.pairs, lists.placed.len())?;
+        reserve_numbered(&mut self.pairs, lists.indexed.len())?;
         let conclusion = add_patterns(
             &mut self.pieces,
             &mut lists.hypotheses,
             &lists.noted,
-            &lists.places,
+            &lists.indices,
             &self.log,
             &self.flat,
             numbers,
         )?;
         let hypotheses = add_part(&mut self.hypotheses, &lists.hypotheses);
-        let pairs = add_part(&mut self.pairs, &lists.placed);
+        let pairs = add_part(&mut self.pairs, &lists.indexed);
         let frame = (hypotheses, pairs, conclusion);
         let id = self.name(kind, label, numbers, frame, bytes);
         Ok(Taken::Assertion(id))

@@ -33,7 +33,7 @@ use std::alloc::AllocError;
 
 impl<'a> Tables<'a> {
     // Makes room for a statement of so many symbols, and for its label. A database has no more
-    // statements and symbols than bytes, so their places are numbers of 32 bits.
+    // statements and symbols than bytes, so their indices are numbers of 32 bits.
     pub(crate) fn reserve(&mut self, symbols: usize) -> Result<(), AllocError>
         requires { length self.old.log.items + length self.old.flat.items + symbols < 4294967296 }
         ensures same { SameLists self.old self.new }
@@ -196,34 +196,34 @@ impl<'a> Tables<'a> {
     }
 }
 
-// Whether the last of some places is active, if there is one.
-fn is_last_active(places: &[usize], scopes: &Scopes, at: usize) -> bool
+// Whether the last of some indices is active, if there is one.
+fn is_last_active(indices: &[usize], scopes: &Scopes, at: usize) -> bool
     requires scopes { (statements : List Sentence) × HaveScopes statements scopes.now }
     requires all { at ≡ length scopes.now.blocks.items }
-    requires within { (i p : ℕ) → slice_get places.now i ≡ Some p → p < at }
+    requires within { (i p : ℕ) → slice_get indices.now i ≡ Some p → p < at }
     ensures { (statements : List Sentence) (k p : ℕ) → HaveScopes statements scopes.now
-        → length statements ≤ NEVER → length places.now ≡ suc k
-        → slice_get places.now k ≡ Some p → (IsTrue result ↔ IsActive statements p) }
+        → length statements ≤ NEVER → length indices.now ≡ suc k
+        → slice_get indices.now k ≡ Some p → (IsTrue result ↔ IsActive statements p) }
 {
-    match places.last() {
-        Some(place) => scopes.is_active(*place, at),
+    match indices.last() {
+        Some(index) => scopes.is_active(*index, at),
         None => true,
     }
 }
 
-// Drops the places at the end of their list that aren't active.
-fn forget_inactive(places: &mut Vec<usize>, scopes: &Scopes, at: usize)
+// Drops the indices at the end of their list that aren't active.
+fn forget_inactive(indices: &mut Vec<usize>, scopes: &Scopes, at: usize)
     requires scopes { (statements : List Sentence) × HaveScopes statements scopes.now }
     requires all { at ≡ length scopes.now.blocks.items }
-    requires within { (i p : ℕ) → slice_get places.old.items i ≡ Some p → p < at }
+    requires within { (i p : ℕ) → slice_get indices.old.items i ≡ Some p → p < at }
     ensures { (statements : List Sentence) → HaveScopes statements scopes.now
         → length statements ≤ NEVER
-        → AreForgotten statements places.old.items places.new.items }
+        → AreForgotten statements indices.old.items indices.new.items }
 {
-    for _ in 0..places.len() {
-        if is_last_active(places, scopes, at) {
+    for _ in 0..indices.len() {
+        if is_last_active(indices, scopes, at) {
             return;
         }
-        let _ = places.pop();
+        let _ = indices.pop();
     }
 }

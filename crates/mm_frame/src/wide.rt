@@ -10,8 +10,8 @@ use std::alloc::{AllocError, Global};
 /// A `$d` of many variables.
 #[derive(Drop)]
 pub struct WideDistinct {
-    /// Its place.
-    pub(crate) place: usize,
+    /// Its index.
+    pub(crate) index: usize,
     /// The numbers of its variables, in order.
     pub(crate) members: Vec<u32>,
     /// How many `$d` of many variables there are up to the latest one before it that is active

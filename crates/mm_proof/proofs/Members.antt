@@ -56,21 +56,21 @@ abbrev pub Once : {X : Type 0} → List X → Type 0
 Once [] = Unit {0}
 Once (x ∷ xs) = ¬ (In xs x) × Once xs
 
-pub once_places : {X : Type 0} (xs : List X) (i j : ℕ) (x : X) → Once xs → slice_get xs i ≡ Some x
+pub once_indices : {X : Type 0} (xs : List X) (i j : ℕ) (x : X) → Once xs → slice_get xs i ≡ Some x
     → slice_get xs j ≡ Some x → i ≡ j
-once_places [] i j x o p q = absurd (none-some x p)
-once_places (y ∷ ys) zero zero x o p q = refl
-once_places (y ∷ ys) zero (suc j) x o p q = absurd (o.0 (get_in ys j y (q ∙ sym p)))
-once_places (y ∷ ys) (suc i) zero x o p q = absurd (o.0 (get_in ys i y (p ∙ sym q)))
-once_places (y ∷ ys) (suc i) (suc j) x o p q = ap suc (once_places ys i j x o.1 p q)
+once_indices [] i j x o p q = absurd (none-some x p)
+once_indices (y ∷ ys) zero zero x o p q = refl
+once_indices (y ∷ ys) zero (suc j) x o p q = absurd (o.0 (get_in ys j y (q ∙ sym p)))
+once_indices (y ∷ ys) (suc i) zero x o p q = absurd (o.0 (get_in ys i y (p ∙ sym q)))
+once_indices (y ∷ ys) (suc i) (suc j) x o p q = ap suc (once_indices ys i j x o.1 p q)
 
-pub places_once : {X : Type 0} (xs : List X)
+pub indices_once : {X : Type 0} (xs : List X)
     → ((i j : ℕ) (x : X) → slice_get xs i ≡ Some x → slice_get xs j ≡ Some x → i ≡ j) → Once xs
-places_once [] one = tt
-places_once (y ∷ ys) one = (
+indices_once [] one = tt
+indices_once (y ∷ ys) one = (
   λ h. let g = in_get ys y h in absurd
       (let e : 0 ≡ suc g.0 = one 0 (suc g.0) y refl g.1 in omega arith),
-  places_once ys (λ i j x p q. let e : suc i ≡ suc j = one (suc i) (suc j) x p q in omega arith),
+  indices_once ys (λ i j x p q. let e : suc i ≡ suc j = one (suc i) (suc j) x p q in omega arith),
 )
 
 -- ==== what can be decided of frames, and of what replaces the members of their pairs
@@ -106,11 +106,11 @@ module _ (P : List ℕ → Type 0) (each : ((x : List ℕ) → Dec (P x))) where
       (dec_both (each y) (dec_each xs))
 
 -- the elements that a property picks
-pub those_of : {X : Type 0} (P : ℕ → X → Type 0) → ((k : ℕ) (x : X) → Dec (P k x)) → (place : ℕ) (xs : List X) → (those : List X) × AreThose P place xs those
-those_of P each place [] = ([], refl)
-those_of P each place (x ∷ xs) = go (each place x) (those_of P each (place + 1) xs)
+pub those_of : {X : Type 0} (P : ℕ → X → Type 0) → ((k : ℕ) (x : X) → Dec (P k x)) → (index : ℕ) (xs : List X) → (those : List X) × AreThose P index xs those
+those_of P each index [] = ([], refl)
+those_of P each index (x ∷ xs) = go (each index x) (those_of P each (index + 1) xs)
   where
-    go : Dec (P place x) → (those : List _) × AreThose P (place + 1) xs those → (those : List _) × AreThose P place (x ∷ xs) those
+    go : Dec (P index x) → (those : List _) × AreThose P (index + 1) xs those → (those : List _) × AreThose P index (x ∷ xs) those
     go (yes p) r = (x ∷ r.0, inl (p, r.0, refl, r.1))
     go (no n) r = (r.0, inr (n, r.1))
 
@@ -147,9 +147,9 @@ pub some_pair_dec : (before : List Sentence) (s : Sentence) (σ : List ℕ → O
 some_pair_dec before s σ P each = dec_as
     (λ h. (h.3.1.0, h.3.1.2.0, (((h.3.1.2.2.0, (h.0, h.1, h.2, h.3.0.0, (h.3.0.1, h.3.1.1, h.3.1.2.1))), h.3.1.2.2.1, h.3.1.2.2.2)), h.3.1.2.2.3))
     (λ h. (h.2.0.1.0, h.2.0.1.1, h.2.0.1.2, ((h.2.0.1.3, h.2.0.1.4.0), (h.0, h.2.0.1.4.1, (h.1, h.2.0.1.4.2, (h.2.0.0, h.2.1, h.2.2, h.3))))))
-    (dec_some (λ place (d : Sentence). (IsActive before place × (d.kind ≡ Distinct)) × ((x : List ℕ) × Contains d.symbols x × ((y : List ℕ) × Contains d.symbols y
+    (dec_some (λ index (d : Sentence). (IsActive before index × (d.kind ≡ Distinct)) × ((x : List ℕ) × Contains d.symbols x × ((y : List ℕ) × Contains d.symbols y
     × ((x ≢ y) × IsMandatory before s x × IsMandatory before s y × BothReplaced σ P x y))))
-    (λ place d. dec_both (dec_both (active_dec before place) (kind_dec d.kind Distinct))
+    (λ index d. dec_both (dec_both (active_dec before index) (kind_dec d.kind Distinct))
     (dec_member (λ x. (y : List ℕ) × Contains d.symbols y × ((x ≢ y) × IsMandatory before s x × IsMandatory before s y × BothReplaced σ P x y))
     (λ x. dec_member (λ y. (x ≢ y) × IsMandatory before s x × IsMandatory before s y × BothReplaced σ P x y)
     (λ y. dec_as (λ c. (c.0.0, c.0.1, c.1.0, c.1.1)) (λ c. ((c.0, c.1), (c.2, c.3)))

@@ -1,7 +1,7 @@
 -- What the tokens of a proof say: its labels, its list, its letters, and the one row of moves that
 -- they make. Begin with `SaidMoves`: tokens say one row of moves, by names. `ProofLabels` and
 -- `ProofCodes` join to it what `parse`, `labels` and `machine` read of normal and of compressed
--- proofs; `QuestionMarks` has the known front's tokens, and that no proof that breaks no rule over
+-- proofs; `QuestionMarks` has the known prefix's tokens, and that no proof that breaks no rule over
 -- the whole of it holds a `?`. Clauses of `Steps::parse` and `Prover::prove` rest on it.
 pub mod SaidMoves
 pub mod ProofLabels

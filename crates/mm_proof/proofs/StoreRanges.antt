@@ -20,7 +20,7 @@ use Rattle.mm_frame.proofs.BookLists.GrownLists.{slice_left}
 -- ==== elements of a list that a contract sees as something else
 
 module _ {X Y : Type 0} (f : X → Y) (xs : List X) (i : ℕ) (x : X) (y : Y) where
-  -- what is read at a place is seen as what stands there
+  -- what is read at an index is seen as what stands there
   pub read-at : i < length (map f xs) → x ≡ get_or xs i x → slice_get (map f xs) i ≡ Some y
       → f x ≡ y
   read-at within read there =
@@ -37,7 +37,7 @@ module _ {X Y : Type 0} (f : X → Y) (xs : List X) (i : ℕ) (x : X) (y : Y) wh
       let at : slice_get (map f xs) i ≡ Some y = cc in
       read-at (omega (arith, length-map xs f)) read at
 
--- a front of the list is seen as that front
+-- a prefix of the list is seen as that prefix
 pub take-seen : {X Y : Type 0} (f : X → Y) (xs : List X) (m k : ℕ) → m ≡ length xs - k → map f (take m xs) ≡ take (length (map f xs) - k) (map f xs)
 take-seen f xs m k is =
     let cut = take-map f m xs in
@@ -62,9 +62,9 @@ pub ruleset row_steps = (take-seen, read-last, push-seen)
 
 -- ==== ranges of a list that grows at its end, or is cut there
 
--- a part of a front, from a place within it on
+-- a part of a prefix, from an index within it on
 pub cut-before : {X : Type 0} (n i : ℕ) (xs : List X) → i ≤ n → drop i (take n xs) ≡ take (n - i) (drop i xs)
-cut-before {X} n i xs front =
+cut-before {X} n i xs prefix =
     let whole : i + (n - i) ≡ n = omega arith in
     subst (λ (k : ℕ). drop i (take k xs) ≡ take (n - i) (drop i xs)) whole (drop-take i (n - i) xs)
 
@@ -95,7 +95,7 @@ parts-cut n xs (e ∷ entries) h =
     let others = parts-cut n xs entries (λ i a at. h (suc i) a at) in
     cc
 
--- what stands before a place stands before a later one
+-- what stands before an index stands before a later one
 pub within-later : (m n : ℕ) (entries : List Entry) → m ≤ n → AreParts m entries → AreParts n entries
 within-later m n entries le h i e at =
     let here = h i e at in
@@ -106,13 +106,13 @@ pub parts-push : (xs ys : List Sym) (entries : List Entry) (e : Entry) → ArePa
     → parts_of (xs ++ ys) (entries ++ e ∷ []) ≡ parts_of xs entries ++ numbers_in ys ∷ []
 parts-push xs ys entries e h from to =
     let whole = map-append (λ (a : Entry). numbers_in (slice_range (xs ++ ys) a.start a.end)) entries (e ∷ []) in
-    let front = parts-grow xs ys entries h in
+    let prefix = parts-grow xs ys entries h in
     let new = part-new xs ys e.end to in
     let is : slice_range (xs ++ ys) e.start e.end ≡ ys = rw from new in
     let last = ap numbers_in is in
     cc
 
--- what stands behind a front is put there
+-- what stands behind a prefix is put there
 pub put-behind : {X : Type 0} (xs ys zs : List X) (n : ℕ) → length xs + length ys ≡ n → take n (xs ++ (ys ++ zs)) ≡ xs ++ ys
 put-behind xs ys zs n is =
     ap (take n) (sym (append_assoc xs ys zs)) ∙ take_at (xs ++ ys) zs n (omega (arith, length-append xs ys))
@@ -141,9 +141,9 @@ value-part xs entries base i first d less behind none =
     let read = read-behind seen entries base i d [] less in
     ap numbers_in (behind-first (e.end - e.start) xs e.start e.end first refl behind none) ∙ sym (drop-map (λ (s : Sym). s.0) 1 whole) ∙ ap (drop 1) (sym read)
 
--- those of a front are within what all are within
-pub within-front : (m base : ℕ) (entries : List Entry) → AreParts m entries → AreParts m (take base entries)
-within-front m base entries h i e at = h i e (get_from_front entries base i e at)
+-- those of a prefix are within what all are within
+pub within-prefix : (m base : ℕ) (entries : List Entry) → AreParts m entries → AreParts m (take base entries)
+within-prefix m base entries h i e at = h i e (get_from_front entries base i e at)
 
 -- and so are these and one more that is
 pub within-more : (m : ℕ) (entries : List Entry) (e : Entry) → AreParts m entries → IsPart m e → AreParts m (entries ++ e ∷ [])
@@ -154,12 +154,12 @@ within-more m (x ∷ entries) e h is (suc i) a at = within-more m entries e (λ 
 
 -- and so are those that are left where one is put in the place of the last ones, refused too
 pub within-put : {T E : Type 0} (m base : ℕ) (result : Result T E) (old new : List Entry) (e : Entry) → OnOk result (new ≡ take base old ++ e ∷ []) → OnErr result (new ≡ old) → AreParts m old → IsPart m e → AreParts m new
-within-put m base (Ok x) old new e put same h is = subst (AreParts m) (sym put) (within-more m (take base old) e (within-front m base old h) is)
+within-put m base (Ok x) old new e put same h is = subst (AreParts m) (sym put) (within-more m (take base old) e (within-prefix m base old h) is)
 within-put m base (Err x) old new e put same h is = subst (AreParts m) (sym same) h
 
 -- ---- a conclusion at the end of the buffer
 
--- a front and what stands behind it are a front of the stack and the conclusion
+-- a prefix and what stands behind it are a prefix of the stack and the conclusion
 pub concluded : (xs new more : List Sym) (entries : List Entry) (base start : ℕ) (whole : List ℕ) → AreParts (length xs) entries → start ≡ length xs
     → new ≡ xs ++ more → numbers_in more ≡ whole
     → take base (parts_of new entries) ++ numbers_in (drop start new) ∷ [] ≡ take base (parts_of xs entries) ++ whole ∷ []
@@ -168,13 +168,13 @@ concluded xs new more entries base start whole h from is said =
     let made : numbers_in (drop start new) ≡ whole = ap (λ l. numbers_in (drop start l)) is ∙ ap numbers_in (drop_at xs more start (sym from)) ∙ said in
     ap (λ l. take base l ++ numbers_in (drop start new) ∷ []) grown ∙ ap (λ n. take base (parts_of xs entries) ++ n ∷ []) made
 
--- the entry of what stands at the end, behind a front of the stack, names the conclusion
+-- the entry of what stands at the end, behind a prefix of the stack, names the conclusion
 pub concluded-entry : (xs new more : List Sym) (entries : List Entry) (base : ℕ) (e : Entry) (whole : List ℕ) → AreParts (length xs) entries
     → e.start ≡ length xs → e.end ≡ length new → new ≡ xs ++ more → numbers_in more ≡ whole
     → parts_of new (take base entries ++ e ∷ []) ≡ take base (parts_of xs entries) ++ whole ∷ []
 concluded-entry xs new more entries base e whole h from to is said =
     ap (λ l. parts_of l (take base entries ++ e ∷ [])) is
-    ∙ parts-push xs more (take base entries) e (within-front (length xs) base entries h) from (to ∙ ap length is)
+    ∙ parts-push xs more (take base entries) e (within-prefix (length xs) base entries h) from (to ∙ ap length is)
     ∙ ap (λ l. l ++ numbers_in more ∷ []) (sym (take-map (λ (a : Entry). numbers_in (slice_range xs a.start a.end)) base entries))
     ∙ ap (λ n. take base (parts_of xs entries) ++ n ∷ []) said
 
@@ -196,21 +196,21 @@ pub moved-length : (n start : ℕ) (xs : List Sym) → n ≤ start → start ≤
 moved-length n start xs order inside =
     omega (arith, length-append (take n xs) (drop start xs), length-take n xs, length-drop start xs)
 
--- the entry of a conclusion that was moved down, behind a front of the stack, names it
+-- the entry of a conclusion that was moved down, behind a prefix of the stack, names it
 pub moved-entry : (n start : ℕ) (xs new : List Sym) (entries : List Entry) (base : ℕ) (e : Entry) → AreParts n (take base entries) → n ≤ length xs → start ≤ length xs
     → e.start ≡ n → e.end ≡ n + (length xs - start) → new ≡ take n xs ++ drop start xs
     → parts_of new (take base entries ++ e ∷ []) ≡ take base (parts_of xs entries) ++ numbers_in (drop start xs) ∷ []
 moved-entry n start xs new entries base e h within inside from to is =
-    let front = take n xs in
+    let prefix = take n xs in
     let more = drop start xs in
-    let size : length front ≡ n = omega (arith, length-take n xs, within) in
+    let size : length prefix ≡ n = omega (arith, length-take n xs, within) in
     let rest : length more ≡ length xs - start = length-drop start xs in
     ap (λ l. parts_of l (take base entries ++ e ∷ [])) is
-    ∙ parts-push front more (take base entries) e (rw size h) (from ∙ sym size)
-    (omega (arith, to, size, rest, length-append front more))
+    ∙ parts-push prefix more (take base entries) e (rw size h) (from ∙ sym size)
+    (omega (arith, to, size, rest, length-append prefix more))
     ∙ ap (λ l. l ++ numbers_in more ∷ []) (parts-cut n xs (take base entries) h ∙ sym (take-map (λ (a : Entry). numbers_in (slice_range xs a.start a.end)) base entries))
 
--- what is named of a front stays where something else is put behind that front
+-- what is named of a prefix stays where something else is put behind that prefix
 pub parts-moved : (n : ℕ) (xs more new : List Sym) (entries : List Entry) → AreParts n entries → n ≤ length xs → new ≡ take n xs ++ more → parts_of new entries ≡ parts_of xs entries
 parts-moved n xs more new entries h within is =
     let size : length (take n xs) ≡ n = omega (arith, length-take n xs, within) in
@@ -223,11 +223,11 @@ pub ruleset part_steps = (length-take, part-take)
 -- ==== what is put behind the symbols that are used
 
 -- the first ones stay where more than them do
-pub front_stays : {X : Type 0} (n k : ℕ) (new old first : List X) → n ≤ k → take k new ≡ take k old → take n old ≡ take n first → take n new ≡ take n first
-front_stays n k new old first order same h = sym (take-take n k new order) ∙ ap (take n) same ∙ take-take n k old order ∙ h
+pub prefix_stays : {X : Type 0} (n k : ℕ) (new old first : List X) → n ≤ k → take k new ≡ take k old → take n old ≡ take n first → take n new ≡ take n first
+prefix_stays n k new old first order same h = sym (take-take n k new order) ∙ ap (take n) same ∙ take-take n k old order ∙ h
 
 -- what is put is as long as what is used more
-pub put_within : (used end limit : ℕ) (front new more : List Sym) (whole : List ℕ) → length front ≡ used → end ≤ length new → take end new ≡ front ++ more → numbers_in more ≡ whole → end - used ≤ limit → length whole ≤ limit
-put_within used end limit front new more whole size within is said few =
+pub put_within : (used end limit : ℕ) (prefix new more : List Sym) (whole : List ℕ) → length prefix ≡ used → end ≤ length new → take end new ≡ prefix ++ more → numbers_in more ≡ whole → end - used ≤ limit → length whole ≤ limit
+put_within used end limit prefix new more whole size within is said few =
     let long : length (take end new) ≡ end = omega (arith, length-take end new, within) in
-    omega (arith, long, ap length is, length-append front more, length-map more (λ (s : Sym). s.0), ap length said, size, few)
+    omega (arith, long, ap length is, length-append prefix more, length-map more (λ (s : Sym). s.0), ap length said, size, few)

@@ -18,9 +18,9 @@ ExpandsOne before (again tag) labels words labels' words' =
     (word : List (List ℕ)) × (slice_get words tag ≡ Some word) × (labels' ≡ labels ++ word)
     × (words' ≡ words)
 ExpandsOne before mark labels words labels' words' =
-    (front : List (List ℕ)) × (label : List ℕ) × (below : Trees)
+    (prefix : List (List ℕ)) × (label : List ℕ) × (below : Trees)
     × TreesFit before (tree label below none)
-    × (labels ≡ front ++ spelling (tree label below none))
+    × (labels ≡ prefix ++ spelling (tree label below none))
     × (labels' ≡ labels) × (words' ≡ words ++ spelling (tree label below none) ∷ [])
 
 -- the moves do, one after the other

@@ -12,7 +12,7 @@ pub mod Proof
 pub mod RuleCodes
 pub mod Steps
 pub mod Profiles
-pub mod KnownFront
+pub mod KnownPrefix
 pub mod Strict
 pub mod UnderProfile
 pub mod ReadSteps

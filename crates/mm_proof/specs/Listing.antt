@@ -52,15 +52,15 @@ pub record IsListed (before : List Sentence) (earlier : List (Move (List ℕ)))
   pub called : IsCalled earlier move step.called
   pub pushed : MakeLast before (earlier ++ move ∷ []) step.expression
 
--- The steps of the moves are listed, each once and in order: the step by the move at a place has as
--- many steps listed before it as there are steps before that place.
+-- The steps of the moves are listed, each once and in order: the step by the move at an index has
+-- as many steps listed before it as there are steps before that index.
 pub record AreListed (before : List Sentence) (moves : List (Move (List ℕ)))
     (steps : List ListedStep) : Type 0 where
   pub count : length steps ≡ steps_in moves
-  pub each : (place : ℕ) (move : Move (List ℕ)) (step : ListedStep)
-      → slice_get moves place ≡ Some move → is_step move ≡ true
-      → slice_get steps (steps_in (take place moves)) ≡ Some step
-      → IsListed before (take place moves) move step
+  pub each : (index : ℕ) (move : Move (List ℕ)) (step : ListedStep)
+      → slice_get moves index ≡ Some move → is_step move ≡ true
+      → slice_get steps (steps_in (take index moves)) ≡ Some step
+      → IsListed before (take index moves) move step
 
 -- the name by numbers is the step's name
 abbrev pub IsNameOf : List Sentence → Name → StepName → Type 0

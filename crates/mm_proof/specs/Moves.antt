@@ -5,7 +5,7 @@ use Rattle.std.specs.Prelude.{Some}
 use Rattle.mm_frame.specs.Sentence.{Sentence}
 use Rattle.mm_proof.specs.Tree.{Trees, none, tree, beside, MayStandOver}
 
--- A move: a step by a label; a step by a tag, which is the place of a kept tree; or a mark, a `Z`,
+-- A move: a step by a label; a step by a tag, which is the index of a kept tree; or a mark, a `Z`,
 -- which is no step and keeps what the step before it made. X is what stands for labels: their
 -- names, or their numbers.
 pub data Move (X : Type 0) : Type 0 where
@@ -24,7 +24,7 @@ steps_in moves = count_by is_step moves
 
 -- The move makes the second row of trees and of kept trees out of the first. A label takes the last
 -- trees of the row, those that it may stand over, and its tree takes their place; a tag puts the
--- kept tree at its place at the row's end; a mark keeps the row's last tree.
+-- kept tree at its index at the row's end; a mark keeps the row's last tree.
 abbrev pub MakesOne : List Sentence → Move (List ℕ) → (row : Trees) → (kept : List Trees)
     → (row' : Trees) → (kept' : List Trees) → Type 0
 MakesOne before (name label) row kept row' kept' =

@@ -16,9 +16,9 @@ OfTree before moves P =
     (label : List ℕ) (below : Trees) → MakeTree before moves label below → P (tree label below none)
 
 -- The labels with these numbers and the codes are the fully shared proof of the trees, as a proof of
--- the statement at the place.
-abbrev pub ArePacked : List Sentence → (place : ℕ) → Sentence → Trees → List LabelId → List Code
+-- the statement at the index.
+abbrev pub ArePacked : List Sentence → (index : ℕ) → Sentence → Trees → List LabelId → List Code
     → Type 0
-ArePacked statements place s trees ids codes =
+ArePacked statements index s trees ids codes =
     (listed : List (List ℕ)) × AreLabelsOf statements ids listed
-    × IsPacked (take place statements) s trees listed codes
+    × IsPacked (take index statements) s trees listed codes

@@ -32,13 +32,13 @@ BreaksWhole P2 before tokens =
 BreaksWhole P3 before tokens =
     (labels : List (List ℕ)) × AreLabels tokens labels
     × (label : List ℕ) × Contains labels label
-    × (place : ℕ) × (h : Sentence) × (slice_get before place ≡ Some h) × IsLabelled label h
-    × IsHypothesis h.kind × ¬ (IsActive before place)
+    × (index : ℕ) × (h : Sentence) × (slice_get before index ≡ Some h) × IsLabelled label h
+    × IsHypothesis h.kind × ¬ (IsActive before index)
 BreaksWhole P4 before tokens = (text : List ℕ) × AreLetters tokens text × LettersBreak code.P4 text
 BreaksWhole P5 before tokens = (text : List ℕ) × AreLetters tokens text × LettersBreak code.P5 text
 BreaksWhole rule before tokens = ⊥
 
--- the place of a rule among those that are judged together
+-- the index of a rule among those that are judged together
 abbrev pub proof_rank : ProofRule → ℕ
 proof_rank P1 = 1
 proof_rank P2 = 2
@@ -85,21 +85,21 @@ pub record IsProvedWithin (Fits : Expression → Type 0) (before : List Sentence
 abbrev pub IsProved : List Sentence → Sentence → List (List ℕ) → Type 0
 IsProved before s tokens = IsProvedWithin AnyExpression before s tokens
 
--- The step by the assertion at a place meets this on a stack: there are enough entries, the topmost
--- of which stand for the mandatory hypotheses, the last for the topmost; σ replaces each mandatory
--- variable by what follows the first symbol of the entry of its `$f`.
+-- The step by the assertion at an index meets this on a stack: there are enough entries, the
+-- topmost of which stand for the mandatory hypotheses, the last for the topmost; σ replaces each
+-- mandatory variable by what follows the first symbol of the entry of its `$f`.
 pub record MeetsHypotheses (before : List Sentence) (stack : List Expression)
     (label : List ℕ) : Type 0 where
-  pub place : ℕ
+  pub index : ℕ
   pub assertion : Sentence
   pub hypotheses : List Sentence
-  pub names : Names before label place assertion hypotheses
+  pub names : Names before label index assertion hypotheses
   pub rest : List Expression
   pub entries : List Expression
   pub split : stack ≡ rest ++ entries
   pub paired : length entries ≡ length hypotheses
   pub σ : Substitution
-  pub on : IsOn (IsMandatory (take place before) assertion) σ
+  pub on : IsOn (IsMandatory (take index before) assertion) σ
   pub replaced : (i : ℕ) (h : Sentence) (entry : List (List ℕ)) (code x : List ℕ)
       → slice_get hypotheses i ≡ Some h → slice_get entries i ≡ Some entry
       → Types code x h → σ x ≡ Some (drop 1 entry)
@@ -116,15 +116,15 @@ abbrev pub SomeReplacedPair : List Sentence → (stack : List Expression) → (l
 SomeReplacedPair before stack label P =
     (m : MeetsHypotheses before stack label) × (x : List ℕ) × (y : List ℕ) × (e : List (List ℕ))
     × (f : List (List ℕ))
-    × IsMandatoryPair (take m.place before) m.assertion x y × (m.σ x ≡ Some e) × (m.σ y ≡ Some f)
+    × IsMandatoryPair (take m.index before) m.assertion x y × (m.σ x ≡ Some e) × (m.σ y ≡ Some f)
     × P e f
 
 -- The step by this label on a stack of expressions breaks the rule.
 abbrev pub BreaksStep : (Expression → Type 0) → ProofRule → List Sentence → List Expression
     → List ℕ → Type 0
 BreaksStep Fits P8 before stack label =
-    (place : ℕ) × (assertion : Sentence) × (hypotheses : List Sentence)
-    × Names before label place assertion hypotheses
+    (index : ℕ) × (assertion : Sentence) × (hypotheses : List Sentence)
+    × Names before label index assertion hypotheses
     × (length stack < length hypotheses)
 BreaksStep Fits P9 before stack label =
     (m : MeetsHypotheses before stack label)
@@ -158,7 +158,7 @@ pub record FirstAtMove (Fits : Expression → Type 0) (rule : ProofRule) (before
   pub first : (other : ProofRule) → proof_rank other < proof_rank rule
       → ¬ (BreaksMove Fits other before stack kept move)
 
--- A front of the moves passed: it makes trees that derive the expressions on the stack, each step
+-- A prefix of the moves passed: it makes trees that derive the expressions on the stack, each step
 -- one that fits, and keeps trees that derive the kept ones.
 pub record Passed (Fits : Expression → Type 0) (before : List Sentence)
     (moves : List (Move (List ℕ))) (stack kept : List Expression) : Type 0 where

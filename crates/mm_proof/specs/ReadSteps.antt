@@ -4,8 +4,8 @@ use Rattle.mm_proof.specs.Moves.{Move}
 use Rattle.mm_proof.specs.declared.profile.Profile.{Profile}
 
 -- The moves, by numbers; the profile under which they are judged; and whether they are those of the
--- known front of an incomplete proof, not of a whole one.
+-- known prefix of an incomplete proof, not of a whole one.
 pub record ReadSteps : Type 0 where
   pub profile : Profile
-  pub front : Bool
+  pub prefix : Bool
   pub moves : List (Move ℕ)

@@ -32,17 +32,17 @@ IsUsableMove before (name label) = IsUsable before label
 IsUsableMove before (again tag) = Unit {0}
 IsUsableMove before mark = Unit {0}
 
--- the number is that of a `$p`, the statement at the place
-pub record IsProofNumber (statements : List Sentence) (id place : ℕ) (s : Sentence) : Type 0 where
-  pub numbered : IsNumbered statements id place s
+-- the number is that of a `$p`, the statement at the index
+pub record IsProofNumber (statements : List Sentence) (id index : ℕ) (s : Sentence) : Type 0 where
+  pub numbered : IsNumbered statements id index s
   pub provable : s.kind ≡ Provable
 
 -- These are moves, by numbers, of a proof of the `$p` with this number: each label may be used at
--- its place.
+-- its index.
 pub record AreSteps (statements : List Sentence) (id : ℕ) (steps : List (Move ℕ)) : Type 0 where
-  pub place : ℕ
+  pub index : ℕ
   pub s : Sentence
-  pub proof : IsProofNumber statements id place s
+  pub proof : IsProofNumber statements id index s
   pub moves : List (Move (List ℕ))
   pub numbered : AreNumberedMoves statements steps moves
-  pub usable : AllByRecursion (IsUsableMove (take place statements)) moves
+  pub usable : AllByRecursion (IsUsableMove (take index statements)) moves

@@ -16,13 +16,13 @@ rows_in rows = map (λ row. map (λ s. s.0) row.items) rows
 -- what the piece says, where the entries of the hypotheses are these
 abbrev pub said_by : List (List ℕ) → Piece → List ℕ
 said_by entries (pieces.Symbol symbol) = symbol.0 ∷ []
-said_by entries (pieces.Value place) = drop 1 (slice_index_or entries place [])
+said_by entries (pieces.Value index) = drop 1 (slice_index_or entries index [])
 
 -- what pieces say
 abbrev pub all_said_by : List (List ℕ) → List Piece → List ℕ
 all_said_by entries pieces = flat_map (said_by entries) pieces
 
--- the piece names no place behind so many
-abbrev pub IsWithinPlaces : ℕ → Piece → Type 0
-IsWithinPlaces count (pieces.Symbol symbol) = Unit {0}
-IsWithinPlaces count (pieces.Value place) = place < count
+-- the piece names no index behind so many
+abbrev pub IsWithinIndices : ℕ → Piece → Type 0
+IsWithinIndices count (pieces.Symbol symbol) = Unit {0}
+IsWithinIndices count (pieces.Value index) = index < count

@@ -23,8 +23,8 @@ pub record IsStrictList (before : List Sentence) (s : Sentence)
 -- each mark stands directly after a step by the label of an assertion
 abbrev pub MarkAssertions : List Sentence → List (Move (List ℕ)) → Type 0
 MarkAssertions before moves =
-    (front after : List (Move (List ℕ))) → moves ≡ front ++ mark ∷ after
-    → (earlier : List (Move (List ℕ))) × (label : List ℕ) × (front ≡ earlier ++ name label ∷ [])
+    (prefix after : List (Move (List ℕ))) → moves ≡ prefix ++ mark ∷ after
+    → (earlier : List (Move (List ℕ))) × (label : List ℕ) × (prefix ≡ earlier ++ name label ∷ [])
     × SomeSentence before (λ a. IsLabelled label a × IsAssertion a.kind)
 
 -- The proof of the statement is strict: a normal one always, and a compressed one that breaks none of

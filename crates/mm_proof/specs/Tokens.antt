@@ -61,9 +61,9 @@ AreLetters tokens text =
 -- for tags.
 abbrev pub Says : List (List ℕ) → Code → Move (List ℕ) → Type 0
 Says labels (Number number) move =
-    (place : ℕ) × (number ≡ place + 1)
-    × (((label : List ℕ) × (slice_get labels place ≡ Some label) × (move ≡ name label))
-    ⊎ ((tag : ℕ) × (place ≡ length labels + tag) × (move ≡ again tag)))
+    (index : ℕ) × (number ≡ index + 1)
+    × (((label : List ℕ) × (slice_get labels index ≡ Some label) × (move ≡ name label))
+    ⊎ ((tag : ℕ) × (index ≡ length labels + tag) × (move ≡ again tag)))
 Says labels Tag move = move ≡ mark
 
 -- The codes of a compressed proof of the statement say the moves: its mandatory hypotheses come

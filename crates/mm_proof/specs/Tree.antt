@@ -28,21 +28,21 @@ abbrev pub roots : Trees → ℕ
 roots none = 0
 roots (tree label below right) = suc (roots right)
 
--- The label is that of the assertion at an earlier place, with these mandatory hypotheses there.
-pub record Names (before : List Sentence) (label : List ℕ) (place : ℕ) (assertion : Sentence)
+-- The label is that of the assertion at an earlier index, with these mandatory hypotheses there.
+pub record Names (before : List Sentence) (label : List ℕ) (index : ℕ) (assertion : Sentence)
     (hypotheses : List Sentence) : Type 0 where
-  pub there : slice_get before place ≡ Some assertion
+  pub there : slice_get before index ≡ Some assertion
   pub named : IsLabelled label assertion
   pub kind : IsAssertion assertion.kind
-  pub mandatory : AreMandatory (take place before) assertion hypotheses
+  pub mandatory : AreMandatory (take index before) assertion hypotheses
 
 -- The label may stand over these trees: it is that of an active hypothesis, and they are none; or
 -- it is that of an earlier assertion, and they are as many as its mandatory hypotheses.
 abbrev pub MayStandOver : List Sentence → List ℕ → Trees → Type 0
 MayStandOver before label below =
     ((below ≡ none) × SomeActive before (λ h. IsLabelled label h × IsHypothesis h.kind))
-    ⊎ ((place : ℕ) × (assertion : Sentence) × (hypotheses : List Sentence)
-    × Names before label place assertion hypotheses
+    ⊎ ((index : ℕ) × (assertion : Sentence) × (hypotheses : List Sentence)
+    × Names before label index assertion hypotheses
     × (roots below ≡ length hypotheses))
 
 -- the trees fit after the statements before: each label may stand over the trees below it
@@ -61,11 +61,11 @@ AreDistinct before e f =
     (u v : List ℕ) → IsVariable before u → IsVariable before v → Contains e u → Contains f v
     → IsDistinct before u v
 
--- What replaces the members of each mandatory pair of the assertion at a place shares no variable,
+-- What replaces the members of each mandatory pair of the assertion at an index shares no variable,
 -- and its variables are active pairs after all the statements.
 abbrev pub KeepsApart : List Sentence → ℕ → Sentence → Substitution → Type 0
-KeepsApart before place assertion σ =
-    (x y : List ℕ) (e f : List (List ℕ)) → IsMandatoryPair (take place before) assertion x y
+KeepsApart before index assertion σ =
+    (x y : List ℕ) (e f : List (List ℕ)) → IsMandatoryPair (take index before) assertion x y
     → σ x ≡ Some e → σ y ≡ Some f
     → ShareNoVariable before e f × AreDistinct before e f
 
@@ -81,12 +81,12 @@ DeriveAll Fits before (tree label below right) expressions =
     (e : List (List ℕ)) × (others : List (List (List ℕ))) × (expressions ≡ e ∷ others) × Fits e
     × (((below ≡ none)
     × SomeActive before (λ h. IsLabelled label h × IsHypothesis h.kind × (e ≡ h.symbols)))
-    ⊎ ((place : ℕ) × (assertion : Sentence) × (hypotheses : List Sentence)
+    ⊎ ((index : ℕ) × (assertion : Sentence) × (hypotheses : List Sentence)
     × (σ : Substitution)
-    × Names before label place assertion hypotheses
-    × IsOn (IsMandatory (take place before) assertion) σ
+    × Names before label index assertion hypotheses
+    × IsOn (IsMandatory (take index before) assertion) σ
     × DeriveAll Fits before below (map (λ h. instance_of σ h.symbols) hypotheses)
-    × KeepsApart before place assertion σ
+    × KeepsApart before index assertion σ
     × (e ≡ instance_of σ assertion.symbols)))
     × DeriveAll Fits before right others
 

@@ -1,7 +1,7 @@
--- A proof, and the known front of one, under a profile: the rules, the form that the profile demands
--- of a compressed proof, and the most symbols of an expression (the Metamath book, sections 4.1.4,
--- 4.3 and 4.4.4, appendix B). The profiles are this project's own. A complete proof is judged as a
--- whole, and of an incomplete one the known front.
+-- A proof, and the known prefix of one, under a profile: the rules, the form that the profile
+-- demands of a compressed proof, and the most symbols of an expression (the Metamath book, sections
+-- 4.1.4, 4.3 and 4.4.4, appendix B). The profiles are this project's own. A complete proof is
+-- judged as a whole, and of an incomplete one the known prefix.
 use Rattle.std.specs.Prelude.{◌≡◌, ℕ, List, ◌⊎◌}
 use Rattle.mm_frame.specs.Sentence.{Sentence}
 use Rattle.mm_frame.specs.Rules.{AllMeant}
@@ -12,7 +12,7 @@ use Rattle.mm_proof.specs.Moves.{Move}
 use Rattle.mm_proof.specs.Tokens.{SayMoves}
 use Rattle.mm_proof.specs.Proof.{IsWithin, IsWhole, IsProvedWithin, IsMoveFault, IsMovesFault}
 use Rattle.mm_proof.specs.Profiles.{limit_of}
-use Rattle.mm_proof.specs.KnownFront.{known_front, AreAllowed}
+use Rattle.mm_proof.specs.KnownPrefix.{known_prefix, AreAllowed}
 use Rattle.mm_proof.specs.Strict.{HasFormOf, IsTextFault}
 
 -- the tokens are a proof of the `$p` under the profile
@@ -31,29 +31,29 @@ IsFaultUnder profile before s tokens rule step =
     × (moves : List (Move (List ℕ))) × SayMoves before s tokens moves
     × IsMovesFault (IsWithin (limit_of profile)) before s moves rule step)
 
--- the tokens of a front break no rule under the profile
-abbrev pub AreAllowedUnder : Profile → List Sentence → Sentence → (front : List (List ℕ)) → Type 0
-AreAllowedUnder profile before s front =
-    HasFormOf profile before s front × AreAllowed (IsWithin (limit_of profile)) before s front
+-- the tokens of a prefix break no rule under the profile
+abbrev pub AreAllowedUnder : Profile → List Sentence → Sentence → (prefix : List (List ℕ)) → Type 0
+AreAllowedUnder profile before s prefix =
+    HasFormOf profile before s prefix × AreAllowed (IsWithin (limit_of profile)) before s prefix
 
 -- their first fault under the profile
-abbrev pub HaveFaultUnder : Profile → List Sentence → Sentence → (front : List (List ℕ))
+abbrev pub HaveFaultUnder : Profile → List Sentence → Sentence → (prefix : List (List ℕ))
     → ProofRule → ℕ → Type 0
-HaveFaultUnder profile before s front rule step =
-    ((step ≡ 0) × IsTextFault profile before s front rule)
-    ⊎ (IsWhole before front × HasFormOf profile before s front
-    × (moves : List (Move (List ℕ))) × SayMoves before s front moves
+HaveFaultUnder profile before s prefix rule step =
+    ((step ≡ 0) × IsTextFault profile before s prefix rule)
+    ⊎ (IsWhole before prefix × HasFormOf profile before s prefix
+    × (moves : List (Move (List ℕ))) × SayMoves before s prefix moves
     × IsMoveFault (IsWithin (limit_of profile)) before moves rule step)
 
--- the known front of the tokens breaks no rule under the profile
-abbrev pub IsFrontAllowedUnder : Profile → List Sentence → Sentence → List (List ℕ) → Type 0
-IsFrontAllowedUnder profile before s tokens = AreAllowedUnder profile before s (known_front tokens)
+-- the known prefix of the tokens breaks no rule under the profile
+abbrev pub IsPrefixAllowedUnder : Profile → List Sentence → Sentence → List (List ℕ) → Type 0
+IsPrefixAllowedUnder profile before s tokens = AreAllowedUnder profile before s (known_prefix tokens)
 
--- the first fault of the known front of the tokens under the profile
-abbrev pub IsFrontFaultUnder : Profile → List Sentence → Sentence → List (List ℕ) → ProofRule → ℕ
+-- the first fault of the known prefix of the tokens under the profile
+abbrev pub IsPrefixFaultUnder : Profile → List Sentence → Sentence → List (List ℕ) → ProofRule → ℕ
     → Type 0
-IsFrontFaultUnder profile before s tokens rule step =
-    HaveFaultUnder profile before s (known_front tokens) rule step
+IsPrefixFaultUnder profile before s tokens rule step =
+    HaveFaultUnder profile before s (known_prefix tokens) rule step
 
 -- After statements that are meant and in form each proof is proved under the profile, or has a fault;
 -- not both, and no two faults.
@@ -69,15 +69,15 @@ OneVerdictUnder =
     → IsFaultUnder profile before s tokens rule step
     → IsFaultUnder profile before s tokens rule' step' → (rule ≡ rule') × (step ≡ step'))
 
--- The same of each known front.
-abbrev pub OneFrontVerdictUnder : Type 0
-OneFrontVerdictUnder =
+-- The same of each known prefix.
+abbrev pub OnePrefixVerdictUnder : Type 0
+OnePrefixVerdictUnder =
     (profile : Profile) (before : List Sentence) (s : Sentence) (tokens : List (List ℕ))
     → AllMeant before → AllFormed before
-    → (IsFrontAllowedUnder profile before s tokens
-    ⊎ ((rule : ProofRule) × (step : ℕ) × IsFrontFaultUnder profile before s tokens rule step))
-    × (IsFrontAllowedUnder profile before s tokens → (rule : ProofRule) (step : ℕ)
-    → ¬ (IsFrontFaultUnder profile before s tokens rule step))
+    → (IsPrefixAllowedUnder profile before s tokens
+    ⊎ ((rule : ProofRule) × (step : ℕ) × IsPrefixFaultUnder profile before s tokens rule step))
+    × (IsPrefixAllowedUnder profile before s tokens → (rule : ProofRule) (step : ℕ)
+    → ¬ (IsPrefixFaultUnder profile before s tokens rule step))
     × ((rule rule' : ProofRule) (step step' : ℕ)
-    → IsFrontFaultUnder profile before s tokens rule step
-    → IsFrontFaultUnder profile before s tokens rule' step' → (rule ≡ rule') × (step ≡ step'))
+    → IsPrefixFaultUnder profile before s tokens rule step
+    → IsPrefixFaultUnder profile before s tokens rule' step' → (rule ≡ rule') × (step ≡ step'))

@@ -8,7 +8,7 @@ use Rattle.mm_proof.specs.Tree.{Trees, spelling}
 -- the number is that of an assertion whose label stands in the trees
 abbrev pub IsUsedNumber : List Sentence → Trees → ℕ → Type 0
 IsUsedNumber statements trees id =
-    (place : ℕ) × (a : Sentence) × (label : List ℕ) × IsNumbered statements id place a
+    (index : ℕ) × (a : Sentence) × (label : List ℕ) × IsNumbered statements id index a
     × IsAssertion a.kind
     × IsLabelled label a × Contains (spelling trees) label
 

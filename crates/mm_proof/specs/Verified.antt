@@ -13,30 +13,30 @@ use Rattle.mm_proof.specs.Used.{AreUsedNumbers, AreUsed}
 abbrev pub OfMoves : List Sentence → ℕ → List (Move ℕ)
     → (ℕ → Sentence → List (Move (List ℕ)) → Type 0) → Type 0
 OfMoves statements id steps P =
-    (place : ℕ) (s : Sentence) (moves : List (Move (List ℕ))) → IsProofNumber statements id place s
-    → AreNumberedMoves statements steps moves → P place s moves
+    (index : ℕ) (s : Sentence) (moves : List (Move (List ℕ))) → IsProofNumber statements id index s
+    → AreNumberedMoves statements steps moves → P index s moves
 
 -- the moves prove the statement, and these are the numbers of the assertions of its tree, in any
 -- order, each once or more
 abbrev pub ProvesUsingNumbers : (limit : ℕ) → List Sentence → ℕ → Sentence → List (Move (List ℕ))
     → List ℕ → Type 0
-ProvesUsingNumbers limit statements place s moves used =
-    (p : Prove (IsWithin limit) (take place statements) s moves)
-    × AreUsedNumbers (take place statements) (tree p.label p.below none) used
+ProvesUsingNumbers limit statements index s moves used =
+    (p : Prove (IsWithin limit) (take index statements) s moves)
+    × AreUsedNumbers (take index statements) (tree p.label p.below none) used
 
 -- the moves prove the statement, and these are the numbers of the assertions of its tree, each
 -- once, in database order
 abbrev pub ProvesUsing : (limit : ℕ) → List Sentence → ℕ → Sentence → List (Move (List ℕ))
     → List ℕ → Type 0
-ProvesUsing limit statements place s moves used =
-    (p : Prove (IsWithin limit) (take place statements) s moves)
-    × AreUsed (take place statements) (tree p.label p.below none) used
+ProvesUsing limit statements index s moves used =
+    (p : Prove (IsWithin limit) (take index statements) s moves)
+    × AreUsed (take index statements) (tree p.label p.below none) used
 
--- the first fault of the moves, as a proof of the statement at the place, is this rule at this step
-abbrev pub FailsWith : (limit : ℕ) → List Sentence → (place : ℕ) → Sentence
+-- the first fault of the moves, as a proof of the statement at the index, is this rule at this step
+abbrev pub FailsWith : (limit : ℕ) → List Sentence → (index : ℕ) → Sentence
     → List (Move (List ℕ)) → ProofRule → (step : ℕ) → Type 0
-FailsWith limit statements place s moves rule step =
-    IsMovesFault (IsWithin limit) (take place statements) s moves rule step
+FailsWith limit statements index s moves rule step =
+    IsMovesFault (IsWithin limit) (take index statements) s moves rule step
 
 -- The tokens prove the statement after those before it, and these are the numbers of the assertions
 -- of its tree, in any order, each once or more.

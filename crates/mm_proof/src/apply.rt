@@ -5,10 +5,10 @@ ghost use Rattle.std.specs.Prelude.{Err, OnOk, IsTrue, MatchOption};
 ghost use Rattle.std.specs.List.{AllByRecursion};
 ghost use Rattle.mm_frame.specs.Sentence.{Sentence};
 ghost use Rattle.mm_frame.specs.Form.{IsSound};
-ghost use Rattle.mm_frame.specs.FramePlace.{ArePairs, HaveTypings};
-ghost use Rattle.mm_frame.specs.Pieces.{variables_of, HavePatterns, HavePlaces};
+ghost use Rattle.mm_frame.specs.FrameIndex.{ArePairs, HaveTypings};
+ghost use Rattle.mm_frame.specs.Pieces.{variables_of, HavePatterns, HaveIndices};
 ghost use Rattle.mm_proof.specs.Plain.{label_ids};
-ghost use Rattle.mm_proof.specs.Stores.{IsWithinPlaces};
+ghost use Rattle.mm_proof.specs.Stores.{IsWithinIndices};
 ghost use Rattle.mm_proof.specs.Mirror.CodeVerify.{AreStackEntries, EachIsSome};
 ghost use Rattle.mm_proof.specs.Mirror.CodeVerify.{EachEntry};
 ghost use Rattle.mm_proof.specs.Mirror.CodeVerify.{IsRightCode, all_names_at, pairs_in};
@@ -37,24 +37,24 @@ fn rule_broken<S: Store>(
     requires typed { HaveTypings book.now.statements scheme.now.hypotheses.now }
     requires patterns { HavePatterns book.now.statements (variables_of scheme.now.hypotheses.now)
         scheme.now.pieces.now scheme.now.hypotheses.now }
-    requires places { HavePlaces (variables_of scheme.now.hypotheses.now) scheme.now.pairs.now }
+    requires indices { HaveIndices (variables_of scheme.now.hypotheses.now) scheme.now.pairs.now }
     requires floating { IsTrue floating → EachIsSome (variables_of scheme.now.hypotheses.now) }
     requires entries { base + length scheme.now.hypotheses.now ≡ length (S.stack store.now) }
     requires fits { length (S.stack store.now) < 2 ^ 64 }
-    requires symbols { AreStackEntries book.now.statements (take own.now.place book.now.statements)
+    requires symbols { AreStackEntries book.now.statements (take own.now.index book.now.statements)
         (S.stack store.now) }
     ensures { (limit id at : ℕ) (hs : List Sentence)
-        → IsAppliedAssertion book.now.statements own.now.place id at
+        → IsAppliedAssertion book.now.statements own.now.index id at
         (label_ids scheme.now.hypotheses.now) hs
-        → ArePairs (record { statements = book.now.statements; place = at })
+        → ArePairs (record { statements = book.now.statements; index = at })
         (pairs_in scheme.now.pairs.now)
         → EachEntry hs (all_names_at book.now.statements
         (drop base (S.stack store.now))) IsRightCode
         → MatchOption
         result
-        (IsMatched book.now.statements own.now.place hs (variables_of scheme.now.hypotheses.now)
+        (IsMatched book.now.statements own.now.index hs (variables_of scheme.now.hypotheses.now)
         (drop base (S.stack store.now)) (pairs_in scheme.now.pairs.now))
-        (λ rule. StopsAt limit book.now.statements own.now.place id (S.stack store.now) rule) }
+        (λ rule. StopsAt limit book.now.statements own.now.index id (S.stack store.now) rule) }
 {
     one_number();
     if !are_equal(store, base, book, scheme, floating) {
@@ -83,26 +83,26 @@ fn conclude<S: Store>(
 ) -> Result<(), ProofFault>
     requires entries { base + length scheme.now.hypotheses.now ≡ length (S.stack store.old) }
     requires within { AllByRecursion
-        (IsWithinPlaces (length (drop base (S.stack store.old)))) scheme.now.conclusion.now }
+        (IsWithinIndices (length (drop base (S.stack store.old)))) scheme.now.conclusion.now }
     requires fits { length (S.stack store.old) < 2 ^ 64 }
     ensures carried { OnOk result
-        ((statements : List Sentence) (place id at : ℕ) → IsSound statements
-        → IsReady statements place id at (variables_of scheme.now.hypotheses.now)
+        ((statements : List Sentence) (index id at : ℕ) → IsSound statements
+        → IsReady statements index id at (variables_of scheme.now.hypotheses.now)
         (drop base (S.stack store.old)) scheme.now.conclusion.now
-        → CarriesOn limit statements place id (S.stack store.old) (S.stack store.new)) }
+        → CarriesOn limit statements index id (S.stack store.old) (S.stack store.new)) }
     ensures entries { OnOk result
-        ((statements : List Sentence) (place id at : ℕ) → IsSound statements
-        → IsReady statements place id at (variables_of scheme.now.hypotheses.now)
+        ((statements : List Sentence) (index id at : ℕ) → IsSound statements
+        → IsReady statements index id at (variables_of scheme.now.hypotheses.now)
         (drop base (S.stack store.old)) scheme.now.conclusion.now
-        → AreStackEntries statements (take place statements) (S.stack store.old)
-        → AreStackEntries statements (take place statements) (S.stack store.new)) }
+        → AreStackEntries statements (take index statements) (S.stack store.old)
+        → AreStackEntries statements (take index statements) (S.stack store.new)) }
     ensures kept { S.kept store.new ≡ S.kept store.old }
     ensures fault { (rule : ProofRule) → (step : ℕ) → result ≡ Err (ProofFault.Rule rule step)
         → (step ≡ number)
-        × ((statements : List Sentence) (place id at : ℕ) → IsSound statements
-        → IsReady statements place id at (variables_of scheme.now.hypotheses.now)
+        × ((statements : List Sentence) (index id at : ℕ) → IsSound statements
+        → IsReady statements index id at (variables_of scheme.now.hypotheses.now)
         (drop base (S.stack store.old)) scheme.now.conclusion.now
-        → StopsAt limit statements place id (S.stack store.old) rule) }
+        → StopsAt limit statements index id (S.stack store.old) rule) }
 {
     one_number();
     if !store.conclude(base, scheme.conclusion, limit)? {
@@ -126,21 +126,21 @@ pub(crate) fn apply<S: Store>(
 ) -> Result<(), ProofFault>
     requires own { own.now.statements ≡ book.now.statements }
     requires sound { IsSound book.now.statements }
-    requires scheme { (id : ℕ) × IsEarlierScheme book.now.statements own.now.place id scheme.now }
-    requires entries { AreStackEntries book.now.statements (take own.now.place book.now.statements)
+    requires scheme { (id : ℕ) × IsEarlierScheme book.now.statements own.now.index id scheme.now }
+    requires entries { AreStackEntries book.now.statements (take own.now.index book.now.statements)
         (S.stack store.old) }
     ensures carried { OnOk result
-        ((id : ℕ) → IsEarlierScheme book.now.statements own.now.place id scheme.now
-        → CarriesOn limit book.now.statements own.now.place id (S.stack store.old)
+        ((id : ℕ) → IsEarlierScheme book.now.statements own.now.index id scheme.now
+        → CarriesOn limit book.now.statements own.now.index id (S.stack store.old)
         (S.stack store.new)) }
     ensures entries { OnOk result
-        (AreStackEntries book.now.statements (take own.now.place book.now.statements)
+        (AreStackEntries book.now.statements (take own.now.index book.now.statements)
         (S.stack store.new)) }
     ensures kept { S.kept store.new ≡ S.kept store.old }
     ensures fault { (rule : ProofRule) → (at : ℕ) → result ≡ Err (ProofFault.Rule rule at)
         → (at ≡ number)
-        × ((id : ℕ) → IsEarlierScheme book.now.statements own.now.place id scheme.now
-        → StopsAt limit book.now.statements own.now.place id (S.stack store.old) rule) }
+        × ((id : ℕ) → IsEarlierScheme book.now.statements own.now.index id scheme.now
+        → StopsAt limit book.now.statements own.now.index id (S.stack store.old) rule) }
 {
     let count = store.len();
     if count < scheme.hypotheses.len() {

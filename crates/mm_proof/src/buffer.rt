@@ -5,7 +5,7 @@ ghost use Rattle.std.specs.Prelude.{List, slice_range, OnOk, OnErr, MatchBool};
 ghost use Rattle.std.specs.List.{AllByRecursion};
 ghost use Rattle.mm_frame.specs.declared.number.Sym.{Sym};
 ghost use Rattle.mm_proof.specs.Mirror.Buffer.{AreParts, parts_of};
-ghost use Rattle.mm_proof.specs.Stores.{numbers_in, all_said_by, IsWithinPlaces};
+ghost use Rattle.mm_proof.specs.Stores.{numbers_in, all_said_by, IsWithinIndices};
 
 use crate::entry::Entry;
 use crate::said::{put_part_behind, put_pieces};
@@ -89,14 +89,14 @@ impl Buffer {
         let _ = self.room.reserve(symbols);
     }
 
-    /// Forgets the symbols from a place on.
+    /// Forgets the symbols from an index on.
     pub(crate) fn truncate(&mut self, count: usize)
         ensures { self.new ≡ take count self.old }
     {
         self.used = self.used.min(count);
     }
 
-    /// Moves the symbols from a place on down to another, over what stands between the two.
+    /// Moves the symbols from an index on down to another, over what stands between the two.
     pub(crate) fn move_down(&mut self, start: usize, to: usize)
         requires order { to ≤ start }
         requires within { start ≤ length self.old }
@@ -106,7 +106,7 @@ impl Buffer {
         self.used -= start - to;
     }
 
-    /// The symbols from a place up to and without another.
+    /// The symbols from an index up to and without another.
     #[tactic(auto, using(crate::proofs::StoreRanges::part_steps))]
     pub(crate) fn part(&self, start: usize, end: usize) -> &[Sym]
         requires order { start ≤ end }
@@ -152,7 +152,7 @@ impl Buffer {
         Ok(())
     }
 
-    /// Adds a copy of the symbols from a place up to and without another.
+    /// Adds a copy of the symbols from an index up to and without another.
     pub(crate) fn append_part(&mut self, start: usize, end: usize) -> Result<(), AllocError>
         requires order { start ≤ end }
         requires within { end ≤ length self.old }
@@ -178,7 +178,7 @@ impl Buffer {
         limit: usize,
     ) -> bool
         requires parts { AreParts (length self.old) stack.now }
-        requires within { AllByRecursion (IsWithinPlaces (length stack.now - base)) pieces.now }
+        requires within { AllByRecursion (IsWithinIndices (length stack.now - base)) pieces.now }
         ensures { let whole = all_said_by (drop base (parts_of self.old stack.now)) pieces.now in
             MatchBool
             result

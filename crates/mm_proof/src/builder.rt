@@ -77,11 +77,11 @@ pub(crate) trait Builder {
 // How many trees the label stands over.
 fn width(book: &Book, id: LabelId) -> usize
     requires sound { IsSound book.now.statements }
-    requires used { (place : ℕ) × (label : List ℕ)
-        × MayBeUsed book.now.statements place label id.0 }
-    ensures { (place : ℕ) (label : List ℕ) (below : Trees)
-        → MayBeUsed book.now.statements place label id.0
-        → MayStandOver (take place book.now.statements) label below
+    requires used { (index : ℕ) × (label : List ℕ)
+        × MayBeUsed book.now.statements index label id.0 }
+    ensures { (index : ℕ) (label : List ℕ) (below : Trees)
+        → MayBeUsed book.now.statements index label id.0
+        → MayStandOver (take index book.now.statements) label below
         → roots below ≡ result }
 {
     match call_of(book, id) {
@@ -112,13 +112,13 @@ impl<'s, 'e, 'b, 'a, B: Builder> Machine for Forest<'s, 'e, 'b, 'a, B, B::Item> 
 
     ghost has_run = { HasBuilt B.holds };
 
-    ghost may_take = { λ first front move. MayGrow first.book.now.statements front move };
+    ghost may_take = { λ first prefix move. MayGrow first.book.now.statements prefix move };
 
-    ghost stops = { λ first front move fault. B.is_long fault
-        → AreTooMany first.book.now.statements front move (B.most first.builder.now) };
+    ghost stops = { λ first prefix move fault. B.is_long fault
+        → AreTooMany first.book.now.statements prefix move (B.most first.builder.now) };
 
-    fn step(&mut self, place: usize) -> Result<(), B::Fault> {
-        let id = self.entries[place];
+    fn step(&mut self, index: usize) -> Result<(), B::Fault> {
+        let id = self.entries[index];
         let base = self.stack.len() - width(self.book, id);
         let item = self.builder.make(id, &self.stack[base..])?;
         put_last(self.stack, base, item)?;
@@ -186,17 +186,17 @@ pub(crate) fn build<B: Builder>(
 ) -> Result<B::Item, B::Fault>
     requires steps { AreSteps book.now.statements id.0 steps.now.moves }
     requires makes { OfMoves book.now.statements id.0 steps.now.moves
-        (λ place s moves. MakeOneTree (take place book.now.statements) moves) }
+        (λ index s moves. MakeOneTree (take index book.now.statements) moves) }
     requires nothing { B.holds builder.old builder.old book.now.statements [] none [] [] 0 }
     requires marks { (now : B) → KeepsItem (B.holds builder.old now book.now.statements) }
     ensures sound { IsSound book.now.statements }
     ensures few { length steps.now.moves ≤ most_bytes }
     ensures built { IfOk result (λ item. OfMoves book.now.statements id.0 steps.now.moves
-        (λ place s moves. OfTree (take place book.now.statements) moves (λ t.
+        (λ index s moves. OfTree (take index book.now.statements) moves (λ t.
         IsBuilt (B.holds builder.old builder.new book.now.statements) moves t item))) }
     ensures long { IfErr result (λ fault. B.is_long fault
         → OfMoves book.now.statements id.0 steps.now.moves
-        (λ place s moves. OfSpelling (take place book.now.statements) moves
+        (λ index s moves. OfSpelling (take index book.now.statements) moves
         (λ spelled. B.most builder.old < length spelled))) }
 {
     let _own = book.frame(id);

@@ -22,7 +22,7 @@ pub(crate) enum Call<'b> {
 
 /// What the label with a number stands for, where it may be used.
 pub(crate) fn call_of<'b>(book: &'b Book<'_>, id: LabelId) -> Call<'b>
-    ensures { (place : ℕ) → MayBeCalled book.now.statements place id.0 result }
+    ensures { (index : ℕ) → MayBeCalled book.now.statements index id.0 result }
 {
     if !book.is_label(id) {
         return Call::Hypothesis(&[]);
@@ -42,21 +42,21 @@ pub(crate) fn step_by<S: Store>(
     call: &Call,
     number: usize,
 ) -> Result<(), ProofFault>
-    requires call { (id : ℕ) × IsCallOf site.now.statements site.now.place id call.now }
-    requires entries { AreStackEntries site.now.statements (take site.now.place site.now.statements)
+    requires call { (id : ℕ) × IsCallOf site.now.statements site.now.index id call.now }
+    requires entries { AreStackEntries site.now.statements (take site.now.index site.now.statements)
         (S.stack store.old) }
     ensures carried { OnOk result
-        ((id : ℕ) → IsCallOf site.now.statements site.now.place id call.now
-        → CarriesOn site.now.limit site.now.statements site.now.place id (S.stack store.old)
+        ((id : ℕ) → IsCallOf site.now.statements site.now.index id call.now
+        → CarriesOn site.now.limit site.now.statements site.now.index id (S.stack store.old)
         (S.stack store.new)) }
     ensures entries { OnOk result
-        (AreStackEntries site.now.statements (take site.now.place site.now.statements)
+        (AreStackEntries site.now.statements (take site.now.index site.now.statements)
         (S.stack store.new)) }
     ensures kept { S.kept store.new ≡ S.kept store.old }
     ensures fault { (rule : ProofRule) → (at : ℕ) → result ≡ Err (ProofFault.Rule rule at)
         → (at ≡ number)
-        × ((id : ℕ) → IsCallOf site.now.statements site.now.place id call.now
-        → StopsAt site.now.limit site.now.statements site.now.place id (S.stack store.old) rule) }
+        × ((id : ℕ) → IsCallOf site.now.statements site.now.index id call.now
+        → StopsAt site.now.limit site.now.statements site.now.index id (S.stack store.old) rule) }
 {
     match call {
         Call::Hypothesis(expression) => {

@@ -25,19 +25,19 @@ impl<'e, 'b, 'a> Model for CallTable<'e, 'b, 'a> {
     ghost view = { λ t. record { site = t.site; ids = ids_in t.entries.now } };
 
     // The calls are those of the labels that may be used.
-    ghost invariant = { λ t. AllZip (MayBeCalled t.site.statements t.site.place)
+    ghost invariant = { λ t. AllZip (MayBeCalled t.site.statements t.site.index)
         (ids_in t.entries.now) t.calls.now };
 }
 
 impl<'e, 'b, 'a> CallTable<'e, 'b, 'a> {
     ghost use Rattle.std.specs.Prelude.{◌≡◌, ◌<◌, length, slice_get, Some};
 
-    /// The label that stands at a place.
-    pub(crate) fn label(&self, place: usize) -> LabelId
-        requires { place < length self.now.ids }
-        ensures { slice_get self.now.ids place ≡ Some result.0 }
+    /// The label that stands at an index.
+    pub(crate) fn label(&self, index: usize) -> LabelId
+        requires { index < length self.now.ids }
+        ensures { slice_get self.now.ids index ≡ Some result.0 }
     {
         let entries = self.entries;
-        entries[place]
+        entries[index]
     }
 }

@@ -32,22 +32,22 @@ pub fn expand(
     max: usize,
 ) -> Result<Vec<LabelId>, ExpandFault>
     requires steps { AreSteps book.now.statements id.0 steps.now.moves }
-    requires whole { steps.now.front ≡ false }
+    requires whole { steps.now.prefix ≡ false }
     requires makes { OfMoves book.now.statements id.0 steps.now.moves
-        (λ place s moves. MakeOneTree (take place book.now.statements) moves) }
+        (λ index s moves. MakeOneTree (take index book.now.statements) moves) }
     // They are the spelling of the tree that the steps make.
     ensures spelled { IfOk result (λ labels. OfMoves book.now.statements id.0 steps.now.moves
-        (λ place s moves. OfSpelling (take place book.now.statements) moves
+        (λ index s moves. OfSpelling (take index book.now.statements) moves
         (λ spelled. AreLabelsOf book.now.statements labels.items spelled))) }
 
     // A spelling that is within the most labels is given, unless memory is refused.
     ensures within { OfMoves book.now.statements id.0 steps.now.moves
-        (λ place s moves. OfSpelling (take place book.now.statements) moves
+        (λ index s moves. OfSpelling (take index book.now.statements) moves
         (λ spelled. length spelled ≤ max → IsOkUnless result Memory)) }
 
     // Another is refused, unless memory is.
     ensures over { OfMoves book.now.statements id.0 steps.now.moves
-        (λ place s moves. OfSpelling (take place book.now.statements) moves
+        (λ index s moves. OfSpelling (take index book.now.statements) moves
         (λ spelled. max < length spelled → (result ≡ Err L2) ⊎ (result ≡ Err Memory))) }
 {
     let mut word = Length { count: 0, max };

@@ -5,7 +5,7 @@ ghost use Rattle.std.specs.Prelude.{take, drop, false, OnOk, OnErr, IfOk, MatchB
 ghost use Rattle.std.specs.List.{AllByRecursion};
 ghost use Rattle.mm_frame.specs.declared.number.Sym.{Sym};
 ghost use Rattle.mm_proof.specs.Mirror.Buffer.{AreParts, parts_of};
-ghost use Rattle.mm_proof.specs.Stores.{numbers_in, said_by, all_said_by, IsWithinPlaces};
+ghost use Rattle.mm_proof.specs.Stores.{numbers_in, said_by, all_said_by, IsWithinIndices};
 
 use crate::buffer::Buffer;
 use crate::entry::{Entry, value_start};
@@ -79,7 +79,7 @@ impl Flat {
         self.next_cut = FIRST_CUT.max(needed.saturating_mul(2));
     }
 
-    // The conclusion that stands in the buffer from a place on takes the place of the entries from
+    // The conclusion that stands in the buffer from an index on takes the place of the entries from
     // the base on, and is moved down to behind what the others need of the buffer. It is a call,
     // since it is rare.
     #[cold]
@@ -139,7 +139,7 @@ fn append_piece(
 ) -> Result<bool, AllocError>
     requires parts { AreParts (length symbols.old) stack.now }
     requires start { start ≤ length symbols.old }
-    requires within { IsWithinPlaces (length stack.now - base) piece }
+    requires within { IsWithinIndices (length stack.now - base) piece }
     ensures said { IfOk result (λ fits. (more : List Sym) × (symbols.new ≡ symbols.old ++ more)
         × (numbers_in more ≡ said_by (drop base (parts_of symbols.old stack.now)) piece)) }
     ensures over { IfOk result (λ fits. fits ≡ false → limit < length symbols.new - start) }
@@ -150,8 +150,8 @@ fn append_piece(
             symbols.push(symbol)?;
             Ok(true)
         }
-        Piece::Value(place) => {
-            let entry = stack[base + place as usize];
+        Piece::Value(index) => {
+            let entry = stack[base + index as usize];
             let first = value_start(entry);
             symbols.append_part(first, entry.end)?;
             Ok(entry.end - first == 1 || symbols.len() - start <= limit)
@@ -160,7 +160,7 @@ fn append_piece(
 }
 
 // Appends what the pieces say of the entries from the base on, where it is within the limit; else
-// false is answered, and a front of it may be there. It is a call, since it is rare: mostly there
+// false is answered, and a prefix of it may be there. It is a call, since it is rare: mostly there
 // is room for it.
 #[cold]
 #[inline(never)]
@@ -172,7 +172,7 @@ fn append_pieces(
     limit: usize,
 ) -> Result<bool, AllocError>
     requires parts { AreParts (length symbols.old) stack.now }
-    requires within { AllByRecursion (IsWithinPlaces (length stack.now - base)) pieces.now }
+    requires within { AllByRecursion (IsWithinIndices (length stack.now - base)) pieces.now }
     ensures said { IfOk result (λ fits.
         let whole = all_said_by (drop base (parts_of symbols.old stack.now)) pieces.now in MatchBool
         fits
@@ -200,7 +200,7 @@ fn put_said(
     limit: usize,
 ) -> Result<bool, AllocError>
     requires parts { AreParts (length symbols.old) stack.now }
-    requires within { AllByRecursion (IsWithinPlaces (length stack.now - base)) pieces.now }
+    requires within { AllByRecursion (IsWithinIndices (length stack.now - base)) pieces.now }
     ensures said { IfOk result (λ fits.
         let whole = all_said_by (drop base (parts_of symbols.old stack.now)) pieces.now in MatchBool
         fits
@@ -237,8 +237,8 @@ impl Store for Flat {
         self.stack.len()
     }
 
-    fn at(&self, place: usize) -> &[Sym] {
-        let entry = self.stack[place];
+    fn at(&self, index: usize) -> &[Sym] {
+        let entry = self.stack[index];
         self.symbols.part(entry.start, entry.end)
     }
 
@@ -261,8 +261,8 @@ impl Store for Flat {
         Ok(())
     }
 
-    fn push_copy(&mut self, place: usize) -> Result<(), AllocError> {
-        let copied = self.kept[place];
+    fn push_copy(&mut self, index: usize) -> Result<(), AllocError> {
+        let copied = self.kept[index];
         self.stack.push(copied)?;
         Ok(())
     }

@@ -18,8 +18,8 @@ ghost use Rattle.mm_proof.specs.Mirror.CodeForm.{AllNew, SomeOld, IsAfterAsserti
 ghost use Rattle.mm_proof.specs.Mirror.CodeForm.{SomeMarkLoose};
 
 use crate::fault::{ProofFault, ProofRule};
-use crate::front::begins_list;
 use crate::label_set::LabelSet;
+use crate::prefix::begins_list;
 use crate::site::Site;
 use crate::used::is_assertion;
 use mm_code::Code;
@@ -56,19 +56,19 @@ fn are_new(seen: &mut LabelSet, listed: &[LabelId]) -> Result<bool, AllocError>
     Ok(true)
 }
 
-// Whether the move before a place is a step by an assertion.
-fn is_after_assertion(book: &Book, entries: &[LabelId], codes: &[Code], place: usize) -> bool
-    requires within { place < length codes.now }
+// Whether the move before an index is a step by an assertion.
+fn is_after_assertion(book: &Book, entries: &[LabelId], codes: &[Code], index: usize) -> bool
+    requires within { index < length codes.now }
     requires spelled { All HasSpelling codes.now }
     requires usable { (at : ℕ)
         × AllByRecursion (MayBeMade book.now.statements at) (moves_of entries.now codes.now) }
     ensures { IsTrue result
-        ↔ IsAfterAssertion book.now.statements (moves_of entries.now codes.now) place }
+        ↔ IsAfterAssertion book.now.statements (moves_of entries.now codes.now) index }
 {
-    if place == 0 {
+    if index == 0 {
         return false;
     }
-    match codes[place - 1] {
+    match codes[index - 1] {
         Code::Number(number) => match entries.get(number as usize - 1) {
             Some(id) => is_assertion(book, *id),
             None => false,
@@ -87,9 +87,9 @@ fn are_marks_strict(book: &Book, entries: &[LabelId], codes: &[Code]) -> bool
     ensures loose { result ≡ false
         → SomeMarkLoose book.now.statements (moves_of entries.now codes.now) }
 {
-    for (place, one) in codes.iter().enumerate() {
+    for (index, one) in codes.iter().enumerate() {
         if let Code::Tag = one {
-            if !is_after_assertion(book, entries, codes, place) {
+            if !is_after_assertion(book, entries, codes, index) {
                 return false;
             }
         }
@@ -120,17 +120,17 @@ pub(crate) fn judge_form(
     requires site { IsSite site.now }
     requires listed { (labels letters : List (List ℕ))
         → IsCompressed (token_texts tokens.now) labels letters
-        → AreFor site.now.statements site.now.place (ids_in listed.now) labels }
-    requires says { OfProof site.now.statements site.now.number (λ place s.
-        SaySteps site.now.statements place s (token_texts tokens.now)
+        → AreFor site.now.statements site.now.index (ids_in listed.now) labels }
+    requires says { OfProof site.now.statements site.now.number (λ index s.
+        SaySteps site.now.statements index s (token_texts tokens.now)
         (moves_of entries.now codes.now)) }
     requires steps { AreSteps site.now.statements site.now.number (moves_of entries.now codes.now) }
     requires spelled { All HasSpelling codes.now }
-    ensures strict { OnOk result (OfProof site.now.statements site.now.number (λ place s.
-        IsStrict (take place site.now.statements) s (token_texts tokens.now))) }
+    ensures strict { OnOk result (OfProof site.now.statements site.now.number (λ index s.
+        IsStrict (take index site.now.statements) s (token_texts tokens.now))) }
     ensures fault { IfErr result (λ e. OnRule e (λ rule step.
-        OfProof site.now.statements site.now.number (λ place s. (step ≡ 0) × (rule ≡ P15)
-        × ¬ (IsStrict (take place site.now.statements) s (token_texts tokens.now))))) }
+        OfProof site.now.statements site.now.number (λ index s. (step ≡ 0) × (rule ≡ P15)
+        × ¬ (IsStrict (take index site.now.statements) s (token_texts tokens.now))))) }
 {
     if !begins_list(tokens) {
         return Ok(());

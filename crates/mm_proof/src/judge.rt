@@ -87,40 +87,40 @@ pub(crate) fn mark<S: Store>(store: &mut S, number: usize) -> Result<(), ProofFa
     Ok(())
 }
 
-// The step by the entry at a place, which is marked.
+// The step by the entry at an index, which is marked.
 #[inline(always)]
 fn step_entry<S: Store>(
     store: &mut S,
     marks: &mut Vec<bool>,
     table: &CallTable,
-    place: usize,
+    index: usize,
     number: usize,
 ) -> Result<(), ProofFault>
     requires used { let site = table.now.site in (id : ℕ) × (label : List ℕ)
-        × (slice_get table.now.ids place ≡ Some id)
-        × MayBeUsed site.statements site.place label id }
+        × (slice_get table.now.ids index ≡ Some id)
+        × MayBeUsed site.statements site.index label id }
     requires long { length marks.old.items ≡ length table.now.ids }
     requires entries { let site = table.now.site in
-        AreStackEntries site.statements (take site.place site.statements) (S.stack store.old) }
+        AreStackEntries site.statements (take site.index site.statements) (S.stack store.old) }
     ensures carried { let site = table.now.site in
-        OnOk result ((id : ℕ) → slice_get table.now.ids place ≡ Some id
-        → CarriesOn site.limit site.statements site.place id (S.stack store.old)
+        OnOk result ((id : ℕ) → slice_get table.now.ids index ≡ Some id
+        → CarriesOn site.limit site.statements site.index id (S.stack store.old)
         (S.stack store.new)) }
     ensures entries { let site = table.now.site in
-        OnOk result (AreStackEntries site.statements (take site.place site.statements)
+        OnOk result (AreStackEntries site.statements (take site.index site.statements)
         (S.stack store.new)) }
     ensures long { length marks.new.items ≡ length table.now.ids }
-    ensures marked { (front : List (Move ℕ)) (id : ℕ) → slice_get table.now.ids place ≡ Some id
-        → AreMarked table.now.ids front marks.old.items
-        → AreMarked table.now.ids (front ++ name id ∷ []) marks.new.items }
+    ensures marked { (prefix : List (Move ℕ)) (id : ℕ) → slice_get table.now.ids index ≡ Some id
+        → AreMarked table.now.ids prefix marks.old.items
+        → AreMarked table.now.ids (prefix ++ name id ∷ []) marks.new.items }
     ensures kept { S.kept store.new ≡ S.kept store.old }
     ensures fault { let site = table.now.site in
         (rule : ProofRule) → (at : ℕ) → result ≡ Err (ProofFault.Rule rule at)
-        → (at ≡ number) × ((id : ℕ) → slice_get table.now.ids place ≡ Some id
-        → StopsAt site.limit site.statements site.place id (S.stack store.old) rule) }
+        → (at ≡ number) × ((id : ℕ) → slice_get table.now.ids index ≡ Some id
+        → StopsAt site.limit site.statements site.index id (S.stack store.old) rule) }
 {
-    marks[place] = true;
-    step_by(store, &table.site, &table.calls[place], number)
+    marks[index] = true;
+    step_by(store, &table.site, &table.calls[index], number)
 }
 
 /// What judges moves.
@@ -128,7 +128,7 @@ fn step_entry<S: Store>(
 pub(crate) struct Judge<'s, 'e, 'b, 'a, S> {
     /// The store of their expressions.
     pub(crate) store: &'s mut S,
-    /// By the place of an entry, whether a move names it.
+    /// By the index of an entry, whether a move names it.
     pub(crate) marks: &'s mut Vec<bool>,
     /// Where the proof is judged, and what its entries stand for.
     pub(crate) table: &'s CallTable<'e, 'b, 'a>,
@@ -150,14 +150,14 @@ impl<'s, 'e, 'b, 'a, S: Store> Machine for Judge<'s, 'e, 'b, 'a, S> {
 
     ghost has_run = { HasJudged S.stack S.kept };
 
-    ghost may_take = { λ first front move. let site = first.table.now.site in
-        MayBeMade site.statements site.place move };
+    ghost may_take = { λ first prefix move. let site = first.table.now.site in
+        MayBeMade site.statements site.index move };
 
-    ghost stops = { λ first front move fault.
-        OnRule fault (BreaksRun first.table.now.site front move) };
+    ghost stops = { λ first prefix move fault.
+        OnRule fault (BreaksRun first.table.now.site prefix move) };
 
-    fn step(&mut self, place: usize) -> Result<(), ProofFault> {
-        step_entry(self.store, self.marks, self.table, place, self.steps + 1)?;
+    fn step(&mut self, index: usize) -> Result<(), ProofFault> {
+        step_entry(self.store, self.marks, self.table, index, self.steps + 1)?;
         self.steps += 1;
         Ok(())
     }
@@ -185,14 +185,14 @@ pub(crate) fn run_codes<S: Store>(
 ) -> Result<usize, ProofFault>
     requires spelled { All HasSpelling codes.now }
     requires usable { let site = table.now.site in
-        AllByRecursion (MayBeMade site.statements site.place)
+        AllByRecursion (MayBeMade site.statements site.index)
         (code_moves table.now.ids codes.now) }
     requires long { length marks.old.items ≡ length table.now.ids }
     requires unmarked { AreMarked table.now.ids [] marks.old.items }
     requires stack { S.stack store.old ≡ [] }
     requires kept { S.kept store.old ≡ [] }
     ensures ok { let site = table.now.site in
-        IfOk result (λ count. HasRun site.limit site.statements site.place
+        IfOk result (λ count. HasRun site.limit site.statements site.index
         (code_moves table.now.ids codes.now) (S.stack store.new) (S.kept store.new) count) }
     ensures count { IfOk result (λ count. count ≤ length codes.now) }
     ensures long { OnOk result (length marks.new.items ≡ length table.now.ids) }
@@ -202,7 +202,7 @@ pub(crate) fn run_codes<S: Store>(
         (rule : ProofRule) → (at : ℕ) → result ≡ Err (ProofFault.Rule rule at)
         → (names : List (Move (List ℕ)))
         → AreNumberedMoves site.statements (code_moves table.now.ids codes.now) names
-        → IsMoveFault (IsWithin site.limit) (take site.place site.statements) names rule at }
+        → IsMoveFault (IsWithin site.limit) (take site.index site.statements) names rule at }
 {
     let count = table.entries.len();
     let mut judge = Judge {

@@ -40,14 +40,14 @@ impl LabelSet {
         self.set.len()
     }
 
-    /// The place of a label that is among them.
-    pub(crate) fn place(&self, id: LabelId) -> usize
+    /// The index of a label that is among them.
+    pub(crate) fn index(&self, id: LabelId) -> usize
         requires { Contains self.now id.0 }
         ensures there { slice_get self.now result ≡ Some id.0 }
         ensures within { result ≤ length self.now }
     {
         match self.set.get_index_of(&id.0) {
-            Some(place) => place,
+            Some(index) => index,
             // The label was put into the set.
             None => unreachable!(),
         }

@@ -24,8 +24,8 @@ enum Use {
 // What the label stands for in the proof of the `$p` with a number.
 fn use_of(book: &Book, guesses: &mut Guesses, own: &Frame, id: LabelId, label: &[u8]) -> Use
     requires book { own.now.statements ≡ book.now.statements }
-    requires own { (s : Sentence) × IsNumbered book.now.statements id.0 own.now.place s }
-    ensures { IsUseOf book.now.statements own.now.place label.now result }
+    requires own { (s : Sentence) × IsNumbered book.now.statements id.0 own.now.index s }
+    ensures { IsUseOf book.now.statements own.now.index label.now result }
 {
     match book.find_guessed(guesses, label) {
         Found::Assertion(found) if found.0 < id.0 => Use::Number(found),
@@ -52,11 +52,11 @@ pub(crate) fn fill_numbers(
     labels: &[Token],
 ) -> Result<(), ProofFault>
     requires book { own.now.statements ≡ book.now.statements }
-    requires own { (s : Sentence) × IsNumbered book.now.statements id.0 own.now.place s }
-    ensures ok { OnOk result (AreFor book.now.statements own.now.place
+    requires own { (s : Sentence) × IsNumbered book.now.statements id.0 own.now.index s }
+    ensures ok { OnOk result (AreFor book.now.statements own.now.index
         (ids_in ids.new.items) (token_texts labels.now)) }
     ensures fault { IfErr result (λ e. OnRule e (λ rule step. (step ≡ 0)
-        × BreaksLabels rule book.now.statements own.now.place (token_texts labels.now))) }
+        × BreaksLabels rule book.now.statements own.now.index (token_texts labels.now))) }
 {
     ids.clear();
     let mut idle = false;

@@ -3,8 +3,8 @@
 ghost use Rattle.mm_proof.specs.Laws.{OneFit, OneTree, OneWord, MadeByWord, ByWord, BySpelling};
 ghost use Rattle.mm_proof.specs.Laws.{SomeProofVerdict, OneProofVerdict, LimitsAside};
 ghost use Rattle.mm_proof.specs.Laws.{MarkBeforeAnyStep, TagOverMarks};
-ghost use Rattle.mm_proof.specs.KnownFront.{OneFrontVerdict};
-ghost use Rattle.mm_proof.specs.UnderProfile.{OneVerdictUnder, OneFrontVerdictUnder};
+ghost use Rattle.mm_proof.specs.KnownPrefix.{OnePrefixVerdict};
+ghost use Rattle.mm_proof.specs.UnderProfile.{OneVerdictUnder, OnePrefixVerdictUnder};
 ghost use Rattle.mm_proof.specs.SharingLaws.{OnePacked, SomePacked};
 ghost use Rattle.mm_proof.specs.SharingLaws.{StepsMakeChildren, FewestSteps, ToldByPacked};
 
@@ -89,14 +89,14 @@ pub fn one_verdict()
     ensures { OneProofVerdict }
 {}
 
-/// The known front of an incomplete proof has one verdict.
+/// The known prefix of an incomplete proof has one verdict.
 ///
-/// After statements that are in form and break no rule of meaning, the known front of a proof (the
+/// After statements that are in form and break no rule of meaning, the known prefix of a proof (the
 /// Metamath book, section 4.4.4) breaks no rule, or has a fault: the rules leave no case out, and
-/// no front is told to be allowed and at fault, or to be at fault in two ways. This holds for each
+/// no prefix is told to be allowed and at fault, or to be at fault in two ways. This holds for each
 /// limit.
-pub fn one_front_verdict()
-    ensures { OneFrontVerdict }
+pub fn one_prefix_verdict()
+    ensures { OnePrefixVerdict }
 {}
 
 /// Each proof has one verdict under a profile.
@@ -109,12 +109,12 @@ pub fn one_verdict_under()
     ensures { OneVerdictUnder }
 {}
 
-/// Each known front has one verdict under a profile.
+/// Each known prefix has one verdict under a profile.
 ///
-/// The same as of a whole proof holds of the known front of an incomplete one (the Metamath book,
+/// The same as of a whole proof holds of the known prefix of an incomplete one (the Metamath book,
 /// section 4.4.4).
-pub fn one_front_verdict_under()
-    ensures { OneFrontVerdictUnder }
+pub fn one_prefix_verdict_under()
+    ensures { OnePrefixVerdictUnder }
 {}
 
 /// What the limit on an expression's length changes, and that it changes nothing else.

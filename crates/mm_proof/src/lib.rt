@@ -11,7 +11,6 @@ mod expansion;
 mod fault;
 mod flat;
 mod form;
-mod front;
 mod judge;
 mod label_set;
 mod labels;
@@ -22,6 +21,7 @@ mod moves;
 mod packing;
 mod pairs;
 mod parse;
+mod prefix;
 mod profile;
 mod prover;
 mod rows;
@@ -42,16 +42,16 @@ mod words;
 pub use expansion::expand;
 pub use fault::{ExpandFault, ProofFault, ProofRule};
 pub use flat::Flat;
-pub use front::is_unknown;
 pub use laws::{
     by_spelling, by_word, fewest_steps, limits_aside, made_by_word, mark_before_any_step, one_fit,
-    one_front_verdict, one_front_verdict_under, one_packed, one_tree, one_verdict,
+    one_packed, one_prefix_verdict, one_prefix_verdict_under, one_tree, one_verdict,
     one_verdict_under, one_word, some_packed, some_verdict, steps_make_children, tag_over_marks,
     told_by_packed,
 };
 pub use lines::{Line, Name, listing};
 pub use moves::{Parsed, Steps};
 pub use packing::{Packed, compress};
+pub use prefix::is_unknown;
 pub use profile::Profile;
 pub use prover::{Proved, Prover};
 pub use rows::Rows;

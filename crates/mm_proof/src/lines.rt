@@ -90,15 +90,15 @@ impl<'s, 'e, 'b, 'a, S: Store> Machine for Lister<'s, 'e, 'b, 'a, S> {
 
     ghost has_run = { HasListed S.stack S.kept };
 
-    ghost may_take = { λ first front move. MayBeListed first.judge.table.now.site front move };
+    ghost may_take = { λ first prefix move. MayBeListed first.judge.table.now.site prefix move };
 
-    ghost stops = { λ first front move fault.
-        OnRule fault (BreaksRun first.judge.table.now.site front move) };
+    ghost stops = { λ first prefix move fault.
+        OnRule fault (BreaksRun first.judge.table.now.site prefix move) };
 
-    fn step(&mut self, place: usize) -> Result<(), ProofFault> {
+    fn step(&mut self, index: usize) -> Result<(), ProofFault> {
         let table = self.judge.table;
-        let id = table.label(place);
-        self.judge.step(place)?;
+        let id = table.label(index);
+        self.judge.step(index)?;
         let line = last_line(self.alloc, &self.judge, Name::Label(id))?;
         self.lines.push(line)?;
         Ok(())
@@ -129,7 +129,7 @@ fn lines_of<S: Store>(
 ) -> Result<Vec<Line>, ProofFault>
     requires spelled { All HasSpelling codes.now }
     requires usable { let site = table.now.site in
-        AllByRecursion (MayBeMade site.statements site.place)
+        AllByRecursion (MayBeMade site.statements site.index)
         (code_moves table.now.ids codes.now) }
     requires names { (names : List (Move (List ℕ)))
         × AreNumberedMoves table.now.site.statements (code_moves table.now.ids codes.now) names }
@@ -137,15 +137,15 @@ fn lines_of<S: Store>(
     requires stack { S.stack store.old ≡ [] }
     requires kept { S.kept store.old ≡ [] }
     ensures run { let site = table.now.site in
-        IfOk result (λ lines. HasRun site.limit site.statements site.place
+        IfOk result (λ lines. HasRun site.limit site.statements site.index
         (code_moves table.now.ids codes.now) (S.stack store.new) (S.kept store.new)
         (length lines.items)) }
     ensures lines { let site = table.now.site in
-        IfOk result (λ lines. AreLinesAt site.statements site.place
+        IfOk result (λ lines. AreLinesAt site.statements site.index
         (code_moves table.now.ids codes.now) lines.items) }
     ensures fault { let site = table.now.site in
         (rule : ProofRule) → (at : ℕ) → result ≡ Err (ProofFault.Rule rule at)
-        → BreaksAt site.limit site.statements site.place (code_moves table.now.ids codes.now)
+        → BreaksAt site.limit site.statements site.index (code_moves table.now.ids codes.now)
         rule at }
 {
     let count = table.entries.len();
@@ -232,7 +232,7 @@ fn lines_of_proof(
 ///
 /// # Errors
 ///
-/// `Memory` where a growth was refused. Moves, not of a front, that don't prove the `$p` are
+/// `Memory` where a growth was refused. Moves, not of a prefix, that don't prove the `$p` are
 /// answered with their first fault, as `verify` does.
 pub fn listing(
     alloc: Global,
@@ -241,29 +241,29 @@ pub fn listing(
     steps: &Steps,
 ) -> Result<Vec<Line>, ProofFault>
     requires steps { AreSteps book.now.statements id.0 steps.now.moves }
-    requires whole { steps.now.front ≡ false }
+    requires whole { steps.now.prefix ≡ false }
     // The lines are those of the steps: each with its name, and the expression that its tree
     // derives.
     ensures listed { IfOk result (λ lines. OfMoves book.now.statements id.0 steps.now.moves
-        (λ place s moves. AreLinesOf book.now.statements (take place book.now.statements) moves
+        (λ index s moves. AreLinesOf book.now.statements (take index book.now.statements) moves
         lines.items)) }
 
     // The rule and the step are those of the first fault.
     ensures fault { (rule : ProofRule) → (step : ℕ) → result ≡ Err (ProofFault.Rule rule step)
         → OfMoves book.now.statements id.0 steps.now.moves
-        (λ place s moves. IsMovesFault (IsWithin (limit_of steps.now.profile))
-        (take place book.now.statements) s moves rule step) }
+        (λ index s moves. IsMovesFault (IsWithin (limit_of steps.now.profile))
+        (take index book.now.statements) s moves rule step) }
 
     // What is proved is listed, unless memory is refused.
     ensures accepts { OfMoves book.now.statements id.0 steps.now.moves
-        (λ place s moves.
-        Prove (IsWithin (limit_of steps.now.profile)) (take place book.now.statements) s moves
+        (λ index s moves.
+        Prove (IsWithin (limit_of steps.now.profile)) (take index book.now.statements) s moves
         → IsOkUnless result ProofFault.Memory) }
 
     // What has a fault is answered with it, unless memory is refused.
     ensures refuses { OfMoves book.now.statements id.0 steps.now.moves
-        (λ place s moves. (rule : ProofRule) → (step : ℕ) → IsMovesFault
-        (IsWithin (limit_of steps.now.profile)) (take place book.now.statements) s moves rule step
+        (λ index s moves. (rule : ProofRule) → (step : ℕ) → IsMovesFault
+        (IsWithin (limit_of steps.now.profile)) (take index book.now.statements) s moves rule step
         → IsUnlessMemory result (Err (ProofFault.Rule rule step))) }
 {
     lines_of_proof(alloc, book, id, &steps.entries, &steps.codes, steps.profile)

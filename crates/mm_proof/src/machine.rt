@@ -19,7 +19,7 @@ pub(crate) trait Machine {
     /// Why it stops at a move.
     type Fault;
 
-    /// The numbers of the labels that the first places stand for.
+    /// The numbers of the labels that the first indices stand for.
     ghost entries: { Self → List ℕ };
 
     /// What it is after these moves, since the first state.
@@ -31,13 +31,13 @@ pub(crate) trait Machine {
     /// What is known where it stops with this fault, at a move after these.
     ghost stops: { Self → List (Move ℕ) → Move ℕ → Self.Fault → Type 0 };
 
-    /// A step by the label of the entry at a place.
-    fn step(&mut self, place: usize) -> Result<(), Self::Fault>
-        requires { IsNextStep entries has_run may_take self.old place }
-        ensures ran { OnOk result (StepsOn entries has_run may_take self.old self.new place) }
-        ensures stops { IfErr result (StopsStep entries has_run may_take stops self.old place) };
+    /// A step by the label of the entry at an index.
+    fn step(&mut self, index: usize) -> Result<(), Self::Fault>
+        requires { IsNextStep entries has_run may_take self.old index }
+        ensures ran { OnOk result (StepsOn entries has_run may_take self.old self.new index) }
+        ensures stops { IfErr result (StopsStep entries has_run may_take stops self.old index) };
 
-    /// A step by a tag: the place of a kept expression, from 0 on.
+    /// A step by a tag: the index of a kept expression, from 0 on.
     fn step_again(&mut self, tag: usize) -> Result<(), Self::Fault>
         requires { IsNext has_run may_take self.old (again tag) }
         ensures ran { OnOk result (GoesOn has_run may_take self.old self.new (again tag)) }
@@ -57,9 +57,9 @@ pub(crate) fn run<M: Machine>(machine: &mut M, count: usize, codes: &[Code]) -> 
     requires spelled { All HasSpelling codes.now }
     requires count { count ≡ length (M.entries machine.old) }
     requires begun { M.has_run machine.old machine.old [] }
-    requires allowed { (place : ℕ) (move : Move ℕ)
-        → slice_get (code_moves (M.entries machine.old) codes.now) place ≡ Some move
-        → M.may_take machine.old (take place (code_moves (M.entries machine.old) codes.now)) move }
+    requires allowed { (index : ℕ) (move : Move ℕ)
+        → slice_get (code_moves (M.entries machine.old) codes.now) index ≡ Some move
+        → M.may_take machine.old (take index (code_moves (M.entries machine.old) codes.now)) move }
     ensures ran { OnOk result
         (M.has_run machine.old machine.new (code_moves (M.entries machine.old) codes.now)) }
     ensures stops { IfErr result
@@ -68,11 +68,11 @@ pub(crate) fn run<M: Machine>(machine: &mut M, count: usize, codes: &[Code]) -> 
     for code in codes {
         match code {
             Code::Number(number) => {
-                let place = *number as usize - 1;
-                if place < count {
-                    machine.step(place)?;
+                let index = *number as usize - 1;
+                if index < count {
+                    machine.step(index)?;
                 } else {
-                    machine.step_again(place - count)?;
+                    machine.step_again(index - count)?;
                 }
             }
             Code::Tag => machine.mark()?,

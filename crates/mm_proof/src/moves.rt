@@ -8,13 +8,13 @@ use mm_code::Code;
 use mm_frame::LabelId;
 use std::marker::Model;
 
-/// The moves of a proof, or of the known front of an incomplete one, read from its tokens, and the
+/// The moves of a proof, or of the known prefix of an incomplete one, read from its tokens, and the
 /// profile under which they are judged. They are codes, whose first numbers stand for the entries
 /// and those above for tags.
 #[derive(Drop)]
 pub struct Steps {
     pub(crate) profile: Profile,
-    pub(crate) front: bool,
+    pub(crate) prefix: bool,
     pub(crate) entries: Vec<LabelId>,
     pub(crate) codes: Vec<Code>,
     /// As many as the tokens of a proof have bytes, at most.
@@ -32,7 +32,7 @@ impl Model for Steps {
 
     ghost view = { λ s. record {
       profile = s.profile;
-      front = s.front;
+      prefix = s.prefix;
       moves = moves_of s.entries.items s.codes.items;
     } };
 
@@ -41,19 +41,19 @@ impl Model for Steps {
 }
 
 impl Steps {
-    /// Whether these are the moves of the known front of an incomplete proof: those before its
+    /// Whether these are the moves of the known prefix of an incomplete proof: those before its
     /// first unknown step (the Metamath book, section 4.4.4).
-    pub fn is_front(&self) -> bool
-        ensures { result ≡ self.now.front }
+    pub fn is_prefix(&self) -> bool
+        ensures { result ≡ self.now.prefix }
     {
-        self.front
+        self.prefix
     }
 }
 
 /// What the tokens of a proof are.
 #[derive(Drop)]
 pub enum Parsed {
-    /// A token holds a `?`: a step is unknown. These are the moves of the known front.
+    /// A token holds a `?`: a step is unknown. These are the moves of the known prefix.
     Incomplete(Steps),
     /// The moves.
     Steps(Steps),

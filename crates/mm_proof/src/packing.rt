@@ -112,8 +112,8 @@ fn encode(
 {
     match one {
         SharedStep::Make(tree) => {
-            let place = labels.place(LabelId(tree.label));
-            codes.push(Code::Number((place + 1) as u32))?;
+            let index = labels.index(LabelId(tree.label));
+            codes.push(Code::Number((index + 1) as u32))?;
             if repeated.has(tree) {
                 codes.push(Code::Tag)?;
                 kept.add(tree)?;
@@ -122,8 +122,8 @@ fn encode(
             Ok(())
         }
         SharedStep::Repeat(tree) => {
-            let place = labels.len() + kept.place(tree);
-            codes.push(Code::Number((place + 1) as u32))?;
+            let index = labels.len() + kept.index(tree);
+            codes.push(Code::Number((index + 1) as u32))?;
             Ok(())
         }
     }
@@ -192,13 +192,13 @@ pub fn compress(
     steps: &Steps,
 ) -> Result<Packed, AllocError>
     requires steps { AreSteps book.now.statements id.0 steps.now.moves }
-    requires whole { steps.now.front ≡ false }
+    requires whole { steps.now.prefix ≡ false }
     requires makes { OfMoves book.now.statements id.0 steps.now.moves
-        (λ place s moves. MakeOneTree (take place book.now.statements) moves) }
+        (λ index s moves. MakeOneTree (take index book.now.statements) moves) }
     // The labels and the codes are the fully shared proof of the tree that the steps make.
     ensures packed { IfOk result (λ packed. OfMoves book.now.statements id.0 steps.now.moves
-        (λ place s moves. OfTree (take place book.now.statements) moves
-        (λ t. ArePacked book.now.statements place s t packed.labels.items packed.codes.items))) }
+        (λ index s moves. OfTree (take index book.now.statements) moves
+        (λ t. ArePacked book.now.statements index s t packed.labels.items packed.codes.items))) }
 
     // Each code can be written in letters, and each number stands for itself alone.
     ensures spelled { IfOk result (λ packed. All HasSpelling packed.codes.items) }

@@ -5,7 +5,7 @@ ghost use Rattle.std.specs.Prelude.{Contains, IsTrue, MatchBool, Option};
 ghost use Rattle.mm_frame.specs.Active.{IsVariable};
 ghost use Rattle.mm_frame.specs.Form.{IsSound};
 ghost use Rattle.mm_frame.specs.Numbers.{symbols_of};
-ghost use Rattle.mm_frame.specs.Pieces.{variables_of, HasPlaces, HavePlaces};
+ghost use Rattle.mm_frame.specs.Pieces.{variables_of, HasIndices, HaveIndices};
 ghost use Rattle.mm_proof.specs.Tree.{ShareNoVariable, AreDistinct};
 ghost use Rattle.mm_proof.specs.Stores.{numbers_in};
 ghost use Rattle.mm_proof.specs.Mirror.CodeVerify.{AreDeclaredSymbols, AreStackEntries, SomeValues};
@@ -48,17 +48,17 @@ fn is_shared(book: &Book, symbol: Sym, f: &[Sym]) -> bool
 fn share_variable(book: &Book, own: &Frame, e: &[Sym], f: &[Sym]) -> bool
     requires sound { IsSound book.now.statements }
     requires book { own.now.statements ≡ book.now.statements }
-    requires first { AreDeclaredSymbols book.now.statements (take own.now.place book.now.statements)
+    requires first { AreDeclaredSymbols book.now.statements (take own.now.index book.now.statements)
         (numbers_in e.now) }
     requires second { AreDeclaredSymbols book.now.statements
-        (take own.now.place book.now.statements)
+        (take own.now.index book.now.statements)
         (numbers_in f.now) }
     ensures { MatchBool
         result
-        (¬ (ShareNoVariable (take own.now.place book.now.statements)
+        (¬ (ShareNoVariable (take own.now.index book.now.statements)
         (names_at book.now.statements (numbers_in e.now))
         (names_at book.now.statements (numbers_in f.now))))
-        (ShareNoVariable (take own.now.place book.now.statements)
+        (ShareNoVariable (take own.now.index book.now.statements)
         (names_at book.now.statements (numbers_in e.now))
         (names_at book.now.statements (numbers_in f.now))) }
 {
@@ -78,8 +78,8 @@ fn is_apart(book: &Book, own: &Frame, variable: Sym, symbol: Sym) -> bool
     requires second { symbol.0 < length (symbols_of book.now.statements) }
     ensures { MatchBool
         result
-        (IsApart book.now.statements own.now.place variable.0 symbol.0)
-        (¬ (IsApart book.now.statements own.now.place variable.0 symbol.0)) }
+        (IsApart book.now.statements own.now.index variable.0 symbol.0)
+        (¬ (IsApart book.now.statements own.now.index variable.0 symbol.0)) }
 {
     !book.is_variable(symbol) || own.distinct(variable, symbol)
 }
@@ -89,12 +89,12 @@ fn is_apart_from_each(book: &Book, own: &Frame, variable: Sym, f: &[Sym]) -> boo
     requires book { own.now.statements ≡ book.now.statements }
     requires first { variable.0 < length (symbols_of book.now.statements) }
     requires second { AreDeclaredSymbols book.now.statements
-        (take own.now.place book.now.statements)
+        (take own.now.index book.now.statements)
         (numbers_in f.now) }
     ensures { MatchBool
         result
-        (IsApartFromEach book.now.statements own.now.place (numbers_in f.now) variable.0)
-        (¬ (IsApartFromEach book.now.statements own.now.place (numbers_in f.now) variable.0)) }
+        (IsApartFromEach book.now.statements own.now.index (numbers_in f.now) variable.0)
+        (¬ (IsApartFromEach book.now.statements own.now.index (numbers_in f.now) variable.0)) }
 {
     if !book.is_variable(variable) {
         return true;
@@ -111,17 +111,17 @@ fn is_apart_from_each(book: &Book, own: &Frame, variable: Sym, f: &[Sym]) -> boo
 fn are_apart(book: &Book, own: &Frame, e: &[Sym], f: &[Sym]) -> bool
     requires sound { IsSound book.now.statements }
     requires book { own.now.statements ≡ book.now.statements }
-    requires first { AreDeclaredSymbols book.now.statements (take own.now.place book.now.statements)
+    requires first { AreDeclaredSymbols book.now.statements (take own.now.index book.now.statements)
         (numbers_in e.now) }
     requires second { AreDeclaredSymbols book.now.statements
-        (take own.now.place book.now.statements)
+        (take own.now.index book.now.statements)
         (numbers_in f.now) }
     ensures { MatchBool
         result
-        (AreDistinct (take own.now.place book.now.statements)
+        (AreDistinct (take own.now.index book.now.statements)
         (names_at book.now.statements (numbers_in e.now))
         (names_at book.now.statements (numbers_in f.now)))
-        (¬ (AreDistinct (take own.now.place book.now.statements)
+        (¬ (AreDistinct (take own.now.index book.now.statements)
         (names_at book.now.statements (numbers_in e.now))
         (names_at book.now.statements (numbers_in f.now)))) }
 {
@@ -143,13 +143,13 @@ fn is_shared_pair<S: Store>(
 ) -> bool
     requires sound { IsSound book.now.statements }
     requires book { own.now.statements ≡ book.now.statements }
-    requires first { base + pair.places.0 < length (S.stack store.now) }
-    requires second { base + pair.places.1 < length (S.stack store.now) }
+    requires first { base + pair.indices.0 < length (S.stack store.now) }
+    requires second { base + pair.indices.1 < length (S.stack store.now) }
     requires fits { length (S.stack store.now) < 2 ^ 64 }
-    requires symbols { AreStackEntries book.now.statements (take own.now.place book.now.statements)
+    requires symbols { AreStackEntries book.now.statements (take own.now.index book.now.statements)
         (drop base (S.stack store.now)) }
-    ensures { (variables : List (Option ℕ)) → HasPlaces variables pair
-        → let before = take own.now.place book.now.statements in
+    ensures { (variables : List (Option ℕ)) → HasIndices variables pair
+        → let before = take own.now.index book.now.statements in
         let σ = value_of variables (drop base (S.stack store.now)) in
         MatchBool
         result
@@ -159,8 +159,8 @@ fn is_shared_pair<S: Store>(
         (EachValues σ pair.variables.0.0 pair.variables.1.0 (λ e f.
         ShareNoVariable before (names_at book.now.statements e) (names_at book.now.statements f))) }
 {
-    let e = value_at(store, base, pair.places.0);
-    let f = value_at(store, base, pair.places.1);
+    let e = value_at(store, base, pair.indices.0);
+    let f = value_at(store, base, pair.indices.1);
     share_variable(book, own, e, f)
 }
 
@@ -176,13 +176,13 @@ fn is_apart_pair<S: Store>(
 ) -> bool
     requires sound { IsSound book.now.statements }
     requires book { own.now.statements ≡ book.now.statements }
-    requires first { base + pair.places.0 < length (S.stack store.now) }
-    requires second { base + pair.places.1 < length (S.stack store.now) }
+    requires first { base + pair.indices.0 < length (S.stack store.now) }
+    requires second { base + pair.indices.1 < length (S.stack store.now) }
     requires fits { length (S.stack store.now) < 2 ^ 64 }
-    requires symbols { AreStackEntries book.now.statements (take own.now.place book.now.statements)
+    requires symbols { AreStackEntries book.now.statements (take own.now.index book.now.statements)
         (drop base (S.stack store.now)) }
-    ensures { (variables : List (Option ℕ)) → HasPlaces variables pair
-        → let before = take own.now.place book.now.statements in
+    ensures { (variables : List (Option ℕ)) → HasIndices variables pair
+        → let before = take own.now.index book.now.statements in
         let σ = value_of variables (drop base (S.stack store.now)) in
         MatchBool
         result
@@ -191,8 +191,8 @@ fn is_apart_pair<S: Store>(
         (SomeValues σ pair.variables.0.0 pair.variables.1.0 (λ e f.
         ¬ (AreDistinct before (names_at book.now.statements e) (names_at book.now.statements f)))) }
 {
-    let e = value_at(store, base, pair.places.0);
-    let f = value_at(store, base, pair.places.1);
+    let e = value_at(store, base, pair.indices.0);
+    let f = value_at(store, base, pair.indices.1);
     are_apart(book, own, e, f)
 }
 
@@ -208,12 +208,12 @@ pub(crate) fn has_shared_pair<S: Store>(
 ) -> bool
     requires sound { IsSound book.now.statements }
     requires book { own.now.statements ≡ book.now.statements }
-    requires places { HavePlaces (variables_of scheme.now.hypotheses.now) scheme.now.pairs.now }
+    requires indices { HaveIndices (variables_of scheme.now.hypotheses.now) scheme.now.pairs.now }
     requires entries { base + length scheme.now.hypotheses.now ≡ length (S.stack store.now) }
     requires fits { length (S.stack store.now) < 2 ^ 64 }
-    requires symbols { AreStackEntries book.now.statements (take own.now.place book.now.statements)
+    requires symbols { AreStackEntries book.now.statements (take own.now.index book.now.statements)
         (drop base (S.stack store.now)) }
-    ensures { let before = take own.now.place book.now.statements in
+    ensures { let before = take own.now.index book.now.statements in
         let σ = value_of (variables_of scheme.now.hypotheses.now)
         (drop base (S.stack store.now)) in
         MatchBool
@@ -242,12 +242,12 @@ pub(crate) fn are_apart_pairs<S: Store>(
 ) -> bool
     requires sound { IsSound book.now.statements }
     requires book { own.now.statements ≡ book.now.statements }
-    requires places { HavePlaces (variables_of scheme.now.hypotheses.now) scheme.now.pairs.now }
+    requires indices { HaveIndices (variables_of scheme.now.hypotheses.now) scheme.now.pairs.now }
     requires entries { base + length scheme.now.hypotheses.now ≡ length (S.stack store.now) }
     requires fits { length (S.stack store.now) < 2 ^ 64 }
-    requires symbols { AreStackEntries book.now.statements (take own.now.place book.now.statements)
+    requires symbols { AreStackEntries book.now.statements (take own.now.index book.now.statements)
         (drop base (S.stack store.now)) }
-    ensures { let before = take own.now.place book.now.statements in
+    ensures { let before = take own.now.index book.now.statements in
         let σ = value_of (variables_of scheme.now.hypotheses.now)
         (drop base (S.stack store.now)) in
         MatchBool

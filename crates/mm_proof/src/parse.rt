@@ -16,7 +16,7 @@ ghost use Rattle.mm_proof.specs.Moves.{name};
 ghost use Rattle.mm_proof.specs.Proof.{IsWholeFault};
 ghost use Rattle.mm_proof.specs.Steps.{AreSteps, IsProofNumber};
 ghost use Rattle.mm_proof.specs.ReadSteps.{ReadSteps};
-ghost use Rattle.mm_proof.specs.KnownFront.{known_front};
+ghost use Rattle.mm_proof.specs.KnownPrefix.{known_prefix};
 ghost use Rattle.mm_proof.specs.Strict.{HasFormOf, IsTextFault};
 ghost use Rattle.mm_proof.specs.Parsed.{OfProof, SaySteps};
 ghost use Rattle.mm_proof.specs.Mirror.CodeSteps.{IsReading, AreFor, moves_of};
@@ -27,9 +27,9 @@ ghost use Rattle.mm_proof.specs.Mirror.Sites.{IsSite};
 
 use crate::fault::{ProofFault, ProofRule};
 use crate::form::judge_form;
-use crate::front::{begins_list, is_byte, is_unknown, known_front};
 use crate::labels::fill_numbers;
 use crate::moves::{Parsed, Steps};
+use crate::prefix::{begins_list, is_byte, is_unknown, known_prefix};
 use crate::profile::Profile;
 use crate::site::Site;
 use mm_code::{Code, CodeFault, CodeRule, fill_codes};
@@ -51,10 +51,10 @@ pub(crate) struct ParseLists<'a> {
     letters: Vec<&'a [u8]>,
     /// What they say, or a number for each label of a normal proof.
     pub(crate) codes: Vec<Code>,
-    /// By the place of an entry, whether a code names it.
+    /// By the index of an entry, whether a code names it.
     pub(crate) marks: Vec<bool>,
-    /// By the number of a label, its place among the labels of the last normal proof that has it.
-    places: Vec<u32>,
+    /// By the number of a label, its index among the labels of the last normal proof that has it.
+    indices: Vec<u32>,
 }
 
 impl<'a> ParseLists<'a> {
@@ -66,7 +66,7 @@ impl<'a> ParseLists<'a> {
             letters: Vec::new(alloc),
             codes: Vec::new(alloc),
             marks: Vec::new(alloc),
-            places: Vec::new(alloc),
+            indices: Vec::new(alloc),
         }
     }
 }
@@ -84,12 +84,12 @@ pub(crate) fn is_incomplete(tokens: &[Token]) -> bool
     false
 }
 
-// Makes room for the places of so many labels.
-fn make_places(places: &mut Vec<u32>, count: usize) -> Result<(), AllocError>
-    ensures { OnOk result (count ≤ length places.new.items) }
+// Makes room for the indices of so many labels.
+fn make_indices(indices: &mut Vec<u32>, count: usize) -> Result<(), AllocError>
+    ensures { OnOk result (count ≤ length indices.new.items) }
 {
-    for _ in places.len()..count {
-        places.push(0)?;
+    for _ in indices.len()..count {
+        indices.push(0)?;
     }
     Ok(())
 }
@@ -107,48 +107,48 @@ fn make_entry_room(entries: &mut Vec<LabelId>) -> Result<(), AllocError>
     }
 }
 
-// The place of the label among the entries, which it is put behind where it isn't among them. What
-// was noted of it for another proof is told by what stands at the place.
-fn place_of(
+// The index of the label among the entries, which it is put behind where it isn't among them. What
+// was noted of it for another proof is told by what stands at the index.
+fn index_of(
     entries: &mut Vec<LabelId>,
-    places: &mut Vec<u32>,
+    indices: &mut Vec<u32>,
     id: LabelId,
 ) -> Result<usize, ProofFault>
-    ensures there { IfOk result (λ place.
-        slice_get (ids_in entries.new.items) place ≡ Some id.0) }
+    ensures there { IfOk result (λ index.
+        slice_get (ids_in entries.new.items) index ≡ Some id.0) }
     ensures longer { OnOk result ((more : List LabelId)
         × (entries.new.items ≡ entries.old.items ++ more)) }
-    ensures fits { IfOk result (λ place. place < 4294967295) }
+    ensures fits { IfOk result (λ index. index < 4294967295) }
     ensures fault { IfErr result (λ e. e ≡ ProofFault.Memory) }
 {
     let at = id.0 as usize;
-    make_places(places, at + 1)?;
-    let noted = places[at];
+    make_indices(indices, at + 1)?;
+    let noted = indices[at];
     if is_entry(entries, noted as usize, id) && noted < u32::MAX {
         return Ok(noted as usize);
     }
-    let place = entries.len();
+    let index = entries.len();
     make_entry_room(entries)?;
     entries.push(id)?;
-    places[at] = place as u32;
-    Ok(place)
+    indices[at] = index as u32;
+    Ok(index)
 }
 
-// Whether the label is the entry at a place.
-fn is_entry(entries: &[LabelId], place: usize, id: LabelId) -> bool
-    ensures { IsTrue result → slice_get (ids_in entries.now) place ≡ Some id.0 }
+// Whether the label is the entry at an index.
+fn is_entry(entries: &[LabelId], index: usize, id: LabelId) -> bool
+    ensures { IsTrue result → slice_get (ids_in entries.now) index ≡ Some id.0 }
 {
-    match entries.get(place) {
+    match entries.get(index) {
         Some(entry) => entry.0 == id.0,
         None => false,
     }
 }
 
-// Fills the lists with the labels, each once, and with the numbers of their places.
+// Fills the lists with the labels, each once, and with the numbers of their indices.
 fn fill_distinct(
     entries: &mut Vec<LabelId>,
     codes: &mut Vec<Code>,
-    places: &mut Vec<u32>,
+    indices: &mut Vec<u32>,
     ids: &[LabelId],
 ) -> Result<(), ProofFault>
     ensures ok { OnOk result
@@ -159,8 +159,8 @@ fn fill_distinct(
     entries.clear();
     codes.clear();
     for id in ids {
-        let place = place_of(entries, places, *id)?;
-        codes.push(Code::Number(place as u32 + 1))?;
+        let index = index_of(entries, indices, *id)?;
+        codes.push(Code::Number(index as u32 + 1))?;
     }
     Ok(())
 }
@@ -168,14 +168,14 @@ fn fill_distinct(
 // Fills the lists with the labels of a normal proof, each once, and with their numbers.
 fn fill_normal(lists: &mut ParseLists, site: &Site, tokens: &[Token]) -> Result<(), ProofFault>
     requires normal { IsNormal (token_texts tokens.now) }
-    ensures ok { OnOk result (IsReading site.now.statements site.now.place
+    ensures ok { OnOk result (IsReading site.now.statements site.now.index
         (token_texts tokens.now) (moves_of lists.new.entries.items lists.new.codes.items)) }
     ensures spelled { OnOk result (All HasSpelling lists.new.codes.items) }
     ensures listed { OnOk result ((labels letters : List (List ℕ))
         → IsCompressed (token_texts tokens.now) labels letters
-        → AreFor site.now.statements site.now.place (ids_in lists.new.ids.items) labels) }
+        → AreFor site.now.statements site.now.index (ids_in lists.new.ids.items) labels) }
     ensures fault { IfErr result (λ e. OnRule e (λ rule step. (step ≡ 0)
-        × IsWholeFault (take site.now.place site.now.statements) (token_texts tokens.now) rule)) }
+        × IsWholeFault (take site.now.index site.now.statements) (token_texts tokens.now) rule)) }
 {
     fill_numbers(
         &mut lists.ids,
@@ -188,24 +188,24 @@ fn fill_normal(lists: &mut ParseLists, site: &Site, tokens: &[Token]) -> Result<
     fill_distinct(
         &mut lists.entries,
         &mut lists.codes,
-        &mut lists.places,
+        &mut lists.indices,
         &lists.ids,
     )?;
     Ok(())
 }
 
-// The place of the first `)`.
-fn closing_place(tokens: &[Token]) -> Option<usize>
+// The index of the first `)`.
+fn closing_index(tokens: &[Token]) -> Option<usize>
     ensures { MatchOption
         result
         (¬ (Contains (token_texts tokens.now) closing_token))
-        (λ place. (place < length tokens.now)
-        × (slice_get (token_texts tokens.now) place ≡ Some closing_token)
-        × ¬ (Contains (take place (token_texts tokens.now)) closing_token)) }
+        (λ index. (index < length tokens.now)
+        × (slice_get (token_texts tokens.now) index ≡ Some closing_token)
+        × ¬ (Contains (take index (token_texts tokens.now)) closing_token)) }
 {
-    for (place, token) in tokens.iter().enumerate() {
+    for (index, token) in tokens.iter().enumerate() {
         if is_byte(token.text, b')') {
-            return Some(place);
+            return Some(index);
         }
     }
     None
@@ -219,8 +219,8 @@ fn parts<'t, 'a>(rest: &'t [Token<'a>]) -> Option<(&'t [Token<'a>], &'t [Token<'
         (λ p. IsCompressed (opening_token ∷ token_texts rest.now)
         (token_texts p.0.now) (token_texts p.1.now)) }
 {
-    let place = closing_place(rest)?;
-    Some((&rest[..place], &rest[place + 1..]))
+    let index = closing_index(rest)?;
+    Some((&rest[..index], &rest[index + 1..]))
 }
 
 // What a fault of the letters is as a fault of the proof.
@@ -293,15 +293,15 @@ fn fill_compressed<'a>(
     rest: &[Token<'a>],
 ) -> Result<(), ProofFault>
     ensures ok { let tokens = opening_token ∷ token_texts rest.now in
-        OnOk result (IsReading site.now.statements site.now.place tokens
+        OnOk result (IsReading site.now.statements site.now.index tokens
         (moves_of lists.new.entries.items lists.new.codes.items)) }
     ensures spelled { OnOk result (All HasSpelling lists.new.codes.items) }
     ensures listed { OnOk result ((labels letters : List (List ℕ))
         → IsCompressed (opening_token ∷ token_texts rest.now) labels letters
-        → AreFor site.now.statements site.now.place (ids_in lists.new.ids.items) labels) }
+        → AreFor site.now.statements site.now.index (ids_in lists.new.ids.items) labels) }
     ensures fault { let tokens = opening_token ∷ token_texts rest.now in
         IfErr result (λ e. OnRule e (λ rule step. (step ≡ 0)
-        × IsWholeFault (take site.now.place site.now.statements) tokens rule)) }
+        × IsWholeFault (take site.now.index site.now.statements) tokens rule)) }
 {
     let Some((listed, letters)) = parts(rest) else {
         return Err(ProofFault::Rule {
@@ -332,14 +332,14 @@ fn fill_steps<'a>(
     site: &Site,
     tokens: &[Token<'a>],
 ) -> Result<(), ProofFault>
-    ensures ok { OnOk result (IsReading site.now.statements site.now.place
+    ensures ok { OnOk result (IsReading site.now.statements site.now.index
         (token_texts tokens.now) (moves_of lists.new.entries.items lists.new.codes.items)) }
     ensures spelled { OnOk result (All HasSpelling lists.new.codes.items) }
     ensures listed { OnOk result ((labels letters : List (List ℕ))
         → IsCompressed (token_texts tokens.now) labels letters
-        → AreFor site.now.statements site.now.place (ids_in lists.new.ids.items) labels) }
+        → AreFor site.now.statements site.now.index (ids_in lists.new.ids.items) labels) }
     ensures fault { IfErr result (λ e. OnRule e (λ rule step. (step ≡ 0)
-        × IsWholeFault (take site.now.place site.now.statements) (token_texts tokens.now) rule)) }
+        × IsWholeFault (take site.now.index site.now.statements) (token_texts tokens.now) rule)) }
 {
     match tokens {
         [_, rest @ ..] if begins_list(tokens) => fill_compressed(lists, site, rest),
@@ -360,7 +360,7 @@ pub(crate) fn fill_under<'a>(
     requires { IsSite site.now }
     // The moves are what the tokens say, and each may be made.
     ensures steps { OnOk result (OfProof site.now.statements site.now.number
-        (λ place s. SaySteps site.now.statements place s
+        (λ index s. SaySteps site.now.statements index s
         (token_texts tokens.now) (moves_of lists.new.entries.items lists.new.codes.items))) }
     ensures usable { OnOk result
         (AreSteps site.now.statements site.now.number
@@ -370,13 +370,13 @@ pub(crate) fn fill_under<'a>(
     ensures spelled { OnOk result (All HasSpelling lists.new.codes.items) }
 
     // The proof has the form that the profile demands.
-    ensures form { OnOk result (OfProof site.now.statements site.now.number (λ place s.
-        HasFormOf profile (take place site.now.statements) s (token_texts tokens.now))) }
+    ensures form { OnOk result (OfProof site.now.statements site.now.number (λ index s.
+        HasFormOf profile (take index site.now.statements) s (token_texts tokens.now))) }
 
     // The rule is the first that is broken over the whole proof.
     ensures fault { IfErr result (λ e. OnRule e (λ rule step.
-        OfProof site.now.statements site.now.number (λ place s. (step ≡ 0)
-        × IsTextFault profile (take place site.now.statements) s (token_texts tokens.now) rule))) }
+        OfProof site.now.statements site.now.number (λ index s. (step ≡ 0)
+        × IsTextFault profile (take index site.now.statements) s (token_texts tokens.now) rule))) }
 {
     fill_steps(lists, site, tokens)?;
     match profile {
@@ -395,64 +395,64 @@ pub(crate) fn fill_under<'a>(
 }
 
 // The moves that the tokens say as a proof of the `$p` with this number, and whether they are those
-// of the known front of another.
+// of the known prefix of another.
 fn steps_of(
     alloc: Global,
     profile: Profile,
     book: &Book,
     id: LabelId,
     tokens: &[Token],
-    front: bool,
+    prefix: bool,
 ) -> Result<Steps, ProofFault>
-    requires proof { (place : ℕ) × (s : Sentence) × IsProofNumber book.now.statements id.0 place s }
+    requires proof { (index : ℕ) × (s : Sentence) × IsProofNumber book.now.statements id.0 index s }
     requires room { sum_by length (token_texts tokens.now) ≤ most_bytes }
     ensures steps { IfOk result (λ steps. OfProof book.now.statements id.0
-        (λ place s. SaySteps book.now.statements place s (token_texts tokens.now) steps.moves)) }
+        (λ index s. SaySteps book.now.statements index s (token_texts tokens.now) steps.moves)) }
     ensures usable { IfOk result (λ steps. AreSteps book.now.statements id.0 steps.moves) }
-    ensures form { OnOk result (OfProof book.now.statements id.0 (λ place s.
-        HasFormOf profile (take place book.now.statements) s (token_texts tokens.now))) }
+    ensures form { OnOk result (OfProof book.now.statements id.0 (λ index s.
+        HasFormOf profile (take index book.now.statements) s (token_texts tokens.now))) }
     ensures profile { IfOk result (λ steps. steps.profile ≡ profile) }
-    ensures front { IfOk result (λ steps. steps.front ≡ front) }
+    ensures prefix { IfOk result (λ steps. steps.prefix ≡ prefix) }
     ensures fault { IfErr result (λ e. OnRule e (λ rule step.
-        OfProof book.now.statements id.0 (λ place s. (step ≡ 0)
-        × IsTextFault profile (take place book.now.statements) s (token_texts tokens.now) rule))) }
+        OfProof book.now.statements id.0 (λ index s. (step ≡ 0)
+        × IsTextFault profile (take index book.now.statements) s (token_texts tokens.now) rule))) }
 {
     let site = Site::new(book, id, profile);
     let mut lists = ParseLists::new(alloc);
     fill_under(alloc, &mut lists, profile, &site, tokens)?;
     Ok(Steps {
         profile,
-        front,
+        prefix,
         entries: lists.entries,
         codes: lists.codes,
     })
 }
 
-// The moves that the known front of the tokens says as a proof of the `$p` with this number.
-#[tactic(auto, using(crate::proofs::ProofTokens::QuestionMarks::front_room))]
-fn front_steps(
+// The moves that the known prefix of the tokens says as a proof of the `$p` with this number.
+#[tactic(auto, using(crate::proofs::ProofTokens::QuestionMarks::prefix_room))]
+fn prefix_steps(
     alloc: Global,
     profile: Profile,
     book: &Book,
     id: LabelId,
     tokens: &[Token],
 ) -> Result<Steps, ProofFault>
-    requires proof { (place : ℕ) × (s : Sentence) × IsProofNumber book.now.statements id.0 place s }
+    requires proof { (index : ℕ) × (s : Sentence) × IsProofNumber book.now.statements id.0 index s }
     requires room { sum_by length (token_texts tokens.now) ≤ most_bytes }
-    ensures steps { IfOk result (λ steps. OfProof book.now.statements id.0 (λ place s.
-        SaySteps book.now.statements place s (known_front (token_texts tokens.now)) steps.moves)) }
+    ensures steps { IfOk result (λ steps. OfProof book.now.statements id.0 (λ index s.
+        SaySteps book.now.statements index s (known_prefix (token_texts tokens.now)) steps.moves)) }
     ensures usable { IfOk result (λ steps. AreSteps book.now.statements id.0 steps.moves) }
-    ensures form { OnOk result (OfProof book.now.statements id.0 (λ place s.
-        HasFormOf profile (take place book.now.statements) s
-        (known_front (token_texts tokens.now)))) }
+    ensures form { OnOk result (OfProof book.now.statements id.0 (λ index s.
+        HasFormOf profile (take index book.now.statements) s
+        (known_prefix (token_texts tokens.now)))) }
     ensures profile { IfOk result (λ steps. steps.profile ≡ profile) }
-    ensures front { IfOk result (λ steps. steps.front ≡ true) }
+    ensures prefix { IfOk result (λ steps. steps.prefix ≡ true) }
     ensures fault { IfErr result (λ e. OnRule e (λ rule step. OfProof book.now.statements id.0
-        (λ place s. (step ≡ 0) × IsTextFault profile (take place book.now.statements) s
-        (known_front (token_texts tokens.now)) rule))) }
+        (λ index s. (step ≡ 0) × IsTextFault profile (take index book.now.statements) s
+        (known_prefix (token_texts tokens.now)) rule))) }
 {
-    let front = known_front(alloc, tokens)?;
-    steps_of(alloc, profile, book, id, &front, true)
+    let prefix = known_prefix(alloc, tokens)?;
+    steps_of(alloc, profile, book, id, &prefix, true)
 }
 
 // Tokens with these texts, which stand nowhere.
@@ -472,9 +472,9 @@ fn tokens_with<'a>(alloc: Global, pieces: &[&'a [u8]]) -> Result<Vec<Token<'a>>,
 
 impl Steps {
     /// The moves that the tokens say as a proof of the `$p` with this number, which are judged
-    /// under the profile; or, where a step is unknown, those of the known front; or the first of P1
-    /// to P5 and then P15 that they break, at step 0. The front is judged as the tokens of a whole
-    /// proof are.
+    /// under the profile; or, where a step is unknown, those of the known prefix; or the first of
+    /// P1 to P5 and then P15 that they break, at step 0. The prefix is judged as the tokens of a
+    /// whole proof are.
     pub fn parse(
         alloc: Global,
         profile: Profile,
@@ -482,37 +482,37 @@ impl Steps {
         id: LabelId,
         tokens: &[&[u8]],
     ) -> Result<Parsed, ProofFault>
-        requires proof { (place : ℕ) × (s : Sentence)
-            × IsProofNumber book.now.statements id.0 place s }
+        requires proof { (index : ℕ) × (s : Sentence)
+            × IsProofNumber book.now.statements id.0 index s }
         requires room { sum_by length (texts tokens.now) ≤ most_bytes }
         // A proof with an unknown step is told apart.
         ensures incomplete { (steps : ReadSteps) → result ≡ Ok (Parsed.Incomplete steps)
-            → IsIncomplete (texts tokens.now) × (steps.front ≡ true) }
+            → IsIncomplete (texts tokens.now) × (steps.prefix ≡ true) }
         ensures complete { (steps : ReadSteps) → result ≡ Ok (Parsed.Steps steps)
-            → ¬ (IsIncomplete (texts tokens.now)) × (steps.front ≡ false) }
+            → ¬ (IsIncomplete (texts tokens.now)) × (steps.prefix ≡ false) }
 
         // The moves are what the tokens say, and each may be made.
         ensures steps { (steps : ReadSteps) → result ≡ Ok (Parsed.Steps steps)
             → OfProof book.now.statements id.0
-            (λ place s. SaySteps book.now.statements place s (texts tokens.now) steps.moves) }
+            (λ index s. SaySteps book.now.statements index s (texts tokens.now) steps.moves) }
         ensures usable { (steps : ReadSteps) → result ≡ Ok (Parsed.Steps steps)
             → AreSteps book.now.statements id.0 steps.moves }
 
-        // Those of a front are what it says, and each may be made.
+        // Those of a prefix are what it says, and each may be made.
         ensures known { (steps : ReadSteps) → result ≡ Ok (Parsed.Incomplete steps)
-            → OfProof book.now.statements id.0 (λ place s. SaySteps book.now.statements place s
-            (known_front (texts tokens.now)) steps.moves) }
+            → OfProof book.now.statements id.0 (λ index s. SaySteps book.now.statements index s
+            (known_prefix (texts tokens.now)) steps.moves) }
         ensures known_usable { (steps : ReadSteps) → result ≡ Ok (Parsed.Incomplete steps)
             → AreSteps book.now.statements id.0 steps.moves }
 
-        // The proof, or the front, has the form that the profile demands.
+        // The proof, or the prefix, has the form that the profile demands.
         ensures form { (steps : ReadSteps) → result ≡ Ok (Parsed.Steps steps)
-            → OfProof book.now.statements id.0 (λ place s.
-            HasFormOf profile (take place book.now.statements) s (texts tokens.now)) }
+            → OfProof book.now.statements id.0 (λ index s.
+            HasFormOf profile (take index book.now.statements) s (texts tokens.now)) }
         ensures known_form { (steps : ReadSteps) → result ≡ Ok (Parsed.Incomplete steps)
-            → OfProof book.now.statements id.0 (λ place s.
-            HasFormOf profile (take place book.now.statements) s
-            (known_front (texts tokens.now))) }
+            → OfProof book.now.statements id.0 (λ index s.
+            HasFormOf profile (take index book.now.statements) s
+            (known_prefix (texts tokens.now))) }
 
         // They are judged under this profile.
         ensures profile { (steps : ReadSteps) → result ≡ Ok (Parsed.Steps steps)
@@ -523,19 +523,19 @@ impl Steps {
         // The rule is the first that is broken over the whole proof.
         ensures fault { ¬ (IsIncomplete (texts tokens.now)) → (rule : ProofRule) → (step : ℕ)
             → result ≡ Err (ProofFault.Rule rule step)
-            → OfProof book.now.statements id.0 (λ place s. (step ≡ 0)
-            × IsTextFault profile (take place book.now.statements) s (texts tokens.now) rule) }
+            → OfProof book.now.statements id.0 (λ index s. (step ≡ 0)
+            × IsTextFault profile (take index book.now.statements) s (texts tokens.now) rule) }
 
-        // Where a step is unknown, it is the first that is broken over the whole front.
+        // Where a step is unknown, it is the first that is broken over the whole prefix.
         ensures known_fault { IsIncomplete (texts tokens.now) → (rule : ProofRule) → (step : ℕ)
             → result ≡ Err (ProofFault.Rule rule step)
-            → OfProof book.now.statements id.0 (λ place s. (step ≡ 0)
-            × IsTextFault profile (take place book.now.statements) s
-            (known_front (texts tokens.now)) rule) }
+            → OfProof book.now.statements id.0 (λ index s. (step ≡ 0)
+            × IsTextFault profile (take index book.now.statements) s
+            (known_prefix (texts tokens.now)) rule) }
     {
         let tokens = tokens_with(alloc, tokens)?;
         if is_incomplete(&tokens) {
-            match front_steps(alloc, profile, book, id, &tokens) {
+            match prefix_steps(alloc, profile, book, id, &tokens) {
                 Ok(steps) => Ok(Parsed::Incomplete(steps)),
                 Err(fault) => Err(fault),
             }

@@ -17,8 +17,8 @@ ghost use Rattle.mm_proof.specs.Tokens.{IsIncomplete};
 ghost use Rattle.mm_proof.specs.Profiles.{limit_of};
 ghost use Rattle.mm_proof.specs.Strict.{HasFormOf};
 ghost use Rattle.mm_proof.specs.UnderProfile.{IsProvedUnder, IsFaultUnder, AreAllowedUnder};
-ghost use Rattle.mm_proof.specs.UnderProfile.{HaveFaultUnder, IsFrontAllowedUnder};
-ghost use Rattle.mm_proof.specs.UnderProfile.{IsFrontFaultUnder};
+ghost use Rattle.mm_proof.specs.UnderProfile.{HaveFaultUnder, IsPrefixAllowedUnder};
+ghost use Rattle.mm_proof.specs.UnderProfile.{IsPrefixFaultUnder};
 ghost use Rattle.mm_proof.specs.Steps.{IsProofNumber};
 ghost use Rattle.mm_proof.specs.Parsed.{OfProof};
 ghost use Rattle.mm_proof.specs.Verified.{TokensProve};
@@ -26,8 +26,8 @@ ghost use Rattle.mm_proof.specs.Plain.{ids_in, token_texts};
 
 use crate::fault::{ProofFault, ProofRule};
 use crate::flat::Flat;
-use crate::front::known_front;
 use crate::parse::{ParseLists, fill_under, is_incomplete};
+use crate::prefix::known_prefix;
 use crate::profile::Profile;
 use crate::run::{judgement, pass};
 use crate::site::Site;
@@ -43,7 +43,7 @@ const STACK_SYMBOL_BYTES: usize = 16;
 /// What a proof without a fault is.
 #[derive(Clone, Copy, PartialEq, Eq, Debug)]
 pub enum Proved {
-    /// A token holds a `?`: a step is unknown. The known front breaks no rule.
+    /// A token holds a `?`: a step is unknown. The known prefix breaks no rule.
     Incomplete,
     /// It proves its statement.
     Complete,
@@ -148,7 +148,7 @@ impl<'a> Prover<'a> {
     /// Whether the tokens are, under the profile, a proof of the `$p` with this number; `used` then
     /// gives the assertions of its tree, and none where they are not answered to be complete. Or
     /// the first of P1 to P15 and L1 that they break, with the number of the step, 0 for P1 to P5
-    /// and P15. Where one of them holds a `?`, this is judged of the known front, and P13 and P14
+    /// and P15. Where one of them holds a `?`, this is judged of the known prefix, and P13 and P14
     /// aren't.
     ///
     /// It answers what `Steps::parse` and then `verify` do, in memory that all proofs use.
@@ -158,64 +158,64 @@ impl<'a> Prover<'a> {
         id: LabelId,
         tokens: &[Token<'a>],
     ) -> Result<Proved, ProofFault>
-        requires { (place : ℕ) × (s : Sentence)
-            × IsProofNumber self.old.book.statements id.0 place s }
-        // A proof with an unknown step is told apart: its known front breaks no rule.
+        requires { (index : ℕ) × (s : Sentence)
+            × IsProofNumber self.old.book.statements id.0 index s }
+        // A proof with an unknown step is told apart: its known prefix breaks no rule.
         ensures incomplete { result ≡ Ok Proved.Incomplete
             → IsIncomplete (token_texts tokens.now)
-            × OfProof self.old.book.statements id.0 (λ place s.
-            IsFrontAllowedUnder profile (take place self.old.book.statements) s
+            × OfProof self.old.book.statements id.0 (λ index s.
+            IsPrefixAllowedUnder profile (take index self.old.book.statements) s
             (token_texts tokens.now)) }
         ensures complete { IsIncomplete (token_texts tokens.now)
             → ¬ (result ≡ Ok Proved.Complete) }
 
         // What is answered to be complete is proved, and these are the assertions of its tree.
         ensures proved { result ≡ Ok Proved.Complete
-            → OfProof self.old.book.statements id.0 (λ place s.
-            TokensProve (limit_of profile) (take place self.old.book.statements) s
+            → OfProof self.old.book.statements id.0 (λ index s.
+            TokensProve (limit_of profile) (take index self.old.book.statements) s
             (token_texts tokens.now) self.new.used) }
         ensures form { result ≡ Ok Proved.Complete
-            → OfProof self.old.book.statements id.0 (λ place s.
-            HasFormOf profile (take place self.old.book.statements) s (token_texts tokens.now)) }
+            → OfProof self.old.book.statements id.0 (λ index s.
+            HasFormOf profile (take index self.old.book.statements) s (token_texts tokens.now)) }
 
         // The rule and the step are those of the first fault.
         ensures fault { ¬ (IsIncomplete (token_texts tokens.now))
             → (rule : ProofRule) → (step : ℕ) → result ≡ Err (ProofFault.Rule rule step)
-            → OfProof self.old.book.statements id.0 (λ place s.
-            IsFaultUnder profile (take place self.old.book.statements) s
+            → OfProof self.old.book.statements id.0 (λ index s.
+            IsFaultUnder profile (take index self.old.book.statements) s
             (token_texts tokens.now) rule step) }
 
         // What is proved has no fault, unless memory is refused.
-        ensures accepts { OfProof self.old.book.statements id.0 (λ place s.
-            IsProvedUnder profile (take place self.old.book.statements) s
+        ensures accepts { OfProof self.old.book.statements id.0 (λ index s.
+            IsProvedUnder profile (take index self.old.book.statements) s
             (token_texts tokens.now) → IsOkUnless result ProofFault.Memory) }
 
         // What has a fault is answered with it, unless a step is unknown or memory is refused.
         ensures refuses { ¬ (IsIncomplete (token_texts tokens.now))
-            → OfProof self.old.book.statements id.0 (λ place s.
+            → OfProof self.old.book.statements id.0 (λ index s.
             (rule : ProofRule) → (step : ℕ)
-            → IsFaultUnder profile (take place self.old.book.statements) s
+            → IsFaultUnder profile (take index self.old.book.statements) s
             (token_texts tokens.now) rule step
             → IsUnlessMemory result (Err (ProofFault.Rule rule step))) }
 
-        // Where a step is unknown, the rule and the step are those of the front's first fault.
-        ensures front_fault { IsIncomplete (token_texts tokens.now)
+        // Where a step is unknown, the rule and the step are those of the prefix's first fault.
+        ensures prefix_fault { IsIncomplete (token_texts tokens.now)
             → (rule : ProofRule) → (step : ℕ) → result ≡ Err (ProofFault.Rule rule step)
-            → OfProof self.old.book.statements id.0 (λ place s.
-            IsFrontFaultUnder profile (take place self.old.book.statements) s
+            → OfProof self.old.book.statements id.0 (λ index s.
+            IsPrefixFaultUnder profile (take index self.old.book.statements) s
             (token_texts tokens.now) rule step) }
 
-        // A front that breaks no rule is allowed, unless memory is refused.
-        ensures allows_front { IsIncomplete (token_texts tokens.now)
-            → OfProof self.old.book.statements id.0 (λ place s.
-            IsFrontAllowedUnder profile (take place self.old.book.statements) s
+        // A prefix that breaks no rule is allowed, unless memory is refused.
+        ensures allows_prefix { IsIncomplete (token_texts tokens.now)
+            → OfProof self.old.book.statements id.0 (λ index s.
+            IsPrefixAllowedUnder profile (take index self.old.book.statements) s
             (token_texts tokens.now) → IsUnlessMemory result (Ok Proved.Incomplete)) }
 
-        // A front that has a fault is answered with it, unless memory is refused.
-        ensures refuses_front { IsIncomplete (token_texts tokens.now)
-            → OfProof self.old.book.statements id.0 (λ place s.
+        // A prefix that has a fault is answered with it, unless memory is refused.
+        ensures refuses_prefix { IsIncomplete (token_texts tokens.now)
+            → OfProof self.old.book.statements id.0 (λ index s.
             (rule : ProofRule) → (step : ℕ)
-            → IsFrontFaultUnder profile (take place self.old.book.statements) s
+            → IsPrefixFaultUnder profile (take index self.old.book.statements) s
             (token_texts tokens.now) rule step
             → IsUnlessMemory result (Err (ProofFault.Rule rule step))) }
 
@@ -238,22 +238,22 @@ impl<'a> Prover<'a> {
         }
     }
 
-    // Whether the known front of the tokens, one of which holds a `?`, breaks no rule.
+    // Whether the known prefix of the tokens, one of which holds a `?`, breaks no rule.
     fn allow(
         &mut self,
         profile: Profile,
         id: LabelId,
         tokens: &[Token<'a>],
     ) -> Result<Proved, ProofFault>
-        requires { (place : ℕ) × (s : Sentence)
-            × IsProofNumber self.old.book.statements id.0 place s }
+        requires { (index : ℕ) × (s : Sentence)
+            × IsProofNumber self.old.book.statements id.0 index s }
         ensures allowed { IfOk result (λ proved. (proved ≡ Proved.Incomplete)
-            × OfProof self.old.book.statements id.0 (λ place s.
-            IsFrontAllowedUnder profile (take place self.old.book.statements) s
+            × OfProof self.old.book.statements id.0 (λ index s.
+            IsPrefixAllowedUnder profile (take index self.old.book.statements) s
             (token_texts tokens.now))) }
         ensures fault { IfErr result (λ e. OnRule e (λ rule step.
-            OfProof self.old.book.statements id.0 (λ place s.
-            IsFrontFaultUnder profile (take place self.old.book.statements) s
+            OfProof self.old.book.statements id.0 (λ index s.
+            IsPrefixFaultUnder profile (take index self.old.book.statements) s
             (token_texts tokens.now) rule step))) }
         ensures book { self.new.book ≡ self.old.book }
         ensures used { self.new.used ≡ self.old.used }
@@ -282,15 +282,15 @@ fn prove_under<'a>(
     tokens: &[Token<'a>],
     profile: Profile,
 ) -> Result<(), ProofFault>
-    requires { (place : ℕ) × (s : Sentence) × IsProofNumber book.now.statements id.0 place s }
-    ensures form { OnOk result (OfProof book.now.statements id.0 (λ place s.
-        HasFormOf profile (take place book.now.statements) s (token_texts tokens.now))) }
-    ensures proved { OnOk result (OfProof book.now.statements id.0 (λ place s.
-        TokensProve (limit_of profile) (take place book.now.statements) s (token_texts tokens.now)
+    requires { (index : ℕ) × (s : Sentence) × IsProofNumber book.now.statements id.0 index s }
+    ensures form { OnOk result (OfProof book.now.statements id.0 (λ index s.
+        HasFormOf profile (take index book.now.statements) s (token_texts tokens.now))) }
+    ensures proved { OnOk result (OfProof book.now.statements id.0 (λ index s.
+        TokensProve (limit_of profile) (take index book.now.statements) s (token_texts tokens.now)
         (ids_in scratch.new.named.ids.items))) }
     ensures fault { IfErr result (λ e. OnRule e (λ rule step.
-        OfProof book.now.statements id.0 (λ place s.
-        IsFaultUnder profile (take place book.now.statements) s (token_texts tokens.now)
+        OfProof book.now.statements id.0 (λ index s.
+        IsFaultUnder profile (take index book.now.statements) s (token_texts tokens.now)
         rule step))) }
     ensures sound { IsSound book.now.statements }
 {
@@ -323,15 +323,15 @@ fn prove_tokens<'a>(
     tokens: &[Token<'a>],
     profile: Profile,
 ) -> Result<(), ProofFault>
-    requires { (place : ℕ) × (s : Sentence) × IsProofNumber book.now.statements id.0 place s }
-    ensures form { OnOk result (OfProof book.now.statements id.0 (λ place s.
-        HasFormOf profile (take place book.now.statements) s (token_texts tokens.now))) }
-    ensures proved { OnOk result (OfProof book.now.statements id.0 (λ place s.
-        TokensProve (limit_of profile) (take place book.now.statements) s (token_texts tokens.now)
+    requires { (index : ℕ) × (s : Sentence) × IsProofNumber book.now.statements id.0 index s }
+    ensures form { OnOk result (OfProof book.now.statements id.0 (λ index s.
+        HasFormOf profile (take index book.now.statements) s (token_texts tokens.now))) }
+    ensures proved { OnOk result (OfProof book.now.statements id.0 (λ index s.
+        TokensProve (limit_of profile) (take index book.now.statements) s (token_texts tokens.now)
         (ids_in scratch.new.named.ids.items))) }
     ensures fault { IfErr result (λ e. OnRule e (λ rule step.
-        OfProof book.now.statements id.0 (λ place s.
-        IsFaultUnder profile (take place book.now.statements) s (token_texts tokens.now)
+        OfProof book.now.statements id.0 (λ index s.
+        IsFaultUnder profile (take index book.now.statements) s (token_texts tokens.now)
         rule step))) }
     ensures unproved { OnErr result (scratch.new.named.ids.items ≡ []) }
     ensures sound { IsSound book.now.statements }
@@ -345,7 +345,7 @@ fn prove_tokens<'a>(
     }
 }
 
-// Whether the known front of the tokens breaks no rule, or its first fault.
+// Whether the known prefix of the tokens breaks no rule, or its first fault.
 fn allow_tokens<'a>(
     scratch: &mut Scratch<'a>,
     book: &Book,
@@ -353,34 +353,34 @@ fn allow_tokens<'a>(
     tokens: &[Token<'a>],
     profile: Profile,
 ) -> Result<(), ProofFault>
-    requires { (place : ℕ) × (s : Sentence) × IsProofNumber book.now.statements id.0 place s }
-    ensures allowed { OnOk result (OfProof book.now.statements id.0 (λ place s.
-        IsFrontAllowedUnder profile (take place book.now.statements) s
+    requires { (index : ℕ) × (s : Sentence) × IsProofNumber book.now.statements id.0 index s }
+    ensures allowed { OnOk result (OfProof book.now.statements id.0 (λ index s.
+        IsPrefixAllowedUnder profile (take index book.now.statements) s
         (token_texts tokens.now))) }
     ensures fault { IfErr result (λ e. OnRule e (λ rule step.
-        OfProof book.now.statements id.0 (λ place s.
-        IsFrontFaultUnder profile (take place book.now.statements) s
+        OfProof book.now.statements id.0 (λ index s.
+        IsPrefixFaultUnder profile (take index book.now.statements) s
         (token_texts tokens.now) rule step))) }
     ensures named { scratch.new.named ≡ scratch.old.named }
 {
-    let front = known_front(scratch.alloc, tokens)?;
-    pass_tokens(scratch, book, id, &front, profile)
+    let prefix = known_prefix(scratch.alloc, tokens)?;
+    pass_tokens(scratch, book, id, &prefix, profile)
 }
 
-// Whether the tokens of a front of a proof of the `$p` break no rule, or their first fault.
+// Whether the tokens of a prefix of a proof of the `$p` break no rule, or their first fault.
 fn pass_tokens<'a>(
     scratch: &mut Scratch<'a>,
     book: &Book,
     id: LabelId,
-    front: &[Token<'a>],
+    prefix: &[Token<'a>],
     profile: Profile,
 ) -> Result<(), ProofFault>
-    requires { (place : ℕ) × (s : Sentence) × IsProofNumber book.now.statements id.0 place s }
-    ensures allowed { OnOk result (OfProof book.now.statements id.0 (λ place s.
-        AreAllowedUnder profile (take place book.now.statements) s (token_texts front.now))) }
+    requires { (index : ℕ) × (s : Sentence) × IsProofNumber book.now.statements id.0 index s }
+    ensures allowed { OnOk result (OfProof book.now.statements id.0 (λ index s.
+        AreAllowedUnder profile (take index book.now.statements) s (token_texts prefix.now))) }
     ensures fault { IfErr result (λ e. OnRule e (λ rule step.
-        OfProof book.now.statements id.0 (λ place s.
-        HaveFaultUnder profile (take place book.now.statements) s (token_texts front.now)
+        OfProof book.now.statements id.0 (λ index s.
+        HaveFaultUnder profile (take index book.now.statements) s (token_texts prefix.now)
         rule step))) }
     ensures named { scratch.new.named ≡ scratch.old.named }
 {
@@ -391,7 +391,7 @@ fn pass_tokens<'a>(
         store,
         ..
     } = scratch;
-    fill_under(*alloc, lists, profile, &site, front)?;
+    fill_under(*alloc, lists, profile, &site, prefix)?;
     store.clear();
     let marks = &mut lists.marks;
     pass(*alloc, store, marks, site, &lists.entries, &lists.codes)

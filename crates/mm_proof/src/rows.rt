@@ -3,7 +3,7 @@
 ghost use Rattle.std.specs.Prelude.{◌≡◌, ◌+◌, ◌<◌, ◌≤◌, ◌^◌, [], ◌++◌, length, drop};
 ghost use Rattle.std.specs.Prelude.{slice_index_or, false, IfOk, MatchBool};
 ghost use Rattle.std.specs.List.{AllByRecursion};
-ghost use Rattle.mm_proof.specs.Stores.{numbers_in, rows_in, said_by, all_said_by, IsWithinPlaces};
+ghost use Rattle.mm_proof.specs.Stores.{numbers_in, rows_in, said_by, all_said_by, IsWithinIndices};
 
 use crate::store::{Store, put_last};
 use crate::substitution::{after_first, append_value};
@@ -32,15 +32,15 @@ impl Rows {
     }
 }
 
-// What replaces the variable of the hypothesis at a place among those whose rows stand from the
+// What replaces the variable of the hypothesis at an index among those whose rows stand from the
 // base on.
-fn value_in(rows: &[Vec<Sym>], base: usize, place: u32) -> &[Sym]
-    requires entry { base + place < length rows.now }
+fn value_in(rows: &[Vec<Sym>], base: usize, index: u32) -> &[Sym]
+    requires entry { base + index < length rows.now }
     requires fits { length rows.now < 2 ^ 64 }
     ensures { numbers_in result.now
-        ≡ drop 1 (slice_index_or (drop base (rows_in rows.now)) place []) }
+        ≡ drop 1 (slice_index_or (drop base (rows_in rows.now)) index []) }
 {
-    after_first(rows[base + place as usize].as_slice())
+    after_first(rows[base + index as usize].as_slice())
 }
 
 // Appends what the piece says, and answers false where that is more than one symbol and passes the
@@ -52,7 +52,7 @@ fn append_said(
     piece: Piece,
     limit: usize,
 ) -> Result<bool, AllocError>
-    requires within { IsWithinPlaces (length (drop base (rows_in rows.now))) piece }
+    requires within { IsWithinIndices (length (drop base (rows_in rows.now))) piece }
     requires fits { length rows.now < 2 ^ 64 }
     ensures made { IfOk result (λ fits. numbers_in made.new.items
         ≡ numbers_in made.old.items ++ said_by (drop base (rows_in rows.now)) piece) }
@@ -63,7 +63,7 @@ fn append_said(
             made.push(symbol)?;
             Ok(true)
         }
-        Piece::Value(place) => append_value(made, value_in(rows, base, place), limit),
+        Piece::Value(index) => append_value(made, value_in(rows, base, index), limit),
     }
 }
 
@@ -75,7 +75,7 @@ fn fill_said(
     pieces: &[ShortPiece],
     limit: usize,
 ) -> Result<bool, AllocError>
-    requires within { AllByRecursion (IsWithinPlaces (length (drop base (rows_in rows.now))))
+    requires within { AllByRecursion (IsWithinIndices (length (drop base (rows_in rows.now))))
         pieces.now }
     requires fits { length rows.now < 2 ^ 64 }
     ensures { IfOk result (λ fits.
@@ -102,8 +102,8 @@ impl Store for Rows {
         self.stack.len()
     }
 
-    fn at(&self, place: usize) -> &[Sym] {
-        self.stack[place].as_slice()
+    fn at(&self, index: usize) -> &[Sym] {
+        self.stack[index].as_slice()
     }
 
     fn push(&mut self, expression: &[Sym]) -> Result<(), AllocError> {
@@ -119,8 +119,8 @@ impl Store for Rows {
         Ok(())
     }
 
-    fn push_copy(&mut self, place: usize) -> Result<(), AllocError> {
-        let row = Vec::from_slice(self.alloc, &self.kept[place])?;
+    fn push_copy(&mut self, index: usize) -> Result<(), AllocError> {
+        let row = Vec::from_slice(self.alloc, &self.kept[index])?;
         self.stack.push(row)?;
         Ok(())
     }

@@ -4,7 +4,7 @@ ghost use Rattle.std.specs.Prelude.{◌≡◌, ℕ, ◌+◌, [], All, length, ta
 ghost use Rattle.std.specs.List.{AllZip};
 ghost use Rattle.mm_code.specs.Letters.{HasSpelling};
 ghost use Rattle.mm_proof.specs.Answer.{OnRule};
-ghost use Rattle.mm_proof.specs.KnownFront.{Pass};
+ghost use Rattle.mm_proof.specs.KnownPrefix.{Pass};
 ghost use Rattle.mm_proof.specs.Proof.{IsWithin, Prove, IsMoveFault};
 ghost use Rattle.mm_proof.specs.Steps.{AreSteps};
 ghost use Rattle.mm_proof.specs.Plain.{ids_in};
@@ -30,8 +30,8 @@ pub(crate) fn calls_of<'b>(
     book: &'b Book<'_>,
     entries: &[LabelId],
 ) -> Result<Vec<Call<'b>>, AllocError>
-    ensures { IfOk result (λ calls. (place : ℕ)
-        → AllZip (MayBeCalled book.now.statements place) (ids_in entries.now) calls.items) }
+    ensures { IfOk result (λ calls. (index : ℕ)
+        → AllZip (MayBeCalled book.now.statements index) (ids_in entries.now) calls.items) }
 {
     let mut calls = Vec::with_capacity(alloc, entries.len())?;
     for id in entries {
@@ -57,14 +57,14 @@ fn derive_codes<S: Store>(
     requires kept { S.kept store.old ≡ [] }
     ensures proved { let site = table.now.site in
         OnOk result (OfMoves site.statements site.number (code_moves table.now.ids codes.now)
-        (λ place s names. Prove (IsWithin site.limit) (take place site.statements) s names)) }
+        (λ index s names. Prove (IsWithin site.limit) (take index site.statements) s names)) }
     ensures long { OnOk result (length marks.new.items ≡ length table.now.ids) }
     ensures marked { OnOk result
         (AreMarked table.now.ids (code_moves table.now.ids codes.now) marks.new.items) }
     ensures fault { let site = table.now.site in
         IfErr result (λ e. OnRule e (λ rule step.
         OfMoves site.statements site.number (code_moves table.now.ids codes.now)
-        (λ place s names. FailsWith site.limit site.statements place s names rule step))) }
+        (λ index s names. FailsWith site.limit site.statements index s names rule step))) }
 {
     one_number();
     let expression = table.site.expression();
@@ -90,13 +90,13 @@ pub(crate) fn judgement<S: Store>(
     requires spelled { All HasSpelling codes.now }
     requires steps { AreSteps site.statements site.number (moves_of entries.now codes.now) }
     ensures proved { OnOk result (OfMoves site.entry.statements site.entry.number
-        (moves_of entries.now codes.now) (λ place s names.
-        ProvesUsingNumbers site.entry.limit site.entry.statements place s names
+        (moves_of entries.now codes.now) (λ index s names.
+        ProvesUsingNumbers site.entry.limit site.entry.statements index s names
         (ids_in named.new.ids.items))) }
     ensures fault { IfErr result (λ e. OnRule e (λ rule step.
         OfMoves site.entry.statements site.entry.number
-        (moves_of entries.now codes.now) (λ place s names.
-        FailsWith site.entry.limit site.entry.statements place s names rule step))) }
+        (moves_of entries.now codes.now) (λ index s names.
+        FailsWith site.entry.limit site.entry.statements index s names rule step))) }
 {
     let calls = calls_of(alloc, site.book, entries)?;
     let table = CallTable {
@@ -125,12 +125,12 @@ pub(crate) fn pass<S: Store>(
     requires steps { AreSteps site.statements site.number (moves_of entries.now codes.now) }
     ensures passed { OnOk result
         (OfMoves site.entry.statements site.entry.number (moves_of entries.now codes.now)
-        (λ place s names.
-        Pass (IsWithin site.entry.limit) (take place site.entry.statements) names)) }
+        (λ index s names.
+        Pass (IsWithin site.entry.limit) (take index site.entry.statements) names)) }
     ensures fault { IfErr result (λ e. OnRule e (λ rule step.
         OfMoves site.entry.statements site.entry.number (moves_of entries.now codes.now)
-        (λ place s names. IsMoveFault (IsWithin site.entry.limit)
-        (take place site.entry.statements) names rule step))) }
+        (λ index s names. IsMoveFault (IsWithin site.entry.limit)
+        (take index site.entry.statements) names rule step))) }
 {
     let calls = calls_of(alloc, site.book, entries)?;
     let table = CallTable {

@@ -8,7 +8,7 @@ ghost use Rattle.std.specs.Prelude.{slice_range, IfSome};
 ghost use Rattle.std.specs.List.{AllByRecursion};
 ghost use Rattle.mm_frame.specs.declared.number.Sym.{Sym};
 ghost use Rattle.mm_proof.specs.Mirror.Buffer.{AreParts, parts_of};
-ghost use Rattle.mm_proof.specs.Stores.{numbers_in, said_by, all_said_by, IsWithinPlaces};
+ghost use Rattle.mm_proof.specs.Stores.{numbers_in, said_by, all_said_by, IsWithinIndices};
 
 use crate::entry::{Entry, value_start};
 use mm_frame::{ShortPiece, Sym};
@@ -20,12 +20,12 @@ pub(crate) fn put_part_behind(room: &mut [Sym], used: usize, start: usize, end: 
     requires room { used + (end - start) ≤ length room.old }
     ensures put { take (used + (end - start)) room.new
         ≡ take used room.old ++ slice_range (take used room.old) start end }
-    ensures front { take used room.new ≡ take used room.old }
+    ensures prefix { take used room.new ≡ take used room.old }
     ensures long { length room.new ≡ length room.old }
 {
-    let (front, behind) = room.split_at_mut(used);
+    let (prefix, behind) = room.split_at_mut(used);
     let (into, _) = behind.split_at_mut(end - start);
-    into.copy_from_slice(&front[start..end]);
+    into.copy_from_slice(&prefix[start..end]);
 }
 
 // Puts a symbol behind those that are used, and answers how many are used then; none where the
@@ -36,7 +36,7 @@ fn put_symbol(room: &mut [Sym], used: usize, symbol: Sym) -> Option<usize>
     ensures put { IfSome result (λ end. take end room.new ≡ take used room.old ++ symbol ∷ []) }
     ensures order { IfSome result (λ end. used ≤ end) }
     ensures within { IfSome result (λ end. end ≤ length room.new) }
-    ensures front { take used room.new ≡ take used room.old }
+    ensures prefix { take used room.new ≡ take used room.old }
     ensures long { length room.new ≡ length room.old }
 {
     if used >= room.len() {
@@ -58,7 +58,7 @@ fn put_part(room: &mut [Sym], used: usize, start: usize, end: usize) -> Option<u
         ≡ take used room.old ++ slice_range (take used room.old) start end) }
     ensures order { IfSome result (λ next. used ≤ next) }
     ensures within { IfSome result (λ next. next ≤ length room.new) }
-    ensures front { take used room.new ≡ take used room.old }
+    ensures prefix { take used room.new ≡ take used room.old }
     ensures long { length room.new ≡ length room.old }
 {
     if end - start == 1 {
@@ -84,19 +84,19 @@ fn put_piece(
 ) -> Option<usize>
     requires parts { AreParts used stack.now }
     requires used { used ≤ length room.old }
-    requires within { IsWithinPlaces (length stack.now - base) piece }
+    requires within { IsWithinIndices (length stack.now - base) piece }
     ensures said { IfSome result (λ end. (more : List Sym)
         × (take end room.new ≡ take used room.old ++ more)
         × (numbers_in more ≡ said_by (drop base (parts_of (take used room.old) stack.now)) piece)) }
     ensures order { IfSome result (λ end. used ≤ end) }
     ensures within { IfSome result (λ end. end ≤ length room.new) }
-    ensures front { take used room.new ≡ take used room.old }
+    ensures prefix { take used room.new ≡ take used room.old }
     ensures long { length room.new ≡ length room.old }
 {
     if let Some(symbol) = piece.symbol() {
         return put_symbol(room, used, symbol);
     }
-    let entry = stack[base + piece.place() as usize];
+    let entry = stack[base + piece.index() as usize];
     put_part(room, used, value_start(entry), entry.end)
 }
 
@@ -111,14 +111,14 @@ pub(crate) fn put_pieces(
 ) -> Option<usize>
     requires parts { AreParts used stack.now }
     requires used { used ≤ length room.old }
-    requires within { AllByRecursion (IsWithinPlaces (length stack.now - base)) pieces.now }
+    requires within { AllByRecursion (IsWithinIndices (length stack.now - base)) pieces.now }
     ensures said { IfSome result (λ end. (more : List Sym)
         × (take end room.new ≡ take used room.old ++ more)
         × (numbers_in more
         ≡ all_said_by (drop base (parts_of (take used room.old) stack.now)) pieces.now)) }
     ensures order { IfSome result (λ end. used ≤ end) }
     ensures within { IfSome result (λ end. end ≤ length room.new) }
-    ensures front { take used room.new ≡ take used room.old }
+    ensures prefix { take used room.new ≡ take used room.old }
     ensures long { length room.new ≡ length room.old }
 {
     let mut end = used;

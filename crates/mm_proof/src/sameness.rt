@@ -27,18 +27,18 @@ pub fn same(
     second: &Steps,
 ) -> Result<bool, AllocError>
     requires first { AreSteps book.now.statements id.0 first.now.moves }
-    requires first_whole { first.now.front ≡ false }
+    requires first_whole { first.now.prefix ≡ false }
     requires first_makes { OfMoves book.now.statements id.0 first.now.moves
-        (λ place s moves. MakeOneTree (take place book.now.statements) moves) }
+        (λ index s moves. MakeOneTree (take index book.now.statements) moves) }
     requires second { AreSteps book.now.statements id.0 second.now.moves }
-    requires second_whole { second.now.front ≡ false }
+    requires second_whole { second.now.prefix ≡ false }
     requires second_makes { OfMoves book.now.statements id.0 second.now.moves
-        (λ place s moves. MakeOneTree (take place book.now.statements) moves) }
+        (λ index s moves. MakeOneTree (take index book.now.statements) moves) }
     // It is true exactly if one tree is made by both.
     ensures { IfOk result (λ same. OfMoves book.now.statements id.0 first.now.moves
-        (λ place s moves. (others : List (Move (List ℕ)))
+        (λ index s moves. (others : List (Move (List ℕ)))
         → AreNumberedMoves book.now.statements second.now.moves others
-        → IsTrue same ↔ MakeSameTree (take place book.now.statements) moves others)) }
+        → IsTrue same ↔ MakeSameTree (take index book.now.statements) moves others)) }
 {
     let mut table = Subtrees::with_room(alloc, book.seed(), first.codes.len())?;
     let one = build(alloc, &mut table, book, id, first)?;

@@ -3,7 +3,7 @@
 ghost use Rattle.std.specs.Prelude.{◌≡◌, ℕ};
 ghost use Rattle.mm_frame.specs.Sentence.{Sentence};
 ghost use Rattle.mm_frame.specs.Form.{IsSound};
-ghost use Rattle.mm_frame.specs.FramePlace.{AreHypotheses, AreItsSymbols};
+ghost use Rattle.mm_frame.specs.FrameIndex.{AreHypotheses, AreItsSymbols};
 ghost use Rattle.mm_proof.specs.Profiles.{limit_of};
 ghost use Rattle.mm_proof.specs.Steps.{IsProofNumber};
 ghost use Rattle.mm_proof.specs.Plain.{label_ids};
@@ -31,7 +31,7 @@ impl<'b, 'a> Model for Site<'b, 'a> {
 
     ghost view = { λ a. record {
       statements = a.book.now.statements;
-      place = a.own.place;
+      index = a.own.index;
       number = a.id.0;
       limit = a.limit;
     } };
@@ -40,7 +40,7 @@ impl<'b, 'a> Model for Site<'b, 'a> {
     ghost invariant = { λ a. (a.own.statements ≡ a.book.now.statements)
         × IsSite (record {
           statements = a.book.now.statements;
-          place = a.own.place;
+          index = a.own.index;
           number = a.id.0;
           limit = a.limit;
         }) };
@@ -52,7 +52,7 @@ impl<'b, 'a> Site<'b, 'a> {
     /// Where the proof of the `$p` with the number is judged, under the profile.
     #[tactic(auto, using(mm_frame::proofs::Names::LabelNumbers::numbered_unique))]
     pub(crate) fn new(book: &'b Book<'a>, id: LabelId, profile: Profile) -> Site<'b, 'a>
-        requires { (place : ℕ) × (s : Sentence) × IsProofNumber book.now.statements id.0 place s }
+        requires { (index : ℕ) × (s : Sentence) × IsProofNumber book.now.statements id.0 index s }
         ensures site { IsSite result }
         ensures statements { result.statements ≡ book.now.statements }
         ensures number { result.number ≡ id.0 }
@@ -70,7 +70,7 @@ impl<'b, 'a> Site<'b, 'a> {
     /// The symbols that the `$p` says to be provable.
     pub(crate) fn expression(&self) -> &'b [Sym]
         ensures symbols { AreItsSymbols
-            (record { statements = self.now.statements; place = self.now.place })
+            (record { statements = self.now.statements; index = self.now.index })
             (numbers_in result.now) }
         ensures site { IsSite self.now }
     {
@@ -80,7 +80,7 @@ impl<'b, 'a> Site<'b, 'a> {
     /// The mandatory hypotheses of the `$p`, in database order.
     pub(crate) fn hypotheses(&self) -> &'b [Hypothesis]
         ensures ids { AreHypotheses
-            (record { statements = self.now.statements; place = self.now.place })
+            (record { statements = self.now.statements; index = self.now.index })
             (label_ids result.now) }
     {
         self.own.hypotheses()

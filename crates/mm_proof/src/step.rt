@@ -5,7 +5,7 @@ ghost use Rattle.std.specs.Prelude.{slice_get, Bool, Some};
 ghost use Rattle.std.specs.Prelude.{IsTrue, MatchBool, MatchOption};
 ghost use Rattle.std.specs.List.{AllByRecursion};
 ghost use Rattle.mm_frame.specs.Sentence.{Sentence};
-ghost use Rattle.mm_frame.specs.FramePlace.{IsTypingOf, HaveTypings};
+ghost use Rattle.mm_frame.specs.FrameIndex.{IsTypingOf, HaveTypings};
 ghost use Rattle.mm_frame.specs.Pieces.{variables_of, HavePatterns};
 ghost use Rattle.mm_proof.specs.Substitution.{Substitution};
 ghost use Rattle.mm_proof.specs.Stores.{numbers_in};

@@ -13,7 +13,7 @@ pub trait Store {
     ghost use Rattle.std.specs.Prelude.{◌^◌, take, drop, slice_get, OnOk, OnErr, Some};
     ghost use Rattle.std.specs.Prelude.{IfOk, MatchBool};
     ghost use Rattle.std.specs.List.{AllByRecursion};
-    ghost use Rattle.mm_proof.specs.Stores.{numbers_in, all_said_by, IsWithinPlaces};
+    ghost use Rattle.mm_proof.specs.Stores.{numbers_in, all_said_by, IsWithinIndices};
 
     /// The expressions on the stack, the topmost one last.
     ghost stack: { Self → List (List ℕ) };
@@ -25,10 +25,10 @@ pub trait Store {
     fn len(&self) -> usize
         ensures { result ≡ length (stack self.now) };
 
-    /// The expression at a place of the stack.
-    fn at(&self, place: usize) -> &[Sym]
-        requires { place < length (stack self.now) }
-        ensures { slice_get (stack self.now) place ≡ Some (numbers_in result.now) };
+    /// The expression at an index of the stack.
+    fn at(&self, index: usize) -> &[Sym]
+        requires { index < length (stack self.now) }
+        ensures { slice_get (stack self.now) index ≡ Some (numbers_in result.now) };
 
     /// Puts an expression on the stack.
     fn push(&mut self, expression: &[Sym]) -> Result<(), AllocError>
@@ -46,10 +46,10 @@ pub trait Store {
         ensures refused { OnErr result (kept self.new ≡ kept self.old) }
         ensures stack { stack self.new ≡ stack self.old };
 
-    /// Puts a copy of the kept expression at a place on the stack.
-    fn push_copy(&mut self, place: usize) -> Result<(), AllocError>
-        requires { place < length (kept self.old) }
-        ensures pushed { OnOk result ((e : List ℕ) → slice_get (kept self.old) place ≡ Some e
+    /// Puts a copy of the kept expression at an index on the stack.
+    fn push_copy(&mut self, index: usize) -> Result<(), AllocError>
+        requires { index < length (kept self.old) }
+        ensures pushed { OnOk result ((e : List ℕ) → slice_get (kept self.old) index ≡ Some e
             → stack self.new ≡ stack self.old ++ e ∷ []) }
         ensures refused { OnErr result (stack self.new ≡ stack self.old) }
         ensures kept { kept self.new ≡ kept self.old };
@@ -73,7 +73,7 @@ pub trait Store {
         limit: usize,
     ) -> Result<bool, AllocError>
         requires base { base ≤ length (stack self.old) }
-        requires within { AllByRecursion (IsWithinPlaces (length (drop base (stack self.old))))
+        requires within { AllByRecursion (IsWithinIndices (length (drop base (stack self.old))))
             pieces.now }
         requires fits { length (stack self.old) < 2 ^ 64 }
         ensures said { IfOk result (λ fits.
@@ -85,17 +85,17 @@ pub trait Store {
         ensures kept { kept self.new ≡ kept self.old };
 }
 
-/// Puts an item at a place of the list, and drops what stood there and behind it. Only an item that
-/// stands behind all others needs a growth, so that nothing is dropped where that is refused.
+/// Puts an item at an index of the list, and drops what stood there and behind it. Only an item
+/// that stands behind all others needs a growth, so that nothing is dropped where that is refused.
 #[inline(always)]
-pub(crate) fn put_last<T: Drop>(list: &mut Vec<T>, place: usize, item: T) -> Result<(), AllocError>
-    requires { place ≤ length list.old.items }
-    ensures put { OnOk result (list.new.items ≡ take place list.old.items ++ item ∷ []) }
+pub(crate) fn put_last<T: Drop>(list: &mut Vec<T>, index: usize, item: T) -> Result<(), AllocError>
+    requires { index ≤ length list.old.items }
+    ensures put { OnOk result (list.new.items ≡ take index list.old.items ++ item ∷ []) }
     ensures same { OnErr result (list.new.items ≡ list.old.items) }
 {
-    if place < list.len() {
-        list[place] = item;
-        list.truncate(place + 1);
+    if index < list.len() {
+        list[index] = item;
+        list.truncate(index + 1);
         return Ok(());
     }
     list.push(item)?;

@@ -4,7 +4,7 @@
 ghost use Rattle.std.specs.Prelude.{◌≡◌, ◌↔◌, ◌+◌, ◌<◌, ◌^◌, ◌∷◌, ◌++◌, [], ℕ, List, length};
 ghost use Rattle.std.specs.Prelude.{drop, slice_index_or, false, IsTrue, IfOk, MatchOption};
 ghost use Rattle.std.specs.List.{AllByRecursion};
-ghost use Rattle.mm_proof.specs.Stores.{numbers_in, said_by, all_said_by, IsWithinPlaces};
+ghost use Rattle.mm_proof.specs.Stores.{numbers_in, said_by, all_said_by, IsWithinIndices};
 
 use crate::store::Store;
 use mm_frame::{ShortPiece, Sym};
@@ -30,30 +30,30 @@ pub(crate) fn after_first(entry: &[Sym]) -> &[Sym]
     }
 }
 
-/// What replaces the variable of the hypothesis at a place among those whose entries stand from the
-/// base on.
-pub(crate) fn value_at<S: Store>(store: &S, base: usize, place: u32) -> &[Sym]
-    requires entry { base + place < length (S.stack store.now) }
+/// What replaces the variable of the hypothesis at an index among those whose entries stand from
+/// the base on.
+pub(crate) fn value_at<S: Store>(store: &S, base: usize, index: u32) -> &[Sym]
+    requires entry { base + index < length (S.stack store.now) }
     requires fits { length (S.stack store.now) < 2 ^ 64 }
     ensures { numbers_in result.now
-        ≡ drop 1 (slice_index_or (drop base (S.stack store.now)) place []) }
+        ≡ drop 1 (slice_index_or (drop base (S.stack store.now)) index []) }
 {
-    after_first(store.at(base + place as usize))
+    after_first(store.at(base + index as usize))
 }
 
 // What follows these symbols, where the others begin with them.
-#[tactic(auto, using(crate::proofs::ByNumbers::NumberedSymbols::front_of))]
-fn after<'e>(symbols: &'e [Sym], front: &[Sym]) -> Option<&'e [Sym]>
+#[tactic(auto, using(crate::proofs::ByNumbers::NumberedSymbols::prefix_of))]
+fn after<'e>(symbols: &'e [Sym], prefix: &[Sym]) -> Option<&'e [Sym]>
     ensures { MatchOption
         result
-        ((rest : List ℕ) → ¬ (numbers_in symbols.now ≡ numbers_in front.now ++ rest))
-        (λ rest. numbers_in symbols.now ≡ numbers_in front.now ++ numbers_in rest.now) }
+        ((rest : List ℕ) → ¬ (numbers_in symbols.now ≡ numbers_in prefix.now ++ rest))
+        (λ rest. numbers_in symbols.now ≡ numbers_in prefix.now ++ numbers_in rest.now) }
 {
-    if symbols.len() < front.len() {
+    if symbols.len() < prefix.len() {
         return None;
     }
-    let (begin, rest) = symbols.split_at(front.len());
-    if is_same(begin, front) {
+    let (begin, rest) = symbols.split_at(prefix.len());
+    if is_same(begin, prefix) {
         Some(rest)
     } else {
         None
@@ -107,16 +107,16 @@ fn after_said<'e, S: Store>(
     piece: ShortPiece,
     symbols: &'e [Sym],
 ) -> Option<&'e [Sym]>
-    requires within { IsWithinPlaces (length (drop base (S.stack store.now))) piece }
+    requires within { IsWithinIndices (length (drop base (S.stack store.now))) piece }
     requires fits { length (S.stack store.now) < 2 ^ 64 }
-    ensures { let front = said_by (drop base (S.stack store.now)) piece in MatchOption
+    ensures { let prefix = said_by (drop base (S.stack store.now)) piece in MatchOption
         result
-        ((rest : List ℕ) → ¬ (numbers_in symbols.now ≡ front ++ rest))
-        (λ rest. numbers_in symbols.now ≡ front ++ numbers_in rest.now) }
+        ((rest : List ℕ) → ¬ (numbers_in symbols.now ≡ prefix ++ rest))
+        (λ rest. numbers_in symbols.now ≡ prefix ++ numbers_in rest.now) }
 {
     match piece.symbol() {
         Some(symbol) => after_one(symbols, symbol),
-        None => after_value(value_at(store, base, piece.place()), symbols),
+        None => after_value(value_at(store, base, piece.index()), symbols),
     }
 }
 
@@ -127,7 +127,7 @@ pub(crate) fn is_said<S: Store>(
     pieces: &[ShortPiece],
     symbols: &[Sym],
 ) -> bool
-    requires within { AllByRecursion (IsWithinPlaces (length (drop base (S.stack store.now))))
+    requires within { AllByRecursion (IsWithinIndices (length (drop base (S.stack store.now))))
         pieces.now }
     requires fits { length (S.stack store.now) < 2 ^ 64 }
     ensures { IsTrue result

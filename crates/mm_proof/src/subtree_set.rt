@@ -1,4 +1,4 @@
-//! Lists of subtrees without repetition, with the place of each.
+//! Lists of subtrees without repetition, with the index of each.
 
 ghost use Rattle.std.specs.Prelude.{◌≡◌, ◌≤◌, ◌↔◌, [], length, slice_get, Some, Contains};
 ghost use Rattle.std.specs.Prelude.{OnOk, IfOk, IsTrue};
@@ -62,14 +62,14 @@ impl SubtreeSet {
         self.set.contains(&tree)
     }
 
-    /// The place of a subtree that is among them.
-    pub(crate) fn place(&self, tree: Subtree) -> usize
+    /// The index of a subtree that is among them.
+    pub(crate) fn index(&self, tree: Subtree) -> usize
         requires { Contains self.now tree }
         ensures there { slice_get self.now result ≡ Some tree }
         ensures within { result ≤ length self.now }
     {
         match self.set.get_index_of(&tree) {
-            Some(place) => place,
+            Some(index) => index,
             // The subtree was put into the set.
             None => unreachable!(),
         }

@@ -27,7 +27,7 @@ pub(crate) struct Row {
     pub(crate) right: usize,
 }
 
-/// Rows of trees, each once. The number of a row is one more than its place, and 0 is that of no
+/// Rows of trees, each once. The number of a row is one more than its index, and 0 is that of no
 /// tree.
 #[derive(Drop)]
 pub(crate) struct Subtrees {
@@ -62,10 +62,10 @@ impl Subtrees {
         ensures kept { KeepNumbers self.old self.new }
         ensures once { AreOnce self.new }
     {
-        let (place, _) = self.rows.insert_full(row)?;
+        let (index, _) = self.rows.insert_full(row)?;
         // A set has fewer than 2^63.
         let _count = self.rows.len();
-        Ok(place + 1)
+        Ok(index + 1)
     }
 
     // The number of the row of these trees.
@@ -77,9 +77,9 @@ impl Subtrees {
         ensures once { OnOk result (AreOnce self.old → AreOnce self.new) }
     {
         let mut right = 0;
-        for place in (0..trees.len()).rev() {
+        for index in (0..trees.len()).rev() {
             right = self.number(Row {
-                first: trees[place],
+                first: trees[index],
                 right,
             })?;
         }

@@ -71,8 +71,8 @@ impl Named {
 /// Whether the label is that of an assertion.
 #[tactic(auto, using(crate::proofs::ByNumbers::UsedAssertions::kind_steps))]
 pub(crate) fn is_assertion(book: &Book, id: LabelId) -> bool
-    requires used { (place : ℕ) × (label : List ℕ)
-        × MayBeUsed book.now.statements place label id.0 }
+    requires used { (index : ℕ) × (label : List ℕ)
+        × MayBeUsed book.now.statements index label id.0 }
     ensures { IsTrue result ↔ IsAssertionNumber book.now.statements id.0 }
 {
     matches!(book.kind(id), LabelKind::Axiom | LabelKind::Proof)
@@ -111,15 +111,15 @@ pub(crate) fn fill_called(
 ) -> Result<(), AllocError>
     requires calls { length calls.now ≡ length entries.now }
     requires marks { length marks.now ≡ length entries.now }
-    ensures { OnOk result ((statements : List Sentence) (place : ℕ) (moves : List (Move ℕ))
-        → AllZip (MayBeCalled statements place) (ids_in entries.now) calls.now
-        → AllByRecursion (MayBeMade statements place) moves
+    ensures { OnOk result ((statements : List Sentence) (index : ℕ) (moves : List (Move ℕ))
+        → AllZip (MayBeCalled statements index) (ids_in entries.now) calls.now
+        → AllByRecursion (MayBeMade statements index) moves
         → AreMarked (ids_in entries.now) moves marks.now
         → AreNamedNumbers statements moves (ids_in named.new.ids.items)) }
 {
     named.ids.clear();
-    for (place, id) in entries.iter().enumerate() {
-        if is_called(marks[place], &calls[place]) {
+    for (index, id) in entries.iter().enumerate() {
+        if is_called(marks[index], &calls[index]) {
             named.ids.push(*id)?;
         }
     }

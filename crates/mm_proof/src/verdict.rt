@@ -5,7 +5,7 @@ ghost use Rattle.std.specs.Prelude.{true, false};
 ghost use Rattle.mm_proof.specs.Answer.{OnRule, IsUnlessMemory};
 ghost use Rattle.mm_proof.specs.Proof.{Prove, IsWithin, IsMoveFault};
 ghost use Rattle.mm_proof.specs.Profiles.{limit_of};
-ghost use Rattle.mm_proof.specs.KnownFront.{Pass};
+ghost use Rattle.mm_proof.specs.KnownPrefix.{Pass};
 ghost use Rattle.mm_proof.specs.Steps.{AreSteps};
 ghost use Rattle.mm_frame.specs.Form.{IsSound};
 ghost use Rattle.mm_proof.specs.Plain.{ids_in};
@@ -34,13 +34,13 @@ fn judgement_in_order<S: Store>(
     requires kept { S.kept store.old ≡ [] }
     requires steps { AreSteps book.now.statements id.0 steps.now.moves }
     ensures proved { OnOk result (OfMoves book.now.statements id.0 steps.now.moves
-        (λ place s names.
-        ProvesUsing (limit_of steps.now.profile) book.now.statements place s names
+        (λ index s names.
+        ProvesUsing (limit_of steps.now.profile) book.now.statements index s names
         (ids_in named.new.ids.items))) }
     ensures fault { IfErr result (λ e.
         OnRule e (λ rule step. OfMoves book.now.statements id.0 steps.now.moves
-        (λ place s names.
-        FailsWith (limit_of steps.now.profile) book.now.statements place s names rule step))) }
+        (λ index s names.
+        FailsWith (limit_of steps.now.profile) book.now.statements index s names rule step))) }
     ensures sound { IsSound book.now.statements }
 {
     let site = Site::new(book, id, steps.profile);
@@ -71,18 +71,18 @@ pub(crate) fn answer<S: Store>(
     requires kept { S.kept store.old ≡ [] }
     requires steps { AreSteps book.now.statements id.0 steps.now.moves }
     ensures proved { IfOk result (λ used. OfMoves book.now.statements id.0 steps.now.moves
-        (λ place s names.
-        ProvesUsing (limit_of steps.now.profile) book.now.statements place s names used)) }
+        (λ index s names.
+        ProvesUsing (limit_of steps.now.profile) book.now.statements index s names used)) }
     ensures fault { (rule : ProofRule) → (step : ℕ) → result ≡ Err (ProofFault.Rule rule step)
         → OfMoves book.now.statements id.0 steps.now.moves
-        (λ place s names.
-        FailsWith (limit_of steps.now.profile) book.now.statements place s names rule step) }
-    ensures accepts { OfMoves book.now.statements id.0 steps.now.moves (λ place s names.
-        Prove (IsWithin (limit_of steps.now.profile)) (take place book.now.statements) s names
+        (λ index s names.
+        FailsWith (limit_of steps.now.profile) book.now.statements index s names rule step) }
+    ensures accepts { OfMoves book.now.statements id.0 steps.now.moves (λ index s names.
+        Prove (IsWithin (limit_of steps.now.profile)) (take index book.now.statements) s names
         → IsOkUnless result ProofFault.Memory) }
-    ensures refuses { OfMoves book.now.statements id.0 steps.now.moves (λ place s names.
+    ensures refuses { OfMoves book.now.statements id.0 steps.now.moves (λ index s names.
         (rule : ProofRule) → (step : ℕ)
-        → FailsWith (limit_of steps.now.profile) book.now.statements place s names rule step
+        → FailsWith (limit_of steps.now.profile) book.now.statements index s names rule step
         → IsUnlessMemory result (Err (ProofFault.Rule rule step))) }
 {
     match judgement_in_order(alloc, store, named, book, id, steps) {
@@ -94,8 +94,8 @@ pub(crate) fn answer<S: Store>(
     }
 }
 
-// The answer on the moves of a front. The store is handed in empty.
-fn answer_front<S: Store>(
+// The answer on the moves of a prefix. The store is handed in empty.
+fn answer_prefix<S: Store>(
     alloc: Global,
     store: &mut S,
     book: &Book,
@@ -107,11 +107,11 @@ fn answer_front<S: Store>(
     requires steps { AreSteps book.now.statements id.0 steps.now.moves }
     ensures empty { IfOk result (λ used. used ≡ []) }
     ensures passed { OnOk result (OfMoves book.now.statements id.0 steps.now.moves
-        (λ place s names.
-        Pass (IsWithin (limit_of steps.now.profile)) (take place book.now.statements) names)) }
+        (λ index s names.
+        Pass (IsWithin (limit_of steps.now.profile)) (take index book.now.statements) names)) }
     ensures fault { IfErr result (λ e. OnRule e (λ rule step.
-        OfMoves book.now.statements id.0 steps.now.moves (λ place s names.
-        IsMoveFault (IsWithin (limit_of steps.now.profile)) (take place book.now.statements) names
+        OfMoves book.now.statements id.0 steps.now.moves (λ index s names.
+        IsMoveFault (IsWithin (limit_of steps.now.profile)) (take index book.now.statements) names
         rule step))) }
     ensures sound { IsSound book.now.statements }
 {
@@ -127,7 +127,7 @@ fn answer_front<S: Store>(
 /// assertions of its tree, each once, in database order; or the first of P6 to P14 and L1 that they
 /// break, with the number of the step. The store is handed in empty.
 ///
-/// Of the moves of a front it is told whether they pass: an empty list, or the first of P6 to P12
+/// Of the moves of a prefix it is told whether they pass: an empty list, or the first of P6 to P12
 /// and L1 that they break.
 pub fn verify<S: Store + Drop>(
     alloc: Global,
@@ -140,60 +140,60 @@ pub fn verify<S: Store + Drop>(
     requires kept { S.kept store ≡ [] }
     requires steps { AreSteps book.now.statements id.0 steps.now.moves }
     // What is answered `Ok` is proved, and these are the assertions of its tree.
-    ensures proved { steps.now.front ≡ false
+    ensures proved { steps.now.prefix ≡ false
         → IfOk result (λ used. OfMoves book.now.statements id.0 steps.now.moves
-        (λ place s moves.
-        ProvesUsing (limit_of steps.now.profile) book.now.statements place s moves used)) }
+        (λ index s moves.
+        ProvesUsing (limit_of steps.now.profile) book.now.statements index s moves used)) }
 
     // The rule and the step are those of the first fault.
-    ensures fault { steps.now.front ≡ false
+    ensures fault { steps.now.prefix ≡ false
         → (rule : ProofRule) → (step : ℕ) → result ≡ Err (ProofFault.Rule rule step)
         → OfMoves book.now.statements id.0 steps.now.moves
-        (λ place s moves.
-        FailsWith (limit_of steps.now.profile) book.now.statements place s moves rule step) }
+        (λ index s moves.
+        FailsWith (limit_of steps.now.profile) book.now.statements index s moves rule step) }
 
     // What is proved is answered `Ok`, unless memory is refused.
-    ensures accepts { steps.now.front ≡ false
-        → OfMoves book.now.statements id.0 steps.now.moves (λ place s moves.
-        Prove (IsWithin (limit_of steps.now.profile)) (take place book.now.statements) s moves
+    ensures accepts { steps.now.prefix ≡ false
+        → OfMoves book.now.statements id.0 steps.now.moves (λ index s moves.
+        Prove (IsWithin (limit_of steps.now.profile)) (take index book.now.statements) s moves
         → IsOkUnless result ProofFault.Memory) }
 
     // What has a fault is answered with it, unless memory is refused.
-    ensures refuses { steps.now.front ≡ false
-        → OfMoves book.now.statements id.0 steps.now.moves (λ place s moves.
+    ensures refuses { steps.now.prefix ≡ false
+        → OfMoves book.now.statements id.0 steps.now.moves (λ index s moves.
         (rule : ProofRule) → (step : ℕ)
-        → FailsWith (limit_of steps.now.profile) book.now.statements place s moves rule step
+        → FailsWith (limit_of steps.now.profile) book.now.statements index s moves rule step
         → IsUnlessMemory result (Err (ProofFault.Rule rule step))) }
 
-    // The moves of a front that is answered `Ok` pass, and no assertion is told.
-    ensures passed { steps.now.front ≡ true
+    // The moves of a prefix that is answered `Ok` pass, and no assertion is told.
+    ensures passed { steps.now.prefix ≡ true
         → IfOk result (λ used. (used ≡ []) × OfMoves book.now.statements id.0 steps.now.moves
-        (λ place s moves. Pass (IsWithin (limit_of steps.now.profile))
-        (take place book.now.statements) moves)) }
+        (λ index s moves. Pass (IsWithin (limit_of steps.now.profile))
+        (take index book.now.statements) moves)) }
 
-    // The rule and the step are those of the first fault of the front.
-    ensures front_fault { steps.now.front ≡ true
+    // The rule and the step are those of the first fault of the prefix.
+    ensures prefix_fault { steps.now.prefix ≡ true
         → (rule : ProofRule) → (step : ℕ) → result ≡ Err (ProofFault.Rule rule step)
         → OfMoves book.now.statements id.0 steps.now.moves
-        (λ place s moves. IsMoveFault (IsWithin (limit_of steps.now.profile))
-        (take place book.now.statements) moves rule step) }
+        (λ index s moves. IsMoveFault (IsWithin (limit_of steps.now.profile))
+        (take index book.now.statements) moves rule step) }
 
-    // A front that passes is answered `Ok`, unless memory is refused.
-    ensures accepts_front { steps.now.front ≡ true
-        → OfMoves book.now.statements id.0 steps.now.moves (λ place s moves.
-        Pass (IsWithin (limit_of steps.now.profile)) (take place book.now.statements) moves
+    // A prefix that passes is answered `Ok`, unless memory is refused.
+    ensures accepts_prefix { steps.now.prefix ≡ true
+        → OfMoves book.now.statements id.0 steps.now.moves (λ index s moves.
+        Pass (IsWithin (limit_of steps.now.profile)) (take index book.now.statements) moves
         → IsOkUnless result ProofFault.Memory) }
 
-    // A front that has a fault is answered with it, unless memory is refused.
-    ensures refuses_front { steps.now.front ≡ true
-        → OfMoves book.now.statements id.0 steps.now.moves (λ place s moves.
+    // A prefix that has a fault is answered with it, unless memory is refused.
+    ensures refuses_prefix { steps.now.prefix ≡ true
+        → OfMoves book.now.statements id.0 steps.now.moves (λ index s moves.
         (rule : ProofRule) → (step : ℕ)
-        → IsMoveFault (IsWithin (limit_of steps.now.profile)) (take place book.now.statements) moves
+        → IsMoveFault (IsWithin (limit_of steps.now.profile)) (take index book.now.statements) moves
         rule step
         → IsUnlessMemory result (Err (ProofFault.Rule rule step))) }
 {
-    if steps.is_front() {
-        answer_front(alloc, &mut store, book, id, steps)
+    if steps.is_prefix() {
+        answer_prefix(alloc, &mut store, book, id, steps)
     } else {
         let mut named = Named::new(alloc);
         answer(alloc, &mut store, &mut named, book, id, steps)

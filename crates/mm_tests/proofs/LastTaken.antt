@@ -13,9 +13,9 @@ use Rattle.mm_frame.specs.Taken.{TakenAs, next_id}
 use Rattle.mm_proof.specs.Steps.{IsProofNumber}
 use Rattle.mm_check.proofs.Verdicts.JudgedProofs.{labelled_said}
 
-take_front : {X : Type 0} (xs ys : List X) → take (length xs) (xs ++ ys) ≡ xs
-take_front [] ys = refl
-take_front {X} (x ∷ xs) ys = ap (λ (zs : List X). x ∷ zs) (take_front xs ys)
+take_prefix : {X : Type 0} (xs ys : List X) → take (length xs) (xs ++ ys) ≡ xs
+take_prefix [] ys = refl
+take_prefix {X} (x ∷ xs) ys = ap (λ (zs : List X). x ∷ zs) (take_prefix xs ys)
 
 number_of : (before : List Sentence) (kind : Kind) (taken : Taken) (id : LabelId) → TakenAs before kind taken → kind ≡ Provable → taken ≡ Assertion id
     → id ≡ next_id before
@@ -29,7 +29,7 @@ last_number statements before s taken id formed e provable was f = record {
   numbered = record {
     there = ap (λ (ss : List Sentence). slice_get ss (length before)) e ∙ get_pushed before (sentence_of s);
     named = labelled_said s.kind s.label formed.label provable;
-    number = ap (λ (ss : List Sentence). length (labelled_sentences ss)) (ap (λ (ss : List Sentence). take (length before) ss) e ∙ take_front before (sentence_of s ∷ []))
+    number = ap (λ (ss : List Sentence). length (labelled_sentences ss)) (ap (λ (ss : List Sentence). take (length before) ss) e ∙ take_prefix before (sentence_of s ∷ []))
         ∙ sym (ap (λ (i : LabelId). i.0) (number_of before s.kind taken id was provable f));
   };
   provable = provable;

@@ -1,4 +1,4 @@
-//! One happy path of each public call of the crates, faults that name a place, and devices that
+//! One happy path of each public call of the crates, faults that name a position, and devices that
 //! fail. They stand here and not in their crates, so that the gate proves each crate once.
 
 mod check;

@@ -468,7 +468,7 @@ pub(crate) const GREAT_NUMBERS: [Case; 4] = [
 ];
 
 /// A number names the label in its place of the list.
-pub(crate) const LISTED_PLACES: [Case; 9] = [
+pub(crate) const LISTED_INDICES: [Case; 9] = [
     Case {
         name: "the letters T name the label in place 20 of the list",
         files: &[(

@@ -5,8 +5,8 @@
 use crate::Case;
 use crate::Part::Times;
 
-/// The demonstration database cut after so many bytes: on each line the first place of a span, the
-/// place after its last one, the status, and the reply at each place of it.
+/// The demonstration database cut after so many bytes: on each line the first position of a span,
+/// the position after its last one, the status, and the reply at each position of it.
 pub(crate) const CUT: &str = "\
 0 1 0 yes 0 statements 0 proofs
 1 2 1 no demo0.mm 1 - X9 0
@@ -125,7 +125,7 @@ pub(crate) const CUT: &str = "\
 521 523 0 yes 19 statements 1 proofs
 ";
 
-/// The demonstration database with the byte in a place replaced by a dollar sign, likewise.
+/// The demonstration database with the byte at a position replaced by a dollar sign, likewise.
 pub(crate) const WITH_DOLLAR: &str = "\
 0 1 0 yes 19 statements 1 proofs
 1 3 1 no demo0.mm 1 - X9 0

@@ -190,7 +190,7 @@ pub(crate) const INCLUSIONS: [Case; 10] = [
 ];
 
 /// Inclusions where none may stand, and inclusions that are not whole.
-pub(crate) const PLACES_OF_INCLUSIONS: [Case; 15] = [
+pub(crate) const INDICES_OF_INCLUSIONS: [Case; 15] = [
     Case {
         name: "an inclusion in a block",
         files: &[(b"top.mm", &[Text(b"${ $[ a.mm $] $}")]), (b"a.mm", &[])],

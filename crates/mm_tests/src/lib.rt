@@ -27,8 +27,6 @@ mod files;
 #[cfg(test)]
 mod forms;
 #[cfg(test)]
-mod fronts;
-#[cfg(test)]
 mod incomplete;
 #[cfg(test)]
 mod names;
@@ -36,6 +34,8 @@ mod names;
 mod one_file;
 #[cfg(test)]
 mod orders;
+#[cfg(test)]
+mod prefixes;
 #[cfg(test)]
 mod profiles;
 #[cfg(test)]

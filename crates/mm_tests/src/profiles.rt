@@ -332,7 +332,7 @@ pub(crate) const OVER_THE_LIMIT: [Case; 1] = [Case {
 }];
 
 /// Incomplete proofs under the strict profile.
-pub(crate) const FRONTS: [Case; 6] = [
+pub(crate) const PREFIXES: [Case; 6] = [
     Case {
         name: "an unknown step",
         files: &[(

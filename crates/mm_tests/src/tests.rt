@@ -6,7 +6,7 @@ ghost use Rattle.mm_check.specs.Reply.{AsksHanded};
 
 use crate::databases::{DEMO, HEAD};
 use crate::{
-    Case, Part, compressed, damaged, faults, files, fronts, incomplete, names, one_file, orders,
+    Case, Part, compressed, damaged, faults, files, incomplete, names, one_file, orders, prefixes,
     profiles, proofs, questions, scopes,
 };
 use mm_check::{Checked, Command, Status, WholeQuestion, check, run};
@@ -235,8 +235,8 @@ fn inclusions(rt: HostRuntime) -> Result<(), Fail> {
 }
 
 #[test]
-fn places_of_inclusions(rt: HostRuntime) -> Result<(), Fail> {
-    compare(&rt, rt.alloc(), &files::PLACES_OF_INCLUSIONS)
+fn indices_of_inclusions(rt: HostRuntime) -> Result<(), Fail> {
+    compare(&rt, rt.alloc(), &files::INDICES_OF_INCLUSIONS)
 }
 
 #[test]
@@ -296,8 +296,8 @@ fn counted_beside_incomplete(rt: HostRuntime) -> Result<(), Fail> {
 }
 
 #[test]
-fn known_fronts(rt: HostRuntime) -> Result<(), Fail> {
-    compare(&rt, rt.alloc(), &incomplete::KNOWN_FRONTS)
+fn known_prefixes(rt: HostRuntime) -> Result<(), Fail> {
+    compare(&rt, rt.alloc(), &incomplete::KNOWN_PREFIXES)
 }
 
 #[test]
@@ -306,13 +306,13 @@ fn after_unknown(rt: HostRuntime) -> Result<(), Fail> {
 }
 
 #[test]
-fn faults_of_tokens_of_fronts(rt: HostRuntime) -> Result<(), Fail> {
-    compare(&rt, rt.alloc(), &fronts::FAULTS_OF_TOKENS)
+fn faults_of_tokens_of_prefixes(rt: HostRuntime) -> Result<(), Fail> {
+    compare(&rt, rt.alloc(), &prefixes::FAULTS_OF_TOKENS)
 }
 
 #[test]
-fn faults_of_steps_of_fronts(rt: HostRuntime) -> Result<(), Fail> {
-    compare(&rt, rt.alloc(), &fronts::FAULTS_OF_STEPS)
+fn faults_of_steps_of_prefixes(rt: HostRuntime) -> Result<(), Fail> {
+    compare(&rt, rt.alloc(), &prefixes::FAULTS_OF_STEPS)
 }
 
 #[test]
@@ -346,8 +346,8 @@ fn over_the_limit_of_the_strict_profile(rt: HostRuntime) -> Result<(), Fail> {
 }
 
 #[test]
-fn fronts_under_the_strict_profile(rt: HostRuntime) -> Result<(), Fail> {
-    compare_under(&rt, rt.alloc(), Profile::Strict, &profiles::FRONTS)
+fn prefixes_under_the_strict_profile(rt: HostRuntime) -> Result<(), Fail> {
+    compare_under(&rt, rt.alloc(), Profile::Strict, &profiles::PREFIXES)
 }
 
 #[test]
@@ -376,8 +376,8 @@ fn great_numbers(rt: HostRuntime) -> Result<(), Fail> {
 }
 
 #[test]
-fn listed_places(rt: HostRuntime) -> Result<(), Fail> {
-    compare(&rt, rt.alloc(), &compressed::LISTED_PLACES)
+fn listed_indices(rt: HostRuntime) -> Result<(), Fail> {
+    compare(&rt, rt.alloc(), &compressed::LISTED_INDICES)
 }
 
 #[test]
@@ -450,20 +450,20 @@ fn axioms_of_refused_files(rt: HostRuntime) -> Result<(), Fail> {
     compare_commands(&rt, rt.alloc(), &questions::AXIOMS_REFUSED)
 }
 
-/// What is done to the byte in a place.
+/// What is done to the byte at a position.
 #[derive(Clone, Copy)]
 enum Damage {
     Cut,
     Put(u8),
 }
 
-/// The demonstration database, damaged in a place.
-fn damaged_at(alloc: Global, damage: Damage, place: usize) -> Result<Vec<u8>, Fail> {
+/// The demonstration database, damaged at a position.
+fn damaged_at(alloc: Global, damage: Damage, index: usize) -> Result<Vec<u8>, Fail> {
     let mut bytes = Vec::from_slice(alloc, DEMO)?;
     match damage {
-        Damage::Cut => bytes.truncate(place),
+        Damage::Cut => bytes.truncate(index),
         Damage::Put(put) => {
-            if let Some(byte) = bytes.get_mut(place) {
+            if let Some(byte) = bytes.get_mut(index) {
                 *byte = put;
             }
         }
@@ -471,7 +471,7 @@ fn damaged_at(alloc: Global, damage: Damage, place: usize) -> Result<Vec<u8>, Fa
     Ok(bytes)
 }
 
-/// The places from one to before another, and the reply and the status at each of them.
+/// The positions from one to before another, and the reply and the status at each of them.
 #[derive(Clone, Copy)]
 struct Span<'a> {
     first: usize,
@@ -493,14 +493,14 @@ fn span_of(line: &str) -> Option<Span<'_>> {
     })
 }
 
-/// Checks the demonstration database with each place of a span damaged, which a line of a table
+/// Checks the demonstration database with each position of a span damaged, which a line of a table
 /// tells.
 fn sweep_span(rt: &impl Abort, alloc: Global, damage: Damage, line: &str) -> Result<(), Fail> {
     let span = span_of(line).ok_or("a line of the table")?;
     let mut reply = Vec::from_slice(alloc, span.reply.as_bytes())?;
     reply.push(b'\n')?;
-    for place in span.first..span.end {
-        let bytes = damaged_at(alloc, damage, place)?;
+    for index in span.first..span.end {
+        let bytes = damaged_at(alloc, damage, index)?;
         let files = [File {
             name: b"demo0.mm",
             bytes: bytes.as_slice(),
@@ -511,7 +511,7 @@ fn sweep_span(rt: &impl Abort, alloc: Global, damage: Damage, line: &str) -> Res
     Ok(())
 }
 
-/// Checks the demonstration database with each place of the spans damaged.
+/// Checks the demonstration database with each position of the spans damaged.
 fn sweep(rt: &impl Abort, alloc: Global, damage: Damage, spans: &str) -> Result<(), Fail> {
     for line in spans.lines() {
         sweep_span(rt, alloc, damage, line)?;

@@ -33,9 +33,9 @@ choice_mapped f g c x y u v h k = both_choices (λ a b. f a ≡ g b) c c x y u v
 pub cons_parts : {A : Type 0} (x y : A) (xs ys : List A) → x ∷ xs ≡ y ∷ ys → (x ≡ y) × (xs ≡ ys)
 cons_parts x y xs ys e = (cc, cc)
 
-pub nil_append : {A : Type 0} (front : List A) (x : A) (rest : List A) → [] ≡ front ++ x ∷ rest → ⊥
+pub nil_append : {A : Type 0} (prefix : List A) (x : A) (rest : List A) → [] ≡ prefix ++ x ∷ rest → ⊥
 nil_append [] x rest e = absurd cc
-nil_append (y ∷ front) x rest e = absurd cc
+nil_append (y ∷ prefix) x rest e = absurd cc
 
 -- how two cuts of a list stand to each other
 pub two_cuts : {A : Type 0} (a : List A) (x : A) (b c : List A) (y : A) (d : List A)
@@ -62,20 +62,20 @@ last_cut pre x before y after e = elim (two_cuts pre x [] before y after e) [
 ]
 
 -- a list in two parts, the first of them in two
-pub three_parts : {A : Type 0} (all front a b tail : List A) → all ≡ front ++ tail → front ≡ a ++ b
+pub three_parts : {A : Type 0} (all prefix a b tail : List A) → all ≡ prefix ++ tail → prefix ≡ a ++ b
     → all ≡ a ++ b ++ tail
-three_parts all front a b tail e split = e ∙ ap (λ l. l ++ tail) split
+three_parts all prefix a b tail e split = e ∙ ap (λ l. l ++ tail) split
 
 -- ---- elements
 
--- there is an element at each place within
+-- there is an element at each position within
 pub get_within : {A : Type 0} (xs : List A) (i : ℕ) → i < length xs → (x : A)
     × (slice_get xs i ≡ Some x)
 get_within [] i lt = absurd (omega arith)
 get_within (z ∷ xs) zero lt = (z, refl)
 get_within (z ∷ xs) (suc i) lt = get_within xs i (omega arith)
 
--- an element stays at its place when more is appended
+-- an element stays at its position when more is appended
 pub get_kept : {A : Type 0} (xs ys : List A) (i : ℕ) (x : A) → slice_get xs i ≡ Some x
     → slice_get (xs ++ ys) i ≡ Some x
 get_kept [] ys i x there = absurd (cc)
@@ -98,7 +98,7 @@ get_parted (z ∷ xs) ys x = get_parted xs ys x
 pub get_pushed : {A : Type 0} (xs : List A) (y : A) → slice_get (xs ++ y ∷ []) (length xs) ≡ Some y
 get_pushed xs y = get_parted xs [] y
 
--- one element stands at a place
+-- one element stands at a position
 pub one_there : {A : Type 0} (xs : List A) (i : ℕ) (x y : A) → slice_get xs i ≡ Some x
     → slice_get xs i ≡ Some y → x ≡ y
 one_there xs i x y at_x at_y = same_Some x y (sym at_x ∙ at_y)
@@ -124,28 +124,28 @@ get_set_cases (z ∷ xs) (suc i) (suc j) y x there =
       | inr (apart, old) ↦ inr ((λ e. apart (omega arith)), old)
     ]
 
--- the front before the element at a place, and the element
+-- the prefix before the element at a position, and the element
 pub take_next : {A : Type 0} (xs : List A) (i : ℕ) (x : A) → slice_get xs i ≡ Some x
     → take (suc i) xs ≡ take i xs ++ x ∷ []
 take_next [] i x there = absurd (cc)
 take_next (z ∷ xs) zero x there = let e : z ≡ x = cc in ap (λ y. y ∷ []) e
 take_next (z ∷ xs) (suc i) x there = ap (λ ys. z ∷ ys) (take_next xs i x there)
 
--- the element at a place, with what stands before it and after it
+-- the element at a position, with what stands before it and after it
 pub split_at : {A : Type 0} (xs : List A) (i : ℕ) (x : A) → slice_get xs i ≡ Some x
     → xs ≡ take i xs ++ x ∷ drop (suc i) xs
 split_at [] i x e = absurd (none-some x e)
 split_at (y ∷ xs) zero x e = ap (λ z. z ∷ xs) (same_Some y x e)
 split_at (y ∷ xs) (suc i) x e = ap (λ l. y ∷ l) (split_at xs i x e)
 
--- an element of what lies past a place, in the whole list
+-- an element of what lies past a position, in the whole list
 pub get_dropped : {A : Type 0} (n : ℕ) (xs : List A) (k : ℕ) (x : A)
     → slice_get (drop n xs) k ≡ Some x → slice_get xs (n + k) ≡ Some x
 get_dropped zero xs k x there = rw zero-add there
 get_dropped (suc n) [] k x there = absurd (cc)
 get_dropped (suc n) (y ∷ xs) k x there = rw suc-add (get_dropped n xs k x there)
 
--- in a front stands what stands in the list
+-- in a prefix stands what stands in the list
 pub get_take : {A : Type 0} (xs : List A) (n i : ℕ) → i < n
     → slice_get (take n xs) i ≡ slice_get xs i
 get_take xs zero i h = absurd (omega arith)
@@ -153,7 +153,7 @@ get_take [] (suc n) i h = refl
 get_take (x ∷ xs) (suc n) zero h = refl
 get_take (x ∷ xs) (suc n) (suc i) h = get_take xs n i (omega arith)
 
--- what stands in a front stands in the list, and before the front's end
+-- what stands in a prefix stands in the list, and before the prefix's end
 pub get_from_take : {A : Type 0} (xs : List A) (n i : ℕ) (x : A) → slice_get (take n xs) i ≡ Some x
     → (i < n) × (slice_get xs i ≡ Some x)
 get_from_take xs n i x e =
@@ -164,7 +164,7 @@ pub get_from_front : {A : Type 0} (xs : List A) (n i : ℕ) (x : A) → slice_ge
     → slice_get xs i ≡ Some x
 get_from_front xs n i x there = (get_from_take xs n i x there).1
 
--- and an element of the list within the front is one of it
+-- and an element of the list within the prefix is one of it
 pub get_in_front : {A : Type 0} (xs : List A) (n i : ℕ) (x : A) → i < n → slice_get xs i ≡ Some x
     → slice_get (take n xs) i ≡ Some x
 get_in_front xs n i x lt there = get_take xs n i lt ∙ there
@@ -174,7 +174,7 @@ pub get_beside : {A B : Type 0} (xs : List A) (ys : List B) (i : ℕ) (x : A) �
     → slice_get xs i ≡ Some x → (y : B) × (slice_get ys i ≡ Some y)
 get_beside xs ys i x l e = get_within ys i (omega (arith, slice_get_within xs i x e))
 
--- a list parts in one way only into a front and an end of known length
+-- a list parts in one way only into a prefix and an end of known length
 pub one_parting : {A : Type 0} (a b c d : List A) → a ++ b ≡ c ++ d → length b ≡ length d
     → (a ≡ c) × (b ≡ d)
 one_parting {A} a b c d e l =
@@ -184,12 +184,12 @@ one_parting {A} a b c d e l =
       sym (drop_at a b (length c) n) ∙ ap (drop (length c)) e ∙ drop_at c d (length c) refl,
     )
 
--- a member stands at a place
+-- a member stands at a position
 pub at_from_contains : {A : Type 0} (xs : List A) (x : A) → Contains xs x
     → (i : ℕ) × (slice_get xs i ≡ Some x)
 at_from_contains xs x (i, lt, is) = (i, slice_get_read xs (length xs) i x refl lt (sym is))
 
--- what stands at a place is a member
+-- what stands at a position is a member
 pub contains_from_at : {A : Type 0} (xs : List A) (x : A) → (i : ℕ) × (slice_get xs i ≡ Some x)
     → Contains xs x
 contains_from_at xs x (i, there) =
@@ -236,9 +236,9 @@ module _ {A : Type 0} (P : A → Type 0) where
   all_append (x ∷ a) b first second = (first.0, all_append a b first.1 second)
 
   -- of the whole, and so of both parts
-  pub all_front : (a b : List A) → AllByRecursion P (a ++ b) → AllByRecursion P a
-  all_front [] b all = tt
-  all_front (x ∷ a) b all = (all.0, all_front a b all.1)
+  pub all_prefix : (a b : List A) → AllByRecursion P (a ++ b) → AllByRecursion P a
+  all_prefix [] b all = tt
+  all_prefix (x ∷ a) b all = (all.0, all_prefix a b all.1)
 
   pub all_back : (a b : List A) → AllByRecursion P (a ++ b) → AllByRecursion P b
   all_back [] b all = all
@@ -248,12 +248,12 @@ module _ {A : Type 0} (P : A → Type 0) where
   pub all_push : (xs : List A) (x : A) → AllByRecursion P xs → P x → AllByRecursion P (xs ++ x ∷ [])
   all_push xs x a p = all_append xs (x ∷ []) a (p, tt)
 
-  -- of each where it is said of the element at each place
-  pub all_places : (xs : List A) (d : A)
+  -- of each where it is said of the element at each position
+  pub all_positions : (xs : List A) (d : A)
       → ((k : ℕ) → k < length xs → P (get_or xs k d)) → AllByRecursion P xs
-  all_places xs d h = recursion_from_All P xs (All-from_get_or P xs d h)
+  all_positions xs d h = recursion_from_All P xs (All-from_get_or P xs d h)
 
-  -- of each where it is said of what stands at each place
+  -- of each where it is said of what stands at each position
   pub all_there : (xs : List A)
       → ((k : ℕ) (x : A) → slice_get xs k ≡ Some x → P x) → AllByRecursion P xs
   all_there [] each = tt
@@ -266,7 +266,7 @@ module _ {A : Type 0} (P : A → Type 0) where
   all_filtered test xs all =
       recursion_from_All P (filter test xs) (All-filter test P xs (All-from_recursion P xs all))
 
-  -- of the element at a place
+  -- of the element at a position
   pub all_at : (xs : List A) (i : ℕ) (x : A) → AllByRecursion P xs → slice_get xs i ≡ Some x → P x
   all_at [] i x a e = absurd (none-some x e)
   all_at (y ∷ xs) zero x a e = subst P (same_Some y x e) a.0
@@ -274,7 +274,7 @@ module _ {A : Type 0} (P : A → Type 0) where
 
 -- ---- lists of which some are so
 
--- some passes a test where what a function makes of the element at a place does
+-- some passes a test where what a function makes of the element at a position does
 pub any_found : {A B : Type 0} (f : A → B) (p : B → Bool) (xs : List A) (i : ℕ) (d : A)
     → i < length xs → p (f (get_or xs i d)) ≡ true → list_any p (map f xs) ≡ true
 any_found f p xs i d within so =
@@ -303,7 +303,7 @@ pub append_split : {A B C : Type 0} (f : A → C) (g : B → C) (others bs : Lis
 append_split f g [] bs ys is = ([], ys, refl, refl, is)
 append_split f g (a ∷ others) bs ys is =
     let (b, rest, whole, first, more) = cons_split f g a (others ++ bs) ys is in
-    let (cs, ds, split, front, back) = append_split f g others bs rest more in
+    let (cs, ds, split, prefix, back) = append_split f g others bs rest more in
     (b ∷ cs, ds, whole ∙ ap (λ l. b ∷ l) split, cc, back)
 
 -- both are as long as each other
@@ -318,7 +318,7 @@ one_split f g a ys e =
     let (b, bs, whole, same, rest) = cons_split f g a [] ys e in
     (b, whole ∙ ap (λ l. b ∷ l) (nil_split f g bs rest), same)
 
--- ---- two lists, place by place
+-- ---- two lists, position by position
 
 -- lists whose elements correspond map to one
 pub zip_mapped : {A B C : Type 0} (f : A → C) (g : B → C) (xs : List A) (ys : List B)
@@ -355,7 +355,7 @@ module _ {A B : Type 0} (R : A → B → Type 0) where
       → AllZip R xs ys → R x y → AllZip R (xs ++ x ∷ []) (ys ++ y ∷ [])
   zip_push xs ys x y r h = zip_append xs ys (x ∷ []) (y ∷ []) r (h, tt)
 
-  -- what stands in the second list at a place has one beside it in the first
+  -- what stands in the second list at a position has one beside it in the first
   pub zip_right : (xs : List A) (ys : List B) (i : ℕ) (y : B) → AllZip R xs ys
       → slice_get ys i ≡ Some y → (x : A) × (slice_get xs i ≡ Some x) × R x y
   zip_right [] [] i y r e = absurd (none-some y e)
@@ -371,9 +371,9 @@ module _ {A B : Type 0} (R : A → B → Type 0) where
   zip_left (a ∷ xs) (b ∷ ys) (suc i) x r e = zip_left xs ys i x r.1 e
   zip_left xs ys i x r e = absurd r
 
-  -- a front of the first list has one of the second beside it
+  -- a prefix of the first list has one of the second beside it
   pub zip_front : (xs : List A) (x : A) (ys : List B) → AllZip R (xs ++ x ∷ []) ys
-      → (front : List B) × (y : B) × (ys ≡ front ++ y ∷ []) × AllZip R xs front × R x y
+      → (prefix : List B) × (y : B) × (ys ≡ prefix ++ y ∷ []) × AllZip R xs prefix × R x y
   zip_front [] x [] r = absurd r
   zip_front [] x (b ∷ []) r = ([], b, refl, tt, r.0)
   zip_front [] x (b ∷ c ∷ ys) r = absurd r.1
@@ -382,7 +382,7 @@ module _ {A B : Type 0} (R : A → B → Type 0) where
       let h = zip_front xs x ys r.1 in
       (b ∷ h.0, h.1, ap (λ l. b ∷ l) h.2, (r.0, h.3), h.4)
 
-  -- fronts of lists that correspond do so too
+  -- prefixes of lists that correspond do so too
   pub zip_take : (xs : List A) (ys : List B) (i : ℕ)
       → AllZip R xs ys → AllZip R (take i xs) (take i ys)
   zip_take xs ys zero z = tt
@@ -433,11 +433,11 @@ zip_on R S T step xs ys zs one other = absurd other
 -- what stands beside an element, beside those before it, and beside those after it
 pub record ZipParts {A B : Type 0} (R : A → B → Type 0) (xs : List A) (before : List B) (y : B)
     (after : List B) : Type 0 where
-  pub front : List A
+  pub prefix : List A
   pub x : A
   pub back : List A
-  pub whole : xs ≡ front ++ x ∷ back
-  pub earlier : AllZip R front before
+  pub whole : xs ≡ prefix ++ x ∷ back
+  pub earlier : AllZip R prefix before
   pub here : R x y
   pub later : AllZip R back after
 
@@ -446,7 +446,7 @@ pub zip_parts : {A B : Type 0} (R : A → B → Type 0) (xs : List A) (before : 
 zip_parts R [] [] y after zip = absurd zip
 zip_parts R [] (b ∷ before) y after zip = absurd zip
 zip_parts R (x ∷ xs) [] y after zip = record {
-  front = [];
+  prefix = [];
   x = x;
   back = xs;
   whole = refl;
@@ -457,7 +457,7 @@ zip_parts R (x ∷ xs) [] y after zip = record {
 zip_parts {A} R (x ∷ xs) (b ∷ before) y after zip =
     let rest = zip_parts R xs before y after zip.1 in
     record {
-      front = x ∷ rest.front;
+      prefix = x ∷ rest.prefix;
       x = rest.x;
       back = rest.back;
       whole = ap (λ (l : List A). x ∷ l) rest.whole;

@@ -11,8 +11,8 @@ use Rattle.mm_text.specs.Items.{Item, Plain, Wrong, Inclusion, End, Shown, Clear
 use Rattle.mm_text.specs.Items.{without_comments}
 use Rattle.mm_text.specs.Reading.{PlainFault, Reads}
 
--- A token with another number in place of its place: one that its file and its place give, such as
--- how many line feeds stand before it.
+-- A token with another number in place of its position: one that its file and its position give,
+-- such as how many line feeds stand before it.
 abbrev pub token_on : (ℕ → ℕ → ℕ) → PlainToken → PlainToken
 token_on line t = record { text = t.text; file = t.file; at = line t.file t.at }
 
@@ -68,7 +68,7 @@ ShowAlike bytes others = (file : ℕ) → shows file bytes ≡ shows file others
 abbrev pub AreAlike : PlainFile → PlainFile → Type 0
 AreAlike one other = (one.name ≡ other.name) × ShowAlike one.bytes other.bytes
 
--- The other files have a reading that is these statements and this ending, but for places: lines
+-- The other files have a reading that is these statements and this ending, but for positions: lines
 -- are the same.
 pub record AreReadAlike (files others : List PlainFile) (statements : List PlainStatement)
     (ending : Option PlainFault) : Type 0 where

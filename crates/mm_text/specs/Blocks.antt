@@ -19,7 +19,7 @@ openings statements = count_by (λ s. is_opening s.kind) statements
 abbrev pub closings : List PlainStatement → ℕ
 closings statements = count_by (λ s. is_closing s.kind) statements
 
--- no `$}` lacks its `${`: no front of the statements has more `$}` than `${`
+-- no `$}` lacks its `${`: no prefix of the statements has more `$}` than `${`
 abbrev pub AreBalanced : List PlainStatement → Type 0
 AreBalanced statements = (n : ℕ) → closings (take n statements) ≤ openings (take n statements)
 

@@ -9,14 +9,14 @@ use Rattle.mm_text.specs.Items.{Item, items}
 use Rattle.mm_text.specs.Blocks.{AreBalanced}
 use Rattle.mm_text.specs.Reading.{PlainFault, IsBeginning, Viable, EndsAt, Reads, IsInPlace}
 
--- a token of this file is the slice of its bytes at its place, and that is a longest run of bytes
--- that aren't white space
+-- a token of this file is the slice of its bytes at its position, and that is a longest run of
+-- bytes that aren't white space
 pub record IsRunOf (file : ℕ) (bytes : List ℕ) (t : PlainToken) : Type 0 where
   pub home : t.file ≡ file
   pub text : slice_range bytes t.at (t.at + length t.text) ≡ t.text
   pub run : IsToken bytes t.at (t.at + length t.text)
 
--- these tokens are all the longest runs of the bytes, each once, in the order of their places
+-- these tokens are all the longest runs of the bytes, each once, in the order of their positions
 pub record AreLongestRuns (file : ℕ) (bytes : List ℕ) (tokens : List PlainToken) : Type 0 where
   pub each : AllByRecursion (IsRunOf file bytes) tokens
   pub every : (start stop : ℕ) → IsToken bytes start stop
@@ -53,23 +53,23 @@ BeginningsBeginStatements =
     (tokens : List PlainToken)
     → (IsBeginning tokens → BeginsStatement tokens) × (BeginsStatement tokens → IsBeginning tokens)
 
--- no longer front of the items is viable
+-- no longer prefix of the items is viable
 abbrev pub IsLongestViable : List Item → List Item → Type 0
-IsLongestViable its front =
+IsLongestViable its prefix =
     (longer after : List Item) (statements : List PlainStatement) (unfinished : List PlainToken)
-    → its ≡ longer ++ after → Viable longer statements unfinished → length longer ≤ length front
+    → its ≡ longer ++ after → Viable longer statements unfinished → length longer ≤ length prefix
 
--- a fault comes only after the longest viable front
-abbrev pub FaultsEndLongestFronts : Type 0
-FaultsEndLongestFronts =
-    (files : List PlainFile) (front : List Item) (item : Item) (rest : List Item)
+-- a fault comes only after the longest viable prefix
+abbrev pub FaultsEndLongestPrefixes : Type 0
+FaultsEndLongestPrefixes =
+    (files : List PlainFile) (prefix : List Item) (item : Item) (rest : List Item)
     (statements : List PlainStatement) (unfinished : List PlainToken) (fault : PlainFault)
-    → items files ≡ front ++ item ∷ rest → Viable front statements unfinished
+    → items files ≡ prefix ++ item ∷ rest → Viable prefix statements unfinished
     → EndsAt statements unfinished item fault
-    → IsLongestViable (items files) front
+    → IsLongestViable (items files) prefix
 
 -- each statement of a reading is formed by the grammar, each of its tokens holds a byte, and is the
--- slice of its file at its place
+-- slice of its file at its position
 pub record AreFormedInPlace (files : List PlainFile)
     (statements : List PlainStatement) : Type 0 where
   pub formed : AllByRecursion HasForm statements
@@ -80,7 +80,7 @@ ReadingsAreFormedInPlace =
     (files : List PlainFile) (statements : List PlainStatement) (ending : Option PlainFault)
     → Reads files statements ending → AreFormedInPlace files statements
 
--- in each front of a reading's statements there are at most as many `$}` as `${`
+-- in each prefix of a reading's statements there are at most as many `$}` as `${`
 abbrev pub ReadingsAreBalanced : Type 0
 ReadingsAreBalanced =
     (files : List PlainFile) (statements : List PlainStatement) (ending : Option PlainFault)

@@ -7,7 +7,7 @@ pub mod Included
 pub mod Names
 pub mod Nest
 pub mod Next
-pub mod Place
+pub mod Position
 pub mod Reader
 pub mod ReaderState
 pub mod Sought

@@ -17,7 +17,7 @@ use Rattle.mm_text.specs.Blocks.{AreBalanced, AreClosed, IsInnermost}
 use Rattle.mm_text.specs.Statement.{PlainStatement, IsKeyword, IsHead, HasBody, AreSymbols}
 use Rattle.mm_text.specs.Statement.{FitsCount, label_in, SpellsAll, keyword_of}
 
--- A fault in the text: its rule, the number of its file and its place there, the number of the
+-- A fault in the text: its rule, the number of its file and its position there, the number of the
 -- statement at fault, from 1, and the label of the statement in which it stands.
 pub record PlainFault : Type 0 where
   pub rule : TextRule
@@ -70,24 +70,24 @@ pub record AreOutside (tokens : List PlainToken) : Type 0 where
   pub spelled : SpellsAll tokens statements
   pub closed : AreClosed statements
 
--- A front of the items that reads as these statements, followed by these tokens, which are a
+-- A prefix of the items that reads as these statements, followed by these tokens, which are a
 -- beginning of one. No `$}` lacks its `${`. A file is included only outside of blocks and
 -- statements; a file ends only where no statement is unfinished, and the top file only where no
 -- block is open.
-pub record Viable (front : List Item) (statements : List PlainStatement)
+pub record Viable (prefix : List Item) (statements : List PlainStatement)
     (unfinished : List PlainToken) : Type 0 where
-  pub clean : HoldNoFault front
+  pub clean : HoldNoFault prefix
   pub finished : List PlainToken
-  pub whole : plain_tokens front ≡ finished ++ unfinished
+  pub whole : plain_tokens prefix ≡ finished ++ unfinished
   pub spelled : SpellsAll finished statements
   pub begun : IsBeginning unfinished
   pub balanced : AreBalanced statements
   pub included : (before after : List Item) (token : PlainToken)
-      → front ≡ before ++ Inclusion token ∷ after
+      → prefix ≡ before ++ Inclusion token ∷ after
       → AreOutside (plain_tokens before)
-  pub ended : (before after : List Item) (file : ℕ) → front ≡ before ++ End file ∷ after
+  pub ended : (before after : List Item) (file : ℕ) → prefix ≡ before ++ End file ∷ after
       → (earlier : List PlainStatement) × SpellsAll (plain_tokens before) earlier
-  pub top_ended : (before after : List Item) → front ≡ before ++ End 0 ∷ after
+  pub top_ended : (before after : List Item) → prefix ≡ before ++ End 0 ∷ after
       → AreOutside (plain_tokens before)
 
 -- the keyword that ends the symbols of a statement of this kind
@@ -162,13 +162,13 @@ fault_at rule t statements unfinished =
 abbrev pub MeetsX6 : List PlainStatement → List PlainToken → Type 0
 MeetsX6 statements unfinished = (unfinished ≢ []) ⊎ ¬ (AreClosed statements)
 
--- X8: a file ends in a statement. The place is the statement's first token.
+-- X8: a file ends in a statement. The position is the statement's first token.
 abbrev pub EndsInX8 : List PlainStatement → List PlainToken → PlainFault → Type 0
 EndsInX8 statements unfinished fault =
     (first : PlainToken) × (others : List PlainToken) × (unfinished ≡ first ∷ others)
     × (fault ≡ fault_at X8 first statements unfinished)
 
--- S7: the top file ends with a block open. The place is the `${` of the innermost one, and the
+-- S7: the top file ends with a block open. The position is the `${` of the innermost one, and the
 -- statement is that `${`.
 abbrev pub EndsInS7 : List PlainStatement → List PlainToken → ℕ → PlainFault → Type 0
 EndsInS7 statements unfinished file fault =
@@ -177,7 +177,7 @@ EndsInS7 statements unfinished file fault =
     × IsInnermost statements before opening
     × (fault ≡ fault_at S7 opening.first before [])
 
--- how a reading ends at the item after the longest viable front
+-- how a reading ends at the item after the longest viable prefix
 abbrev pub EndsAt : List PlainStatement → List PlainToken → Item → PlainFault → Type 0
 EndsAt statements unfinished (Plain t) fault =
     (rule : TextRule) × Meets statements unfinished t rule
@@ -189,13 +189,13 @@ EndsAt statements unfinished (End file) fault =
     EndsInX8 statements unfinished fault ⊎ EndsInS7 statements unfinished file fault
 
 -- The statements that the items spell, and the fault that ends them, or none: those of a viable
--- front of the items that is all of them, or after which the next item is a fault.
+-- prefix of the items that is all of them, or after which the next item is a fault.
 abbrev pub ReadsAs : List Item → List PlainStatement → Option PlainFault → Type 0
 ReadsAs its statements None =
     Viable its statements []
 ReadsAs its statements (Some fault) =
-    (front : List Item) × (item : Item) × (rest : List Item) × (unfinished : List PlainToken)
-    × (its ≡ front ++ item ∷ rest) × Viable front statements unfinished
+    (prefix : List Item) × (item : Item) × (rest : List Item) × (unfinished : List PlainToken)
+    × (its ≡ prefix ++ item ∷ rest) × Viable prefix statements unfinished
     × EndsAt statements unfinished item fault
 
 -- the statements that the files hold, and the fault that ends them, or none
@@ -206,7 +206,7 @@ Reads files statements ending = ReadsAs (items files) statements ending
 abbrev pub TellsMore : List PlainStatement → Option PlainFault → Type 0
 TellsMore statements ending = (statements ≢ []) ⊎ (ending ≢ None)
 
--- a token's text is the slice of its file at its place
+-- a token's text is the slice of its file at its position
 abbrev pub IsSliceOf : List PlainFile → PlainToken → Type 0
 IsSliceOf files t =
     (file : PlainFile) × (slice_get files t.file ≡ Some file)

@@ -11,7 +11,7 @@ use Rattle.mm_text.specs.Files.{PlainFile, total_bytes, BreaksLoad}
 use Rattle.mm_text.specs.Reading.{PlainFault, Reads, TellsMore}
 
 -- The statements of the files that weren't given yet, and the fault that ends them; whether a
--- growth was refused, after which nothing is given; and whether the end, a fault or want of memory
+-- growth was refused, after which nothing is given; and whether the end, a fault or lack of memory
 -- was answered.
 pub record Remaining : Type 0 where
   pub files : List PlainFile
@@ -32,7 +32,7 @@ pub record IsUnread (files : List PlainFile) (s : Remaining) : Type 0 where
   pub told : s.told ≡ false
 
 -- What is answered to handed files: a reader of all that they hold, where they break no rule as a
--- whole; the first rule that they break; or want of memory.
+-- whole; the first rule that they break; or lack of memory.
 abbrev pub Begins : List PlainFile → Result Remaining TextFault → Type 0
 Begins files (Ok s) = ((rule : LoadRule) → ¬ (BreaksLoad files rule)) × IsUnread files s
 Begins files (Err (Load rule)) = BreaksLoad files rule
@@ -45,7 +45,7 @@ pub record IsEmpty (s : PlainStatement) : Type 0 where
   pub proof : s.proof ≡ []
 
 -- What a call of `read` answers, and what it leaves: the next statement, the end, the fault, or
--- want of memory. This is answered for good, and is new only where a statement was left to give, or
+-- lack of memory. This is answered for good, and is new only where a statement was left to give, or
 -- a fault that wasn't told.
 abbrev pub Gives : Remaining → Result Bool TextFault → Remaining → PlainStatement → Type 0
 Gives old (Ok true) new into =

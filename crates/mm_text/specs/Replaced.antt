@@ -39,12 +39,12 @@ with_bytes files number bytes =
       | Some file ↦ slice_set files number (record file { bytes = bytes })
     ]
 
--- a statement without the places of its tokens
+-- a statement without the positions of its tokens
 abbrev pub placeless : PlainStatement → PlainStatement
 placeless s = statement_on (λ file at. 0) s
 
 -- How a `$p` is read before and after bytes of the file with a number are replaced: the old ones
--- ended at one place, those in their stead end at another. Of this file, its proof stands as far
+-- ended at one position, those in their stead end at another. Of this file, its proof stands as far
 -- behind them as it did; of another file, it stands where it did.
 pub record IsMoved (number end other_end : ℕ) (s t : PlainStatement) : Type 0 where
   pub home : s.first.file ≡ t.first.file
@@ -53,8 +53,8 @@ pub record IsMoved (number end other_end : ℕ) (s t : PlainStatement) : Type 0 
   pub stop : s.first.file ≡ number → s.span.1 + other_end ≡ t.span.1 + end
 
 -- The others read as the same statements: those before one as they were, that one with the tokens
--- of the text as its proof, and those after it but for places. The text ends elsewhere than the old
--- proof did, and the proofs after it have moved by as much.
+-- of the text as its proof, and those after it but for positions. The text ends elsewhere than the
+-- old proof did, and the proofs after it have moved by as much.
 pub record AreReadBut (others : List PlainFile) (before : List PlainStatement)
     (s : PlainStatement) (after : List PlainStatement) (text : List ℕ) : Type 0 where
   pub later : List PlainStatement
@@ -71,12 +71,12 @@ pub record AreReadBut (others : List PlainFile) (before : List PlainStatement)
 
 -- the bytes of the statement's proof stand among these, where its span says
 pub record IsProofSpan (s : PlainStatement) (bytes : List ℕ) : Type 0 where
-  pub front : List ℕ
+  pub prefix : List ℕ
   pub within : List ℕ
   pub back : List ℕ
-  pub whole : bytes ≡ front ++ (within ++ back)
-  pub start : s.span.0 ≡ length front
-  pub stop : s.span.1 ≡ length front + length within
+  pub whole : bytes ≡ prefix ++ (within ++ back)
+  pub start : s.span.0 ≡ length prefix
+  pub stop : s.span.1 ≡ length prefix + length within
 
 -- in the reading of files, also one that a fault ends, the span of each `$p` stands in the file of
 -- its first token

@@ -155,7 +155,7 @@ pub record Spells (tokens : List PlainToken) (s : PlainStatement) : Type 0 where
 abbrev pub SpellsAll : List PlainToken → List PlainStatement → Type 0
 SpellsAll tokens [] = tokens ≡ []
 SpellsAll tokens (s ∷ statements) =
-    (front : List PlainToken) × (rest : List PlainToken) × (tokens ≡ front ++ rest) × Spells front s
+    (prefix : List PlainToken) × (rest : List PlainToken) × (tokens ≡ prefix ++ rest) × Spells prefix s
     × SpellsAll rest statements
 
 -- a label, for the kinds that have one

@@ -4,7 +4,8 @@ use Rattle.std.specs.Prelude.{length, Bool, true, false, if◌then◌else◌, sl
 use Rattle.std.specs.List.{list_any, list_all}
 use Rattle.mm_text.specs.declared.token.Token.{Token}
 
--- a token without where it lies in memory: its bytes, the number of its file, and its place there
+-- a token without where it lies in memory: its bytes, the number of its file, and its position
+-- there
 pub record PlainToken : Type 0 where
   pub text : List ℕ
   pub file : ℕ
@@ -39,8 +40,8 @@ IsLabel text = is_label text ≡ true
 abbrev pub HoldsNoDollar : List ℕ → Type 0
 HoldsNoDollar text = list_any (λ b. b == 36) text ≡ false
 
--- A byte at a place goes onto the front of the token that begins right after it, or is a token of
--- its own.
+-- A byte at a position goes onto the front of the token that begins right after it, or is a token
+-- of its own.
 abbrev pub with_byte : ℕ → ℕ → ℕ → List PlainToken → List PlainToken
 with_byte file at b [] = record { text = b ∷ []; file = file; at = at } ∷ []
 with_byte file at b (t ∷ tokens) =
@@ -48,7 +49,7 @@ with_byte file at b (t ∷ tokens) =
     then record { text = b ∷ t.text; file = file; at = at } ∷ tokens
     else record { text = b ∷ []; file = file; at = at } ∷ t ∷ tokens
 
--- The tokens of the bytes of a file that begin at a place: its longest runs of bytes that aren't
+-- The tokens of the bytes of a file that begin at a position: its longest runs of bytes that aren't
 -- white space.
 unfoldable pub tokens_from : ℕ → ℕ → List ℕ → List PlainToken
 tokens_from file at [] = []
@@ -56,7 +57,7 @@ tokens_from file at (b ∷ bytes) =
     if is_space b then tokens_from file (at + 1) bytes
     else with_byte file at b (tokens_from file (at + 1) bytes)
 
--- the bytes from one place up to another are a token: a longest run of bytes that aren't white
+-- the bytes from one position up to another are a token: a longest run of bytes that aren't white
 -- space
 pub record IsToken (bytes : List ℕ) (start stop : ℕ) : Type 0 where
   pub some : start < stop

@@ -5,35 +5,35 @@ ghost use Rattle.std.specs.Prelude.{drop};
 ghost use Rattle.std.specs.Prelude.{slice_index, slice_range};
 ghost use Rattle.mm_text.specs.Token.{plain_token, is_space, tokens_from};
 ghost use Rattle.mm_text.specs.Items.{holds_mark, spells};
-ghost use Rattle.mm_text.specs.Mirror.Place.{is_quiet, IsLegalFront, IsLegalUpTo, IsPlace};
-ghost use Rattle.mm_text.specs.Mirror.Place.{IsMarkAt, IsClosedAt, BeginsNext};
-ghost use Rattle.mm_text.specs.Mirror.Place.{IsSameFile, GoesOn, EndsComment, TakesOne};
-ghost use Rattle.mm_text.specs.Mirror.Place.{TakesWordAt, TakesShown, shown_at};
+ghost use Rattle.mm_text.specs.Mirror.Position.{is_quiet, IsLegalPrefix, IsLegalUpTo, IsPosition};
+ghost use Rattle.mm_text.specs.Mirror.Position.{IsMarkAt, IsClosedAt, BeginsNext};
+ghost use Rattle.mm_text.specs.Mirror.Position.{IsSameFile, GoesOn, EndsComment, TakesOne};
+ghost use Rattle.mm_text.specs.Mirror.Position.{TakesWordAt, TakesShown, shown_at};
 ghost use Rattle.mm_text.specs.Files.{most_bytes};
 
 use crate::fault::TextRule;
 use crate::scan::{is_quiet, is_space, legal_end, skip_space, token_end, token_start};
 use crate::token::Token;
 
-/// The place up to which a file was read.
+/// The position up to which a file was read.
 #[derive(Clone, Copy)]
-pub struct Place<'a> {
+pub struct Position<'a> {
     pub bytes: &'a [u8],
     /// The number of the file.
     pub file: usize,
     pub at: usize,
-    /// A place up to which all bytes may stand in a file. It is found for many tokens at once, so
-    /// that no token has to be looked through for illegal bytes, and comments are skipped.
+    /// A position up to which all bytes may stand in a file. It is found for many tokens at once,
+    /// so that no token has to be looked through for illegal bytes, and comments are skipped.
     pub legal: usize,
 }
 
-/// What a part of a comment comes to, with the place after it.
+/// What a part of a comment comes to, with the position after it.
 #[derive(Clone, Copy)]
 pub enum Comment<'a> {
     /// The comment goes on.
-    Open(Place<'a>),
+    Open(Position<'a>),
     /// A `$)` closes it.
-    Closed(Place<'a>),
+    Closed(Position<'a>),
 }
 
 /// What stands next in a file.
@@ -54,16 +54,16 @@ pub struct Wrong<'a> {
     pub token: Token<'a>,
 }
 
-impl<'a> Place<'a> {
+impl<'a> Position<'a> {
     /// The beginning of a file.
-    pub fn begin(bytes: &'a [u8], file: usize) -> Place<'a>
+    pub fn begin(bytes: &'a [u8], file: usize) -> Position<'a>
         requires { length bytes.now ≤ most_bytes }
-        ensures place { IsPlace result }
+        ensures position { IsPosition result }
         ensures bytes { result.bytes.now ≡ bytes.now }
         ensures file { result.file ≡ file }
         ensures at { result.at ≡ 0 }
     {
-        Place {
+        Position {
             bytes,
             file,
             at: 0,
@@ -72,11 +72,11 @@ impl<'a> Place<'a> {
     }
 }
 
-/// A place up to which the bytes may stand in a file, no further back than the one that is known.
-/// Those up to a wanted place are judged, if they weren't yet.
+/// A position up to which the bytes may stand in a file, no further back than the one that is
+/// known. Those up to a wanted position are judged, if they weren't yet.
 #[inline(always)]
-fn legal_front(bytes: &[u8], legal: usize, wanted: usize) -> usize
-    requires front { IsLegalFront bytes.now legal }
+fn legal_prefix(bytes: &[u8], legal: usize, wanted: usize) -> usize
+    requires prefix { IsLegalPrefix bytes.now legal }
     requires within { wanted ≤ length bytes.now }
     ensures from { legal ≤ result }
     ensures judged { IsLegalUpTo bytes.now result wanted }
@@ -120,7 +120,7 @@ fn holds_mark(text: &[u8]) -> bool
     false
 }
 
-/// The token of a file from one place up to another.
+/// The token of a file from one position up to another.
 fn make_token<'a>(bytes: &'a [u8], file: usize, start: usize, end: usize) -> Token<'a>
     requires order { start < end }
     requires within { end ≤ length bytes.now }
@@ -136,8 +136,8 @@ fn make_token<'a>(bytes: &'a [u8], file: usize, start: usize, end: usize) -> Tok
     }
 }
 
-/// The next place at which a comment may end or be wrong: that of a `$`, or of a byte that no token
-/// may hold; the file's end where there is none. So the bytes before it are judged as well.
+/// The next position at which a comment may end or be wrong: that of a `$`, or of a byte that no
+/// token may hold; the file's end where there is none. So the bytes before it are judged as well.
 fn comment_stop(bytes: &[u8], at: usize) -> usize
     requires { at ≤ length bytes.now }
     ensures from { at ≤ result }
@@ -153,8 +153,8 @@ fn comment_stop(bytes: &[u8], at: usize) -> usize
     bytes.len()
 }
 
-/// Whether a `$` and another byte stand at a place and white space after them. A token that begins
-/// there is then those two bytes.
+/// Whether a `$` and another byte stand at a position and white space after them. A token that
+/// begins there is then those two bytes.
 #[inline(always)]
 fn is_mark_at(bytes: &[u8], second: u8, at: usize) -> bool
     requires { at ≤ length bytes.now }
@@ -180,35 +180,42 @@ fn is_closed_at(bytes: &[u8], low: usize, at: usize) -> bool
 }
 
 /// What a comment comes to at its next token that holds a `$` or a byte that no token may hold.
-fn comment_step<'a>(mut place: Place<'a>, begin: Token<'a>) -> Result<Comment<'a>, Wrong<'a>>
-    requires place { IsPlace place }
+fn comment_step<'a>(mut position: Position<'a>, begin: Token<'a>) -> Result<Comment<'a>, Wrong<'a>>
+    requires position { IsPosition position }
     requires begin { begin.at < most_bytes }
-    ensures { GoesOn place.entry (plain_token begin.entry) result }
+    ensures { GoesOn position.entry (plain_token begin.entry) result }
 {
-    let stop = comment_stop(place.bytes, place.at);
-    if stop == place.bytes.len() {
+    let stop = comment_stop(position.bytes, position.at);
+    if stop == position.bytes.len() {
         return Err(Wrong {
             rule: TextRule::X2,
             token: begin,
         });
     }
-    if is_closed_at(place.bytes, place.at, stop) {
+    if is_closed_at(position.bytes, position.at, stop) {
         let at = stop + 2;
-        let legal = place.legal.max(at);
-        return Ok(Comment::Closed(Place { at, legal, ..place }));
+        let legal = position.legal.max(at);
+        return Ok(Comment::Closed(Position {
+            at,
+            legal,
+            ..position
+        }));
     }
-    let start = token_start(place.bytes, place.at, stop);
-    let (end, _) = token_end(place.bytes, start);
-    let token = make_token(place.bytes, place.file, start, end);
-    place.legal = legal_front(place.bytes, place.legal.max(stop), end);
-    if place.legal < end {
+    let start = token_start(position.bytes, position.at, stop);
+    let (end, _) = token_end(position.bytes, start);
+    let token = make_token(position.bytes, position.file, start, end);
+    position.legal = legal_prefix(position.bytes, position.legal.max(stop), end);
+    if position.legal < end {
         return Err(Wrong {
             rule: TextRule::X1,
             token,
         });
     }
     if is_close(token.text) {
-        return Ok(Comment::Closed(Place { at: end, ..place }));
+        return Ok(Comment::Closed(Position {
+            at: end,
+            ..position
+        }));
     }
     if holds_mark(token.text) {
         return Err(Wrong {
@@ -216,46 +223,52 @@ fn comment_step<'a>(mut place: Place<'a>, begin: Token<'a>) -> Result<Comment<'a
             token,
         });
     }
-    Ok(Comment::Open(Place { at: end, ..place }))
+    Ok(Comment::Open(Position {
+        at: end,
+        ..position
+    }))
 }
 
-/// The place after a `$(` that stands next, and that token, where white space comes after it; else
-/// none.
+/// The position after a `$(` that stands next, and that token, where white space comes after it;
+/// else none.
 #[inline(always)]
-fn next_begin<'a>(place: Place<'a>) -> Option<(Place<'a>, Token<'a>)>
-    requires { IsPlace place }
-    ensures { BeginsNext place.entry result }
+fn next_begin<'a>(position: Position<'a>) -> Option<(Position<'a>, Token<'a>)>
+    requires { IsPosition position }
+    ensures { BeginsNext position.entry result }
 {
-    let start = skip_space(place.bytes, place.at);
-    if is_mark_at(place.bytes, b'(', start) {
+    let start = skip_space(position.bytes, position.at);
+    if is_mark_at(position.bytes, b'(', start) {
         let end = start + 2;
-        let legal = place.legal.max(end);
-        let begin = make_token(place.bytes, place.file, start, end);
-        let inside = Place {
+        let legal = position.legal.max(end);
+        let begin = make_token(position.bytes, position.file, start, end);
+        let inside = Position {
             at: end,
             legal,
-            ..place
+            ..position
         };
         return Some((inside, begin));
     }
     None
 }
 
-/// The place after the comment that begins with a `$(` before a place.
+/// The position after the comment that begins with a `$(` before a position.
 ///
 /// Comments that come right after it are passed over too, which spares a call for each.
 #[inline(never)]
-fn comment_end<'a>(mut place: Place<'a>, mut begin: Token<'a>) -> Result<Place<'a>, Wrong<'a>>
-    requires place { IsPlace place }
+fn comment_end<'a>(
+    mut position: Position<'a>,
+    mut begin: Token<'a>,
+) -> Result<Position<'a>, Wrong<'a>>
+    requires position { IsPosition position }
     requires begin { begin.at < most_bytes }
-    ensures { EndsComment place.entry (plain_token begin.entry) result }
+    ensures { EndsComment position.entry (plain_token begin.entry) result }
 {
     'parts: loop {
-        match comment_step(place, begin)? {
-            Comment::Open(after) => place = after,
+        match comment_step(position, begin)? {
+            Comment::Open(after) => position = after,
             Comment::Closed(after) => match next_begin(after) {
                 Some((inside, next)) => {
-                    place = inside;
+                    position = inside;
                     begin = next;
                 }
                 None => return Ok(after),
@@ -266,20 +279,20 @@ fn comment_end<'a>(mut place: Place<'a>, mut begin: Token<'a>) -> Result<Place<'
 
 /// Takes the next token or comment. Where the text is wrong nothing is taken.
 #[inline(always)]
-fn take_one<'a>(place: &mut Place<'a>) -> Result<Found<'a>, Wrong<'a>>
-    requires { IsPlace place.old }
-    ensures place { IsPlace place.new }
-    ensures same { IsSameFile place.old place.new }
-    ensures takes { TakesOne place.old result place.new }
+fn take_one<'a>(position: &mut Position<'a>) -> Result<Found<'a>, Wrong<'a>>
+    requires { IsPosition position.old }
+    ensures position { IsPosition position.new }
+    ensures same { IsSameFile position.old position.new }
+    ensures takes { TakesOne position.old result position.new }
 {
-    let start = skip_space(place.bytes, place.at);
-    if start == place.bytes.len() {
+    let start = skip_space(position.bytes, position.at);
+    if start == position.bytes.len() {
         return Ok(Found::End);
     }
-    let (end, has_dollar) = token_end(place.bytes, start);
-    let token = make_token(place.bytes, place.file, start, end);
-    place.legal = legal_front(place.bytes, place.legal, end);
-    if place.legal < end {
+    let (end, has_dollar) = token_end(position.bytes, start);
+    let token = make_token(position.bytes, position.file, start, end);
+    position.legal = legal_prefix(position.bytes, position.legal, end);
+    if position.legal < end {
         return Err(Wrong {
             rule: TextRule::X1,
             token,
@@ -292,18 +305,24 @@ fn take_one<'a>(place: &mut Place<'a>) -> Result<Found<'a>, Wrong<'a>>
         });
     }
     if is_begin(token.text) {
-        *place = comment_end(Place { at: end, ..*place }, token)?;
+        *position = comment_end(
+            Position {
+                at: end,
+                ..*position
+            },
+            token,
+        )?;
         return Ok(Found::Comment);
     }
-    place.at = end;
+    position.at = end;
     Ok(Found::Token(token, has_dollar))
 }
 
-/// The place after the white space at a place, where some stands there and is judged.
+/// The position after the white space at a position, where some stands there and is judged.
 #[inline(always)]
 fn after_blank(bytes: &[u8], at: usize, legal: usize) -> usize
     requires within { at ≤ legal }
-    requires front { IsLegalFront bytes.now legal }
+    requires prefix { IsLegalPrefix bytes.now legal }
     requires blank { at < length bytes.now → is_space (slice_index bytes.now at) ≡ true }
     ensures from { at ≤ result }
     ensures within { result ≤ legal }
@@ -316,36 +335,36 @@ fn after_blank(bytes: &[u8], at: usize, legal: usize) -> usize
 /// Takes the next token where it is a word whose bytes are judged already and that no comment comes
 /// before; else takes nothing. For most tokens it does what `take_token` does for each, and sooner.
 #[inline(always)]
-pub fn take_word<'a>(place: &mut Place<'a>) -> Option<Token<'a>>
-    requires { IsPlace place.old }
-    ensures place { IsPlace place.new }
-    ensures same { IsSameFile place.old place.new }
-    ensures takes { TakesWordAt place.old result place.new }
+pub fn take_word<'a>(position: &mut Position<'a>) -> Option<Token<'a>>
+    requires { IsPosition position.old }
+    ensures position { IsPosition position.new }
+    ensures same { IsSameFile position.old position.new }
+    ensures takes { TakesWordAt position.old result position.new }
 {
-    let start = skip_space(place.bytes, place.at);
-    if start == place.bytes.len() {
+    let start = skip_space(position.bytes, position.at);
+    if start == position.bytes.len() {
         return None;
     }
-    let (end, has_dollar) = token_end(place.bytes, start);
-    if has_dollar || place.legal < end {
+    let (end, has_dollar) = token_end(position.bytes, start);
+    if has_dollar || position.legal < end {
         return None;
     }
     // The next look for a token then begins where nearly always one does.
-    place.at = after_blank(place.bytes, end, place.legal);
-    Some(make_token(place.bytes, place.file, start, end))
+    position.at = after_blank(position.bytes, end, position.legal);
+    Some(make_token(position.bytes, position.file, start, end))
 }
 
 /// Takes the next token outside comments, and tells whether it holds a `$`; none at the file's end.
 /// Where the text is wrong no token is taken.
 #[inline(always)]
-pub fn take_token<'a>(place: &mut Place<'a>) -> Result<Option<(Token<'a>, bool)>, Wrong<'a>>
-    requires { IsPlace place.old }
-    ensures place { IsPlace place.new }
-    ensures same { IsSameFile place.old place.new }
-    ensures takes { TakesShown (shown_at place.old) result (shown_at place.new) }
+pub fn take_token<'a>(position: &mut Position<'a>) -> Result<Option<(Token<'a>, bool)>, Wrong<'a>>
+    requires { IsPosition position.old }
+    ensures position { IsPosition position.new }
+    ensures same { IsSameFile position.old position.new }
+    ensures takes { TakesShown (shown_at position.old) result (shown_at position.new) }
 {
     'comments: loop {
-        match take_one(place)? {
+        match take_one(position)? {
             Found::Token(token, has_dollar) => return Ok(Some((token, has_dollar))),
             Found::Comment => {}
             Found::End => return Ok(None),

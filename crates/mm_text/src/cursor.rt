@@ -1,4 +1,4 @@
-//! A place in the files, from which the next item is taken.
+//! A position in the files, from which the next item is taken.
 
 ghost use Rattle.std.specs.Prelude.{◌≡◌, map};
 ghost use Rattle.mm_text.specs.Files.{plain_file};
@@ -15,7 +15,7 @@ use crate::token::Token;
 use std::alloc::Global;
 use std::marker::Model;
 
-/// The place up to which the files were read. Contracts see what is left: its items.
+/// The position up to which the files were read. Contracts see what is left: its items.
 #[derive(Drop)]
 pub struct Cursor<'a> {
     nest: Nest<'a>,

@@ -126,10 +126,10 @@ pub enum TextFault<'a> {
         rule: TextRule,
         /// The number of the handed file in which it stands, from 0.
         file: usize,
-        /// The place of the faulty token in that file, from 0.
+        /// The position of the faulty token in that file, from 0.
         at: u32,
         /// The number of the statement at fault, from 1: one more than the whole statements
-        /// before its place.
+        /// before its position.
         statement: usize,
         /// The label of the statement in which the fault stands, if it was read.
         label: Option<Token<'a>>,

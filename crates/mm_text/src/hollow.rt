@@ -50,7 +50,7 @@ impl State {
     }
 }
 
-// How many of 64 bytes from a place on come before a `$` that a `(` follows; all where there is
+// How many of 64 bytes from a position on come before a `$` that a `(` follows; all where there is
 // none.
 #[inline(always)]
 fn run_before_mark(piece: &[u8], at: usize) -> usize
@@ -62,7 +62,7 @@ fn run_before_mark(piece: &[u8], at: usize) -> usize
     first_set((dollars & begins).to_bitmask(), 64)
 }
 
-// Does as `mark_place`, byte by byte. It is a call, since it is rare: where a piece ends.
+// Does as `mark_position`, byte by byte. It is a call, since it is rare: where a piece ends.
 #[cold]
 #[inline(never)]
 fn mark_slowly(piece: &[u8], start: usize) -> usize
@@ -78,9 +78,9 @@ fn mark_slowly(piece: &[u8], start: usize) -> usize
     piece.len()
 }
 
-// The place of the first `$` from a place on that a `(` follows, or that is the last byte; or the
-// end. What is kept doesn't rest on it: all up to there is kept as it is.
-fn mark_place(piece: &[u8], start: usize) -> usize
+// The position of the first `$` from a position on that a `(` follows, or that is the last byte; or
+// the end. What is kept doesn't rest on it: all up to there is kept as it is.
+fn mark_position(piece: &[u8], start: usize) -> usize
     requires { start ≤ length piece.now }
     ensures from { start ≤ result }
     ensures within { result ≤ length piece.now }
@@ -243,8 +243,8 @@ impl Hollow {
         Ok(())
     }
 
-    // Leaves out what a comment says from a place on, up to the first byte of it that isn't simply
-    // left out and no line feed; or up to the end.
+    // Leaves out what a comment says from a position on, up to the first byte of it that isn't
+    // simply left out and no line feed; or up to the end.
     fn leave_out_lines(&mut self, piece: &[u8], start: usize) -> Result<usize, AllocError>
         requires inside { (last : ℕ) × (self.old.state ≡ Inside last) }
         requires within { start ≤ length piece.now }
@@ -280,7 +280,7 @@ impl Hollow {
         }
     }
 
-    // Takes the bytes from a place on up to the place that is answered.
+    // Takes the bytes from a position on up to the position that is answered.
     fn take_some(&mut self, piece: &[u8], at: usize) -> Result<usize, AllocError>
         requires { at < length piece.now }
         ensures from { IfOk result (λ end. at < end) }
@@ -292,7 +292,7 @@ impl Hollow {
     {
         match self.state {
             State::Outside | State::Blank => {
-                let end = mark_place(piece, at);
+                let end = mark_position(piece, at);
                 if end > at {
                     self.keep_run(&piece[at..end])?;
                     return Ok(end);

@@ -6,15 +6,15 @@ ghost use Rattle.mm_text.specs.Included.{AlikeFilesLeaveOutTheSame, TopFileIsNev
 ghost use Rattle.mm_text.specs.ItemLaws.{FilesArePutInOnce, InclusionsEnd, TokensFitFiles};
 ghost use Rattle.mm_text.specs.ItemLaws.{TopFileEndsLast};
 ghost use Rattle.mm_text.specs.Laws.{BeginningsBeginStatements, EachHasOneReading};
-ghost use Rattle.mm_text.specs.Laws.{FaultsEndLongestFronts, ReadingsAreBalanced};
+ghost use Rattle.mm_text.specs.Laws.{FaultsEndLongestPrefixes, ReadingsAreBalanced};
 ghost use Rattle.mm_text.specs.Laws.{ReadingsAreFormedInPlace, ReadingsFit, TokensAreLongestRuns};
 ghost use Rattle.mm_text.specs.Replaced.{ProofSpansFollow, ProofsStandInSpans};
 ghost use Rattle.mm_text.specs.Replaced.{ReplacedProofsAreRead};
 
 /// The tokens of a file are its longest runs of bytes that aren't white space (the Metamath book,
-/// section 4.1.1): each token is the slice of the file at its place and such a run, each such run
-/// is one of the tokens, and they come in the order of their places, no place twice. White space
-/// is the space, the tab, the line feed, the form feed and the carriage return.
+/// section 4.1.1): each token is the slice of the file at its position and such a run, each such
+/// run is one of the tokens, and they come in the order of their positions, no position twice.
+/// White space is the space, the tab, the line feed, the form feed and the carriage return.
 #[tactic(auto, using(crate::proofs::Tokens::LongestRuns::longest_runs))]
 pub fn tokens_are_longest_runs()
     ensures { TokensAreLongestRuns }
@@ -29,23 +29,23 @@ pub fn one_reading()
 {}
 
 /// The beginnings of statements, of which the grammar speaks apart from whole statements, are
-/// exactly the fronts of whole statements: tokens are a beginning if some more tokens make a whole
-/// statement of them, and only then.
+/// exactly the prefixes of whole statements: tokens are a beginning if some more tokens make a
+/// whole statement of them, and only then.
 pub fn beginnings_begin_statements()
     ensures { BeginningsBeginStatements }
 {}
 
-/// A fault that ends a reading comes after the longest front of the files' items that is whole
+/// A fault that ends a reading comes after the longest prefix of the files' items that is whole
 /// statements and at most a beginning of one, with no `$}` that lacks its `${`, no inclusion in a
 /// block or in a statement, no file that ends in a statement and no top file that ends in a block:
-/// no longer front of the items is.
-pub fn faults_end_longest_fronts()
-    ensures { FaultsEndLongestFronts }
+/// no longer prefix of the items is.
+pub fn faults_end_longest_prefixes()
+    ensures { FaultsEndLongestPrefixes }
 {}
 
 /// Each statement of a reading is one that the grammar knows, with as many symbols as its kind
 /// asks for and with a label exactly if its kind has one (the Metamath book, section 4.2), and
-/// each of its tokens holds a byte and is the slice of its file at the token's place.
+/// each of its tokens holds a byte and is the slice of its file at the token's position.
 #[tactic(auto, using(crate::proofs::Reader::WholeReadings::readings_are_formed_in_place))]
 pub fn statements_are_formed_in_place()
     ensures { ReadingsAreFormedInPlace }
@@ -75,7 +75,7 @@ pub fn top_file_ends_last()
     ensures { TopFileEndsLast }
 {}
 
-/// In a reading no `$}` lacks its `${` (the Metamath book, section 4.2.8): in each front of its
+/// In a reading no `$}` lacks its `${` (the Metamath book, section 4.2.8): in each prefix of its
 /// statements there are at most as many `$}` as `${`.
 #[tactic(auto, using(crate::proofs::Reader::WholeReadings::readings_are_balanced))]
 pub fn readings_are_balanced()
@@ -90,9 +90,9 @@ pub fn readings_fit()
 {}
 
 /// What comments say has no effect (the Metamath book, section 4.1.2): files with the same names
-/// that show the same outside comments have the same readings, but for the places of their tokens.
-/// They show the same if they have the same tokens there on the same lines and, where a comment of
-/// the one is at fault, the other has a fault of that rule on that line.
+/// that show the same outside comments have the same readings, but for the positions of their
+/// tokens. They show the same if they have the same tokens there on the same lines and, where a
+/// comment of the one is at fault, the other has a fault of that rule on that line.
 #[tactic(auto, using(crate::proofs::Alike::AlikeItems::alike_files_are_read_alike))]
 pub fn alike_files_are_read_alike()
     ensures { AlikeFilesAreReadAlike }
@@ -128,8 +128,8 @@ pub fn proof_spans_follow()
 
 /// A proof may be replaced in the bytes of its file: with other tokens of a proof between its `$=`
 /// and its `$.`, files without a fault are read as the same statements, but for that proof, and but
-/// for the places of what comes after it. Later proofs of that file stand as far behind it as they
-/// did, those of other files where they did.
+/// for the positions of what comes after it. Later proofs of that file stand as far behind it as
+/// they did, those of other files where they did.
 #[tactic(auto, using(crate::proofs::Replaced::ReplacedFiles::replaced_proofs_are_read_holds))]
 pub fn replaced_proofs_are_read()
     ensures { ReplacedProofsAreRead }

@@ -5,13 +5,13 @@ ghost use Rattle.std.specs.Prelude.{IfOk, true, false};
 ghost use Rattle.mm_text.specs.Token.{plain_token};
 ghost use Rattle.mm_text.specs.Files.{most_bytes, plain_file, total_bytes};
 ghost use Rattle.mm_text.specs.Items.{spells, items};
-ghost use Rattle.mm_text.specs.Mirror.Place.{IsPlace, IsSameFile};
+ghost use Rattle.mm_text.specs.Mirror.Position.{IsPosition, IsSameFile};
 ghost use Rattle.mm_text.specs.Mirror.Next.{TakesItem, TakesWord};
 ghost use Rattle.mm_text.specs.Mirror.Nest.{TakesPiece, TakesInner, TakesName, Enters, Includes};
 ghost use Rattle.mm_text.specs.Mirror.Nest.{IsNest, items_left, items_after};
 
 use crate::class::{Class, class_of_dollar};
-use crate::comments::{Place, Wrong, take_token, take_word};
+use crate::comments::{Position, Wrong, take_token, take_word};
 use crate::fault::TextRule;
 use crate::file::File;
 use crate::names::Names;
@@ -35,15 +35,15 @@ fn is_inclusion_end(text: &[u8]) -> bool
 
 /// Takes the next token of a file outside comments, and tells what it is by its bytes alone.
 #[inline(always)]
-fn take_piece<'a>(place: &mut Place<'a>) -> Next<'a>
-    requires { IsPlace place.old }
-    ensures place { IsPlace place.new }
-    ensures same { IsSameFile place.old place.new }
-    ensures takes { TakesPiece place.old result place.new }
+fn take_piece<'a>(position: &mut Position<'a>) -> Next<'a>
+    requires { IsPosition position.old }
+    ensures position { IsPosition position.new }
+    ensures same { IsSameFile position.old position.new }
+    ensures takes { TakesPiece position.old result position.new }
 {
-    match take_token(place) {
+    match take_token(position) {
         Err(wrong) => Next::Token(wrong.token, Class::Wrong(wrong.rule)),
-        Ok(None) => Next::End(place.file),
+        Ok(None) => Next::End(position.file),
         Ok(Some((token, has_dollar))) => {
             if !has_dollar {
                 return Next::Token(token, Class::Word);
@@ -58,14 +58,17 @@ fn take_piece<'a>(place: &mut Place<'a>) -> Next<'a>
 
 /// Takes the next token of an inclusion, which the file's end leaves unfinished. Tells whether it
 /// holds a `$`.
-fn take_inner<'a>(place: &mut Place<'a>, begin: Token<'a>) -> Result<(Token<'a>, bool), Wrong<'a>>
-    requires place { IsPlace place.old }
+fn take_inner<'a>(
+    position: &mut Position<'a>,
+    begin: Token<'a>,
+) -> Result<(Token<'a>, bool), Wrong<'a>>
+    requires position { IsPosition position.old }
     requires begin { begin.at < most_bytes }
-    ensures place { IsPlace place.new }
-    ensures same { IsSameFile place.old place.new }
-    ensures takes { TakesInner (plain_token begin.entry) place.old result place.new }
+    ensures position { IsPosition position.new }
+    ensures same { IsSameFile position.old position.new }
+    ensures takes { TakesInner (plain_token begin.entry) position.old result position.new }
 {
-    match take_token(place)? {
+    match take_token(position)? {
         Some(found) => Ok(found),
         None => Err(Wrong {
             rule: TextRule::X5,
@@ -75,21 +78,21 @@ fn take_inner<'a>(place: &mut Place<'a>, begin: Token<'a>) -> Result<(Token<'a>,
 }
 
 /// Takes the name and the `$]` after a `$[`.
-fn take_name<'a>(place: &mut Place<'a>, begin: Token<'a>) -> Result<Token<'a>, Wrong<'a>>
-    requires place { IsPlace place.old }
+fn take_name<'a>(position: &mut Position<'a>, begin: Token<'a>) -> Result<Token<'a>, Wrong<'a>>
+    requires position { IsPosition position.old }
     requires begin { begin.at < most_bytes }
-    ensures place { IsPlace place.new }
-    ensures same { IsSameFile place.old place.new }
-    ensures takes { TakesName (plain_token begin.entry) place.old result place.new }
+    ensures position { IsPosition position.new }
+    ensures same { IsSameFile position.old position.new }
+    ensures takes { TakesName (plain_token begin.entry) position.old result position.new }
 {
-    let (name, has_dollar) = take_inner(place, begin)?;
+    let (name, has_dollar) = take_inner(position, begin)?;
     if has_dollar {
         return Err(Wrong {
             rule: TextRule::X5,
             token: name,
         });
     }
-    let (close, _) = take_inner(place, begin)?;
+    let (close, _) = take_inner(position, begin)?;
     if !is_inclusion_end(close.text) {
         return Err(Wrong {
             rule: TextRule::X5,
@@ -108,8 +111,8 @@ pub struct Nest<'a> {
     pub named: Vec<bool>,
     /// The files that wait for the end of one that they include, the innermost last. There is room
     /// for all of them from the beginning, so that no inclusion asks for memory.
-    pub open: Vec<Place<'a>>,
-    pub place: Place<'a>,
+    pub open: Vec<Position<'a>>,
+    pub position: Position<'a>,
     /// The `$[` of the inclusion that was begun.
     pub naming: Option<Token<'a>>,
     /// Whether the top file's end was met.
@@ -136,29 +139,29 @@ impl<'a> Nest<'a> {
             names,
             named,
             open,
-            place: Place::begin(files[0].bytes, 0),
+            position: Position::begin(files[0].bytes, 0),
             naming: None,
             is_over: false,
         })
     }
 
-    /// Goes into a file that is named for the first time, and keeps the place after its name.
-    fn enter(&mut self, place: Place<'a>, number: usize)
+    /// Goes into a file that is named for the first time, and keeps the position after its name.
+    fn enter(&mut self, position: Position<'a>, number: usize)
         requires nest { IsNest self.old }
         requires over { self.old.is_over ≡ false }
-        requires place { IsPlace place }
+        requires position { IsPosition position }
         requires known { number < length self.old.files.now }
         requires first { slice_index_or self.old.named.items number true ≡ false }
         ensures nest { IsNest self.new }
-        ensures enters { Enters self.old place.entry number self.new }
+        ensures enters { Enters self.old position.entry number self.new }
     {
-        let begin = Place::begin(self.files[number].bytes, number);
-        let Ok(()) = self.open.push(place) else {
-            // There is room for the places of all files.
+        let begin = Position::begin(self.files[number].bytes, number);
+        let Ok(()) = self.open.push(position) else {
+            // There is room for the positions of all files.
             unreachable!();
         };
         self.named[number] = true;
-        self.place = begin;
+        self.position = begin;
         self.naming = None;
     }
 
@@ -173,8 +176,8 @@ impl<'a> Nest<'a> {
         ensures nest { IsNest self.new }
         ensures includes { Includes self.old result self.new }
     {
-        let mut place = self.place;
-        let name = match take_name(&mut place, begin) {
+        let mut position = self.position;
+        let name = match take_name(&mut position, begin) {
             Ok(name) => name,
             Err(wrong) => return Some(wrong),
         };
@@ -185,11 +188,11 @@ impl<'a> Nest<'a> {
             });
         };
         if self.named[number] {
-            self.place = place;
+            self.position = position;
             self.naming = None;
             return None;
         }
-        self.enter(place, number);
+        self.enter(position, number);
         None
     }
 
@@ -204,7 +207,7 @@ impl<'a> Nest<'a> {
         ensures leaves { items_left self.new ≡ items_after self.old }
     {
         match self.open.pop() {
-            Some(place) => self.place = place,
+            Some(position) => self.position = position,
             None => self.is_over = true,
         }
     }
@@ -219,7 +222,7 @@ impl<'a> Nest<'a> {
         ensures nest { IsNest self.new }
         ensures takes { TakesItem (items_left self.old) result (items_left self.new) }
     {
-        let next = take_piece(&mut self.place);
+        let next = take_piece(&mut self.position);
         match next {
             Next::Inclusion(begin) => self.naming = Some(begin),
             Next::End(_) => self.leave(),
@@ -240,7 +243,7 @@ impl<'a> Nest<'a> {
         if self.is_over || self.naming.is_some() {
             return None;
         }
-        take_word(&mut self.place)
+        take_word(&mut self.position)
     }
 
     /// Takes the next item.

@@ -5,7 +5,7 @@ ghost use Rattle.std.specs.Prelude.{slice_index, slice_range};
 ghost use Rattle.std.specs.List.{list_all};
 ghost use Rattle.mm_text.specs.Token.{is_space, tokens_from};
 ghost use Rattle.mm_text.specs.Items.{holds_dollar};
-ghost use Rattle.mm_text.specs.Mirror.Place.{is_legal, is_quiet, IsLegalFront, IsLegalUpTo};
+ghost use Rattle.mm_text.specs.Mirror.Position.{is_legal, is_quiet, IsLegalPrefix, IsLegalUpTo};
 
 use crate::sought::{Low, first_sought};
 
@@ -24,7 +24,7 @@ pub fn is_quiet(byte: u8) -> bool
     byte != b'$' && (byte > b' ' && byte <= b'~' || is_space(byte))
 }
 
-/// The place of the first byte from a place on that isn't white space, or the file's end.
+/// The position of the first byte from a position on that isn't white space, or the file's end.
 pub fn skip_space(bytes: &[u8], start: usize) -> usize
     requires { start ≤ length bytes.now }
     ensures not_before { start ≤ result }
@@ -42,7 +42,7 @@ pub fn skip_space(bytes: &[u8], start: usize) -> usize
     bytes.len()
 }
 
-/// The end of the run of bytes that aren't white space and begin at a place.
+/// The end of the run of bytes that aren't white space and begin at a position.
 ///
 /// It is a call of its own, so that the loop of `token_end` keeps nothing for it.
 #[inline(never)]
@@ -62,7 +62,7 @@ fn ink_end(bytes: &[u8], start: usize) -> usize
     bytes.len()
 }
 
-/// The end of the token that begins at a place, and whether it holds a `$`.
+/// The end of the token that begins at a position, and whether it holds a `$`.
 ///
 /// White space and `$` are less than nearly all other bytes, so that one test passes over a whole
 /// word of up to 16 bytes. Where a `$` is met another loop goes on, so that this one needn't keep
@@ -98,7 +98,7 @@ pub fn token_end(bytes: &[u8], start: usize) -> (usize, bool)
     }
 }
 
-/// The beginning of the run of bytes that aren't white space and end with the one at a place, no
+/// The beginning of the run of bytes that aren't white space and end with the one at a position, no
 /// further back than `low`.
 pub fn token_start(bytes: &[u8], low: usize, at: usize) -> usize
     requires from { low ≤ at }
@@ -165,12 +165,12 @@ fn is_legal_block(block: &[u8]) -> bool
 /// So many bytes are judged at once.
 const BLOCK: usize = 1024;
 
-/// The end of the whole blocks from a place on in which all bytes may stand in a file, up to the
-/// first that ends at a wanted place or after it.
+/// The end of the whole blocks from a position on in which all bytes may stand in a file, up to the
+/// first that ends at a wanted position or after it.
 fn legal_blocks(bytes: &[u8], start: usize, wanted: usize) -> usize
-    requires { IsLegalFront bytes.now start }
+    requires { IsLegalPrefix bytes.now start }
     ensures from { start ≤ result }
-    ensures front { IsLegalFront bytes.now result }
+    ensures prefix { IsLegalPrefix bytes.now result }
 {
     let mut end = start;
     while end < wanted && bytes.len() - end >= BLOCK {
@@ -182,10 +182,10 @@ fn legal_blocks(bytes: &[u8], start: usize, wanted: usize) -> usize
     end
 }
 
-/// Judges the bytes from a place on, before which all may stand in a file, up to a wanted one at
-/// least. Answers the place of the first that may not, or one that isn't before the wanted.
+/// Judges the bytes from a position on, before which all may stand in a file, up to a wanted one at
+/// least. Answers the position of the first that may not, or one that isn't before the wanted.
 fn legal_up_to(bytes: &[u8], start: usize, wanted: usize) -> usize
-    requires front { IsLegalFront bytes.now start }
+    requires prefix { IsLegalPrefix bytes.now start }
     requires within { wanted ≤ length bytes.now }
     ensures from { start ≤ result }
     ensures judged { IsLegalUpTo bytes.now result wanted }
@@ -207,7 +207,7 @@ const AHEAD: usize = 4 * BLOCK - 1;
 /// As `legal_up_to`, and up to four blocks further.
 #[inline(never)]
 pub fn legal_end(bytes: &[u8], start: usize, wanted: usize) -> usize
-    requires front { IsLegalFront bytes.now start }
+    requires prefix { IsLegalPrefix bytes.now start }
     requires within { wanted ≤ length bytes.now }
     ensures from { start ≤ result }
     ensures judged { IsLegalUpTo bytes.now result wanted }

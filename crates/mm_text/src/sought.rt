@@ -27,13 +27,13 @@ pub trait Sought {
     fn is_passed(byte: u8) -> bool
         ensures { result ≡ passed byte };
 
-    /// How many of so many bytes from a place on are passed over before one that isn't.
+    /// How many of so many bytes from a position on are passed over before one that isn't.
     fn passed_run(bytes: &[u8], at: usize) -> usize
         requires { at + lanes ≤ length bytes.now }
         ensures { IsRunIn passed bytes.now at lanes result };
 }
 
-/// The place of the lowest bit of a mask that is set, or how many bits it has where none is.
+/// The position of the lowest bit of a mask that is set, or how many bits it has where none is.
 #[inline(always)]
 pub fn first_set(mask: u64, lanes: usize) -> usize
     ensures { result ≡ first_set mask lanes }
@@ -118,7 +118,7 @@ fn first_slowly<S: Sought>(bytes: &[u8], start: usize) -> usize
     bytes.len()
 }
 
-/// The place of the first byte from a place on that isn't passed over, or the file's end.
+/// The position of the first byte from a position on that isn't passed over, or the file's end.
 #[inline(always)]
 pub fn first_sought<S: Sought>(bytes: &[u8], start: usize) -> usize
     requires { start ≤ length bytes.now }

@@ -40,8 +40,8 @@ pub struct Statement<'a> {
     pub symbols: Vec<Token<'a>>,
     /// The tokens of the proof, of a `$p`.
     pub proof: Vec<Token<'a>>,
-    /// The place of the bytes after the `$=` up to the `$.`, from the first one up to and without
-    /// the last; `(0, 0)` where there is no proof.
+    /// The position of the bytes after the `$=` up to the `$.`, from the first one up to and
+    /// without the last; `(0, 0)` where there is no proof.
     pub span: (u32, u32),
 }
 

@@ -8,6 +8,6 @@ pub struct Token<'a> {
     pub text: &'a [u8],
     /// The number of the handed file, from 0.
     pub file: usize,
-    /// The place of the token's first byte in its file, from 0.
+    /// The position of the token's first byte in its file, from 0.
     pub at: u32,
 }

@@ -207,7 +207,7 @@ module _ {O : Type 0} (contents : O → Option (List ℕ)) (holds : List ℕ →
   stops_answer (Err s) text outcome old new stop broke answers =
       rw stop (text, outcome, answers, broke)
 
-  -- No command has the name on which the words ask for help, or memory was wanting.
+  -- No command has the name on which the words ask for help, or memory ran out.
   pub stops_help : {T : Type 0} (topic : Option (List ℕ)) (r : Result T Stop) (stop : Stop)
       (out : Counted O) → AsksHelp words topic → IsHelpFault texts topic stop
       → IsErrAnd r (λ s. s ≡ stop)

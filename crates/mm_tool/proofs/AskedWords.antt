@@ -106,14 +106,14 @@ pub value_is : (f : Found) (id : Text) (value : Option Text) → value ≡ first
 value_is f id value e =
     ap (λ (o : Option Text). unwrap_or o []) (e ∙ first_value-rows f id)
 
--- the kind of an error is wanting memory, or one of the faults of the words
+-- the kind of an error is out of memory, or one of the faults of the words
 kind_among : (app : App) (words : List Text) (e : Error) → app ≡ command_line
     → (is_simple_and_free app ≡ true → HasKind (fault_of app words) e) → HasKind (fault_of command_line words) e
 kind_among app words e is kinds =
     let Kind : App → Type 0 = λ a. HasKind (fault_of a words) e in
     subst Kind is (kinds (ap is_simple_and_free is ∙ is_free_line))
 
--- A fault that isn't want of memory is one of those of the words.
+-- A fault that isn't lack of memory is one of those of the words.
 among_faults : (words : List Text) (e : Error) (kind : ErrorKind) → HasKind (fault_of command_line words) e → kind_of e ≡ kind → kind ≢ OutOfMemory
     → IsAmong kind (fault_of command_line words)
 among_faults words e kind (inl memory) is other = absurd (other (sym is ∙ memory))
@@ -134,7 +134,7 @@ request_asked app words topic e (Ok Version) is first kinds h =
 request_asked app words topic e (Err fault) is first kinds h = h
 request_asked app words topic e request is first kinds h = absurd h
 
--- Else the words are refused, or memory was wanting.
+-- Else the words are refused, or memory ran out.
 pub fault_met : (app : App) (words : List Text) (e : Error) (r : Result Request Stop) → app ≡ command_line
     → (is_simple_and_free app ≡ true → HasKind (fault_of app words) e)
     → IfErr r (IsFaultOfKind (kind_of e)) → IfErr r (IsWordFault words)
@@ -208,9 +208,9 @@ chosen false i number e = absurd (cc)
 pub number_found : (names : List Text) (name : Text) (number : ℕ)
     → number_among names name ≡ Some number → number < length names
 number_found names name number found =
-    let place : ℕ = position_or_len (λ other. bytes_eq other name) names in
-    let (before, is) = chosen (nat_lt place (length names)) place number found in
-    rw is at (ltb-true place (length names) before)
+    let index : ℕ = position_or_len (λ other. bytes_eq other name) names in
+    let (before, is) = chosen (nat_lt index (length names)) index number found in
+    rw is at (ltb-true index (length names) before)
 
 -- The file about which the words ask is one of those that they name.
 pub named_by_words : (words : List Text) (command : Command) (names : List Text)
@@ -219,7 +219,7 @@ named_by_words words (File form number) names (rows, commands, file, all, found,
     number_found names (unwrap_or (first_of (codes "LABEL") rows) []) number found
 named_by_words words command names asked = tt
 
--- The place of a name among names is that among their texts.
+-- The index of a name among names is that among their texts.
 pub number_named : (items given : List (Bor Text)) (name : Text) (found : Option ℕ)
     → given ≡ items → found ≡ position (λ other. bytes_eq other.now name) given
     → number_among (map (λ n. n.now) items) name ≡ found
@@ -292,10 +292,10 @@ last_told [] first at tells = absurd (cc)
 last_told (w ∷ ws) first at tells =
     let same : w ≡ first = cc in
     let here : tells_last w.now ≡ true = subst (λ x. tells_last x.now ≡ true) (sym same) tells in
-    let place : length (w ∷ ws) - 2 ≡ length (texts_in ws) - 1 =
+    let index : length (w ∷ ws) - 2 ≡ length (texts_in ws) - 1 =
     omega (arith, length-map ws (λ (x : Bor (List ℕ)). x.now)) in
     sym (slice_get-map (λ (x : Bor (List ℕ)). x.now) (w ∷ ws) (length (w ∷ ws) - 2))
-    ∙ ap (slice_get (texts_in (w ∷ ws))) place
+    ∙ ap (slice_get (texts_in (w ∷ ws))) index
     ∙ sym (cond-true (tells_last w.now) _ _ here)
 
 pub none_told : (words : List (Bor (List ℕ))) (first : Bor (List ℕ))

@@ -35,7 +35,7 @@ use Rattle.mm_tool.specs.Notes.{AreLeftOut, AreNotesOn}
 
 -- ==== from the reading of one file to that of all
 
--- the names are those before a place, the one there, and those after it
+-- the names are those before an index, the one there, and those after it
 pub texts_at : (names : List (Bor (List ℕ))) (i : ℕ) (d : Bor (List ℕ)) → i < length names
     → texts_in names ≡ texts_in (take i names) ++ (get_or names i d).now ∷ texts_in (drop (suc i) names)
 texts_at names i d h =

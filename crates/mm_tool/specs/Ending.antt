@@ -283,7 +283,7 @@ Ends contents said holds may_fail texts max words status out out' err err' =
     EndsAnswered contents said holds texts max words status out out' err err'
     ⊎ EndsStopped contents said holds may_fail texts max words status out out' err err'
 
--- The words weren't all read: one may not be UTF-8, or memory was wanting.
+-- The words weren't all read: one may not be UTF-8, or memory ran out.
 pub record EndsWithoutWords {O E : Type 0} (said : E → Option (List ℕ)) (may_fail : Type 0)
     (status : ℕ) (out out' : Counted O)
     (err err' : Counted E) : Type 0 where

@@ -132,7 +132,7 @@ impl<R: Files> Folder for Host<'_, R> {
 ///
 /// # Errors
 ///
-/// `NotText` only where the host failed, and not for want of memory; `Memory` where a growth was
+/// `NotText` only where the host failed, and not for lack of memory; `Memory` where a growth was
 /// refused.
 pub(crate) fn words_of(
     alloc: Global,

@@ -4,6 +4,6 @@
 #[derive(Clone, Copy)]
 pub(crate) struct RuleText<'t> {
     pub(crate) code: &'t str,
-    /// The rule, where its place is, and a file that breaks it with the reply.
+    /// The rule, the place of its fault, and a file that breaks it with the reply.
     pub(crate) text: &'t str,
 }

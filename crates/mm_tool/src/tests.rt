@@ -348,7 +348,7 @@ fn stops_at_a_failed_read(rt: HostRuntime) {
     }
 }
 
-// Want of memory as the words are read isn't told as words that aren't understood.
+// Lack of memory as the words are read isn't told as words that aren't understood.
 #[test]
 fn tells_why_words_are_unread(rt: HostRuntime) {
     for (kind, wanted, line) in [

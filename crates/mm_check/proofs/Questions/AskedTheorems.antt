@@ -18,7 +18,7 @@ use Rattle.mm_frame.specs.Numbers.{labelled_sentences, IsNumbered}
 use Rattle.mm_text.proofs.Lists.{at_from_contains, contains_from_at, all_there, all_at, zip_length}
 use Rattle.mm_frame.proofs.Names.LabelNumbers.{numbered_get, numbered_some, numbered_unique}
 use Rattle.mm_frame.proofs.Names.LabelNumbers.{numbered_within}
-use Rattle.mm_frame.proofs.Rules.ObeyedRules.{allmeant_front}
+use Rattle.mm_frame.proofs.Rules.ObeyedRules.{allmeant_prefix}
 use Rattle.mm_frame.proofs.Names.NameNumbers.{get_unmapped}
 use Rattle.mm_proof.specs.Tree.{Trees, none as no_trees, spelling, none, tree}
 use Rattle.mm_proof.specs.Proof.{IsProved, IsWithin, IsProvedWithin, Prove}
@@ -50,7 +50,7 @@ use Rattle.mm_proof.specs.UnderProfile.{IsProvedUnder}
 use Rattle.mm_proof.specs.ReadSteps.{ReadSteps}
 use Rattle.mm_proof.specs.Steps.{IsNumberedMove}
 use Rattle.mm_proof.specs.Verified.{OfMoves}
-use Rattle.mm_proof.proofs.ByNumbers.NumberedLabels.{one_place, one_move}
+use Rattle.mm_proof.proofs.ByNumbers.NumberedLabels.{one_index, one_move}
 use Rattle.mm_check.specs.declared.ask.AskFault.{AskFault}
 use Rattle.mm_check.specs.declared.rule.AskRule.TheVariants.{L2}
 use Rattle.mm_check.specs.Shown.{ShowsProof}
@@ -65,58 +65,58 @@ use Rattle.mm_check.specs.declared.ask.AskFault.TheVariants as ask
 
 -- ---- numbers of what statements say, and of statements
 
-pub numbered_as : (statements : List PlainStatement) (id place : ℕ) (t : Sentence) → IsNumbered (sentences statements) id place t
-    → (s : PlainStatement) × IsAt statements id place s × (sentence_of s ≡ t)
-numbered_as statements id place t numbered =
-    let (s, there, said) = get_unmapped sentence_of statements place t numbered.there in
+pub numbered_as : (statements : List PlainStatement) (id index : ℕ) (t : Sentence) → IsNumbered (sentences statements) id index t
+    → (s : PlainStatement) × IsAt statements id index s × (sentence_of s ≡ t)
+numbered_as statements id index t numbered =
+    let (s, there, said) = get_unmapped sentence_of statements index t numbered.there in
     (s, record { there = there; numbered = rw (← said) at numbered }, said)
 
 pub at_unique : (statements : List PlainStatement) (id p q : ℕ) (s t : PlainStatement) → IsAt statements id p s → IsAt statements id q t → (p ≡ q) × (s ≡ t)
 at_unique statements id p q s t one other =
-    let place : p ≡ q = (numbered_unique _ id p q _ _ one.numbered other.numbered).0 in
-    (place, cc (place, one.there, other.there))
+    let index : p ≡ q = (numbered_unique _ id p q _ _ one.numbered other.numbered).0 in
+    (index, cc (index, one.there, other.there))
 
 -- ---- the theorem with a label
 
 -- a statement by its number, its label and its kind
-named_as : (statements : List PlainStatement) (label : List ℕ) (P : PlainStatement → Type 0) (id place : ℕ) (t : Sentence) → IsNumbered (sentences statements) id place t → IsLabelled label t
-    → ((s : PlainStatement) → IsAt statements id place s → s.kind ≡ t.kind → P s) → IsNamed statements label P id
-named_as statements label P id place t numbered labelled_sentences holds =
-    let (s, at, said) = numbered_as statements id place t numbered in
+named_as : (statements : List PlainStatement) (label : List ℕ) (P : PlainStatement → Type 0) (id index : ℕ) (t : Sentence) → IsNumbered (sentences statements) id index t → IsLabelled label t
+    → ((s : PlainStatement) → IsAt statements id index s → s.kind ≡ t.kind → P s) → IsNamed statements label P id
+named_as statements label P id index t numbered labelled_sentences holds =
+    let (s, at, said) = numbered_as statements id index t numbered in
     let kind = ap (λ (u : Sentence). u.kind) said in
-    (place, s, at, (rw (← said) at labelled_sentences, holds s at kind))
+    (index, s, at, (rw (← said) at labelled_sentences, holds s at kind))
 
 -- one statement has the number
-same_proof : (statements : List PlainStatement) (test : PlainStatement → Bool) (id place : ℕ) (s : PlainStatement) → IsAt statements id place s
+same_proof : (statements : List PlainStatement) (test : PlainStatement → Bool) (id index : ℕ) (s : PlainStatement) → IsAt statements id index s
     → IsNumberWhere statements (λ t. test t ≡ true) id → test s ≡ true
-same_proof statements test id place s at other =
-    let same : s ≡ other.1 = (at_unique statements id place other.0 s other.1 at other.2).1 in
+same_proof statements test id index s at other =
+    let same : s ≡ other.1 = (at_unique statements id index other.0 s other.1 at other.2).1 in
     ap test same ∙ other.3
 
 proof_or_not : (kind : Kind) (incomplete : Bool) → kind ≡ Provable → ¬ ((is_provable kind && incomplete) ≡ true) → (is_provable kind && not incomplete) ≡ true
 proof_or_not kind false e h = rw e refl
 proof_or_not kind true e h = absurd (h (rw e refl))
 
-pub found_theorem : (statements : List PlainStatement) (c : Conclusion) (label : List ℕ) (id place : ℕ) (t : Sentence) → IsKeptOf statements c → IsNumbered c.sentences id place t → IsLabelled label t
+pub found_theorem : (statements : List PlainStatement) (c : Conclusion) (label : List ℕ) (id index : ℕ) (t : Sentence) → IsKeptOf statements c → IsNumbered c.sentences id index t → IsLabelled label t
     → t.kind ≡ Provable → ¬ (Contains c.incomplete id) → IsNamed statements label (λ s. is_proof s ≡ true) id
-found_theorem statements c label id place t kept numbered labelled_sentences provable complete =
-    named_as statements label (λ s. is_proof s ≡ true) id place t
-    (subst (λ (ss : List Sentence). IsNumbered ss id place t) kept.sentences numbered) labelled_sentences
+found_theorem statements c label id index t kept numbered labelled_sentences provable complete =
+    named_as statements label (λ s. is_proof s ≡ true) id index t
+    (subst (λ (ss : List Sentence). IsNumbered ss id index t) kept.sentences numbered) labelled_sentences
     (λ s at kind. proof_or_not s.kind (is_incomplete (proof_of s)) (kind ∙ provable)
-    (λ unproved. complete ((kept.incomplete.each id).1 (place, s, at, unproved))))
+    (λ unproved. complete ((kept.incomplete.each id).1 (index, s, at, unproved))))
 
-pub found_incomplete : (statements : List PlainStatement) (c : Conclusion) (label : List ℕ) (id place : ℕ) (t : Sentence) → IsKeptOf statements c → IsNumbered c.sentences id place t → IsLabelled label t
+pub found_incomplete : (statements : List PlainStatement) (c : Conclusion) (label : List ℕ) (id index : ℕ) (t : Sentence) → IsKeptOf statements c → IsNumbered c.sentences id index t → IsLabelled label t
     → Contains c.incomplete id → IsNamed statements label (λ s. is_unproved s ≡ true) id
-found_incomplete statements c label id place t kept numbered labelled_sentences among =
-    named_as statements label (λ s. is_unproved s ≡ true) id place t
-    (subst (λ (ss : List Sentence). IsNumbered ss id place t) kept.sentences numbered) labelled_sentences
-    (λ s at kind. same_proof statements is_unproved id place s at ((kept.incomplete.each id).0 among))
+found_incomplete statements c label id index t kept numbered labelled_sentences among =
+    named_as statements label (λ s. is_unproved s ≡ true) id index t
+    (subst (λ (ss : List Sentence). IsNumbered ss id index t) kept.sentences numbered) labelled_sentences
+    (λ s at kind. same_proof statements is_unproved id index s at ((kept.incomplete.each id).0 among))
 
-pub found_other : (statements : List PlainStatement) (c : Conclusion) (label : List ℕ) (id place : ℕ) (t : Sentence) → IsKeptOf statements c → IsNumbered c.sentences id place t → IsLabelled label t
+pub found_other : (statements : List PlainStatement) (c : Conclusion) (label : List ℕ) (id index : ℕ) (t : Sentence) → IsKeptOf statements c → IsNumbered c.sentences id index t → IsLabelled label t
     → t.kind ≢ Provable → IsNamed statements label (λ s. s.kind ≢ Provable) id
-found_other statements c label id place t kept numbered labelled_sentences other =
-    named_as statements label (λ s. s.kind ≢ Provable) id place t
-    (subst (λ (ss : List Sentence). IsNumbered ss id place t) kept.sentences numbered) labelled_sentences
+found_other statements c label id index t kept numbered labelled_sentences other =
+    named_as statements label (λ s. s.kind ≢ Provable) id index t
+    (subst (λ (ss : List Sentence). IsNumbered ss id index t) kept.sentences numbered) labelled_sentences
     (λ s at kind e. other (sym kind ∙ e))
 
 -- what a hypothesis is not, and what a kind that isn't that of a `$p` is not
@@ -156,8 +156,8 @@ axiom_kind statements id k less told e =
 
 pub no_axiom_kind : (statements : List Sentence) (id : ℕ) (k : LabelKind)
     → ((s : Sentence) → slice_get (labelled_sentences statements) id ≡ Some s → s.kind ≡ kind_behind k) → ¬ (k ≡ label_kinds.Axiom) → ¬ (IsAxiomNumber statements id)
-no_axiom_kind statements id k told other (place, s, numbered, kind) =
-    by_kind k (sym (told s (numbered_get statements id place s numbered)) ∙ kind) other
+no_axiom_kind statements id k told other (index, s, numbered, kind) =
+    by_kind k (sym (told s (numbered_get statements id index s numbered)) ∙ kind) other
   where
     by_kind : (j : LabelKind) → kind_behind j ≡ Axiom → ¬ (j ≡ label_kinds.Axiom) → ⊥
     by_kind label_kinds.Axiom e h = h refl
@@ -178,12 +178,12 @@ pub one_tree : (statements : List PlainStatement) (id p q : ℕ) (t u : Trees) �
     → (p ≡ q) × (t ≡ u)
 one_tree statements id p q t u all one other =
     let same = at_unique statements id q p other.s one.s other.at one.at in
-    let front : List PlainStatement = take p statements in
-    let moved : Spells one.s u front =
+    let prefix : List PlainStatement = take p statements in
+    let moved : Spells one.s u prefix =
     subst (λ (n : ℕ). Spells one.s u (take n statements)) same.0
     (subst (λ (s : PlainStatement). Spells s u (take q statements)) same.1 (other.proof, other.spelled)) in
-    let meant : AllMeant (sentences front) = subst AllMeant (sym (map-take p statements)) (allmeant_front (sentences statements) p all) in
-    (sym same.0, one.spelled ∙ same_tree (sentences front) (sentence_of one.s) (proof_of one.s) one.proof moved.0 meant ∙ sym moved.1)
+    let meant : AllMeant (sentences prefix) = subst AllMeant (sym (map-take p statements)) (allmeant_prefix (sentences statements) p all) in
+    (sym same.0, one.spelled ∙ same_tree (sentences prefix) (sentence_of one.s) (proof_of one.s) one.proof moved.0 meant ∙ sym moved.1)
 
 -- ---- what is kept of proofs is what they use
 
@@ -200,10 +200,10 @@ used_is statements uses all kept id used = (
   (λ (u, among, number, holds).
       let of : AreUsesOf statements u = kept.each u among in
       (of.0, of.1, subst (λ (n : ℕ). HasTree statements n of.0 of.1) number of.2, (of.3.each used).0 holds)),
-  λ (place, t, has, stands).
-      let found = number_among uses id ((kept.proofs.each id).1 (place, has.s, has.at, has.complete)) in
+  λ (index, t, has, stands).
+      let found = number_among uses id ((kept.proofs.each id).1 (index, has.s, has.at, has.complete)) in
       let of : AreUsesOf statements found.0 = kept.each found.0 found.1 in
-      let same = one_tree statements id place of.0 t of.1 all has (subst (λ (n : ℕ). HasTree statements n of.0 of.1) found.2 of.2) in
+      let same = one_tree statements id index of.0 t of.1 all has (subst (λ (n : ℕ). HasTree statements n of.0 of.1) found.2 of.2) in
       (found.0, found.1, found.2, (of.3.each used).1 (rw (same.0, same.1) at stands)),
 )
 
@@ -215,8 +215,8 @@ rests_as R S into theorem n rests set closed =
 
 axiom_is : (statements : List PlainStatement) (n : ℕ) → IsAxiomNumber (sentences statements) n ↔ IsNumberWhere statements (λ s. s.kind ≡ Axiom) n
 axiom_is statements n = (
-  (λ (place, t, numbered, kind). let found = numbered_as statements n place t numbered in (place, found.0, found.1, ap (λ (u : Sentence). u.kind) found.2 ∙ kind)),
-  λ (place, s, at, kind). (place, sentence_of s, at.numbered, kind),
+  (λ (index, t, numbered, kind). let found = numbered_as statements n index t numbered in (index, found.0, found.1, ap (λ (u : Sentence). u.kind) found.2 ∙ kind)),
+  λ (index, s, at, kind). (index, sentence_of s, at.numbered, kind),
 )
 
 pub report_of : (statements : List PlainStatement) (c : Conclusion) (label : List ℕ) (id : ℕ) (marks : List Bool) (axioms unproved : List ℕ)
@@ -233,11 +233,11 @@ report_of statements c label id marks axioms unproved kept all named marked are_
       rests_as (UsedIn c.uses) (Uses statements) (λ x y. (same x y).0) id n,
       rests_as (Uses statements) (UsedIn c.uses) (λ x y. (same x y).1) id n,
     ) in
-    let placed = rw kept.sentences at are_axioms in
+    let indexed = rw kept.sentences at are_axioms in
     record {
       id = id;
       theorem = named;
-      are_axioms = in_order_same _ _ axioms placed (λ n. (
+      are_axioms = in_order_same _ _ axioms indexed (λ n. (
         (λ h. ((axiom_is statements n).0 h.0, (rests n).0 ((marked n).0 h.1))),
         λ h. ((axiom_is statements n).1 h.0, (marked n).1 ((rests n).1 h.1)),
       ));
@@ -286,39 +286,39 @@ no_text_fault profile before s tokens rule proved (inr wrong) = wrong.2 proved.0
 pub steps_prove : (profile : Profile) (st : List Sentence) (id : ℕ) (tokens : List (List ℕ))
     (steps : ReadSteps) → IsProofOf profile st id tokens → steps.profile ≡ profile
     → SayStepsOf st id tokens steps.moves → AreProvedSteps st id steps
-steps_prove profile st id tokens steps proof under said place s moves number numbered =
+steps_prove profile st id tokens steps proof under said index s moves number numbered =
     let Fits : List (List ℕ) → Type 0 = IsWithin (limit_of profile) in
-    let told = said place s number in
-    let here : proof.place ≡ place = one_place st id proof.place place proof.s s proof.number.numbered number.numbered in
+    let told = said index s number in
+    let here : proof.index ≡ index = one_index st id proof.index index proof.s s proof.number.numbered number.numbered in
     let same : proof.s ≡ s = same_Some proof.s s (sym proof.number.numbered.there ∙ ap (slice_get st) here ∙ number.numbered.there) in
-    let proved : IsProvedWithin Fits (take place st) s tokens = rw (here, same) at proof.proved.1 in
+    let proved : IsProvedWithin Fits (take index st) s tokens = rw (here, same) at proof.proved.1 in
     let those : told.0 ≡ moves = zip_once (IsNumberedMove st) (IsNumberedMove st) steps.moves told.0 moves (one_move st) told.2 numbered in
-    subst (λ (p : Profile). Prove (IsWithin (limit_of p)) (take place st) s moves) (sym under)
-    (subst (λ (ms : List (Move (List ℕ))). Prove Fits (take place st) s ms)
+    subst (λ (p : Profile). Prove (IsWithin (limit_of p)) (take index st) s moves) (sym under)
+    (subst (λ (ms : List (Move (List ℕ))). Prove Fits (take index st) s ms)
     (moves_once _ s tokens proved.moves told.0 proved.said told.1 ∙ those) proved.proves)
 
 -- so they make one tree
-pub steps_make : (st : List Sentence) (id : ℕ) (steps : ReadSteps) → AreProvedSteps st id steps → OfMoves st id steps.moves (λ place s moves. MakeOneTree (take place st) moves)
-steps_make st id steps proved place s moves number numbered =
-    let p = proved place s moves number numbered in (p.label, p.below, record { kept = p.kept; made = p.made })
+pub steps_make : (st : List Sentence) (id : ℕ) (steps : ReadSteps) → AreProvedSteps st id steps → OfMoves st id steps.moves (λ index s moves. MakeOneTree (take index st) moves)
+steps_make st id steps proved index s moves number numbered =
+    let p = proved index s moves number numbered in (p.label, p.below, record { kept = p.kept; made = p.made })
 
 -- ---- what is told of them is told of the moves that the theorem's tokens say
 
 pub of_theorem : (ss : List Sentence) (statements : List PlainStatement) (label : List ℕ) (id : ℕ) (steps : List (Move ℕ)) (P : List Sentence → Sentence → List (Move (List ℕ)) → Type 0)
-    → ss ≡ sentences statements → (r : AreStepsOf statements label id steps) → OfMoves ss id steps (λ place s moves. P (take place ss) s moves)
-    → P (sentences (take r.place statements)) (sentence_of r.s) r.moves
+    → ss ≡ sentences statements → (r : AreStepsOf statements label id steps) → OfMoves ss id steps (λ index s moves. P (take index ss) s moves)
+    → P (sentences (take r.index statements)) (sentence_of r.s) r.moves
 of_theorem ss statements label id steps P same r holds =
     let here = rw same at holds in
-    rw map-take (here r.place (sentence_of r.s) r.moves r.number r.numbered)
+    rw map-take (here r.index (sentence_of r.s) r.moves r.number r.numbered)
 
 -- the listing
 pub shown_of : (ss : List Sentence) (statements : List PlainStatement) (label : List ℕ) (id : ℕ) (steps : List (Move ℕ)) (text : List ℕ)
-    → ss ≡ sentences statements → AreStepsOf statements label id steps → OfMoves ss id steps (λ place s moves. IsListingOf (take place ss) moves text)
+    → ss ≡ sentences statements → AreStepsOf statements label id steps → OfMoves ss id steps (λ index s moves. IsListingOf (take index ss) moves text)
     → ShowsProof statements label text
 shown_of ss statements label id steps text same r holds =
     let listed = of_theorem ss statements label id steps (λ before s moves. IsListingOf before moves text) same r holds in
     record {
-      place = r.place;
+      index = r.index;
       s = r.s;
       there = r.there;
       named = r.named;
@@ -331,10 +331,10 @@ module _ (ss : List Sentence) (statements : List PlainStatement) (label : List �
     (steps : ReadSteps) (same : ss ≡ sentences statements)
     (r : AreStepsOf statements label id steps.moves) (proved : AreProvedSteps ss id steps)
     (P : List Sentence → Sentence → Trees → Type 0) (holds : OfMoves ss id steps.moves
-    (λ place s moves. OfTree (take place ss) moves (P (take place ss) s))) where
+    (λ index s moves. OfTree (take index ss) moves (P (take index ss) s))) where
   pub tree_told : (root : List ℕ) × (below : Trees)
-      × HasProofTree statements label r.place r.s root below
-      × P (sentences (take r.place statements)) (sentence_of r.s) (tree root below none)
+      × HasProofTree statements label r.index r.s root below
+      × P (sentences (take r.index statements)) (sentence_of r.s) (tree root below none)
   tree_told =
       let (root, below, made) =
       of_theorem ss statements label id steps.moves (λ before s moves. MakeOneTree before moves)
@@ -355,15 +355,15 @@ module _ (ss : List Sentence) (statements : List PlainStatement) (label : List �
         told root below made,
       )
 
-  pub told_of_tree : (place : ℕ) × (s : PlainStatement) × (root : List ℕ) × (below : Trees)
-      × HasProofTree statements label place s root below
-      × P (sentences (take place statements)) (sentence_of s) (tree root below none)
+  pub told_of_tree : (index : ℕ) × (s : PlainStatement) × (root : List ℕ) × (below : Trees)
+      × HasProofTree statements label index s root below
+      × P (sentences (take index statements)) (sentence_of s) (tree root below none)
   told_of_tree =
-      let (root, below, has, told) = tree_told in (r.place, r.s, root, below, has, told)
+      let (root, below, has, told) = tree_told in (r.index, r.s, root, below, has, told)
 
 pub normal_fault : (ss : List Sentence) (statements : List PlainStatement) (label : List ℕ) (id : ℕ) (steps : ReadSteps) (fault : AskFault)
     → ss ≡ sentences statements → AreStepsOf statements label id steps.moves → AreProvedSteps ss id steps
-    → ((fault ≡ ask.Memory) ⊎ ((fault ≡ ask.Rule L2) × OfMoves ss id steps.moves (λ place s moves. OfTree (take place ss) moves (λ trees. most_labels < length (spelling trees)))))
+    → ((fault ≡ ask.Memory) ⊎ ((fault ≡ ask.Rule L2) × OfMoves ss id steps.moves (λ index s moves. OfTree (take index ss) moves (λ trees. most_labels < length (spelling trees)))))
     → IsNormalFault statements label fault
 normal_fault ss statements label id steps fault same r proved (inl memory) = subst (IsNormalFault statements label) (sym memory) tt
 normal_fault ss statements label id steps fault same r proved (inr (long, holds)) =

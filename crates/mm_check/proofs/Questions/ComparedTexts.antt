@@ -11,7 +11,7 @@ use Rattle.mm_text.specs.Token.{is_space as is_white_space}
 use Rattle.mm_code.specs.Words.{tokens_in, LacksWhiteSpace}
 use Rattle.mm_code.proofs.ReadBack.{tokens_in-nil, tokens_in-space, tokens_in-end, tokens_in-on}
 use Rattle.mm_code.proofs.ReadBack.{tokens_in-last}
-use Rattle.mm_check.specs.Mirror.Comparisons.{AreFrontTokens, FailsAs, IsUnproved, IsTextRefused}
+use Rattle.mm_check.specs.Mirror.Comparisons.{ArePrefixTokens, FailsAs, IsUnproved, IsTextRefused}
 use Rattle.mm_check.specs.Mirror.Comparisons.{IsComparedWith}
 use Rattle.mm_text.specs.Statement.{PlainStatement}
 use Rattle.mm_frame.specs.Sentence.{Sentence, sentence_of}
@@ -62,12 +62,12 @@ tokens_in-word byte (next ∷ word) after dark stop =
     tokens_in-on byte next (word ++ after) dark.0 dark.1.0 ∙ ap (onto_first byte) (tokens_in-word next word after dark.1 stop)
 
 -- a word is taken
-pub front_word : (text : List ℕ) (tokens : List (List ℕ)) (byte : ℕ) (word after : List ℕ) → AreFrontTokens text tokens ((byte ∷ word) ++ after) → LacksWhiteSpace (byte ∷ word) → IsStop after
-    → AreFrontTokens text (tokens ++ (byte ∷ word) ∷ []) after
-front_word text tokens byte word after front dark stop =
+pub prefix_word : (text : List ℕ) (tokens : List (List ℕ)) (byte : ℕ) (word after : List ℕ) → ArePrefixTokens text tokens ((byte ∷ word) ++ after) → LacksWhiteSpace (byte ∷ word) → IsStop after
+    → ArePrefixTokens text (tokens ++ (byte ∷ word) ∷ []) after
+prefix_word text tokens byte word after prefix dark stop =
     record {
-      whole = append_assoc tokens ((byte ∷ word) ∷ []) (tokens_in after) ∙ ap (λ (ws : List (List ℕ)). tokens ++ ws) (sym (tokens_in-word byte word after dark stop)) ∙ front.whole;
-      room = omega (arith, front.room, sum_by-append (length {A = ℕ}) tokens ((byte ∷ word) ∷ []), length-append (byte ∷ word) after);
+      whole = append_assoc tokens ((byte ∷ word) ∷ []) (tokens_in after) ∙ ap (λ (ws : List (List ℕ)). tokens ++ ws) (sym (tokens_in-word byte word after dark stop)) ∙ prefix.whole;
+      room = omega (arith, prefix.room, sum_by-append (length {A = ℕ}) tokens ((byte ∷ word) ∷ []), length-append (byte ∷ word) after);
     }
 
 stops : (n : ℕ) (rest : List ℕ) → (n < length rest → is_white_space (slice_index rest n) ≡ true) → IsStop (drop n rest)
@@ -76,32 +76,32 @@ stops zero (b ∷ rest) white = white (omega arith)
 stops (suc n) [] white = tt
 stops (suc n) (b ∷ rest) white = stops n rest (λ less. white (omega (arith, less)))
 
-word_taken : (text : List ℕ) (tokens : List (List ℕ)) (first : ℕ) (others : List ℕ) (n : ℕ) → AreFrontTokens text tokens (first ∷ others) → is_white_space first ≡ false
+word_taken : (text : List ℕ) (tokens : List (List ℕ)) (first : ℕ) (others : List ℕ) (n : ℕ) → ArePrefixTokens text tokens (first ∷ others) → is_white_space first ≡ false
     → LacksWhiteSpace (take n (first ∷ others)) → (n < length (first ∷ others) → is_white_space (slice_index (first ∷ others) n) ≡ true)
-    → AreFrontTokens text (tokens ++ take n (first ∷ others) ∷ []) (drop n (first ∷ others))
-word_taken text tokens first others zero front dark lacks white =
+    → ArePrefixTokens text (tokens ++ take n (first ∷ others) ∷ []) (drop n (first ∷ others))
+word_taken text tokens first others zero prefix dark lacks white =
     let light : is_white_space first ≡ true = white (omega arith) in
     let no : true ≡ false = sym light ∙ dark in absurd cc
-word_taken text tokens first others (suc n) front dark lacks white =
-    front_word text tokens first (take n others) (drop n others) (rw take-append-drop front) lacks
+word_taken text tokens first others (suc n) prefix dark lacks white =
+    prefix_word text tokens first (take n others) (drop n others) (rw take-append-drop prefix) lacks
     (stops (suc n) (first ∷ others) white)
 
 -- the word at the rest's beginning is taken
-pub front_taken : (text : List ℕ) (tokens : List (List ℕ)) (rest : List ℕ) (first : ℕ) (others : List ℕ) (n : ℕ) (token after : List ℕ) → AreFrontTokens text tokens rest
+pub prefix_taken : (text : List ℕ) (tokens : List (List ℕ)) (rest : List ℕ) (first : ℕ) (others : List ℕ) (n : ℕ) (token after : List ℕ) → ArePrefixTokens text tokens rest
     → rest ≡ first ∷ others → is_white_space first ≡ false → LacksWhiteSpace (take n rest) → (n < length rest → is_white_space (slice_index rest n) ≡ true) → token ≡ take n rest → after ≡ drop n rest
-    → AreFrontTokens text (tokens ++ token ∷ []) after
-front_taken text tokens rest first others n token after front is dark lacks white token_is after_is =
+    → ArePrefixTokens text (tokens ++ token ∷ []) after
+prefix_taken text tokens rest first others n token after prefix is dark lacks white token_is after_is =
     let Lacks : List ℕ → Type 0 = λ r. LacksWhiteSpace (take n r) in
     let Stops : List ℕ → Type 0 = λ r. n < length r → is_white_space (slice_index r n) ≡ true in
-    let taken = word_taken text tokens first others n (subst (AreFrontTokens text tokens) is front) dark (subst Lacks is lacks) (subst Stops is white) in
-    subst (λ (w : List ℕ). AreFrontTokens text (tokens ++ w ∷ []) after) (ap (take n) (sym is) ∙ sym token_is)
-    (subst (λ (r : List ℕ). AreFrontTokens text (tokens ++ take n (first ∷ others) ∷ []) r) (ap (drop n) (sym is) ∙ sym after_is) taken)
+    let taken = word_taken text tokens first others n (subst (ArePrefixTokens text tokens) is prefix) dark (subst Lacks is lacks) (subst Stops is white) in
+    subst (λ (w : List ℕ). ArePrefixTokens text (tokens ++ w ∷ []) after) (ap (take n) (sym is) ∙ sym token_is)
+    (subst (λ (r : List ℕ). ArePrefixTokens text (tokens ++ take n (first ∷ others) ∷ []) r) (ap (drop n) (sym is) ∙ sym after_is) taken)
 
 -- white space at its beginning is passed over
-pub front_passed : (text : List ℕ) (tokens : List (List ℕ)) (rest : List ℕ) (first : ℕ) (others : List ℕ) → AreFrontTokens text tokens rest → rest ≡ first ∷ others → is_white_space first ≡ true
-    → AreFrontTokens text tokens others
-front_passed text tokens rest first others front is white =
-    let begun = subst (AreFrontTokens text tokens) is front in
+pub prefix_passed : (text : List ℕ) (tokens : List (List ℕ)) (rest : List ℕ) (first : ℕ) (others : List ℕ) → ArePrefixTokens text tokens rest → rest ≡ first ∷ others → is_white_space first ≡ true
+    → ArePrefixTokens text tokens others
+prefix_passed text tokens rest first others prefix is white =
+    let begun = subst (ArePrefixTokens text tokens) is prefix in
     record {
       whole = ap (λ (ws : List (List ℕ)). tokens ++ ws) (sym (tokens_in-space first others white))
           ∙ begun.whole;
@@ -109,17 +109,17 @@ front_passed text tokens rest first others front is white =
     }
 
 -- nothing is left
-pub front_all : (text : List ℕ) (tokens : List (List ℕ)) (rest : List ℕ) → AreFrontTokens text tokens rest → length rest ≡ 0 → tokens ≡ tokens_in text
-front_all text tokens (byte ∷ rest) front none = absurd (omega (arith, none))
-front_all text tokens [] front none =
-    sym (append-nil tokens) ∙ ap (λ (ws : List (List ℕ)). tokens ++ ws) (sym tokens_in-nil) ∙ front.whole
+pub prefix_all : (text : List ℕ) (tokens : List (List ℕ)) (rest : List ℕ) → ArePrefixTokens text tokens rest → length rest ≡ 0 → tokens ≡ tokens_in text
+prefix_all text tokens (byte ∷ rest) prefix none = absurd (omega (arith, none))
+prefix_all text tokens [] prefix none =
+    sym (append-nil tokens) ∙ ap (λ (ws : List (List ℕ)). tokens ++ ws) (sym tokens_in-nil) ∙ prefix.whole
 
 -- ==== what is told of a handed text is told of it as a proof of the theorem
 
 -- the tokens have the form that the profile demands of a proof of the `$p` with this number
 abbrev pub HaveForm : Profile → List Sentence → (id : ℕ) → (tokens : List (List ℕ)) → Type 0
 HaveForm profile st id tokens =
-    OfProof st id (λ place s. HasFormOf profile (take place st) s tokens)
+    OfProof st id (λ index s. HasFormOf profile (take index st) s tokens)
 
 -- ---- a fault of the handed proof
 
@@ -139,11 +139,11 @@ unproved_of profile st id tokens steps fault under said form (inr (rule, step, i
       rule,
       step,
       is,
-      λ place s number.
-          let told = said place s number in
-          let fault : FailsWith (limit_of profile) st place s told.1 rule step =
-          rw under at (fails place s told.1 number told.3) in
-          inr (told.0, form place s number, told.1, told.2, fault),
+      λ index s number.
+          let told = said index s number in
+          let fault : FailsWith (limit_of profile) st index s told.1 rule step =
+          rw under at (fails index s told.1 number told.3) in
+          inr (told.0, form index s number, told.1, told.2, fault),
     )
 
 -- ---- a fault of the handed text
@@ -157,8 +157,8 @@ text_refused profile st id text fault legal (inr (rule, step, is, fails)) =
       rules.Proof rule,
       step,
       is,
-      λ place s number.
-          inr (legal, rule, refl, fails place s number),
+      λ index s number.
+          inr (legal, rule, refl, fails index s number),
     )
 
 -- ---- the comparison
@@ -167,21 +167,21 @@ pub compared_with : (profile : Profile) (st : List Sentence) (id : ℕ) (own : L
     (steps : ReadSteps) (text : List ℕ) (same : Bool) → IsProofText text
     → steps.profile ≡ profile → SayWholeSteps st id (tokens_in text) steps.moves
     → HaveForm profile st id (tokens_in text) → AreProvedSteps st id steps
-    → OfMoves st id own (λ place s moves. (others : List (Move (List ℕ)))
+    → OfMoves st id own (λ index s moves. (others : List (Move (List ℕ)))
     → AreNumberedMoves st steps.moves others
-    → IsTrue same ↔ MakeSameTree (take place st) moves others)
+    → IsTrue same ↔ MakeSameTree (take index st) moves others)
     → IsComparedWith profile st id own text same
 compared_with profile st id own steps text same legal under said form proved told = (
   legal,
-  λ place s moves number numbered.
-      let says = said place s number in
-      let proves : Prove (IsWithin (limit_of profile)) (take place st) s says.1 =
-      rw under at (proved place s says.1 number says.3) in (
+  λ index s moves number numbered.
+      let says = said index s number in
+      let proves : Prove (IsWithin (limit_of profile)) (take index st) s says.1 =
+      rw under at (proved index s says.1 number says.3) in (
         (
-          form place s number,
+          form index s number,
           record { whole = says.0; moves = says.1; said = says.2; proves = proves },
         ),
-        told place s moves number numbered says.1 says.3,
+        told index s moves number numbered says.1 says.3,
       ),
 )
 
@@ -196,7 +196,7 @@ compared_of profile ss statements label id steps text same is r compared =
     (λ before s moves. (p : IsProvedUnder profile before s (tokens_in text))
     × (IsTrue same ↔ MakeSameTree before moves p.1.moves)) is r compared.1 in
     record {
-      place = r.place;
+      index = r.index;
       s = r.s;
       theorem = record { there = r.there; named = r.named; complete = r.complete };
       moves = r.moves;
@@ -215,9 +215,9 @@ same_fault profile ss statements label id steps text fault is r (inl memory) =
 same_fault profile ss statements label id steps text fault is r (inr (rule, step, told, refused)) =
     let here = rw is at refused in
     let broken =
-    rw (← map-take r.place statements) at (here r.place (sentence_of r.s) r.number) in
+    rw (← map-take r.index statements) at (here r.index (sentence_of r.s) r.number) in
     subst (IsSameFault profile statements label text) (sym told)
-    (r.place, r.s, record { there = r.there; named = r.named; complete = r.complete }, broken)
+    (r.index, r.s, record { there = r.there; named = r.named; complete = r.complete }, broken)
 
 pub asked_fault : (profile : Profile) (statements : List PlainStatement) (label text : List ℕ)
     (fault : AskFault) → IsAskFault statements label fault

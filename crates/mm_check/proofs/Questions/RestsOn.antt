@@ -91,8 +91,8 @@ marked_more old mid numbers x h less = record {
 
 -- ---- marks of what a theorem rests on
 
--- The proofs from a place on were passed: what is marked is what the theorem rests on, and the set of the marks is closed
--- over the uses of these proofs.
+-- The proofs from an index on were passed: what is marked is what the theorem rests on, and the set
+-- of the marks is closed over the uses of these proofs.
 pub record IsMarking (uses : List ProofUses) (theorem left : ℕ) (marks : List Bool) : Type 0 where
   pub long : length marks ≡ theorem
   pub sound : (n : ℕ) → IsMarked marks n → RestsOn (UsedIn uses) theorem n
@@ -109,7 +109,7 @@ marking_starts uses theorem left marks whole e = subst (λ (ms : List Bool). IsM
   closed = λ i u within there reached n h. absurd (let less : i < length uses = slice_get_within uses i u there in omega arith);
 })
 
--- the proof at the next place down isn't of what the theorem rests on
+-- the proof at the next index down isn't of what the theorem rests on
 pub marking_passes : (uses : List ProofUses) (theorem left next : ℕ) (marks : List Bool) (u : ProofUses) → IsMarking uses theorem left marks → left ≡ suc next
     → slice_get uses next ≡ Some u → ¬ (u.number ≡ theorem) → ¬ (IsMarked marks u.number) → IsMarking uses theorem next marks
 marking_passes uses theorem left next marks u h step at other unreached = record {
@@ -213,12 +213,12 @@ pub up_to_ended : (P : ℕ → Type 0) (ids : List LabelId) (k : ℕ) → AreInO
 up_to_ended P ids k order below =
     in_order_same (λ n. (n < k) × P n) P (ids_in ids) order (λ n. ((λ h. h.1), λ p. (below n p, p)))
 
--- numbers of a list up to a place
+-- numbers of a list up to an index
 among_more : (xs : List LabelId) (i : ℕ) (x : LabelId) → slice_get xs i ≡ Some x → ids_in (take (i + 1) xs) ≡ ids_in (take i xs) ++ x.0 ∷ []
 among_more xs i x at =
     ap (λ (n : ℕ). ids_in (take n xs)) (add-one i) ∙ ap ids_in (take_next xs i x at) ∙ map-append (λ (l : LabelId). l.0) (take i xs) (x ∷ [])
 
--- those before a place are less than the one there
+-- those before an index are less than the one there
 before_less : (xs : List LabelId) (i : ℕ) (x : LabelId) → AreRising (ids_in xs) → slice_get xs i ≡ Some x → (n : ℕ) → Contains (ids_in (take i xs)) n → n < x.0
 before_less xs i x rising at n h =
     let in_front = rw (← take-map (λ (l : LabelId). l.0) i xs) at h in

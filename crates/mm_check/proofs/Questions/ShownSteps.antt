@@ -48,7 +48,7 @@ line_told statements line step number o₀ o₁ o₂ o₃ o₄ o₅ tells h₁ h
 
 -- ---- all lines
 
--- the step that the line at a place tells
+-- the step that the line at an index tells
 pub told_at : (statements : List Sentence) (lines : List Line) (steps : List ListedStep) (at : ℕ) (d : Line) → AllZip (TellsStep statements) lines steps → at < length lines
     → (step : ListedStep) × (slice_get steps at ≡ Some step) × TellsStep statements (get_or lines at d) step
 told_at statements lines steps at d zip less =

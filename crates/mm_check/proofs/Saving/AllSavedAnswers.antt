@@ -34,7 +34,7 @@ use Rattle.mm_check.proofs.Verdicts.OneVerdict.{formed_sentences, formed_before}
 use Rattle.mm_check.proofs.Verdicts.AcceptedStatements.{within_limit, said_there, proof_fits}
 use Rattle.mm_check.proofs.Verdicts.AcceptedStatements.{same_reading}
 use Rattle.mm_check.proofs.Saving.ProofTexts.{some_packed_text}
-use Rattle.mm_check.proofs.Saving.SavedFiles.{provable_proof, with_bytes_is, home_file, front_told}
+use Rattle.mm_check.proofs.Saving.SavedFiles.{provable_proof, with_bytes_is, home_file, prefix_told}
 use Rattle.mm_check.proofs.Saving.SavedOnce.{one_proof_tree, not_over, one_all_saved}
 use Rattle.mm_check.proofs.Saving.FileSpans.{theorem_complete, each_theorem, replaced_by}
 use Rattle.mm_check.proofs.Saving.FileSpans.{first_too_long, theorem_there}
@@ -59,11 +59,11 @@ use Rattle.mm_check.specs.declared.ask.AskFault.TheVariants as ask
 -- the tree of the proof, under the theorem's label, and a packed text of it
 record HasOwnTree (statements : List PlainStatement) (s : PlainStatement) : Type 0 where
   pub label : List ℕ
-  pub place : ℕ
+  pub index : ℕ
   pub root : List ℕ
   pub below : Trees
-  pub proof : HasProofTree statements label place s root below
-  pub packed : (text : List ℕ) × IsPackedText (sentences (take place statements)) (sentence_of s)
+  pub proof : HasProofTree statements label index s root below
+  pub packed : (text : List ℕ) × IsPackedText (sentences (take index statements)) (sentence_of s)
       (tree root below none) text
 
 module _ (profile : Profile) {files : List PlainFile} {statements : List PlainStatement}
@@ -71,24 +71,24 @@ module _ (profile : Profile) {files : List PlainFile} {statements : List PlainSt
   own_tree : (s : PlainStatement) → Contains statements s → is_proof s ≡ true
       → HasOwnTree statements s
   own_tree s there complete =
-      let (place, at) = at_from_contains statements s there in
-      let before : List PlainStatement = take place statements in
-      let after : List PlainStatement = drop (suc place) statements in
-      let split : statements ≡ before ++ s ∷ after = split_at statements place s at in
+      let (index, at) = at_from_contains statements s there in
+      let before : List PlainStatement = take index statements in
+      let after : List PlainStatement = drop (suc index) statements in
+      let split : statements ≡ before ++ s ∷ after = split_at statements index s at in
       let p = ((accepted.obeyed before after s split).proved complete).1 in
       let formed = (readings_are_formed_in_place files statements None accepted.reads).formed in
       let (label, named, is) = subst (λ kind. HasItsLabel kind (sentence_of s).label)
-      (provable_proof s complete) ((formed_sentences statements formed place (sentence_of s)
-      (said_there statements place s at)).label) in
-      let within = slice_get_within statements place s at in
-      let taken = length-take-le place statements (omega (arith, within)) in
+      (provable_proof s complete) ((formed_sentences statements formed index (sentence_of s)
+      (said_there statements index s at)).label) in
+      let within = slice_get_within statements index s at in
+      let taken = length-take-le index statements (omega (arith, within)) in
       let fewer = readings_few files statements None accepted.reads in
       let limited = within_limit files accepted.readable in
       let few : length (sentences before) ≤ most_bytes =
       omega (arith, within, length-map before sentence_of, taken, fewer, limited) in
       record {
         label = label;
-        place = place;
+        index = index;
         root = p.proves.label;
         below = p.proves.below;
         proof = record {
@@ -104,7 +104,7 @@ module _ (profile : Profile) {files : List PlainFile} {statements : List PlainSt
             (derive_fits (IsWithin (limit_of profile)) (sentences before)
             (tree p.proves.label p.proves.below none) ((sentence_of s).symbols ∷ [])
             p.proves.derived) p.whole p.said p.proves.made few
-            (proof_fits files statements None place s accepted.readable accepted.reads at);
+            (proof_fits files statements None index s accepted.readable accepted.reads at);
       }
 
   -- each theorem of a file has one
@@ -117,7 +117,7 @@ module _ (profile : Profile) {files : List PlainFile} {statements : List PlainSt
 -- a text of the tree is put in
 put_for : (f : Form) (statements : List PlainStatement) (s : PlainStatement)
     → (t : HasOwnTree statements s) → (text : List ℕ)
-    → IsTextIn f (sentences (take t.place statements)) (sentence_of s) (tree t.root t.below none)
+    → IsTextIn f (sentences (take t.index statements)) (sentence_of s) (tree t.root t.below none)
     text
     → (new : Replacement) × IsReplacement f statements s new
 put_for f statements s t text laid =
@@ -134,7 +134,7 @@ normal_or_long : (statements : List PlainStatement) (s : PlainStatement) → Has
 normal_or_long statements s t =
     let labels : List (List ℕ) = spelling (tree t.root t.below none) in
     elim (cases_lt most_labels (length labels)) [
-      | inl over ↦ inr (t.label, (t.place, t.root, t.below, t.proof, over))
+      | inl over ↦ inr (t.label, (t.index, t.root, t.below, t.proof, over))
       | inr within ↦
           let (text, laid) = some_layout labels in
           inl (put_for form.Normal statements s t text (within, laid))
@@ -200,9 +200,9 @@ module _ (profile : Profile) {files : List PlainFile} {statements : List PlainSt
 put_not_long : (profile : Profile) (statements : List PlainStatement) (s : PlainStatement)
     (new : Replacement) → AllObey profile statements → IsReplacement form.Normal statements s new
     → ¬ (IsTooLong statements s)
-put_not_long profile statements s new obeyed r (label, (place, root, below, proof, long)) =
+put_not_long profile statements s new obeyed r (label, (index, root, below, proof, long)) =
     let same = same_Some label r.label (sym proof.named ∙ r.proof.named) in
-    let (here, (one, trees)) = one_proof_tree profile statements r.label r.place place s s r.root
+    let (here, (one, trees)) = one_proof_tree profile statements r.label r.index index s s r.root
     root r.below below obeyed r.proof (rw same at proof) in
     not_over _ r.laid.0 (subst (λ (u : Trees). most_labels < length (spelling u)) trees long)
 
@@ -219,14 +219,14 @@ none_long profile statements before s after theorems news obeyed each split long
 first_is_long : (statements : List PlainStatement) (number : ℕ) (label : List ℕ)
     → (first : IsFirstTooLong statements number label) → IsTooLong statements first.s
 first_is_long statements number label first =
-    (label, (first.place, first.root, first.below, first.proof, first.long))
+    (label, (first.index, first.root, first.below, first.proof, first.long))
 
 one_first : (profile : Profile) (statements : List PlainStatement) (number : ℕ)
     (label other : List ℕ) → AllObey profile statements → IsFirstTooLong statements number label
     → IsFirstTooLong statements number other → label ≡ other
 one_first profile statements number label other obeyed p q =
     elim (two_cuts p.before p.s p.after q.before q.s q.after (sym p.split ∙ q.split)) [
-      | inl (front, same, back) ↦
+      | inl (prefix, same, back) ↦
           same_Some label other (sym p.proof.named
           ∙ ap (λ (s : PlainStatement). (sentence_of s).label) same ∙ q.proof.named)
       | inr (inl (between, whole, rest)) ↦
@@ -273,13 +273,13 @@ one_save_all_answer profile files statements number accepted within =
 
 pub all_saved_proofs_are_strict : AllSavedProofsAreStrict
 all_saved_proofs_are_strict profile f files statements same number bytes accepted sv fits reads
-    label place s theorem home =
+    label index s theorem home =
     let put = are_all_put profile f files statements number bytes accepted sv fits in
     let read : same ≡ put.same =
     (same_reading (with_bytes files number bytes) same put.same None None reads
     put.accepted.reads).0 in
-    let there = ap (λ (ss : List PlainStatement). slice_get ss place) (sym read) ∙ theorem.there in
-    let (t, here, saved) = saved_as_at number [] statements put.same put.each place s there in
+    let there = ap (λ (ss : List PlainStatement). slice_get ss index) (sym read) ∙ theorem.there in
+    let (t, here, saved) = saved_as_at number [] statements put.same put.each index s there in
     rw read (saved.strict (theorem_there number s theorem.complete home))
 
 -- ---- after several files were
@@ -287,33 +287,33 @@ all_saved_proofs_are_strict profile f files statements same number bytes accepte
 -- each complete proof in a file whose number is so is strict
 abbrev AreStrictIn : (ℕ → Type 0) → List PlainStatement → Type 0
 AreStrictIn P statements =
-    (place : ℕ) (s : PlainStatement) → slice_get statements place ≡ Some s → is_proof s ≡ true
-    → P s.first.file → IsStrict (sentences (take place statements)) (sentence_of s) (proof_of s)
+    (index : ℕ) (s : PlainStatement) → slice_get statements index ≡ Some s → is_proof s ≡ true
+    → P s.first.file → IsStrict (sentences (take index statements)) (sentence_of s) (proof_of s)
 
 -- a proof that was kept is as strict as before
-kept_strict : (P : ℕ → Type 0) (statements same : List PlainStatement) (number place : ℕ)
+kept_strict : (P : ℕ → Type 0) (statements same : List PlainStatement) (number index : ℕ)
     (s t : PlainStatement) → sentences statements ≡ sentences same → AreStrictIn P statements
-    → slice_get statements place ≡ Some s
-    → IsSavedAs number (sentences (take place same)) s t → is_proof t ≡ true → P t.first.file
+    → slice_get statements index ≡ Some s
+    → IsSavedAs number (sentences (take index same)) s t → is_proof t ≡ true → P t.first.file
     → (b : Bool) → is_theorem_of number t ≡ b
-    → IsStrict (sentences (take place same)) (sentence_of t) (proof_of t)
-kept_strict P statements same number place s t told strict there saved complete so true is =
+    → IsStrict (sentences (take index same)) (sentence_of t) (proof_of t)
+kept_strict P statements same number index s t told strict there saved complete so true is =
     saved.strict is
-kept_strict P statements same number place s t told strict there saved complete so false is =
+kept_strict P statements same number index s t told strict there saved complete so false is =
     let proof : proof_of s ≡ proof_of t = saved.kept is in
     let proved : is_proof s ≡ true =
     (λ i. is_provable (saved.said i).kind && not (is_incomplete (proof i))) ∙ complete in
-    moved IsStrict _ _ _ _ _ _ (front_told statements same place told) saved.said proof
-    (strict place s there proved (subst P (sym saved.home) so))
+    moved IsStrict _ _ _ _ _ _ (prefix_told statements same index told) saved.said proof
+    (strict index s there proved (subst P (sym saved.home) so))
 
 strict_with : (P : ℕ → Type 0) (profile : Profile) (files : List PlainFile)
     (statements : List PlainStatement) (number : ℕ) (bytes : List ℕ) (news : List Replacement)
     → (put : AreAllPut profile files statements number bytes news) → AreStrictIn P statements
     → AreStrictIn (λ n. P n ⊎ (n ≡ number)) put.same
-strict_with P profile files statements number bytes news put strict place t there complete so =
-    let (s, here, saved) = saved_as_at number [] statements put.same put.each place t there in
+strict_with P profile files statements number bytes news put strict index t there complete so =
+    let (s, here, saved) = saved_as_at number [] statements put.same put.each index t there in
     elim so [
-      | inl old ↦ kept_strict P statements put.same number place s t put.alike.to.told strict here
+      | inl old ↦ kept_strict P statements put.same number index s t put.alike.to.told strict here
           saved complete old (is_theorem_of number t) refl
       | inr home ↦ saved.strict (theorem_there number t complete home)
     ]
@@ -335,8 +335,8 @@ files_strict P [] files others statements accepted missing strict is =
       same = statements;
       accepted = accepted;
       missing = missing;
-      strict = λ place s there complete so. elim so [
-        | inl old ↦ strict place s there complete old
+      strict = λ index s there complete so. elim so [
+        | inl old ↦ strict index s there complete old
         | inr (k, less, is) ↦ absurd (omega (arith, less))
       ];
     })
@@ -354,7 +354,7 @@ files_strict P (number ∷ numbers) files others statements accepted missing str
       same = more.same;
       accepted = more.accepted;
       missing = more.missing;
-      strict = λ place s there complete so. more.strict place s there complete (elim so [
+      strict = λ index s there complete so. more.strict index s there complete (elim so [
         | inl old ↦ inl (inl old)
         | inr c ↦ elim (holds_cons number numbers s.first.file c) [
           | inl is ↦ inl (inr (sym is))
@@ -386,13 +386,13 @@ strict_accepted files statements accepted missing strict = record {
       (readings_are_formed_in_place files statements None accepted.reads).formed in
       let there : slice_get statements (length before) ≡ Some s =
       rw split (get_parted before after s) in
-      let front = ap (take (length before)) split ∙ take-append_seam before (s ∷ after) in
+      let prefix = ap (take (length before)) split ∙ take-append_seam before (s ∷ after) in
       let (file, home) = home_file files statements (length before) s accepted.reads there in
       let within = slice_get_within files s.first.file file home in
       record {
         meant = old.meant;
         proved = λ complete. (
-          rw front at (strict (length before) s there complete within),
+          rw prefix at (strict (length before) s there complete within),
           within_strict (sentences before) (sentence_of s) (proof_of s) (old.proved complete),
         );
         known = λ open_one. absurd (none_incomplete before after s formed
@@ -404,8 +404,8 @@ pub packed_files_are_strict : PackedFilesAreStrict
 packed_files_are_strict files others statements numbers accepted missing all saved =
     let done =
     files_strict (λ n. ⊥) numbers files others statements accepted missing
-    (λ place s there complete never. absurd never) saved in
+    (λ index s there complete never. absurd never) saved in
     let strict : AreStrictIn (λ n. n < length others) done.same =
-    λ place s there complete within. done.strict place s there complete
+    λ index s there complete within. done.strict index s there complete
     (inr (all s.first.file (rw (saved_many numbers files others saved) at within))) in
     (done.same, strict_accepted others done.same done.accepted done.missing strict, done.missing)

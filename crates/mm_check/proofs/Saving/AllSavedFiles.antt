@@ -44,24 +44,24 @@ use Rattle.std.proofs.lemmas.Option.{same_Some}
 
 -- A statement that stands where another stood: its proof is strict if it is a theorem of the file,
 -- and else the other's.
-pub record IsSavedAs (number : ℕ) (front : List Sentence) (s t : PlainStatement) : Type 0 where
+pub record IsSavedAs (number : ℕ) (prefix : List Sentence) (s t : PlainStatement) : Type 0 where
   pub said : sentence_of s ≡ sentence_of t
   pub home : s.first.file ≡ t.first.file
   pub theorem : is_theorem_of number s ≡ is_theorem_of number t
-  pub strict : is_theorem_of number t ≡ true → IsStrict front (sentence_of t) (proof_of t)
+  pub strict : is_theorem_of number t ≡ true → IsStrict prefix (sentence_of t) (proof_of t)
   pub kept : is_theorem_of number t ≡ false → proof_of s ≡ proof_of t
 
 -- each is, behind those before it
 abbrev pub AreSavedAs : ℕ → List Sentence → (after later : List PlainStatement) → Type 0
-AreSavedAs number front [] [] = Unit {0}
-AreSavedAs number front [] (t ∷ later) = ⊥
-AreSavedAs number front (s ∷ after) [] = ⊥
-AreSavedAs number front (s ∷ after) (t ∷ later) =
-    IsSavedAs number front s t × AreSavedAs number (front ++ sentence_of t ∷ []) after later
+AreSavedAs number prefix [] [] = Unit {0}
+AreSavedAs number prefix [] (t ∷ later) = ⊥
+AreSavedAs number prefix (s ∷ after) [] = ⊥
+AreSavedAs number prefix (s ∷ after) (t ∷ later) =
+    IsSavedAs number prefix s t × AreSavedAs number (prefix ++ sentence_of t ∷ []) after later
 
-saved_as_moved : (number : ℕ) (front : List Sentence) (s t u : PlainStatement)
-    → placeless t ≡ placeless u → IsSavedAs number front s t → IsSavedAs number front s u
-saved_as_moved number front s t u same saved =
+saved_as_moved : (number : ℕ) (prefix : List Sentence) (s t u : PlainStatement)
+    → placeless t ≡ placeless u → IsSavedAs number prefix s t → IsSavedAs number prefix s u
+saved_as_moved number prefix s t u same saved =
     let said = same_sentence nowhere nowhere t u same in
     let proof = same_proof nowhere nowhere t u same in
     let theorem = theorem_placeless number t u same in
@@ -73,35 +73,35 @@ saved_as_moved number front s t u same saved =
       kept = λ is. saved.kept (theorem ∙ is) ∙ proof;
     }
 
-all_saved_as_moved : (number : ℕ) (front : List Sentence) (after later last : List PlainStatement)
-    → map placeless later ≡ map placeless last → AreSavedAs number front after later
-    → AreSavedAs number front after last
-all_saved_as_moved number front [] [] [] same all = tt
-all_saved_as_moved number front [] [] (u ∷ last) same all = absurd cc
-all_saved_as_moved number front (s ∷ after) (t ∷ later) [] same all = absurd cc
-all_saved_as_moved number front (s ∷ after) (t ∷ later) (u ∷ last) same all =
+all_saved_as_moved : (number : ℕ) (prefix : List Sentence) (after later last : List PlainStatement)
+    → map placeless later ≡ map placeless last → AreSavedAs number prefix after later
+    → AreSavedAs number prefix after last
+all_saved_as_moved number prefix [] [] [] same all = tt
+all_saved_as_moved number prefix [] [] (u ∷ last) same all = absurd cc
+all_saved_as_moved number prefix (s ∷ after) (t ∷ later) [] same all = absurd cc
+all_saved_as_moved number prefix (s ∷ after) (t ∷ later) (u ∷ last) same all =
     let (first, rest) = cons_parts (placeless t) (placeless u) (map placeless later)
     (map placeless last) same in
     let moved = all_saved_as_moved number _ after later last rest all.1 in (
-      saved_as_moved number front s t u first all.0,
+      saved_as_moved number prefix s t u first all.0,
       rw (← same_sentence nowhere nowhere t u first) moved,
     )
-all_saved_as_moved number front after later last same all = absurd all
+all_saved_as_moved number prefix after later last same all = absurd all
 
--- the one at a place
-pub saved_as_at : (number : ℕ) (front : List Sentence) (after later : List PlainStatement)
-    → AreSavedAs number front after later → (place : ℕ) (t : PlainStatement)
-    → slice_get later place ≡ Some t
-    → (s : PlainStatement) × (slice_get after place ≡ Some s)
-    × IsSavedAs number (front ++ sentences (take place later)) s t
-saved_as_at number front [] [] all place t there = absurd cc
-saved_as_at number front (s ∷ after) (u ∷ later) all zero t there =
+-- the one at an index
+pub saved_as_at : (number : ℕ) (prefix : List Sentence) (after later : List PlainStatement)
+    → AreSavedAs number prefix after later → (index : ℕ) (t : PlainStatement)
+    → slice_get later index ≡ Some t
+    → (s : PlainStatement) × (slice_get after index ≡ Some s)
+    × IsSavedAs number (prefix ++ sentences (take index later)) s t
+saved_as_at number prefix [] [] all index t there = absurd cc
+saved_as_at number prefix (s ∷ after) (u ∷ later) all zero t there =
     let same : u ≡ t = cc in
-    (s, refl, rw (append-nil front, ← same) all.0)
-saved_as_at number front (s ∷ after) (u ∷ later) all (suc place) t there =
-    let (v, here, saved) = saved_as_at number _ after later all.1 place t there in
+    (s, refl, rw (append-nil prefix, ← same) all.0)
+saved_as_at number prefix (s ∷ after) (u ∷ later) all (suc index) t there =
+    let (v, here, saved) = saved_as_at number _ after later all.1 index t there in
     (v, here, rw append_assoc at saved)
-saved_as_at number front after later all place t there = absurd all
+saved_as_at number prefix after later all index t there = absurd all
 
 -- ---- the proofs behind some statements
 
@@ -111,11 +111,11 @@ abbrev AreFilledBehind : (files : List PlainFile) → (number : ℕ) → (bytes 
     → (before : List PlainStatement) → (statements all : List PlainStatement)
     → (news : List Replacement) → Type 0
 AreFilledBehind files number bytes before statements all news =
-    (first : List ℕ) (front back : List Slot)
-    → length front ≡ length (theorems_of number before)
-    → HasSlots files statements number first (front ++ back)
+    (first : List ℕ) (prefix back : List Slot)
+    → length prefix ≡ length (theorems_of number before)
+    → HasSlots files statements number first (prefix ++ back)
     → AllZip (λ slot new. new.text ≡ slot.put) back news
-    → HasSlots (with_bytes files number bytes) all number first (front ++ map filled back)
+    → HasSlots (with_bytes files number bytes) all number first (prefix ++ map filled back)
 
 -- The files with these bytes read as the statements before, and others, which say what those after
 -- them said; the theorems of the file among them have new proofs.
@@ -160,8 +160,8 @@ passed_over profile files number bytes before s after news other put = record {
     },
     rw (map-append sentence_of before (s ∷ [])) at put.each,
   );
-  fill = λ first front back long has texts.
-      put.fill first front back
+  fill = λ first prefix back long has texts.
+      put.fill first prefix back
       (long ∙ ap length (sym (theorems_passed number before s other))) has texts;
 }
 
@@ -177,22 +177,22 @@ module _ (profile : Profile) (f : Form) (files : List PlainFile) (number : ℕ) 
       (before ++ s ∷ later) news
       → AreFilledBehind files number (with_span bytes new.span new.text) before
       (before ++ s ∷ after) (read_anew p) (new ∷ news)
-  filled_one bytes after news r p is fill first front [] long has texts = absurd texts
-  filled_one bytes {before} {s} after {later} news r p is fill first front (slot ∷ back) long has
+  filled_one bytes after news r p is fill first prefix [] long has texts = absurd texts
+  filled_one bytes {before} {s} after {later} news r p is fill first prefix (slot ∷ back) long has
       texts =
       let others : List PlainFile = with_bytes files number bytes in
-      let one = append_assoc front (slot ∷ []) in
-      let longer : length (front ++ slot ∷ []) ≡ length (theorems_of number (before ++ s ∷ [])) =
-      length-append front (slot ∷ []) ∙ ap (λ (n : ℕ). n + 1) long
+      let one = append_assoc prefix (slot ∷ []) in
+      let longer : length (prefix ++ slot ∷ []) ≡ length (theorems_of number (before ++ s ∷ [])) =
+      length-append prefix (slot ∷ []) ∙ ap (λ (n : ℕ). n + 1) long
       ∙ sym (length-append (theorems_of number before) (s ∷ []))
       ∙ sym (ap length (theorems_parted number before s [] is)) in
       let behind = rw (one (map filled back)) at
-      (fill first (front ++ slot ∷ []) back longer (rw (one back) has) texts.1) in
+      (fill first (prefix ++ slot ∷ []) back longer (rw (one back) has) texts.1) in
       subst (λ (fs : List PlainFile).
-      HasSlots fs (read_anew p) number first (front ++ map filled (slot ∷ back)))
+      HasSlots fs (read_anew p) number first (prefix ++ map filled (slot ∷ back)))
       (with_bytes_again files number file bytes (with_span bytes s.span slot.put) handed
       ∙ (λ i. with_bytes files number (with_span bytes (sym r.span i) (sym texts.0 i))))
-      (slots_put_anew p number first front slot (map filled back) (theorem_home number s is)
+      (slots_put_anew p number first prefix slot (map filled back) (theorem_home number s is)
       (sym texts.0 ∙ r.put) long behind)
 
   -- and it is put in
@@ -208,11 +208,11 @@ module _ (profile : Profile) (f : Form) (files : List PlainFile) (number : ℕ) 
       let home : s.first.file ≡ number = theorem_home number s is in
       let others : List PlainFile = with_bytes files number bytes in
       let st : List PlainStatement = before ++ s ∷ after in
-      let here = one_label (sentences st) r.label r.place (length before) (sentence_of s)
-      (sentence_of s) (all_meant profile st obeyed) (said_there st r.place s r.proof.there)
+      let here = one_label (sentences st) r.label r.index (length before) (sentence_of s)
+      (sentence_of s) (all_meant profile st obeyed) (said_there st r.index s r.proof.there)
       (said_there st (length before) s (get_parted before after s)) r.proof.named r.proof.named in
-      let front : sentences (take r.place st) ≡ sentences before = rw (here, take-append_seam) in
-      let p = to_put r.proof r.laid front next.reads next.obeyed
+      let prefix : sentences (take r.index st) ≡ sentences before = rw (here, take-append_seam) in
+      let p = to_put r.proof r.laid prefix next.reads next.obeyed
       (ap (slice_get others) home ∙ handed_anew files number file bytes handed) in
       let put = are_put_anew p in
       let anew = anew_of p in
@@ -270,8 +270,8 @@ module _ (profile : Profile) (f : Form) (files : List PlainFile) (number : ℕ) 
   }
     where
       fill : AreFilledBehind files number file.bytes before (before ++ []) (before ++ []) []
-      fill first front [] long has texts = rw (with_bytes_own files number file handed) has
-      fill first front (slot ∷ back) long has texts = absurd texts
+      fill first prefix [] long has texts = rw (with_bytes_own files number file handed) has
+      fill first prefix (slot ∷ back) long has texts = absurd texts
   put_behind before [] (new ∷ news) reads obeyed each = absurd each
   put_behind before (s ∷ after) news reads obeyed each =
       let same : (λ (rest : List PlainStatement). (before ++ s ∷ []) ++ rest)
@@ -335,14 +335,14 @@ abbrev SayAsTheorems : (number : ℕ) → PlainStatement → PlainStatement → 
 SayAsTheorems number s t =
     (is_theorem_of number s ≡ is_theorem_of number t) × (sentence_of s ≡ sentence_of t)
 
-saved_zip : (number : ℕ) (front : List Sentence) (after later : List PlainStatement)
-    → AreSavedAs number front after later → AllZip (SayAsTheorems number) after later
-saved_zip number front [] [] all = tt
-saved_zip number front (s ∷ after) (t ∷ later) all = (
+saved_zip : (number : ℕ) (prefix : List Sentence) (after later : List PlainStatement)
+    → AreSavedAs number prefix after later → AllZip (SayAsTheorems number) after later
+saved_zip number prefix [] [] all = tt
+saved_zip number prefix (s ∷ after) (t ∷ later) all = (
   (all.0.theorem, all.0.said),
-  saved_zip number (front ++ sentence_of t ∷ []) after later all.1,
+  saved_zip number (prefix ++ sentence_of t ∷ []) after later all.1,
 )
-saved_zip number front after later all = absurd all
+saved_zip number prefix after later all = absurd all
 
 -- ---- what was put in for them is put in again
 
@@ -365,14 +365,14 @@ module _ (profile : Profile) (f : Form) (statements others : List PlainStatement
       → Contains others t → IsReplacement f statements s new
       → IsReplacement f others t (record { span = t.span; text = new.text })
   replaced_again s t new said there r =
-      let (u, has) = text_carried profile f statements others r.label r.place s r.root r.below
+      let (u, has) = text_carried profile f statements others r.label r.index s r.root r.below
       r.text obeyed carries (record { proof = r.proof; laid = r.laid }) in
       let (k, here) = at_from_contains others t there in
       let named = sym (ap (λ (x : Sentence). x.label) said) ∙ r.proof.named in
       let same : u ≡ t =
-      sym (one_stands others r.label r.place u t (all_meant profile others still) has.proof.there
+      sym (one_stands others r.label r.index u t (all_meant profile others still) has.proof.there
       has.proof.named (k, here, named)) in
-      let own : HasText f others r.label r.place t r.root r.below r.text = rw same at has in
+      let own : HasText f others r.label r.index t r.root r.below r.text = rw same at has in
       replaced_by f r.text own.proof own.laid refl r.put
 
   all_replaced_again : (theorems later : List PlainStatement) (news : List Replacement)

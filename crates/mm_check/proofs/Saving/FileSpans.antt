@@ -116,14 +116,14 @@ theorems_passed number before s other =
 
 -- a theorem's proof is replaced by a text of its tree
 pub replaced_by : (form : Form) (text : List ℕ) {statements : List PlainStatement} {label : List ℕ}
-    {place : ℕ} {s : PlainStatement} {root : List ℕ} {below : Trees} {new : Replacement}
-    → HasProofTree statements label place s root below
-    → IsTextIn form (sentences (take place statements)) (sentence_of s) (tree root below none) text
+    {index : ℕ} {s : PlainStatement} {root : List ℕ} {below : Trees} {new : Replacement}
+    → HasProofTree statements label index s root below
+    → IsTextIn form (sentences (take index statements)) (sentence_of s) (tree root below none) text
     → new.span ≡ s.span → new.text ≡ 10 ∷ text → IsReplacement form statements s new
-replaced_by form text {label = label} {place = place} {root = root} {below = below} proof laid span
+replaced_by form text {label = label} {index = index} {root = root} {below = below} proof laid span
     put = record {
       label = label;
-      place = place;
+      index = index;
       root = root;
       below = below;
       proof = proof;
@@ -140,14 +140,14 @@ pub first_too_long : (statements : List PlainStatement) (number : ℕ) (label : 
     → AllZip (IsReplacement Normal statements) before news → HasTooLongProof statements s label
     → IsFirstTooLong statements number label
 first_too_long statements number label before s after news split fit
-    (place, root, below, proof, long) = record {
+    (index, root, below, proof, long) = record {
       before = before;
       s = s;
       after = after;
       split = split;
       news = news;
       fit = fit;
-      place = place;
+      index = index;
       root = root;
       below = below;
       proof = proof;
@@ -158,7 +158,7 @@ first_too_long statements number label before s after news split fit
 
 -- ---- slots
 
--- The place of a proof: whose it is, what stands there now, what is to stand there, and what is
+-- The slot of a proof: whose it is, what stands there now, what is to stand there, and what is
 -- kept between it and the next one.
 pub record Slot : Type 0 where
   pub owner : PlainStatement
@@ -195,12 +195,12 @@ passed_is : (before first now rest : List ℕ)
 passed_is before first now rest =
     sym (append_assoc before first (now ++ rest)) ∙ sym (append_assoc (before ++ first) now rest)
 
-pub put_woven : (before first : List ℕ) (front : List Slot) (slot : Slot) (back : List Slot)
+pub put_woven : (before first : List ℕ) (prefix : List Slot) (slot : Slot) (back : List Slot)
     (earlier : List PlainStatement) (s : PlainStatement) (later : List PlainStatement)
-    → length front ≡ length earlier
-    → StandAt (length before) first (front ++ slot ∷ back) (earlier ++ s ∷ later)
-    → with_span (before ++ woven first (front ++ slot ∷ back)) s.span slot.put
-    ≡ before ++ woven first (front ++ filled slot ∷ back)
+    → length prefix ≡ length earlier
+    → StandAt (length before) first (prefix ++ slot ∷ back) (earlier ++ s ∷ later)
+    → with_span (before ++ woven first (prefix ++ slot ∷ back)) s.span slot.put
+    ≡ before ++ woven first (prefix ++ filled slot ∷ back)
 put_woven before first [] slot back [] s later long (start, stop, rest) =
     let whole = append_assoc before first in
     let one = length-append before first in
@@ -209,17 +209,17 @@ put_woven before first [] slot back [] s later long (start, stop, rest) =
     ∙ span_put (before ++ first) slot.now (woven slot.kept back) slot.put s.span (start ∙ sym one)
     (stop ∙ ap (λ (n : ℕ). n + length slot.now) (sym one))
     ∙ whole (slot.put ++ woven slot.kept back)
-put_woven before first (x ∷ front) slot back (u ∷ earlier) s later long (start, stop, rest) =
+put_woven before first (x ∷ prefix) slot back (u ∷ earlier) s later long (start, stop, rest) =
     ap (λ (l : List ℕ). with_span l s.span slot.put)
-    (passed_is before first x.now (woven x.kept (front ++ slot ∷ back)))
-    ∙ put_woven (passed before first x.now) x.kept front slot back earlier s later (omega arith)
+    (passed_is before first x.now (woven x.kept (prefix ++ slot ∷ back)))
+    ∙ put_woven (passed before first x.now) x.kept prefix slot back earlier s later (omega arith)
     (rw (length-append (before ++ first) x.now, length-append before first) rest)
-    ∙ sym (passed_is before first x.now (woven x.kept (front ++ filled slot ∷ back)))
-put_woven before first front slot back earlier s later long stands = absurd (omega arith)
+    ∙ sym (passed_is before first x.now (woven x.kept (prefix ++ filled slot ∷ back)))
+put_woven before first prefix slot back earlier s later long stands = absurd (omega arith)
 
 -- ---- and the spans then
 
--- the span is as far behind another place as it was behind one
+-- the span is as far behind another position as it was behind one
 pub record IsMovedTo (end other_end : ℕ) (s t : PlainStatement) : Type 0 where
   pub start : s.span.0 + other_end ≡ t.span.0 + end
   pub stop : s.span.1 + other_end ≡ t.span.1 + end
@@ -243,12 +243,12 @@ stand_moved end other_end at other first (x ∷ slots) (s ∷ statements) (t ∷
     )
 stand_moved end other_end at other first slots statements others far moved stands = absurd stands
 
-pub put_stands : (at : ℕ) (first : List ℕ) (front : List Slot) (slot : Slot) (back : List Slot)
+pub put_stands : (at : ℕ) (first : List ℕ) (prefix : List Slot) (slot : Slot) (back : List Slot)
     (earlier : List PlainStatement) (s t : PlainStatement) (later moved : List PlainStatement)
-    → length front ≡ length earlier → t.span ≡ (s.span.0, s.span.0 + length slot.put)
+    → length prefix ≡ length earlier → t.span ≡ (s.span.0, s.span.0 + length slot.put)
     → AllZip (IsMovedTo s.span.1 (s.span.0 + length slot.put)) later moved
-    → StandAt at first (front ++ slot ∷ back) (earlier ++ s ∷ later)
-    → StandAt at first (front ++ filled slot ∷ back) (earlier ++ t ∷ moved)
+    → StandAt at first (prefix ++ slot ∷ back) (earlier ++ s ∷ later)
+    → StandAt at first (prefix ++ filled slot ∷ back) (earlier ++ t ∷ moved)
 put_stands at first [] slot back [] s t later moved long span zip (start, stop, rest) =
     rw span (
       start,
@@ -257,14 +257,14 @@ put_stands at first [] slot back [] s t later moved long span zip (start, stop, 
           (at + length first + length slot.put) slot.kept back later moved
           (omega (arith, start, stop)) zip rest,
     )
-put_stands at first (x ∷ front) slot back (u ∷ earlier) s t later moved long span zip
+put_stands at first (x ∷ prefix) slot back (u ∷ earlier) s t later moved long span zip
     (start, stop, rest) = (
       start,
       stop,
-      put_stands (at + length first + length x.now) x.kept front slot back earlier s t later moved
+      put_stands (at + length first + length x.now) x.kept prefix slot back earlier s t later moved
           (omega arith) span zip rest,
     )
-put_stands at first front slot back earlier s t later moved long span zip stands =
+put_stands at first prefix slot back earlier s t later moved long span zip stands =
     absurd (omega arith)
 
 -- ---- all slots are filled
@@ -294,7 +294,7 @@ all_filled before first slots statements news stands spans texts = absurd stands
 
 -- ---- a list is cut into slots
 
--- the spans rise, from a place on and up to an end
+-- the spans rise, from a position on and up to an end
 abbrev pub Rise : (at end : ℕ) → List PlainStatement → Type 0
 Rise at end [] = at ≤ end
 Rise at end (s ∷ statements) =
@@ -495,13 +495,13 @@ module _ {profile : Profile} {f : Form} {files : List PlainFile} {before : List 
     (p : IsToPut profile f files before s after file text) where
   -- With one proof put in, the i-th theorem stands where the i-th text does: the file is woven of
   -- the slots of which that one is filled.
-  pub slots_put_anew : (number : ℕ) (first : List ℕ) (front : List Slot) (slot : Slot)
+  pub slots_put_anew : (number : ℕ) (first : List ℕ) (prefix : List Slot) (slot : Slot)
       (back : List Slot) → s.first.file ≡ number → slot.put ≡ 10 ∷ text
-      → length front ≡ length (theorems_of number before)
-      → HasSlots files (before ++ s ∷ after) number first (front ++ slot ∷ back)
+      → length prefix ≡ length (theorems_of number before)
+      → HasSlots files (before ++ s ∷ after) number first (prefix ++ slot ∷ back)
       → HasSlots (with_bytes files number (with_span file.bytes s.span slot.put)) (read_anew p)
-      number first (front ++ filled slot ∷ back)
-  slots_put_anew number first front slot back home fills long has =
+      number first (prefix ++ filled slot ∷ back)
+  slots_put_anew number first prefix slot back home fills long has =
       let t : PlainStatement = put_anew s (10 ∷ text) in
       let put = are_put_anew p in
       let is : is_theorem_of number s ≡ true = theorem_there number s p.complete home in
@@ -518,8 +518,8 @@ module _ {profile : Profile} {f : Form} {files : List PlainFile} {before : List 
         file = record file { bytes = bytes };
         handed = handed_anew files number file bytes there;
         whole = ap (λ (l : List ℕ). with_span l s.span slot.put) whole
-            ∙ put_woven [] first front slot back earlier s (theorems_of number after) long stand;
+            ∙ put_woven [] first prefix slot back earlier s (theorems_of number after) long stand;
         stand = rw (theorems_parted number before t put.later new)
-            (put_stands 0 first front slot back earlier s t (theorems_of number after)
+            (put_stands 0 first prefix slot back earlier s t (theorems_of number after)
             (theorems_of number put.later) long span moved stand);
       }

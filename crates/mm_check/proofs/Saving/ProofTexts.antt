@@ -1,5 +1,6 @@
 -- A text in a form is a proof of its theorem; that of a packed proof tells its labels and its codes,
--- and is small enough to be written.
+-- so such texts tell whether two proofs are the same (`packed_texts_tell`), and is small enough to
+-- be written.
 use Rattle.std.proofs.Common.{◌≡◌, ◌≢◌, ℕ, ◌+◌, ◌≤◌, ◌==◌, ◌||◌, ◌&&◌, List, [], ◌∷◌, ◌++◌, map}
 use Rattle.std.proofs.Common.{Bool, true, false, refl, sym, subst, ◌∙◌, arith, append_assoc}
 use Rattle.std.proofs.Common.{append-nil, Contains, ◌↔◌, zero, suc, take, None, inl, inr, ap, ◌<◌}
@@ -11,7 +12,7 @@ use Rattle.mm_text.specs.Token.{PlainToken, is_space, is_printable, is_label_byt
 use Rattle.mm_text.specs.Token.{HoldsNoDollar, tokens_from}
 use Rattle.mm_text.specs.Replaced.{IsProofToken, IsProofText}
 use Rattle.mm_text.proofs.Reader.OneToken.{label_held, label_bytes}
-use Rattle.mm_text.proofs.Lists.{all_append, all_front, all_back, all_weaker, contains_from_at}
+use Rattle.mm_text.proofs.Lists.{all_append, all_prefix, all_back, all_weaker, contains_from_at}
 use Rattle.mm_text.proofs.Lists.{same_length}
 use Rattle.mm_code.specs.declared.code.Code.{Code}
 use Rattle.mm_code.specs.declared.code.Code.TheVariants.{Number, Tag}
@@ -48,7 +49,7 @@ use Rattle.mm_proof.proofs.Machines.TreeWords.{made_word}
 use Rattle.mm_proof.proofs.FullSharing.OneSharedProof.{told_by_packed_holds, uses_apart}
 use Rattle.mm_proof.proofs.FullSharing.OneSharedProof.{some_packed_holds}
 use Rattle.mm_text.proofs.Reader.WholeReadings.{readings_are_formed_in_place}
-use Rattle.mm_frame.proofs.Rules.ObeyedRules.{allformed_front, allmeant_front}
+use Rattle.mm_frame.proofs.Rules.ObeyedRules.{allformed_prefix, allmeant_prefix}
 use Rattle.mm_check.specs.Verdict.{sentences}
 use Rattle.mm_check.specs.FormLaws.{PackedTextsTell}
 use Rattle.mm_check.proofs.Verdicts.OneVerdict.{formed_sentences}
@@ -64,7 +65,7 @@ use Rattle.mm_proof.specs.BigSubtrees.{IsSubtree}
 use Rattle.mm_proof.specs.Visits.{Visit, keeps, visits, trees_made}
 use Rattle.mm_proof.proofs.FullSharing.FewestSteps.{made_subtrees, subtrees_made, sum_within}
 use Rattle.mm_proof.proofs.ProofTokens.CodeLetters.{said_moves}
-use Rattle.mm_proof.proofs.Members.{In, in_get, get_in, in_contains, places_once}
+use Rattle.mm_proof.proofs.Members.{In, in_get, get_in, in_contains, indices_once}
 use Rattle.mm_proof.proofs.FullSharing.OneSharing.{kept_are, kept_stays, shared_kept_once}
 use Rattle.mm_proof.proofs.FullSharing.OneSharing.{kept_visit, visit_made}
 use Rattle.mm_check.specs.declared.form.Form.TheVariants as form
@@ -146,7 +147,7 @@ letters_fine letters codes s = subst AreFine (sym s.joined) (pieces_fine s.piece
 pub cut_fine : (pieces : List (List ℕ)) → AreFine (flat_map (λ piece. piece) pieces) → AllByRecursion AreFine pieces
 cut_fine [] h = tt
 cut_fine (piece ∷ pieces) h =
-    (all_front IsFine piece (flat_map (λ p. p) pieces) h, cut_fine pieces (all_back IsFine piece (flat_map (λ p. p) pieces) h))
+    (all_prefix IsFine piece (flat_map (λ p. p) pieces) h, cut_fine pieces (all_back IsFine piece (flat_map (λ p. p) pieces) h))
 
 -- ---- tokens of fine bytes
 
@@ -201,9 +202,9 @@ lines_end [] text h = h
 lines_end (line ∷ lines) text h =
     rw append_assoc (line_before (token_line line) _ (lines_end lines text h))
 
-letter_lines_end : (lines : List (List ℕ)) (front : List ℕ) → EndsLine (flat_map (λ line. (front ++ line) ++ 10 ∷ []) lines)
-letter_lines_end [] front = ([], refl)
-letter_lines_end (line ∷ lines) front = line_before (front ++ line) (flat_map (λ l. (front ++ l) ++ 10 ∷ []) lines) (letter_lines_end lines front)
+letter_lines_end : (lines : List (List ℕ)) (prefix : List ℕ) → EndsLine (flat_map (λ line. (prefix ++ line) ++ 10 ∷ []) lines)
+letter_lines_end [] prefix = ([], refl)
+letter_lines_end (line ∷ lines) prefix = line_before (prefix ++ line) (flat_map (λ l. (prefix ++ l) ++ 10 ∷ []) lines) (letter_lines_end lines prefix)
 
 pub laid_ends : (tokens : List (List ℕ)) (text more : List ℕ) → LaidOut tokens text → EndsLine more → EndsLine (text ++ more)
 laid_ends tokens text more laid h = subst (λ (l : List ℕ). EndsLine (l ++ more)) (sym laid.printed) (lines_end laid.lines more h)
@@ -389,13 +390,13 @@ told_by_texts before s moves others l m a b text other all formed made made' p q
 -- ---- statements of files
 
 pub packed_texts : PackedTextsTell
-packed_texts profile files statements place s moves others l m a b text other accepted made made' p q =
-    let before : List Sentence = sentences (take place statements) in
-    let front : before ≡ take place (sentences statements) = map-take place statements in
+packed_texts profile files statements index s moves others l m a b text other accepted made made' p q =
+    let before : List Sentence = sentences (take index statements) in
+    let prefix : before ≡ take index (sentences statements) = map-take index statements in
     let formed : AllFormed (sentences statements) = formed_sentences statements (readings_are_formed_in_place files statements None accepted.reads).formed in
     let meant : AllMeant (sentences statements) = all_meant profile statements accepted.obeyed in
-    told_by_texts before s moves others l m a b text other (subst AllMeant (sym front) (allmeant_front (sentences statements) place meant))
-    (subst AllFormed (sym front) (allformed_front (sentences statements) place formed)) made made' p q
+    told_by_texts before s moves others l m a b text other (subst AllMeant (sym prefix) (allmeant_prefix (sentences statements) index meant))
+    (subst AllFormed (sym prefix) (allformed_prefix (sentences statements) index formed)) made made' p q
 
 -- ==== the fully shared proof of a theorem's tree is small enough to be written: it lists no more
 -- labels than there are statements, and keeps no more trees than the theorem's own proof has bytes
@@ -434,7 +435,7 @@ few_kept : (before : List Sentence) (trees : Trees) (moves others : List (Move (
     → Makes before others none [] trees kept → length shared.kept ≤ length others
 few_kept before trees moves others kept shared m =
     let made : List Trees = trees_made (visits before others none [] trees kept m) in
-    let once = places_once shared.kept (shared_kept_once before trees moves shared) in
+    let once = indices_once shared.kept (shared_kept_once before trees moves shared) in
     let within : (t : Trees) → In shared.kept t → In made t = λ t has.
     subtrees_made (In made) before others none [] trees kept m (λ u h. absurd h)
     (λ u w h. absurd h) (λ u h. h) t (kept_subtree before trees moves shared t has) in
@@ -458,9 +459,9 @@ few_listed before s trees listed codes fit p =
     let f =
     label_fits before trees label fit
     (packed_listed before s trees listed codes label p (in_contains listed label has)) in
-    let (place, t, there, named) = stands_known before label f.0 f.1 in
-    get_in names place label
-    (slice_get-map name_or_none before place ∙ ap (option_map name_or_none) there
+    let (index, t, there, named) = stands_known before label f.0 f.1 in
+    get_in names index label
+    (slice_get-map name_or_none before index ∙ ap (option_map name_or_none) there
     ∙ ap (λ (o : Option (List ℕ)). Some (unwrap_or o [])) named) in
     let most =
     sum_within (λ (label : List ℕ). 1) listed names
@@ -497,10 +498,10 @@ says_within : (labels : List (List ℕ)) (count most : ℕ) (code : Code) (move 
     → length labels + count ≤ most → Says labels code move → IsTagBelow count move
     → IsWithinMost most code
 says_within labels count most (Number number) move room
-    (place, at, inl (label, there, same)) below =
-    let within : place < length labels = slice_get_within labels place label there in
+    (index, at, inl (label, there, same)) below =
+    let within : index < length labels = slice_get_within labels index label there in
     (omega (arith, at), omega (arith, at, within, room))
-says_within labels count most (Number number) move room (place, at, inr (tag, far, same)) below =
+says_within labels count most (Number number) move room (index, at, inr (tag, far, same)) below =
     let less : tag < count = subst (IsTagBelow count) same below in
     (omega (arith, at), omega (arith, at, far, less, room))
 says_within labels count most Tag move room said below = tt

@@ -76,22 +76,22 @@ use Rattle.mm_text.specs.declared.fault.LoadRule.TheVariants as load
 
 -- ==== what is said of theorems is said where other proofs of the same trees stand
 
--- ---- two statements at one place
+-- ---- two statements at one index
 
-pub record AreAlikeAt (front : List Sentence) (s t : PlainStatement) : Type 0 where
+pub record AreAlikeAt (prefix : List Sentence) (s t : PlainStatement) : Type 0 where
   pub said : sentence_of s ≡ sentence_of t
   pub proofs : is_proof s ≡ is_proof t
   pub unproved : is_unproved s ≡ is_unproved t
-  pub tree : is_proof s ≡ true → (p : IsProved front (sentence_of s) (proof_of s)) → (q : IsProved front (sentence_of t) (proof_of t)) × (tree_of p ≡ tree_of q)
+  pub tree : is_proof s ≡ true → (p : IsProved prefix (sentence_of s) (proof_of s)) → (q : IsProved prefix (sentence_of t) (proof_of t)) × (tree_of p ≡ tree_of q)
 
-pub alike_at : (front : List Sentence) (s t : PlainStatement) → sentence_of s ≡ sentence_of t → proof_of s ≡ proof_of t → AreAlikeAt front s t
-alike_at front s t said proof = record {
+pub alike_at : (prefix : List Sentence) (s t : PlainStatement) → sentence_of s ≡ sentence_of t → proof_of s ≡ proof_of t → AreAlikeAt prefix s t
+alike_at prefix s t said proof = record {
   said = said;
   proofs = λ i. is_provable (said i).kind && not (is_incomplete (proof i));
   unproved = λ i. is_provable (said i).kind && is_incomplete (proof i);
   tree = λ complete p. subst (λ (z : List (List ℕ)).
-      (q : IsProved front (sentence_of t) z) × (tree_of p ≡ tree_of q)) proof
-      (subst (λ (w : Sentence). (q : IsProved front w (proof_of s)) × (tree_of p ≡ tree_of q)) said
+      (q : IsProved prefix (sentence_of t) z) × (tree_of p ≡ tree_of q)) proof
+      (subst (λ (w : Sentence). (q : IsProved prefix w (proof_of s)) × (tree_of p ≡ tree_of q)) said
       (p, refl));
 }
 
@@ -99,24 +99,24 @@ alike_at front s t said proof = record {
 
 pub record Carries (statements others : List PlainStatement) : Type 0 where
   pub told : sentences statements ≡ sentences others
-  pub at : (place : ℕ) (s : PlainStatement) → slice_get statements place ≡ Some s
-      → (t : PlainStatement) × (slice_get others place ≡ Some t) × AreAlikeAt (sentences (take place statements)) s t
+  pub at : (index : ℕ) (s : PlainStatement) → slice_get statements index ≡ Some s
+      → (t : PlainStatement) × (slice_get others index ≡ Some t) × AreAlikeAt (sentences (take index statements)) s t
 
-pub front_told : (statements others : List PlainStatement) (place : ℕ) → sentences statements ≡ sentences others → sentences (take place statements) ≡ sentences (take place others)
-front_told statements others place told = map-take place statements ∙ ap (take place) told ∙ sym (map-take place others)
+pub prefix_told : (statements others : List PlainStatement) (index : ℕ) → sentences statements ≡ sentences others → sentences (take index statements) ≡ sentences (take index others)
+prefix_told statements others index told = map-take index statements ∙ ap (take index) told ∙ sym (map-take index others)
 
 -- to themselves
 pub carries_self : (statements : List PlainStatement) → Carries statements statements
 carries_self statements = record {
   told = refl;
-  at = λ place s there.
-      (s, there, alike_at (sentences (take place statements)) s s refl refl);
+  at = λ index s there.
+      (s, there, alike_at (sentences (take index statements)) s s refl refl);
 }
 
 -- and on
-alike_on : (front : List Sentence) (s t u : PlainStatement) → AreAlikeAt front s t
-    → AreAlikeAt front t u → AreAlikeAt front s u
-alike_on front s t u one other = record {
+alike_on : (prefix : List Sentence) (s t u : PlainStatement) → AreAlikeAt prefix s t
+    → AreAlikeAt prefix t u → AreAlikeAt prefix s u
+alike_on prefix s t u one other = record {
   said = one.said ∙ other.said;
   proofs = one.proofs ∙ other.proofs;
   unproved = one.unproved ∙ other.unproved;
@@ -130,39 +130,39 @@ pub carries_on : {statements others more : List PlainStatement} → Carries stat
     → Carries others more → Carries statements more
 carries_on {statements} {others} one other = record {
   told = one.told ∙ other.told;
-  at = λ place s there.
-      let (t, here, alike) = one.at place s there in
-      let (u, found, further) = other.at place t here in
-      let front = sym (front_told statements others place one.told) in
-      let moved = subst (λ (ss : List Sentence). AreAlikeAt ss t u) front further in
-      (u, found, alike_on (sentences (take place statements)) s t u alike moved);
+  at = λ index s there.
+      let (t, here, alike) = one.at index s there in
+      let (u, found, further) = other.at index t here in
+      let prefix = sym (prefix_told statements others index one.told) in
+      let moved = subst (λ (ss : List Sentence). AreAlikeAt ss t u) prefix further in
+      (u, found, alike_on (sentences (take index statements)) s t u alike moved);
 }
 
-place_carried : (statements others : List PlainStatement) (id place : ℕ) (s t : PlainStatement) → sentences statements ≡ sentences others → sentence_of s ≡ sentence_of t → slice_get others place ≡ Some t
-    → IsAt statements id place s → IsAt others id place t
-place_carried statements others id place s t told said there at = record {
+index_carried : (statements others : List PlainStatement) (id index : ℕ) (s t : PlainStatement) → sentences statements ≡ sentences others → sentence_of s ≡ sentence_of t → slice_get others index ≡ Some t
+    → IsAt statements id index s → IsAt others id index t
+index_carried statements others id index s t told said there at = record {
   there = there;
-  numbered = subst (λ (x : Sentence). IsNumbered (sentences others) id place x) said (subst (λ (ss : List Sentence). IsNumbered ss id place (sentence_of s)) told at.numbered);
+  numbered = subst (λ (x : Sentence). IsNumbered (sentences others) id index x) said (subst (λ (ss : List Sentence). IsNumbered ss id index (sentence_of s)) told at.numbered);
 }
 
 -- the tree of a proof
-pub tree_carried : (statements others : List PlainStatement) (id place : ℕ) (t : Trees) → Carries statements others → HasTree statements id place t → HasTree others id place t
-tree_carried statements others id place t carries has =
-    let (u, there, alike) = carries.at place has.s has.at.there in
+pub tree_carried : (statements others : List PlainStatement) (id index : ℕ) (t : Trees) → Carries statements others → HasTree statements id index t → HasTree others id index t
+tree_carried statements others id index t carries has =
+    let (u, there, alike) = carries.at index has.s has.at.there in
     let (q, same) = alike.tree has.complete has.proof in
-    let moved : (p : IsProved (sentences (take place others)) (sentence_of u) (proof_of u)) × (t ≡ tree_of p) =
-    subst (λ (front : List Sentence). (p : IsProved front (sentence_of u) (proof_of u)) × (t ≡ tree_of p)) (front_told statements others place carries.told) (q, has.spelled ∙ same) in
+    let moved : (p : IsProved (sentences (take index others)) (sentence_of u) (proof_of u)) × (t ≡ tree_of p) =
+    subst (λ (prefix : List Sentence). (p : IsProved prefix (sentence_of u) (proof_of u)) × (t ≡ tree_of p)) (prefix_told statements others index carries.told) (q, has.spelled ∙ same) in
     record {
       s = u;
-      at = place_carried statements others id place has.s u carries.told alike.said there has.at;
+      at = index_carried statements others id index has.s u carries.told alike.said there has.at;
       complete = sym alike.proofs ∙ has.complete;
       proof = moved.0;
       spelled = moved.1;
     }
 
 uses_carried : (statements others : List PlainStatement) (id used : ℕ) → Carries statements others → Uses statements id used → Uses others id used
-uses_carried statements others id used carries (place, t, has, number) =
-    (place, t, tree_carried statements others id place t carries has, subst (λ (front : List Sentence). IsUsedNumber front t used) (front_told statements others place carries.told) number)
+uses_carried statements others id used carries (index, t, has, number) =
+    (index, t, tree_carried statements others id index t carries has, subst (λ (prefix : List Sentence). IsUsedNumber prefix t used) (prefix_told statements others index carries.told) number)
 
 rests_carried : (statements others : List PlainStatement) (theorem id : ℕ) → Carries statements others → RestsOn (Uses statements) theorem id → RestsOn (Uses others) theorem id
 rests_carried statements others theorem id carries =
@@ -171,15 +171,15 @@ rests_carried statements others theorem id carries =
 
 -- the number of a statement
 number_carried : (statements others : List PlainStatement) (P : PlainStatement → Type 0) (id : ℕ) → Carries statements others
-    → ((front : List Sentence) (s t : PlainStatement) → AreAlikeAt front s t → P s → P t) → IsNumberWhere statements P id → IsNumberWhere others P id
-number_carried statements others P id carries so (place, s, at, is) =
-    let (t, there, alike) = carries.at place s at.there in
-    (place, t, place_carried statements others id place s t carries.told alike.said there at, so (sentences (take place statements)) s t alike is)
+    → ((prefix : List Sentence) (s t : PlainStatement) → AreAlikeAt prefix s t → P s → P t) → IsNumberWhere statements P id → IsNumberWhere others P id
+number_carried statements others P id carries so (index, s, at, is) =
+    let (t, there, alike) = carries.at index s at.there in
+    (index, t, index_carried statements others id index s t carries.told alike.said there at, so (sentences (take index statements)) s t alike is)
 
 -- the numbers of those that the theorem rests on, in order
 order_carried : (statements others : List PlainStatement) (P : PlainStatement → Type 0)
     (theorem : ℕ) (ids : List ℕ) → Carries statements others → Carries others statements
-    → ((front : List Sentence) (s t : PlainStatement) → AreAlikeAt front s t → P s → P t)
+    → ((prefix : List Sentence) (s t : PlainStatement) → AreAlikeAt prefix s t → P s → P t)
     → AreInOrder (λ n. IsNumberWhere statements P n × RestsOn (Uses statements) theorem n) ids
     → AreInOrder (λ n. IsNumberWhere others P n × RestsOn (Uses others) theorem n) ids
 order_carried statements others P theorem ids to from so order = in_order_same _ _ ids order (λ n. (
@@ -193,11 +193,11 @@ pub report_carried : (statements others : List PlainStatement) (label : List ℕ
 report_carried statements others label axioms unproved to from r = record {
   id = r.id;
   theorem = number_carried statements others (λ s. IsLabelled label (sentence_of s) × (is_proof s ≡ true)) r.id to
-      (λ front s t alike is. (subst (IsLabelled label) alike.said is.0, sym alike.proofs ∙ is.1)) r.theorem;
+      (λ prefix s t alike is. (subst (IsLabelled label) alike.said is.0, sym alike.proofs ∙ is.1)) r.theorem;
   are_axioms = order_carried statements others (λ s. s.kind ≡ Axiom) r.id axioms to from
-      (λ front s t alike is. sym (ap (λ (x : Sentence). x.kind) alike.said) ∙ is) r.are_axioms;
+      (λ prefix s t alike is. sym (ap (λ (x : Sentence). x.kind) alike.said) ∙ is) r.are_axioms;
   are_unproved = order_carried statements others (λ s. is_unproved s ≡ true) r.id unproved to from
-      (λ front s t alike is. sym alike.unproved ∙ is) r.are_unproved;
+      (λ prefix s t alike is. sym alike.unproved ∙ is) r.are_unproved;
 }
 
 -- ==== what is put into a file, and why nothing is
@@ -249,37 +249,37 @@ file_most files k d bytes total less within same =
 
 -- ---- where a theorem stands
 
-pub home_file : (files : List PlainFile) (statements : List PlainStatement) (place : ℕ) (s : PlainStatement) → Reads files statements None → slice_get statements place ≡ Some s
+pub home_file : (files : List PlainFile) (statements : List PlainStatement) (index : ℕ) (s : PlainStatement) → Reads files statements None → slice_get statements index ≡ Some s
     → (file : PlainFile) × (slice_get files s.first.file ≡ Some file)
-home_file files statements place s reads there =
-    let placed : IsInPlace files s = all_at (IsInPlace files) statements place s (readings_are_formed_in_place files statements None reads).in_place there in
-    (placed.first.0, placed.first.1)
+home_file files statements index s reads there =
+    let indexed : IsInPlace files s = all_at (IsInPlace files) statements index s (readings_are_formed_in_place files statements None reads).in_place there in
+    (indexed.first.0, indexed.first.1)
 
 pub provable_proof : (s : PlainStatement) → is_proof s ≡ true → s.kind ≡ Provable
 provable_proof s complete = provable_kind s.kind (not (is_incomplete (proof_of s))) complete
 
 pub within_bytes : (s : PlainStatement) (bytes : List ℕ) → IsProofSpan s bytes → (s.span.0 ≤ length bytes) × (s.span.1 ≤ length bytes)
 within_bytes s bytes p =
-    let long : length bytes ≡ length p.front + (length p.within + length p.back) =
-    ap length p.whole ∙ length-append p.front (p.within ++ p.back) ∙ ap (λ (n : ℕ). length p.front + n) (length-append p.within p.back) in
+    let long : length bytes ≡ length p.prefix + (length p.within + length p.back) =
+    ap length p.whole ∙ length-append p.prefix (p.within ++ p.back) ∙ ap (λ (n : ℕ). length p.prefix + n) (length-append p.within p.back) in
     (omega (arith, long, p.start), omega (arith, long, p.stop))
 
-pub holds_span : (files : List PlainFile) (statements : List PlainStatement) (place : ℕ) (s : PlainStatement) (number : ℕ) (span : ℕ × ℕ) → Reads files statements None → slice_get statements place ≡ Some s
+pub holds_span : (files : List PlainFile) (statements : List PlainStatement) (index : ℕ) (s : PlainStatement) (number : ℕ) (span : ℕ × ℕ) → Reads files statements None → slice_get statements index ≡ Some s
     → is_proof s ≡ true → number ≡ s.first.file → span ≡ s.span → HoldsSpan files number span
-holds_span files statements place s number span reads there complete home same =
-    let parted : statements ≡ take place statements ++ s ∷ drop (suc place) statements = split_at statements place s there in
-    let (file, handed) = home_file files statements place s reads there in
+holds_span files statements index s number span reads there complete home same =
+    let parted : statements ≡ take index statements ++ s ∷ drop (suc index) statements = split_at statements index s there in
+    let (file, handed) = home_file files statements index s reads there in
     let stands : IsProofSpan s file.bytes =
-    proofs_stand_in_spans_holds files (take place statements) s (drop (suc place) statements) None
+    proofs_stand_in_spans_holds files (take index statements) s (drop (suc index) statements) None
     file (rw parted at reads) (provable_proof s complete) handed in
     let (start, stop) = within_bytes s file.bytes stands in
     (file, ap (slice_get files) home ∙ handed, rw same start, rw same stop)
 
--- what stands under a label stands in one place
+-- what stands under a label stands at one index
 pub home_of : (statements : List PlainStatement) (label : List ℕ) (t : PlainStatement) (number : ℕ) (span : ℕ × ℕ) → AllMeant (sentences statements) → Stands statements label t
     → number ≡ t.first.file → span ≡ t.span → IsHomeOf statements label number span
-home_of statements label t number span all stands home same s (place, there, named) =
-    let one : t ≡ s = one_stands statements label place s t all there named stands in
+home_of statements label t number span all stands home same s (index, there, named) =
+    let one : t ≡ s = one_stands statements label index s t all there named stands in
     (home ∙ ap (λ (u : PlainStatement). u.first.file) one, same ∙ ap (λ (u : PlainStatement). u.span) one)
 
 -- ---- its file with another proof
@@ -291,9 +291,9 @@ saved_of form ss files statements label id steps number span text bytes same r p
     let (root, below, has, told) =
     tree_told ss statements label id steps same r proved
     (λ before s trees. IsTextIn form before s trees text) laid in
-    let at = home r.s (r.place, r.there, r.named) in
+    let at = home r.s (r.index, r.there, r.named) in
     record {
-      place = r.place;
+      index = r.index;
       s = r.s;
       root = root;
       below = below;
@@ -357,83 +357,83 @@ abbrev pub put_anew : PlainStatement → List ℕ → PlainStatement
 put_anew s text = record s { proof = tokens_from s.first.file s.span.0 text; span = (s.span.0, s.span.0 + length text) }
 
 -- what is told of its proof
-pub record IsProvedAnew (profile : Profile) (front : List Sentence) (t : PlainStatement) (root : List ℕ) (below : Trees) : Type 0 where
+pub record IsProvedAnew (profile : Profile) (prefix : List Sentence) (t : PlainStatement) (root : List ℕ) (below : Trees) : Type 0 where
   pub complete : is_proof t ≡ true
-  pub strict : IsStrict front (sentence_of t) (proof_of t)
-  pub under : IsProvedUnder profile front (sentence_of t) (proof_of t)
-  pub proof : IsProved front (sentence_of t) (proof_of t)
+  pub strict : IsStrict prefix (sentence_of t) (proof_of t)
+  pub under : IsProvedUnder profile prefix (sentence_of t) (proof_of t)
+  pub proof : IsProved prefix (sentence_of t) (proof_of t)
   pub spelled : tree_of proof ≡ tree root below none
 
 -- the strict form is the one that either profile demands
-form_of_strict : (profile : Profile) (front : List Sentence) (s : Sentence)
-    (tokens : List (List ℕ)) → IsStrict front s tokens → HasFormOf profile front s tokens
-form_of_strict Strict front s tokens strict = strict
-form_of_strict Lenient front s tokens strict = tt
+form_of_strict : (profile : Profile) (prefix : List Sentence) (s : Sentence)
+    (tokens : List (List ℕ)) → IsStrict prefix s tokens → HasFormOf profile prefix s tokens
+form_of_strict Strict prefix s tokens strict = strict
+form_of_strict Lenient prefix s tokens strict = tt
 
-pub proved_anew : (profile : Profile) (front : List Sentence) (s : PlainStatement) (root : List ℕ) (below : Trees) (moves : List (Move (List ℕ))) (text : List ℕ) → AllMeant front → is_proof s ≡ true
-    → IsProvedWithin (IsWithin (limit_of profile)) front (sentence_of s) (proof_of s) → SayMoves front (sentence_of s) (proof_of s) moves → MakeTree front moves root below
-    → ReadsAsProof front (sentence_of s) root below text → IsProvedAnew profile front (put_anew s (10 ∷ text)) root below
-proved_anew profile front s root below moves text meant complete old told made ra =
+pub proved_anew : (profile : Profile) (prefix : List Sentence) (s : PlainStatement) (root : List ℕ) (below : Trees) (moves : List (Move (List ℕ))) (text : List ℕ) → AllMeant prefix → is_proof s ≡ true
+    → IsProvedWithin (IsWithin (limit_of profile)) prefix (sentence_of s) (proof_of s) → SayMoves prefix (sentence_of s) (proof_of s) moves → MakeTree prefix moves root below
+    → ReadsAsProof prefix (sentence_of s) root below text → IsProvedAnew profile prefix (put_anew s (10 ∷ text)) root below
+proved_anew profile prefix s root below moves text meant complete old told made ra =
     let t : PlainStatement = put_anew s (10 ∷ text) in
     let Fits : List (List ℕ) → Type 0 = IsWithin (limit_of profile) in
     let tokens : proof_of t ≡ ra.tokens = texts_in s.first.file s.span.0 (10 ∷ text) ∙ words_after_feed text ∙ ra.read in
-    let within : IsProofBy Fits front (sentence_of s) ra.tokens root below = ra.proves Fits (tree_derives Fits front (sentence_of s) (proof_of s) moves root below meant old told made) in
-    let any : IsProofBy AnyExpression front (sentence_of s) ra.tokens root below =
-    ra.proves AnyExpression (tree_derives AnyExpression front (sentence_of s) (proof_of s) moves root below meant (any_proof profile front (sentence_of s) (proof_of s) old) told made) in
-    let strict : IsStrict front (sentence_of s) (proof_of t) = rw tokens ra.strict in
-    let here : IsProofBy AnyExpression front (sentence_of s) (proof_of t) root below = subst (λ (ts : List (List ℕ)). IsProofBy AnyExpression front (sentence_of s) ts root below) (sym tokens) any in
+    let within : IsProofBy Fits prefix (sentence_of s) ra.tokens root below = ra.proves Fits (tree_derives Fits prefix (sentence_of s) (proof_of s) moves root below meant old told made) in
+    let any : IsProofBy AnyExpression prefix (sentence_of s) ra.tokens root below =
+    ra.proves AnyExpression (tree_derives AnyExpression prefix (sentence_of s) (proof_of s) moves root below meant (any_proof profile prefix (sentence_of s) (proof_of s) old) told made) in
+    let strict : IsStrict prefix (sentence_of s) (proof_of t) = rw tokens ra.strict in
+    let here : IsProofBy AnyExpression prefix (sentence_of s) (proof_of t) root below = subst (λ (ts : List (List ℕ)). IsProofBy AnyExpression prefix (sentence_of s) ts root below) (sym tokens) any in
     record {
       complete = proof_there t (provable_proof s complete) (ap is_incomplete tokens ∙ fine_complete ra.tokens ra.fine);
       strict = strict;
-      under = (form_of_strict profile front (sentence_of s) _ strict, rw tokens within.0);
+      under = (form_of_strict profile prefix (sentence_of s) _ strict, rw tokens within.0);
       proof = here.0;
       spelled = here.1;
     }
 
 -- it is alike, one way and the other
-pub anew_alike : (profile : Profile) (front : List Sentence) (s : PlainStatement) (root : List ℕ) (below : Trees) (moves : List (Move (List ℕ))) (text : List ℕ) → AllMeant front → is_proof s ≡ true
-    → SayMoves front (sentence_of s) (proof_of s) moves → MakeTree front moves root below → IsProvedAnew profile front (put_anew s text) root below → AreAlikeAt front s (put_anew s text)
-anew_alike profile front s root below moves text meant complete told made new = record {
+pub anew_alike : (profile : Profile) (prefix : List Sentence) (s : PlainStatement) (root : List ℕ) (below : Trees) (moves : List (Move (List ℕ))) (text : List ℕ) → AllMeant prefix → is_proof s ≡ true
+    → SayMoves prefix (sentence_of s) (proof_of s) moves → MakeTree prefix moves root below → IsProvedAnew profile prefix (put_anew s text) root below → AreAlikeAt prefix s (put_anew s text)
+anew_alike profile prefix s root below moves text meant complete told made new = record {
   said = refl;
   proofs = complete ∙ sym new.complete;
   unproved = proof_not_unproved s complete ∙ sym (proof_not_unproved (put_anew s text) new.complete);
-  tree = λ c p. (new.proof, tree_is AnyExpression front (sentence_of s) (proof_of s) moves root below meant p told made ∙ sym new.spelled);
+  tree = λ c p. (new.proof, tree_is AnyExpression prefix (sentence_of s) (proof_of s) moves root below meant p told made ∙ sym new.spelled);
 }
 
-pub alike_turned : (front : List Sentence) (s t : PlainStatement) → AllMeant front
-    → is_proof s ≡ true → IsProved front (sentence_of s) (proof_of s) → AreAlikeAt front s t
-    → AreAlikeAt front t s
-alike_turned front s t meant complete old alike =
+pub alike_turned : (prefix : List Sentence) (s t : PlainStatement) → AllMeant prefix
+    → is_proof s ≡ true → IsProved prefix (sentence_of s) (proof_of s) → AreAlikeAt prefix s t
+    → AreAlikeAt prefix t s
+alike_turned prefix s t meant complete old alike =
     let (new, same) = alike.tree complete old in
     record {
       said = sym alike.said;
       proofs = sym alike.proofs;
       unproved = sym alike.unproved;
-      tree = λ c p. (old, same_tree front (sentence_of t) (proof_of t) p new meant ∙ sym same);
+      tree = λ c p. (old, same_tree prefix (sentence_of t) (proof_of t) p new meant ∙ sym same);
     }
 
 -- ---- the statements, one by one
 
-abbrev pub Near : ℕ → (s t : PlainStatement) → (place : ℕ) → (x y : PlainStatement) → Type 0
-Near n s t place x y = ((sentence_of x ≡ sentence_of y) × (proof_of x ≡ proof_of y)) ⊎ ((place ≡ n) × ((x ≡ s) × (y ≡ t)))
+abbrev pub Near : ℕ → (s t : PlainStatement) → (index : ℕ) → (x y : PlainStatement) → Type 0
+Near n s t index x y = ((sentence_of x ≡ sentence_of y) × (proof_of x ≡ proof_of y)) ⊎ ((index ≡ n) × ((x ≡ s) × (y ≡ t)))
 
-placeless_at : (after later : List PlainStatement) → map placeless after ≡ map placeless later → (place : ℕ) (x : PlainStatement) → slice_get after place ≡ Some x
-    → (y : PlainStatement) × (slice_get later place ≡ Some y) × (placeless x ≡ placeless y)
-placeless_at after later same place x e =
+placeless_at : (after later : List PlainStatement) → map placeless after ≡ map placeless later → (index : ℕ) (x : PlainStatement) → slice_get after index ≡ Some x
+    → (y : PlainStatement) × (slice_get later index ≡ Some y) × (placeless x ≡ placeless y)
+placeless_at after later same index x e =
     let Alike : PlainStatement → PlainStatement → Type 0 = λ s t. placeless s ≡ placeless t in
-    zip_left Alike _ _ place x (mapped_zip placeless placeless Alike (λ s t is. is) _ _ same) e
+    zip_left Alike _ _ index x (mapped_zip placeless placeless Alike (λ s t is. is) _ _ same) e
 
-pub near_at : (before : List PlainStatement) (s t : PlainStatement) (after later : List PlainStatement) → map placeless after ≡ map placeless later → (place : ℕ) (x : PlainStatement)
-    → slice_get (before ++ s ∷ after) place ≡ Some x → (y : PlainStatement) × (slice_get (before ++ t ∷ later) place ≡ Some y) × Near (length before) s t place x y
+pub near_at : (before : List PlainStatement) (s t : PlainStatement) (after later : List PlainStatement) → map placeless after ≡ map placeless later → (index : ℕ) (x : PlainStatement)
+    → slice_get (before ++ s ∷ after) index ≡ Some x → (y : PlainStatement) × (slice_get (before ++ t ∷ later) index ≡ Some y) × Near (length before) s t index x y
 near_at [] s t after later same zero x e = let is : s ≡ x = cc in (t, refl, inr (refl, (sym is, refl)))
-near_at [] s t after later same (suc place) x e =
-    let (y, there, is) = placeless_at after later same place x e in
+near_at [] s t after later same (suc index) x e =
+    let (y, there, is) = placeless_at after later same index x e in
     (y, there, inl (same_sentence nowhere nowhere x y is, same_proof nowhere nowhere x y is))
 near_at (b ∷ before) s t after later same zero x e = let is : b ≡ x = cc in (b, refl, inl (ap sentence_of (sym is), ap proof_of (sym is)))
-near_at (b ∷ before) s t after later same (suc place) x e =
-    let (y, there, near) = near_at before s t after later same place x e in (y, there, further near)
+near_at (b ∷ before) s t after later same (suc index) x e =
+    let (y, there, near) = near_at before s t after later same index x e in (y, there, further near)
   where
-    further : {y : PlainStatement} → Near (length before) s t place x y → Near (suc (length before)) s t (suc place) x y
+    further : {y : PlainStatement} → Near (length before) s t index x y → Near (suc (length before)) s t (suc index) x y
     further (inl h) = inl h
     further (inr (is, both)) = inr (ap suc is, both)
 
@@ -446,16 +446,16 @@ pub carries_of : (before : List PlainStatement) (s t : PlainStatement) (after la
     → Carries (before ++ s ∷ after) (before ++ t ∷ later)
 carries_of before s t after later same own = record {
   told = said_alike before s t after later own.said same;
-  at = λ place x e.
-      let (y, there, near) = near_at before s t after later same place x e in (
+  at = λ index x e.
+      let (y, there, near) = near_at before s t after later same index x e in (
         y,
         there,
         elim near [
-          | inl both ↦ alike_at (sentences (take place (before ++ s ∷ after))) x y both.0 both.1
+          | inl both ↦ alike_at (sentences (take index (before ++ s ∷ after))) x y both.0 both.1
           | inr (is, both) ↦
-              let front : sentences before ≡ sentences (take place (before ++ s ∷ after)) =
+              let prefix : sentences before ≡ sentences (take index (before ++ s ∷ after)) =
               rw (is, take-append_seam before (s ∷ after)) in
-              moved AreAlikeAt (sentences before) (sentences (take place (before ++ s ∷ after))) s x t y front (sym both.0) (sym both.1) own
+              moved AreAlikeAt (sentences before) (sentences (take index (before ++ s ∷ after))) s x t y prefix (sym both.0) (sym both.1) own
         ],
       );
 }
@@ -463,17 +463,17 @@ carries_of before s t after later same own = record {
 -- ---- each obeys the rules
 
 obeys_at : (profile : Profile) (before : List PlainStatement) (s t : PlainStatement) (after later : List PlainStatement) → sentence_of s ≡ sentence_of t → map placeless after ≡ map placeless later → AllObey profile (before ++ s ∷ after)
-    → Obeys profile (sentences before) t → (place : ℕ) (y : PlainStatement) → slice_get (before ++ t ∷ later) place ≡ Some y → Obeys profile (sentences (take place (before ++ t ∷ later))) y
-obeys_at profile before s t after later own same obeyed new place y there =
+    → Obeys profile (sentences before) t → (index : ℕ) (y : PlainStatement) → slice_get (before ++ t ∷ later) index ≡ Some y → Obeys profile (sentences (take index (before ++ t ∷ later))) y
+obeys_at profile before s t after later own same obeyed new index y there =
     let st : List PlainStatement = before ++ s ∷ after in
     let su : List PlainStatement = before ++ t ∷ later in
-    let (x, at, near) = near_at before t s later after (sym same) place y there in
-    let front : sentences (take place st) ≡ sentences (take place su) = front_told st su place (said_alike before s t after later own same) in
+    let (x, at, near) = near_at before t s later after (sym same) index y there in
+    let prefix : sentences (take index st) ≡ sentences (take index su) = prefix_told st su index (said_alike before s t after later own same) in
     elim near [
-      | inl both ↦ obeys_alike profile (sentences (take place st)) (sentences (take place su)) x y front (sym both.0) (sym both.1) (obeyed (take place st) (drop (suc place) st) x (split_at st place x at))
+      | inl both ↦ obeys_alike profile (sentences (take index st)) (sentences (take index su)) x y prefix (sym both.0) (sym both.1) (obeyed (take index st) (drop (suc index) st) x (split_at st index x at))
       | inr (is, both) ↦
-          let here : sentences before ≡ sentences (take place su) = ap sentences (sym (ap (λ (n : ℕ). take n su) is ∙ take-append_seam before (t ∷ later))) in
-          subst (λ (u : PlainStatement). Obeys profile (sentences (take place su)) u) (sym both.0) (subst (λ (ss : List Sentence). Obeys profile ss t) here new)
+          let here : sentences before ≡ sentences (take index su) = ap sentences (sym (ap (λ (n : ℕ). take n su) is ∙ take-append_seam before (t ∷ later))) in
+          subst (λ (u : PlainStatement). Obeys profile (sentences (take index su)) u) (sym both.0) (subst (λ (ss : List Sentence). Obeys profile ss t) here new)
     ]
 
 pub all_obey_anew : (profile : Profile) (before : List PlainStatement) (s t : PlainStatement) (after later : List PlainStatement) → sentence_of s ≡ sentence_of t → map placeless after ≡ map placeless later → AllObey profile (before ++ s ∷ after)
@@ -481,20 +481,20 @@ pub all_obey_anew : (profile : Profile) (before : List PlainStatement) (s t : Pl
 all_obey_anew profile before s t after later own same obeyed new earlier rest y split =
     let su : List PlainStatement = before ++ t ∷ later in
     let there : slice_get su (length earlier) ≡ Some y = rw split (get_parted earlier rest y) in
-    let front : take (length earlier) su ≡ earlier = ap (take (length earlier)) split ∙ take-append_seam earlier (y ∷ rest) in
-    subst (λ (ss : List PlainStatement). Obeys profile (sentences ss) y) front (obeys_at profile before s t after later own same obeyed new (length earlier) y there)
+    let prefix : take (length earlier) su ≡ earlier = ap (take (length earlier)) split ∙ take-append_seam earlier (y ∷ rest) in
+    subst (λ (ss : List PlainStatement). Obeys profile (sentences ss) y) prefix (obeys_at profile before s t after later own same obeyed new (length earlier) y there)
 
 -- ---- the bytes of a file
 
 -- a text between two parts is replaced
-pub span_put : (front now back put : List ℕ) (span : ℕ × ℕ) → span.0 ≡ length front
-    → span.1 ≡ length front + length now
-    → with_span (front ++ (now ++ back)) span put ≡ front ++ (put ++ back)
-span_put front now back put span start stop =
-    let after : drop span.1 (front ++ (now ++ back)) ≡ back =
-    rw (stop, ← length-append front now, ← append_assoc front now back)
-    (drop-append_seam (front ++ now) back) in
-    rw (start, take-append_seam front (now ++ back), after)
+pub span_put : (prefix now back put : List ℕ) (span : ℕ × ℕ) → span.0 ≡ length prefix
+    → span.1 ≡ length prefix + length now
+    → with_span (prefix ++ (now ++ back)) span put ≡ prefix ++ (put ++ back)
+span_put prefix now back put span start stop =
+    let after : drop span.1 (prefix ++ (now ++ back)) ≡ back =
+    rw (stop, ← length-append prefix now, ← append_assoc prefix now back)
+    (drop-append_seam (prefix ++ now) back) in
+    rw (start, take-append_seam prefix (now ++ back), after)
 
 -- ---- one file among the files
 
@@ -628,8 +628,8 @@ said_same profile files others st su one other alike = record {
     verdict_carried profile others files su st other one (sym alike.left) (sym alike.many)
         (sym alike.count) v,
   );
-  trees = λ id place t.
-      (tree_carried st su id place t alike.to, tree_carried su st id place t alike.from);
+  trees = λ id index t.
+      (tree_carried st su id index t alike.to, tree_carried su st id index t alike.from);
   rests = λ label axioms unproved. (
     report_carried st su label axioms unproved alike.to alike.from,
     report_carried su st label axioms unproved alike.from alike.to,

@@ -21,7 +21,7 @@ use Rattle.mm_code.proofs.OneSpelling.{one_text_only}
 use Rattle.mm_frame.specs.Sentence.{Sentence, sentence_of, IsLabelled}
 use Rattle.mm_frame.specs.Rules.{AllMeant}
 use Rattle.mm_frame.specs.Numbers.{labelled_sentences}
-use Rattle.mm_frame.proofs.Rules.ObeyedRules.{allmeant_front, one_label}
+use Rattle.mm_frame.proofs.Rules.ObeyedRules.{allmeant_prefix, one_label}
 use Rattle.mm_proof.specs.Tree.{Trees, none, tree, spelling, AnyExpression}
 use Rattle.mm_proof.specs.Moves.{Move, Makes}
 use Rattle.mm_proof.specs.Tokens.{SayMoves}
@@ -50,7 +50,7 @@ use Rattle.mm_check.proofs.Saving.SavedFiles.{provable_proof, put_anew, IsProved
 use Rattle.mm_check.proofs.Saving.SavedFiles.{anew_alike, alike_turned, carries_of, all_obey_anew}
 use Rattle.mm_check.proofs.Saving.SavedFiles.{readable_anew, handed_anew, same_left, same_count}
 use Rattle.mm_check.proofs.Saving.SavedFiles.{same_many, SayAlike, said_same, span_put, Carries}
-use Rattle.mm_check.proofs.Saving.SavedFiles.{front_told}
+use Rattle.mm_check.proofs.Saving.SavedFiles.{prefix_told}
 use Rattle.mm_check.proofs.Verdicts.StatementByStatement.{any_proof, all_meant, proof_not_unproved}
 use Rattle.mm_check.proofs.Saving.ProofTexts.{is_proof_text, ReadsAsProof, text_reads, tree_derives}
 use Rattle.mm_check.proofs.Saving.ProofTexts.{tree_is}
@@ -61,8 +61,8 @@ use Rattle.mm_check.specs.declared.ask.AskFault.TheVariants as ask
 
 -- ==== saving changes nothing that is answered, and saving again changes nothing
 
-pub front_meant : (profile : Profile) (statements : List PlainStatement) (n : ℕ) → AllObey profile statements → AllMeant (sentences (take n statements))
-front_meant profile statements n obeyed = subst AllMeant (sym (map-take n statements)) (allmeant_front (sentences statements) n (all_meant profile statements obeyed))
+pub prefix_meant : (profile : Profile) (statements : List PlainStatement) (n : ℕ) → AllObey profile statements → AllMeant (sentences (take n statements))
+prefix_meant profile statements n obeyed = subst AllMeant (sym (map-take n statements)) (allmeant_prefix (sentences statements) n (all_meant profile statements obeyed))
 
 -- ---- the files with the text put in
 
@@ -94,19 +94,19 @@ pub record ArePutAnew (profile : Profile) (files : List PlainFile) (before : Lis
 -- a text put in place of itself changes nothing
 put_again : (s : PlainStatement) (bytes text : List ℕ) → IsProofSpan s bytes → with_span (with_span bytes s.span text) (s.span.0, s.span.0 + length text) text ≡ with_span bytes s.span text
 put_again s bytes text p =
-    let once : with_span bytes s.span text ≡ p.front ++ (text ++ p.back) =
+    let once : with_span bytes s.span text ≡ p.prefix ++ (text ++ p.back) =
     ap (λ (l : List ℕ). with_span l s.span text) p.whole
-    ∙ span_put p.front p.within p.back text s.span p.start p.stop in
+    ∙ span_put p.prefix p.within p.back text s.span p.start p.stop in
     let span : ℕ × ℕ = (s.span.0, s.span.0 + length text) in
     ap (λ (l : List ℕ). with_span l span text) once
-    ∙ span_put p.front text p.back text span p.start
+    ∙ span_put p.prefix text p.back text span p.start
     (ap (λ (n : ℕ). n + length text) p.start) ∙ sym once
 
 -- the statement that has the label has a proof in the strict form
 abbrev HasStrictProof : List PlainStatement → List ℕ → Type 0
 HasStrictProof statements label =
-    (place : ℕ) × (s : PlainStatement) × IsTheorem statements label place s
-    × IsStrict (sentences (take place statements)) (sentence_of s) (proof_of s)
+    (index : ℕ) × (s : PlainStatement) × IsTheorem statements label index s
+    × IsStrict (sentences (take index statements)) (sentence_of s) (proof_of s)
 
 module _ {profile : Profile} {f : Form} {files : List PlainFile} {before : List PlainStatement}
     {s : PlainStatement} {after : List PlainStatement} {file : PlainFile} {text : List ℕ}
@@ -114,7 +114,7 @@ module _ {profile : Profile} {f : Form} {files : List PlainFile} {before : List 
   meant_before : AllMeant (sentences before)
   meant_before =
       rw (take-append_seam before (s ∷ after)) at
-      (front_meant profile (before ++ s ∷ after) (length before) p.obeyed)
+      (prefix_meant profile (before ++ s ∷ after) (length before) p.obeyed)
 
   proved_before : IsProvedWithin (IsWithin (limit_of profile)) (sentences before) (sentence_of s)
       (proof_of s)
@@ -122,14 +122,14 @@ module _ {profile : Profile} {f : Form} {files : List PlainFile} {before : List 
 
   reads_anew : ReadsAsProof (sentences before) (sentence_of s) p.root p.below text
   reads_anew =
-      let front : List Sentence = sentences before in
+      let prefix : List Sentence = sentences before in
       let Fits : List (List ℕ) → Type 0 = IsWithin (limit_of profile) in
-      let fit = derive_fits Fits front (tree p.root p.below none) ((sentence_of s).symbols ∷ [])
-      (tree_derives Fits front (sentence_of s) (proof_of s) p.moves p.root p.below meant_before
+      let fit = derive_fits Fits prefix (tree p.root p.below none) ((sentence_of s).symbols ∷ [])
+      (tree_derives Fits prefix (sentence_of s) (proof_of s) p.moves p.root p.below meant_before
       proved_before p.told p.made) in
       let formed = formed_before (before ++ s ∷ after) before s after
       (readings_are_formed_in_place files (before ++ s ∷ after) None p.reads).formed refl in
-      text_reads f front (sentence_of s) p.root p.below text meant_before formed fit p.laid
+      text_reads f prefix (sentence_of s) p.root p.below text meant_before formed fit p.laid
 
   -- the theorem's new proof
   pub anew_of : IsProvedAnew profile (sentences before) (put_anew s (10 ∷ text)) p.root p.below
@@ -165,17 +165,17 @@ module _ {profile : Profile} {f : Form} {files : List PlainFile} {before : List 
   -- they say alike what is answered
   pub put_says_alike : SayAlike (before ++ s ∷ after) read_anew
   put_says_alike =
-      let front : List Sentence = sentences before in
+      let prefix : List Sentence = sentences before in
       let t : PlainStatement = put_anew s (10 ∷ text) in
-      let old = any_proof profile front (sentence_of s) (proof_of s) proved_before in
+      let old = any_proof profile prefix (sentence_of s) (proof_of s) proved_before in
       let new = anew_of in
       let put = are_put_anew in
-      let alike = anew_alike profile front s p.root p.below p.moves (10 ∷ text) meant_before
+      let alike = anew_alike profile prefix s p.root p.below p.moves (10 ∷ text) meant_before
       p.complete p.told p.made new in
       record {
         to = carries_of before s t after put.later put.same alike;
         from = carries_of before t s put.later after (sym put.same)
-            (alike_turned front s t meant_before p.complete old alike);
+            (alike_turned prefix s t meant_before p.complete old alike);
         left = same_left before s t after put.later (proof_not_unproved s p.complete)
             (proof_not_unproved t new.complete) put.same;
         many = same_many before s t after put.later put.same;
@@ -203,9 +203,9 @@ module _ {profile : Profile} {f : Form} {files : List PlainFile} {before : List 
       let q = anew_of.proof.proves in
       let made : MakeTree (sentences before) anew_of.proof.moves p.root p.below =
       record { kept = q.kept; made = rw anew_of.spelled at q.made } in
-      let front = take-append_seam before (t ∷ are_put_anew.later) in
+      let prefix = take-append_seam before (t ∷ are_put_anew.later) in
       record {
-        place = length before;
+        index = length before;
         s = t;
         root = p.root;
         below = p.below;
@@ -214,11 +214,11 @@ module _ {profile : Profile} {f : Form} {files : List PlainFile} {before : List 
           named = named;
           complete = anew_of.complete;
           moves = anew_of.proof.moves;
-          told = rw front anew_of.proof.said;
-          made = rw front made;
+          told = rw prefix anew_of.proof.said;
+          made = rw prefix made;
         };
         text = text;
-        laid = rw front p.laid;
+        laid = rw prefix p.laid;
         home = refl;
         file = record file { bytes = with_span file.bytes s.span (10 ∷ text) };
         handed = handed_anew files s.first.file file _ p.handed;
@@ -231,15 +231,15 @@ module _ {profile : Profile} {f : Form} {files : List PlainFile} {before : List 
 
 -- a text of the tree of a proof
 pub to_put : {profile : Profile} {f : Form} {statements : List PlainStatement} {label : List ℕ}
-    {place : ℕ} {root : List ℕ} {below : Trees} {files : List PlainFile}
+    {index : ℕ} {root : List ℕ} {below : Trees} {files : List PlainFile}
     {before : List PlainStatement} {s : PlainStatement} {after : List PlainStatement}
-    {file : PlainFile} {text : List ℕ} → HasProofTree statements label place s root below
-    → IsTextIn f (sentences (take place statements)) (sentence_of s) (tree root below none) text
-    → sentences (take place statements) ≡ sentences before
+    {file : PlainFile} {text : List ℕ} → HasProofTree statements label index s root below
+    → IsTextIn f (sentences (take index statements)) (sentence_of s) (tree root below none) text
+    → sentences (take index statements) ≡ sentences before
     → Reads files (before ++ s ∷ after) None → AllObey profile (before ++ s ∷ after)
     → slice_get files s.first.file ≡ Some file
     → IsToPut profile f files before s after file text
-to_put {f = f} {root = root} {below = below} {s = s} {text = text} proof laid front reads obeyed
+to_put {f = f} {root = root} {below = below} {s = s} {text = text} proof laid prefix reads obeyed
     handed = record {
       reads = reads;
       obeyed = obeyed;
@@ -247,9 +247,9 @@ to_put {f = f} {root = root} {below = below} {s = s} {text = text} proof laid fr
       root = root;
       below = below;
       moves = proof.moves;
-      told = rw front at proof.told;
-      made = rw front at proof.made;
-      laid = rw front at laid;
+      told = rw prefix at proof.told;
+      made = rw prefix at proof.made;
+      laid = rw prefix at laid;
       handed = handed;
     }
 
@@ -257,10 +257,10 @@ module _ {profile : Profile} {f : Form} {files : List PlainFile} {statements : L
     {label : List ℕ} {number : ℕ} {bytes : List ℕ} (accepted : AreAccepted profile files statements)
     (sv : IsSaved f files statements label number bytes) where
   -- the theorem that is saved
-  pub saved_to_put : IsToPut profile f files (take sv.place statements) sv.s
-      (drop (suc sv.place) statements) sv.file sv.text
+  pub saved_to_put : IsToPut profile f files (take sv.index statements) sv.s
+      (drop (suc sv.index) statements) sv.file sv.text
   saved_to_put =
-      let parted = split_at statements sv.place sv.s sv.proof.there in
+      let parted = split_at statements sv.index sv.s sv.proof.there in
       to_put sv.proof sv.laid refl
       (rw parted at accepted.reads) (rw parted at accepted.obeyed)
       (ap (slice_get files) (sym sv.home) ∙ sv.handed)
@@ -284,7 +284,7 @@ saving_changes_no_answer profile f files statements label number bytes accepted 
       said_same profile files (with_bytes files number bytes) statements (read_anew p) accepted
           (saved_accepted accepted sv fits)
           (subst (λ (ss : List PlainStatement). SayAlike ss (read_anew p))
-          (sym (split_at statements sv.place sv.s sv.proof.there)) (put_says_alike p)),
+          (sym (split_at statements sv.index sv.s sv.proof.there)) (put_says_alike p)),
     )
 
 pub saved_proof_is_strict : SavedProofIsStrict
@@ -295,45 +295,45 @@ saved_proof_is_strict profile f files statements same label number bytes accepte
 
 -- ---- what is saved is one
 
-texts_once : (f : Form) (front : List Sentence) (s : Sentence) (root : List ℕ) (below : Trees) (a b : List ℕ) → AllMeant front → IsTextIn f front s (tree root below none) a → IsTextIn f front s (tree root below none) b → a ≡ b
-texts_once form.Normal front s root below a b meant x y = one_text_of_tokens (spelling (tree root below none)) a b x.1 y.1
-texts_once form.Packed front s root below a b meant x y =
-    let same = one_packed_holds front s root below x.listed y.listed x.codes y.codes meant x.packed y.packed in
+texts_once : (f : Form) (prefix : List Sentence) (s : Sentence) (root : List ℕ) (below : Trees) (a b : List ℕ) → AllMeant prefix → IsTextIn f prefix s (tree root below none) a → IsTextIn f prefix s (tree root below none) b → a ≡ b
+texts_once form.Normal prefix s root below a b meant x y = one_text_of_tokens (spelling (tree root below none)) a b x.1 y.1
+texts_once form.Packed prefix s root below a b meant x y =
+    let same = one_packed_holds prefix s root below x.listed y.listed x.codes y.codes meant x.packed y.packed in
     let letters : x.letters ≡ y.letters = one_text_only x.letters y.letters x.codes x.spelled (subst (λ (codes : List Code). SpellsCodes y.letters codes) (sym same.1) y.spelled) in
     one_text_of_compressed x.listed x.letters a b x.laid (rw (same.0, letters) y.laid)
 
-one_tree_made : (front : List Sentence) (s : Sentence) (tokens : List (List ℕ)) (a b : List (Move (List ℕ))) (root other : List ℕ) (below under : Trees) → AllMeant front
-    → SayMoves front s tokens a → SayMoves front s tokens b → MakeTree front a root below → MakeTree front b other under → tree root below none ≡ tree other under none
-one_tree_made front s tokens a b root other below under meant told said made done =
-    (makes_once front b none (tree root below none) (tree other under none) [] made.kept done.kept meant
-    (rw (moves_once front s tokens a b told said) at made.made) done.made).0
+one_tree_made : (prefix : List Sentence) (s : Sentence) (tokens : List (List ℕ)) (a b : List (Move (List ℕ))) (root other : List ℕ) (below under : Trees) → AllMeant prefix
+    → SayMoves prefix s tokens a → SayMoves prefix s tokens b → MakeTree prefix a root below → MakeTree prefix b other under → tree root below none ≡ tree other under none
+one_tree_made prefix s tokens a b root other below under meant told said made done =
+    (makes_once prefix b none (tree root below none) (tree other under none) [] made.kept done.kept meant
+    (rw (moves_once prefix s tokens a b told said) at made.made) done.made).0
 
--- a theorem has one place, and its proof one tree
-pub one_proof_tree : (profile : Profile) (statements : List PlainStatement) (label : List ℕ) (place other : ℕ) (s t : PlainStatement) (root under : List ℕ) (below beneath : Trees) → AllObey profile statements
-    → HasProofTree statements label place s root below → HasProofTree statements label other t under beneath → (other ≡ place) × ((t ≡ s) × (tree under beneath none ≡ tree root below none))
-one_proof_tree profile statements label place other s t root under below beneath obeyed h k =
+-- a theorem has one index, and its proof one tree
+pub one_proof_tree : (profile : Profile) (statements : List PlainStatement) (label : List ℕ) (index other : ℕ) (s t : PlainStatement) (root under : List ℕ) (below beneath : Trees) → AllObey profile statements
+    → HasProofTree statements label index s root below → HasProofTree statements label other t under beneath → (other ≡ index) × ((t ≡ s) × (tree under beneath none ≡ tree root below none))
+one_proof_tree profile statements label index other s t root under below beneath obeyed h k =
     let meant : AllMeant (sentences statements) = all_meant profile statements obeyed in
-    let here : other ≡ place =
-    one_label (sentences statements) label other place (sentence_of t) (sentence_of s) meant (said_there statements other t k.there) (said_there statements place s h.there) k.named h.named in
+    let here : other ≡ index =
+    one_label (sentences statements) label other index (sentence_of t) (sentence_of s) meant (said_there statements other t k.there) (said_there statements index s h.there) k.named h.named in
     let one : Some t ≡ Some s = sym k.there ∙ ap (slice_get statements) here ∙ h.there in
     let same : t ≡ s = cc in
-    let moved : HasProofTree statements label place s under beneath = rw (here, same) at k in
-    (here, (same, one_tree_made (sentences (take place statements)) (sentence_of s) (proof_of s) moved.moves h.moves under root beneath below (front_meant profile statements place obeyed) moved.told h.told moved.made h.made))
+    let moved : HasProofTree statements label index s under beneath = rw (here, same) at k in
+    (here, (same, one_tree_made (sentences (take index statements)) (sentence_of s) (proof_of s) moved.moves h.moves under root beneath below (prefix_meant profile statements index obeyed) moved.told h.told moved.made h.made))
 
 -- and its text is one
 pub one_text_of : (profile : Profile) (f : Form) (statements : List PlainStatement) (label : List ℕ)
-    (place other : ℕ) (s t : PlainStatement) (root under : List ℕ) (below beneath : Trees)
+    (index other : ℕ) (s t : PlainStatement) (root under : List ℕ) (below beneath : Trees)
     (a b : List ℕ) → AllObey profile statements
-    → HasProofTree statements label place s root below
+    → HasProofTree statements label index s root below
     → HasProofTree statements label other t under beneath
-    → IsTextIn f (sentences (take place statements)) (sentence_of s) (tree root below none) a
+    → IsTextIn f (sentences (take index statements)) (sentence_of s) (tree root below none) a
     → IsTextIn f (sentences (take other statements)) (sentence_of t) (tree under beneath none) b
     → a ≡ b
-one_text_of profile f statements label place other s t root under below beneath a b obeyed h k one
+one_text_of profile f statements label index other s t root under below beneath a b obeyed h k one
     two =
     let (here, (same, trees)) = one_proof_tree profile _ _ _ _ _ _ _ _ _ _ obeyed h k in
-    texts_once f (sentences (take place statements)) (sentence_of s) root below a b
-    (front_meant profile statements place obeyed) one (rw (here, same, trees) at two)
+    texts_once f (sentences (take index statements)) (sentence_of s) root below a b
+    (prefix_meant profile statements index obeyed) one (rw (here, same, trees) at two)
 
 pub one_saved : OneSaved
 one_saved profile f files statements label number other bytes others accepted sv sw =
@@ -347,36 +347,36 @@ one_saved profile f files statements label number other bytes others accepted sv
 
 -- ---- no other fault where something is saved
 
-numbered_so : (statements : List PlainStatement) (place : ℕ) (s : PlainStatement) (label : List ℕ) → slice_get statements place ≡ Some s → IsLabelled label (sentence_of s)
+numbered_so : (statements : List PlainStatement) (index : ℕ) (s : PlainStatement) (label : List ℕ) → slice_get statements index ≡ Some s → IsLabelled label (sentence_of s)
     → (id : ℕ) × IsNamed statements label (λ t. Unit {0}) id
-numbered_so statements place s label there named = (
-  length (labelled_sentences (take place (sentences statements))),
-  (place, s, record { there = there; numbered = record { there = said_there statements place s there; named = ap is_some named; number = refl } }, (named, tt)),
+numbered_so statements index s label there named = (
+  length (labelled_sentences (take index (sentences statements))),
+  (index, s, record { there = there; numbered = record { there = said_there statements index s there; named = ap is_some named; number = refl } }, (named, tt)),
 )
 
 pub not_over : (n : ℕ) → n ≤ most_labels → most_labels < n → ⊥
 not_over n h k = omega (arith, h, k)
 
 pub one_save_answer : OneSaveAnswer
-one_save_answer profile form.Normal files statements label number bytes (ask.Rule L2) accepted sv (place, t, root, below, has, over) =
-    let (here, (same, trees)) = one_proof_tree profile statements label sv.place place sv.s t sv.root root sv.below below accepted.obeyed sv.proof has in
+one_save_answer profile form.Normal files statements label number bytes (ask.Rule L2) accepted sv (index, t, root, below, has, over) =
+    let (here, (same, trees)) = one_proof_tree profile statements label sv.index index sv.s t sv.root root sv.below below accepted.obeyed sv.proof has in
     absurd (not_over (length (spelling (tree sv.root sv.below none))) sv.laid.0 (subst (λ (u : Trees). most_labels < length (spelling u)) trees over))
 one_save_answer profile f files statements label number bytes ask.F3 accepted sv (other, others, sw, over) =
     let once = one_saved profile f files statements label number other bytes others accepted sv sw in
     inr (refl, subst (λ (n : ℕ). most_bytes < n) (λ i. total_with files (sym once.0 i) (sym once.1 i)) over)
 one_save_answer profile f files statements label number bytes ask.Memory accepted sv why = inl refl
 one_save_answer profile f files statements label number bytes (ask.Rule A1) accepted sv why =
-    let (id, is) = numbered_so statements sv.place sv.s label sv.proof.there sv.proof.named in
+    let (id, is) = numbered_so statements sv.index sv.s label sv.proof.there sv.proof.named in
     absurd (why id is)
 one_save_answer profile f files statements label number bytes (ask.Rule A2) accepted sv
-    (id, (place, t, at, (named, kind))) =
-    let same = one_stands statements label sv.place sv.s t (all_meant profile statements
-    accepted.obeyed) sv.proof.there sv.proof.named (place, at.there, named) in
+    (id, (index, t, at, (named, kind))) =
+    let same = one_stands statements label sv.index sv.s t (all_meant profile statements
+    accepted.obeyed) sv.proof.there sv.proof.named (index, at.there, named) in
     absurd (kind (rw same (provable_proof sv.s sv.proof.complete)))
 one_save_answer profile f files statements label number bytes (ask.Rule A3) accepted sv
-    (id, (place, t, at, (named, unproved))) =
-    let same = one_stands statements label sv.place sv.s t (all_meant profile statements
-    accepted.obeyed) sv.proof.there sv.proof.named (place, at.there, named) in
+    (id, (index, t, at, (named, unproved))) =
+    let same = one_stands statements label sv.index sv.s t (all_meant profile statements
+    accepted.obeyed) sv.proof.there sv.proof.named (index, at.there, named) in
     absurd (cc (proof_not_unproved sv.s sv.proof.complete, same, unproved))
 one_save_answer profile f files statements label number bytes _ accepted sv why = absurd why
 
@@ -404,49 +404,49 @@ saving_again profile f files statements same label number bytes accepted sv fits
 -- ==== the text of a theorem's proof is the same where other proofs of the same trees stand
 
 -- the theorem with the label has this tree, and its proof this text
-pub record HasText (f : Form) (statements : List PlainStatement) (label : List ℕ) (place : ℕ)
+pub record HasText (f : Form) (statements : List PlainStatement) (label : List ℕ) (index : ℕ)
     (s : PlainStatement) (root : List ℕ) (below : Trees) (text : List ℕ) : Type 0 where
-  pub proof : HasProofTree statements label place s root below
-  pub laid : IsTextIn f (sentences (take place statements)) (sentence_of s) (tree root below none)
+  pub proof : HasProofTree statements label index s root below
+  pub laid : IsTextIn f (sentences (take index statements)) (sentence_of s) (tree root below none)
       text
 
 -- a tree that a complete proof spells is the one that its tokens make
-proof_tree : (profile : Profile) (statements : List PlainStatement) (label : List ℕ) (place : ℕ)
+proof_tree : (profile : Profile) (statements : List PlainStatement) (label : List ℕ) (index : ℕ)
     (s : PlainStatement) (root : List ℕ) (below : Trees) → AllObey profile statements
-    → HasProofTree statements label place s root below
-    → (p : IsProved (sentences (take place statements)) (sentence_of s) (proof_of s))
+    → HasProofTree statements label index s root below
+    → (p : IsProved (sentences (take index statements)) (sentence_of s) (proof_of s))
     × (tree_of p ≡ tree root below none)
-proof_tree profile statements label place s root below obeyed has =
-    let before : List PlainStatement = take place statements in
-    let front : List Sentence = sentences before in
-    let split : statements ≡ before ++ s ∷ drop (suc place) statements =
-    split_at statements place s has.there in
-    let p : IsProved front (sentence_of s) (proof_of s) =
-    any_proof profile front (sentence_of s) (proof_of s)
-    ((obeyed before (drop (suc place) statements) s split).proved has.complete).1 in (
+proof_tree profile statements label index s root below obeyed has =
+    let before : List PlainStatement = take index statements in
+    let prefix : List Sentence = sentences before in
+    let split : statements ≡ before ++ s ∷ drop (suc index) statements =
+    split_at statements index s has.there in
+    let p : IsProved prefix (sentence_of s) (proof_of s) =
+    any_proof profile prefix (sentence_of s) (proof_of s)
+    ((obeyed before (drop (suc index) statements) s split).proved has.complete).1 in (
       p,
-      tree_is AnyExpression front (sentence_of s) (proof_of s) has.moves root below
-          (front_meant profile statements place obeyed) p has.told has.made,
+      tree_is AnyExpression prefix (sentence_of s) (proof_of s) has.moves root below
+          (prefix_meant profile statements index obeyed) p has.told has.made,
     )
 
 -- the theorem has its text among others too
 pub text_carried : (profile : Profile) (f : Form) (statements others : List PlainStatement)
-    (label : List ℕ) (place : ℕ) (s : PlainStatement) (root : List ℕ) (below : Trees)
+    (label : List ℕ) (index : ℕ) (s : PlainStatement) (root : List ℕ) (below : Trees)
     (text : List ℕ) → AllObey profile statements → Carries statements others
-    → HasText f statements label place s root below text
-    → (t : PlainStatement) × HasText f others label place t root below text
-text_carried profile f statements others label place s root below text obeyed carries has =
-    let front : List Sentence = sentences (take place statements) in
-    let (t, there, alike) = carries.at place s has.proof.there in
-    let (p, first) = proof_tree profile statements label place s root below obeyed has.proof in
+    → HasText f statements label index s root below text
+    → (t : PlainStatement) × HasText f others label index t root below text
+text_carried profile f statements others label index s root below text obeyed carries has =
+    let prefix : List Sentence = sentences (take index statements) in
+    let (t, there, alike) = carries.at index s has.proof.there in
+    let (p, first) = proof_tree profile statements label index s root below obeyed has.proof in
     let (q, same) = alike.tree has.proof.complete p in
-    let made : MakeTree front q.moves root below = record {
+    let made : MakeTree prefix q.moves root below = record {
       kept = q.proves.kept;
-      made = subst (λ (u : Trees). Makes front q.moves none [] u q.proves.kept)
+      made = subst (λ (u : Trees). Makes prefix q.moves none [] u q.proves.kept)
           (sym same ∙ first) q.proves.made;
     } in
-    let to : front ≡ sentences (take place others) =
-    front_told statements others place carries.told in (
+    let to : prefix ≡ sentences (take index others) =
+    prefix_told statements others index carries.told in (
       t,
       record {
         proof = record {
@@ -463,21 +463,21 @@ text_carried profile f statements others label place s root below text obeyed ca
 
 -- What is put in for a theorem is put in for it among others too.
 pub same_text : (profile : Profile) (f : Form) (statements others : List PlainStatement)
-    (s t : PlainStatement) (new : Replacement) (label : List ℕ) (place : ℕ) (root : List ℕ)
+    (s t : PlainStatement) (new : Replacement) (label : List ℕ) (index : ℕ) (root : List ℕ)
     (below : Trees) (text : List ℕ) → AllObey profile statements → AllObey profile others
     → Carries statements others → sentence_of s ≡ sentence_of t → IsReplacement f statements s new
-    → HasText f others label place t root below text → new.text ≡ 10 ∷ text
-same_text profile f statements others s t new label place root below text obeyed still carries said
+    → HasText f others label index t root below text → new.text ≡ 10 ∷ text
+same_text profile f statements others s t new label index root below text obeyed still carries said
     r has =
     let one : r.label ≡ label =
     same_Some r.label label
     (sym r.proof.named ∙ ap (λ (x : Sentence). x.label) said ∙ has.proof.named) in
-    let (u, own) = text_carried profile f statements others r.label r.place s r.root r.below r.text
+    let (u, own) = text_carried profile f statements others r.label r.index s r.root r.below r.text
     obeyed carries (record { proof = r.proof; laid = r.laid }) in
-    let named : HasProofTree others label r.place u r.root r.below =
-    subst (λ (l : List ℕ). HasProofTree others l r.place u r.root r.below) one own.proof in
+    let named : HasProofTree others label r.index u r.root r.below =
+    subst (λ (l : List ℕ). HasProofTree others l r.index u r.root r.below) one own.proof in
     let same : r.text ≡ text =
-    one_text_of profile f others label r.place place u t r.root root r.below below r.text text still
+    one_text_of profile f others label r.index index u t r.root root r.below below r.text text still
     named has.proof own.laid has.laid in
     r.put ∙ ap (λ (l : List ℕ). 10 ∷ l) same
 
@@ -489,9 +489,9 @@ one_replacement : (profile : Profile) (f : Form) (statements : List PlainStateme
     → IsReplacement f statements s new → IsReplacement f statements s other → new ≡ other
 one_replacement profile f statements s new other obeyed r q =
     let label : q.label ≡ r.label = same_Some q.label r.label (sym q.proof.named ∙ r.proof.named) in
-    let proof : HasProofTree statements r.label q.place s q.root q.below = rw label at q.proof in
+    let proof : HasProofTree statements r.label q.index s q.root q.below = rw label at q.proof in
     let text : r.text ≡ q.text =
-    one_text_of profile f statements r.label r.place q.place s s r.root q.root r.below q.below
+    one_text_of profile f statements r.label r.index q.index s s r.root q.root r.below q.below
     r.text q.text obeyed r.proof proof r.laid q.laid in
     let span : new.span ≡ other.span = r.span ∙ sym q.span in
     let put = r.put ∙ ap (λ (t : List ℕ). 10 ∷ t) text ∙ sym q.put in

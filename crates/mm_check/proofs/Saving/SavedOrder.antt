@@ -9,7 +9,7 @@ use Rattle.std.proofs.lemmas.Option.{same_Some, slice_get_within}
 use Rattle.mm_text.specs.Statement.{PlainStatement}
 use Rattle.mm_text.specs.Files.{PlainFile}
 use Rattle.mm_text.specs.Replaced.{with_span, with_bytes}
-use Rattle.mm_text.proofs.Lists.{all_append, all_front, all_back, get_kept, get_after, get_parted}
+use Rattle.mm_text.proofs.Lists.{all_append, all_prefix, all_back, get_kept, get_after, get_parted}
 use Rattle.mm_text.proofs.Lists.{all_there, all_filtered, zip_weaker, zip_append, zip_each}
 use Rattle.mm_text.proofs.Lists.{zip_length, zip_on, ZipParts, zip_parts, split_at}
 use Rattle.mm_frame.specs.Sentence.{Sentence, sentence_of, IsLabelled}
@@ -39,13 +39,13 @@ HasNot label s = ¬ (IsLabelled label (sentence_of s))
 module _ (profile : Profile) (before : List PlainStatement) (s : PlainStatement)
     (after : List PlainStatement) (label : List ℕ) (obeyed : AllObey profile (before ++ s ∷ after))
     (named : IsLabelled label (sentence_of s)) where
-  others_named : (place : ℕ) (t : PlainStatement)
-      → slice_get (before ++ s ∷ after) place ≡ Some t → ¬ (place ≡ length before)
+  others_named : (index : ℕ) (t : PlainStatement)
+      → slice_get (before ++ s ∷ after) index ≡ Some t → ¬ (index ≡ length before)
       → HasNot label t
-  others_named place t there other is =
+  others_named index t there other is =
       let st : List PlainStatement = before ++ s ∷ after in
-      other (one_label (sentences st) label place (length before) (sentence_of t) (sentence_of s)
-      (all_meant profile st obeyed) (said_there st place t there)
+      other (one_label (sentences st) label index (length before) (sentence_of t) (sentence_of s)
+      (all_meant profile st obeyed) (said_there st index t there)
       (said_there st (length before) s (get_parted before after s)) is named)
 
   not_before : AllByRecursion (HasNot label) before
@@ -123,14 +123,14 @@ others_slots label slots number statements owned others =
 record IsOneFurther (profile : Profile) (statements : List PlainStatement) (number : ℕ)
     (first : List ℕ) (slots : List Slot) (files : List PlainFile) (new : List ℕ)
     (labels : List (List ℕ)) : Type 0 where
-  pub front : List Slot
+  pub prefix : List Slot
   pub slot : Slot
   pub back : List Slot
-  pub whole : slots ≡ front ++ slot ∷ back
+  pub whole : slots ≡ prefix ++ slot ∷ back
   pub others : List PlainStatement
-  pub on : AreOnTheWay profile statements number first (front ++ filled slot ∷ back)
+  pub on : AreOnTheWay profile statements number first (prefix ++ filled slot ∷ back)
       (with_bytes files number new) others
-  pub left : AllByRecursion (IsFilledOrAmong labels) (front ++ filled slot ∷ back)
+  pub left : AllByRecursion (IsFilledOrAmong labels) (prefix ++ filled slot ∷ back)
 
 module _ {profile : Profile} {f : Form} {statements : List PlainStatement} {number : ℕ}
     {first : List ℕ} {slots : List Slot} {files : List PlainFile} {others : List PlainStatement}
@@ -139,63 +139,63 @@ module _ {profile : Profile} {f : Form} {statements : List PlainStatement} {numb
     (on : AreOnTheWay profile statements number first slots files others)
     (sv : IsSaved f files others label number new) where
   -- the slot of what is saved
-  slot_of : ZipParts Owns slots (theorems_of number (take sv.place others)) sv.s
-      (theorems_of number (drop (suc sv.place) others))
+  slot_of : ZipParts Owns slots (theorems_of number (take sv.index others)) sv.s
+      (theorems_of number (drop (suc sv.index) others))
   slot_of =
-      let before : List PlainStatement = take sv.place others in
-      let after : List PlainStatement = drop (suc sv.place) others in
+      let before : List PlainStatement = take sv.index others in
+      let after : List PlainStatement = drop (suc sv.index) others in
       let is = theorem_there number sv.s sv.proof.complete (sym sv.home) in
       zip_parts Owns slots (theorems_of number before) sv.s (theorems_of number after)
-      (rw (ap (theorems_of number) (split_at others sv.place sv.s sv.proof.there)
+      (rw (ap (theorems_of number) (split_at others sv.index sv.s sv.proof.there)
       ∙ theorems_parted number before sv.s after is) at on.owners)
 
   -- and what is to stand there
   text_of : slot_of.x.put ≡ 10 ∷ sv.text
   text_of =
       let parts = slot_of in
-      let (replacement, r, put) = (all_back (IsFor (IsReplacement f statements)) parts.front
+      let (replacement, r, put) = (all_back (IsFor (IsReplacement f statements)) parts.prefix
       (parts.x ∷ parts.back) (rw parts.whole at each)).0 in
       sym put
-      ∙ same_text profile f statements others parts.x.owner sv.s replacement label sv.place sv.root
+      ∙ same_text profile f statements others parts.x.owner sv.s replacement label sv.index sv.root
       sv.below sv.text obeyed on.accepted.obeyed on.carries parts.here r
       (record { proof = sv.proof; laid = sv.laid })
 
   -- it is filled
   filled_on : HasSlots (with_bytes files number new) (read_anew (saved_to_put on.accepted sv))
-      number first (slot_of.front ++ filled slot_of.x ∷ slot_of.back)
+      number first (slot_of.prefix ++ filled slot_of.x ∷ slot_of.back)
   filled_on =
       let p = saved_to_put on.accepted sv in
       let parts = slot_of in
-      let stands = rw (split_at others sv.place sv.s sv.proof.there, parts.whole) at on.has in
+      let stands = rw (split_at others sv.index sv.s sv.proof.there, parts.whole) at on.has in
       subst (λ (bytes : List ℕ). HasSlots (with_bytes files number bytes) (read_anew p) number first
-      (parts.front ++ filled parts.x ∷ parts.back))
+      (parts.prefix ++ filled parts.x ∷ parts.back))
       (ap (λ (l : List ℕ). with_span sv.file.bytes sv.s.span l) text_of ∙ sym sv.whole)
-      (slots_put_anew p number first parts.front parts.x parts.back (sym sv.home) text_of
-      (zip_length Owns parts.front _ parts.earlier) stands)
+      (slots_put_anew p number first parts.prefix parts.x parts.back (sym sv.home) text_of
+      (zip_length Owns parts.prefix _ parts.earlier) stands)
 
   one_further : (labels : List (List ℕ)) → FitsSaved files number new
       → AllByRecursion (IsFilledOrAmong (label ∷ labels)) slots
       → IsOneFurther profile statements number first slots files new labels
   one_further labels fits left =
-      let before : List PlainStatement = take sv.place others in
-      let after : List PlainStatement = drop (suc sv.place) others in
-      let parted = split_at others sv.place sv.s sv.proof.there in
+      let before : List PlainStatement = take sv.index others in
+      let after : List PlainStatement = drop (suc sv.index) others in
+      let parted = split_at others sv.index sv.s sv.proof.there in
       let p = saved_to_put on.accepted sv in
       let put = are_put_anew p in
       let t : PlainStatement = put_anew sv.s (10 ∷ sv.text) in
       let parts = slot_of in
-      let front : List Slot = parts.front in
+      let prefix : List Slot = parts.prefix in
       let slot : Slot = parts.x in
       let back : List Slot = parts.back in
       let new_is = theorem_there number t (anew_of p).complete (sym sv.home) in
       let carried = subst (λ (ss : List PlainStatement). Carries ss (read_anew p)) (sym parted)
       (put_says_alike p).to in
-      let others_front = others_slots label front number before parts.earlier
+      let others_prefix = others_slots label prefix number before parts.earlier
       (not_before profile before sv.s after label p.obeyed sv.proof.named) in
       let others_back = others_slots label back number after parts.later
       (not_after profile before sv.s after label p.obeyed sv.proof.named) in
       let among = rw parts.whole at left in
-      let owners = zip_append Owns front (theorems_of number before) (filled slot ∷ back)
+      let owners = zip_append Owns prefix (theorems_of number before) (filled slot ∷ back)
       (t ∷ theorems_of number put.later) parts.earlier (
         parts.here,
         zip_on Owns (λ x y. sentence_of x ≡ sentence_of y) Owns
@@ -204,7 +204,7 @@ module _ {profile : Profile} {f : Form} {statements : List PlainStatement} {numb
             (theorems_said number after put.later put.same),
       ) in
       record {
-        front = front;
+        prefix = prefix;
         slot = slot;
         back = back;
         whole = parts.whole;
@@ -215,21 +215,21 @@ module _ {profile : Profile} {f : Form} {statements : List PlainStatement} {numb
           has = filled_on;
           owners = rw (theorems_parted number before t put.later new_is) owners;
         };
-        left = all_append (IsFilledOrAmong labels) front (filled slot ∷ back)
-            (still_left label labels front others_front
-            (all_front (IsFilledOrAmong (label ∷ labels)) front (slot ∷ back) among)) (
+        left = all_append (IsFilledOrAmong labels) prefix (filled slot ∷ back)
+            (still_left label labels prefix others_prefix
+            (all_prefix (IsFilledOrAmong (label ∷ labels)) prefix (slot ∷ back) among)) (
               inl refl,
               still_left label labels back others_back
-                  (all_back (IsFilledOrAmong (label ∷ labels)) front (slot ∷ back) among).1,
+                  (all_back (IsFilledOrAmong (label ∷ labels)) prefix (slot ∷ back) among).1,
             );
       }
 
 -- the slots are still for what is to be put in
-still_for : (R : PlainStatement → Replacement → Type 0) (front : List Slot) (slot : Slot)
-    (back : List Slot) → AllByRecursion (IsFor R) (front ++ slot ∷ back)
-    → AllByRecursion (IsFor R) (front ++ filled slot ∷ back)
+still_for : (R : PlainStatement → Replacement → Type 0) (prefix : List Slot) (slot : Slot)
+    (back : List Slot) → AllByRecursion (IsFor R) (prefix ++ slot ∷ back)
+    → AllByRecursion (IsFor R) (prefix ++ filled slot ∷ back)
 still_for R [] slot back all = all
-still_for R (x ∷ front) slot back all = (all.0, still_for R front slot back all.1)
+still_for R (x ∷ prefix) slot back all = (all.0, still_for R prefix slot back all.1)
 
 -- at the end all slots are filled
 all_in_turn : (profile : Profile) (f : Form) (statements : List PlainStatement)
@@ -250,11 +250,11 @@ all_in_turn profile f statements number first (label ∷ labels) slots files oth
     let same = (same_reading files ss others None None accepted.reads on.accepted.reads).0 in
     let here : IsSaved f files others label number new = rw same at sv in
     let n = one_further obeyed each on here labels fits left in
-    let still = still_for (IsReplacement f statements) n.front n.slot n.back (rw n.whole at each) in
-    all_in_turn profile f statements number first labels (n.front ++ filled n.slot ∷ n.back)
+    let still = still_for (IsReplacement f statements) n.prefix n.slot n.back (rw n.whole at each) in
+    all_in_turn profile f statements number first labels (n.prefix ++ filled n.slot ∷ n.back)
     (with_bytes files number new) n.others bytes obeyed still n.on n.left more
-    ∙ ap (woven first) (map-append filled n.front (filled n.slot ∷ n.back)
-    ∙ sym (map-append filled n.front (n.slot ∷ n.back)) ∙ ap (map filled) (sym n.whole))
+    ∙ ap (woven first) (map-append filled n.prefix (filled n.slot ∷ n.back)
+    ∙ sym (map-append filled n.prefix (n.slot ∷ n.back)) ∙ ap (map filled) (sym n.whole))
 
 -- ---- the law
 

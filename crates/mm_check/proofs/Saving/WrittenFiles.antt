@@ -59,7 +59,7 @@ use Rattle.mm_check.specs.declared.save_fault.SaveFault.TheVariants as fault
 with_span-append : (xs ys : List ℕ) (span : ℕ × ℕ) (text : List ℕ) → span.0 ≤ length xs
     → span.1 ≤ length xs → with_span (xs ++ ys) span text ≡ with_span xs span text ++ ys
 with_span-append xs ys span text start stop =
-    ap (λ (front : List ℕ). front ++ (text ++ drop span.1 (xs ++ ys)))
+    ap (λ (prefix : List ℕ). prefix ++ (text ++ drop span.1 (xs ++ ys)))
     (take-append-le span.0 xs ys start)
     ∙ ap (λ (back : List ℕ). take span.0 xs ++ (text ++ back)) (drop-append-le span.1 xs ys stop)
     ∙ ap (λ (rest : List ℕ). take span.0 xs ++ rest) (sym (append_assoc text (drop span.1 xs) ys))
@@ -92,12 +92,12 @@ spans_rise start stop (new ∷ news) h =
     omega (arith, h.0, h.1, spans_rise new.span.1 stop news h.2)
 
 -- what stands before the first of them is kept
-front_kept : (start stop : ℕ) (xs : List ℕ) (news : List Replacement)
+prefix_kept : (start stop : ℕ) (xs : List ℕ) (news : List Replacement)
     → AreSpansWithin start stop news → stop ≤ length xs
     → (start ≤ length (with_replaced xs news)) × (take start (with_replaced xs news) ≡ take start xs)
-front_kept start stop xs [] h within = (omega (arith, h, within), refl)
-front_kept start stop xs (new ∷ news) h within =
-    let later = front_kept new.span.1 stop xs news h.2 within in
+prefix_kept start stop xs [] h within = (omega (arith, h, within), refl)
+prefix_kept start stop xs (new ∷ news) h within =
+    let later = prefix_kept new.span.1 stop xs news h.2 within in
     let inner : List ℕ = with_replaced xs news in
     let begins : new.span.0 ≤ length inner = omega (arith, h.1, later.0) in
     let before : start ≤ new.span.1 = omega (arith, h.0, h.1) in (
@@ -113,7 +113,7 @@ with_replaced-append : (start stop : ℕ) (xs ys : List ℕ) (news : List Replac
     → with_replaced (xs ++ ys) news ≡ with_replaced xs news ++ ys
 with_replaced-append start stop xs ys [] h within = refl
 with_replaced-append start stop xs ys (new ∷ news) h within =
-    let later = front_kept new.span.1 stop xs news h.2 within in
+    let later = prefix_kept new.span.1 stop xs news h.2 within in
     ap (λ (bytes : List ℕ). with_span bytes new.span new.text)
     (with_replaced-append new.span.1 stop xs ys news h.2 within)
     ∙ with_span-append (with_replaced xs news) ys new.span new.text (omega (arith, h.1, later.0))
@@ -134,7 +134,7 @@ spans_push start stop [] new h after order =
 spans_push start stop (first ∷ news) new h after order =
     (h.0, h.1, spans_push first.span.1 stop news new h.2 after order)
 
--- the bytes up to it, of which those after a place stand before it
+-- the bytes up to it, of which those after a position stand before it
 cut_at : (at : ℕ) (xs : List ℕ) (span : ℕ × ℕ) (text : List ℕ) → at ≤ span.0
     → span.0 ≤ span.1 → span.1 ≤ length xs
     → with_span (take span.1 xs) span text ≡ take at xs ++ (slice_range xs at span.0 ++ text)
@@ -143,12 +143,12 @@ cut_at at xs span text after order within =
     let none = drop_of_length-le (take span.1 xs) {i = span.1} (omega (arith, long)) in
     let sum : at + (span.0 - at) ≡ span.0 = omega (arith, after) in
     let between = ap (λ (n : ℕ). drop at (take n xs)) (sym sum) ∙ drop-take at (span.0 - at) xs in
-    let front : take span.0 xs ≡ take at xs ++ slice_range xs at span.0 =
+    let prefix : take span.0 xs ≡ take at xs ++ slice_range xs at span.0 =
     sym (take-append-drop at (take span.0 xs))
     ∙ ap (λ (ys : List ℕ). ys ++ drop at (take span.0 xs)) (take-take at span.0 xs after)
     ∙ ap (λ (ys : List ℕ). take at xs ++ ys) between in
     ap (λ (ys : List ℕ). ys ++ (text ++ drop span.1 (take span.1 xs)))
-    (take-take span.0 span.1 xs order ∙ front)
+    (take-take span.0 span.1 xs order ∙ prefix)
     ∙ ap (λ (ys : List ℕ). (take at xs ++ slice_range xs at span.0) ++ (text ++ ys)) none
     ∙ ap (λ (ys : List ℕ). (take at xs ++ slice_range xs at span.0) ++ ys) (append-nil text)
     ∙ append_assoc (take at xs) (slice_range xs at span.0) text
@@ -203,10 +203,10 @@ pub proof_among : (told : List Sentence) (s : PlainStatement) (id : ℕ)
     (tokens : List (List ℕ)) (t : IsTheoremAmong told id s) → tokens ≡ proof_of s
     → IsProofOf Lenient told id tokens
 proof_among told s id tokens t texts =
-    let at : IsAt t.statements id t.place s =
+    let at : IsAt t.statements id t.index s =
     record { there = t.there; numbered = rw t.same at t.number.numbered } in
     rw (texts, t.same)
-    (proof_stands Lenient t.statements id t.place s t.obeyed at t.complete)
+    (proof_stands Lenient t.statements id t.index s t.obeyed at t.complete)
 
 abbrev steps_among : (told : List Sentence) (s : PlainStatement) (label : List ℕ)
     (id : ℕ) (steps : ReadSteps) (t : IsTheoremAmong told id s)
@@ -215,9 +215,9 @@ abbrev steps_among : (told : List Sentence) (s : PlainStatement) (label : List �
 steps_among told s label id steps t named said =
     let own = rw t.same at t.number in
     let here = rw t.same at said in
-    let moves = here t.place (sentence_of s) own in
+    let moves = here t.index (sentence_of s) own in
     record {
-      place = t.place;
+      index = t.index;
       s = s;
       there = t.there;
       named = named;
@@ -260,7 +260,7 @@ theorem_fault form.Normal told s id steps why said proved (inr (is, long)) =
           tree_told told t.statements label id steps t.same
           (steps_among told s label id steps t named said) proved
           (λ before u trees. most_labels < length (spelling trees)) long in
-          (t.place, root, below, has, over),
+          (t.index, root, below, has, over),
     ))
 
 -- ==== a file on its way to being written anew, statement by statement
@@ -269,22 +269,22 @@ theorem_fault form.Normal told s id steps why said proved (inr (is, long)) =
 
 module _ (statements more : List PlainStatement) where
   -- a proof keeps its tree when more statements come
-  tree_kept : {label : List ℕ} {place : ℕ} {s : PlainStatement} {root : List ℕ} {below : Trees}
-      → HasProofTree statements label place s root below
-      → HasProofTree (statements ++ more) label place s root below
-      × (take place (statements ++ more) ≡ take place statements)
-  tree_kept {place = place} {s = s} proof =
-      let within = slice_get_within statements place s proof.there in
-      let front = take-append-le place statements more (omega (arith, within)) in (
+  tree_kept : {label : List ℕ} {index : ℕ} {s : PlainStatement} {root : List ℕ} {below : Trees}
+      → HasProofTree statements label index s root below
+      → HasProofTree (statements ++ more) label index s root below
+      × (take index (statements ++ more) ≡ take index statements)
+  tree_kept {index = index} {s = s} proof =
+      let within = slice_get_within statements index s proof.there in
+      let prefix = take-append-le index statements more (omega (arith, within)) in (
         record {
-          there = get_kept statements more place s proof.there;
+          there = get_kept statements more index s proof.there;
           named = proof.named;
           complete = proof.complete;
           moves = proof.moves;
-          told = rw front proof.told;
-          made = rw front proof.made;
+          told = rw prefix proof.told;
+          made = rw prefix proof.made;
         },
-        front,
+        prefix,
       )
 
   -- so it is written anew as before
@@ -293,8 +293,8 @@ module _ (statements more : List PlainStatement) where
       → AllZip (IsReplacement form (statements ++ more)) theorems news
   all_kept form =
       zip_weaker (IsReplacement form statements) (IsReplacement form (statements ++ more))
-      (λ s new r. let (proof, front) = tree_kept r.proof in
-      replaced_by form r.text proof (rw front r.laid) r.span r.put)
+      (λ s new r. let (proof, prefix) = tree_kept r.proof in
+      replaced_by form r.text proof (rw prefix r.laid) r.span r.put)
 
   -- the first theorem whose normal proof is too long stays the first one
   long_kept : (number : ℕ) (label : List ℕ) → IsFirstTooLong statements number label
@@ -306,7 +306,7 @@ module _ (statements more : List PlainStatement) where
       ∙ append_assoc first.before (first.s ∷ first.after) later in
       first_too_long (statements ++ more) number label first.before first.s (first.after ++ later)
       first.news split (all_kept Normal first.before first.news first.fit)
-      (first.place, first.root, first.below, (tree_kept first.proof).0, first.long)
+      (first.index, first.root, first.below, (tree_kept first.proof).0, first.long)
 
 last_kept : (number at : ℕ) (taken : List PlainStatement) (s : PlainStatement)
     → IsLastEnd number taken at → IsLastEnd number (taken ++ s ∷ []) at
@@ -381,7 +381,7 @@ module _ {files : List PlainFile} {told : List Sentence} {id : LabelId}
     statements = taken ++ s ∷ [];
     same = met.same;
     obeyed = one_more Lenient taken s (met.obeyed none) met.came.2;
-    place = length taken;
+    index = length taken;
     there = get_parted taken [] s;
     number = rw (length-map taken sentence_of) at (last_number told id.0 s formed met.came.1
         (sentences taken) (met.same ∙ map-append sentence_of taken (s ∷ [])));
@@ -454,11 +454,11 @@ module _ {files : List PlainFile} {told : List Sentence} {id : LabelId}
         let old : AreReplacedSoFar taken file = replaced_so_far files taken file w short in
         let same = kept.same in
         let (normal, long) = kept.long in
-        let (place, root, below, proof, over) = long (theorem_met formed) in
+        let (index, root, below, proof, over) = long (theorem_met formed) in
         let first = first_too_long more file.number kept.label (theorems_of file.number taken) s []
         old.replaced (theorems_parted file.number taken s [] is)
         (simp normal at (all_kept taken (s ∷ []) file.form _ old.replaced old.each))
-        (place, root, below, proof, over) in
+        (index, root, below, proof, over) in
         record {
           own = w.own;
           handed = ap (slice_get files) same.number ∙ w.handed;

@@ -59,7 +59,7 @@ within_limit files readable = elim (cases_lt most_bytes (total_bytes files)) [
 
 -- ## Blocks
 
--- what is counted by the kind is counted alike without the places in memory
+-- what is counted by the kind is counted alike without where they lie in memory
 counted_alike : (p : Kind → Bool) (statements : List PlainStatement)
     → count_by (λ (s : Sentence). p s.kind) (sentences statements) ≡ count_by (λ (s : PlainStatement). p s.kind) statements
 counted_alike p [] = refl
@@ -124,7 +124,7 @@ few files p left way =
 stands_later : (s : PlainStatement) (statements : List PlainStatement) (label : List ℕ) (t : PlainStatement) → ¬ (IsLabelled label (sentence_of s)) → Stands (s ∷ statements) label t → Stands statements label t
 stands_later s statements label t other (zero, there, named) =
     let same : s ≡ t = cc in absurd (other (subst (λ (u : PlainStatement). IsLabelled label (sentence_of u)) (sym same) named))
-stands_later s statements label t other (suc place, there, named) = (place, there, named)
+stands_later s statements label t other (suc index, there, named) = (index, there, named)
 
 pub sought_on : (label : List ℕ) (first old new : Remaining) (s : PlainStatement) → IsStillLeft label first old → TakesNext old true s new → ¬ (IsLabelled label (sentence_of s)) → IsStillLeft label first new
 sought_on label first old new s sought taken other =
@@ -166,27 +166,27 @@ pub read_statements : (c : Conclusion) (statements : List PlainStatement) → Is
 read_statements c statements o reads =
     subst (λ (ss : List PlainStatement). AreOf c ss) (same_reading c.files o.statements statements None None o.accepted.reads reads).0 (own_statements c o)
 
-pub said_there : (statements : List PlainStatement) (place : ℕ) (s : PlainStatement) → slice_get statements place ≡ Some s → slice_get (sentences statements) place ≡ Some (sentence_of s)
-said_there statements place s e = get_mapped sentence_of statements place s e
+pub said_there : (statements : List PlainStatement) (index : ℕ) (s : PlainStatement) → slice_get statements index ≡ Some s → slice_get (sentences statements) index ≡ Some (sentence_of s)
+said_there statements index s e = get_mapped sentence_of statements index s e
 
 -- one statement has the label
-pub one_stands : (statements : List PlainStatement) (label : List ℕ) (place : ℕ) (s t : PlainStatement) → AllMeant (sentences statements)
-    → slice_get statements place ≡ Some s → IsLabelled label (sentence_of s) → Stands statements label t → t ≡ s
-one_stands statements label place s t all there named (other, at, labelled) =
-    let same : other ≡ place =
-    one_label (sentences statements) label other place (sentence_of t) (sentence_of s) all (said_there statements other t at) (said_there statements place s there) labelled named in
+pub one_stands : (statements : List PlainStatement) (label : List ℕ) (index : ℕ) (s t : PlainStatement) → AllMeant (sentences statements)
+    → slice_get statements index ≡ Some s → IsLabelled label (sentence_of s) → Stands statements label t → t ≡ s
+one_stands statements label index s t all there named (other, at, labelled) =
+    let same : other ≡ index =
+    one_label (sentences statements) label other index (sentence_of t) (sentence_of s) all (said_there statements other t at) (said_there statements index s there) labelled named in
     cc (same, at, there)
 
 -- the proof of a theorem that obeys the rules
-pub proof_stands : (profile : Profile) (statements : List PlainStatement) (id place : ℕ) (s : PlainStatement) → AllObey profile statements → IsAt statements id place s → is_proof s ≡ true
+pub proof_stands : (profile : Profile) (statements : List PlainStatement) (id index : ℕ) (s : PlainStatement) → AllObey profile statements → IsAt statements id index s → is_proof s ≡ true
     → IsProofOf profile (sentences statements) id (proof_of s)
-proof_stands profile statements id place s obeyed at complete =
-    let parted : statements ≡ take place statements ++ s ∷ drop (suc place) statements = split_at statements place s at.there in
+proof_stands profile statements id index s obeyed at complete =
+    let parted : statements ≡ take index statements ++ s ∷ drop (suc index) statements = split_at statements index s at.there in
     let proved =
-    (obeyed (take place statements) (drop (suc place) statements) s parted).proved complete in
+    (obeyed (take index statements) (drop (suc index) statements) s parted).proved complete in
     let provable = provable_kind s.kind (not (is_incomplete (proof_of s))) complete in
     record {
-      place = place;
+      index = index;
       s = sentence_of s;
       number = record { numbered = at.numbered; provable = provable };
       complete = λ h. cc (proof_not_unproved s complete, unproved_there s provable h);
@@ -199,26 +199,26 @@ texts_bytes : (tokens : List PlainToken) → sum_by length (map (λ (t : PlainTo
 texts_bytes [] = refl
 texts_bytes (t ∷ tokens) = omega (arith, texts_bytes tokens, sum_by-cons (length {A = ℕ}) t.text (map (λ (u : PlainToken). u.text) tokens), sum_by-cons (λ (u : PlainToken). length u.text) t tokens)
 
-bytes_within : (statements : List PlainStatement) (place : ℕ) (s : PlainStatement) → slice_get statements place ≡ Some s → bytes_in s ≤ sum_by bytes_in statements
-bytes_within [] place s e = absurd cc
+bytes_within : (statements : List PlainStatement) (index : ℕ) (s : PlainStatement) → slice_get statements index ≡ Some s → bytes_in s ≤ sum_by bytes_in statements
+bytes_within [] index s e = absurd cc
 bytes_within (t ∷ statements) zero s e = let same : t ≡ s = cc in omega (arith, ap bytes_in same, sum_by-cons bytes_in t statements)
-bytes_within (t ∷ statements) (suc place) s e = omega (arith, bytes_within statements place s e, sum_by-cons bytes_in t statements)
+bytes_within (t ∷ statements) (suc index) s e = omega (arith, bytes_within statements index s e, sum_by-cons bytes_in t statements)
 
 pub proof_fits : (files : List PlainFile) (statements : List PlainStatement)
-    (ending : Option PlainFault) (place : ℕ) (s : PlainStatement) → CanBeRead files
-    → Reads files statements ending → slice_get statements place ≡ Some s
+    (ending : Option PlainFault) (index : ℕ) (s : PlainStatement) → CanBeRead files
+    → Reads files statements ending → slice_get statements index ≡ Some s
     → sum_by length (proof_of s) ≤ most_bytes
-proof_fits files statements ending place s readable reads there =
+proof_fits files statements ending index s readable reads there =
     let room = readings_fit files statements ending reads in
     let most = within_limit files readable in
-    omega (arith, texts_bytes s.proof, bytes_within statements place s there, room, most)
+    omega (arith, texts_bytes s.proof, bytes_within statements index s there, room, most)
 
 -- ---- what is shown
 
 -- what stands under the theorem's label is the theorem
 found_again : (statements : List PlainStatement) (label : List ℕ) (id : ℕ) (t : PlainStatement) → AllMeant (sentences statements)
     → (named : IsNamed statements label (λ s. is_proof s ≡ true) id) → Stands statements label t → t ≡ named.1
-found_again statements label id t all (place, s, at, both) stands = one_stands statements label place s t all at.there both.0 stands
+found_again statements label id t all (index, s, at, both) stands = one_stands statements label index s t all at.there both.0 stands
 
 -- its tokens are its proof
 pub shown_proof : (c : Conclusion) (statements : List PlainStatement) (label : List ℕ) (id : ℕ) (t : PlainStatement) → AreOf c statements → AllMeant c.sentences
@@ -240,7 +240,7 @@ theorem_steps c statements label id t steps of all named stands said =
     record { numbered = named.2.numbered; provable = provable_kind s.kind (not (is_incomplete (proof_of s))) named.3.1 } in
     let told = here named.0 (sentence_of s) number in
     record {
-      place = named.0;
+      index = named.0;
       s = s;
       there = named.2.there;
       named = named.3.0;

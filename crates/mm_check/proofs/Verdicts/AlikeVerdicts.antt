@@ -16,8 +16,8 @@ use Rattle.mm_frame.specs.declared.rule.MeaningRule.{MeaningRule}
 use Rattle.mm_frame.specs.Sentence.{Sentence, sentence_of}
 use Rattle.mm_frame.specs.Rules.{FirstBroken, IsMeant}
 use Rattle.mm_proof.specs.declared.fault.ProofRule.{ProofRule}
-use Rattle.mm_proof.specs.UnderProfile.{IsProvedUnder, IsFaultUnder, IsFrontAllowedUnder}
-use Rattle.mm_proof.specs.UnderProfile.{IsFrontFaultUnder}
+use Rattle.mm_proof.specs.UnderProfile.{IsProvedUnder, IsFaultUnder, IsPrefixAllowedUnder}
+use Rattle.mm_proof.specs.UnderProfile.{IsPrefixFaultUnder}
 use Rattle.mm_proof.specs.declared.profile.Profile.{Profile}
 use Rattle.mm_proof.specs.Tokens.{is_incomplete}
 use Rattle.mm_check.specs.declared.rule.Rule.{Rule}
@@ -33,7 +33,7 @@ use Rattle.mm_text.proofs.Lists.{cons_split, append_split, same_length}
 use Rattle.mm_text.specs.declared.fault.LoadRule.TheVariants as load
 use Rattle.mm_check.specs.declared.rule.Rule.TheVariants as rules
 
--- ## What is said of statements is said of them with lines in place of places
+-- ## What is said of statements is said of them with lines in place of positions
 
 -- a line changes no text
 texts_on : (h : ℕ → ℕ → ℕ) (ts : List PlainToken) → map (λ t. t.text) ts ≡ map (λ t. t.text) (map (token_on h) ts)
@@ -82,7 +82,7 @@ unproved_on h (s ∷ ss) =
     ∙ ap (λ (p : List (List ℕ)). flat_map label_of (cond (is_provable s.kind && is_incomplete p)
     (statement_on h s ∷ filter is_unproved us) (filter is_unproved us))) (proof_on h s)
 
--- ## What is said of statements is said of others that differ in places alone
+-- ## What is said of statements is said of others that differ in positions alone
 
 pub same_sentence : (h k : ℕ → ℕ → ℕ) (s t : PlainStatement) → statement_on h s ≡ statement_on k t → sentence_of s ≡ sentence_of t
 same_sentence h k s t is = sentence_on h s ∙ ap sentence_of is ∙ sym (sentence_on k t)
@@ -108,7 +108,7 @@ abbrev ObeysAs : Profile → List Sentence → Sentence → List (List ℕ) → 
 ObeysAs profile before x p =
     IsMeant before x
     × (is_provable x.kind && not (is_incomplete p) ≡ true → IsProvedUnder profile before x p)
-    × (is_provable x.kind && is_incomplete p ≡ true → IsFrontAllowedUnder profile before x p)
+    × (is_provable x.kind && is_incomplete p ≡ true → IsPrefixAllowedUnder profile before x p)
 
 pub obeys_alike : (profile : Profile) (before others : List Sentence) (s t : PlainStatement) → before ≡ others → sentence_of s ≡ sentence_of t → proof_of s ≡ proof_of t
     → Obeys profile before s → Obeys profile others t
@@ -123,7 +123,7 @@ IsProofFaultAs profile rule step before x p =
     ((is_provable x.kind && not (is_incomplete p) ≡ true)
     × IsFaultUnder profile before x p rule step)
     ⊎ ((is_provable x.kind && is_incomplete p ≡ true)
-    × IsFrontFaultUnder profile before x p rule step)
+    × IsPrefixFaultUnder profile before x p rule step)
 
 -- its fault, by the same
 abbrev HasFaultAs : Profile → Rule → ℕ → List Sentence → Sentence → List (List ℕ) → Type 0
@@ -136,9 +136,9 @@ HasFaultAs profile rule step before x p =
 -- all obey the rules if all of the others do
 all_obey_alike : (profile : Profile) (h k : ℕ → ℕ → ℕ) (ss us : List PlainStatement) → map (statement_on h) ss ≡ map (statement_on k) us → AllObey profile ss → AllObey profile us
 all_obey_alike profile h k ss us is obeyed before after s split =
-    let (earlier, rest, whole, front, back) = append_split (statement_on k) (statement_on h) before (s ∷ after) ss (sym (is ∙ ap (map (statement_on k)) split)) in
+    let (earlier, rest, whole, prefix, back) = append_split (statement_on k) (statement_on h) before (s ∷ after) ss (sym (is ∙ ap (map (statement_on k)) split)) in
     let (t, later, cut, same, tail) = cons_split (statement_on k) (statement_on h) s after rest back in
-    obeys_alike profile (sentences earlier) (sentences before) t s (sym (same_sentences k h before earlier front)) (sym (same_sentence k h s t same)) (sym (same_proof k h s t same))
+    obeys_alike profile (sentences earlier) (sentences before) t s (sym (same_sentences k h before earlier prefix)) (sym (same_sentence k h s t same)) (sym (same_proof k h s t same))
     (obeyed earlier later t (whole ∙ ap (λ (l : List PlainStatement). earlier ++ l) cut))
 
 -- ## Refusals
@@ -165,18 +165,18 @@ refuses_statement_alike : (profile : Profile) (files others : List PlainFile) (s
 refuses_statement_alike profile files others ss us refusal is r =
     let h : ℕ → ℕ → ℕ = feeds_in files in
     let k : ℕ → ℕ → ℕ = feeds_in others in
-    let (before, rest, whole, front, back) = append_split (statement_on h) (statement_on k) r.before (r.s ∷ r.after) us (sym (ap (map (statement_on h)) r.split) ∙ is) in
+    let (before, rest, whole, prefix, back) = append_split (statement_on h) (statement_on k) r.before (r.s ∷ r.after) us (sym (ap (map (statement_on h)) r.split) ∙ is) in
     let (t, after, cut, same, tail) = cons_split (statement_on h) (statement_on k) r.s r.after rest back in
-    let count = same_length (statement_on h) (statement_on k) r.before before front in
+    let count = same_length (statement_on h) (statement_on k) r.before before prefix in
     record {
       before = before;
       s = t;
       after = after;
       split = whole ∙ ap (λ (l : List PlainStatement). before ++ l) cut;
-      obeyed = all_obey_alike profile h k r.before before front r.obeyed;
+      obeyed = all_obey_alike profile h k r.before before prefix r.obeyed;
       rule = r.rule;
       step = r.step;
-      fault = moved (HasFaultAs profile r.rule r.step) _ _ _ _ _ _ (same_sentences h k r.before before front) (same_sentence h k r.s t same) (same_proof h k r.s t same) r.fault;
+      fault = moved (HasFaultAs profile r.rule r.step) _ _ _ _ _ _ (same_sentences h k r.before before prefix) (same_sentence h k r.s t same) (same_proof h k r.s t same) r.fault;
       refused = r.refused ∙ refusal_on files (length r.before) r.s r.rule r.step
           ∙ (λ i. refusal_at (count i) (same i) r.rule r.step)
           ∙ sym (refusal_on others (length before) t r.rule r.step);

@@ -6,7 +6,7 @@ use Rattle.mm_text.specs.Statement.{PlainStatement, HasForm}
 use Rattle.mm_text.specs.Files.{PlainFile}
 use Rattle.mm_text.specs.Reading.{PlainFault}
 use Rattle.mm_text.proofs.Reader.WholeReadings.{readings_are_formed_in_place, each_has_one_reading}
-use Rattle.mm_text.proofs.Lists.{all_front}
+use Rattle.mm_text.proofs.Lists.{all_prefix}
 use Rattle.mm_frame.specs.Sentence.{sentence_of}
 use Rattle.mm_frame.specs.Rules.{AllMeant, IsMeant}
 use Rattle.mm_frame.specs.Form.{AllFormed}
@@ -135,7 +135,7 @@ meant_more before s earlier meant =
 -- what comes before a statement is in form
 formed_so_far : (before left : List PlainStatement) → AllByRecursion HasForm (before ++ left)
     → AllFormed (sentences before)
-formed_so_far before left formed = formed_sentences before (all_front HasForm before left formed)
+formed_so_far before left formed = formed_sentences before (all_prefix HasForm before left formed)
 
 one_of_statements : (profile : Profile) (files : List PlainFile)
     (before left : List PlainStatement) (ending : Option PlainFault)

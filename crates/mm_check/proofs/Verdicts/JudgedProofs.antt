@@ -21,7 +21,7 @@ use Rattle.mm_proof.specs.Verified.{TokensProve}
 use Rattle.mm_proof.specs.declared.profile.Profile.{Profile}
 use Rattle.mm_proof.specs.Profiles.{limit_of}
 use Rattle.mm_proof.specs.Strict.{HasFormOf}
-use Rattle.mm_proof.specs.UnderProfile.{IsFaultUnder, IsFrontAllowedUnder, IsFrontFaultUnder}
+use Rattle.mm_proof.specs.UnderProfile.{IsFaultUnder, IsPrefixAllowedUnder, IsPrefixFaultUnder}
 use Rattle.mm_text.proofs.Lists.{one_parting, get_pushed, all_back}
 use Rattle.mm_text.specs.Files.{PlainFile}
 use Rattle.mm_check.specs.declared.rule.Rule.{Rule}
@@ -52,14 +52,14 @@ texts_of (t ∷ tokens) = ap (λ (rest : List (List ℕ)). t.text.now ∷ rest) 
 -- ## The number of the last statement
 
 -- the statements before the last one are these
-pub front_of : (statements before : List Sentence) (s : Sentence) → statements ≡ before ++ s ∷ [] → take (length before) statements ≡ before
-front_of statements before s e = ap (λ (ss : List Sentence). take (length before) ss) e ∙ take-append_seam before (s ∷ [])
+pub prefix_of : (statements before : List Sentence) (s : Sentence) → statements ≡ before ++ s ∷ [] → take (length before) statements ≡ before
+prefix_of statements before s e = ap (λ (ss : List Sentence). take (length before) ss) e ∙ take-append_seam before (s ∷ [])
 
 pub labelled_said : (kind : Kind) (label : Option PlainToken) → HasLabel kind label → kind ≡ Provable → is_some (option_map (λ (t : PlainToken). t.text) label) ≡ true
 labelled_said Provable label has e = ap (λ (o : Option PlainToken). is_some (option_map (λ (t : PlainToken). t.text) o)) has.1
 labelled_said kind label has e = absurd cc
 
--- the last statement has its number at the place after those before it
+-- the last statement has its number at the index after those before it
 pub last_number : (statements : List Sentence) (id : ℕ) (s : PlainStatement) → HasForm s → IsLastProof statements id s
     → (before : List Sentence) → statements ≡ before ++ sentence_of s ∷ [] → IsProofNumber statements id (length before) (sentence_of s)
 last_number statements id s formed last before e =
@@ -68,7 +68,7 @@ last_number statements id s formed last before e =
       numbered = record {
         there = ap (λ (ss : List Sentence). slice_get ss (length before)) e ∙ get_pushed before (sentence_of s);
         named = labelled_said s.kind s.label formed.label last.provable;
-        number = ap (λ (ss : List Sentence). length (labelled_sentences ss)) (front_of statements before (sentence_of s) e ∙ same) ∙ sym last.number;
+        number = ap (λ (ss : List Sentence). length (labelled_sentences ss)) (prefix_of statements before (sentence_of s) e ∙ same) ∙ sym last.number;
       };
       provable = last.provable;
     }
@@ -81,25 +81,25 @@ module _ (profile : Profile) (statements : List Sentence) (id : ℕ) (s : PlainS
   -- what is said of the `$p` with the number, wherever it stands, is said of the last statement
   of_last : (P : List Sentence → Sentence → List (List ℕ) → Type 0) (before : List Sentence)
       → statements ≡ before ++ sentence_of s ∷ []
-      → OfProof statements id (λ place t. P (take place statements) t tokens)
+      → OfProof statements id (λ index t. P (take index statements) t tokens)
       → P before (sentence_of s) (proof_of s)
   of_last P before e said =
       let number = last_number statements id s formed last before e in
       let there = said (length before) (sentence_of s) number in
-      rw (front_of statements before (sentence_of s) e, same) at there
+      rw (prefix_of statements before (sentence_of s) e, same) at there
 
   -- the fault of the tokens, as all of a proof or as what is known of one, is that of the statement
   fails_as : (before : List Sentence) (rule : ProofRule) (step : ℕ)
       → (¬ (IsIncomplete tokens)
       → IsFaultUnder profile before (sentence_of s) (proof_of s) rule step)
       → (IsIncomplete tokens
-      → IsFrontFaultUnder profile before (sentence_of s) (proof_of s) rule step)
+      → IsPrefixFaultUnder profile before (sentence_of s) (proof_of s) rule step)
       → (b : Bool) → is_incomplete tokens ≡ b → IsProofFault profile before s rule step
-  fails_as before rule step fails front_fails true open_one = inr (
+  fails_as before rule step fails prefix_fails true open_one = inr (
     unproved_there s last.provable (ap is_incomplete (sym same) ∙ open_one),
-    front_fails open_one,
+    prefix_fails open_one,
   )
-  fails_as before rule step fails front_fails false complete = inl (
+  fails_as before rule step fails prefix_fails false complete = inl (
     proof_there s last.provable (ap is_incomplete (sym same) ∙ complete),
     fails (λ h. both_ways _ complete h),
   )
@@ -108,39 +108,39 @@ module _ (profile : Profile) (statements : List Sentence) (id : ℕ) (s : PlainS
   -- said of the last one
   pub judged : (result : Result Proved ProofFault) (used : List ℕ)
       → (result ≡ Ok proved.Incomplete → IsIncomplete tokens
-      × OfProof statements id (λ place t.
-      IsFrontAllowedUnder profile (take place statements) t tokens))
+      × OfProof statements id (λ index t.
+      IsPrefixAllowedUnder profile (take index statements) t tokens))
       → (IsIncomplete tokens → ¬ (result ≡ Ok proved.Complete))
-      → (result ≡ Ok proved.Complete → OfProof statements id (λ place t.
-      TokensProve (limit_of profile) (take place statements) t tokens used))
-      → (result ≡ Ok proved.Complete → OfProof statements id (λ place t.
-      HasFormOf profile (take place statements) t tokens))
+      → (result ≡ Ok proved.Complete → OfProof statements id (λ index t.
+      TokensProve (limit_of profile) (take index statements) t tokens used))
+      → (result ≡ Ok proved.Complete → OfProof statements id (λ index t.
+      HasFormOf profile (take index statements) t tokens))
       → (¬ (IsIncomplete tokens) → (rule : ProofRule) (step : ℕ)
-      → result ≡ Err (faults.Rule rule step) → OfProof statements id (λ place t.
-      IsFaultUnder profile (take place statements) t tokens rule step))
+      → result ≡ Err (faults.Rule rule step) → OfProof statements id (λ index t.
+      IsFaultUnder profile (take index statements) t tokens rule step))
       → (IsIncomplete tokens → (rule : ProofRule) (step : ℕ)
-      → result ≡ Err (faults.Rule rule step) → OfProof statements id (λ place t.
-      IsFrontFaultUnder profile (take place statements) t tokens rule step))
+      → result ≡ Err (faults.Rule rule step) → OfProof statements id (λ index t.
+      IsPrefixFaultUnder profile (take index statements) t tokens rule step))
       → (before : List Sentence) → statements ≡ before ++ sentence_of s ∷ []
       → MatchResult result (IsJudged profile before s used) (Fails profile before s)
-  judged (Ok proved.Incomplete) used incomplete complete proves forms fails front_fails before e =
+  judged (Ok proved.Incomplete) used incomplete complete proves forms fails prefix_fails before e =
       let open_one = incomplete refl in
-      (rw same at open_one.0, of_last (IsFrontAllowedUnder profile) before e open_one.1)
-  judged (Ok proved.Complete) used incomplete complete proves forms fails front_fails before e =
+      (rw same at open_one.0, of_last (IsPrefixAllowedUnder profile) before e open_one.1)
+  judged (Ok proved.Complete) used incomplete complete proves forms fails prefix_fails before e =
       let form = of_last (HasFormOf profile) before e (forms refl) in
       let here = of_last (λ ss t ts. TokensProve (limit_of profile) ss t ts used) before e
       (proves refl) in (
         rw same at (false_from_ne_true (is_incomplete tokens) (λ h. complete h refl)),
         record { form = form; proof = here.proof; all = here.all },
       )
-  judged (Err faults.Memory) used incomplete complete proves forms fails front_fails before e = tt
-  judged (Err (faults.Rule rule step)) used incomplete complete proves forms fails front_fails
+  judged (Err faults.Memory) used incomplete complete proves forms fails prefix_fails before e = tt
+  judged (Err (faults.Rule rule step)) used incomplete complete proves forms fails prefix_fails
       before e =
       fails_as before rule step
       (λ whole. of_last (λ ss t ts. IsFaultUnder profile ss t ts rule step) before e
       (fails whole rule step refl))
-      (λ open_one. of_last (λ ss t ts. IsFrontFaultUnder profile ss t ts rule step) before e
-      (front_fails open_one rule step refl))
+      (λ open_one. of_last (λ ss t ts. IsPrefixFaultUnder profile ss t ts rule step) before e
+      (prefix_fails open_one rule step refl))
       (is_incomplete tokens) refl
 
 -- refusals of one statement for one rule at one step
@@ -181,16 +181,16 @@ handed files =
     (λ n f there. home_all files n f (tokens_from n 0 f.bytes) (slice_get_within files n f there) (tokens_in_place n f.bytes)))
 
 -- the token of an item, and those before it
-middle_token : (P : PlainToken → Type 0) (front : List Item) (item : Item) (rest : List Item) → AllTokens P (front ++ item ∷ rest) → AllTokens P front × AllTokens P (item ∷ rest)
+middle_token : (P : PlainToken → Type 0) (prefix : List Item) (item : Item) (rest : List Item) → AllTokens P (prefix ++ item ∷ rest) → AllTokens P prefix × AllTokens P (item ∷ rest)
 middle_token P [] item rest h = (tt, h)
-middle_token P (End n ∷ front) item rest h = middle_token P front item rest h
-middle_token P (first ∷ front) item rest h = let inner = middle_token P front item rest h.1 in ((h.0, inner.0), inner.1)
+middle_token P (End n ∷ prefix) item rest h = middle_token P prefix item rest h
+middle_token P (first ∷ prefix) item rest h = let inner = middle_token P prefix item rest h.1 in ((h.0, inner.0), inner.1)
 
-all_plain : (P : PlainToken → Type 0) (front : List Item) → AllTokens P front → AllByRecursion P (plain_tokens front)
+all_plain : (P : PlainToken → Type 0) (prefix : List Item) → AllTokens P prefix → AllByRecursion P (plain_tokens prefix)
 all_plain P [] h = tt
-all_plain P (Plain t ∷ front) h = (h.0, all_plain P front h.1)
-all_plain P (End n ∷ front) h = all_plain P front h
-all_plain P (item ∷ front) h = all_plain P front h.1
+all_plain P (Plain t ∷ prefix) h = (h.0, all_plain P prefix h.1)
+all_plain P (End n ∷ prefix) h = all_plain P prefix h
+all_plain P (item ∷ prefix) h = all_plain P prefix h.1
 
 -- ---- refusals
 
@@ -198,9 +198,9 @@ all_plain P (item ∷ front) h = all_plain P front h.1
 first_home : (files : List PlainFile) (statements : List PlainStatement) (ending : Option PlainFault) (before : List PlainStatement) (s : PlainStatement) (after : List PlainStatement)
     → Reads files statements ending → statements ≡ before ++ s ∷ after → IsHanded files s.first
 first_home files statements ending before s after reads split =
-    let placed = all_back (IsInPlace files) before (s ∷ after)
+    let indexed = all_back (IsInPlace files) before (s ∷ after)
     (subst (λ (ss : List PlainStatement). AllByRecursion (IsInPlace files) ss) split (readings_are_formed_in_place files statements ending reads).in_place) in
-    slice_get_within files s.first.file placed.0.first.0 placed.0.first.1
+    slice_get_within files s.first.file indexed.0.first.0 indexed.0.first.1
 
 fault_home : (files : List PlainFile) (statements : List PlainStatement) (fault : PlainFault) → Reads files statements (Some fault) → fault.file < length files
 fault_home files statements fault reads =

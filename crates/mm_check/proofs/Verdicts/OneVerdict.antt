@@ -9,7 +9,7 @@ use Rattle.mm_text.specs.Statement.{PlainStatement, HasForm}
 use Rattle.mm_text.specs.Files.{most_bytes, PlainFile, BreaksLoad, HasTwins, total_bytes}
 use Rattle.mm_text.specs.Reading.{PlainFault, Reads}
 use Rattle.mm_text.proofs.Reader.WholeReadings.{each_has_one_reading, readings_are_formed_in_place}
-use Rattle.mm_text.proofs.Lists.{all_front, two_cuts}
+use Rattle.mm_text.proofs.Lists.{all_prefix, two_cuts}
 use Rattle.mm_frame.specs.Sentence.{sentence_of, Sentence}
 use Rattle.mm_frame.specs.Rules.{AllMeant, IsMeant, FirstBroken, rank}
 use Rattle.mm_frame.specs.Form.{IsFormedSentence, AllFormed}
@@ -19,7 +19,7 @@ use Rattle.mm_proof.specs.declared.fault.ProofRule.{ProofRule}
 use Rattle.std.proofs.Math.Decide.{dec_le}
 use Rattle.mm_frame.proofs.Rules.DecidedStatements.{dec_both, dec_as, dec_some, symbol_dec}
 use Rattle.mm_proof.proofs.ProofVerdicts.ProfileVerdicts.{one_verdict_under_holds}
-use Rattle.mm_proof.proofs.ProofVerdicts.ProfileVerdicts.{one_front_verdict_under_holds, only_form}
+use Rattle.mm_proof.proofs.ProofVerdicts.ProfileVerdicts.{one_prefix_verdict_under_holds, only_form}
 use Rattle.mm_check.specs.declared.rule.Rule.{Rule}
 use Rattle.mm_check.specs.Verdict.{PlainRefusal, Verdict, Load, Refused, Incomplete, Yes, Obeys}
 use Rattle.mm_check.specs.Verdict.{AllObey, AreAccepted, CanBeRead, HasFault, HasVerdict}
@@ -77,9 +77,9 @@ judged_load (f ∷ files) = some_load (f ∷ files) (λ e. absurd cc) (twins_dec
 -- ## The statements, one after the other
 
 pub formed_sentences : (statements : List PlainStatement) → AllByRecursion HasForm statements → AllFormed (sentences statements)
-formed_sentences [] all place s e = absurd cc
+formed_sentences [] all index s e = absurd cc
 formed_sentences (t ∷ statements) all zero s e = let same : sentence_of t ≡ s = cc in subst IsFormedSentence same (formed_said t all.0)
-formed_sentences (t ∷ statements) all (suc place) s e = formed_sentences statements all.1 place s e
+formed_sentences (t ∷ statements) all (suc index) s e = formed_sentences statements all.1 index s e
 
 -- the proof of a statement breaks no rule, or has a fault
 pub proof_obeys_or_fails : (profile : Profile) (before : List PlainStatement) (s : PlainStatement)
@@ -96,7 +96,7 @@ proof_obeys_or_fails profile before s earlier formed true b e f meant =
       | inr fault ↦ inr (fault.0, fault.1, inl (e, fault.2))
     ]
 proof_obeys_or_fails profile before s earlier formed false true e f meant =
-    let law = one_front_verdict_under_holds profile (sentences before) (sentence_of s) (proof_of s)
+    let law = one_prefix_verdict_under_holds profile (sentences before) (sentence_of s) (proof_of s)
     earlier formed in
     elim (law.0) [
       | inl allowed ↦ inl (record { meant = meant; proved = λ c. absurd cc; known = λ u. allowed })
@@ -122,7 +122,7 @@ pub formed_before : (statements before : List PlainStatement) (s : PlainStatemen
     → statements ≡ before ++ s ∷ after → AllFormed (sentences before)
 formed_before statements before s after formed split =
     formed_sentences before
-    (all_front HasForm before (s ∷ after) (subst (AllByRecursion HasForm) split formed))
+    (all_prefix HasForm before (s ∷ after) (subst (AllByRecursion HasForm) split formed))
 
 -- the first statement at fault, or that there is none
 judged_statements : (profile : Profile) (files : List PlainFile) (before later : List PlainStatement) → AllObey profile before → AllByRecursion HasForm (before ++ later)
@@ -130,7 +130,7 @@ judged_statements : (profile : Profile) (files : List PlainFile) (before later :
 judged_statements profile files before [] obeyed formed = inr (subst (AllObey profile) (sym (append-nil before)) obeyed)
 judged_statements profile files before (s ∷ later) obeyed formed =
     elim (judged_statement profile before s obeyed
-    (formed_sentences before (all_front HasForm before (s ∷ later) formed))) [
+    (formed_sentences before (all_prefix HasForm before (s ∷ later) formed))) [
       | inl obeys ↦
           rw (← append_assoc before (s ∷ []) later)
           (judged_statements profile files (before ++ s ∷ []) later (one_more profile before s obeyed obeys)
@@ -205,7 +205,7 @@ module _ (profile : Profile) (before : List Sentence) (s : PlainStatement) (mean
       (one_verdict_under_holds profile before (sentence_of s) (proof_of s) meant formed).1
       (obeyed.proved f.0) broken step f.1
   obeying_faultless rule step obeyed (inr (so, broken, inr f, is)) =
-      (one_front_verdict_under_holds profile before (sentence_of s) (proof_of s) meant formed).1
+      (one_prefix_verdict_under_holds profile before (sentence_of s) (proof_of s) meant formed).1
       (obeyed.known f.0) broken step f.1
 
   -- the fault of a proof is one, and so is that of what is known of one
@@ -218,7 +218,7 @@ module _ (profile : Profile) (before : List Sentence) (s : PlainStatement) (mean
   one_proof_fault rule rule' step step' (inl f) (inr g) = cc (proof_not_unproved s f.0, g.0)
   one_proof_fault rule rule' step step' (inr f) (inl g) = cc (proof_not_unproved s g.0, f.0)
   one_proof_fault rule rule' step step' (inr f) (inr g) =
-      (one_front_verdict_under_holds profile before (sentence_of s) (proof_of s) meant formed).2
+      (one_prefix_verdict_under_holds profile before (sentence_of s) (proof_of s) meant formed).2
       rule rule' step step' f.1 g.1
 
   -- the fault of a statement is one

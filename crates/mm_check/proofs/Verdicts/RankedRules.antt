@@ -47,7 +47,7 @@ unfolding ranked
 ranked-rank M1 = refl
 ranked-rank _ = refl
 
--- no rule but the last one has a rank above its own place
+-- no rule but the last one has a rank above its own number
 pub rank-ranked : (n : ℕ) → rank (ranked (suc n)) ≤ suc n
 unfolding ranked
 rank-ranked (suc (suc (suc (suc (suc (suc (suc (suc (suc (suc (suc (suc (suc (suc n)))))))))))))) = omega arith
@@ -57,7 +57,7 @@ rank-ranked _ = omega arith
 
 -- ## What the rules ask
 
-some_open_dec : (before : List Sentence) → Dec ((place : ℕ) × IsOpen before place)
+some_open_dec : (before : List Sentence) → Dec ((index : ℕ) × IsOpen before index)
 some_open_dec before = dec_as (λ h. (h.0, h.3)) (λ h. (h.0, h.1.opening, h.1.there, h.1))
     (dec_some (λ k x. IsOpen before k) (λ k x. open_dec before k) before)
 

@@ -49,11 +49,11 @@ use Rattle.mm_frame.proofs.Names.NameNumbers.{get_unmapped}
 
 -- ---- numbers
 
--- a statement keeps its number and its place
-pub at_grow : (statements more : List PlainStatement) (id place : ℕ) (s : PlainStatement) → IsAt statements id place s → IsAt (statements ++ more) id place s
-at_grow statements more id place s at = record {
-  there = get_kept statements more place s at.there;
-  numbered = rw map-append (numbered_grow _ _ id place (sentence_of s) at.numbered);
+-- a statement keeps its number and its index
+pub at_grow : (statements more : List PlainStatement) (id index : ℕ) (s : PlainStatement) → IsAt statements id index s → IsAt (statements ++ more) id index s
+at_grow statements more id index s at = record {
+  there = get_kept statements more index s at.there;
+  numbered = rw map-append (numbered_grow _ _ id index (sentence_of s) at.numbered);
 }
 
 -- a statement with a label, put at the end, has the next number
@@ -61,24 +61,24 @@ pub at_last : (statements : List PlainStatement) (s : PlainStatement) → is_som
     → IsAt (statements ++ s ∷ []) (length (labelled_sentences (sentences statements))) (length statements) s
 at_last statements s named =
     let last = numbered_last (sentences statements) (sentence_of s) named in
-    let placed = rw (length-map statements sentence_of) at last in
-    record { there = get_pushed statements s; numbered = rw map-append placed }
+    let indexed = rw (length-map statements sentence_of) at last in
+    record { there = get_pushed statements s; numbered = rw map-append indexed }
 
 -- a statement with a number, where one more is put at the end, had it, or is the last
-pub at_cases : (statements : List PlainStatement) (s : PlainStatement) (id place : ℕ) (t : PlainStatement) → IsAt (statements ++ s ∷ []) id place t
-    → IsAt statements id place t ⊎ ((s ≡ t) × (id ≡ length (labelled_sentences (sentences statements))))
-at_cases statements s id place t at =
+pub at_cases : (statements : List PlainStatement) (s : PlainStatement) (id index : ℕ) (t : PlainStatement) → IsAt (statements ++ s ∷ []) id index t
+    → IsAt statements id index t ⊎ ((s ≡ t) × (id ≡ length (labelled_sentences (sentences statements))))
+at_cases statements s id index t at =
     let numbered = rw (map-append sentence_of statements (s ∷ [])) at at.numbered in
-    elim (pushed_cases statements s place t at.there) [
+    elim (pushed_cases statements s index t at.there) [
       | inl before ↦
-          let within = slice_get_within statements place t before in
+          let within = slice_get_within statements index t before in
           let room = rw (← length-map statements sentence_of) at within in
-          inl (record { there = before; numbered = numbered_fall (sentences statements) (sentence_of s ∷ []) id place (sentence_of t) room numbered })
+          inl (record { there = before; numbered = numbered_fall (sentences statements) (sentence_of s ∷ []) id index (sentence_of t) room numbered })
       | inr last ↦
-          let front : take place (sentences statements ++ sentence_of s ∷ []) ≡ sentences statements =
+          let prefix : take index (sentences statements ++ sentence_of s ∷ []) ≡ sentences statements =
           ap (λ (n : ℕ). take n (sentences statements ++ sentence_of s ∷ [])) (last.0 ∙ sym (length-map statements sentence_of))
           ∙ take-append_seam (sentences statements) (sentence_of s ∷ []) in
-          inr (last.1, sym numbered.number ∙ ap (λ (ss : List Sentence). length (labelled_sentences ss)) front)
+          inr (last.1, sym numbered.number ∙ ap (λ (ss : List Sentence). length (labelled_sentences ss)) prefix)
     ]
 
 -- ---- the numbers of the statements for which a test holds
@@ -128,39 +128,39 @@ any_proof profile before s tokens p = record {
 
 -- what is said of the tree of a proof after these statements
 abbrev pub Spells : PlainStatement → Trees → List PlainStatement → Type 0
-Spells s t front = (proof : IsProved (sentences front) (sentence_of s) (proof_of s)) × (t ≡ tree_of proof)
+Spells s t prefix = (proof : IsProved (sentences prefix) (sentence_of s) (proof_of s)) × (t ≡ tree_of proof)
 
-pub tree_grow : (statements more : List PlainStatement) (id place : ℕ) (t : Trees) → HasTree statements id place t → HasTree (statements ++ more) id place t
-tree_grow statements more id place t has =
-    let within : place < length statements = slice_get_within statements place has.s has.at.there in
-    let proof : Spells has.s t (take place (statements ++ more)) =
-    subst (Spells has.s t) (sym (take-append-le place statements more (omega arith)))
+pub tree_grow : (statements more : List PlainStatement) (id index : ℕ) (t : Trees) → HasTree statements id index t → HasTree (statements ++ more) id index t
+tree_grow statements more id index t has =
+    let within : index < length statements = slice_get_within statements index has.s has.at.there in
+    let proof : Spells has.s t (take index (statements ++ more)) =
+    subst (Spells has.s t) (sym (take-append-le index statements more (omega arith)))
     (has.proof, has.spelled) in
-    record { s = has.s; at = at_grow statements more id place has.s has.at; complete = has.complete; proof = proof.0; spelled = proof.1 }
+    record { s = has.s; at = at_grow statements more id index has.s has.at; complete = has.complete; proof = proof.0; spelled = proof.1 }
 
 -- the uses of one proof
 abbrev pub AreUsesOf : List PlainStatement → ProofUses → Type 0
 AreUsesOf statements u =
-    (place : ℕ) × (t : Trees) × HasTree statements u.number place t × AreUsed (sentences (take place statements)) t u.used
+    (index : ℕ) × (t : Trees) × HasTree statements u.number index t × AreUsed (sentences (take index statements)) t u.used
 
 uses_grow : (statements more : List PlainStatement) (u : ProofUses) → AreUsesOf statements u → AreUsesOf (statements ++ more) u
-uses_grow statements more u (place, t, has, used) =
-    let within : place < length statements = slice_get_within statements place has.s has.at.there in
-    let still = rw (← take-append-le place statements more (omega arith)) at used in
-    (place, t, tree_grow statements more u.number place t has, still)
+uses_grow statements more u (index, t, has, used) =
+    let within : index < length statements = slice_get_within statements index has.s has.at.there in
+    let still = rw (← take-append-le index statements more (omega arith)) at used in
+    (index, t, tree_grow statements more u.number index t has, still)
 
 uses_last : (profile : Profile) (statements : List PlainStatement) (s : PlainStatement) (used : List ℕ) → is_some (sentence_of s).label ≡ true → is_proof s ≡ true
     → IsProvedUsing profile (sentences statements) s used
     → AreUsesOf (statements ++ s ∷ []) (record { number = length (labelled_sentences (sentences statements)); used = ordered used })
 unfolding any_proof
 uses_last profile statements s used named complete proved =
-    let front : statements ≡ take (length statements) (statements ++ s ∷ []) = sym (take-append_seam statements (s ∷ [])) in
+    let prefix : statements ≡ take (length statements) (statements ++ s ∷ []) = sym (take-append_seam statements (s ∷ [])) in
     let proof : Spells s (tree_of proved.proof) (take (length statements) (statements ++ s ∷ [])) =
-    subst (Spells s (tree_of proved.proof)) front (any_proof profile (sentences statements) (sentence_of s) (proof_of s) proved.proof, refl) in (
+    subst (Spells s (tree_of proved.proof)) prefix (any_proof profile (sentences statements) (sentence_of s) (proof_of s) proved.proof, refl) in (
       length statements,
       tree_of proved.proof,
       record { s = s; at = at_last statements s named; complete = complete; proof = proof.0; spelled = proof.1 },
-      subst (λ (front : List PlainStatement). AreUsed (sentences front) (tree_of proved.proof) (ordered used)) front
+      subst (λ (prefix : List PlainStatement). AreUsed (sentences prefix) (tree_of proved.proof) (ordered used)) prefix
           (ordered_used (sentences statements) (tree_of proved.proof) used proved.all),
     )
 
@@ -233,11 +233,11 @@ more_unproved names numbers unproved s count formed counted named true e =
     let found = provable_label s.kind s.label formed.label (and_parts (is_provable s.kind) (is_incomplete (proof_of s)) e).0 in
     let text : List ℕ = found.0.text in
     let label : label_of s ≡ text ∷ [] = ap (λ (o : Option PlainToken). option_to_list (option_map (λ t. t.text) o)) found.1 in
-    let front : map (slice_get (names ++ label_of s)) numbers ≡ map Some unproved = named_more names (label_of s) numbers unproved named in
+    let prefix : map (slice_get (names ++ label_of s)) numbers ≡ map Some unproved = named_more names (label_of s) numbers unproved named in
     let last : slice_get (names ++ text ∷ []) (length names) ≡ Some text = get_pushed names text in
     let here : slice_get (names ++ label_of s) count ≡ Some text = rw (label, counted) last in
     map-append (slice_get (names ++ label_of s)) numbers (count ∷ [])
-    ∙ ap (λ (os : List (Option (List ℕ))). os ++ slice_get (names ++ label_of s) count ∷ []) front
+    ∙ ap (λ (os : List (Option (List ℕ))). os ++ slice_get (names ++ label_of s) count ∷ []) prefix
     ∙ ap (λ (o : Option (List ℕ)). map Some unproved ++ o ∷ []) here
     ∙ sym (map-append Some unproved (text ∷ []))
     ∙ ap (λ (ls : List (List ℕ)). map Some (unproved ++ ls)) (sym (append-nil (label_of s) ∙ label))
@@ -302,10 +302,10 @@ pub all_meant : (profile : Profile) (statements : List PlainStatement) → AllOb
 all_meant profile statements obeyed before after s e =
     let (t, there, said) =
     get_unmapped sentence_of statements (length before) s (rw e (get_parted before after s)) in
-    let front : sentences (take (length before) statements) ≡ before =
+    let prefix : sentences (take (length before) statements) ≡ before =
     sym (take-map sentence_of (length before) statements) ∙ ap (take (length before)) e
     ∙ take-append_seam before (s ∷ after) in
-    rw (front, said) at (obeyed _ _ t (split_at statements (length before) t there)).meant
+    rw (prefix, said) at (obeyed _ _ t (split_at statements (length before) t there)).meant
 
 -- a kind that is that of a `$p`, and more
 pub provable_kind : (kind : Kind) (rest : Bool) → (is_provable kind && rest) ≡ true

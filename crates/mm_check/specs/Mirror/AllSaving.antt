@@ -32,9 +32,9 @@ pub record IsTheoremAmong (told : List Sentence) (id : ℕ) (s : PlainStatement)
   pub statements : List PlainStatement
   pub same : told ≡ sentences statements
   pub obeyed : AllObey Lenient statements
-  pub place : ℕ
-  pub there : slice_get statements place ≡ Some s
-  pub number : IsProofNumber told id place (sentence_of s)
+  pub index : ℕ
+  pub there : slice_get statements index ≡ Some s
+  pub number : IsProofNumber told id index (sentence_of s)
   pub complete : is_proof s ≡ true
   pub room : sum_by length (proof_of s) ≤ most_bytes
 
@@ -45,8 +45,8 @@ replacement s text = record { span = s.span; text = 10 ∷ text }
 -- its normal proof has more labels than may be written
 abbrev pub HasTooLongProof : List PlainStatement → PlainStatement → (label : List ℕ) → Type 0
 HasTooLongProof statements s label =
-    (place : ℕ) × (root : List ℕ) × (below : Trees)
-    × HasProofTree statements label place s root below
+    (index : ℕ) × (root : List ℕ) × (below : Trees)
+    × HasProofTree statements label index s root below
     × (most_labels < length (spelling (tree root below none)))
 
 -- the form is the normal one, and the proof has more labels than may be written
@@ -79,7 +79,7 @@ abbrev pub IsMostFor : List PlainFile → (number most : ℕ) → Type 0
 IsMostFor files number most =
     (bytes : List ℕ) → (most < length bytes) ↔ (most_bytes < total_with files number bytes)
 
--- the spans stand one after the other, from one place on up to another
+-- the spans stand one after the other, from one position on up to another
 abbrev pub AreSpansWithin : (start stop : ℕ) → List Replacement → Type 0
 AreSpansWithin start stop [] = start ≤ stop
 AreSpansWithin start stop (new ∷ news) =
@@ -123,7 +123,7 @@ IsWhole file bytes =
     (so_far : List ℕ) → IsUpTo file.most so_far file.bytes.items
     → bytes ≡ so_far ++ drop file.taken file.source.now
 
--- memory was wanting, or these bytes are more than there may be
+-- memory ran out, or these bytes are more than there may be
 abbrev pub IsFinishFault : NewFile → AskFault → Type 0
 IsFinishFault file fault =
     (fault ≡ Memory)
@@ -132,8 +132,8 @@ IsFinishFault file fault =
 
 -- ---- the statements so far
 
--- the place is where the proof of the last `$p` of the file so far whose proof is replaced ends; the
--- file's beginning, where there is none
+-- the position is where the proof of the last `$p` of the file so far whose proof is replaced ends;
+-- the file's beginning, where there is none
 abbrev pub IsLastEnd : (number : ℕ) → List PlainStatement → (at : ℕ) → Type 0
 IsLastEnd number taken at =
     (at ≡ 0)

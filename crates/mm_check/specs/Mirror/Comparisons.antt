@@ -19,8 +19,8 @@ use Rattle.mm_check.specs.declared.ask.AskFault.TheVariants as ask
 use Rattle.mm_check.specs.declared.rule.Rule.TheVariants as rules
 use Rattle.mm_check.specs.Compared.{IsProofText, BreaksText, IsTextFault}
 
--- the tokens of the front of a text, where those of the rest complete them
-pub record AreFrontTokens (text : List ℕ) (tokens : List (List ℕ)) (rest : List ℕ) : Type 0 where
+-- the tokens of the prefix of a text, where those of the rest complete them
+pub record ArePrefixTokens (text : List ℕ) (tokens : List (List ℕ)) (rest : List ℕ) : Type 0 where
   pub whole : tokens ++ tokens_in rest ≡ tokens_in text
   pub room : sum_by length tokens + length rest ≤ length text
 
@@ -34,8 +34,8 @@ IsIllegal text fault =
 abbrev pub FailsAs : List Sentence → (id : ℕ) → ReadSteps → AskFault → Type 0
 FailsAs statements id steps fault =
     (fault ≡ ask.Memory) ⊎ ((rule : ProofRule) × (step : ℕ) × (fault ≡ ask.Text (rules.Proof rule) step)
-    × OfMoves statements id steps.moves (λ place s moves.
-    FailsWith (limit_of steps.profile) statements place s moves rule step))
+    × OfMoves statements id steps.moves (λ index s moves.
+    FailsWith (limit_of steps.profile) statements index s moves rule step))
 
 -- the fault is one of the tokens as a proof of the `$p` with this number under the profile, or a
 -- refused growth
@@ -43,16 +43,16 @@ abbrev pub IsUnproved : Profile → List Sentence → (id : ℕ) → (tokens : L
     → Type 0
 IsUnproved profile statements id tokens fault =
     (fault ≡ ask.Memory) ⊎ ((rule : ProofRule) × (step : ℕ) × (fault ≡ ask.Text (rules.Proof rule) step)
-    × OfProof statements id (λ place s.
-    IsFaultUnder profile (take place statements) s tokens rule step))
+    × OfProof statements id (λ index s.
+    IsFaultUnder profile (take index statements) s tokens rule step))
 
 -- the fault is one of the text as a proof of the `$p` with this number under the profile, or a
 -- refused growth
 abbrev pub IsTextRefused : Profile → List Sentence → (id : ℕ) → (text : List ℕ) → AskFault → Type 0
 IsTextRefused profile statements id text fault =
     (fault ≡ ask.Memory) ⊎ ((rule : Rule) × (step : ℕ) × (fault ≡ ask.Text rule step)
-    × OfProof statements id (λ place s.
-    IsTextFault profile (take place statements) s text rule step))
+    × OfProof statements id (λ index s.
+    IsTextFault profile (take index statements) s text rule step))
 
 -- the text is a proof of the `$p` with this number under the profile, and this tells whether it
 -- makes the same tree as the steps
@@ -60,6 +60,6 @@ abbrev pub IsComparedWith : Profile → List Sentence → (id : ℕ) → List (M
     → Bool → Type 0
 IsComparedWith profile statements id steps text same =
     IsProofText text
-    × OfMoves statements id steps (λ place s moves.
-    (p : IsProvedUnder profile (take place statements) s (tokens_in text))
-    × (IsTrue same ↔ MakeSameTree (take place statements) moves p.1.moves))
+    × OfMoves statements id steps (λ index s moves.
+    (p : IsProvedUnder profile (take index statements) s (tokens_in text))
+    × (IsTrue same ↔ MakeSameTree (take index statements) moves p.1.moves))

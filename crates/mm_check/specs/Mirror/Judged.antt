@@ -24,7 +24,7 @@ use Rattle.mm_proof.specs.Proof.{IsProvedWithin, IsWithin}
 use Rattle.mm_proof.specs.declared.profile.Profile.{Profile}
 use Rattle.mm_proof.specs.Profiles.{limit_of}
 use Rattle.mm_proof.specs.Strict.{HasFormOf}
-use Rattle.mm_proof.specs.UnderProfile.{IsFrontAllowedUnder}
+use Rattle.mm_proof.specs.UnderProfile.{IsPrefixAllowedUnder}
 use Rattle.mm_proof.specs.Tokens.{is_incomplete}
 use Rattle.mm_check.specs.declared.fault.CheckFault.{CheckFault}
 use Rattle.mm_check.specs.declared.fault.CheckFault.TheVariants as check
@@ -51,21 +51,21 @@ fault_of (stop.Refused refusal) = check.Refused refusal
 fault_of stop.Memory = check.Memory
 
 -- The statement, which comes after so many others, is refused for the first rule of meaning that it
--- breaks; or memory was wanting.
+-- breaks; or memory ran out.
 abbrev pub RefusesMeaning : List PlainFile → List Sentence → ℕ → PlainStatement → Stop → Type 0
 RefusesMeaning files before count s (stop.Refused refusal) =
     (broken : MeaningRule) × FirstBroken broken before (sentence_of s)
     × (plain_refusal refusal ≡ refusal_of files count s (rules.Meaning broken) 0)
 RefusesMeaning files before count s stop.Memory = Unit {0}
 
--- No statement is left, and the text's fault is answered; or memory was wanting.
+-- No statement is left, and the text's fault is answered; or memory ran out.
 abbrev pub RefusesEnd : List PlainFile → Remaining → Stop → Type 0
 RefusesEnd files left (stop.Refused refusal) =
     (left.statements ≡ []) × (at : PlainFault) × (left.ending ≡ Some at)
     × (plain_refusal refusal ≡ text_refusal files at)
 RefusesEnd files left stop.Memory = Unit {0}
 
--- The files break this rule as a whole; or memory was wanting. No statement is refused.
+-- The files break this rule as a whole; or memory ran out. No statement is refused.
 abbrev pub RefusesLoad : List PlainFile → CheckFault → Type 0
 RefusesLoad files (check.Load rule) =
     (broken : LoadRule) × BreaksLoad files broken × (rule ≡ rules.Load broken)
@@ -99,11 +99,11 @@ pub record IsProvedUsing (profile : Profile) (before : List Sentence) (s : Plain
 abbrev pub IsJudged : Profile → List Sentence → PlainStatement → List ℕ → Proved → Type 0
 IsJudged profile before s used proved.Incomplete =
     (is_incomplete (proof_of s) ≡ true)
-    × IsFrontAllowedUnder profile before (sentence_of s) (proof_of s)
+    × IsPrefixAllowedUnder profile before (sentence_of s) (proof_of s)
 IsJudged profile before s used proved.Complete =
     (is_incomplete (proof_of s) ≡ false) × IsProvedUsing profile before s used
 
--- this is the fault of its proof, or of what is known of it; or memory was wanting
+-- this is the fault of its proof, or of what is known of it; or memory ran out
 abbrev pub Fails : Profile → List Sentence → PlainStatement → ProofFault → Type 0
 Fails profile before s fault = OnRule fault (IsProofFault profile before s)
 
@@ -232,7 +232,7 @@ Turns profile files old left (Some judged) s new rest =
     TakesNext left true s rest × HasForm s × IsTaken profile files old s judged new
 
 -- The fault of the text is answered, or the rule of meaning that the next statement breaks; or
--- memory was wanting.
+-- memory ran out.
 abbrev pub StopsTurn : List PlainFile → Progress → Remaining → Stop → Type 0
 StopsTurn files p left stop =
     RefusesEnd files left stop
@@ -264,7 +264,7 @@ pub record IsAtEnd (profile : Profile) (files : List PlainFile) (p : Progress) :
   pub taken : HasTaken statements p
   pub known : Knows statements p
 
--- The verdict that the fault tells holds of the files; want of memory tells none.
+-- The verdict that the fault tells holds of the files; lack of memory tells none.
 abbrev pub TellsVerdict : Profile → List PlainFile → CheckFault → Type 0
 TellsVerdict profile files fault =
     (verdict : Verdict) → verdict_of_fault fault ≡ Some verdict → HasVerdict profile files verdict

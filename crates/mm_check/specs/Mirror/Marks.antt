@@ -47,4 +47,4 @@ pub record IsKeptWell (profile : Profile) (files : List PlainFile) (told : List 
 -- the number is that of a `$a`
 abbrev pub IsAxiomNumber : List Sentence → ℕ → Type 0
 IsAxiomNumber statements id =
-    (place : ℕ) × (s : Sentence) × IsNumbered statements id place s × (s.kind ≡ Axiom)
+    (index : ℕ) × (s : Sentence) × IsNumbered statements id index s × (s.kind ≡ Axiom)

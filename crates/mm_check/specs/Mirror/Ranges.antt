@@ -17,12 +17,12 @@ uses_at labels p =
 abbrev pub uses_in : List LabelId → List KeptProof → List ProofUses
 uses_in labels proofs = map (uses_at labels) proofs
 
--- the proof has a range of what stands before a place
-pub record IsRangeWithin (place : ℕ) (p : KeptProof) : Type 0 where
+-- the proof has a range of what stands before an index
+pub record IsRangeWithin (index : ℕ) (p : KeptProof) : Type 0 where
   pub order : p.start ≤ p.end
-  pub within : p.end ≤ place
+  pub within : p.end ≤ index
 
 -- each of them has
 abbrev pub AreRangesWithin : ℕ → List KeptProof → Type 0
-AreRangesWithin place proofs =
-    (i : ℕ) (p : KeptProof) → slice_get proofs i ≡ Some p → IsRangeWithin place p
+AreRangesWithin index proofs =
+    (i : ℕ) (p : KeptProof) → slice_get proofs i ≡ Some p → IsRangeWithin index p

@@ -26,13 +26,13 @@ IsHomeOf statements label file span =
 -- the text is the proof of the theorem with this number in this form
 abbrev pub IsTextOf : Form → List Sentence → (id : ℕ) → List (Move ℕ) → (text : List ℕ) → Type 0
 IsTextOf form statements id steps text =
-    OfMoves statements id steps (λ place s moves. OfTree (take place statements) moves
-    (λ trees. IsTextIn form (take place statements) s trees text))
+    OfMoves statements id steps (λ index s moves. OfTree (take index statements) moves
+    (λ trees. IsTextIn form (take index statements) s trees text))
 
 -- its normal proof has more labels than are written
 abbrev pub IsTooLong : List Sentence → (id : ℕ) → List (Move ℕ) → Type 0
 IsTooLong statements id steps =
-    OfMoves statements id steps (λ place s moves. OfTree (take place statements) moves
+    OfMoves statements id steps (λ index s moves. OfTree (take index statements) moves
     (λ trees. most_labels < length (spelling trees)))
 
 -- why it has no text in this form
@@ -53,7 +53,7 @@ IsPutIn files number span text bytes =
     (file : PlainFile) × (slice_get files number ≡ Some file)
     × (bytes ≡ with_span file.bytes span (10 ∷ text))
 
--- why they aren't given: want of memory, or the files would have too many bytes
+-- why they aren't given: lack of memory, or the files would have too many bytes
 abbrev pub IsPutFault : List PlainFile → (number : ℕ) → (span : ℕ × ℕ) → (text : List ℕ) → AskFault
     → Type 0
 IsPutFault files number span text fault =

@@ -21,42 +21,42 @@ use Rattle.mm_check.specs.Shown.{listing_text, Stands}
 -- the tokens are a complete proof of the `$p` with this number under the profile
 pub record IsProofOf (profile : Profile) (statements : List Sentence) (id : ℕ)
     (tokens : List (List ℕ)) : Type 0 where
-  pub place : ℕ
+  pub index : ℕ
   pub s : Sentence
-  pub number : IsProofNumber statements id place s
+  pub number : IsProofNumber statements id index s
   pub complete : ¬ (IsIncomplete tokens)
-  pub proved : IsProvedUnder profile (take place statements) s tokens
+  pub proved : IsProvedUnder profile (take index statements) s tokens
 
 -- the steps of the `$p` with this number are the moves that the tokens say
 abbrev pub SayStepsOf : List Sentence → (id : ℕ) → (tokens : List (List ℕ)) → List (Move ℕ) → Type 0
 SayStepsOf statements id tokens steps =
-    OfProof statements id (λ place s.
-    (moves : List (Move (List ℕ))) × SayMoves (take place statements) s tokens moves
+    OfProof statements id (λ index s.
+    (moves : List (Move (List ℕ))) × SayMoves (take index statements) s tokens moves
     × AreNumberedMoves statements steps moves)
 
 -- the same, where the tokens break no rule that is judged over the whole proof
 abbrev pub SayWholeSteps : List Sentence → (id : ℕ) → (tokens : List (List ℕ)) → List (Move ℕ)
     → Type 0
 SayWholeSteps statements id tokens steps =
-    OfProof statements id (λ place s. SaySteps statements place s tokens steps)
+    OfProof statements id (λ index s. SaySteps statements index s tokens steps)
 
 -- the steps prove the `$p` with this number, within what their profile allows
 abbrev pub AreProvedSteps : List Sentence → (id : ℕ) → ReadSteps → Type 0
 AreProvedSteps statements id steps =
-    OfMoves statements id steps.moves (λ place s moves.
-    Prove (IsWithin (limit_of steps.profile)) (take place statements) s moves)
+    OfMoves statements id steps.moves (λ index s moves.
+    Prove (IsWithin (limit_of steps.profile)) (take index statements) s moves)
 
 -- the steps are those of the theorem with the label, which has this number and a complete proof
 pub record AreStepsOf (statements : List PlainStatement) (label : List ℕ) (id : ℕ)
     (steps : List (Move ℕ)) : Type 0 where
-  pub place : ℕ
+  pub index : ℕ
   pub s : PlainStatement
-  pub there : slice_get statements place ≡ Some s
+  pub there : slice_get statements index ≡ Some s
   pub named : IsLabelled label (sentence_of s)
   pub complete : is_proof s ≡ true
-  pub number : IsProofNumber (sentences statements) id place (sentence_of s)
+  pub number : IsProofNumber (sentences statements) id index (sentence_of s)
   pub moves : List (Move (List ℕ))
-  pub told : SayMoves (sentences (take place statements)) (sentence_of s) (proof_of s) moves
+  pub told : SayMoves (sentences (take index statements)) (sentence_of s) (proof_of s) moves
   pub numbered : AreNumberedMoves (sentences statements) steps moves
 
 -- the text is that of the listing of the moves

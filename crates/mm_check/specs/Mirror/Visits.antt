@@ -79,7 +79,7 @@ Sees {V} has_seen old told s judged new =
     → has_seen profile files first new (taken ++ s ∷ []) (listed ++ refusals_in judged)
 
 -- the visitor stops at the statement, if it may, for the fault of its proof, and is as it was; or
--- memory was wanting
+-- memory ran out
 abbrev pub StopsAt : {V : Type 0} → (may_stop : Type 0) → (old : V) → Judged → (new : V) → Stop
     → Type 0
 StopsAt may_stop old judged new (stop.Refused refusal) =
@@ -117,7 +117,7 @@ pub record HasMetFault {V : Type 0} (has_seen : Seeing V) (may_stop : Type 0) (p
   pub faults : HaveFaults profile files (listed ++ refusal ∷ others)
   pub rest : may_stop ⊎ (others ≡ [])
 
--- the files can't be taken; or this is where it ends; or memory was wanting
+-- the files can't be taken; or this is where it ends; or memory ran out
 abbrev pub HasStopped : {V : Type 0} → Seeing V → (may_stop : Type 0) → Profile → List PlainFile
     → (first now : V) → CheckFault → Type 0
 HasStopped has_seen may_stop profile files first now (check.Load rule) =

@@ -14,9 +14,9 @@ use Rattle.mm_code.specs.declared.code.CodeFault.TheVariants.{Rule, Memory}
 use Rattle.mm_code.specs.Letters.{largest}
 
 -- what is read behind codes that are read already
-abbrev pub with_front : List Code → Result (List Code) CodeRule → Result (List Code) CodeRule
-with_front front (Ok codes) = Ok (front ++ codes)
-with_front front (Err rule) = Err rule
+abbrev pub with_prefix : List Code → Result (List Code) CodeRule → Result (List Code) CodeRule
+with_prefix prefix (Ok codes) = Ok (prefix ++ codes)
+with_prefix prefix (Err rule) = Err rule
 
 -- the rule broken by a cut number, behind which these bytes stand
 unfoldable pub rule_behind : List ℕ → CodeRule
@@ -39,10 +39,10 @@ unfoldable pub reading : ℕ → List ℕ → Result (List Code) CodeRule
 reading value [] = if value == 0 then Ok [] else Err P5
 reading value (byte ∷ bytes) =
     if nat_lt byte 65 then Err P4
-    else (if nat_lt byte 85 then with_front (Number (number_after value byte)
+    else (if nat_lt byte 85 then with_prefix (Number (number_after value byte)
     ∷ []) (reading 0 bytes)
     else (if nat_lt byte 90 then reading (leading_after value byte) bytes
-    else (if byte == 90 then (if value == 0 then with_front (Tag ∷ []) (reading 0 bytes)
+    else (if byte == 90 then (if value == 0 then with_prefix (Tag ∷ []) (reading 0 bytes)
     else Err (rule_behind bytes))
     else Err P4)))
 
@@ -56,12 +56,12 @@ FaultOf (Rule P5) rest read = read ≡ Err (rule_behind rest)
 -- What a part of the letters gave, a leading value or a fault, goes on to what the whole reading
 -- answers.
 abbrev pub ReadsOn : List Code → Result ℕ CodeFault → List ℕ → Result (List Code) CodeRule → Type 0
-ReadsOn codes (Ok value) rest read = with_front codes (reading value rest) ≡ read
+ReadsOn codes (Ok value) rest read = with_prefix codes (reading value rest) ≡ read
 ReadsOn codes (Err fault) rest read = FaultOf fault rest read
 
--- The same, where the codes so far fill slots up to a place, which is answered beside the leading
+-- The same, where the codes so far fill slots up to an index, which is answered beside the leading
 -- value.
 abbrev pub PutsOn : List Code → Result (ℕ × ℕ) CodeFault → List ℕ → Result (List Code) CodeRule
     → Type 0
-PutsOn slots (Ok next) rest read = with_front (take next.0 slots) (reading next.1 rest) ≡ read
+PutsOn slots (Ok next) rest read = with_prefix (take next.0 slots) (reading next.1 rest) ≡ read
 PutsOn slots (Err fault) rest read = FaultOf fault rest read

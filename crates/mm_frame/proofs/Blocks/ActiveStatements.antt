@@ -1,4 +1,4 @@
--- What is active at each place, and what stays so as statements are added.
+-- What is active at each index, and what stays so as statements are added.
 use Rattle.std.proofs.Common.{◌≡◌, ℕ, zero, suc, ◌<◌, ◌≤◌, inl, inr, length, take, List, Some}
 use Rattle.std.proofs.Common.{subst, arith, slice_get, take-take, length-take-le, false, drop, []}
 use Rattle.std.proofs.Common.{◌∷◌, ◌++◌, refl, sym}
@@ -7,7 +7,7 @@ use Rattle.mm_frame.specs.Sentence.{Sentence}
 use Rattle.mm_frame.specs.Active.{IsOpen, Holds, IsActive}
 use Rattle.mm_frame.specs.Mirror.Scopes.{IsUnclosed, AreScopes}
 use Rattle.mm_text.proofs.Lists.{get_from_front, get_in_front, get_kept, get_before}
-use Rattle.mm_frame.proofs.Blocks.NumberedBlocks.{unclosed_front, unclosed_outer, open_in}
+use Rattle.mm_frame.proofs.Blocks.NumberedBlocks.{unclosed_prefix, unclosed_outer, open_in}
 use Rattle.mm_frame.proofs.Blocks.NumberedBlocks.{openings-append, closings-append, unclosed_pushed}
 use Rattle.mm_frame.proofs.Blocks.NumberedBlocks.{unclosed_before, unclosed_all, closings_one}
 use Rattle.mm_frame.proofs.Blocks.NumberedBlocks.{length_pushed, all_taken}
@@ -17,15 +17,15 @@ use Rattle.mm_text.specs.declared.statement.Kind.{Kind}
 use Rattle.mm_text.specs.declared.statement.Kind.TheVariants.{Closing}
 use Rattle.mm_text.specs.Blocks.{is_closing}
 
--- ==== what is active at each place, by the blocks' numbers; and what stays active as statements
+-- ==== what is active at each index, by the blocks' numbers; and what stays active as statements
 -- are added
 
--- a block is open after a front, if it is after a longer one
+-- a block is open after a prefix, if it is after a longer one
 pub unclosed_shorter : (xs : List Sentence) (n m x : ℕ) → n ≤ m → IsUnclosed (take m xs) x → IsUnclosed (take n xs) x
 unclosed_shorter xs n m x le still =
-    subst (λ ys. IsUnclosed ys x) (take-take n m xs le) (unclosed_front (take m xs) n x still)
+    subst (λ ys. IsUnclosed ys x) (take-take n m xs le) (unclosed_prefix (take m xs) n x still)
 
--- what a block holds in a front, where the front holds the statement
+-- what a block holds in a prefix, where the prefix holds the statement
 pub holds_kept : (st : List Sentence) (q p outer : ℕ) → p < q → Holds (take q st) outer p → Holds st outer p
 holds_kept st q p outer lt (before, still) = (before, rw (take-take (suc p) q st (omega arith)) at still)
 
@@ -34,7 +34,7 @@ holds_back st q p outer lt (before, still) = (before, rw (take-take (suc p) q st
 
 module _ {never : ℕ} {st : List Sentence} {blocks ends stack : List ℕ}
     (a : AreScopes never st blocks ends stack) where
-  -- a block is open after the front that ends with its `$}` or earlier
+  -- a block is open after the prefix that ends with its `$}` or earlier
   unclosed_until : (b x c q : ℕ) → slice_get a.starts b ≡ Some x → slice_get ends b ≡ Some c
       → q ≤ length st → q ≤ c → IsUnclosed (take q st) x
   unclosed_until b x c q begins ends_at le until =
@@ -42,11 +42,11 @@ module _ {never : ℕ} {st : List Sentence} {blocks ends stack : List ℕ}
         | inl (is_never, k, on) ↦
             let h = a.on_stack k b on in
             let same : h.start ≡ x = let there = h.there in cc in
-            unclosed_front st q x (subst (λ y. IsUnclosed st y) same h.unclosed)
+            unclosed_prefix st q x (subst (λ y. IsUnclosed st y) same h.unclosed)
         | inr end ↦ unclosed_shorter st q c x until end.before
       ]
 
-  -- a block that is open after a front has its `$}` no earlier
+  -- a block that is open after a prefix has its `$}` no earlier
   until_unclosed : (b x c q : ℕ) → slice_get a.starts b ≡ Some x → slice_get ends b ≡ Some c
       → q ≤ length st → length st ≤ never → IsUnclosed (take q st) x → q ≤ c
   until_unclosed b x c q begins ends_at le room still =
@@ -88,11 +88,11 @@ module _ {never : ℕ} {st : List Sentence} {blocks ends stack : List ℕ}
       still p q zero x begins lt le before unclosed active =
           let h = a.on_stack 0 0 a.bottom in
           let same : h.start ≡ x = let there = h.there in cc in
-          unclosed_front st q x (rw same at h.unclosed)
+          unclosed_prefix st q x (rw same at h.unclosed)
       still p q (suc b) x begins lt le before unclosed active =
           let begun = a.begun b x begins in
           let next = begun.next in
-          let outer = begun.place in
+          let outer = begun.index in
           let opened : IsOpen (take (suc p) st) outer = record {
             opening = begun.opening;
             there = get_in_front st (suc p) outer begun.opening (omega arith) begun.there;

@@ -9,7 +9,7 @@ use Rattle.mm_frame.specs.Active.{open_marks, close_marks, IsOpen, Holds, IsActi
 use Rattle.mm_text.specs.Blocks.{is_closing, is_opening}
 use Rattle.mm_frame.proofs.Blocks.NumberedBlocks.{openings-append, closings-append, openings_one}
 use Rattle.mm_frame.proofs.Blocks.NumberedBlocks.{closings_one, unclosed_pushed, unclosed_all}
-use Rattle.mm_frame.proofs.Blocks.NumberedBlocks.{unclosed_new, unclosed_front, open_in}
+use Rattle.mm_frame.proofs.Blocks.NumberedBlocks.{unclosed_new, unclosed_prefix, open_in}
 use Rattle.mm_frame.proofs.Blocks.NumberedBlocks.{length_pushed, open_before, opened_last}
 use Rattle.mm_frame.proofs.Blocks.NumberedBlocks.{rising_grown}
 use Rattle.std.proofs.lemmas.Bool.{cases_lt}
@@ -33,9 +33,9 @@ block_cases Opening = inl (refl, refl, refl)
 block_cases Closing = inr (inl (refl, refl, refl))
 block_cases kind = inr (inr ((λ e. absurd (cc)), (λ e. absurd (cc)), refl, refl))
 
--- no front has more `$}` than `${` and so many
-abbrev FrontsWithin : List Sentence → ℕ → Type 0
-FrontsWithin xs d = (n : ℕ) → close_marks (take n xs) ≤ open_marks (take n xs) + d
+-- no prefix has more `$}` than `${` and so many
+abbrev PrefixesWithin : List Sentence → ℕ → Type 0
+PrefixesWithin xs d = (n : ℕ) → close_marks (take n xs) ≤ open_marks (take n xs) + d
 
 -- some block is open
 abbrev SomeOpen : List Sentence → Type 0
@@ -54,17 +54,18 @@ counts x xs o c is_o is_c =
 later : (x : Sentence) (xs : List Sentence) → SomeOpen xs → SomeOpen (x ∷ xs)
 later x xs (p, still) = (suc p, record { opening = still.opening; there = still.there; opened = still.opened; unclosed = still.unclosed })
 
--- a front of a list by its first element
-fronts_step : (x : Sentence) (xs : List Sentence) (o c : Bool) (d k : ℕ) → is_opening x.kind ≡ o → is_closing x.kind ≡ c
-    → cond c 1 0 + k ≤ cond o 1 0 + d → FrontsWithin xs k → FrontsWithin (x ∷ xs) d
-fronts_step x xs o c d k is_o is_c le within zero = omega arith
-fronts_step x xs o c d k is_o is_c le within (suc n) =
+-- a prefix of a list by its first element
+prefixes_step : (x : Sentence) (xs : List Sentence) (o c : Bool) (d k : ℕ) → is_opening x.kind ≡ o → is_closing x.kind ≡ c
+    → cond c 1 0 + k ≤ cond o 1 0 + d → PrefixesWithin xs k → PrefixesWithin (x ∷ xs) d
+prefixes_step x xs o c d k is_o is_c le within zero = omega arith
+prefixes_step x xs o c d k is_o is_c le within (suc n) =
     let (os, cs) = counts x (take n xs) o c is_o is_c in
     omega arith
 
--- Either some block is open or no front has too many `$}`; and with more `${` than `$}` some block is open.
+-- Either some block is open or no prefix has too many `$}`; and with more `${` than `$}` some block
+-- is open.
 surplus : (xs : List Sentence)
-    → ((d : ℕ) → close_marks xs ≤ open_marks xs + d → SomeOpen xs ⊎ FrontsWithin xs d) × (close_marks xs < open_marks xs → SomeOpen xs)
+    → ((d : ℕ) → close_marks xs ≤ open_marks xs + d → SomeOpen xs ⊎ PrefixesWithin xs d) × (close_marks xs < open_marks xs → SomeOpen xs)
 surplus [] = ((λ d le. inr (λ n. nothing d n)), (λ lt. absurd (omega arith)))
   where
     nothing : (d n : ℕ) → close_marks (take n []) ≤ open_marks (take n []) + d
@@ -75,7 +76,7 @@ surplus (x ∷ xs) = elim (block_cases x.kind) [
       let (os, cs) = counts x xs true false is_o is_c in (
         (λ d le. elim ((surplus xs).0 (suc d) (omega arith)) [
           | inl some ↦ inl (later x xs some)
-          | inr within ↦ inr (fronts_step x xs true false d (suc d) is_o is_c (omega arith) within)
+          | inr within ↦ inr (prefixes_step x xs true false d (suc d) is_o is_c (omega arith) within)
         ]),
         (λ lt. elim ((surplus xs).0 0 (omega arith)) [
           | inl some ↦ later x xs some
@@ -89,19 +90,19 @@ surplus (x ∷ xs) = elim (block_cases x.kind) [
       let (os, cs) = counts x xs false false is_o is_c in (
         (λ d le. elim ((surplus xs).0 d (omega arith)) [
           | inl some ↦ inl (later x xs some)
-          | inr within ↦ inr (fronts_step x xs false false d d is_o is_c (omega arith) within)
+          | inr within ↦ inr (prefixes_step x xs false false d d is_o is_c (omega arith) within)
         ]),
         (λ lt. later x xs ((surplus xs).1 (omega arith))),
       )
 ]
   where
     closed : (x : Sentence) (xs : List Sentence) (d : ℕ) → is_opening x.kind ≡ false → is_closing x.kind ≡ true → suc (close_marks xs) ≤ open_marks xs + d
-        → ((d : ℕ) → close_marks xs ≤ open_marks xs + d → SomeOpen xs ⊎ FrontsWithin xs d) × (close_marks xs < open_marks xs → SomeOpen xs)
-        → SomeOpen (x ∷ xs) ⊎ FrontsWithin (x ∷ xs) d
+        → ((d : ℕ) → close_marks xs ≤ open_marks xs + d → SomeOpen xs ⊎ PrefixesWithin xs d) × (close_marks xs < open_marks xs → SomeOpen xs)
+        → SomeOpen (x ∷ xs) ⊎ PrefixesWithin (x ∷ xs) d
     closed x xs zero is_o is_c le (either, some) = inl (later x xs (some (omega arith)))
     closed x xs (suc d) is_o is_c le (either, some) = elim (either d (omega arith)) [
       | inl found ↦ inl (later x xs found)
-      | inr within ↦ inr (fronts_step x xs false true (suc d) d is_o is_c (omega arith) within)
+      | inr within ↦ inr (prefixes_step x xs false true (suc d) d is_o is_c (omega arith) within)
     ]
 
 pub some_open : (xs : List Sentence) → close_marks xs < open_marks xs → (p : ℕ) × IsOpen xs p
@@ -165,7 +166,7 @@ outer_counts st p m lt outer inner =
         let e : suc n + k ≡ suc (n + k) = omega arith in
         get_past n xs k x (subst (λ j. slice_get (y ∷ xs) j ≡ Some x) e there)
 
--- a block that is open inside what lies past a place is open
+-- a block that is open inside what lies past an index is open
 open_past : (st : List Sentence) (n k : ℕ) → IsOpen (drop n st) k → IsOpen st (n + k)
 open_past st n k still =
     let e : n + suc k ≡ suc (n + k) = omega arith in
@@ -219,7 +220,7 @@ holds_open : (st : List Sentence) (p outer : ℕ) → outer < p → IsOpen st ou
 holds_open st p outer lt still = (
   lt,
   open_in still (get_in_front st (suc p) outer still.opening (omega arith) still.there)
-      (unclosed_front st (suc p) (suc outer) still.unclosed),
+      (unclosed_prefix st (suc p) (suc outer) still.unclosed),
 )
 
 active_kept : (st : List Sentence) (e : Sentence) (p : ℕ) → IsActive (st ++ e ∷ []) p → IsActive st p ⊎ (p ≡ length st)
@@ -264,14 +265,14 @@ active_statements_hold st e p = (
       | inr ge ↦ omega arith
     ]
 
--- ==== the places of the open blocks, and how many they are
+-- ==== the indices of the open blocks, and how many they are
 
 -- the open blocks, and as many of them as the counts say
 abbrev Counted : List Sentence → Type 0
-Counted st = (places : List ℕ) × AreOpen st places × (close_marks st + length places ≡ open_marks st)
+Counted st = (indices : List ℕ) × AreOpen st indices × (close_marks st + length indices ≡ open_marks st)
 
-open_stay : (st : List Sentence) (e : Sentence) (places : List ℕ) → ¬ (e.kind ≡ Closing) → ¬ (e.kind ≡ Opening) → AreOpen st places → AreOpen (st ++ e ∷ []) places
-open_stay st e places other ordinary a = record {
+open_stay : (st : List Sentence) (e : Sentence) (indices : List ℕ) → ¬ (e.kind ≡ Closing) → ¬ (e.kind ≡ Opening) → AreOpen st indices → AreOpen (st ++ e ∷ []) indices
+open_stay st e indices other ordinary a = record {
   rising = a.rising;
   each = λ p. (
     (λ still. elim ((opening_law st e p other).0 still) [
@@ -282,96 +283,96 @@ open_stay st e places other ordinary a = record {
   );
 }
 
-open_more : (st : List Sentence) (e : Sentence) (places : List ℕ) → ¬ (e.kind ≡ Closing) → e.kind ≡ Opening → AreOpen st places
-    → AreOpen (st ++ e ∷ []) (places ++ length st ∷ [])
-open_more st e places other kind a = record {
-  rising = rising_grown places (length st) a.rising within;
+open_more : (st : List Sentence) (e : Sentence) (indices : List ℕ) → ¬ (e.kind ≡ Closing) → e.kind ≡ Opening → AreOpen st indices
+    → AreOpen (st ++ e ∷ []) (indices ++ length st ∷ [])
+open_more st e indices other kind a = record {
+  rising = rising_grown indices (length st) a.rising within;
   each = λ p. (
     (λ still. elim ((opening_law st e p other).0 still) [
       | inl before ↦
-          let (i, at) = at_from_contains places p ((a.each p).0 before) in
-          contains_from_at (places ++ length st ∷ []) p (i, get_kept places (length st ∷ []) i p at)
+          let (i, at) = at_from_contains indices p ((a.each p).0 before) in
+          contains_from_at (indices ++ length st ∷ []) p (i, get_kept indices (length st ∷ []) i p at)
       | inr (opens, last) ↦
-          contains_from_at (places ++ length st ∷ []) p (length places, get_pushed places (length st) ∙ ap (λ m. Some m) (sym last))
+          contains_from_at (indices ++ length st ∷ []) p (length indices, get_pushed indices (length st) ∙ ap (λ m. Some m) (sym last))
     ]),
     (λ among.
-        let (i, at) = at_from_contains (places ++ length st ∷ []) p among in
-        (opening_law st e p other).1 (elim (pushed_cases places (length st) i p at) [
-          | inl before ↦ inl ((a.each p).1 (contains_from_at places p (i, before)))
+        let (i, at) = at_from_contains (indices ++ length st ∷ []) p among in
+        (opening_law st e p other).1 (elim (pushed_cases indices (length st) i p at) [
+          | inl before ↦ inl ((a.each p).1 (contains_from_at indices p (i, before)))
           | inr (last, same) ↦ inr (kind, sym same)
         ])),
   );
 }
   where
-    within : (i p : ℕ) → slice_get places i ≡ Some p → p < length st
-    within i p at = let still = (a.each p).1 (contains_from_at places p (i, at)) in slice_get_within st p still.opening still.there
+    within : (i p : ℕ) → slice_get indices i ≡ Some p → p < length st
+    within i p at = let still = (a.each p).1 (contains_from_at indices p (i, at)) in slice_get_within st p still.opening still.there
 
--- the last of the places is that of the innermost block
-last_innermost : (st : List Sentence) (places : List ℕ) (k m : ℕ) → length places ≡ suc k → slice_get places k ≡ Some m → AreOpen st places → IsInnermostOpen st m
-last_innermost st places k m size at a = record {
-  still = (a.each m).1 (contains_from_at places m (k, at));
+-- the last of the indices is that of the innermost block
+last_innermost : (st : List Sentence) (indices : List ℕ) (k m : ℕ) → length indices ≡ suc k → slice_get indices k ≡ Some m → AreOpen st indices → IsInnermostOpen st m
+last_innermost st indices k m size at a = record {
+  still = (a.each m).1 (contains_from_at indices m (k, at));
   last = λ other still.
-      let (i, at_i) = at_from_contains places other ((a.each other).0 still) in
-      let lt = slice_get_within places i other at_i in
+      let (i, at_i) = at_from_contains indices other ((a.each other).0 still) in
+      let lt = slice_get_within indices i other at_i in
       elim (cases_lt i k) [
         | inl less ↦ (let h = a.rising i k other m at_i at less in omega arith)
-        | inr ge ↦ (let same : i ≡ k = omega arith in let e : slice_get places k ≡ Some other = subst (λ j. slice_get places j ≡ Some other) same at_i in let eq : other ≡ m = cc in omega arith)
+        | inr ge ↦ (let same : i ≡ k = omega arith in let e : slice_get indices k ≡ Some other = subst (λ j. slice_get indices j ≡ Some other) same at_i in let eq : other ≡ m = cc in omega arith)
       ];
 }
 
-open_fewer : (st : List Sentence) (e : Sentence) (places : List ℕ) (k m : ℕ) → e.kind ≡ Closing → length places ≡ suc k → slice_get places k ≡ Some m → AreOpen st places
-    → AreOpen (st ++ e ∷ []) (take k places)
-open_fewer st e places k m kind size at a =
-    let innermost = last_innermost st places k m size at a in record {
-      rising = λ i j p q at_i at_j lt. a.rising i j p q (get_from_front places k i p at_i) (get_from_front places k j q at_j) lt;
+open_fewer : (st : List Sentence) (e : Sentence) (indices : List ℕ) (k m : ℕ) → e.kind ≡ Closing → length indices ≡ suc k → slice_get indices k ≡ Some m → AreOpen st indices
+    → AreOpen (st ++ e ∷ []) (take k indices)
+open_fewer st e indices k m kind size at a =
+    let innermost = last_innermost st indices k m size at a in record {
+      rising = λ i j p q at_i at_j lt. a.rising i j p q (get_from_front indices k i p at_i) (get_from_front indices k j q at_j) lt;
       each = λ p. (
         (λ still.
             let (before, lt) = (closing_law st e p m kind innermost).0 still in
-            let (i, at_i) = at_from_contains places p ((a.each p).0 before) in
-            contains_from_at (take k places) p (i, get_in_front places k i p (earlier i p at_i lt) at_i)),
+            let (i, at_i) = at_from_contains indices p ((a.each p).0 before) in
+            contains_from_at (take k indices) p (i, get_in_front indices k i p (earlier i p at_i lt) at_i)),
         (λ among.
-            let (i, at_i) = at_from_contains (take k places) p among in
-            let there = get_from_front places k i p at_i in
-            let lt = slice_get_within (take k places) i p at_i in
-            let few = length-take-le k places (omega arith) in
+            let (i, at_i) = at_from_contains (take k indices) p among in
+            let there = get_from_front indices k i p at_i in
+            let lt = slice_get_within (take k indices) i p at_i in
+            let few = length-take-le k indices (omega arith) in
             let less = a.rising i k p m there at (omega arith) in
-            (closing_law st e p m kind innermost).1 ((a.each p).1 (contains_from_at places p (i, there)), less)),
+            (closing_law st e p m kind innermost).1 ((a.each p).1 (contains_from_at indices p (i, there)), less)),
       );
     }
   where
-    earlier : (i p : ℕ) → slice_get places i ≡ Some p → p < m → i < k
+    earlier : (i p : ℕ) → slice_get indices i ≡ Some p → p < m → i < k
     earlier i p at_i lt = elim (cases_lt i k) [
       | inl less ↦ less
       | inr ge ↦
-          let h = slice_get_within places i p at_i in
+          let h = slice_get_within indices i p at_i in
           let same : i ≡ k = omega arith in
-          let e : slice_get places k ≡ Some p = subst (λ j. slice_get places j ≡ Some p) same at_i in
+          let e : slice_get indices k ≡ Some p = subst (λ j. slice_get indices j ≡ Some p) same at_i in
           let eq : p ≡ m = cc in
           absurd (omega arith)
     ]
 
 counted_push : (st : List Sentence) (e : Sentence) → close_marks (st ++ e ∷ []) ≤ open_marks (st ++ e ∷ []) → Counted st → Counted (st ++ e ∷ [])
-counted_push st e le (places, a, count) =
+counted_push st e le (indices, a, count) =
     let os = openings-append st (e ∷ []) in
     let cs = closings-append st (e ∷ []) in
     elim (block_cases e.kind) [
       | inl (kind, is_o, is_c) ↦
           let o1 = openings_one e true is_o in
           let c1 = closings_one e false is_c in
-          let h = length_pushed places (length st) in
-          (places ++ length st ∷ [], open_more st e places (λ closing. absurd (cc)) kind a, omega arith)
+          let h = length_pushed indices (length st) in
+          (indices ++ length st ∷ [], open_more st e indices (λ closing. absurd (cc)) kind a, omega arith)
       | inr (inl (kind, is_o, is_c)) ↦
           let o1 = openings_one e false is_o in
           let c1 = closings_one e true is_c in
-          let k = length places - 1 in
-          let size : length places ≡ suc k = omega arith in
-          let (m, at) = get_within places k (omega arith) in
-          let h = length-take-le k places (omega arith) in
-          (take k places, open_fewer st e places k m kind size at a, omega arith)
+          let k = length indices - 1 in
+          let size : length indices ≡ suc k = omega arith in
+          let (m, at) = get_within indices k (omega arith) in
+          let h = length-take-le k indices (omega arith) in
+          (take k indices, open_fewer st e indices k m kind size at a, omega arith)
       | inr (inr (not_o, not_c, is_o, is_c)) ↦
           let o1 = openings_one e false is_o in
           let c1 = closings_one e false is_c in
-          (places, open_stay st e places not_c not_o a, omega arith)
+          (indices, open_stay st e indices not_c not_o a, omega arith)
     ]
 
 none_open : Counted []
@@ -384,13 +385,13 @@ none_open = (
   omega arith,
 )
 
-counted_front : (st : List Sentence) → ((n : ℕ) → close_marks (take n st) ≤ open_marks (take n st)) → (n : ℕ) → n ≤ length st → Counted (take n st)
-counted_front st enough zero le = none_open
-counted_front st enough (suc n) le =
+counted_prefix : (st : List Sentence) → ((n : ℕ) → close_marks (take n st) ≤ open_marks (take n st)) → (n : ℕ) → n ≤ length st → Counted (take n st)
+counted_prefix st enough zero le = none_open
+counted_prefix st enough (suc n) le =
     let (e, there) = get_within st n (omega arith) in
     let next : take (suc n) st ≡ take n st ++ e ∷ [] = take_next st n e there in
     let h = subst (λ (ys : List Sentence). close_marks ys ≤ open_marks ys) next (enough (suc n)) in
-    subst (λ ys. Counted ys) (sym next) (counted_push (take n st) e h (counted_front st enough n (omega arith)))
+    subst (λ ys. Counted ys) (sym next) (counted_push (take n st) e h (counted_prefix st enough n (omega arith)))
 
 pub open_count_holds : OpenCount
-open_count_holds st enough = subst (λ ys. Counted ys) (take-length st) (counted_front st enough (length st) (omega arith))
+open_count_holds st enough = subst (λ ys. Counted ys) (take-length st) (counted_prefix st enough (length st) (omega arith))

@@ -11,9 +11,9 @@ use Rattle.std.proofs.lemmas.Bool.{cases_lt, cases_order}
 use Rattle.mm_frame.specs.Sentence.{Sentence}
 use Rattle.mm_frame.specs.Active.{open_marks, close_marks, IsOpen}
 use Rattle.mm_text.specs.Blocks.{is_closing, is_opening}
-use Rattle.mm_frame.specs.Mirror.Gathered.{AreRisingPlaces}
+use Rattle.mm_frame.specs.Mirror.Gathered.{AreRisingIndices}
 use Rattle.mm_frame.specs.Mirror.Scopes.{IsUnclosed, IsBegun, IsEnd, IsOnStack, DirectlyHolds}
-use Rattle.mm_frame.specs.Mirror.Gathered.{AreRisingPlaces}
+use Rattle.mm_frame.specs.Mirror.Gathered.{AreRisingIndices}
 use Rattle.mm_frame.specs.Mirror.Scopes.{AreScopes}
 use Rattle.std.proofs.lemmas.Option.{slice_get_within}
 use Rattle.mm_text.specs.declared.statement.Kind.TheVariants.{Opening, Closing}
@@ -31,23 +31,23 @@ openings-append xs ys = count_append (λ s. is_opening s.kind) xs ys
 pub closings-append : (xs ys : List Sentence) → close_marks (xs ++ ys) ≡ close_marks xs + close_marks ys
 closings-append xs ys = count_append (λ s. is_closing s.kind) xs ys
 
--- a front of what lies past a place of a front lies so in the whole list
-front_of_front : {X : Type 0} (n x p : ℕ) (xs : List X) → (m : ℕ) × (take n (drop x (take p xs)) ≡ take m (drop x xs))
-front_of_front (suc n) zero (suc p) (y ∷ xs) = let (m, e) = front_of_front n zero p xs in (suc m, ap (λ ys. y ∷ ys) e)
-front_of_front (suc n) (suc x) (suc p) (y ∷ xs) = front_of_front (suc n) x p xs
-front_of_front n x p xs = (0, refl)
+-- a prefix of what lies past an index of a prefix lies so in the whole list
+prefix_of_prefix : {X : Type 0} (n x p : ℕ) (xs : List X) → (m : ℕ) × (take n (drop x (take p xs)) ≡ take m (drop x xs))
+prefix_of_prefix (suc n) zero (suc p) (y ∷ xs) = let (m, e) = prefix_of_prefix n zero p xs in (suc m, ap (λ ys. y ∷ ys) e)
+prefix_of_prefix (suc n) (suc x) (suc p) (y ∷ xs) = prefix_of_prefix (suc n) x p xs
+prefix_of_prefix n x p xs = (0, refl)
 
-pub unclosed_front : (xs : List Sentence) (p x : ℕ) → IsUnclosed xs x → IsUnclosed (take p xs) x
-unclosed_front xs p x open_still n =
-    let (m, e) = front_of_front n x p xs in
+pub unclosed_prefix : (xs : List Sentence) (p x : ℕ) → IsUnclosed xs x → IsUnclosed (take p xs) x
+unclosed_prefix xs p x open_still n =
+    let (m, e) = prefix_of_prefix n x p xs in
     rw e (open_still m)
 
--- a front of a list and one more is a front of the list, or is all
-front_cases : {X : Type 0} (xs : List X) (y : X) (n : ℕ) → (take n (xs ++ y ∷ []) ≡ take n xs) ⊎ (take n (xs ++ y ∷ []) ≡ xs ++ y ∷ [])
-front_cases xs y zero = inl refl
-front_cases [] y (suc zero) = inr refl
-front_cases [] y (suc (suc n)) = inr refl
-front_cases (x ∷ xs) y (suc n) = elim (front_cases xs y n) [ inl e ↦ inl (ap (λ ys. x ∷ ys) e) | inr e ↦ inr (ap (λ ys. x ∷ ys) e) ]
+-- a prefix of a list and one more is a prefix of the list, or is all
+prefix_cases : {X : Type 0} (xs : List X) (y : X) (n : ℕ) → (take n (xs ++ y ∷ []) ≡ take n xs) ⊎ (take n (xs ++ y ∷ []) ≡ xs ++ y ∷ [])
+prefix_cases xs y zero = inl refl
+prefix_cases [] y (suc zero) = inr refl
+prefix_cases [] y (suc (suc n)) = inr refl
+prefix_cases (x ∷ xs) y (suc n) = elim (prefix_cases xs y n) [ inl e ↦ inl (ap (λ ys. x ∷ ys) e) | inr e ↦ inr (ap (λ ys. x ∷ ys) e) ]
 
 -- a block stays open after one statement more, if the `$}` are no more than the `${` then
 pub unclosed_pushed : (xs : List Sentence) (e : Sentence) (x : ℕ) → x ≤ length xs → IsUnclosed xs x
@@ -55,16 +55,16 @@ pub unclosed_pushed : (xs : List Sentence) (e : Sentence) (x : ℕ) → x ≤ le
 unclosed_pushed xs e x le open_still last n =
     let same : drop x (xs ++ e ∷ []) ≡ drop x xs ++ e ∷ [] = drop-append-le x xs (e ∷ []) le in
     let P : List Sentence → Type 0 = λ ys. close_marks ys ≤ open_marks ys in
-    elim (front_cases (drop x xs) e n) [
-      | inl front ↦ subst P (sym (ap (take n) same ∙ front)) (open_still n)
+    elim (prefix_cases (drop x xs) e n) [
+      | inl prefix ↦ subst P (sym (ap (take n) same ∙ prefix)) (open_still n)
       | inr all ↦ subst P (sym (ap (take n) same ∙ all)) last
     ]
 
 -- a block that is open after all is so after those before
 pub unclosed_before : (xs ys : List Sentence) (x : ℕ) → IsUnclosed (xs ++ ys) x → IsUnclosed xs x
-unclosed_before xs ys x open_still = subst (λ zs. IsUnclosed zs x) (take-append_seam xs ys) (unclosed_front (xs ++ ys) (length xs) x open_still)
+unclosed_before xs ys x open_still = subst (λ zs. IsUnclosed zs x) (take-append_seam xs ys) (unclosed_prefix (xs ++ ys) (length xs) x open_still)
 
--- all that lies past the place where an open block begins has no more `$}` than `${`
+-- all that lies past the index where an open block begins has no more `$}` than `${`
 pub unclosed_all : (xs : List Sentence) (x : ℕ) → IsUnclosed xs x → close_marks (drop x xs) ≤ open_marks (drop x xs)
 unclosed_all xs x open_still = rw (take-length (drop x xs)) at (open_still (length (drop x xs)))
 
@@ -72,9 +72,9 @@ unclosed_all xs x open_still = rw (take-length (drop x xs)) at (open_still (leng
 pub unclosed_new : (xs : List Sentence) (x : ℕ) → length xs ≤ x → IsUnclosed xs x
 unclosed_new xs x le n = rw (ap (take n) (drop_of_length-le xs le) ∙ take-nil n) (omega arith)
 
--- the fronts past a place that go past a further place
-front_past : {X : Type 0} (xs : List X) (y d m : ℕ) → take (d + m) (drop y xs) ≡ take d (drop y (take (y + d) xs)) ++ take m (drop (y + d) xs)
-front_past xs y d m =
+-- the prefixes past an index that go past a further index
+prefix_past : {X : Type 0} (xs : List X) (y d m : ℕ) → take (d + m) (drop y xs) ≡ take d (drop y (take (y + d) xs)) ++ take m (drop (y + d) xs)
+prefix_past xs y d m =
     let whole : take d (drop y (take (y + d) xs)) ≡ drop y (take (y + d) xs) =
     ap (take d) (drop-take y d xs) ∙ take-take d d (drop y xs) (omega arith) ∙ sym (drop-take y d xs) in
     take-add d m (drop y xs) ∙ ap (λ ys. ys ++ take m (drop d (drop y xs))) (sym (drop-take y d xs) ∙ sym (whole))
@@ -96,7 +96,7 @@ unclosed_outer xs x y le outer inner n =
           let o = openings-append (take d (drop y (take (y + d) xs))) (take m (drop (y + d) xs)) in
           let c = closings-append (take d (drop y (take (y + d) xs))) (take m (drop (y + d) xs)) in
           let h : P (take d (drop y (take (y + d) xs)) ++ take m (drop (y + d) xs)) = omega arith in
-          subst (λ k. P (take k (drop y xs))) f (subst P (sym (front_past xs y d m)) h)
+          subst (λ k. P (take k (drop y xs))) f (subst P (sym (prefix_past xs y d m)) h)
       | inr ge ↦ subst P (ap (take n) (drop-take y d xs) ∙ take-take n d (drop y xs) ge) (outer' n)
     ]
 
@@ -137,15 +137,15 @@ opened_last xs e p o past =
 pub all_taken : (xs : List Sentence) (e : Sentence) → take (suc (length xs)) (xs ++ e ∷ []) ≡ xs ++ e ∷ []
 all_taken xs e = take_all (suc (length xs)) (xs ++ e ∷ []) (let h = length_pushed xs e in omega arith)
 
--- and so is the front up to the place of the one more
-pub taken_at : (xs : List Sentence) (e : Sentence) (place : ℕ) → place ≡ length xs
-    → take (place + 1) (xs ++ e ∷ []) ≡ xs ++ e ∷ []
-taken_at xs e place last =
-    let next : place + 1 ≡ suc (length xs) = omega arith in
+-- and so is the prefix up to the index of the one more
+pub taken_at : (xs : List Sentence) (e : Sentence) (index : ℕ) → index ≡ length xs
+    → take (index + 1) (xs ++ e ∷ []) ≡ xs ++ e ∷ []
+taken_at xs e index last =
+    let next : index + 1 ≡ suc (length xs) = omega arith in
     ap (λ n. take n (xs ++ e ∷ [])) next ∙ all_taken xs e
 
 begun_grown : (xs : List Sentence) (e : Sentence) (x : ℕ) → IsBegun xs x → IsBegun (xs ++ e ∷ []) x
-begun_grown xs e x b = record { place = b.place; opening = b.opening; next = b.next; there = get_kept xs (e ∷ []) b.place b.opening b.there; opened = b.opened }
+begun_grown xs e x b = record { index = b.index; opening = b.opening; next = b.next; there = get_kept xs (e ∷ []) b.index b.opening b.there; opened = b.opened }
 
 end_grown : (xs : List Sentence) (e : Sentence) (x c : ℕ) → IsEnd xs x c → IsEnd (xs ++ e ∷ []) x c
 end_grown xs e x c end =
@@ -191,12 +191,12 @@ pub start_within : (never : ℕ) (xs : List Sentence) (blocks ends stack : List 
 start_within never xs blocks ends stack a zero x there = let first = a.outermost in let e : x ≡ 0 = cc in omega arith
 start_within never xs blocks ends stack a (suc b) x there =
     let begun = a.begun b x there in
-    let lt = slice_get_within xs begun.place begun.opening begun.there in
+    let lt = slice_get_within xs begun.index begun.opening begun.there in
     omega arith
 
 -- the last block on the stack begins after each other block on it
-innermost : (starts stack : List ℕ) (k top x j b outer : ℕ) → AreRisingPlaces starts
-    → AreRisingPlaces stack → length stack ≡ suc k → slice_get stack k ≡ Some top
+innermost : (starts stack : List ℕ) (k top x j b outer : ℕ) → AreRisingIndices starts
+    → AreRisingIndices stack → length stack ≡ suc k → slice_get stack k ≡ Some top
     → slice_get starts top ≡ Some x → slice_get stack j ≡ Some b → slice_get starts b ≡ Some (suc outer) → outer < x
 innermost starts stack k top x j b outer rising stacked size last there on begins =
     let lt = slice_get_within stack j b on in
@@ -257,7 +257,7 @@ scopes_ordinary never xs e blocks ends stack k top a size last not_opening not_c
       begun = λ b x there. begun_grown xs e x (a.begun b x there);
       stacked = a.stacked;
       on_stack = grown;
-      complete = λ place still. a.complete place (earlier place still);
+      complete = λ index still. a.complete index (earlier index still);
       ended = λ b x c begins ends_at. elim (a.ended b x c begins ends_at) [
         | inl still ↦ inl still
         | inr end ↦ inr (end_grown xs e x c end)
@@ -270,8 +270,8 @@ scopes_ordinary never xs e blocks ends stack k top a size last not_opening not_c
     }
 
 -- the elements of a list and one more rise, where the one more is above all
-pub rising_grown : (xs : List ℕ) (y : ℕ) → AreRisingPlaces xs
-    → ((k a : ℕ) → slice_get xs k ≡ Some a → a < y) → AreRisingPlaces (xs ++ y ∷ [])
+pub rising_grown : (xs : List ℕ) (y : ℕ) → AreRisingIndices xs
+    → ((k a : ℕ) → slice_get xs k ≡ Some a → a < y) → AreRisingIndices (xs ++ y ∷ [])
 rising_grown xs y rising below j k a b at_j at_k lt =
     elim (pushed_cases xs y k b at_k) [
       | inl k_before ↦
@@ -343,7 +343,7 @@ scopes_opening never xs e blocks ends stack k top a size last opens =
           (λ b x there. let le = within b x there in omega arith);
       begun = λ b x there. elim (pushed_cases a.starts (suc n) (suc b) x there) [
         | inl before ↦ begun_grown _ e _ (a.begun b x before)
-        | inr (at_end, same) ↦ record { place = n; opening = e; next = sym same; there = get_pushed xs e; opened = opens }
+        | inr (at_end, same) ↦ record { index = n; opening = e; next = sym same; there = get_pushed xs e; opened = opens }
       ];
       stacked = rising_grown stack (length ends) a.stacked (λ k b there.
           let h = a.on_stack k b there in
@@ -353,10 +353,10 @@ scopes_opening never xs e blocks ends stack k top a size last opens =
         | inr (at_end, same) ↦
             on_stack_new xs e starts next k b (rw same at new_start) (omega arith)
       ];
-      complete = λ place still. elim (cases_lt place n) [
+      complete = λ index still. elim (cases_lt index n) [
         | inl lt ↦
             let (k, b, on, begins) = a.complete _ (open_before xs e _ still lt) in
-            (k, b, get_kept stack (length ends ∷ []) k b on, kept b (suc place) begins)
+            (k, b, get_kept stack (length ends ∷ []) k b on, kept b (suc index) begins)
         | inr ge ↦
             let (at_end, opened) = opened_last xs e _ still (λ lt. omega arith) in
             (length stack, length ends, get_pushed stack (length ends), new_start ∙ ap (λ m. Some (suc m)) (sym at_end))
@@ -410,12 +410,12 @@ scopes_closing never xs e blocks ends below k top under a size last closes =
       | inl lt ↦ open_before xs e _ still lt
       | inr ge ↦ absurd (let h = ap is_opening (opened_last xs e _ still (λ lt. omega arith)).1 in let g = ap is_opening closes in cc)
     ] in
-    let complete : (place : ℕ) → IsOpen (xs ++ e ∷ []) place → (k : ℕ) × (b : ℕ) × (slice_get below k ≡ Some b) × (slice_get a.starts b ≡ Some (suc place)) = λ place still.
-    let (k, b, on, begins) = a.complete _ (earlier place still) in
+    let complete : (index : ℕ) → IsOpen (xs ++ e ∷ []) index → (k : ℕ) × (b : ℕ) × (slice_get below k ≡ Some b) × (slice_get a.starts b ≡ Some (suc index)) = λ index still.
+    let (k, b, on, begins) = a.complete _ (earlier index still) in
     elim (pushed_cases below top k b on) [
       | inl before ↦ (k, b, before, begins)
       | inr (at_end, is_top) ↦ absurd (ended (
-          let start_is : suc place ≡ ending.start = cc in
+          let start_is : suc index ≡ ending.start = cc in
           rw start_is at still.unclosed))
     ] in
     let holder = grown k under last in

@@ -59,7 +59,7 @@ module _ {never : ℕ} {st : List Sentence} {blocks ends stack : List ℕ}
       opened zero x positive there still = absurd (omega arith)
       opened (suc b) x positive there still =
           let begun = a.begun b x there in (
-            begun.place,
+            begun.index,
             record {
               opening = begun.opening;
               there = begun.there;
@@ -145,9 +145,9 @@ closed never st e blocks ends stack below popped top under inner outer split len
     let held : length blocks ≡ length st = a.held in
     (within, rw held (scopes_closing never st e blocks ends below _ top under b below_is (outer _ below_is) is_close))
 
--- ==== places that aren't active are dropped from the end of a list, one by one
+-- ==== indices that aren't active are dropped from the end of a list, one by one
 
--- places that aren't active were dropped from the end
+-- indices that aren't active were dropped from the end
 pub record AreDropped (statements : List Sentence) (before after : List ℕ) : Type 0 where
   pub gone : List ℕ
   pub parted : before ≡ after ++ gone

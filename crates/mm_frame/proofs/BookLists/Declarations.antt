@@ -169,12 +169,12 @@ changed_twice : (old now new : Tables) → ChangesSymbols old now → ChangesSym
 changed_twice old now new one other =
     other ∙ ap (λ (t : Tables). let u : Tables = record t { symbols = new.symbols; infos = new.infos; flat = new.flat } in u) one
 
--- the place of a `$v`, and of no other
-pub latest_variable : (kind : Kind) (place : ℕ) → kind ≡ Variables → Some place ≡ latest_by kind place
-latest_variable kind place is = ap (λ k. latest_by k place) (sym is)
+-- the index of a `$v`, and of no other
+pub latest_variable : (kind : Kind) (index : ℕ) → kind ≡ Variables → Some index ≡ latest_by kind index
+latest_variable kind index is = ap (λ k. latest_by k index) (sym is)
 
-pub latest_none : (kind : Kind) (place : ℕ) → IsDeclaration kind → ¬ (kind ≡ Variables) → None ≡ latest_by kind place
-latest_none kind place which other = elim which [ inl c ↦ ap (λ k. latest_by k place) (sym c) | inr v ↦ absurd (other v) ]
+pub latest_none : (kind : Kind) (index : ℕ) → IsDeclaration kind → ¬ (kind ≡ Variables) → None ≡ latest_by kind index
+latest_none kind index which other = elim which [ inl c ↦ ap (λ k. latest_by k index) (sym c) | inr v ↦ absurd (other v) ]
 
 module _ {old now new : Tables} {kind : Kind} {x : List ℕ} {variable : Option ℕ}
     (tables : AreTables old) (which : IsDeclaration kind)
@@ -334,16 +334,16 @@ standing t tables n lt =
 
 -- each declared symbol stands somewhere, so that there are no more of them than symbols of all statements
 names_few : (t : Tables) → AreTables t → length t.symbols.names ≤ length t.flat.items
-names_few t tables = pigeonhole (length t.symbols.names) (length t.flat.items) (λ n. (place n).0)
-    (λ n lt. let (m, at, is) = (place n).1 lt in slice_get_within t.flat.items (place n).0 m at)
+names_few t tables = pigeonhole (length t.symbols.names) (length t.flat.items) (λ n. (index n).0)
+    (λ n lt. let (m, at, is) = (index n).1 lt in slice_get_within t.flat.items (index n).0 m at)
     (λ i j i_lt j_lt same.
-    let (m, at_m, is_i) = (place i).1 i_lt in
-    let (n, at_n, is_j) = (place j).1 j_lt in
+    let (m, at_m, is_i) = (index i).1 i_lt in
+    let (n, at_n, is_j) = (index j).1 j_lt in
     let both : m ≡ n = let here = subst (λ (k : ℕ). slice_get t.flat.items k ≡ Some m) same at_m in cc in
     sym is_i ∙ ap (λ (k : Sym). k.0) both ∙ is_j)
   where
-    place : (n : ℕ) → (j : ℕ) × (n < length t.symbols.names → (m : Sym) × (slice_get t.flat.items j ≡ Some m) × (m.0 ≡ n))
-    place n = elim (cases_lt n (length t.symbols.names)) [
+    index : (n : ℕ) → (j : ℕ) × (n < length t.symbols.names → (m : Sym) × (slice_get t.flat.items j ≡ Some m) × (m.0 ≡ n))
+    index n = elim (cases_lt n (length t.symbols.names)) [
       | inl lt ↦ let (j, m, at, is) = standing t tables n lt in (j, λ _. (m, at, is))
       | inr ge ↦ (0, λ lt. absurd (omega arith))
     ]
@@ -355,7 +355,8 @@ declares_unlabelled p form which = ap (option_map (λ (t : PlainToken). t.text))
     none : p.label ≡ None
     none = elim which [ inl c ↦ subst (λ (k : Kind). HasLabel k p.label) c form.label | inr v ↦ subst (λ (k : Kind). HasLabel k p.label) v form.label ]
 
--- all symbols of the statement will have numbers, and there are fewer than numbers for their places
+-- all symbols of the statement will have numbers, and there are fewer than numbers for their
+-- indices
 pub symbols_fit : (t : Tables) (p : PlainStatement) (bytes : ℕ) → AreTables t → HasForm p
     → bytes ≡ bytes_in p → t.bytes + bytes ≤ most_bytes
     → (length t.symbols.names + length p.symbols < 4294967296)

@@ -26,8 +26,8 @@ use Rattle.mm_text.specs.Files.{most_bytes}
 use Rattle.mm_frame.specs.Rules.{IsMeant}
 use Rattle.mm_frame.specs.Form.{IsFormedSentence}
 use Rattle.mm_frame.specs.Mirror.ScopesOf.{HaveScopes}
-use Rattle.mm_frame.specs.FramePlace.{HaveTypings}
-use Rattle.mm_frame.proofs.Rules.ObeyedRules.{allmeant_push, meant_from_places}
+use Rattle.mm_frame.specs.FrameIndex.{HaveTypings}
+use Rattle.mm_frame.proofs.Rules.ObeyedRules.{allmeant_push, meant_from_indices}
 use Rattle.mm_frame.proofs.Names.NameNumbers.{each_pushed}
 use Rattle.mm_frame.proofs.BookLists.SymbolsAndLabels.{infos_none}
 
@@ -92,13 +92,13 @@ label_same labels more (Some id) within = get_left labels more id.0 (within id r
 module _ {symbols labels : List (List ℕ)} {flat : List Sym} {log : List Entry}
     (a b : List (List ℕ)) (c : List Sym) (entries : AreEntries symbols labels flat log) where
   -- what an entry says stays
-  pub sentence_same : (place : ℕ) (e : Entry) → slice_get log place ≡ Some e
+  pub sentence_same : (index : ℕ) (e : Entry) → slice_get log index ≡ Some e
       → sentence_by (symbols ++ a) (labels ++ b) (flat ++ c) e ≡ sentence_by symbols labels flat e
-  sentence_same place e there =
-      let within = entries.within place e there in
+  sentence_same index e there =
+      let within = entries.within index e there in
       let part = slice_left flat c e.symbols.start e.symbols.end within.ordered within.within in
       same_sentence (sentence_by symbols labels flat e) e.kind _ _ refl
-      (label_same labels b e.label (λ id is. entries.named place e id there is))
+      (label_same labels b e.label (λ id is. entries.named index e id there is))
       (ap (names_by (symbols ++ a)) part
       ∙ names_same symbols a (slice_range flat e.symbols.start e.symbols.end)
       (λ i n at. let (j, in_flat) = get_sliced flat e.symbols.start e.symbols.end i n at in entries.numbered j n in_flat))
@@ -119,27 +119,27 @@ pub length-sentences : (symbols labels : List (List ℕ)) (flat : List Sym) (log
 unfolding sentences_by
 length-sentences symbols labels flat log = length-map log (sentence_by symbols labels flat)
 
--- a book holds as many statements as entries, and fewer than the place that is none
+-- a book holds as many statements as entries, and fewer than the index that is none
 pub all_statements : (t : Tables) → length (statements_of t) ≡ length t.log.items
 all_statements t = length-sentences t.symbols.names t.labels.names t.flat.items t.log.items
 
 pub few_statements : (t : Tables) → AreTables t → length (statements_of t) ≤ NEVER
 few_statements t tables = omega (arith, tables.counted, tables.small, all_statements t)
 
--- the statement at a place is what its entry says
-pub sentence_at : (symbols labels : List (List ℕ)) (flat : List Sym) (log : List Entry) (place : ℕ) (e : Entry) → slice_get log place ≡ Some e
-    → slice_get (sentences_by symbols labels flat log) place ≡ Some (sentence_by symbols labels flat e)
+-- the statement at an index is what its entry says
+pub sentence_at : (symbols labels : List (List ℕ)) (flat : List Sym) (log : List Entry) (index : ℕ) (e : Entry) → slice_get log index ≡ Some e
+    → slice_get (sentences_by symbols labels flat log) index ≡ Some (sentence_by symbols labels flat e)
 unfolding sentences_by
-sentence_at symbols labels flat log place e there = slice_get-map (sentence_by symbols labels flat) log place ∙ ap (option_map (sentence_by symbols labels flat)) there
+sentence_at symbols labels flat log index e there = slice_get-map (sentence_by symbols labels flat) log index ∙ ap (option_map (sentence_by symbols labels flat)) there
 
 -- each statement is what some entry says
-pub entry_at : (symbols labels : List (List ℕ)) (flat : List Sym) (log : List Entry) (place : ℕ) (s : Sentence) → slice_get (sentences_by symbols labels flat log) place ≡ Some s
-    → (e : Entry) × (slice_get log place ≡ Some e) × (sentence_by symbols labels flat e ≡ s)
-entry_at symbols labels flat log place s there =
+pub entry_at : (symbols labels : List (List ℕ)) (flat : List Sym) (log : List Entry) (index : ℕ) (s : Sentence) → slice_get (sentences_by symbols labels flat log) index ≡ Some s
+    → (e : Entry) × (slice_get log index ≡ Some e) × (sentence_by symbols labels flat e ≡ s)
+entry_at symbols labels flat log index s there =
     let size = length-sentences symbols labels flat log in
-    let lt = slice_get_within (sentences_by symbols labels flat log) place s there in
-    let (e, at) = get_within log place (omega arith) in
-    let says = sentence_at symbols labels flat log place e at in
+    let lt = slice_get_within (sentences_by symbols labels flat log) index s there in
+    let (e, at) = get_within log index (omega arith) in
+    let says = sentence_at symbols labels flat log index e at in
     (e, at, cc)
 
 pub longer : {X : Type 0} (xs ys : List X) → length xs ≤ length (xs ++ ys)
@@ -153,16 +153,16 @@ entries_push symbols labels flat log a b c new entries within numbers label =
     let names = longer symbols a in
     let tags = longer labels b in
     record {
-      within = λ place e there. elim (pushed_cases log new place e there) [
-        | inl before ↦ let old = entries.within place e before in let inside = old.within in record { ordered = old.ordered; within = omega arith }
+      within = λ index e there. elim (pushed_cases log new index e there) [
+        | inl before ↦ let old = entries.within index e before in let inside = old.within in record { ordered = old.ordered; within = omega arith }
         | inr (last, same) ↦ subst (λ (d : Entry). IsPartWithin d.symbols (length (flat ++ c))) same within
       ];
       numbered = λ i n there. elim (append_cases flat c i n there) [
         | inl before ↦ let lt = entries.numbered i n before in omega arith
         | inr (j, is, after) ↦ numbers j n after
       ];
-      named = λ place e id there is. elim (pushed_cases log new place e there) [
-        | inl before ↦ let lt = entries.named place e id before is in omega arith
+      named = λ index e id there is. elim (pushed_cases log new index e there) [
+        | inl before ↦ let lt = entries.named index e id before is in omega arith
         | inr (last, same) ↦ label id (ap (λ (d : Entry). d.label) same ∙ is)
       ];
     }
@@ -261,7 +261,7 @@ pub empty_tables : (t : Tables) → t.symbols.names ≡ [] → t.infos.items ≡
 empty_tables t e1 e2 e3 e4 e5 e6 scopes e7 hs e8 e9 =
     let none : statements_of t ≡ [] = rw (e1, e3, e6, e5) (unfold sentences_by in refl) in (
       record {
-        sound = rw none (meant_from_places [] (λ p s there. absurd (cc)), λ p s there. absurd (cc));
+        sound = rw none (meant_from_indices [] (λ p s there. absurd (cc)), λ p s there. absurd (cc));
         counted = rw (e5, e6) (omega arith);
         small = omega (arith, e9);
         infos = rw (none, e1, e2) infos_none;

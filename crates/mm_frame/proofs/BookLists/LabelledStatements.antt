@@ -28,11 +28,11 @@ use Rattle.mm_frame.specs.Mirror.Layout.{AreTables, AreInfos, AreLabelInfos, Are
 use Rattle.mm_frame.specs.Mirror.Layout.{AreFrames, IsFrameInfo, names_by, statements_of}
 use Rattle.mm_frame.specs.Mirror.Grows.{Grows, SameLists, entry_of}
 use Rattle.mm_frame.specs.Mirror.Naming.{Named, FrameParts, label_info, part_after}
-use Rattle.mm_frame.specs.FramePlace.{AreHypotheses, HaveTypings, ArePairs}
-use Rattle.mm_frame.specs.Mirror.Gathered.{ArePlaces, AreThoseAt}
-use Rattle.mm_frame.specs.Pieces.{variables_of, HavePlaces}
+use Rattle.mm_frame.specs.FrameIndex.{AreHypotheses, HaveTypings, ArePairs}
+use Rattle.mm_frame.specs.Mirror.Gathered.{AreIndices, AreThoseAt}
+use Rattle.mm_frame.specs.Pieces.{variables_of, HaveIndices}
 use Rattle.mm_frame.specs.Mirror.Patterned.{ArePatterned}
-use Rattle.mm_frame.proofs.Frames.MandatoryHypotheses.{hypotheses_from_places}
+use Rattle.mm_frame.proofs.Frames.MandatoryHypotheses.{hypotheses_from_indices}
 use Rattle.mm_text.proofs.Lists.{get_pushed, contains_from_at, get_within}
 use Rattle.mm_frame.proofs.Rules.SymbolLookups.{label_number}
 use Rattle.mm_frame.proofs.Names.NameNumbers.{with_name_cases, symbols_push, numbers_within}
@@ -43,7 +43,7 @@ use Rattle.mm_frame.proofs.BookLists.SymbolsAndLabels.{infos_other, infos_floati
 use Rattle.mm_frame.proofs.BookLists.GrownLists.{all_statements, longer, added_part}
 use Rattle.mm_frame.proofs.BookLists.GrownLists.{names_numbered, same_sentence, AreAppended}
 use Rattle.mm_frame.proofs.BookLists.GrownLists.{assembled}
-use Rattle.mm_frame.proofs.Frames.FrameLaws.{at_place, stated_other, placed, frames_hypothesis}
+use Rattle.mm_frame.proofs.Frames.FrameLaws.{at_index, stated_other, indexed, frames_hypothesis}
 use Rattle.mm_frame.proofs.Frames.FrameLaws.{frames_assertion}
 use Rattle.mm_frame.proofs.Frames.FrameTypings.{typings_grow, typings_join}
 use Rattle.mm_frame.proofs.Frames.VariableIndices.{its_pieces_grow, pattern_grow}
@@ -192,7 +192,7 @@ hypothesis_frames : (t : Tables) (s : Sentence) (e : Entry) (frame : FrameParts)
     → AreFrames (statements_of t ++ s ∷ []) (t.hypotheses.items ++ []) (t.pairs.items ++ []) (t.pieces.items ++ []) (t.named.items ++ label_info (length t.log.items) e frame ∷ [])
 hypothesis_frames t s e frame are other =
     frames_hypothesis _ s t.hypotheses.items [] t.pairs.items [] t.pieces.items [] t.named.items
-    (placed _ _ _ _ are.labels) are.frames _ (sym (all_statements t)) other
+    (indexed _ _ _ _ are.labels) are.frames _ (sym (all_statements t)) other
 
 module _ {t u v : Tables} {s : Sentence} {kind : Kind} {l : List ℕ} {numbers : List Sym}
     {frame : FrameParts} {id : LabelId} {bytes : ℕ} (are : AreTables t)
@@ -253,7 +253,7 @@ asserted t u v s kind l numbers frame id a b c bytes are which before infos esse
     named_grows are before named number is none unclosed apart
     (rw infos (infos_other _ _ _ s are.infos none typeless)) (rw essentials active)
     (frames_assertion st s t.hypotheses.items a t.pairs.items b t.pieces.items c t.named.items
-    (placed _ _ _ _ are.labels) are.frames _ framed) typings enough room
+    (indexed _ _ _ _ are.labels) are.frames _ framed) typings enough room
 
 -- what is known of a symbol that has a number
 pub known_info : (t : Tables) (n : Sym) (x : List ℕ) → AreTables t → slice_get t.symbols.names n.0 ≡ Some x → (info : SymbolInfo) × (slice_get t.infos.items n.0 ≡ Some info)
@@ -261,25 +261,25 @@ known_info t n x are at =
     let lt = slice_get_within t.symbols.names n.0 x at in
     get_within t.infos.items n.0 (omega arith)
 
--- what is noted of a symbol, by lists, numbers and places that are the same
+-- what is noted of a symbol, by lists, numbers and indices that are the same
 pub noted : (old told new : List SymbolInfo) (m n : Sym) (info : SymbolInfo) (p q : ℕ) → old ≡ told → m ≡ n → p ≡ q → slice_get told n.0 ≡ Some info
     → ((i : SymbolInfo) → slice_get old m.0 ≡ Some i → new ≡ set old m.0 (record i { floating = Some p })) → new ≡ set told n.0 (record info { floating = Some q })
-noted old told new m n info p q same is place there tells =
+noted old told new m n info p q same is index there tells =
     tells info (rw (same, is) there)
     ∙ ap (λ xs. set xs m.0 (record info { floating = Some p })) same
     ∙ ap (λ (k : Sym). set told k.0 (record info { floating = Some p })) is
-    ∙ ap (λ r. set told n.0 (record info { floating = Some r })) place
+    ∙ ap (λ r. set told n.0 (record info { floating = Some r })) index
 
 -- the frame of a new assertion, at the ends of the lists of hypotheses, of pairs and of pieces
-pub framed : (t : Tables) (s : Sentence) (e : Entry) (places numbers : List ℕ) (old a : List Hypothesis) (b : List DistinctPair) (c : List Piece) (conclusion : Part) → AreTables t → ArePlaces (statements_of t) s places
-    → AreThoseAt (statements_of t) places old → ArePairs (at_place (statements_of t ++ s ∷ []) (length (statements_of t))) (map (λ pair. (pair.variables.0.0, pair.variables.1.0)) b) → HavePlaces (variables_of a) b
+pub framed : (t : Tables) (s : Sentence) (e : Entry) (indices numbers : List ℕ) (old a : List Hypothesis) (b : List DistinctPair) (c : List Piece) (conclusion : Part) → AreTables t → AreIndices (statements_of t) s indices
+    → AreThoseAt (statements_of t) indices old → ArePairs (at_index (statements_of t ++ s ∷ []) (length (statements_of t))) (map (λ pair. (pair.variables.0.0, pair.variables.1.0)) b) → HaveIndices (variables_of a) b
     → AreNumbers (statements_of t) numbers s.symbols → ArePatterned (statements_of t) numbers old a (t.pieces.items ++ c) conclusion
     → IsFrameInfo (statements_of t ++ s ∷ []) (t.hypotheses.items ++ a) (t.pairs.items ++ b) (t.pieces.items ++ c) (label_info (length t.log.items) e (part_after t.hypotheses.items a, part_after t.pairs.items b, conclusion))
-framed t s e places numbers old a b c conclusion are at those pairs placed numbered patterned =
+framed t s e indices numbers old a b c conclusion are at those pairs indexed numbered patterned =
     let st = statements_of t in
     let size = all_statements t in
-    let hs : AreHypotheses (at_place (st ++ s ∷ []) (length st)) (map (λ h. h.id.0) a) =
-    rw (ids_same old a patterned.same, those.numbers) (hypotheses_from_places st places s [] are.sound.1 at) in
+    let hs : AreHypotheses (at_index (st ++ s ∷ []) (length st)) (map (λ h. h.id.0) a) =
+    rw (ids_same old a patterned.same, those.numbers) (hypotheses_from_indices st indices s [] are.sound.1 at) in
     let all_h = added_part t.hypotheses.items a in
     let all_p = added_part t.pairs.items b in
     let concluded = patterned.concluded in
@@ -289,7 +289,7 @@ framed t s e places numbers old a b c conclusion are at those pairs placed numbe
       conclusion_in = record { ordered = concluded.ordered; within = concluded.within };
       are_hypotheses = rw (← size, all_h) hs;
       are_pairs = rw (← size, all_p) pairs;
-      placed = rw (all_h, all_p) placed;
+      indexed = rw (all_h, all_p) indexed;
       concluded = (
         s,
         rw (← size) (get_pushed st s),

@@ -294,16 +294,16 @@ infos_none = record { all = refl; informed = refl; each = λ n x info at found. 
 pub labels_counted : (st : List Sentence) (labels : List (List ℕ)) (named : List LabelInfo) (log : List Entry) → AreLabelInfos st labels named log → length (labelled_sentences st) ≡ length labels
 labels_counted st labels named log are = same_length _ _ _ labels are.all
 
-front_count : (st : List Sentence) (e : Sentence) (place : ℕ) → place ≤ length st → length (labelled_sentences (take place (st ++ e ∷ []))) ≡ length (labelled_sentences (take place st))
-front_count st e place le = ap (λ ys. length (labelled_sentences ys)) (take-append-le place st (e ∷ []) le)
+prefix_count : (st : List Sentence) (e : Sentence) (index : ℕ) → index ≤ length st → length (labelled_sentences (take index (st ++ e ∷ []))) ≡ length (labelled_sentences (take index st))
+prefix_count st e index le = ap (λ ys. length (labelled_sentences ys)) (take-append-le index st (e ∷ []) le)
 
-named_grow : (st : List Sentence) (e : Sentence) (id : ℕ) (info : LabelInfo) → (s : Sentence) × IsNumbered st id info.place s → (s : Sentence) × IsNumbered (st ++ e ∷ []) id info.place s
-named_grow st e id info (s, numbered) = (s, numbered_grow st (e ∷ []) id info.place s numbered)
+named_grow : (st : List Sentence) (e : Sentence) (id : ℕ) (info : LabelInfo) → (s : Sentence) × IsNumbered st id info.index s → (s : Sentence) × IsNumbered (st ++ e ∷ []) id info.index s
+named_grow st e id info (s, numbered) = (s, numbered_grow st (e ∷ []) id info.index s numbered)
 
 entered_grow : (log : List Entry) (new : Entry) (info : LabelInfo) → IsEntered log info → IsEntered (log ++ new ∷ []) info
 entered_grow log new info is = record {
   entry = is.entry;
-  there = get_kept log (new ∷ []) info.place is.entry is.there;
+  there = get_kept log (new ∷ []) info.index is.entry is.there;
   kind = is.kind;
   symbols = is.symbols;
 }
@@ -314,19 +314,19 @@ labels_none st labels named log e new are none no_id size = record {
   all = ap (map (λ s. s.label)) (labelled_pass st e (ap is_some none)) ∙ are.all;
   informed = are.informed;
   each = λ id info there. named_grow st e id info (are.each id info there);
-  logged = λ place f id there is. elim (pushed_cases log new place f there) [
+  logged = λ index f id there is. elim (pushed_cases log new index f there) [
     | inl before ↦
-        let lt = slice_get_within log place f before in
-        front_count st e place (omega arith) ∙ are.logged place f id before is
+        let lt = slice_get_within log index f before in
+        prefix_count st e index (omega arith) ∙ are.logged index f id before is
     | inr (last, same) ↦ absurd (let h = ap (λ (d : Entry). d.label) same in cc)
   ];
   entered = λ id info there. entered_grow log new info (are.entered id info there);
 }
 
 pub labels_some : (st : List Sentence) (labels : List (List ℕ)) (named : List LabelInfo) (log : List Entry) (e : Sentence) (new : Entry) (l : List ℕ) (id : LabelId) (info : LabelInfo) → AreLabelInfos st labels named log
-    → e.label ≡ Some l → new.label ≡ Some id → id.0 ≡ length labels → info.place ≡ length st → new.kind ≡ info.kind → new.symbols ≡ info.symbols → length log ≡ length st
+    → e.label ≡ Some l → new.label ≡ Some id → id.0 ≡ length labels → info.index ≡ length st → new.kind ≡ info.kind → new.symbols ≡ info.symbols → length log ≡ length st
     → AreLabelInfos (st ++ e ∷ []) (labels ++ l ∷ []) (named ++ info ∷ []) (log ++ new ∷ [])
-labels_some st labels named log e new l id info are has has_id number placed kinds parts size =
+labels_some st labels named log e new l id info are has has_id number indexed kinds parts size =
     let count = labels_counted st labels named log are in
     let informed = are.informed in
     record {
@@ -338,25 +338,25 @@ labels_some st labels named log e new l id info are has has_id number placed kin
         | inl before ↦ named_grow st e n other (are.each n other before)
         | inr (last, same) ↦
             let at : n ≡ length (labelled_sentences st) = omega arith in
-            let place : other.place ≡ length st = ap (λ (i : LabelInfo). i.place) (sym same) ∙ placed in
-            (e, subst (λ p. IsNumbered (st ++ e ∷ []) n p e) (sym place) (subst (λ k. IsNumbered (st ++ e ∷ []) k (length st) e) (sym at) (numbered_last st e (ap is_some has))))
+            let index : other.index ≡ length st = ap (λ (i : LabelInfo). i.index) (sym same) ∙ indexed in
+            (e, subst (λ p. IsNumbered (st ++ e ∷ []) n p e) (sym index) (subst (λ k. IsNumbered (st ++ e ∷ []) k (length st) e) (sym at) (numbered_last st e (ap is_some has))))
       ];
-      logged = λ place f i there is. elim (pushed_cases log new place f there) [
+      logged = λ index f i there is. elim (pushed_cases log new index f there) [
         | inl before ↦
-            let lt = slice_get_within log place f before in
-            front_count st e place (omega arith) ∙ are.logged place f i before is
+            let lt = slice_get_within log index f before in
+            prefix_count st e index (omega arith) ∙ are.logged index f i before is
         | inr (last, same) ↦
-            let at : place ≡ length st = last ∙ size in
+            let at : index ≡ length st = last ∙ size in
             let same_id : id ≡ i = let h = ap (λ (d : Entry). d.label) same in cc in
             ap (λ p. length (labelled_sentences (take p (st ++ e ∷ [])))) at ∙ ap (λ ys. length (labelled_sentences ys)) (take-append_seam st (e ∷ [])) ∙ count ∙ sym number ∙ ap (λ (j : LabelId). j.0) same_id
       ];
       entered = λ n other there. elim (pushed_cases named info n other there) [
         | inl before ↦ entered_grow log new other (are.entered n other before)
         | inr (last, same) ↦
-            let place : length log ≡ other.place = size ∙ sym placed ∙ ap (λ (i : LabelInfo). i.place) same in
+            let index : length log ≡ other.index = size ∙ sym indexed ∙ ap (λ (i : LabelInfo). i.index) same in
             record {
               entry = new;
-              there = subst (λ p. slice_get (log ++ new ∷ []) p ≡ Some new) place (get_pushed log new);
+              there = subst (λ p. slice_get (log ++ new ∷ []) p ≡ Some new) index (get_pushed log new);
               kind = kinds ∙ ap (λ (i : LabelInfo). i.kind) same;
               symbols = parts ∙ ap (λ (i : LabelInfo). i.symbols) same;
             }
@@ -365,8 +365,8 @@ labels_some st labels named log e new l id info are has has_id number placed kin
 
 -- ---- the active `$e`
 
-pub essentials_other : (st : List Sentence) (places : List ℕ) (e : Sentence) → AreEssentials st places → ¬ (e.kind ≡ Essential) → ¬ (e.kind ≡ Closing) → AreEssentials (st ++ e ∷ []) places
-essentials_other st places e are other stays = record {
+pub essentials_other : (st : List Sentence) (indices : List ℕ) (e : Sentence) → AreEssentials st indices → ¬ (e.kind ≡ Essential) → ¬ (e.kind ≡ Closing) → AreEssentials (st ++ e ∷ []) indices
+essentials_other st indices e are other stays = record {
   rising = are.rising;
   only = λ i p there. let (s, at, kind, active) = are.only i p there in (s, get_kept st (e ∷ []) p s at, kind, active_stays st e p stays active);
   each = λ p s there kind active. elim (pushed_cases st e p s there) [
@@ -375,20 +375,20 @@ essentials_other st places e are other stays = record {
   ];
 }
 
-pub essentials_essential : (st : List Sentence) (places : List ℕ) (e : Sentence) → AreEssentials st places → e.kind ≡ Essential → AreEssentials (st ++ e ∷ []) (places ++ length st ∷ [])
-essentials_essential st places e are kind = record {
-  rising = λ i j p q lt at_i at_j. rising_grown places (length st)
+pub essentials_essential : (st : List Sentence) (indices : List ℕ) (e : Sentence) → AreEssentials st indices → e.kind ≡ Essential → AreEssentials (st ++ e ∷ []) (indices ++ length st ∷ [])
+essentials_essential st indices e are kind = record {
+  rising = λ i j p q lt at_i at_j. rising_grown indices (length st)
       (λ i j p q at_i at_j lt. are.rising i j p q lt at_i at_j)
       (λ i p there. (are.only i p there).3.within) i j p q at_i at_j lt;
-  only = λ i p there. elim (pushed_cases places (length st) i p there) [
+  only = λ i p there. elim (pushed_cases indices (length st) i p there) [
     | inl before ↦ let (s, at, is, active) = are.only i p before in (s, get_kept st (e ∷ []) p s at, is, active_stays st e p (λ closes. absurd (cc)) active)
     | inr (last, same) ↦ (e, subst (λ n. slice_get (st ++ e ∷ []) n ≡ Some e) same (get_pushed st e), kind, subst (λ n. IsActive (st ++ e ∷ []) n) same (active_last st e))
   ];
   each = λ p s there is active. elim (pushed_cases st e p s there) [
     | inl before ↦
         let (i, at) = are.each p s before is (active_falls st (e ∷ []) p (slice_get_within st p s before) active) in
-        (i, get_kept places (length st ∷ []) i p at)
-    | inr (last, same) ↦ (length places, get_pushed places (length st) ∙ ap (λ n. Some n) (sym last))
+        (i, get_kept indices (length st ∷ []) i p at)
+    | inr (last, same) ↦ (length indices, get_pushed indices (length st) ∙ ap (λ n. Some n) (sym last))
   ];
 }
 

@@ -24,7 +24,7 @@ use Rattle.mm_frame.proofs.BookLists.GrownLists.{longer, all_statements}
 use Rattle.mm_frame.proofs.Blocks.NumberedBlocks.{length_pushed}
 use Rattle.mm_frame.proofs.BookLists.SymbolsAndLabels.{infos_other, labels_none, essentials_other}
 use Rattle.mm_frame.proofs.BookLists.SymbolsAndLabels.{essentials_closing}
-use Rattle.mm_frame.proofs.Frames.FrameLaws.{placed, frames_other, stated_other}
+use Rattle.mm_frame.proofs.Frames.FrameLaws.{indexed, frames_other, stated_other}
 use Rattle.mm_frame.proofs.Frames.FrameTypings.{typings_grow}
 use Rattle.mm_frame.specs.Mirror.Stated.{PairTable}
 use Rattle.mm_frame.specs.Mirror.Separated.{EntersMembers}
@@ -153,7 +153,7 @@ unlabelled_grows t v s added numbers bytes tables w enough room =
         w.named,
       )
           (frames_other _ s t.hypotheses.items [] t.pairs.items [] t.pieces.items [] t.named.items
-          (placed _ _ _ _ tables.labels) tables.frames);
+          (indexed _ _ _ _ tables.labels) tables.frames);
       typed = rw w.hypotheses (typings_grow _ (s ∷ []) t.hypotheses.items tables.typed);
       stated = w.stated;
     })
@@ -239,7 +239,7 @@ module _ {t v : Tables} {s : Sentence} {kind : Kind} {members : List Sym} {bytes
       (rw same (essentials_other _ _ s tables.essentials (λ k. absurd (cc)) (λ k. absurd (cc))))
       stated
 
--- the places of the `$e` that were active lie before the place after a `$}`
+-- the indices of the `$e` that were active lie before the index after a `$}`
 pub closing_ready : (t u w : Tables) (start bytes at : ℕ) → AreTables t → SameLists t u
     → Entered u w Closing None start bytes
     → close_marks (statements_of t) < open_marks (statements_of t) → at ≡ length w.log.items
@@ -256,7 +256,7 @@ closing_ready t u w start bytes at tables same e more ends =
     let kept = e.essentials ∙ same.essentials in (
       omega (arith, scopes.held),
       λ i p there.
-          let (d, place, kind, active) = tables.essentials.only i p (rw kept at there) in
-          let lt = slice_get_within st p d place in
+          let (d, index, kind, active) = tables.essentials.only i p (rw kept at there) in
+          let lt = slice_get_within st p d index in
           omega arith,
     )

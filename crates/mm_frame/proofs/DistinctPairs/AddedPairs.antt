@@ -31,14 +31,14 @@ use Rattle.mm_frame.proofs.DistinctPairs.StatedPairs.{AreNew}
 -- ==== the spans of pairs, one after the other and linked
 
 -- after so many steps from the newest span of a pair, the next one is the last of the first spans of the pair, and those after
--- them stand at the place or later
+-- them stand at the index or later
 pub record IsLeft (spans : List Span) (newest next : Option ℕ) (before steps : ℕ) : Type 0 where
   pub left : (pair : ℕ × ℕ) → IsLastSpan spans (length spans) pair newest
       → (n : ℕ) × (n + steps ≤ length spans) × IsLastSpan spans n pair next
-      × ((j : ℕ) (span : Span) → n ≤ j → slice_get spans j ≡ Some span → span.pair ≡ pair → before ≤ span.place)
+      × ((j : ℕ) (span : Span) → n ≤ j → slice_get spans j ≡ Some span → span.pair ≡ pair → before ≤ span.index)
 
 -- the one further back
-pub step_next : (spans : List Span) (newest next : Option ℕ) (before steps : ℕ) (span : Span) → AreOlder spans → IsLeft spans newest next before steps → option_and_then (λ n. slice_get spans n) next ≡ Some span → before ≤ span.place
+pub step_next : (spans : List Span) (newest next : Option ℕ) (before steps : ℕ) (span : Span) → AreOlder spans → IsLeft spans newest next before steps → option_and_then (λ n. slice_get spans n) next ≡ Some span → before ≤ span.index
     → IsLeft spans newest span.older before (steps + 1)
 step_next spans newest None before steps span links is found late = absurd cc
 step_next spans newest (Some k) before steps span links is there late = record {
@@ -50,7 +50,7 @@ step_next spans newest (Some k) before steps span links is there late = record {
         omega arith,
         subst (λ p. IsLastSpan spans k p span.older) pair_is (links k span there),
         λ j other le other_at other_is. elim (cases_order j k) [
-          | inl here ↦ let f : other ≡ span = let g = subst (λ m. slice_get spans m ≡ Some other) here other_at in cc in subst (λ (t : Span). before ≤ t.place) (sym f) late
+          | inl here ↦ let f : other ≡ span = let g = subst (λ m. slice_get spans m ≡ Some other) here other_at in cc in subst (λ (t : Span). before ≤ t.index) (sym f) late
           | inr (inl less) ↦ absurd (omega arith)
           | inr (inr more) ↦ elim (cases_lt j n) [
             | inl before_n ↦ absurd (after j other more before_n other_at other_is)
@@ -60,13 +60,13 @@ step_next spans newest (Some k) before steps span links is there late = record {
       );
 }
 
--- where there's none further back, none stands before the place
+-- where there's none further back, none stands before the index
 pub left_none : (spans : List Span) (newest : Option ℕ) (before steps : ℕ) → IsLeft spans newest None before steps → (pair : ℕ × ℕ) → IsLastSpan spans (length spans) pair newest → IsLatestStated (map stated_by spans) pair before None
 left_none spans newest before steps is pair last j other there same =
     let (n, within, none, done) = is.left pair last in
     let (span, at, says) = get_unmapped stated_by spans j other there in
     let pair_is : span.pair ≡ pair = ap (λ (t : Stated). t.pair) says ∙ same in
-    let place_is : span.place ≡ other.place = ap (λ (t : Stated). t.place) says in
+    let index_is : span.index ≡ other.index = ap (λ (t : Stated). t.index) says in
     elim (cases_lt j n) [
       | inl lt ↦ absurd (none j span lt at pair_is)
       | inr le ↦ let h = done j span le at pair_is in omega arith
@@ -79,9 +79,9 @@ left_all spans newest (Some k) before is pair last =
     let (n, within, (lt, there, after), done) = is.left pair last in
     absurd (omega arith)
 
--- the first one that stands before the place
-pub step_found : (spans : List Span) (newest next : Option ℕ) (before steps : ℕ) (span : Span) → IsLeft spans newest next before steps → option_and_then (λ n. slice_get spans n) next ≡ Some span → span.place < before
-    → (pair : ℕ × ℕ) → IsLastSpan spans (length spans) pair newest → IsLatestStated (map stated_by spans) pair before (Some span.place)
+-- the first one that stands before the index
+pub step_found : (spans : List Span) (newest next : Option ℕ) (before steps : ℕ) (span : Span) → IsLeft spans newest next before steps → option_and_then (λ n. slice_get spans n) next ≡ Some span → span.index < before
+    → (pair : ℕ × ℕ) → IsLastSpan spans (length spans) pair newest → IsLatestStated (map stated_by spans) pair before (Some span.index)
 step_found spans newest None before steps span is found early pair last = absurd cc
 step_found spans newest (Some k) before steps span is there early pair last =
     let (n, within, (lt, (s, at, same), after), done) = is.left pair last in
@@ -96,14 +96,14 @@ step_found spans newest (Some k) before steps span is there early pair last =
       λ j other more other_at other_is.
           let (found, found_at, says) = get_unmapped stated_by spans j other other_at in
           let found_is : found.pair ≡ pair = ap (λ (t : Stated). t.pair) says ∙ other_is in
-          let place_is : found.place ≡ other.place = ap (λ (t : Stated). t.place) says in
+          let index_is : found.index ≡ other.index = ap (λ (t : Stated). t.index) says in
           elim (cases_lt j n) [
             | inl before_n ↦ absurd (after j found more before_n found_at found_is)
             | inr past ↦ let h = done j found past found_at found_is in omega arith
           ],
     )
 
--- where a look-up by a number that there may be gives nothing, none stands before the place
+-- where a look-up by a number that there may be gives nothing, none stands before the index
 pub step_none : (spans : List Span) (newest next : Option ℕ) (before steps : ℕ) → IsLeft spans newest next before steps → option_and_then (λ n. slice_get spans n) next ≡ None
     → (pair : ℕ × ℕ) → IsLastSpan spans (length spans) pair newest → IsLatestStated (map stated_by spans) pair before None
 step_none spans newest None before steps is found pair last = left_none spans newest before steps is pair last
@@ -146,11 +146,11 @@ same_key p q is =
 key_same : (p q : ℕ × ℕ) → p ≡ q → is_same_key p q ≡ true
 key_same p q same = and_from (p.0 == q.0) (p.1 == q.1) (eq-eqb p.0 q.0 (ap (λ r. r.0) same)) (eq-eqb p.1 q.1 (ap (λ r. r.1) same))
 
-pub linked_push : (spans : List Span) (old new : ℕ × ℕ → Option ℕ) (pair : ℕ × ℕ) (place : ℕ) → AreLinked spans old
+pub linked_push : (spans : List Span) (old new : ℕ × ℕ → Option ℕ) (pair : ℕ × ℕ) (index : ℕ) → AreLinked spans old
     → ((q : ℕ × ℕ) → new q ≡ update is_same_key old pair (Some (length spans)) q)
-    → AreLinked (spans ++ record { pair = pair; place = place; older = old pair } ∷ []) new
-linked_push spans old new pair place linked updates =
-    let s : Span = record { pair = pair; place = place; older = old pair } in
+    → AreLinked (spans ++ record { pair = pair; index = index; older = old pair } ∷ []) new
+linked_push spans old new pair index linked updates =
+    let s : Span = record { pair = pair; index = index; older = old pair } in
     let here = get_pushed spans s in
     let size = length-append spans (s ∷ []) in
     let next : suc (length spans) ≡ length (spans ++ s ∷ []) = omega arith in
@@ -197,7 +197,7 @@ same_two a b c d same = elim (cases_lt a b) [
 same_number : (a b : Sym) → a.0 ≡ b.0 → a ≡ b
 same_number a b same = ap (λ n. record { 0 = n }) same
 
--- one more place was looked at: one that was looked at before, or the new one
+-- one more index was looked at: one that was looked at before, or the new one
 passed_cases : (i j u v : ℕ) → IsPassed i (j + 1) u v → IsPassed i j u v ⊎ ((u ≡ j) × (v ≡ i))
 passed_cases i j u v (lt, inl before) = inl (lt, inl before)
 passed_cases i j u v (lt, inr (is, less)) = elim (cases_lt u j) [
@@ -370,9 +370,9 @@ new_from_paired st s symbols members pairs all kind meant numbers are = record {
     stand : StandOnce members
     stand = members_once st s members kind meant numbers
 
-    only : (k : ℕ) (span : Stated) (pair : ℕ × ℕ) → slice_get pairs k ≡ Some pair → stated_at (length st) pair ≡ span → (span.place ≡ length st) × (span.pair.0 < span.pair.1) × (x : List ℕ) × (y : List ℕ)
+    only : (k : ℕ) (span : Stated) (pair : ℕ × ℕ) → slice_get pairs k ≡ Some pair → stated_at (length st) pair ≡ span → (span.index ≡ length st) × (span.pair.0 < span.pair.1) × (x : List ℕ) × (y : List ℕ)
         × (slice_get symbols span.pair.0 ≡ Some x) × (slice_get symbols span.pair.1 ≡ Some y) × Contains s.symbols x × Contains s.symbols y × ¬ (IsDistinct st x y)
     only k span pair there is =
         let (u, v, a, b, (lt, before), at_u, at_v, same, fresh) = are.only k pair there in
         let (less, x, y, at_x, at_y, in_x, in_y, none) = subst (IsAdded st s symbols) (sym same ∙ ap (λ (z : Stated). z.pair) is) (added st s symbols members u v a b all numbers stand lt at_u at_v fresh) in
-        (ap (λ (z : Stated). z.place) (sym is), less, x, y, at_x, at_y, in_x, in_y, none)
+        (ap (λ (z : Stated). z.index) (sym is), less, x, y, at_x, at_y, in_x, in_y, none)

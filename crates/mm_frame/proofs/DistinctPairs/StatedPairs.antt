@@ -1,4 +1,4 @@
--- The distinct pairs at a place, by the pairs that `$d` state.
+-- The distinct pairs at an index, by the pairs that `$d` state.
 use Rattle.std.proofs.Common.{◌≡◌, ◌≢◌, ℕ, ◌-◌, ◌<◌, ◌≤◌, inl, inr, length, take, get_or, List, []}
 use Rattle.std.proofs.Common.{◌∷◌, ◌++◌, Contains, Some, refl, sym, ap, ◌∙◌, subst, arith, ◌+◌}
 use Rattle.std.proofs.Common.{slice_get, ◌↔◌, suc, ◌⊎◌, None, map}
@@ -64,18 +64,18 @@ active_shorter st k n q lt le within active =
 
 module _ {st : List Sentence} {symbols : List (List ℕ)} {wide : List WideDistinct}
     (are : AreWide st symbols wide) where
-  -- one that stands before a place passes none that is active there
+  -- one that stands before an index passes none that is active there
   pub passes_none : (i k q : ℕ) (w v : WideDistinct) → slice_get wide i ≡ Some w
-      → slice_get wide k ≡ Some v → w.older ≤ k → k < i → w.place < q → q ≤ length st
-      → ¬ (IsActive (take q st) v.place)
+      → slice_get wide k ≡ Some v → w.older ≤ k → k < i → w.index < q → q ≤ length st
+      → ¬ (IsActive (take q st) v.index)
   passes_none i k q w v at_i at_k le lt before within active =
       let (less, inactive) = are.passed i k w v at_i at_k le lt in
-      inactive (active_shorter st v.place w.place q less (omega arith) within active)
+      inactive (active_shorter st v.index w.index q less (omega arith) within active)
 
   -- what a step of the search for one that holds two symbols leaves
   pub held_next : (q a b n : ℕ) (w : WideDistinct) → q ≤ length st → 0 < n
       → slice_get wide (n - 1) ≡ Some w → ¬ (HoldsPair st q a b w)
-      → NoneFrom (HoldsPair st q a b) wide n → w.place < q
+      → NoneFrom (HoldsPair st q a b) wide n → w.index < q
       → NoneFrom (HoldsPair st q a b) wide w.older
   held_next q a b n w within some there other none before =
       none_older (HoldsPair st q a b) wide (n - 1) w.older
@@ -85,16 +85,16 @@ module _ {st : List Sentence} {symbols : List (List ℕ)} {wide : List WideDisti
 
   -- and of the search for one that is active
   pub active_next : (n : ℕ) (w : WideDistinct) → 0 < n → slice_get wide (n - 1) ≡ Some w
-      → ¬ (IsActive st w.place) → NoneFrom (λ v. IsActive st v.place) wide n
-      → NoneFrom (λ v. IsActive st v.place) wide w.older
+      → ¬ (IsActive st w.index) → NoneFrom (λ v. IsActive st v.index) wide n
+      → NoneFrom (λ v. IsActive st v.index) wide w.older
   active_next n w some there other none =
       let is = are.each (n - 1) w there in
-      let lt = slice_get_within st w.place is.d is.there in
-      none_older (λ v. IsActive st v.place) wide (n - 1) w.older
+      let lt = slice_get_within st w.index is.d is.there in
+      none_older (λ v. IsActive st v.index) wide (n - 1) w.older
       (λ k v le less at active. passes_none (n - 1) k (length st) w v there at le
       less lt
-      (omega arith) (subst (λ ys. IsActive ys v.place) (sym (take-length st)) active))
-      (none_next (λ v. IsActive st v.place) wide n w some there other none)
+      (omega arith) (subst (λ ys. IsActive ys v.index) (sym (take-length st)) active))
+      (none_next (λ v. IsActive st v.index) wide n w some there other none)
 
   -- the members of one that is active are distinct
   pub held_distinct : (a b q : ℕ) (x y : List ℕ) → symbols ≡ symbols_of st
@@ -109,9 +109,9 @@ module _ {st : List Sentence} {symbols : List (List ℕ)} {wide : List WideDisti
         (λ same. apart (symbols_unique st a b x (rw all at at_a)
             (rw all at (at_b ∙ ap (λ z. Some z) (sym same))))),
         (
-          w.place,
+          w.index,
           is.d,
-          get_in_front st q w.place is.d before is.there,
+          get_in_front st q w.index is.d before is.there,
           active,
           (is.kind, rw same_x at in_u, rw same_y at in_v),
         ),
@@ -120,7 +120,7 @@ module _ {st : List Sentence} {symbols : List (List ℕ)} {wide : List WideDisti
 -- one statement more leaves them, where the symbols that they hold keep their numbers
 pub wide_grow : (st : List Sentence) (e : Sentence) (symbols more : List (List ℕ))
     (wide : List WideDistinct)
-    → ((d : Sentence) (place n : ℕ) (x : List ℕ) → slice_get st place ≡ Some d → d.kind ≡ Distinct
+    → ((d : Sentence) (index n : ℕ) (x : List ℕ) → slice_get st index ≡ Some d → d.kind ≡ Distinct
     → Contains d.symbols x → slice_get (symbols ++ more) n ≡ Some x → slice_get symbols n ≡ Some x)
     → AreWide st symbols wide → AreWide (st ++ e ∷ []) (symbols ++ more) wide
 wide_grow st e symbols more wide old are = record {
@@ -128,21 +128,21 @@ wide_grow st e symbols more wide old are = record {
       let is = are.each i w there in
       record {
         d = is.d;
-        there = get_kept st (e ∷ []) w.place is.d is.there;
+        there = get_kept st (e ∷ []) w.index is.d is.there;
         kind = is.kind;
         only = λ n in_it. let (x, at, in_d) = is.only n in_it in
             (x, get_kept symbols more n x at, in_d);
-        each = λ n x at in_d. is.each n x (old is.d w.place n x is.there is.kind in_d at) in_d;
+        each = λ n x at in_d. is.each n x (old is.d w.index n x is.there is.kind in_d at) in_d;
         sorted = is.sorted;
       };
   older = are.older;
   passed = λ i k w v at_i at_k le lt.
       let (less, inactive) = are.passed i k w v at_i at_k le lt in
-      let within = slice_get_within st w.place (are.each i w at_i).d (are.each i w at_i).there in
-      (less, rw (take-append-le w.place st (e ∷ []) (omega arith)) inactive);
+      let within = slice_get_within st w.index (are.each i w at_i).d (are.each i w at_i).there in
+      (less, rw (take-append-le w.index st (e ∷ []) (omega arith)) inactive);
 }
 
--- ==== the distinct pairs at a place, by the pairs that `$d` state
+-- ==== the distinct pairs at an index, by the pairs that `$d` state
 
 -- what is active where an active statement stands is active
 active_then : (st : List Sentence) (s p q : ℕ) → s ≤ p → p < q → IsActive (take (p + 1) st) s
@@ -191,19 +191,19 @@ module _ {st : List Sentence} {symbols : List (List ℕ)} {stated : AllStated}
             let one : a ≡ b = symbols_unique st a b x (subst (λ xs. slice_get xs a ≡ Some x) all at_a) (subst (λ xs. slice_get xs b ≡ Some x) all (at_b ∙ ap (λ z. Some z) (sym same))) in
             omega arith),
         (
-          has.span.place,
+          has.span.index,
           d,
-          get_in_front st q has.span.place d has.early there,
+          get_in_front st q has.span.index d has.early there,
           has.active,
           (kind, rw same_x at in_u, rw same_y at in_v),
         ),
       )
 
-  -- The latest span of a pair before a place is active there exactly if one is.
-  pub latest_has : (pair : ℕ × ℕ) (q place : ℕ) → q ≤ length st
-      → IsLatestStated stated.pairs pair q (Some place)
-      → (place < q) × (IsActive (take q st) place ↔ HasSpan st stated.pairs pair q)
-  latest_has pair q place within (i, span, there, same, is, before, last) = (
+  -- The latest span of a pair before an index is active there exactly if one is.
+  pub latest_has : (pair : ℕ × ℕ) (q index : ℕ) → q ≤ length st
+      → IsLatestStated stated.pairs pair q (Some index)
+      → (index < q) × (IsActive (take q st) index ↔ HasSpan st stated.pairs pair q)
+  latest_has pair q index within (i, span, there, same, is, before, last) = (
     before,
     (
       (λ active. record {
@@ -222,7 +222,7 @@ module _ {st : List Sentence} {symbols : List (List ℕ)} {stated : AllStated}
             | inr (inl older) ↦
                 let (less, inactive) = are.apart _ _ _ _ older has.there there
                 (has.same ∙ sym same) in
-                absurd (inactive (active_shorter st _ span.place q less
+                absurd (inactive (active_shorter st _ span.index q less
                 (omega (arith, is, before)) within has.active))
             | inr (inr newer) ↦ absurd (let h = last has.i has.span newer has.there has.same in
                 let g = has.early in omega arith)
@@ -230,7 +230,7 @@ module _ {st : List Sentence} {symbols : List (List ℕ)} {stated : AllStated}
     ),
   )
 
--- Where no span before a place states the pair, none is active there.
+-- Where no span before an index states the pair, none is active there.
 pub none_has : (st : List Sentence) (spans : List Stated) (pair : ℕ × ℕ) (q : ℕ)
     → IsLatestStated spans pair q None → ¬ (HasSpan st spans pair q)
 none_has st spans pair q none has =
@@ -240,7 +240,7 @@ none_has st spans pair q none has =
 -- the new spans of a `$d`: pairs of its members that weren't distinct
 pub record AreNew (st : List Sentence) (e : Sentence) (symbols : List (List ℕ)) (new : List Stated) : Type 0 where
   pub only : (i : ℕ) (span : Stated) → slice_get new i ≡ Some span
-      → (span.place ≡ length st) × (span.pair.0 < span.pair.1) × (x : List ℕ) × (y : List ℕ) × (slice_get symbols span.pair.0 ≡ Some x) × (slice_get symbols span.pair.1 ≡ Some y)
+      → (span.index ≡ length st) × (span.pair.0 < span.pair.1) × (x : List ℕ) × (y : List ℕ) × (slice_get symbols span.pair.0 ≡ Some x) × (slice_get symbols span.pair.1 ≡ Some y)
       × Contains e.symbols x × Contains e.symbols y × ¬ (IsDistinct st x y)
   pub once : (i j : ℕ) (one other : Stated) → slice_get new i ≡ Some one → slice_get new j ≡ Some other → one.pair ≡ other.pair → i ≡ j
   pub each : (a b : ℕ) (x y : List ℕ) → slice_get symbols a ≡ Some x → slice_get symbols b ≡ Some y → a < b → Contains e.symbols x → Contains e.symbols y
@@ -252,19 +252,19 @@ pub record AreKept (st : List Sentence) (e : Sentence) (symbols : List (List ℕ
     (stated : AllStated) : Type 0 where
   pub only : (i : ℕ) (span : Stated) → slice_get stated.pairs i ≡ Some span
       → IsStatedThere (st ++ e ∷ []) symbols span
-  pub each : (place a b : ℕ) (d : Sentence) (x y : List ℕ) → slice_get st place ≡ Some d
+  pub each : (index a b : ℕ) (d : Sentence) (x y : List ℕ) → slice_get st index ≡ Some d
       → d.kind ≡ Distinct → slice_get symbols a ≡ Some x → slice_get symbols b ≡ Some y → a < b
       → Contains d.symbols x
-      → Contains d.symbols y → AreCovered (st ++ e ∷ []) stated place a b
+      → Contains d.symbols y → AreCovered (st ++ e ∷ []) stated index a b
   pub apart : (i j : ℕ) (older newer : Stated) → i < j → slice_get stated.pairs i ≡ Some older
       → slice_get stated.pairs j ≡ Some newer → older.pair ≡ newer.pair
-      → (older.place < newer.place) × ¬ (IsActive (take newer.place (st ++ e ∷ [])) older.place)
+      → (older.index < newer.index) × ¬ (IsActive (take newer.index (st ++ e ∷ [])) older.index)
   pub wide : AreWide (st ++ e ∷ []) symbols stated.wide
 
 -- a symbol of a `$d` has no number among those that are added
 abbrev pub AreOldNumbers : List Sentence → List (List ℕ) → List (List ℕ) → Type 0
 AreOldNumbers st symbols more =
-    (d : Sentence) (place n : ℕ) (x : List ℕ) → slice_get st place ≡ Some d → d.kind ≡ Distinct
+    (d : Sentence) (index n : ℕ) (x : List ℕ) → slice_get st index ≡ Some d → d.kind ≡ Distinct
     → Contains d.symbols x → slice_get (symbols ++ more) n ≡ Some x
     → slice_get symbols n ≡ Some x
 
@@ -275,7 +275,7 @@ stated_kept st e symbols more stated old are = record {
   only = λ i span there.
       let (d, at, kind, lt, x, y, at_x, at_y, in_x, in_y) = are.only i span there in (
         d,
-        get_kept st (e ∷ []) span.place d at,
+        get_kept st (e ∷ []) span.index d at,
         kind,
         lt,
         x,
@@ -285,19 +285,19 @@ stated_kept st e symbols more stated old are = record {
         in_x,
         in_y,
       );
-  each = λ place a b d x y there kind at_a at_b lt in_x in_y.
-      let within = slice_get_within st place d there in
-      let front = take-append-le (place + 1) st (e ∷ []) (omega arith) in
-      elim (are.each place a b d x y there kind (old d place a x there kind in_x at_a)
-      (old d place b y there kind in_y at_b) lt in_x in_y) [
-        | inl (i, span, at, pair, le, active) ↦ inl (i, span, at, pair, le, rw front active)
-        | inr (i, w, at, in_a, in_b, le, active) ↦ inr (i, w, at, in_a, in_b, le, rw front active)
+  each = λ index a b d x y there kind at_a at_b lt in_x in_y.
+      let within = slice_get_within st index d there in
+      let prefix = take-append-le (index + 1) st (e ∷ []) (omega arith) in
+      elim (are.each index a b d x y there kind (old d index a x there kind in_x at_a)
+      (old d index b y there kind in_y at_b) lt in_x in_y) [
+        | inl (i, span, at, pair, le, active) ↦ inl (i, span, at, pair, le, rw prefix active)
+        | inr (i, w, at, in_a, in_b, le, active) ↦ inr (i, w, at, in_a, in_b, le, rw prefix active)
       ];
   apart = λ i j older newer lt at_i at_j same.
       let (less, inactive) = are.apart i j older newer lt at_i at_j same in
       let stated_at = are.only j newer at_j in
-      let within = slice_get_within st newer.place stated_at.0 stated_at.1 in
-      (less, rw (take-append-le newer.place st (e ∷ []) (omega arith)) inactive);
+      let within = slice_get_within st newer.index stated_at.0 stated_at.1 in
+      (less, rw (take-append-le newer.index st (e ∷ []) (omega arith)) inactive);
   wide = wide_grow _ e _ more _ old are.wide;
 }
 
@@ -306,7 +306,7 @@ pub stated_more : (st : List Sentence) (e : Sentence) (symbols : List (List ℕ)
     → AreStated st symbols stated → AreKept st e symbols stated
 stated_more st e symbols stated are =
     let none = append-nil symbols in
-    rw none at (stated_kept _ e _ [] _ (λ d place n x there kind in_it at. rw none at (at)) are)
+    rw none at (stated_kept _ e _ [] _ (λ d index n x there kind in_it at. rw none at (at)) are)
 
 -- A `$d`, with its new spans.
 pub stated_push : (st : List Sentence) (e : Sentence) (symbols : List (List ℕ)) (stated : AllStated)
@@ -320,11 +320,11 @@ stated_push st e symbols stated new all are kind news =
       only = λ i span there. elim (append_cases spans new i span there) [
         | inl before ↦ kept.only i span before
         | inr (j, is, at) ↦
-            let (place, lt, x, y, at_x, at_y, in_x, in_y, apart) = news.only j span at in
-            (e, rw place (get_pushed st e), kind, lt, x, y, at_x, at_y, in_x, in_y)
+            let (index, lt, x, y, at_x, at_y, in_x, in_y, apart) = news.only j span at in
+            (e, rw index (get_pushed st e), kind, lt, x, y, at_x, at_y, in_x, in_y)
       ];
-      each = λ place a b d x y there is at_a at_b lt in_x in_y. elim (pushed_cases st e place d there) [
-        | inl before ↦ elim (kept.each place a b d x y before is at_a at_b lt in_x in_y) [
+      each = λ index a b d x y there is at_a at_b lt in_x in_y. elim (pushed_cases st e index d there) [
+        | inl before ↦ elim (kept.each index a b d x y before is at_a at_b lt in_x in_y) [
           | inl (i, span, at, pair, le, active) ↦
               inl (i, span, get_kept spans new i span at, pair, le, active)
           | inr held ↦ inr held
@@ -332,14 +332,14 @@ stated_push st e symbols stated new all are kind news =
         | inr (last, same) ↦
             elim (news.each a b x y at_a at_b lt (rw (← same) at in_x) (rw (← same) at in_y)) [
               | inl (j, span, at, pair) ↦
-                  let here : span.place ≡ length st = (news.only j span at).0 in
+                  let here : span.index ≡ length st = (news.only j span at).0 in
                   inl (
                     length spans + j,
                     span,
                     get_after spans new j span at,
                     pair,
                     omega arith,
-                    rw (taken_at st e place last, here) (active_last st e),
+                    rw (taken_at st e index last, here) (active_last st e),
                   )
               | inr distinct ↦ elim (distinct_stated are a b (length st) x y at_a at_b lt
                   (rw (take-length st) distinct)) [
@@ -350,10 +350,10 @@ stated_push st e symbols stated new all are kind news =
                           get_kept spans new has.i has.span has.there,
                           has.same,
                           omega arith,
-                          still place has.span.place last has.active,
+                          still index has.span.index last has.active,
                         )
                     | inr (i, w, at, (early, in_a, in_b, active)) ↦
-                        inr (i, w, at, in_a, in_b, omega arith, still place _ last active)
+                        inr (i, w, at, in_a, in_b, omega arith, still index _ last active)
                   ]
             ]
       ];
@@ -370,20 +370,20 @@ stated_push st e symbols stated new all are kind news =
     }
   where
     -- what was active stays so at the `$d`
-    still : (place p : ℕ) → place ≡ length st → IsActive (take (length st) st) p
-        → IsActive (take (place + 1) (st ++ e ∷ [])) p
-    still place p last active = rw (taken_at st e place last)
+    still : (index p : ℕ) → index ≡ length st → IsActive (take (length st) st) p
+        → IsActive (take (index + 1) (st ++ e ∷ [])) p
+    still index p last active = rw (taken_at st e index last)
         (active_stays _ e _ (λ closes. cc) (rw (take-length st) at active))
 
     old_new : (i k : ℕ) (older newer : Stated) → slice_get stated.pairs i ≡ Some older
-        → slice_get new k ≡ Some newer → older.pair ≡ newer.pair → (older.place < newer.place)
-        × ¬ (IsActive (take newer.place (st ++ e ∷ [])) older.place)
+        → slice_get new k ≡ Some newer → older.pair ≡ newer.pair → (older.index < newer.index)
+        × ¬ (IsActive (take newer.index (st ++ e ∷ [])) older.index)
     old_new i k older newer at_i at_k same =
-        let (place, lt, x, y, at_x, at_y, in_x, in_y, apart) = news.only k newer at_k in
+        let (index, lt, x, y, at_x, at_y, in_x, in_y, apart) = news.only k newer at_k in
         let stated_at = are.only i older at_i in
-        let within = slice_get_within st older.place stated_at.0 stated_at.1 in
+        let within = slice_get_within st older.index stated_at.0 stated_at.1 in
         let whole : take (length st) st ≡ st = take-length st in
-        let front : take newer.place (st ++ e ∷ []) ≡ st = ap (λ n. take n (st ++ e ∷ [])) place ∙ take-append-le (length st) st (e ∷ []) (omega arith) ∙ whole in (
+        let prefix : take newer.index (st ++ e ∷ []) ≡ st = ap (λ n. take n (st ++ e ∷ [])) index ∙ take-append-le (length st) st (e ∷ []) (omega arith) ∙ whole in (
           omega arith,
           λ active. apart (rw whole at (span_distinct are newer.pair.0 newer.pair.1 (length st) x y
               all at_x at_y lt (record {
@@ -392,7 +392,7 @@ stated_push st e symbols stated new all are kind news =
                 there = at_i;
                 same = same;
                 early = within;
-                active = rw whole (rw front at active);
+                active = rw whole (rw prefix at active);
               }))),
         )
 
@@ -406,7 +406,7 @@ module _ (st : List Sentence) (s : Sentence) (symbols : List (List ℕ)) (member
       → IsWide (st ++ s ∷ []) symbols w
   wide_new wide new = record {
     d = s;
-    there = rw new.place (get_pushed st s);
+    there = rw new.index (get_pushed st s);
     kind = kind;
     only = λ n in_it.
         let among = Contains-permutation w.members.items (map (λ n. n.0) members) n
@@ -444,10 +444,10 @@ module _ (st : List Sentence) (s : Sentence) (symbols : List (List ℕ)) (member
       | inr (last, same) ↦
           let at = get_before wide (w ∷ []) k u (omega arith) at_k in
           let is = before.each k u at in
-          let within = slice_get_within st u.place is.d is.there in
-          let front : take w.place (st ++ s ∷ []) ≡ st = ap (λ n. take n (st ++ s ∷ [])) new.place
+          let within = slice_get_within st u.index is.d is.there in
+          let prefix : take w.index (st ++ s ∷ []) ≡ st = ap (λ n. take n (st ++ s ∷ [])) new.index
           ∙ take-append-le (length st) st (s ∷ []) (omega arith) ∙ take-length st in
-          rw (← same) (omega arith, rw front (new.passed k u (rw same le) at))
+          rw (← same) (omega arith, rw prefix (new.passed k u (rw same le) at))
     ];
   }
 
@@ -461,9 +461,9 @@ module _ (st : List Sentence) (s : Sentence) (symbols : List (List ℕ)) (member
       let is = wide_new _ new in
       record {
         only = kept.only;
-        each = λ place a b d x y there kinds at_a at_b lt in_x in_y. elim
-            (pushed_cases st s place d there) [
-              | inl before ↦ elim (kept.each place a b d x y before kinds at_a at_b lt in_x in_y) [
+        each = λ index a b d x y there kinds at_a at_b lt in_x in_y. elim
+            (pushed_cases st s index d there) [
+              | inl before ↦ elim (kept.each index a b d x y before kinds at_a at_b lt in_x in_y) [
                 | inl span ↦ inl span
                 | inr (i, v, at, in_a, in_b, le, active) ↦
                     inr (i, v, get_kept stated.wide (w ∷ []) i v at, in_a, in_b, le, active)
@@ -476,7 +476,7 @@ module _ (st : List Sentence) (s : Sentence) (symbols : List (List ℕ)) (member
                     is.each a x at_a (rw (← same) at in_x),
                     is.each b y at_b (rw (← same) at in_y),
                     omega arith,
-                    rw (taken_at st s place last, new.place) (active_last st s),
+                    rw (taken_at st s index last, new.index) (active_last st s),
                   )
             ];
         apart = kept.apart;

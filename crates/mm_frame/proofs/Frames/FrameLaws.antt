@@ -3,7 +3,7 @@ use Rattle.std.proofs.Common.{◌≡◌, ◌↔◌, ℕ, zero, suc, ◌+◌, ◌
 use Rattle.std.proofs.Common.{[], ◌∷◌, map, Contains, Some, refl, sym, ap, ◌∙◌, arith, slice_get}
 use Rattle.std.proofs.Common.{length-drop, take, ◌++◌, subst}
 use Rattle.std.proofs.lemmas.Bool.{cases_eq}
-use Rattle.mm_frame.specs.Mirror.Gathered.{AreRisingPlaces}
+use Rattle.mm_frame.specs.Mirror.Gathered.{AreRisingIndices}
 use Rattle.mm_frame.specs.Sentence.{Sentence, IsAssertion}
 use Rattle.mm_frame.specs.Frame.{AreThose, AreMandatory, IsMandatoryAt, IsDistinct}
 use Rattle.mm_text.proofs.Lists.{at_from_contains, contains_from_at, get_kept, get_pushed}
@@ -20,7 +20,7 @@ use Rattle.mm_frame.specs.declared.part.Part.{Part}
 use Rattle.mm_frame.specs.declared.tables.LabelInfo.{LabelInfo}
 use Rattle.mm_frame.specs.Rules.{AllMeant}
 use Rattle.mm_frame.specs.Numbers.{symbols_of}
-use Rattle.mm_frame.specs.FramePlace.{FramePlace, AreHypotheses, ArePairs}
+use Rattle.mm_frame.specs.FrameIndex.{FrameIndex, AreHypotheses, ArePairs}
 use Rattle.mm_frame.specs.Mirror.Layout.{IsPartWithin, IsFrameInfo, AreFrames, AreLabelInfos}
 use Rattle.mm_frame.specs.Mirror.Layout.{AreStated}
 use Rattle.mm_frame.specs.Mirror.Stated.{AllStated}
@@ -30,7 +30,7 @@ use Rattle.mm_frame.proofs.DistinctPairs.StatedPairs.{stated_kept}
 use Rattle.mm_frame.proofs.Frames.VariableIndices.{its_pieces_grow, pattern_grow, pattern_longer}
 use Rattle.mm_frame.proofs.Names.LabelNumbers.{labelled_grow}
 
--- ==== the elements of a list at given places are those of which something holds
+-- ==== the elements of a list at given indices are those of which something holds
 
 -- there is one list of those only
 pub those_unique : {X : Type 0} (P : ℕ → X → Type 0) (n : ℕ) (xs ys zs : List X) → AreThose P n xs ys → AreThose P n xs zs → ys ≡ zs
@@ -54,22 +54,22 @@ mandatory_unique before s hs gs one other = those_unique (IsMandatoryAt before s
 pub distinct_other : (before : List Sentence) (x y : List ℕ) → IsDistinct before x y → IsDistinct before y x
 distinct_other before x y (apart, (p, d, there, active, (kind, x_in, y_in))) = ((λ e. apart (sym e)), (p, d, there, active, (kind, y_in, x_in)))
 
--- what a list begins with that is the rest of another from a place on
+-- what a list begins with that is the rest of another from an index on
 rest_first : {X : Type 0} (whole : List X) (n : ℕ) (x : X) (xs : List X) → drop n whole ≡ x ∷ xs → (slice_get whole n ≡ Some x) × (drop (suc n) whole ≡ xs)
 rest_first [] zero x xs e = absurd (cc)
 rest_first [] (suc n) x xs e = absurd (cc)
 rest_first (y ∷ whole) zero x xs e = (cc, cc)
 rest_first (y ∷ whole) (suc n) x xs e = rest_first whole n x xs e
 
--- places rise, lie from a place on within the list, and are those where P holds
-record AreAll {X : Type 0} (P : ℕ → X → Type 0) (whole : List X) (n : ℕ) (places : List ℕ) : Type 0 where
-  rise : AreRisingPlaces places
-  within : (i p : ℕ) → slice_get places i ≡ Some p → (n ≤ p) × (p < length whole)
-  each : (p : ℕ) (x : X) → n ≤ p → slice_get whole p ≡ Some x → P p x → At places p
-  only : (i p : ℕ) (x : X) → slice_get places i ≡ Some p → slice_get whole p ≡ Some x → P p x
+-- indices rise, lie from an index on within the list, and are those where P holds
+record AreAll {X : Type 0} (P : ℕ → X → Type 0) (whole : List X) (n : ℕ) (indices : List ℕ) : Type 0 where
+  rise : AreRisingIndices indices
+  within : (i p : ℕ) → slice_get indices i ≡ Some p → (n ≤ p) × (p < length whole)
+  each : (p : ℕ) (x : X) → n ≤ p → slice_get whole p ≡ Some x → P p x → At indices p
+  only : (i p : ℕ) (x : X) → slice_get indices i ≡ Some p → slice_get whole p ≡ Some x → P p x
 
-all_after : {X : Type 0} (P : ℕ → X → Type 0) (whole : List X) (n p : ℕ) (places : List ℕ) → p ≡ n → AreAll P whole n (p ∷ places) → AreAll P whole (suc n) places
-all_after P whole n p places same all = record {
+all_after : {X : Type 0} (P : ℕ → X → Type 0) (whole : List X) (n p : ℕ) (indices : List ℕ) → p ≡ n → AreAll P whole n (p ∷ indices) → AreAll P whole (suc n) indices
+all_after P whole n p indices same all = record {
   rise = λ i j a b at_i at_j lt. all.rise (suc i) (suc j) a b at_i at_j (omega arith);
   within = λ i q there.
       let above = all.rise 0 (suc i) p q refl there (omega arith) in
@@ -79,23 +79,23 @@ all_after P whole n p places same all = record {
   only = λ i q x there at. all.only (suc i) q x there at;
 }
   where
-    later : (q : ℕ) → suc n ≤ q → At (p ∷ places) q → At places q
+    later : (q : ℕ) → suc n ≤ q → At (p ∷ indices) q → At indices q
     later q above (zero, there) = absurd (let e : p ≡ q = cc in omega arith)
     later q above (suc i, there) = (i, there)
 
-all_past : {X : Type 0} (P : ℕ → X → Type 0) (whole : List X) (n : ℕ) (places : List ℕ) → ((i p : ℕ) → slice_get places i ≡ Some p → n < p) → AreAll P whole n places → AreAll P whole (suc n) places
-all_past P whole n places above all = record {
+all_past : {X : Type 0} (P : ℕ → X → Type 0) (whole : List X) (n : ℕ) (indices : List ℕ) → ((i p : ℕ) → slice_get indices i ≡ Some p → n < p) → AreAll P whole n indices → AreAll P whole (suc n) indices
+all_past P whole n indices above all = record {
   rise = all.rise;
   within = λ i q there. let lt = above i q there in (omega arith, (all.within i q there).1);
   each = λ q x le there holds. all.each q x (omega arith) there holds;
   only = all.only;
 }
 
--- the elements from a place on
-those_from : {X : Type 0} (P : ℕ → X → Type 0) (whole : List X) (n : ℕ) (xs : List X) (places : List ℕ) → drop n whole ≡ xs → AreAll P whole n places
-    → (ys : List X) × AreThose P n xs ys × (map (slice_get whole) places ≡ map (λ y. Some y) ys)
+-- the elements from an index on
+those_from : {X : Type 0} (P : ℕ → X → Type 0) (whole : List X) (n : ℕ) (xs : List X) (indices : List ℕ) → drop n whole ≡ xs → AreAll P whole n indices
+    → (ys : List X) × AreThose P n xs ys × (map (slice_get whole) indices ≡ map (λ y. Some y) ys)
 those_from P whole n [] [] is all = ([], refl, refl)
-those_from P whole n [] (p ∷ places) is all =
+those_from P whole n [] (p ∷ indices) is all =
     let h : length whole ≤ n = omega (arith, length-drop n whole, ap length is) in
     let inside = all.within 0 p refl in
     absurd (let ge = inside.0 in let lt = inside.1 in omega arith)
@@ -105,60 +105,61 @@ those_from {X} P whole n (x ∷ xs) [] is all =
     let absent : ¬ (P n x) = λ holds. let (i, there) = all.each n x (omega arith) here holds in cc in
     let (ys, those, same) = those_from _ _ _ xs _ rest (all_past _ _ _ _ (λ i p there. absurd (cc)) all) in
     (ys, inr (absent, rw more those), same)
-those_from {X} P whole n (x ∷ xs) (p ∷ places) is all =
+those_from {X} P whole n (x ∷ xs) (p ∷ indices) is all =
     let (here, rest) = rest_first whole n x xs is in
     let more : n + 1 ≡ suc n = omega arith in
     elim (cases_eq p n) [
       | inl same ↦
           let holds = rw same at (all.only 0 p x refl (rw same here)) in
-          let (ys, those, values) = those_from _ _ _ xs _ rest (all_after _ _ _ _ places same all) in
+          let (ys, those, values) = those_from _ _ _ xs _ rest (all_after _ _ _ _ indices same all) in
           let first : slice_get whole p ≡ Some x = rw same here in
           (x ∷ ys, inl (holds, ys, refl, rw more those), cc)
       | inr apart ↦
           let lt : n < p = let ge = (all.within 0 p refl).0 in omega arith in
-          let above : (i q : ℕ) → slice_get (p ∷ places) i ≡ Some q → n < q = above_first n p places lt all.rise in
+          let above : (i q : ℕ) → slice_get (p ∷ indices) i ≡ Some q → n < q = above_first n p indices lt all.rise in
           let absent : ¬ (P n x) = λ holds. let (i, there) = all.each n x (omega arith) here holds in let h = above i n there in omega arith in
           let (ys, those, values) = those_from _ _ _ xs _ rest (all_past _ _ _ _ above all) in
           (ys, inr (absent, rw more those), values)
     ]
   where
-    above_first : (n p : ℕ) (places : List ℕ) → n < p → AreRisingPlaces (p ∷ places) → (i q : ℕ) → slice_get (p ∷ places) i ≡ Some q → n < q
-    above_first n p places lt rise zero q there = let e : p ≡ q = cc in omega arith
-    above_first n p places lt rise (suc i) q there = let h = rise 0 (suc i) p q refl there (omega arith) in omega arith
+    above_first : (n p : ℕ) (indices : List ℕ) → n < p → AreRisingIndices (p ∷ indices) → (i q : ℕ) → slice_get (p ∷ indices) i ≡ Some q → n < q
+    above_first n p indices lt rise zero q there = let e : p ≡ q = cc in omega arith
+    above_first n p indices lt rise (suc i) q there = let h = rise 0 (suc i) p q refl there (omega arith) in omega arith
 
--- The elements at places that rise are those of which P holds, if P holds exactly at these places.
-pub those_by_places : {X : Type 0} (P : ℕ → X → Type 0) (xs : List X) (places : List ℕ) → AreRisingPlaces places → ((i p : ℕ) → slice_get places i ≡ Some p → p < length xs)
-    → ((p : ℕ) (x : X) → slice_get xs p ≡ Some x → P p x ↔ Contains places p) → (ys : List X) × AreThose P 0 xs ys × (map (slice_get xs) places ≡ map (λ y. Some y) ys)
-those_by_places P xs places rise within tells = those_from P xs 0 xs places refl record {
+-- The elements at indices that rise are those of which P holds, if P holds exactly at these
+-- indices.
+pub those_by_indices : {X : Type 0} (P : ℕ → X → Type 0) (xs : List X) (indices : List ℕ) → AreRisingIndices indices → ((i p : ℕ) → slice_get indices i ≡ Some p → p < length xs)
+    → ((p : ℕ) (x : X) → slice_get xs p ≡ Some x → P p x ↔ Contains indices p) → (ys : List X) × AreThose P 0 xs ys × (map (slice_get xs) indices ≡ map (λ y. Some y) ys)
+those_by_indices P xs indices rise within tells = those_from P xs 0 xs indices refl record {
   rise = rise;
   within = λ i p there. (omega arith, within i p there);
-  each = λ p x le there holds. at_from_contains places p ((tells p x there).0 holds);
-  only = λ i p x there at. (tells p x at).1 (contains_from_at places p (i, there));
+  each = λ p x le there holds. at_from_contains indices p ((tells p x there).0 holds);
+  only = λ i p x there at. (tells p x at).1 (contains_from_at indices p (i, there));
 }
 
 -- ==== frames stay what they are as statements are added
 
-abbrev pub at_place : List Sentence → ℕ → FramePlace
-at_place st place = record { statements = st; place = place }
+abbrev pub at_index : List Sentence → ℕ → FrameIndex
+at_index st index = record { statements = st; index = index }
 
-pub hypotheses_grow : (st more : List Sentence) (place : ℕ) (numbers : List ℕ) → AreHypotheses (at_place st place) numbers → AreHypotheses (at_place (st ++ more) place) numbers
-hypotheses_grow st more place numbers are =
-    let lt = slice_get_within st place are.assertion are.there in
+pub hypotheses_grow : (st more : List Sentence) (index : ℕ) (numbers : List ℕ) → AreHypotheses (at_index st index) numbers → AreHypotheses (at_index (st ++ more) index) numbers
+hypotheses_grow st more index numbers are =
+    let lt = slice_get_within st index are.assertion are.there in
     record {
       assertion = are.assertion;
-      there = get_kept st more place are.assertion are.there;
+      there = get_kept st more index are.assertion are.there;
       hypotheses = are.hypotheses;
-      mandatory = rw (take-append-le place st more (omega arith)) are.mandatory;
+      mandatory = rw (take-append-le index st more (omega arith)) are.mandatory;
       numbered = zip_mapped _ _ _ _ (mapped_zip _ _ _ (labelled_grow st more) _ _ are.numbered);
     }
 
-pub pairs_grow : (st more : List Sentence) (place : ℕ) (pairs : List (ℕ × ℕ)) → ArePairs (at_place st place) pairs → ArePairs (at_place (st ++ more) place) pairs
-pairs_grow st more place pairs are =
-    let lt = slice_get_within st place are.assertion are.there in
-    let same : take place (st ++ more) ≡ take place st = take-append-le place st more (omega arith) in
+pub pairs_grow : (st more : List Sentence) (index : ℕ) (pairs : List (ℕ × ℕ)) → ArePairs (at_index st index) pairs → ArePairs (at_index (st ++ more) index) pairs
+pairs_grow st more index pairs are =
+    let lt = slice_get_within st index are.assertion are.there in
+    let same : take index (st ++ more) ≡ take index st = take-append-le index st more (omega arith) in
     record {
       assertion = are.assertion;
-      there = get_kept st more place are.assertion are.there;
+      there = get_kept st more index are.assertion are.there;
       only = λ pair in_it.
           let (x, y, at_x, at_y, mandatory) = are.only pair in_it in (
             x,
@@ -189,12 +190,12 @@ frame_grow st more hs a pairs b pieces c info is =
       hypotheses_in = part_grow hs a info.hypotheses h;
       pairs_in = part_grow pairs b info.pairs p;
       conclusion_in = part_grow pieces c info.conclusion q;
-      are_hypotheses = hypotheses_grow st more info.place _ (rw all_h is.are_hypotheses);
-      are_pairs = pairs_grow st more info.place _ (rw all_p is.are_pairs);
-      placed = rw (all_h, all_p) is.placed;
+      are_hypotheses = hypotheses_grow st more info.index _ (rw all_h is.are_hypotheses);
+      are_pairs = pairs_grow st more info.index _ (rw all_p is.are_pairs);
+      indexed = rw (all_h, all_p) is.indexed;
       concluded = (
         s,
-        get_kept st more info.place s there,
+        get_kept st more info.index s there,
         rw (all_h, all_q) (its_pieces_grow st more _ s _ says),
       );
       patterned = rw all_h (λ i h at.
@@ -204,10 +205,10 @@ frame_grow st more hs a pairs b pieces c info is =
 
 -- each label's statement is one of the statements
 abbrev pub ArePlaced : List Sentence → List LabelInfo → Type 0
-ArePlaced st named = (id : ℕ) (info : LabelInfo) → slice_get named id ≡ Some info → info.place < length st
+ArePlaced st named = (id : ℕ) (info : LabelInfo) → slice_get named id ≡ Some info → info.index < length st
 
-pub placed : (st : List Sentence) (labels : List (List ℕ)) (named : List LabelInfo) (log : List _) → AreLabelInfos st labels named log → ArePlaced st named
-placed st labels named log are id info there = let (s, numbered) = are.each id info there in slice_get_within st info.place s numbered.there
+pub indexed : (st : List Sentence) (labels : List (List ℕ)) (named : List LabelInfo) (log : List _) → AreLabelInfos st labels named log → ArePlaced st named
+indexed st labels named log are id info there = let (s, numbered) = are.each id info there in slice_get_within st info.index s numbered.there
 
 module _ (st : List Sentence) (e : Sentence) (hs a : List Hypothesis)
     (pairs b : List DistinctPair) (pieces c : List Piece) (named : List LabelInfo)
@@ -215,15 +216,15 @@ module _ (st : List Sentence) (e : Sentence) (hs a : List Hypothesis)
   -- a statement with no label
   pub frames_other : AreFrames (st ++ e ∷ []) (hs ++ a) (pairs ++ b) (pieces ++ c) named
   frames_other id info s there at is =
-      frame_grow st (e ∷ []) hs a pairs b pieces c info (are id info s there (get_before st (e ∷ []) info.place s (within id info there) at) is)
+      frame_grow st (e ∷ []) hs a pairs b pieces c info (are id info s there (get_before st (e ∷ []) info.index s (within id info there) at) is)
 
   -- a hypothesis
-  pub frames_hypothesis : (new : LabelInfo) → new.place ≡ length st → ¬ (IsAssertion e.kind)
+  pub frames_hypothesis : (new : LabelInfo) → new.index ≡ length st → ¬ (IsAssertion e.kind)
       → AreFrames (st ++ e ∷ []) (hs ++ a) (pairs ++ b) (pieces ++ c) (named ++ new ∷ [])
-  frames_hypothesis new place other id info s there at is = elim (pushed_cases named new id info there) [
+  frames_hypothesis new index other id info s there at is = elim (pushed_cases named new id info there) [
     | inl before ↦ frames_other id info s before at is
     | inr (last, same) ↦
-        let here : info.place ≡ length st = ap (λ (i : LabelInfo). i.place) (sym same) ∙ place in
+        let here : info.index ≡ length st = ap (λ (i : LabelInfo). i.index) (sym same) ∙ index in
         let e_is : e ≡ s = let one = get_pushed st e in cc in
         absurd (other (rw e_is is))
   ]
@@ -240,11 +241,11 @@ module _ (st : List Sentence) (e : Sentence) (hs a : List Hypothesis)
 -- ---- the pairs that `$d` state
 
 -- the number of a symbol that a statement uses, among the symbols before or after
-old_number : (st : List Sentence) (e d : Sentence) (symbols more : List (List ℕ)) (place n : ℕ) (x : List ℕ) → AllMeant st → symbols ≡ symbols_of st → symbols ++ more ≡ symbols_of (st ++ e ∷ [])
-    → slice_get st place ≡ Some d → d.kind ≡ Distinct → Contains d.symbols x → slice_get (symbols ++ more) n ≡ Some x → slice_get symbols n ≡ Some x
-old_number st e d symbols more place n x meant all all' there kind in_it at =
-    let declared = used_declared (take place st) d x (meant_at st place d meant there) (inl kind) in_it in
-    let (k, number) = number_from_declared st x (elim declared [ inl c ↦ inl (some_later st place _ c) | inr v ↦ inr (some_later st place _ v) ]) in
+old_number : (st : List Sentence) (e d : Sentence) (symbols more : List (List ℕ)) (index n : ℕ) (x : List ℕ) → AllMeant st → symbols ≡ symbols_of st → symbols ++ more ≡ symbols_of (st ++ e ∷ [])
+    → slice_get st index ≡ Some d → d.kind ≡ Distinct → Contains d.symbols x → slice_get (symbols ++ more) n ≡ Some x → slice_get symbols n ≡ Some x
+old_number st e d symbols more index n x meant all all' there kind in_it at =
+    let declared = used_declared (take index st) d x (meant_at st index d meant there) (inl kind) in_it in
+    let (k, number) = number_from_declared st x (elim declared [ inl c ↦ inl (some_later st index _ c) | inr v ↦ inr (some_later st index _ v) ]) in
     let old : slice_get symbols k ≡ Some x = subst (λ names. slice_get names k ≡ Some x) (sym all) number in
     let same : k ≡ n = symbols_unique (st ++ e ∷ []) k n x (symbols_grow st (e ∷ []) k x number) (subst (λ names. slice_get names n ≡ Some x) all' at) in
     subst (λ m. slice_get symbols m ≡ Some x) same old
@@ -256,13 +257,13 @@ pub stated_other : (st : List Sentence) (e : Sentence) (symbols more : List (Lis
     → AreStated (st ++ e ∷ []) (symbols ++ more) stated
 stated_other st e symbols more stated meant all all' are other =
     let kept = stated_kept st e symbols more stated
-    (λ d place n x there kind in_it at. old_number st e d symbols more place n x meant all all'
+    (λ d index n x there kind in_it at. old_number st e d symbols more index n x meant all all'
     there kind in_it at) are in
     record {
       only = kept.only;
-      each = λ place a b d x y there kind at_a at_b lt in_x in_y. elim
-          (pushed_cases st e place d there) [
-            | inl before ↦ kept.each place a b d x y before kind at_a at_b lt in_x in_y
+      each = λ index a b d x y there kind at_a at_b lt in_x in_y. elim
+          (pushed_cases st e index d there) [
+            | inl before ↦ kept.each index a b d x y before kind at_a at_b lt in_x in_y
             | inr (last, same) ↦ absurd (other (ap (λ (t : Sentence). t.kind) same ∙ kind))
           ];
       apart = kept.apart;

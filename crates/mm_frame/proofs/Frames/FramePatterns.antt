@@ -14,9 +14,9 @@ use Rattle.mm_frame.specs.declared.part.Part.{Part}
 use Rattle.mm_frame.specs.declared.tables.Tables.{Tables}
 use Rattle.mm_frame.specs.Sentence.{Sentence}
 use Rattle.mm_frame.specs.Numbers.{labelled_sentences, AreNumbers}
-use Rattle.mm_frame.specs.FramePlace.{IsTypingOf, HaveTypings}
+use Rattle.mm_frame.specs.FrameIndex.{IsTypingOf, HaveTypings}
 use Rattle.mm_frame.specs.Pieces.{variables_of, IsPieceOf, ArePieces, HasPattern}
-use Rattle.mm_frame.specs.Mirror.Gathered.{AreRisingPlaces}
+use Rattle.mm_frame.specs.Mirror.Gathered.{AreRisingIndices}
 use Rattle.mm_frame.specs.Mirror.Layout.{statements_of}
 use Rattle.mm_frame.specs.Mirror.Naming.{part_after}
 use Rattle.mm_frame.specs.Mirror.Patterned.{IsLonger, IsPatternAt, told, AreSameButPatterns}
@@ -26,7 +26,7 @@ use Rattle.mm_text.proofs.Lists.{same_length}
 use Rattle.mm_frame.proofs.Names.NameNumbers.{get_mapped, get_alike}
 use Rattle.mm_frame.proofs.Names.LabelNumbers.{numbered_at, numbered_get}
 use Rattle.mm_frame.proofs.BookLists.GrownLists.{all_statements, longer, added_part}
-use Rattle.mm_frame.proofs.Frames.MandatoryHypotheses.{place_named}
+use Rattle.mm_frame.proofs.Frames.MandatoryHypotheses.{index_named}
 use Rattle.mm_frame.proofs.Frames.VariableIndices.{pattern_longer}
 use Rattle.std.proofs.lemmas.Result.{IfOk-weaker}
 use Rattle.std.proofs.Math.Seq.{map-set_same}
@@ -46,35 +46,35 @@ typings_same st old new same have i h there =
     let (g, at, is) = get_alike told told new old i h same there in
     subst (λ (p : LabelId × Option (Sym × Sym)). (e : Sentence) × (slice_get (labelled_sentences st) p.0.0 ≡ Some e) × IsTypingOf st p.1 e) is (have i g at)
 
--- a rising list has at each place at least its place
-rising_least : (places : List ℕ) → AreRisingPlaces places → (i p : ℕ) → slice_get places i ≡ Some p → i ≤ p
-rising_least places rise zero p there = omega arith
-rising_least places rise (suc i) p there =
-    let lt = slice_get_within places (suc i) p there in
-    let (q, at) = get_within places i (omega arith) in
-    let least = rising_least places rise i q at in
+-- a rising list has at each index at least its index
+rising_least : (indices : List ℕ) → AreRisingIndices indices → (i p : ℕ) → slice_get indices i ≡ Some p → i ≤ p
+rising_least indices rise zero p there = omega arith
+rising_least indices rise (suc i) p there =
+    let lt = slice_get_within indices (suc i) p there in
+    let (q, at) = get_within indices i (omega arith) in
+    let least = rising_least indices rise i q at in
     let less = rise i (suc i) q p at there (omega arith) in
     omega arith
 
-rising_few : (places : List ℕ) (n : ℕ) → AreRisingPlaces places → ((i p : ℕ) → slice_get places i ≡ Some p → p < n) → length places ≤ n
+rising_few : (indices : List ℕ) (n : ℕ) → AreRisingIndices indices → ((i p : ℕ) → slice_get indices i ≡ Some p → p < n) → length indices ≤ n
 rising_few [] n rise within = omega arith
-rising_few (x ∷ places) n rise within =
-    let (p, at) = get_within (x ∷ places) (length places) (omega arith) in
-    let least = rising_least (x ∷ places) rise (length places) p at in
-    let less = within (length places) p at in
+rising_few (x ∷ indices) n rise within =
+    let (p, at) = get_within (x ∷ indices) (length indices) (omega arith) in
+    let least = rising_least (x ∷ indices) rise (length indices) p at in
+    let less = within (length indices) p at in
     omega arith
 
 pub same_counted : (old new : List Hypothesis) → AreSameButPatterns old new → length new ≡ length old
 same_counted old new same = sym (length-map new told) ∙ ap length same ∙ length-map old told
 
--- the label of the hypothesis at a place
-pub id_same : (st : List Sentence) (places : List ℕ) (hs : List Hypothesis) (i place : ℕ) (h : Hypothesis) → map (λ h. h.id.0) hs ≡ map (λ p. length (labelled_sentences (take p st))) places
-    → slice_get places i ≡ Some place → slice_get hs i ≡ Some h → length (labelled_sentences (take place st)) ≡ h.id.0
-id_same st places hs i place h numbers there at =
+-- the label of the hypothesis at an index
+pub id_same : (st : List Sentence) (indices : List ℕ) (hs : List Hypothesis) (i index : ℕ) (h : Hypothesis) → map (λ h. h.id.0) hs ≡ map (λ p. length (labelled_sentences (take p st))) indices
+    → slice_get indices i ≡ Some index → slice_get hs i ≡ Some h → length (labelled_sentences (take index st)) ≡ h.id.0
+id_same st indices hs i index h numbers there at =
     let one = get_mapped (λ (k : Hypothesis). k.id.0) hs i h at in
-    let two = get_mapped (λ p. length (labelled_sentences (take p st))) places i place there in
+    let two = get_mapped (λ p. length (labelled_sentences (take p st))) indices i index there in
     let three = subst (λ ns. slice_get ns i ≡ Some h.id.0) numbers one in
-    let joined : Some (length (labelled_sentences (take place st))) ≡ Some h.id.0 = sym two ∙ three in
+    let joined : Some (length (labelled_sentences (take index st))) ≡ Some h.id.0 = sym two ∙ three in
     cc
 
 -- one hypothesis more
@@ -136,41 +136,41 @@ typed_step st old hs new pieces i h have at typed set_is =
     rw set_is (rw (append-nil pieces) at
     (first_step _ _ _ _ [] _ h none have at (record { ordered = omega arith; within = omega arith; says = λ untyped. absurd cc })))
 
-module _ {t : Tables} {log : List Entry} {flat : List Sym} {places : List ℕ}
-    {old : List Hypothesis} (of : AreMandatoryOf t log flat places old) where
-  -- there is a hypothesis for each place
-  pub hypotheses_counted : length old ≡ length places
-  hypotheses_counted = same_length _ _ old places of.those.numbers
+module _ {t : Tables} {log : List Entry} {flat : List Sym} {indices : List ℕ}
+    {old : List Hypothesis} (of : AreMandatoryOf t log flat indices old) where
+  -- there is a hypothesis for each index
+  pub hypotheses_counted : length old ≡ length indices
+  hypotheses_counted = same_length _ _ old indices of.those.numbers
 
-  -- there are fewer hypotheses than numbers for places among them
+  -- there are fewer hypotheses than numbers for indices among them
   pub few_hypotheses : length old < 4294967296
   few_hypotheses =
       let all = hypotheses_counted in
-      let few = rising_few places (length (statements_of t)) of.are_places.rising of.are_places.within in
+      let few = rising_few indices (length (statements_of t)) of.are_indices.rising of.are_indices.within in
       let size = all_statements t in
       omega arith
 
-  -- there is a hypothesis at each place
-  pub counted : (hs : List Hypothesis) (i : ℕ) → AreSameButPatterns old hs → i < length places
+  -- there is a hypothesis at each index
+  pub counted : (hs : List Hypothesis) (i : ℕ) → AreSameButPatterns old hs → i < length indices
       → i < length hs
   counted hs i same lt =
       let all = hypotheses_counted in
       let size = same_counted old hs same in
       omega arith
 
-  -- a pattern of the statement at the place is that of the hypothesis
-  pub pattern_has : (numbers : List ℕ) (hs : List Hypothesis) (pieces : List Piece) (i place : ℕ)
+  -- a pattern of the statement at the index is that of the hypothesis
+  pub pattern_has : (numbers : List ℕ) (hs : List Hypothesis) (pieces : List Piece) (i index : ℕ)
       (h : Hypothesis) (part : Part)
-      → AreSameButPatterns old hs → slice_get places i ≡ Some place → slice_get hs i ≡ Some h
-      → ((e : Sentence) → slice_get (statements_of t) place ≡ Some e → AreNumbers (statements_of t) numbers e.symbols)
+      → AreSameButPatterns old hs → slice_get indices i ≡ Some index → slice_get hs i ≡ Some h
+      → ((e : Sentence) → slice_get (statements_of t) index ≡ Some e → AreNumbers (statements_of t) numbers e.symbols)
       → IsPatternAt (variables_of old) numbers pieces part
       → HasPattern (statements_of t) (variables_of old) pieces (record h { pattern = part })
-  pattern_has numbers hs pieces i place h part same there at says is =
+  pattern_has numbers hs pieces i index h part same there at says is =
       let st = statements_of t in
-      let (e, at_e) = get_within st place (of.are_places.within i place there) in
-      let n = length (labelled_sentences (take place st)) in
-      let id : n ≡ h.id.0 = id_same st places hs i place h (ids_same old hs same ∙ of.those.numbers) there at in
-      let numbered = numbered_get st n place e (numbered_at st place e at_e (place_named st of.assertion places i place e of.tables.sound.1 of.are_places there at_e)) in
+      let (e, at_e) = get_within st index (of.are_indices.within i index there) in
+      let n = length (labelled_sentences (take index st)) in
+      let id : n ≡ h.id.0 = id_same st indices hs i index h (ids_same old hs same ∙ of.those.numbers) there at in
+      let numbered = numbered_get st n index e (numbered_at st index e at_e (index_named st of.assertion indices i index e of.tables.sound.1 of.are_indices there at_e)) in
       record {
         ordered = is.ordered;
         within = is.within;
@@ -179,24 +179,24 @@ module _ {t : Tables} {log : List Entry} {flat : List Sym} {places : List ℕ}
 
   -- the pattern of a `$e` was added
   pub essential_step : (numbers : List ℕ) (hs new : List Hypothesis) (pieces pieces' : List Piece)
-      (i place : ℕ) (h : Hypothesis) (part : Part)
-      → HaveFirstPatterns (statements_of t) old hs pieces i → slice_get places i ≡ Some place
+      (i index : ℕ) (h : Hypothesis) (part : Part)
+      → HaveFirstPatterns (statements_of t) old hs pieces i → slice_get indices i ≡ Some index
       → slice_get hs i ≡ Some h
-      → ((e : Sentence) → slice_get (statements_of t) place ≡ Some e → AreNumbers (statements_of t) numbers e.symbols)
+      → ((e : Sentence) → slice_get (statements_of t) index ≡ Some e → AreNumbers (statements_of t) numbers e.symbols)
       → (length hs < 4294967296 → IsPatternAt (variables_of hs) numbers pieces' part)
       → IsLonger pieces pieces' → new ≡ set hs i (record h { pattern = part })
       → HaveFirstPatterns (statements_of t) old new pieces' (i + 1)
-  essential_step numbers hs new pieces pieces' i place h part have there at says is (c, more) set_is =
+  essential_step numbers hs new pieces pieces' i index h part have there at says is (c, more) set_is =
       let few = few_hypotheses in
       let size = same_counted old hs have.same in
       let pattern = rw (variables_same old hs have.same) at (is (omega arith)) in
-      let has = rw more at (pattern_has numbers hs pieces' i place h part have.same there at says pattern) in
+      let has = rw more at (pattern_has numbers hs pieces' i index h part have.same there at says pattern) in
       rw set_is (rw more (first_step _ _ _ _ c _ h part have at has))
 
   -- the patterns of the `$e` were added, and then that of the assertion
   pub all_step : {E : Type 0} (numbers : List ℕ) (hs shown : List Hypothesis)
       (pieces pieces' : List Piece)
-      → HaveFirstPatterns (statements_of t) old hs pieces (length places) → shown ≡ hs
+      → HaveFirstPatterns (statements_of t) old hs pieces (length indices) → shown ≡ hs
       → IsLonger pieces pieces' → (result : Result Part E)
       → (length shown < 4294967296 → IfOk result (IsPatternAt (variables_of shown) numbers pieces'))
       → IfOk result (ArePatterned (statements_of t) numbers old hs pieces')

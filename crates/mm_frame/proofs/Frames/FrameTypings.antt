@@ -22,12 +22,12 @@ use Rattle.mm_frame.proofs.DistinctPairs.AddedPairs.{ordered_less, ordered_more}
 use Rattle.mm_text.specs.declared.statement.Kind.TheVariants.{Floating}
 use Rattle.mm_frame.specs.declared.hypothesis.Hypothesis.{Hypothesis}
 use Rattle.mm_frame.specs.Form.{AllFormed, IsFormedSentence}
-use Rattle.mm_frame.specs.FramePlace.{IsTypingOf, HasTyping, HaveTypings}
-use Rattle.mm_frame.specs.Mirror.Gathered.{ArePlaces, AreThoseAt}
+use Rattle.mm_frame.specs.FrameIndex.{IsTypingOf, HasTyping, HaveTypings}
+use Rattle.mm_frame.specs.Mirror.Gathered.{AreIndices, AreThoseAt}
 use Rattle.mm_text.proofs.Lists.{get_within, contains_from_at, append_cases}
 use Rattle.mm_frame.proofs.Names.NameNumbers.{symbols_grow, each_pushed}
 use Rattle.mm_frame.proofs.Names.LabelNumbers.{labelled_grow, numbered_at, numbered_get}
-use Rattle.mm_frame.proofs.Frames.MandatoryHypotheses.{place_named}
+use Rattle.mm_frame.proofs.Frames.MandatoryHypotheses.{index_named}
 use Rattle.std.proofs.lemmas.Option.{slice_get-get_or}
 use Rattle.std.proofs.lemmas.List.{take_more, map-append}
 use Rattle.mm_frame.specs.declared.number.LabelId.{LabelId}
@@ -40,16 +40,16 @@ two_parts (a ∷ b ∷ []) size = (a, b, refl)
 two_parts symbols size = absurd (omega arith)
 
 -- a statement's kind is its entry's
-pub kind_at : (symbols labels : List (List ℕ)) (flat : List Sym) (log : List Entry) (place : ℕ) (e : Entry) (f : Sentence) → slice_get log place ≡ Some e → slice_get (sentences_by symbols labels flat log) place ≡ Some f → f.kind ≡ e.kind
-kind_at symbols labels flat log place e f there said =
-    let at = sentence_at symbols labels flat log place e there in
+pub kind_at : (symbols labels : List (List ℕ)) (flat : List Sym) (log : List Entry) (index : ℕ) (e : Entry) (f : Sentence) → slice_get log index ≡ Some e → slice_get (sentences_by symbols labels flat log) index ≡ Some f → f.kind ≡ e.kind
+kind_at symbols labels flat log index e f there said =
+    let at = sentence_at symbols labels flat log index e there in
     let same : sentence_by symbols labels flat e ≡ f = cc in
     ap (λ (s : Sentence). s.kind) (sym same)
 
 -- where there is a statement, there is an entry
-pub some_entry : (symbols labels : List (List ℕ)) (flat : List Sym) (log : List Entry) (place : ℕ) (f : Sentence) → slice_get (sentences_by symbols labels flat log) place ≡ Some f → slice_get log place ≡ None → ⊥
-some_entry symbols labels flat log place f said none =
-    let (e, at, says) = entry_at symbols labels flat log place f said in
+pub some_entry : (symbols labels : List (List ℕ)) (flat : List Sym) (log : List Entry) (index : ℕ) (f : Sentence) → slice_get (sentences_by symbols labels flat log) index ≡ Some f → slice_get log index ≡ None → ⊥
+some_entry symbols labels flat log index f said none =
+    let (e, at, says) = entry_at symbols labels flat log index f said in
     absurd (cc)
 
 -- ---- whether two numbers' symbols are distinct, by the pairs that `$d` state
@@ -128,61 +128,61 @@ typing_says st f ns formed kind are =
     let (a, b, is, first, second) = two_numbers st ns code x (subst (AreNumbers st (map (λ n. n.0) ns)) parts are) in
     (a, b, is, (code, x, (kind, parts), first, second))
 
--- a statement at the place of a mandatory hypothesis is a hypothesis
-pub place_hypothesis : (st : List Sentence) (s : Sentence) (places : List ℕ) (i p : ℕ) (h : Sentence) → ArePlaces st s places → slice_get places i ≡ Some p → slice_get st p ≡ Some h → IsHypothesis h.kind
-place_hypothesis st s places i p h are there at = elim ((are.exact p h at).1 (contains_from_at places p (i, there))).1 [
+-- a statement at the index of a mandatory hypothesis is a hypothesis
+pub index_hypothesis : (st : List Sentence) (s : Sentence) (indices : List ℕ) (i p : ℕ) (h : Sentence) → AreIndices st s indices → slice_get indices i ≡ Some p → slice_get st p ≡ Some h → IsHypothesis h.kind
+index_hypothesis st s indices i p h are there at = elim ((are.exact p h at).1 (contains_from_at indices p (i, there))).1 [
   | inl essential ↦ inr essential
   | inr (code, x, types, mandatory) ↦ inl types.0
 ]
 
--- what stands with the label of the statement at such a place
-pub typing_at : (st : List Sentence) (s : Sentence) (places : List ℕ) (i p : ℕ) (new : Hypothesis) → AllFormed st → ArePlaces st s places → slice_get places i ≡ Some p → new.id.0 ≡ length (labelled_sentences (take p st))
+-- what stands with the label of the statement at such an index
+pub typing_at : (st : List Sentence) (s : Sentence) (indices : List ℕ) (i p : ℕ) (new : Hypothesis) → AllFormed st → AreIndices st s indices → slice_get indices i ≡ Some p → new.id.0 ≡ length (labelled_sentences (take p st))
     → ((f : Sentence) → slice_get st p ≡ Some f → IsHypothesis f.kind → IsTypingOf st new.typing f) → HasTyping st new
-typing_at st s places i p new formed are there number says =
+typing_at st s indices i p new formed are there number says =
     let (h, at) = get_within st p (are.within i p there) in
-    let numbered = numbered_get st (length (labelled_sentences (take p st))) p h (numbered_at st p h at (place_named st s places i p h formed are there at)) in
-    (h, subst (λ n. slice_get (labelled_sentences st) n ≡ Some h) (sym number) numbered, says h at (place_hypothesis st s places i p h are there at))
+    let numbered = numbered_get st (length (labelled_sentences (take p st))) p h (numbered_at st p h at (index_named st s indices i p h formed are there at)) in
+    (h, subst (λ n. slice_get (labelled_sentences st) n ≡ Some h) (sym number) numbered, says h at (index_hypothesis st s indices i p h are there at))
 
 pub ruleset typing_steps = (kind_at, some_entry, typing_says)
 
--- ==== the mandatory hypotheses at their places, by the numbers of their labels
+-- ==== the mandatory hypotheses at their indices, by the numbers of their labels
 
 -- an entry that says a labelled statement has a label
 entry_labelled : (labels : List (List ℕ)) (label : Option LabelId) → is_some (label_by labels label) ≡ true → (id : LabelId) × (label ≡ Some id)
 entry_labelled labels None named = absurd (cc)
 entry_labelled labels (Some id) named = (id, refl)
 
-module _ (t : Tables) {s : Sentence} {places : List ℕ} (i : ℕ)
+module _ (t : Tables) {s : Sentence} {indices : List ℕ} (i : ℕ)
     (are : AreLabelInfos (statements_of t) t.labels.names t.named.items t.log.items)
-    (formed : AllFormed (statements_of t)) (are_places : ArePlaces (statements_of t) s places) where
-  -- the label's number at the place of a mandatory hypothesis
-  pub id_at : (p : ℕ) → slice_get places i ≡ Some p
+    (formed : AllFormed (statements_of t)) (are_indices : AreIndices (statements_of t) s indices) where
+  -- the label's number at the index of a mandatory hypothesis
+  pub id_at : (p : ℕ) → slice_get indices i ≡ Some p
       → (id : LabelId) × (option_and_then (λ e. e.label) (slice_get t.log.items p) ≡ Some id)
       × (id.0 ≡ length (labelled_sentences (take p (statements_of t))))
   id_at p there =
       let st = statements_of t in
-      let (h, at) = get_within st p (are_places.within i p there) in
+      let (h, at) = get_within st p (are_indices.within i p there) in
       let (e, at_e, says) = entry_at t.symbols.names t.labels.names t.flat.items t.log.items p h at in
-      let has : is_some h.label ≡ true = place_named st s places i p h formed are_places there at in
+      let has : is_some h.label ≡ true = index_named st s indices i p h formed are_indices there at in
       let (id, is) = entry_labelled t.labels.names e.label (ap (λ (u : Sentence). is_some u.label) says ∙ has) in
       (id, ap (option_and_then (λ e. e.label)) at_e ∙ is, sym (are.logged p e id at_e is))
 
-  -- one place more
-  pub those_step : (new : Hypothesis) (hs : List Hypothesis) → i < length places
-      → option_and_then (λ e. e.label) (slice_get t.log.items (get_or places i 0)) ≡ Some new.id
-      → ((f : Sentence) → slice_get (statements_of t) (get_or places i 0) ≡ Some f
+  -- one index more
+  pub those_step : (new : Hypothesis) (hs : List Hypothesis) → i < length indices
+      → option_and_then (λ e. e.label) (slice_get t.log.items (get_or indices i 0)) ≡ Some new.id
+      → ((f : Sentence) → slice_get (statements_of t) (get_or indices i 0) ≡ Some f
       → IsHypothesis f.kind → IsTypingOf (statements_of t) new.typing f)
-      → AreThoseAt (statements_of t) (take i places) hs
-      → AreThoseAt (statements_of t) (take (i + 1) places) (hs ++ new ∷ [])
+      → AreThoseAt (statements_of t) (take i indices) hs
+      → AreThoseAt (statements_of t) (take (i + 1) indices) (hs ++ new ∷ [])
   those_step new hs lt found says so_far =
       let st = statements_of t in
       let number : ℕ → ℕ = λ p. length (labelled_sentences (take p st)) in
-      let p = get_or places i 0 in
-      let there = slice_get-get_or places i 0 lt in
+      let p = get_or indices i 0 in
+      let there = slice_get-get_or indices i 0 lt in
       let (other, is, value) = id_at p there in
       let same : new.id.0 ≡ number p = let e : other ≡ new.id = cc in ap (λ (j : LabelId). j.0) (sym e) ∙ value in
       record {
-        numbers = map-append (λ (h : Hypothesis). h.id.0) hs (new ∷ []) ∙ ap (λ ns. ns ++ new.id.0 ∷ []) so_far.numbers ∙ ap (λ n. map number (take i places) ++ n ∷ []) same
-            ∙ sym (ap (map number) (take_more places i 0 lt) ∙ map-append number (take i places) (p ∷ []));
-        typed = each_pushed (HasTyping st) hs new so_far.typed (typing_at st s places i p new formed are_places there same says);
+        numbers = map-append (λ (h : Hypothesis). h.id.0) hs (new ∷ []) ∙ ap (λ ns. ns ++ new.id.0 ∷ []) so_far.numbers ∙ ap (λ n. map number (take i indices) ++ n ∷ []) same
+            ∙ sym (ap (map number) (take_more indices i 0 lt) ∙ map-append number (take i indices) (p ∷ []));
+        typed = each_pushed (HasTyping st) hs new so_far.typed (typing_at st s indices i p new formed are_indices there same says);
       }

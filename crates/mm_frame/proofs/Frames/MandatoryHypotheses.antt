@@ -19,7 +19,7 @@ use Rattle.mm_frame.specs.Numbers.{symbols_of, AreNumbers, labelled_sentences}
 use Rattle.mm_frame.specs.Mirror.Latest.{IsLatest}
 use Rattle.mm_frame.specs.Mirror.Layout.{AreInfos, AreEssentials, GivesType, IsLatestIn}
 use Rattle.mm_frame.specs.Mirror.Gathered.{floating_of, floatings, IsIn, StandsIn, AreGathered}
-use Rattle.mm_frame.specs.Mirror.Gathered.{AreRisingPlaces, IsGathered, ArePlaces}
+use Rattle.mm_frame.specs.Mirror.Gathered.{AreRisingIndices, IsGathered, AreIndices}
 use Rattle.mm_text.proofs.Lists.{get_kept, get_pushed, pushed_cases, get_within, get_after}
 use Rattle.mm_text.proofs.Lists.{at_from_contains, contains_from_at, append_cases, get_parted}
 use Rattle.mm_text.proofs.Lists.{one_there}
@@ -28,12 +28,12 @@ use Rattle.std.proofs.Math.Seq.{take-append_seam}
 use Rattle.mm_frame.specs.Rules.{IsMeant, AllMeant}
 use Rattle.mm_frame.specs.Form.{AllFormed, HasItsLabel}
 use Rattle.mm_frame.specs.Frame.{IsMandatoryAt}
-use Rattle.mm_frame.specs.FramePlace.{AreHypotheses}
+use Rattle.mm_frame.specs.FrameIndex.{AreHypotheses}
 use Rattle.mm_frame.proofs.Names.LabelNumbers.{numbered_get, numbered_at, labelled_grow}
-use Rattle.mm_frame.proofs.Frames.FrameLaws.{those_by_places, at_place}
-use Rattle.mm_frame.proofs.Rules.ObeyedRules.{mandatory_places, latest_is_variable}
+use Rattle.mm_frame.proofs.Frames.FrameLaws.{those_by_indices, at_index}
+use Rattle.mm_frame.proofs.Rules.ObeyedRules.{mandatory_indices, latest_is_variable}
 
--- ==== gathering the places of the mandatory hypotheses
+-- ==== gathering the indices of the mandatory hypotheses
 
 -- one symbol more, with a `$f` or without
 pub floatings_more : (infos : List SymbolInfo) (xs : List Sym) (i : ℕ) (d : Sym) (o : Option ℕ)
@@ -47,7 +47,7 @@ floatings_more infos xs i d o old now lt is so_far =
     ap (λ ys. ys ++ cons_option o []) so_far ∙ (rw append_assoc)
     ∙ ap (λ ys. old ++ ys) (sym (more ∙ ap (λ ys. floatings infos (take i xs) ++ ys) one))
 
--- what the places of latest `$f` are
+-- what the indices of latest `$f` are
 floatings_at : (infos : List SymbolInfo) (xs : List Sym) (i p : ℕ) → slice_get (floatings infos xs) i ≡ Some p → (j : ℕ) × (n : Sym) × (slice_get xs j ≡ Some n) × (floating_of infos n ≡ Some p)
 floatings_at infos [] i p there = absurd (cc)
 floatings_at infos (x ∷ xs) i p there = first (floating_of infos x) refl (λ k at. floatings_at infos xs k p at) i there
@@ -93,7 +93,7 @@ floating_latest : (P : Sentence → Type 0) (st : List Sentence) (o : Option ℕ
 floating_latest P st None p none latest = absurd (none (p, latest.statement, latest.there, latest.holds))
 floating_latest P st (Some q) p there latest = ap (λ n. Some n) (one_latest P st q p there latest)
 
--- The places are those of the latest `$f` of the symbols.
+-- The indices are those of the latest `$f` of the symbols.
 pub floatings_tell : (st : List Sentence) (names : List (List ℕ)) (infos : List SymbolInfo) (ns : List Sym) (symbols : List (List ℕ)) (p : ℕ) → AreInfos st names infos → AreNumbers st (map (λ n. n.0) ns) symbols
     → IsIn (floatings infos ns) p ↔ ((x : List ℕ) × Contains symbols x × IsLatest (GivesType x) st p)
 floatings_tell st names infos ns symbols p are numbers = (
@@ -132,11 +132,11 @@ in_right : (xs ys : List ℕ) (p : ℕ) → IsIn ys p → IsIn (xs ++ ys) p
 in_right xs ys p (i, there) = (length xs + i, get_after xs ys i p there)
 
 module _ {st : List Sentence} {names : List (List ℕ)} {infos : List SymbolInfo} (s : Sentence)
-    (ns : List Sym) (places : List ℕ) (are : AreInfos st names infos) where
+    (ns : List Sym) (indices : List ℕ) (are : AreInfos st names infos) where
   -- one `$e` more
   pub gathered_more : (es : List ℕ) (q : ℕ) (h : Sentence) → slice_get st q ≡ Some h
-      → AreNumbers st (map (λ n. n.0) ns) h.symbols → AreGathered st es s places
-      → AreGathered st (es ++ q ∷ []) s ((places ++ q ∷ []) ++ floatings infos ns)
+      → AreNumbers st (map (λ n. n.0) ns) h.symbols → AreGathered st es s indices
+      → AreGathered st (es ++ q ∷ []) s ((indices ++ q ∷ []) ++ floatings infos ns)
   gathered_more es q h at_q numbers gathered =
       let widen : (x : List ℕ) → StandsIn st es s x → StandsIn st (es ++ q ∷ []) s x = λ x stands. elim stands [
         | inl in_it ↦ inl in_it
@@ -144,8 +144,8 @@ module _ {st : List Sentence} {names : List (List ℕ)} {infos : List SymbolInfo
       ] in
       let tell = λ (p : ℕ). floatings_tell st names infos ns h.symbols p are numbers in
       record {
-        only = λ i p there. elim (append_cases (places ++ q ∷ []) (floatings infos ns) i p there) [
-          | inl front ↦ elim (pushed_cases places q i p front) [
+        only = λ i p there. elim (append_cases (indices ++ q ∷ []) (floatings infos ns) i p there) [
+          | inl prefix ↦ elim (pushed_cases indices q i p prefix) [
             | inl before ↦ elim (gathered.only i p before) [
               | inl at ↦ inl (in_left es (q ∷ []) p at)
               | inr (x, stands, latest) ↦ inr (x, widen x stands, latest)
@@ -157,16 +157,16 @@ module _ {st : List Sentence} {names : List (List ℕ)} {infos : List SymbolInfo
         ];
         each = λ p is. elim is [
           | inl (i, at) ↦ elim (pushed_cases es q i p at) [
-            | inl before ↦ in_left (places ++ q ∷ []) (floatings infos ns) p (in_left places (q ∷ []) p (gathered.each p (inl (i, before))))
-            | inr (last, same) ↦ in_left (places ++ q ∷ []) (floatings infos ns) p (subst (IsIn (places ++ q ∷ [])) same (length places, get_pushed places q))
+            | inl before ↦ in_left (indices ++ q ∷ []) (floatings infos ns) p (in_left indices (q ∷ []) p (gathered.each p (inl (i, before))))
+            | inr (last, same) ↦ in_left (indices ++ q ∷ []) (floatings infos ns) p (subst (IsIn (indices ++ q ∷ [])) same (length indices, get_pushed indices q))
           ]
           | inr (x, stands, latest) ↦ elim stands [
-            | inl in_it ↦ in_left (places ++ q ∷ []) (floatings infos ns) p (in_left places (q ∷ []) p (gathered.each p (inr (x, inl in_it, latest))))
+            | inl in_it ↦ in_left (indices ++ q ∷ []) (floatings infos ns) p (in_left indices (q ∷ []) p (gathered.each p (inr (x, inl in_it, latest))))
             | inr (k, e, (i, at), there, in_e) ↦ elim (pushed_cases es q i k at) [
-              | inl before ↦ in_left (places ++ q ∷ []) (floatings infos ns) p (in_left places (q ∷ []) p (gathered.each p (inr (x, inr (k, e, (i, before), there, in_e), latest))))
+              | inl before ↦ in_left (indices ++ q ∷ []) (floatings infos ns) p (in_left indices (q ∷ []) p (gathered.each p (inr (x, inr (k, e, (i, before), there, in_e), latest))))
               | inr (last, same) ↦
                   let e_is : e ≡ h = let there_q = subst (λ m. slice_get st m ≡ Some e) (sym same) there in cc in
-                  in_right (places ++ q ∷ []) (floatings infos ns) p ((tell p).1 (x, subst (λ (t : Sentence). Contains t.symbols x) e_is in_e, latest))
+                  in_right (indices ++ q ∷ []) (floatings infos ns) p ((tell p).1 (x, subst (λ (t : Sentence). Contains t.symbols x) e_is in_e, latest))
             ]
           ]
         ];
@@ -175,21 +175,21 @@ module _ {st : List Sentence} {names : List (List ℕ)} {infos : List SymbolInfo
   pub gathered_step : (es xs : List ℕ) (i : ℕ) (pushed now : List ℕ) → AreEssentials st es → xs ≡ es
       → i < length xs
       → ((h : Sentence) → slice_get st (get_or xs i 0) ≡ Some h → AreNumbers st (map (λ n. n.0) ns) h.symbols)
-      → pushed ≡ places ++ get_or xs i 0 ∷ [] → now ≡ pushed ++ floatings infos ns
-      → AreGathered st (take i es) s places → AreGathered st (take (i + 1) es) s now
+      → pushed ≡ indices ++ get_or xs i 0 ∷ [] → now ≡ pushed ++ floatings infos ns
+      → AreGathered st (take i es) s indices → AreGathered st (take (i + 1) es) s now
   gathered_step es xs i pushed now essentials same lt says push add gathered =
       let q = get_or xs i 0 in
       let at : slice_get es i ≡ Some q = subst (λ ys. slice_get ys i ≡ Some q) same (slice_get-get_or xs i 0 lt) in
       let (h, there, kind, active) = essentials.only i q at in
-      let front : take (i + 1) es ≡ take i es ++ q ∷ [] = subst (λ ys. take (i + 1) ys ≡ take i ys ++ q ∷ []) same (take_more xs i 0 lt) in
+      let prefix : take (i + 1) es ≡ take i es ++ q ∷ [] = subst (λ ys. take (i + 1) ys ≡ take i ys ++ q ∷ []) same (take_more xs i 0 lt) in
       let more = gathered_more (take i es) q h there (says h there) gathered in
-      let result : (places ++ q ∷ []) ++ floatings infos ns ≡ now = sym (add ∙ ap (λ ys. ys ++ floatings infos ns) push) in
-      subst (λ ys. AreGathered st ys s now) (sym front) (subst (λ ys. AreGathered st (take i es ++ q ∷ []) s ys) result more)
+      let result : (indices ++ q ∷ []) ++ floatings infos ns ≡ now = sym (add ∙ ap (λ ys. ys ++ floatings infos ns) push) in
+      subst (λ ys. AreGathered st ys s now) (sym prefix) (subst (λ ys. AreGathered st (take i es ++ q ∷ []) s ys) result more)
 
 -- ---- in order, each once
 
 -- a list that rises from each element to the next rises
-increasing_rises : (xs : List ℕ) → IsStrictlyIncreasing xs → AreRisingPlaces xs
+increasing_rises : (xs : List ℕ) → IsStrictlyIncreasing xs → AreRisingIndices xs
 increasing_rises xs increasing i j p q at_i at_j lt =
     let within_j = slice_get_within xs j q at_j in
     let pairs = AllPairs-from_increasing xs increasing in
@@ -199,18 +199,18 @@ increasing_rises xs increasing i j p q at_i at_j lt =
     omega arith
 
 -- what is left after sorting and leaving out repetitions
-pub gathered_sorted : (st : List Sentence) (es : List ℕ) (s : Sentence) (places sorted once : List ℕ) → AreGathered st es s places → IsPermutation places sorted → IsSorted nat_cmp sorted → once ≡ dedup eqb sorted
-    → AreRisingPlaces once × AreGathered st es s once
-gathered_sorted st es s places sorted once gathered permutation in_order same =
-    let rising : AreRisingPlaces once = subst AreRisingPlaces (sym same) (increasing_rises (dedup eqb sorted) (IsStrictlyIncreasing-dedup sorted in_order)) in (
+pub gathered_sorted : (st : List Sentence) (es : List ℕ) (s : Sentence) (indices sorted once : List ℕ) → AreGathered st es s indices → IsPermutation indices sorted → IsSorted nat_cmp sorted → once ≡ dedup eqb sorted
+    → AreRisingIndices once × AreGathered st es s once
+gathered_sorted st es s indices sorted once gathered permutation in_order same =
+    let rising : AreRisingIndices once = subst AreRisingIndices (sym same) (increasing_rises (dedup eqb sorted) (IsStrictlyIncreasing-dedup sorted in_order)) in (
       rising,
       record {
         only = λ i p there.
             let kept : Contains (dedup eqb sorted) p = subst (λ xs. Contains xs p) same (contains_from_at once p (i, there)) in
-            let (j, at) = at_from_contains places p (Contains-permutation sorted places p (IsPermutation-sym places sorted permutation) (Contains-from_dedup eqb sorted p kept)) in
+            let (j, at) = at_from_contains indices p (Contains-permutation sorted indices p (IsPermutation-sym indices sorted permutation) (Contains-from_dedup eqb sorted p kept)) in
             gathered.only j p at;
         each = λ p is.
-            let moved = Contains-permutation places sorted p permutation (contains_from_at places p (gathered.each p is)) in
+            let moved = Contains-permutation indices sorted p permutation (contains_from_at indices p (gathered.each p is)) in
             at_from_contains once p (subst (λ xs. Contains xs p) (sym same) (Contains-dedup_nat sorted p moved));
       },
     )
@@ -221,8 +221,8 @@ gathered_sorted st es s places sorted once gathered permutation in_order same =
 pub mandatory_gathered : (st : List Sentence) (essentials : List ℕ) (s : Sentence) (p : ℕ) (h : Sentence) → AllMeant st → IsMeant st s → IsStated s.kind → AreEssentials st essentials → slice_get st p ≡ Some h
     → IsMandatoryAt st s p h ↔ IsGathered st essentials s p
 mandatory_gathered st essentials s p h meant last stated are there =
-    let places = mandatory_places st s p h meant last stated there in (
-      (λ mandatory. elim (places.0 mandatory) [
+    let indices = mandatory_indices st s p h meant last stated there in (
+      (λ mandatory. elim (indices.0 mandatory) [
         | inl (essential, active) ↦ inl (are.each p h there essential active)
         | inr (x, (variable, stands), latest) ↦ inr (
           x,
@@ -236,8 +236,8 @@ mandatory_gathered st essentials s p h meant last stated are there =
       (λ gathered. elim gathered [
         | inl (i, at) ↦
             let (e, at_p, kind, active) = are.only i p at in
-            places.1 (inl (ap (λ (t : Sentence). t.kind) (one_there st p h e there at_p) ∙ kind, active))
-        | inr (x, stands, latest) ↦ places.1 (inr (
+            indices.1 (inl (ap (λ (t : Sentence). t.kind) (one_there st p h e there at_p) ∙ kind, active))
+        | inr (x, stands, latest) ↦ indices.1 (inr (
           x,
           (
             latest_is_variable st x p meant latest,
@@ -254,24 +254,24 @@ mandatory_gathered st essentials s p h meant last stated are there =
       ]),
     )
 
--- the numbers of the labels of the statements at places
+-- the numbers of the labels of the statements at indices
 abbrev pub numbers_at : List Sentence → List ℕ → List ℕ
-numbers_at st places = map (λ p. length (labelled_sentences (take p st))) places
+numbers_at st indices = map (λ p. length (labelled_sentences (take p st))) indices
 
-numbered_all : (st more : List Sentence) (places : List ℕ) (hs : List Sentence) → map (slice_get st) places ≡ map (λ h. Some h) hs → ((i p : ℕ) (h : Sentence) → slice_get places i ≡ Some p → slice_get st p ≡ Some h → is_some h.label ≡ true)
-    → map (slice_get (labelled_sentences (st ++ more))) (numbers_at st places) ≡ map (λ h. Some h) hs
+numbered_all : (st more : List Sentence) (indices : List ℕ) (hs : List Sentence) → map (slice_get st) indices ≡ map (λ h. Some h) hs → ((i p : ℕ) (h : Sentence) → slice_get indices i ≡ Some p → slice_get st p ≡ Some h → is_some h.label ≡ true)
+    → map (slice_get (labelled_sentences (st ++ more))) (numbers_at st indices) ≡ map (λ h. Some h) hs
 numbered_all st more [] hs are named = are
-numbered_all st more (p ∷ places) [] are named = absurd (cc)
-numbered_all st more (p ∷ places) (h ∷ hs) are named =
+numbered_all st more (p ∷ indices) [] are named = absurd (cc)
+numbered_all st more (p ∷ indices) (h ∷ hs) are named =
     let here : slice_get st p ≡ Some h = cc in
-    let rest : map (slice_get st) places ≡ map (λ h. Some h) hs = cc in
+    let rest : map (slice_get st) indices ≡ map (λ h. Some h) hs = cc in
     let first = labelled_grow st more (length (labelled_sentences (take p st))) h (numbered_get st (length (labelled_sentences (take p st))) p h (numbered_at st p h here (named 0 p h refl here))) in
-    let others = numbered_all st more places hs rest (λ i q g at there. named (suc i) q g at there) in
+    let others = numbered_all st more indices hs rest (λ i q g at there. named (suc i) q g at there) in
     cc
 
--- Rising places, exactly those that are gathered, are those of the mandatory hypotheses.
-pub places_gathered : (st : List Sentence) (essentials places : List ℕ) (s : Sentence) → AllMeant st → IsMeant st s → IsStated s.kind → AreEssentials st essentials → AreRisingPlaces places → AreGathered st essentials s places → ArePlaces st s places
-places_gathered st essentials places s meant last stated are rise gathered = record {
+-- Rising indices, exactly those that are gathered, are those of the mandatory hypotheses.
+pub indices_gathered : (st : List Sentence) (essentials indices : List ℕ) (s : Sentence) → AllMeant st → IsMeant st s → IsStated s.kind → AreEssentials st essentials → AreRisingIndices indices → AreGathered st essentials s indices → AreIndices st s indices
+indices_gathered st essentials indices s meant last stated are rise gathered = record {
   rising = rise;
   within = λ i p there. elim (gathered.only i p there) [
     | inl (k, at) ↦ let (e, at_p, kind, active) = are.only k p at in slice_get_within st p e at_p
@@ -279,28 +279,29 @@ places_gathered st essentials places s meant last stated are rise gathered = rec
   ];
   exact = λ p h there.
       let same = mandatory_gathered st essentials s p h meant last stated are there in (
-        (λ mandatory. contains_from_at places p (gathered.each p (same.0 mandatory))),
-        (λ in_it. let (i, at) = at_from_contains places p in_it in same.1 (gathered.only i p at)),
+        (λ mandatory. contains_from_at indices p (gathered.each p (same.0 mandatory))),
+        (λ in_it. let (i, at) = at_from_contains indices p in_it in same.1 (gathered.only i p at)),
       );
 }
 
 -- a mandatory hypothesis has a label
-pub place_named : (st : List Sentence) (s : Sentence) (places : List ℕ) (i p : ℕ) (h : Sentence) → AllFormed st → ArePlaces st s places → slice_get places i ≡ Some p → slice_get st p ≡ Some h → is_some h.label ≡ true
-place_named st s places i p h formed are there at =
+pub index_named : (st : List Sentence) (s : Sentence) (indices : List ℕ) (i p : ℕ) (h : Sentence) → AllFormed st → AreIndices st s indices → slice_get indices i ≡ Some p → slice_get st p ≡ Some h → is_some h.label ≡ true
+index_named st s indices i p h formed are there at =
     let named = (formed p h at).label in
-    elim ((are.exact p h at).1 (contains_from_at places p (i, there))).1 [
+    elim ((are.exact p h at).1 (contains_from_at indices p (i, there))).1 [
       | inl essential ↦ let (l, is, label) = subst (λ k. HasItsLabel k h.label) essential named in ap is_some is
       | inr (code, x, types, mandatory) ↦ let (l, is, label) = subst (λ k. HasItsLabel k h.label) types.0 named in ap is_some is
     ]
 
--- The labels' numbers at these places are those of the mandatory hypotheses, once the assertion is added.
-pub hypotheses_from_places : (st : List Sentence) (places : List ℕ) (s : Sentence) (more : List Sentence) → AllFormed st → ArePlaces st s places → AreHypotheses (at_place (st ++ s ∷ more) (length st)) (numbers_at st places)
-hypotheses_from_places st places s more formed are =
-    let (hs, those, values) = those_by_places (IsMandatoryAt st s) st places are.rising are.within are.exact in
+-- The labels' numbers at these indices are those of the mandatory hypotheses, once the assertion is
+-- added.
+pub hypotheses_from_indices : (st : List Sentence) (indices : List ℕ) (s : Sentence) (more : List Sentence) → AllFormed st → AreIndices st s indices → AreHypotheses (at_index (st ++ s ∷ more) (length st)) (numbers_at st indices)
+hypotheses_from_indices st indices s more formed are =
+    let (hs, those, values) = those_by_indices (IsMandatoryAt st s) st indices are.rising are.within are.exact in
     record {
       assertion = s;
       there = get_parted st more s;
       hypotheses = hs;
       mandatory = rw (take-append_seam st (s ∷ more)) those;
-      numbered = numbered_all st (s ∷ more) places hs values (λ i p h there at. place_named _ _ _ i p h formed are there at);
+      numbered = numbered_all st (s ∷ more) indices hs values (λ i p h there at. index_named _ _ _ i p h formed are there at);
     }

@@ -22,12 +22,12 @@ use Rattle.mm_frame.proofs.BookLists.GrownLists.{slice_left, longer}
 use Rattle.mm_frame.proofs.Names.LabelNumbers.{labelled_grow}
 use Rattle.mm_frame.proofs.Names.NameNumbers.{symbols_grow}
 
--- ==== places of variables' `$f` among hypotheses, noted by the variables' numbers
+-- ==== indices of variables' `$f` among hypotheses, noted by the variables' numbers
 
 -- ---- the first place
 
 -- where the symbol's `$f` is, or before it, is the first place
-first_before : (n k : ℕ) (variables : List (Option ℕ)) → is_of n (get_or variables k None) ≡ true → (place : ℕ) × IsFirstAt n variables place
+first_before : (n k : ℕ) (variables : List (Option ℕ)) → is_of n (get_or variables k None) ≡ true → (index : ℕ) × IsFirstAt n variables index
 first_before n k variables is = elim (cases_lt k (length variables)) [
   | inl inside ↦ elim (cases_lt (position_or_len (is_of n) variables) (length variables)) [
     | inl within ↦ (
@@ -45,15 +45,15 @@ first_before n k variables is = elim (cases_lt k (length variables)) [
       absurd (false≢true (sym (ap (is_of n) (get_or_past variables k None outside)) ∙ is))
 ]
 
--- what stands at the noted place is the `$f`: so this is the first one
-pub noted_at : (places : List ℕ) (variables : List (Option ℕ)) (n place : ℕ) → slice_get places n ≡ Some place → is_of n (get_or variables place None) ≡ true → AreNoted places variables → IsFirstAt n variables place
-noted_at places variables n place there is noted =
-    let (q, first) = first_before n place variables is in
-    subst (IsFirstAt n variables) (same_Some q place (sym (noted n q first) ∙ there)) first
+-- what stands at the noted index is the `$f`: so this is the first one
+pub noted_at : (indices : List ℕ) (variables : List (Option ℕ)) (n index : ℕ) → slice_get indices n ≡ Some index → is_of n (get_or variables index None) ≡ true → AreNoted indices variables → IsFirstAt n variables index
+noted_at indices variables n index there is noted =
+    let (q, first) = first_before n index variables is in
+    subst (IsFirstAt n variables) (same_Some q index (sym (noted n q first) ∙ there)) first
 
 -- what stands there is another: so there is none
-pub noted_nowhere : (places : List ℕ) (variables : List (Option ℕ)) (n : ℕ) → ((place : ℕ) → slice_get places n ≡ Some place → is_of n (get_or variables place None) ≡ false) → AreNoted places variables → IsNowhere n variables
-noted_nowhere places variables n other noted k = by (is_of n (get_or variables k None)) refl
+pub noted_nowhere : (indices : List ℕ) (variables : List (Option ℕ)) (n : ℕ) → ((index : ℕ) → slice_get indices n ≡ Some index → is_of n (get_or variables index None) ≡ false) → AreNoted indices variables → IsNowhere n variables
+noted_nowhere indices variables n other noted k = by (is_of n (get_or variables k None)) refl
   where
     by : (b : Bool) → is_of n (get_or variables k None) ≡ b → is_of n (get_or variables k None) ≡ false
     by false none = none
@@ -63,56 +63,56 @@ noted_nowhere places variables n other noted k = by (is_of n (get_or variables k
 
 -- ---- one variable more
 
--- an element stays where another place was written
+-- an element stays where another index was written
 get_set_other : {X : Type 0} (xs : List X) (i j : ℕ) (x : X) → ¬ (j ≡ i) → slice_get (set xs i x) j ≡ slice_get xs j
 get_set_other (y ∷ xs) zero zero x apart = absurd (apart refl)
 get_set_other (y ∷ xs) (suc i) (suc j) x apart = get_set_other xs i j x (λ same. apart (ap suc same))
 get_set_other xs i j x apart = refl
 
 pub noted_longer : (old new : List ℕ) (variables : List (Option ℕ)) → IsLonger old new → AreNoted old variables → AreNoted new variables
-noted_longer old new variables (more, is) noted n place first =
-    subst (λ ps. slice_get ps n ≡ Some place) (sym is) (get_kept old more n place (noted n place first))
+noted_longer old new variables (more, is) noted n index first =
+    subst (λ ps. slice_get ps n ≡ Some index) (sym is) (get_kept old more n index (noted n index first))
 
 -- the first place is among those before, or is that of the one more
-first_pushed : (n place : ℕ) (variables : List (Option ℕ)) (v : Option ℕ) → IsFirstAt n (variables ++ v ∷ []) place → IsFirstAt n variables place ⊎ ((place ≡ length variables) × (is_of n v ≡ true))
-first_pushed n place variables v first = elim (cases_lt place (length variables)) [
+first_pushed : (n index : ℕ) (variables : List (Option ℕ)) (v : Option ℕ) → IsFirstAt n (variables ++ v ∷ []) index → IsFirstAt n variables index ⊎ ((index ≡ length variables) × (is_of n v ≡ true))
+first_pushed n index variables v first = elim (cases_lt index (length variables)) [
   | inl before ↦
       let kept : (k : ℕ) → k < length variables → get_or (variables ++ v ∷ []) k None ≡ get_or variables k None = λ k lt. get_or_append_left variables (v ∷ []) None k lt in
       inl (record {
         within = before;
-        is = ap (is_of n) (sym (kept place before)) ∙ first.is;
+        is = ap (is_of n) (sym (kept index before)) ∙ first.is;
         first = λ k lt. ap (is_of n) (sym (kept k (omega arith))) ∙ first.first k lt;
       })
   | inr from ↦
-      let last : place ≡ length variables = omega (arith, length-append variables (v ∷ [])) in
-      inr (last, ap (is_of n) (sym (get_or_push variables v None place (sym last))) ∙ first.is)
+      let last : index ≡ length variables = omega (arith, length-append variables (v ∷ [])) in
+      inr (last, ap (is_of n) (sym (get_or_push variables v None index (sym last))) ∙ first.is)
 ]
 
-pub noted_untyped : (places : List ℕ) (variables : List (Option ℕ)) → AreNoted places variables → AreNoted places (variables ++ None ∷ [])
-noted_untyped places variables noted n place first = elim (first_pushed n place variables None first) [
-  | inl before ↦ noted n place before
+pub noted_untyped : (indices : List ℕ) (variables : List (Option ℕ)) → AreNoted indices variables → AreNoted indices (variables ++ None ∷ [])
+noted_untyped indices variables noted n index first = elim (first_pushed n index variables None first) [
+  | inl before ↦ noted n index before
   | inr (last, is) ↦ absurd (false≢true is)
 ]
 
 -- by what is told of the symbol among those before: it is none of them, and is noted
-pub noted_by_none : (places : List ℕ) (variables : List (Option ℕ)) (m : ℕ) (told : Option ℕ) → is_some told ≡ false → MatchOption told (IsNowhere m variables) (IsFirstAt m variables) → m < length places → AreNoted places variables
-    → AreNoted (set places m (length variables)) (variables ++ Some m ∷ [])
-noted_by_none places variables m (Some q) is known lt noted n place first = absurd (cc)
-noted_by_none places variables m None is nowhere lt noted n place first = elim (first_pushed n place variables (Some m) first) [
+pub noted_by_none : (indices : List ℕ) (variables : List (Option ℕ)) (m : ℕ) (told : Option ℕ) → is_some told ≡ false → MatchOption told (IsNowhere m variables) (IsFirstAt m variables) → m < length indices → AreNoted indices variables
+    → AreNoted (set indices m (length variables)) (variables ++ Some m ∷ [])
+noted_by_none indices variables m (Some q) is known lt noted n index first = absurd (cc)
+noted_by_none indices variables m None is nowhere lt noted n index first = elim (first_pushed n index variables (Some m) first) [
   | inl before ↦
-      let apart : ¬ (n ≡ m) = λ same. false≢true (sym (nowhere place) ∙ ap (λ (k : ℕ). is_of k (get_or variables place None)) (sym same) ∙ before.is) in
-      get_set_other places m n (length variables) apart ∙ noted n place before
+      let apart : ¬ (n ≡ m) = λ same. false≢true (sym (nowhere index) ∙ ap (λ (k : ℕ). is_of k (get_or variables index None)) (sym same) ∙ before.is) in
+      get_set_other indices m n (length variables) apart ∙ noted n index before
   | inr (last, is) ↦
       let same : m ≡ n = (Decides-eqb m n).0 is in
-      subst (λ k. slice_get (set places m (length variables)) k ≡ Some place) same (get_set_same places m (length variables) lt ∙ ap Some (sym last))
+      subst (λ k. slice_get (set indices m (length variables)) k ≡ Some index) same (get_set_same indices m (length variables) lt ∙ ap Some (sym last))
 ]
 
 -- it is one of those before already
-pub noted_by_some : (places : List ℕ) (variables : List (Option ℕ)) (m : ℕ) (told : Option ℕ) → is_some told ≡ true → MatchOption told (IsNowhere m variables) (IsFirstAt m variables) → AreNoted places variables
-    → AreNoted places (variables ++ Some m ∷ [])
-noted_by_some places variables m None is nowhere noted n place first = absurd (cc)
-noted_by_some places variables m (Some q) is known noted n place first = elim (first_pushed n place variables (Some m) first) [
-  | inl before ↦ noted n place before
+pub noted_by_some : (indices : List ℕ) (variables : List (Option ℕ)) (m : ℕ) (told : Option ℕ) → is_some told ≡ true → MatchOption told (IsNowhere m variables) (IsFirstAt m variables) → AreNoted indices variables
+    → AreNoted indices (variables ++ Some m ∷ [])
+noted_by_some indices variables m None is nowhere noted n index first = absurd (cc)
+noted_by_some indices variables m (Some q) is known noted n index first = elim (first_pushed n index variables (Some m) first) [
+  | inl before ↦ noted n index before
   | inr (last, is) ↦
       let same : m ≡ n = (Decides-eqb m n).0 is in
       let none = first.first q (let lt = known.within in omega arith) in
@@ -120,18 +120,18 @@ noted_by_some places variables m (Some q) is known noted n place first = elim (f
 ]
 
 -- the variables of one hypothesis more
-pub noted_more : (places : List ℕ) (hs : List Hypothesis) (i : ℕ) (d : Hypothesis) (typing : Option (Sym × Sym)) → i < length hs → (get_or hs i d).typing ≡ typing
-    → AreNoted places (variables_of (take i hs) ++ option_map (λ typing. typing.1.0) typing ∷ []) → AreNoted places (variables_of (take (i + 1) hs))
-noted_more places hs i d typing lt is noted =
+pub noted_more : (indices : List ℕ) (hs : List Hypothesis) (i : ℕ) (d : Hypothesis) (typing : Option (Sym × Sym)) → i < length hs → (get_or hs i d).typing ≡ typing
+    → AreNoted indices (variables_of (take i hs) ++ option_map (λ typing. typing.1.0) typing ∷ []) → AreNoted indices (variables_of (take (i + 1) hs))
+noted_more indices hs i d typing lt is noted =
     let variable : Option (Sym × Sym) → Option ℕ = option_map (λ typing. typing.1.0) in
     let pushed : variables_of (take (i + 1) hs) ≡ variables_of (take i hs) ++ variable (get_or hs i d).typing ∷ [] = map_more (λ (h : Hypothesis). variable h.typing) hs i d lt in
-    subst (AreNoted places) (sym (pushed ∙ ap (λ t. variables_of (take i hs) ++ variable t ∷ []) is)) noted
+    subst (AreNoted indices) (sym (pushed ∙ ap (λ t. variables_of (take i hs) ++ variable t ∷ []) is)) noted
 
 pub ruleset noting_steps = (take_all, noted_untyped, noted_more)
 
--- ==== places of variables among hypotheses, and patterns by them
+-- ==== indices of variables among hypotheses, and patterns by them
 
--- the variable of the hypothesis at a place
+-- the variable of the hypothesis at an index
 pub variable_at : (hs : List Hypothesis) (k : ℕ) (d : Hypothesis) → k < length hs → slice_index_or (variables_of hs) k None ≡ option_map (λ typing. typing.1.0) (get_or hs k d).typing
 variable_at hs k d lt =
     get_or-map (λ (h : Hypothesis). option_map (λ typing. typing.1.0) h.typing) hs k d None lt

@@ -16,7 +16,7 @@ use Rattle.mm_frame.specs.Laws.{OneNumber, OneLabelNumber}
 use Rattle.mm_frame.proofs.Names.NameNumbers.{symbols_unique, symbols_grow, number_from_declared}
 use Rattle.mm_frame.proofs.Names.NameNumbers.{declared_from_number}
 
--- ==== numbers of labelled statements: their places among the labelled ones, which stay as
+-- ==== numbers of labelled statements: their indices among the labelled ones, which stay as
 -- statements are added
 
 pub labelled_append : (st more : List Sentence) → labelled_sentences (st ++ more) ≡ labelled_sentences st ++ labelled_sentences more
@@ -70,24 +70,24 @@ numbered_last st e named = record {
 -- a number is smaller than that of a labelled statement further on
 pub numbered_rise : (st : List Sentence) (i j p q : ℕ) (s t : Sentence) → IsNumbered st i p s → IsNumbered st j q t → p < q → i < j
 numbered_rise st i j p q s t first second lt =
-    let front : IsNumbered (take q st) i p s = record {
+    let prefix : IsNumbered (take q st) i p s = record {
       there = get_in_front st q p s lt first.there;
       named = first.named;
       number = rw (take-take p q st (omega arith)) first.number;
     } in
-    let h = numbered_within (take q st) i p s front in
+    let h = numbered_within (take q st) i p s prefix in
     omega arith
 
 -- a number is that of one statement
 pub numbered_unique : (st : List Sentence) (id p q : ℕ) (s t : Sentence) → IsNumbered st id p s → IsNumbered st id q t → (p ≡ q) × (s ≡ t)
 numbered_unique st id p q s t first second =
     let other = numbered_get st id q t second in
-    let place : p ≡ q = elim (cases_order p q) [
+    let index : p ≡ q = elim (cases_order p q) [
       | inl same ↦ same
       | inr (inl lt) ↦ absurd (let h = numbered_rise st id id p q s t first second lt in omega arith)
       | inr (inr gt) ↦ absurd (let h = numbered_rise st id id q p t s second first gt in omega arith)
     ] in
-    (place, cc)
+    (index, cc)
 
 -- each labelled statement has a number
 pub numbered_at : (st : List Sentence) (p : ℕ) (s : Sentence) → slice_get st p ≡ Some s → is_some s.label ≡ true → IsNumbered st (length (labelled_sentences (take p st))) p s
@@ -122,7 +122,7 @@ numbered_from_get st i s there =
     let same : t ≡ s = let at = numbered_get st i p t numbered in cc in
     (p, subst (IsNumbered st i p) same numbered)
 
--- the labelled statements stay at their places
+-- the labelled statements stay at their indices
 pub labelled_grow : (st more : List Sentence) (i : ℕ) (s : Sentence) → slice_get (labelled_sentences st) i ≡ Some s → slice_get (labelled_sentences (st ++ more)) i ≡ Some s
 labelled_grow st more i s there = subst (λ ys. slice_get ys i ≡ Some s) (sym (labelled_append st more)) (get_kept (labelled_sentences st) (labelled_sentences more) i s there)
 

@@ -23,16 +23,16 @@ use Rattle.std.proofs.lemmas.List.Folds.{Any-from_list_any, list_any_at}
 
 -- ==== names in lists of keys, by their bytes
 
--- what a name's place among keys says of the names
-pub place_of_name : (name : List ℕ) (xs : List (List ℕ)) (o : Option ℕ) → position (bytes_eq name) xs ≡ o
+-- what a name's index among keys says of the names
+pub index_of_name : (name : List ℕ) (xs : List (List ℕ)) (o : Option ℕ) → position (bytes_eq name) xs ≡ o
     → MatchOption o (¬ (Contains xs name)) (λ n. slice_get xs n ≡ Some name)
-place_of_name name xs None is = λ (k, lt, same).
+index_of_name name xs None is = λ (k, lt, same).
     elim (cases_lt (position_or_len (bytes_eq name) xs) (length xs)) [
       | inl within ↦ absurd (let e = rw (lt-ltb _ _ within) at is in cc)
       | inr past ↦ false≢true (sym (fails_before_first (bytes_eq name) xs k name (omega arith))
           ∙ (bytes_eq-Decides name _).1 (sym same))
     ]
-place_of_name name xs (Some n) is =
+index_of_name name xs (Some n) is =
     let (lt, passes, before) = position-Some (bytes_eq name) xs n name is in
     slice_get-get_or xs n name lt ∙ ap Some (sym ((bytes_eq-Decides name _).0 passes))
 
@@ -41,7 +41,7 @@ pub holds_if_ok : {T E : Type 0} (r : Result T E) (P : Type 0) → IsOk r → If
 holds_if_ok (Ok x) P ok h = h
 holds_if_ok (Err e) P ok h = absurd (cc ok)
 
--- the element at a place of a mapped list
+-- the element at an index of a mapped list
 pub get_mapped : {X Y : Type 0} (f : X → Y) (xs : List X) (i : ℕ) (x : X) → slice_get xs i ≡ Some x → slice_get (map f xs) i ≡ Some (f x)
 get_mapped f xs i x there = slice_get-map f xs i ∙ ap (option_map f) there
 
@@ -93,10 +93,10 @@ each_pushed P xs y each last i x there = elim (pushed_cases xs y i x there) [
   | inr (at_end, same) ↦ subst P same last
 ]
 
--- ==== numbers of symbols: each name stands once among the declared symbols, and keeps its place as
+-- ==== numbers of symbols: each name stands once among the declared symbols, and keeps its index as
 -- statements are added
 
--- an element stands at some place
+-- an element stands at some index
 abbrev pub At : {X : Type 0} → List X → X → Type 0
 At xs x = (i : ℕ) × (slice_get xs i ≡ Some x)
 
@@ -145,7 +145,7 @@ once_fold : (names more : List (List ℕ)) → StandOnce names → StandOnce (fo
 once_fold names [] once = once
 once_fold names (x ∷ more) once = once_fold (with_name names x) more (once_with_name names x once)
 
--- a name stays at its place
+-- a name stays at its index
 pub kept_with_name : (names : List (List ℕ)) (name : List ℕ) (i : ℕ) (x : List ℕ) → slice_get names i ≡ Some x → slice_get (with_name names name) i ≡ Some x
 kept_with_name names name i x there = elim (with_name_cases names name) [
   | inl (found, same) ↦ subst (λ xs. slice_get xs i ≡ Some x) (sym same) there

@@ -19,13 +19,13 @@ use Rattle.mm_frame.proofs.Names.NameNumbers.{with_name_cases, kept_with_name}
 
 -- ==== a name of 2 to 16 bytes is told by its first bytes and its last, as numbers
 
--- a list is told by a front and an end of it that leave nothing out
+-- a list is told by a prefix and an end of it that leave nothing out
 told_by_parts : (n : ℕ) (a b : List ℕ) → length a ≡ length b → n ≤ length a → length a ≤ n + n
     → take n (drop 0 a) ≡ take n (drop 0 b) → take n (drop (length a - n) a) ≡ take n (drop (length b - n) b) → a ≡ b
-told_by_parts n a b same short long fronts backs =
-    sym (take-append-drop n a) ∙ ap (λ xs. xs ++ drop n a) fronts ∙ ap (λ xs. take n b ++ xs) rests ∙ take-append-drop n b
+told_by_parts n a b same short long prefixes backs =
+    sym (take-append-drop n a) ∙ ap (λ xs. xs ++ drop n a) prefixes ∙ ap (λ xs. take n b ++ xs) rests ∙ take-append-drop n b
   where
-    -- what follows the front is the end of the last bytes
+    -- what follows the prefix is the end of the last bytes
     rest : (c : List ℕ) → length c ≡ length a → drop n c ≡ drop (n + n - length c) (take n (drop (length c - n) c))
     rest c e =
         let few : length (drop (length c - n) c) ≤ n = let l = length-drop (length c - n) c in omega arith in

@@ -80,7 +80,7 @@ contains_dec xs x = dec_as (λ (k, y, there, is). contains_from_at xs x (k, ther
 
 -- ---- blocks
 
--- fronts past the end are the whole
+-- prefixes past the end are the whole
 unclosed_all : (d : List Sentence) → ((n : ℕ) → n < suc (length d) → close_marks (take n d) ≤ open_marks (take n d)) → (n : ℕ) → close_marks (take n d) ≤ open_marks (take n d)
 unclosed_all d h n = elim (cases_lt n (suc (length d))) [
   | inl less ↦ h n less
@@ -88,25 +88,25 @@ unclosed_all d h n = elim (cases_lt n (suc (length d))) [
       subst (λ l. close_marks l ≤ open_marks l) (take_all (length d) d (omega arith) ∙ sym (take_all n d (omega arith))) (h (length d) (omega arith))
 ]
 
-pub open_dec : (before : List Sentence) (place : ℕ) → Dec (IsOpen before place)
-open_dec before place = go (slice_get before place) refl
+pub open_dec : (before : List Sentence) (index : ℕ) → Dec (IsOpen before index)
+open_dec before index = go (slice_get before index) refl
   where
-    go : (o : Option Sentence) → slice_get before place ≡ o → Dec (IsOpen before place)
+    go : (o : Option Sentence) → slice_get before index ≡ o → Dec (IsOpen before index)
     go None e = no (λ o. none-some o.opening (sym e ∙ o.there))
     go (Some s) e = dec_as
-        (λ h. record { opening = s; there = e; opened = h.0; unclosed = unclosed_all (drop (suc place) before) h.1 })
+        (λ h. record { opening = s; there = e; opened = h.0; unclosed = unclosed_all (drop (suc index) before) h.1 })
         (λ o. (ap (λ (t : Sentence). t.kind) (same_Some s o.opening (sym e ∙ o.there)) ∙ o.opened, λ n less. o.unclosed n))
         (dec_both (kind_dec s.kind Opening)
-        (dec_below (suc (length (drop (suc place) before))) (λ n. close_marks (take n (drop (suc place) before)) ≤ open_marks (take n (drop (suc place) before)))
-        (λ n. dec_le (close_marks (take n (drop (suc place) before))) (open_marks (take n (drop (suc place) before))))))
+        (dec_below (suc (length (drop (suc index) before))) (λ n. close_marks (take n (drop (suc index) before)) ≤ open_marks (take n (drop (suc index) before)))
+        (λ n. dec_le (close_marks (take n (drop (suc index) before))) (open_marks (take n (drop (suc index) before))))))
 
-pub active_dec : (before : List Sentence) (place : ℕ) → Dec (IsActive before place)
-active_dec before place = dec_as
+pub active_dec : (before : List Sentence) (index : ℕ) → Dec (IsActive before index)
+active_dec before index = dec_as
     (λ h. record { within = h.0; kept = λ outer holds. h.1 outer holds.0 holds.1 })
     (λ a. (a.within, λ outer less o. a.kept outer (less, o)))
-    (dec_both (dec_le (suc place) (length before))
-    (dec_below place (λ outer. IsOpen (take (suc place) before) outer → IsOpen before outer)
-    (λ outer. dec_if (open_dec (take (suc place) before) outer) (open_dec before outer))))
+    (dec_both (dec_le (suc index) (length before))
+    (dec_below index (λ outer. IsOpen (take (suc index) before) outer → IsOpen before outer)
+    (λ outer. dec_if (open_dec (take (suc index) before) outer) (open_dec before outer))))
 
 pub dec_or : {A B : Type 0} → Dec A → Dec B → Dec (A ⊎ B)
 dec_or (yes a) b = yes (inl a)
@@ -153,8 +153,8 @@ typing_so_dec h P each = go (kind_dec h.kind Floating) h.symbols refl
     go (yes k) symbols e =
         no (λ t. let p : symbols ≡ t.0 ∷ t.1 ∷ [] = sym e ∙ t.2.1 in absurd cc)
 
-pub mandatory_at_dec : (before : List Sentence) (s : Sentence) (place : ℕ) (h : Sentence) → Dec (IsMandatoryAt before s place h)
-mandatory_at_dec before s place h = dec_both (active_dec before place)
+pub mandatory_at_dec : (before : List Sentence) (s : Sentence) (index : ℕ) (h : Sentence) → Dec (IsMandatoryAt before s index h)
+mandatory_at_dec before s index h = dec_both (active_dec before index)
     (dec_or (kind_dec h.kind Essential) (typing_so_dec h (IsMandatory before s) (mandatory_dec before s)))
 
 -- ---- pairs

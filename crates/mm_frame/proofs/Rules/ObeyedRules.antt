@@ -28,38 +28,38 @@ use Rattle.mm_frame.proofs.Rules.DecidedStatements.{unless_not}
 
 -- ==== what it gives that no statement breaks a rule after those before it
 
--- the statement at a place breaks no rule after those before it
+-- the statement at an index breaks no rule after those before it
 pub meant_at : (st : List Sentence) (p : ℕ) (s : Sentence) → AllMeant st → slice_get st p ≡ Some s → IsMeant (take p st) s
 meant_at st p s meant there = meant (take p st) (drop (suc p) st) s (split_at st p s there)
 
-pub meant_from_places : (st : List Sentence) → ((p : ℕ) (s : Sentence) → slice_get st p ≡ Some s → IsMeant (take p st) s) → AllMeant st
-meant_from_places st each before after s parts =
+pub meant_from_indices : (st : List Sentence) → ((p : ℕ) (s : Sentence) → slice_get st p ≡ Some s → IsMeant (take p st) s) → AllMeant st
+meant_from_indices st each before after s parts =
     let at : slice_get st (length before) ≡ Some s = ap (λ ys. slice_get ys (length before)) parts ∙ get_parted before after s in
-    let front : take (length before) st ≡ before = ap (take (length before)) parts ∙ take-append_seam before (s ∷ after) in
-    subst (λ ys. IsMeant ys s) front (each (length before) s at)
+    let prefix : take (length before) st ≡ before = ap (take (length before)) parts ∙ take-append_seam before (s ∷ after) in
+    subst (λ ys. IsMeant ys s) prefix (each (length before) s at)
 
 pub allmeant_push : (st : List Sentence) (e : Sentence) → AllMeant st → IsMeant st e → AllMeant (st ++ e ∷ [])
-allmeant_push st e meant last = meant_from_places (st ++ e ∷ []) (λ p s there. elim (pushed_cases st e p s there) [
+allmeant_push st e meant last = meant_from_indices (st ++ e ∷ []) (λ p s there. elim (pushed_cases st e p s there) [
   | inl before ↦
       let lt = slice_get_within st p s before in
       subst (λ ys. IsMeant ys s) (sym (take-append-le p st (e ∷ []) (omega arith))) (meant_at st p s meant before)
   | inr (at_end, same) ↦
-      let front : st ≡ take p (st ++ e ∷ []) = sym (take-append_seam st (e ∷ [])) ∙ ap (λ n. take n (st ++ e ∷ [])) (sym at_end) in
-      subst (λ ys. IsMeant ys s) front (subst (λ t. IsMeant st t) same last)
+      let prefix : st ≡ take p (st ++ e ∷ []) = sym (take-append_seam st (e ∷ [])) ∙ ap (λ n. take n (st ++ e ∷ [])) (sym at_end) in
+      subst (λ ys. IsMeant ys s) prefix (subst (λ t. IsMeant st t) same last)
 ])
 
-pub allmeant_front : (st : List Sentence) (n : ℕ) → AllMeant st → AllMeant (take n st)
-allmeant_front st n meant before after s parts =
+pub allmeant_prefix : (st : List Sentence) (n : ℕ) → AllMeant st → AllMeant (take n st)
+allmeant_prefix st n meant before after s parts =
     meant before (after ++ drop n st) s (sym (take-append-drop n st) ∙ ap (λ ys. ys ++ drop n st) parts ∙ rw append_assoc)
 
-pub allformed_front : (st : List Sentence) (n : ℕ) → AllFormed st → AllFormed (take n st)
-allformed_front st n formed p s there = formed p s (get_from_front st n p s there)
+pub allformed_prefix : (st : List Sentence) (n : ℕ) → AllFormed st → AllFormed (take n st)
+allformed_prefix st n formed p s there = formed p s (get_from_front st n p s there)
 
--- a statement of the front is one of the statements
+-- a statement of the prefix is one of the statements
 some_earlier : (st : List Sentence) (P : Sentence → Type 0) (i j : ℕ) (s : Sentence) → i < j → slice_get st i ≡ Some s → P s → SomeSentence (take j st) P
 some_earlier st P i j s lt there holds = (i, s, get_in_front st j i s lt there, holds)
 
--- what is active was so in each front that has it
+-- what is active was so in each prefix that has it
 pub active_in_front : (st : List Sentence) (k n : ℕ) → k < n → n ≤ length st → IsActive st k → IsActive (take n st) k
 active_in_front st k n lt le active =
     let e = length-take-le n st le in
@@ -142,7 +142,7 @@ one_label st l i j s t meant at_i at_j label_s label_t =
 -- ==== which hypotheses an assertion needs that breaks no rule of meaning: the active `$e`, and the
 -- latest `$f` of each mandatory variable
 
--- a statement of a front is one of the statements
+-- a statement of a prefix is one of the statements
 pub some_later : (st : List Sentence) (n : ℕ) (P : Sentence → Type 0) → SomeSentence (take n st) P → SomeSentence st P
 some_later st n P (p, s, there, holds) = (p, s, get_from_front st n p s there, holds)
 
@@ -215,9 +215,9 @@ latest_from_active st x p f meant there active types = record {
 }
 
 -- The mandatory hypotheses: the active `$e`, and the latest `$f` of each mandatory variable.
-pub mandatory_places : (st : List Sentence) (s : Sentence) (p : ℕ) (h : Sentence) → AllMeant st → IsMeant st s → IsStated s.kind → slice_get st p ≡ Some h
+pub mandatory_indices : (st : List Sentence) (s : Sentence) (p : ℕ) (h : Sentence) → AllMeant st → IsMeant st s → IsStated s.kind → slice_get st p ≡ Some h
     → IsMandatoryAt st s p h ↔ (((h.kind ≡ Essential) × IsActive st p) ⊎ ((x : List ℕ) × IsMandatory st s x × IsLatest (λ f. (code : List ℕ) × Types code x f) st p))
-mandatory_places st s p h meant last stated there = (
+mandatory_indices st s p h meant last stated there = (
   (λ (active, needed). elim needed [
     | inl essential ↦ inl (essential, active)
     | inr (code, x, types, mandatory) ↦ inr (x, mandatory, latest_from_active st x p h meant there active (code, types))

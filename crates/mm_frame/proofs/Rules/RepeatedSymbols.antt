@@ -18,11 +18,11 @@ use Rattle.mm_text.proofs.Lists.{at_from_contains, contains_from_at, take_next, 
 use Rattle.mm_frame.specs.Numbers.{with_name}
 use Rattle.mm_frame.proofs.Names.NameNumbers.{with_name_cases, get_mapped}
 
--- ==== between the elements that code walks over and what is said by them, place by place
+-- ==== between the elements that code walks over and what is said by them, index by index
 
--- some element is so, by its place
+-- some element is so, by its index
 abbrev pub SomeAt : {X : Type 0} → List X → (X → Type 0) → Type 0
-SomeAt {X} xs P = (place : ℕ) × (x : X) × (slice_get xs place ≡ Some x) × P x
+SomeAt {X} xs P = (index : ℕ) × (x : X) × (slice_get xs index ≡ Some x) × P x
 
 -- the element of which it is said
 pub said_at : {X Y : Type 0} (v : X → Y) (P : Y → Type 0) (xs : List X) (k : ℕ) (y : Y) → slice_get (map v xs) k ≡ Some y → P y → (x : X) × (k < length xs) × (slice_index_or xs k x ≡ x) × P (v x)
@@ -110,7 +110,7 @@ not_so false e h p = absurd (cc (h.1 p))
 
 -- ==== a symbol that stands twice in a statement
 
--- what stands at two places stands twice
+-- what stands at two indices stands twice
 pub twice_some : (s : Sentence) (x : List ℕ) (i j : ℕ) → i < j → slice_get s.symbols i ≡ Some x → slice_get s.symbols j ≡ Some x → SomeSymbol s (StandsTwice s.symbols)
 twice_some s x i j lt at_i at_j = (x, contains_from_at s.symbols x (i, at_i), record { i = i; j = j; apart = lt; at_i = at_i; at_j = at_j })
 

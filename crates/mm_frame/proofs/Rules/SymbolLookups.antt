@@ -53,16 +53,16 @@ numbers_of_names names (n ∷ numbers) within =
     cc (head, tail)
 
 -- the part of all symbols that an entry names has the numbers of its statement's symbols
-pub numbers_at : (symbols labels : List (List ℕ)) (flat : List Sym) (log : List Entry) (place : ℕ) (e : Entry) (s : Sentence) (part : List Sym)
+pub numbers_at : (symbols labels : List (List ℕ)) (flat : List Sym) (log : List Entry) (index : ℕ) (e : Entry) (s : Sentence) (part : List Sym)
     → symbols ≡ symbols_of (sentences_by symbols labels flat log)
-    → AreEntries symbols labels flat log → slice_get log place ≡ Some e
+    → AreEntries symbols labels flat log → slice_get log index ≡ Some e
     → (e.symbols.start ≤ e.symbols.end → e.symbols.end ≤ length flat → part ≡ slice_range flat e.symbols.start e.symbols.end)
-    → slice_get (sentences_by symbols labels flat log) place ≡ Some s
+    → slice_get (sentences_by symbols labels flat log) index ≡ Some s
     → AreNumbers (sentences_by symbols labels flat log) (map (λ n. n.0) part) s.symbols
-numbers_at symbols labels flat log place e s part all a there is said =
-    let w = a.within place e there in
+numbers_at symbols labels flat log index e s part all a there is said =
+    let w = a.within index e there in
     let part_is : part ≡ slice_range flat e.symbols.start e.symbols.end = is w.ordered w.within in
-    let same : Some (sentence_by symbols labels flat e) ≡ Some s = sym (sentence_at symbols labels flat log place e there) ∙ said in
+    let same : Some (sentence_by symbols labels flat e) ≡ Some s = sym (sentence_at symbols labels flat log index e there) ∙ said in
     let says : sentence_by symbols labels flat e ≡ s = cc in
     let xs : names_by symbols (slice_range flat e.symbols.start e.symbols.end) ≡ s.symbols = ap (λ (t : Sentence). t.symbols) says in
     let within : (i : ℕ) (n : Sym) → slice_get (slice_range flat e.symbols.start e.symbols.end) i ≡ Some n → n.0 < length symbols
@@ -97,10 +97,10 @@ no_latest_code st numbers x p latest numbered first =
     absurd (cc)
 
 -- there is an entry for each statement
-pub entry_within : (t : Tables) (place : ℕ) (s : Sentence)
-    → slice_get (statements_of t) place ≡ Some s → place < length t.log.items
-entry_within t place s said =
-    let lt = slice_get_within (statements_of t) place s said in
+pub entry_within : (t : Tables) (index : ℕ) (s : Sentence)
+    → slice_get (statements_of t) index ≡ Some s → index < length t.log.items
+entry_within t index s said =
+    let lt = slice_get_within (statements_of t) index s said in
     let all = all_statements t in
     omega arith
 

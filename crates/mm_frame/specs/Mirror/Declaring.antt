@@ -13,10 +13,10 @@ use Rattle.mm_frame.specs.Mirror.Layout.{AreInfos, names_by, statements_of}
 abbrev pub IsDeclaration : Kind → Type 0
 IsDeclaration kind = (kind ≡ Constants) ⊎ (kind ≡ Variables)
 
--- the place of the latest `$v` of a symbol that a statement of the kind at the place declares
+-- the index of the latest `$v` of a symbol that a statement of the kind at the index declares
 abbrev pub latest_by : Kind → ℕ → Option ℕ
-latest_by Variables place = Some place
-latest_by kind place = None
+latest_by Variables index = Some index
+latest_by kind index = None
 
 -- there is room for so many symbols
 pub record HasSpace (t : Tables) (symbols : ℕ) : Type 0 where
@@ -28,9 +28,9 @@ pub record HasSpace (t : Tables) (symbols : ℕ) : Type 0 where
 -- what is known of a symbol names the latest `$v`, if a `$v` declares it
 abbrev pub AreNoted : List SymbolInfo → List SymbolInfo → ℕ → Option ℕ → Type 0
 AreNoted old new number None = new ≡ old
-AreNoted old new number (Some place) =
+AreNoted old new number (Some index) =
     (info : SymbolInfo) → slice_get old number ≡ Some info
-    → new ≡ slice_set old number (record { variable = Some place; floating = info.floating })
+    → new ≡ slice_set old number (record { variable = Some index; floating = info.floating })
 
 -- the symbol has this number already
 pub record IsNoted (old new : Tables) (symbol : List ℕ) (number : ℕ)

@@ -1,10 +1,10 @@
--- What is left of a list of places. This file mirrors the code, and is cited by private contracts
+-- What is left of a list of indices. This file mirrors the code, and is cited by private contracts
 -- alone.
 use Rattle.std.specs.Prelude.{◌≡◌, ℕ, suc, List, ◌++◌, length, slice_get, Some}
 use Rattle.mm_frame.specs.Sentence.{Sentence}
 use Rattle.mm_frame.specs.Active.{IsActive}
 
--- the places at the end were dropped as far as none of them is active
+-- the indices at the end were dropped as far as none of them is active
 pub record AreForgotten (statements : List Sentence) (before after : List ℕ) : Type 0 where
   pub gone : List ℕ
   pub parted : before ≡ after ++ gone

@@ -9,75 +9,75 @@ use Rattle.mm_frame.specs.declared.number.Sym.{Sym}
 use Rattle.mm_frame.specs.declared.tables.SymbolInfo.{SymbolInfo}
 use Rattle.mm_frame.specs.Sentence.{Sentence, Types}
 use Rattle.mm_frame.specs.Numbers.{IsNumberOf, labelled_sentences}
-use Rattle.mm_frame.specs.FramePlace.{HaveTypings}
+use Rattle.mm_frame.specs.FrameIndex.{HaveTypings}
 use Rattle.mm_frame.specs.Frame.{IsMandatoryAt, IsDistinct}
 use Rattle.mm_frame.specs.Mirror.Latest.{IsLatest}
 use Rattle.mm_frame.specs.Mirror.Layout.{GivesType}
 
--- the place of the latest `$f` of a symbol, if it has one
+-- the index of the latest `$f` of a symbol, if it has one
 abbrev pub floating_of : List SymbolInfo → Sym → Option ℕ
 floating_of infos n = option_and_then (λ info. info.floating) (slice_get infos n.0)
 
--- the places of the latest `$f` of some symbols, where they have one
+-- the indices of the latest `$f` of some symbols, where they have one
 abbrev pub floatings : List SymbolInfo → List Sym → List ℕ
 floatings infos symbols = filter_map (floating_of infos) symbols
 
--- a place stands in the list
+-- an index stands in the list
 abbrev pub IsIn : List ℕ → ℕ → Type 0
-IsIn places p = (i : ℕ) × (slice_get places i ≡ Some p)
+IsIn indices p = (i : ℕ) × (slice_get indices i ≡ Some p)
 
--- the symbol stands in the assertion, or in a `$e` at one of the places
+-- the symbol stands in the assertion, or in a `$e` at one of the indices
 abbrev pub StandsIn : List Sentence → List ℕ → Sentence → List ℕ → Type 0
-StandsIn st places s x =
+StandsIn st indices s x =
     Contains s.symbols x
-    ⊎ ((q : ℕ) × (h : Sentence) × IsIn places q × (slice_get st q ≡ Some h) × Contains h.symbols x)
+    ⊎ ((q : ℕ) × (h : Sentence) × IsIn indices q × (slice_get st q ≡ Some h) × Contains h.symbols x)
 
--- the place of an active `$e`, or of the latest `$f` of a symbol of it or of the assertion
+-- the index of an active `$e`, or of the latest `$f` of a symbol of it or of the assertion
 abbrev pub IsGathered : List Sentence → List ℕ → Sentence → ℕ → Type 0
 IsGathered st essentials s p =
     IsIn essentials p ⊎ ((x : List ℕ) × StandsIn st essentials s x × IsLatest (GivesType x) st p)
 
--- the list has exactly the gathered places
+-- the list has exactly the gathered indices
 pub record AreGathered (st : List Sentence) (essentials : List ℕ) (s : Sentence)
-    (places : List ℕ) : Type 0 where
-  pub only : (i p : ℕ) → slice_get places i ≡ Some p → IsGathered st essentials s p
-  pub each : (p : ℕ) → IsGathered st essentials s p → IsIn places p
+    (indices : List ℕ) : Type 0 where
+  pub only : (i p : ℕ) → slice_get indices i ≡ Some p → IsGathered st essentials s p
+  pub each : (p : ℕ) → IsGathered st essentials s p → IsIn indices p
 
--- each place is below the next
-abbrev pub AreRisingPlaces : List ℕ → Type 0
-AreRisingPlaces places =
-    (i j p q : ℕ) → slice_get places i ≡ Some p → slice_get places j ≡ Some q → i < j → p < q
+-- each index is below the next
+abbrev pub AreRisingIndices : List ℕ → Type 0
+AreRisingIndices indices =
+    (i j p q : ℕ) → slice_get indices i ≡ Some p → slice_get indices j ≡ Some q → i < j → p < q
 
--- these are the places of the mandatory hypotheses, in order
-pub record ArePlaces (st : List Sentence) (s : Sentence) (places : List ℕ) : Type 0 where
-  pub rising : AreRisingPlaces places
-  pub within : (i p : ℕ) → slice_get places i ≡ Some p → p < length st
+-- these are the indices of the mandatory hypotheses, in order
+pub record AreIndices (st : List Sentence) (s : Sentence) (indices : List ℕ) : Type 0 where
+  pub rising : AreRisingIndices indices
+  pub within : (i p : ℕ) → slice_get indices i ≡ Some p → p < length st
   pub exact : (p : ℕ) (h : Sentence) → slice_get st p ≡ Some h → IsMandatoryAt st s p h
-      ↔ Contains places p
+      ↔ Contains indices p
 
--- these are the labels' numbers of the statements at some places, each with what its `$f` says
-pub record AreThoseAt (st : List Sentence) (places : List ℕ)
+-- these are the labels' numbers of the statements at some indices, each with what its `$f` says
+pub record AreThoseAt (st : List Sentence) (indices : List ℕ)
     (hypotheses : List Hypothesis) : Type 0 where
   pub numbers : map (λ h. h.id.0) hypotheses
-      ≡ map (λ p. length (labelled_sentences (take p st))) places
+      ≡ map (λ p. length (labelled_sentences (take p st))) indices
   pub typed : HaveTypings st hypotheses
 
--- the statement at one of the places is a `$f` that types the variable with the number
-pub record IsTypedBy (st : List Sentence) (places : List ℕ) (n : Sym) : Type 0 where
+-- the statement at one of the indices is a `$f` that types the variable with the number
+pub record IsTypedBy (st : List Sentence) (indices : List ℕ) (n : Sym) : Type 0 where
   pub k : ℕ
-  pub place : ℕ
-  pub in_places : slice_get places k ≡ Some place
+  pub index : ℕ
+  pub in_places : slice_get indices k ≡ Some index
   pub floating : Sentence
-  pub there : slice_get st place ≡ Some floating
+  pub there : slice_get st index ≡ Some floating
   pub code : List ℕ
   pub variable : List ℕ
   pub types : Types code variable floating
   pub number : IsNumberOf st variable n.0
 
--- these are the numbers of the variables of the `$f` at some places, each once
-pub record AreVariables (st : List Sentence) (places : List ℕ) (variables : List Sym) : Type 0 where
-  pub only : (i : ℕ) (n : Sym) → slice_get variables i ≡ Some n → IsTypedBy st places n
-  pub each : (k p : ℕ) (f : Sentence) (code x : List ℕ) → slice_get places k ≡ Some p
+-- these are the numbers of the variables of the `$f` at some indices, each once
+pub record AreVariables (st : List Sentence) (indices : List ℕ) (variables : List Sym) : Type 0 where
+  pub only : (i : ℕ) (n : Sym) → slice_get variables i ≡ Some n → IsTypedBy st indices n
+  pub each : (k p : ℕ) (f : Sentence) (code x : List ℕ) → slice_get indices k ≡ Some p
       → slice_get st p ≡ Some f
       → Types code x f
       → (i : ℕ) × (n : Sym) × (slice_get variables i ≡ Some n) × IsNumberOf st x n.0
@@ -90,7 +90,7 @@ abbrev pub AreApart : List Sentence → Sym → Sym → Type 0
 AreApart st a b =
     (x : List ℕ) × (y : List ℕ) × IsNumberOf st x a.0 × IsNumberOf st y b.0 × IsDistinct st x y
 
--- the places j and k are reached: all before the k-th, and the first so many with the k-th
+-- the indices j and k are reached: all before the k-th, and the first so many with the k-th
 abbrev pub IsReached : ℕ → ℕ → ℕ → ℕ → Type 0
 IsReached i count j k = (k < i) ⊎ ((k ≡ i) × (j < count))
 

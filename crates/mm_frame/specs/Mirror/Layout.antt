@@ -18,8 +18,8 @@ use Rattle.mm_frame.specs.Sentence.{Sentence, SomeSentence, Declares, Types, IsA
 use Rattle.mm_frame.specs.Active.{IsActive, IsConstant, IsVariable}
 use Rattle.mm_frame.specs.Form.{IsSound}
 use Rattle.mm_frame.specs.Numbers.{symbols_of, labelled_sentences, IsNumbered}
-use Rattle.mm_frame.specs.FramePlace.{AreHypotheses, HaveTypings, ArePairs}
-use Rattle.mm_frame.specs.Pieces.{variables_of, AreItsPieces, HavePatterns, HavePlaces}
+use Rattle.mm_frame.specs.FrameIndex.{AreHypotheses, HaveTypings, ArePairs}
+use Rattle.mm_frame.specs.Pieces.{variables_of, AreItsPieces, HavePatterns, HaveIndices}
 use Rattle.mm_frame.specs.Database.{Database}
 use Rattle.mm_frame.specs.Mirror.Latest.{IsLatest}
 use Rattle.mm_frame.specs.Mirror.ScopesOf.{HaveScopes}
@@ -54,10 +54,10 @@ statements_of t = sentences_by t.symbols.names t.labels.names t.flat.items t.log
 abbrev pub database_of : Tables → Database
 database_of t = record { statements = statements_of t; bytes = t.bytes }
 
--- the place of the latest statement that is so, if there is one
+-- the index of the latest statement that is so, if there is one
 abbrev pub IsLatestIn : (Sentence → Type 0) → List Sentence → Option ℕ → Type 0
 IsLatestIn P statements None = ¬ (SomeSentence statements P)
-IsLatestIn P statements (Some place) = IsLatest P statements place
+IsLatestIn P statements (Some index) = IsLatest P statements index
 
 -- a `$f` of the variable
 abbrev pub GivesType : List ℕ → Sentence → Type 0
@@ -94,7 +94,7 @@ pub record AreInfos (statements : List Sentence) (symbols : List (List ℕ))
 -- what is known of a label has the kind and the symbols of its statement's entry
 pub record IsEntered (log : List Entry) (info : LabelInfo) : Type 0 where
   pub entry : Entry
-  pub there : slice_get log info.place ≡ Some entry
+  pub there : slice_get log info.index ≡ Some entry
   pub kind : entry.kind ≡ info.kind
   pub symbols : entry.symbols ≡ info.symbols
 
@@ -104,31 +104,31 @@ pub record AreLabelInfos (statements : List Sentence) (labels : List (List ℕ))
   pub all : map (λ s. s.label) (labelled_sentences statements) ≡ map Some labels
   pub informed : length named ≡ length labels
   pub each : (id : ℕ) (info : LabelInfo) → slice_get named id ≡ Some info
-      → (s : Sentence) × IsNumbered statements id info.place s
-  pub logged : (place : ℕ) (e : Entry) (id : LabelId) → slice_get log place ≡ Some e
+      → (s : Sentence) × IsNumbered statements id info.index s
+  pub logged : (index : ℕ) (e : Entry) (id : LabelId) → slice_get log index ≡ Some e
       → e.label ≡ Some id
-      → length (labelled_sentences (take place statements)) ≡ id.0
+      → length (labelled_sentences (take index statements)) ≡ id.0
   pub entered : (id : ℕ) (info : LabelInfo) → slice_get named id ≡ Some info → IsEntered log info
 
 -- where the symbols of each statement stand
 pub record AreEntries (symbols : List (List ℕ)) (labels : List (List ℕ)) (flat : List Sym)
     (log : List Entry) : Type 0 where
-  pub within : (place : ℕ) (e : Entry) → slice_get log place ≡ Some e
+  pub within : (index : ℕ) (e : Entry) → slice_get log index ≡ Some e
       → IsPartWithin e.symbols (length flat)
   pub numbered : (n : ℕ) (symbol : Sym) → slice_get flat n ≡ Some symbol → symbol.0 < length symbols
-  pub named : (place : ℕ) (e : Entry) (id : LabelId) → slice_get log place ≡ Some e
+  pub named : (index : ℕ) (e : Entry) (id : LabelId) → slice_get log index ≡ Some e
       → e.label ≡ Some id → id.0 < length labels
 
--- the places of the active `$e`, in order
-pub record AreEssentials (statements : List Sentence) (places : List ℕ) : Type 0 where
-  pub rising : (i j p q : ℕ) → i < j → slice_get places i ≡ Some p → slice_get places j ≡ Some q
+-- the indices of the active `$e`, in order
+pub record AreEssentials (statements : List Sentence) (indices : List ℕ) : Type 0 where
+  pub rising : (i j p q : ℕ) → i < j → slice_get indices i ≡ Some p → slice_get indices j ≡ Some q
       → p < q
-  pub only : (i p : ℕ) → slice_get places i ≡ Some p
+  pub only : (i p : ℕ) → slice_get indices i ≡ Some p
       → (s : Sentence) × (slice_get statements p ≡ Some s) × (s.kind ≡ Essential)
       × IsActive statements p
   pub each : (p : ℕ) (s : Sentence) → slice_get statements p ≡ Some s → s.kind ≡ Essential
       → IsActive statements p
-      → (i : ℕ) × (slice_get places i ≡ Some p)
+      → (i : ℕ) × (slice_get indices i ≡ Some p)
 
 -- the frame of an assertion
 pub record IsFrameInfo (statements : List Sentence) (hypotheses : List Hypothesis)
@@ -136,15 +136,15 @@ pub record IsFrameInfo (statements : List Sentence) (hypotheses : List Hypothesi
   pub hypotheses_in : IsPartWithin info.hypotheses (length hypotheses)
   pub pairs_in : IsPartWithin info.pairs (length pairs)
   pub conclusion_in : IsPartWithin info.conclusion (length pieces)
-  pub are_hypotheses : AreHypotheses (record { statements = statements; place = info.place })
+  pub are_hypotheses : AreHypotheses (record { statements = statements; index = info.index })
       (map (λ h. h.id.0) (slice_range hypotheses info.hypotheses.start info.hypotheses.end))
-  pub are_pairs : ArePairs (record { statements = statements; place = info.place })
+  pub are_pairs : ArePairs (record { statements = statements; index = info.index })
       (map (λ pair. (pair.variables.0.0, pair.variables.1.0))
       (slice_range pairs info.pairs.start info.pairs.end))
-  pub placed : HavePlaces
+  pub indexed : HaveIndices
       (variables_of (slice_range hypotheses info.hypotheses.start info.hypotheses.end))
       (slice_range pairs info.pairs.start info.pairs.end)
-  pub concluded : (s : Sentence) × (slice_get statements info.place ≡ Some s)
+  pub concluded : (s : Sentence) × (slice_get statements info.index ≡ Some s)
       × AreItsPieces statements
       (variables_of (slice_range hypotheses info.hypotheses.start info.hypotheses.end)) s
       (slice_range pieces info.conclusion.start info.conclusion.end)
@@ -157,44 +157,44 @@ abbrev pub AreFrames : List Sentence → List Hypothesis → List DistinctPair �
     → List LabelInfo → Type 0
 AreFrames statements hypotheses pairs pieces named =
     (id : ℕ) (info : LabelInfo) (s : Sentence) → slice_get named id ≡ Some info
-    → slice_get statements info.place ≡ Some s
+    → slice_get statements info.index ≡ Some s
     → IsAssertion s.kind → IsFrameInfo statements hypotheses pairs pieces info
 
--- the pair is of two symbols of the `$d` at its place
+-- the pair is of two symbols of the `$d` at its index
 abbrev pub IsStatedThere : List Sentence → List (List ℕ) → Stated → Type 0
 IsStatedThere statements symbols span =
-    (d : Sentence) × (slice_get statements span.place ≡ Some d) × (d.kind ≡ Distinct)
+    (d : Sentence) × (slice_get statements span.index ≡ Some d) × (d.kind ≡ Distinct)
     × (span.pair.0 < span.pair.1)
     × (x : List ℕ) × (y : List ℕ) × (slice_get symbols span.pair.0 ≡ Some x)
     × (slice_get symbols span.pair.1 ≡ Some y)
     × Contains d.symbols x × Contains d.symbols y
 
--- two symbols were stated no later than at a place, as a pair or by a `$d` of many variables that
+-- two symbols were stated no later than at an index, as a pair or by a `$d` of many variables that
 -- holds both, by a `$d` that is active after the statement there
 abbrev pub AreCovered : List Sentence → AllStated → ℕ → ℕ → ℕ → Type 0
-AreCovered statements stated place a b =
+AreCovered statements stated index a b =
     ((i : ℕ) × (span : Stated) × (slice_get stated.pairs i ≡ Some span) × (span.pair ≡ (a, b))
-    × (span.place ≤ place)
-    × IsActive (take (place + 1) statements) span.place)
+    × (span.index ≤ index)
+    × IsActive (take (index + 1) statements) span.index)
     ⊎ ((i : ℕ) × (w : WideDistinct) × (slice_get stated.wide i ≡ Some w)
     × Contains w.members.items a × Contains w.members.items b
-    × (w.place ≤ place)
-    × IsActive (take (place + 1) statements) w.place)
+    × (w.index ≤ index)
+    × IsActive (take (index + 1) statements) w.index)
 
--- what was stated: each pair by a `$d` at its place, and none while it was active by the one before
+-- what was stated: each pair by a `$d` at its index, and none while it was active by the one before
 pub record AreStated (statements : List Sentence) (symbols : List (List ℕ))
     (stated : AllStated) : Type 0 where
   pub only : (i : ℕ) (span : Stated) → slice_get stated.pairs i ≡ Some span
       → IsStatedThere statements symbols span
-  pub each : (place a b : ℕ) (d : Sentence) (x y : List ℕ) → slice_get statements place ≡ Some d
+  pub each : (index a b : ℕ) (d : Sentence) (x y : List ℕ) → slice_get statements index ≡ Some d
       → d.kind ≡ Distinct
       → slice_get symbols a ≡ Some x → slice_get symbols b ≡ Some y → a < b → Contains d.symbols x
       → Contains d.symbols y
-      → AreCovered statements stated place a b
+      → AreCovered statements stated index a b
   pub apart : (i j : ℕ) (older newer : Stated) → i < j → slice_get stated.pairs i ≡ Some older
       → slice_get stated.pairs j ≡ Some newer
       → older.pair ≡ newer.pair
-      → (older.place < newer.place) × ¬ (IsActive (take newer.place statements) older.place)
+      → (older.index < newer.index) × ¬ (IsActive (take newer.index statements) older.index)
   pub wide : AreWide statements symbols stated.wide
 
 -- all lists of a book, as they are between two statements

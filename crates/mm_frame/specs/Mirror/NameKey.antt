@@ -5,7 +5,7 @@ use Rattle.std.specs.Prelude.{List, [], ◌∷◌, ◌++◌, length, take, drop,
 use Rattle.std.specs.Int.{Width, w16, w32, w64, from_le_bytes}
 use Rattle.std.specs.Hash as fed
 
--- the number that so many bytes from a place on make
+-- the number that so many bytes from an index on make
 abbrev pub number_at : Width → ℕ → List ℕ → ℕ → ℕ
 number_at w count bytes at = from_le_bytes w (take count (drop at bytes))
 
@@ -25,9 +25,9 @@ ends_of bytes =
     else ends_by w64 8 bytes
 
 -- the numbers stand beside a name as its ends
-pub record IsKey (bytes : List ℕ) (front back : ℕ) : Type 0 where
+pub record IsKey (bytes : List ℕ) (prefix back : ℕ) : Type 0 where
   pub bytes_of : (i : ℕ) → get_or bytes i 0 < 256
-  pub ends : (front, back) ≡ ends_of bytes
+  pub ends : (prefix, back) ≡ ends_of bytes
 
 -- what is hashed of a name: its ends, or all of it where they are not all of it
 unfoldable pub hashed : List ℕ → List (List ℕ)

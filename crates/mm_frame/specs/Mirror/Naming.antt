@@ -25,8 +25,8 @@ abbrev pub FrameParts : Type 0
 FrameParts = Part × Part × Part
 
 abbrev pub label_info : ℕ → Entry → FrameParts → LabelInfo
-label_info place e frame = record {
-  place = place;
+label_info index e frame = record {
+  index = index;
   kind = e.kind;
   symbols = e.symbols;
   hypotheses = frame.0;

@@ -12,19 +12,19 @@ use Rattle.mm_frame.specs.declared.part.Part.{Part}
 use Rattle.mm_frame.specs.declared.tables.Tables.{Tables}
 use Rattle.mm_frame.specs.Sentence.{Sentence}
 use Rattle.mm_frame.specs.Pieces.{variables_of, ArePieces, AreItsPieces}
-use Rattle.mm_frame.specs.Pieces.{HasPattern, HavePatterns, HavePlaces, IsNowhere, IsFirstAt}
-use Rattle.mm_frame.specs.FramePlace.{FramePlace, AreHypotheses, HaveTypings, ArePairs}
+use Rattle.mm_frame.specs.Pieces.{HasPattern, HavePatterns, HaveIndices, IsNowhere, IsFirstAt}
+use Rattle.mm_frame.specs.FrameIndex.{FrameIndex, AreHypotheses, HaveTypings, ArePairs}
 use Rattle.mm_frame.specs.Mirror.Layout.{AreTables, statements_of}
-use Rattle.mm_frame.specs.Mirror.Gathered.{ArePlaces, AreThoseAt}
+use Rattle.mm_frame.specs.Mirror.Gathered.{AreIndices, AreThoseAt}
 
 -- the new list begins with the old one
 abbrev pub IsLonger : {X : Type 0} → List X → List X → Type 0
 IsLonger {X} old new = (more : List X) × (new ≡ old ++ more)
 
--- for the number of each variable the place of its first `$f` is noted
+-- for the number of each variable the index of its first `$f` is noted
 abbrev pub AreNoted : List ℕ → List (Option ℕ) → Type 0
-AreNoted places variables =
-    (n place : ℕ) → IsFirstAt n variables place → slice_get places n ≡ Some place
+AreNoted indices variables =
+    (n index : ℕ) → IsFirstAt n variables index → slice_get indices n ≡ Some index
 
 -- the part of the pieces says the symbols with these numbers
 pub record IsPatternAt (variables : List (Option ℕ)) (numbers : List ℕ) (pieces : List Piece)
@@ -42,15 +42,15 @@ abbrev pub AreSameButPatterns : List Hypothesis → List Hypothesis → Type 0
 AreSameButPatterns old new = map told new ≡ map told old
 
 -- these are the mandatory hypotheses of an assertion that is to be added to a book, at these
--- places, and these are two lists of the book
-pub record AreMandatoryOf (t : Tables) (log : List Entry) (flat : List Sym) (places : List ℕ)
+-- indices, and these are two lists of the book
+pub record AreMandatoryOf (t : Tables) (log : List Entry) (flat : List Sym) (indices : List ℕ)
     (hypotheses : List Hypothesis) : Type 0 where
   pub tables : AreTables t
   pub log_is : t.log.items ≡ log
   pub flat_is : t.flat.items ≡ flat
   pub assertion : Sentence
-  pub are_places : ArePlaces (statements_of t) assertion places
-  pub those : AreThoseAt (statements_of t) places hypotheses
+  pub are_indices : AreIndices (statements_of t) assertion indices
+  pub those : AreThoseAt (statements_of t) indices hypotheses
 
 -- the first so many of the hypotheses have their patterns
 pub record HaveFirstPatterns (statements : List Sentence) (old new : List Hypothesis)
@@ -73,14 +73,14 @@ AreAmong variables pairs =
     (i : ℕ) (pair : Sym × Sym) → slice_get pairs i ≡ Some pair
     → ¬ (IsNowhere pair.0.0 variables) × ¬ (IsNowhere pair.1.0 variables)
 
--- this is what a step by the assertion at a place in its book asks of it
-pub record IsSchemeOf (frame : FramePlace) (scheme : Scheme) : Type 0 where
+-- this is what a step by the assertion at an index in its book asks of it
+pub record IsSchemeOf (frame : FrameIndex) (scheme : Scheme) : Type 0 where
   pub ids : AreHypotheses frame (map (λ h. h.id.0) scheme.hypotheses.now)
   pub typed : HaveTypings frame.statements scheme.hypotheses.now
   pub pairs : ArePairs frame
       (map (λ pair. (pair.variables.0.0, pair.variables.1.0)) scheme.pairs.now)
-  pub places : HavePlaces (variables_of scheme.hypotheses.now) scheme.pairs.now
-  pub conclusion : (s : Sentence) × (slice_get frame.statements frame.place ≡ Some s)
+  pub indices : HaveIndices (variables_of scheme.hypotheses.now) scheme.pairs.now
+  pub conclusion : (s : Sentence) × (slice_get frame.statements frame.index ≡ Some s)
       × AreItsPieces frame.statements (variables_of scheme.hypotheses.now) s scheme.conclusion.now
   pub patterns : HavePatterns frame.statements (variables_of scheme.hypotheses.now)
       scheme.pieces.now scheme.hypotheses.now

@@ -1,4 +1,4 @@
--- How blocks by numbers tell what is active at each place. The whole database counts as block 0,
+-- How blocks by numbers tell what is active at each index. The whole database counts as block 0,
 -- which is never closed; each `${` begins the next number's block. This file mirrors the code, and is
 -- cited by private contracts alone.
 use Rattle.std.specs.Prelude.{◌≡◌, ℕ, suc, ◌+◌, ◌<◌, ◌≤◌, List, length, take, drop, slice_get, Some}
@@ -7,7 +7,7 @@ use Rattle.mm_text.specs.declared.statement.Kind.TheVariants.{Opening}
 use Rattle.mm_frame.specs.Sentence.{Sentence}
 use Rattle.mm_frame.specs.Active.{IsOpen, Holds, open_marks, close_marks}
 
--- a block whose inside begins at the place is open: no front of the statements from there on has
+-- a block whose inside begins at the index is open: no prefix of the statements from there on has
 -- more `$}` than `${`
 abbrev pub IsUnclosed : List Sentence → ℕ → Type 0
 IsUnclosed statements start =
@@ -16,19 +16,19 @@ IsUnclosed statements start =
 
 -- the inside of a block begins there, right after its `${`
 pub record IsBegun (statements : List Sentence) (start : ℕ) : Type 0 where
-  pub place : ℕ
+  pub index : ℕ
   pub opening : Sentence
-  pub next : start ≡ suc place
-  pub there : slice_get statements place ≡ Some opening
+  pub next : start ≡ suc index
+  pub there : slice_get statements index ≡ Some opening
   pub opened : opening.kind ≡ Opening
 
--- the block that begins there ends with the `$}` at the place
-pub record IsEnd (statements : List Sentence) (start place : ℕ) : Type 0 where
-  pub within : place < length statements
-  pub before : IsUnclosed (take place statements) start
-  pub after : ¬ (IsUnclosed (take (suc place) statements) start)
+-- the block that begins there ends with the `$}` at the index
+pub record IsEnd (statements : List Sentence) (start index : ℕ) : Type 0 where
+  pub within : index < length statements
+  pub before : IsUnclosed (take index statements) start
+  pub after : ¬ (IsUnclosed (take (suc index) statements) start)
 
--- the block stands at the k-th place of the open blocks, the outermost first: it is open, and holds
+-- the block stands at the k-th index of the open blocks, the outermost first: it is open, and holds
 -- the blocks above it
 pub record IsOnStack (statements : List Sentence) (starts open_blocks : List ℕ)
     (k block : ℕ) : Type 0 where
@@ -38,18 +38,18 @@ pub record IsOnStack (statements : List Sentence) (starts open_blocks : List ℕ
   pub above : open_marks (drop start statements) + suc k
       ≡ close_marks (drop start statements) + length open_blocks
 
--- the block directly holds the statement at the place: no block that holds the statement begins
+-- the block directly holds the statement at the index: no block that holds the statement begins
 -- later
 pub record DirectlyHolds (statements : List Sentence) (starts : List ℕ)
-    (block place : ℕ) : Type 0 where
+    (block index : ℕ) : Type 0 where
   pub start : ℕ
   pub there : slice_get starts block ≡ Some start
-  pub before : start ≤ place
-  pub unclosed : IsUnclosed (take (suc place) statements) start
-  pub nearest : (outer : ℕ) → Holds statements outer place → outer < start
+  pub before : start ≤ index
+  pub unclosed : IsUnclosed (take (suc index) statements) start
+  pub nearest : (outer : ℕ) → Holds statements outer index → outer < start
 
 -- The blocks of these statements by number: the number of the block that directly holds each
--- statement; each block's end, the place of its `$}` or `never`; and the open blocks, the outermost
+-- statement; each block's end, the index of its `$}` or `never`; and the open blocks, the outermost
 -- first.
 pub record AreScopes (never : ℕ) (statements : List Sentence)
     (blocks ends open_blocks : List ℕ) : Type 0 where
@@ -66,9 +66,9 @@ pub record AreScopes (never : ℕ) (statements : List Sentence)
       → j < k → a < b
   pub on_stack : (k b : ℕ) → slice_get open_blocks k ≡ Some b
       → IsOnStack statements starts open_blocks k b
-  pub complete : (place : ℕ) → IsOpen statements place
+  pub complete : (index : ℕ) → IsOpen statements index
       → (k : ℕ) × (b : ℕ) × (slice_get open_blocks k ≡ Some b)
-      × (slice_get starts b ≡ Some (suc place))
+      × (slice_get starts b ≡ Some (suc index))
   pub ended : (b x c : ℕ) → slice_get starts b ≡ Some x → slice_get ends b ≡ Some c
       → ((c ≡ never) × (k : ℕ) × (slice_get open_blocks k ≡ Some b)) ⊎ IsEnd statements x c
   pub holders : (i b : ℕ) → slice_get blocks i ≡ Some b → DirectlyHolds statements starts b i

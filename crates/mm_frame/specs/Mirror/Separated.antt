@@ -16,9 +16,9 @@ use Rattle.mm_frame.specs.Mirror.Grows.{entry_of}
 abbrev pub ordered_pair : ℕ → ℕ → ℕ × ℕ
 ordered_pair a b = if nat_lt a b then (a, b) else (b, a)
 
--- a `$d` at the place states the pair
+-- a `$d` at the index states the pair
 abbrev pub stated_at : ℕ → ℕ × ℕ → Stated
-stated_at place pair = record { pair = pair; place = place }
+stated_at index pair = record { pair = pair; index = index }
 
 -- the symbols with two numbers are a distinct pair already
 abbrev pub IsOld : List Sentence → ℕ → ℕ → Type 0
@@ -32,12 +32,12 @@ IsFresh statements a b =
     (x y : List ℕ) → IsNumberOf statements x a → IsNumberOf statements y b
     → ¬ (IsDistinct statements x y)
 
--- the members at two places: the later one stands before i, or it is the one at i and the other
+-- the members at two indices: the later one stands before i, or it is the one at i and the other
 -- stands before j
 abbrev pub IsPassed : ℕ → ℕ → ℕ → ℕ → Type 0
 IsPassed i j u v = (u < v) × ((v < i) ⊎ ((v ≡ i) × (u < j)))
 
--- the pairs of the members at those places that aren't distinct already, each once if no member
+-- the pairs of the members at those indices that aren't distinct already, each once if no member
 -- stands twice
 pub record ArePaired (statements : List Sentence) (members : List Sym) (i j : ℕ)
     (pairs : List (ℕ × ℕ)) : Type 0 where

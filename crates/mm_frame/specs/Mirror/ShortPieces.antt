@@ -15,7 +15,7 @@ piece_by n = if nat_lt n 2147483648 then Symbol (record { 0 = n }) else Value (4
 -- the number as which a piece is stored
 abbrev pub stored : Piece → ℕ
 stored (Symbol symbol) = symbol.0
-stored (Value place) = 4294967295 - place
+stored (Value index) = 4294967295 - index
 
 -- what is stored gives the number back
 again : (n : ℕ) → n ≤ 4294967295 → stored (piece_by n) ≡ n

@@ -9,14 +9,14 @@ use Rattle.mm_frame.specs.declared.wide.WideDistinct.{WideDistinct}
 use Rattle.mm_frame.specs.Sentence.{Sentence}
 use Rattle.mm_frame.specs.Active.{IsActive}
 
--- a `$d` states a pair: the numbers of the two variables, the lesser one first, and the place of
+-- a `$d` states a pair: the numbers of the two variables, the lesser one first, and the index of
 -- the `$d`
 pub record Stated : Type 0 where
   pub pair : ℕ × ℕ
-  pub place : ℕ
+  pub index : ℕ
 
 abbrev pub stated_by : Span → Stated
-stated_by span = record { pair = span.pair; place = span.place }
+stated_by span = record { pair = span.pair; index = span.index }
 
 -- what `$d` state: pairs, and the `$d` of many variables as they are
 pub record AllStated : Type 0 where
@@ -28,26 +28,26 @@ pub record PairTable : Type 0 where
   pub stated : AllStated
   pub room : ℕ
 
--- the place before another that states the pair last, if there is one
+-- the index before another that states the pair last, if there is one
 abbrev pub IsLatestStated : List Stated → ℕ × ℕ → ℕ → Option ℕ → Type 0
 IsLatestStated spans pair before None =
     (j : ℕ) (other : Stated) → slice_get spans j ≡ Some other → other.pair ≡ pair
-    → before ≤ other.place
-IsLatestStated spans pair before (Some place) =
+    → before ≤ other.index
+IsLatestStated spans pair before (Some index) =
     (i : ℕ) × (span : Stated) × (slice_get spans i ≡ Some span) × (span.pair ≡ pair)
-    × (span.place ≡ place) × (place < before)
+    × (span.index ≡ index) × (index < before)
     × ((j : ℕ) (other : Stated) → i < j → slice_get spans j ≡ Some other → other.pair ≡ pair
-    → before ≤ other.place)
+    → before ≤ other.index)
 
--- a `$d` before a place that is active there states the pair
+-- a `$d` before an index that is active there states the pair
 pub record HasSpan (statements : List Sentence) (spans : List Stated) (pair : ℕ × ℕ)
     (before : ℕ) : Type 0 where
   pub i : ℕ
   pub span : Stated
   pub there : slice_get spans i ≡ Some span
   pub same : span.pair ≡ pair
-  pub early : span.place < before
-  pub active : IsActive (take before statements) span.place
+  pub early : span.index < before
+  pub active : IsActive (take before statements) span.index
 
 -- the last of the first so many spans that has the pair, if there is one
 abbrev pub IsLastSpan : List Span → ℕ → ℕ × ℕ → Option ℕ → Type 0
@@ -65,20 +65,20 @@ abbrev pub AreOlder : List Span → Type 0
 AreOlder spans =
     (i : ℕ) (span : Span) → slice_get spans i ≡ Some span → IsLastSpan spans i span.pair span.older
 
--- the place in the table of a pair of two numbers that are below 256
-abbrev pub near_place : ℕ × ℕ → Option ℕ
-near_place p =
+-- the index in the table of a pair of two numbers that are below 256
+abbrev pub near_index : ℕ × ℕ → Option ℕ
+near_index p =
     if (nat_lt p.0 256) && (nat_lt p.1 256) then Some (p.0 * 256 + p.1) else None
 
--- what the table has of a place of it, or else what the map has
+-- what the table has of an index of it, or else what the map has
 abbrev pub newest_in : List (Option ℕ) → Option ℕ → Option ℕ → Option ℕ
 newest_in near None far = far
-newest_in near (Some place) far =
-    if nat_lt place (length near) then slice_index_or near place None else far
+newest_in near (Some index) far =
+    if nat_lt index (length near) then slice_index_or near index None else far
 
 -- the number of the newest span of a pair
 abbrev pub newest_of : {S : Type 0} → List (Option ℕ) → IndexMap (ℕ × ℕ) ℕ S → ℕ × ℕ → Option ℕ
-newest_of {S} near far p = newest_in near (near_place p) (get is_same_key far p)
+newest_of {S} near far p = newest_in near (near_index p) (get is_same_key far p)
 
 -- each span names the one of its pair before it, and of each pair the newest one is known
 pub record AreLinked (spans : List Span) (newest : ℕ × ℕ → Option ℕ) : Type 0 where

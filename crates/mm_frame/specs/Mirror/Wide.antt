@@ -12,7 +12,7 @@ use Rattle.mm_frame.specs.Active.{IsActive}
 pub record IsWide (statements : List Sentence) (symbols : List (List ℕ))
     (w : WideDistinct) : Type 0 where
   pub d : Sentence
-  pub there : slice_get statements w.place ≡ Some d
+  pub there : slice_get statements w.index ≡ Some d
   pub kind : d.kind ≡ Distinct
   pub only : (n : ℕ) → Contains w.members.items n
       → (x : List ℕ) × (slice_get symbols n ≡ Some x) × Contains d.symbols x
@@ -28,28 +28,28 @@ pub record AreWide (statements : List Sentence) (symbols : List (List ℕ))
   pub older : (i : ℕ) (w : WideDistinct) → slice_get wide i ≡ Some w → w.older ≤ i
   pub passed : (i k : ℕ) (w v : WideDistinct) → slice_get wide i ≡ Some w
       → slice_get wide k ≡ Some v → w.older ≤ k → k < i
-      → (v.place < w.place) × ¬ (IsActive (take w.place statements) v.place)
+      → (v.index < w.index) × ¬ (IsActive (take w.index statements) v.index)
 
--- the `$d` stands before a place, is active there and holds two symbols
+-- the `$d` stands before an index, is active there and holds two symbols
 abbrev pub HoldsPair : List Sentence → ℕ → ℕ → ℕ → WideDistinct → Type 0
 HoldsPair statements before a b w =
-    (w.place < before) × Contains w.members.items a × Contains w.members.items b
-    × IsActive (take before statements) w.place
+    (w.index < before) × Contains w.members.items a × Contains w.members.items b
+    × IsActive (take before statements) w.index
 
 -- some `$d` of many variables does
 abbrev pub IsHeld : List Sentence → List WideDistinct → ℕ → ℕ → ℕ → Type 0
 IsHeld statements wide before a b =
     (i : ℕ) × (w : WideDistinct) × (slice_get wide i ≡ Some w) × HoldsPair statements before a b w
 
--- none from a place in the list on is so
+-- none from an index in the list on is so
 abbrev pub NoneFrom : (WideDistinct → Type 0) → List WideDistinct → ℕ → Type 0
 NoneFrom P wide n = (k : ℕ) (w : WideDistinct) → n ≤ k → slice_get wide k ≡ Some w → ¬ (P w)
 
 -- what is kept of a new `$d` with these members
 pub record IsNewWide (statements : List Sentence) (wide : List WideDistinct) (members : List Sym)
     (w : WideDistinct) : Type 0 where
-  pub place : w.place ≡ length statements
+  pub index : w.index ≡ length statements
   pub among : IsPermutation (map (λ n. n.0) members) w.members.items
   pub sorted : IsNonDecreasing w.members.items
   pub older : w.older ≤ length wide
-  pub passed : NoneFrom (λ v. IsActive statements v.place) wide w.older
+  pub passed : NoneFrom (λ v. IsActive statements v.index) wide w.older

@@ -1,5 +1,5 @@
--- Labels by their numbers, which rise with the places of their statements, moves by theirs, and a
--- whole proof at the place of its statement's number.
+-- Labels by their numbers, which rise with the indices of their statements, moves by theirs, and a
+-- whole proof at the index of its statement's number.
 use Rattle.std.proofs.Common.{◌≡◌, ℕ, ◌<◌, ◌≤◌, List, length, take, sym, ap, ◌∙◌, arith, slice_get}
 use Rattle.std.proofs.Common.{inr, subst}
 use Rattle.mm_frame.specs.Sentence.{Sentence, IsLabelled}
@@ -18,7 +18,8 @@ use Rattle.mm_proof.specs.Proof.{IsWhole, IsWholeFault}
 use Rattle.mm_proof.specs.Verified.{OfMoves, ProvesUsingNumbers, FailsWith, TokensProve, TokensFail}
 use Rattle.mm_proof.specs.Parsed.{OfProof, SaySteps}
 
--- ==== labels by their numbers, which rise with the places of their statements, and moves by theirs
+-- ==== labels by their numbers, which rise with the indices of their statements, and moves by
+-- theirs
 
 -- a number that isn't less is that of no earlier statement
 numbers_order_back : (statements : List Sentence) (i j p q : ℕ) (s t : Sentence) → IsNumbered statements i p s → IsNumbered statements j q t → j ≤ i → q ≤ p
@@ -34,17 +35,17 @@ numbers_order statements i j p q s t n m less =
     grind arith
 
 -- the statement with a number that isn't less has the label, so no statement before has it
-pub not_earlier : (statements : List Sentence) (found at : ℕ) (s : Sentence) (id place : ℕ) (own : Sentence) (label : List ℕ) → AllMeant statements
-    → IsNumbered statements found at s → IsLabelled label s → IsNumbered statements id place own → id ≤ found → IsUnknown statements place label
-not_earlier statements found at s id place own label all n named m le h =
-    let front = get_from_take statements place h.0 h.1 h.2 in
-    let one : h.0 ≡ at = one_label statements h.0 at h.1 s label all front.1 n.there h.3 named in
-    let after = numbers_order_back statements found id at place s own n m le in
-    absurd (let before : h.0 < place = front.0 in omega arith)
+pub not_earlier : (statements : List Sentence) (found at : ℕ) (s : Sentence) (id index : ℕ) (own : Sentence) (label : List ℕ) → AllMeant statements
+    → IsNumbered statements found at s → IsLabelled label s → IsNumbered statements id index own → id ≤ found → IsUnknown statements index label
+not_earlier statements found at s id index own label all n named m le h =
+    let prefix = get_from_take statements index h.0 h.1 h.2 in
+    let one : h.0 ≡ at = one_label statements h.0 at h.1 s label all prefix.1 n.there h.3 named in
+    let after = numbers_order_back statements found id at index s own n m le in
+    absurd (let before : h.0 < index = prefix.0 in omega arith)
 
--- a number is that of one place
-pub one_place : (statements : List Sentence) (id p q : ℕ) (s t : Sentence) → IsNumbered statements id p s → IsNumbered statements id q t → p ≡ q
-one_place statements id p q s t n m =
+-- a number is that of one index
+pub one_index : (statements : List Sentence) (id p q : ℕ) (s t : Sentence) → IsNumbered statements id p s → IsNumbered statements id q t → p ≡ q
+one_index statements id p q s t n m =
     (numbered_unique statements id p q s t n m).0
 
 -- a move by a number is that of one label
@@ -56,12 +57,12 @@ one_move st (name id) y z a b =
 one_move st (again tag) y z a b = a ∙ sym b
 one_move st mark y z a b = a ∙ sym b
 
--- ==== what is read as a proof at its own place, wherever the statement with its number stands
+-- ==== what is read as a proof at its own index, wherever the statement with its number stands
 
 pub reading_said : (st : List Sentence) (id own : ℕ) (t : Sentence) (tokens : List (List ℕ)) (steps : List (Move ℕ)) → IsNumbered st id own t → IsReading st own tokens steps
-    → OfProof st id (λ place s. SaySteps st place s tokens steps)
-reading_said st id own t tokens steps number r place s proof =
-    let at = one_place st id own place t s number proof.numbered in
+    → OfProof st id (λ index s. SaySteps st index s tokens steps)
+reading_said st id own t tokens steps number r index s proof =
+    let at = one_index st id own index t s number proof.numbered in
     let same = same_Some r.own s (sym r.there ∙ ap (slice_get st) at ∙ proof.numbered.there) in (
       subst (λ (k : ℕ). IsWhole (take k st) tokens) at r.whole,
       r.moves,
@@ -69,32 +70,32 @@ reading_said st id own t tokens steps number r place s proof =
       r.numbered,
     )
 
-pub reading_usable : (st : List Sentence) (id own place : ℕ) (t s : Sentence) (tokens : List (List ℕ)) (steps : List (Move ℕ)) → IsNumbered st id own t → IsProofNumber st id place s
+pub reading_usable : (st : List Sentence) (id own index : ℕ) (t s : Sentence) (tokens : List (List ℕ)) (steps : List (Move ℕ)) → IsNumbered st id own t → IsProofNumber st id index s
     → IsReading st own tokens steps → AreSteps st id steps
-reading_usable st id own place t s tokens steps number proof r = record {
-  place = place;
+reading_usable st id own index t s tokens steps number proof r = record {
+  index = index;
   s = s;
   proof = proof;
   moves = r.moves;
   numbered = r.numbered;
-  usable = subst (λ (k : ℕ). AllByRecursion (IsUsableMove (take k st)) r.moves) (one_place st id own place t s number proof.numbered) r.usable;
+  usable = subst (λ (k : ℕ). AllByRecursion (IsUsableMove (take k st)) r.moves) (one_index st id own index t s number proof.numbered) r.usable;
 }
 
 pub whole_fault_there : (st : List Sentence) (id own : ℕ) (t : Sentence) (tokens : List (List ℕ)) (rule : ProofRule) (step : ℕ) → IsNumbered st id own t
-    → (step ≡ 0) × IsWholeFault (take own st) tokens rule → OfProof st id (λ place s. (step ≡ 0) × IsWholeFault (take place st) tokens rule)
-whole_fault_there st id own t tokens rule step number f place s proof =
-    (f.0, subst (λ (k : ℕ). IsWholeFault (take k st) tokens rule) (one_place st id own place t s number proof.numbered) f.1)
+    → (step ≡ 0) × IsWholeFault (take own st) tokens rule → OfProof st id (λ index s. (step ≡ 0) × IsWholeFault (take index st) tokens rule)
+whole_fault_there st id own t tokens rule step number f index s proof =
+    (f.0, subst (λ (k : ℕ). IsWholeFault (take k st) tokens rule) (one_index st id own index t s number proof.numbered) f.1)
 
 -- ---- the tokens, from what is said of their moves
 
-pub tokens_prove : (limit : ℕ) (st : List Sentence) (id : ℕ) (tokens : List (List ℕ)) (steps : List (Move ℕ)) (used : List ℕ) → OfProof st id (λ place s. SaySteps st place s tokens steps)
-    → OfMoves st id steps (λ place s moves. ProvesUsingNumbers limit st place s moves used) → OfProof st id (λ place s. TokensProve limit (take place st) s tokens used)
-tokens_prove limit st id tokens steps used says proves place s proof =
-    let said = says place s proof in
-    let p = proves place s said.1 proof said.3 in
+pub tokens_prove : (limit : ℕ) (st : List Sentence) (id : ℕ) (tokens : List (List ℕ)) (steps : List (Move ℕ)) (used : List ℕ) → OfProof st id (λ index s. SaySteps st index s tokens steps)
+    → OfMoves st id steps (λ index s moves. ProvesUsingNumbers limit st index s moves used) → OfProof st id (λ index s. TokensProve limit (take index st) s tokens used)
+tokens_prove limit st id tokens steps used says proves index s proof =
+    let said = says index s proof in
+    let p = proves index s said.1 proof said.3 in
     record { proof = record { whole = said.0; moves = said.1; said = said.2; proves = p.0 }; all = p.1 }
 
-pub tokens_fail : (limit : ℕ) (st : List Sentence) (id : ℕ) (tokens : List (List ℕ)) (steps : List (Move ℕ)) (rule : ProofRule) (step : ℕ) → OfProof st id (λ place s. SaySteps st place s tokens steps)
-    → OfMoves st id steps (λ place s moves. FailsWith limit st place s moves rule step) → OfProof st id (λ place s. TokensFail limit (take place st) s tokens rule step)
-tokens_fail limit st id tokens steps rule step says fails place s proof =
-    let said = says place s proof in inr (said.0, said.1, said.2, fails place s said.1 proof said.3)
+pub tokens_fail : (limit : ℕ) (st : List Sentence) (id : ℕ) (tokens : List (List ℕ)) (steps : List (Move ℕ)) (rule : ProofRule) (step : ℕ) → OfProof st id (λ index s. SaySteps st index s tokens steps)
+    → OfMoves st id steps (λ index s moves. FailsWith limit st index s moves rule step) → OfProof st id (λ index s. TokensFail limit (take index st) s tokens rule step)
+tokens_fail limit st id tokens steps rule step says fails index s proof =
+    let said = says index s proof in inr (said.0, said.1, said.2, fails index s said.1 proof said.3)

@@ -16,7 +16,7 @@ use Rattle.std.proofs.lemmas.List.{append-nil, append_cancel_left, length-append
 use Rattle.std.proofs.lemmas.List.{take-append-drop, get_or-map, map-append, drop-map}
 use Rattle.std.proofs.lemmas.List.Concat.{flat_map-append}
 use Rattle.mm_frame.specs.declared.number.Sym.{Sym}
-use Rattle.mm_proof.specs.Stores.{numbers_in, said_by, all_said_by, IsWithinPlaces}
+use Rattle.mm_proof.specs.Stores.{numbers_in, said_by, all_said_by, IsWithinIndices}
 use Rattle.mm_frame.specs.declared.piece.Piece.{Piece}
 use Rattle.mm_frame.specs.declared.piece.Piece.TheVariants.{Symbol, Value}
 use Rattle.mm_text.proofs.Lists.{all_at, same_length, mapped_zip, zip_left, zip_right, all_append}
@@ -29,7 +29,7 @@ use Rattle.mm_proof.specs.Mirror.CodeVerify.{IsUnequal, Replaces}
 use Rattle.mm_text.specs.declared.statement.Kind.TheVariants.{Floating, Essential}
 use Rattle.mm_frame.specs.Sentence.{Sentence, Types}
 use Rattle.mm_frame.specs.Numbers.{symbols_of, labelled_sentences, IsNumberOf, AreNumbers}
-use Rattle.mm_frame.specs.FramePlace.{IsTypingOf, HaveTypings}
+use Rattle.mm_frame.specs.FrameIndex.{IsTypingOf, HaveTypings}
 use Rattle.mm_frame.specs.Laws.{OneNumber}
 use Rattle.mm_frame.specs.declared.hypothesis.Hypothesis.{Hypothesis}
 use Rattle.mm_proof.specs.Plain.{label_ids}
@@ -45,14 +45,14 @@ pub value_nowhere : (n : ℕ) (variables : List (Option ℕ)) (entries : List (L
 value_nowhere n (v ∷ variables) (e ∷ entries) h = rw (h 0) (value_nowhere n variables entries (λ k. h (suc k)))
 value_nowhere n variables entries h = refl
 
-pub value_first : (n : ℕ) (variables : List (Option ℕ)) (entries : List (List ℕ)) (place : ℕ) (e : List ℕ) → IsFirstAt n variables place → slice_get entries place ≡ Some e
+pub value_first : (n : ℕ) (variables : List (Option ℕ)) (entries : List (List ℕ)) (index : ℕ) (e : List ℕ) → IsFirstAt n variables index → slice_get entries index ≡ Some e
     → value_of variables entries n ≡ Some (drop 1 e)
-value_first n [] entries place e f at = absurd (let l : place < 0 = f.within in omega arith)
-value_first n (v ∷ variables) [] place e f at = absurd (none-some e at)
+value_first n [] entries index e f at = absurd (let l : index < 0 = f.within in omega arith)
+value_first n (v ∷ variables) [] index e f at = absurd (none-some e at)
 value_first n (v ∷ variables) (x ∷ entries) zero e f at = rw f.is (ap (λ (l : List ℕ). Some (drop 1 l)) (same_Some x e at))
-value_first n (v ∷ variables) (x ∷ entries) (suc place) e f at =
-    rw (f.first 0 (omega arith)) (value_first n variables entries place e
-    (record { within = (let l : suc place < suc (length variables) = f.within in omega arith); is = f.is; first = λ k less. f.first (suc k) (omega arith) }) at)
+value_first n (v ∷ variables) (x ∷ entries) (suc index) e f at =
+    rw (f.first 0 (omega arith)) (value_first n variables entries index e
+    (record { within = (let l : suc index < suc (length variables) = f.within in omega arith); is = f.is; first = λ k less. f.first (suc k) (omega arith) }) at)
 
 pub all_rest : {A : Type 0} (P : A → Type 0) (xs : List A) → AllByRecursion P xs
     → AllByRecursion P (drop 1 xs)
@@ -67,10 +67,10 @@ value_all P (x ∷ vs) (e ∷ es) n v all is = ⊎_elim
     (λ f. value_all P vs es n v all.1 (rw f at is)) (cases_Bool (is_of n x))
 value_all P vs es n v all is = absurd cc
 
--- what replaces the variable whose `$f` stands at the place
-pub value_placed : (n : ℕ) (variables : List (Option ℕ)) (entries : List (List ℕ)) (place : ℕ) (v : List ℕ) → IsFirstAt n variables place → place < length entries → v ≡ drop 1 (get_or entries place [])
+-- what replaces the variable whose `$f` stands at the index
+pub value_placed : (n : ℕ) (variables : List (Option ℕ)) (entries : List (List ℕ)) (index : ℕ) (v : List ℕ) → IsFirstAt n variables index → index < length entries → v ≡ drop 1 (get_or entries index [])
     → value_of variables entries n ≡ Some v
-value_placed n variables entries place v first less is = value_first n variables entries place (get_or entries place []) first (slice_get-get_or entries place [] less) ∙ ap Some (sym is)
+value_placed n variables entries index v first less is = value_first n variables entries index (get_or entries index []) first (slice_get-get_or entries index [] less) ∙ ap Some (sym is)
 
 pub drop_get : {X : Type 0} (xs : List X) (base i : ℕ) → slice_get (drop base xs) i ≡ slice_get xs (base + i)
 drop_get xs zero i = let e : 0 + i ≡ i = omega arith in ap (slice_get xs) (sym e)
@@ -88,11 +88,11 @@ same_numbers (x ∷ xs) (y ∷ ys) = ap (λ b. eqb x.0 y.0 && b) (same_numbers x
 pub same_told : (xs ys : List ℕ) (r : Bool) → r ≡ bytes_eq xs ys → (IsTrue r → xs ≡ ys) × (xs ≡ ys → IsTrue r)
 same_told xs ys r is = let d = bytes_eq-Decides xs ys in (λ t. d.0 (sym is ∙ t), λ e. is ∙ d.1 e)
 
--- what begins so has that front
-pub front_of : (symbols front begin : List Sym) (n : ℕ) (rest : List ℕ) → begin ≡ take n symbols → n ≡ length front → numbers_in symbols ≡ numbers_in front ++ rest → numbers_in begin ≡ numbers_in front
-front_of symbols front begin n rest b count e =
-    let size : length (numbers_in front) ≡ n = omega (arith, length-map front (λ s. s.0)) in
-    ap numbers_in b ∙ sym (take-map (λ s. s.0) n symbols) ∙ ap (take n) e ∙ take_at (numbers_in front) rest n size
+-- what begins so has that prefix
+pub prefix_of : (symbols prefix begin : List Sym) (n : ℕ) (rest : List ℕ) → begin ≡ take n symbols → n ≡ length prefix → numbers_in symbols ≡ numbers_in prefix ++ rest → numbers_in begin ≡ numbers_in prefix
+prefix_of symbols prefix begin n rest b count e =
+    let size : length (numbers_in prefix) ≡ n = omega (arith, length-map prefix (λ s. s.0)) in
+    ap numbers_in b ∙ sym (take-map (λ s. s.0) n symbols) ∙ ap (take n) e ∙ take_at (numbers_in prefix) rest n size
 
 -- ---- saying, one piece after the other
 
@@ -101,7 +101,7 @@ module _ {X : Type 0} (f : X → List ℕ) (pieces : List X) (i : ℕ) where
       → flat_map f (take (i + 1) pieces) ≡ flat_map f (take i pieces) ++ f (get_or pieces i d)
   said_more d less = rw (take_more pieces i d less, flat_map-append, append-nil)
 
-  -- the whole goes on behind a front
+  -- the whole goes on behind a prefix
   said_whole : flat_map f pieces ≡ flat_map f (take i pieces) ++ flat_map f (drop i pieces)
   said_whole = ap (flat_map f) (sym (take-append-drop i pieces)) ∙ flat_map-append f (take i pieces) (drop i pieces)
 
@@ -136,7 +136,7 @@ said_end f pieces i whole rest r all inv to from = (
     here : whole ≡ flat_map f pieces ++ numbers_in rest
     here = inv ∙ ap (λ l. flat_map f l ++ numbers_in rest) (take_all i pieces all)
 
--- a front over the limit puts the whole over it
+-- a prefix over the limit puts the whole over it
 pub said_over : {X : Type 0} (f : X → List ℕ) (pieces : List X) (i n : ℕ) → n < length (flat_map f (take i pieces)) → n < length (flat_map f pieces)
 said_over f pieces i n over = omega (arith, over, ap length (said_whole f pieces i), length-append (flat_map f (take i pieces)) (flat_map f (drop i pieces)))
 
@@ -153,9 +153,9 @@ no_piece = Symbol (record { 0 = 0 })
 
 piece_says : (vs : List (Option ℕ)) (es : List (List ℕ)) (n : ℕ) (p : Piece) → length vs ≡ length es → IsPieceOf vs n p → said_by es p ≡ unwrap_or (value_of vs es n) (n ∷ [])
 piece_says vs es n (Symbol symbol) size is = rw (value_nowhere n vs es is.1) (ap (λ m. m ∷ []) is.0)
-piece_says vs es n (Value place) size is =
-    let there = slice_get-get_or es place [] (omega (arith, is.within, size)) in
-    rw (value_first n vs es place (get_or es place []) is there) refl
+piece_says vs es n (Value index) size is =
+    let there = slice_get-get_or es index [] (omega (arith, is.within, size)) in
+    rw (value_first n vs es index (get_or es index []) is there) refl
 
 pub pattern_says : (vs : List (Option ℕ)) (es : List (List ℕ)) (ns : List ℕ) (pieces : List Piece) → length vs ≡ length es → ArePieces vs ns pieces → all_said_by es pieces ≡ replaced_in (value_of vs es) ns
 pattern_says vs es [] [] size are = refl
@@ -163,17 +163,17 @@ pattern_says vs es (n ∷ ns) (p ∷ pieces) size are =
     rw (piece_says vs es n p size are.0, pattern_says vs es ns pieces size are.1)
 pattern_says vs es ns pieces size are = absurd are
 
-piece_within : (vs : List (Option ℕ)) (n count : ℕ) (p : Piece) → length vs ≡ count → IsPieceOf vs n p → IsWithinPlaces count p
+piece_within : (vs : List (Option ℕ)) (n count : ℕ) (p : Piece) → length vs ≡ count → IsPieceOf vs n p → IsWithinIndices count p
 piece_within vs n count (Symbol symbol) size is = tt
-piece_within vs n count (Value place) size is = let within = is.within in omega (arith, within, size)
+piece_within vs n count (Value index) size is = let within = is.within in omega (arith, within, size)
 
--- a pattern names no place behind the hypotheses
-pattern_within : (vs : List (Option ℕ)) (count : ℕ) (ns : List ℕ) (pieces : List Piece) → length vs ≡ count → ArePieces vs ns pieces → AllByRecursion (IsWithinPlaces count) pieces
+-- a pattern names no index behind the hypotheses
+pattern_within : (vs : List (Option ℕ)) (count : ℕ) (ns : List ℕ) (pieces : List Piece) → length vs ≡ count → ArePieces vs ns pieces → AllByRecursion (IsWithinIndices count) pieces
 pattern_within vs count [] [] size are = tt
 pattern_within vs count (n ∷ ns) (p ∷ pieces) size are = (piece_within vs n count p size are.0, pattern_within vs count ns pieces size are.1)
 pattern_within vs count ns pieces size are = absurd are
 
--- what holds of each element holds of that at a place
+-- what holds of each element holds of that at an index
 pub within_at : {A : Type 0} (P : A → Type 0) (xs : List A) (i : ℕ) (d : A)
     → AllByRecursion P xs → i < length xs → P (get_or xs i d)
 within_at P xs i d all less = all_at P xs i (get_or xs i d) all (slice_get-get_or xs i d less)
@@ -243,7 +243,7 @@ no_variable st h essential floats = let both : Floating ≡ Essential = sym floa
 abbrev pub no_hypothesis : Hypothesis
 no_hypothesis = record { id = record { 0 = 0 }; typing = None; pattern = record { start = 0; end = 0 } }
 
--- the hypothesis with the number at a place, whose typing is what stands with it
+-- the hypothesis with the number at an index, whose typing is what stands with it
 pub hypothesis_at : (st : List Sentence) (xs : List Hypothesis) (hs : List Sentence) (i : ℕ)
     (d : Hypothesis) → HaveTypings st xs → AreHypothesesOf st (label_ids xs) hs → i < length xs
     → (h : Sentence) × (slice_get hs i ≡ Some h)
@@ -273,7 +273,7 @@ typed_variables st (x ∷ xs) (h ∷ hs) have are =
     )
 typed_variables st xs hs have are = absurd cc
 
--- the entry at a place, by names
+-- the entry at an index, by names
 pub entry_at : (st : List Sentence) (stack : List (List ℕ)) (base i : ℕ) (e : List ℕ) → slice_get stack (base + i) ≡ Some e → slice_get (all_names_at st (drop base stack)) i ≡ Some (names_at st e)
 entry_at st stack base i e at =
     slice_get-map (λ (l : List ℕ). map (name_at st) l) (drop base stack) i ∙ ap (option_map (λ (l : List ℕ). map (name_at st) l)) (drop_get stack base i ∙ at)
@@ -303,7 +303,7 @@ each_more hs entries P n h e at_h at_e here = each_next hs entries P n h at_h (�
 pub as_many : (st : List Sentence) (ids : List Hypothesis) (hs : List Sentence) → AreHypothesesOf st (label_ids ids) hs → length hs ≡ length ids
 as_many st ids hs are = sym (same_length _ Some (label_ids ids) hs are) ∙ length-map ids _
 
--- the variable at a place is that of the hypothesis there
+-- the variable at an index is that of the hypothesis there
 pub variable_typed : (st : List Sentence) (vs : List (Option ℕ)) (hs : List Sentence) (i : ℕ) (h : Sentence) → AreVariablesOf st vs hs → slice_get hs i ≡ Some h
     → IsVariableOf st (get_or vs i None) h
 variable_typed st vs hs i h all at =
@@ -420,15 +420,15 @@ pattern_found st vs xs pieces part i d h have less none is there =
     let same : says.0 ≡ h = same_Some says.0 h (sym says.1 ∙ there) in
     subst (λ (g : Sentence). AreItsPieces st vs g part) same (subst (AreItsPieces st vs says.0) (sym (is has.ordered has.within)) says.2)
 
--- it names no place behind the hypotheses
-pub its_within : (st : List Sentence) (vs : List (Option ℕ)) (count : ℕ) (h : Sentence) (part : List Piece) → length vs ≡ count → AreItsPieces st vs h part → AllByRecursion (IsWithinPlaces count) part
+-- it names no index behind the hypotheses
+pub its_within : (st : List Sentence) (vs : List (Option ℕ)) (count : ℕ) (h : Sentence) (part : List Piece) → length vs ≡ count → AreItsPieces st vs h part → AllByRecursion (IsWithinIndices count) part
 its_within st vs count h part size its = pattern_within vs count its.0 part size its.2
 
 pub part_within : (st : List Sentence) (vs : List (Option ℕ)) (xs : List Hypothesis) (pieces part : List Piece) (i count : ℕ) (d : Hypothesis) → length vs ≡ count → HavePatterns st vs pieces xs
     → i < length xs → is_some (get_or xs i d).typing ≡ false
     → ((get_or xs i d).pattern.start ≤ (get_or xs i d).pattern.end → (get_or xs i d).pattern.end ≤ length pieces
     → part ≡ slice_range pieces (get_or xs i d).pattern.start (get_or xs i d).pattern.end)
-    → AllByRecursion (IsWithinPlaces count) part
+    → AllByRecursion (IsWithinIndices count) part
 part_within st vs xs pieces part i count d size have less none is =
     let says = (have i (get_or xs i d) (slice_get-get_or xs i d less)).says (none_there _ none) in
     its_within st vs count says.0 part size (pattern_found st vs xs pieces part i d says.0 have less none is says.1)

@@ -52,9 +52,9 @@ pub symbol_at : (st before : List Sentence) (ns : List ℕ) (k : ℕ) → AreDec
 symbol_at st before ns k all less = within_at (IsSymbol st before) ns k 0 all less
 
 -- a variable of all statements that was declared before is a variable of those before
-variable_before : (st : List Sentence) (place n : ℕ) → AllMeant st → IsSymbol st (take place st) n → IsVariable st (name_at st n) → ¬ (¬ (IsVariable (take place st) (name_at st n)))
-variable_before st place n all s variable none =
-    s.declared (λ d. ⊎_elim (λ c. one_role st (name_at st n) all (some_later st place (Declares Constants (name_at st n)) c) variable) none d)
+variable_before : (st : List Sentence) (index n : ℕ) → AllMeant st → IsSymbol st (take index st) n → IsVariable st (name_at st n) → ¬ (¬ (IsVariable (take index st) (name_at st n)))
+variable_before st index n all s variable none =
+    s.declared (λ d. ⊎_elim (λ c. one_role st (name_at st n) all (some_later st index (Declares Constants (name_at st n)) c) variable) none d)
 
 -- a name stands among the names as the number does among the numbers
 named_has : (st : List Sentence) (ns : List ℕ) (n : ℕ) → Contains ns n → Contains (names_at st ns) (name_at st n)
@@ -69,27 +69,27 @@ has_named st ns u (k, less, is) =
     let within : k < length ns = omega (arith, less, length-map ns (name_at st)) in
     (k, within, sym (get_or-map (name_at st) ns k 0 u within) ∙ is)
 
--- the number at a place is one of the numbers
+-- the number at an index is one of the numbers
 number_among : (ns : List ℕ) (k : ℕ) → k < length ns → Contains ns (get_or ns k 0)
 number_among ns k less = (k, less, get_or_default ns k (get_or ns k 0) 0 less)
 
 -- a shared variable
-pub shared_told : (st : List Sentence) (place : ℕ) (e f : List ℕ) (k : ℕ) → AllMeant st → AreDeclaredSymbols st (take place st) e → k < length e
-    → IsVariable st (name_at st (get_or e k 0)) → Contains f (get_or e k 0) → ¬ (ShareNoVariable (take place st) (names_at st e) (names_at st f))
-shared_told st place e f k all symbols less variable has none =
-    variable_before st place (get_or e k 0) all (symbol_at st (take place st) e k symbols less) variable
+pub shared_told : (st : List Sentence) (index : ℕ) (e f : List ℕ) (k : ℕ) → AllMeant st → AreDeclaredSymbols st (take index st) e → k < length e
+    → IsVariable st (name_at st (get_or e k 0)) → Contains f (get_or e k 0) → ¬ (ShareNoVariable (take index st) (names_at st e) (names_at st f))
+shared_told st index e f k all symbols less variable has none =
+    variable_before st index (get_or e k 0) all (symbol_at st (take index st) e k symbols less) variable
     (λ v. none (name_at st (get_or e k 0)) v (named_has st e (get_or e k 0) (number_among e k less)) (named_has st f (get_or e k 0) has))
 
 -- no variable is shared
-pub not_shared_told : OneNumber → (st : List Sentence) (place : ℕ) (e f : List ℕ) → AreDeclaredSymbols st (take place st) e → AreDeclaredSymbols st (take place st) f
-    → ((k : ℕ) → k < length e → IsVariable st (name_at st (get_or e k 0)) → ¬ (Contains f (get_or e k 0))) → ShareNoVariable (take place st) (names_at st e) (names_at st f)
-not_shared_told one st place e f se sf none u variable in_e in_f =
+pub not_shared_told : OneNumber → (st : List Sentence) (index : ℕ) (e f : List ℕ) → AreDeclaredSymbols st (take index st) e → AreDeclaredSymbols st (take index st) f
+    → ((k : ℕ) → k < length e → IsVariable st (name_at st (get_or e k 0)) → ¬ (Contains f (get_or e k 0))) → ShareNoVariable (take index st) (names_at st e) (names_at st f)
+not_shared_told one st index e f se sf none u variable in_e in_f =
     let i = has_named st e u in_e in
     let j = has_named st f u in_f in
-    let bi = (symbol_at st (take place st) e i.0 se i.1).below in
-    let bj = (symbol_at st (take place st) f j.0 sf j.1).below in
+    let bi = (symbol_at st (take index st) e i.0 se i.1).below in
+    let bj = (symbol_at st (take index st) f j.0 sf j.1).below in
     let same = one_name one st (get_or f j.0 0) (get_or e i.0 0) bj bi (j.2 ∙ sym i.2) in
-    none i.0 i.1 (subst (IsVariable st) (sym i.2) (some_later st place (Declares Variables u) variable)) (subst (Contains f) same (number_among f j.0 j.1))
+    none i.0 i.1 (subst (IsVariable st) (sym i.2) (some_later st index (Declares Variables u) variable)) (subst (Contains f) same (number_among f j.0 j.1))
 
 pub and_told : (V H : Type 0) (r : Bool) → (IsTrue r → H) → (H → IsTrue r) → V → MatchBool r (V × H) (V → ¬ H)
 and_told V H true to from v = (v, to refl)
@@ -120,21 +120,21 @@ apart_told V D true to from v = λ w. to refl
 apart_told V D false to from v = λ f. false≢true (from (f v))
 
 -- each of the one is apart from each of the other: the expressions are distinct
-pub distinct_told : (st : List Sentence) (place : ℕ) (e f : List ℕ) → ((k : ℕ) → k < length e → IsApartFromEach st place f (get_or e k 0)) → AreDistinct (take place st) (names_at st e) (names_at st f)
-distinct_told st place e f each u v var_u var_v in_e in_f =
+pub distinct_told : (st : List Sentence) (index : ℕ) (e f : List ℕ) → ((k : ℕ) → k < length e → IsApartFromEach st index f (get_or e k 0)) → AreDistinct (take index st) (names_at st e) (names_at st f)
+distinct_told st index e f each u v var_u var_v in_e in_f =
     let i = has_named st e u in_e in
     let j = has_named st f v in_f in
-    let d = each i.0 i.1 (subst (IsVariable st) (sym i.2) (some_later st place (Declares Variables u) var_u)) j.0 j.1 (subst (IsVariable st) (sym j.2) (some_later st place (Declares Variables v) var_v)) in
-    subst (λ (x : List ℕ). IsDistinct (take place st) x v) i.2 (subst (λ (y : List ℕ). IsDistinct (take place st) (name_at st (get_or e i.0 0)) y) j.2 d)
+    let d = each i.0 i.1 (subst (IsVariable st) (sym i.2) (some_later st index (Declares Variables u) var_u)) j.0 j.1 (subst (IsVariable st) (sym j.2) (some_later st index (Declares Variables v) var_v)) in
+    subst (λ (x : List ℕ). IsDistinct (take index st) x v) i.2 (subst (λ (y : List ℕ). IsDistinct (take index st) (name_at st (get_or e i.0 0)) y) j.2 d)
 
 -- one that isn't: they aren't
-pub near_told : (st : List Sentence) (place : ℕ) (e f : List ℕ) (k : ℕ) → AllMeant st → AreDeclaredSymbols st (take place st) e → AreDeclaredSymbols st (take place st) f → k < length e
-    → ¬ (IsApartFromEach st place f (get_or e k 0)) → ¬ (AreDistinct (take place st) (names_at st e) (names_at st f))
-near_told st place e f k all se sf less near distinct =
+pub near_told : (st : List Sentence) (index : ℕ) (e f : List ℕ) (k : ℕ) → AllMeant st → AreDeclaredSymbols st (take index st) e → AreDeclaredSymbols st (take index st) f → k < length e
+    → ¬ (IsApartFromEach st index f (get_or e k 0)) → ¬ (AreDistinct (take index st) (names_at st e) (names_at st f))
+near_told st index e f k all se sf less near distinct =
     near (λ var_u j in_f var_v.
-    decided (distinct_dec (take place st) (name_at st (get_or e k 0)) (name_at st (get_or f j 0)))
-    (variable_before st place (get_or e k 0) all (symbol_at st (take place st) e k se less) var_u)
-    (variable_before st place (get_or f j 0) all (symbol_at st (take place st) f j sf in_f) var_v)
+    decided (distinct_dec (take index st) (name_at st (get_or e k 0)) (name_at st (get_or f j 0)))
+    (variable_before st index (get_or e k 0) all (symbol_at st (take index st) e k se less) var_u)
+    (variable_before st index (get_or f j 0) all (symbol_at st (take index st) f j sf in_f) var_v)
     (λ u v. distinct (name_at st (get_or e k 0)) (name_at st (get_or f j 0)) u v (named_has st e _ (number_among e k less)) (named_has st f _ (number_among f j in_f))))
   where
     decided : {D U V : Type 0} → Dec D → ¬ (¬ U) → ¬ (¬ V) → (U → V → D) → D
@@ -181,7 +181,7 @@ pairs_more σ pairs P n d less below here k p lt at = elim (cases_lt k n) [
 
 -- what a pair that isn't there is read as
 abbrev pub no_pair : DistinctPair
-no_pair = record { variables = (record { 0 = 0 }, record { 0 = 0 }); places = (0, 0) }
+no_pair = record { variables = (record { 0 = 0 }, record { 0 = 0 }); indices = (0, 0) }
 
 pub pairs_length : (pairs : List DistinctPair) → length (pairs_in pairs) ≡ length pairs
 pairs_length pairs = length-map pairs _

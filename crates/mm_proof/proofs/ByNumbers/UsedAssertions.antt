@@ -34,8 +34,8 @@ use Rattle.mm_proof.specs.Plain.{ids_in, label_ids}
 use Rattle.mm_proof.specs.Mirror.CodeSteps.{MayBeUsed}
 use Rattle.mm_proof.specs.Mirror.CodeRun.{DoRise, MayBeMade, AreMarked, AreNamedNumbers}
 use Rattle.mm_frame.specs.declared.scheme.Scheme.{Scheme}
-use Rattle.mm_frame.specs.FramePlace.{AreHypotheses, HaveTypings, ArePairs}
-use Rattle.mm_frame.specs.Pieces.{variables_of, AreItsPieces, HavePatterns, HavePlaces}
+use Rattle.mm_frame.specs.FrameIndex.{AreHypotheses, HaveTypings, ArePairs}
+use Rattle.mm_frame.specs.Pieces.{variables_of, AreItsPieces, HavePatterns, HaveIndices}
 use Rattle.mm_proof.specs.Mirror.CodeVerify.{pairs_in}
 use Rattle.mm_proof.specs.Mirror.CodeApply.{IsEarlierScheme, IsCallOf, IsOfAssertion, MayBeCalled}
 use Rattle.mm_proof.specs.declared.call.Call.{Call}
@@ -131,25 +131,25 @@ labels_of_moves before moves row kept m label = (
 
 -- ==== the numbers of the assertions that a tree uses are those of the moves that make it
 
--- ---- numbers and places
+-- ---- numbers and indices
 
--- in a front it has the same number
-numbered_front : (statements : List Sentence) (id place end : ℕ) (s : Sentence) → place < end → IsNumbered statements id place s → IsNumbered (take end statements) id place s
-numbered_front statements id place end s less n = record {
-  there = get_take statements end place less ∙ n.there;
+-- in a prefix it has the same number
+numbered_prefix : (statements : List Sentence) (id index end : ℕ) (s : Sentence) → index < end → IsNumbered statements id index s → IsNumbered (take end statements) id index s
+numbered_prefix statements id index end s less n = record {
+  there = get_take statements end index less ∙ n.there;
   named = n.named;
-  number = ap (λ (l : List Sentence). length (labelled_sentences l)) (take-take place end statements (omega arith)) ∙ n.number;
+  number = ap (λ (l : List Sentence). length (labelled_sentences l)) (take-take index end statements (omega arith)) ∙ n.number;
 }
 
-numbered_whole : (statements : List Sentence) (id place end : ℕ) (s : Sentence) → IsNumbered (take end statements) id place s → (place < end) × IsNumbered statements id place s
-numbered_whole statements id place end s n =
-    let there = get_from_take statements end place s n.there in
-    let less : place < end = there.0 in (
+numbered_whole : (statements : List Sentence) (id index end : ℕ) (s : Sentence) → IsNumbered (take end statements) id index s → (index < end) × IsNumbered statements id index s
+numbered_whole statements id index end s n =
+    let there = get_from_take statements end index s n.there in
+    let less : index < end = there.0 in (
       less,
       record {
         there = there.1;
         named = n.named;
-        number = ap (λ (l : List Sentence). length (labelled_sentences l)) (sym (take-take place end statements (omega arith))) ∙ n.number;
+        number = ap (λ (l : List Sentence). length (labelled_sentences l)) (sym (take-take index end statements (omega arith))) ∙ n.number;
       },
     )
 
@@ -163,16 +163,17 @@ named_by statements (name id) label n =
     (id, n.0, refl, n.2, subst (λ l. IsLabelled l n.0) same n.3)
 named_by statements move label n = absurd cc
 
--- The assertions of the tree that moves make after the statements before a place are the assertions among the moves.
-pub used_numbers : (statements : List Sentence) (place : ℕ) (xs : List (Move ℕ)) (moves : List (Move (List ℕ))) (row : Trees) (kept : List Trees) → AllMeant statements
-    → AreNumberedMoves statements xs moves → AllByRecursion (IsUsableMove (take place statements)) moves → Makes (take place statements) moves none [] row kept
-    → (id : ℕ) → IsUsedNumber (take place statements) row id ↔ (((i : ℕ) × (slice_get xs i ≡ Some (name id))) × IsAssertionNumber statements id)
-used_numbers statements place xs moves row kept all numbered usable made id = (used, uses)
+-- The assertions of the tree that moves make after the statements before an index are the
+-- assertions among the moves.
+pub used_numbers : (statements : List Sentence) (index : ℕ) (xs : List (Move ℕ)) (moves : List (Move (List ℕ))) (row : Trees) (kept : List Trees) → AllMeant statements
+    → AreNumberedMoves statements xs moves → AllByRecursion (IsUsableMove (take index statements)) moves → Makes (take index statements) moves none [] row kept
+    → (id : ℕ) → IsUsedNumber (take index statements) row id ↔ (((i : ℕ) × (slice_get xs i ≡ Some (name id))) × IsAssertionNumber statements id)
+used_numbers statements index xs moves row kept all numbered usable made id = (used, uses)
   where
-    used : IsUsedNumber (take place statements) row id → ((i : ℕ) × (slice_get xs i ≡ Some (name id))) × IsAssertionNumber statements id
+    used : IsUsedNumber (take index statements) row id → ((i : ℕ) × (slice_get xs i ≡ Some (name id))) × IsAssertionNumber statements id
     used u =
-        let n = (numbered_whole statements id u.0 place u.1 u.3).1 in
-        let step = (labels_of_moves (take place statements) moves row kept made u.2).0 u.6 in
+        let n = (numbered_whole statements id u.0 index u.1 u.3).1 in
+        let step = (labels_of_moves (take index statements) moves row kept made u.2).0 u.6 in
         let z = zip_right (IsNumberedMove statements) xs moves step.0 (name u.2) numbered step.1 in
         let by = named_by statements z.0 u.2 z.2 in
         let p = numbered_from_get statements by.0 by.1 by.3 in
@@ -180,32 +181,32 @@ used_numbers statements place xs moves row kept all numbered usable made id = (u
         let same : by.0 ≡ id = sym p.1.number ∙ ap (λ k. length (labelled_sentences (take k statements))) (sym one) ∙ n.number in
         ((step.0, z.1 ∙ ap Some (by.2 ∙ ap name same)), (u.0, u.1, n, u.4))
 
-    of_usable : (p : ℕ) (a : Sentence) (label : List ℕ) → IsNumbered statements id p a → IsAssertion a.kind → IsLabelled label a → IsUsable (take place statements) label → p < place
+    of_usable : (p : ℕ) (a : Sentence) (label : List ℕ) → IsNumbered statements id p a → IsAssertion a.kind → IsLabelled label a → IsUsable (take index statements) label → p < index
     of_usable p a label n kind named (inl h) =
-        absurd (hypothesis_or_assertion statements h.0 p h.1 a label all (get_from_take statements place h.0 h.1 h.2).1 n.there h.4.0 named h.4.1 kind)
+        absurd (hypothesis_or_assertion statements h.0 p h.1 a label all (get_from_take statements index h.0 h.1 h.2).1 n.there h.4.0 named h.4.1 kind)
     of_usable p a label n kind named (inr b) =
-        let t = get_from_take statements place b.0 b.1 b.2 in
+        let t = get_from_take statements index b.0 b.1 b.2 in
         let one : b.0 ≡ p = one_label statements b.0 p b.1 a label all t.1 n.there b.3.0 named in
-        subst (λ k. k < place) one t.0
+        subst (λ k. k < index) one t.0
 
-    uses : ((i : ℕ) × (slice_get xs i ≡ Some (name id))) × IsAssertionNumber statements id → IsUsedNumber (take place statements) row id
+    uses : ((i : ℕ) × (slice_get xs i ≡ Some (name id))) × IsAssertionNumber statements id → IsUsedNumber (take index statements) row id
     uses h =
         let z = zip_left (IsNumberedMove statements) xs moves h.0.0 (name id) numbered h.0.1 in
         let (p, a, n, kind) = h.1 in
         let same : z.2.0 ≡ a = same_Some z.2.0 a (sym z.2.2 ∙ numbered_get statements id p a n) in
         let named : IsLabelled z.2.1 a = subst (λ s. IsLabelled z.2.1 s) same z.2.3 in
         let may = rw z.2.4 at (all_at _ moves h.0.0 z.0 usable z.1) in
-        let less : p < place = of_usable p a z.2.1 n kind named may in
-        let stands = (labels_of_moves (take place statements) moves row kept made z.2.1).1 (h.0.0, z.1 ∙ ap Some z.2.4) in
-        (p, a, z.2.1, numbered_front statements id p place a less n, kind, named, stands)
+        let less : p < index = of_usable p a z.2.1 n kind named may in
+        let stands = (labels_of_moves (take index statements) moves row kept made z.2.1).1 (h.0.0, z.1 ∙ ap Some z.2.4) in
+        (p, a, z.2.1, numbered_prefix statements id p index a less n, kind, named, stands)
 
 -- ==== the assertions among labels, by their numbers
 
 -- ---- what the kind of a label says
 
-pub assertion_kind : (st : List Sentence) (place id : ℕ) (r : LabelKind) → (label : List ℕ) × MayBeUsed st place label id
+pub assertion_kind : (st : List Sentence) (index id : ℕ) (r : LabelKind) → (label : List ℕ) × MayBeUsed st index label id
     → ((s : Sentence) → slice_get (labelled_sentences st) id ≡ Some s → s.kind ≡ kind_behind r) → (r ≡ label_kinds.Axiom) ⊎ (r ≡ label_kinds.Proof) → IsAssertionNumber st id
-assertion_kind st place id r used kind is =
+assertion_kind st index id r used kind is =
     let m = used.1 in
     let told = kind m.s (numbered_get st id m.at m.s m.numbered) in
     (m.at, m.s, m.numbered, ⊎_elim (λ e. inl (told ∙ ap kind_behind e)) (λ e. inr (told ∙ ap kind_behind e)) is)
@@ -265,12 +266,12 @@ same_numbers ids sorted keeps only n = (number_kept sorted ids n only, number_ke
 
 -- ==== what a label of a proof stands for, from what its frame answers
 
-pub scheme_of : (own st : List Sentence) (place id at : ℕ) (s t : Sentence) (scheme : Scheme) → own ≡ st → IsNumbered st id at s → IsAssertion s.kind → at < place
-    → AreHypotheses (record { statements = own; place = at }) (label_ids scheme.hypotheses.now) → HaveTypings own scheme.hypotheses.now
-    → ArePairs (record { statements = own; place = at }) (pairs_in scheme.pairs.now) → HavePlaces (variables_of scheme.hypotheses.now) scheme.pairs.now
+pub scheme_of : (own st : List Sentence) (index id at : ℕ) (s t : Sentence) (scheme : Scheme) → own ≡ st → IsNumbered st id at s → IsAssertion s.kind → at < index
+    → AreHypotheses (record { statements = own; index = at }) (label_ids scheme.hypotheses.now) → HaveTypings own scheme.hypotheses.now
+    → ArePairs (record { statements = own; index = at }) (pairs_in scheme.pairs.now) → HaveIndices (variables_of scheme.hypotheses.now) scheme.pairs.now
     → slice_get own at ≡ Some t → AreItsPieces own (variables_of scheme.hypotheses.now) t scheme.conclusion.now
-    → HavePatterns own (variables_of scheme.hypotheses.now) scheme.pieces.now scheme.hypotheses.now → IsEarlierScheme st place id scheme
-scheme_of own st place id at s t scheme same numbered kind before hypotheses typed pairs placed there concluded patterned =
+    → HavePatterns own (variables_of scheme.hypotheses.now) scheme.pieces.now scheme.hypotheses.now → IsEarlierScheme st index id scheme
+scheme_of own st index id at s t scheme same numbered kind before hypotheses typed pairs indexed there concluded patterned =
     let vs = variables_of scheme.hypotheses.now in
     let is : t ≡ s = same_Some t s (sym there ∙ subst (λ (l : List Sentence). slice_get l at ≡ Some s) (sym same) numbered.there) in
     record {
@@ -279,10 +280,10 @@ scheme_of own st place id at s t scheme same numbered kind before hypotheses typ
       numbered = numbered;
       kind = kind;
       before = before;
-      hypotheses = subst (λ (l : List Sentence). AreHypotheses (record { statements = l; place = at }) (label_ids scheme.hypotheses.now)) same hypotheses;
+      hypotheses = subst (λ (l : List Sentence). AreHypotheses (record { statements = l; index = at }) (label_ids scheme.hypotheses.now)) same hypotheses;
       typed = subst (λ (l : List Sentence). HaveTypings l scheme.hypotheses.now) same typed;
-      pairs = subst (λ (l : List Sentence). ArePairs (record { statements = l; place = at }) (pairs_in scheme.pairs.now)) same pairs;
-      placed = placed;
+      pairs = subst (λ (l : List Sentence). ArePairs (record { statements = l; index = at }) (pairs_in scheme.pairs.now)) same pairs;
+      indexed = indexed;
       concluded = subst (λ (l : List Sentence). AreItsPieces l vs s scheme.conclusion.now) same (subst (λ (g : Sentence). AreItsPieces own vs g scheme.conclusion.now) is concluded);
       patterned = subst (λ (l : List Sentence). HavePatterns l vs scheme.pieces.now scheme.hypotheses.now) same patterned;
     }
@@ -309,66 +310,66 @@ get_push xs x y i e = ⊎_elim inl (λ last. inr last.1) (pushed_cases xs x i y 
 
 -- ---- marks
 
-pub marked_none : (entries : List ℕ) (marks : List Bool) → ((place : ℕ) → get_or marks place false ≡ false) → AreMarked entries [] marks
+pub marked_none : (entries : List ℕ) (marks : List Bool) → ((index : ℕ) → get_or marks index false ≡ false) → AreMarked entries [] marks
 marked_none entries marks unset = record {
-  named = λ place t. absurd (false≢true (sym (unset place) ∙ t));
+  named = λ index t. absurd (false≢true (sym (unset index) ∙ t));
   marked = λ i id e. absurd (none-some (name id) e);
 }
 
-pub none_more : (marks : List Bool) → ((place : ℕ) → get_or marks place false ≡ false) → (place : ℕ) → get_or (marks ++ false ∷ []) place false ≡ false
+pub none_more : (marks : List Bool) → ((index : ℕ) → get_or marks index false ≡ false) → (index : ℕ) → get_or (marks ++ false ∷ []) index false ≡ false
 none_more [] unset zero = refl
-none_more [] unset (suc place) = refl
+none_more [] unset (suc index) = refl
 none_more (m ∷ marks) unset zero = unset 0
-none_more (m ∷ marks) unset (suc place) = none_more marks (λ k. unset (suc k)) place
+none_more (m ∷ marks) unset (suc index) = none_more marks (λ k. unset (suc k)) index
 
 pub ruleset mark_steps = (marked_none, none_more)
 
-pub marked_other : (entries : List ℕ) (front : List (Move ℕ)) (m : Move ℕ) (marks : List Bool) → ((id : ℕ) → m ≡ name id → ⊥) → AreMarked entries front marks
-    → AreMarked entries (front ++ m ∷ []) marks
-marked_other entries front m marks not old = record {
-  named = λ place t. let o = old.named place t in (o.0, o.1, o.2, get_kept front (m ∷ []) o.0 (name o.1) o.3);
-  marked = λ i id e. ⊎_elim (λ there. old.marked i id there) (λ same. absurd (not id same)) (get_push front m (name id) i e);
+pub marked_other : (entries : List ℕ) (prefix : List (Move ℕ)) (m : Move ℕ) (marks : List Bool) → ((id : ℕ) → m ≡ name id → ⊥) → AreMarked entries prefix marks
+    → AreMarked entries (prefix ++ m ∷ []) marks
+marked_other entries prefix m marks not old = record {
+  named = λ index t. let o = old.named index t in (o.0, o.1, o.2, get_kept prefix (m ∷ []) o.0 (name o.1) o.3);
+  marked = λ i id e. ⊎_elim (λ there. old.marked i id there) (λ same. absurd (not id same)) (get_push prefix m (name id) i e);
 }
 
-pub marked_more : (entries : List ℕ) (front : List (Move ℕ)) (place id : ℕ) (marks : List Bool) → slice_get entries place ≡ Some id → place < length marks
-    → AreMarked entries front marks → AreMarked entries (front ++ name id ∷ []) (set marks place true)
-marked_more entries front place id marks there within old = record {
-  named = λ p t. back p t (eqb p place) refl;
-  marked = λ i n e. ⊎_elim (λ before. let o = old.marked i n before in (o.0, o.1, stays o.0 o.2 (eqb o.0 place) refl))
-      (λ same. (place, cc (there, same), here)) (get_push front (name id) (name n) i e);
+pub marked_more : (entries : List ℕ) (prefix : List (Move ℕ)) (index id : ℕ) (marks : List Bool) → slice_get entries index ≡ Some id → index < length marks
+    → AreMarked entries prefix marks → AreMarked entries (prefix ++ name id ∷ []) (set marks index true)
+marked_more entries prefix index id marks there within old = record {
+  named = λ p t. back p t (eqb p index) refl;
+  marked = λ i n e. ⊎_elim (λ before. let o = old.marked i n before in (o.0, o.1, stays o.0 o.2 (eqb o.0 index) refl))
+      (λ same. (index, cc (there, same), here)) (get_push prefix (name id) (name n) i e);
 }
   where
-    here : IsTrue (get_or (set marks place true) place false)
-    here = get_or-set_same marks place true false within
+    here : IsTrue (get_or (set marks index true) index false)
+    here = get_or-set_same marks index true false within
 
-    other : (p : ℕ) → eqb p place ≡ false → get_or (set marks place true) p false ≡ get_or marks p false
-    other p e = get_or-set_other marks place p true false (λ same. absurd (false≢true (sym e ∙ (Decides-eqb p place).1 same)))
+    other : (p : ℕ) → eqb p index ≡ false → get_or (set marks index true) p false ≡ get_or marks p false
+    other p e = get_or-set_other marks index p true false (λ same. absurd (false≢true (sym e ∙ (Decides-eqb p index).1 same)))
 
-    stays : (p : ℕ) → IsTrue (get_or marks p false) → (b : Bool) → eqb p place ≡ b → IsTrue (get_or (set marks place true) p false)
-    stays p t true e = subst (λ k. IsTrue (get_or (set marks place true) k false)) (sym ((Decides-eqb p place).0 e)) here
+    stays : (p : ℕ) → IsTrue (get_or marks p false) → (b : Bool) → eqb p index ≡ b → IsTrue (get_or (set marks index true) p false)
+    stays p t true e = subst (λ k. IsTrue (get_or (set marks index true) k false)) (sym ((Decides-eqb p index).0 e)) here
     stays p t false e = other p e ∙ t
 
-    back : (p : ℕ) → IsTrue (get_or (set marks place true) p false) → (b : Bool) → eqb p place ≡ b
-        → (i : ℕ) × (n : ℕ) × (slice_get entries p ≡ Some n) × (slice_get (front ++ name id ∷ []) i ≡ Some (name n))
-    back p t true e = (length front, id, ap (slice_get entries) ((Decides-eqb p place).0 e) ∙ there, get_pushed front (name id))
-    back p t false e = let o = old.named p (sym (other p e) ∙ t) in (o.0, o.1, o.2, get_kept front (name id ∷ []) o.0 (name o.1) o.3)
+    back : (p : ℕ) → IsTrue (get_or (set marks index true) p false) → (b : Bool) → eqb p index ≡ b
+        → (i : ℕ) × (n : ℕ) × (slice_get entries p ≡ Some n) × (slice_get (prefix ++ name id ∷ []) i ≡ Some (name n))
+    back p t true e = (length prefix, id, ap (slice_get entries) ((Decides-eqb p index).0 e) ∙ there, get_pushed prefix (name id))
+    back p t false e = let o = old.named p (sym (other p e) ∙ t) in (o.0, o.1, o.2, get_kept prefix (name id ∷ []) o.0 (name o.1) o.3)
 
--- ---- those of the first entries at whose places something holds
+-- ---- those of the first entries at whose indices something holds
 
 abbrev pub AreFirst : (ℕ → Type 0) → List LabelId → ℕ → List LabelId → Type 0
 AreFirst P entries count ids =
-    (n : ℕ) → (Contains (ids_in ids) n → (place : ℕ) × (slice_get (ids_in entries) place ≡ Some n) × P place)
-    × ((place : ℕ) → place < count → slice_get (ids_in entries) place ≡ Some n → P place → Contains (ids_in ids) n)
+    (n : ℕ) → (Contains (ids_in ids) n → (index : ℕ) × (slice_get (ids_in entries) index ≡ Some n) × P index)
+    × ((index : ℕ) → index < count → slice_get (ids_in entries) index ≡ Some n → P index → Contains (ids_in ids) n)
 
 -- it is marked, and stands for an assertion
 abbrev pub IsCalledAt : List Call → List Bool → ℕ → Type 0
-IsCalledAt calls marks place = IsTrue (get_or marks place false) × (call : Call) × (slice_get calls place ≡ Some call) × IsOfAssertion call
+IsCalledAt calls marks index = IsTrue (get_or marks index false) × (call : Call) × (slice_get calls index ≡ Some call) × IsOfAssertion call
 
-pub entry_at : (entries : List LabelId) (place : ℕ) (d : LabelId) → place < length entries → slice_get (ids_in entries) place ≡ Some (get_or entries place d).0
-entry_at entries place d less = rw (slice_get-map, slice_get-get_or entries place d less)
+pub entry_at : (entries : List LabelId) (index : ℕ) (d : LabelId) → index < length entries → slice_get (ids_in entries) index ≡ Some (get_or entries index d).0
+entry_at entries index d less = rw (slice_get-map, slice_get-get_or entries index d less)
 
 pub first_none : (P : ℕ → Type 0) (entries : List LabelId) → AreFirst P entries 0 []
-first_none P entries n = ((λ c. absurd (let less : c.0 < 0 = c.1 in omega arith)), λ place less e t. absurd (omega arith))
+first_none P entries n = ((λ c. absurd (let less : c.0 < 0 = c.1 in omega arith)), λ index less e t. absurd (omega arith))
 
 pub first_more : (P : ℕ → Type 0) (entries : List LabelId) (at : ℕ) (d : LabelId) (ids : List LabelId) → at < length entries → P at
     → AreFirst P entries at ids → AreFirst P entries (at + 1) (ids ++ get_or entries at d ∷ [])
@@ -379,10 +380,10 @@ first_more P entries at d ids less holds old n =
           (λ c. (old n).0 c)
           (λ same. (at, entry_at entries at d less ∙ ap Some same, holds))
           (Contains-push_cases (ids_in ids) id.0 n (rw more at h)),
-      λ place before e t. rw more (elim (cases_lt place at) [
-        | inl front ↦ Contains-append_left (ids_in ids) (id.0 ∷ []) n ((old n).1 place front e t)
+      λ index before e t. rw more (elim (cases_lt index at) [
+        | inl prefix ↦ Contains-append_left (ids_in ids) (id.0 ∷ []) n ((old n).1 index prefix e t)
         | inr last ↦
-            let here : at ≡ place = omega (arith, last, before) in
+            let here : at ≡ index = omega (arith, last, before) in
             let there = sym (entry_at entries at d less) ∙ ap (slice_get (ids_in entries)) here in
             subst (Contains (ids_in ids ++ id.0 ∷ [])) (same_Some id.0 n (there ∙ e))
             (Contains-push (ids_in ids) id.0)
@@ -392,30 +393,30 @@ first_more P entries at d ids less holds old n =
 pub first_skipped : (P : ℕ → Type 0) (entries : List LabelId) (at : ℕ) (ids : List LabelId) → (P at → ⊥) → AreFirst P entries at ids → AreFirst P entries (at + 1) ids
 first_skipped P entries at ids not old n = (
   (old n).0,
-  λ place before e t. ⊎_elim
-      (λ front. (old n).1 place front e t)
-      (λ last. let here : place ≡ at = omega (arith, last, before) in absurd (not (rw here at t)))
-      (cases_lt place at),
+  λ index before e t. ⊎_elim
+      (λ prefix. (old n).1 index prefix e t)
+      (λ last. let here : index ≡ at = omega (arith, last, before) in absurd (not (rw here at t)))
+      (cases_lt index at),
 )
 
 -- what is said of the call there
-pub called_there : (calls : List Call) (marks : List Bool) (place : ℕ) (d : Call) → place < length calls → IsTrue (get_or marks place false) × IsOfAssertion (get_or calls place d)
-    → IsCalledAt calls marks place
-called_there calls marks place d less (marked, is) = (marked, get_or calls place d, slice_get-get_or calls place d less, is)
+pub called_there : (calls : List Call) (marks : List Bool) (index : ℕ) (d : Call) → index < length calls → IsTrue (get_or marks index false) × IsOfAssertion (get_or calls index d)
+    → IsCalledAt calls marks index
+called_there calls marks index d less (marked, is) = (marked, get_or calls index d, slice_get-get_or calls index d less, is)
 
-pub there_called : (calls : List Call) (marks : List Bool) (place : ℕ) (d : Call) → place < length calls → IsCalledAt calls marks place
-    → IsTrue (get_or marks place false) × IsOfAssertion (get_or calls place d)
-there_called calls marks place d less (marked, call, there, is) =
-    (marked, subst IsOfAssertion (same_Some call (get_or calls place d) (sym there ∙ slice_get-get_or calls place d less)) is)
+pub there_called : (calls : List Call) (marks : List Bool) (index : ℕ) (d : Call) → index < length calls → IsCalledAt calls marks index
+    → IsTrue (get_or marks index false) × IsOfAssertion (get_or calls index d)
+there_called calls marks index d less (marked, call, there, is) =
+    (marked, subst IsOfAssertion (same_Some call (get_or calls index d) (sym there ∙ slice_get-get_or calls index d less)) is)
 
 -- an entry is before the end
-entry_within : (entries : List LabelId) (place n : ℕ) → slice_get (ids_in entries) place ≡ Some n → place < length entries
-entry_within entries place n e = omega (arith, slice_get_within (ids_in entries) place n e, length-map entries (λ (i : LabelId). i.0))
+entry_within : (entries : List LabelId) (index n : ℕ) → slice_get (ids_in entries) index ≡ Some n → index < length entries
+entry_within entries index n e = omega (arith, slice_get_within (ids_in entries) index n e, length-map entries (λ (i : LabelId). i.0))
 
--- what stands at the place of a number
-pub entry_is : (entries : List LabelId) (place n : ℕ) (d : LabelId) → slice_get (ids_in entries) place ≡ Some n → (place < length entries) × ((get_or entries place d).0 ≡ n)
-entry_is entries place n d there =
-    let less = entry_within entries place n there in (less, same_Some _ n (sym (entry_at entries place d less) ∙ there))
+-- what stands at the index of a number
+pub entry_is : (entries : List LabelId) (index n : ℕ) (d : LabelId) → slice_get (ids_in entries) index ≡ Some n → (index < length entries) × ((get_or entries index d).0 ≡ n)
+entry_is entries index n d there =
+    let less = entry_within entries index n there in (less, same_Some _ n (sym (entry_at entries index d less) ∙ there))
 
 -- where each call is that of its entry, these are the assertions that the moves name
 pub called_all : (st : List Sentence) (at : ℕ) (entries : List LabelId) (calls : List Call) (marks : List Bool) (count : ℕ) (ids : List LabelId) (moves : List (Move ℕ)) → length entries ≤ count

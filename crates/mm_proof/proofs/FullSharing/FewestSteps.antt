@@ -19,7 +19,7 @@ use Rattle.mm_proof.specs.Visits.{Visit, makes, keeps, visits, trees_made, repea
 use Rattle.mm_proof.specs.Sharing.{is_number, steps_of, PairMakes}
 use Rattle.mm_proof.proofs.ProofSteps.Derivations.{roots-beside, beside-none}
 use Rattle.mm_proof.proofs.Members.{In, in_get, get_in, in_left, in_right, in_apart, in_push, Once}
-use Rattle.mm_proof.proofs.Members.{in_contains, contains_in, once_places, places_once}
+use Rattle.mm_proof.proofs.Members.{in_contains, contains_in, once_indices, indices_once}
 use Rattle.mm_proof.proofs.FullSharing.OneSharing.{AreOnes, ones_push, Tidy, Covers, covers_beside}
 use Rattle.mm_proof.proofs.FullSharing.OneSharing.{covers_apart, covers_made_one, covers_one}
 use Rattle.mm_proof.proofs.FullSharing.OneSharing.{Careful, after, after_has, after-append}
@@ -245,16 +245,16 @@ pub sum_within : {X : Type 0} (f : X → ℕ) (xs ys : List X) → Once xs → (
 sum_within f [] ys once within = let e : sum_by f [] ≡ 0 = refl in omega arith
 sum_within {X} f (x ∷ xs) ys once within =
     let (i, at) = in_get ys x (within x (inl refl)) in
-    let front = take i ys in
+    let prefix = take i ys in
     let back = drop (suc i) ys in
     let parts = split_at ys i x at in
-    let rest : (u : X) → In xs u → In (front ++ back) u = λ u h. ⊎_elim
-    (λ a. in_left front back u a)
+    let rest : (u : X) → In xs u → In (prefix ++ back) u = λ u h. ⊎_elim
+    (λ a. in_left prefix back u a)
     (λ b. ⊎_elim
     (λ e. absurd (once.0 (subst (In xs) (sym e) h)))
-    (λ k. in_right front back u k) b)
-    (in_apart front (x ∷ back) u (subst (λ l. In l u) parts (within u (inr h)))) in
-    let ih = simp (sum_by-append f) at (sum_within f xs (front ++ back) once.1 rest) in
+    (λ k. in_right prefix back u k) b)
+    (in_apart prefix (x ∷ back) u (subst (λ l. In l u) parts (within u (inr h)))) in
+    let ih = simp (sum_by-append f) at (sum_within f xs (prefix ++ back) once.1 rest) in
     rw parts (simp (sum_by-append f, sum_by-cons f) (omega arith))
 
 -- ==== steps that share all, one step more: what a tree that was made before is made of takes one
@@ -365,13 +365,13 @@ sharing_make rest kept v label below s fresh =
 
 -- a tree that was made: one step takes the place of one for each child
 pub record CutBack (rest : Trees) (kept : List Trees) (v : List Visit) (t below : Trees) : Type 0 where
-  pub front : List Visit
+  pub prefix : List Visit
   pub back : List Visit
-  pub parts : v ≡ front ++ back
+  pub parts : v ≡ prefix ++ back
   pub long : length back ≡ roots below
-  pub sharing : Sharing (beside rest t) kept (front ++ repeats t ∷ [])
-  pub same : (u : Trees) → IsBig u → In (after [] v) u → In (after [] (front ++ repeats t ∷ [])) u
-  pub only : (u : Trees) → In (after [] (front ++ repeats t ∷ [])) u → In (after [] v) u
+  pub sharing : Sharing (beside rest t) kept (prefix ++ repeats t ∷ [])
+  pub same : (u : Trees) → IsBig u → In (after [] v) u → In (after [] (prefix ++ repeats t ∷ [])) u
+  pub only : (u : Trees) → In (after [] (prefix ++ repeats t ∷ [])) u → In (after [] v) u
 
 pub sharing_cut : (rest : Trees) (kept : List Trees) (v : List Visit) (label : List ℕ) (below : Trees) → Sharing (beside rest below) kept v → IsBig (tree label below none)
     → In (after [] v) (tree label below none) → CutBack rest kept v (tree label below none) below
@@ -390,7 +390,7 @@ sharing_cut rest kept v label below s big made =
     let same : (u : Trees) → IsBig u → In (after [] v) u → In (after [] (parts.0 ++ repeats t ∷ [])) u =
     λ u is h. subst (λ x. In x u) (sym new) (one.same u is (subst (λ x. In x u) whole h)) in
     record {
-      front = parts.0;
+      prefix = parts.0;
       back = parts.1;
       parts = parts.2;
       long = one.long;
@@ -456,7 +456,7 @@ module _ (before : List Sentence) (trees : Trees) (moves : List (Move (List ℕ)
           (made_subtrees before moves none [] trees kept m t h.0, h.1),
       λ h. in_contains b.list t (b.each t (subtree_made t h.0) h.1),
     );
-    once = λ i j t. once_places b.list i j t once;
+    once = λ i j t. once_indices b.list i j t once;
   }
 
 pair_steps : (before : List Sentence) (s : Sentence) (label : List ℕ) (below : Trees)
@@ -489,7 +489,7 @@ fewest_steps_holds before s label below listed codes p =
           let most = sum_within children b.list list once
           (λ t h. contains_in list t ((other.each t).1
           ((are.each t).0 (in_contains b.list t h)))) in
-          let least = sum_within children list b.list (places_once list other.once)
+          let least = sum_within children list b.list (indices_once list other.once)
           (λ t h. contains_in b.list t ((are.each t).1
           ((other.each t).0 (in_contains list t h)))) in
           omega arith,

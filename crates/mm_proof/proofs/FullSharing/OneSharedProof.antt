@@ -19,7 +19,7 @@ use Rattle.mm_frame.proofs.Names.NameNumbers.{same_somes}
 use Rattle.mm_proof.proofs.ProofTokens.SaidMoves.{says_once, labelled_at, labels_of}
 use Rattle.mm_proof.proofs.ProofTokens.SaidMoves.{mandatory_active}
 use Rattle.mm_proof.proofs.ProofSteps.Replacements.{those_order}
-use Rattle.mm_proof.proofs.Members.{In, in_contains, in_apart, Once, once_places, places_once}
+use Rattle.mm_proof.proofs.Members.{In, in_contains, in_apart, Once, once_indices, indices_once}
 use Rattle.mm_proof.proofs.Members.{those_of, in_get, contains_in, in_left, in_right}
 use Rattle.mm_proof.proofs.FullSharing.OneSharing.{shared_once}
 use Rattle.mm_frame.proofs.Rules.DecidedStatements.{contains_dec, mandatory_at_dec}
@@ -74,7 +74,7 @@ module _ (before : List Sentence) (s : Sentence) (hypotheses : List Sentence)
 
   pub mandatory_once : AllMeant before → AreMandatory before s hypotheses
       → map (λ (h : Sentence). h.label) hypotheses ≡ map Some labels → Once labels
-  mandatory_once all mandatory labelled = places_once labels (λ i j l p q.
+  mandatory_once all mandatory labelled = indices_once labels (λ i j l p q.
       let less = not_twice i j l all mandatory labelled p q in
       let more = not_twice j i l all mandatory labelled q p in omega arith)
 
@@ -97,12 +97,12 @@ module _ (labels : List (List ℕ)) where
   one_code move (Number n) Tag once p q = absurd
       (⊎_elim (λ a. cc (q, a.2)) (λ a. cc (q, a.2)) p.2)
   one_code move (Number n) (Number k) once p q =
-      let place : p.0 ≡ q.0 = ⊎_elim
+      let index : p.0 ≡ q.0 = ⊎_elim
       (λ a. ⊎_elim
-      (λ b. once_places labels p.0 q.0 b.0 once (cc (a.1, a.2, b.2)) b.1)
+      (λ b. once_indices labels p.0 q.0 b.0 once (cc (a.1, a.2, b.2)) b.1)
       (λ b. absurd (cc (a.2, b.2))) q.2)
       (λ a. ⊎_elim (λ b. absurd (cc (a.2, b.2))) (λ b. cc (a.1, a.2, b.1, b.2)) q.2) p.2 in
-      ap Number (omega (arith, p.1, q.1, place))
+      ap Number (omega (arith, p.1, q.1, index))
 
   codes_once : (codes codes' : List Code) (moves : List (Move (List ℕ))) → Once labels
       → AllZip (Says labels) codes moves → AllZip (Says labels) codes' moves → codes ≡ codes'

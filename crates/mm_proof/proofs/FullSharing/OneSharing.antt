@@ -9,7 +9,7 @@ use Rattle.mm_proof.specs.Moves.{Move, name, again, mark, Makes}
 use Rattle.mm_proof.specs.Visits.{Visit, makes, repeats, keeps, visits, trees_made}
 pub use Rattle.mm_proof.specs.Mirror.SharedSteps.{Covers, Careful, after}
 use Rattle.mm_proof.proofs.Members.{In, get_in, in_push, Once, in_get, contains_in, in_apart}
-use Rattle.mm_proof.proofs.Members.{once_places}
+use Rattle.mm_proof.proofs.Members.{once_indices}
 use Rattle.mm_proof.specs.BigSubtrees.{IsBig, StandOnce}
 use Rattle.std.proofs.lemmas.Option.{same_Some, slice_get_within}
 use Rattle.mm_text.proofs.Lists.{get_kept}
@@ -309,16 +309,16 @@ tidy_once (keeps t ∷ v) done c = (
 tidy_once (x ∷ v) done c = tidy_once v (x ∷ done) c.1
 
 -- no mark comes first
-bare_front : (v : List Visit) → Tidy [] v → unmark v ≡ v
-bare_front (keeps t ∷ v) c = absurd (let e : [] ≡ makes t ∷ c.1.0 = c.1.1 in cc)
-bare_front v c = refl
+bare_prefix : (v : List Visit) → Tidy [] v → unmark v ≡ v
+bare_prefix (keeps t ∷ v) c = absurd (let e : [] ≡ makes t ∷ c.1.0 = c.1.1 in cc)
+bare_prefix v c = refl
 
 -- ==== moves that share all and make the same trees are the same
 
 -- ---- what is kept
 
 module _ (before : List Sentence) where
-  -- what is kept stays at its place
+  -- what is kept stays at its index
   pub kept_stays : (moves : List (Move (List ℕ))) (row : Trees) (kept : List Trees) (row' : Trees)
       (kept' : List Trees) → Makes before moves row kept row' kept' → (i : ℕ) (t : Trees)
       → slice_get kept i ≡ Some t → slice_get kept' i ≡ Some t
@@ -341,7 +341,7 @@ module _ (before : List Sentence) where
   kept_are (move ∷ moves) row kept row' kept' m =
       let e = kept_are moves m.0 m.1 row' kept' m.3 in cc
 
-  -- a tag repeats what stands at its place in the end
+  -- a tag repeats what stands at its index in the end
   again_visit : (moves : List (Move (List ℕ))) (row : Trees) (kept : List Trees) (row' : Trees)
       (kept' : List Trees) (m : Makes before moves row kept row' kept') (tag : ℕ)
       → In moves (again tag)
@@ -357,7 +357,7 @@ module _ (before : List Sentence) where
   again_visit (move ∷ moves) row kept row' kept' m tag (inr h) =
       let g = again_visit moves m.0 m.1 row' kept' m.3 tag h in (g.0, g.1, inr g.2)
 
--- ---- what is said by places, said one visit after the other
+-- ---- what is said by indices, said one visit after the other
 
 -- the visits that are done, the last of which comes first, and then others
 abbrev pub onto : List Visit → List Visit → List Visit
@@ -494,14 +494,14 @@ module _ (before : List Sentence) (trees : Trees) (moves : List (Move (List ℕ)
       let same : g.0 ≡ t = cc in rw same at g.2
 
   shared_marked : Marked (strip course) (strip course) course
-  shared_marked = rw (bare_front course shared_tidy) at
+  shared_marked = rw (bare_prefix course shared_tidy) at
       (tidy_marked (strip course) course [] (λ t h. absurd h) (λ t h. absurd h) shared_tidy
       (λ t h. inr (strip_repeats course t h))
       (λ t h. repeats_strip course t (shared_referred t h)))
 
   pub shared_kept_once : StandOnce s.kept
   shared_kept_once i j t =
-      once_places s.kept i j t
+      once_indices s.kept i j t
       (rw (kept_are before moves none [] trees s.kept s.made) (tidy_once course [] shared_tidy))
 
 pub shared_once : (before : List Sentence) (trees : Trees) (moves moves' : List (Move (List ℕ)))

@@ -10,7 +10,7 @@ use Rattle.mm_proof.specs.Visits.{Visit, makes, repeats, keeps, visit, visits}
 use Rattle.mm_proof.specs.Sharing.{MakeOnce, KeepMade, ShareAll}
 use Rattle.mm_proof.proofs.ProofSteps.Derivations.{beside-none, beside_assoc}
 use Rattle.mm_proof.proofs.Members.{In, in_get, get_in, in_contains, in_left, in_right, Once}
-use Rattle.mm_proof.proofs.Members.{once_places}
+use Rattle.mm_proof.proofs.Members.{once_indices}
 use Rattle.mm_proof.proofs.FullSharing.OneSharing.{Covers, Careful, Tidy, Marked, trees_kept}
 use Rattle.mm_proof.proofs.FullSharing.OneSharing.{kept_visit, visit_kept, visit_made, tidy_once}
 use Rattle.mm_proof.proofs.FullSharing.OneSharing.{onto, kept_stays, kept_are}
@@ -157,7 +157,7 @@ module _ (before : List Sentence) (whole : List Visit) where
       (has_after before first.moves row (beside row t) kept first.kept' parts.0 done first.led has) in
       rw parts.2 (leads_join first (rw (beside_assoc row t right) at second))
 
--- ---- what is said of tidy visits, by places
+-- ---- what is said of tidy visits, by indices
 
 not_twice : (x : Visit) (v done : List Visit) (t : Trees) (j : ℕ) → Tidy done (x ∷ v) → IsBig t
     → x ≡ makes t → slice_get v j ≡ Some (makes t) → ⊥
@@ -253,7 +253,7 @@ shared_moves before trees steps fit covers careful =
             let needed = marked_kept steps steps v t marks.1 among in
             let g = visit_again before l.moves none [] trees l.kept' l.led.0 t
             (rw l.led.1 (marked_repeats steps steps v t marks.1 needed)) in
-            let same : g.0 ≡ tag = once_places l.kept' g.0 tag t once g.2 there in
+            let same : g.0 ≡ tag = once_indices l.kept' g.0 tag t once g.2 there in
             in_contains l.moves (again tag) (rw same at g.1);
       };
     }

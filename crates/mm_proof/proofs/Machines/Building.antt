@@ -46,13 +46,13 @@ word_grows before (move ∷ moves) row last kept end m = omega (arith, grows_one
 -- ---- the moves so far
 
 -- moves with one more in front of others
-pub first_more : (front moves : List (Move ℕ)) (x : Move ℕ) → AreFirst (front ++ x ∷ []) moves → AreFirst front moves × (slice_get moves (length front) ≡ Some x)
+pub first_more : (prefix moves : List (Move ℕ)) (x : Move ℕ) → AreFirst (prefix ++ x ∷ []) moves → AreFirst prefix moves × (slice_get moves (length prefix) ≡ Some x)
 first_more [] [] x first = absurd cc
 first_more [] (m ∷ moves) x first = (refl, cc)
-first_more (f ∷ front) [] x first = absurd cc
-first_more (f ∷ front) (m ∷ moves) x first =
-    let rest : AreFirst (front ++ x ∷ []) moves = cc in
-    let h = first_more front moves x rest in
+first_more (f ∷ prefix) [] x first = absurd cc
+first_more (f ∷ prefix) (m ∷ moves) x first =
+    let rest : AreFirst (prefix ++ x ∷ []) moves = cc in
+    let h = first_more prefix moves x rest in
     (cc, h.1)
 
 -- all moves
@@ -60,12 +60,12 @@ pub first_all : (moves : List (Move ℕ)) → AreFirst moves moves
 first_all moves = take_all (length moves) moves (omega arith)
 
 -- the steps make the tree, by the moves that are seen of them
-abbrev pub make_tree_at : (st : List Sentence) (id : ℕ) (xs ys : List (Move ℕ)) (place : ℕ) (s : Sentence) (names : List (Move (List ℕ))) (label : List ℕ) (below : Trees) → AllMeant st → AreSteps st id xs → xs ≡ ys
-    → IsProofNumber st id place s → AreNumberedMoves st xs names → MakeTree (take place st) names label below → MakeTreeAt st ys
-make_tree_at st id xs ys place s names label below all steps same proof numbered makes = record {
-  place = place;
+abbrev pub make_tree_at : (st : List Sentence) (id : ℕ) (xs ys : List (Move ℕ)) (index : ℕ) (s : Sentence) (names : List (Move (List ℕ))) (label : List ℕ) (below : Trees) → AllMeant st → AreSteps st id xs → xs ≡ ys
+    → IsProofNumber st id index s → AreNumberedMoves st xs names → MakeTree (take index st) names label below → MakeTreeAt st ys
+make_tree_at st id xs ys index s names label below all steps same proof numbered makes = record {
+  index = index;
   names = names;
-  usable = subst (AllByRecursion (MayBeMade st place)) same (steps_made st id xs place s all steps proof.numbered);
+  usable = subst (AllByRecursion (MayBeMade st index)) same (steps_made st id xs index s all steps proof.numbered);
   numbered = subst (λ (l : List (Move ℕ)). AreNumberedMoves st l names) same numbered;
   label = label;
   below = below;
@@ -79,11 +79,11 @@ pub ruleset tree_steps = (seen_moves, make_tree_at)
 record Next {X : Type 0} (held : Holding X) (st : List Sentence) (moves : List (Move ℕ)) (m : MakeTreeAt st moves) (i : ℕ) (stack shelf : List X) (x : Move ℕ) (h : AreItemsAt held st moves m i stack shelf) : Type 0 where
   move : Move (List ℕ)
   numbered : IsNumberedMove st x move
-  usable : MayBeMade st m.place x
+  usable : MayBeMade st m.index x
   row' : Trees
   kept' : List Trees
-  one : MakesOne (take m.place st) move h.row h.kept row' kept'
-  others : Makes (take m.place st) (drop (i + 1) m.names) row' kept' (tree m.label m.below none) m.makes.kept
+  one : MakesOne (take m.index st) move h.row h.kept row' kept'
+  others : Makes (take m.index st) (drop (i + 1) m.names) row' kept' (tree m.label m.below none) m.makes.kept
 
 next : {X : Type 0} (held : Holding X) (st : List Sentence) (moves : List (Move ℕ)) (m : MakeTreeAt st moves) (i : ℕ) (stack shelf : List X) (x : Move ℕ) (h : AreItemsAt held st moves m i stack shelf)
     → slice_get moves i ≡ Some x → Next held st moves m i stack shelf x h
@@ -91,7 +91,7 @@ next {X} held st moves m i stack shelf x h here =
     let at = zip_left (IsNumberedMove st) moves m.names i x m.numbered here in
     let split = drop_more m.names i at.0 (slice_get_within m.names i at.0 at.1) in
     let left = rw (split, get_or_from_slice_get m.names i at.0 at.0 at.1) at h.made in
-    record { move = at.0; numbered = at.2; usable = all_at (MayBeMade st m.place) moves i x m.usable here; row' = left.0; kept' = left.1; one = left.2; others = left.3 }
+    record { move = at.0; numbered = at.2; usable = all_at (MayBeMade st m.index) moves i x m.usable here; row' = left.0; kept' = left.1; one = left.2; others = left.3 }
 
 -- a step by a label, by the trees that it takes
 pub record NextMake {X : Type 0} (held : Holding X) (st : List Sentence) (moves : List (Move ℕ)) (m : MakeTreeAt st moves) (i : ℕ) (stack shelf : List X) (id : ℕ) (h : AreItemsAt held st moves m i stack shelf) : Type 0 where
@@ -99,24 +99,24 @@ pub record NextMake {X : Type 0} (held : Holding X) (st : List Sentence) (moves 
   pub rest : Trees
   pub below : Trees
   pub named : IsNumberOfLabel st id label
-  pub used : MayBeUsed st m.place label id
-  pub stands : MayStandOver (take m.place st) label below
+  pub used : MayBeUsed st m.index label id
+  pub stands : MayStandOver (take m.index st) label below
   pub was : h.row ≡ beside rest below
-  pub others : Makes (take m.place st) (drop (i + 1) m.names) (beside rest (tree label below none)) h.kept (tree m.label m.below none) m.makes.kept
+  pub others : Makes (take m.index st) (drop (i + 1) m.names) (beside rest (tree label below none)) h.kept (tree m.label m.below none) m.makes.kept
 
 pub next_make : {X : Type 0} (held : Holding X) (st : List Sentence) (moves : List (Move ℕ)) (m : MakeTreeAt st moves) (i : ℕ) (stack shelf : List X) (id : ℕ) (h : AreItemsAt held st moves m i stack shelf)
     → slice_get moves i ≡ Some (name id) → NextMake held st moves m i stack shelf id h
 next_make {X} held st moves m i stack shelf id h here =
     let n = next held st moves m i stack shelf (name id) h here in
     let by = n.numbered in
-    let one = subst (λ y. MakesOne (take m.place st) y h.row h.kept n.row' n.kept') by.4 n.one in
+    let one = subst (λ y. MakesOne (take m.index st) y h.row h.kept n.row' n.kept') by.4 n.one in
     let named : IsNumberOfLabel st id by.1 = record { s = by.0; there = by.2; named = by.3 } in
     record {
       label = by.1;
       rest = one.0;
       below = one.1;
       named = named;
-      used = same_use st m.place id n.usable.0 by.1 by.0 n.usable.1 named;
+      used = same_use st m.index id n.usable.0 by.1 by.0 n.usable.1 named;
       stands = one.3;
       was = one.2;
       others = rw (one.5, one.4) at n.others;
@@ -174,13 +174,13 @@ pub record NextRepeat {X : Type 0} (held : Holding X) (st : List Sentence) (move
   pub label : List ℕ
   pub below : Trees
   pub has : IsKept shelf h.kept item label below
-  pub others : Makes (take m.place st) (drop (i + 1) m.names) (beside h.row (tree label below none)) h.kept (tree m.label m.below none) m.makes.kept
+  pub others : Makes (take m.index st) (drop (i + 1) m.names) (beside h.row (tree label below none)) h.kept (tree m.label m.below none) m.makes.kept
 
 pub repeat_within : {X : Type 0} (held : Holding X) (st : List Sentence) (moves : List (Move ℕ)) (m : MakeTreeAt st moves) (i : ℕ) (stack shelf : List X) (tag : ℕ) (h : AreItemsAt held st moves m i stack shelf)
     → slice_get moves i ≡ Some (again tag) → tag < length shelf
 repeat_within {X} held st moves m i stack shelf tag h here =
     let n = next held st moves m i stack shelf (again tag) h here in
-    let one = subst (λ y. MakesOne (take m.place st) y h.row h.kept n.row' n.kept') n.numbered n.one in
+    let one = subst (λ y. MakesOne (take m.index st) y h.row h.kept n.row' n.kept') n.numbered n.one in
     omega (arith, slice_get_within h.kept tag one.0 one.1, AllZip-long (λ (x : X) (t : Trees). roots t ≡ 1) shelf h.kept h.ones)
 
 one_tree : (t : Trees) → roots t ≡ 1 → (label : List ℕ) × (below : Trees) × (t ≡ tree label below none)
@@ -193,7 +193,7 @@ next_repeat {X} held st moves m i stack shelf item tag h here read =
     let there = slice_get_read shelf (length shelf) tag item refl
     (repeat_within held st moves m i stack shelf tag h here) read in
     let n = next held st moves m i stack shelf (again tag) h here in
-    let one = subst (λ y. MakesOne (take m.place st) y h.row h.kept n.row' n.kept') n.numbered n.one in
+    let one = subst (λ y. MakesOne (take m.index st) y h.row h.kept n.row' n.kept') n.numbered n.one in
     let found = zip_right (λ (x : X) (t : Trees). roots t ≡ 1) shelf h.kept tag one.0 h.ones one.1 in
     let single = one_tree one.0 found.2 in
     record {
@@ -228,7 +228,7 @@ pub record NextKeep {X : Type 0} (held : Holding X) (st : List Sentence) (moves 
   pub below : Trees
   pub some : 0 < length stack
   pub was : h.row ≡ beside rest (tree label below none)
-  pub others : Makes (take m.place st) (drop (i + 1) m.names) (beside rest (tree label below none)) (h.kept ++ tree label below none ∷ []) (tree m.label m.below none) m.makes.kept
+  pub others : Makes (take m.index st) (drop (i + 1) m.names) (beside rest (tree label below none)) (h.kept ++ tree label below none ∷ []) (tree m.label m.below none) m.makes.kept
 
 module _ {X : Type 0} (held : Holding X) (st : List Sentence) (moves : List (Move ℕ))
     (m : MakeTreeAt st moves) (i : ℕ) (stack shelf : List X) where
@@ -236,15 +236,15 @@ module _ {X : Type 0} (held : Holding X) (st : List Sentence) (moves : List (Mov
       → NextKeep held st moves m i stack shelf h
   next_keep h here =
       let n = next held st moves m i stack shelf mark h here in
-      let one = subst (λ y. MakesOne (take m.place st) y h.row h.kept n.row' n.kept') n.numbered n.one in
+      let one = subst (λ y. MakesOne (take m.index st) y h.row h.kept n.row' n.kept') n.numbered n.one in
       record {
         rest = one.0;
         label = one.1;
         below = one.2;
         some = omega (arith, h.deep, ap roots one.3, roots-beside one.0 (tree one.1 one.2 none));
         was = one.3;
-        others = subst (λ k. Makes (take m.place st) (drop (i + 1) m.names) (beside one.0 (tree one.1 one.2 none)) k (tree m.label m.below none) m.makes.kept) one.5
-            (subst (λ r. Makes (take m.place st) (drop (i + 1) m.names) r n.kept' (tree m.label m.below none) m.makes.kept) (one.4 ∙ one.3) n.others);
+        others = subst (λ k. Makes (take m.index st) (drop (i + 1) m.names) (beside one.0 (tree one.1 one.2 none)) k (tree m.label m.below none) m.makes.kept) one.5
+            (subst (λ r. Makes (take m.index st) (drop (i + 1) m.names) r n.kept' (tree m.label m.below none) m.makes.kept) (one.4 ∙ one.3) n.others);
       }
 
   pub at_keep : (item : X) (h : AreItemsAt held st moves m i stack shelf)
@@ -292,34 +292,34 @@ module _ {X : Type 0} (held : Holding X) (st : List Sentence) (moves : List (Mov
 
 module _ {B X : Type 0} (holds : B → B → List Sentence → Holding X) where
   -- a move more
-  pub built_more : (first old new : Forest B X) (front : List (Move ℕ)) (x : Move ℕ)
-      → HasBuilt holds first old front → new.builder.ghost_name ≡ old.builder.ghost_name
+  pub built_more : (first old new : Forest B X) (prefix : List (Move ℕ)) (x : Move ℕ)
+      → HasBuilt holds first old prefix → new.builder.ghost_name ≡ old.builder.ghost_name
       → new.book ≡ old.book → new.entries ≡ old.entries
-      → let held = λ (now : Forest B X). holds first.builder.now now.builder.now first.book.now.statements in ((moves : List (Move ℕ)) (m : MakeTreeAt first.book.now.statements moves) → slice_get moves (length front) ≡ Some x → AreItemsAt (held old) _ moves m (length front) old.stack.now.items old.shelf.now.items → AreItemsAt (held new) _ moves m (length front + 1) new.stack.now.items new.shelf.now.items)
-      → HasBuilt holds first new (front ++ x ∷ [])
-  built_more first old new front x was builder book entries goes = record {
+      → let held = λ (now : Forest B X). holds first.builder.now now.builder.now first.book.now.statements in ((moves : List (Move ℕ)) (m : MakeTreeAt first.book.now.statements moves) → slice_get moves (length prefix) ≡ Some x → AreItemsAt (held old) _ moves m (length prefix) old.stack.now.items old.shelf.now.items → AreItemsAt (held new) _ moves m (length prefix + 1) new.stack.now.items new.shelf.now.items)
+      → HasBuilt holds first new (prefix ++ x ∷ [])
+  built_more first old new prefix x was builder book entries goes = record {
     same_builder = builder ∙ was.same_builder;
     same_book = book ∙ was.same_book;
     same_entries = entries ∙ was.same_entries;
     sound = was.sound;
     keeps = was.keeps;
     at = λ moves m begun.
-        let more = first_more front moves x begun in
-        rw (length-append front (x ∷ [])) (goes moves m more.1 (was.at moves m more.0));
+        let more = first_more prefix moves x begun in
+        rw (length-append prefix (x ∷ [])) (goes moves m more.1 (was.at moves m more.0));
   }
 
   -- some moves go on by the next move
   pub some_next : (now : Forest B X) (x : Move ℕ)
-      (next : IsNext (HasBuilt holds) (λ first front move. MayGrow first.book.now.statements front move) now x)
-      → let statements = next.first.book.now.statements in (moves : List (Move ℕ)) × (m : MakeTreeAt statements moves) × (slice_get moves (length next.front) ≡ Some x) × AreItemsAt (holds next.first.builder.now now.builder.now statements) statements moves m (length next.front) now.stack.now.items now.shelf.now.items
+      (next : IsNext (HasBuilt holds) (λ first prefix move. MayGrow first.book.now.statements prefix move) now x)
+      → let statements = next.first.book.now.statements in (moves : List (Move ℕ)) × (m : MakeTreeAt statements moves) × (slice_get moves (length next.prefix) ≡ Some x) × AreItemsAt (holds next.first.builder.now now.builder.now statements) statements moves m (length next.prefix) now.stack.now.items now.shelf.now.items
   some_next now x next =
       let moves = next.allowed.0 in
-      let more = first_more next.front moves x next.allowed.2 in
+      let more = first_more next.prefix moves x next.allowed.2 in
       (moves, next.allowed.1, more.1, next.ran.at moves next.allowed.1 more.0)
 
   -- where a mark comes next, something is on the stack
   pub keep_within : (now : Forest B X)
-      → IsNext (HasBuilt holds) (λ first front move. MayGrow first.book.now.statements front move) now mark
+      → IsNext (HasBuilt holds) (λ first prefix move. MayGrow first.book.now.statements prefix move) now mark
       → 0 < length now.stack.now.items
   keep_within now next =
       let s = some_next now mark next in (next_keep _ _ s.0 s.1 _ _ _ s.3 s.2).some

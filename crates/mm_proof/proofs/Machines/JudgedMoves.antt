@@ -30,7 +30,7 @@ use Rattle.std.specs.List.{AllByRecursion}
 use Rattle.std.proofs.lemmas.Option.{same_Some}
 use Rattle.mm_frame.specs.Rules.{AllMeant}
 use Rattle.mm_frame.specs.Numbers.{symbols_of, labelled_sentences, IsNumbered}
-use Rattle.mm_frame.specs.FramePlace.{AreItsSymbols}
+use Rattle.mm_frame.specs.FrameIndex.{AreItsSymbols}
 use Rattle.mm_frame.specs.Laws.{OneNumber}
 use Rattle.mm_frame.proofs.Names.LabelNumbers.{numbered_from_get}
 use Rattle.mm_proof.specs.declared.fault.ProofFault.TheVariants.{Rule, Memory}
@@ -43,7 +43,7 @@ use Rattle.mm_proof.specs.Mirror.CodeSteps.{MayBeUsed, moves_of}
 use Rattle.mm_proof.specs.Verified.{ProvesUsingNumbers, ProvesUsing, OfMoves}
 use Rattle.mm_proof.proofs.ProofSteps.OneStep.{one_label}
 use Rattle.mm_proof.proofs.ByNumbers.NumberedSymbols.{named_is, below_is, named_once}
-use Rattle.mm_proof.proofs.ByNumbers.NumberedLabels.{one_place, one_move}
+use Rattle.mm_proof.proofs.ByNumbers.NumberedLabels.{one_index, one_move}
 use Rattle.mm_proof.proofs.ByNumbers.UsedAssertions.{used_numbers}
 use Rattle.mm_proof.proofs.ProofSteps.Derivations.{zip_once}
 use Rattle.mm_proof.specs.declared.lines.Line.{Line}
@@ -54,7 +54,7 @@ use Rattle.mm_proof.specs.declared.fault.ProofFault.TheVariants as faults
 
 -- ---- moves by numbers and by names
 
--- moves up to a place, with the one there
+-- moves up to an index, with the one there
 pub first_up_to : (moves : List (Move ℕ)) (i : ℕ) (x : Move ℕ) → slice_get moves i ≡ Some x
     → AreFirst (take i moves ++ x ∷ []) moves
 first_up_to [] i x there = absurd cc
@@ -77,39 +77,39 @@ same_steps st xs moves z = absurd z
 -- ---- one move more
 
 -- no moves, and an empty store
-run_none : (limit : ℕ) (st : List Sentence) (place : ℕ) (stack kept : List (List ℕ)) → stack ≡ [] → kept ≡ [] → HasRun limit st place [] stack kept 0
-run_none limit st place stack kept empty none_kept = rw (empty, none_kept) (record {
+run_none : (limit : ℕ) (st : List Sentence) (index : ℕ) (stack kept : List (List ℕ)) → stack ≡ [] → kept ≡ [] → HasRun limit st index [] stack kept 0
+run_none limit st index stack kept empty none_kept = rw (empty, none_kept) (record {
   count = refl;
   passed = λ moves numbered. nothing moves numbered;
   entries = tt;
   kept_entries = tt;
 })
   where
-    nothing : (moves : List (Move (List ℕ))) → AreNumberedMoves st [] moves → Passed (IsWithin limit) (take place st) moves [] []
-    nothing [] z = passed_none (IsWithin limit) (take place st)
+    nothing : (moves : List (Move (List ℕ))) → AreNumberedMoves st [] moves → Passed (IsWithin limit) (take index st) moves [] []
+    nothing [] z = passed_none (IsWithin limit) (take index st)
     nothing (m ∷ moves) z = absurd z
 
 -- a move that carries on what passed
-run_more : (limit : ℕ) (st : List Sentence) (place : ℕ) (front : List (Move ℕ)) (x : Move ℕ) (stack kept stack' kept' : List (List ℕ)) (steps steps' : ℕ) → HasRun limit st place front stack kept steps
+run_more : (limit : ℕ) (st : List Sentence) (index : ℕ) (prefix : List (Move ℕ)) (x : Move ℕ) (stack kept stack' kept' : List (List ℕ)) (steps steps' : ℕ) → HasRun limit st index prefix stack kept steps
     → ((move : Move (List ℕ)) (moves : List (Move (List ℕ))) → IsNumberedMove st x move
-    → Passed (IsWithin limit) (take place st) moves (all_names_at st stack) (all_names_at st kept)
-    → Passed (IsWithin limit) (take place st) (moves ++ move ∷ []) (all_names_at st stack') (all_names_at st kept'))
-    → AreStackEntries st (take place st) stack' → AreStackEntries st (take place st) kept' → steps' ≡ steps + steps_in (x ∷ [])
-    → HasRun limit st place (front ++ x ∷ []) stack' kept' steps'
-run_more limit st place front x stack kept stack' kept' steps steps' run carried entries kept_entries count = record {
-  count = count ∙ ap (λ n. n + steps_in (x ∷ [])) run.count ∙ sym (steps_in-append front (x ∷ []));
+    → Passed (IsWithin limit) (take index st) moves (all_names_at st stack) (all_names_at st kept)
+    → Passed (IsWithin limit) (take index st) (moves ++ move ∷ []) (all_names_at st stack') (all_names_at st kept'))
+    → AreStackEntries st (take index st) stack' → AreStackEntries st (take index st) kept' → steps' ≡ steps + steps_in (x ∷ [])
+    → HasRun limit st index (prefix ++ x ∷ []) stack' kept' steps'
+run_more limit st index prefix x stack kept stack' kept' steps steps' run carried entries kept_entries count = record {
+  count = count ∙ ap (λ n. n + steps_in (x ∷ [])) run.count ∙ sym (steps_in-append prefix (x ∷ []));
   passed = λ moves numbered.
-      let h = zip_front (IsNumberedMove st) front x moves numbered in
-      subst (λ l. Passed (IsWithin limit) (take place st) l (all_names_at st stack') (all_names_at st kept')) (sym h.2) (carried h.1 h.0 h.4 (run.passed h.0 h.3));
+      let h = zip_front (IsNumberedMove st) prefix x moves numbered in
+      subst (λ l. Passed (IsWithin limit) (take index st) l (all_names_at st stack') (all_names_at st kept')) (sym h.2) (carried h.1 h.0 h.4 (run.passed h.0 h.3));
   entries = entries;
   kept_entries = kept_entries;
 }
 
 -- a step by a label
-pub run_name : (limit : ℕ) (st : List Sentence) (place : ℕ) (front : List (Move ℕ)) (id : ℕ) (stack kept stack' : List (List ℕ)) (steps : ℕ) → HasRun limit st place front stack kept steps
-    → CarriesOn limit st place id stack stack' → AreStackEntries st (take place st) stack' → HasRun limit st place (front ++ name id ∷ []) stack' kept (steps + 1)
-run_name limit st place front id stack kept stack' steps run carries entries =
-    run_more limit st place front (name id) stack kept stack' kept steps (steps + 1) run
+pub run_name : (limit : ℕ) (st : List Sentence) (index : ℕ) (prefix : List (Move ℕ)) (id : ℕ) (stack kept stack' : List (List ℕ)) (steps : ℕ) → HasRun limit st index prefix stack kept steps
+    → CarriesOn limit st index id stack stack' → AreStackEntries st (take index st) stack' → HasRun limit st index (prefix ++ name id ∷ []) stack' kept (steps + 1)
+run_name limit st index prefix id stack kept stack' steps run carries entries =
+    run_more limit st index prefix (name id) stack kept stack' kept steps (steps + 1) run
     (λ move moves n passed. rw n.4
     (carries n.1 moves (all_names_at st kept) (n.0, n.1, n.2, n.3, refl) passed))
     entries run.kept_entries refl
@@ -123,53 +123,53 @@ pub named_push : (st : List Sentence) (entries : List (List ℕ)) (e : List ℕ)
 named_push st entries e = map-append (names_at st) entries (e ∷ [])
 
 -- a step by a tag
-pub run_again : (limit : ℕ) (st : List Sentence) (place : ℕ) (front : List (Move ℕ)) (tag : ℕ) (stack kept stack' : List (List ℕ)) (steps : ℕ) (e : List ℕ) → HasRun limit st place front stack kept steps
-    → slice_get kept tag ≡ Some e → stack' ≡ stack ++ e ∷ [] → HasRun limit st place (front ++ again tag ∷ []) stack' kept (steps + 1)
-run_again limit st place front tag stack kept stack' steps e run there is =
-    run_more limit st place front (again tag) stack kept stack' kept steps (steps + 1) run
+pub run_again : (limit : ℕ) (st : List Sentence) (index : ℕ) (prefix : List (Move ℕ)) (tag : ℕ) (stack kept stack' : List (List ℕ)) (steps : ℕ) (e : List ℕ) → HasRun limit st index prefix stack kept steps
+    → slice_get kept tag ≡ Some e → stack' ≡ stack ++ e ∷ [] → HasRun limit st index (prefix ++ again tag ∷ []) stack' kept (steps + 1)
+run_again limit st index prefix tag stack kept stack' steps e run there is =
+    run_more limit st index prefix (again tag) stack kept stack' kept steps (steps + 1) run
     (λ move moves n passed. rw (n, is, named_push st stack e)
-    (passed_again (IsWithin limit) (take place st) moves (all_names_at st stack) (all_names_at st kept) tag (names_at st e) passed (named_there st kept tag e there)))
-    (rw is (all_push (AreDeclaredSymbols st (take place st)) stack e run.entries (all_at (AreDeclaredSymbols st (take place st)) kept tag e run.kept_entries there)))
+    (passed_again (IsWithin limit) (take index st) moves (all_names_at st stack) (all_names_at st kept) tag (names_at st e) passed (named_there st kept tag e there)))
+    (rw is (all_push (AreDeclaredSymbols st (take index st)) stack e run.entries (all_at (AreDeclaredSymbols st (take index st)) kept tag e run.kept_entries there)))
     run.kept_entries refl
 
 -- a mark
-pub run_mark : (limit : ℕ) (st : List Sentence) (place : ℕ) (front : List (Move ℕ)) (stack kept stack' kept' : List (List ℕ)) (steps : ℕ) (rest : List (List ℕ)) (e : List ℕ) → HasRun limit st place front stack kept steps
-    → stack ≡ rest ++ e ∷ [] → stack' ≡ stack → kept' ≡ kept ++ e ∷ [] → HasRun limit st place (front ++ mark ∷ []) stack' kept' steps
-run_mark limit st place front stack kept stack' kept' steps rest e run split same is =
-    run_more limit st place front mark stack kept stack' kept' steps steps run
+pub run_mark : (limit : ℕ) (st : List Sentence) (index : ℕ) (prefix : List (Move ℕ)) (stack kept stack' kept' : List (List ℕ)) (steps : ℕ) (rest : List (List ℕ)) (e : List ℕ) → HasRun limit st index prefix stack kept steps
+    → stack ≡ rest ++ e ∷ [] → stack' ≡ stack → kept' ≡ kept ++ e ∷ [] → HasRun limit st index (prefix ++ mark ∷ []) stack' kept' steps
+run_mark limit st index prefix stack kept stack' kept' steps rest e run split same is =
+    run_more limit st index prefix mark stack kept stack' kept' steps steps run
     (λ move moves n passed. rw (n, same, is, split, named_push st rest e, named_push st kept e)
-    (passed_mark (IsWithin limit) (take place st) moves (all_names_at st rest) (all_names_at st kept) (names_at st e)
-    (subst (λ l. Passed (IsWithin limit) (take place st) moves l (all_names_at st kept)) (ap (all_names_at st) split ∙ named_push st rest e) passed)))
+    (passed_mark (IsWithin limit) (take index st) moves (all_names_at st rest) (all_names_at st kept) (names_at st e)
+    (subst (λ l. Passed (IsWithin limit) (take index st) moves l (all_names_at st kept)) (ap (all_names_at st) split ∙ named_push st rest e) passed)))
     (rw same run.entries)
-    (rw is (all_push (AreDeclaredSymbols st (take place st)) kept e run.kept_entries
-    (all_back (AreDeclaredSymbols st (take place st)) rest (e ∷ []) (rw split at run.entries)).0))
+    (rw is (all_push (AreDeclaredSymbols st (take index st)) kept e run.kept_entries
+    (all_back (AreDeclaredSymbols st (take index st)) rest (e ∷ []) (rw split at run.entries)).0))
     (omega arith)
 
 -- ---- a move that breaks a rule
 
-pub run_fault : (limit : ℕ) (st : List Sentence) (place : ℕ) (xs : List (Move ℕ)) (i : ℕ) (x : Move ℕ) (stack kept : List (List ℕ)) (steps : ℕ) (rule : ProofRule) (at : ℕ)
-    → slice_get xs i ≡ Some x → HasRun limit st place (take i xs) stack kept steps
-    → ((move : Move (List ℕ)) → IsNumberedMove st x move → FirstAtMove (IsWithin limit) rule (take place st) (all_names_at st stack) (all_names_at st kept) move)
-    → at ≡ steps + 1 → (names : List (Move (List ℕ))) → AreNumberedMoves st xs names → IsMoveFault (IsWithin limit) (take place st) names rule at
-run_fault limit st place xs i x stack kept steps rule at there run first number names numbered =
+pub run_fault : (limit : ℕ) (st : List Sentence) (index : ℕ) (xs : List (Move ℕ)) (i : ℕ) (x : Move ℕ) (stack kept : List (List ℕ)) (steps : ℕ) (rule : ProofRule) (at : ℕ)
+    → slice_get xs i ≡ Some x → HasRun limit st index (take i xs) stack kept steps
+    → ((move : Move (List ℕ)) → IsNumberedMove st x move → FirstAtMove (IsWithin limit) rule (take index st) (all_names_at st stack) (all_names_at st kept) move)
+    → at ≡ steps + 1 → (names : List (Move (List ℕ))) → AreNumberedMoves st xs names → IsMoveFault (IsWithin limit) (take index st) names rule at
+run_fault limit st index xs i x stack kept steps rule at there run first number names numbered =
     let here = zip_left (IsNumberedMove st) xs names i x numbered there in
-    let front = zip_take (IsNumberedMove st) xs names i numbered in
+    let prefix = zip_take (IsNumberedMove st) xs names i numbered in
     record {
       earlier = take i names;
       move = here.0;
       later = drop (suc i) names;
       parts = split_at names i here.0 here.1;
-      number = number ∙ ap (λ n. n + 1) (run.count ∙ same_steps st (take i xs) (take i names) front);
+      number = number ∙ ap (λ n. n + 1) (run.count ∙ same_steps st (take i xs) (take i names) prefix);
       stack = all_names_at st stack;
       kept = all_names_at st kept;
-      passed = run.passed (take i names) front;
+      passed = run.passed (take i names) prefix;
       fault = first here.0 here.2;
     }
 
 -- a step by a label
-pub stops_first : (limit : ℕ) (st : List Sentence) (place id : ℕ) (stack kept : List (List ℕ)) (rule : ProofRule) → StopsAt limit st place id stack rule
-    → (move : Move (List ℕ)) → IsNumberedMove st (name id) move → FirstAtMove (IsWithin limit) rule (take place st) (all_names_at st stack) (all_names_at st kept) move
-stops_first limit st place id stack kept rule stops move n =
+pub stops_first : (limit : ℕ) (st : List Sentence) (index id : ℕ) (stack kept : List (List ℕ)) (rule : ProofRule) → StopsAt limit st index id stack rule
+    → (move : Move (List ℕ)) → IsNumberedMove st (name id) move → FirstAtMove (IsWithin limit) rule (take index st) (all_names_at st stack) (all_names_at st kept) move
+stops_first limit st index id stack kept rule stops move n =
     rw n.4 (stops n.1 (all_names_at st kept) (n.0, n.1, n.2, n.3, refl))
 
 -- a fault that is handed on is the one of the call
@@ -190,7 +190,7 @@ module _ {S : Type 0} (stack kept : S → List (List ℕ)) (first : Judge S) whe
     same_marks = refl;
     same_table = refl;
     run = let site = first.table.now.site in
-        rw steps (run_none site.limit site.statements site.place _ _ empty none_kept);
+        rw steps (run_none site.limit site.statements site.index _ _ empty none_kept);
     tags = tags ∙ sym (ap length none_kept);
     long = long;
     marked = marked;
@@ -198,16 +198,16 @@ module _ {S : Type 0} (stack kept : S → List (List ℕ)) (first : Judge S) whe
   }
 
   -- one move more
-  pub judged_more : (old new : Judge S) (front : List (Move ℕ)) (x : Move ℕ)
-      → HasJudged stack kept first old front → new.store.ghost_name ≡ old.store.ghost_name
+  pub judged_more : (old new : Judge S) (prefix : List (Move ℕ)) (x : Move ℕ)
+      → HasJudged stack kept first old prefix → new.store.ghost_name ≡ old.store.ghost_name
       → new.marks.ghost_name ≡ old.marks.ghost_name → new.table ≡ old.table
-      → (let site = first.table.now.site in HasRun site.limit site.statements site.place (front ++ x ∷ []) (stack new.store.now) (kept new.store.now) new.steps)
+      → (let site = first.table.now.site in HasRun site.limit site.statements site.index (prefix ++ x ∷ []) (stack new.store.now) (kept new.store.now) new.steps)
       → new.kept ≡ length (kept new.store.now)
       → length new.marks.now.items ≡ length first.table.now.ids
-      → AreMarked first.table.now.ids (front ++ x ∷ []) new.marks.now.items
+      → AreMarked first.table.now.ids (prefix ++ x ∷ []) new.marks.now.items
       → new.steps + new.kept ≡ old.steps + old.kept + 1
-      → HasJudged stack kept first new (front ++ x ∷ [])
-  judged_more old new front x was store marks table run tags long marked all = record {
+      → HasJudged stack kept first new (prefix ++ x ∷ [])
+  judged_more old new prefix x was store marks table run tags long marked all = record {
     same_store = store ∙ was.same_store;
     same_marks = marks ∙ was.same_marks;
     same_table = table ∙ was.same_table;
@@ -215,19 +215,19 @@ module _ {S : Type 0} (stack kept : S → List (List ℕ)) (first : Judge S) whe
     tags = tags;
     long = long;
     marked = marked;
-    all = omega (arith, was.all, all, length-append front (x ∷ []));
+    all = omega (arith, was.all, all, length-append prefix (x ∷ []));
   }
 
 -- where a move breaks a rule after those that ran, that is the first fault of the moves
-pub stopped_fault : (site : ProofSite) (xs : List (Move ℕ)) (place : ℕ) (move : Move ℕ)
-    (fault : ProofFault) → slice_get xs place ≡ Some move
-    → OnRule fault (BreaksRun site (take place xs) move)
+pub stopped_fault : (site : ProofSite) (xs : List (Move ℕ)) (index : ℕ) (move : Move ℕ)
+    (fault : ProofFault) → slice_get xs index ≡ Some move
+    → OnRule fault (BreaksRun site (take index xs) move)
     → (rule : ProofRule) (at : ℕ) → fault ≡ faults.Rule rule at
     → (names : List (Move (List ℕ))) → AreNumberedMoves site.statements xs names
-    → IsMoveFault (IsWithin site.limit) (take site.place site.statements) names rule at
-stopped_fault site xs place move fault there known rule at is names numbered =
-    let b = subst (λ e. OnRule e (BreaksRun site (take place xs) move)) is known in
-    run_fault site.limit site.statements site.place xs place move b.stack b.kept b.steps rule at
+    → IsMoveFault (IsWithin site.limit) (take site.index site.statements) names rule at
+stopped_fault site xs index move fault there known rule at is names numbered =
+    let b = subst (λ e. OnRule e (BreaksRun site (take index xs) move)) is known in
+    run_fault site.limit site.statements site.index xs index move b.stack b.kept b.steps rule at
     there b.run b.first b.number names numbered
 
 -- ---- lists
@@ -245,29 +245,29 @@ last_split (x ∷ y ∷ xs) less =
 
 -- ---- the moves of the statement with a number
 
--- each of the moves may be made at the place
-pub usable_names : (st : List Sentence) (id : ℕ) (xs : List (Move ℕ)) (place : ℕ) (s : Sentence) (names : List (Move (List ℕ))) → AreSteps st id xs → IsNumbered st id place s
-    → AreNumberedMoves st xs names → AllByRecursion (IsUsableMove (take place st)) names
-usable_names st id xs place s names a n numbered =
-    let here : a.place ≡ place = one_place st id a.place place a.s s a.proof.numbered n in
+-- each of the moves may be made at the index
+pub usable_names : (st : List Sentence) (id : ℕ) (xs : List (Move ℕ)) (index : ℕ) (s : Sentence) (names : List (Move (List ℕ))) → AreSteps st id xs → IsNumbered st id index s
+    → AreNumberedMoves st xs names → AllByRecursion (IsUsableMove (take index st)) names
+usable_names st id xs index s names a n numbered =
+    let here : a.index ≡ index = one_index st id a.index index a.s s a.proof.numbered n in
     let same : a.moves ≡ names = zip_once (IsNumberedMove st) (IsNumberedMove st) xs a.moves names (one_move st) a.numbered numbered in
-    subst (λ p. AllByRecursion (IsUsableMove (take p st)) names) here (subst (λ l. AllByRecursion (IsUsableMove (take a.place st)) l) same a.usable)
+    subst (λ p. AllByRecursion (IsUsableMove (take p st)) names) here (subst (λ l. AllByRecursion (IsUsableMove (take a.index st)) l) same a.usable)
 
-module _ (st : List Sentence) (place id : ℕ) (s : Sentence) (label : List ℕ) where
-  -- the statement with a number and a label is the one that has the label before the place
+module _ (st : List Sentence) (index id : ℕ) (s : Sentence) (label : List ℕ) where
+  -- the statement with a number and a label is the one that has the label before the index
   labelled_there : (at : ℕ) (t : Sentence) → AllMeant st
       → slice_get (labelled_sentences st) id ≡ Some s → IsLabelled label s
-      → slice_get (take place st) at ≡ Some t → IsLabelled label t
-      → (t ≡ s) × IsNumbered st id at s × (at < place)
+      → slice_get (take index st) at ≡ Some t → IsLabelled label t
+      → (t ≡ s) × IsNumbered st id at s × (at < index)
   labelled_there at t all there is found named =
       let p = numbered_from_get st id s there in
-      let f = get_from_take st place at t found in
+      let f = get_from_take st index at t found in
       let one : at ≡ p.0 = one_label st at p.0 t s label all f.1 p.1.there named is in
       let same = same_Some t s (sym f.1 ∙ ap (slice_get st) one ∙ p.1.there) in
       (same, subst (λ k. IsNumbered st id k s) (sym one) p.1, f.0)
 
   may_be_used : AllMeant st → slice_get (labelled_sentences st) id ≡ Some s → IsLabelled label s
-      → IsUsable (take place st) label → MayBeUsed st place label id
+      → IsUsable (take index st) label → MayBeUsed st index label id
   may_be_used all there is (inl h) =
       let u = labelled_there h.0 h.1 all there is h.2 h.4.0 in
       let kind = subst (λ (x : Sentence). IsHypothesis x.kind) u.0 h.4.1 in
@@ -277,73 +277,73 @@ module _ (st : List Sentence) (place id : ℕ) (s : Sentence) (label : List ℕ)
       let kind = subst (λ (x : Sentence). IsAssertion x.kind) u.0 b.3.1 in
       record { at = b.0; s = s; numbered = u.1; named = is; before = u.2; kind = inr kind }
 
-move_made : (st : List Sentence) (place : ℕ) (x : Move ℕ) (move : Move (List ℕ)) → AllMeant st → IsNumberedMove st x move → IsUsableMove (take place st) move → MayBeMade st place x
-move_made st place (name id) move all n u =
-    (n.1, may_be_used st place id n.0 n.1 all n.2 n.3 (subst (IsUsableMove (take place st)) n.4 u))
-move_made st place x move all n u = tt
+move_made : (st : List Sentence) (index : ℕ) (x : Move ℕ) (move : Move (List ℕ)) → AllMeant st → IsNumberedMove st x move → IsUsableMove (take index st) move → MayBeMade st index x
+move_made st index (name id) move all n u =
+    (n.1, may_be_used st index id n.0 n.1 all n.2 n.3 (subst (IsUsableMove (take index st)) n.4 u))
+move_made st index x move all n u = tt
 
-pub steps_made : (st : List Sentence) (id : ℕ) (xs : List (Move ℕ)) (place : ℕ) (s : Sentence) → AllMeant st → AreSteps st id xs → IsNumbered st id place s
-    → AllByRecursion (MayBeMade st place) xs
-steps_made st id xs place s all a n =
-    zip_each (IsNumberedMove st) (MayBeMade st place) (IsUsableMove (take place st))
-    (λ x move. move_made st place x move all) xs a.moves a.numbered
-    (usable_names st id xs place s a.moves a n a.numbered)
+pub steps_made : (st : List Sentence) (id : ℕ) (xs : List (Move ℕ)) (index : ℕ) (s : Sentence) → AllMeant st → AreSteps st id xs → IsNumbered st id index s
+    → AllByRecursion (MayBeMade st index) xs
+steps_made st id xs index s all a n =
+    zip_each (IsNumberedMove st) (MayBeMade st index) (IsUsableMove (take index st))
+    (λ x move. move_made st index x move all) xs a.moves a.numbered
+    (usable_names st id xs index s a.moves a n a.numbered)
 
 -- ---- the verdict
 
-pub its_symbols : (st : List Sentence) (own place : ℕ) (s : Sentence) (numbers : List ℕ) → own ≡ place → slice_get st place ≡ Some s
-    → AreItsSymbols (record { statements = st; place = own }) numbers → (names_at st numbers ≡ s.symbols) × AreBelow st numbers
-its_symbols st own place s numbers here there i =
+pub its_symbols : (st : List Sentence) (own index : ℕ) (s : Sentence) (numbers : List ℕ) → own ≡ index → slice_get st index ≡ Some s
+    → AreItsSymbols (record { statements = st; index = own }) numbers → (names_at st numbers ≡ s.symbols) × AreBelow st numbers
+its_symbols st own index s numbers here there i =
     let same : i.assertion ≡ s = same_Some i.assertion s (sym i.there ∙ ap (slice_get st) here ∙ there) in
     (named_is st numbers i.assertion.symbols i.numbered ∙ ap (λ (x : Sentence). x.symbols) same, below_is st numbers i.assertion.symbols i.numbered)
 
 -- the moves have run, and left the statement's expression
 pub proved_end : (limit : ℕ) (st : List Sentence) (id own : ℕ) (t : Sentence) (xs : List (Move ℕ)) (stack kept : List (List ℕ)) (count : ℕ) (numbers : List ℕ)
-    → IsNumbered st id own t → AreItsSymbols (record { statements = st; place = own }) numbers → HasRun limit st own xs stack kept count → stack ≡ numbers ∷ []
-    → OfMoves st id xs (λ place s names. Prove (IsWithin limit) (take place st) s names)
-proved_end limit st id own t xs stack kept count numbers n symbols run is place s names proof numbered =
-    let here : own ≡ place = one_place st id own place t s n proof.numbered in
+    → IsNumbered st id own t → AreItsSymbols (record { statements = st; index = own }) numbers → HasRun limit st own xs stack kept count → stack ≡ numbers ∷ []
+    → OfMoves st id xs (λ index s names. Prove (IsWithin limit) (take index st) s names)
+proved_end limit st id own t xs stack kept count numbers n symbols run is index s names proof numbered =
+    let here : own ≡ index = one_index st id own index t s n proof.numbered in
     let moved = subst (λ p. HasRun limit st p xs stack kept count) here run in
-    let expression = (its_symbols st own place s numbers here proof.numbered.there symbols).0 in
+    let expression = (its_symbols st own index s numbers here proof.numbered.there symbols).0 in
     let passed = rw (is, expression) at (moved.passed names numbered) in
-    prove_at_end (IsWithin limit) (take place st) s names (all_names_at st kept) passed
+    prove_at_end (IsWithin limit) (take index st) s names (all_names_at st kept) passed
 
 -- what is proved, with the assertions that the moves name
 pub proved_with : (limit : ℕ) (st : List Sentence) (id : ℕ) (xs : List (Move ℕ)) (used : List ℕ) → AllMeant st → AreSteps st id xs → AreNamedNumbers st xs used
-    → OfMoves st id xs (λ place s names. Prove (IsWithin limit) (take place st) s names)
-    → OfMoves st id xs (λ place s names. ProvesUsingNumbers limit st place s names used)
-proved_with limit st id xs used all a named_so proved place s names proof numbered =
-    let p = proved place s names proof numbered in
-    let uses = used_numbers st place xs names (tree p.label p.below none) p.kept all numbered (usable_names st id xs place s names a proof.numbered numbered) p.made in
+    → OfMoves st id xs (λ index s names. Prove (IsWithin limit) (take index st) s names)
+    → OfMoves st id xs (λ index s names. ProvesUsingNumbers limit st index s names used)
+proved_with limit st id xs used all a named_so proved index s names proof numbered =
+    let p = proved index s names proof numbered in
+    let uses = used_numbers st index xs names (tree p.label p.below none) p.kept all numbered (usable_names st id xs index s names a proof.numbered numbered) p.made in
     (p, λ k. ((λ h. (uses k).1 ((named_so k).0 h)), λ h. (named_so k).1 ((uses k).0 h)))
 
 -- they have run, and left something else
 pub wrong_end : (limit : ℕ) (st : List Sentence) (id own : ℕ) (t : Sentence) (xs : List (Move ℕ)) (stack kept : List (List ℕ)) (count : ℕ) (numbers : List ℕ) (rule : ProofRule) (at : ℕ) → OneNumber
-    → IsNumbered st id own t → AreItsSymbols (record { statements = st; place = own }) numbers → HasRun limit st own xs stack kept count → (at ≡ count + 1) × EndsWrong rule stack numbers
-    → OfMoves st id xs (λ place s names. IsMovesFault (IsWithin limit) (take place st) s names rule at)
-wrong_end limit st id own t xs stack kept count numbers rule at one n symbols run wrong place s names proof numbered =
-    let here : own ≡ place = one_place st id own place t s n proof.numbered in
+    → IsNumbered st id own t → AreItsSymbols (record { statements = st; index = own }) numbers → HasRun limit st own xs stack kept count → (at ≡ count + 1) × EndsWrong rule stack numbers
+    → OfMoves st id xs (λ index s names. IsMovesFault (IsWithin limit) (take index st) s names rule at)
+wrong_end limit st id own t xs stack kept count numbers rule at one n symbols run wrong index s names proof numbered =
+    let here : own ≡ index = one_index st id own index t s n proof.numbered in
     let moved = subst (λ p. HasRun limit st p xs stack kept count) here run in
-    let expression = its_symbols st own place s numbers here proof.numbered.there symbols in
-    end_fault (IsWithin limit) (take place st) s names (all_names_at st stack) (all_names_at st kept) rule at (moved.passed names numbered)
+    let expression = its_symbols st own index s numbers here proof.numbered.there symbols in
+    end_fault (IsWithin limit) (take index st) s names (all_names_at st stack) (all_names_at st kept) rule at (moved.passed names numbered)
     (broken expression.0 expression.1 moved.entries wrong.1) (wrong.0 ∙ ap (λ k. k + 1) (moved.count ∙ same_steps st xs names numbered))
   where
-    broken : names_at st numbers ≡ s.symbols → AreBelow st numbers → AreStackEntries st (take place st) stack → EndsWrong rule stack numbers → BreaksEnd rule (all_names_at st stack) s.symbols
+    broken : names_at st numbers ≡ s.symbols → AreBelow st numbers → AreStackEntries st (take index st) stack → EndsWrong rule stack numbers → BreaksEnd rule (all_names_at st stack) s.symbols
     broken symbols_are below entries (inl w) = rw w.0 (λ e. w.1 (sym (length-map stack (names_at st)) ∙ e))
     broken symbols_are below entries (inr w) =
-        let entry = (subst (AreStackEntries st (take place st)) w.2 entries).0 in
+        let entry = (subst (AreStackEntries st (take index st)) w.2 entries).0 in
         rw w.0 (
           names_at st w.1,
           ap (all_names_at st) w.2,
-          λ same. w.3 (named_once one st w.1 numbers (all_weaker (IsSymbol st (take place st)) (λ k. k < length (symbols_of st)) (λ k i. i.below) w.1 entry) below (same ∙ sym symbols_are)),
+          λ same. w.3 (named_once one st w.1 numbers (all_weaker (IsSymbol st (take index st)) (λ k. k < length (symbols_of st)) (λ k i. i.below) w.1 entry) below (same ∙ sym symbols_are)),
         )
 
 -- a move breaks a rule
 pub wrong_move : (limit : ℕ) (st : List Sentence) (id own : ℕ) (t : Sentence) (xs : List (Move ℕ)) (rule : ProofRule) (at : ℕ) → IsNumbered st id own t
     → ((names : List (Move (List ℕ))) → AreNumberedMoves st xs names → IsMoveFault (IsWithin limit) (take own st) names rule at)
-    → OfMoves st id xs (λ place s names. IsMovesFault (IsWithin limit) (take place st) s names rule at)
-wrong_move limit st id own t xs rule at n fault place s names proof numbered =
-    let here : own ≡ place = one_place st id own place t s n proof.numbered in
+    → OfMoves st id xs (λ index s names. IsMovesFault (IsWithin limit) (take index st) s names rule at)
+wrong_move limit st id own t xs rule at n fault index s names proof numbered =
+    let here : own ≡ index = one_index st id own index t s n proof.numbered in
     inl (subst (λ p. IsMoveFault (IsWithin limit) (take p st) names rule at) here (fault names numbered))
 
 pub on_rule_from : (e : ProofFault) (P : ProofRule → ℕ → Type 0) → ((rule : ProofRule) (step : ℕ) → e ≡ Rule rule step → P rule step) → OnRule e P
@@ -373,20 +373,20 @@ held_moves xs entries held codes said same_entries same_codes view = rw (same_en
 
 -- what is proved, with the assertions of the tree each once, in order
 pub proved_in_order : (limit : ℕ) (st : List Sentence) (id : ℕ) (xs : List (Move ℕ)) (ids used : List ℕ) → DoRise used → ((k : ℕ) → Contains used k ↔ Contains ids k)
-    → OfMoves st id xs (λ place s names. ProvesUsingNumbers limit st place s names ids) → OfMoves st id xs (λ place s names. ProvesUsing limit st place s names used)
-proved_in_order limit st id xs ids used rising same proved place s names proof numbered =
-    let p = proved place s names proof numbered in
+    → OfMoves st id xs (λ index s names. ProvesUsingNumbers limit st index s names ids) → OfMoves st id xs (λ index s names. ProvesUsing limit st index s names used)
+proved_in_order limit st id xs ids used rising same proved index s names proof numbered =
+    let p = proved index s names proof numbered in
     (p.0, record { rising = rising; each = λ k. ((λ h. (p.1 k).0 ((same k).0 h)), λ h. (same k).1 ((p.1 k).1 h)) })
 
 -- ==== what is listed at the end
 
 -- the moves have run, and left the statement's expression
 pub lists_end : (limit : ℕ) (st : List Sentence) (id own : ℕ) (t : Sentence) (xs : List (Move ℕ)) (stack kept : List (List ℕ)) (count : ℕ) (numbers : List ℕ) (lines : List Line)
-    → IsNumbered st id own t → AreItsSymbols (record { statements = st; place = own }) numbers → HasRun limit st own xs stack kept count → stack ≡ numbers ∷ []
+    → IsNumbered st id own t → AreItsSymbols (record { statements = st; index = own }) numbers → HasRun limit st own xs stack kept count → stack ≡ numbers ∷ []
     → AreLinesAt st own xs lines → ListsProof limit st id xs lines
-lists_end limit st id own t xs stack kept count numbers lines n symbols run is lines_so place s names proof numbered =
-    let here : own ≡ place = one_place st id own place t s n proof.numbered in (
-      proved_end limit st id own t xs stack kept count numbers n symbols run is place s names proof
+lists_end limit st id own t xs stack kept count numbers lines n symbols run is lines_so index s names proof numbered =
+    let here : own ≡ index = one_index st id own index t s n proof.numbered in (
+      proved_end limit st id own t xs stack kept count numbers n symbols run is index s names proof
           numbered,
       subst (λ p. AreLinesAt st p xs lines) here lines_so names numbered,
     )

@@ -75,33 +75,33 @@ listed_step before moves move steps step listed is new = record {
   count =
       let more = steps_in-append moves (move ∷ []) in
       omega (arith, listed.count, length-append steps (step ∷ []), more, one_step move is);
-  each = λ place m s there is_one is. ⊎_elim
+  each = λ index m s there is_one is. ⊎_elim
       (λ old.
-      let front = take-append-le place moves (move ∷ []) (let l = old.0 in omega arith) in
-      let less = step_before moves place m old.1 is_one in
-      rw front (elim (old_or_new steps step s (steps_in (take place moves)) (rw front at is)) [
-        | inl h ↦ listed.each place m s old.1 is_one h.1
+      let prefix = take-append-le index moves (move ∷ []) (let l = old.0 in omega arith) in
+      let less = step_before moves index m old.1 is_one in
+      rw prefix (elim (old_or_new steps step s (steps_in (take index moves)) (rw prefix at is)) [
+        | inl h ↦ listed.each index m s old.1 is_one h.1
         | inr h ↦ absurd (omega (arith, h.0, less, listed.count))
       ]))
       (λ last.
-      let front = take_at moves (move ∷ []) place (sym last.0) in
-      rw (front, ← last.1) (elim (old_or_new steps step s (steps_in moves) (rw front at is)) [
+      let prefix = take_at moves (move ∷ []) index (sym last.0) in
+      rw (prefix, ← last.1) (elim (old_or_new steps step s (steps_in moves) (rw prefix at is)) [
         | inl h ↦ absurd (omega (arith, h.0, listed.count))
         | inr h ↦ rw (← h.1) new
       ]))
-      (old_or_new moves move m place there);
+      (old_or_new moves move m index there);
 }
 
 -- a mark more
 listed_mark : (before : List Sentence) (moves : List (Move (List ℕ))) (steps : List ListedStep) → AreListed before moves steps → AreListed before (moves ++ mark ∷ []) steps
 listed_mark before moves steps listed = record {
   count = omega (arith, listed.count, steps_in-append moves (mark ∷ []));
-  each = λ place m s there is_one is. ⊎_elim
+  each = λ index m s there is_one is. ⊎_elim
       (λ old.
-      let front = take-append-le place moves (mark ∷ []) (let l = old.0 in omega arith) in
-      rw front (listed.each place m s old.1 is_one (rw front at is)))
+      let prefix = take-append-le index moves (mark ∷ []) (let l = old.0 in omega arith) in
+      rw prefix (listed.each index m s old.1 is_one (rw prefix at is)))
       (λ new. absurd (false≢true (rw (← new.1) at is_one)))
-      (old_or_new moves mark m place there);
+      (old_or_new moves mark m index there);
 }
 
 -- ---- what moves that passed leave
@@ -165,21 +165,21 @@ numbers_named st (n ∷ ns) below =
 
 -- ---- tags
 
-tags_later : (st : List Sentence) (front : List (Move ℕ)) (x : Move ℕ) (tags : List ℕ) → AreTagsFor st front tags → AreTagsFor st (front ++ x ∷ []) tags
-tags_later st front x tags are moves numbered tag step there =
-    let h = zip_front (IsNumberedMove st) front x moves numbered in
+tags_later : (st : List Sentence) (prefix : List (Move ℕ)) (x : Move ℕ) (tags : List ℕ) → AreTagsFor st prefix tags → AreTagsFor st (prefix ++ x ∷ []) tags
+tags_later st prefix x tags are moves numbered tag step there =
+    let h = zip_front (IsNumberedMove st) prefix x moves numbered in
     subst (λ l. StandsAfter l tag step) (sym h.2) (stands_later h.0 (h.1 ∷ []) tag step (are h.0 h.3 tag step there))
 
 -- one tag more
-tags_more : (st : List Sentence) (front : List (Move ℕ)) (tags : List ℕ) (new : ℕ) → new ≡ steps_in front → new + length tags ≡ length front
-    → AreTagsFor st front tags → AreTagsFor st (front ++ mark ∷ []) (tags ++ new ∷ [])
-tags_more st front tags new count all are moves numbered tag step there =
-    let h = zip_front (IsNumberedMove st) front mark moves numbered in
+tags_more : (st : List Sentence) (prefix : List (Move ℕ)) (tags : List ℕ) (new : ℕ) → new ≡ steps_in prefix → new + length tags ≡ length prefix
+    → AreTagsFor st prefix tags → AreTagsFor st (prefix ++ mark ∷ []) (tags ++ new ∷ [])
+tags_more st prefix tags new count all are moves numbered tag step there =
+    let h = zip_front (IsNumberedMove st) prefix mark moves numbered in
     subst (λ l. StandsAfter l tag step) (sym h.2) (elim (old_or_new tags new step tag there) [
       | inl old ↦ stands_later h.0 (h.1 ∷ []) tag step (are h.0 h.3 tag step old.1)
       | inr last ↦
-          let same : steps_in h.0 ≡ step = sym (same_steps st front h.0 h.3) ∙ sym count ∙ last.1 in
-          let long : length h.0 ≡ length front = AllZip-long (IsNumberedMove st) front h.0 h.3 in
+          let same : steps_in h.0 ≡ step = sym (same_steps st prefix h.0 h.3) ∙ sym count ∙ last.1 in
+          let long : length h.0 ≡ length prefix = AllZip-long (IsNumberedMove st) prefix h.0 h.3 in
           let number : step + tag ≡ length h.0 = (let a = last.0 in let b = last.1 in omega arith) in
           rw h.4 (
             rw number (get_pushed h.0 mark),
@@ -190,20 +190,20 @@ tags_more st front tags new count all are moves numbered tag step there =
 -- ---- lines
 
 -- nothing is listed
-lines_none : (st : List Sentence) (place : ℕ) → AreLinesAt st place [] []
-lines_none st place [] numbered = ([], record { count = refl; each = λ place move step there is at. absurd cc }, tt)
-lines_none st place (m ∷ moves) numbered = absurd numbered
+lines_none : (st : List Sentence) (index : ℕ) → AreLinesAt st index [] []
+lines_none st index [] numbered = ([], record { count = refl; each = λ index move step there is at. absurd cc }, tt)
+lines_none st index (m ∷ moves) numbered = absurd numbered
 
 -- a step more, which is called so
-line_more : (limit : ℕ) (st : List Sentence) (place : ℕ) (front : List (Move ℕ)) (x : Move ℕ) (stack kept : List (List ℕ)) (count : ℕ) (lines : List Line) (line : Line)
-    → HasRun limit st place (front ++ x ∷ []) stack kept count → slice_get stack (length stack - 1) ≡ Some (numbers_in line.expression.items) → is_step x ≡ true
-    → ((moves : List (Move (List ℕ))) (move : Move (List ℕ)) → AreNumberedMoves st front moves → IsNumberedMove st x move
+line_more : (limit : ℕ) (st : List Sentence) (index : ℕ) (prefix : List (Move ℕ)) (x : Move ℕ) (stack kept : List (List ℕ)) (count : ℕ) (lines : List Line) (line : Line)
+    → HasRun limit st index (prefix ++ x ∷ []) stack kept count → slice_get stack (length stack - 1) ≡ Some (numbers_in line.expression.items) → is_step x ≡ true
+    → ((moves : List (Move (List ℕ))) (move : Move (List ℕ)) → AreNumberedMoves st prefix moves → IsNumberedMove st x move
     → (called : StepName) × IsNameOf st line.name called × IsCalled moves move called)
-    → AreLinesAt st place front lines → AreLinesAt st place (front ++ x ∷ []) (lines ++ line ∷ [])
-line_more limit st place front x stack kept count lines line run last is calls old moves numbered =
-    let before : List Sentence = take place st in
+    → AreLinesAt st index prefix lines → AreLinesAt st index (prefix ++ x ∷ []) (lines ++ line ∷ [])
+line_more limit st index prefix x stack kept count lines line run last is calls old moves numbered =
+    let before : List Sentence = take index st in
     let e : List ℕ = numbers_in line.expression.items in
-    let h = zip_front (IsNumberedMove st) front x moves numbered in
+    let h = zip_front (IsNumberedMove st) prefix x moves numbered in
     let within : length stack - 1 < length stack = slice_get_within stack (length stack - 1) e last in
     let parts = last_split stack (omega arith) in
     let top : parts.1 ≡ e = same_Some parts.1 e (sym parts.3 ∙ last) in
@@ -222,11 +222,11 @@ line_more limit st place front x stack kept count lines line run last is calls o
     )
 
 -- a mark more
-line_mark : (st : List Sentence) (place : ℕ) (front : List (Move ℕ)) (lines : List Line) → AreLinesAt st place front lines → AreLinesAt st place (front ++ mark ∷ []) lines
-line_mark st place front lines old moves numbered =
-    let h = zip_front (IsNumberedMove st) front mark moves numbered in
+line_mark : (st : List Sentence) (index : ℕ) (prefix : List (Move ℕ)) (lines : List Line) → AreLinesAt st index prefix lines → AreLinesAt st index (prefix ++ mark ∷ []) lines
+line_mark st index prefix lines old moves numbered =
+    let h = zip_front (IsNumberedMove st) prefix mark moves numbered in
     let was = old h.0 h.3 in
-    (was.0, subst (λ l. AreListed (take place st) l was.0) (sym (h.2 ∙ ap (λ m. h.0 ++ m ∷ []) h.4)) (listed_mark (take place st) h.0 was.0 was.1), was.2)
+    (was.0, subst (λ l. AreListed (take index st) l was.0) (sym (h.2 ∙ ap (λ m. h.0 ++ m ∷ []) h.4)) (listed_mark (take index st) h.0 was.0 was.1), was.2)
 
 -- ---- a lister
 
@@ -237,34 +237,34 @@ module _ {S : Type 0} (stack kept : S → List (List ℕ)) where
   lists_none first judged lines tags = record {
     same_lines = refl;
     judged = judged;
-    listed = rw lines (lines_none first.judge.table.now.site.statements first.judge.table.now.site.place);
+    listed = rw lines (lines_none first.judge.table.now.site.statements first.judge.table.now.site.index);
     stand = rw tags (λ moves numbered tag step there. absurd cc);
     count = (let a = judged.run.count in omega (arith, ap length lines, a));
     marks = (let a = judged.all in omega (arith, ap length tags, a));
   }
 
   -- a step
-  pub lists_step : (first old new : Lister S) (front : List (Move ℕ)) (x : Move ℕ) (line : Line)
-      → HasListed stack kept first old front
-      → HasJudged stack kept first.judge new.judge (front ++ x ∷ []) → is_step x ≡ true
+  pub lists_step : (first old new : Lister S) (prefix : List (Move ℕ)) (x : Move ℕ) (line : Line)
+      → HasListed stack kept first old prefix
+      → HasJudged stack kept first.judge new.judge (prefix ++ x ∷ []) → is_step x ≡ true
       → new.lines.ghost_name ≡ old.lines.ghost_name
       → new.lines.now.items ≡ old.lines.now.items ++ line ∷ []
       → new.tags.now.items ≡ old.tags.now.items
       → (let entries = stack new.judge.store.now in slice_get entries (length entries - 1) ≡ Some (numbers_in line.expression.items))
-      → (let st = first.judge.table.now.site.statements in (moves : List (Move (List ℕ))) (move : Move (List ℕ)) → AreNumberedMoves st front moves → IsNumberedMove st x move → (called : StepName) × IsNameOf st line.name called × IsCalled moves move called)
-      → HasListed stack kept first new (front ++ x ∷ [])
-  lists_step first old new front x line was judged is same lines tags last calls =
+      → (let st = first.judge.table.now.site.statements in (moves : List (Move (List ℕ))) (move : Move (List ℕ)) → AreNumberedMoves st prefix moves → IsNumberedMove st x move → (called : StepName) × IsNameOf st line.name called × IsCalled moves move called)
+      → HasListed stack kept first new (prefix ++ x ∷ [])
+  lists_step first old new prefix x line was judged is same lines tags last calls =
       let site = first.judge.table.now.site in
       let now = judged.run.count in
       let before = was.judged.run.count in
-      let one = steps_in-append front (x ∷ []) in
+      let one = steps_in-append prefix (x ∷ []) in
       let step = one_step x is in
       record {
         same_lines = same ∙ was.same_lines;
         judged = judged;
-        listed = rw lines (line_more site.limit site.statements site.place front x _ _ _ _ line
+        listed = rw lines (line_more site.limit site.statements site.index prefix x _ _ _ _ line
             judged.run last is calls was.listed);
-        stand = rw tags (tags_later site.statements front x old.tags.now.items was.stand);
+        stand = rw tags (tags_later site.statements prefix x old.tags.now.items was.stand);
         count = omega (
           arith,
           ap length lines,
@@ -285,27 +285,27 @@ module _ {S : Type 0} (stack kept : S → List (List ℕ)) where
           step,
           judged.all,
           was.judged.all,
-          length-append front (x ∷ []),
+          length-append prefix (x ∷ []),
         );
       }
 
   -- a mark
-  pub lists_mark : (first old new : Lister S) (front : List (Move ℕ)) (number : ℕ)
-      → HasListed stack kept first old front
-      → HasJudged stack kept first.judge new.judge (front ++ mark ∷ [])
+  pub lists_mark : (first old new : Lister S) (prefix : List (Move ℕ)) (number : ℕ)
+      → HasListed stack kept first old prefix
+      → HasJudged stack kept first.judge new.judge (prefix ++ mark ∷ [])
       → new.lines.ghost_name ≡ old.lines.ghost_name → new.lines.now.items ≡ old.lines.now.items
       → new.tags.now.items ≡ old.tags.now.items ++ number ∷ [] → number ≡ length old.lines.now.items
-      → HasListed stack kept first new (front ++ mark ∷ [])
-  lists_mark first old new front number was judged same lines tags is =
+      → HasListed stack kept first new (prefix ++ mark ∷ [])
+  lists_mark first old new prefix number was judged same lines tags is =
       let site = first.judge.table.now.site in
-      let one = steps_in-append front (mark ∷ []) in
+      let one = steps_in-append prefix (mark ∷ []) in
       let now = judged.run.count in
       let before = was.judged.run.count in
       record {
         same_lines = same ∙ was.same_lines;
         judged = judged;
-        listed = rw lines (line_mark site.statements site.place front _ was.listed);
-        stand = rw tags (tags_more site.statements front old.tags.now.items number
+        listed = rw lines (line_mark site.statements site.index prefix _ was.listed);
+        stand = rw tags (tags_more site.statements prefix old.tags.now.items number
             (is ∙ was.count ∙ before)
             (omega (arith, is, was.count, was.marks, was.judged.all)) was.stand);
         count = omega (arith, ap length lines, was.count, now, before, one);
@@ -319,50 +319,50 @@ module _ {S : Type 0} (stack kept : S → List (List ℕ)) where
           one,
           judged.all,
           was.judged.all,
-          length-append front (mark ∷ []),
+          length-append prefix (mark ∷ []),
         );
       }
 
   -- all moves have run, each step with a line
-  pub listed_run : (first now : Lister S) (front : List (Move ℕ))
-      → HasListed stack kept first now front
-      → let site = first.judge.table.now.site in HasRun site.limit site.statements site.place front (stack now.judge.store.now) (kept now.judge.store.now) (length now.lines.now.items)
-  listed_run first now front listed = rw listed.count listed.judged.run
+  pub listed_run : (first now : Lister S) (prefix : List (Move ℕ))
+      → HasListed stack kept first now prefix
+      → let site = first.judge.table.now.site in HasRun site.limit site.statements site.index prefix (stack now.judge.store.now) (kept now.judge.store.now) (length now.lines.now.items)
+  listed_run first now prefix listed = rw listed.count listed.judged.run
 
   -- ---- what a step leaves
 
   -- a step by a label leaves something
-  pub name_stands : (first now : Judge S) (front : List (Move ℕ)) (id : ℕ)
-      → HasJudged stack kept first now (front ++ name id ∷ [])
-      → (names : List (Move (List ℕ))) × AreNumberedMoves first.table.now.site.statements (front ++ name id ∷ []) names
+  pub name_stands : (first now : Judge S) (prefix : List (Move ℕ)) (id : ℕ)
+      → HasJudged stack kept first now (prefix ++ name id ∷ [])
+      → (names : List (Move (List ℕ))) × AreNumberedMoves first.table.now.site.statements (prefix ++ name id ∷ []) names
       → 0 < length (stack now.store.now)
-  name_stands first now front id judged named =
+  name_stands first now prefix id judged named =
       let site = first.table.now.site in
       let st = site.statements in
-      let h = zip_front (IsNumberedMove st) front (name id) named.0 named.1 in
-      let deep = name_leaves (IsWithin site.limit) (take site.place st) h.0 h.4.1
+      let h = zip_front (IsNumberedMove st) prefix (name id) named.0 named.1 in
+      let deep = name_leaves (IsWithin site.limit) (take site.index st) h.0 h.4.1
       (all_names_at st (stack now.store.now)) (all_names_at st (kept now.store.now))
-      (subst (λ l. Passed (IsWithin site.limit) (take site.place st) l _ _)
+      (subst (λ l. Passed (IsWithin site.limit) (take site.index st) l _ _)
       (h.2 ∙ ap (λ m. h.0 ++ m ∷ []) h.4.4) (judged.run.passed named.0 named.1)) in
       omega (arith, deep, length-map (stack now.store.now) (names_at st))
 
   -- a step by a tag does too, and the tag is known
-  pub tag_stands : (first old : Lister S) (now : Judge S) (front : List (Move ℕ)) (tag : ℕ)
-      → HasListed stack kept first old front
-      → HasJudged stack kept first.judge now (front ++ again tag ∷ [])
-      → (names : List (Move (List ℕ))) × AreNumberedMoves first.judge.table.now.site.statements (front ++ again tag ∷ []) names
+  pub tag_stands : (first old : Lister S) (now : Judge S) (prefix : List (Move ℕ)) (tag : ℕ)
+      → HasListed stack kept first old prefix
+      → HasJudged stack kept first.judge now (prefix ++ again tag ∷ [])
+      → (names : List (Move (List ℕ))) × AreNumberedMoves first.judge.table.now.site.statements (prefix ++ again tag ∷ []) names
       → (tag < length old.tags.now.items) × (0 < length (stack now.store.now))
-  tag_stands first old now front tag was judged named =
+  tag_stands first old now prefix tag was judged named =
       let site = first.judge.table.now.site in
       let st = site.statements in
-      let h = zip_front (IsNumberedMove st) front (again tag) named.0 named.1 in
-      let left = again_leaves (IsWithin site.limit) (take site.place st) h.0 tag
+      let h = zip_front (IsNumberedMove st) prefix (again tag) named.0 named.1 in
+      let left = again_leaves (IsWithin site.limit) (take site.index st) h.0 tag
       (all_names_at st (stack now.store.now)) (all_names_at st (kept now.store.now))
-      (subst (λ l. Passed (IsWithin site.limit) (take site.place st) l _ _)
+      (subst (λ l. Passed (IsWithin site.limit) (take site.index st) l _ _)
       (h.2 ∙ ap (λ m. h.0 ++ m ∷ []) h.4) (judged.run.passed named.0 named.1)) in
       let within = length-map (kept now.store.now) (names_at st) in
-      let one = steps_in-append front (again tag ∷ []) in
-      let long = length-append front (again tag ∷ []) in
+      let one = steps_in-append prefix (again tag ∷ []) in
+      let long = length-append prefix (again tag ∷ []) in
       let before = was.judged.run.count in (
         omega (
           arith,

@@ -41,7 +41,7 @@ parts_count start [] none a = refl
 parts_count start (p ∷ parts) (tree l x r) a = ap suc (parts_count p.end parts r a.2)
 parts_count start parts row a = absurd a
 
--- the place behind a tree and those to its right
+-- the index behind a tree and those to its right
 behind : (l : List ℕ) (x r : Trees) → length (spelling (tree l x r)) ≡ length (spelling x) + 1 + length (spelling r)
 behind l x r = let n = length-append (spelling x) (l ∷ spelling r) in omega arith
 
@@ -63,9 +63,9 @@ parts_split start (t ∷ parts) more (tree l x r) b many p =
 
 part_later : (word more : List (List ℕ)) (part : Part) (t : Trees) → IsPartOf word part t → IsPartOf (word ++ more) part t
 part_later word more part t p = record {
-  front = p.front;
+  prefix = p.prefix;
   back = p.back ++ more;
-  whole = ap (λ w. w ++ more) p.whole ∙ append_assoc p.front (spelling t ++ p.back) more ∙ ap (λ w. p.front ++ w) (append_assoc (spelling t) p.back more);
+  whole = ap (λ w. w ++ more) p.whole ∙ append_assoc p.prefix (spelling t ++ p.back) more ∙ ap (λ w. p.prefix ++ w) (append_assoc (spelling t) p.back more);
   start = p.start;
   end = p.end;
 }
@@ -80,7 +80,7 @@ module _ (word : List (List ℕ)) (part : Part) (t : Trees) (p : IsPartOf word p
   -- it lies within the word
   pub part_order : (part.start ≤ part.end) × (part.end ≤ length word)
   part_order =
-      let long = ap length p.whole ∙ length-append p.front (spelling t ++ p.back) in
+      let long = ap length p.whole ∙ length-append p.prefix (spelling t ++ p.back) in
       let rest = length-append (spelling t) p.back in
       (omega (arith, p.start, p.end), omega (arith, p.end, long, rest))
 
@@ -136,7 +136,7 @@ parts_keep stack shelf item rest below kept label h =
     record {
       parts = h.parts;
       shelved = zip_push (IsPartOf (spelling (beside rest t))) shelf kept item t h.shelved (record {
-        front = spelling rest;
+        prefix = spelling rest;
         back = [];
         whole = spelling-beside rest t ∙ ap (λ l. spelling rest ++ l) (sym (append-nil (spelling t)));
         start = let s = split.0 in omega arith;
@@ -235,7 +235,7 @@ made_word before moves row kept m =
 
 -- ---- the word is one
 
--- two splits of one list, by which front is longer
+-- two splits of one list, by which prefix is longer
 splits : {X : Type 0} (a b c d : List X) → a ++ b ≡ c ++ d → ((g : List X) × (c ≡ a ++ g) × (b ≡ g ++ d)) ⊎ ((g : List X) × (a ≡ c ++ g) × (d ≡ g ++ b))
 splits [] b c d e = inl (c, refl, e)
 splits (x ∷ a) b [] d e = inr (x ∷ a, refl, sym e)
@@ -248,8 +248,8 @@ no_roots none e = refl
 no_roots (tree label below right) e = absurd (omega arith)
 
 -- one tree's spelling has no other tree's as a proper ending
-no_front : (before : List Sentence) (g : List (List ℕ)) (t u : Trees) → AllMeant before → TreesFit before t → TreesFit before u → roots t ≡ roots u → spelling t ≡ g ++ spelling u → g ≡ []
-no_front before g t u all f h width e =
+no_prefix : (before : List Sentence) (g : List (List ℕ)) (t u : Trees) → AllMeant before → TreesFit before t → TreesFit before u → roots t ≡ roots u → spelling t ≡ g ++ spelling u → g ≡ []
+no_prefix before g t u all f h width e =
     let whole : Makes before (map name g ++ map name (spelling u)) none [] t [] =
     subst (λ l. Makes before l none [] t []) (ap (map name) e ∙ map-append name g (spelling u)) (fit_makes before t none [] f) in
     let s = makes_split before (map name g) (map name (spelling u)) none t [] [] whole in
@@ -260,8 +260,8 @@ no_front before g t u all f h width e =
 -- so an ending of labels spells one tree
 one_ending : (before : List Sentence) (a c : List (List ℕ)) (t u : Trees) → AllMeant before → TreesFit before t → TreesFit before u → roots t ≡ roots u → a ++ spelling t ≡ c ++ spelling u → spelling t ≡ spelling u
 one_ending before a c t u all f h width e = elim (splits a (spelling t) c (spelling u) e) [
-  | inl p ↦ p.2 ∙ ap (λ l. l ++ spelling u) (no_front before p.0 t u all f h width p.2)
-  | inr p ↦ sym (p.2 ∙ ap (λ l. l ++ spelling t) (no_front before p.0 u t all h f (sym width) p.2))
+  | inl p ↦ p.2 ∙ ap (λ l. l ++ spelling u) (no_prefix before p.0 t u all f h width p.2)
+  | inr p ↦ sym (p.2 ∙ ap (λ l. l ++ spelling t) (no_prefix before p.0 u t all h f (sym width) p.2))
 ]
 
 expands_one : (before : List Sentence) (move : Move (List ℕ)) (labels a b : List (List ℕ)) (words v w : List (List (List ℕ))) → AllMeant before
@@ -296,9 +296,9 @@ spelled_more before labels row t p f =
     subst (λ l. Makes before l none [] (beside row t) []) (sym (map-append name labels (spelling t)))
     (makes_join before (map name labels) (map name (spelling t)) none row (beside row t) [] [] [] p (fit_makes before t row [] f))
 
--- what is made after a front, and what the rest makes of it
-spelled_front : (before : List Sentence) (a b : List (List ℕ)) (last : Trees) → Spelled before (a ++ b) last → (row : Trees) × Spelled before a row × Makes before (map name b) row [] last []
-spelled_front before a b last p =
+-- what is made after a prefix, and what the rest makes of it
+spelled_prefix : (before : List Sentence) (a b : List (List ℕ)) (last : Trees) → Spelled before (a ++ b) last → (row : Trees) × Spelled before a row × Makes before (map name b) row [] last []
+spelled_prefix before a b last p =
     let s = makes_split before (map name a) (map name b) none last [] [] (subst (λ l. Makes before l none [] last []) (map-append name a b) p) in
     let bare : s.1 ≡ [] = names_keep before a none s.0 [] s.1 s.2 in
     (s.0, subst (λ k. Makes before (map name a) none [] s.0 k) bare s.2, subst (λ k. Makes before (map name b) s.0 k last []) bare s.3)
@@ -333,7 +333,7 @@ next_row : (before : List Sentence) (move : Move (List ℕ)) (labels labels' : L
     → ExpandsOne before move labels words labels' words' → words ≡ map spelling kept → AllByRecursion (IsFitTree before) kept
     → Spelled before labels row → Spelled before labels' next → NextRow before move row next kept words'
 next_row before (name label) labels labels' words words' row next kept all p is fit here there =
-    let s = spelled_front before labels (label ∷ []) next (subst (λ l. Spelled before l next) p.0 there) in
+    let s = spelled_prefix before labels (label ∷ []) next (subst (λ l. Spelled before l next) p.0 there) in
     let same : s.0 ≡ row = spelled_once before labels s.0 row all s.1 here in
     let step = s.2.2 in
     record {
@@ -350,7 +350,7 @@ next_row before (again tag) labels labels' words words' row next kept all p is f
     record { kept' = kept; made = (t.0, t.1, row_is, refl); words = p.3 ∙ is; fit = fit }
 next_row before mark labels labels' words words' row next kept all p is fit here there =
     let t : Trees = tree p.1 p.2 none in
-    let s = spelled_front before p.0 (spelling t) row (subst (λ l. Spelled before l row) p.4 here) in
+    let s = spelled_prefix before p.0 (spelling t) row (subst (λ l. Spelled before l row) p.4 here) in
     let row_is : row ≡ beside s.0 t = spelled_once before labels row (beside s.0 t) all here (subst (λ l. Spelled before l (beside s.0 t)) (sym p.4) (spelled_more before p.0 s.0 t s.1 p.3)) in
     let same : next ≡ row = spelled_once before labels next row all (subst (λ l. Spelled before l next) p.5 there) here in
     record {
@@ -367,10 +367,10 @@ word_makes before [] labels labels' words words' row last kept all p is fit here
     (kept, (spelled_once before labels last row all (subst (λ l. Spelled before l last) p.0 there) here, refl))
 word_makes before (move ∷ moves) labels labels' words words' row last kept all p is fit here there =
     let grown = expands_grow before moves p.0 labels' p.1 words' p.3 in
-    let front = spelled_front before p.0 grown.0 last (subst (λ l. Spelled before l last) grown.1 there) in
-    let next = next_row before move labels p.0 words p.1 row front.0 kept all p.2 is fit here front.1 in
-    let rest = word_makes before moves p.0 labels' p.1 words' front.0 last next.kept' all p.3 next.words next.fit front.1 there in
-    (rest.0, (front.0, next.kept', next.made, rest.1))
+    let prefix = spelled_prefix before p.0 grown.0 last (subst (λ l. Spelled before l last) grown.1 there) in
+    let next = next_row before move labels p.0 words p.1 row prefix.0 kept all p.2 is fit here prefix.1 in
+    let rest = word_makes before moves p.0 labels' p.1 words' prefix.0 last next.kept' all p.3 next.words next.fit prefix.1 there in
+    (rest.0, (prefix.0, next.kept', next.made, rest.1))
 
 -- moves whose word trees that fit spell make these trees
 made_of_word : (before : List Sentence) (moves : List (Move (List ℕ))) (trees : Trees) → AllMeant before → TreesFit before trees → IsWord before moves (spelling trees)

@@ -22,8 +22,9 @@ use Rattle.mm_proof.specs.Spelled.{IsNumberOfLabel, AreLabelsOf}
 use Rattle.mm_proof.specs.Mirror.Subtrees.{AreOnce, IsTreeOf, IsSubtreeOf}
 use Rattle.mm_proof.specs.Mirror.CodeSharing.{IsStepOf, IsEncoded, AreEncoded, AreSharedSteps}
 use Rattle.mm_proof.specs.Mirror.CodeSharing.{labels_made, AreFirstNumbers, AreStepsPacked}
-use Rattle.mm_proof.proofs.Members.{In, Once, once_places, in_get, get_in, contains_in, in_contains}
-use Rattle.mm_proof.proofs.Members.{places_once}
+use Rattle.mm_proof.proofs.Members.{In, Once, once_indices, in_get, get_in, contains_in}
+use Rattle.mm_proof.proofs.Members.{in_contains}
+use Rattle.mm_proof.proofs.Members.{indices_once}
 use Rattle.mm_proof.proofs.FullSharing.OneSharing.{Marked, kept_stays}
 use Rattle.mm_proof.proofs.FullSharing.SharedMoves.{Led, shared_moves}
 use Rattle.mm_proof.proofs.PackedProofs.SubtreeNumbers.{one_label_of, tree_once, one_number_of}
@@ -32,14 +33,14 @@ use Rattle.mm_frame.specs.declared.number.LabelId.{LabelId}
 use Rattle.mm_frame.specs.Form.{AllFormed, IsSound}
 use Rattle.mm_frame.specs.Frame.{AreMandatory}
 use Rattle.mm_frame.specs.Numbers.{labelled_sentences, IsNumbered}
-use Rattle.mm_frame.specs.FramePlace.{FramePlace, AreHypotheses}
-use Rattle.mm_frame.proofs.Rules.ObeyedRules.{allmeant_front}
+use Rattle.mm_frame.specs.FrameIndex.{FrameIndex, AreHypotheses}
+use Rattle.mm_frame.proofs.Rules.ObeyedRules.{allmeant_prefix}
 use Rattle.mm_proof.specs.OneTree.{MakeTree}
 use Rattle.mm_proof.specs.Sharing.{AreFirstUses}
 use Rattle.mm_proof.specs.Packing.{ArePacked}
 use Rattle.mm_proof.specs.Plain.{ids_in}
 use Rattle.mm_proof.proofs.Machines.TreeWords.{made_word}
-use Rattle.mm_proof.proofs.ByNumbers.NumberedLabels.{one_place}
+use Rattle.mm_proof.proofs.ByNumbers.NumberedLabels.{one_index}
 use Rattle.mm_proof.proofs.ProofTokens.SaidMoves.{labels_of, mandatory_active}
 use Rattle.mm_proof.proofs.FullSharing.OneSharedProof.{mandatory_once}
 use Rattle.mm_proof.proofs.FullSharing.SomeSharing.{labels_in, spelled_uses}
@@ -102,17 +103,17 @@ not_tagged st rows numbers kept end t label below z is once stays has =
     let beside = zip_left (IsSubtreeOf st rows) numbers kept has.0 t z there in
     let old : slice_get kept has.0 ≡ Some tr = beside.1 ∙ ap Some (tree_of_number st rows t label below beside.0 is beside.2) in
     let less : has.0 < length kept = slice_get_within kept has.0 tr old in
-    let same : has.0 ≡ length kept = once_places end has.0 (length kept) tr once (stays has.0 tr (get_kept kept (tr ∷ []) has.0 tr old)) (stays (length kept) tr (get_pushed kept tr)) in
+    let same : has.0 ≡ length kept = once_indices end has.0 (length kept) tr once (stays has.0 tr (get_kept kept (tr ∷ []) has.0 tr old)) (stays (length kept) tr (get_pushed kept tr)) in
     omega (arith, less, same)
 
 -- ---- what a code says
 
-label_said : (st : List Sentence) (numbers : List ℕ) (labels : List (List ℕ)) (n place : ℕ) (label : List ℕ) → AllZip (IsNumberOfLabel st) numbers labels → IsNumberOfLabel st n label → slice_get numbers place ≡ Some n
-    → Says labels (Number (place + 1)) (name label)
-label_said st numbers labels n place label z is there =
-    let at = zip_left (IsNumberOfLabel st) numbers labels place n z there in
+label_said : (st : List Sentence) (numbers : List ℕ) (labels : List (List ℕ)) (n index : ℕ) (label : List ℕ) → AllZip (IsNumberOfLabel st) numbers labels → IsNumberOfLabel st n label → slice_get numbers index ≡ Some n
+    → Says labels (Number (index + 1)) (name label)
+label_said st numbers labels n index label z is there =
+    let at = zip_left (IsNumberOfLabel st) numbers labels index n z there in
     let same : at.0 ≡ label = one_label_of st n at.0 label at.2 is in
-    (place, refl, inl (label, at.1 ∙ ap Some same, refl))
+    (index, refl, inl (label, at.1 ∙ ap Some same, refl))
 
 -- ---- the codes
 
@@ -177,7 +178,7 @@ codes_said st before rows numbers labels repeated whole last end a (Repeat t ∷
     let found = zip_left (IsSubtreeOf st rows) tagged kept i.0 t tags i.1 in
     let there : slice_get kept i.0 ≡ Some tr = found.1 ∙ ap Some (tree_of_number st rows t o.0 o.1 found.0 o.2 found.2) in
     let stays = kept_stays before moves row kept last end led.0 in
-    let at : i.0 ≡ f.0 = once_places end i.0 f.0 tr a.end_once (stays i.0 tr there) (stays f.0 tr f.1) in
+    let at : i.0 ≡ f.0 = once_indices end i.0 f.0 tr a.end_once (stays i.0 tr there) (stays f.0 tr f.1) in
     let long = sym (AllZip-long (IsNumberOfLabel st) numbers labels a.labelled) in
     rw (e.3, i.2, f.2.parts, at) (
       (length numbers + f.0, refl, inr (f.0, ap (λ k. k + f.0) long, refl)),
@@ -202,10 +203,10 @@ own_labels st numbers hypotheses labels p q =
 
 -- different labels have different numbers
 numbers_once : (st : List Sentence) (numbers : List ℕ) (labels : List (List ℕ)) → AllZip (IsNumberOfLabel st) numbers labels → Once labels → Once numbers
-numbers_once st numbers labels z once = places_once numbers (λ i j n p q.
+numbers_once st numbers labels z once = indices_once numbers (λ i j n p q.
     let a = zip_left (IsNumberOfLabel st) numbers labels i n z p in
     let b = zip_left (IsNumberOfLabel st) numbers labels j n z q in
-    once_places labels i j b.0 once (a.1 ∙ ap Some (one_label_of st n a.0 b.0 a.2 b.2)) b.1)
+    once_indices labels i j b.0 once (a.1 ∙ ap Some (one_label_of st n a.0 b.0 a.2 b.2)) b.1)
 
 -- numbers that are different are all listed
 first_all : (seen numbers listed : List ℕ) → Once numbers → ((n : ℕ) → In numbers n → ¬ (In seen n)) → AreFirstNumbers seen numbers listed → listed ≡ numbers
@@ -288,19 +289,19 @@ repeats_of st rows steps v repeated all once z each t label below is = (
 
 -- ---- the fully shared proof
 
-pub packed_steps : (st : List Sentence) (place : ℕ) (s : Sentence) (rows : List Row) (label : List ℕ) (below : Trees) (steps : List SharedStep) (hypotheses : List ℕ) (ids : List LabelId) (codes : List Code)
-    → AllMeant st → AllFormed (take place st) → AreOnce rows → TreesFit (take place st) (tree label below none) → slice_get st place ≡ Some s
-    → AreHypotheses (record { statements = st; place = place }) hypotheses
+pub packed_steps : (st : List Sentence) (index : ℕ) (s : Sentence) (rows : List Row) (label : List ℕ) (below : Trees) (steps : List SharedStep) (hypotheses : List ℕ) (ids : List LabelId) (codes : List Code)
+    → AllMeant st → AllFormed (take index st) → AreOnce rows → TreesFit (take index st) (tree label below none) → slice_get st index ≡ Some s
+    → AreHypotheses (record { statements = st; index = index }) hypotheses
     → AreSharedSteps st rows (tree label below none) steps → AreStepsPacked hypotheses steps (ids_in ids) codes
-    → ArePacked st place s (tree label below none) ids codes
-packed_steps st place s rows label below steps hypotheses ids codes all formed once fit there own shared packed =
-    let before = take place st in
+    → ArePacked st index s (tree label below none) ids codes
+packed_steps st index s rows label below steps hypotheses ids codes all formed once fit there own shared packed =
+    let before = take index st in
     let trees : Trees = tree label below none in
     let same : own.assertion ≡ s = same_Some own.assertion s (sym own.there ∙ there) in
     let mandatory : AreMandatory before s own.hypotheses = rw same at own.mandatory in
     let named = labels_of before s own.hypotheses formed (λ i h e. let a = mandatory_active before s own.hypotheses i h mandatory e in (a.0, a.1, a.3)) in
     let numbers = own_labels st hypotheses own.hypotheses named.0 own.numbered named.1 in
-    let apart : Once hypotheses = numbers_once st hypotheses named.0 numbers (mandatory_once before s own.hypotheses named.0 (allmeant_front st place all) mandatory named.1) in
+    let apart : Once hypotheses = numbers_once st hypotheses named.0 numbers (mandatory_once before s own.hypotheses named.0 (allmeant_prefix st index all) mandatory named.1) in
     let given : packed.given ≡ hypotheses = first_all [] hypotheses packed.given apart (λ n h k. k) packed.own in
     let others : AreFirstNumbers hypotheses (labels_made steps) (ids_in ids) = rw given at packed.others in
     let uses = named_uses st hypotheses (labels_made steps) (ids_in ids) named.0 (labels_in shared.visits) all numbers (step_labels st rows steps shared.visits shared.said) others in
@@ -331,11 +332,11 @@ packed_steps st place s rows label below steps hypotheses ids codes all formed o
       },
     )
 
-pub packed_made : (st : List Sentence) (id place : ℕ) (s t : Sentence) (own : FramePlace) (rows : List Row) (label : List ℕ) (below : Trees) (names : List (Move (List ℕ))) (steps : List SharedStep) (hypotheses : List ℕ) (ids : List LabelId) (codes : List Code)
-    → IsSound st → AreOnce rows → IsNumbered st id place s → own.statements ≡ st → IsNumbered st id own.place t → AreHypotheses own hypotheses → MakeTree (take place st) names label below
-    → AreSharedSteps st rows (tree label below none) steps → AreStepsPacked hypotheses steps (ids_in ids) codes → ArePacked st place s (tree label below none) ids codes
-packed_made st id place s t own rows label below names steps hypotheses ids codes sound once numbered book its are made shared packed =
-    let at : own.place ≡ place = one_place st id own.place place t s its numbered in
-    let fit = made_word (take place st) names (tree label below none) made.kept made.made in
-    packed_steps st place s rows label below steps hypotheses ids codes sound.0 (λ i u e. sound.1 i u (get_from_take st place i u e).1) once fit.1 numbered.there
+pub packed_made : (st : List Sentence) (id index : ℕ) (s t : Sentence) (own : FrameIndex) (rows : List Row) (label : List ℕ) (below : Trees) (names : List (Move (List ℕ))) (steps : List SharedStep) (hypotheses : List ℕ) (ids : List LabelId) (codes : List Code)
+    → IsSound st → AreOnce rows → IsNumbered st id index s → own.statements ≡ st → IsNumbered st id own.index t → AreHypotheses own hypotheses → MakeTree (take index st) names label below
+    → AreSharedSteps st rows (tree label below none) steps → AreStepsPacked hypotheses steps (ids_in ids) codes → ArePacked st index s (tree label below none) ids codes
+packed_made st id index s t own rows label below names steps hypotheses ids codes sound once numbered book its are made shared packed =
+    let at : own.index ≡ index = one_index st id own.index index t s its numbered in
+    let fit = made_word (take index st) names (tree label below none) made.kept made.made in
+    packed_steps st index s rows label below steps hypotheses ids codes sound.0 (λ i u e. sound.1 i u (get_from_take st index i u e).1) once fit.1 numbered.there
     (rw (← book, ← at) are) shared packed

@@ -74,14 +74,14 @@ after_more : (v : List Visit) (t u : Trees) → In (after [] (v ++ makes t ∷ [
 after_more v t u h = rw after-append at h
 
 -- fewer steps at the end
-zip_front_of : (st : List Sentence) (rows : List Row) (steps : List SharedStep) (v front back : List Visit) (count : ℕ) → AllZip (IsStepOf st rows) steps v → v ≡ front ++ back → length back ≡ count
-    → AllZip (IsStepOf st rows) (take (length steps - count) steps) front
-zip_front_of st rows steps v front back count z parts long =
+zip_front_of : (st : List Sentence) (rows : List Row) (steps : List SharedStep) (v prefix back : List Visit) (count : ℕ) → AllZip (IsStepOf st rows) steps v → v ≡ prefix ++ back → length back ≡ count
+    → AllZip (IsStepOf st rows) (take (length steps - count) steps) prefix
+zip_front_of st rows steps v prefix back count z parts long =
     let same = AllZip-long (IsStepOf st rows) steps v z in
-    let n = length-append front back in
+    let n = length-append prefix back in
     let whole = ap length parts in
-    let same_long : length front ≡ length steps - count = omega arith in
-    rw (parts, take_at front back (length steps - count) same_long) at
+    let same_long : length prefix ≡ length steps - count = omega arith in
+    rw (parts, take_at prefix back (length steps - count) same_long) at
     (zip_take (IsStepOf st rows) steps v (length steps - count) z)
 
 pub steps_make : (st : List Sentence) (rows : List Row) (t : Subtree) (count : ℕ) (steps steps' : List SharedStep) (keys keys' : List Subtree) (rest below : Trees) (kept : List Trees) (label : List ℕ)
@@ -121,9 +121,9 @@ steps_make st rows t count steps steps' keys keys' rest below kept label all onc
         let made : In (after [] h.v) tr = rw (same.0, same.1) at g.4 in
         let c = sharing_cut rest kept h.v label below h.sharing big made in
         record {
-          v = c.front ++ repeats tr ∷ [];
+          v = c.prefix ++ repeats tr ∷ [];
           are = rw cut.2
-              (zip_push (IsStepOf st rows) (take (length steps - count) steps) c.front (step.Repeat t) (repeats tr) (zip_front_of st rows steps h.v c.front c.back count h.are c.parts (c.long ∙ many)) (label, below, is, refl));
+              (zip_push (IsStepOf st rows) (take (length steps - count) steps) c.prefix (step.Repeat t) (repeats tr) (zip_front_of st rows steps h.v c.prefix c.back count h.are c.parts (c.long ∙ many)) (label, below, is, refl));
           sharing = c.sharing;
           known = λ l b is k. let q = h.known l b is (c.only (tree l b none) k) in (q.0, rw cut.3 q.1, q.2);
           only = λ u k. let q = h.only u (rw cut.3 at k) in (q.0, q.1, q.2, q.3, c.same (tree q.0 q.1 none) q.3 q.4);
@@ -237,7 +237,7 @@ fewer_more i one steps few = let n = length-append steps (one ∷ []) in omega a
 
 -- ==== what is known of the labels and the codes of the steps so far
 
--- ---- a front with one more
+-- ---- a prefix with one more
 
 pub one_more : {X : Type 0} (xs : List X) (i : ℕ) (d x : X) → i < length xs → get_or xs i d ≡ x → take (i + 1) xs ≡ take i xs ++ x ∷ []
 one_more xs i d x less is = take_more xs i d less ∙ ap (λ y. take i xs ++ y ∷ []) is
@@ -428,7 +428,7 @@ tagged_next labels repeated steps i d codes kept kept' less are is =
     rw (one_more steps i d _ less refl)
     (tagged_one labels repeated kept (take i steps) (get_or steps i d) codes kept' are is)
 
--- a tree that is repeated at a place was tagged before
+-- a tree that is repeated at an index was tagged before
 pub repeated_tagged : (repeated kept : List Subtree) (steps : List SharedStep) (i : ℕ) (d : SharedStep) (t : Subtree) → i < length steps → AreMadeBefore steps → ((u : Subtree) → Contains steps (Repeat u) → Contains repeated u)
     → AreTaggedSo repeated kept (take i steps) → get_or steps i d ≡ Repeat t → Contains kept t
 repeated_tagged repeated kept steps i d t less made each are is =

@@ -48,8 +48,8 @@ once_of_distinct eq same (r ∷ rows) d (suc i) (suc j) row a b = ap suc (once_o
 
 -- a row more, or none, leaves the others where they were
 pub kept_inserted : (held : Bool) (row : Row) (rows new : List Row) → new ≡ (if held then rows else rows ++ row ∷ []) → KeepNumbers rows new
-kept_inserted true row rows new is place r there = subst (λ (l : List Row). slice_get l place ≡ Some r) (sym is) there
-kept_inserted false row rows new is place r there = subst (λ (l : List Row). slice_get l place ≡ Some r) (sym is) (get_kept rows (row ∷ []) place r there)
+kept_inserted true row rows new is index r there = subst (λ (l : List Row). slice_get l index ≡ Some r) (sym is) there
+kept_inserted false row rows new is index r there = subst (λ (l : List Row). slice_get l index ≡ Some r) (sym is) (get_kept rows (row ∷ []) index r there)
 
 -- ==== what a set answers, said of its list
 
@@ -66,9 +66,9 @@ module _ {X : Type 0} (eq : X → X → Bool) (tells : Tells eq) (list : List X)
     λ c. list_any_at (eq t) list c.0 t c.1 (ap (eq t) c.2 ∙ tells.same t),
   )
 
-  -- the place that is found is that of the subtree
-  pub place_there : (i : ℕ) → position (eq t) list ≡ Some i → slice_get list i ≡ Some t
-  place_there i e =
+  -- the index that is found is that of the subtree
+  pub index_there : (i : ℕ) → position (eq t) list ≡ Some i → slice_get list i ≡ Some t
+  index_there i e =
       let h = position-Some (eq t) list i t e in
       slice_get-get_or list i t h.0 ∙ ap Some (sym (tells.told t (get_or list i t) h.1))
 
@@ -131,7 +131,7 @@ stands_once st rows none none n a b = refl
 stands_once st rows none (tree m y s) n a b = absurd (let next = b.1.next in omega arith)
 stands_once st rows (tree l x r) none n a b = absurd (let next = a.1.next in omega arith)
 stands_once st rows (tree l x r) (tree m y s) n a b =
-    let place : a.1.place ≡ b.1.place = omega (arith, a.1.next, b.1.next) in
+    let index : a.1.index ≡ b.1.index = omega (arith, a.1.next, b.1.next) in
     let same : a.0 ≡ b.0 = cc (a.1.there, b.1.there) in
     let label : l ≡ m = one_label_of st b.0.first.label l m (subst (λ (k : Row). IsNumberOfLabel st k.first.label l) same a.2) b.2 in
     let below : x ≡ y = stands_once st rows x y b.0.first.below (subst (λ (k : Row). StandsFor st rows k.first.below x) same a.3) b.3 in
@@ -147,9 +147,9 @@ number_once st rows (tree l x r) n m all once a b =
     let right : a.0.right ≡ b.0.right = number_once st rows r a.0.right b.0.right all once a.4 b.4 in
     let row : a.0 ≡ b.0 =
     λ i. record { first = record { label = label i; below = below i }; right = right i } in
-    let place : a.1.place ≡ b.1.place =
-    once a.1.place b.1.place b.0 (subst (λ (k : Row). slice_get rows a.1.place ≡ Some k) row a.1.there) b.1.there in
-    omega (arith, a.1.next, b.1.next, place)
+    let index : a.1.index ≡ b.1.index =
+    once a.1.index b.1.index b.0 (subst (λ (k : Row). slice_get rows a.1.index ≡ Some k) row a.1.there) b.1.there in
+    omega (arith, a.1.next, b.1.next, index)
 
 -- ---- subtrees
 
@@ -170,7 +170,7 @@ pub stands_later : (st : List Sentence) (old new : List Row) (n : ℕ) (t : Tree
 stands_later st old new n none keep a = a
 stands_later st old new n (tree l x r) keep a = (
   a.0,
-  record { place = a.1.place; next = a.1.next; there = keep a.1.place a.0 a.1.there },
+  record { index = a.1.index; next = a.1.next; there = keep a.1.index a.0 a.1.there },
   a.2,
   stands_later st old new a.0.first.below x keep a.3,
   stands_later st old new a.0.right r keep a.4,
@@ -200,14 +200,14 @@ trees_count st rows ts row a = absurd a
 
 -- ---- the number of a row
 
--- the trees from a place on have their number, and so do those from the place before it on
-pub stands_more : (st : List Sentence) (old now new : List Row) (trees : List Subtree) (at place : ℕ) (d : Subtree) (right number : ℕ) (row : Trees) → suc at ≡ place → at < length trees → KeepNumbers old new → KeepNumbers now new
-    → IsNumberOfRow new number (record { first = get_or trees at d; right = right }) → ((others : Trees) → AreTreesOf st old (drop place trees) others → StandsFor st now right others)
+-- the trees from an index on have their number, and so do those from the index before it on
+pub stands_more : (st : List Sentence) (old now new : List Row) (trees : List Subtree) (at index : ℕ) (d : Subtree) (right number : ℕ) (row : Trees) → suc at ≡ index → at < length trees → KeepNumbers old new → KeepNumbers now new
+    → IsNumberOfRow new number (record { first = get_or trees at d; right = right }) → ((others : Trees) → AreTreesOf st old (drop index trees) others → StandsFor st now right others)
     → AreTreesOf st old (drop at trees) row → StandsFor st new number row
-stands_more st old now new trees at place d right number row next less keep later is stands a =
+stands_more st old now new trees at index d right number row next less keep later is stands a =
     go row (subst (λ ts. AreTreesOf st old ts row) (drop-cons trees at d less ∙ ap (λ (k : ℕ). get_or trees at d ∷ drop k trees) next) a)
   where
-    go : (row : Trees) → AreTreesOf st old (get_or trees at d ∷ drop place trees) row → StandsFor st new number row
+    go : (row : Trees) → AreTreesOf st old (get_or trees at d ∷ drop index trees) row → StandsFor st new number row
     go none a = absurd a
     go (tree label below others) a =
         (record { first = get_or trees at d; right = right }, is, a.0.named, stands_later st old new (get_or trees at d).below below keep a.0.stands, stands_later st now new right others later (stands others a.1))
@@ -216,7 +216,7 @@ stands_more st old now new trees at place d right number row next less keep late
 
 -- nothing stands for no trees
 pub no_subtrees : (rows : List Row) (st : List Sentence) → AreOnce rows → AreSubtreesOf rows rows st [] none [] []
-no_subtrees rows st once = record { keep = λ place row there. there; once = once; stands = tt; shelved = tt }
+no_subtrees rows st once = record { keep = λ index row there. there; once = once; stands = tt; shelved = tt }
 
 pub no_rows : (rows : List Row) (st : List Sentence) → rows ≡ [] → AreSubtreesOf rows rows st [] none [] []
 no_rows rows st empty = no_subtrees rows st (subst AreOnce (sym empty) (λ i j row there. absurd (none-some row there)))
@@ -234,7 +234,7 @@ pub subtrees_make : (st : List Sentence) (first old new : List Row) (stack items
 subtrees_make st first old new stack items shelf t rest below kept label number keep once named many h =
     let parts = trees_split st old stack items rest below many h.stands in
     record {
-      keep = λ place row there. keep place row (h.keep place row there);
+      keep = λ index row there. keep index row (h.keep index row there);
       once = once h.once;
       stands = trees_join st new stack (t ∷ []) rest (tree label below none) (trees_later st old new stack rest keep parts.0) (record { named = named; stands = number below parts.1 }, tt);
       shelved = zip_weaker _ _ (λ t u is. trees_later st old new (t ∷ []) u keep is) shelf kept
@@ -272,14 +272,14 @@ module _ (st : List Sentence) (first rows : List Row) (stack shelf : List Subtre
 
 -- the subtree is the tree that the moves make
 abbrev pub IsTreeOfMoves : List Sentence → ℕ → List Row → Subtree → List (Move (List ℕ)) → Type 0
-IsTreeOfMoves st place rows t moves = (label : List ℕ) (below : Trees) → MakeTree (take place st) moves label below → IsTreeOf st rows t label below
+IsTreeOfMoves st index rows t moves = (label : List ℕ) (below : Trees) → MakeTree (take index st) moves label below → IsTreeOf st rows t label below
 
-pub same_trees_made : (st : List Sentence) (place : ℕ) (rows : List Row) (t u : Subtree) (moves others : List (Move (List ℕ))) → AllMeant st → AreOnce rows
-    → IsTreeOfMoves st place rows t moves → IsTreeOfMoves st place rows u others → MakeOneTree (take place st) moves → MakeOneTree (take place st) others
-    → (t ≡ u) ↔ MakeSameTree (take place st) moves others
-same_trees_made st place rows t u moves others all once is is' m n = (
+pub same_trees_made : (st : List Sentence) (index : ℕ) (rows : List Row) (t u : Subtree) (moves others : List (Move (List ℕ))) → AllMeant st → AreOnce rows
+    → IsTreeOfMoves st index rows t moves → IsTreeOfMoves st index rows u others → MakeOneTree (take index st) moves → MakeOneTree (take index st) others
+    → (t ≡ u) ↔ MakeSameTree (take index st) moves others
+same_trees_made st index rows t u moves others all once is is' m n = (
   λ same.
       let one = tree_once st rows u m.0 n.0 m.1 n.1 (subst (λ x. IsTreeOf st rows x m.0 m.1) same (is m.0 m.1 m.2)) (is' n.0 n.1 n.2) in
-      (m.0, m.1, m.2, subst (λ l. MakeTree (take place st) others l m.1) (sym one.0) (subst (MakeTree (take place st) others n.0) (sym one.1) n.2)),
+      (m.0, m.1, m.2, subst (λ l. MakeTree (take index st) others l m.1) (sym one.0) (subst (MakeTree (take index st) others n.0) (sym one.1) n.2)),
   λ both. subtree_once st rows t u both.0 both.1 all once (is both.0 both.1 both.2) (is' both.0 both.1 both.3),
 )

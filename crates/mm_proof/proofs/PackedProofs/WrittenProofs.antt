@@ -26,7 +26,7 @@ use Rattle.mm_proof.proofs.ProofTokens.SaidMoves.{normal_or_compressed, labels_o
 use Rattle.mm_proof.proofs.ProofTokens.SaidMoves.{compressed_once, moves_once}
 use Rattle.mm_proof.proofs.ProofTokens.CodeLetters.{coded_not_broken}
 use Rattle.mm_proof.proofs.Members.{contains_first, contains_later, contains_cases, In, contains_in}
-use Rattle.mm_proof.proofs.Members.{in_get, get_in, once_places}
+use Rattle.mm_proof.proofs.Members.{in_get, get_in, once_indices}
 use Rattle.mm_proof.proofs.ProofSteps.OneStep.{not_both_kinds}
 use Rattle.mm_frame.proofs.Frames.FrameLaws.{mandatory_unique}
 use Rattle.mm_proof.specs.BigSubtrees.{IsBig}
@@ -57,16 +57,16 @@ label_fits before (tree own below right) label fit c = ⊎_elim
 
 -- it is that of a statement
 pub stands_known : (before : List Sentence) (label : List ℕ) (below : Trees) → MayStandOver before label below → SomeSentence before (IsLabelled label)
-stands_known before label below (inl (bare, (place, h, there, active, (named, kind)))) = (place, h, there, named)
-stands_known before label below (inr (place, assertion, hypotheses, names, many)) = (place, assertion, names.there, names.named)
+stands_known before label below (inl (bare, (index, h, there, active, (named, kind)))) = (index, h, there, named)
+stands_known before label below (inr (index, assertion, hypotheses, names, many)) = (index, assertion, names.there, names.named)
 
 -- a hypothesis with it is active
 stands_active : (before : List Sentence) (label : List ℕ) (below : Trees) → AllMeant before → MayStandOver before label below
-    → (place : ℕ) (h : Sentence) → slice_get before place ≡ Some h → IsLabelled label h → IsHypothesis h.kind → IsActive before place
-stands_active before label below meant (inl (bare, (at, g, there', active, (named', kind')))) place h there named kind =
-    subst (IsActive before) (one_label before label at place g h meant there' there named' named) active
-stands_active before label below meant (inr (at, assertion, hypotheses, names, many)) place h there named kind =
-    let here : at ≡ place = one_label before label at place assertion h meant names.there there names.named named in
+    → (index : ℕ) (h : Sentence) → slice_get before index ≡ Some h → IsLabelled label h → IsHypothesis h.kind → IsActive before index
+stands_active before label below meant (inl (bare, (at, g, there', active, (named', kind')))) index h there named kind =
+    subst (IsActive before) (one_label before label at index g h meant there' there named' named) active
+stands_active before label below meant (inr (at, assertion, hypotheses, names, many)) index h there named kind =
+    let here : at ≡ index = one_label before label at index assertion h meant names.there there names.named named in
     let same : assertion ≡ h = cc (names.there, here, there) in
     absurd (not_both_kinds h.kind kind (subst (λ (s : Sentence). IsAssertion s.kind) same names.kind))
 
@@ -78,8 +78,8 @@ whole_of : (before : List Sentence) (tokens labels : List (List ℕ)) → AllMea
 whole_of before tokens labels meant ends only fits letters P1 broken = ends broken
 whole_of before tokens labels meant ends only fits letters P2 (others, are, label, used, unknown) =
     let f = fits label (rw (only others are) at used) in unknown (stands_known before label f.0 f.1)
-whole_of before tokens labels meant ends only fits letters P3 (others, are, label, used, place, h, there, named, kind, closed) =
-    let f = fits label (rw (only others are) at used) in closed (stands_active before label f.0 meant f.1 place h there named kind)
+whole_of before tokens labels meant ends only fits letters P3 (others, are, label, used, index, h, there, named, kind, closed) =
+    let f = fits label (rw (only others are) at used) in closed (stands_active before label f.0 meant f.1 index h there named kind)
 whole_of before tokens labels meant ends only fits letters P4 (text, are, broken) = letters text code.P4 are broken
 whole_of before tokens labels meant ends only fits letters P5 (text, are, broken) = letters text code.P5 are broken
 whole_of before tokens labels meant ends only fits letters rule broken = broken
@@ -198,7 +198,7 @@ packed_list : (before : List Sentence) (s : Sentence) (trees : Trees) (listed : 
 packed_list before s trees listed codes p =
     let u = uses_apart (spelling trees) p.says.labels listed p.uses in
     record {
-      once = λ i j label a b. once_places listed i j label u.0 a b;
+      once = λ i j label a b. once_indices listed i j label u.0 a b;
       optional = λ hypotheses h label those has named among.
           let same : hypotheses ≡ p.says.hypotheses =
           mandatory_unique before s hypotheses p.says.hypotheses those p.says.mandatory in
@@ -247,20 +247,20 @@ module _ (before : List Sentence) where
       → SomeSentence before (λ a. IsLabelled label a × IsAssertion a.kind)
   big_assertion label below big (inl (bare, h)) =
       absurd (let small : 2 ≤ 1 = rw bare at big in omega arith)
-  big_assertion label below big (inr (place, assertion, hypotheses, names, many)) =
-      (place, assertion, names.there, (names.named, names.kind))
+  big_assertion label below big (inr (index, assertion, hypotheses, names, many)) =
+      (index, assertion, names.there, (names.named, names.kind))
 
   shared_marks : (trees : Trees) (moves : List (Move (List ℕ))) → ShareAll before trees moves
       → MarkAssertions before moves
-  shared_marks trees moves s front after parts =
-      let at : slice_get moves (length front) ≡ Some mark = rw parts (get_parted front after mark) in
-      let k = kept_there before moves none [] trees s.kept s.made (length front) at in
-      let m = s.marked (length front) k.0 k.1 in
+  shared_marks trees moves s prefix after parts =
+      let at : slice_get moves (length prefix) ≡ Some mark = rw parts (get_parted prefix after mark) in
+      let k = kept_there before moves none [] trees s.kept s.made (length prefix) at in
+      let m = s.marked (length prefix) k.0 k.1 in
       let l = made_there moves none [] trees s.kept s.made m.1 k.0 m.3 in
-      let held : slice_get front m.1 ≡ Some (name l.label) =
-      get_before front (mark ∷ after) m.1 (name l.label) (omega (arith, m.2))
+      let held : slice_get prefix m.1 ≡ Some (name l.label) =
+      get_before prefix (mark ∷ after) m.1 (name l.label) (omega (arith, m.2))
       (ap (λ x. slice_get x m.1) (sym parts) ∙ l.there) in
-      let last = last_of front m.1 (name l.label) m.2 held in (
+      let last = last_of prefix m.1 (name l.label) m.2 held in (
         last.0,
         l.label,
         last.1,

@@ -13,14 +13,14 @@ use Rattle.std.proofs.lemmas.List.{length-map, map-append}
 use Rattle.mm_text.specs.declared.statement.Kind.TheVariants.{Floating}
 use Rattle.mm_frame.specs.Frame.{IsMandatory, IsMandatoryAt}
 use Rattle.mm_frame.specs.Rules.{AllMeant}
-use Rattle.mm_frame.proofs.Rules.ObeyedRules.{allmeant_front}
+use Rattle.mm_frame.proofs.Rules.ObeyedRules.{allmeant_prefix}
 use Rattle.mm_proof.specs.Substitution.{IsOn, instance_of}
 use Rattle.mm_proof.proofs.ProofSteps.OneStep.{code_is_constant, those_hold, StepTo, step_once}
 use Rattle.mm_proof.proofs.ProofSteps.OneStep.{one_label, one_labelled, hypothesis_or_assertion}
 use Rattle.mm_proof.proofs.ProofSteps.OneStep.{one_frame}
 use Rattle.mm_proof.specs.Moves.{Move, name, again, mark, MakesOne, Makes}
 
--- ==== what rows of trees derive, and lists that are paired place by place
+-- ==== what rows of trees derive, and lists that are paired index by index
 
 -- ---- lists that are paired
 
@@ -42,7 +42,8 @@ derive_beside Fits before none b es fs d g = subst (λ l. DeriveAll Fits before 
 derive_beside Fits before (tree label below right) b es fs d g =
     (d.0, d.1 ++ fs, ap (λ l. l ++ fs) d.2, d.3, d.4, derive_beside Fits before right b d.1 fs d.5 g)
 
--- trees that derive a front and an end are trees that derive the front beside trees that derive the end
+-- trees that derive a prefix and an end are trees that derive the prefix beside trees that derive
+-- the end
 pub record Halves (Fits : List (List ℕ) → Type 0) (before : List Sentence) (trees : Trees) (es fs : List (List (List ℕ))) : Type 0 where
   pub left : Trees
   pub right : Trees
@@ -134,36 +135,36 @@ pub record IsTypingEntry (σ : List ℕ → Option (List (List ℕ))) (code x : 
 pub same_typing : (f : Sentence) (code x code' x' : List ℕ) → Types code x f → Types code' x' f → (code ≡ code') × (x ≡ x')
 same_typing f code x code' x' t t' = let e : code ∷ x ∷ [] ≡ code' ∷ x' ∷ [] = sym t.1 ∙ t'.1 in (cc, cc)
 
-module _ (before : List Sentence) (label : List ℕ) (place : ℕ) (assertion : Sentence)
+module _ (before : List Sentence) (label : List ℕ) (index : ℕ) (assertion : Sentence)
     (hypotheses : List Sentence) where
   -- the `$f` among the mandatory hypotheses
-  pub typing_of : (i : ℕ) (f : Sentence) → Names before label place assertion hypotheses
+  pub typing_of : (i : ℕ) (f : Sentence) → Names before label index assertion hypotheses
       → slice_get hypotheses i ≡ Some f → f.kind ≡ Floating
-      → (code : List ℕ) × (x : List ℕ) × Types code x f × IsMandatory (take place before) assertion x × (j : ℕ) × (slice_get (take place before) j ≡ Some f)
+      → (code : List ℕ) × (x : List ℕ) × Types code x f × IsMandatory (take index before) assertion x × (j : ℕ) × (slice_get (take index before) j ≡ Some f)
   typing_of i f names there floating =
-      let h = those_hold (IsMandatoryAt (take place before) assertion) 0 (take place before) hypotheses i f names.mandatory there in
+      let h = those_hold (IsMandatoryAt (take index before) assertion) 0 (take index before) hypotheses i f names.mandatory there in
       ⊎_elim (λ essential. absurd (cc (essential, floating))) (λ t. (t.0, t.1, t.2, t.3, h.0, h.1)) h.2.1
 
   -- what the trees below leave for the mandatory `$f`
   entry_of : (σ : List ℕ → Option (List (List ℕ))) (i : ℕ) (f : Sentence) (entry : List (List ℕ))
-      (code x : List ℕ) → AllMeant before → Names before label place assertion hypotheses
-      → IsOn (IsMandatory (take place before) assertion) σ → slice_get hypotheses i ≡ Some f
+      (code x : List ℕ) → AllMeant before → Names before label index assertion hypotheses
+      → IsOn (IsMandatory (take index before) assertion) σ → slice_get hypotheses i ≡ Some f
       → slice_get (map (λ (h : Sentence). instance_of σ h.symbols) hypotheses) i ≡ Some entry
       → Types code x f → IsTypingEntry σ code x entry
   entry_of σ i f entry code x all names on there at types =
       let t = typing_of i f names there types.0 in
       let same = same_typing f t.0 t.1 code x t.2 types in
-      let mandatory : IsMandatory (take place before) assertion x = subst (IsMandatory (take place before) assertion) same.1 t.3 in
+      let mandatory : IsMandatory (take index before) assertion x = subst (IsMandatory (take index before) assertion) same.1 t.3 in
       let constant : σ code ≡ None = absent (σ code) (λ some.
-      code_is_constant (take place before) t.4 f code x (allmeant_front before place all) t.5 types ((on code).0 some).0) in
+      code_is_constant (take index before) t.4 f code x (allmeant_prefix before index all) t.5 types ((on code).0 some).0) in
       let r = present (σ x) ((on x).1 mandatory) in
       let made : entry ≡ instance_of σ f.symbols =
       same_Some entry (instance_of σ f.symbols) (sym at ∙ slice_get-map (λ (h : Sentence). instance_of σ h.symbols) hypotheses i ∙ rw there refl) in
       record { replacement = r.0; replaced = r.1; is = made ∙ ap (instance_of σ) types.1 ∙ typing_entry σ code x r.0 constant r.1 }
 
   pub tree_step : (σ : List ℕ → Option (List (List ℕ))) (stack : List (List (List ℕ)))
-      (e : List (List ℕ)) → AllMeant before → Names before label place assertion hypotheses
-      → IsOn (IsMandatory (take place before) assertion) σ → KeepsApart before place assertion σ
+      (e : List (List ℕ)) → AllMeant before → Names before label index assertion hypotheses
+      → IsOn (IsMandatory (take index before) assertion) σ → KeepsApart before index assertion σ
       → e ≡ instance_of σ assertion.symbols
       → StepTo before (stack ++ map (λ (h : Sentence). instance_of σ h.symbols) hypotheses) label stack e
   tree_step σ stack e all names on apart made =
@@ -173,7 +174,7 @@ module _ (before : List Sentence) (label : List ℕ) (place : ℕ) (assertion : 
       λ i f entry code x there at types. entry_of σ i f entry code x all names on there at types in
       inr (record {
         meets = record {
-          place = place;
+          index = index;
           assertion = assertion;
           hypotheses = hypotheses;
           names = names;
@@ -205,7 +206,7 @@ derive_runs Fits before none es stack all d = ap (λ l. stack ++ l) d ∙ append
 derive_runs Fits before (tree label below right) es stack all d =
     let one : Runs Fits before (spelling below ++ label ∷ []) stack (stack ++ d.0 ∷ []) = ⊎_elim
     (λ (bare, h). rw bare
-    (stack, d.0, inl (record { kept = refl; place = h.0; hypothesis = h.1; there = h.2; active = h.3; named = h.4.0; kind = h.4.1; made = h.4.2 }), d.3, refl))
+    (stack, d.0, inl (record { kept = refl; index = h.0; hypothesis = h.1; there = h.2; active = h.3; named = h.4.0; kind = h.4.1; made = h.4.2 }), d.3, refl))
     (λ n.
     let entries : List (List (List ℕ)) = map (λ (h : Sentence). instance_of n.3 h.symbols) n.2 in
     let children : Runs Fits before (spelling below) stack (stack ++ entries) = derive_runs Fits before below entries stack all n.6 in
@@ -243,7 +244,7 @@ spelling-beside none b = refl
 spelling-beside (tree label below right) b =
     ap (λ l. spelling below ++ label ∷ l) (spelling-beside right b) ∙ sym (append_assoc (spelling below) (label ∷ spelling right) (spelling b))
 
--- a row parts in one way only into a front and an end of known width
+-- a row parts in one way only into a prefix and an end of known width
 one_row_split : (a b c d : Trees) → beside a b ≡ beside c d → roots a ≡ roots c → (a ≡ c) × (b ≡ d)
 one_row_split none b none d e n = (refl, e)
 one_row_split (tree l a r) b (tree m c s) d e n =
@@ -264,9 +265,9 @@ one_width before label below below' all (inl p) (inr q) =
 one_width before label below below' all (inr p) (inl q) =
     absurd (hypothesis_or_assertion before q.1.0 p.0 q.1.1 p.1 label all q.1.2 p.3.there q.1.4.0 p.3.named q.1.4.1 p.3.kind)
 one_width before label below below' all (inr p) (inr q) =
-    let place : p.0 ≡ q.0 = one_label before p.0 q.0 p.1 q.1 label all p.3.there q.3.there p.3.named q.3.named in
+    let index : p.0 ≡ q.0 = one_label before p.0 q.0 p.1 q.1 label all p.3.there q.3.there p.3.named q.3.named in
     let assertion : p.1 ≡ q.1 = one_labelled before p.0 q.0 p.1 q.1 label all p.3.there q.3.there p.3.named q.3.named in
-    let hypotheses : p.2 ≡ q.2 = one_frame before p.0 q.0 p.1 q.1 p.2 q.2 place assertion p.3.mandatory q.3.mandatory in
+    let hypotheses : p.2 ≡ q.2 = one_frame before p.0 q.0 p.1 q.1 p.2 q.2 index assertion p.3.mandatory q.3.mandatory in
     p.4 ∙ ap length hypotheses ∙ sym q.4
 
 -- ---- moves one after the other
@@ -281,7 +282,7 @@ pub makes_more : (before : List Sentence) (moves : List (Move (List ℕ))) (move
     → Makes before moves a k b l → MakesOne before move b l c m → Makes before (moves ++ move ∷ []) a k c m
 makes_more before moves move a b c k l m r q = makes_join before moves (move ∷ []) a b c k l m r (c, m, q, (refl, refl))
 
--- what a front makes
+-- what a prefix makes
 pub makes_split : (before : List Sentence) (moves more : List (Move (List ℕ))) (a c : Trees) (k m : List Trees)
     → Makes before (moves ++ more) a k c m → (b : Trees) × (l : List Trees) × Makes before moves a k b l × Makes before more b l c m
 makes_split before [] more a c k m r = (a, k, (refl, refl), r)

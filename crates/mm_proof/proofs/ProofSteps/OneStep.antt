@@ -10,8 +10,8 @@ use Rattle.mm_frame.specs.Sentence.{Sentence, Declares, IsLabelled, Types, IsHyp
 use Rattle.mm_frame.specs.Sentence.{IsAssertion}
 use Rattle.mm_frame.specs.Active.{IsVariable, IsActive, IsTyped}
 use Rattle.mm_frame.specs.Rules.{AllMeant}
-use Rattle.mm_frame.proofs.Rules.ObeyedRules.{meant_at, one_role, one_label as only_place}
-use Rattle.mm_frame.proofs.Rules.ObeyedRules.{allmeant_front, some_later, used_declared}
+use Rattle.mm_frame.proofs.Rules.ObeyedRules.{meant_at, one_role, one_label as only_index}
+use Rattle.mm_frame.proofs.Rules.ObeyedRules.{allmeant_prefix, some_later, used_declared}
 use Rattle.mm_frame.proofs.Rules.ObeyedRules.{mandatory_typed}
 use Rattle.mm_frame.specs.Frame.{AreThose, IsMandatory, IsMandatoryAt, AreMandatory}
 use Rattle.mm_frame.specs.Frame.{IsMandatoryPair}
@@ -32,12 +32,12 @@ use Rattle.mm_text.proofs.Lists.{get_beside, one_parting}
 
 module _ (before : List Sentence) (i j : ℕ) (s t : Sentence) (label : List ℕ)
     (all : AllMeant before) where
-  -- two places with one label are one place
+  -- two indices with one label are one index
   pub one_label : slice_get before i ≡ Some s → slice_get before j ≡ Some t → IsLabelled label s
       → IsLabelled label t → i ≡ j
-  one_label = only_place before label i j s t all
+  one_label = only_index before label i j s t all
 
-  -- two places with one label hold one statement
+  -- two indices with one label hold one statement
   pub one_labelled : slice_get before i ≡ Some s → slice_get before j ≡ Some t → IsLabelled label s
       → IsLabelled label t → s ≡ t
   one_labelled at_i at_j ls lt =
@@ -60,37 +60,37 @@ code_is_constant before i f code x all there types variable =
 -- it
 
 -- P holds of each of them
-pub those_hold : {X : Type 0} (P : ℕ → X → Type 0) (place : ℕ) (xs those : List X) (i : ℕ) (x : X) → AreThose P place xs those → slice_get those i ≡ Some x
-    → (j : ℕ) × (slice_get xs j ≡ Some x) × P (place + j) x
-those_hold P place [] those i x a e = absurd (none-some x (subst (λ l. slice_get l i ≡ Some x) a e))
-those_hold P place (y ∷ xs) those zero x (inl a) e =
+pub those_hold : {X : Type 0} (P : ℕ → X → Type 0) (index : ℕ) (xs those : List X) (i : ℕ) (x : X) → AreThose P index xs those → slice_get those i ≡ Some x
+    → (j : ℕ) × (slice_get xs j ≡ Some x) × P (index + j) x
+those_hold P index [] those i x a e = absurd (none-some x (subst (λ l. slice_get l i ≡ Some x) a e))
+those_hold P index (y ∷ xs) those zero x (inl a) e =
     let same : y ≡ x = same_Some y x (subst (λ l. slice_get l 0 ≡ Some x) a.2 e) in
-    let at : place ≡ place + 0 = omega arith in
-    (0, ap Some same, subst (λ k. P k x) at (subst (P place) same a.0))
-those_hold P place (y ∷ xs) those (suc i) x (inl a) e =
-    let h = those_hold P (place + 1) xs a.1 i x a.3 (subst (λ l. slice_get l (suc i) ≡ Some x) a.2 e) in
-    let at : place + 1 + h.0 ≡ place + suc h.0 = omega arith in
+    let at : index ≡ index + 0 = omega arith in
+    (0, ap Some same, subst (λ k. P k x) at (subst (P index) same a.0))
+those_hold P index (y ∷ xs) those (suc i) x (inl a) e =
+    let h = those_hold P (index + 1) xs a.1 i x a.3 (subst (λ l. slice_get l (suc i) ≡ Some x) a.2 e) in
+    let at : index + 1 + h.0 ≡ index + suc h.0 = omega arith in
     (suc h.0, h.1, subst (λ k. P k x) at h.2)
-those_hold P place (y ∷ xs) those i x (inr a) e =
-    let h = those_hold P (place + 1) xs those i x a.1 e in
-    let at : place + 1 + h.0 ≡ place + suc h.0 = omega arith in
+those_hold P index (y ∷ xs) those i x (inr a) e =
+    let h = those_hold P (index + 1) xs those i x a.1 e in
+    let at : index + 1 + h.0 ≡ index + suc h.0 = omega arith in
     (suc h.0, h.1, subst (λ k. P k x) at h.2)
 
 -- each of which P holds is one of them
-those_have : {X : Type 0} (P : ℕ → X → Type 0) (place : ℕ) (xs those : List X) (j : ℕ) (x : X) → AreThose P place xs those → slice_get xs j ≡ Some x
-    → P (place + j) x → (i : ℕ) × (slice_get those i ≡ Some x)
-those_have P place [] those j x a e p = absurd (none-some x e)
-those_have P place (y ∷ xs) those zero x (inl a) e p = (0, subst (λ l. slice_get l 0 ≡ Some x) (sym a.2) e)
-those_have P place (y ∷ xs) those zero x (inr a) e p =
-    let at : place + 0 ≡ place = omega arith in
-    absurd (a.0 (subst (P place) (sym (same_Some y x e)) (subst (λ k. P k x) at p)))
-those_have P place (y ∷ xs) those (suc j) x (inl a) e p =
-    let at : place + suc j ≡ place + 1 + j = omega arith in
-    let h = those_have P (place + 1) xs a.1 j x a.3 e (subst (λ k. P k x) at p) in
+those_have : {X : Type 0} (P : ℕ → X → Type 0) (index : ℕ) (xs those : List X) (j : ℕ) (x : X) → AreThose P index xs those → slice_get xs j ≡ Some x
+    → P (index + j) x → (i : ℕ) × (slice_get those i ≡ Some x)
+those_have P index [] those j x a e p = absurd (none-some x e)
+those_have P index (y ∷ xs) those zero x (inl a) e p = (0, subst (λ l. slice_get l 0 ≡ Some x) (sym a.2) e)
+those_have P index (y ∷ xs) those zero x (inr a) e p =
+    let at : index + 0 ≡ index = omega arith in
+    absurd (a.0 (subst (P index) (sym (same_Some y x e)) (subst (λ k. P k x) at p)))
+those_have P index (y ∷ xs) those (suc j) x (inl a) e p =
+    let at : index + suc j ≡ index + 1 + j = omega arith in
+    let h = those_have P (index + 1) xs a.1 j x a.3 e (subst (λ k. P k x) at p) in
     (suc h.0, subst (λ l. slice_get l (suc h.0) ≡ Some x) (sym a.2) h.1)
-those_have P place (y ∷ xs) those (suc j) x (inr a) e p =
-    let at : place + suc j ≡ place + 1 + j = omega arith in
-    those_have P (place + 1) xs those j x a.1 e (subst (λ k. P k x) at p)
+those_have P index (y ∷ xs) those (suc j) x (inr a) e p =
+    let at : index + suc j ≡ index + 1 + j = omega arith in
+    those_have P (index + 1) xs those j x a.1 e (subst (λ k. P k x) at p)
 
 -- ==== one step of a proof on a stack of expressions, as a relation, and that it makes one thing
 -- only
@@ -98,10 +98,10 @@ those_have P place (y ∷ xs) those (suc j) x (inr a) e p =
 -- the label is that of an active hypothesis, whose expression is pushed
 pub record Pushes (before : List Sentence) (stack : List (List (List ℕ))) (label : List ℕ) (rest : List (List (List ℕ))) (e : List (List ℕ)) : Type 0 where
   pub kept : rest ≡ stack
-  pub place : ℕ
+  pub index : ℕ
   pub hypothesis : Sentence
-  pub there : slice_get before place ≡ Some hypothesis
-  pub active : IsActive before place
+  pub there : slice_get before index ≡ Some hypothesis
+  pub active : IsActive before index
   pub named : IsLabelled label hypothesis
   pub kind : IsHypothesis hypothesis.kind
   pub made : e ≡ hypothesis.symbols
@@ -114,7 +114,7 @@ pub record Applies (before : List Sentence) (stack : List (List (List ℕ))) (la
       → h.kind ≡ Floating → slice_get entry 0 ≡ slice_get h.symbols 0
   pub equal : (i : ℕ) (h : Sentence) (entry : List (List ℕ)) → slice_get meets.hypotheses i ≡ Some h → slice_get meets.entries i ≡ Some entry
       → h.kind ≡ Essential → entry ≡ instance_of meets.σ h.symbols
-  pub apart : KeepsApart before meets.place meets.assertion meets.σ
+  pub apart : KeepsApart before meets.index meets.assertion meets.σ
   pub made : e ≡ instance_of meets.σ meets.assertion.symbols
 
 -- The step by this label on the stack breaks no rule: it keeps the rest of the stack and puts the expression on it.
@@ -139,27 +139,27 @@ Replaces hypotheses entries σ = (i : ℕ) (h : Sentence) (entry : List (List �
     → slice_get entries i ≡ Some entry → Types code x h → σ x ≡ Some (drop 1 entry)
 
 -- an active `$f` of a mandatory variable is among the mandatory hypotheses
-pub typing_among : (before : List Sentence) (label : List ℕ) (place : ℕ) (assertion : Sentence) (hypotheses : List Sentence) (x : List ℕ)
-    → Names before label place assertion hypotheses → IsMandatory (take place before) assertion x → IsTyped (take place before) x
+pub typing_among : (before : List Sentence) (label : List ℕ) (index : ℕ) (assertion : Sentence) (hypotheses : List Sentence) (x : List ℕ)
+    → Names before label index assertion hypotheses → IsMandatory (take index before) assertion x → IsTyped (take index before) x
     → (i : ℕ) × (f : Sentence) × (code : List ℕ) × (slice_get hypotheses i ≡ Some f) × Types code x f
-typing_among before label place assertion hypotheses x names mandatory f =
+typing_among before label index assertion hypotheses x names mandatory f =
     let at : f.0 ≡ 0 + f.0 = omega arith in
-    let h = those_have (IsMandatoryAt (take place before) assertion) 0 (take place before) hypotheses f.0 f.1 names.mandatory f.2
-    (subst (λ k. IsMandatoryAt (take place before) assertion k f.1) at (f.3, inr (f.4.0, x, f.4.1, mandatory))) in
+    let h = those_have (IsMandatoryAt (take index before) assertion) 0 (take index before) hypotheses f.0 f.1 names.mandatory f.2
+    (subst (λ k. IsMandatoryAt (take index before) assertion k f.1) at (f.3, inr (f.4.0, x, f.4.1, mandatory))) in
     (h.0, f.1, f.4.0, h.1, f.4.1)
 
-one_replacement : (before : List Sentence) (label : List ℕ) (place : ℕ) (assertion : Sentence) (hypotheses : List Sentence) (entries : List (List (List ℕ)))
-    (σ τ : List ℕ → Option (List (List ℕ))) → AllMeant before → Names before label place assertion hypotheses → length entries ≡ length hypotheses
-    → IsOn (IsMandatory (take place before) assertion) σ → IsOn (IsMandatory (take place before) assertion) τ
+one_replacement : (before : List Sentence) (label : List ℕ) (index : ℕ) (assertion : Sentence) (hypotheses : List Sentence) (entries : List (List (List ℕ)))
+    (σ τ : List ℕ → Option (List (List ℕ))) → AllMeant before → Names before label index assertion hypotheses → length entries ≡ length hypotheses
+    → IsOn (IsMandatory (take index before) assertion) σ → IsOn (IsMandatory (take index before) assertion) τ
     → Replaces hypotheses entries σ → Replaces hypotheses entries τ → (x : List ℕ) → σ x ≡ τ x
-one_replacement before label place assertion hypotheses entries σ τ all names l on_σ on_τ s t x = go (σ x) (τ x) refl refl
+one_replacement before label index assertion hypotheses entries σ τ all names l on_σ on_τ s t x = go (σ x) (τ x) refl refl
   where
-    mandatory_same : IsMandatory (take place before) assertion x → σ x ≡ τ x
+    mandatory_same : IsMandatory (take index before) assertion x → σ x ≡ τ x
     mandatory_same m =
-        let front = allmeant_front before place all in
-        let meant = meant_at before place assertion all names.there in
-        let typed = mandatory_typed (take place before) assertion x front meant (inr names.kind) m in
-        let f = typing_among before label place assertion hypotheses x names m typed in
+        let prefix = allmeant_prefix before index all in
+        let meant = meant_at before index assertion all names.there in
+        let typed = mandatory_typed (take index before) assertion x prefix meant (inr names.kind) m in
+        let f = typing_among before label index assertion hypotheses x names m typed in
         let e = get_beside hypotheses entries f.0 f.1 l f.3 in
         s f.0 f.1 e.0 f.2 x f.3 e.1 f.4 ∙ sym (t f.0 f.1 e.0 f.2 x f.3 e.1 f.4)
 
@@ -170,14 +170,14 @@ one_replacement before label place assertion hypotheses entries σ τ all names 
 
 -- ---- what a step meets is determined
 
-pub one_frame : (before : List Sentence) (place place' : ℕ) (a a' : Sentence) (hypotheses hypotheses' : List Sentence) → place ≡ place' → a ≡ a'
-    → AreMandatory (take place before) a hypotheses → AreMandatory (take place' before) a' hypotheses' → hypotheses ≡ hypotheses'
-one_frame before place place' a a' hypotheses hypotheses' p s m m' =
-    those_unique (IsMandatoryAt (take place' before) a') 0 (take place' before) hypotheses hypotheses'
-    (subst (λ b. AreMandatory (take place' before) b hypotheses) s (subst (λ k. AreMandatory (take k before) a hypotheses) p m)) m'
+pub one_frame : (before : List Sentence) (index index' : ℕ) (a a' : Sentence) (hypotheses hypotheses' : List Sentence) → index ≡ index' → a ≡ a'
+    → AreMandatory (take index before) a hypotheses → AreMandatory (take index' before) a' hypotheses' → hypotheses ≡ hypotheses'
+one_frame before index index' a a' hypotheses hypotheses' p s m m' =
+    those_unique (IsMandatoryAt (take index' before) a') 0 (take index' before) hypotheses hypotheses'
+    (subst (λ b. AreMandatory (take index' before) b hypotheses) s (subst (λ k. AreMandatory (take k before) a hypotheses) p m)) m'
 
 pub record Agree (before : List Sentence) (stack : List (List (List ℕ))) (label : List ℕ) (m n : MeetsHypotheses before stack label) : Type 0 where
-  pub place : m.place ≡ n.place
+  pub index : m.index ≡ n.index
   pub assertion : m.assertion ≡ n.assertion
   pub hypotheses : m.hypotheses ≡ n.hypotheses
   pub rest : m.rest ≡ n.rest
@@ -186,19 +186,19 @@ pub record Agree (before : List Sentence) (stack : List (List (List ℕ))) (labe
 
 pub agree : (before : List Sentence) (stack : List (List (List ℕ))) (label : List ℕ) → AllMeant before → (m n : MeetsHypotheses before stack label) → Agree before stack label m n
 agree before stack label all m n =
-    let place : m.place ≡ n.place = one_label before m.place n.place m.assertion n.assertion label all m.names.there n.names.there m.names.named n.names.named in
-    let assertion : m.assertion ≡ n.assertion = one_labelled before m.place n.place m.assertion n.assertion label all m.names.there n.names.there m.names.named n.names.named in
-    let hypotheses : m.hypotheses ≡ n.hypotheses = one_frame before m.place n.place m.assertion n.assertion m.hypotheses n.hypotheses place assertion m.names.mandatory n.names.mandatory in
+    let index : m.index ≡ n.index = one_label before m.index n.index m.assertion n.assertion label all m.names.there n.names.there m.names.named n.names.named in
+    let assertion : m.assertion ≡ n.assertion = one_labelled before m.index n.index m.assertion n.assertion label all m.names.there n.names.there m.names.named n.names.named in
+    let hypotheses : m.hypotheses ≡ n.hypotheses = one_frame before m.index n.index m.assertion n.assertion m.hypotheses n.hypotheses index assertion m.names.mandatory n.names.mandatory in
     let parts = one_parting m.rest m.entries n.rest n.entries (sym m.split ∙ n.split) (m.paired ∙ ap length hypotheses ∙ sym n.paired) in
-    let on = rw (place, assertion) at m.on in
+    let on = rw (index, assertion) at m.on in
     let replaced = rw (hypotheses, parts.1) at m.replaced in
     record {
-      place = place;
+      index = index;
       assertion = assertion;
       hypotheses = hypotheses;
       rest = parts.0;
       entries = parts.1;
-      replacement = one_replacement before label n.place n.assertion n.hypotheses n.entries m.σ n.σ all n.names n.paired on n.on replaced n.replaced;
+      replacement = one_replacement before label n.index n.assertion n.hypotheses n.entries m.σ n.σ all n.names n.paired on n.on replaced n.replaced;
     }
 
 pub same_substituted : (σ τ : List ℕ → Option (List (List ℕ))) (e : List (List ℕ)) → ((x : List ℕ) → σ x ≡ τ x) → instance_of σ e ≡ instance_of τ e
@@ -209,12 +209,12 @@ pub step_once : (before : List Sentence) (stack : List (List (List ℕ))) (label
     → StepTo before stack label rest e → StepTo before stack label rest' e' → (rest ≡ rest') × (e ≡ e')
 step_once before stack label rest rest' e e' all (inl p) (inl q) = (
   p.kept ∙ sym q.kept,
-  p.made ∙ ap (λ (s : Sentence). s.symbols) (one_labelled before p.place q.place p.hypothesis q.hypothesis label all p.there q.there p.named q.named) ∙ sym q.made,
+  p.made ∙ ap (λ (s : Sentence). s.symbols) (one_labelled before p.index q.index p.hypothesis q.hypothesis label all p.there q.there p.named q.named) ∙ sym q.made,
 )
 step_once before stack label rest rest' e e' all (inl p) (inr q) =
-    absurd (hypothesis_or_assertion before p.place q.meets.place p.hypothesis q.meets.assertion label all p.there q.meets.names.there p.named q.meets.names.named p.kind q.meets.names.kind)
+    absurd (hypothesis_or_assertion before p.index q.meets.index p.hypothesis q.meets.assertion label all p.there q.meets.names.there p.named q.meets.names.named p.kind q.meets.names.kind)
 step_once before stack label rest rest' e e' all (inr p) (inl q) =
-    absurd (hypothesis_or_assertion before q.place p.meets.place q.hypothesis p.meets.assertion label all q.there p.meets.names.there q.named p.meets.names.named q.kind p.meets.names.kind)
+    absurd (hypothesis_or_assertion before q.index p.meets.index q.hypothesis p.meets.assertion label all q.there p.meets.names.there q.named p.meets.names.named q.kind p.meets.names.kind)
 step_once before stack label rest rest' e e' all (inr p) (inr q) =
     let a = agree before stack label all p.meets q.meets in (
       p.kept ∙ a.rest ∙ sym q.kept,
@@ -224,16 +224,16 @@ step_once before stack label rest rest' e e' all (inr p) (inr q) =
 -- ---- a step that breaks no rule breaks no rule
 
 -- one label names one assertion's hypotheses
-pub one_names : (before : List Sentence) (label : List ℕ) (place place' : ℕ) (a a' : Sentence) (hypotheses hypotheses' : List Sentence) → AllMeant before
-    → Names before label place a hypotheses → Names before label place' a' hypotheses' → hypotheses ≡ hypotheses'
-one_names before label place place' a a' hypotheses hypotheses' all n n' =
-    one_frame before place place' a a' hypotheses hypotheses' (one_label before place place' a a' label all n.there n'.there n.named n'.named)
-    (one_labelled before place place' a a' label all n.there n'.there n.named n'.named) n.mandatory n'.mandatory
+pub one_names : (before : List Sentence) (label : List ℕ) (index index' : ℕ) (a a' : Sentence) (hypotheses hypotheses' : List Sentence) → AllMeant before
+    → Names before label index a hypotheses → Names before label index' a' hypotheses' → hypotheses ≡ hypotheses'
+one_names before label index index' a a' hypotheses hypotheses' all n n' =
+    one_frame before index index' a a' hypotheses hypotheses' (one_label before index index' a a' label all n.there n'.there n.named n'.named)
+    (one_labelled before index index' a a' label all n.there n'.there n.named n'.named) n.mandatory n'.mandatory
 
 -- where the step meets all hypotheses, the stack isn't too short
 pub meets_enough : (Fits : List (List ℕ) → Type 0) (before : List Sentence) (stack : List (List (List ℕ))) (label : List ℕ) → AllMeant before → MeetsHypotheses before stack label → ¬ (BreaksStep Fits P8 before stack label)
 meets_enough Fits before stack label all m b =
-    let same = one_names before label m.place b.0 m.assertion b.1 m.hypotheses b.2 all m.names b.3 in
+    let same = one_names before label m.index b.0 m.assertion b.1 m.hypotheses b.2 all m.names b.3 in
     let l : length stack ≡ length m.rest + length m.entries = ap length m.split ∙ length-append m.rest m.entries in
     let n : length m.hypotheses ≡ length b.2 = ap length same in
     let k : length m.entries ≡ length m.hypotheses = m.paired in
@@ -244,7 +244,7 @@ meets_enough Fits before stack label all m b =
 too_short : (Fits : List (List ℕ) → Type 0) (before : List Sentence) (stack : List (List (List ℕ))) (label : List ℕ) (rest : List (List (List ℕ))) (e : List (List ℕ)) → AllMeant before
     → StepTo before stack label rest e → BreaksStep Fits P8 before stack label → ⊥
 too_short Fits before stack label rest e all (inl p) b =
-    hypothesis_or_assertion before p.place b.0 p.hypothesis b.1 label all p.there b.3.there p.named b.3.named p.kind b.3.kind
+    hypothesis_or_assertion before p.index b.0 p.hypothesis b.1 label all p.there b.3.there p.named b.3.named p.kind b.3.kind
 too_short Fits before stack label rest e all (inr p) b = meets_enough Fits before stack label all p.meets b
 
 module _ (before : List Sentence) (stack : List (List (List ℕ))) (label : List ℕ)
@@ -254,14 +254,14 @@ module _ (before : List Sentence) (stack : List (List (List ℕ))) (label : List
   same_meets : StepTo before stack label rest e
       → (p : Applies before stack label rest e) × Agree before stack label p.meets m
   same_meets (inl p) =
-      absurd (hypothesis_or_assertion before p.place m.place p.hypothesis m.assertion label all p.there m.names.there p.named m.names.named p.kind m.names.kind)
+      absurd (hypothesis_or_assertion before p.index m.index p.hypothesis m.assertion label all p.there m.names.there p.named m.names.named p.kind m.names.kind)
   same_meets (inr p) = (p, agree before stack label all p.meets m)
 
-  apart_of : StepTo before stack label rest e → KeepsApart before m.place m.assertion m.σ
+  apart_of : StepTo before stack label rest e → KeepsApart before m.index m.assertion m.σ
   apart_of step x y e' f pair at_x at_y =
       let (p, a) = same_meets step in
-      let pair' : IsMandatoryPair (take p.meets.place before) p.meets.assertion x y =
-      subst (λ b. IsMandatoryPair (take p.meets.place before) b x y) (sym a.assertion) (subst (λ k. IsMandatoryPair (take k before) m.assertion x y) (sym a.place) pair) in
+      let pair' : IsMandatoryPair (take p.meets.index before) p.meets.assertion x y =
+      subst (λ b. IsMandatoryPair (take p.meets.index before) b x y) (sym a.assertion) (subst (λ k. IsMandatoryPair (take k before) m.assertion x y) (sym a.index) pair) in
       p.apart x y e' f pair' (a.replacement x ∙ at_x) (a.replacement y ∙ at_y)
 
 -- A step that breaks no rule breaks none of P1 to P12, nor the limit if what it makes is within it.
@@ -281,10 +281,10 @@ step_breaks_none Fits P11 before stack label rest e all within step b =
 step_breaks_none Fits P12 before stack label rest e all within step b =
     b.8 (apart_of before stack label rest e b.0 all step b.1 b.2 b.3 b.4 b.5 b.6 b.7).1
 step_breaks_none Fits L1 before stack label rest e all within (inl p) (inl b) =
-    let same : p.hypothesis ≡ b.1 = one_labelled before p.place b.0 p.hypothesis b.1 label all p.there b.2 p.named b.4.0 in
+    let same : p.hypothesis ≡ b.1 = one_labelled before p.index b.0 p.hypothesis b.1 label all p.there b.2 p.named b.4.0 in
     b.4.2 (subst (λ l. Fits l) (p.made ∙ ap (λ (s : Sentence). s.symbols) same) (within refl))
 step_breaks_none Fits L1 before stack label rest e all within (inr p) (inl b) =
-    hypothesis_or_assertion before b.0 p.meets.place b.1 p.meets.assertion label all b.2 p.meets.names.there b.4.0 p.meets.names.named b.4.1 p.meets.names.kind
+    hypothesis_or_assertion before b.0 p.meets.index b.1 p.meets.assertion label all b.2 p.meets.names.there b.4.0 p.meets.names.named b.4.1 p.meets.names.kind
 step_breaks_none Fits L1 before stack label rest e all within step (inr b) =
     let s = same_meets before stack label rest e b.0 all step in
     let same : e ≡ instance_of b.0.σ b.0.assertion.symbols = s.0.made ∙ same_substituted s.0.meets.σ b.0.σ s.0.meets.assertion.symbols s.1.replacement ∙ ap (λ (a : Sentence). instance_of b.0.σ a.symbols) s.1.assertion in
@@ -295,5 +295,5 @@ step_breaks_none Fits rule before stack label rest e all within step b = b
 pub step_breaks_limit : (Fits : List (List ℕ) → Type 0) (before : List Sentence) (stack : List (List (List ℕ))) (label : List ℕ) (rest : List (List (List ℕ))) (e : List (List ℕ))
     → ¬ (Fits e) → StepTo before stack label rest e → BreaksStep Fits L1 before stack label
 step_breaks_limit Fits before stack label rest e over (inl p) =
-    inl (p.place, p.hypothesis, p.there, p.active, (p.named, p.kind, subst (λ l. ¬ (Fits l)) p.made over))
+    inl (p.index, p.hypothesis, p.there, p.active, (p.named, p.kind, subst (λ l. ¬ (Fits l)) p.made over))
 step_breaks_limit Fits before stack label rest e over (inr p) = inr (p.meets, subst (λ l. ¬ (Fits l)) p.made over)

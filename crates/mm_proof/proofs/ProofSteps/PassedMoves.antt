@@ -9,7 +9,7 @@ use Rattle.mm_text.proofs.Lists.{zip_push, zip_right, get_beside, zip_left, zip_
 use Rattle.mm_frame.specs.Sentence.{Sentence}
 use Rattle.mm_frame.specs.Frame.{IsMandatoryAt}
 use Rattle.mm_frame.specs.Rules.{AllMeant}
-use Rattle.mm_frame.proofs.Rules.ObeyedRules.{allmeant_front}
+use Rattle.mm_frame.proofs.Rules.ObeyedRules.{allmeant_prefix}
 use Rattle.mm_proof.specs.Substitution.{instance_of}
 use Rattle.mm_proof.specs.Tree.{Trees, none, tree, beside, MayStandOver, DeriveAll}
 use Rattle.mm_proof.specs.Moves.{Move, name, again, mark, Makes, MakesOne}
@@ -29,9 +29,9 @@ use Rattle.mm_proof.specs.declared.fault.ProofRule.TheVariants.{L1}
 
 -- ---- the entries are the substituted hypotheses
 
-front_is : (entry : List (List ℕ)) (code : List ℕ) → slice_get entry 0 ≡ Some code → entry ≡ code ∷ drop 1 entry
-front_is [] code e = absurd (none-some code e)
-front_is (a ∷ entry) code e = ap (λ x. x ∷ entry) (same_Some a code e)
+prefix_is : (entry : List (List ℕ)) (code : List ℕ) → slice_get entry 0 ≡ Some code → entry ≡ code ∷ drop 1 entry
+prefix_is [] code e = absurd (none-some code e)
+prefix_is (a ∷ entry) code e = ap (λ x. x ∷ entry) (same_Some a code e)
 
 module _ (before : List Sentence) (stack : List (List (List ℕ))) (label : List ℕ)
     (rest : List (List (List ℕ))) (e : List (List ℕ)) (all : AllMeant before)
@@ -41,13 +41,13 @@ module _ (before : List Sentence) (stack : List (List (List ℕ))) (label : List
       → entry ≡ instance_of p.meets.σ h.symbols
   entry_is i h entry there at =
       let m = p.meets in
-      let front : List Sentence = take m.place before in
-      let k = those_hold (IsMandatoryAt front m.assertion) 0 front m.hypotheses i h m.names.mandatory there in
+      let prefix : List Sentence = take m.index before in
+      let k = those_hold (IsMandatoryAt prefix m.assertion) 0 prefix m.hypotheses i h m.names.mandatory there in
       ⊎_elim (λ essential. p.equal i h entry there at essential)
       (λ t.
-      let constant : m.σ t.0 ≡ None = absent (m.σ t.0) (λ some. code_is_constant front k.0 h t.0 t.1 (allmeant_front before m.place all) k.1 t.2 ((m.on t.0).0 some).0) in
+      let constant : m.σ t.0 ≡ None = absent (m.σ t.0) (λ some. code_is_constant prefix k.0 h t.0 t.1 (allmeant_prefix before m.index all) k.1 t.2 ((m.on t.0).0 some).0) in
       let first : slice_get entry 0 ≡ Some t.0 = p.typed i h entry there at t.2.0 ∙ ap (λ l. slice_get l 0) t.2.1 in
-      front_is entry t.0 first ∙ sym (ap (instance_of m.σ) t.2.1 ∙ typing_entry m.σ t.0 t.1 (drop 1 entry) constant (m.replaced i h entry t.0 t.1 there at t.2)))
+      prefix_is entry t.0 first ∙ sym (ap (instance_of m.σ) t.2.1 ∙ typing_entry m.σ t.0 t.1 (drop 1 entry) constant (m.replaced i h entry t.0 t.1 there at t.2)))
       k.2.1
 
   entries_are :
@@ -83,9 +83,9 @@ step_stands Fits before trees stack label rest e all derived (inl p) fits = reco
   left = trees;
   below = none;
   parts = sym (beside-none trees);
-  may = inl (refl, (p.place, p.hypothesis, p.there, p.active, (p.named, p.kind)));
+  may = inl (refl, (p.index, p.hypothesis, p.there, p.active, (p.named, p.kind)));
   derive_left = subst (DeriveAll Fits before trees) (sym p.kept) derived;
-  derive_tree = (e, [], refl, fits, inl (refl, (p.place, p.hypothesis, p.there, p.active, (p.named, p.kind, p.made))), refl);
+  derive_tree = (e, [], refl, fits, inl (refl, (p.index, p.hypothesis, p.there, p.active, (p.named, p.kind, p.made))), refl);
 }
 step_stands Fits before trees stack label rest e all derived (inr p) fits =
     let m = p.meets in
@@ -97,9 +97,9 @@ step_stands Fits before trees stack label rest e all derived (inr p) fits =
       left = h.left;
       below = h.right;
       parts = h.parts;
-      may = inr (m.place, m.assertion, m.hypotheses, m.names, roots_derive Fits before h.right (map f m.hypotheses) children ∙ length-map m.hypotheses f);
+      may = inr (m.index, m.assertion, m.hypotheses, m.names, roots_derive Fits before h.right (map f m.hypotheses) children ∙ length-map m.hypotheses f);
       derive_left = subst (DeriveAll Fits before h.left) (sym p.kept) h.derive_left;
-      derive_tree = (e, [], refl, fits, inr (m.place, m.assertion, m.hypotheses, m.σ, m.names, m.on, children, p.apart, p.made), refl);
+      derive_tree = (e, [], refl, fits, inr (m.index, m.assertion, m.hypotheses, m.σ, m.names, m.on, children, p.apart, p.made), refl);
     }
 
 -- a step by a label
@@ -161,7 +161,7 @@ prove_at_end Fits before s moves kept passed =
       derived = subst (λ t. DeriveAll Fits before t (s.symbols ∷ [])) one.2 passed.derived;
     }
 
--- ==== each front of moves that passed has passed, and no move of it breaks a rule
+-- ==== each prefix of moves that passed has passed, and no move of it breaks a rule
 
 -- trees that keep expressions derive them
 abbrev pub KeepAll : (List (List ℕ) → Type 0) → List Sentence → List Trees → List (List (List ℕ)) → Type 0
@@ -193,7 +193,7 @@ step_of_tree Fits before rest label below es all derived =
       derived = derive_beside Fits before rest below parts.0 [] parts.3 (subst (λ b. DeriveAll Fits before b []) (sym leaf.0) refl);
       step = inl (record {
         kept = sym (append-nil parts.0);
-        place = leaf.1.0;
+        index = leaf.1.0;
         hypothesis = leaf.1.1;
         there = leaf.1.2;
         active = leaf.1.3;
@@ -232,8 +232,8 @@ module _ (Fits : List (List ℕ) → Type 0) (before : List Sentence) where
       let parts = derive_apart Fits before a m.0 s.stack (subst (λ x. DeriveAll Fits before x s.stack) m.2 s.derived) in
       record { stack = parts.0; kept = s.kept; derived = parts.3; kept_derived = subst (λ x. KeepAll Fits before x s.kept) m.3 s.kept_derived }
   one_stood mark a b k l all m s =
-      let front = zip_front (λ t e. DeriveAll Fits before t (e ∷ [])) k (tree m.1 m.2 none) s.kept (subst (λ x. KeepAll Fits before x s.kept) m.5 s.kept_derived) in
-      record { stack = s.stack; kept = front.0; derived = subst (λ x. DeriveAll Fits before x s.stack) m.4 s.derived; kept_derived = front.3 }
+      let prefix = zip_front (λ t e. DeriveAll Fits before t (e ∷ [])) k (tree m.1 m.2 none) s.kept (subst (λ x. KeepAll Fits before x s.kept) m.5 s.kept_derived) in
+      record { stack = s.stack; kept = prefix.0; derived = subst (λ x. DeriveAll Fits before x s.stack) m.4 s.derived; kept_derived = prefix.3 }
 
   all_stood : (moves : List (Move (List ℕ))) (a b : Trees) (k l : List Trees) → AllMeant before
       → Makes before moves a k b l → Stood Fits before b l → Stood Fits before a k
@@ -255,7 +255,8 @@ passed_once Fits Gits before moves stack stack' kept kept' all p q =
 
 -- ---- a move that goes on breaks no rule
 
--- of moves that passed, a front has passed with what it left, and the move after it is made on that
+-- of moves that passed, a prefix has passed with what it left, and the move after it is made on
+-- that
 pub record Went (Fits : List (List ℕ) → Type 0) (before : List Sentence) (stack kept : List (List (List ℕ))) (move : Move (List ℕ)) : Type 0 where
   pub row : Trees
   pub shelf : List Trees
@@ -274,9 +275,9 @@ went_on Fits Gits before earlier move later last end stack kept all made stood p
     let m = s.3 in
     let after : Stood Fits before m.0 m.1 = all_stood Fits before later m.0 last m.1 end all m.3 stood in
     let here : Stood Fits before s.0 s.1 = one_stood Fits before move s.0 m.0 s.1 m.1 all m.2 after in
-    let front : Passed Fits before earlier here.stack here.kept =
+    let prefix : Passed Fits before earlier here.stack here.kept =
     record { trees = s.0; shelf = s.1; made = s.2; derived = here.derived; kept_derived = here.kept_derived } in
-    let one = passed_once Fits Gits before earlier here.stack stack here.kept kept all front passed in
+    let one = passed_once Fits Gits before earlier here.stack stack here.kept kept all prefix passed in
     record {
       row = s.0;
       shelf = s.1;

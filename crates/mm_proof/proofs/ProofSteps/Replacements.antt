@@ -12,7 +12,7 @@ use Rattle.mm_frame.specs.Active.{IsActive}
 use Rattle.mm_frame.specs.Frame.{IsMandatory, IsMandatoryAt, AreThose, AreMandatory}
 use Rattle.mm_frame.specs.Rules.{AllMeant}
 use Rattle.mm_frame.proofs.Rules.DecidedStatements.{types_dec}
-use Rattle.mm_frame.proofs.Rules.ObeyedRules.{meant_at, allmeant_front, active_in_front}
+use Rattle.mm_frame.proofs.Rules.ObeyedRules.{meant_at, allmeant_prefix, active_in_front}
 use Rattle.mm_frame.proofs.Rules.ObeyedRules.{mandatory_typed}
 use Rattle.mm_proof.specs.Tree.{Names}
 use Rattle.mm_proof.specs.Proof.{MeetsHypotheses}
@@ -70,33 +70,33 @@ replaced_at (h ∷ hypotheses) (e ∷ entries) once (suc i) f entry code x there
 -- ---- the mandatory hypotheses type each variable once
 
 -- two of the picked elements stand in their order in the list
-pub those_order : {X : Type 0} (P : ℕ → X → Type 0) (place : ℕ) (xs those : List X) (i j : ℕ) (a b : X) → AreThose P place xs those → i < j
+pub those_order : {X : Type 0} (P : ℕ → X → Type 0) (index : ℕ) (xs those : List X) (i j : ℕ) (a b : X) → AreThose P index xs those → i < j
     → slice_get those i ≡ Some a → slice_get those j ≡ Some b
-    → (k : ℕ) × (l : ℕ) × (k < l) × (slice_get xs k ≡ Some a) × (slice_get xs l ≡ Some b) × P (place + k) a × P (place + l) b
-those_order P place [] those i j a b t less p q = absurd (none-some a (subst (λ l. slice_get l i ≡ Some a) t p))
-those_order P place (y ∷ xs) those i zero a b (inl t) less p q = absurd (omega arith)
-those_order P place (y ∷ xs) those zero (suc j) a b (inl t) less p q =
+    → (k : ℕ) × (l : ℕ) × (k < l) × (slice_get xs k ≡ Some a) × (slice_get xs l ≡ Some b) × P (index + k) a × P (index + l) b
+those_order P index [] those i j a b t less p q = absurd (none-some a (subst (λ l. slice_get l i ≡ Some a) t p))
+those_order P index (y ∷ xs) those i zero a b (inl t) less p q = absurd (omega arith)
+those_order P index (y ∷ xs) those zero (suc j) a b (inl t) less p q =
     let same : y ≡ a = same_Some y a (subst (λ l. slice_get l 0 ≡ Some a) t.2 p) in
-    let here : place ≡ place + 0 = omega arith in
-    let h = those_hold P (place + 1) xs t.1 j b t.3 (subst (λ l. slice_get l (suc j) ≡ Some b) t.2 q) in
-    let at : place + 1 + h.0 ≡ place + suc h.0 = omega arith in
-    (0, suc h.0, omega arith, ap Some same, h.1, subst (λ k. P k a) here (subst (P place) same t.0), subst (λ k. P k b) at h.2)
-those_order P place (y ∷ xs) those (suc i) (suc j) a b (inl t) less p q =
-    let h = those_order P (place + 1) xs t.1 i j a b t.3 (omega arith) (subst (λ l. slice_get l (suc i) ≡ Some a) t.2 p) (subst (λ l. slice_get l (suc j) ≡ Some b) t.2 q) in
-    let at_k : place + 1 + h.0 ≡ place + suc h.0 = omega arith in
-    let at_l : place + 1 + h.1 ≡ place + suc h.1 = omega arith in
+    let here : index ≡ index + 0 = omega arith in
+    let h = those_hold P (index + 1) xs t.1 j b t.3 (subst (λ l. slice_get l (suc j) ≡ Some b) t.2 q) in
+    let at : index + 1 + h.0 ≡ index + suc h.0 = omega arith in
+    (0, suc h.0, omega arith, ap Some same, h.1, subst (λ k. P k a) here (subst (P index) same t.0), subst (λ k. P k b) at h.2)
+those_order P index (y ∷ xs) those (suc i) (suc j) a b (inl t) less p q =
+    let h = those_order P (index + 1) xs t.1 i j a b t.3 (omega arith) (subst (λ l. slice_get l (suc i) ≡ Some a) t.2 p) (subst (λ l. slice_get l (suc j) ≡ Some b) t.2 q) in
+    let at_k : index + 1 + h.0 ≡ index + suc h.0 = omega arith in
+    let at_l : index + 1 + h.1 ≡ index + suc h.1 = omega arith in
     (suc h.0, suc h.1, (let l : h.0 < h.1 = h.2 in omega arith), h.3, h.4, subst (λ k. P k a) at_k h.5, subst (λ k. P k b) at_l h.6)
-those_order P place (y ∷ xs) those i j a b (inr t) less p q =
-    let h = those_order P (place + 1) xs those i j a b t.1 less p q in
-    let at_k : place + 1 + h.0 ≡ place + suc h.0 = omega arith in
-    let at_l : place + 1 + h.1 ≡ place + suc h.1 = omega arith in
+those_order P index (y ∷ xs) those i j a b (inr t) less p q =
+    let h = those_order P (index + 1) xs those i j a b t.1 less p q in
+    let at_k : index + 1 + h.0 ≡ index + suc h.0 = omega arith in
+    let at_l : index + 1 + h.1 ≡ index + suc h.1 = omega arith in
     (suc h.0, suc h.1, (let l : h.0 < h.1 = h.2 in omega arith), h.3, h.4, subst (λ k. P k a) at_k h.5, subst (λ k. P k b) at_l h.6)
 
--- what is active was so in each front that has it
-active_earlier : (before : List Sentence) (i place : ℕ) → place < i → IsActive before place
-    → IsActive (take i before) place
-active_earlier before i place less active = ⊎_elim
-    (λ within. active_in_front before place i less (omega arith) active)
+-- what is active was so in each prefix that has it
+active_earlier : (before : List Sentence) (i index : ℕ) → index < i → IsActive before index
+    → IsActive (take i before) index
+active_earlier before i index less active = ⊎_elim
+    (λ within. active_in_front before index i less (omega arith) active)
     (λ past. rw (take_all i before past) active) (cases_lt i (length before))
 
 not_typed_twice : (before : List Sentence) (s : Sentence) (hypotheses : List Sentence) (i j : ℕ) (f g : Sentence) (code code' x : List ℕ) → AllMeant before
@@ -119,38 +119,38 @@ some_unless : (o : Option (List (List ℕ))) → ¬ (o ≡ None) → IsSome o
 some_unless None h = absurd (h refl)
 some_unless (Some x) h = refl
 
-module _ (before : List Sentence) (label : List ℕ) (place : ℕ) (assertion : Sentence)
+module _ (before : List Sentence) (label : List ℕ) (index : ℕ) (assertion : Sentence)
     (hypotheses : List Sentence) where
   module _ (entries : List (List (List ℕ))) where
-    pub found_mandatory : Names before label place assertion hypotheses → (x : List ℕ)
-        → IsSome (replaced_by hypotheses entries x) → IsMandatory (take place before) assertion x
+    pub found_mandatory : Names before label index assertion hypotheses → (x : List ℕ)
+        → IsSome (replaced_by hypotheses entries x) → IsMandatory (take index before) assertion x
     found_mandatory names x some =
         let f = replaced_found hypotheses entries x some in
-        let t = typing_of before label place assertion hypotheses f.0 f.1 names f.3 f.4.0 in
-        subst (IsMandatory (take place before) assertion) (same_typing f.1 t.0 t.1 f.2 x t.2 f.4).1 t.3
+        let t = typing_of before label index assertion hypotheses f.0 f.1 names f.3 f.4.0 in
+        subst (IsMandatory (take index before) assertion) (same_typing f.1 t.0 t.1 f.2 x t.2 f.4).1 t.3
 
-    pub mandatory_found : AllMeant before → Names before label place assertion hypotheses
+    pub mandatory_found : AllMeant before → Names before label index assertion hypotheses
         → length entries ≡ length hypotheses → IsTypedOnce hypotheses → (x : List ℕ)
-        → IsMandatory (take place before) assertion x → IsSome (replaced_by hypotheses entries x)
+        → IsMandatory (take index before) assertion x → IsSome (replaced_by hypotheses entries x)
     mandatory_found all names paired once x m = some_unless (replaced_by hypotheses entries x)
         (λ none.
-        let typed = mandatory_typed (take place before) assertion x (allmeant_front before place all)
-        (meant_at before place assertion all names.there) (inr names.kind) m in
-        let f = typing_among before label place assertion hypotheses x names m typed in
+        let typed = mandatory_typed (take index before) assertion x (allmeant_prefix before index all)
+        (meant_at before index assertion all names.there) (inr names.kind) m in
+        let f = typing_among before label index assertion hypotheses x names m typed in
         let e = get_beside hypotheses entries f.0 f.1 paired f.3 in
         none-some (drop 1 e.0) (sym none ∙ replaced_at hypotheses entries once f.0 f.1 e.0 f.2 x f.3 e.1 f.4))
 
-  pub names_once : AllMeant before → Names before label place assertion hypotheses
+  pub names_once : AllMeant before → Names before label index assertion hypotheses
       → IsTypedOnce hypotheses
-  names_once all names = typed_once (take place before) assertion hypotheses (allmeant_front before place all) names.mandatory
+  names_once all names = typed_once (take index before) assertion hypotheses (allmeant_prefix before index all) names.mandatory
 
 -- Where there are as many entries as mandatory hypotheses, the step meets them.
-abbrev pub meets_of : (before : List Sentence) (stack : List (List (List ℕ))) (label : List ℕ) (place : ℕ) (assertion : Sentence) (hypotheses : List Sentence)
-    (rest entries : List (List (List ℕ))) → AllMeant before → Names before label place assertion hypotheses → stack ≡ rest ++ entries
+abbrev pub meets_of : (before : List Sentence) (stack : List (List (List ℕ))) (label : List ℕ) (index : ℕ) (assertion : Sentence) (hypotheses : List Sentence)
+    (rest entries : List (List (List ℕ))) → AllMeant before → Names before label index assertion hypotheses → stack ≡ rest ++ entries
     → length entries ≡ length hypotheses → MeetsHypotheses before stack label
-meets_of before stack label place assertion hypotheses rest entries all names split paired =
+meets_of before stack label index assertion hypotheses rest entries all names split paired =
     record {
-      place = place;
+      index = index;
       assertion = assertion;
       hypotheses = hypotheses;
       names = names;
@@ -160,8 +160,8 @@ meets_of before stack label place assertion hypotheses rest entries all names sp
       paired = paired;
       σ = replaced_by hypotheses entries;
       on = λ x. (
-        found_mandatory before label place assertion hypotheses entries names x,
-        mandatory_found before label place assertion hypotheses entries all names paired (names_once before label place assertion hypotheses all names) x,
+        found_mandatory before label index assertion hypotheses entries names x,
+        mandatory_found before label index assertion hypotheses entries all names paired (names_once before label index assertion hypotheses all names) x,
       );
-      replaced = replaced_at hypotheses entries (names_once before label place assertion hypotheses all names);
+      replaced = replaced_at hypotheses entries (names_once before label index assertion hypotheses all names);
     }

@@ -20,7 +20,7 @@ use Rattle.std.proofs.lemmas.Slice.Zip.{AllZip-long}
 use Rattle.mm_text.proofs.Lists.{all_there, contains_from_at}
 use Rattle.mm_frame.specs.Sentence.{Sentence}
 use Rattle.mm_frame.specs.Form.{AllFormed}
-use Rattle.mm_frame.proofs.Rules.ObeyedRules.{allformed_front}
+use Rattle.mm_frame.proofs.Rules.ObeyedRules.{allformed_prefix}
 use Rattle.mm_frame.proofs.BookLists.ReadLabels.{label_named}
 use Rattle.mm_proof.specs.declared.fault.ProofRule.TheVariants.{P2}
 use Rattle.mm_frame.specs.declared.number.LabelId.{LabelId}
@@ -128,13 +128,13 @@ said_moves before s tokens moves formed whole (inr c) =
     omega (arith, most, long, text, ap (sum_by length) c.parts.whole, head, tail)
 
 -- the codes that say the moves of tokens are as many as bytes at most
-pub codes_bytes : (st : List Sentence) (place : ℕ) (s : Sentence) (tokens : List (List ℕ))
+pub codes_bytes : (st : List Sentence) (index : ℕ) (s : Sentence) (tokens : List (List ℕ))
     (entries : List LabelId) (codes : List Code) → AllFormed st
-    → SaySteps st place s tokens (moves_of entries codes) → length codes ≤ sum_by length tokens
-codes_bytes st place s tokens entries codes formed says =
+    → SaySteps st index s tokens (moves_of entries codes) → length codes ≤ sum_by length tokens
+codes_bytes st index s tokens entries codes formed says =
     omega (
       arith,
-      said_moves (take place st) s tokens says.1 (allformed_front st place formed) says.0 says.2,
+      said_moves (take index st) s tokens says.1 (allformed_prefix st index formed) says.0 says.2,
       AllZip-long (IsNumberedMove st) (moves_of entries codes) says.1 says.3,
       length-map codes (code_move (ids_in entries)),
     )

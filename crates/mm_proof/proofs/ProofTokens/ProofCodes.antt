@@ -22,7 +22,7 @@ use Rattle.mm_frame.specs.Rules.{AllMeant}
 use Rattle.mm_frame.specs.Form.{AllFormed, HasItsLabel}
 use Rattle.mm_frame.specs.Frame.{AreMandatory, IsMandatoryAt}
 use Rattle.mm_frame.specs.Numbers.{labelled_sentences}
-use Rattle.mm_frame.specs.FramePlace.{AreHypotheses}
+use Rattle.mm_frame.specs.FrameIndex.{AreHypotheses}
 use Rattle.mm_proof.specs.declared.fault.ProofRule.{ProofRule}
 use Rattle.mm_proof.specs.declared.fault.ProofRule.TheVariants.{P4, P5}
 use Rattle.mm_proof.specs.Moves.{Move, name, again}
@@ -66,37 +66,37 @@ compressed_labels tokens listed letters c = record {
 
 -- ---- letters at fault
 
-pub cut_fault : (statements : List Sentence) (place : ℕ) (tokens : List (List ℕ)) (ids : List ℕ) (listed letters : List (List ℕ)) → AllMeant statements
-    → IsCompressed tokens listed letters → AreFor statements place ids listed → Breaks code.P5 (flat_map (λ p. p) letters)
-    → IsWholeFault (take place statements) tokens P5
-cut_fault statements place tokens ids listed letters all c each b =
+pub cut_fault : (statements : List Sentence) (index : ℕ) (tokens : List (List ℕ)) (ids : List ℕ) (listed letters : List (List ℕ)) → AllMeant statements
+    → IsCompressed tokens listed letters → AreFor statements index ids listed → Breaks code.P5 (flat_map (λ p. p) letters)
+    → IsWholeFault (take index statements) tokens P5
+cut_fault statements index tokens ids listed letters all c each b =
     record { broken = (flat_map (λ p. p) letters, (listed, letters, c, refl), b); first = first }
   where
-    first : (other : ProofRule) → proof_rank other < proof_rank P5 → ¬ (BreaksWhole other (take place statements) tokens)
+    first : (other : ProofRule) → proof_rank other < proof_rank P5 → ¬ (BreaksWhole other (take index statements) tokens)
     first P4 less = λ broken.
         let same = letters_once tokens broken.0 _ broken.1 (listed, letters, c, refl) in
         let odd = subst (Breaks code.P4) same broken.2 in
         odd.4 (subst letter.IsLetter odd.3 (b.0 odd.0 odd.1 odd.2))
-    first other less = labels_pass statements place tokens ids listed all
+    first other less = labels_pass statements index tokens ids listed all
         (compressed_labels tokens listed letters c) each other (omega arith)
 
 -- ---- the mandatory hypotheses by their numbers
 
 -- labels of hypotheses, each of which may be used
-record HypothesisLabels (statements : List Sentence) (place : ℕ) (ids : List ℕ) (hypotheses : List Sentence) : Type 0 where
+record HypothesisLabels (statements : List Sentence) (index : ℕ) (ids : List ℕ) (hypotheses : List Sentence) : Type 0 where
   labels : List (List ℕ)
   are : map (λ h. h.label) hypotheses ≡ map Some labels
-  stand : AllZip (Stands statements place) ids labels
+  stand : AllZip (Stands statements index) ids labels
 
-hypotheses_labels : (statements : List Sentence) (place : ℕ) (ids : List ℕ) (hypotheses : List Sentence)
+hypotheses_labels : (statements : List Sentence) (index : ℕ) (ids : List ℕ) (hypotheses : List Sentence)
     → map (slice_get (labelled_sentences statements)) ids ≡ map Some hypotheses
-    → ((i : ℕ) (h : Sentence) → slice_get hypotheses i ≡ Some h → (label : List ℕ) × IsLabelled label h × IsUsable (take place statements) label)
-    → HypothesisLabels statements place ids hypotheses
-hypotheses_labels statements place [] [] numbered each = record { labels = []; are = refl; stand = tt }
-hypotheses_labels statements place (id ∷ ids) (h ∷ hypotheses) numbered each =
+    → ((i : ℕ) (h : Sentence) → slice_get hypotheses i ≡ Some h → (label : List ℕ) × IsLabelled label h × IsUsable (take index statements) label)
+    → HypothesisLabels statements index ids hypotheses
+hypotheses_labels statements index [] [] numbered each = record { labels = []; are = refl; stand = tt }
+hypotheses_labels statements index (id ∷ ids) (h ∷ hypotheses) numbered each =
     let first = each 0 h refl in
     let there : slice_get (labelled_sentences statements) id ≡ Some h = cc in
-    let rest = hypotheses_labels statements place ids hypotheses (cc) (λ i g at. each (suc i) g at) in
+    let rest = hypotheses_labels statements index ids hypotheses (cc) (λ i g at. each (suc i) g at) in
     let label = first.1 in
     let tail = rest.are in
     record {
@@ -104,18 +104,18 @@ hypotheses_labels statements place (id ∷ ids) (h ∷ hypotheses) numbered each
       are = cc;
       stand = (record { s = h; there = there; named = first.1; usable = first.2 }, rest.stand);
     }
-hypotheses_labels statements place ids hypotheses numbered each = absurd cc
+hypotheses_labels statements index ids hypotheses numbered each = absurd cc
 
 -- a mandatory hypothesis has a label, which may be used
-mandatory_usable : (statements : List Sentence) (place : ℕ) (assertion : Sentence) (hypotheses : List Sentence) → AllFormed statements
-    → AreMandatory (take place statements) assertion hypotheses → (i : ℕ) (h : Sentence) → slice_get hypotheses i ≡ Some h
-    → (label : List ℕ) × IsLabelled label h × IsUsable (take place statements) label
-mandatory_usable statements place assertion hypotheses formed mandatory i h at =
-    let p = those_hold (IsMandatoryAt (take place statements) assertion) 0 (take place statements) hypotheses i h mandatory at in
+mandatory_usable : (statements : List Sentence) (index : ℕ) (assertion : Sentence) (hypotheses : List Sentence) → AllFormed statements
+    → AreMandatory (take index statements) assertion hypotheses → (i : ℕ) (h : Sentence) → slice_get hypotheses i ≡ Some h
+    → (label : List ℕ) × IsLabelled label h × IsUsable (take index statements) label
+mandatory_usable statements index assertion hypotheses formed mandatory i h at =
+    let p = those_hold (IsMandatoryAt (take index statements) assertion) 0 (take index statements) hypotheses i h mandatory at in
     let zero : 0 + p.0 ≡ p.0 = omega arith in
-    let active = subst (λ k. IsActive (take place statements) k) zero p.2.0 in
+    let active = subst (λ k. IsActive (take index statements) k) zero p.2.0 in
     let kind : IsHypothesis h.kind = ⊎_elim (λ e. inr e) (λ f. inl f.2.0) p.2.1 in
-    let label = hypothesis_label h kind (formed p.0 h (get_from_take statements place p.0 h p.1).1).label in
+    let label = hypothesis_label h kind (formed p.0 h (get_from_take statements index p.0 h p.1).1).label in
     (label.0, label.1, inl (p.0, h, p.1, active, (label.1, kind)))
   where
     hypothesis_label : (s : Sentence) → IsHypothesis s.kind → HasItsLabel s.kind s.label → (label : List ℕ) × IsLabelled label s
@@ -124,21 +124,21 @@ mandatory_usable statements place assertion hypotheses formed mandatory i h at =
 
 -- ---- what a compressed proof says
 
-pub reading_compressed : (statements : List Sentence) (place : ℕ) (own : Sentence) (tokens : List (List ℕ)) (ids hypothesis_ids : List ℕ) (listed letters : List (List ℕ))
-    (cs : List Code) (steps : List (Move ℕ)) → AllMeant statements → AllFormed statements → slice_get statements place ≡ Some own
-    → IsCompressed tokens listed letters → AreFor statements place ids listed
-    → AreHypotheses (record { statements = statements; place = place }) hypothesis_ids
+pub reading_compressed : (statements : List Sentence) (index : ℕ) (own : Sentence) (tokens : List (List ℕ)) (ids hypothesis_ids : List ℕ) (listed letters : List (List ℕ))
+    (cs : List Code) (steps : List (Move ℕ)) → AllMeant statements → AllFormed statements → slice_get statements index ≡ Some own
+    → IsCompressed tokens listed letters → AreFor statements index ids listed
+    → AreHypotheses (record { statements = statements; index = index }) hypothesis_ids
     → Letters (flat_map (λ p. p) letters) cs → ¬ (Breaks code.P4 (flat_map (λ p. p) letters)) → ¬ (Breaks code.P5 (flat_map (λ p. p) letters))
-    → AllZip (NumberSays (hypothesis_ids ++ ids)) cs steps → IsReading statements place tokens steps
-reading_compressed statements place own tokens ids hypothesis_ids listed letters cs steps all formed there c each h coded p4 p5 says =
+    → AllZip (NumberSays (hypothesis_ids ++ ids)) cs steps → IsReading statements index tokens steps
+reading_compressed statements index own tokens ids hypothesis_ids listed letters cs steps all formed there c each h coded p4 p5 says =
     let same : h.assertion ≡ own = same_Some h.assertion own (sym h.there ∙ there) in
-    let hl = hypotheses_labels statements place hypothesis_ids h.hypotheses h.numbered (mandatory_usable statements place h.assertion h.hypotheses formed h.mandatory) in
-    let stand = zip_append (Stands statements place) hypothesis_ids hl.labels ids listed hl.stand (for_stands statements place ids listed each) in
-    let named = codes_named statements place (hypothesis_ids ++ ids) (hl.labels ++ listed) stand cs steps says in
+    let hl = hypotheses_labels statements index hypothesis_ids h.hypotheses h.numbered (mandatory_usable statements index h.assertion h.hypotheses formed h.mandatory) in
+    let stand = zip_append (Stands statements index) hypothesis_ids hl.labels ids listed hl.stand (for_stands statements index ids listed each) in
+    let named = codes_named statements index (hypothesis_ids ++ ids) (hl.labels ++ listed) stand cs steps says in
     let joined : (text : List ℕ) → AreLetters tokens text → text ≡ flat_map (λ p. p) letters =
     λ text a. letters_once tokens text _ a (listed, letters, c, refl) in
     record {
-      whole = whole_of (take place statements) tokens (labels_pass statements place tokens ids listed all (compressed_labels tokens listed letters c) each)
+      whole = whole_of (take index statements) tokens (labels_pass statements index tokens ids listed all (compressed_labels tokens listed letters c) each)
           (λ b. p4 (subst (Breaks code.P4) (joined b.0 b.1) b.2)) (λ b. p5 (subst (Breaks code.P5) (joined b.0 b.1) b.2));
       own = own;
       there = there;
@@ -150,7 +150,7 @@ reading_compressed statements place own tokens ids hypothesis_ids listed letters
         codes = cs;
         coded = coded;
         hypotheses = h.hypotheses;
-        mandatory = subst (λ (s : Sentence). AreMandatory (take place statements) s h.hypotheses) same h.mandatory;
+        mandatory = subst (λ (s : Sentence). AreMandatory (take index statements) s h.hypotheses) same h.mandatory;
         labels = hl.labels;
         labelled = hl.are;
         each = named.each;
@@ -185,19 +185,19 @@ each_says ids (c ∷ said) spelled = (code_says ids c spelled.0, each_says ids s
 pub codes_say : (ids : List ℕ) (said : List Code) → All HasSpelling said → AllZip (NumberSays ids) said (code_moves ids said)
 codes_say ids said spelled = each_says ids said (recursion_from_All HasSpelling said spelled)
 
--- ---- the parts, by the place of the first `)`
+-- ---- the parts, by the index of the first `)`
 
 pub joined_texts : (tokens : List (Bor (List ℕ))) → letter.joined_tokens tokens ≡ flat_map (λ p. p) (texts tokens)
 joined_texts [] = refl
 joined_texts (t ∷ tokens) = ap (λ l. t.now ++ l) (joined_texts tokens)
 
-pub parts_given : (rest front back : List Token) (i : ℕ) → front ≡ take i rest → back ≡ drop (i + 1) rest → slice_get (token_texts rest) i ≡ Some closing_token
-    → ¬ (Contains (take i (token_texts rest)) closing_token) → IsCompressed (opening_token ∷ token_texts rest) (token_texts front) (token_texts back)
-parts_given rest front back i f b at none =
+pub parts_given : (rest prefix back : List Token) (i : ℕ) → prefix ≡ take i rest → back ≡ drop (i + 1) rest → slice_get (token_texts rest) i ≡ Some closing_token
+    → ¬ (Contains (take i (token_texts rest)) closing_token) → IsCompressed (opening_token ∷ token_texts rest) (token_texts prefix) (token_texts back)
+parts_given rest prefix back i f b at none =
     let start = take-map (λ t. t.text.now) i rest in
     let last = drop-map (λ t. t.text.now) (i + 1) rest in
     let one : i + 1 ≡ suc i = omega arith in
-    let whole : token_texts rest ≡ token_texts front ++ closing_token ∷ token_texts back =
+    let whole : token_texts rest ≡ token_texts prefix ++ closing_token ∷ token_texts back =
     rw (f, b, ← start, ← last, one) (split_at (token_texts rest) i closing_token at) in
     record {
       whole = ap (λ l. opening_token ∷ l) whole;
@@ -205,14 +205,14 @@ parts_given rest front back i f b at none =
     }
 
 -- a fault of the letters is one of the proof
-pub letter_broken : (statements : List Sentence) (place : ℕ) (tokens : List (List ℕ)) (ids : List ℕ) (listed letters : List (List ℕ)) (fault : CodeFault) → AllMeant statements
-    → IsCompressed tokens listed letters → AreFor statements place ids listed
+pub letter_broken : (statements : List Sentence) (index : ℕ) (tokens : List (List ℕ)) (ids : List ℕ) (listed letters : List (List ℕ)) (fault : CodeFault) → AllMeant statements
+    → IsCompressed tokens listed letters → AreFor statements index ids listed
     → ((rule : CodeRule) → fault ≡ code_fault.Rule rule → Breaks rule (flat_map (λ p. p) letters))
-    → OnRule (fault_behind fault) (λ rule step. (step ≡ 0) × IsWholeFault (take place statements) tokens rule)
-letter_broken statements place tokens ids listed letters (code_fault.Rule code.P4) all c each broken =
-    (refl, record { broken = (flat_map (λ p. p) letters, (listed, letters, c, refl), broken code.P4 refl); first = labels_pass statements place tokens ids listed all (compressed_labels tokens listed letters c) each })
-letter_broken statements place tokens ids listed letters (code_fault.Rule code.P5) all c each broken = (refl, cut_fault statements place tokens ids listed letters all c each (broken code.P5 refl))
-letter_broken statements place tokens ids listed letters code_fault.Memory all c each broken = tt
+    → OnRule (fault_behind fault) (λ rule step. (step ≡ 0) × IsWholeFault (take index statements) tokens rule)
+letter_broken statements index tokens ids listed letters (code_fault.Rule code.P4) all c each broken =
+    (refl, record { broken = (flat_map (λ p. p) letters, (listed, letters, c, refl), broken code.P4 refl); first = labels_pass statements index tokens ids listed all (compressed_labels tokens listed letters c) each })
+letter_broken statements index tokens ids listed letters (code_fault.Rule code.P5) all c each broken = (refl, cut_fault statements index tokens ids listed letters all c each (broken code.P5 refl))
+letter_broken statements index tokens ids listed letters code_fault.Memory all c each broken = tt
 
 -- letters with whose codes a list was filled break no rule
 pub filled_unbroken : {X : Type 0} (r : Result X CodeFault) (cs : List Code) (text : List ℕ) → ((rule : CodeRule) → Breaks rule text → Fills r cs (Err rule))
@@ -224,10 +224,10 @@ pub ruleset letter_steps = (joined_texts, filled_unbroken)
 
 -- ==== the codes of a proof, one after the other, and what their entries stand for
 
--- a front with one code more, which is given
-codes_front_with : (ids : List ℕ) (said : List Code) (i : ℕ) (d c : Code) → i < length said → get_or said i d ≡ c
+-- a prefix with one code more, which is given
+codes_prefix_with : (ids : List ℕ) (said : List Code) (i : ℕ) (d c : Code) → i < length said → get_or said i d ≡ c
     → take (i + 1) (code_moves ids said) ≡ take i (code_moves ids said) ++ code_move ids c ∷ []
-codes_front_with ids said i d c less is =
+codes_prefix_with ids said i d c less is =
     rw (
       take-map (code_move ids) (i + 1) said,
       take-map (code_move ids) i said,
@@ -235,7 +235,7 @@ codes_front_with ids said i d c less is =
       is,
     )
 
--- the move of the code at a place
+-- the move of the code at an index
 pub code_there : (ids : List ℕ) (said : List Code) (i : ℕ) (d : Code) → i < length said → slice_get (code_moves ids said) i ≡ Some (code_move ids (get_or said i d))
 code_there ids said i d less =
     rw (slice_get-map (code_move ids) said i, slice_get-get_or said i d less)
@@ -243,28 +243,28 @@ code_there ids said i d less =
 pub calls_long : (st : List Sentence) (at : ℕ) (ids : List ℕ) (calls : List Call) → AllZip (MayBeCalled st at) ids calls → length ids ≡ length calls
 calls_long st at ids calls all = sym (AllZip-long (MayBeCalled st at) ids calls all)
 
-module _ (ids : List ℕ) (place : ℕ) where
-  -- the move at the place of an entry
-  pub entry_there : {count : ℕ} → place < count → count ≡ length ids
-      → (slice_get ids place ≡ Some (get_or ids place 0)) × (entry_move ids place ≡ name (get_or ids place 0))
+module _ (ids : List ℕ) (index : ℕ) where
+  -- the move at the index of an entry
+  pub entry_there : {count : ℕ} → index < count → count ≡ length ids
+      → (slice_get ids index ≡ Some (get_or ids index 0)) × (entry_move ids index ≡ name (get_or ids index 0))
   entry_there less all =
-      let there = slice_get-get_or ids place 0 (rw all at less) in
-      (there, ap (λ o. move_by o (place - length ids)) there)
+      let there = slice_get-get_or ids index 0 (rw all at less) in
+      (there, ap (λ o. move_by o (index - length ids)) there)
 
-  -- the move at the place of this entry
-  pub entry_moves : (id : ℕ) → slice_get ids place ≡ Some id → entry_move ids place ≡ name id
-  entry_moves id there = ap (λ o. move_by o (place - length ids)) there
+  -- the move at the index of this entry
+  pub entry_moves : (id : ℕ) → slice_get ids index ≡ Some id → entry_move ids index ≡ name id
+  entry_moves id there = ap (λ o. move_by o (index - length ids)) there
 
-  -- a place past the entries is that of a tag
-  pub tag_there : {count : ℕ} → count ≤ place → count ≡ length ids
-      → entry_move ids place ≡ again (place - count)
+  -- an index past the entries is that of a tag
+  pub tag_there : {count : ℕ} → count ≤ index → count ≡ length ids
+      → entry_move ids index ≡ again (index - count)
   tag_there past all =
-      ap (λ o. move_by o (place - length ids)) (slice_get_past ids place (rw all at past))
-      ∙ ap (λ n. again (place - n)) (sym all)
+      ap (λ o. move_by o (index - length ids)) (slice_get_past ids index (rw all at past))
+      ∙ ap (λ n. again (index - n)) (sym all)
 
 -- ---- a machine
 
--- the move of the code at a place
+-- the move of the code at an index
 abbrev pub move_there : (ids : List ℕ) (said : List Code) (i : ℕ) (d c : Code) (x : Move ℕ) → i < length said → get_or said i d ≡ c → code_move ids c ≡ x
     → slice_get (code_moves ids said) i ≡ Some x
 move_there ids said i d c x less is move = code_there ids said i d less ∙ ap (λ k. Some (code_move ids k)) is ∙ ap Some move
@@ -272,11 +272,11 @@ move_there ids said i d c x less is move = code_there ids said i d less ∙ ap (
 -- it comes next
 abbrev pub comes_next : {M : Type 0} (has_run : Running M) (may_take : Allowing M) (first now : M) (ids : List ℕ) (said : List Code) (i : ℕ) (d c : Code) (x : Move ℕ) → i < length said
     → get_or said i d ≡ c → code_move ids c ≡ x
-    → ((place : ℕ) (move : Move ℕ) → slice_get (code_moves ids said) place ≡ Some move → may_take first (take place (code_moves ids said)) move)
+    → ((index : ℕ) (move : Move ℕ) → slice_get (code_moves ids said) index ≡ Some move → may_take first (take index (code_moves ids said)) move)
     → has_run first now (take i (code_moves ids said)) → i + 1 < 2 ^ 64 → IsNext has_run may_take now x
 comes_next has_run may_take first now ids said i d c x less is move allowed ran few = record {
   first = first;
-  front = take i (code_moves ids said);
+  prefix = take i (code_moves ids said);
   ran = ran;
   allowed = allowed i x (move_there ids said i d c x less is move);
   few = omega (arith, few, length-take-le i (code_moves ids said) (omega (arith, length-map said (code_move ids), less)));
@@ -285,40 +285,40 @@ comes_next has_run may_take first now ids said i d c x less is move allowed ran 
 -- the machine goes on by it
 pub goes_on : {M : Type 0} (has_run : Running M) (may_take : Allowing M) (first new : M) (ids : List ℕ) (said : List Code) (i : ℕ) (d c : Code) (x : Move ℕ) → i < length said
     → get_or said i d ≡ c → code_move ids c ≡ x
-    → ((place : ℕ) (move : Move ℕ) → slice_get (code_moves ids said) place ≡ Some move → may_take first (take place (code_moves ids said)) move)
+    → ((index : ℕ) (move : Move ℕ) → slice_get (code_moves ids said) index ≡ Some move → may_take first (take index (code_moves ids said)) move)
     → (may_take first (take i (code_moves ids said)) x → has_run first new (take i (code_moves ids said) ++ x ∷ []))
     → has_run first new (take (i + 1) (code_moves ids said))
 goes_on has_run may_take first new ids said i d c x less is move allowed goes =
-    rw (codes_front_with ids said i d c less is, move) (goes (allowed i x (move_there ids said i d c x less is move)))
+    rw (codes_prefix_with ids said i d c less is, move) (goes (allowed i x (move_there ids said i d c x less is move)))
 
 -- or stops at it
 pub stops_at : {M F : Type 0} (may_take : Allowing M) (stops : Stopping M F) (first : M) (ids : List ℕ) (said : List Code) (i : ℕ) (d c : Code) (x : Move ℕ) (fault : F) → i < length said
     → get_or said i d ≡ c → code_move ids c ≡ x
-    → ((place : ℕ) (move : Move ℕ) → slice_get (code_moves ids said) place ≡ Some move → may_take first (take place (code_moves ids said)) move)
+    → ((index : ℕ) (move : Move ℕ) → slice_get (code_moves ids said) index ≡ Some move → may_take first (take index (code_moves ids said)) move)
     → (may_take first (take i (code_moves ids said)) x → stops first (take i (code_moves ids said)) x fault) → HasStopped stops first (code_moves ids said) fault
 stops_at may_take stops first ids said i d c x fault less is move allowed known =
-    let there = move_there ids said i d c x less is move in record { place = i; move = x; there = there; known = known (allowed i x there) }
+    let there = move_there ids said i d c x less is move in record { index = i; move = x; there = there; known = known (allowed i x there) }
 
 -- ---- entries
 
--- the place of an entry is that of a call
-pub call_within : (st : List Sentence) (at : ℕ) (ids : List ℕ) (calls : List Call) (place id : ℕ) → AllZip (MayBeCalled st at) ids calls → slice_get ids place ≡ Some id → place < length calls
-call_within st at ids calls place id all there =
-    let h = zip_left (MayBeCalled st at) ids calls place id all there in slice_get_within calls place h.0 h.1
+-- the index of an entry is that of a call
+pub call_within : (st : List Sentence) (at : ℕ) (ids : List ℕ) (calls : List Call) (index id : ℕ) → AllZip (MayBeCalled st at) ids calls → slice_get ids index ≡ Some id → index < length calls
+call_within st at ids calls index id all there =
+    let h = zip_left (MayBeCalled st at) ids calls index id all there in slice_get_within calls index h.0 h.1
 
 -- what the entry there stands for, where it may be used
-pub call_there : (st : List Sentence) (at : ℕ) (ids : List ℕ) (calls : List Call) (place own id : ℕ) (label : List ℕ) (d : Call) → AllZip (MayBeCalled st at) ids calls → slice_get ids place ≡ Some own
-    → MayBeUsed st at label own → slice_get ids place ≡ Some id → IsCallOf st at id (get_or calls place d)
-call_there st at ids calls place own id label d all there used also =
-    let h = zip_left (MayBeCalled st at) ids calls place own all there in
-    let less = slice_get_within calls place h.0 h.1 in
-    let same : h.0 ≡ get_or calls place d = same_Some h.0 (get_or calls place d) (sym h.1 ∙ slice_get-get_or calls place d less) in
+pub call_there : (st : List Sentence) (at : ℕ) (ids : List ℕ) (calls : List Call) (index own id : ℕ) (label : List ℕ) (d : Call) → AllZip (MayBeCalled st at) ids calls → slice_get ids index ≡ Some own
+    → MayBeUsed st at label own → slice_get ids index ≡ Some id → IsCallOf st at id (get_or calls index d)
+call_there st at ids calls index own id label d all there used also =
+    let h = zip_left (MayBeCalled st at) ids calls index own all there in
+    let less = slice_get_within calls index h.0 h.1 in
+    let same : h.0 ≡ get_or calls index d = same_Some h.0 (get_or calls index d) (sym h.1 ∙ slice_get-get_or calls index d less) in
     let one : own ≡ id = same_Some own id (sym there ∙ also) in
-    subst (λ k. IsCallOf st at k (get_or calls place d)) one (subst (IsCallOf st at own) same (h.2 label used))
+    subst (λ k. IsCallOf st at k (get_or calls index d)) one (subst (IsCallOf st at own) same (h.2 label used))
 
 -- the code is the number of an entry, which is this label's
 abbrev pub SaysEntry : List ℕ → Code → ℕ → Type 0
-SaysEntry entries c n = (place : ℕ) × (c ≡ Number (place + 1)) × (slice_get entries place ≡ Some n)
+SaysEntry entries c n = (index : ℕ) × (c ≡ Number (index + 1)) × (slice_get entries index ≡ Some n)
 
 -- with more entries behind
 pub entries_later : (entries more : List ℕ) (codes : List Code) (ns : List ℕ) → AllZip (SaysEntry entries) codes ns → AllZip (SaysEntry (entries ++ more)) codes ns
@@ -328,10 +328,10 @@ entries_later entries more (c ∷ codes) (n ∷ ns) z =
 entries_later entries more codes ns z = absurd z
 
 -- one label more
-pub says_more : (entries : List ℕ) (codes : List Code) (ids : List LabelId) (i : ℕ) (d : LabelId) (place : ℕ) → i < length ids → AllZip (SaysEntry entries) codes (ids_in (take i ids))
-    → slice_get entries place ≡ Some (get_or ids i d).0 → AllZip (SaysEntry entries) (codes ++ Number (place + 1) ∷ []) (ids_in (take (i + 1) ids))
-says_more entries codes ids i d place less old there =
-    rw (map_more (λ (l : LabelId). l.0) ids i d less) (zip_push (SaysEntry entries) codes (ids_in (take i ids)) _ (get_or ids i d).0 old (place, refl, there))
+pub says_more : (entries : List ℕ) (codes : List Code) (ids : List LabelId) (i : ℕ) (d : LabelId) (index : ℕ) → i < length ids → AllZip (SaysEntry entries) codes (ids_in (take i ids))
+    → slice_get entries index ≡ Some (get_or ids i d).0 → AllZip (SaysEntry entries) (codes ++ Number (index + 1) ∷ []) (ids_in (take (i + 1) ids))
+says_more entries codes ids i d index less old there =
+    rw (map_more (λ (l : LabelId). l.0) ids i d less) (zip_push (SaysEntry entries) codes (ids_in (take i ids)) _ (get_or ids i d).0 old (index, refl, there))
 
 pub entries_say : (entries : List ℕ) (codes : List Code) (ns : List ℕ) → AllZip (SaysEntry entries) codes ns → code_moves entries codes ≡ map name ns
 entries_say entries [] [] z = refl

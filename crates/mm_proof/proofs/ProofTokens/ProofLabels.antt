@@ -35,46 +35,46 @@ use Rattle.mm_proof.specs.Steps.{IsNumberedMove, AreNumberedMoves, IsUsable, IsU
 
 -- one of the labels is idle, or all may be used
 abbrev pub IdleOr : List Sentence → ℕ → Bool → List ℕ → List (List ℕ) → Type 0
-IdleOr statements place true ids labels = (label : List ℕ) × Contains labels label × IsIdle statements place label
-IdleOr statements place false ids labels = AreFor statements place ids labels
+IdleOr statements index true ids labels = (label : List ℕ) × Contains labels label × IsIdle statements index label
+IdleOr statements index false ids labels = AreFor statements index ids labels
 
 -- what is known of the labels so far: each is that of an earlier statement, and all may be used or one of them is idle
 abbrev pub SoFar : List Sentence → ℕ → Bool → List ℕ → List (List ℕ) → Type 0
-SoFar statements place idle ids labels =
-    ((label : List ℕ) → Contains labels label → ¬ (IsUnknown statements place label)) × IdleOr statements place idle ids labels
+SoFar statements index idle ids labels =
+    ((label : List ℕ) → Contains labels label → ¬ (IsUnknown statements index label)) × IdleOr statements index idle ids labels
 
 -- ---- one label more
 
 pub texts_more : {T : Type 0} (f : T → List ℕ) (labels : List T) (i : ℕ) (d : T) → i < length labels → take (i + 1) (map f labels) ≡ take i (map f labels) ++ f (get_or labels i d) ∷ []
-texts_more f labels i d less = take-map f (i + 1) labels ∙ map_more f labels i d less ∙ ap (λ front. front ++ f (get_or labels i d) ∷ []) (sym (take-map f i labels))
+texts_more f labels i d less = take-map f (i + 1) labels ∙ map_more f labels i d less ∙ ap (λ prefix. prefix ++ f (get_or labels i d) ∷ []) (sym (take-map f i labels))
 
 -- a label that is that of an earlier statement is known
 known_push : (P : List ℕ → Type 0) (labels : List (List ℕ)) (label : List ℕ) → ((l : List ℕ) → Contains labels l → ¬ (P l)) → ¬ (P label)
     → (l : List ℕ) → Contains (labels ++ label ∷ []) l → ¬ (P l)
 known_push P labels label all here l has = ⊎_elim (all l) (λ same. subst (λ k. ¬ (P k)) same here) (Contains-push_cases labels label l has)
 
-or_push : (statements : List Sentence) (place : ℕ) (idle : Bool) (ids : List ℕ) (id : ℕ) (labels : List (List ℕ)) (label : List ℕ)
-    → IdleOr statements place idle ids labels → MayBeUsed statements place label id → IdleOr statements place idle (ids ++ id ∷ []) (labels ++ label ∷ [])
-or_push statements place true ids id labels label so here = (so.0, Contains-append_left labels (label ∷ []) so.0 so.1, so.2)
-or_push statements place false ids id labels label so here = zip_push (λ i l. MayBeUsed statements place l i) ids labels id label so here
+or_push : (statements : List Sentence) (index : ℕ) (idle : Bool) (ids : List ℕ) (id : ℕ) (labels : List (List ℕ)) (label : List ℕ)
+    → IdleOr statements index idle ids labels → MayBeUsed statements index label id → IdleOr statements index idle (ids ++ id ∷ []) (labels ++ label ∷ [])
+or_push statements index true ids id labels label so here = (so.0, Contains-append_left labels (label ∷ []) so.0 so.1, so.2)
+or_push statements index false ids id labels label so here = zip_push (λ i l. MayBeUsed statements index l i) ids labels id label so here
 
 -- a label that may be used
-pub sofar_number : (statements : List Sentence) (place : ℕ) (idle : Bool) (ids : List LabelId) (id : LabelId) (labels : List Token) (i : ℕ) (d : Token)
-    → i < length labels → SoFar statements place idle (ids_in ids) (take i (token_texts labels)) → MayBeUsed statements place (get_or labels i d).text.now id.0
-    → SoFar statements place idle (ids_in (ids ++ id ∷ [])) (take (i + 1) (token_texts labels))
-sofar_number statements place idle ids id labels i d less so here =
+pub sofar_number : (statements : List Sentence) (index : ℕ) (idle : Bool) (ids : List LabelId) (id : LabelId) (labels : List Token) (i : ℕ) (d : Token)
+    → i < length labels → SoFar statements index idle (ids_in ids) (take i (token_texts labels)) → MayBeUsed statements index (get_or labels i d).text.now id.0
+    → SoFar statements index idle (ids_in (ids ++ id ∷ [])) (take (i + 1) (token_texts labels))
+sofar_number statements index idle ids id labels i d less so here =
     rw (texts_more (λ t. t.text.now) labels i d less, map-append (λ n. n.0) ids (id ∷ [])) (
-      known_push (IsUnknown statements place) (take i (token_texts labels)) (get_or labels i d).text.now so.0 (λ unknown. unknown (here.at, here.s, get_take statements place here.at here.before ∙ here.numbered.there, here.named)),
-      or_push statements place idle (ids_in ids) id.0 (take i (token_texts labels)) (get_or labels i d).text.now so.1 here,
+      known_push (IsUnknown statements index) (take i (token_texts labels)) (get_or labels i d).text.now so.0 (λ unknown. unknown (here.at, here.s, get_take statements index here.at here.before ∙ here.numbered.there, here.named)),
+      or_push statements index idle (ids_in ids) id.0 (take i (token_texts labels)) (get_or labels i d).text.now so.1 here,
     )
 
 -- a label that is idle
-pub sofar_idle : (statements : List Sentence) (place : ℕ) (idle : Bool) (ids : List ℕ) (labels : List Token) (i : ℕ) (d : Token)
-    → i < length labels → SoFar statements place idle ids (take i (token_texts labels)) → IsIdle statements place (get_or labels i d).text.now
-    → SoFar statements place true ids (take (i + 1) (token_texts labels))
-sofar_idle statements place idle ids labels i d less so here =
+pub sofar_idle : (statements : List Sentence) (index : ℕ) (idle : Bool) (ids : List ℕ) (labels : List Token) (i : ℕ) (d : Token)
+    → i < length labels → SoFar statements index idle ids (take i (token_texts labels)) → IsIdle statements index (get_or labels i d).text.now
+    → SoFar statements index true ids (take (i + 1) (token_texts labels))
+sofar_idle statements index idle ids labels i d less so here =
     rw (texts_more (λ t. t.text.now) labels i d less) (
-      known_push (IsUnknown statements place) (take i (token_texts labels)) (get_or labels i d).text.now so.0
+      known_push (IsUnknown statements index) (take i (token_texts labels)) (get_or labels i d).text.now so.0
           (λ unknown. unknown (here.at, here.s, here.there, here.named)),
       ((get_or labels i d).text.now, Contains-push (take i (token_texts labels)) (get_or labels i d).text.now, here),
     )
@@ -86,9 +86,9 @@ text_among (t ∷ labels) zero d less = (0, omega arith, refl)
 text_among (t ∷ labels) (suc i) d less = let at = text_among labels i d (omega arith) in (suc at.0, (let l : at.0 < length (token_texts labels) = at.1 in omega arith), at.2)
 
 -- at the end all labels are known
-pub sofar_all : (statements : List Sentence) (place : ℕ) (idle : Bool) (ids : List ℕ) (labels : List Token) (i : ℕ) → length labels ≤ i
-    → SoFar statements place idle ids (take i (token_texts labels)) → SoFar statements place idle ids (token_texts labels)
-sofar_all statements place idle ids labels i all so = rw (← take_all i (token_texts labels) (omega (arith, length-map labels (λ t. t.text.now)))) so
+pub sofar_all : (statements : List Sentence) (index : ℕ) (idle : Bool) (ids : List ℕ) (labels : List Token) (i : ℕ) → length labels ≤ i
+    → SoFar statements index idle ids (take i (token_texts labels)) → SoFar statements index idle ids (token_texts labels)
+sofar_all statements index idle ids labels i all so = rw (← take_all i (token_texts labels) (omega (arith, length-map labels (λ t. t.text.now)))) so
 
 -- ==== the tokens of a proof: its parts, its labels, and what a list of labels that may be used
 -- tells
@@ -101,9 +101,9 @@ pub none_more : {T : Type 0} (f : T → List ℕ) (P : List ℕ → Type 0) (tok
 none_more f P tokens i d less none here t has =
     known_push P (take i (map f tokens)) (f (get_or tokens i d)) none here t (subst (λ l. Contains l t) (texts_more f tokens i d less) has)
 
--- the front that is all
-pub front_all : {T : Type 0} (f : T → List ℕ) (tokens : List T) (i : ℕ) → length tokens ≤ i → take i (map f tokens) ≡ map f tokens
-front_all f tokens i all = take_all i (map f tokens) (omega (arith, length-map tokens f))
+-- the prefix that is all
+pub prefix_all : {T : Type 0} (f : T → List ℕ) (tokens : List T) (i : ℕ) → length tokens ≤ i → take i (map f tokens) ≡ map f tokens
+prefix_all f tokens i all = take_all i (map f tokens) (omega (arith, length-map tokens f))
 
 pub text_at : {T : Type 0} (f : T → List ℕ) (tokens : List T) (i : ℕ) (d : T) → i < length tokens → slice_get (map f tokens) i ≡ Some (f (get_or tokens i d))
 text_at f tokens i d less = rw (slice_get-map, slice_get-get_or tokens i d less)
@@ -111,21 +111,21 @@ text_at f tokens i d less = rw (slice_get-map, slice_get-get_or tokens i d less)
 -- ---- labels that may be used
 
 -- each of the labels is that of an earlier statement
-for_known : (statements : List Sentence) (place : ℕ) (ids : List ℕ) (labels : List (List ℕ)) (label : List ℕ) → AreFor statements place ids labels
-    → Contains labels label → (id : ℕ) × MayBeUsed statements place label id
-for_known statements place ids labels label all has =
+for_known : (statements : List Sentence) (index : ℕ) (ids : List ℕ) (labels : List (List ℕ)) (label : List ℕ) → AreFor statements index ids labels
+    → Contains labels label → (id : ℕ) × MayBeUsed statements index label id
+for_known statements index ids labels label all has =
     let at = at_from_contains labels label has in
     let id = zip_right _ ids labels at.0 label all at.1 in
     (id.0, id.2)
 
 -- no hypothesis with such a label is idle
-used_not_idle : (statements : List Sentence) (place : ℕ) (label : List ℕ) (id : ℕ) → AllMeant statements → MayBeUsed statements place label id
-    → (at : ℕ) (h : Sentence) → slice_get (take place statements) at ≡ Some h → IsLabelled label h → IsHypothesis h.kind → ¬ (¬ (IsActive (take place statements) at))
-used_not_idle statements place label id all m at h there named kind idle =
-    let front = get_from_take statements place at h there in
+used_not_idle : (statements : List Sentence) (index : ℕ) (label : List ℕ) (id : ℕ) → AllMeant statements → MayBeUsed statements index label id
+    → (at : ℕ) (h : Sentence) → slice_get (take index statements) at ≡ Some h → IsLabelled label h → IsHypothesis h.kind → ¬ (¬ (IsActive (take index statements) at))
+used_not_idle statements index label id all m at h there named kind idle =
+    let prefix = get_from_take statements index at h there in
     let here = m.numbered.there in
-    let one : m.at ≡ at = one_label statements m.at at m.s h label all here front.1 m.named named in
-    let same : m.s ≡ h = one_labelled statements m.at at m.s h label all here front.1 m.named named in
+    let one : m.at ≡ at = one_label statements m.at at m.s h label all here prefix.1 m.named named in
+    let same : m.s ≡ h = one_labelled statements m.at at m.s h label all here prefix.1 m.named named in
     ⊎_elim (λ active. idle (rw one at active.1))
     (λ assertion. not_both_kinds h.kind kind (rw same at assertion)) m.kind
 
@@ -137,26 +137,26 @@ pub record HasLabels (tokens labels : List (List ℕ)) : Type 0 where
   pub one : (others : List (List ℕ)) → AreLabels tokens others → others ≡ labels
   pub ends : ¬ ((slice_get tokens 0 ≡ Some opening_token) × ¬ (Contains (drop 1 tokens) closing_token))
 
-module _ (statements : List Sentence) (place : ℕ) (tokens : List (List ℕ)) where
+module _ (statements : List Sentence) (index : ℕ) (tokens : List (List ℕ)) where
   -- labels that may be used break no rule that is judged of labels
   pub labels_pass : (ids : List ℕ) (labels : List (List ℕ)) → AllMeant statements
-      → HasLabels tokens labels → AreFor statements place ids labels → (rule : ProofRule)
-      → proof_rank rule < proof_rank P4 → ¬ (BreaksWhole rule (take place statements) tokens)
+      → HasLabels tokens labels → AreFor statements index ids labels → (rule : ProofRule)
+      → proof_rank rule < proof_rank P4 → ¬ (BreaksWhole rule (take index statements) tokens)
   labels_pass ids labels all has each P1 less b = has.ends b
   labels_pass ids labels all has each P2 less b =
-      let known = for_known statements place ids labels b.2 each (subst (λ l. Contains l b.2) (has.one b.0 b.1) b.3) in
-      b.4 (known.1.at, known.1.s, get_take statements place known.1.at known.1.before ∙ known.1.numbered.there, known.1.named)
+      let known = for_known statements index ids labels b.2 each (subst (λ l. Contains l b.2) (has.one b.0 b.1) b.3) in
+      b.4 (known.1.at, known.1.s, get_take statements index known.1.at known.1.before ∙ known.1.numbered.there, known.1.named)
   labels_pass ids labels all has each P3 less b =
-      let known = for_known statements place ids labels b.2 each (subst (λ l. Contains l b.2) (has.one b.0 b.1) b.3) in
-      used_not_idle statements place b.2 known.0 all known.1 b.4 b.5 b.6 b.7 b.8 b.9
+      let known = for_known statements index ids labels b.2 each (subst (λ l. Contains l b.2) (has.one b.0 b.1) b.3) in
+      used_not_idle statements index b.2 known.0 all known.1 b.4 b.5 b.6 b.7 b.8 b.9
   labels_pass ids labels all has each rule less b = absurd (omega arith)
 
   -- labels that break a rule are at fault by it
   pub labels_fault : (labels : List (List ℕ)) (rule : ProofRule) → HasLabels tokens labels
-      → BreaksLabels rule statements place labels → IsWholeFault (take place statements) tokens rule
+      → BreaksLabels rule statements index labels → IsWholeFault (take index statements) tokens rule
   labels_fault labels P2 has b = record { broken = (labels, has.are, b.0, b.1, b.2); first = first }
     where
-      first : (other : ProofRule) → proof_rank other < proof_rank P2 → ¬ (BreaksWhole other (take place statements) tokens)
+      first : (other : ProofRule) → proof_rank other < proof_rank P2 → ¬ (BreaksWhole other (take index statements) tokens)
       first P1 less broken = has.ends broken
       first other less broken = absurd (omega arith)
   labels_fault labels P3 has b = record {
@@ -164,7 +164,7 @@ module _ (statements : List Sentence) (place : ℕ) (tokens : List (List ℕ)) w
     first = first;
   }
     where
-      first : (other : ProofRule) → proof_rank other < proof_rank P3 → ¬ (BreaksWhole other (take place statements) tokens)
+      first : (other : ProofRule) → proof_rank other < proof_rank P3 → ¬ (BreaksWhole other (take index statements) tokens)
       first P1 less broken = has.ends broken
       first P2 less broken = b.0 broken.2 (subst (λ l. Contains l broken.2) (has.one broken.0 broken.1) broken.3) broken.4
       first other less broken = absurd (omega arith)
@@ -183,16 +183,16 @@ normal_labels tokens normal = record {
 
 -- ---- labels and their numbers
 
--- the number is that of the label, which may be used after the statements before the place
-pub record Stands (statements : List Sentence) (place id : ℕ) (label : List ℕ) : Type 0 where
+-- the number is that of the label, which may be used after the statements before the index
+pub record Stands (statements : List Sentence) (index id : ℕ) (label : List ℕ) : Type 0 where
   pub s : Sentence
   pub there : slice_get (labelled_sentences statements) id ≡ Some s
   pub named : IsLabelled label s
-  pub usable : IsUsable (take place statements) label
+  pub usable : IsUsable (take index statements) label
 
-used_stands : (statements : List Sentence) (place id : ℕ) (label : List ℕ) → MayBeUsed statements place label id → Stands statements place id label
-used_stands statements place id label m =
-    let before = get_take statements place m.at m.before ∙ m.numbered.there in
+used_stands : (statements : List Sentence) (index id : ℕ) (label : List ℕ) → MayBeUsed statements index label id → Stands statements index id label
+used_stands statements index id label m =
+    let before = get_take statements index m.at m.before ∙ m.numbered.there in
     record {
       s = m.s;
       there = numbered_get statements id m.at m.s m.numbered;
@@ -200,61 +200,61 @@ used_stands statements place id label m =
       usable = ⊎_elim (λ h. inl (m.at, m.s, before, h.1, (m.named, h.0))) (λ a. inr (m.at, m.s, before, (m.named, a))) m.kind;
     }
 
-pub for_stands : (statements : List Sentence) (place : ℕ) (ids : List ℕ) (labels : List (List ℕ)) → AreFor statements place ids labels
-    → AllZip (Stands statements place) ids labels
-for_stands statements place ids labels all =
-    zip_weaker _ _ (used_stands statements place) ids labels all
+pub for_stands : (statements : List Sentence) (index : ℕ) (ids : List ℕ) (labels : List (List ℕ)) → AreFor statements index ids labels
+    → AllZip (Stands statements index) ids labels
+for_stands statements index ids labels all =
+    zip_weaker _ _ (used_stands statements index) ids labels all
 
 -- ---- moves by numbers and by names
 
 -- by names, moves that these labels may make, with what each of the codes or tokens says of its move
-pub record Named {C : Type 0} (statements : List Sentence) (place : ℕ) (R : C → Move (List ℕ) → Type 0) (codes : List C) (steps : List (Move ℕ)) : Type 0 where
+pub record Named {C : Type 0} (statements : List Sentence) (index : ℕ) (R : C → Move (List ℕ) → Type 0) (codes : List C) (steps : List (Move ℕ)) : Type 0 where
   pub moves : List (Move (List ℕ))
   pub each : AllZip R codes moves
   pub numbered : AreNumberedMoves statements steps moves
-  pub usable : AllByRecursion (IsUsableMove (take place statements)) moves
+  pub usable : AllByRecursion (IsUsableMove (take index statements)) moves
 
-one_named : {C : Type 0} (statements : List Sentence) (place : ℕ) (R : C → Move (List ℕ) → Type 0) (c : C) (codes : List C) (step : Move ℕ) (steps : List (Move ℕ)) (move : Move (List ℕ))
-    → R c move → IsNumberedMove statements step move → IsUsableMove (take place statements) move → Named statements place R codes steps → Named statements place R (c ∷ codes) (step ∷ steps)
-one_named statements place R c codes step steps move here numbered usable rest =
+one_named : {C : Type 0} (statements : List Sentence) (index : ℕ) (R : C → Move (List ℕ) → Type 0) (c : C) (codes : List C) (step : Move ℕ) (steps : List (Move ℕ)) (move : Move (List ℕ))
+    → R c move → IsNumberedMove statements step move → IsUsableMove (take index statements) move → Named statements index R codes steps → Named statements index R (c ∷ codes) (step ∷ steps)
+one_named statements index R c codes step steps move here numbered usable rest =
     record { moves = move ∷ rest.moves; each = (here, rest.each); numbered = (numbered, rest.numbered); usable = (usable, rest.usable) }
 
-named_label : (statements : List Sentence) (place id : ℕ) (label : List ℕ) → Stands statements place id label → IsNumberedMove statements (name id) (name label)
-named_label statements place id label s = (s.s, label, s.there, s.named, refl)
+named_label : (statements : List Sentence) (index id : ℕ) (label : List ℕ) → Stands statements index id label → IsNumberedMove statements (name id) (name label)
+named_label statements index id label s = (s.s, label, s.there, s.named, refl)
 
-module _ (statements : List Sentence) (place : ℕ) (ids : List ℕ) (labels : List (List ℕ))
-    (all : AllZip (Stands statements place) ids labels) where
+module _ (statements : List Sentence) (index : ℕ) (ids : List ℕ) (labels : List (List ℕ))
+    (all : AllZip (Stands statements index) ids labels) where
   number_named : (n : ℕ) (codes : List Code) (s : Move ℕ) (steps : List (Move ℕ))
-      → NumberSays ids (Number n) s → Named statements place (Says labels) codes steps
-      → Named statements place (Says labels) (Number n ∷ codes) (s ∷ steps)
+      → NumberSays ids (Number n) s → Named statements index (Says labels) codes steps
+      → Named statements index (Says labels) (Number n ∷ codes) (s ∷ steps)
   number_named n codes s steps here rest = elim here.2 [
     | inl l ↦
-        let at = zip_left (Stands statements place) ids labels here.0 l.0 all l.1 in
+        let at = zip_left (Stands statements index) ids labels here.0 l.0 all l.1 in
         one_named _ _ _ _ _ _ _ (name at.0) (here.0, here.1, inl (at.0, at.1, refl))
-        (rw l.2 (named_label statements place l.0 at.0 at.2)) at.2.usable rest
+        (rw l.2 (named_label statements index l.0 at.0 at.2)) at.2.usable rest
     | inr t ↦
-        let count = AllZip-long (Stands statements place) ids labels all in
+        let count = AllZip-long (Stands statements index) ids labels all in
         one_named _ _ _ _ _ _ _ (again t.0) (here.0, here.1, inr (t.0, rw count t.1, refl))
         (rw t.2 refl) tt rest
   ]
 
   pub codes_named : (codes : List Code) (steps : List (Move ℕ))
-      → AllZip (NumberSays ids) codes steps → Named statements place (Says labels) codes steps
+      → AllZip (NumberSays ids) codes steps → Named statements index (Says labels) codes steps
   codes_named [] [] each = record { moves = []; each = tt; numbered = tt; usable = tt }
   codes_named (Tag ∷ codes) (s ∷ steps) each =
-      one_named statements place (Says labels) Tag codes s steps mark refl (subst (λ m. IsNumberedMove statements m mark) (sym each.0) refl) tt
+      one_named statements index (Says labels) Tag codes s steps mark refl (subst (λ m. IsNumberedMove statements m mark) (sym each.0) refl) tt
       (codes_named codes steps each.1)
   codes_named (Number n ∷ codes) (s ∷ steps) each =
       number_named n codes s steps each.0 (codes_named codes steps each.1)
   codes_named codes steps each = absurd each
 
-names_named : (statements : List Sentence) (place : ℕ) (ids : List ℕ) (labels : List (List ℕ)) → AllZip (Stands statements place) ids labels
-    → AreNumberedMoves statements (map name ids) (map name labels) × AllByRecursion (IsUsableMove (take place statements)) (map name labels)
-names_named statements place [] [] all = (tt, tt)
-names_named statements place (id ∷ ids) (l ∷ labels) all =
-    let rest = names_named statements place ids labels all.1 in
-    ((named_label statements place id l all.0, rest.0), (all.0.usable, rest.1))
-names_named statements place ids labels all = absurd all
+names_named : (statements : List Sentence) (index : ℕ) (ids : List ℕ) (labels : List (List ℕ)) → AllZip (Stands statements index) ids labels
+    → AreNumberedMoves statements (map name ids) (map name labels) × AllByRecursion (IsUsableMove (take index statements)) (map name labels)
+names_named statements index [] [] all = (tt, tt)
+names_named statements index (id ∷ ids) (l ∷ labels) all =
+    let rest = names_named statements index ids labels all.1 in
+    ((named_label statements index id l all.0, rest.0), (all.0.usable, rest.1))
+names_named statements index ids labels all = absurd all
 
 -- ---- a proof that breaks no rule over the whole of it
 
@@ -267,12 +267,12 @@ whole_of before tokens low p4 p5 P4 = p4
 whole_of before tokens low p4 p5 P5 = p5
 whole_of before tokens low p4 p5 rule = λ b. b
 
-pub reading_normal : (statements : List Sentence) (place : ℕ) (own : Sentence) (ids : List ℕ) (tokens : List (List ℕ)) → AllMeant statements
-    → slice_get statements place ≡ Some own → IsNormal tokens → AreFor statements place ids tokens → IsReading statements place tokens (map name ids)
-reading_normal statements place own ids tokens all there normal each =
-    let named = names_named statements place ids tokens (for_stands statements place ids tokens each) in
+pub reading_normal : (statements : List Sentence) (index : ℕ) (own : Sentence) (ids : List ℕ) (tokens : List (List ℕ)) → AllMeant statements
+    → slice_get statements index ≡ Some own → IsNormal tokens → AreFor statements index ids tokens → IsReading statements index tokens (map name ids)
+reading_normal statements index own ids tokens all there normal each =
+    let named = names_named statements index ids tokens (for_stands statements index ids tokens each) in
     record {
-      whole = whole_of (take place statements) tokens (labels_pass statements place tokens ids tokens all (normal_labels tokens normal) each)
+      whole = whole_of (take index statements) tokens (labels_pass statements index tokens ids tokens all (normal_labels tokens normal) each)
           (λ b. normal (ap (λ l. slice_get l 0) b.1.2.whole)) (λ b. normal (ap (λ l. slice_get l 0) b.1.2.whole));
       own = own;
       there = there;

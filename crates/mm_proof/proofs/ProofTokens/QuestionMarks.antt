@@ -1,4 +1,4 @@
--- Where a `?` stands: the tokens of the known front, which stand before it, and proofs that hold
+-- Where a `?` stands: the tokens of the known prefix, which stand before it, and proofs that hold
 -- none.
 use Rattle.std.proofs.Common.{◌≡◌, ℕ, zero, suc, ◌+◌, ◌<◌, ◌≤◌, List, [], ◌∷◌, ◌++◌, length, map}
 use Rattle.std.proofs.Common.{take, get_or, slice_get, Some, Bool, true, false, if◌then◌else◌, ◌==◌}
@@ -13,9 +13,10 @@ use Rattle.mm_text.specs.declared.token.Token.{Token}
 use Rattle.mm_proof.specs.Plain.{token_texts}
 use Rattle.mm_proof.specs.Tokens.{is_question, is_unknown, opening_token, closing_token}
 use Rattle.mm_proof.specs.Tokens.{IsIncomplete, IsCompressed, AreLabels, SayMoves}
-use Rattle.mm_proof.specs.KnownFront.{token_of, known_piece, known_tokens, known_text, known_front}
-use Rattle.mm_proof.specs.KnownFront.{begins_list, ends_list}
-use Rattle.mm_proof.proofs.ProofTokens.ProofLabels.{text_at, front_all}
+use Rattle.mm_proof.specs.KnownPrefix.{token_of, known_piece, known_tokens, known_text}
+use Rattle.mm_proof.specs.KnownPrefix.{known_prefix}
+use Rattle.mm_proof.specs.KnownPrefix.{begins_list, ends_list}
+use Rattle.mm_proof.proofs.ProofTokens.ProofLabels.{text_at, prefix_all}
 use Rattle.mm_text.proofs.Lists.{any_found}
 use Rattle.std.proofs.lemmas.List.Elements.{Contains-append_left, Contains-append_right}
 use Rattle.std.proofs.lemmas.List.Elements.{Contains-append_cases}
@@ -24,7 +25,7 @@ use Rattle.mm_text.specs.Token.{is_label_byte}
 use Rattle.mm_text.proofs.Reader.OneToken.{label_bytes}
 use Rattle.mm_frame.specs.Sentence.{Sentence}
 use Rattle.mm_frame.specs.Form.{AllFormed}
-use Rattle.mm_frame.proofs.Rules.ObeyedRules.{allformed_front}
+use Rattle.mm_frame.proofs.Rules.ObeyedRules.{allformed_prefix}
 use Rattle.mm_frame.proofs.BookLists.ReadLabels.{label_named}
 use Rattle.mm_proof.specs.declared.fault.ProofRule.TheVariants.{P2, P4}
 use Rattle.mm_proof.specs.Moves.{Move}
@@ -35,7 +36,7 @@ use Rattle.mm_proof.specs.Verified.{TokensProve}
 use Rattle.mm_proof.proofs.Members.{contains_cases}
 use Rattle.mm_proof.proofs.ProofVerdicts.StrictForm.{only_one}
 
--- ==== the tokens of the known front: what of the whole's tokens holds of them
+-- ==== the tokens of the known prefix: what of the whole's tokens holds of them
 
 -- ---- they have as many bytes at most
 
@@ -53,8 +54,8 @@ cut_room (t ∷ tokens) zero =
 cut_room (t ∷ tokens) (suc n) =
     omega (arith, cut_room tokens n, sum_by-append length (t ∷ []) tokens, sum_by-append length (t ∷ []) (take n tokens ++ known_piece (slice_get tokens n)))
 
-pub front_room : (tokens : List (List ℕ)) → sum_by length (known_front tokens) ≤ sum_by length tokens
-front_room tokens = by (begins_list tokens) (ends_list (known_tokens tokens))
+pub prefix_room : (tokens : List (List ℕ)) → sum_by length (known_prefix tokens) ≤ sum_by length tokens
+prefix_room tokens = by (begins_list tokens) (ends_list (known_tokens tokens))
   where
     by : (begun ended : Bool) → sum_by length (if begun then (if ended then known_text tokens else []) else known_tokens tokens) ≤ sum_by length tokens
     by true true = cut_room tokens (position_or_len is_unknown tokens)
@@ -82,38 +83,38 @@ token_some : (text : List ℕ) → false ≡ (length text == 0) → token_of tex
 token_some [] e = absurd cc
 token_some (b ∷ text) e = refl
 
--- the token at a place, and what stands before its `?`
-at_place : (tokens : List Token) (place n : ℕ) (t : Token) → place < length tokens → t ≡ get_or tokens place t → n ≡ position_or_len is_question t.text.now
-    → known_piece (slice_get (token_texts tokens) place) ≡ token_of (take n t.text.now)
-at_place tokens place n t less is first =
-    ap known_piece (text_at (λ u. u.text.now) tokens place t less ∙ ap (λ (u : Token). Some u.text.now) (sym is))
+-- the token at an index, and what stands before its `?`
+at_index : (tokens : List Token) (index n : ℕ) (t : Token) → index < length tokens → t ≡ get_or tokens index t → n ≡ position_or_len is_question t.text.now
+    → known_piece (slice_get (token_texts tokens) index) ≡ token_of (take n t.text.now)
+at_index tokens index n t less is first =
+    ap known_piece (text_at (λ u. u.text.now) tokens index t less ∙ ap (λ (u : Token). Some u.text.now) (sym is))
     ∙ ap (λ k. token_of (take k t.text.now)) (sym first)
 
-pub piece_past : (tokens out : List Token) (place : ℕ) → length tokens ≤ place → out ≡ take place tokens
-    → token_texts out ≡ take place (token_texts tokens) ++ known_piece (slice_get (token_texts tokens) place)
-piece_past tokens out place past is =
-    ap token_texts is ∙ texts_take tokens place ∙ sym (append-nil (take place (token_texts tokens)))
-    ∙ ap (λ o. take place (token_texts tokens) ++ known_piece o) (sym (slice_get_past _ place
+pub piece_past : (tokens out : List Token) (index : ℕ) → length tokens ≤ index → out ≡ take index tokens
+    → token_texts out ≡ take index (token_texts tokens) ++ known_piece (slice_get (token_texts tokens) index)
+piece_past tokens out index past is =
+    ap token_texts is ∙ texts_take tokens index ∙ sym (append-nil (take index (token_texts tokens)))
+    ∙ ap (λ o. take index (token_texts tokens) ++ known_piece o) (sym (slice_get_past _ index
     (omega (arith, length-map tokens (λ t. t.text.now)))))
 
-pub piece_none : (tokens out : List Token) (place n : ℕ) (t : Token) → place < length tokens → t ≡ get_or tokens place t → n ≡ position_or_len is_question t.text.now
-    → true ≡ (length (take n t.text.now) == 0) → out ≡ take place tokens
-    → token_texts out ≡ take place (token_texts tokens) ++ known_piece (slice_get (token_texts tokens) place)
-piece_none tokens out place n t less there first empty is =
-    ap token_texts is ∙ texts_take tokens place ∙ sym (append-nil (take place (token_texts tokens)))
-    ∙ ap (λ l. take place (token_texts tokens) ++ l) (sym (at_place tokens place n t less there first ∙ token_none (take n t.text.now) empty))
+pub piece_none : (tokens out : List Token) (index n : ℕ) (t : Token) → index < length tokens → t ≡ get_or tokens index t → n ≡ position_or_len is_question t.text.now
+    → true ≡ (length (take n t.text.now) == 0) → out ≡ take index tokens
+    → token_texts out ≡ take index (token_texts tokens) ++ known_piece (slice_get (token_texts tokens) index)
+piece_none tokens out index n t less there first empty is =
+    ap token_texts is ∙ texts_take tokens index ∙ sym (append-nil (take index (token_texts tokens)))
+    ∙ ap (λ l. take index (token_texts tokens) ++ l) (sym (at_index tokens index n t less there first ∙ token_none (take n t.text.now) empty))
 
-pub piece_some : (tokens held out : List Token) (place n : ℕ) (t put : Token) → out ≡ held ++ put ∷ [] → held ≡ take place tokens → place < length tokens → t ≡ get_or tokens place t
+pub piece_some : (tokens held out : List Token) (index n : ℕ) (t put : Token) → out ≡ held ++ put ∷ [] → held ≡ take index tokens → index < length tokens → t ≡ get_or tokens index t
     → n ≡ position_or_len is_question t.text.now → false ≡ (length (take n t.text.now) == 0) → put.text.now ≡ take n t.text.now
-    → token_texts out ≡ take place (token_texts tokens) ++ known_piece (slice_get (token_texts tokens) place)
-piece_some tokens held out place n t put is front less there first filled text =
+    → token_texts out ≡ take index (token_texts tokens) ++ known_piece (slice_get (token_texts tokens) index)
+piece_some tokens held out index n t put is prefix less there first filled text =
     rw (
       is,
       map-append (λ t. t.text.now) held (put ∷ []),
-      front,
-      texts_take tokens place,
+      prefix,
+      texts_take tokens index,
       text,
-      at_place tokens place n t less there first,
+      at_index tokens index n t less there first,
       token_some (take n t.text.now) filled,
     )
 
@@ -122,7 +123,7 @@ piece_some tokens held out place n t put is front less there first filled text =
 pub known_cut : (tokens : List Token) (n : ℕ) → n ≡ position_or_len is_unknown (token_texts tokens) → token_texts (take n tokens) ≡ known_tokens (token_texts tokens)
 known_cut tokens n first = texts_take tokens n ∙ ap (λ k. take k (token_texts tokens)) first
 
-pub ruleset question_steps = (any_found, any_more, front_all)
+pub ruleset question_steps = (any_found, any_more, prefix_all)
 
 -- ==== a proof that breaks no rule over the whole of it holds no `?`: no label and no letter has
 -- such a byte
@@ -196,8 +197,8 @@ said_known before s tokens moves formed whole said unknown = by_form said (unkno
         compressed_known before tokens compressed.listed compressed.letters token formed whole compressed.parts among byte
 
 -- what is proved has no unknown step
-pub proved_known : (limit : ℕ) (st : List Sentence) (id : ℕ) (tokens : List (List ℕ)) (used : List ℕ) → AllFormed st → (place : ℕ) × (s : Sentence) × IsProofNumber st id place s
-    → OfProof st id (λ place s. TokensProve limit (take place st) s tokens used) → ¬ (IsIncomplete tokens)
+pub proved_known : (limit : ℕ) (st : List Sentence) (id : ℕ) (tokens : List (List ℕ)) (used : List ℕ) → AllFormed st → (index : ℕ) × (s : Sentence) × IsProofNumber st id index s
+    → OfProof st id (λ index s. TokensProve limit (take index st) s tokens used) → ¬ (IsIncomplete tokens)
 proved_known limit st id tokens used formed number proved =
     let p = (proved number.0 number.1 number.2).proof in
-    said_known (take number.0 st) number.1 tokens p.moves (allformed_front st number.0 formed) p.whole p.said
+    said_known (take number.0 st) number.1 tokens p.moves (allformed_prefix st number.0 formed) p.whole p.said

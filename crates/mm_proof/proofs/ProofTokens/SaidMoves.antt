@@ -41,9 +41,9 @@ use Rattle.mm_code.specs.declared.code.CodeRule.TheVariants as code
 
 -- ---- the parts of a compressed proof
 
-contains_middle : (front : List (List ℕ)) (x : List ℕ) (end : List (List ℕ)) → Contains (front ++ x ∷ end) x
-contains_middle front x end =
-    contains_from_at (front ++ x ∷ end) x (length front, get_parted front end x)
+contains_middle : (prefix : List (List ℕ)) (x : List ℕ) (end : List (List ℕ)) → Contains (prefix ++ x ∷ end) x
+contains_middle prefix x end =
+    contains_from_at (prefix ++ x ∷ end) x (length prefix, get_parted prefix end x)
 
 -- a list parts in one way at its first element of a kind
 one_first : (x : List ℕ) (a b c d : List (List ℕ)) → a ++ x ∷ c ≡ b ++ x ∷ d → ¬ (Contains a x) → ¬ (Contains b x) → (a ≡ b) × (c ≡ d)
@@ -142,9 +142,9 @@ whole_dec before tokens P1 = dec_both (first_dec tokens) (dec_not (contains_dec 
 whole_dec before tokens P2 = some_label_dec before tokens (λ label. ¬ (SomeSentence before (IsLabelled label)))
     (λ label. dec_not (sentence_dec before (IsLabelled label) (label_dec label)))
 whole_dec before tokens P3 = dec_as (λ h. (h.0, h.1, h.2, h.3, h.4.0, h.4.1, h.4.2, h.4.3.0.0, h.4.3.0.1, h.4.3.1)) (λ h. (h.0, h.1, h.2, h.3, (h.4, h.5, h.6, ((h.7, h.8), h.9))))
-    (some_label_dec before tokens (λ label. (place : ℕ) × (h : Sentence) × (slice_get before place ≡ Some h) × ((IsLabelled label h × IsHypothesis h.kind) × ¬ (IsActive before place)))
-    (λ label. dec_some (λ place (h : Sentence). (IsLabelled label h × IsHypothesis h.kind) × ¬ (IsActive before place))
-    (λ place h. dec_both (dec_both (label_dec label h) (dec_or (kind_dec h.kind Floating) (kind_dec h.kind Essential))) (dec_not (active_dec before place))) before))
+    (some_label_dec before tokens (λ label. (index : ℕ) × (h : Sentence) × (slice_get before index ≡ Some h) × ((IsLabelled label h × IsHypothesis h.kind) × ¬ (IsActive before index)))
+    (λ label. dec_some (λ index (h : Sentence). (IsLabelled label h × IsHypothesis h.kind) × ¬ (IsActive before index))
+    (λ index h. dec_both (dec_both (label_dec label h) (dec_or (kind_dec h.kind Floating) (kind_dec h.kind Essential))) (dec_not (active_dec before index))) before))
 whole_dec before tokens P4 = some_letters_dec before tokens code.P4
 whole_dec before tokens P5 = some_letters_dec before tokens code.P5
 whole_dec before tokens rule = no (λ b. b)
@@ -155,7 +155,7 @@ whole_dec before tokens rule = no (λ b. b)
 pub says_once : (labels : List (List ℕ)) (c : Code) (a b : Move (List ℕ)) → Says labels c a → Says labels c b → a ≡ b
 says_once labels Tag a b p q = p ∙ sym q
 says_once labels (Number number) a b p q =
-    let place : p.0 ≡ q.0 = omega (arith, p.1, q.1) in
+    let index : p.0 ≡ q.0 = omega (arith, p.1, q.1) in
     ⊎_elim
     (λ x. ⊎_elim
     (λ y. cc (x.1, x.2, y.1, y.2))

@@ -252,14 +252,14 @@ replaced_dec : (before : List Sentence) (stack : List (List (List ℕ))) (label 
 replaced_dec before stack label m P all each = dec_as (λ h. (m, h.0, h.1, h.3.0, h.3.1, h.2, h.3.2, h.3.3, h.3.4))
     (λ b.
     let a = agree before stack label all m b.0 in
-    let pair = rw (← a.place, ← a.assertion) at b.5 in
+    let pair = rw (← a.index, ← a.assertion) at b.5 in
     (b.1, b.2, pair, (b.3, b.4, a.replacement b.1 ∙ b.6, a.replacement b.2 ∙ b.7, b.8)))
-    (some_pair_dec (take m.place before) m.assertion m.σ P each)
+    (some_pair_dec (take m.index before) m.assertion m.σ P each)
 
 over_of : (Fits : List (List ℕ) → Type 0) (before : List Sentence) (stack : List (List (List ℕ))) (label : List ℕ) → AllMeant before → (m : MeetsHypotheses before stack label) → BreaksStep Fits L1 before stack label
     → ¬ (Fits (instance_of m.σ m.assertion.symbols))
 over_of Fits before stack label all m (inl b) within =
-    absurd (hypothesis_or_assertion before b.0 m.place b.1 m.assertion label all b.2 m.names.there b.4.0 m.names.named b.4.1 m.names.kind)
+    absurd (hypothesis_or_assertion before b.0 m.index b.1 m.assertion label all b.2 m.names.there b.4.0 m.names.named b.4.1 m.names.kind)
 over_of Fits before stack label all m (inr b) within =
     let a = agree before stack label all m b.0 in
     let same : instance_of m.σ m.assertion.symbols ≡ instance_of b.0.σ b.0.assertion.symbols =
@@ -303,10 +303,10 @@ step_of Fits before stack label m none = inr (record {
 })
 
 -- the step by an active hypothesis breaks none but the limit
-pub step_of_hypothesis : (before : List Sentence) (stack : List (List (List ℕ))) (label : List ℕ) (place : ℕ) (h : Sentence) → slice_get before place ≡ Some h → IsActive before place
+pub step_of_hypothesis : (before : List Sentence) (stack : List (List (List ℕ))) (label : List ℕ) (index : ℕ) (h : Sentence) → slice_get before index ≡ Some h → IsActive before index
     → IsLabelled label h → IsHypothesis h.kind → StepTo before stack label stack h.symbols
-step_of_hypothesis before stack label place h there active named kind =
-    inl (record { kept = refl; place = place; hypothesis = h; there = there; active = active; named = named; kind = kind; made = refl })
+step_of_hypothesis before stack label index h there active named kind =
+    inl (record { kept = refl; index = index; hypothesis = h; there = there; active = active; named = named; kind = kind; made = refl })
 
 -- what a step does: it goes on within the limit, or it breaks a rule first
 abbrev Outcome : (List (List ℕ) → Type 0) → List Sentence → List (List (List ℕ)) → List ℕ → Type 0
@@ -326,14 +326,14 @@ below_P8 Fits before stack label rule less = grind arith
 
 module _ (Fits : List (List ℕ) → Type 0) (each : (e : List (List ℕ)) → Dec (Fits e))
     (before : List Sentence) (stack : List (List (List ℕ))) (label : List ℕ) where
-  named_outcome : (place : ℕ) (assertion : Sentence) (hypotheses : List Sentence) → AllMeant before
-      → Names before label place assertion hypotheses → Outcome Fits before stack label
-  named_outcome place assertion hypotheses all names = elim (cases_lt (length stack) (length hypotheses)) [
-    | inl short ↦ inr (P8, ((place, assertion, hypotheses, names, short), below_P8 Fits before stack label))
+  named_outcome : (index : ℕ) (assertion : Sentence) (hypotheses : List Sentence) → AllMeant before
+      → Names before label index assertion hypotheses → Outcome Fits before stack label
+  named_outcome index assertion hypotheses all names = elim (cases_lt (length stack) (length hypotheses)) [
+    | inl short ↦ inr (P8, ((index, assertion, hypotheses, names, short), below_P8 Fits before stack label))
     | inr enough ↦
         let n : ℕ = length stack - length hypotheses in
         let long : length (drop n stack) ≡ length hypotheses = omega (arith, length-drop n stack) in
-        let m = meets_of before stack label place assertion hypotheses (take n stack) (drop n stack) all names (sym (take-append-drop n stack)) long in
+        let m = meets_of before stack label index assertion hypotheses (take n stack) (drop n stack) all names (sym (take-append-drop n stack)) long in
         ⊎_elim (λ f. inr (f.rule, (f.broken, f.first)))
         (λ none. made_outcome Fits each before stack label m.rest (instance_of m.σ m.assertion.symbols) all (step_of Fits before stack label m none))
         (first_or_none (λ rule. BreaksStep Fits rule before stack label) (meets_dec Fits each before stack label all m))
@@ -437,7 +437,7 @@ some_verdict_holds limit before s tokens all formed = ⊎_elim
 -- what replaces the members of each mandatory pair is so
 abbrev pub EachPair : (before : List Sentence) → (stack : List (List (List ℕ))) → (label : List ℕ) → MeetsHypotheses before stack label → (List (List ℕ) → List (List ℕ) → Type 0) → Type 0
 EachPair before stack label m P =
-    (x y : List ℕ) (e f : List (List ℕ)) → IsMandatoryPair (take m.place before) m.assertion x y → m.σ x ≡ Some e → m.σ y ≡ Some f → P e f
+    (x y : List ℕ) (e f : List (List ℕ)) → IsMandatoryPair (take m.index before) m.assertion x y → m.σ x ≡ Some e → m.σ y ≡ Some f → P e f
 
 -- where a step meets its hypotheses, and what the rules before this one judge is in order, it
 -- breaks none of them
@@ -462,7 +462,7 @@ below Fits before stack label m all rule last codes equal share P10 less b =
     ∙ same_substituted m.σ b.0.σ x.1.symbols a.replacement)
 below Fits before stack label m all rule last codes equal share P11 less b =
     let a = agree before stack label all m b.0 in
-    let pair = rw (← a.place, ← a.assertion) at b.5 in
+    let pair = rw (← a.index, ← a.assertion) at b.5 in
     b.8 (share less b.1 b.2 b.3 b.4 pair (a.replacement b.1 ∙ b.6) (a.replacement b.2 ∙ b.7))
 below Fits before stack label m all rule last codes equal share P12 less b = absurd (omega arith)
 below Fits before stack label m all rule last codes equal share L1 less b = absurd (omega arith)

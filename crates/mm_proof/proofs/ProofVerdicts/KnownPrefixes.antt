@@ -1,4 +1,4 @@
--- A known front, the prefix before the first `?`, has one verdict: it is allowed, or it has one
+-- A known prefix, the prefix before the first `?`, has one verdict: it is allowed, or it has one
 -- first fault.
 use Rattle.std.proofs.Common.{ℕ, List, [], ◌∷◌, ◌⊎◌, inl, inr, ⊎_elim, refl, sym, subst, ◌∙◌, ◌≡◌}
 use Rattle.std.proofs.Common.{take, Result, Ok, Err, IfOk, IfErr, OnOk, IsOkUnless}
@@ -8,8 +8,9 @@ use Rattle.mm_proof.specs.declared.fault.ProofRule.{ProofRule}
 use Rattle.mm_proof.specs.Moves.{Move}
 use Rattle.mm_proof.specs.Tokens.{SayMoves}
 use Rattle.mm_proof.specs.Proof.{IsWithin, IsWhole, BreaksWhole, IsMoveFault}
-use Rattle.mm_proof.specs.KnownFront.{known_front, IsFrontAllowed, IsFrontFault, OneFrontVerdict}
-use Rattle.mm_proof.specs.KnownFront.{Pass, AreAllowed, HaveFault}
+use Rattle.mm_proof.specs.KnownPrefix.{known_prefix, IsPrefixAllowed, IsPrefixFault}
+use Rattle.mm_proof.specs.KnownPrefix.{OnePrefixVerdict}
+use Rattle.mm_proof.specs.KnownPrefix.{Pass, AreAllowed, HaveFault}
 use Rattle.mm_proof.proofs.ProofSteps.PassedMoves.{proof_passed}
 use Rattle.mm_proof.proofs.ProofTokens.SaidMoves.{whole_dec, some_moves, moves_usable, moves_once}
 use Rattle.mm_proof.proofs.ProofVerdicts.FirstFault.{first_once, longer_passed, two_moves, Same}
@@ -25,21 +26,21 @@ use Rattle.mm_proof.specs.Steps.{AreNumberedMoves}
 use Rattle.mm_proof.specs.Mirror.CodeRun.{HasRun}
 use Rattle.mm_proof.specs.Mirror.CodeVerify.{all_names_at}
 use Rattle.mm_proof.specs.Verified.{OfMoves}
-use Rattle.mm_proof.proofs.ByNumbers.NumberedLabels.{one_place}
+use Rattle.mm_proof.proofs.ByNumbers.NumberedLabels.{one_index}
 
--- ==== a known front has one verdict: it is allowed, or it has one first fault
+-- ==== a known prefix has one verdict: it is allowed, or it has one first fault
 
 module _ (limit : ℕ) (before : List Sentence) (s : Sentence) (tokens : List (List ℕ)) where
   -- it is allowed, or has a fault
-  abbrev FrontVerdict : Type 0
-  FrontVerdict =
-      IsFrontAllowed (IsWithin limit) before s tokens
-      ⊎ ((rule : ProofRule) × (step : ℕ) × IsFrontFault (IsWithin limit) before s tokens rule step)
+  abbrev PrefixVerdict : Type 0
+  PrefixVerdict =
+      IsPrefixAllowed (IsWithin limit) before s tokens
+      ⊎ ((rule : ProofRule) × (step : ℕ) × IsPrefixFault (IsWithin limit) before s tokens rule step)
 
   -- where no rule over the whole of it is broken: that all moves passed is said by what is proved, and by what ends wrongly
   moves_judged : (moves : List (Move (List ℕ))) → AllMeant before
-      → IsWhole before (known_front tokens) → SayMoves before s (known_front tokens) moves
-      → MovesVerdict (IsWithin limit) before s moves → FrontVerdict
+      → IsWhole before (known_prefix tokens) → SayMoves before s (known_prefix tokens) moves
+      → MovesVerdict (IsWithin limit) before s moves → PrefixVerdict
   moves_judged moves all whole said (inl p) =
       let passed = proof_passed (IsWithin limit) before s moves all p in
       inl (record { whole = whole; moves = moves; said = said; pass = (s.symbols ∷ [], passed.0, passed.1) })
@@ -47,54 +48,54 @@ module _ (limit : ℕ) (before : List Sentence) (s : Sentence) (tokens : List (L
   moves_judged moves all whole said (inr (rule, step, inr e)) =
       inl (record { whole = whole; moves = moves; said = said; pass = (e.stack, e.kept, e.passed) })
 
-  -- the moves of a front that is allowed have no fault
+  -- the moves of a prefix that is allowed have no fault
   pub allowed_no_fault : (rule : ProofRule) (step : ℕ) → AllMeant before
-      → IsFrontAllowed (IsWithin limit) before s tokens
-      → IsFrontFault (IsWithin limit) before s tokens rule step → ⊥
+      → IsPrefixAllowed (IsWithin limit) before s tokens
+      → IsPrefixFault (IsWithin limit) before s tokens rule step → ⊥
   allowed_no_fault rule step all a (inl w) = a.whole rule w.1.broken
   allowed_no_fault rule step all a (inr (whole, moves, said, f)) =
       longer_passed (IsWithin limit) before f.earlier f.move f.later a.moves f.stack f.kept a.pass.0 a.pass.1 rule all
-      (moves_once before s (known_front tokens) a.moves moves a.said said ∙ f.parts) a.pass.2 f.passed f.fault
+      (moves_once before s (known_prefix tokens) a.moves moves a.said said ∙ f.parts) a.pass.2 f.passed f.fault
 
-  pub one_front_fault : (rule rule' : ProofRule) (step step' : ℕ) → AllMeant before
-      → IsFrontFault (IsWithin limit) before s tokens rule step
-      → IsFrontFault (IsWithin limit) before s tokens rule' step' → Same rule step rule' step'
-  one_front_fault rule rule' step step' all (inl f) (inl g) =
-      (first_once (λ r. BreaksWhole r before (known_front tokens)) rule rule' f.1.broken g.1.broken f.1.first g.1.first, f.0 ∙ sym g.0)
-  one_front_fault rule rule' step step' all (inl f) (inr g) = absurd (g.0 rule f.1.broken)
-  one_front_fault rule rule' step step' all (inr f) (inl g) = absurd (f.0 rule' g.1.broken)
-  one_front_fault rule rule' step step' all (inr f) (inr g) =
+  pub one_prefix_fault : (rule rule' : ProofRule) (step step' : ℕ) → AllMeant before
+      → IsPrefixFault (IsWithin limit) before s tokens rule step
+      → IsPrefixFault (IsWithin limit) before s tokens rule' step' → Same rule step rule' step'
+  one_prefix_fault rule rule' step step' all (inl f) (inl g) =
+      (first_once (λ r. BreaksWhole r before (known_prefix tokens)) rule rule' f.1.broken g.1.broken f.1.first g.1.first, f.0 ∙ sym g.0)
+  one_prefix_fault rule rule' step step' all (inl f) (inr g) = absurd (g.0 rule f.1.broken)
+  one_prefix_fault rule rule' step step' all (inr f) (inl g) = absurd (f.0 rule' g.1.broken)
+  one_prefix_fault rule rule' step step' all (inr f) (inr g) =
       two_moves (IsWithin limit) before g.1 rule rule' step step' all
-      (subst (λ m. IsMoveFault (IsWithin limit) before m rule step) (moves_once before s (known_front tokens) f.1 g.1 f.2 g.2) f.3) g.3
+      (subst (λ m. IsMoveFault (IsWithin limit) before m rule step) (moves_once before s (known_prefix tokens) f.1 g.1 f.2 g.2) f.3) g.3
 
-pub one_front_verdict_holds : OneFrontVerdict
-one_front_verdict_holds limit before s tokens all formed = (
+pub one_prefix_verdict_holds : OnePrefixVerdict
+one_prefix_verdict_holds limit before s tokens all formed = (
   ⊎_elim
       (λ f. inr (f.rule, 0, inl (refl, record { broken = f.broken; first = f.first })))
       (λ whole.
-      let said = some_moves before s (known_front tokens) formed whole in
+      let said = some_moves before s (known_prefix tokens) formed whole in
       moves_judged limit before s tokens said.0 all whole said.1
-      (moves_verdict (IsWithin limit) (within_dec limit) before s said.0 all (moves_usable before s (known_front tokens) said.0 formed whole said.1)))
-      (first_or_none (λ rule. BreaksWhole rule before (known_front tokens)) (whole_dec before (known_front tokens))),
+      (moves_verdict (IsWithin limit) (within_dec limit) before s said.0 all (moves_usable before s (known_prefix tokens) said.0 formed whole said.1)))
+      (first_or_none (λ rule. BreaksWhole rule before (known_prefix tokens)) (whole_dec before (known_prefix tokens))),
   λ a rule step f. allowed_no_fault limit before s tokens rule step all a f,
-  λ rule rule' step step'. one_front_fault limit before s tokens rule rule' step step' all,
+  λ rule rule' step step'. one_prefix_fault limit before s tokens rule rule' step step' all,
 )
 
--- ==== a front has one answer, unless memory is refused
+-- ==== a prefix has one answer, unless memory is refused
 
 -- ---- what has run, and what stopped
 
 pub has_passed : (limit : ℕ) (st : List Sentence) (id own : ℕ) (t : Sentence) (xs : List (Move ℕ)) (stack kept : List (List ℕ)) (count : ℕ) → IsNumbered st id own t
-    → HasRun limit st own xs stack kept count → OfMoves st id xs (λ place s names. Pass (IsWithin limit) (take place st) names)
-has_passed limit st id own t xs stack kept count n run place s names proof numbered =
-    let here : own ≡ place = one_place st id own place t s n proof.numbered in
+    → HasRun limit st own xs stack kept count → OfMoves st id xs (λ index s names. Pass (IsWithin limit) (take index st) names)
+has_passed limit st id own t xs stack kept count n run index s names proof numbered =
+    let here : own ≡ index = one_index st id own index t s n proof.numbered in
     subst (λ p. Pass (IsWithin limit) (take p st) names) here (all_names_at st stack, all_names_at st kept, run.passed names numbered)
 
 pub has_stopped : (limit : ℕ) (st : List Sentence) (id own : ℕ) (t : Sentence) (xs : List (Move ℕ)) (rule : ProofRule) (at : ℕ) → IsNumbered st id own t
     → ((names : List (Move (List ℕ))) → AreNumberedMoves st xs names → IsMoveFault (IsWithin limit) (take own st) names rule at)
-    → OfMoves st id xs (λ place s names. IsMoveFault (IsWithin limit) (take place st) names rule at)
-has_stopped limit st id own t xs rule at n fault place s names proof numbered =
-    let here : own ≡ place = one_place st id own place t s n proof.numbered in
+    → OfMoves st id xs (λ index s names. IsMoveFault (IsWithin limit) (take index st) names rule at)
+has_stopped limit st id own t xs rule at n fault index s names proof numbered =
+    let here : own ≡ index = one_index st id own index t s n proof.numbered in
     subst (λ p. IsMoveFault (IsWithin limit) (take p st) names rule at) here (fault names numbered)
 
 -- ---- exact answers
@@ -104,18 +105,18 @@ pub passed_no_fault : (Fits : List (List ℕ) → Type 0) (before : List Sentenc
 passed_no_fault Fits before moves rule step meant p f =
     longer_passed Fits before f.earlier f.move f.later moves f.stack f.kept p.0 p.1 rule meant f.parts p.2 f.passed f.fault
 
-pub front_accepts : {X : Type 0} (Fits : List (List ℕ) → Type 0) (before : List Sentence) (moves : List (Move (List ℕ))) (r : Result X ProofFault) → AllMeant before
+pub prefix_accepts : {X : Type 0} (Fits : List (List ℕ) → Type 0) (before : List Sentence) (moves : List (Move (List ℕ))) (r : Result X ProofFault) → AllMeant before
     → IfErr r (λ e. OnRule e (IsMoveFault Fits before moves)) → Pass Fits before moves → IsOkUnless r Memory
-front_accepts Fits before moves (Ok x) meant f p = tt
-front_accepts Fits before moves (Err Memory) meant f p = refl
-front_accepts Fits before moves (Err (Rule rule step)) meant f p = absurd (passed_no_fault Fits before moves rule step meant p f)
+prefix_accepts Fits before moves (Ok x) meant f p = tt
+prefix_accepts Fits before moves (Err Memory) meant f p = refl
+prefix_accepts Fits before moves (Err (Rule rule step)) meant f p = absurd (passed_no_fault Fits before moves rule step meant p f)
 
-pub front_refuses : {X : Type 0} (Fits : List (List ℕ) → Type 0) (before : List Sentence) (moves : List (Move (List ℕ))) (r : Result X ProofFault) → AllMeant before
+pub prefix_refuses : {X : Type 0} (Fits : List (List ℕ) → Type 0) (before : List Sentence) (moves : List (Move (List ℕ))) (r : Result X ProofFault) → AllMeant before
     → ((x : X) → r ≡ Ok x → Pass Fits before moves) → IfErr r (λ e. OnRule e (IsMoveFault Fits before moves))
     → (rule : ProofRule) (step : ℕ) → IsMoveFault Fits before moves rule step → IsUnlessMemory r (Err (Rule rule step))
-front_refuses Fits before moves (Ok x) meant p f rule step fault = absurd (passed_no_fault Fits before moves rule step meant (p x refl) fault)
-front_refuses Fits before moves (Err Memory) meant p f rule step fault = inr refl
-front_refuses {X} Fits before moves (Err (Rule other at)) meant p f rule step fault =
+prefix_refuses Fits before moves (Ok x) meant p f rule step fault = absurd (passed_no_fault Fits before moves rule step meant (p x refl) fault)
+prefix_refuses Fits before moves (Err Memory) meant p f rule step fault = inr refl
+prefix_refuses {X} Fits before moves (Err (Rule other at)) meant p f rule step fault =
     let same = two_moves Fits before moves other rule at step meant f fault in
     inl (rw (same.0, same.1) refl)
 
@@ -128,15 +129,15 @@ ok_both (Err e) P Q R f h k = tt
 pub on_ok_at : {X : Type 0} (r : Result X ProofFault) (Q : Type 0) (x : X) → r ≡ Ok x → OnOk r Q → Q
 on_ok_at r Q x is h = IfOk-at_ok (λ y. Q) is h
 
--- ---- the tokens of a front, from what is said of their moves
+-- ---- the tokens of a prefix, from what is said of their moves
 
-pub tokens_pass : (limit : ℕ) (st : List Sentence) (id : ℕ) (tokens : List (List ℕ)) (steps : List (Move ℕ)) → OfProof st id (λ place s. SaySteps st place s tokens steps)
-    → OfMoves st id steps (λ place s moves. Pass (IsWithin limit) (take place st) moves) → OfProof st id (λ place s. AreAllowed (IsWithin limit) (take place st) s tokens)
-tokens_pass limit st id tokens steps says passes place s proof =
-    let said = says place s proof in
-    record { whole = said.0; moves = said.1; said = said.2; pass = passes place s said.1 proof said.3 }
+pub tokens_pass : (limit : ℕ) (st : List Sentence) (id : ℕ) (tokens : List (List ℕ)) (steps : List (Move ℕ)) → OfProof st id (λ index s. SaySteps st index s tokens steps)
+    → OfMoves st id steps (λ index s moves. Pass (IsWithin limit) (take index st) moves) → OfProof st id (λ index s. AreAllowed (IsWithin limit) (take index st) s tokens)
+tokens_pass limit st id tokens steps says passes index s proof =
+    let said = says index s proof in
+    record { whole = said.0; moves = said.1; said = said.2; pass = passes index s said.1 proof said.3 }
 
-pub tokens_stop : (limit : ℕ) (st : List Sentence) (id : ℕ) (tokens : List (List ℕ)) (steps : List (Move ℕ)) (rule : ProofRule) (step : ℕ) → OfProof st id (λ place s. SaySteps st place s tokens steps)
-    → OfMoves st id steps (λ place s moves. IsMoveFault (IsWithin limit) (take place st) moves rule step) → OfProof st id (λ place s. HaveFault (IsWithin limit) (take place st) s tokens rule step)
-tokens_stop limit st id tokens steps rule step says stops place s proof =
-    let said = says place s proof in inr (said.0, said.1, said.2, stops place s said.1 proof said.3)
+pub tokens_stop : (limit : ℕ) (st : List Sentence) (id : ℕ) (tokens : List (List ℕ)) (steps : List (Move ℕ)) (rule : ProofRule) (step : ℕ) → OfProof st id (λ index s. SaySteps st index s tokens steps)
+    → OfMoves st id steps (λ index s moves. IsMoveFault (IsWithin limit) (take index st) moves rule step) → OfProof st id (λ index s. HaveFault (IsWithin limit) (take index st) s tokens rule step)
+tokens_stop limit st id tokens steps rule step says stops index s proof =
+    let said = says index s proof in inr (said.0, said.1, said.2, stops index s said.1 proof said.3)

@@ -1,11 +1,11 @@
--- Each proof and each known front has one verdict under a profile, and what the strict one adds.
+-- Each proof and each known prefix has one verdict under a profile, and what the strict one adds.
 use Rattle.std.proofs.Common.{◌≡◌, ℕ, List, take, Result, Ok, Err, inl, inr, refl, sym, ◌∙◌, arith}
 use Rattle.std.proofs.Common.{◌+◌, [], ◌∷◌, ◌++◌, length, slice_get, Contains, Some, ap, subst}
 use Rattle.std.proofs.Common.{IfOk, IfErr, IsOkUnless}
 use Rattle.mm_proof.proofs.ProofTokens.SaidMoves.{compressed_once, some_moves, moves_once}
 use Rattle.mm_frame.specs.Sentence.{Sentence, SomeSentence, IsLabelled, IsAssertion}
 use Rattle.mm_frame.specs.Rules.{AllMeant}
-use Rattle.mm_frame.proofs.Rules.ObeyedRules.{allmeant_front}
+use Rattle.mm_frame.proofs.Rules.ObeyedRules.{allmeant_prefix}
 use Rattle.mm_proof.specs.declared.fault.ProofRule.{ProofRule}
 use Rattle.mm_proof.specs.declared.fault.ProofFault.{ProofFault}
 use Rattle.mm_proof.specs.declared.fault.ProofFault.TheVariants.{Rule, Memory}
@@ -15,16 +15,16 @@ use Rattle.mm_proof.specs.declared.prover.Proved.TheVariants.{Incomplete}
 use Rattle.mm_proof.specs.Answer.{OnRule, IsUnlessMemory}
 use Rattle.mm_proof.specs.Proof.{IsWithin, IsFault, IsProvedWithin, IsWhole}
 use Rattle.mm_proof.specs.Profiles.{limit_of}
-use Rattle.mm_proof.specs.KnownFront.{HaveFault, known_front}
+use Rattle.mm_proof.specs.KnownPrefix.{HaveFault, known_prefix}
 use Rattle.mm_proof.specs.Strict.{HasFormOf, IsStrictList, MarkAssertions, IsStrict}
 use Rattle.mm_proof.specs.UnderProfile.{IsProvedUnder, IsFaultUnder, HaveFaultUnder}
-use Rattle.mm_proof.specs.UnderProfile.{IsFrontAllowedUnder, IsFrontFaultUnder, OneVerdictUnder}
-use Rattle.mm_proof.specs.UnderProfile.{OneFrontVerdictUnder}
+use Rattle.mm_proof.specs.UnderProfile.{IsPrefixAllowedUnder, IsPrefixFaultUnder, OneVerdictUnder}
+use Rattle.mm_proof.specs.UnderProfile.{OnePrefixVerdictUnder}
 use Rattle.mm_proof.specs.Parsed.{OfProof}
 use Rattle.mm_proof.proofs.ProofVerdicts.FirstFault.{proved_no_fault, one_fault, Same}
 use Rattle.mm_proof.proofs.ProofVerdicts.FirstFault.{some_verdict_holds, first_symbol_dec}
-use Rattle.mm_proof.proofs.ProofVerdicts.KnownPrefixes.{allowed_no_fault, one_front_fault}
-use Rattle.mm_proof.proofs.ProofVerdicts.KnownPrefixes.{one_front_verdict_holds}
+use Rattle.mm_proof.proofs.ProofVerdicts.KnownPrefixes.{allowed_no_fault, one_prefix_fault}
+use Rattle.mm_proof.proofs.ProofVerdicts.KnownPrefixes.{one_prefix_verdict_holds}
 use Rattle.mm_proof.specs.declared.fault.ProofRule.TheVariants.{P15}
 use Rattle.mm_proof.specs.declared.profile.Profile.TheVariants.{Strict, Lenient}
 use Rattle.mm_proof.proofs.ProofVerdicts.VerdictLaws.{prove_looser}
@@ -53,10 +53,10 @@ pub fault_under : (profile : Profile) (before : List Sentence) (s : Sentence) (t
 fault_under profile before s tokens rule step form (inl (z, w)) = inl (z, inl w)
 fault_under profile before s tokens rule step form (inr (w, m, said, f)) = inr (w, form, m, said, f)
 
-pub have_under : (profile : Profile) (before : List Sentence) (s : Sentence) (front : List (List ℕ)) (rule : ProofRule) (step : ℕ) → HasFormOf profile before s front
-    → HaveFault (IsWithin (limit_of profile)) before s front rule step → HaveFaultUnder profile before s front rule step
-have_under profile before s front rule step form (inl (z, w)) = inl (z, inl w)
-have_under profile before s front rule step form (inr (w, m, said, f)) = inr (w, form, m, said, f)
+pub have_under : (profile : Profile) (before : List Sentence) (s : Sentence) (prefix : List (List ℕ)) (rule : ProofRule) (step : ℕ) → HasFormOf profile before s prefix
+    → HaveFault (IsWithin (limit_of profile)) before s prefix rule step → HaveFaultUnder profile before s prefix rule step
+have_under profile before s prefix rule step form (inl (z, w)) = inl (z, inl w)
+have_under profile before s prefix rule step form (inr (w, m, said, f)) = inr (w, form, m, said, f)
 
 -- ---- a whole proof
 
@@ -85,72 +85,72 @@ module _ (profile : Profile) (before : List Sentence) (s : Sentence) (tokens : L
       one_fault (IsWithin (limit_of profile)) before s tokens rule rule' step step' all (inr (w, m, said, f)) (inr (v, n, says, g))
 
 pub accepted_under : (profile : Profile) → {X : Type 0} (r : Result X ProofFault) (st : List Sentence) (id : ℕ) (tokens : List (List ℕ)) → AllMeant st
-    → IfErr r (λ e. OnRule e (λ rule step. OfProof st id (λ place s. IsFaultUnder profile (take place st) s tokens rule step)))
-    → OfProof st id (λ place s. IsProvedUnder profile (take place st) s tokens → IsOkUnless r Memory)
-accepted_under profile (Ok x) st id tokens all f place s proof p = tt
-accepted_under profile (Err Memory) st id tokens all f place s proof p = refl
-accepted_under profile (Err (Rule rule step)) st id tokens all f place s proof p = absurd (proved_none profile (take place st) s tokens rule step (allmeant_front st place all) p (f place s proof))
+    → IfErr r (λ e. OnRule e (λ rule step. OfProof st id (λ index s. IsFaultUnder profile (take index st) s tokens rule step)))
+    → OfProof st id (λ index s. IsProvedUnder profile (take index st) s tokens → IsOkUnless r Memory)
+accepted_under profile (Ok x) st id tokens all f index s proof p = tt
+accepted_under profile (Err Memory) st id tokens all f index s proof p = refl
+accepted_under profile (Err (Rule rule step)) st id tokens all f index s proof p = absurd (proved_none profile (take index st) s tokens rule step (allmeant_prefix st index all) p (f index s proof))
 
 pub refused_under : (profile : Profile) → {X : Type 0} (r : Result X ProofFault) (st : List Sentence) (id : ℕ) (tokens : List (List ℕ)) → AllMeant st
-    → ((x : X) → r ≡ Ok x → OfProof st id (λ place s. IsProvedUnder profile (take place st) s tokens))
-    → IfErr r (λ e. OnRule e (λ rule step. OfProof st id (λ place s. IsFaultUnder profile (take place st) s tokens rule step)))
-    → OfProof st id (λ place s. (rule : ProofRule) (step : ℕ) → IsFaultUnder profile (take place st) s tokens rule step → IsUnlessMemory r (Err (Rule rule step)))
-refused_under profile (Ok x) st id tokens all p f place s proof rule step fault = absurd (proved_none profile (take place st) s tokens rule step (allmeant_front st place all) (p x refl place s proof) fault)
-refused_under profile (Err Memory) st id tokens all p f place s proof rule step fault = inr refl
-refused_under profile (Err (Rule other at)) st id tokens all p f place s proof rule step fault =
-    let same = one_under profile (take place st) s tokens other rule at step (allmeant_front st place all) (f place s proof) fault in
+    → ((x : X) → r ≡ Ok x → OfProof st id (λ index s. IsProvedUnder profile (take index st) s tokens))
+    → IfErr r (λ e. OnRule e (λ rule step. OfProof st id (λ index s. IsFaultUnder profile (take index st) s tokens rule step)))
+    → OfProof st id (λ index s. (rule : ProofRule) (step : ℕ) → IsFaultUnder profile (take index st) s tokens rule step → IsUnlessMemory r (Err (Rule rule step)))
+refused_under profile (Ok x) st id tokens all p f index s proof rule step fault = absurd (proved_none profile (take index st) s tokens rule step (allmeant_prefix st index all) (p x refl index s proof) fault)
+refused_under profile (Err Memory) st id tokens all p f index s proof rule step fault = inr refl
+refused_under profile (Err (Rule other at)) st id tokens all p f index s proof rule step fault =
+    let same = one_under profile (take index st) s tokens other rule at step (allmeant_prefix st index all) (f index s proof) fault in
     inl cc
 
--- ---- a known front
+-- ---- a known prefix
 
 module _ (profile : Profile) (before : List Sentence) (s : Sentence) (tokens : List (List ℕ))
     (rule : ProofRule) where
-  front_none : (step : ℕ) → AllMeant before → IsFrontAllowedUnder profile before s tokens
-      → IsFrontFaultUnder profile before s tokens rule step → ⊥
-  front_none step all p (inl (z, inl w)) = allowed_no_fault (limit_of profile) before s tokens rule step all p.1 (inl (z, w))
-  front_none step all p (inl (z, inr x)) = x.2 p.0
-  front_none step all p (inr (w, form, m, said, f)) = allowed_no_fault (limit_of profile) before s tokens rule step all p.1 (inr (w, m, said, f))
+  prefix_none : (step : ℕ) → AllMeant before → IsPrefixAllowedUnder profile before s tokens
+      → IsPrefixFaultUnder profile before s tokens rule step → ⊥
+  prefix_none step all p (inl (z, inl w)) = allowed_no_fault (limit_of profile) before s tokens rule step all p.1 (inl (z, w))
+  prefix_none step all p (inl (z, inr x)) = x.2 p.0
+  prefix_none step all p (inr (w, form, m, said, f)) = allowed_no_fault (limit_of profile) before s tokens rule step all p.1 (inr (w, m, said, f))
 
-  one_front_under : (rule' : ProofRule) (step step' : ℕ) → AllMeant before
-      → IsFrontFaultUnder profile before s tokens rule step
-      → IsFrontFaultUnder profile before s tokens rule' step' → Same rule step rule' step'
-  one_front_under rule' step step' all (inl (z, inl w)) (inl (y, inl v)) = one_front_fault (limit_of profile) before s tokens rule rule' step step' all (inl (z, w)) (inl (y, v))
-  one_front_under rule' step step' all (inl (z, inl w)) (inl (y, inr x)) = absurd (x.0 rule w.broken)
-  one_front_under rule' step step' all (inl (z, inl w)) (inr (v, form, m, said, f)) =
-      one_front_fault (limit_of profile) before s tokens rule rule' step step' all (inl (z, w)) (inr (v, m, said, f))
-  one_front_under rule' step step' all (inl (z, inr x)) (inl (y, inl v)) = absurd (x.0 rule' v.broken)
-  one_front_under rule' step step' all (inl (z, inr x)) (inl (y, inr u)) = (x.1 ∙ sym u.1, z ∙ sym y)
-  one_front_under rule' step step' all (inl (z, inr x)) (inr (v, form, m, said, f)) = absurd (x.2 form)
-  one_front_under rule' step step' all (inr (w, form, m, said, f)) (inl (y, inl v)) =
-      one_front_fault (limit_of profile) before s tokens rule rule' step step' all (inr (w, m, said, f)) (inl (y, v))
-  one_front_under rule' step step' all (inr (w, form, m, said, f)) (inl (y, inr u)) = absurd (u.2 form)
-  one_front_under rule' step step' all (inr (w, form, m, said, f)) (inr (v, form', n, says, g)) =
-      one_front_fault (limit_of profile) before s tokens rule rule' step step' all (inr (w, m, said, f)) (inr (v, n, says, g))
+  one_prefix_under : (rule' : ProofRule) (step step' : ℕ) → AllMeant before
+      → IsPrefixFaultUnder profile before s tokens rule step
+      → IsPrefixFaultUnder profile before s tokens rule' step' → Same rule step rule' step'
+  one_prefix_under rule' step step' all (inl (z, inl w)) (inl (y, inl v)) = one_prefix_fault (limit_of profile) before s tokens rule rule' step step' all (inl (z, w)) (inl (y, v))
+  one_prefix_under rule' step step' all (inl (z, inl w)) (inl (y, inr x)) = absurd (x.0 rule w.broken)
+  one_prefix_under rule' step step' all (inl (z, inl w)) (inr (v, form, m, said, f)) =
+      one_prefix_fault (limit_of profile) before s tokens rule rule' step step' all (inl (z, w)) (inr (v, m, said, f))
+  one_prefix_under rule' step step' all (inl (z, inr x)) (inl (y, inl v)) = absurd (x.0 rule' v.broken)
+  one_prefix_under rule' step step' all (inl (z, inr x)) (inl (y, inr u)) = (x.1 ∙ sym u.1, z ∙ sym y)
+  one_prefix_under rule' step step' all (inl (z, inr x)) (inr (v, form, m, said, f)) = absurd (x.2 form)
+  one_prefix_under rule' step step' all (inr (w, form, m, said, f)) (inl (y, inl v)) =
+      one_prefix_fault (limit_of profile) before s tokens rule rule' step step' all (inr (w, m, said, f)) (inl (y, v))
+  one_prefix_under rule' step step' all (inr (w, form, m, said, f)) (inl (y, inr u)) = absurd (u.2 form)
+  one_prefix_under rule' step step' all (inr (w, form, m, said, f)) (inr (v, form', n, says, g)) =
+      one_prefix_fault (limit_of profile) before s tokens rule rule' step step' all (inr (w, m, said, f)) (inr (v, n, says, g))
 
--- of a front that is allowed there is no fault but want of memory
-front_only : (profile : Profile) (e : ProofFault) (st : List Sentence) (id : ℕ) (tokens : List (List ℕ)) → AllMeant st
-    → OnRule e (λ rule step. OfProof st id (λ place s. IsFrontFaultUnder profile (take place st) s tokens rule step))
-    → OfProof st id (λ place s. IsFrontAllowedUnder profile (take place st) s tokens → e ≡ Memory)
-front_only profile Memory st id tokens all f place s proof p = refl
-front_only profile (Rule rule step) st id tokens all f place s proof p = absurd (front_none profile (take place st) s tokens rule step (allmeant_front st place all) p (f place s proof))
+-- of a prefix that is allowed there is no fault but lack of memory
+prefix_only : (profile : Profile) (e : ProofFault) (st : List Sentence) (id : ℕ) (tokens : List (List ℕ)) → AllMeant st
+    → OnRule e (λ rule step. OfProof st id (λ index s. IsPrefixFaultUnder profile (take index st) s tokens rule step))
+    → OfProof st id (λ index s. IsPrefixAllowedUnder profile (take index st) s tokens → e ≡ Memory)
+prefix_only profile Memory st id tokens all f index s proof p = refl
+prefix_only profile (Rule rule step) st id tokens all f index s proof p = absurd (prefix_none profile (take index st) s tokens rule step (allmeant_prefix st index all) p (f index s proof))
 
-pub front_refused : (profile : Profile) → {X : Type 0} (r : Result X ProofFault) (st : List Sentence) (id : ℕ) (tokens : List (List ℕ)) → AllMeant st
-    → ((x : X) → r ≡ Ok x → OfProof st id (λ place s. IsFrontAllowedUnder profile (take place st) s tokens))
-    → IfErr r (λ e. OnRule e (λ rule step. OfProof st id (λ place s. IsFrontFaultUnder profile (take place st) s tokens rule step)))
-    → OfProof st id (λ place s. (rule : ProofRule) (step : ℕ) → IsFrontFaultUnder profile (take place st) s tokens rule step → IsUnlessMemory r (Err (Rule rule step)))
-front_refused profile (Ok x) st id tokens all p f place s proof rule step fault = absurd (front_none profile (take place st) s tokens rule step (allmeant_front st place all) (p x refl place s proof) fault)
-front_refused profile (Err Memory) st id tokens all p f place s proof rule step fault = inr refl
-front_refused profile (Err (Rule other at)) st id tokens all p f place s proof rule step fault =
-    let same = one_front_under profile (take place st) s tokens other rule at step (allmeant_front st place all) (f place s proof) fault in
+pub prefix_refused : (profile : Profile) → {X : Type 0} (r : Result X ProofFault) (st : List Sentence) (id : ℕ) (tokens : List (List ℕ)) → AllMeant st
+    → ((x : X) → r ≡ Ok x → OfProof st id (λ index s. IsPrefixAllowedUnder profile (take index st) s tokens))
+    → IfErr r (λ e. OnRule e (λ rule step. OfProof st id (λ index s. IsPrefixFaultUnder profile (take index st) s tokens rule step)))
+    → OfProof st id (λ index s. (rule : ProofRule) (step : ℕ) → IsPrefixFaultUnder profile (take index st) s tokens rule step → IsUnlessMemory r (Err (Rule rule step)))
+prefix_refused profile (Ok x) st id tokens all p f index s proof rule step fault = absurd (prefix_none profile (take index st) s tokens rule step (allmeant_prefix st index all) (p x refl index s proof) fault)
+prefix_refused profile (Err Memory) st id tokens all p f index s proof rule step fault = inr refl
+prefix_refused profile (Err (Rule other at)) st id tokens all p f index s proof rule step fault =
+    let same = one_prefix_under profile (take index st) s tokens other rule at step (allmeant_prefix st index all) (f index s proof) fault in
     inl cc
 
--- the answer on a front that is allowed
-pub front_allowed : (profile : Profile) (r : Result Proved ProofFault) (P : Type 0) (st : List Sentence) (id : ℕ) (tokens : List (List ℕ)) → AllMeant st → IfOk r (λ p. (p ≡ Incomplete) × P)
-    → IfErr r (λ e. OnRule e (λ rule step. OfProof st id (λ place s. IsFrontFaultUnder profile (take place st) s tokens rule step)))
-    → OfProof st id (λ place s. IsFrontAllowedUnder profile (take place st) s tokens → IsUnlessMemory r (Ok Incomplete))
-front_allowed profile (Ok x) P st id tokens all h f place s proof p = inl cc
-front_allowed profile (Err e) P st id tokens all h f place s proof p =
-    let only = front_only profile e st id tokens all f place s proof p in inr cc
+-- the answer on a prefix that is allowed
+pub prefix_allowed : (profile : Profile) (r : Result Proved ProofFault) (P : Type 0) (st : List Sentence) (id : ℕ) (tokens : List (List ℕ)) → AllMeant st → IfOk r (λ p. (p ≡ Incomplete) × P)
+    → IfErr r (λ e. OnRule e (λ rule step. OfProof st id (λ index s. IsPrefixFaultUnder profile (take index st) s tokens rule step)))
+    → OfProof st id (λ index s. IsPrefixAllowedUnder profile (take index st) s tokens → IsUnlessMemory r (Ok Incomplete))
+prefix_allowed profile (Ok x) P st id tokens all h f index s proof p = inl cc
+prefix_allowed profile (Err e) P st id tokens all h f index s proof p =
+    let only = prefix_only profile e st id tokens all f index s proof p in inr cc
 
 -- ==== a proof within the smaller limit is one within the greater, so that under the strict profile
 -- nothing but its form is at fault
@@ -179,7 +179,7 @@ module _ (before : List Sentence) (s : Sentence) (tokens : List (List ℕ)) wher
       (form, within_strict p) (inr (whole, form, moves, said, fault)))
 
 -- ==== whether a proof has the form that a profile demands can be decided, so each proof and each
--- known front has one verdict under a profile
+-- known prefix has one verdict under a profile
 
 -- ---- the list
 
@@ -241,7 +241,7 @@ mark_dec mark = yes refl
 mark_dec move = no (λ e. absurd cc)
 
 module _ (before : List Sentence) (moves : List (Move (List ℕ))) where
-  -- the move before a place is a step by an assertion
+  -- the move before an index is a step by an assertion
   abbrev After : ℕ → Type 0
   After k = (b : ℕ) × (m : Move (List ℕ)) × (slice_get moves b ≡ Some m) × ((k ≡ b + 1) × ByAssertion before m)
 
@@ -251,16 +251,16 @@ module _ (before : List Sentence) (moves : List (Move (List ℕ))) where
   after_dec : (k : ℕ) → Dec (After k)
   after_dec k = dec_some (λ b m. (k ≡ b + 1) × ByAssertion before m) (λ b m. dec_both (ℕ_discrete k (b + 1)) (by_dec before m)) moves
 
-after_front : (before : List Sentence) (front : List (Move (List ℕ))) (b : ℕ) (m : Move (List ℕ)) → slice_get front b ≡ Some m → length front ≡ b + 1 → ByAssertion before m
-    → (earlier : List (Move (List ℕ))) × (label : List ℕ) × (front ≡ earlier ++ name label ∷ []) × OfAssertion before label
-after_front before front b (name label) at long by = let last = last_of front b (name label) long at in (last.0, label, last.1, by)
-after_front before front b m at long by = absurd by
+after_prefix : (before : List Sentence) (prefix : List (Move (List ℕ))) (b : ℕ) (m : Move (List ℕ)) → slice_get prefix b ≡ Some m → length prefix ≡ b + 1 → ByAssertion before m
+    → (earlier : List (Move (List ℕ))) × (label : List ℕ) × (prefix ≡ earlier ++ name label ∷ []) × OfAssertion before label
+after_prefix before prefix b (name label) at long by = let last = last_of prefix b (name label) long at in (last.0, label, last.1, by)
+after_prefix before prefix b m at long by = absurd by
 
 module _ (before : List Sentence) (moves : List (Move (List ℕ))) where
   marks_from : ¬ (Loose before moves) → MarkAssertions before moves
-  marks_from tight front after parts = elim (after_dec before moves (length front)) [
-    | yes a ↦ after_front before front a.0 a.1 (get_before front (mark ∷ after) a.0 a.1 (omega (arith, a.3.0)) (ap (λ l. slice_get l a.0) (sym parts) ∙ a.2)) a.3.0 a.3.1
-    | no none ↦ absurd (tight (length front, mark, ap (λ l. slice_get l (length front)) parts ∙ get_parted front after mark, (refl, none)))
+  marks_from tight prefix after parts = elim (after_dec before moves (length prefix)) [
+    | yes a ↦ after_prefix before prefix a.0 a.1 (get_before prefix (mark ∷ after) a.0 a.1 (omega (arith, a.3.0)) (ap (λ l. slice_get l a.0) (sym parts) ∙ a.2)) a.3.0 a.3.1
+    | no none ↦ absurd (tight (length prefix, mark, ap (λ l. slice_get l (length prefix)) parts ∙ get_parted prefix after mark, (refl, none)))
   ]
 
   marks_dec : Dec (MarkAssertions before moves)
@@ -301,18 +301,18 @@ one_verdict_under_holds profile before s tokens all formed = (
   λ rule rule' step step'. one_under profile before s tokens rule rule' step step' all,
 )
 
-pub one_front_verdict_under_holds : OneFrontVerdictUnder
-one_front_verdict_under_holds profile before s tokens all formed = (
-  elim (one_front_verdict_holds (limit_of profile) before s tokens all formed).0 [
-    | inl p ↦ elim (form_dec profile before s (known_front tokens) formed p.whole) [ yes form ↦ inl (form, p) | no none ↦ inr (P15, 0, inl (refl, inr (p.whole, refl, none))) ]
+pub one_prefix_verdict_under_holds : OnePrefixVerdictUnder
+one_prefix_verdict_under_holds profile before s tokens all formed = (
+  elim (one_prefix_verdict_holds (limit_of profile) before s tokens all formed).0 [
+    | inl p ↦ elim (form_dec profile before s (known_prefix tokens) formed p.whole) [ yes form ↦ inl (form, p) | no none ↦ inr (P15, 0, inl (refl, inr (p.whole, refl, none))) ]
     | inr (rule, step, inl f) ↦ inr (rule, step, inl (f.0, inl f.1))
-    | inr (rule, step, inr f) ↦ elim (form_dec profile before s (known_front tokens) formed f.0) [
+    | inr (rule, step, inr f) ↦ elim (form_dec profile before s (known_prefix tokens) formed f.0) [
       | yes form ↦
-          let fault = have_under profile before s (known_front tokens) rule step form (inr f) in
+          let fault = have_under profile before s (known_prefix tokens) rule step form (inr f) in
           inr (rule, step, fault)
       | no none ↦ inr (P15, 0, inl (refl, inr (f.0, refl, none)))
     ]
   ],
-  λ p rule step f. front_none profile before s tokens rule step all p f,
-  λ rule rule' step step'. one_front_under profile before s tokens rule rule' step step' all,
+  λ p rule step f. prefix_none profile before s tokens rule step all p f,
+  λ rule rule' step step'. one_prefix_under profile before s tokens rule rule' step step' all,
 )

@@ -26,7 +26,7 @@ use Rattle.mm_text.proofs.Lists.{get_take, get_from_take, at_from_contains, cont
 use Rattle.mm_text.proofs.Lists.{mapped_zip}
 use Rattle.mm_frame.specs.Rules.{AllMeant}
 use Rattle.mm_frame.specs.Frame.{AreMandatory}
-use Rattle.mm_frame.specs.FramePlace.{AreHypotheses}
+use Rattle.mm_frame.specs.FrameIndex.{AreHypotheses}
 use Rattle.mm_frame.specs.Numbers.{labelled_sentences, IsNumbered}
 use Rattle.mm_frame.proofs.Frames.FrameLaws.{mandatory_unique}
 use Rattle.mm_frame.proofs.Names.LabelNumbers.{numbered_get, numbered_from_get, numbered_unique}
@@ -36,7 +36,7 @@ use Rattle.mm_proof.proofs.Machines.JudgedMoves.{usable_names}
 use Rattle.mm_proof.specs.Parsed.{OfProof, SaySteps}
 use Rattle.mm_proof.specs.Strict.{IsStrictList, MarkAssertions, IsStrict}
 use Rattle.mm_proof.proofs.ProofSteps.OneStep.{one_label, one_labelled, not_both_kinds}
-use Rattle.mm_proof.proofs.ByNumbers.NumberedLabels.{one_place}
+use Rattle.mm_proof.proofs.ByNumbers.NumberedLabels.{one_index}
 use Rattle.mm_proof.proofs.ProofTokens.SaidMoves.{moves_once}
 
 -- ==== labels that are new, one after the other
@@ -149,11 +149,11 @@ code_name ids (Number n) id e = (n, refl, entry_named (slice_get ids (n - 1)) (n
     entry_named (Some k) tag e = cc
     entry_named None tag e = absurd cc
 
--- the code before a place, where its move is a step by a label
-pub code_before : (ids : List ℕ) (said : List Code) (place before : ℕ) (d c : Code) (id : ℕ) → place ≡ before + 1 → place < length said → get_or said (place - 1) d ≡ c
+-- the code before an index, where its move is a step by a label
+pub code_before : (ids : List ℕ) (said : List Code) (index before : ℕ) (d c : Code) (id : ℕ) → index ≡ before + 1 → index < length said → get_or said (index - 1) d ≡ c
     → slice_get (code_moves ids said) before ≡ Some (name id) → (n : ℕ) × (c ≡ Number n) × (slice_get ids (n - 1) ≡ Some id)
-code_before ids said place before d c id is less here there =
-    let at : place - 1 ≡ before = omega (arith, is) in
+code_before ids said index before d c id is less here there =
+    let at : index - 1 ≡ before = omega (arith, is) in
     let moved = same_Some _ (name id) (sym (code_there ids said before d (omega (arith, is, less))) ∙ there) in
     code_name ids c id (ap (code_move ids) (sym here ∙ ap (λ k. get_or said k d) at) ∙ moved)
 
@@ -183,7 +183,7 @@ number_once : (st : List Sentence) (p q a b : ℕ) (s t : Sentence) (label : Lis
 number_once st p q a b s t label all n m ls lt =
     sym n.number ∙ ap (λ k. length (labelled_sentences (take k st))) (one_label st p q s t label all n.there m.there ls lt) ∙ m.number
 
--- what a list tells, place by place
+-- what a list tells, index by index
 pub told_each : {X Y : Type 0} (f : X → Option Y) (xs : List X) (ys : List Y)
     → map f xs ≡ map Some ys → AllZip (λ x y. f x ≡ Some y) xs ys
 told_each f xs ys is = mapped_zip f Some (λ x y. f x ≡ Some y) (λ x y same. same) xs ys is
@@ -200,44 +200,44 @@ once_from xs new i j x p q = elim (cases_order i j) [
   | inr (inr m) ↦ absurd (new i x p (contains_from_at (take i xs) x (j, get_take xs i j m ∙ q)))
 ]
 
-strict_list : (st : List Sentence) (place : ℕ) (s : Sentence) (hids ids : List ℕ) (labels : List (List ℕ)) → AllMeant st → slice_get st place ≡ Some s
-    → AreHypotheses (record { statements = st; place = place }) hids → AreFor st place ids labels → AllNew hids ids → IsStrictList (take place st) s labels
-strict_list st place s hids ids labels all there h each new = record {
+strict_list : (st : List Sentence) (index : ℕ) (s : Sentence) (hids ids : List ℕ) (labels : List (List ℕ)) → AllMeant st → slice_get st index ≡ Some s
+    → AreHypotheses (record { statements = st; index = index }) hids → AreFor st index ids labels → AllNew hids ids → IsStrictList (take index st) s labels
+strict_list st index s hids ids labels all there h each new = record {
   once = λ i j label p q.
-      let a = zip_right (λ id l. MayBeUsed st place l id) ids labels i label each p in
-      let b = zip_right (λ id l. MayBeUsed st place l id) ids labels j label each q in
+      let a = zip_right (λ id l. MayBeUsed st index l id) ids labels i label each p in
+      let b = zip_right (λ id l. MayBeUsed st index l id) ids labels j label each q in
       let same : a.0 ≡ b.0 = number_once st a.2.at b.2.at a.0 b.0 a.2.s b.2.s label all a.2.numbered b.2.numbered a.2.named b.2.named in
       once_from ids (λ k id at. (new k id at).1) i j b.0 (a.1 ∙ ap Some same) b.1;
   optional = λ hypotheses g label mandatory has named among.
       let own : h.assertion ≡ s = same_Some h.assertion s (sym h.there ∙ there) in
-      let mine = subst (λ (a : Sentence). AreMandatory (take place st) a h.hypotheses) own h.mandatory in
-      let same : hypotheses ≡ h.hypotheses = mandatory_unique (take place st) s hypotheses h.hypotheses mandatory mine in
+      let mine = subst (λ (a : Sentence). AreMandatory (take index st) a h.hypotheses) own h.mandatory in
+      let same : hypotheses ≡ h.hypotheses = mandatory_unique (take index st) s hypotheses h.hypotheses mandatory mine in
       let at = at_from_contains h.hypotheses g (subst (λ (l : List Sentence). Contains l g) same has) in
       let told = told_each (slice_get (labelled_sentences st)) hids h.hypotheses h.numbered in
       let n = zip_right _ hids h.hypotheses at.0 g told at.1 in
       let p = numbered_from_get st n.0 g n.2 in
       let l = at_from_contains labels label among in
-      let b = zip_right (λ id k. MayBeUsed st place k id) ids labels l.0 label each l.1 in
+      let b = zip_right (λ id k. MayBeUsed st index k id) ids labels l.0 label each l.1 in
       let one : n.0 ≡ b.0 = number_once st p.0 b.2.at n.0 b.0 g b.2.s label all p.1 b.2.numbered named b.2.named in
       (new l.0 b.0 b.1).0 (subst (Contains hids) one (contains_from_at hids n.0 (at.0, n.1)));
 }
 
-loose_list : (st : List Sentence) (place : ℕ) (s : Sentence) (hids ids : List ℕ) (labels : List (List ℕ)) → slice_get st place ≡ Some s
-    → AreHypotheses (record { statements = st; place = place }) hids → AreFor st place ids labels → SomeOld hids ids → ¬ (IsStrictList (take place st) s labels)
-loose_list st place s hids ids labels there h each (j, id, at, inl among) strict =
+loose_list : (st : List Sentence) (index : ℕ) (s : Sentence) (hids ids : List ℕ) (labels : List (List ℕ)) → slice_get st index ≡ Some s
+    → AreHypotheses (record { statements = st; index = index }) hids → AreFor st index ids labels → SomeOld hids ids → ¬ (IsStrictList (take index st) s labels)
+loose_list st index s hids ids labels there h each (j, id, at, inl among) strict =
     let own : h.assertion ≡ s = same_Some h.assertion s (sym h.there ∙ there) in
-    let mine = subst (λ (a : Sentence). AreMandatory (take place st) a h.hypotheses) own h.mandatory in
-    let l = zip_left (λ n k. MayBeUsed st place k n) ids labels j id each at in
+    let mine = subst (λ (a : Sentence). AreMandatory (take index st) a h.hypotheses) own h.mandatory in
+    let l = zip_left (λ n k. MayBeUsed st index k n) ids labels j id each at in
     let k = at_from_contains hids id among in
     let told = told_each (slice_get (labelled_sentences st)) hids h.hypotheses h.numbered in
     let g = zip_left _ hids h.hypotheses k.0 id told k.1 in
     let same : l.2.s ≡ g.0 = same_Some l.2.s g.0 (sym (numbered_get st id l.2.at l.2.s l.2.numbered) ∙ g.2) in
     strict.optional h.hypotheses g.0 l.0 mine (contains_from_at h.hypotheses g.0 (k.0, g.1)) (subst (IsLabelled l.0) same l.2.named) (contains_from_at labels l.0 (j, l.1))
-loose_list st place s hids ids labels there h each (j, id, at, inr before) strict =
+loose_list st index s hids ids labels there h each (j, id, at, inr before) strict =
     let k = at_from_contains (take j ids) id before in
     let f = get_from_take ids j k.0 id k.1 in
-    let a = zip_left (λ n l. MayBeUsed st place l n) ids labels k.0 id each f.1 in
-    let b = zip_left (λ n l. MayBeUsed st place l n) ids labels j id each at in
+    let a = zip_left (λ n l. MayBeUsed st index l n) ids labels k.0 id each f.1 in
+    let b = zip_left (λ n l. MayBeUsed st index l n) ids labels j id each at in
     let one = (numbered_unique st id _ _ _ _ a.2.numbered b.2.numbered).1 in
     let same = same_Some a.0 b.0 (sym (subst (IsLabelled a.0) one a.2.named) ∙ b.2.named) in
     absurd (omega (arith, f.0, strict.once k.0 j b.0 (a.1 ∙ ap Some same) b.1))
@@ -258,31 +258,31 @@ last_of (y ∷ z ∷ xs) (suc b) x long e =
     let rest = last_of (z ∷ xs) b x (omega arith) e in (y ∷ rest.0, ap (λ l. y ∷ l) rest.1)
 
 -- of an assertion's label
-assertion_usable : (st : List Sentence) (place : ℕ) (label : List ℕ) (p : ℕ) (a : Sentence) → AllMeant st → slice_get st p ≡ Some a → IsLabelled label a → IsAssertion a.kind
-    → IsUsable (take place st) label → SomeSentence (take place st) (λ b. IsLabelled label b × IsAssertion b.kind)
-assertion_usable st place label p a all there named kind (inr b) = b
-assertion_usable st place label p a all there named kind (inl h) =
-    let f = get_from_take st place h.0 h.1 h.2 in
+assertion_usable : (st : List Sentence) (index : ℕ) (label : List ℕ) (p : ℕ) (a : Sentence) → AllMeant st → slice_get st p ≡ Some a → IsLabelled label a → IsAssertion a.kind
+    → IsUsable (take index st) label → SomeSentence (take index st) (λ b. IsLabelled label b × IsAssertion b.kind)
+assertion_usable st index label p a all there named kind (inr b) = b
+assertion_usable st index label p a all there named kind (inl h) =
+    let f = get_from_take st index h.0 h.1 h.2 in
     let same : h.1 ≡ a = one_labelled st h.0 p h.1 a label all f.1 there h.4.0 named in
     absurd (not_both_kinds a.kind (subst (λ (x : Sentence). IsHypothesis x.kind) same h.4.1) kind)
 
-strict_marks : (st : List Sentence) (place : ℕ) (steps : List (Move ℕ)) (moves : List (Move (List ℕ))) → AllMeant st → AreNumberedMoves st steps moves
-    → AllByRecursion (IsUsableMove (take place st)) moves → AreMarksStrict st steps → MarkAssertions (take place st) moves
-strict_marks st place steps moves all numbered usable strict front after parts =
-    let at : slice_get moves (length front) ≡ Some mark = ap (λ l. slice_get l (length front)) parts ∙ get_parted front after mark in
-    let x = zip_right (IsNumberedMove st) steps moves (length front) mark numbered at in
-    let s = strict (length front) (x.1 ∙ ap Some (marks_mark st x.0 x.2)) in
+strict_marks : (st : List Sentence) (index : ℕ) (steps : List (Move ℕ)) (moves : List (Move (List ℕ))) → AllMeant st → AreNumberedMoves st steps moves
+    → AllByRecursion (IsUsableMove (take index st)) moves → AreMarksStrict st steps → MarkAssertions (take index st) moves
+strict_marks st index steps moves all numbered usable strict prefix after parts =
+    let at : slice_get moves (length prefix) ≡ Some mark = ap (λ l. slice_get l (length prefix)) parts ∙ get_parted prefix after mark in
+    let x = zip_right (IsNumberedMove st) steps moves (length prefix) mark numbered at in
+    let s = strict (length prefix) (x.1 ∙ ap Some (marks_mark st x.0 x.2)) in
     let y = zip_left (IsNumberedMove st) steps moves s.0 (name s.1) numbered s.3 in
     let label = y.2.1 in
     let moved : slice_get moves s.0 ≡ Some (name label) = y.1 ∙ ap Some y.2.4 in
-    let held : slice_get front s.0 ≡ Some (name label) = get_before front (mark ∷ after) s.0 (name label) (omega (arith, s.2)) (ap (λ l. slice_get l s.0) (sym parts) ∙ moved) in
-    let last = last_of front s.0 (name label) s.2 held in
+    let held : slice_get prefix s.0 ≡ Some (name label) = get_before prefix (mark ∷ after) s.0 (name label) (omega (arith, s.2)) (ap (λ l. slice_get l s.0) (sym parts) ∙ moved) in
+    let last = last_of prefix s.0 (name label) s.2 held in
     let same : y.2.0 ≡ s.4.1 = same_Some y.2.0 s.4.1 (sym y.2.2 ∙ numbered_get st s.1 s.4.0 s.4.1 s.4.2) in (
       last.0,
       label,
       last.1,
-      assertion_usable st place label s.4.0 s.4.1 all s.4.2.there (subst (IsLabelled label) same y.2.3) s.4.3
-          (all_at (IsUsableMove (take place st)) moves s.0 (name label) usable moved),
+      assertion_usable st index label s.4.0 s.4.1 all s.4.2.there (subst (IsLabelled label) same y.2.3) s.4.3
+          (all_at (IsUsableMove (take index st)) moves s.0 (name label) usable moved),
     )
 
 -- the step before a mark of moves whose marks stand so
@@ -298,15 +298,15 @@ step_before before moves k strict marked =
     let held = ap (λ l. slice_get l (length m.0)) m.2 ∙ get_parted m.0 [] (name m.1) in
     (length m.0, m.1, long, (get_from_take moves k (length m.0) (name m.1) held).1, m.3)
 
-loose_marks : (st : List Sentence) (place : ℕ) (steps : List (Move ℕ)) (moves : List (Move (List ℕ))) → AllMeant st → AreNumberedMoves st steps moves
-    → SomeMarkLoose st steps → ¬ (MarkAssertions (take place st) moves)
-loose_marks st place steps moves all numbered (k, at, none) strict =
+loose_marks : (st : List Sentence) (index : ℕ) (steps : List (Move ℕ)) (moves : List (Move (List ℕ))) → AllMeant st → AreNumberedMoves st steps moves
+    → SomeMarkLoose st steps → ¬ (MarkAssertions (take index st) moves)
+loose_marks st index steps moves all numbered (k, at, none) strict =
     let y = zip_left (IsNumberedMove st) steps moves k mark numbered at in
-    let m = step_before (take place st) moves k strict (y.1 ∙ ap Some y.2) in
+    let m = step_before (take index st) moves k strict (y.1 ∙ ap Some y.2) in
     let x = zip_right (IsNumberedMove st) steps moves m.0 (name m.1) numbered m.3 in
     let b = named_by st x.0 m.1 x.2 in
     let p = numbered_from_get st b.0 b.1 b.3 in
-    let a = get_from_take st place m.4.0 m.4.1 m.4.2 in
+    let a = get_from_take st index m.4.0 m.4.1 m.4.2 in
     let same = one_labelled st m.4.0 p.0 m.4.1 b.1 m.1 all a.1 p.1.there m.4.3.0 b.4 in
     none (m.0, b.0, m.2, x.1 ∙ ap Some b.2, (p.0, b.1, p.1, subst (λ (c : Sentence). IsAssertion c.kind) same m.4.3.1))
 
@@ -322,38 +322,38 @@ strict_normal before s tokens normal = record {
 -- ---- wherever the statement with the number stands
 
 pub strict_all : (st : List Sentence) (id own : ℕ) (t : Sentence) (tokens : List (List ℕ)) (hids ids : List ℕ) (steps : List (Move ℕ)) → AllMeant st → IsNumbered st id own t
-    → AreHypotheses (record { statements = st; place = own }) hids → ((labels letters : List (List ℕ)) → IsCompressed tokens labels letters → AreFor st own ids labels)
-    → OfProof st id (λ place s. SaySteps st place s tokens steps) → AreSteps st id steps → AllNew hids ids → AreMarksStrict st steps
-    → OfProof st id (λ place s. IsStrict (take place st) s tokens)
-strict_all st id own t tokens hids ids steps all number h each says made new marks place s proof =
-    let said = says place s proof in
-    let here : own ≡ place = one_place st id own place t s number proof.numbered in
-    let there = subst (λ k. AreHypotheses (record { statements = st; place = k }) hids) here h in
-    let usable = usable_names st id steps place s said.1 made proof.numbered said.3 in
+    → AreHypotheses (record { statements = st; index = own }) hids → ((labels letters : List (List ℕ)) → IsCompressed tokens labels letters → AreFor st own ids labels)
+    → OfProof st id (λ index s. SaySteps st index s tokens steps) → AreSteps st id steps → AllNew hids ids → AreMarksStrict st steps
+    → OfProof st id (λ index s. IsStrict (take index st) s tokens)
+strict_all st id own t tokens hids ids steps all number h each says made new marks index s proof =
+    let said = says index s proof in
+    let here : own ≡ index = one_index st id own index t s number proof.numbered in
+    let there = subst (λ k. AreHypotheses (record { statements = st; index = k }) hids) here h in
+    let usable = usable_names st id steps index s said.1 made proof.numbered said.3 in
     record {
-      listed = λ labels letters c. strict_list st place s hids ids labels all proof.numbered.there
+      listed = λ labels letters c. strict_list st index s hids ids labels all proof.numbered.there
           there (subst (λ k. AreFor st k ids labels) here (each labels letters c)) new;
-      marked = λ others c. subst (MarkAssertions (take place st))
-          (moves_once (take place st) s tokens said.1 others said.2 (inr c))
-          (strict_marks st place steps said.1 all said.3 usable marks);
+      marked = λ others c. subst (MarkAssertions (take index st))
+          (moves_once (take index st) s tokens said.1 others said.2 (inr c))
+          (strict_marks st index steps said.1 all said.3 usable marks);
     }
 
 pub old_fault : (st : List Sentence) (id own : ℕ) (t : Sentence) (tokens : List (List ℕ)) (hids ids : List ℕ) (steps : List (Move ℕ)) → IsNumbered st id own t
-    → AreHypotheses (record { statements = st; place = own }) hids → ((labels letters : List (List ℕ)) → IsCompressed tokens labels letters → AreFor st own ids labels)
-    → OfProof st id (λ place s. SaySteps st place s tokens steps) → slice_get tokens 0 ≡ Some opening_token → SomeOld hids ids
-    → OfProof st id (λ place s. ¬ (IsStrict (take place st) s tokens))
-old_fault st id own t tokens hids ids steps number h each says first old place s proof strict =
-    let said = says place s proof in
-    let here : own ≡ place = one_place st id own place t s number proof.numbered in
-    let there = subst (λ k. AreHypotheses (record { statements = st; place = k }) hids) here h in
+    → AreHypotheses (record { statements = st; index = own }) hids → ((labels letters : List (List ℕ)) → IsCompressed tokens labels letters → AreFor st own ids labels)
+    → OfProof st id (λ index s. SaySteps st index s tokens steps) → slice_get tokens 0 ≡ Some opening_token → SomeOld hids ids
+    → OfProof st id (λ index s. ¬ (IsStrict (take index st) s tokens))
+old_fault st id own t tokens hids ids steps number h each says first old index s proof strict =
+    let said = says index s proof in
+    let here : own ≡ index = one_index st id own index t s number proof.numbered in
+    let there = subst (λ k. AreHypotheses (record { statements = st; index = k }) hids) here h in
     ⊎_elim (λ n. n.0 first)
-    (λ c. loose_list st place s hids ids c.listed proof.numbered.there there
+    (λ c. loose_list st index s hids ids c.listed proof.numbered.there there
     (subst (λ k. AreFor st k ids c.listed) here (each c.listed c.letters c.parts)) old
     (strict.listed c.listed c.letters c.parts)) said.2
 
-pub loose_fault : (st : List Sentence) (id : ℕ) (tokens : List (List ℕ)) (steps : List (Move ℕ)) → AllMeant st → OfProof st id (λ place s. SaySteps st place s tokens steps)
-    → slice_get tokens 0 ≡ Some opening_token → SomeMarkLoose st steps → OfProof st id (λ place s. ¬ (IsStrict (take place st) s tokens))
-loose_fault st id tokens steps all says first loose place s proof strict =
-    let said = says place s proof in
+pub loose_fault : (st : List Sentence) (id : ℕ) (tokens : List (List ℕ)) (steps : List (Move ℕ)) → AllMeant st → OfProof st id (λ index s. SaySteps st index s tokens steps)
+    → slice_get tokens 0 ≡ Some opening_token → SomeMarkLoose st steps → OfProof st id (λ index s. ¬ (IsStrict (take index st) s tokens))
+loose_fault st id tokens steps all says first loose index s proof strict =
+    let said = says index s proof in
     ⊎_elim (λ n. n.0 first)
-    (λ c. loose_marks st place steps said.1 all said.3 loose (strict.marked said.1 c)) said.2
+    (λ c. loose_marks st index steps said.1 all said.3 loose (strict.marked said.1 c)) said.2

@@ -8,11 +8,11 @@ use Rattle.mm_proof.specs.Stores.{numbers_in}
 abbrev pub parts_of : List Sym → List Entry → List (List ℕ)
 parts_of symbols entries = map (λ e. numbers_in (slice_range symbols e.start e.end)) entries
 
--- the entry is a range of what stands before a place
-pub record IsPart (place : ℕ) (e : Entry) : Type 0 where
+-- the entry is a range of what stands before an index
+pub record IsPart (index : ℕ) (e : Entry) : Type 0 where
   pub order : e.start ≤ e.end
-  pub within : e.end ≤ place
+  pub within : e.end ≤ index
 
 -- each of the entries is
 abbrev pub AreParts : ℕ → List Entry → Type 0
-AreParts place entries = (i : ℕ) (e : Entry) → slice_get entries i ≡ Some e → IsPart place e
+AreParts index entries = (i : ℕ) (e : Entry) → slice_get entries i ≡ Some e → IsPart index e

@@ -73,15 +73,15 @@ IsTooLong {X} held item most =
     (below : Trees) → IsKept shelf kept item label below → held stack row shelf kept steps
     → most < length (spelling row) + length (spelling (tree label below none))
 
--- Moves, by numbers, each of which may be made at the place: they make one tree.
+-- Moves, by numbers, each of which may be made at the index: they make one tree.
 pub record MakeTreeAt (statements : List Sentence) (moves : List (Move ℕ)) : Type 0 where
-  pub place : ℕ
+  pub index : ℕ
   pub names : List (Move (List ℕ))
-  pub usable : AllByRecursion (MayBeMade statements place) moves
+  pub usable : AllByRecursion (MayBeMade statements index) moves
   pub numbered : AreNumberedMoves statements moves names
   pub label : List ℕ
   pub below : Trees
-  pub makes : MakeTree (take place statements) names label below
+  pub makes : MakeTree (take index statements) names label below
 
 -- the item is that of the tree that the moves make
 pub record IsBuilt {X : Type 0} (held : Holding X) (moves : List (Move (List ℕ))) (t : Trees)
@@ -92,10 +92,10 @@ pub record IsBuilt {X : Type 0} (held : Holding X) (moves : List (Move (List ℕ
   pub few : steps ≤ length moves
   pub holds : held (item ∷ []) t shelf kept steps
 
--- The items are those of the trees that the moves before a place made; the moves that are left make
--- the tree out of them.
+-- The items are those of the trees that the moves before an index made; the moves that are left
+-- make the tree out of them.
 pub record AreItemsAt {X : Type 0} (held : Holding X) (statements : List Sentence)
-    (moves : List (Move ℕ)) (m : MakeTreeAt statements moves) (place : ℕ)
+    (moves : List (Move ℕ)) (m : MakeTreeAt statements moves) (index : ℕ)
     (stack shelf : List X) : Type 0 where
   pub row : Trees
   pub kept : List Trees
@@ -103,36 +103,36 @@ pub record AreItemsAt {X : Type 0} (held : Holding X) (statements : List Sentenc
   pub holds : held stack row shelf kept steps
   pub deep : length stack ≡ roots row
   pub ones : AllZip (λ (x : X) (t : Trees). roots t ≡ 1) shelf kept
-  pub few : steps ≤ place
-  pub made : Makes (take m.place statements) (drop place m.names) row kept
+  pub few : steps ≤ index
+  pub made : Makes (take m.index statements) (drop index m.names) row kept
       (tree m.label m.below none) m.makes.kept
 
 -- these are the first ones of the moves
-abbrev pub AreFirst : (front moves : List (Move ℕ)) → Type 0
-AreFirst front moves = take (length front) moves ≡ front
+abbrev pub AreFirst : (prefix moves : List (Move ℕ)) → Type 0
+AreFirst prefix moves = take (length prefix) moves ≡ prefix
 
 -- The moves since the first state were built, with the same builder, book and entries: whatever moves they
 -- begin that make a tree, the items are those of the trees so far.
 pub record HasBuilt {B X : Type 0} (holds : B → B → List Sentence → Holding X)
-    (first now : Forest B X) (front : List (Move ℕ)) : Type 0 where
+    (first now : Forest B X) (prefix : List (Move ℕ)) : Type 0 where
   pub same_builder : now.builder.ghost_name ≡ first.builder.ghost_name
   pub same_book : now.book ≡ first.book
   pub same_entries : now.entries ≡ first.entries
   pub sound : IsSound first.book.now.statements
   pub keeps : (later : B) → KeepsItem (holds first.builder.now later first.book.now.statements)
   pub at : let statements = first.book.now.statements in
-      (moves : List (Move ℕ)) (m : MakeTreeAt statements moves) → AreFirst front moves
+      (moves : List (Move ℕ)) (m : MakeTreeAt statements moves) → AreFirst prefix moves
       → AreItemsAt (holds first.builder.now now.builder.now statements) statements moves m
-      (length front) now.stack.now.items now.shelf.now.items
+      (length prefix) now.stack.now.items now.shelf.now.items
 
 -- the move comes after these in moves that make a tree
 abbrev pub MayGrow : List Sentence → List (Move ℕ) → Move ℕ → Type 0
-MayGrow statements front move =
-    (moves : List (Move ℕ)) × MakeTreeAt statements moves × AreFirst (front ++ move ∷ []) moves
+MayGrow statements prefix move =
+    (moves : List (Move ℕ)) × MakeTreeAt statements moves × AreFirst (prefix ++ move ∷ []) moves
 
 -- whatever moves begin so and make a tree, it spells more labels than the most
 abbrev pub AreTooMany : List Sentence → List (Move ℕ) → Move ℕ → (most : ℕ) → Type 0
-AreTooMany statements front move most =
+AreTooMany statements prefix move most =
     (moves : List (Move ℕ)) (m : MakeTreeAt statements moves)
-    → AreFirst (front ++ move ∷ []) moves
+    → AreFirst (prefix ++ move ∷ []) moves
     → most < length (spelling (tree m.label m.below none))

@@ -3,8 +3,8 @@ use Rattle.std.specs.Prelude.{ℕ, ◌<◌, List, take, Option}
 use Rattle.mm_frame.specs.Sentence.{Sentence, IsAssertion, IsHypothesis}
 use Rattle.mm_frame.specs.Frame.{AreMandatory}
 use Rattle.mm_frame.specs.Numbers.{IsNumbered, AreNumbers}
-use Rattle.mm_frame.specs.FramePlace.{ArePairs, AreHypotheses, HaveTypings}
-use Rattle.mm_frame.specs.Pieces.{variables_of, AreItsPieces, HavePatterns, HavePlaces}
+use Rattle.mm_frame.specs.FrameIndex.{ArePairs, AreHypotheses, HaveTypings}
+use Rattle.mm_frame.specs.Pieces.{variables_of, AreItsPieces, HavePatterns, HaveIndices}
 use Rattle.mm_frame.specs.declared.piece.Piece.{Piece}
 use Rattle.mm_frame.specs.declared.scheme.Scheme.{Scheme}
 use Rattle.mm_proof.specs.declared.call.Call.{Call}
@@ -18,51 +18,51 @@ use Rattle.mm_proof.specs.Mirror.CodeVerify.{names_at, all_names_at, value_of, I
 use Rattle.mm_proof.specs.Mirror.CodeVerify.{EachEntry, pairs_in}
 use Rattle.mm_proof.specs.Mirror.CodeVerify.{Replaces, EachPairValues, AreHypothesesOf, AreVariablesOf}
 
--- the number is that of an assertion before the place of the proof, and these are its hypotheses,
+-- the number is that of an assertion before the index of the proof, and these are its hypotheses,
 -- with their numbers
-pub record IsAppliedAssertion (statements : List Sentence) (place id at : ℕ) (ids : List ℕ)
+pub record IsAppliedAssertion (statements : List Sentence) (index id at : ℕ) (ids : List ℕ)
     (hs : List Sentence) : Type 0 where
   pub s : Sentence
   pub numbered : IsNumbered statements id at s
   pub kind : IsAssertion s.kind
-  pub before : at < place
+  pub before : at < index
   pub mandatory : AreMandatory (take at statements) s hs
   pub known : AreHypothesesOf statements ids hs
 
 -- the entries match the hypotheses, and the pairs stay apart
-pub record IsMatched (statements : List Sentence) (place : ℕ) (hs : List Sentence)
+pub record IsMatched (statements : List Sentence) (index : ℕ) (hs : List Sentence)
     (variables : List (Option ℕ)) (entries : List (List ℕ)) (pairs : List (ℕ × ℕ)) : Type 0 where
   pub codes : EachEntry hs (all_names_at statements entries) IsRightCode
   pub equal : (σ : Substitution) → Replaces statements σ variables entries
       → EachEntry hs (all_names_at statements entries) (IsEqual σ)
   pub apart : EachPairValues (value_of variables entries) pairs
-      (λ e f. AreDistinct (take place statements) (names_at statements e) (names_at statements f))
+      (λ e f. AreDistinct (take index statements) (names_at statements e) (names_at statements f))
 
 -- only the limit is left to judge
-pub record IsReady (statements : List Sentence) (place id at : ℕ) (variables : List (Option ℕ))
+pub record IsReady (statements : List Sentence) (index id at : ℕ) (variables : List (Option ℕ))
     (entries : List (List ℕ)) (conclusion : List Piece) : Type 0 where
   pub ids : List ℕ
   pub hs : List Sentence
   pub pairs : List (ℕ × ℕ)
-  pub called : IsAppliedAssertion statements place id at ids hs
+  pub called : IsAppliedAssertion statements index id at ids hs
   pub typed : AreVariablesOf statements variables hs
-  pub mandatory : ArePairs (record { statements = statements; place = at }) pairs
-  pub matched : IsMatched statements place hs variables entries pairs
+  pub mandatory : ArePairs (record { statements = statements; index = at }) pairs
+  pub matched : IsMatched statements index hs variables entries pairs
   pub concluded : AreItsPieces statements variables called.s conclusion
 
--- the scheme is that of the assertion with the number, which stands before the place
-pub record IsEarlierScheme (statements : List Sentence) (place id : ℕ)
+-- the scheme is that of the assertion with the number, which stands before the index
+pub record IsEarlierScheme (statements : List Sentence) (index id : ℕ)
     (scheme : Scheme) : Type 0 where
   pub at : ℕ
   pub s : Sentence
   pub numbered : IsNumbered statements id at s
   pub kind : IsAssertion s.kind
-  pub before : at < place
-  pub hypotheses : AreHypotheses (record { statements = statements; place = at })
+  pub before : at < index
+  pub hypotheses : AreHypotheses (record { statements = statements; index = at })
       (label_ids scheme.hypotheses.now)
   pub typed : HaveTypings statements scheme.hypotheses.now
-  pub pairs : ArePairs (record { statements = statements; place = at }) (pairs_in scheme.pairs.now)
-  pub placed : HavePlaces (variables_of scheme.hypotheses.now) scheme.pairs.now
+  pub pairs : ArePairs (record { statements = statements; index = at }) (pairs_in scheme.pairs.now)
+  pub indexed : HaveIndices (variables_of scheme.hypotheses.now) scheme.pairs.now
   pub concluded : AreItsPieces statements (variables_of scheme.hypotheses.now) s
       scheme.conclusion.now
   pub patterned : HavePatterns statements (variables_of scheme.hypotheses.now) scheme.pieces.now
@@ -73,14 +73,14 @@ abbrev pub IsOfAssertion : Call → Type 0
 IsOfAssertion (calls.Hypothesis symbols) = ⊥
 IsOfAssertion (calls.Assertion scheme) = Unit {0}
 
--- the call is what the label with the number stands for in a proof at the place
-abbrev pub IsCallOf : List Sentence → (place id : ℕ) → Call → Type 0
-IsCallOf statements place id (calls.Hypothesis symbols) =
-    (label : List ℕ) × (used : MayBeUsed statements place label id)
+-- the call is what the label with the number stands for in a proof at the index
+abbrev pub IsCallOf : List Sentence → (index id : ℕ) → Call → Type 0
+IsCallOf statements index id (calls.Hypothesis symbols) =
+    (label : List ℕ) × (used : MayBeUsed statements index label id)
     × IsHypothesis used.s.kind × AreNumbers statements (numbers_in symbols.now) used.s.symbols
-IsCallOf statements place id (calls.Assertion scheme) = IsEarlierScheme statements place id scheme
+IsCallOf statements index id (calls.Assertion scheme) = IsEarlierScheme statements index id scheme
 
 -- it is, if the label may be used there
-abbrev pub MayBeCalled : List Sentence → (place id : ℕ) → Call → Type 0
-MayBeCalled statements place id call =
-    (label : List ℕ) → MayBeUsed statements place label id → IsCallOf statements place id call
+abbrev pub MayBeCalled : List Sentence → (index id : ℕ) → Call → Type 0
+MayBeCalled statements index id call =
+    (label : List ℕ) → MayBeUsed statements index label id → IsCallOf statements index id call

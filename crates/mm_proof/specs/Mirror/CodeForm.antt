@@ -15,10 +15,10 @@ SomeOld seen ids =
     (j : ℕ) × (id : ℕ) × (slice_get ids j ≡ Some id)
     × (Contains seen id ⊎ Contains (take j ids) id)
 
--- the move before a place is a step by an assertion
+-- the move before an index is a step by an assertion
 abbrev pub IsAfterAssertion : List Sentence → List (Move ℕ) → ℕ → Type 0
-IsAfterAssertion statements moves place =
-    (before : ℕ) × (id : ℕ) × (place ≡ before + 1) × (slice_get moves before ≡ Some (name id))
+IsAfterAssertion statements moves index =
+    (before : ℕ) × (id : ℕ) × (index ≡ before + 1) × (slice_get moves before ≡ Some (name id))
     × IsAssertionNumber statements id
 
 -- each mark stands behind such a step

@@ -18,53 +18,53 @@ use Rattle.mm_proof.specs.Mirror.Sites.{ProofSite}
 
 -- the lines are the listing of the moves by numbers, whatever names they stand for
 abbrev pub AreLinesAt : List Sentence → ℕ → List (Move ℕ) → List Line → Type 0
-AreLinesAt statements place steps lines =
+AreLinesAt statements index steps lines =
     (moves : List (Move (List ℕ))) → AreNumberedMoves statements steps moves
-    → AreLinesOf statements (take place statements) moves lines
+    → AreLinesOf statements (take index statements) moves lines
 
 -- each tag stands after the step with its number, whatever names the moves stand for
 abbrev pub AreTagsFor : List Sentence → List (Move ℕ) → List ℕ → Type 0
-AreTagsFor statements front tags =
-    (moves : List (Move (List ℕ))) → AreNumberedMoves statements front moves
+AreTagsFor statements prefix tags =
+    (moves : List (Move (List ℕ))) → AreNumberedMoves statements prefix moves
     → (tag step : ℕ) → slice_get tags tag ≡ Some step → StandsAfter moves tag step
 
 -- The lister has judged the moves since the first state, its lines are those of their steps, and
 -- its tags the numbers of the steps that their marks stand after.
 pub record HasListed {S : Type 0} (stack kept : S → List (List ℕ)) (first now : Lister S)
-    (front : List (Move ℕ)) : Type 0 where
+    (prefix : List (Move ℕ)) : Type 0 where
   pub same_lines : now.lines.ghost_name ≡ first.lines.ghost_name
-  pub judged : HasJudged stack kept first.judge now.judge front
+  pub judged : HasJudged stack kept first.judge now.judge prefix
   pub listed : let site = first.judge.table.now.site in
-      AreLinesAt site.statements site.place front now.lines.now.items
-  pub stand : AreTagsFor first.judge.table.now.site.statements front now.tags.now.items
+      AreLinesAt site.statements site.index prefix now.lines.now.items
+  pub stand : AreTagsFor first.judge.table.now.site.statements prefix now.tags.now.items
   pub count : length now.lines.now.items ≡ now.judge.steps
   pub marks : length now.tags.now.items ≡ now.judge.kept
 
 -- the move may be made after these, which stand for names; and numbers of steps fit 32 bits
 abbrev pub MayBeListed : ProofSite → List (Move ℕ) → Move ℕ → Type 0
-MayBeListed site front move =
-    MayBeMade site.statements site.place move
+MayBeListed site prefix move =
+    MayBeMade site.statements site.index move
     × ((names : List (Move (List ℕ)))
-    × AreNumberedMoves site.statements (front ++ move ∷ []) names)
-    × (length front < 2 ^ 32)
+    × AreNumberedMoves site.statements (prefix ++ move ∷ []) names)
+    × (length prefix < 2 ^ 32)
 
 -- a move breaks the rule at a step, whatever names the moves stand for
 abbrev pub BreaksAt : (limit : ℕ) → List Sentence → ℕ → List (Move ℕ) → ProofRule → ℕ → Type 0
-BreaksAt limit statements place steps rule step =
+BreaksAt limit statements index steps rule step =
     (moves : List (Move (List ℕ))) → AreNumberedMoves statements steps moves
-    → IsMoveFault (IsWithin limit) (take place statements) moves rule step
+    → IsMoveFault (IsWithin limit) (take index statements) moves rule step
 
 -- the moves prove the `$p` with the number, and the lines are their listing
 abbrev pub ListsProof : (limit : ℕ) → List Sentence → (id : ℕ) → List (Move ℕ) → List Line → Type 0
 ListsProof limit statements id steps lines =
-    OfMoves statements id steps (λ place s moves.
-    Prove (IsWithin limit) (take place statements) s moves
-    × AreLinesOf statements (take place statements) moves lines)
+    OfMoves statements id steps (λ index s moves.
+    Prove (IsWithin limit) (take index statements) s moves
+    × AreLinesOf statements (take index statements) moves lines)
 
 -- the rule and the step of the fault are those of the moves' first fault
 abbrev pub FaultsProof : (limit : ℕ) → List Sentence → (id : ℕ) → List (Move ℕ) → ProofFault
     → Type 0
 FaultsProof limit statements id steps fault =
     OnRule fault (λ rule step. OfMoves statements id steps
-    (λ place s moves.
-    IsMovesFault (IsWithin limit) (take place statements) s moves rule step))
+    (λ index s moves.
+    IsMovesFault (IsWithin limit) (take index statements) s moves rule step))

@@ -12,50 +12,50 @@ use Rattle.mm_proof.specs.Mirror.CodeSteps.{MayBeUsed}
 use Rattle.mm_proof.specs.Mirror.CodeVerify.{all_names_at, AreStackEntries}
 
 -- the step by the label with a number carries passed moves on: from the one stack to the other
-abbrev pub CarriesOn : (limit : ℕ) → List Sentence → (place id : ℕ) → (old new : List (List ℕ))
+abbrev pub CarriesOn : (limit : ℕ) → List Sentence → (index id : ℕ) → (old new : List (List ℕ))
     → Type 0
-CarriesOn limit statements place id old new =
+CarriesOn limit statements index id old new =
     (label : List ℕ) (moves : List (Move (List ℕ))) (kept : List (List (List ℕ)))
     → IsNumberedMove statements (name id) (name label)
-    → Passed (IsWithin limit) (take place statements) moves (all_names_at statements old) kept
-    → Passed (IsWithin limit) (take place statements) (moves ++ name label ∷ [])
+    → Passed (IsWithin limit) (take index statements) moves (all_names_at statements old) kept
+    → Passed (IsWithin limit) (take index statements) (moves ++ name label ∷ [])
     (all_names_at statements new) kept
 
 -- the step by the label with a number breaks this rule first, on this stack
-abbrev pub StopsAt : (limit : ℕ) → List Sentence → (place id : ℕ) → List (List ℕ) → ProofRule
+abbrev pub StopsAt : (limit : ℕ) → List Sentence → (index id : ℕ) → List (List ℕ) → ProofRule
     → Type 0
-StopsAt limit statements place id stack rule =
+StopsAt limit statements index id stack rule =
     (label : List ℕ) (kept : List (List (List ℕ)))
     → IsNumberedMove statements (name id) (name label)
-    → FirstAtMove (IsWithin limit) rule (take place statements)
+    → FirstAtMove (IsWithin limit) rule (take index statements)
     (all_names_at statements stack) kept (name label)
 
--- what the move by number stands for may be made at the place
+-- what the move by number stands for may be made at the index
 abbrev pub MayBeMade : List Sentence → ℕ → Move ℕ → Type 0
-MayBeMade statements place (name id) = (label : List ℕ) × MayBeUsed statements place label id
-MayBeMade statements place (again tag) = Unit {0}
-MayBeMade statements place mark = Unit {0}
+MayBeMade statements index (name id) = (label : List ℕ) × MayBeUsed statements index label id
+MayBeMade statements index (again tag) = Unit {0}
+MayBeMade statements index mark = Unit {0}
 
--- A front of the moves passed, in so many steps, whatever names it stands for, and left these lists
--- of the store.
-pub record HasRun (limit : ℕ) (statements : List Sentence) (place : ℕ) (front : List (Move ℕ))
+-- A prefix of the moves passed, in so many steps, whatever names it stands for, and left these
+-- lists of the store.
+pub record HasRun (limit : ℕ) (statements : List Sentence) (index : ℕ) (prefix : List (Move ℕ))
     (stack kept : List (List ℕ)) (steps : ℕ) : Type 0 where
-  pub count : steps ≡ steps_in front
+  pub count : steps ≡ steps_in prefix
   pub passed :
-      (moves : List (Move (List ℕ))) → AreNumberedMoves statements front moves
-      → Passed (IsWithin limit) (take place statements) moves
+      (moves : List (Move (List ℕ))) → AreNumberedMoves statements prefix moves
+      → Passed (IsWithin limit) (take index statements) moves
       (all_names_at statements stack) (all_names_at statements kept)
-  pub entries : AreStackEntries statements (take place statements) stack
-  pub kept_entries : AreStackEntries statements (take place statements) kept
+  pub entries : AreStackEntries statements (take index statements) stack
+  pub kept_entries : AreStackEntries statements (take index statements) kept
 
 -- those of these labels are marked that the moves name
 pub record AreMarked (entries : List ℕ) (moves : List (Move ℕ)) (marks : List Bool) : Type 0 where
-  pub named : (place : ℕ) → IsTrue (slice_index_or marks place false)
-      → (i : ℕ) × (id : ℕ) × (slice_get entries place ≡ Some id)
+  pub named : (index : ℕ) → IsTrue (slice_index_or marks index false)
+      → (i : ℕ) × (id : ℕ) × (slice_get entries index ≡ Some id)
       × (slice_get moves i ≡ Some (name id))
   pub marked : (i id : ℕ) → slice_get moves i ≡ Some (name id)
-      → (place : ℕ) × (slice_get entries place ≡ Some id)
-      × IsTrue (slice_index_or marks place false)
+      → (index : ℕ) × (slice_get entries index ≡ Some id)
+      × IsTrue (slice_index_or marks index false)
 
 -- one of the moves names the assertion with this number
 abbrev pub IsNamedByMove : List Sentence → List (Move ℕ) → ℕ → Type 0

@@ -111,15 +111,15 @@ AreFirstNumbers seen (n ∷ numbers) listed =
     ⊎ (¬ (Contains seen n) × (others : List ℕ) × (listed ≡ n ∷ others)
     × AreFirstNumbers (n ∷ seen) numbers others)
 
--- How a step is said, and how it changes the trees that are tagged: a step by a label is said by the
--- place of this label, with a tag behind it where its tree is repeated; another is said by the place
--- of its tree among those that are tagged.
+-- How a step is said, and how it changes the trees that are tagged: a step by a label is said by
+-- the index of this label, with a tag behind it where its tree is repeated; another is said by the
+-- index of its tree among those that are tagged.
 abbrev pub IsEncoded : (labels : List ℕ) → (repeated kept : List Subtree) → SharedStep
     → (codes : List Code) → (kept' : List Subtree) → Type 0
 IsEncoded labels repeated kept (step.Make t) codes kept' =
-    (place : ℕ) × (slice_get labels place ≡ Some t.label)
-    × ((Contains repeated t × (codes ≡ Number (place + 1) ∷ Tag ∷ []) × Adds kept t kept')
-    ⊎ (¬ (Contains repeated t) × (codes ≡ Number (place + 1) ∷ []) × (kept' ≡ kept)))
+    (index : ℕ) × (slice_get labels index ≡ Some t.label)
+    × ((Contains repeated t × (codes ≡ Number (index + 1) ∷ Tag ∷ []) × Adds kept t kept')
+    ⊎ (¬ (Contains repeated t) × (codes ≡ Number (index + 1) ∷ []) × (kept' ≡ kept)))
 IsEncoded labels repeated kept (step.Repeat t) codes kept' =
     (tag : ℕ) × (slice_get kept tag ≡ Some t)
     × (codes ≡ Number (length labels + tag + 1) ∷ []) × (kept' ≡ kept)

@@ -23,58 +23,58 @@ use Rattle.mm_proof.specs.declared.fault.ProofRule.TheVariants as rules
 use Rattle.mm_proof.specs.declared.labels.Use.{Use}
 use Rattle.mm_proof.specs.declared.labels.Use.TheVariants as uses
 
--- the statement with this number stands before a place, has the label, and is an assertion or an
+-- the statement with this number stands before an index, has the label, and is an assertion or an
 -- active hypothesis
-pub record MayBeUsed (statements : List Sentence) (place : ℕ) (label : List ℕ)
+pub record MayBeUsed (statements : List Sentence) (index : ℕ) (label : List ℕ)
     (id : ℕ) : Type 0 where
   pub at : ℕ
   pub s : Sentence
   pub numbered : IsNumbered statements id at s
   pub named : IsLabelled label s
-  pub before : at < place
-  pub kind : (IsHypothesis s.kind × IsActive (take place statements) at) ⊎ IsAssertion s.kind
+  pub before : at < index
+  pub kind : (IsHypothesis s.kind × IsActive (take index statements) at) ⊎ IsAssertion s.kind
 
--- the label is that of a hypothesis before a place that isn't active there
-pub record IsIdle (statements : List Sentence) (place : ℕ) (label : List ℕ) : Type 0 where
+-- the label is that of a hypothesis before an index that isn't active there
+pub record IsIdle (statements : List Sentence) (index : ℕ) (label : List ℕ) : Type 0 where
   pub at : ℕ
   pub s : Sentence
-  pub there : slice_get (take place statements) at ≡ Some s
+  pub there : slice_get (take index statements) at ≡ Some s
   pub named : IsLabelled label s
   pub kind : IsHypothesis s.kind
-  pub idle : ¬ (IsActive (take place statements) at)
+  pub idle : ¬ (IsActive (take index statements) at)
 
--- a label of no statement before the place
+-- a label of no statement before the index
 abbrev pub IsUnknown : List Sentence → ℕ → List ℕ → Type 0
-IsUnknown statements place label = ¬ (SomeSentence (take place statements) (IsLabelled label))
+IsUnknown statements index label = ¬ (SomeSentence (take index statements) (IsLabelled label))
 
 -- The numbers are those of the labels, which may be used.
 abbrev pub AreFor : List Sentence → ℕ → List ℕ → List (List ℕ) → Type 0
-AreFor statements place ids labels =
-    AllZip (λ id label. MayBeUsed statements place label id) ids labels
+AreFor statements index ids labels =
+    AllZip (λ id label. MayBeUsed statements index label id) ids labels
 
--- what a label stands for in the proof of the statement at a place
+-- what a label stands for in the proof of the statement at an index
 abbrev pub IsUseOf : List Sentence → ℕ → List ℕ → Use → Type 0
-IsUseOf statements place label uses.Unknown = IsUnknown statements place label
-IsUseOf statements place label uses.Idle = IsIdle statements place label
-IsUseOf statements place label (uses.Number id) = MayBeUsed statements place label id.0
+IsUseOf statements index label uses.Unknown = IsUnknown statements index label
+IsUseOf statements index label uses.Idle = IsIdle statements index label
+IsUseOf statements index label (uses.Number id) = MayBeUsed statements index label id.0
 
 -- Why the labels have no numbers: one is unknown; or each is that of an earlier statement, and one
 -- of them is idle.
 abbrev pub BreaksLabels : ProofRule → List Sentence → ℕ → List (List ℕ) → Type 0
-BreaksLabels rules.P2 statements place labels =
-    (label : List ℕ) × Contains labels label × IsUnknown statements place label
-BreaksLabels rules.P3 statements place labels =
-    ((label : List ℕ) → Contains labels label → ¬ (IsUnknown statements place label))
-    × (label : List ℕ) × Contains labels label × IsIdle statements place label
-BreaksLabels rule statements place labels = ⊥
+BreaksLabels rules.P2 statements index labels =
+    (label : List ℕ) × Contains labels label × IsUnknown statements index label
+BreaksLabels rules.P3 statements index labels =
+    ((label : List ℕ) → Contains labels label → ¬ (IsUnknown statements index label))
+    × (label : List ℕ) × Contains labels label × IsIdle statements index label
+BreaksLabels rule statements index labels = ⊥
 
 -- the code says the move by numbers, where numbers from 1 on stand for these labels in order, and
 -- those above for tags
 abbrev pub NumberSays : List ℕ → Code → Move ℕ → Type 0
 NumberSays ids (codes.Number number) move =
-    (place : ℕ) × (number ≡ place + 1)
-    × (((id : ℕ) × (slice_get ids place ≡ Some id) × (move ≡ name id))
-    ⊎ ((tag : ℕ) × (place ≡ length ids + tag) × (move ≡ again tag)))
+    (index : ℕ) × (number ≡ index + 1)
+    × (((id : ℕ) × (slice_get ids index ≡ Some id) × (move ≡ name id))
+    ⊎ ((tag : ℕ) × (index ≡ length ids + tag) × (move ≡ again tag)))
 NumberSays ids codes.Tag move = move ≡ mark
 
 -- the move by the label with a number, or else by a tag
@@ -82,9 +82,9 @@ abbrev pub move_by : Option ℕ → ℕ → Move ℕ
 move_by (Some id) tag = name id
 move_by None tag = again tag
 
--- the move at a place, where places stand for these labels in order, and those above for tags
+-- the move at an index, where indices stand for these labels in order, and those above for tags
 abbrev pub entry_move : List ℕ → ℕ → Move ℕ
-entry_move ids place = move_by (slice_get ids place) (place - length ids)
+entry_move ids index = move_by (slice_get ids index) (index - length ids)
 
 -- the move that a code says
 abbrev pub code_move : List ℕ → Code → Move ℕ
@@ -100,15 +100,15 @@ moves_of entries said = code_moves (ids_in entries) said
 
 -- the tokens break no rule over the whole proof, and the moves are what they say, each of which may
 -- be made
-pub record IsReading (statements : List Sentence) (place : ℕ) (tokens : List (List ℕ))
+pub record IsReading (statements : List Sentence) (index : ℕ) (tokens : List (List ℕ))
     (steps : List (Move ℕ)) : Type 0 where
-  pub whole : IsWhole (take place statements) tokens
+  pub whole : IsWhole (take index statements) tokens
   pub own : Sentence
-  pub there : slice_get statements place ≡ Some own
+  pub there : slice_get statements index ≡ Some own
   pub moves : List (Move (List ℕ))
-  pub said : SayMoves (take place statements) own tokens moves
+  pub said : SayMoves (take index statements) own tokens moves
   pub numbered : AreNumberedMoves statements steps moves
-  pub usable : AllByRecursion (IsUsableMove (take place statements)) moves
+  pub usable : AllByRecursion (IsUsableMove (take index statements)) moves
 
 -- a fault of the letters as a fault of the proof
 abbrev pub fault_behind : CodeFault → ProofFault

@@ -13,13 +13,13 @@ AreOnce rows = (i j : ℕ) (row : Row) → slice_get rows i ≡ Some row → sli
 
 -- the number is that of a row of the table
 pub record IsNumberOfRow (rows : List Row) (number : ℕ) (row : Row) : Type 0 where
-  pub place : ℕ
-  pub next : number ≡ place + 1
-  pub there : slice_get rows place ≡ Some row
+  pub index : ℕ
+  pub next : number ≡ index + 1
+  pub there : slice_get rows index ≡ Some row
 
 -- each row of the first table has its number in the second
 abbrev pub KeepNumbers : List Row → List Row → Type 0
-KeepNumbers old new = (place : ℕ) (row : Row) → slice_get old place ≡ Some row → slice_get new place ≡ Some row
+KeepNumbers old new = (index : ℕ) (row : Row) → slice_get old index ≡ Some row → slice_get new index ≡ Some row
 
 -- the number stands for the trees side by side: it is 0 where there is none; else it is that of a
 -- row of the table, with the label of the first of them, and with numbers that stand for the trees

@@ -10,7 +10,7 @@ use Rattle.mm_proof.specs.declared.fault.ExpandFault.TheVariants.{L2, Memory}
 use Rattle.mm_proof.specs.declared.words.Part.{Part}
 use Rattle.mm_proof.specs.declared.words.Length.{Length}
 
--- these parts are the words of the trees side by side, from this place on
+-- these parts are the words of the trees side by side, from this index on
 abbrev pub AreParts : (start : ℕ) → List Part → Trees → Type 0
 AreParts start [] none = Unit {0}
 AreParts start [] (tree label below right) = ⊥
@@ -21,11 +21,11 @@ AreParts start (part ∷ parts) (tree label below right) =
 
 -- the part of the word spells the tree
 pub record IsPartOf (word : List (List ℕ)) (part : Part) (t : Trees) : Type 0 where
-  pub front : List (List ℕ)
+  pub prefix : List (List ℕ)
   pub back : List (List ℕ)
-  pub whole : word ≡ front ++ (spelling t ++ back)
-  pub start : part.start ≡ length front
-  pub end : part.end ≡ length front + length (spelling t)
+  pub whole : word ≡ prefix ++ (spelling t ++ back)
+  pub start : part.start ≡ length prefix
+  pub end : part.end ≡ length prefix + length (spelling t)
 
 -- the parts are those of the trees of the row, and of those that are kept
 pub record ArePartsOf (stack : List Part) (row : Trees) (shelf : List Part) (kept : List Trees)

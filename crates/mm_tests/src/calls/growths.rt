@@ -1,7 +1,7 @@
 //! Refused growths: of a device's bytes, of letters, of a reader of statements, of `run`, of
 //! questions, and of saved files.
 //!
-//! The tests whose names begin with `growths` meet want of memory wherever it comes, look at what
+//! The tests whose names begin with `growths` meet lack of memory wherever it comes, look at what
 //! it leaves, and go on. With ample memory they are runs of happy paths. `scripts/failing` runs
 //! each of them with each of its requests for memory refused, one alone, in turn.
 
@@ -49,7 +49,7 @@ pub(crate) fn once_more<T, E: Drop>(answer: Result<T, E>) -> Result<T, Fail> {
     Ok(answer.ok().ok_or("refused after want of memory")?)
 }
 
-/// The bytes of the database, which come one by one: read once more where memory was wanting the
+/// The bytes of the database, which come one by one: read once more where memory ran out the
 /// first time.
 fn read_on(alloc: Global) -> Result<Vec<u8>, Fail> {
     let text = DEMO_COMPRESSED;
@@ -70,7 +70,7 @@ fn growths_of_read_all(rt: HostRuntime) -> Result<(), Fail> {
 }
 
 /// The bytes of a text, which come one by one, without what its comments say: read once more where
-/// memory was wanting the first time.
+/// memory ran out the first time.
 fn read_hollow_on(alloc: Global, text: &'static [u8]) -> Result<HollowBytes, Fail> {
     match read_hollow(alloc, &mut failing_reader(text, 0), text.len()) {
         Err(LoadFault::Memory) => {
@@ -90,7 +90,7 @@ fn growths_of_read_hollow(rt: HostRuntime) -> Result<(), Fail> {
     Ok(())
 }
 
-/// The letters of the codes, written once more where memory was wanting the first time.
+/// The letters of the codes, written once more where memory ran out the first time.
 fn write_on(alloc: Global) -> Result<Vec<u8>, Fail> {
     match write_codes(alloc, &CODES) {
         Ok(text) => Ok(text),
@@ -103,7 +103,7 @@ fn growths_of_written_codes(rt: HostRuntime) -> Result<(), Fail> {
     expect(write_on(rt.alloc())?.as_slice() == LETTERS, "other letters")
 }
 
-/// Whether five more calls answer want of memory.
+/// Whether five more calls answer lack of memory.
 fn answers_memory_again<'a>(statements: &mut Statements<'a>, into: &mut Statement<'a>) -> bool {
     for _ in 0..5 {
         if !matches!(statements.read(into), Err(TextFault::Memory)) {
@@ -113,7 +113,7 @@ fn answers_memory_again<'a>(statements: &mut Statements<'a>, into: &mut Statemen
     true
 }
 
-/// Whether all the statements are read, or those up to want of memory, which is then the answer for
+/// Whether all the statements are read, or those up to lack of memory, which is then the answer for
 /// good.
 fn reads_on<'a>(statements: &mut Statements<'a>, into: &mut Statement<'a>) -> Result<bool, Fail> {
     for count in 0..30 {
@@ -146,7 +146,7 @@ fn growths_of_a_reader(rt: HostRuntime) -> Result<(), Fail> {
     expect(is_read(rt.alloc())?, "another answer after want of memory")
 }
 
-/// The reply to a command and its status; nothing where memory was wanting, and nothing is written
+/// The reply to a command and its status; nothing where memory ran out, and nothing is written
 /// then.
 fn reply_or_memory(alloc: Global, command: &Command) -> Result<Option<(Vec<u8>, Status)>, Fail> {
     if !asks_handed(command, &FILES) {
@@ -163,7 +163,7 @@ fn reply_or_memory(alloc: Global, command: &Command) -> Result<Option<(Vec<u8>, 
     }
 }
 
-/// The reply to a command, asked once more where memory was wanting the first time.
+/// The reply to a command, asked once more where memory ran out the first time.
 fn reply_to(alloc: Global, command: &Command) -> Result<(Vec<u8>, Status), Fail> {
     if let Some(reply) = reply_or_memory(alloc, command)? {
         return Ok(reply);
@@ -265,7 +265,7 @@ fn answer_to(
     }
 }
 
-/// What the call answers, asked once more where memory was wanting the first time.
+/// What the call answers, asked once more where memory ran out the first time.
 fn ask_on(
     alloc: Global,
     checked: &Checked,
@@ -294,7 +294,7 @@ fn answers_alike(
     Ok(true)
 }
 
-/// What is kept of the database, which is checked once more where memory was wanting the first
+/// What is kept of the database, which is checked once more where memory ran out the first
 /// time.
 fn checked_on<'a>(alloc: Global, files: &'a [File<'a>]) -> Result<Checked<'a>, Fail> {
     match check(alloc, Seed::known(), files) {
@@ -323,7 +323,7 @@ fn growths_of_calls(rt: HostRuntime) -> Result<(), Fail> {
     expect(answer?, "another answer after want of memory")
 }
 
-/// The file with the theorem's proof in a form, asked for once more where memory was wanting the
+/// The file with the theorem's proof in a form, asked for once more where memory ran out the
 /// first time.
 fn saved_on(alloc: Global, form: Form) -> Result<(usize, Vec<u8>), Fail> {
     match saved(alloc, Seed::known(), &FILES, b"th1", form) {
@@ -334,7 +334,7 @@ fn saved_on(alloc: Global, form: Form) -> Result<(usize, Vec<u8>), Fail> {
     }
 }
 
-/// The first file with each proof in a form, asked for once more where memory was wanting the first
+/// The first file with each proof in a form, asked for once more where memory ran out the first
 /// time.
 fn saved_all_on(alloc: Global, form: Form) -> Result<Vec<u8>, Fail> {
     match saved_all(alloc, Seed::known(), &FILES, 0, form) {

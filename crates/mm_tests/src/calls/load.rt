@@ -27,8 +27,8 @@ impl Read for FailingReader {
             return Err(io::Error::from(ErrorKind::Interrupted));
         }
         match (self.text.get(self.calls.saturating_sub(1)), buf.first_mut()) {
-            (Some(byte), Some(place)) => {
-                *place = *byte;
+            (Some(byte), Some(index)) => {
+                *index = *byte;
                 Ok(1)
             }
             _ => Ok(0),

@@ -74,7 +74,7 @@ fn told(alloc: Global, profile: Profile, files: &[File], text: &[u8]) -> Result<
 /// A theorem with a normal proof.
 const SUM: &[u8] = b"th2 $p term ( t + t ) $= tt tt tpl $.\n";
 
-/// Texts with an unknown step, whose known fronts would break a rule, but for the first.
+/// Texts with an unknown step, whose known prefixes would break a rule, but for the first.
 const UNKNOWN: [&[u8]; 4] = [b"?", b"nope ?", b"( tt ) A?", b"tt weq ?"];
 
 #[test]
@@ -105,7 +105,7 @@ fn a_text_with_an_unknown_step_is_incomplete(rt: HostRuntime) -> Result<(), Fail
 /// The counts of statements and proofs of a database that is accepted, or the rule that it breaks.
 type Outcome = Result<(usize, usize), Rule>;
 
-/// What `check` or `check_with` concludes, without the places.
+/// What `check` or `check_with` concludes, without where it lies in memory.
 fn outcome(answer: Result<Checked<'_>, CheckFault<'_>>) -> Result<Outcome, Fail> {
     match answer {
         Ok(checked) => {

@@ -1,8 +1,8 @@
 //! Both stores, and the verdicts on proofs of small databases with either.
 
 mod forms;
-mod fronts;
 mod growths;
+mod prefixes;
 mod prover;
 mod tokens;
 
@@ -22,7 +22,7 @@ use mm_frame::{Book, Found, LabelId, Piece, ShortPiece, Sym, Taken};
 use mm_proof::{
     Flat, Line, Name, Parsed, Profile, ProofFault, ProofRule, Rows, Steps, Store, Used,
     by_spelling, by_word, fewest_steps, limits_aside, listing, made_by_word, mark_before_any_step,
-    one_fit, one_front_verdict, one_front_verdict_under, one_packed, one_tree, one_verdict,
+    one_fit, one_packed, one_prefix_verdict, one_prefix_verdict_under, one_tree, one_verdict,
     one_verdict_under, one_word, some_packed, some_verdict, steps_make_children, tag_over_marks,
     told_by_packed, verify,
 };
@@ -156,8 +156,8 @@ fn take_theorem<'a>(
     book: &mut Book<'a>,
     into: &mut Statement<'a>,
 ) -> Result<LabelId, Fail>
-    ensures proof { IfOk result (λ id. (place : ℕ) × (s : Sentence)
-        × IsProofNumber book.new.statements id.0 place s) }
+    ensures proof { IfOk result (λ id. (index : ℕ) × (s : Sentence)
+        × IsProofNumber book.new.statements id.0 index s) }
     ensures room { OnOk result (bytes_in (plain_statement into.new) ≤ most_bytes) }
 {
     for _ in 0..u64::MAX {
@@ -191,8 +191,8 @@ fn take_proof<'a>(
     book: &mut Book<'a>,
     into: &mut Statement<'a>,
 ) -> Result<(LabelId, Vec<&'a [u8]>), Fail>
-    ensures proof { IfOk result (λ taken. (place : ℕ) × (s : Sentence)
-        × IsProofNumber book.new.statements taken.0.0 place s) }
+    ensures proof { IfOk result (λ taken. (index : ℕ) × (s : Sentence)
+        × IsProofNumber book.new.statements taken.0.0 index s) }
     ensures room { IfOk result (λ taken. sum_by length (texts taken.1.items) ≤ most_bytes) }
 {
     let id = take_theorem(statements, book, into)?;
@@ -206,8 +206,8 @@ fn theorem_from<'a>(
     statements: &mut Statements<'a>,
     into: &mut Statement<'a>,
 ) -> Result<Theorem<'a>, Fail>
-    ensures proof { IfOk result (λ t. (place : ℕ) × (s : Sentence)
-        × IsProofNumber t.book.statements t.id.0 place s) }
+    ensures proof { IfOk result (λ t. (index : ℕ) × (s : Sentence)
+        × IsProofNumber t.book.statements t.id.0 index s) }
     ensures room { IfOk result (λ t. sum_by length (texts t.tokens.items) ≤ most_bytes) }
 {
     let mut book = Book::new(alloc, Seed::known())?;
@@ -222,8 +222,8 @@ fn theorem_from<'a>(
 
 /// The first `$p` of a database.
 fn first_theorem<'a>(alloc: Global, files: &'a [File<'a>]) -> Result<Theorem<'a>, Fail>
-    ensures proof { IfOk result (λ t. (place : ℕ) × (s : Sentence)
-        × IsProofNumber t.book.statements t.id.0 place s) }
+    ensures proof { IfOk result (λ t. (index : ℕ) × (s : Sentence)
+        × IsProofNumber t.book.statements t.id.0 index s) }
     ensures room { IfOk result (λ t. sum_by length (texts t.tokens.items) ≤ most_bytes) }
 {
     let mut statements = reader(alloc, files)?;
@@ -240,8 +240,8 @@ fn proved<S: Store + Drop>(
     store: S,
     theorem: &Theorem,
 ) -> Result<Option<Used>, ProofFault>
-    requires proof { (place : ℕ) × (s : Sentence)
-        × IsProofNumber theorem.now.book.statements theorem.now.id.0 place s }
+    requires proof { (index : ℕ) × (s : Sentence)
+        × IsProofNumber theorem.now.book.statements theorem.now.id.0 index s }
     requires room { sum_by length (texts theorem.now.tokens.items) ≤ most_bytes }
     requires stack { S.stack store ≡ [] }
     requires kept { S.kept store ≡ [] }
@@ -278,8 +278,8 @@ fn is_proved_with<S: Store + Drop>(
     theorem: &Theorem,
     names: &[&[u8]],
 ) -> Result<bool, Fail>
-    requires proof { (place : ℕ) × (s : Sentence)
-        × IsProofNumber theorem.now.book.statements theorem.now.id.0 place s }
+    requires proof { (index : ℕ) × (s : Sentence)
+        × IsProofNumber theorem.now.book.statements theorem.now.id.0 index s }
     requires room { sum_by length (texts theorem.now.tokens.items) ≤ most_bytes }
     requires stack { S.stack store ≡ [] }
     requires kept { S.kept store ≡ [] }
@@ -299,8 +299,8 @@ fn joined(alloc: Global, pieces: &[&[u8]]) -> Result<Vec<u8>, AllocError> {
 
 /// Whether either store proves the theorem with these assertions.
 fn is_proved_by_both(alloc: Global, theorem: &Theorem, names: &[&[u8]]) -> Result<bool, Fail>
-    requires proof { (place : ℕ) × (s : Sentence)
-        × IsProofNumber theorem.now.book.statements theorem.now.id.0 place s }
+    requires proof { (index : ℕ) × (s : Sentence)
+        × IsProofNumber theorem.now.book.statements theorem.now.id.0 index s }
     requires room { sum_by length (texts theorem.now.tokens.items) ≤ most_bytes }
 {
     Ok(
@@ -380,8 +380,8 @@ fn compressed_proof(rt: HostRuntime) -> Result<(), Fail> {
 
 /// The steps of the proof.
 fn listing_of(alloc: Global, theorem: &Theorem) -> Result<Vec<Line>, Fail>
-    requires proof { (place : ℕ) × (s : Sentence)
-        × IsProofNumber theorem.now.book.statements theorem.now.id.0 place s }
+    requires proof { (index : ℕ) × (s : Sentence)
+        × IsProofNumber theorem.now.book.statements theorem.now.id.0 index s }
     requires room { sum_by length (texts theorem.now.tokens.items) ≤ most_bytes }
 {
     match Steps::parse(
@@ -424,8 +424,8 @@ fn are_shared_steps(book: &Book, lines: &[Line]) -> Result<bool, Fail> {
 
 /// Whether the steps of the theorem are those of that proof.
 fn shares_a_step(alloc: Global, theorem: &Theorem) -> Result<bool, Fail>
-    requires proof { (place : ℕ) × (s : Sentence)
-        × IsProofNumber theorem.now.book.statements theorem.now.id.0 place s }
+    requires proof { (index : ℕ) × (s : Sentence)
+        × IsProofNumber theorem.now.book.statements theorem.now.id.0 index s }
     requires room { sum_by length (texts theorem.now.tokens.items) ≤ most_bytes }
 {
     let lines = listing_of(alloc, theorem)?;
@@ -459,8 +459,8 @@ fn nothing_is_expanded(rt: HostRuntime) -> Result<(), Fail> {
 
 /// Whether either store answers that the 21st step passes the limit.
 fn passes_the_limit(alloc: Global, theorem: &Theorem) -> bool
-    requires proof { (place : ℕ) × (s : Sentence)
-        × IsProofNumber theorem.now.book.statements theorem.now.id.0 place s }
+    requires proof { (index : ℕ) × (s : Sentence)
+        × IsProofNumber theorem.now.book.statements theorem.now.id.0 index s }
     requires room { sum_by length (texts theorem.now.tokens.items) ≤ most_bytes }
 {
     let rule = ProofRule::L1;
@@ -524,7 +524,7 @@ fn expect_conclusion<S: Store + Drop>(rt: &impl Abort, mut store: S) -> Result<(
         unreachable!()
     };
     let Some(value) = ShortPiece::of(Piece::Value(0)) else {
-        // The place is below 2,147,483,648.
+        // The index is below 2,147,483,648.
         unreachable!()
     };
     let Some(last) = ShortPiece::of(Piece::Symbol(Sym(6))) else {
@@ -558,9 +558,9 @@ fn laws_are_called() {
     by_spelling();
     some_verdict();
     one_verdict();
-    one_front_verdict();
+    one_prefix_verdict();
     one_verdict_under();
-    one_front_verdict_under();
+    one_prefix_verdict_under();
     limits_aside();
     mark_before_any_step();
     tag_over_marks();

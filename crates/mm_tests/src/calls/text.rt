@@ -20,8 +20,8 @@ th $p term ( 0 + 0 ) $= tze tze tpl $.\n";
 /// Blocks, and a file that is put in once. The last `$}` lacks its `${`.
 const TOP: &[u8] = b"$[ b $] ${ e $e a $. $} $[ b $] $( $} $) $} $d x y $.";
 
-/// A statement: its kind, the file and the place of its first token, how many symbols it has, and
-/// the place of its proof.
+/// A statement: its kind, the file and the position of its first token, how many symbols it has,
+/// and the position of its proof.
 struct Form(Kind, usize, u32, usize, (u32, u32));
 
 const FIRST_FORMS: [Form; 7] = [
@@ -41,7 +41,7 @@ const TOP_FORMS: [Form; 4] = [
     Form(Kind::Closing, 0, 21, 0, (0, 0)),
 ];
 
-/// A fault of the first file: its rule, its place, the number of its statement, and how long the
+/// A fault of the first file: its rule, its position, the number of its statement, and how long the
 /// label of that is; 0 where there is none.
 #[derive(Clone, Copy)]
 struct Fault(TextRule, u32, usize, usize);
@@ -70,7 +70,7 @@ fn length_of(label: &Option<Token>) -> usize {
 }
 
 fn is_fault(answer: &Result<bool, TextFault>, fault: &Fault) -> bool {
-    let Fault(wanted, place, number, length) = fault;
+    let Fault(wanted, index, number, length) = fault;
     match answer {
         Err(
             TextFault::Fault {
@@ -83,7 +83,7 @@ fn is_fault(answer: &Result<bool, TextFault>, fault: &Fault) -> bool {
         ) => {
             rule == wanted
                 && *file == 0
-                && at == place
+                && at == index
                 && statement == number
                 && length_of(label) == *length
         }
@@ -124,12 +124,12 @@ fn read_next<'a>(
     Ok(())
 }
 
-/// Whether a part is at this place of a text.
+/// Whether a part is at this position of a text.
 fn spans((start, end): (u32, u32), text: &[u8], part: &[u8]) -> bool {
     text.get(start as usize..end as usize) == Some(part)
 }
 
-/// Whether the statements are read, and the proof of the last one stands at its place.
+/// Whether the statements are read, and the proof of the last one stands at its position.
 fn reads_first<'a>(
     statements: &mut Statements<'a>,
     into: &mut Statement<'a>,

@@ -1,4 +1,4 @@
--- Files that show the same have the same items, but for the places of their tokens, and are read
+-- Files that show the same have the same items, but for the positions of their tokens, and are read
 -- alike.
 use Rattle.std.proofs.Common.{◌≡◌, ℕ, zero, suc, ◌+◌, List, [], ◌∷◌, length, map, replicate, Bool}
 use Rattle.std.proofs.Common.{true, false, cond, not, refl, sym, ap, ◌∙◌, codes, Option, Some, None}
@@ -26,7 +26,7 @@ use Rattle.mm_text.proofs.Inclusions.FilePieces.{is_wrong, named_related, splice
 use Rattle.mm_text.proofs.Inclusions.FilePieces.{spliced_nil}
 use Rattle.mm_text.proofs.Alike.AlikeStatements.{text_alike, faulty_alike, viable_alike, ends_alike}
 
--- ==== files that show the same have the same items, but for the places of their tokens
+-- ==== files that show the same have the same items, but for the positions of their tokens
 
 -- ---- tokens of a file have its number
 
@@ -43,7 +43,7 @@ shown_at_home file bytes =
     let home = all_weaker (StandsIn file bytes) Home (λ t h. h.home) tokens in
     shown_all Home None tokens tt (home (tokens_in_place file bytes))
 
--- places of one file's tokens are replaced in the same way by what agrees on that file
+-- positions of one file's tokens are replaced in the same way by what agrees on that file
 one_on : (h k : ℕ → ℕ → ℕ) (file : ℕ) → ((at : ℕ) → h file at ≡ k file at) → (s : Shown) → AtHome file s → shown_on h s ≡ shown_on k s
 one_on h k file agree (Clear t) home = rw (home, agree t.at) refl
 one_on h k file agree (Broken rule t) home = rw (home, agree t.at) refl
@@ -82,13 +82,13 @@ SameSpot h k (Naming t) (Naming u) = token_on h t ≡ token_on k u
 SameSpot h k (Closing t name) (Closing u other) = (token_on h t ≡ token_on k u) × (token_on h name ≡ token_on k other)
 SameSpot h k _ _ = ⊥
 
--- what is one with lines for places corresponds
+-- what is one with lines for positions corresponds
 pub shown_same : (h k : ℕ → ℕ → ℕ) (x y : Shown) → shown_on h x ≡ shown_on k y → SameShown h k x y
 shown_same h k (Clear t) (Clear u) e = cc
 shown_same h k (Broken rule t) (Broken law u) e = (cc, cc)
 shown_same h k _ _ e = absurd cc
 
--- lines for places make no fault of an item, and none undone
+-- lines for positions make no fault of an item, and none undone
 wrong_on : (h : ℕ → ℕ → ℕ) (a : Item) → is_wrong (item_on h a) ≡ is_wrong a
 wrong_on h (Plain t) = refl
 wrong_on h _ = refl
@@ -131,7 +131,7 @@ module _ (h k : ℕ → ℕ → ℕ) where
   pieces_same file s r (Broken rule t ∷ a) (Clear u ∷ b) w z = absurd z.0
   pieces_same file s r a b w z = absurd w
 
-  -- the pieces of a file of whose places both tell the same
+  -- the pieces of a file of whose positions both tell the same
   pub pieces_agree : (number : ℕ) (file : PlainFile)
       → ((at : ℕ) → h number at ≡ k number at)
       → AllZip (SamePiece h k) (pieces_of number file) (pieces_of number file)
@@ -143,7 +143,8 @@ module _ (h k : ℕ → ℕ → ℕ) where
 
   -- ---- putting in
 
-  -- the items are the same, but that two functions of places tell of them in place of their places
+  -- the items are the same, but that two functions of positions tell of them in place of their
+  -- positions
   abbrev pub SameItem : Item → Item → Type 0
   SameItem a b = item_on h a ≡ item_on k b
 
@@ -179,18 +180,18 @@ module _ (h k : ℕ → ℕ → ℕ) where
 
 -- ---- files that show the same
 
--- files with the same names, place by place
+-- files with the same names, position by position
 abbrev pub SameNames : List PlainFile → List PlainFile → Type 0
 SameNames files others = AllZip (λ f g. f.name ≡ g.name) files others
 
--- a name stands at one place in both lists
-first_place : (text : List ℕ) (files others : List PlainFile) → SameNames files others
+-- a name stands at one position in both lists
+first_position : (text : List ℕ) (files others : List PlainFile) → SameNames files others
     → prefix_len (λ f. not (spells text f.name)) files
     ≡ prefix_len (λ f. not (spells text f.name)) others
-first_place text [] [] z = refl
-first_place text (f ∷ files) (g ∷ others) z =
-    λ i. cond (not (spells text (z.0 i))) (1 + first_place text files others z.1 i) 0
-first_place text files others z = absurd z
+first_position text [] [] z = refl
+first_position text (f ∷ files) (g ∷ others) z =
+    λ i. cond (not (spells text (z.0 i))) (1 + first_position text files others z.1 i) 0
+first_position text files others z = absurd z
 
 -- as many files
 pub as_long : (files others : List PlainFile) → SameNames files others
@@ -201,8 +202,8 @@ as_long files others z = sym (AllZip-long (λ f g. f.name ≡ g.name) files othe
 pub same_number : (files others : List PlainFile) → SameNames files others → (text : List ℕ)
     → file_number files text ≡ file_number others text
 same_number files others z text =
-    let place = first_place text files others z in
-    λ i. cond (nat_lt (place i) (as_long files others z i)) (Some (place i)) None
+    let position = first_position text files others z in
+    λ i. cond (nat_lt (position i) (as_long files others z i)) (Some (position i)) None
 
 -- the pieces of files with one number correspond
 file_pieces_same : (files others : List PlainFile) (n : ℕ) (f g : PlainFile) → slice_get files n ≡ Some f → slice_get others n ≡ Some g → AreAlike f g
@@ -226,7 +227,8 @@ put_before_same files others z n ps qs w = elim (slice_get_cases files n).1 [
       rw (here, there, put_before) w
 ]
 
--- files that show the same have the same items, where each place is replaced by the line feeds before it
+-- files that show the same have the same items, where each position is replaced by the line feeds
+-- before it
 pub alike_items : (files others : List PlainFile) → AllZip AreAlike files others → map (item_on (feeds_in files)) (items files) ≡ map (item_on (feeds_in others)) (items others)
 alike_items [] [] z = refl
 alike_items (f ∷ files) (g ∷ others) z =
@@ -253,11 +255,11 @@ alike_files_are_read_alike files others alike statements None reads =
       spelled = spelled;
       ended = refl;
     }
-alike_files_are_read_alike files others alike statements (Some fault) (front, item, rest, unfinished, split, viable, ends) =
+alike_files_are_read_alike files others alike statements (Some fault) (prefix, item, rest, unfinished, split, viable, ends) =
     let h = feeds_in files in let k = feeds_in others in
-    let (first, back, whole, before, behind) = append_split (item_on h) (item_on k) front (item ∷ rest) (items others) (ap (map (item_on h)) (sym split) ∙ alike_items files others alike) in
+    let (first, back, whole, before, behind) = append_split (item_on h) (item_on k) prefix (item ∷ rest) (items others) (ap (map (item_on h)) (sym split) ∙ alike_items files others alike) in
     let (other, after, next, one, later) = cons_split (item_on h) (item_on k) item rest back behind in
-    let (same, begun, also, spelled, begins) = viable_alike h k front first statements unfinished before viable in
+    let (same, begun, also, spelled, begins) = viable_alike h k prefix first statements unfinished before viable in
     let (end, ended, told) = ends_alike h k statements same unfinished begun fault spelled begins item other one ends in record {
       same = same;
       end = Some end;

@@ -85,13 +85,13 @@ module _ (h k : ℕ → ℕ → ℕ) where
   body_alike : (tokens others : List PlainToken) (kind : Kind) (symbols : List PlainToken) → map (token_on h) tokens ≡ map (token_on k) others → IsBody tokens kind symbols
       → (same : List PlainToken) × IsBody others kind same × (length same ≡ length symbols)
   body_alike tokens others kind symbols e b =
-      let (head, same, whole, front, back) = append_split (token_on h) (token_on k) b.head symbols others (ap (map (token_on h)) (sym b.whole) ∙ e) in
+      let (head, same, whole, prefix, back) = append_split (token_on h) (token_on k) b.head symbols others (ap (map (token_on h)) (sym b.whole) ∙ e) in
       let long : length same ≡ length symbols = sym (same_length (token_on h) (token_on k) symbols same back) in (
         same,
         record {
           head = head;
           whole = whole;
-          begins = head_alike kind b.head head front b.begins;
+          begins = head_alike kind b.head head prefix b.begins;
           long = b.long;
           spelled = symbols_alike symbols same back b.spelled;
           room = λ f. subst (λ n. n ≤ 2) (sym long) (b.room f);
@@ -102,9 +102,9 @@ module _ (h k : ℕ → ℕ → ℕ) where
   -- both are an unfinished proof
   proof_alike : (tokens others : List PlainToken) → map (token_on h) tokens ≡ map (token_on k) others → IsInProof tokens → IsInProof others
   proof_alike tokens others e p =
-      let (body, tail, whole, front, back) = append_split (token_on h) (token_on k) p.body (p.equals ∷ p.proof) others (ap (map (token_on h)) (sym p.whole) ∙ e) in
+      let (body, tail, whole, prefix, back) = append_split (token_on h) (token_on k) p.body (p.equals ∷ p.proof) others (ap (map (token_on h)) (sym p.whole) ∙ e) in
       let (equals, proof, cut, first, later) = cons_split (token_on h) (token_on k) p.equals p.proof tail back in
-      let (symbols, stated, long) = body_alike p.body body Provable p.symbols front p.stated in
+      let (symbols, stated, long) = body_alike p.body body Provable p.symbols prefix p.stated in
       record {
         body = body;
         symbols = symbols;
@@ -148,13 +148,13 @@ module _ (h k : ℕ → ℕ → ℕ) where
   -- neither has a `$}` that lacks its `${`
   balanced_alike : (statements same : List PlainStatement) → map (statement_on h) statements ≡ map (statement_on k) same → AreBalanced statements → AreBalanced same
   balanced_alike statements same e b n =
-      let fronts : map (statement_on h) (take n statements) ≡ map (statement_on k) (take n same) =
+      let prefixes : map (statement_on h) (take n statements) ≡ map (statement_on k) (take n same) =
       sym (take-map (statement_on h) n statements) ∙ ap (take n) e ∙ take-map (statement_on k) n same in
-      rw (← count_alike is_closing _ _ fronts, ← count_alike is_opening _ _ fronts) (b n)
+      rw (← count_alike is_closing _ _ prefixes, ← count_alike is_opening _ _ prefixes) (b n)
 
   -- ---- faults
 
-  -- a token's fault is the same, but for its place
+  -- a token's fault is the same, but for its position
   fault_alike : (rule other : TextRule) (t u : PlainToken) (statements same : List PlainStatement) (unfinished begun : List PlainToken) → rule ≡ other → faulty_on h t ≡ faulty_on k u
       → map (statement_on h) statements ≡ map (statement_on k) same → map (token_on h) unfinished ≡ map (token_on k) begun
       → fault_on h (fault_at rule t statements unfinished) ≡ fault_on k (fault_at other u same begun)
@@ -198,7 +198,7 @@ inclusion_alike h k statements same unfinished begun es eu (inr some_open) = inr
 -- ---- endings
 
 module _ (h k : ℕ → ℕ → ℕ) (statements same : List PlainStatement) (unfinished begun : List PlainToken) (fault : PlainFault) (es : map (statement_on h) statements ≡ map (statement_on k) same) (eu : map (token_on h) unfinished ≡ map (token_on k) begun) where
-  -- at items that show the same both readings end, with the same fault but for places
+  -- at items that show the same both readings end, with the same fault but for positions
   pub ends_alike : (item other : Item) → item_on h item ≡ item_on k other → EndsAt statements unfinished item fault → (end : PlainFault) × EndsAt same begun other end × (fault_on h fault ≡ fault_on k end)
   ends_alike (Plain t) (Plain u) e (rule, meets, is) =
       let token : token_on h t ≡ token_on k u = cc in (
@@ -214,7 +214,7 @@ module _ (h k : ℕ → ℕ → ℕ) (statements same : List PlainStatement) (un
       let (u, rest, cut, alike, later) = cons_split (token_on h) (token_on k) first others begun (ap (map (token_on h)) (sym whole) ∙ eu) in
       (fault_at X8 u same begun, inl (u, rest, cut, refl), ap (fault_on h) is ∙ fault_alike h k X8 X8 first u statements same unfinished begun refl (faulty_alike h k first u alike) es eu)
   ends_alike (End file) (End other) e (inr (none, top, before, opening, inner, is)) =
-      let (earlier, tail, whole, front, back) = append_split (statement_on h) (statement_on k) before (opening ∷ inner.within) same (ap (map (statement_on h)) (sym inner.whole) ∙ es) in
+      let (earlier, tail, whole, prefix, back) = append_split (statement_on h) (statement_on k) before (opening ∷ inner.within) same (ap (map (statement_on h)) (sym inner.whole) ∙ es) in
       let (begin, within, cut, alike, later) = cons_split (statement_on h) (statement_on k) opening inner.within tail back in
       let innermost : IsInnermost same earlier begin = record {
         within = within;
@@ -225,15 +225,15 @@ module _ (h k : ℕ → ℕ → ℕ) (statements same : List PlainStatement) (un
       } in (
         fault_at S7 begin.first earlier [],
         inr (nothing_alike h k unfinished begun eu none, (cc), earlier, begin, innermost, refl),
-        ap (fault_on h) is ∙ fault_alike h k S7 S7 opening.first begin.first before earlier [] [] refl (faulty_alike h k opening.first begin.first (ap (λ (x : PlainStatement). x.first) alike)) front refl,
+        ap (fault_on h) is ∙ fault_alike h k S7 S7 opening.first begin.first before earlier [] [] refl (faulty_alike h k opening.first begin.first (ap (λ (x : PlainStatement). x.first) alike)) prefix refl,
       )
   ends_alike _ _ e x = absurd cc
 
--- ==== viable fronts of items that show the same
+-- ==== viable prefixes of items that show the same
 
 -- ---- the tail of a statement
 
--- the proof and its place in what corresponds to a statement's tail
+-- the proof and its position in what corresponds to a statement's tail
 record TailAlike (h k : ℕ → ℕ → ℕ) (s : PlainStatement) (kind : Kind) (others : List PlainToken) : Type 0 where
   pub proof : List PlainToken
   pub span : ℕ × ℕ
@@ -278,12 +278,12 @@ tail_alike h k s _ tail others e b =
 
 -- ---- statements
 
--- what corresponds to a statement's tokens is a statement that differs in places alone
+-- what corresponds to a statement's tokens is a statement that differs in positions alone
 pub statement_alike : (h k : ℕ → ℕ → ℕ) (tokens others : List PlainToken) (s : PlainStatement) → map (token_on h) tokens ≡ map (token_on k) others → Spells tokens s
     → (o : PlainStatement) × Spells others o × (statement_on h s ≡ statement_on k o)
 statement_alike h k tokens others s e b =
-    let (front, tail, whole, fronts, tails) = append_split (token_on h) (token_on k) (b.head ++ s.symbols) b.tail others (ap (map (token_on h)) (sym b.whole) ∙ e) in
-    let (head, symbols, split, heads, same_symbols) = append_split (token_on h) (token_on k) b.head s.symbols front fronts in
+    let (prefix, tail, whole, prefixes, tails) = append_split (token_on h) (token_on k) (b.head ++ s.symbols) b.tail others (ap (map (token_on h)) (sym b.whole) ∙ e) in
+    let (head, symbols, split, heads, same_symbols) = append_split (token_on h) (token_on k) b.head s.symbols prefix prefixes in
     let (first, more, begins, same_first, mores) = cons_split (token_on h) (token_on k) s.first b.first.0 head (ap (map (token_on h)) (sym b.first.1) ∙ heads) in
     let end = tail_alike h k s s.kind b.tail tail tails b.ends in
     let o : PlainStatement = record { kind = s.kind; first = first; label = label_in head; symbols = symbols; proof = end.proof; span = end.span } in (
@@ -302,15 +302,15 @@ statement_alike h k tokens others s e b =
       λ i. record { kind = s.kind; first = same_first i; label = (ap (option_map (token_on h)) b.label ∙ label_alike h k b.head head heads) i; symbols = same_symbols i; proof = end.same i; span = (0, 0) },
     )
 
--- what corresponds to the tokens of statements is statements that differ in places alone
+-- what corresponds to the tokens of statements is statements that differ in positions alone
 pub statements_alike : (h k : ℕ → ℕ → ℕ) (tokens others : List PlainToken) (statements : List PlainStatement) → map (token_on h) tokens ≡ map (token_on k) others → SpellsAll tokens statements
     → (same : List PlainStatement) × SpellsAll others same × (map (statement_on h) statements ≡ map (statement_on k) same)
 statements_alike h k tokens others [] e b = ([], nil_split (token_on h) (token_on k) others (ap (map (token_on h)) (sym b) ∙ e), refl)
 statements_alike h k tokens others (s ∷ statements) e b =
-    let (front, rest, whole, fronts, rests) = append_split (token_on h) (token_on k) b.0 b.1 others (ap (map (token_on h)) (sym b.2) ∙ e) in
-    let (o, spelled, same) = statement_alike h k b.0 front s fronts b.3 in
+    let (prefix, rest, whole, prefixes, rests) = append_split (token_on h) (token_on k) b.0 b.1 others (ap (map (token_on h)) (sym b.2) ∙ e) in
+    let (o, spelled, same) = statement_alike h k b.0 prefix s prefixes b.3 in
     let (more, all, sames) = statements_alike h k b.1 rest statements rests b.4 in
-    (o ∷ more, (front, rest, whole, spelled, all), λ i. same i ∷ sames i)
+    (o ∷ more, (prefix, rest, whole, spelled, all), λ i. same i ∷ sames i)
 
 -- ---- items
 
@@ -344,42 +344,43 @@ outside_alike h k tokens others e out =
     let (same, spelled, sames) = statements_alike h k tokens others out.statements e out.spelled in
     record { statements = same; spelled = spelled; closed = closed_alike h k out.statements same sames out.closed }
 
--- ---- fronts
+-- ---- prefixes
 
 -- where an item stands in the one, an item that is alike stands in the other
-cut_item : (h k : ℕ → ℕ → ℕ) (front other before after : List Item) (item : Item) → map (item_on h) front ≡ map (item_on k) other → other ≡ before ++ item ∷ after
-    → (earlier : List Item) × (later : List Item) × (alike : Item) × (front ≡ earlier ++ alike ∷ later) × (item_on k item ≡ item_on h alike) × (map (item_on h) earlier ≡ map (item_on k) before)
-cut_item h k front other before after item e cut =
-    let (earlier, rest, whole, befores, rests) = append_split (item_on k) (item_on h) before (item ∷ after) front (ap (map (item_on k)) (sym cut) ∙ sym e) in
+cut_item : (h k : ℕ → ℕ → ℕ) (prefix other before after : List Item) (item : Item) → map (item_on h) prefix ≡ map (item_on k) other → other ≡ before ++ item ∷ after
+    → (earlier : List Item) × (later : List Item) × (alike : Item) × (prefix ≡ earlier ++ alike ∷ later) × (item_on k item ≡ item_on h alike) × (map (item_on h) earlier ≡ map (item_on k) before)
+cut_item h k prefix other before after item e cut =
+    let (earlier, rest, whole, befores, rests) = append_split (item_on k) (item_on h) before (item ∷ after) prefix (ap (map (item_on k)) (sym cut) ∙ sym e) in
     let (alike, later, split, one, afters) = cons_split (item_on k) (item_on h) item after rest rests in
     (earlier, later, alike, whole ∙ ap (λ l. earlier ++ l) split, one, sym befores)
 
--- what is alike to a front that reads as statements reads as statements that differ in places alone
-pub viable_alike : (h k : ℕ → ℕ → ℕ) (front other : List Item) (statements : List PlainStatement) (unfinished : List PlainToken) → map (item_on h) front ≡ map (item_on k) other → Viable front statements unfinished
+-- what is alike to a prefix that reads as statements reads as statements that differ in positions
+-- alone
+pub viable_alike : (h k : ℕ → ℕ → ℕ) (prefix other : List Item) (statements : List PlainStatement) (unfinished : List PlainToken) → map (item_on h) prefix ≡ map (item_on k) other → Viable prefix statements unfinished
     → (same : List PlainStatement) × (begun : List PlainToken) × Viable other same begun × (map (statement_on h) statements ≡ map (statement_on k) same) × (map (token_on h) unfinished ≡ map (token_on k) begun)
-viable_alike h k front other statements unfinished e v =
-    let (finished, begun, whole, finisheds, beguns) = append_split (token_on h) (token_on k) v.finished unfinished (plain_tokens other) (ap (map (token_on h)) (sym v.whole) ∙ plain_tokens_alike h k front other e) in
+viable_alike h k prefix other statements unfinished e v =
+    let (finished, begun, whole, finisheds, beguns) = append_split (token_on h) (token_on k) v.finished unfinished (plain_tokens other) (ap (map (token_on h)) (sym v.whole) ∙ plain_tokens_alike h k prefix other e) in
     let (same, spelled, sames) = statements_alike h k v.finished finished statements finisheds v.spelled in (
       same,
       begun,
       record {
-        clean = transport (sym (clean_on h front) ∙ ap HoldNoFault e ∙ clean_on k other) v.clean;
+        clean = transport (sym (clean_on h prefix) ∙ ap HoldNoFault e ∙ clean_on k other) v.clean;
         finished = finished;
         whole = whole;
         spelled = spelled;
         begun = beginning_alike h k unfinished begun beguns v.begun;
         balanced = balanced_alike h k statements same sames v.balanced;
         included = λ before after t cut.
-            let (earlier, later, item, split, one, befores) = cut_item h k front other before after (Inclusion t) e cut in
+            let (earlier, later, item, split, one, befores) = cut_item h k prefix other before after (Inclusion t) e cut in
             let (u, is) = inclusion_item_alike k h t item one in
             outside_alike h k (plain_tokens earlier) (plain_tokens before) (plain_tokens_alike h k earlier before befores) (v.included earlier later u (split ∙ ap (λ i. earlier ++ i ∷ later) is));
         ended = λ before after file cut.
-            let (earlier, later, item, split, one, befores) = cut_item h k front other before after (End file) e cut in
+            let (earlier, later, item, split, one, befores) = cut_item h k prefix other before after (End file) e cut in
             let read = v.ended earlier later file (split ∙ ap (λ i. earlier ++ i ∷ later) (end_alike k h file item one)) in
             let (others, all, _) = statements_alike h k (plain_tokens earlier) (plain_tokens before) read.0 (plain_tokens_alike h k earlier before befores) read.1 in
             (others, all);
         top_ended = λ before after cut.
-            let (earlier, later, item, split, one, befores) = cut_item h k front other before after (End 0) e cut in
+            let (earlier, later, item, split, one, befores) = cut_item h k prefix other before after (End 0) e cut in
             outside_alike h k (plain_tokens earlier) (plain_tokens before) (plain_tokens_alike h k earlier before befores) (v.top_ended earlier later (split ∙ ap (λ i. earlier ++ i ∷ later) (end_alike k h 0 item one)));
       },
       sames,

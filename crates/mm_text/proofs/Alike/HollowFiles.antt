@@ -15,13 +15,13 @@ use Rattle.mm_text.specs.Token.{PlainToken, is_space, is_printable, tokens_from}
 use Rattle.mm_text.specs.Items.{Shown, Clear, without_comments, spells, holds_mark}
 use Rattle.mm_text.specs.LineNumbers.{feeds_before}
 use Rattle.mm_text.specs.Alike.{token_on, shown_on, shows}
-use Rattle.mm_text.specs.Mirror.Place.{is_quiet}
+use Rattle.mm_text.specs.Mirror.Position.{is_quiet}
 use Rattle.mm_text.specs.Mirror.Hollow.{ShowSame, IsBoundary, IsOpen, ink, feeds, IsHollow, IsAt}
 use Rattle.mm_text.specs.Mirror.Hollow.{held, is_spoken, last_before}
 use Rattle.mm_text.specs.declared.hollow.State.TheVariants.{Inside, Marked}
 use Rattle.mm_text.specs.declared.hollow.State.{State}
 use Rattle.mm_text.proofs.Lists.{both_choices, choice_mapped}
-use Rattle.mm_text.proofs.Tokens.WordsAndComments.{run, ahead, by_place, tokens_ahead, quiet_ink}
+use Rattle.mm_text.proofs.Tokens.WordsAndComments.{run, ahead, by_position, tokens_ahead, quiet_ink}
 use Rattle.mm_text.proofs.Tokens.WordsAndComments.{outside-begin, in_comment-mark, in_comment-more}
 use Rattle.mm_text.proofs.Tokens.ManyBytes.{shown_legal}
 
@@ -33,13 +33,13 @@ use Rattle.mm_text.proofs.Tokens.ManyBytes.{shown_legal}
 abbrev by_line : ℕ → ℕ → ℕ
 by_line n b = n + cond (b == 10) 1 0
 
--- places are line numbers in the other telling
+-- positions are line numbers in the other telling
 lines_ahead : (file : ℕ) (line : ℕ → ℕ → ℕ) (inside : Bool) (at n : ℕ) (bytes : List ℕ) → ((i : ℕ) → line file (at + i) ≡ n + count_by (λ b. b == 10) (take i bytes))
-    → map (token_on line) (ahead file by_place inside at bytes) ≡ ahead file by_line inside n bytes
+    → map (token_on line) (ahead file by_position inside at bytes) ≡ ahead file by_line inside n bytes
 lines_ahead file line inside at n [] h = refl
 lines_ahead file line inside at n (b ∷ bytes) h =
     let here : line file at ≡ n = ap (line file) (sym (add-zero at)) ∙ h 0 ∙ add-zero n in
-    let rest : (s : Bool) → map (token_on line) (ahead file by_place s (at + 1) bytes) ≡ ahead file by_line s (n + cond (b == 10) 1 0) bytes = λ s.
+    let rest : (s : Bool) → map (token_on line) (ahead file by_position s (at + 1) bytes) ≡ ahead file by_line s (n + cond (b == 10) 1 0) bytes = λ s.
     lines_ahead file line s (at + 1) (n + cond (b == 10) 1 0) bytes (λ i.
     ap (line file) (omega arith) ∙ h (suc i) ∙ omega (arith, sum_by-cons (λ x. cond (x == 10) 1 0) b (take i bytes))) in
     choice_mapped (map (token_on line)) (λ l. l) (is_space b) _ _ _ _ (rest false)
@@ -83,8 +83,8 @@ told file begin inside n bytes = seen begin (ahead file by_line inside n bytes)
 shows_told : (file : ℕ) (bytes : List ℕ) → shows file bytes ≡ told file None false 0 bytes
 shows_told file bytes =
     let line : (i : ℕ) → feeds_before bytes (0 + i) ≡ 0 + feeds_before bytes i = λ i.
-    let place : 0 + i ≡ i = omega arith in
-    ap (feeds_before bytes) place ∙ omega arith in
+    let position : 0 + i ≡ i = omega arith in
+    ap (feeds_before bytes) position ∙ omega arith in
     lines_seen (λ file at. feeds_before bytes at) None (tokens_from file 0 bytes)
     ∙ ap (λ l. seen None (map (token_on (λ file at. feeds_before bytes at)) l)) (tokens_ahead file 0 bytes)
     ∙ ap (seen None) (lines_ahead file (λ file at. feeds_before bytes at) false 0 0 bytes line)
@@ -102,7 +102,7 @@ token_seen t tokens others same (Some begin) =
     (choice_mapped strip strip (spells t.text (codes "$)")) _ _ _ _ (same None)
     (choice_mapped strip strip (holds_mark t.text) _ _ _ _ refl (same (Some begin))))
 
--- ---- behind a front that ends with white space
+-- ---- behind a prefix that ends with white space
 
 -- the last byte is white space; where there is none, no token goes on from before
 abbrev EndsApart : Bool → List ℕ → Type 0
@@ -116,27 +116,27 @@ ends_apart inside (b ∷ bytes) none boundary =
     ends_apart (not (is_space b)) bytes (λ e. ap not (boundary 0 (omega arith))) (λ k e. boundary (suc k) (omega arith))
 
 -- what comes behind such bytes belongs to no run in them
-run_apart : (front one other : List ℕ) → EndsApart true front → run (front ++ one) ≡ run (front ++ other)
+run_apart : (prefix one other : List ℕ) → EndsApart true prefix → run (prefix ++ one) ≡ run (prefix ++ other)
 run_apart [] one other ends = absurd cc
-run_apart (b ∷ front) one other ends = elim (cases_Bool (is_space b)) [
+run_apart (b ∷ prefix) one other ends = elim (cases_Bool (is_space b)) [
   | inl e ↦ rw e refl
-  | inr e ↦ rw e (ap (λ l. b ∷ l) (run_apart front one other (rw e at ends)))
+  | inr e ↦ rw e (ap (λ l. b ∷ l) (run_apart prefix one other (rw e at ends)))
 ]
 
 -- such bytes before what shows the same
-front_told : (file : ℕ) (one other : List ℕ) → ((begin : Option PlainToken) (n : ℕ) → told file begin false n one ≡ told file begin false n other)
-    → (inside : Bool) (n : ℕ) (front : List ℕ) → EndsApart inside front → (begin : Option PlainToken) → told file begin inside n (front ++ one) ≡ told file begin inside n (front ++ other)
-front_told file one other same inside n [] ends begin =
+prefix_told : (file : ℕ) (one other : List ℕ) → ((begin : Option PlainToken) (n : ℕ) → told file begin false n one ≡ told file begin false n other)
+    → (inside : Bool) (n : ℕ) (prefix : List ℕ) → EndsApart inside prefix → (begin : Option PlainToken) → told file begin inside n (prefix ++ one) ≡ told file begin inside n (prefix ++ other)
+prefix_told file one other same inside n [] ends begin =
     ap (λ s. told file begin s n one) ends ∙ same begin n ∙ ap (λ s. told file begin s n other) (sym ends)
-front_told file one other same inside n (b ∷ front) ends begin =
+prefix_told file one other same inside n (b ∷ prefix) ends begin =
     elim (cases_Bool (is_space b)) [
-      | inl e ↦ rw e (front_told file one other same false (by_line n b) front (rw e at ends) begin)
+      | inl e ↦ rw e (prefix_told file one other same false (by_line n b) prefix (rw e at ends) begin)
       | inr e ↦
-          let h : EndsApart true front = rw e at ends in
-          let rest = front_told file one other same true (by_line n b) front h in
+          let h : EndsApart true prefix = rw e at ends in
+          let rest = prefix_told file one other same true (by_line n b) prefix h in
           rw e (choice_mapped (seen begin) (seen begin) inside _ _ _ _ (rest begin)
-          (token_seen (record { text = b ∷ run (front ++ one); file = file; at = n }) _ _ rest begin
-          ∙ ap (λ (l : List ℕ). seen begin (record { text = b ∷ l; file = file; at = n } ∷ ahead file by_line true (by_line n b) (front ++ other))) (run_apart front one other h)))
+          (token_seen (record { text = b ∷ run (prefix ++ one); file = file; at = n }) _ _ rest begin
+          ∙ ap (λ (l : List ℕ). seen begin (record { text = b ∷ l; file = file; at = n } ∷ ahead file by_line true (by_line n b) (prefix ++ other))) (run_apart prefix one other h)))
     ]
 
 -- ---- single bytes
@@ -284,13 +284,13 @@ mark_told file one other same (b ∷ spaces) some each begin n =
 -- what shows the same in a comment, behind an open one
 opened : (file : ℕ) (bytes one other : List ℕ) → IsOpen bytes → ((begin : PlainToken) (n : ℕ) → told file (Some begin) false n one ≡ told file (Some begin) false n other) → shows file (bytes ++ one) ≡ shows file (bytes ++ other)
 opened file bytes one other comment same =
-    whole one ∙ front_told file (36 ∷ 40 ∷ comment.behind ++ one) (36 ∷ 40 ∷ comment.behind ++ other) (mark_told file one other same comment.behind comment.some comment.spaces)
-    false 0 comment.front (ends_apart false comment.front (λ e. refl) comment.boundary) None ∙ sym (whole other)
+    whole one ∙ prefix_told file (36 ∷ 40 ∷ comment.behind ++ one) (36 ∷ 40 ∷ comment.behind ++ other) (mark_told file one other same comment.behind comment.some comment.spaces)
+    false 0 comment.prefix (ends_apart false comment.prefix (λ e. refl) comment.boundary) None ∙ sym (whole other)
   where
-    whole : (behind : List ℕ) → shows file (bytes ++ behind) ≡ told file None false 0 (comment.front ++ (36 ∷ 40 ∷ comment.behind ++ behind))
+    whole : (behind : List ℕ) → shows file (bytes ++ behind) ≡ told file None false 0 (comment.prefix ++ (36 ∷ 40 ∷ comment.behind ++ behind))
     whole behind =
         rw comment.whole (simp append_assoc
-        (shows_told file (comment.front ++ (36 ∷ 40 ∷ comment.behind ++ behind))))
+        (shows_told file (comment.prefix ++ (36 ∷ 40 ∷ comment.behind ++ behind))))
 
 -- bytes of a comment may be left out where the rest tells the same
 dropped : (bytes more : List ℕ) (last b : ℕ) → IsOpen bytes
@@ -323,9 +323,9 @@ kept_as_it_is bytes others more same file rest =
 -- a comment stays open behind a line feed of it
 pub still_open : (kept : List ℕ) (b : ℕ) → IsOpen kept → IsOpen (kept ++ feeds (b ∷ []))
 still_open kept b «open» = record {
-  front = «open».front;
+  prefix = «open».prefix;
   behind = «open».behind ++ feeds (b ∷ []);
-  whole = ap (λ l. l ++ feeds (b ∷ [])) «open».whole ∙ append_assoc («open».front ++ codes "$(") «open».behind (feeds (b ∷ []));
+  whole = ap (λ l. l ++ feeds (b ∷ [])) «open».whole ∙ append_assoc («open».prefix ++ codes "$(") «open».behind (feeds (b ∷ []));
   boundary = «open».boundary;
   some = omega (arith, «open».some, length-append «open».behind (feeds (b ∷ [])));
   spaces =
@@ -425,8 +425,8 @@ pub lines_end : (bytes kept next piece : List ℕ) (state after : State) (start 
     → IsHollow (bytes ++ take (end - start) (drop start piece)) next after
 lines_end bytes kept next piece state after start at end last from order within all is same where_to hollow =
     let whole : at + (end - at) ≡ end = omega (arith, order) in
-    let front = bytes ++ take (at - start) (drop start piece) in
-    let run = run_left_out front kept piece at last (end - at) (omega (arith, whole, within))
+    let prefix = bytes ++ take (at - start) (drop start piece) in
+    let run = run_left_out prefix kept piece at last (end - at) (omega (arith, whole, within))
     (λ k low high. all k low (omega (arith, high, whole))) (rw is at hollow) in
     rw (where_to, same)
     (subst (λ l. IsHollow l kept (Inside (last_before piece at last (end - at)))) (two_parts bytes piece start at (end - at) from ∙ ap (λ m. bytes ++ take (m - start) (drop start piece)) whole) run)
@@ -439,9 +439,9 @@ lines_more bytes kept next piece state after start at end last from order within
     let b = last_before piece at last (end - at) in
     let line = lines_end bytes kept kept piece state (Inside b) start at end last from order (omega (arith, within)) all is refl refl hollow in
     let one = left_out (bytes ++ take (end - start) (drop start piece)) kept b 10 refl line in
-    let next_place : end + (end + 1 - end) ≡ end + 1 = omega arith in
+    let next_position : end + (end + 1 - end) ≡ end + 1 = omega arith in
     let whole = ap (λ d. bytes ++ take (end - start) (drop start piece) ++ d ∷ []) (sym feed)
     ∙ ap (λ l. bytes ++ take (end - start) (drop start piece) ++ l) (sym (one_of piece end within))
     ∙ two_parts bytes piece start end (end + 1 - end) (omega (arith, from, order))
-    ∙ ap (λ m. bytes ++ take (m - start) (drop start piece)) next_place in
+    ∙ ap (λ m. bytes ++ take (m - start) (drop start piece)) next_position in
     rw (where_to, what) (subst (λ l. IsHollow l (kept ++ feeds (10 ∷ [])) (Inside 10)) whole one)

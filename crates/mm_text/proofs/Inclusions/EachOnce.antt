@@ -77,7 +77,7 @@ module _ (w : Item → ℕ) where
       put_before_by (λ ps. weigh_pieces ps + less ≤ all) files n rest
       (omega (arith, unnamed_less 0 files named n)) (λ f e.
       let first : 0 + n ≡ n = omega arith in
-      let place = ap (λ m. weigh_pieces (pieces_of m f)) first in
+      let position = ap (λ m. weigh_pieces (pieces_of m f)) first in
       let own = weigh_pieces-append (pieces_of n f) rest in
       omega (arith, unnamed_set 0 files named n f e h))
 
@@ -208,7 +208,7 @@ one_end file files =
 
 -- ---- tokens
 
--- tokens of a file, each at a later place than those before it
+-- tokens of a file, each at a later position than those before it
 abbrev pub Rises : ℕ → ℕ → List PlainToken → Type 0
 Rises file n [] = Unit {0}
 Rises file n (t ∷ tokens) = (n ≤ t.at) × (t.file ≡ file) × Rises file (t.at + 1) tokens
@@ -249,8 +249,8 @@ one_token file at k n (t ∷ tokens) r =
     rw home (omega (arith, after_none file at k (t.at + 1) tokens (omega arith) r.2)))
     (λ _. omega arith)
 
-one_place : (file at : ℕ) (files : List PlainFile) → count_by (λ t. t.file == file && t.at == at) (plain_tokens (items files)) ≤ 1
-one_place file at files =
+one_position : (file at : ℕ) (files : List PlainFile) → count_by (λ t. t.file == file && t.at == at) (plain_tokens (items files)) ≤ 1
+one_position file at files =
     let w = weight_of (token_weight file at) (λ n. 0) in
     omega (
       arith,
@@ -260,7 +260,7 @@ one_place file at files =
     )
 
 pub files_are_put_in_once : FilesArePutInOnce
-files_are_put_in_once files file = (one_end file files, λ at. one_place file at files)
+files_are_put_in_once files file = (one_end file files, λ at. one_position file at files)
 
 -- ==== so many files as there are can be put in: that more could be changes nothing
 

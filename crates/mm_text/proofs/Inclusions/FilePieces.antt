@@ -11,7 +11,7 @@ use Rattle.mm_text.specs.declared.fault.TextRule.TheVariants.{X5, X7}
 use Rattle.mm_text.specs.declared.class.Keyword.{Keyword}
 use Rattle.mm_text.specs.declared.class.Keyword.TheVariants.{Constants}
 use Rattle.mm_text.specs.declared.class.Class.{Class}
-use Rattle.mm_text.specs.declared.comments.Place.{Place}
+use Rattle.mm_text.specs.declared.comments.Position.{Position}
 use Rattle.mm_text.specs.Token.{PlainToken, tokens_from}
 use Rattle.mm_text.specs.Mirror.Class.{keyword_bytes, ClassIs}
 use Rattle.mm_text.specs.Files.{PlainFile}
@@ -19,7 +19,7 @@ use Rattle.mm_text.specs.Items.{Item, Plain, Wrong, Inclusion, End, Shown, Clear
 use Rattle.mm_text.specs.Items.{Met, Named, Spot, Outside, Naming, Closing, pieces, broken_outside}
 use Rattle.mm_text.specs.Items.{holds_dollar, spells, file_number, with_inclusions, put_before}
 use Rattle.mm_text.specs.Items.{put_in, without_comments, pieces_of, items}
-use Rattle.mm_text.specs.Mirror.Place.{shown_at}
+use Rattle.mm_text.specs.Mirror.Position.{shown_at}
 use Rattle.mm_text.specs.Mirror.Next.{IsOfClass}
 use Rattle.mm_text.specs.Mirror.Nest.{pieces_with, waiting}
 use Rattle.mm_text.proofs.Tokens.WordsAndComments.{no_dollar-spells}
@@ -189,9 +189,9 @@ unfolding put_in with_inclusions
 put_in-first files left named name rest n e f = rw (e, f, with_inclusions) refl
 
 -- a file that begins to wait goes on first of those that wait
-pub waiting-push : (places : List Place) (p : Place) → waiting (places ++ p ∷ []) ≡ pieces p.file Outside (shown_at p) ++ waiting places
+pub waiting-push : (positions : List Position) (p : Position) → waiting (positions ++ p ∷ []) ≡ pieces p.file Outside (shown_at p) ++ waiting positions
 waiting-push [] p = sym (append-nil (pieces p.file Outside (shown_at p)))
-waiting-push (q ∷ places) p = rw (waiting-push places p) (append_assoc _ (waiting places) _)
+waiting-push (q ∷ positions) p = rw (waiting-push positions p) (append_assoc _ (waiting positions) _)
 
 pub class_tells : (t : PlainToken) (kind : Class) → ClassIs t.text kind → IsOfClass t kind
 class_tells t (class.Wrong rule) h = tt
@@ -204,11 +204,11 @@ class_tells t _ h = h
 pub record Reaches (file : ℕ) (passed : List Shown) (spot : Spot) : Type 0 where
   pub tokens : List PlainToken
   pub clear : passed ≡ map Clear tokens
-  pub front : List Piece
-  pub before : (more : List Shown) → pieces file Outside (passed ++ more) ≡ front ++ pieces file spot more
+  pub prefix : List Piece
+  pub before : (more : List Shown) → pieces file Outside (passed ++ more) ≡ prefix ++ pieces file spot more
 
 -- so much of the file with a number is passed, and so much is left, outside of inclusions
-pub record IsPlace (files : List PlainFile) (number : ℕ) (passed rest : List Shown) : Type 0 where
+pub record IsPosition (files : List PlainFile) (number : ℕ) (passed rest : List Shown) : Type 0 where
   pub file : PlainFile
   pub there : slice_get files number ≡ Some file
   pub whole : without_comments None (tokens_from number 0 file.bytes) ≡ passed ++ rest
@@ -224,7 +224,7 @@ Last = Option (ℕ × (List Shown × List Shown))
 
 abbrev pub GoesOn : List PlainFile → Last → PlainToken → (Last → Type 0) → Type 0
 GoesOn files None t P =
-    (number : ℕ) × (passed : List Shown) × (rest : List Shown) × IsPlace files number passed (Clear t ∷ rest)
+    (number : ℕ) × (passed : List Shown) × (rest : List Shown) × IsPosition files number passed (Clear t ∷ rest)
     × IsPlainIn number t × P (Some (number, (passed ++ Clear t ∷ [], rest)))
 GoesOn files (Some at) t P =
     (rest : List Shown) × (at.1.1 ≡ Clear t ∷ rest) × IsPlainIn at.0 t × P (Some (at.0, (at.1.0 ++ Clear t ∷ [], rest)))
@@ -249,9 +249,9 @@ reaches_on : (file : ℕ) (passed : List Shown) (spot next : Spot) (t : PlainTok
 reaches_on file passed spot next t more r step = record {
   tokens = r.tokens ++ t ∷ [];
   clear = ap (λ (l : List Shown). l ++ Clear t ∷ []) r.clear ∙ sym (map-append Clear r.tokens (t ∷ []));
-  front = r.front ++ more;
+  prefix = r.prefix ++ more;
   before = λ rest. simp append_assoc
-      (r.before (Clear t ∷ rest) ∙ ap (λ (l : List Piece). r.front ++ l) (step rest));
+      (r.before (Clear t ∷ rest) ∙ ap (λ (l : List Piece). r.prefix ++ l) (step rest));
 }
 
 -- where the last token may stand at a spot
@@ -322,7 +322,7 @@ module _ (files : List PlainFile) (number : ℕ) (file : PlainFile) (there : sli
 -- the pieces of a file from its beginning, and others after them
 file_follows : (files : List PlainFile) (number : ℕ) (file : PlainFile) (tail : List Piece) → slice_get files number ≡ Some file → FollowIn files None tail → FollowIn files None (pieces_of number file ++ tail)
 file_follows files number file tail there after =
-    pieces_follow files number file there tail after Outside [] (without_comments None (tokens_from number 0 file.bytes)) None refl (record { tokens = []; clear = refl; front = []; before = λ more. refl }) tt
+    pieces_follow files number file there tail after Outside [] (without_comments None (tokens_from number 0 file.bytes)) None refl (record { tokens = []; clear = refl; prefix = []; before = λ more. refl }) tt
 
 -- ---- the items
 
@@ -341,7 +341,7 @@ put_in_follows files left named ps h =
     (λ file there. file_follows files n file ps there k))) h) left named ps None h
   where
     on_from : (last : Last) (t : PlainToken) (P Q : Last → Type 0) → ((l : Last) → P l → Q l) → GoesOn files last t P → GoesOn files last t Q
-    on_from None t P Q step (number, passed, rest, place, plain, p) = (number, passed, rest, place, plain, step _ p)
+    on_from None t P Q step (number, passed, rest, position, plain, p) = (number, passed, rest, position, plain, step _ p)
     on_from (Some at) t P Q step (rest, e, plain, p) = (rest, e, plain, step _ p)
 
     behind : (last : Last) (name : PlainToken) (ps : List Piece) (its : List Item)
@@ -362,14 +362,14 @@ items_follow (top ∷ others) =
 -- what is known of the last token
 abbrev IsLast : List PlainFile → Last → Type 0
 IsLast files None = Unit {0}
-IsLast files (Some at) = IsPlace files at.0 at.1.0 at.1.1
+IsLast files (Some at) = IsPosition files at.0 at.1.0 at.1.1
 
 -- where the last token stood, one token goes on from there
 from_last : (files : List PlainFile) (last : Last) (t : PlainToken) (P : Last → Type 0)
     → IsLast files last → GoesOn files last t P → GoesOn files None t P
 from_last files None t P l h = h
 from_last files (Some at) t P l (rest, e, plain, p) =
-    (at.0, at.1.0, rest, subst (IsPlace files at.0 at.1.0) e l, plain, p)
+    (at.0, at.1.0, rest, subst (IsPosition files at.0 at.1.0) e l, plain, p)
 
 follow_to : (files : List PlainFile) (its more : List Item) (last : Last) → IsLast files last → Follow files last (its ++ more) → (next : Last) × IsLast files next × Follow files next more
 follow_to files [] more last l h = (last, l, h)
@@ -401,13 +401,13 @@ pub record StandsInFile (files : List PlainFile) (t : PlainToken) (tokens : List
   pub number : ℕ
   pub passed : List Shown
   pub rest : List Shown
-  pub place : IsPlace files number passed (Clear t ∷ (map Clear tokens ++ rest))
+  pub position : IsPosition files number passed (Clear t ∷ (map Clear tokens ++ rest))
   pub plain : AllPlainIn number (t ∷ tokens)
 
 pub run_stands : (files : List PlainFile) (before after : List Item) (t : PlainToken) (tokens : List PlainToken) → items files ≡ before ++ (map Plain (t ∷ tokens) ++ after) → StandsInFile files t tokens
 run_stands files before after t tokens e =
     let (last, known, follow) = follow_to files before (map Plain (t ∷ tokens) ++ after) None tt (subst (Follow files None) e (items_follow files)) in
-    let (number, passed, rest, place, plain, later) = from_last files last t
+    let (number, passed, rest, position, plain, later) = from_last files last t
     (λ next. Follow files next (map Plain tokens ++ after)) known follow in
     let (others, same, all) = run_on_from files number (passed ++ Clear t ∷ []) rest tokens after later in
-    record { number = number; passed = passed; rest = others; place = subst (λ (l : List Shown). IsPlace files number passed (Clear t ∷ l)) same place; plain = (plain, all) }
+    record { number = number; passed = passed; rest = others; position = subst (λ (l : List Shown). IsPosition files number passed (Clear t ∷ l)) same position; plain = (plain, all) }

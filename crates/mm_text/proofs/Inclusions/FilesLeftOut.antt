@@ -136,7 +136,7 @@ left_out-few (top ∷ other ∷ files) few = absurd (omega arith)
 
 -- ---- files that show the same
 
--- items are of the same files whatever their places
+-- items are of the same files whatever their positions
 any_on : (line : ℕ → ℕ → ℕ) (n : ℕ) (its : List Item)
     → list_any (λ i. file_of i == n) (map (item_on line) its)
     ≡ list_any (λ i. file_of i == n) its

@@ -1,5 +1,5 @@
--- The order of the items of files: the tokens of each file come in the order of their places, and
--- nothing comes after the top file's end.
+-- The order of the items of files: the tokens of each file come in the order of their positions,
+-- and nothing comes after the top file's end.
 use Rattle.std.proofs.Common.{◌≡◌, ◌≢◌, ℕ, ◌+◌, ◌<◌, ◌≤◌, List, [], ◌∷◌, ◌++◌, length, replicate}
 use Rattle.std.proofs.Common.{Bool, true, false, refl, sym, ap, ◌∙◌, subst, Option, None, ◌⊎◌, inl}
 use Rattle.std.proofs.Common.{inr, append_assoc, append-nil, arith, slice_index_or, slice_set}
@@ -16,7 +16,7 @@ use Rattle.mm_text.proofs.Inclusions.EachOnce.{Rises, rises_earlier, tokens_rise
 use Rattle.mm_text.proofs.Tokens.StepByStep.{shown_by, pieces_by, put_before_by, put_in_by}
 use Rattle.mm_text.proofs.Replaced.ReplacedItems.{still_named, now_named}
 
--- ==== among the items of files the tokens of each file come in the order of their places
+-- ==== among the items of files the tokens of each file come in the order of their positions
 
 -- ---- in one file
 
@@ -70,7 +70,8 @@ piece_tokens-append (Named name ∷ a) b = piece_tokens-append a b
 -- ---- among the tokens of all files
 
 module _ (k : ℕ) where
-  -- the tokens of one file among these, each at a later place than those before it, from a place on
+  -- the tokens of one file among these, each at a later position than those before it, from a
+  -- position on
   abbrev RiseIn : ℕ → List PlainToken → Type 0
   RiseIn n [] = Unit {0}
   RiseIn n (t ∷ tokens) =

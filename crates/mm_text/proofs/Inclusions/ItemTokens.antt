@@ -1,5 +1,5 @@
 -- What holds of all tokens among the items of files; so each is the slice of its file's bytes at its
--- place.
+-- position.
 use Rattle.std.proofs.Common.{◌≡◌, ℕ, suc, ◌+◌, length, take, drop, List, ◌∷◌, refl, sym, ap, ◌∙◌}
 use Rattle.std.proofs.Common.{zero, ◌-◌, ◌&&◌, ◌≤◌, [], replicate, Bool, true, false, cond, not}
 use Rattle.std.proofs.Common.{codes, Option, Some, None, ◌⊎◌, inl, inr, arith, drop-drop, slice_get}
@@ -22,7 +22,7 @@ use Rattle.mm_text.proofs.Reader.OneToken.{IsSigned, is_keyword-true}
 use Rattle.mm_text.proofs.Lists.{all_append, all_weaker}
 use Rattle.mm_text.proofs.Inclusions.FilePieces.{named_related}
 
--- ==== each token of a file is the slice of its bytes at its place
+-- ==== each token of a file is the slice of its bytes at its position
 
 -- ---- tokens of a file
 
@@ -51,7 +51,7 @@ tokens_stand file at bytes rest e =
       so.1,
     )) at rest e
 
--- each token of a file is the slice of its bytes at its place
+-- each token of a file is the slice of its bytes at its position
 pub tokens_in_place : (file : ℕ) (bytes : List ℕ) → AllByRecursion (StandsIn file bytes) (tokens_from file 0 bytes)
 tokens_in_place file bytes = tokens_stand file 0 bytes bytes refl
 
@@ -214,7 +214,7 @@ plain_all P Q f (_ ∷ its) h = plain_all P Q f its h.1
 
 -- ---- what holds of them
 
--- each token is the slice of its file at its place
+-- each token is the slice of its file at its position
 pub items_in_place : (files : List PlainFile) → AllByRecursion (IsSliceOf files) (plain_tokens (items files))
 items_in_place files =
     plain_all (IsSliceOf files) _ (λ t h. h.0) (items files) (all_items (IsSliceOf files) files (λ n f there.

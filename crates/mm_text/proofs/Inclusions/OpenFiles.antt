@@ -21,14 +21,14 @@ use Rattle.mm_text.specs.Files.{PlainFile, plain_file, HasTwins, total_bytes}
 use Rattle.mm_text.specs.Items.{spells, Inclusion, End, Piece, Met, Named, Outside, Naming, pieces}
 use Rattle.mm_text.specs.Items.{pieces_of, without_comments, holds_dollar, file_number, put_before}
 use Rattle.mm_text.specs.Items.{put_in}
-use Rattle.mm_text.specs.declared.comments.Place.{Place}
+use Rattle.mm_text.specs.declared.comments.Position.{Position}
 use Rattle.mm_text.specs.declared.comments.Wrong.{Wrong}
 use Rattle.mm_text.specs.declared.class.Class.{Class}
 use Rattle.mm_text.specs.declared.nest.Nest.{Nest}
 use Rattle.mm_text.specs.declared.token.Token.{Token}
 use Rattle.mm_text.specs.Token.{PlainToken, plain_token, tokens_from}
 use Rattle.mm_text.specs.Mirror.Names.{number_among}
-use Rattle.mm_text.specs.Mirror.Place.{IsSameFile, TakesWordAt, shown_at}
+use Rattle.mm_text.specs.Mirror.Position.{IsSameFile, TakesWordAt, shown_at}
 use Rattle.mm_text.specs.Mirror.Next.{items_with, TakesWord}
 use Rattle.mm_text.specs.Mirror.Nest.{IsNest, pieces_with, wrong_item, waiting, spot_of, put_into}
 use Rattle.mm_text.specs.Mirror.Nest.{pieces_left, items_after, items_left}
@@ -42,9 +42,9 @@ use Rattle.mm_text.proofs.Inclusions.FilePieces.{waiting-push}
 use Rattle.mm_text.specs.declared.class.Class.TheVariants as class
 use Rattle.mm_text.specs.Items as items
 
--- ==== the names of files: different up to a place, two of them equal, and where one stands
+-- ==== the names of files: different up to a position, two of them equal, and where one stands
 
--- the names before a place are different
+-- the names before a position are different
 abbrev pub AreApart : List (List ℕ) → ℕ → Type 0
 AreApart names n = (i j : ℕ) → i < j → j < n → get_or names i [] ≢ get_or names j []
 
@@ -67,7 +67,7 @@ no_twins files n all apart twins =
     let within : twins.j < n = omega (arith, slice_get_within (map plain_file files) twins.j twins.other twins.at_j, length-map files plain_file) in
     apart twins.i twins.j twins.apart within (name_at files twins.i twins.one twins.at_i ∙ twins.same ∙ sym (name_at files twins.j twins.other twins.at_j))
 
--- the name at a place is among those before it, or isn't
+-- the name at a position is among those before it, or isn't
 apart_more : (names : List (List ℕ)) (n : ℕ) → n < length names → AreApart names n → list_any (spells (get_or names n [])) (take n names) ≡ false → AreApart names (n + 1)
 apart_more names n within apart none i j less more same =
     ⊎_elim (λ (below : j < n). apart i j less below same)
@@ -93,7 +93,7 @@ position_or_len-map : {K : Type 0} (g : K → List ℕ) (p : List ℕ → Bool) 
 position_or_len-map g p [] = refl
 position_or_len-map g p (k ∷ ks) = ap (λ n. cond (not (p (g k))) (1 + n) 0) (position_or_len-map g p ks)
 
--- the place of a key is that of its name
+-- the position of a key is that of its name
 pub position-names : {K : Type 0} (g : K → List ℕ) (p : List ℕ → Bool) (ks : List K) → position (λ k. p (g k)) ks ≡ position p (map g ks)
 position-names g p ks =
     ap (λ n. cond (nat_lt n (length ks)) (Some n) None) (position_or_len-map g p ks)
@@ -143,20 +143,20 @@ plain_names (f ∷ files) = ap (λ l. f.name.now ∷ l) (plain_names files)
 
 -- before the top file's end, outside inclusions or after a `$[`
 pub left_at : (n : Nest) (o : Option Token) (file : ℕ) → n.is_over ≡ false → n.naming ≡ o
-    → n.place.file ≡ file → items_left n
-    ≡ put_into n (pieces file (spot_of o) (shown_at n.place) ++ waiting n.«open».items)
+    → n.position.file ≡ file → items_left n
+    ≡ put_into n (pieces file (spot_of o) (shown_at n.position) ++ waiting n.«open».items)
 left_at n o file over naming home =
     ap (λ b. if b then [] else put_into n (pieces_left n)) over ∙ (λ i. put_into n
-    (pieces (home i) (spot_of (naming i)) (shown_at n.place) ++ waiting n.«open».items))
+    (pieces (home i) (spot_of (naming i)) (shown_at n.position) ++ waiting n.«open».items))
 
 left_pieces : (n : Nest) (o : Option Token) (ps : List Piece) → n.is_over ≡ false → n.naming ≡ o
-    → pieces n.place.file (spot_of o) (shown_at n.place) ≡ ps
+    → pieces n.position.file (spot_of o) (shown_at n.position) ≡ ps
     → items_left n ≡ put_into n (ps ++ waiting n.«open».items)
 left_pieces n o ps over naming e =
-    left_at n o n.place.file over naming refl ∙ ap (λ l. put_into n (l ++ waiting n.«open».items)) e
+    left_at n o n.position.file over naming refl ∙ ap (λ l. put_into n (l ++ waiting n.«open».items)) e
 
-same_file : (p q : Place) → IsSameFile p q → q.file ≡ p.file
-same_file p q e = ap (λ (r : Place). r.file) e
+same_file : (p q : Position) → IsSameFile p q → q.file ≡ p.file
+same_file p q e = ap (λ (r : Position). r.file) e
 
 -- ---- one piece is taken
 
@@ -165,46 +165,46 @@ put_in-with : (files : List PlainFile) (left : ℕ) (named : List Bool) (t : Pla
 put_in-with files left named t (class.Wrong rule) rest after = put_in-wrong files left named rule t after
 put_in-with files left named t _ rest after = put_in-plain files left named t (rest ++ after)
 
-pub takes_token : (n : Nest) (q : Place) (t : PlainToken) (kind : Class) → n.is_over ≡ false → n.naming ≡ None → IsSameFile n.place q
-    → pieces n.place.file Outside (shown_at n.place) ≡ pieces_with t kind (pieces n.place.file Outside (shown_at q))
-    → items_left n ≡ items_with t kind (items_left (record n { place = q }))
+pub takes_token : (n : Nest) (q : Position) (t : PlainToken) (kind : Class) → n.is_over ≡ false → n.naming ≡ None → IsSameFile n.position q
+    → pieces n.position.file Outside (shown_at n.position) ≡ pieces_with t kind (pieces n.position.file Outside (shown_at q))
+    → items_left n ≡ items_with t kind (items_left (record n { position = q }))
 takes_token n q t kind over naming same e =
     left_pieces n None _ over naming e
-    ∙ put_in-with (map plain_file n.files.now) (count_by not n.named.items) n.named.items t kind (pieces n.place.file Outside (shown_at q)) (waiting n.«open».items)
-    ∙ ap (items_with t kind) (sym (left_at (record n { place = q }) None n.place.file over naming
-    (same_file n.place q same)))
+    ∙ put_in-with (map plain_file n.files.now) (count_by not n.named.items) n.named.items t kind (pieces n.position.file Outside (shown_at q)) (waiting n.«open».items)
+    ∙ ap (items_with t kind) (sym (left_at (record n { position = q }) None n.position.file over naming
+    (same_file n.position q same)))
 
 -- what is taken at once is a word, or nothing
-pub takes_word : (n : Nest) (q : Place) (found : Option Token) → n.is_over ≡ false
-    → n.naming ≡ None → IsSameFile n.place q → TakesWordAt n.place found q
-    → TakesWord (items_left n) found (items_left (record n { place = q }))
+pub takes_word : (n : Nest) (q : Position) (found : Option Token) → n.is_over ≡ false
+    → n.naming ≡ None → IsSameFile n.position q → TakesWordAt n.position found q
+    → TakesWord (items_left n) found (items_left (record n { position = q }))
 takes_word n q (Some token) over naming same taken =
     let t = plain_token token in
     let lacks : holds_dollar t.text ≡ false = sym taken.1.dollar in
     record {
       first = takes_token n q t class.Word over naming same
-          (ap (pieces n.place.file Outside) taken.0
-          ∙ pieces-class n.place.file t _ class.Word (no_dollar-spells t.text 91 lacks) lacks);
+          (ap (pieces n.position.file Outside) taken.0
+          ∙ pieces-class n.position.file t _ class.Word (no_dollar-spells t.text 91 lacks) lacks);
       text = lacks;
       at = taken.1.at;
     }
 takes_word n q None over naming same taken =
-    ap (λ (p : Place). items_left (record n { place = p })) taken
+    ap (λ (p : Position). items_left (record n { position = p })) taken
 
 pub none_there : {X : Type 0} (o : Option X) → is_some o ≡ false → o ≡ None
 none_there None e = refl
 none_there (Some x) e = absurd cc
 
-pub takes_inclusion : (n : Nest) (q : Place) (begin : Token) → n.is_over ≡ false → n.naming ≡ None → IsSameFile n.place q
-    → pieces n.place.file Outside (shown_at n.place) ≡ Met (Inclusion (plain_token begin)) ∷ pieces n.place.file (Naming (plain_token begin)) (shown_at q)
-    → items_left n ≡ Inclusion (plain_token begin) ∷ items_left (record n { place = q; naming = Some begin })
+pub takes_inclusion : (n : Nest) (q : Position) (begin : Token) → n.is_over ≡ false → n.naming ≡ None → IsSameFile n.position q
+    → pieces n.position.file Outside (shown_at n.position) ≡ Met (Inclusion (plain_token begin)) ∷ pieces n.position.file (Naming (plain_token begin)) (shown_at q)
+    → items_left n ≡ Inclusion (plain_token begin) ∷ items_left (record n { position = q; naming = Some begin })
 takes_inclusion n q begin over naming same e =
     left_pieces n None _ over naming e
     ∙ put_in-inclusion (map plain_file n.files.now) (count_by not n.named.items) n.named.items (plain_token begin) _
-    ∙ ap (λ l. Inclusion (plain_token begin) ∷ l) (sym (left_at (record n { place = q; naming = Some begin })
-    (Some begin) n.place.file over refl (same_file n.place q same)))
+    ∙ ap (λ l. Inclusion (plain_token begin) ∷ l) (sym (left_at (record n { position = q; naming = Some begin })
+    (Some begin) n.position.file over refl (same_file n.position q same)))
 
-pub takes_end : (n : Nest) (file : ℕ) → n.is_over ≡ false → n.naming ≡ None → pieces n.place.file Outside (shown_at n.place) ≡ Met (End file) ∷ [] → items_left n ≡ End file ∷ items_after n
+pub takes_end : (n : Nest) (file : ℕ) → n.is_over ≡ false → n.naming ≡ None → pieces n.position.file Outside (shown_at n.position) ≡ Met (End file) ∷ [] → items_left n ≡ End file ∷ items_after n
 takes_end n file over naming e =
     left_pieces n None _ over naming e
     ∙ put_in-end (map plain_file n.files.now) (count_by not n.named.items) n.named.items file (waiting n.«open».items)
@@ -212,29 +212,29 @@ takes_end n file over naming e =
 -- ---- an inclusion is finished
 
 pub includes_wrong : (n : Nest) (begin : Token) (w : Wrong) → n.is_over ≡ false → n.naming ≡ Some begin
-    → pieces n.place.file (Naming (plain_token begin)) (shown_at n.place) ≡ Met (wrong_item w) ∷ [] → items_left n ≡ wrong_item w ∷ []
+    → pieces n.position.file (Naming (plain_token begin)) (shown_at n.position) ≡ Met (wrong_item w) ∷ [] → items_left n ≡ wrong_item w ∷ []
 includes_wrong n begin w over naming e =
     left_pieces n (Some begin) _ over naming e
     ∙ put_in-wrong (map plain_file n.files.now) (count_by not n.named.items) n.named.items w.rule (plain_token w.token) (waiting n.«open».items)
 
 -- the name was read
-pub includes_name : (n : Nest) (q : Place) (begin : Token) (name : PlainToken) → n.is_over ≡ false → n.naming ≡ Some begin → IsSameFile n.place q
-    → pieces n.place.file (Naming (plain_token begin)) (shown_at n.place) ≡ Named name ∷ pieces n.place.file Outside (shown_at q)
+pub includes_name : (n : Nest) (q : Position) (begin : Token) (name : PlainToken) → n.is_over ≡ false → n.naming ≡ Some begin → IsSameFile n.position q
+    → pieces n.position.file (Naming (plain_token begin)) (shown_at n.position) ≡ Named name ∷ pieces n.position.file Outside (shown_at q)
     → items_left n ≡ put_into n (Named name ∷ pieces q.file Outside (shown_at q) ++ waiting n.«open».items)
 includes_name n q begin name over naming same e =
     left_pieces n (Some begin) _ over naming e
-    ∙ ap (λ f. put_into n (Named name ∷ pieces f Outside (shown_at q) ++ waiting n.«open».items)) (sym (same_file n.place q same))
+    ∙ ap (λ f. put_into n (Named name ∷ pieces f Outside (shown_at q) ++ waiting n.«open».items)) (sym (same_file n.position q same))
 
 -- no file has it
 pub includes_unknown : (n : Nest) (name : PlainToken) (rest : List Piece) → file_number (map plain_file n.files.now) name.text ≡ None → put_into n (Named name ∷ rest) ≡ items.Wrong X7 name ∷ []
 includes_unknown n name rest e = put_in-unknown (map plain_file n.files.now) (count_by not n.named.items) n.named.items name rest e
 
 -- its file was named before
-pub includes_again : (n : Nest) (q : Place) (name : PlainToken) (number : ℕ) → n.is_over ≡ false
+pub includes_again : (n : Nest) (q : Position) (name : PlainToken) (number : ℕ) → n.is_over ≡ false
     → file_number (map plain_file n.files.now) name.text ≡ Some number → slice_index_or n.named.items number true ≡ true
-    → items_left (record n { place = q; naming = None }) ≡ put_into n (Named name ∷ pieces q.file Outside (shown_at q) ++ waiting n.«open».items)
+    → items_left (record n { position = q; naming = None }) ≡ put_into n (Named name ∷ pieces q.file Outside (shown_at q) ++ waiting n.«open».items)
 includes_again n q name number over e again =
-    left_at (record n { place = q; naming = None }) None q.file over refl refl
+    left_at (record n { position = q; naming = None }) None q.file over refl refl
     ∙ sym (put_in-again (map plain_file n.files.now) (count_by not n.named.items) n.named.items name _ number e again)
 
 -- ---- numbers
@@ -273,7 +273,7 @@ count_named named n lt e =
 
 -- ---- a file is gone into
 
-pub enters : (n : Nest) (q begin : Place) (name : PlainToken) (number : ℕ) (d : File) → number < length n.files.now → IsNest n
+pub enters : (n : Nest) (q begin : Position) (name : PlainToken) (number : ℕ) (d : File) → number < length n.files.now → IsNest n
     → file_number (map plain_file n.files.now) name.text ≡ Some number → slice_index_or n.named.items number true ≡ false
     → begin.bytes.now ≡ (get_or n.files.now number d).bytes.now → begin.file ≡ number → begin.at ≡ 0
     → put_in (map plain_file n.files.now) (count_by not (slice_set n.named.items number true)) (slice_set n.named.items number true)
@@ -301,11 +301,11 @@ pub leaves_last : (n : Nest) → n.«open».items ≡ [] → items_after n ≡ [
 leaves_last n e = ap (λ l. put_into n (waiting l)) e ∙ put_in-nil (map plain_file n.files.now) (count_by not n.named.items) n.named.items
 
 -- the last of the files that wait goes on
-pub leaves_to : (n m : Nest) (q : Place) → n.is_over ≡ false → n.naming ≡ None → n.«open».items ≡ m.«open».items ++ q ∷ []
-    → m ≡ record n { place = q; «open» = m.«open» } → items_left m ≡ items_after n
+pub leaves_to : (n m : Nest) (q : Position) → n.is_over ≡ false → n.naming ≡ None → n.«open».items ≡ m.«open».items ++ q ∷ []
+    → m ≡ record n { position = q; «open» = m.«open» } → items_left m ≡ items_after n
 leaves_to n m q over naming e same =
     ap items_left same
-    ∙ left_at (record n { place = q; «open» = m.«open» }) None q.file over naming refl
+    ∙ left_at (record n { position = q; «open» = m.«open» }) None q.file over naming refl
     ∙ ap (put_into n) (sym (waiting-push m.«open».items q) ∙ ap waiting (sym e))
 
 -- ---- the beginning of the top file
@@ -325,11 +325,11 @@ room_at_begin (f ∷ files) named some e =
     let first : count_by not (slice_set named 0 true) ≡ length files = ap (λ l. count_by not (slice_set l 0 true)) e ∙ count_top (length files) in
     omega (arith, first)
 
-pub begins : (files : List File) (d : File) (named : List Bool) (p : Place) (places : List Place) → 0 < length files → named ≡ replicate (length files) false
-    → p.bytes.now ≡ (get_or files 0 d).bytes.now → p.file ≡ 0 → p.at ≡ 0 → places ≡ []
-    → put_in (map plain_file files) (count_by not (slice_set named 0 true)) (slice_set named 0 true) (pieces p.file Outside (shown_at p) ++ waiting places) ≡ items.items (map plain_file files)
-begins [] d named p places some e bytes file at none = absurd (omega arith)
-begins (f ∷ files) d named p places some e bytes file at none =
+pub begins : (files : List File) (d : File) (named : List Bool) (p : Position) (positions : List Position) → 0 < length files → named ≡ replicate (length files) false
+    → p.bytes.now ≡ (get_or files 0 d).bytes.now → p.file ≡ 0 → p.at ≡ 0 → positions ≡ []
+    → put_in (map plain_file files) (count_by not (slice_set named 0 true)) (slice_set named 0 true) (pieces p.file Outside (shown_at p) ++ waiting positions) ≡ items.items (map plain_file files)
+begins [] d named p positions some e bytes file at none = absurd (omega arith)
+begins (f ∷ files) d named p positions some e bytes file at none =
     let all = map plain_file (f ∷ files) in
     let others : ℕ = length (map plain_file files) in
     let first : slice_set named 0 true ≡ true ∷ replicate others false =

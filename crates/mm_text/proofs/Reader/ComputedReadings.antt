@@ -33,7 +33,7 @@ use Rattle.mm_text.proofs.Reader.OpenBlocks.{scope_closed, scope_unclosed, balan
 use Rattle.mm_text.proofs.Reader.OpenBlocks.{body_count, closing_count, opening_count}
 use Rattle.mm_text.proofs.Lists.{last_cut, nil_append}
 
--- ==== fronts of lists of items, and the tokens in them
+-- ==== prefixes of lists of items, and the tokens in them
 
 pub plain_tokens-append : (a b : List Item) → plain_tokens (a ++ b) ≡ plain_tokens a ++ plain_tokens b
 plain_tokens-append [] b = refl
@@ -46,10 +46,10 @@ clean_append (Wrong rule t ∷ a) b h k = absurd h
 clean_append (_ ∷ a) b h k = clean_append a b h k
 
 -- a fault inside is one
-pub clean_behind : (front : List Item) (rule : TextRule) (t : PlainToken) (rest : List Item) → HoldNoFault (front ++ Wrong rule t ∷ rest) → ⊥
+pub clean_behind : (prefix : List Item) (rule : TextRule) (t : PlainToken) (rest : List Item) → HoldNoFault (prefix ++ Wrong rule t ∷ rest) → ⊥
 clean_behind [] rule t rest h = h
-clean_behind (Wrong other u ∷ front) rule t rest h = h
-clean_behind (_ ∷ front) rule t rest h = clean_behind front rule t rest h
+clean_behind (Wrong other u ∷ prefix) rule t rest h = h
+clean_behind (_ ∷ prefix) rule t rest h = clean_behind prefix rule t rest h
 
 -- ==== what the reader computes of items is a reading of them
 
@@ -69,7 +69,7 @@ AreSettled [] = Unit {0}
 AreSettled (Plain t ∷ rest) = ComesToStop rest × AreSettled rest
 AreSettled (_ ∷ rest) = AreSettled rest
 
--- ---- a viable front with one item more
+-- ---- a viable prefix with one item more
 
 spells_more : (tokens more : List PlainToken) (statements : List PlainStatement) (s : PlainStatement) → SpellsAll tokens statements → Spells more s → SpellsAll (tokens ++ more) (statements ++ s ∷ [])
 spells_more tokens more [] s h k = (more, [], ap (λ (x : List PlainToken). x ++ more) h ∙ sym (append-nil more), k, refl)
@@ -120,7 +120,7 @@ between : (pre : List Item) (item : Item) (statements : List PlainStatement) (un
 between pre item statements unfinished v e none f =
     extended pre item statements statements unfinished [] v.finished v f (ap (λ (x : List PlainToken). plain_tokens pre ++ x) none ∙ append-nil (plain_tokens pre) ∙ nothing_left pre statements unfinished v e ∙ sym (append-nil v.finished)) v.spelled (inl refl) v.balanced
 
--- ---- a reading after a viable front
+-- ---- a reading after a viable prefix
 
 abbrev pub ReadsOn : List Item → List PlainStatement → PlainReading → Type 0
 ReadsOn whole statements reading = ReadsAs whole (statements ++ reading.statements) reading.ending
@@ -143,7 +143,7 @@ same_reading whole statements reading other e h = subst (ReadsOn whole statement
 pub fault_is : (rule : TextRule) (t : PlainToken) (part : Part) (statements : List PlainStatement) (unfinished : List PlainToken) → Describes part unfinished → fault_in (scope_of statements) part rule t ≡ fault_at rule t statements unfinished
 fault_is rule t part statements unfinished d = λ i. record { rule = rule; file = t.file; at = t.at; statement = scope_count statements i + 1; label = sym (Describes-label part unfinished d) i }
 
--- the front with the items that are left, as far as it was read
+-- the prefix with the items that are left, as far as it was read
 pub record Course (pre : List Item) (statements : List PlainStatement) (unfinished : List PlainToken) (part : Part) : Type 0 where
   pub viable : Viable pre statements unfinished
   pub described : Describes part unfinished
@@ -260,7 +260,7 @@ end_next pre rest statements unfinished part file inner c =
 
 -- ---- all items
 
--- what the reader computes of items after a viable front is a reading of all
+-- what the reader computes of items after a viable prefix is a reading of all
 pub reads_on : (rest : List Item) → AllByRecursion IsSigned (plain_tokens rest) → AreSettled rest → GoesOn rest
 reads_on [] signed settled pre statements unfinished part c (inl none) =
     elim (first_of_part part unfinished c.described) [

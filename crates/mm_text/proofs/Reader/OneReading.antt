@@ -24,7 +24,7 @@ use Rattle.mm_text.specs.Mirror.Reader.{outermost, scope_after_statement, scope_
 use Rattle.mm_text.specs.Mirror.Reader.{scope_after_closing, has_none, fault_in, block_fault}
 use Rattle.mm_text.specs.Mirror.Reader.{end_fault, inclusion_fault, unless, PlainReading}
 use Rattle.mm_text.specs.Mirror.Reader.{only_ending, with_statement, reading_of}
-use Rattle.mm_text.specs.Laws.{FaultsEndLongestFronts}
+use Rattle.mm_text.specs.Laws.{FaultsEndLongestPrefixes}
 use Rattle.mm_text.proofs.Reader.OneToken.{same_text-ne, is_keyword-true, is_keyword_from}
 use Rattle.mm_text.proofs.Reader.OneToken.{read_nothing, read_end, read_inclusion, read_wrong}
 use Rattle.mm_text.proofs.Reader.OneToken.{read_more, read_whole, read_opened, read_closing}
@@ -35,11 +35,11 @@ use Rattle.mm_text.proofs.Reader.Unfinished.{Describes, part_of_body, part_of_pr
 use Rattle.mm_text.proofs.Reader.Unfinished.{part_of_beginning, first_of_part, closing_sign}
 use Rattle.mm_text.proofs.Reader.SpelledStatements.{Runs, run, run-nil, run_step, with_first}
 use Rattle.mm_text.proofs.Reader.SpelledStatements.{with_all, with_all-runs, run_on, runs_parts}
-use Rattle.mm_text.proofs.Reader.SpelledStatements.{front_of_run, closing_short, spelled_run}
+use Rattle.mm_text.proofs.Reader.SpelledStatements.{prefix_of_run, closing_short, spelled_run}
 use Rattle.mm_text.proofs.Reader.SpelledStatements.{whole_run}
 use Rattle.mm_text.proofs.Reader.OpenBlocks.{AreOpen, scope_after, scope_of, scope_body, scope_more}
 use Rattle.mm_text.proofs.Reader.OpenBlocks.{scope_open, closed_scope, unclosed_scope}
-use Rattle.mm_text.proofs.Reader.OpenBlocks.{one_innermost, innermost_unclosed, balanced_front}
+use Rattle.mm_text.proofs.Reader.OpenBlocks.{one_innermost, innermost_unclosed, balanced_prefix}
 use Rattle.mm_text.proofs.Reader.OpenBlocks.{closing_unbalanced}
 
 -- ==== a reading of items is what the reader computes, so there is one reading
@@ -104,7 +104,7 @@ breaks_S5 tokens t kind symbols b (inr m) =
     let faulty = step_too_many s t m.0 (rw (is, same, m.1) (eq-eqb (length symbols) 2 m.2)) in
     record { part = InBody s; described = body; faulty = faulty }
 
--- ---- the fault after a front
+-- ---- the fault after a prefix
 
 -- after these tokens the reader ends with this fault at this item
 pub record EndsThere (statements : List PlainStatement) (tokens : List PlainToken) (item : Item) (rest : List Item) (fault : PlainFault) : Type 0 where
@@ -208,7 +208,7 @@ ends_there statements tokens (Inclusion t) rest fault begins b e = inclusion_end
 ends_there statements tokens (End file) rest fault begins b (inl e) = end_X8 statements tokens file rest fault begins e
 ends_there statements tokens (End file) rest fault begins b (inr e) = end_S7 statements tokens file rest fault b e
 
--- ---- along a viable front
+-- ---- along a viable prefix
 
 -- statements before a reading
 abbrev pub with_statements : List PlainStatement → PlainReading → PlainReading
@@ -219,28 +219,28 @@ with_more : (statements : List PlainStatement) (s : PlainStatement) (reading : P
 with_more [] s reading = refl
 with_more (first ∷ statements) s reading = ap (with_statement first) (with_more statements s reading)
 
--- The reader read a front of a viable front: these statements, and a part of one.
-record IsUnderWay (whole : List Item) (all : List PlainStatement) (last : Part) (pre : List Item) (statements : List PlainStatement) (part : Part) (front : List Item) : Type 0 where
-  cut : whole ≡ pre ++ front
+-- The reader read a prefix of a viable prefix: these statements, and a part of one.
+record IsUnderWay (whole : List Item) (all : List PlainStatement) (last : Part) (pre : List Item) (statements : List PlainStatement) (part : Part) (prefix : List Item) : Type 0 where
+  cut : whole ≡ pre ++ prefix
   done : run Between (plain_tokens pre) ≡ Runs statements part
   ends : run Between (plain_tokens whole) ≡ Runs all last
   long : IsLongPart part
 
--- what is read of the front of a viable front
-so_far : (whole pre front : List Item) (all statements : List PlainStatement) (last part : Part)
-    → IsUnderWay whole all last pre statements part front
+-- what is read of the prefix of a viable prefix
+so_far : (whole pre prefix : List Item) (all statements : List PlainStatement) (last part : Part)
+    → IsUnderWay whole all last pre statements part prefix
     → (others : List PlainStatement) × (all ≡ statements ++ others)
-    × (run part (plain_tokens front) ≡ Runs others last)
-so_far whole pre front all statements last part w =
-    front_of_run statements (run part (plain_tokens front)) all last
-    (sym (run_on (plain_tokens pre) (plain_tokens front) statements part w.done)
-    ∙ ap (run Between) (sym (ap plain_tokens w.cut ∙ plain_tokens-append pre front)) ∙ w.ends)
+    × (run part (plain_tokens prefix) ≡ Runs others last)
+so_far whole pre prefix all statements last part w =
+    prefix_of_run statements (run part (plain_tokens prefix)) all last
+    (sym (run_on (plain_tokens pre) (plain_tokens prefix) statements part w.done)
+    ∙ ap (run Between) (sym (ap plain_tokens w.cut ∙ plain_tokens-append pre prefix)) ∙ w.ends)
 
 -- one item on
-moved : (whole pre front : List Item) (item : Item) (all statements more after : List PlainStatement) (last part next : Part) → IsUnderWay whole all last pre statements part (item ∷ front)
-    → run part (plain_tokens (item ∷ [])) ≡ Runs more next → statements ++ more ≡ after → IsLongPart next → IsUnderWay whole all last (pre ++ item ∷ []) after next front
-moved whole pre front item all statements more after last part next w r is long = record {
-  cut = w.cut ∙ sym (append_assoc pre (item ∷ []) front);
+moved : (whole pre prefix : List Item) (item : Item) (all statements more after : List PlainStatement) (last part next : Part) → IsUnderWay whole all last pre statements part (item ∷ prefix)
+    → run part (plain_tokens (item ∷ [])) ≡ Runs more next → statements ++ more ≡ after → IsLongPart next → IsUnderWay whole all last (pre ++ item ∷ []) after next prefix
+moved whole pre prefix item all statements more after last part next w r is long = record {
+  cut = w.cut ∙ sym (append_assoc pre (item ∷ []) prefix);
   done = ap (run Between) (plain_tokens-append pre (item ∷ [])) ∙ run_on (plain_tokens pre) (plain_tokens (item ∷ [])) statements part w.done ∙ ap (with_all statements) r ∙ with_all-runs statements more next
       ∙ ap (λ (x : List PlainStatement). Runs x next) is;
   ends = w.ends;
@@ -252,7 +252,7 @@ spelled_between : (pre : List Item) (statements earlier : List PlainStatement) (
 spelled_between pre statements earlier part done h =
     let run = whole_run (plain_tokens pre) earlier h in (cc (run, done), cc (run, done))
 
--- how the items of a viable front may stand, whatever they spell
+-- how the items of a viable prefix may stand, whatever they spell
 record AllowsAll (whole : List Item) (all : List PlainStatement) : Type 0 where
   clean : HoldNoFault whole
   balanced : AreBalanced all
@@ -260,119 +260,119 @@ record AllowsAll (whole : List Item) (all : List PlainStatement) : Type 0 where
   ended : (before after : List Item) (file : ℕ) → whole ≡ before ++ End file ∷ after → (earlier : List PlainStatement) × SpellsAll (plain_tokens before) earlier
   top_ended : (before after : List Item) → whole ≡ before ++ End 0 ∷ after → AreOutside (plain_tokens before)
 
--- the reader goes along the rest of a front
+-- the reader goes along the rest of a prefix
 abbrev GoesAlong : List Item → List PlainStatement → Part → List Item → List Item → Type 0
-GoesAlong whole all last front rest =
-    (pre : List Item) (statements : List PlainStatement) (part : Part) → IsUnderWay whole all last pre statements part front
-    → with_statements statements (reading_of (scope_of statements) part (front ++ rest)) ≡ with_statements all (reading_of (scope_of all) last rest)
+GoesAlong whole all last prefix rest =
+    (pre : List Item) (statements : List PlainStatement) (part : Part) → IsUnderWay whole all last pre statements part prefix
+    → with_statements statements (reading_of (scope_of statements) part (prefix ++ rest)) ≡ with_statements all (reading_of (scope_of all) last rest)
 
-so_far_balanced : (whole pre front : List Item) (all statements : List PlainStatement) (last part : Part) → AllowsAll whole all → IsUnderWay whole all last pre statements part front → AreBalanced statements
-so_far_balanced whole pre front all statements last part v w =
-    let far = so_far whole pre front all statements last part w in
-    balanced_front statements far.0 (subst AreBalanced far.1 v.balanced)
+so_far_balanced : (whole pre prefix : List Item) (all statements : List PlainStatement) (last part : Part) → AllowsAll whole all → IsUnderWay whole all last pre statements part prefix → AreBalanced statements
+so_far_balanced whole pre prefix all statements last part v w =
+    let far = so_far whole pre prefix all statements last part w in
+    balanced_prefix statements far.0 (subst AreBalanced far.1 v.balanced)
 
 -- a token that ends a statement
-along_statement : (whole pre front rest : List Item) (all statements : List PlainStatement) (last part : Part) (t : PlainToken) (s : PlainStatement) (scope : PlainScope) → GoesAlong whole all last front rest
-    → IsUnderWay whole all last (pre ++ Plain t ∷ []) (statements ++ s ∷ []) Between front → scope_of (statements ++ s ∷ []) ≡ scope
-    → reading_of (scope_of statements) part (Plain t ∷ front ++ rest) ≡ with_statement s (reading_of scope Between (front ++ rest))
-    → with_statements statements (reading_of (scope_of statements) part (Plain t ∷ front ++ rest)) ≡ with_statements all (reading_of (scope_of all) last rest)
-along_statement whole pre front rest all statements last part t s scope inner w is e =
-    ap (with_statements statements) (e ∙ ap (λ (x : PlainScope). with_statement s (reading_of x Between (front ++ rest))) (sym is))
-    ∙ sym (with_more statements s (reading_of (scope_of (statements ++ s ∷ [])) Between (front ++ rest)))
+along_statement : (whole pre prefix rest : List Item) (all statements : List PlainStatement) (last part : Part) (t : PlainToken) (s : PlainStatement) (scope : PlainScope) → GoesAlong whole all last prefix rest
+    → IsUnderWay whole all last (pre ++ Plain t ∷ []) (statements ++ s ∷ []) Between prefix → scope_of (statements ++ s ∷ []) ≡ scope
+    → reading_of (scope_of statements) part (Plain t ∷ prefix ++ rest) ≡ with_statement s (reading_of scope Between (prefix ++ rest))
+    → with_statements statements (reading_of (scope_of statements) part (Plain t ∷ prefix ++ rest)) ≡ with_statements all (reading_of (scope_of all) last rest)
+along_statement whole pre prefix rest all statements last part t s scope inner w is e =
+    ap (with_statements statements) (e ∙ ap (λ (x : PlainScope). with_statement s (reading_of x Between (prefix ++ rest))) (sym is))
+    ∙ sym (with_more statements s (reading_of (scope_of (statements ++ s ∷ [])) Between (prefix ++ rest)))
     ∙ inner (pre ++ Plain t ∷ []) (statements ++ s ∷ []) Between w
 
-along_closing : (whole pre front rest : List Item) (all statements : List PlainStatement) (last part : Part) (t : PlainToken) → AllowsAll whole all → GoesAlong whole all last front rest → IsUnderWay whole all last pre statements part (Plain t ∷ front)
-    → step part t ≡ Closed → with_statements statements (reading_of (scope_of statements) part (Plain t ∷ front ++ rest)) ≡ with_statements all (reading_of (scope_of all) last rest)
-along_closing whole pre front rest all statements last part t v inner w e =
-    along_statement whole pre front rest all statements last part t s (scope_after_closing (scope_of statements)) inner after (scope_more statements s)
-    (read_closing (scope_of statements) part t (front ++ rest) e ∙ cond-false (has_none (scope_of statements).blocks) _ _ some_open)
+along_closing : (whole pre prefix rest : List Item) (all statements : List PlainStatement) (last part : Part) (t : PlainToken) → AllowsAll whole all → GoesAlong whole all last prefix rest → IsUnderWay whole all last pre statements part (Plain t ∷ prefix)
+    → step part t ≡ Closed → with_statements statements (reading_of (scope_of statements) part (Plain t ∷ prefix ++ rest)) ≡ with_statements all (reading_of (scope_of all) last rest)
+along_closing whole pre prefix rest all statements last part t v inner w e =
+    along_statement whole pre prefix rest all statements last part t s (scope_after_closing (scope_of statements)) inner after (scope_more statements s)
+    (read_closing (scope_of statements) part t (prefix ++ rest) e ∙ cond-false (has_none (scope_of statements).blocks) _ _ some_open)
   where
     s : PlainStatement
     s = bare_statement Closing t None
 
-    after : IsUnderWay whole all last (pre ++ Plain t ∷ []) (statements ++ s ∷ []) Between front
-    after = moved whole pre front (Plain t) all statements (s ∷ []) (statements ++ s ∷ []) last part Between w (run_step part t [] _ e ∙ ap (with_first s) (run-nil Between)) refl tt
+    after : IsUnderWay whole all last (pre ++ Plain t ∷ []) (statements ++ s ∷ []) Between prefix
+    after = moved whole pre prefix (Plain t) all statements (s ∷ []) (statements ++ s ∷ []) last part Between w (run_step part t [] _ e ∙ ap (with_first s) (run-nil Between)) refl tt
 
     some_open : has_none (scope_of statements).blocks ≡ false
     some_open =
-        unclosed_scope statements (so_far_balanced whole pre (Plain t ∷ front) all statements last part v w)
-        (λ c. closing_unbalanced statements s c refl (so_far_balanced whole (pre ++ Plain t ∷ []) front all (statements ++ s ∷ []) last Between v after))
+        unclosed_scope statements (so_far_balanced whole pre (Plain t ∷ prefix) all statements last part v w)
+        (λ c. closing_unbalanced statements s c refl (so_far_balanced whole (pre ++ Plain t ∷ []) prefix all (statements ++ s ∷ []) last Between v after))
 
-along_token : (whole pre front rest : List Item) (all statements : List PlainStatement) (last part : Part) (t : PlainToken) → AllowsAll whole all → GoesAlong whole all last front rest → IsUnderWay whole all last pre statements part (Plain t ∷ front)
-    → (st : Step) → step part t ≡ st → Leads part st → with_statements statements (reading_of (scope_of statements) part (Plain t ∷ front ++ rest)) ≡ with_statements all (reading_of (scope_of all) last rest)
-along_token whole pre front rest all statements last part t v inner w (More next) e long =
-    ap (with_statements statements) (read_more (scope_of statements) part t (front ++ rest) next e)
-    ∙ inner (pre ++ Plain t ∷ []) statements next (moved whole pre front (Plain t) all statements []
+along_token : (whole pre prefix rest : List Item) (all statements : List PlainStatement) (last part : Part) (t : PlainToken) → AllowsAll whole all → GoesAlong whole all last prefix rest → IsUnderWay whole all last pre statements part (Plain t ∷ prefix)
+    → (st : Step) → step part t ≡ st → Leads part st → with_statements statements (reading_of (scope_of statements) part (Plain t ∷ prefix ++ rest)) ≡ with_statements all (reading_of (scope_of all) last rest)
+along_token whole pre prefix rest all statements last part t v inner w (More next) e long =
+    ap (with_statements statements) (read_more (scope_of statements) part t (prefix ++ rest) next e)
+    ∙ inner (pre ++ Plain t ∷ []) statements next (moved whole pre prefix (Plain t) all statements []
     statements last part next w (run_step part t [] _ e ∙ run-nil next) (append-nil statements)
     (long.1 w.long))
-along_token whole pre front rest all statements last part t v inner w (Whole s) e long =
-    along_statement whole pre front rest all statements last part t s (scope_after_statement (scope_of statements)) inner
-    (moved whole pre front (Plain t) all statements (s ∷ []) (statements ++ s ∷ []) last part Between w (run_step part t [] _ e ∙ ap (with_first s) (run-nil Between)) refl tt)
-    (scope_body statements s (long w.long)) (read_whole (scope_of statements) part t (front ++ rest) s e)
-along_token whole pre front rest all statements last part t v inner w Opened e long =
+along_token whole pre prefix rest all statements last part t v inner w (Whole s) e long =
+    along_statement whole pre prefix rest all statements last part t s (scope_after_statement (scope_of statements)) inner
+    (moved whole pre prefix (Plain t) all statements (s ∷ []) (statements ++ s ∷ []) last part Between w (run_step part t [] _ e ∙ ap (with_first s) (run-nil Between)) refl tt)
+    (scope_body statements s (long w.long)) (read_whole (scope_of statements) part t (prefix ++ rest) s e)
+along_token whole pre prefix rest all statements last part t v inner w Opened e long =
     let s : PlainStatement = bare_statement Opening t None in
-    along_statement whole pre front rest all statements last part t s (scope_after_opening (scope_of statements) t) inner
-    (moved whole pre front (Plain t) all statements (s ∷ []) (statements ++ s ∷ []) last part Between w (run_step part t [] _ e ∙ ap (with_first s) (run-nil Between)) refl tt)
-    (scope_more statements s) (read_opened (scope_of statements) part t (front ++ rest) e)
-along_token whole pre front rest all statements last part t v inner w Closed e long = along_closing whole pre front rest all statements last part t v inner w e
-along_token whole pre front rest all statements last part t v inner w (Faulty rule) e long =
-    let far = so_far whole pre (Plain t ∷ front) all statements last part w in
-    absurd (cc (run_step part t (plain_tokens front) _ e, far.2))
+    along_statement whole pre prefix rest all statements last part t s (scope_after_opening (scope_of statements) t) inner
+    (moved whole pre prefix (Plain t) all statements (s ∷ []) (statements ++ s ∷ []) last part Between w (run_step part t [] _ e ∙ ap (with_first s) (run-nil Between)) refl tt)
+    (scope_more statements s) (read_opened (scope_of statements) part t (prefix ++ rest) e)
+along_token whole pre prefix rest all statements last part t v inner w Closed e long = along_closing whole pre prefix rest all statements last part t v inner w e
+along_token whole pre prefix rest all statements last part t v inner w (Faulty rule) e long =
+    let far = so_far whole pre (Plain t ∷ prefix) all statements last part w in
+    absurd (cc (run_step part t (plain_tokens prefix) _ e, far.2))
 
 -- an item between statements at which there is no fault
-along_between : (whole pre front rest : List Item) (item : Item) (all statements : List PlainStatement) (last part : Part) → GoesAlong whole all last front rest → IsUnderWay whole all last pre statements part (item ∷ front) → plain_tokens (item ∷ []) ≡ []
-    → reading_of (scope_of statements) part (item ∷ front ++ rest) ≡ reading_of (scope_of statements) part (front ++ rest)
-    → with_statements statements (reading_of (scope_of statements) part (item ∷ front ++ rest)) ≡ with_statements all (reading_of (scope_of all) last rest)
-along_between whole pre front rest item all statements last part inner w none e =
+along_between : (whole pre prefix rest : List Item) (item : Item) (all statements : List PlainStatement) (last part : Part) → GoesAlong whole all last prefix rest → IsUnderWay whole all last pre statements part (item ∷ prefix) → plain_tokens (item ∷ []) ≡ []
+    → reading_of (scope_of statements) part (item ∷ prefix ++ rest) ≡ reading_of (scope_of statements) part (prefix ++ rest)
+    → with_statements statements (reading_of (scope_of statements) part (item ∷ prefix ++ rest)) ≡ with_statements all (reading_of (scope_of all) last rest)
+along_between whole pre prefix rest item all statements last part inner w none e =
     ap (with_statements statements) e
-    ∙ inner (pre ++ item ∷ []) statements part (moved whole pre front item all statements [] statements last part part w (ap (run part) none ∙ run-nil part) (append-nil statements) w.long)
+    ∙ inner (pre ++ item ∷ []) statements part (moved whole pre prefix item all statements [] statements last part part w (ap (run part) none ∙ run-nil part) (append-nil statements) w.long)
 
-along_inclusion : (whole pre front rest : List Item) (all statements : List PlainStatement) (last part : Part) (t : PlainToken) → AllowsAll whole all → GoesAlong whole all last front rest → IsUnderWay whole all last pre statements part (Inclusion t ∷ front)
-    → with_statements statements (reading_of (scope_of statements) part (Inclusion t ∷ front ++ rest)) ≡ with_statements all (reading_of (scope_of all) last rest)
-along_inclusion whole pre front rest all statements last part t v inner w =
-    let out = v.included pre front t w.cut in
+along_inclusion : (whole pre prefix rest : List Item) (all statements : List PlainStatement) (last part : Part) (t : PlainToken) → AllowsAll whole all → GoesAlong whole all last prefix rest → IsUnderWay whole all last pre statements part (Inclusion t ∷ prefix)
+    → with_statements statements (reading_of (scope_of statements) part (Inclusion t ∷ prefix ++ rest)) ≡ with_statements all (reading_of (scope_of all) last rest)
+along_inclusion whole pre prefix rest all statements last part t v inner w =
+    let out = v.included pre prefix t w.cut in
     let here = spelled_between pre statements out.statements part w.done out.spelled in
-    let none_open = closed_scope statements (so_far_balanced whole pre (Inclusion t ∷ front) all statements last part v w) (subst AreClosed here.0 out.closed) in
+    let none_open = closed_scope statements (so_far_balanced whole pre (Inclusion t ∷ prefix) all statements last part v w) (subst AreClosed here.0 out.closed) in
     let none : inclusion_fault (scope_of statements) part t ≡ None = ap (λ (x : Part). inclusion_fault (scope_of statements) x t) here.1 ∙ cond-true (has_none (scope_of statements).blocks) _ _ none_open in
-    along_between whole pre front rest (Inclusion t) all statements last part inner w refl
-    (read_inclusion (scope_of statements) part t (front ++ rest) ∙ ap (λ (f : Option PlainFault). unless f (reading_of (scope_of statements) part (front ++ rest))) none)
+    along_between whole pre prefix rest (Inclusion t) all statements last part inner w refl
+    (read_inclusion (scope_of statements) part t (prefix ++ rest) ∙ ap (λ (f : Option PlainFault). unless f (reading_of (scope_of statements) part (prefix ++ rest))) none)
 
 no_block : (blocks : List OpenBlock) → has_none blocks ≡ true → block_fault blocks ≡ None
 no_block [] e = refl
 no_block (block ∷ blocks) e = absurd (false≢true e)
 
-along_end : (whole pre front rest : List Item) (all statements : List PlainStatement) (last part : Part) (file : ℕ) → AllowsAll whole all → GoesAlong whole all last front rest → IsUnderWay whole all last pre statements part (End file ∷ front)
-    → with_statements statements (reading_of (scope_of statements) part (End file ∷ front ++ rest)) ≡ with_statements all (reading_of (scope_of all) last rest)
-along_end whole pre front rest all statements last part file v inner w =
-    let out = v.ended pre front file w.cut in
+along_end : (whole pre prefix rest : List Item) (all statements : List PlainStatement) (last part : Part) (file : ℕ) → AllowsAll whole all → GoesAlong whole all last prefix rest → IsUnderWay whole all last pre statements part (End file ∷ prefix)
+    → with_statements statements (reading_of (scope_of statements) part (End file ∷ prefix ++ rest)) ≡ with_statements all (reading_of (scope_of all) last rest)
+along_end whole pre prefix rest all statements last part file v inner w =
+    let out = v.ended pre prefix file w.cut in
     let here = spelled_between pre statements out.0 part w.done out.1 in
     let top : file ≡ 0 → block_fault (scope_of statements).blocks ≡ None = λ first.
-    let outside = v.top_ended pre front (w.cut ∙ ap (λ (x : ℕ). pre ++ End x ∷ front) first) in
+    let outside = v.top_ended pre prefix (w.cut ∙ ap (λ (x : ℕ). pre ++ End x ∷ prefix) first) in
     let same = spelled_between pre statements outside.statements part w.done outside.spelled in
-    no_block (scope_of statements).blocks (closed_scope statements (so_far_balanced whole pre (End file ∷ front) all statements last part v w) (subst AreClosed same.0 outside.closed)) in
+    no_block (scope_of statements).blocks (closed_scope statements (so_far_balanced whole pre (End file ∷ prefix) all statements last part v w) (subst AreClosed same.0 outside.closed)) in
     let none : end_fault (scope_of statements) part file ≡ None =
     ap (λ (x : Part). end_fault (scope_of statements) x file) here.1
     ∙ cond_both (file == 0) _ _ (λ (f : Option PlainFault). f ≡ None) (λ first. top (eqb-true file 0 first)) (λ _. refl) in
-    along_between whole pre front rest (End file) all statements last part inner w refl
-    (read_end (scope_of statements) part file (front ++ rest) ∙ ap (λ (f : Option PlainFault). unless f (reading_of (scope_of statements) part (front ++ rest))) none)
+    along_between whole pre prefix rest (End file) all statements last part inner w refl
+    (read_end (scope_of statements) part file (prefix ++ rest) ∙ ap (λ (f : Option PlainFault). unless f (reading_of (scope_of statements) part (prefix ++ rest))) none)
 
-goes_along : (whole : List Item) (all : List PlainStatement) (last : Part) (front rest : List Item) → AllowsAll whole all → GoesAlong whole all last front rest
+goes_along : (whole : List Item) (all : List PlainStatement) (last : Part) (prefix rest : List Item) → AllowsAll whole all → GoesAlong whole all last prefix rest
 goes_along whole all last [] rest v pre statements part w =
     let same = runs_parts statements all part last (sym w.done ∙ ap (λ (x : List Item). run Between (plain_tokens x)) (sym (w.cut ∙ append-nil pre)) ∙ w.ends) in
     λ i. with_statements (same.0 i) (reading_of (scope_of (same.0 i)) (same.1 i) rest)
-goes_along whole all last (Plain t ∷ front) rest v pre statements part w =
-    along_token whole pre front rest all statements last part t v (goes_along whole all last front rest v) w (step part t) refl (step_leads part t)
-goes_along whole all last (Wrong rule t ∷ front) rest v pre statements part w = absurd (clean_behind pre rule t front (subst HoldNoFault w.cut v.clean))
-goes_along whole all last (Inclusion t ∷ front) rest v pre statements part w = along_inclusion whole pre front rest all statements last part t v (goes_along whole all last front rest v) w
-goes_along whole all last (End file ∷ front) rest v pre statements part w = along_end whole pre front rest all statements last part file v (goes_along whole all last front rest v) w
+goes_along whole all last (Plain t ∷ prefix) rest v pre statements part w =
+    along_token whole pre prefix rest all statements last part t v (goes_along whole all last prefix rest v) w (step part t) refl (step_leads part t)
+goes_along whole all last (Wrong rule t ∷ prefix) rest v pre statements part w = absurd (clean_behind pre rule t prefix (subst HoldNoFault w.cut v.clean))
+goes_along whole all last (Inclusion t ∷ prefix) rest v pre statements part w = along_inclusion whole pre prefix rest all statements last part t v (goes_along whole all last prefix rest v) w
+goes_along whole all last (End file ∷ prefix) rest v pre statements part w = along_end whole pre prefix rest all statements last part file v (goes_along whole all last prefix rest v) w
 
--- what the reader computes of a viable front and what follows it
-pub front_reading : (front rest : List Item) (statements : List PlainStatement) (unfinished : List PlainToken) (part : Part) → Viable front statements unfinished → Describes part unfinished
-    → reading_of outermost Between (front ++ rest) ≡ with_statements statements (reading_of (scope_of statements) part rest)
+-- what the reader computes of a viable prefix and what follows it
+pub prefix_reading : (prefix rest : List Item) (statements : List PlainStatement) (unfinished : List PlainToken) (part : Part) → Viable prefix statements unfinished → Describes part unfinished
+    → reading_of outermost Between (prefix ++ rest) ≡ with_statements statements (reading_of (scope_of statements) part rest)
 unfolding scope_after
-front_reading front rest statements unfinished part v d =
-    goes_along front statements part front rest (record { clean = v.clean; balanced = v.balanced; included = v.included; ended = v.ended; top_ended = v.top_ended }) [] [] Between
-    (record { cut = refl; done = run-nil Between; ends = spelled_run (plain_tokens front) v.finished unfinished statements part v.whole v.spelled d; long = tt })
+prefix_reading prefix rest statements unfinished part v d =
+    goes_along prefix statements part prefix rest (record { clean = v.clean; balanced = v.balanced; included = v.included; ended = v.ended; top_ended = v.top_ended }) [] [] Between
+    (record { cut = refl; done = run-nil Between; ends = spelled_run (plain_tokens prefix) v.finished unfinished statements part v.whole v.spelled d; long = tt })
 
 -- ---- one reading
 
@@ -383,22 +383,22 @@ with_ended (s ∷ statements) ending = ap (with_statement s) (with_ended stateme
 -- a reading of items is what the reader computes
 pub reads_reading : (its : List Item) (statements : List PlainStatement) (ending : Option PlainFault) → ReadsAs its statements ending → reading_of outermost Between its ≡ record { statements = statements; ending = ending }
 reads_reading its statements None v =
-    ap (reading_of outermost Between) (sym (append-nil its)) ∙ front_reading its [] statements [] Between v refl
+    ap (reading_of outermost Between) (sym (append-nil its)) ∙ prefix_reading its [] statements [] Between v refl
     ∙ ap (with_statements statements) (read_nothing (scope_of statements) Between) ∙ with_ended statements None
 reads_reading its statements (Some fault) r =
     let there = ends_there statements r.3 r.1 r.2 fault r.5.begun r.5.balanced r.6 in
-    ap (reading_of outermost Between) r.4 ∙ front_reading r.0 (r.1 ∷ r.2) statements r.3 there.part r.5 there.described
+    ap (reading_of outermost Between) r.4 ∙ prefix_reading r.0 (r.1 ∷ r.2) statements r.3 there.part r.5 there.described
     ∙ ap (with_statements statements) there.last ∙ with_ended statements (Some fault)
 
--- ==== the front of the items after which a fault comes is the longest viable one
+-- ==== the prefix of the items after which a fault comes is the longest viable one
 
--- a longer front goes on after the shorter one
-longer_front : (longer after front : List Item) (item : Item) (rest : List Item) → longer ++ after ≡ front ++ item ∷ rest
-    → (length longer ≤ length front) ⊎ ((mid : List Item) × (longer ≡ front ++ item ∷ mid))
-longer_front [] after front item rest e = inl (omega arith)
-longer_front (x ∷ longer) after [] item rest e = inr (longer, cc)
-longer_front (x ∷ longer) after (y ∷ front) item rest e =
-    elim (longer_front longer after front item rest cc) [
+-- a longer prefix goes on after the shorter one
+longer_prefix : (longer after prefix : List Item) (item : Item) (rest : List Item) → longer ++ after ≡ prefix ++ item ∷ rest
+    → (length longer ≤ length prefix) ⊎ ((mid : List Item) × (longer ≡ prefix ++ item ∷ mid))
+longer_prefix [] after prefix item rest e = inl (omega arith)
+longer_prefix (x ∷ longer) after [] item rest e = inr (longer, cc)
+longer_prefix (x ∷ longer) after (y ∷ prefix) item rest e =
+    elim (longer_prefix longer after prefix item rest cc) [
       | inl le ↦ inl (omega arith)
       | inr more ↦ inr (more.0, cc)
     ]
@@ -407,10 +407,10 @@ ending_of : (statements : List PlainStatement) (reading : PlainReading) → (wit
 ending_of [] reading = refl
 ending_of (s ∷ statements) reading = ending_of statements reading
 
--- a fault comes only after the longest viable front
-pub faults_end_longest_fronts : FaultsEndLongestFronts
-faults_end_longest_fronts files front item rest statements unfinished fault cut v e longer after more left other l =
-    elim (longer_front longer after front item rest (sym other ∙ cut)) [
+-- a fault comes only after the longest viable prefix
+pub faults_end_longest_prefixes : FaultsEndLongestPrefixes
+faults_end_longest_prefixes files prefix item rest statements unfinished fault cut v e longer after more left other l =
+    elim (longer_prefix longer after prefix item rest (sym other ∙ cut)) [
       | inl le ↦ le
       | inr (mid, goes_on) ↦
           -- what goes on after a fault isn't viable: a token that is wrong, right after it, would be
@@ -420,13 +420,13 @@ faults_end_longest_fronts files front item rest statements unfinished fault cut 
           let last : List Item = Wrong X1 wrong ∷ [] in
           let there = ends_there statements unfinished item (mid ++ last) fault v.begun v.balanced e in
           let found = part_of_beginning left viable.begun in
-          let one : (reading_of outermost Between (front ++ (item ∷ mid ++ last))).ending ≡ Some fault =
-          ap (λ (r : PlainReading). r.ending) (front_reading front (item ∷ mid ++ last) statements unfinished there.part v there.described)
+          let one : (reading_of outermost Between (prefix ++ (item ∷ mid ++ last))).ending ≡ Some fault =
+          ap (λ (r : PlainReading). r.ending) (prefix_reading prefix (item ∷ mid ++ last) statements unfinished there.part v there.described)
           ∙ ending_of statements (reading_of (scope_of statements) there.part (item ∷ mid ++ last)) ∙ ap (λ (r : PlainReading). r.ending) there.last in
-          let two : (reading_of outermost Between ((front ++ item ∷ mid) ++ last)).ending ≡ Some (fault_in (scope_of more) found.0 X1 wrong) =
-          ap (λ (r : PlainReading). r.ending) (front_reading (front ++ item ∷ mid) last more left found.0 viable found.1)
+          let two : (reading_of outermost Between ((prefix ++ item ∷ mid) ++ last)).ending ≡ Some (fault_in (scope_of more) found.0 X1 wrong) =
+          ap (λ (r : PlainReading). r.ending) (prefix_reading (prefix ++ item ∷ mid) last more left found.0 viable found.1)
           ∙ ending_of more (reading_of (scope_of more) found.0 last) ∙ ap (λ (r : PlainReading). r.ending) (read_wrong (scope_of more) found.0 X1 wrong []) in
-          let same = same_Some fault (fault_in (scope_of more) found.0 X1 wrong) (sym one ∙ ap (λ (x : List Item). (reading_of outermost Between x).ending) (sym (append_assoc front (item ∷ mid) last)) ∙ two) in
-          let place : fault.at ≡ fault.at + 1 = ap (λ (f : PlainFault). f.at) same in
+          let same = same_Some fault (fault_in (scope_of more) found.0 X1 wrong) (sym one ∙ ap (λ (x : List Item). (reading_of outermost Between x).ending) (sym (append_assoc prefix (item ∷ mid) last)) ∙ two) in
+          let position : fault.at ≡ fault.at + 1 = ap (λ (f : PlainFault). f.at) same in
           absurd (omega arith)
     ]

@@ -65,8 +65,8 @@ keeps_one d s h (suc n) = rw (take-nil n) h
 pub balanced_nothing : AreBalanced []
 balanced_nothing n = rw (take-nil n) (omega arith)
 
-pub balanced_front : (a b : List PlainStatement) → AreBalanced (a ++ b) → AreBalanced a
-balanced_front a b h n =
+pub balanced_prefix : (a b : List PlainStatement) → AreBalanced (a ++ b) → AreBalanced a
+balanced_prefix a b h n =
     elim (cases_lt n (length a)) [
       | inl within ↦ rw (take-append-le n a b (omega arith)) at (h n)
       | inr past ↦ rw (take_all n a past) (rw (take_at a b (length a) refl) at (h (length a)))
@@ -146,7 +146,7 @@ open_closing statements s (block ∷ blocks) h k b =
 closed_within : (mid within other : List PlainStatement) (opening : PlainStatement) → opening.kind ≡ Opening → AreClosed within → AreBalanced other → AreClosed other → other ≡ mid ++ opening ∷ within → ⊥
 closed_within mid within other opening k c b scope_after_closing e =
     let o = opening_count opening k in
-    omega (arith, openings-append mid (opening ∷ within), closings-append mid (opening ∷ within), openings-append (opening ∷ []) within, closings-append (opening ∷ []) within, o.0, o.1, balanced_whole mid (balanced_front mid (opening ∷ within) (subst AreBalanced e b)), c, subst AreClosed e scope_after_closing)
+    omega (arith, openings-append mid (opening ∷ within), closings-append mid (opening ∷ within), openings-append (opening ∷ []) within, closings-append (opening ∷ []) within, o.0, o.1, balanced_whole mid (balanced_prefix mid (opening ∷ within) (subst AreBalanced e b)), c, subst AreClosed e scope_after_closing)
 
 -- a block that is open isn't closed
 pub innermost_unclosed : (statements before : List PlainStatement) (opening : PlainStatement) → AreBalanced statements → IsInnermost statements before opening → ¬ (AreClosed statements)
@@ -238,7 +238,7 @@ open_after before (s ∷ statements) scope h same b =
     let moved = append_assoc before (s ∷ []) statements in
     let all : AreBalanced ((before ++ s ∷ []) ++ statements) = subst AreBalanced (sym moved) b in
     subst (λ (x : List PlainStatement). AreOpen x (scope_after next statements).blocks) moved
-    (open_after (before ++ s ∷ []) statements next (open_step before s scope s.kind refl h same (balanced_front (before ++ s ∷ []) statements all)) (kind_count scope s s.kind ∙ omega (arith, same, length-append before (s ∷ []))) all)
+    (open_after (before ++ s ∷ []) statements next (open_step before s scope s.kind refl h same (balanced_prefix (before ++ s ∷ []) statements all)) (kind_count scope s s.kind ∙ omega (arith, same, length-append before (s ∷ []))) all)
 
 -- the blocks of a scope are those that are open
 pub scope_open : (statements : List PlainStatement) → AreBalanced statements → AreOpen statements (scope_of statements).blocks

@@ -24,7 +24,7 @@ use Rattle.mm_text.specs.Reading.{closes_symbols, IsBeginning, IsBody}
 use Rattle.mm_text.specs.Laws.{BeginsStatement, BeginningsBeginStatements}
 use Rattle.mm_text.proofs.Reader.Unfinished.{IsPartBody, IsPartProof, Describes, has_count_from}
 use Rattle.mm_text.proofs.Reader.Unfinished.{has_count-true, started}
-use Rattle.mm_text.proofs.Lists.{cons_parts, all_append, all_front, nil_append}
+use Rattle.mm_text.proofs.Lists.{cons_parts, all_append, all_prefix, nil_append}
 use Rattle.mm_text.proofs.Reader.OneToken.{step_opens, step_closes, start_by, start_keyword}
 use Rattle.mm_text.proofs.Reader.OneToken.{step_label, labelled_by, label_keyword, step_too_few}
 use Rattle.mm_text.proofs.Reader.OneToken.{step_whole, step_to_proof, step_symbol, step_proof_token}
@@ -108,11 +108,11 @@ run_on a b statements part e = append_run Between a b ∙ ap (λ (r : Run). then
 pub runs_parts : (a b : List PlainStatement) (p q : Part) → Runs a p ≡ Runs b q → (a ≡ b) × (p ≡ q)
 runs_parts a b p q e = (cc, cc)
 
--- what a whole run has, its front has
-pub front_of_run : (statements : List PlainStatement) (r : Run) (all : List PlainStatement) (part : Part) → with_all statements r ≡ Runs all part
+-- what a whole run has, its prefix has
+pub prefix_of_run : (statements : List PlainStatement) (r : Run) (all : List PlainStatement) (part : Part) → with_all statements r ≡ Runs all part
     → (others : List PlainStatement) × (all ≡ statements ++ others) × (r ≡ Runs others part)
-front_of_run statements Fails all part e = absurd (cc (with_all-fails statements, e))
-front_of_run statements (Runs others q) all part e =
+prefix_of_run statements Fails all part e = absurd (cc (with_all-fails statements, e))
+prefix_of_run statements (Runs others q) all part e =
     let parts = runs_parts (statements ++ others) all q part (sym (with_all-runs statements others q) ∙ e) in
     (others, sym parts.0, ap (Runs others) parts.1)
 
@@ -304,10 +304,10 @@ in_proof_run : (tokens : List PlainToken) (s : PlainStatement) (rest : List Plai
     → run Between (tokens ++ rest) ≡ with_first s (run Between rest)
 in_proof_run tokens s rest h p k =
     let begun_proof : PlainStatement = record s { span = (k.equals.at + 2, 0) } in
-    let front : List PlainToken = (h.head ++ s.symbols) ++ k.equals ∷ s.proof in
+    let prefix : List PlainToken = (h.head ++ s.symbols) ++ k.equals ∷ s.proof in
     ap (λ (x : List PlainToken). run Between (x ++ rest)) (h.whole ∙ ap (λ (x : List PlainToken). (h.head ++ s.symbols) ++ x) k.tokens ∙ sym (append_assoc (h.head ++ s.symbols) (k.equals ∷ s.proof) (k.stop ∷ [])))
-    ∙ ap (run Between) (append_assoc front (k.stop ∷ []) rest)
-    ∙ proving_run begun_proof front (k.stop ∷ rest) (begun tokens s h k s.proof p k.proof)
+    ∙ ap (run Between) (append_assoc prefix (k.stop ∷ []) rest)
+    ∙ proving_run begun_proof prefix (k.stop ∷ rest) (begun tokens s h k s.proof p k.proof)
     ∙ run_step (InProof begun_proof) k.stop rest _ (step_ends_proof begun_proof k.stop keyword.Stop k.end refl)
     ∙ (λ i. with_first (record s { span = sym k.span i }) (run Between rest))
 
@@ -395,7 +395,7 @@ spells_sign kind tokens t none sign no_label begins count ends = record {
   ends = ends;
 }
 
--- ==== the beginnings of statements are the fronts of whole statements
+-- ==== the beginnings of statements are the prefixes of whole statements
 
 -- ---- a beginning is finished by more tokens
 
@@ -511,7 +511,7 @@ begins_statement tokens (inr (inr (inr p))) =
       };
     }
 
--- ---- a front of a statement is a beginning
+-- ---- a prefix of a statement is a beginning
 
 -- a list ends inside the first of two
 record Inside (xs ys us vs : List PlainToken) : Type 0 where
@@ -539,31 +539,31 @@ nil_parts [] b e = (refl, e)
 nil_parts (t ∷ a) b e = absurd cc
 
 -- up to a part of the head
-labelled_front : (kind : Kind) (head tokens mid : List PlainToken) → HasBody kind → IsHead kind head → IsLabelledHead kind head → head ≡ tokens ++ mid → IsBeginning tokens
-labelled_front kind head [] mid long h b e = inl refl
-labelled_front kind head (t ∷ []) mid long h b e =
+labelled_prefix : (kind : Kind) (head tokens mid : List PlainToken) → HasBody kind → IsHead kind head → IsLabelledHead kind head → head ≡ tokens ++ mid → IsBeginning tokens
+labelled_prefix kind head [] mid long h b e = inl refl
+labelled_prefix kind head (t ∷ []) mid long h b e =
     inr (inl (record { label = b.label; whole = ap (λ (x : PlainToken). x ∷ []) (cons_parts t b.label mid (b.keyword ∷ []) (sym e ∙ b.tokens)).0; named = b.named }))
-labelled_front kind head (t ∷ u ∷ tokens) mid long h b e =
+labelled_prefix kind head (t ∷ u ∷ tokens) mid long h b e =
     let none = nil_parts tokens mid cc in
     inr (inr (inl (kind, [], head_body kind head (t ∷ u ∷ tokens) long h cc)))
 
-head_front : (kind : Kind) (head tokens mid : List PlainToken) → HasBody kind → IsHead kind head → head ≡ tokens ++ mid → IsBeginning tokens
-head_front kind head [] mid long h e = inl refl
-head_front Floating head tokens mid long h e = labelled_front Floating head tokens mid long h h e
-head_front Essential head tokens mid long h e = labelled_front Essential head tokens mid long h h e
-head_front Axiom head tokens mid long h e = labelled_front Axiom head tokens mid long h h e
-head_front Provable head tokens mid long h e = labelled_front Provable head tokens mid long h h e
-head_front Opening head tokens mid long h e = absurd long
-head_front Closing head tokens mid long h e = absurd long
-head_front kind head (t ∷ tokens) mid long h e =
+head_prefix : (kind : Kind) (head tokens mid : List PlainToken) → HasBody kind → IsHead kind head → head ≡ tokens ++ mid → IsBeginning tokens
+head_prefix kind head [] mid long h e = inl refl
+head_prefix Floating head tokens mid long h e = labelled_prefix Floating head tokens mid long h h e
+head_prefix Essential head tokens mid long h e = labelled_prefix Essential head tokens mid long h h e
+head_prefix Axiom head tokens mid long h e = labelled_prefix Axiom head tokens mid long h h e
+head_prefix Provable head tokens mid long h e = labelled_prefix Provable head tokens mid long h h e
+head_prefix Opening head tokens mid long h e = absurd long
+head_prefix Closing head tokens mid long h e = absurd long
+head_prefix kind head (t ∷ tokens) mid long h e =
     let parts = cons_parts t h.keyword (tokens ++ mid) [] (sym e ∙ h.tokens) in
     inr (inr (inl (kind, [], head_body kind head (t ∷ tokens) long h ((λ i. parts.0 i ∷ (nil_parts tokens mid parts.1).0 i) ∙ sym h.tokens))))
 
 -- up to some of the symbols
-symbols_front : (tokens more : List PlainToken) (s : PlainStatement) (h : Spells (tokens ++ more) s) → HasBody s.kind → Inside tokens more (h.head ++ s.symbols) h.tail → IsBeginning tokens
-symbols_front tokens more s h long c =
+symbols_prefix : (tokens more : List PlainToken) (s : PlainStatement) (h : Spells (tokens ++ more) s) → HasBody s.kind → Inside tokens more (h.head ++ s.symbols) h.tail → IsBeginning tokens
+symbols_prefix tokens more s h long c =
     elim (cut tokens c.mid h.head s.symbols (sym c.longer)) [
-      | inl d ↦ head_front s.kind h.head tokens d.mid long h.begins d.longer
+      | inl d ↦ head_prefix s.kind h.head tokens d.mid long h.begins d.longer
       | inr d ↦ inr (inr (inl (
         s.kind,
         d.next ∷ d.mid,
@@ -572,15 +572,15 @@ symbols_front tokens more s h long c =
           whole = d.longer;
           begins = h.begins;
           long = long;
-          spelled = all_front (λ t. HoldsNoDollar t.text) (d.next ∷ d.mid) c.mid (subst AreSymbols d.rest h.symbols);
+          spelled = all_prefix (λ t. HoldsNoDollar t.text) (d.next ∷ d.mid) c.mid (subst AreSymbols d.rest h.symbols);
           room = λ k. let le = room_of s.kind (length s.symbols) h.count k in omega (arith, ap (length {A = PlainToken}) d.rest, length-append (d.next ∷ d.mid) c.mid);
         },
       )))
     ]
 
 -- up to a part of the proof
-tail_front : (tokens more : List PlainToken) (s : PlainStatement) (h : Spells (tokens ++ more) s) → HasBody s.kind → more ≢ [] → Past tokens more (h.head ++ s.symbols) h.tail → IsBeginning tokens
-tail_front tokens more s h long some c =
+tail_prefix : (tokens more : List PlainToken) (s : PlainStatement) (h : Spells (tokens ++ more) s) → HasBody s.kind → more ≢ [] → Past tokens more (h.head ++ s.symbols) h.tail → IsBeginning tokens
+tail_prefix tokens more s h long some c =
     elim (tail_cases s s.kind h.tail long h.ends) [
       | inl k ↦ absurd (some (nil_parts c.mid more (cons_parts c.next k.2.stop (c.mid ++ more) [] (sym c.rest ∙ k.2.tokens)).1).1)
       | inr k ↦
@@ -595,26 +595,26 @@ tail_front tokens more s h long some c =
               stated = record { head = h.head; whole = refl; begins = subst (λ (x : Kind). IsHead x h.head) k.0 h.begins; long = tt; spelled = h.symbols; room = λ e. absurd cc };
               some = subst (λ (x : Kind). FitsCount x (length s.symbols)) k.0 h.count;
               sign = ap (λ (t : PlainToken). t.text) parts.0 ∙ k.1.sign;
-              steps = all_front (λ t. HoldsNoDollar t.text) c.mid d.mid (subst AreSymbols d.longer k.1.proof);
+              steps = all_prefix (λ t. HoldsNoDollar t.text) c.mid d.mid (subst AreSymbols d.longer k.1.proof);
             })))
             | inr d ↦ absurd (some (nil_parts d.mid more (cons_parts d.next k.1.stop (d.mid ++ more) [] (sym d.rest)).1).1)
           ]
     ]
 
--- a front of a `${` or of a `$}` that isn't all of it is nothing
-sign_front : (tokens more : List PlainToken) (s : PlainStatement) (kind : Kind) → IsBlockSign (tokens ++ more) s kind → more ≢ [] → IsBeginning tokens
-sign_front [] more s kind b some = inl refl
-sign_front (t ∷ tokens) more s kind b some = absurd (some (nil_parts tokens more (cons_parts t b.sign (tokens ++ more) [] b.alone).1).1)
+-- a prefix of a `${` or of a `$}` that isn't all of it is nothing
+sign_prefix : (tokens more : List PlainToken) (s : PlainStatement) (kind : Kind) → IsBlockSign (tokens ++ more) s kind → more ≢ [] → IsBeginning tokens
+sign_prefix [] more s kind b some = inl refl
+sign_prefix (t ∷ tokens) more s kind b some = absurd (some (nil_parts tokens more (cons_parts t b.sign (tokens ++ more) [] b.alone).1).1)
 
 is_beginning : (tokens : List PlainToken) → BeginsStatement tokens → IsBeginning tokens
 is_beginning tokens b =
     elim (kind_cases b.statement.kind) [
       | inl long ↦ elim (cut tokens b.more (b.spelled.head ++ b.statement.symbols) b.spelled.tail b.spelled.whole) [
-        | inl c ↦ symbols_front tokens b.more b.statement b.spelled long c
-        | inr c ↦ tail_front tokens b.more b.statement b.spelled long b.some c
+        | inl c ↦ symbols_prefix tokens b.more b.statement b.spelled long c
+        | inr c ↦ tail_prefix tokens b.more b.statement b.spelled long b.some c
       ]
-      | inr (inl k) ↦ sign_front tokens b.more b.statement Opening (opening_sign (tokens ++ b.more) b.statement b.spelled k) b.some
-      | inr (inr k) ↦ sign_front tokens b.more b.statement Closing (closing_sign_of (tokens ++ b.more) b.statement b.spelled k) b.some
+      | inr (inl k) ↦ sign_prefix tokens b.more b.statement Opening (opening_sign (tokens ++ b.more) b.statement b.spelled k) b.some
+      | inr (inr k) ↦ sign_prefix tokens b.more b.statement Closing (closing_sign_of (tokens ++ b.more) b.statement b.spelled k) b.some
     ]
 
 pub beginnings_begin_statements : BeginningsBeginStatements

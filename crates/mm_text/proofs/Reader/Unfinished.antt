@@ -61,15 +61,15 @@ Describes (InBody s) tokens = IsPartBody s tokens
 Describes (InProof s) tokens = IsPartProof s tokens
 
 -- the label of the head is the label of all tokens
-label_in-front : (head : List PlainToken) (first : PlainToken) (others more : List PlainToken) → head ≡ first ∷ others → label_in (head ++ more) ≡ label_in head
-label_in-front head first others more e = subst (λ (h : List PlainToken). label_in (h ++ more) ≡ label_in h) (sym e) refl
+label_in-prefix : (head : List PlainToken) (first : PlainToken) (others more : List PlainToken) → head ≡ first ∷ others → label_in (head ++ more) ≡ label_in head
+label_in-prefix head first others more e = subst (λ (h : List PlainToken). label_in (h ++ more) ≡ label_in h) (sym e) refl
 
 pub Describes-label : (part : Part) (tokens : List PlainToken) → Describes part tokens → label_in tokens ≡ part_label part
 Describes-label Between tokens d = ap label_in d
 Describes-label (Labelled label) tokens d = ap label_in d.0 ∙ rw d.1 refl
-Describes-label (InBody s) tokens d = ap label_in d.whole ∙ label_in-front d.head s.first d.others s.symbols d.first ∙ sym d.label
+Describes-label (InBody s) tokens d = ap label_in d.whole ∙ label_in-prefix d.head s.first d.others s.symbols d.first ∙ sym d.label
 Describes-label (InProof s) tokens d =
-    ap label_in (d.whole ∙ append_assoc d.head s.symbols (d.equals ∷ s.proof)) ∙ label_in-front d.head s.first d.others (s.symbols ++ d.equals ∷ s.proof) d.first ∙ sym d.label
+    ap label_in (d.whole ∙ append_assoc d.head s.symbols (d.equals ∷ s.proof)) ∙ label_in-prefix d.head s.first d.others (s.symbols ++ d.equals ∷ s.proof) d.first ∙ sym d.label
 
 -- ---- a head by itself
 

@@ -28,7 +28,7 @@ use Rattle.mm_text.specs.Remaining.{IsUnread}
 use Rattle.mm_text.specs.Mirror.ReaderState.{remaining_in, AreFew}
 use Rattle.mm_text.proofs.Reader.ComputedReadings.{plain_tokens-append, ComesToStop, AreSettled}
 use Rattle.mm_text.proofs.Reader.ComputedReadings.{items_read}
-use Rattle.mm_text.proofs.Lists.{all_front, all_back}
+use Rattle.mm_text.proofs.Lists.{all_prefix, all_back}
 use Rattle.mm_text.proofs.Inclusions.ItemTokens.{HoldsByte, items_in_place, items_some}
 use Rattle.mm_text.proofs.Inclusions.ItemTokens.{items_signed}
 use Rattle.mm_text.proofs.Inclusions.EachOnce.{tokens_fit}
@@ -44,7 +44,7 @@ if_label P (t ∷ tokens) h = cond_both (is_label t.text) _ _ (λ (o : Option Pl
 
 proof_of_tail : (P : PlainToken → Type 0) (s : PlainStatement) (kind : Kind) (tail : List PlainToken) → IsTail s kind tail → AllByRecursion P tail → AllByRecursion P s.proof
 proof_of_tail P s Provable tail k h =
-    all_front P s.proof (k.stop ∷ []) (subst (AllByRecursion P) k.tokens h).1
+    all_prefix P s.proof (k.stop ∷ []) (subst (AllByRecursion P) k.tokens h).1
 proof_of_tail P s Opening tail k h = subst (AllByRecursion P) (sym k.1) tt
 proof_of_tail P s Closing tail k h = subst (AllByRecursion P) (sym k.1) tt
 proof_of_tail P s _ tail k h = subst (AllByRecursion P) (sym k.proof) tt
@@ -59,12 +59,12 @@ pub record AreAll (P : PlainToken → Type 0) (s : PlainStatement) : Type 0 wher
 all_of_statement : (P : PlainToken → Type 0) (tokens : List PlainToken) (s : PlainStatement) → Spells tokens s → AllByRecursion P tokens → AreAll P s
 all_of_statement P tokens s h all =
     let parts = subst (AllByRecursion P) h.whole all in
-    let front = all_front P (h.head ++ s.symbols) h.tail parts in
-    let head = all_front P h.head s.symbols front in
+    let prefix = all_prefix P (h.head ++ s.symbols) h.tail parts in
+    let head = all_prefix P h.head s.symbols prefix in
     record {
       first = (subst (AllByRecursion P) h.first.1 head).0;
       label = subst (λ (o : Option PlainToken). IfSome o P) (sym h.label) (if_label P h.head head);
-      symbols = all_back P h.head s.symbols front;
+      symbols = all_back P h.head s.symbols prefix;
       proof = proof_of_tail P s s.kind h.tail h.ends (all_back P (h.head ++ s.symbols) h.tail parts);
     }
 
@@ -74,18 +74,18 @@ each_statement : (P : PlainToken → Type 0) (Q : PlainStatement → Type 0) →
 each_statement P Q f tokens [] h all = tt
 each_statement P Q f tokens (s ∷ statements) h all =
     let parts = subst (AllByRecursion P) h.2 all in
-    (f h.0 s h.3 (all_front P h.0 h.1 parts), each_statement P Q f h.1 statements h.4 (all_back P h.0 h.1 parts))
+    (f h.0 s h.3 (all_prefix P h.0 h.1 parts), each_statement P Q f h.1 statements h.4 (all_back P h.0 h.1 parts))
 
--- the tokens of a reading's statements are a front of the items' tokens
-pub record SpellsFront (its : List Item) (statements : List PlainStatement) : Type 0 where
+-- the tokens of a reading's statements are a prefix of the items' tokens
+pub record SpellsPrefix (its : List Item) (statements : List PlainStatement) : Type 0 where
   pub finished : List PlainToken
   pub rest : List PlainToken
   pub whole : plain_tokens its ≡ finished ++ rest
   pub spelled : SpellsAll finished statements
 
-reading_front : (its : List Item) (statements : List PlainStatement) (ending : Option PlainFault) → ReadsAs its statements ending → SpellsFront its statements
-reading_front its statements None v = record { finished = v.finished; rest = []; whole = v.whole; spelled = v.spelled }
-reading_front its statements (Some fault) r = record {
+reading_prefix : (its : List Item) (statements : List PlainStatement) (ending : Option PlainFault) → ReadsAs its statements ending → SpellsPrefix its statements
+reading_prefix its statements None v = record { finished = v.finished; rest = []; whole = v.whole; spelled = v.spelled }
+reading_prefix its statements (Some fault) r = record {
   finished = r.5.finished;
   rest = r.3 ++ plain_tokens (r.1 ∷ r.2);
   whole = ap plain_tokens r.4 ∙ plain_tokens-append r.0 (r.1 ∷ r.2) ∙ ap (λ (x : List PlainToken). x ++ plain_tokens (r.1 ∷ r.2)) r.5.whole ∙ append_assoc r.5.finished r.3 (plain_tokens (r.1 ∷ r.2));
@@ -93,9 +93,9 @@ reading_front its statements (Some fault) r = record {
 }
 
 each_read : (P : PlainToken → Type 0) (Q : PlainStatement → Type 0) → ((tokens : List PlainToken) (s : PlainStatement) → Spells tokens s → AllByRecursion P tokens → Q s)
-    → (its : List Item) (statements : List PlainStatement) → SpellsFront its statements → AllByRecursion P (plain_tokens its) → AllByRecursion Q statements
-each_read P Q f its statements front all = each_statement P Q f front.finished statements
-    front.spelled (all_front P front.finished front.rest (subst (AllByRecursion P) front.whole all))
+    → (its : List Item) (statements : List PlainStatement) → SpellsPrefix its statements → AllByRecursion P (plain_tokens its) → AllByRecursion Q statements
+each_read P Q f its statements prefix all = each_statement P Q f prefix.finished statements
+    prefix.spelled (all_prefix P prefix.finished prefix.rest (subst (AllByRecursion P) prefix.whole all))
 
 -- ---- bytes
 
@@ -143,16 +143,16 @@ head_label kind head label h e = e ∙ ap label_in h.tokens ∙ cond-false (is_l
 
 pub readings_are_formed_in_place : ReadingsAreFormedInPlace
 readings_are_formed_in_place files statements ending r =
-    let front = reading_front (items files) statements ending r in
+    let prefix = reading_prefix (items files) statements ending r in
     record {
       formed = each_read HoldsByte HasForm (λ tokens s h all.
           let each = all_of_statement HoldsByte tokens s h all in
           record { count = h.count; label = head_label s.kind h.head s.label h.begins h.label; first = each.first; symbols = each.symbols; proof = each.proof })
-          (items files) statements front (items_some files);
+          (items files) statements prefix (items_some files);
       in_place = each_read (IsSliceOf files) (IsInPlace files) (λ tokens s h all.
           let r = all_of_statement (IsSliceOf files) tokens s h all in
           record { first = r.first; label = r.label; symbols = r.symbols; proof = r.proof })
-          (items files) statements front (items_in_place files);
+          (items files) statements prefix (items_in_place files);
     }
 
 pub readings_are_balanced : ReadingsAreBalanced
@@ -161,8 +161,8 @@ readings_are_balanced files statements (Some fault) r = r.5.balanced
 
 pub readings_fit : ReadingsFit
 readings_fit files statements ending r =
-    let front = reading_front (items files) statements ending r in
-    omega (arith, statements_bytes front.finished statements front.spelled, ap text_bytes front.whole, bytes-append front.finished front.rest, tokens_fit files)
+    let prefix = reading_prefix (items files) statements ending r in
+    omega (arith, statements_bytes prefix.finished statements prefix.spelled, ap text_bytes prefix.whole, bytes-append prefix.finished prefix.rest, tokens_fit files)
 
 -- each statement holds a byte, so they are no more than the bytes of the files
 formed_few : (statements : List PlainStatement) → AllByRecursion HasForm statements → length statements ≤ sum_by bytes_in statements

@@ -12,7 +12,7 @@ use Rattle.mm_text.specs.Replaced.{ProofsStandInSpans, ProofSpansFollow}
 use Rattle.mm_text.specs.declared.statement.Kind.{Kind}
 use Rattle.mm_text.specs.declared.statement.Kind.TheVariants.{Provable}
 use Rattle.mm_text.proofs.Inclusions.FilePieces.{StandsInFile, run_stands}
-use Rattle.mm_text.proofs.Replaced.ReplacedReading.{Parts, WholeFront, own_stands, reads_front}
+use Rattle.mm_text.proofs.Replaced.ReplacedReading.{Parts, WholePrefix, own_stands, reads_prefix}
 use Rattle.mm_text.proofs.Replaced.ReplacedReading.{proof_at, parts_of, spells_append}
 use Rattle.mm_text.proofs.Replaced.ReplacedProofs.{home, run_home}
 use Rattle.mm_text.proofs.Tokens.CutTokens.{IsSpaced, ReplacedBetween, replaced_between}
@@ -22,12 +22,12 @@ use Rattle.mm_text.proofs.Inclusions.ItemOrder.{tokens_in_order}
 
 -- ==== all tokens of a statement stand in one file
 
--- a run of tokens in a front stands in one file
-front_run_stands : (files : List PlainFile) (statements : List PlainStatement)
-    (f : WholeFront (items files) statements) (before after : List Item) (t : PlainToken)
-    (tokens : List PlainToken) → f.front ≡ before ++ (map Plain (t ∷ tokens) ++ after)
+-- a run of tokens in a prefix stands in one file
+prefix_run_stands : (files : List PlainFile) (statements : List PlainStatement)
+    (f : WholePrefix (items files) statements) (before after : List Item) (t : PlainToken)
+    (tokens : List PlainToken) → f.prefix ≡ before ++ (map Plain (t ∷ tokens) ++ after)
     → StandsInFile files t tokens
-front_run_stands files statements f before after t tokens e =
+prefix_run_stands files statements f before after t tokens e =
     run_stands files before (after ++ f.rest) t tokens
     (cc (
       f.cut,
@@ -38,22 +38,22 @@ front_run_stands files statements f before after t tokens e =
 
 -- each token of a statement after its first is of the file of the first
 one_home : (files : List PlainFile) (statements before after : List PlainStatement)
-    (f : WholeFront (items files) statements) (s : PlainStatement)
-    (p : Parts (plain_tokens f.front) before s after)
+    (f : WholePrefix (items files) statements) (s : PlainStatement)
+    (p : Parts (plain_tokens f.prefix) before s after)
     (others earlier later : List PlainToken) (u : PlainToken) → p.own ≡ s.first ∷ others
     → others ≡ earlier ++ u ∷ later → u.file ≡ s.first.file
 one_home files statements before after f s p others earlier later u own there =
-    let (front, back, whole, first, left) = own_stands f.front _ before s after f.viable p in
-    let stands = front_run_stands files statements f front back s.first others
-    (whole ∙ ap (λ (l : List PlainToken). front ++ (map Plain l ++ back)) own) in
+    let (prefix, back, whole, first, left) = own_stands f.prefix _ before s after f.viable p in
+    let stands = prefix_run_stands files statements f prefix back s.first others
+    (whole ∙ ap (λ (l : List PlainToken). prefix ++ (map Plain l ++ back)) own) in
     run_home files s.first others (s.first ∷ earlier) u later stands
     (ap (λ (l : List PlainToken). s.first ∷ l) there)
     ∙ sym (home files s.first others stands)
 
 -- the `$=` and the `$.` of a `$p` are
 pub ends_home : (files : List PlainFile) (statements before after : List PlainStatement)
-    (f : WholeFront (items files) statements) (s : PlainStatement)
-    (p : Parts (plain_tokens f.front) before s after) (k : EndsInProof s p.here.tail)
+    (f : WholePrefix (items files) statements) (s : PlainStatement)
+    (p : Parts (plain_tokens f.prefix) before s after) (k : EndsInProof s p.here.tail)
     → (k.equals.file ≡ s.first.file) × (k.stop.file ≡ s.first.file)
 ends_home files statements before after f s p k =
     let h = p.here in
@@ -92,18 +92,18 @@ apart number bytes passed tokens equals proof stop rest clear whole =
 pub proofs_stand_in_spans_holds : ProofsStandInSpans
 proofs_stand_in_spans_holds files before s after ending file reads p there =
     let all : List PlainStatement = before ++ s ∷ after in
-    let f = reads_front (items files) all ending reads in
-    let a = proof_at f.front before s after f.viable p in
+    let f = reads_prefix (items files) all ending reads in
+    let a = proof_at f.prefix before s after f.viable p in
     let behind : List PlainToken = s.proof ++ a.ends.stop ∷ [] in
-    let st = front_run_stands files all f a.front a.back a.ends.equals behind a.whole in
+    let st = prefix_run_stands files all f a.prefix a.back a.ends.equals behind a.whole in
     let number : st.number ≡ s.first.file =
     sym (home files _ behind st) ∙ (ends_home files all before after f s a.parts a.ends).0 in
-    let same_file : st.place.file ≡ file = cc (st.place.there, number, there) in
-    let r = st.place.reached in
-    let (earlier, later, b) = apart st.number st.place.file.bytes st.passed r.tokens a.ends.equals s.proof a.ends.stop st.rest r.clear st.place.whole in
+    let same_file : st.position.file ≡ file = cc (st.position.there, number, there) in
+    let r = st.position.reached in
+    let (earlier, later, b) = apart st.number st.position.file.bytes st.passed r.tokens a.ends.equals s.proof a.ends.stop st.rest r.clear st.position.whole in
     let two = ap (λ (l : List ℕ). a.ends.equals.at + length l) a.ends.sign in
     record {
-      front = b.front;
+      prefix = b.prefix;
       within = b.within;
       back = b.back;
       whole = ap (λ (f : PlainFile). f.bytes) (sym same_file) ∙ b.whole;
@@ -129,22 +129,22 @@ ends_of tokens before s after p is =
 pub proof_spans_follow_holds : ProofSpansFollow
 proof_spans_follow_holds files before between after s t ending reads p q home =
     let all : List PlainStatement = (before ++ s ∷ between) ++ t ∷ after in
-    let f = reads_front (items files) all ending reads in
-    let tokens : List PlainToken = plain_tokens f.front in
+    let f = reads_prefix (items files) all ending reads in
+    let tokens : List PlainToken = plain_tokens f.prefix in
     let finished : tokens ≡ f.viable.finished =
     f.viable.whole ∙ append-nil f.viable.finished in
     let a = parts_of tokens (before ++ s ∷ between) t after
     (subst (λ (l : List PlainToken). SpellsAll l all) (sym finished) f.viable.spelled) in
-    let b = parts_of a.front before s between a.earlier in
+    let b = parts_of a.prefix before s between a.earlier in
     let rest : List PlainToken = a.own ++ a.back in
-    let split : tokens ≡ (b.front ++ (b.own ++ b.back)) ++ rest =
+    let split : tokens ≡ (b.prefix ++ (b.own ++ b.back)) ++ rest =
     a.whole ∙ ap (λ (l : List PlainToken). l ++ rest) b.whole in
     let first : Parts tokens before s (between ++ t ∷ after) = record {
-      front = b.front;
+      prefix = b.prefix;
       own = b.own;
       back = b.back ++ rest;
-      whole = split ∙ append_assoc b.front (b.own ++ b.back) rest
-          ∙ ap (λ (l : List PlainToken). b.front ++ l) (append_assoc b.own b.back rest);
+      whole = split ∙ append_assoc b.prefix (b.own ++ b.back) rest
+          ∙ ap (λ (l : List PlainToken). b.prefix ++ l) (append_assoc b.own b.back rest);
       earlier = b.earlier;
       here = b.here;
       later = spells_append b.back rest between (t ∷ after) b.later
@@ -162,13 +162,13 @@ proof_spans_follow_holds files before between after s t ending reads p q home =
     a.here.whole ∙ ap (λ (x : List PlainToken). later ++ x) l.tokens in
     let last : List PlainToken = a.back ++ plain_tokens f.rest in
     let parted : plain_tokens (items files)
-    ≡ (b.front ++ stated) ++ k.stop ∷ ((b.back ++ later) ++ l.equals ∷ (behind ++ last)) =
-    ap plain_tokens f.cut ∙ plain_tokens-append f.front f.rest
+    ≡ (b.prefix ++ stated) ++ k.stop ∷ ((b.back ++ later) ++ l.equals ∷ (behind ++ last)) =
+    ap plain_tokens f.cut ∙ plain_tokens-append f.prefix f.rest
     ∙ ap (λ (x : List PlainToken). x ++ plain_tokens f.rest) split
-    ∙ (λ i. ((b.front ++ (own i ++ b.back)) ++ (other i ++ a.back)) ++ plain_tokens f.rest)
-    ∙ two_within b.front stated k.stop b.back later l.equals behind a.back (plain_tokens f.rest) in
+    ∙ (λ i. ((b.prefix ++ (own i ++ b.back)) ++ (other i ++ a.back)) ++ plain_tokens f.rest)
+    ∙ two_within b.prefix stated k.stop b.back later l.equals behind a.back (plain_tokens f.rest) in
     let less : k.stop.at < l.equals.at =
-    tokens_in_order files (b.front ++ stated) (b.back ++ later) (behind ++ last) k.stop l.equals
+    tokens_in_order files (b.prefix ++ stated) (b.back ++ later) (behind ++ last) k.stop l.equals
     parted ((ends_home files all before (between ++ t ∷ after) f s first k).1 ∙ home
     ∙ sym (ends_home files all (before ++ s ∷ between) after f t a l).0) in
     omega (arith, ap (λ (x : ℕ × ℕ). x.1) k.span, ap (λ (x : ℕ × ℕ). x.0) l.span)

@@ -74,17 +74,17 @@ module _ (number end other_end : ℕ) where
   now = further number end
 
   -- a token of the file stands as far behind the end as before
-  place_here : (t u : PlainToken) → token_on was t ≡ token_on now u → t.file ≡ number
+  position_here : (t u : PlainToken) → token_on was t ≡ token_on now u → t.file ≡ number
       → t.at + other_end ≡ u.at + end
-  place_here t u e home =
+  position_here t u e home =
       let other = ap (λ (x : PlainToken). x.file) e in
       let same = ap (λ (x : PlainToken). x.at) e in
       cc (home, other, same, further_here number other_end t.at, further_here number end u.at)
 
   -- a token of another file stands where it stood
-  place_elsewhere : (t u : PlainToken) → token_on was t ≡ token_on now u → t.file ≢ number
+  position_elsewhere : (t u : PlainToken) → token_on was t ≡ token_on now u → t.file ≢ number
       → t.at ≡ u.at
-  place_elsewhere t u e away =
+  position_elsewhere t u e away =
       let other : u.file ≢ number = λ same. away (ap (λ (x : PlainToken). x.file) e ∙ same) in
       sym (further_elsewhere number other_end t.file t.at away) ∙ ap (λ (x : PlainToken). x.at) e
       ∙ further_elsewhere number end u.file u.at other
@@ -97,14 +97,14 @@ module _ (number end other_end : ℕ) where
   moved_by_signs s t tail others k l first equals stop one two = record {
     home = ap (λ (x : PlainToken). x.file) first;
     elsewhere = λ away.
-        let begin = place_elsewhere k.equals l.equals equals (λ e. away (sym one ∙ e)) in
-        let last = place_elsewhere k.stop l.stop stop (λ e. away (sym two ∙ e)) in
+        let begin = position_elsewhere k.equals l.equals equals (λ e. away (sym one ∙ e)) in
+        let last = position_elsewhere k.stop l.stop stop (λ e. away (sym two ∙ e)) in
         k.span ∙ (λ i. (begin i + 2, last i)) ∙ sym l.span;
     start = λ here.
-        let begin = place_here k.equals l.equals equals (one ∙ here) in
+        let begin = position_here k.equals l.equals equals (one ∙ here) in
         omega (arith, begin, ap (λ (x : ℕ × ℕ). x.0) k.span, ap (λ (x : ℕ × ℕ). x.0) l.span);
     stop = λ here.
-        let last = place_here k.stop l.stop stop (two ∙ here) in
+        let last = position_here k.stop l.stop stop (two ∙ here) in
         omega (arith, last, ap (λ (x : ℕ × ℕ). x.1) k.span, ap (λ (x : ℕ × ℕ). x.1) l.span);
   }
 
@@ -124,11 +124,11 @@ module _ (number end other_end : ℕ) where
         (after : List PlainStatement) → Parts tokens before s (u ∷ after)
         → Parts tokens (before ++ s ∷ []) u after
     next_parts before s u after p = record {
-      front = p.front ++ p.own;
+      prefix = p.prefix ++ p.own;
       own = p.later.0;
       back = p.later.1;
-      whole = cc (p.whole, p.later.2, append_assoc p.front p.own p.back);
-      earlier = spells_append p.front p.own before (s ∷ []) p.earlier
+      whole = cc (p.whole, p.later.2, append_assoc p.prefix p.own p.back);
+      earlier = spells_append p.prefix p.own before (s ∷ []) p.earlier
           (p.own, [], sym (append-nil p.own), p.here, refl);
       here = p.later.3;
       later = p.later.4;
@@ -144,10 +144,10 @@ module _ (number end other_end : ℕ) where
         ([], nil_split (token_on was) (token_on now) others nothing, tt)
     statements_moved before s (u ∷ after) p others e =
         let q = next_parts before s u after p in
-        let (mine, rest, split, fronts, rests) =
+        let (mine, rest, split, prefixes, rests) =
         append_split (token_on was) (token_on now) q.own q.back others
         (ap (map (token_on was)) (sym p.later.2) ∙ e) in
-        let (t, spelled, same) = statement_alike was now q.own mine u fronts q.here in
+        let (t, spelled, same) = statement_alike was now q.own mine u prefixes q.here in
         let (later, all, moved) = statements_moved (before ++ s ∷ []) u after q rest rests in
         let own : MovesSo u t = λ is.
         let other : t.kind ≡ Provable = ap (λ (x : PlainStatement). x.kind) (sym same) ∙ is in
@@ -155,7 +155,7 @@ module _ (number end other_end : ℕ) where
         subst (λ (kind : Kind). IsTail u kind q.here.tail) is q.here.ends in
         let l : EndsInProof t spelled.tail =
         subst (λ (kind : Kind). IsTail t kind spelled.tail) other spelled.ends in
-        let (equals, stop) = signs_alike was now _ _ u t fronts same q.here spelled k l is other in
+        let (equals, stop) = signs_alike was now _ _ u t prefixes same q.here spelled k l is other in
         let f = without_rest (items files) statements v in
         let (one, two) = ends_home files statements (before ++ s ∷ []) after f u q k in
         moved_by_signs u t q.here.tail spelled.tail k l (ap (λ (x : PlainStatement). x.first) same)
@@ -173,7 +173,7 @@ replaced_proofs_are_read_holds files before s after file text reads p there is_t
     let number : st.number ≡ s.first.file =
     sym (home files a.ends.equals (s.proof ++ a.ends.stop ∷ []) st)
     ∙ (ends_home files all before after f s a.parts a.ends).0 in
-    let same_file : st.place.file ≡ file = cc (st.place.there, number, there) in
+    let same_file : st.position.file ≡ file = cc (st.position.there, number, there) in
     let begin : a.ends.equals.at + 2 ≡ s.span.0 = ap (λ (x : ℕ × ℕ). x.0) (sym a.ends.span) in
     let end : a.ends.stop.at ≡ s.span.1 = ap (λ (x : ℕ × ℕ). x.1) (sym a.ends.span) in
     let from = ap (λ (l : List ℕ). a.ends.equals.at + length l) a.ends.sign ∙ begin in

@@ -1,5 +1,5 @@
 -- The pieces and the items of files of which one has other bytes between the `$=` and the `$.` of a
--- statement: up to them the same, then those, and then the same but for places.
+-- statement: up to them the same, then those, and then the same but for positions.
 use Rattle.std.proofs.Common.{◌≡◌, ◌≢◌, ℕ, ◌+◌, ◌-◌, ◌≤◌, ◌==◌, Bool, true, cond, eq-eqb, List, []}
 use Rattle.std.proofs.Common.{◌∷◌, ◌++◌, length, map, refl, sym, ap, ◌∙◌, subst, codes, None}
 use Rattle.std.proofs.Common.{append_assoc, arith, zero, suc, false, Some, ◌⊎◌, inl, inr, replicate}
@@ -31,7 +31,7 @@ use Rattle.mm_text.proofs.Lists.{all_push, all_weaker, mapped_zip, zip_append, g
 
 -- ==== the pieces of a file in which other bytes stand between the `$=` and the `$.` of a statement
 
--- places of the file with this number so much further on, and those of other files as they are
+-- positions of the file with this number so much further on, and those of other files as they are
 abbrev pub further : ℕ → ℕ → ℕ → ℕ → ℕ
 further number by file at = cond (file == number) (at + by) at
 
@@ -77,17 +77,18 @@ rises_behind : (file n : ℕ) (before : List PlainToken) (t : PlainToken) (after
 rises_behind file n [] t after r = r.2
 rises_behind file n (u ∷ before) t after r = rises_behind file (u.at + 1) before t after r.2
 
--- tokens from a place on, and the same from another place on, are as far behind these places
+-- tokens from a position on, and the same from another position on, are as far behind these
+-- positions
 moved_same : (number at to n : ℕ) (tokens : List PlainToken) → at ≤ n → Rises number n tokens
     → map (token_on (further number to)) tokens
     ≡ map (token_on (further number at)) (map (token_on (λ file m. to + (m - at))) tokens)
 moved_same number at to n [] from r = refl
 moved_same number at to n (t ∷ tokens) from r =
     let behind : at ≤ t.at = omega (arith, r.0) in
-    let place : further number to t.file t.at ≡ further number at t.file (to + (t.at - at)) =
+    let position : further number to t.file t.at ≡ further number at t.file (to + (t.at - at)) =
     let same : (number == number) ≡ true = eq-eqb number number refl in
     rw (r.1, same) (omega arith) in
-    λ i. record { text = t.text; file = t.file; at = place i }
+    λ i. record { text = t.text; file = t.file; at = position i }
     ∷ moved_same number at to (t.at + 1) tokens (omega arith) r.2 i
 
 moved_pieces : (number at to : ℕ) (tokens : List PlainToken) → Rises number at tokens
@@ -120,13 +121,13 @@ pub record ReplacedPieces (number : ℕ) (file : PlainFile) (text : List ℕ) (e
       AllZip (SamePiece (further number end) (further number stop.at)) after others
 
 pub replaced_pieces : (files : List PlainFile) (text : List ℕ) (equals : PlainToken) (proof : List PlainToken) (stop : PlainToken) → IsProofText text → stop.text ≡ codes "$."
-    → (s : StandsInFile files equals (proof ++ stop ∷ [])) → ReplacedPieces s.number s.place.file text equals proof stop
+    → (s : StandsInFile files equals (proof ++ stop ∷ [])) → ReplacedPieces s.number s.position.file text equals proof stop
 replaced_pieces files text equals proof stop is_text sign s =
     let number : ℕ = s.number in
-    let file : PlainFile = s.place.file in
-    let r = s.place.reached in
+    let file : PlainFile = s.position.file in
+    let r = s.position.reached in
     let shown : without_comments None (tokens_from number 0 file.bytes) ≡ map Clear r.tokens ++ Clear equals ∷ (map Clear (proof ++ stop ∷ []) ++ s.rest) =
-    s.place.whole ∙ ap (λ (l : List Shown). l ++ Clear equals ∷ (map Clear (proof ++ stop ∷ []) ++ s.rest)) r.clear in
+    s.position.whole ∙ ap (λ (l : List Shown). l ++ Clear equals ∷ (map Clear (proof ++ stop ∷ []) ++ s.rest)) r.clear in
     let one = clear_shown None (tokens_from number 0 file.bytes) r.tokens equals (map Clear (proof ++ stop ∷ []) ++ s.rest) shown in
     let split : without_comments None one.after ≡ map Clear proof ++ Clear stop ∷ s.rest =
     sym one.later ∙ ap (λ (l : List Shown). l ++ s.rest) (map-append Clear proof (stop ∷ [])) ∙ append_assoc (map Clear proof) (Clear stop ∷ []) s.rest in
@@ -136,80 +137,80 @@ replaced_pieces files text equals proof stop is_text sign s =
     (spaced text is_text) in
     let start : ℕ = equals.at + length equals.text in
     let line : ℕ → ℕ → ℕ = λ f n. start + length text + (n - stop.at) in
-    let put : List PlainToken = tokens_from number (length b.front) text in
+    let put : List PlainToken = tokens_from number (length b.prefix) text in
     let moved : PlainToken = token_on line stop in
     let later : List PlainToken = map (token_on line) two.after in
-    let bytes : with_span file.bytes (start, stop.at) text ≡ b.front ++ (text ++ b.back) =
-    cut file.bytes b.front b.within b.back text start stop.at b.whole b.start b.stop in
-    let told : without_comments None (tokens_from number 0 (b.front ++ (text ++ b.back))) ≡ map Clear r.tokens ++ (map Clear (equals ∷ (put ++ moved ∷ [])) ++ without_comments None later) =
+    let bytes : with_span file.bytes (start, stop.at) text ≡ b.prefix ++ (text ++ b.back) =
+    cut file.bytes b.prefix b.within b.back text start stop.at b.whole b.start b.stop in
+    let told : without_comments None (tokens_from number 0 (b.prefix ++ (text ++ b.back))) ≡ map Clear r.tokens ++ (map Clear (equals ∷ (put ++ moved ∷ [])) ++ without_comments None later) =
     ap (without_comments None) (b.tokens line (λ i. omega (arith, b.start)))
     ∙ one.others (put ++ moved ∷ later)
     ∙ ap (λ (l : List Shown). map Clear r.tokens ++ Clear equals ∷ l)
-    (all_clear put (moved ∷ later) (is_text.tokens number (length b.front))
+    (all_clear put (moved ∷ later) (is_text.tokens number (length b.prefix))
     ∙ ap (λ (l : List Shown). map Clear put ++ l)
     (outside-clear moved later (rw sign refl) (rw sign refl) (rw sign refl))
     ∙ sym (ap (λ (l : List Shown). l ++ without_comments None later) (map-append Clear put (moved ∷ [])) ∙ append_assoc (map Clear put) (Clear moved ∷ []) (without_comments None later))) in
-    let reach : (more : List Shown) → pieces number Outside (map Clear r.tokens ++ more) ≡ r.front ++ pieces number Outside more = λ more.
+    let reach : (more : List Shown) → pieces number Outside (map Clear r.tokens ++ more) ≡ r.prefix ++ pieces number Outside more = λ more.
     ap (λ (l : List Shown). pieces number Outside (l ++ more)) (sym r.clear) ∙ r.before more in
     let plain : AllPlainIn number (equals ∷ (put ++ moved ∷ [])) = (
       s.plain.0,
       all_push (IsPlainIn number) put moved (all_weaker IsProofToken (IsPlainIn number)
           (λ t h more. pieces-plain number t more (no_dollar-spells t.text 91 h.1)
           (simp (no_dollar-spells t.text 93 h.1, h.1))) put
-          (is_text.tokens number (length b.front)))
+          (is_text.tokens number (length b.prefix)))
           (λ more. pieces-plain number moved more (rw sign refl) (rw sign refl)),
     ) in
-    let place : line stop.file stop.at ≡ start + length text = omega arith in
+    let position : line stop.file stop.at ≡ start + length text = omega arith in
     let found : pieces_of number (record file { bytes = with_span file.bytes (start, stop.at) text })
-    ≡ r.front ++ (met (equals ∷ (put ++ moved ∷ []))
+    ≡ r.prefix ++ (met (equals ∷ (put ++ moved ∷ []))
     ++ pieces number Outside (without_comments None later)) =
     ap (λ (l : List ℕ). pieces number Outside (without_comments None (tokens_from number 0 l))) bytes
     ∙ ap (pieces number Outside) told ∙ reach (map Clear (equals ∷ (put ++ moved ∷ [])) ++ without_comments None later)
-    ∙ ap (λ (l : List Piece). r.front ++ l) (pieces_met number (equals ∷ (put ++ moved ∷ [])) (without_comments None later) plain) in
+    ∙ ap (λ (l : List Piece). r.prefix ++ l) (pieces_met number (equals ∷ (put ++ moved ∷ [])) (without_comments None later) plain) in
     let behind : Rises number stop.at two.after =
     rises_earlier number stop.at (stop.at + 1) two.after (omega arith)
     (rises_behind number (equals.at + 1) two.before stop two.after
     (rises_behind number 0 one.before equals (two.before ++ stop ∷ two.after)
     (subst (Rises number 0) all (tokens_rise number 0 file.bytes)))) in
     record {
-      before = r.front;
+      before = r.prefix;
       after = pieces number Outside s.rest;
       others = pieces number Outside (without_comments None later);
       old = ap (pieces number Outside) shown ∙ reach (map Clear (equals ∷ (proof ++ stop ∷ [])) ++ s.rest)
-          ∙ ap (λ (l : List Piece). r.front ++ l) (pieces_met number (equals ∷ (proof ++ stop ∷ [])) s.rest s.plain);
+          ∙ ap (λ (l : List Piece). r.prefix ++ l) (pieces_met number (equals ∷ (proof ++ stop ∷ [])) s.rest s.plain);
       new = found
-          ∙ ap (λ (n : ℕ). r.front ++ (met (equals ∷ (put ++ record stop { at = n } ∷ [])) ++ pieces number Outside (without_comments None later))) place
-          ∙ ap (λ (n : ℕ). r.front ++ (met (equals ∷ (tokens_from number n text ++ record stop { at = start + length text } ∷ [])) ++ pieces number Outside (without_comments None later))) (sym b.start);
+          ∙ ap (λ (n : ℕ). r.prefix ++ (met (equals ∷ (put ++ record stop { at = n } ∷ [])) ++ pieces number Outside (without_comments None later))) position
+          ∙ ap (λ (n : ℕ). r.prefix ++ (met (equals ∷ (tokens_from number n text ++ record stop { at = start + length text } ∷ [])) ++ pieces number Outside (without_comments None later))) (sym b.start);
       same = subst (λ (l : List Shown).
           AllZip (SamePiece (further number (start + length text)) (further number stop.at))
           (pieces number Outside l) (pieces number Outside (without_comments None later)))
           (sym two.later) (moved_pieces number stop.at (start + length text) two.after behind);
     }
   where
-    cut : (bytes front within back text : List ℕ) (start stop : ℕ) → bytes ≡ front ++ (within ++ back) → start ≡ length front → stop ≡ length front + length within
-        → with_span bytes (start, stop) text ≡ front ++ (text ++ back)
-    cut bytes front within back text start stop e a b =
+    cut : (bytes prefix within back text : List ℕ) (start stop : ℕ) → bytes ≡ prefix ++ (within ++ back) → start ≡ length prefix → stop ≡ length prefix + length within
+        → with_span bytes (start, stop) text ≡ prefix ++ (text ++ back)
+    cut bytes prefix within back text start stop e a b =
         rw (
           e,
           a,
           b,
-          take-append_seam front (within ++ back),
-          ← length-append front within,
-          ← append_assoc front within back,
-          drop-append_seam (front ++ within) back,
+          take-append_seam prefix (within ++ back),
+          ← length-append prefix within,
+          ← append_assoc prefix within back,
+          drop-append_seam (prefix ++ within) back,
         ) refl
 
 -- ==== the items of files of which one has other tokens in place of some: up to them the same, then
--- those, and then the same but for places
+-- those, and then the same but for positions
 
 module _ (h j : ℕ → ℕ → ℕ) (p q : List PlainToken) where
-  -- up to some tokens the items are the same, after them they are but for places
+  -- up to some tokens the items are the same, after them they are but for positions
   pub record Alter (its others : List Item) : Type 0 where
-    pub front : List Item
+    pub prefix : List Item
     pub old : List Item
     pub new : List Item
-    pub here : its ≡ front ++ (map Plain p ++ old)
-    pub there : others ≡ front ++ (map Plain q ++ new)
+    pub here : its ≡ prefix ++ (map Plain p ++ old)
+    pub there : others ≡ prefix ++ (map Plain q ++ new)
     pub same : AllZip (SameItem h j) old new
 
   abbrev pub SameOrAlter : List Item → List Item → Type 0
@@ -221,7 +222,7 @@ module _ (h j : ℕ → ℕ → ℕ) (p q : List PlainToken) where
   after_item item its others inner true = inl refl
   after_item item its others (inl e) false = inl (ap (λ (l : List Item). item ∷ l) e)
   after_item item its others (inr a) false = inr (record {
-    front = item ∷ a.front;
+    prefix = item ∷ a.prefix;
     old = a.old;
     new = a.new;
     here = ap (λ (l : List Item). item ∷ l) a.here;
@@ -314,7 +315,7 @@ module _ (h j : ℕ → ℕ → ℕ) (files others : List PlainFile) (k : ℕ) (
         → Differ (with_inclusions files named next (a ++ (met p ++ b)))
         (with_inclusions others named on (a ++ (met q ++ c)))
     spliced_within [] b c z = inr (record {
-      front = [];
+      prefix = [];
       old = with_inclusions files named next b;
       new = with_inclusions others named on c;
       here = met_spliced files named next p b;
@@ -438,7 +439,7 @@ module _ (text : List ℕ) (equals : PlainToken) (proof : List PlainToken) (stop
   abbrev run : List PlainToken
   run = equals ∷ (proof ++ stop ∷ [])
 
-  -- The pieces of a file and of the one with the other bytes. Of the places behind these the two
+  -- The pieces of a file and of the one with the other bytes. Of the positions behind these the two
   -- functions tell the same, and so they do of those in the other files.
   record AreReplaced (k : ℕ) (f g : PlainFile) : Type 0 where
     before : List Piece
@@ -500,18 +501,18 @@ pub replaced_items : (text : List ℕ) (equals : PlainToken) (proof : List Plain
     (stop : PlainToken) → IsProofText text → stop.text ≡ codes "$." → (files : List PlainFile)
     (s : StandsInFile files equals (proof ++ stop ∷ []))
     → let start : ℕ = equals.at + length equals.text in
-    let bytes : List ℕ = with_span s.place.file.bytes (start, stop.at) text in
+    let bytes : List ℕ = with_span s.position.file.bytes (start, stop.at) text in
     SameOrAlter (further s.number (start + length text)) (further s.number stop.at)
     (equals ∷ (proof ++ stop ∷ [])) (replacing s.number text equals stop) (items files)
-    (items (with_file files s.number (record s.place.file { bytes = bytes })))
+    (items (with_file files s.number (record s.position.file { bytes = bytes })))
 replaced_items text equals proof stop is_text sign files s =
     let start : ℕ = equals.at + length equals.text in
     let h : ℕ → ℕ → ℕ = further s.number (start + length text) in
     let j : ℕ → ℕ → ℕ = further s.number stop.at in
     let r = replaced_pieces files text equals proof stop is_text sign s in
-    let bytes : List ℕ = with_span s.place.file.bytes (start, stop.at) text in
-    let g : PlainFile = record s.place.file { bytes = bytes } in
-    replaced_at text equals proof stop h j files s.number s.place.file g s.place.there (record {
+    let bytes : List ℕ = with_span s.position.file.bytes (start, stop.at) text in
+    let g : PlainFile = record s.position.file { bytes = bytes } in
+    replaced_at text equals proof stop h j files s.number s.position.file g s.position.there (record {
       before = r.before;
       after = r.after;
       behind = r.others;

@@ -1,4 +1,4 @@
--- The items of files with another proof of a statement: the same, but for it and for places.
+-- The items of files with another proof of a statement: the same, but for it and for positions.
 use Rattle.std.proofs.Common.{◌≡◌, ℕ, ◌+◌, ◌≤◌, ◌==◌, ◌&&◌, List, [], ◌∷◌, ◌++◌, length, map, Bool}
 use Rattle.std.proofs.Common.{true, false, cond, refl, sym, ap, ◌∙◌, subst, codes, inl, inr, arith}
 use Rattle.std.proofs.Common.{eq-eqb, count_by}
@@ -22,7 +22,7 @@ use Rattle.mm_text.proofs.Inclusions.FilePieces.{StandsInFile, run_stands}
 use Rattle.mm_text.proofs.Replaced.ReplacedItems.{further, met, replaced_pieces, Alter, with_file}
 use Rattle.mm_text.proofs.Replaced.ReplacedItems.{replaced_items, set_there}
 use Rattle.mm_text.proofs.Replaced.ReplacedReading.{nowhere, ProofAt}
-use Rattle.mm_text.proofs.Lists.{all_front, all_back, all_weaker, two_cuts}
+use Rattle.mm_text.proofs.Lists.{all_prefix, all_back, all_weaker, two_cuts}
 
 -- ---- the file of a token
 
@@ -32,8 +32,8 @@ pub run_home : (files : List PlainFile) (t : PlainToken) (tokens before : List P
     → t ∷ tokens ≡ before ++ u ∷ after → u.file ≡ s.number
 run_home files t tokens before u after s e =
     let P : Shown → Type 0 = AtHome s.number in
-    let all = rw s.place.whole at (shown_at_home s.number s.place.file.bytes) in
-    let run = all_front P (map Clear (t ∷ tokens)) s.rest
+    let all = rw s.position.whole at (shown_at_home s.number s.position.file.bytes) in
+    let run = all_prefix P (map Clear (t ∷ tokens)) s.rest
     (all_back P s.passed (Clear t ∷ (map Clear tokens ++ s.rest)) all) in
     (all_back P (map Clear before) (Clear u ∷ map Clear after)
     (subst (AllByRecursion P) (ap (map Clear) e ∙ map-append Clear before (u ∷ after)) run)).0
@@ -67,7 +67,7 @@ one_cut k f t a b c d here there =
     let once : weigh_pieces w (pieces_of k f) ≤ 1 = omega (arith, file_weight v (λ n. 0) k f) in
     (cut_once (pieces_of k f) (Met (Plain t)) (λ x y z e.
     let whole = weigh_pieces-append w (x ++ Met (Plain t) ∷ y) (Met (Plain t) ∷ z) in
-    let front = weigh_pieces-append w x (Met (Plain t) ∷ y) in
+    let prefix = weigh_pieces-append w x (Met (Plain t) ∷ y) in
     omega (arith, ap (weigh_pieces w) e, own_weight t)) a b c d here there).1
 
 -- among the items
@@ -104,7 +104,7 @@ same_items : (h j : ℕ → ℕ → ℕ) → h ≡ j → (its : List Item) → A
 same_items h j e [] = tt
 same_items h j e (i ∷ its) = (ap (λ (l : ℕ → ℕ → ℕ). item_on l i) e, same_items h j e its)
 
--- items that two functions of places tell alike are the same but for places
+-- items that two functions of positions tell alike are the same but for positions
 pub same_nowhere : (h j : ℕ → ℕ → ℕ) (a b : Item) → SameItem h j a b → SameItem nowhere nowhere a b
 same_nowhere h j a b e = sym (twice h a) ∙ ap (item_on nowhere) e ∙ twice j b
   where
@@ -116,7 +116,7 @@ same_nowhere h j a b e = sym (twice h a) ∙ ap (item_on nowhere) e ∙ twice j 
 
 module _ (files : List PlainFile) (before : List PlainStatement) (s : PlainStatement) (after : List PlainStatement) (text : List ℕ) (is_text : IsProofText text) (a : ProofAt (items files) before s after) where
   abbrev pub stands : StandsInFile files a.ends.equals (s.proof ++ a.ends.stop ∷ [])
-  stands = run_stands files a.front a.back a.ends.equals (s.proof ++ a.ends.stop ∷ []) a.whole
+  stands = run_stands files a.prefix a.back a.ends.equals (s.proof ++ a.ends.stop ∷ []) a.whole
 
   abbrev pub start : ℕ
   start = a.ends.equals.at + length a.ends.equals.text
@@ -133,14 +133,14 @@ module _ (files : List PlainFile) (before : List PlainStatement) (s : PlainState
   last = record a.ends.stop { at = start + length text }
 
   abbrev pub changed : PlainFile
-  changed = record stands.place.file {
-    bytes = with_span stands.place.file.bytes (start, a.ends.stop.at) text;
+  changed = record stands.position.file {
+    bytes = with_span stands.position.file.bytes (start, a.ends.stop.at) text;
   }
 
   abbrev pub others : List PlainFile
   others = with_file files stands.number changed
 
-  -- the places after the proof, so much further on
+  -- the positions after the proof, so much further on
   abbrev pub one : ℕ → ℕ → ℕ
   one = further stands.number (start + length text)
 
@@ -150,37 +150,37 @@ module _ (files : List PlainFile) (before : List PlainStatement) (s : PlainState
   abbrev pub Altered : Type 0
   Altered =
       (rest : List Item) × AllZip (SameItem one other) a.back rest
-      × (items others ≡ a.front ++ (map Plain (a.ends.equals ∷ (put ++ last ∷ [])) ++ rest))
+      × (items others ≡ a.prefix ++ (map Plain (a.ends.equals ∷ (put ++ last ∷ [])) ++ rest))
 
   -- where the items differ
   where_altered : Alter one other (a.ends.equals ∷ (s.proof ++ a.ends.stop ∷ []))
       (a.ends.equals ∷ (put ++ last ∷ [])) (items files) (items others) → Altered
   where_altered x =
       let own : List Item = map Plain (s.proof ++ a.ends.stop ∷ []) in
-      let (front, tail) = item_cut files a.ends.equals a.front (own ++ a.back) x.front (own ++ x.old) a.whole x.here in
+      let (prefix, tail) = item_cut files a.ends.equals a.prefix (own ++ a.back) x.prefix (own ++ x.old) a.whole x.here in
       let back : a.back ≡ x.old = append_cancel_left own a.back x.old tail in (
         x.new,
         subst (λ (l : List Item). AllZip (SameItem one other) l x.new) (sym back) x.same,
-        x.there ∙ ap (λ (l : List Item). l ++ (map Plain (a.ends.equals ∷ (put ++ last ∷ [])) ++ x.new)) (sym front),
+        x.there ∙ ap (λ (l : List Item). l ++ (map Plain (a.ends.equals ∷ (put ++ last ∷ [])) ++ x.new)) (sym prefix),
       )
 
   -- where they are the same the proof is the same
   where_same : items files ≡ items others → Altered
   where_same e =
       let told = sym e ∙ a.whole in
-      let there = run_stands others a.front a.back a.ends.equals (s.proof ++ a.ends.stop ∷ []) told in
+      let there = run_stands others a.prefix a.back a.ends.equals (s.proof ++ a.ends.stop ∷ []) told in
       let new = replaced_pieces files text a.ends.equals s.proof a.ends.stop is_text a.ends.end stands in
       let old = replaced_pieces others text a.ends.equals s.proof a.ends.stop is_text a.ends.end there in
       let number : there.number ≡ stands.number = sym (home others a.ends.equals (s.proof ++ a.ends.stop ∷ []) there) ∙ home files a.ends.equals (s.proof ++ a.ends.stop ∷ []) stands in
-      let set = set_there files stands.number stands.place.file changed stands.place.there in
-      let file : there.place.file ≡ changed = cc (there.place.there, number, set) in
+      let set = set_there files stands.number stands.position.file changed stands.position.there in
+      let file : there.position.file ≡ changed = cc (there.position.there, number, set) in
       let known : pieces_of stands.number changed ≡ old.before ++ (met (a.ends.equals ∷ (s.proof ++ a.ends.stop ∷ [])) ++ old.after) =
       (λ i. pieces_of (sym number i) (sym file i)) ∙ old.old in
       let tail = one_cut stands.number changed a.ends.equals new.before (met (put ++ last ∷ []) ++ new.others) old.before (met (s.proof ++ a.ends.stop ∷ []) ++ old.after) new.new known in
       let run = same_run s.proof put a.ends.stop last new.others old.after a.ends.proof symbols a.ends.end a.ends.end tail in (
         a.back,
         same_items one other (ap (λ (t : PlainToken). further stands.number t.at) run.1) a.back,
-        told ∙ (λ i. a.front
+        told ∙ (λ i. a.prefix
             ++ (map Plain (a.ends.equals ∷ (sym run.0 i ++ sym run.1 i ∷ [])) ++ a.back)),
       )
 

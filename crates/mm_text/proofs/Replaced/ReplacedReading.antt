@@ -22,15 +22,15 @@ use Rattle.mm_text.proofs.Reader.SpelledStatements.{spelled_run, whole_run, begu
 use Rattle.mm_text.proofs.Reader.Unfinished.{Describes, IsPartProof, beginning_of_part}
 use Rattle.mm_text.proofs.Reader.Unfinished.{part_of_beginning}
 use Rattle.mm_text.proofs.Reader.OneToken.{read_more, read_whole, step_proof_token, step_ends_proof}
-use Rattle.mm_text.proofs.Reader.OpenBlocks.{scope_of, balanced_front}
-use Rattle.mm_text.proofs.Reader.OneReading.{with_statements, front_reading, reads_reading}
+use Rattle.mm_text.proofs.Reader.OpenBlocks.{scope_of, balanced_prefix}
+use Rattle.mm_text.proofs.Reader.OneReading.{with_statements, prefix_reading, reads_reading}
 use Rattle.mm_text.proofs.Reader.WholeReadings.{files_reading, reading_reads}
 use Rattle.mm_text.proofs.Alike.AlikeStatements.{viable_alike, statements_alike, plain_tokens_alike}
 use Rattle.mm_text.proofs.Alike.AlikeItems.{SameItem}
 use Rattle.mm_text.proofs.Lists.{nil_append, nil_split, zip_mapped}
 use Rattle.mm_text.specs.declared.class.Keyword.TheVariants as keyword
 
--- no place matters
+-- no position matters
 abbrev pub nowhere : ℕ → ℕ → ℕ
 nowhere file at = 0
 
@@ -38,24 +38,24 @@ nowhere file at = 0
 
 -- the tokens of statements, of one after them, and of those after that
 pub record Parts (tokens : List PlainToken) (before : List PlainStatement) (s : PlainStatement) (after : List PlainStatement) : Type 0 where
-  pub front : List PlainToken
+  pub prefix : List PlainToken
   pub own : List PlainToken
   pub back : List PlainToken
-  pub whole : tokens ≡ front ++ (own ++ back)
-  pub earlier : SpellsAll front before
+  pub whole : tokens ≡ prefix ++ (own ++ back)
+  pub earlier : SpellsAll prefix before
   pub here : Spells own s
   pub later : SpellsAll back after
 
 pub parts_of : (tokens : List PlainToken) (before : List PlainStatement) (s : PlainStatement) (after : List PlainStatement) → SpellsAll tokens (before ++ s ∷ after) → Parts tokens before s after
-parts_of tokens [] s after h = record { front = []; own = h.0; back = h.1; whole = h.2; earlier = refl; here = h.3; later = h.4 }
+parts_of tokens [] s after h = record { prefix = []; own = h.0; back = h.1; whole = h.2; earlier = refl; here = h.3; later = h.4 }
 parts_of tokens (b ∷ before) s after h =
     let p = parts_of h.1 before s after h.4 in
     record {
-      front = h.0 ++ p.front;
+      prefix = h.0 ++ p.prefix;
       own = p.own;
       back = p.back;
-      whole = h.2 ∙ ap (λ (l : List PlainToken). h.0 ++ l) p.whole ∙ sym (append_assoc h.0 p.front (p.own ++ p.back));
-      earlier = (h.0, p.front, refl, h.3, p.earlier);
+      whole = h.2 ∙ ap (λ (l : List PlainToken). h.0 ++ l) p.whole ∙ sym (append_assoc h.0 p.prefix (p.own ++ p.back));
+      earlier = (h.0, p.prefix, refl, h.3, p.earlier);
       here = p.here;
       later = p.later;
     }
@@ -74,37 +74,37 @@ spelled_once tokens xs ys h k = cc (whole_run tokens xs h, whole_run tokens ys k
 
 -- a token among those of items is one of them
 pub record TokenAt (its : List Item) (before : List PlainToken) (t : PlainToken) (after : List PlainToken) : Type 0 where
-  pub front : List Item
+  pub prefix : List Item
   pub back : List Item
-  pub whole : its ≡ front ++ Plain t ∷ back
-  pub first : plain_tokens front ≡ before
+  pub whole : its ≡ prefix ++ Plain t ∷ back
+  pub first : plain_tokens prefix ≡ before
   pub last : plain_tokens back ≡ after
 
 token_at : (its : List Item) (before : List PlainToken) (t : PlainToken) (after : List PlainToken) → plain_tokens its ≡ before ++ t ∷ after → TokenAt its before t after
 token_at [] before t after e = absurd (nil_append before t after e)
 token_at (Plain u ∷ its) [] t after e =
-    record { front = []; back = its; whole = cc; first = refl; last = cc }
+    record { prefix = []; back = its; whole = cc; first = refl; last = cc }
 token_at (Plain u ∷ its) (b ∷ before) t after e =
     let p = token_at its before t after cc in
-    record { front = Plain u ∷ p.front; back = p.back; whole = ap (λ (l : List Item). Plain u ∷ l) p.whole; first = cc (p.first); last = p.last }
+    record { prefix = Plain u ∷ p.prefix; back = p.back; whole = ap (λ (l : List Item). Plain u ∷ l) p.whole; first = cc (p.first); last = p.last }
 token_at (item ∷ its) before t after e =
     let p = token_at its before t after e in
-    record { front = item ∷ p.front; back = p.back; whole = ap (λ (l : List Item). item ∷ l) p.whole; first = p.first; last = p.last }
+    record { prefix = item ∷ p.prefix; back = p.back; whole = ap (λ (l : List Item). item ∷ l) p.whole; first = p.first; last = p.last }
 
--- ---- fronts of a viable front
+-- ---- prefixes of a viable prefix
 
-clean_front : (a b : List Item) → HoldNoFault (a ++ b) → HoldNoFault a
-clean_front [] b h = tt
-clean_front (Wrong rule t ∷ a) b h = h
-clean_front (item ∷ a) b h = clean_front a b h
+clean_prefix : (a b : List Item) → HoldNoFault (a ++ b) → HoldNoFault a
+clean_prefix [] b h = tt
+clean_prefix (Wrong rule t ∷ a) b h = h
+clean_prefix (item ∷ a) b h = clean_prefix a b h
 
--- a front of viable items whose tokens are statements and a beginning of one is viable
-viable_front : (its front rest : List Item) (all before : List PlainStatement)
+-- a prefix of viable items whose tokens are statements and a beginning of one is viable
+viable_prefix : (its prefix rest : List Item) (all before : List PlainStatement)
     (begun finished left : List PlainToken) → Viable its all begun
-    → its ≡ front ++ rest → plain_tokens front ≡ finished ++ left → SpellsAll finished before
-    → IsBeginning left → AreBalanced before → Viable front before left
-viable_front its front rest all before begun finished left v cut told said begins paired = record {
-  clean = clean_front front rest (subst HoldNoFault cut v.clean);
+    → its ≡ prefix ++ rest → plain_tokens prefix ≡ finished ++ left → SpellsAll finished before
+    → IsBeginning left → AreBalanced before → Viable prefix before left
+viable_prefix its prefix rest all before begun finished left v cut told said begins paired = record {
+  clean = clean_prefix prefix rest (subst HoldNoFault cut v.clean);
   finished = finished;
   whole = told;
   spelled = said;
@@ -115,106 +115,106 @@ viable_front its front rest all before begun finished left v cut told said begin
   top_ended = λ pre post e. v.top_ended pre (post ++ rest) (longer pre post (End 0) e);
 }
   where
-    longer : (pre post : List Item) (item : Item) → front ≡ pre ++ item ∷ post
+    longer : (pre post : List Item) (item : Item) → prefix ≡ pre ++ item ∷ post
         → its ≡ pre ++ item ∷ (post ++ rest)
     longer pre post item e = cc (append_assoc pre (item ∷ post) rest)
 
--- a front of the items that reads as these statements, with none begun after them
-pub record WholeFront (its : List Item) (statements : List PlainStatement) : Type 0 where
-  pub front : List Item
+-- a prefix of the items that reads as these statements, with none begun after them
+pub record WholePrefix (its : List Item) (statements : List PlainStatement) : Type 0 where
+  pub prefix : List Item
   pub rest : List Item
-  pub cut : its ≡ front ++ rest
-  pub viable : Viable front statements []
+  pub cut : its ≡ prefix ++ rest
+  pub viable : Viable prefix statements []
 
 -- all of the items
 abbrev pub without_rest : (its : List Item) (statements : List PlainStatement)
-    → Viable its statements [] → WholeFront its statements
+    → Viable its statements [] → WholePrefix its statements
 without_rest its statements v = record {
-  front = its;
+  prefix = its;
   rest = [];
   cut = sym (append-nil its);
   viable = v;
 }
 
 -- those up to what is begun
-finished_front : (its : List Item) (statements : List PlainStatement)
-    (unfinished : List PlainToken) → Viable its statements unfinished → WholeFront its statements
-finished_front its statements [] v = without_rest its statements v
-finished_front its statements (t ∷ unfinished) v =
+finished_prefix : (its : List Item) (statements : List PlainStatement)
+    (unfinished : List PlainToken) → Viable its statements unfinished → WholePrefix its statements
+finished_prefix its statements [] v = without_rest its statements v
+finished_prefix its statements (t ∷ unfinished) v =
     let p = token_at its v.finished t unfinished v.whole in
     record {
-      front = p.front;
+      prefix = p.prefix;
       rest = Plain t ∷ p.back;
       cut = p.whole;
-      viable = viable_front its p.front _ statements _ _ v.finished [] v p.whole
+      viable = viable_prefix its p.prefix _ statements _ _ v.finished [] v p.whole
           (rw append-nil p.first) v.spelled (inl refl) v.balanced;
     }
 
--- the statements of a reading are those of a front of its items
-pub reads_front : (its : List Item) (statements : List PlainStatement)
-    (ending : Option PlainFault) → ReadsAs its statements ending → WholeFront its statements
-reads_front its statements None v = without_rest its statements v
-reads_front its statements (Some fault) (front, item, rest, unfinished, cut, v, _) =
-    let f = finished_front front statements unfinished v in
+-- the statements of a reading are those of a prefix of its items
+pub reads_prefix : (its : List Item) (statements : List PlainStatement)
+    (ending : Option PlainFault) → ReadsAs its statements ending → WholePrefix its statements
+reads_prefix its statements None v = without_rest its statements v
+reads_prefix its statements (Some fault) (prefix, item, rest, unfinished, cut, v, _) =
+    let f = finished_prefix prefix statements unfinished v in
     record {
-      front = f.front;
+      prefix = f.prefix;
       rest = f.rest ++ item ∷ rest;
-      cut = cc (f.cut, append_assoc f.front f.rest (item ∷ rest));
+      cut = cc (f.cut, append_assoc f.prefix f.rest (item ∷ rest));
       viable = f.viable;
     }
 
 -- ---- the tokens of a statement
 
 -- a beginning of a statement after statements is no whole statement
-unfinished_not_whole : (front unfinished tokens : List PlainToken) (before earlier : List PlainStatement) → SpellsAll front before → IsBeginning unfinished → unfinished ≢ [] → tokens ≡ front ++ unfinished → ¬ (SpellsAll tokens earlier)
-unfinished_not_whole front unfinished tokens before earlier h b some e all =
+unfinished_not_whole : (prefix unfinished tokens : List PlainToken) (before earlier : List PlainStatement) → SpellsAll prefix before → IsBeginning unfinished → unfinished ≢ [] → tokens ≡ prefix ++ unfinished → ¬ (SpellsAll tokens earlier)
+unfinished_not_whole prefix unfinished tokens before earlier h b some e all =
     let (part, described) = part_of_beginning unfinished b in
-    let same : Between ≡ part = (runs_parts earlier before Between part (sym (whole_run tokens earlier all) ∙ spelled_run tokens front unfinished before part e h described)).1 in
+    let same : Between ≡ part = (runs_parts earlier before Between part (sym (whole_run tokens earlier all) ∙ spelled_run tokens prefix unfinished before part e h described)).1 in
     some (subst (λ (p : Part). Describes p unfinished) (sym same) described)
 
 -- so a token comes next, and nothing else
-next_token : (its : List Item) (statements : List PlainStatement) (v : Viable its statements []) (front back : List Item) (t : PlainToken) (rest : List PlainToken) → its ≡ front ++ back
-    → ((earlier : List PlainStatement) → ¬ (SpellsAll (plain_tokens front) earlier)) → plain_tokens back ≡ t ∷ rest → (more : List Item) × (back ≡ Plain t ∷ more) × (plain_tokens more ≡ rest)
-next_token its statements v front [] t rest e never is = absurd (nil_append [] t rest is)
-next_token its statements v front (Plain u ∷ back) t rest e never is = (back, cc, cc)
-next_token its statements v front (Wrong rule u ∷ back) t rest e never is = absurd (clean_behind front rule u back (subst HoldNoFault e v.clean))
-next_token its statements v front (Inclusion u ∷ back) t rest e never is =
-    absurd (never _ (v.included front back u e).spelled)
-next_token its statements v front (End file ∷ back) t rest e never is =
-    absurd (never _ (v.ended front back file e).1)
+next_token : (its : List Item) (statements : List PlainStatement) (v : Viable its statements []) (prefix back : List Item) (t : PlainToken) (rest : List PlainToken) → its ≡ prefix ++ back
+    → ((earlier : List PlainStatement) → ¬ (SpellsAll (plain_tokens prefix) earlier)) → plain_tokens back ≡ t ∷ rest → (more : List Item) × (back ≡ Plain t ∷ more) × (plain_tokens more ≡ rest)
+next_token its statements v prefix [] t rest e never is = absurd (nil_append [] t rest is)
+next_token its statements v prefix (Plain u ∷ back) t rest e never is = (back, cc, cc)
+next_token its statements v prefix (Wrong rule u ∷ back) t rest e never is = absurd (clean_behind prefix rule u back (subst HoldNoFault e v.clean))
+next_token its statements v prefix (Inclusion u ∷ back) t rest e never is =
+    absurd (never _ (v.included prefix back u e).spelled)
+next_token its statements v prefix (End file ∷ back) t rest e never is =
+    absurd (never _ (v.ended prefix back file e).1)
 
 -- the tokens of a statement follow each other
-statement_follows : (its : List Item) (statements before : List PlainStatement) (v : Viable its statements []) (front own : List PlainToken) (s : PlainStatement) → SpellsAll front before → Spells own s
-    → (begun rest : List PlainToken) (past back : List Item) (after : List PlainToken) → own ≡ begun ++ rest → begun ≢ [] → its ≡ past ++ back → plain_tokens past ≡ front ++ begun → plain_tokens back ≡ rest ++ after
+statement_follows : (its : List Item) (statements before : List PlainStatement) (v : Viable its statements []) (prefix own : List PlainToken) (s : PlainStatement) → SpellsAll prefix before → Spells own s
+    → (begun rest : List PlainToken) (past back : List Item) (after : List PlainToken) → own ≡ begun ++ rest → begun ≢ [] → its ≡ past ++ back → plain_tokens past ≡ prefix ++ begun → plain_tokens back ≡ rest ++ after
     → (more : List Item) × (back ≡ map Plain rest ++ more) × (plain_tokens more ≡ after)
-statement_follows its statements before v front own s earlier h begun [] past back after whole some
+statement_follows its statements before v prefix own s earlier h begun [] past back after whole some
     e done left = (back, refl, left)
-statement_follows its statements before v front own s earlier h begun (t ∷ rest) past back after whole some e done left =
+statement_follows its statements before v prefix own s earlier h begun (t ∷ rest) past back after whole some e done left =
     let beginning : IsBeginning begun = (beginnings_begin_statements begun).1
     (record { more = t ∷ rest; some = λ none. cc; statement = s; spelled = rw whole at h }) in
-    let (more, one, others) = next_token its statements v past back t (rest ++ after) e (λ all. unfinished_not_whole front begun (plain_tokens past) before all earlier beginning some done) left in
-    let (last, split, none) = statement_follows its statements before v front own s earlier h
+    let (more, one, others) = next_token its statements v past back t (rest ++ after) e (λ all. unfinished_not_whole prefix begun (plain_tokens past) before all earlier beginning some done) left in
+    let (last, split, none) = statement_follows its statements before v prefix own s earlier h
     (begun ++ t ∷ []) rest (past ++ Plain t ∷ []) more after (rw append_assoc whole)
     (λ e. nil_append begun t [] (sym e)) (cc (one, append_assoc past (Plain t ∷ []) more))
-    (rw (plain_tokens-append, done) (append_assoc front begun (t ∷ []))) others in
+    (rw (plain_tokens-append, done) (append_assoc prefix begun (t ∷ []))) others in
     (last, cc (one, split), none)
 
 -- so they stand together among the items
 pub own_stands : (its : List Item) (statements before : List PlainStatement) (s : PlainStatement)
     (after : List PlainStatement) → Viable its statements []
     → (p : Parts (plain_tokens its) before s after)
-    → (front : List Item) × (back : List Item) × (its ≡ front ++ (map Plain p.own ++ back))
-    × (plain_tokens front ≡ p.front) × (plain_tokens back ≡ p.back)
+    → (prefix : List Item) × (back : List Item) × (its ≡ prefix ++ (map Plain p.own ++ back))
+    × (plain_tokens prefix ≡ p.prefix) × (plain_tokens back ≡ p.back)
 own_stands its statements before s after v p =
     let others : List PlainToken = (p.here.first.0 ++ s.symbols) ++ p.here.tail in
     let own : p.own ≡ s.first ∷ others = rw p.here.first.1 at p.here.whole in
-    let t = token_at its p.front s.first (others ++ p.back) (rw own at p.whole) in
-    let (more, split, left) = statement_follows its statements before v p.front p.own s p.earlier
-    p.here (s.first ∷ []) others (t.front ++ Plain s.first ∷ []) t.back p.back own (λ none. cc)
-    (cc (t.whole, append_assoc t.front (Plain s.first ∷ []) t.back))
-    (cc (t.first, plain_tokens-append t.front (Plain s.first ∷ []))) t.last in
+    let t = token_at its p.prefix s.first (others ++ p.back) (rw own at p.whole) in
+    let (more, split, left) = statement_follows its statements before v p.prefix p.own s p.earlier
+    p.here (s.first ∷ []) others (t.prefix ++ Plain s.first ∷ []) t.back p.back own (λ none. cc)
+    (cc (t.whole, append_assoc t.prefix (Plain s.first ∷ []) t.back))
+    (cc (t.first, plain_tokens-append t.prefix (Plain s.first ∷ []))) t.last in
     let run = ap (λ (l : List PlainToken). map Plain l ++ more) own in
-    (t.front, more, cc (t.whole, split, run), t.first, left)
+    (t.prefix, more, cc (t.whole, split, run), t.first, left)
 
 -- ---- where the proof stands
 
@@ -223,10 +223,10 @@ pub record ProofAt (its : List Item) (before : List PlainStatement) (s : PlainSt
   pub parts : Parts (plain_tokens its) before s after
   pub kind : s.kind ≡ Provable
   pub ends : EndsInProof s parts.here.tail
-  pub front : List Item
+  pub prefix : List Item
   pub back : List Item
-  pub whole : its ≡ front ++ (map Plain (ends.equals ∷ (s.proof ++ ends.stop ∷ [])) ++ back)
-  pub done : plain_tokens front ≡ parts.front ++ (parts.here.head ++ s.symbols)
+  pub whole : its ≡ prefix ++ (map Plain (ends.equals ∷ (s.proof ++ ends.stop ∷ [])) ++ back)
+  pub done : plain_tokens prefix ≡ parts.prefix ++ (parts.here.head ++ s.symbols)
   pub left : plain_tokens back ≡ parts.back
 
 all_plain : (tokens : List PlainToken) → plain_tokens (map Plain tokens) ≡ tokens
@@ -241,21 +241,21 @@ proof_at its before s after v p =
     let stated : List PlainToken = h.head ++ s.symbols in
     let end : List PlainToken = k.equals ∷ (s.proof ++ k.stop ∷ []) in
     let own : parts.own ≡ stated ++ end = cc (h.whole, k.tokens) in
-    let (front, back, whole, first, left) = own_stands its _ before s after v parts in
+    let (prefix, back, whole, first, left) = own_stands its _ before s after v parts in
     record {
       parts = parts;
       kind = p;
       ends = k;
-      front = front ++ map Plain stated;
+      prefix = prefix ++ map Plain stated;
       back = back;
       whole = cc (
         whole,
         own,
         map-append Plain stated end,
         append_assoc (map Plain stated) (map Plain end) back,
-        append_assoc front (map Plain stated) (map Plain end ++ back),
+        append_assoc prefix (map Plain stated) (map Plain end ++ back),
       );
-      done = plain_tokens-append front (map Plain stated) ∙ (λ i. first i ++ all_plain stated i);
+      done = plain_tokens-append prefix (map Plain stated) ∙ (λ i. first i ++ all_plain stated i);
       left = left;
     }
 
@@ -285,47 +285,47 @@ module _ (its : List Item) (before : List PlainStatement) (s : PlainStatement) (
   proving = record s { proof = []; span = (a.ends.equals.at + 2, 0) }
 
   abbrev until : List Item
-  until = a.front ++ Plain a.ends.equals ∷ []
+  until = a.prefix ++ Plain a.ends.equals ∷ []
 
   cut : its ≡ until ++ (map Plain (s.proof ++ a.ends.stop ∷ []) ++ a.back)
-  cut = a.whole ∙ sym (append_assoc a.front (Plain a.ends.equals ∷ []) (map Plain (s.proof ++ a.ends.stop ∷ []) ++ a.back))
+  cut = a.whole ∙ sym (append_assoc a.prefix (Plain a.ends.equals ∷ []) (map Plain (s.proof ++ a.ends.stop ∷ []) ++ a.back))
 
   begun_here : IsPartProof proving (stated ++ a.ends.equals ∷ [])
   begun_here = begun a.parts.own s a.parts.here a.ends [] a.kind tt
 
-  -- the items up to the `$=` are a viable front
+  -- the items up to the `$=` are a viable prefix
   until_viable : Viable until before (stated ++ a.ends.equals ∷ [])
   until_viable =
-      viable_front its until (map Plain (s.proof ++ a.ends.stop ∷ []) ++ a.back)
-      (before ++ s ∷ after) before [] a.parts.front (stated ++ a.ends.equals ∷ []) v cut
-      (plain_tokens-append a.front (Plain a.ends.equals ∷ [])
+      viable_prefix its until (map Plain (s.proof ++ a.ends.stop ∷ []) ++ a.back)
+      (before ++ s ∷ after) before [] a.parts.prefix (stated ++ a.ends.equals ∷ []) v cut
+      (plain_tokens-append a.prefix (Plain a.ends.equals ∷ [])
       ∙ ap (λ (l : List PlainToken). l ++ a.ends.equals ∷ []) a.done
-      ∙ append_assoc a.parts.front stated (a.ends.equals ∷ [])) a.parts.earlier
+      ∙ append_assoc a.parts.prefix stated (a.ends.equals ∷ [])) a.parts.earlier
       (beginning_of_part (InProof proving) (stated ++ a.ends.equals ∷ []) begun_here)
-      (balanced_front before (s ∷ after) v.balanced)
+      (balanced_prefix before (s ∷ after) v.balanced)
 
   -- what is read with any proof in place of the own, and any items after it
   any_proof : (proof : List PlainToken) (stop : PlainToken) (rest : List Item) → AreSymbols proof → stop.text ≡ codes "$."
-      → reading_of outermost Between (a.front ++ (map Plain (a.ends.equals ∷ (proof ++ stop ∷ [])) ++ rest))
+      → reading_of outermost Between (a.prefix ++ (map Plain (a.ends.equals ∷ (proof ++ stop ∷ [])) ++ rest))
       ≡ with_statements before (with_statement (record s { proof = proof; span = (a.ends.equals.at + 2, stop.at) }) (reading_of (scope_after_statement (scope_of before)) Between rest))
   any_proof proof stop rest h sign =
-      ap (reading_of outermost Between) (sym (append_assoc a.front (Plain a.ends.equals ∷ []) (map Plain (proof ++ stop ∷ []) ++ rest)))
-      ∙ front_reading until (map Plain (proof ++ stop ∷ []) ++ rest) before
+      ap (reading_of outermost Between) (sym (append_assoc a.prefix (Plain a.ends.equals ∷ []) (map Plain (proof ++ stop ∷ []) ++ rest)))
+      ∙ prefix_reading until (map Plain (proof ++ stop ∷ []) ++ rest) before
       (stated ++ a.ends.equals ∷ []) (InProof proving) until_viable begun_here
       ∙ ap (with_statements before) (proof_reading (scope_of before) proving proof stop rest h sign)
 
   -- the old proof, and other items after it
   abbrev before_rest : List Item → List Item
-  before_rest rest = a.front ++ (map Plain (a.ends.equals ∷ (s.proof ++ a.ends.stop ∷ [])) ++ rest)
+  before_rest rest = a.prefix ++ (map Plain (a.ends.equals ∷ (s.proof ++ a.ends.stop ∷ [])) ++ rest)
 
   -- the tokens of these
   rest_tokens : (rest : List Item)
-      → plain_tokens (before_rest rest) ≡ a.parts.front ++ (a.parts.own ++ plain_tokens rest)
+      → plain_tokens (before_rest rest) ≡ a.parts.prefix ++ (a.parts.own ++ plain_tokens rest)
   rest_tokens rest =
       let plain = all_plain (s.proof ++ a.ends.stop ∷ []) in
       simp (plain_tokens-append, plain, a.done, a.parts.here.whole, a.ends.tokens, append_assoc)
 
-  -- what is read after the proof where the items after it are the old ones but for places
+  -- what is read after the proof where the items after it are the old ones but for positions
   abbrev Later : List Item → Type 0
   Later rest = (others : List PlainStatement)
       × (reading_of (scope_after_statement (scope_of before)) Between rest
@@ -346,7 +346,7 @@ module _ (its : List Item) (before : List PlainStatement) (s : PlainStatement) (
       ∙ sym (any_proof s.proof a.ends.stop rest a.ends.proof a.ends.end)
       ∙ reads_reading mixed same None v in
       let mine : SpellsAll (plain_tokens mixed) (before ++ s ∷ others) =
-      rw (rest_tokens rest) (spells_append a.parts.front (a.parts.own ++ plain_tokens rest) before
+      rw (rest_tokens rest) (spells_append a.parts.prefix (a.parts.own ++ plain_tokens rest) before
       (s ∷ others) a.parts.earlier (a.parts.own, plain_tokens rest, refl, a.parts.here, told)) in
       let theirs : SpellsAll (plain_tokens mixed) same = rw (v.whole, append-nil) v.spelled in
       let once : t ∷ r.statements ≡ s ∷ others = append_cancel_left before _ _
@@ -372,7 +372,7 @@ module _ (its : List Item) (before : List PlainStatement) (s : PlainStatement) (
   pub read_so : (others : List PlainFile) (proof : List PlainToken) (stop : PlainToken)
       (rest : List Item) → AreSymbols proof → stop.text ≡ codes "$."
       → AllZip (SameItem nowhere nowhere) a.back rest
-      → items others ≡ a.front ++ (map Plain (a.ends.equals ∷ (proof ++ stop ∷ [])) ++ rest)
+      → items others ≡ a.prefix ++ (map Plain (a.ends.equals ∷ (proof ++ stop ∷ [])) ++ rest)
       → (later : List PlainStatement) × Reads others (before ++ record s { proof = proof; span = (a.ends.equals.at + 2, stop.at) } ∷ later) None
       × SpellsAll (plain_tokens rest) later
       × (map (statement_on nowhere) after ≡ map (statement_on nowhere) later)

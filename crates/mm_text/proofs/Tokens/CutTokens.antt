@@ -9,7 +9,7 @@ use Rattle.mm_text.specs.Token.{PlainToken, is_space, with_byte, tokens_from, is
 use Rattle.mm_text.specs.Alike.{token_on}
 use Rattle.mm_text.specs.Items.{Shown, Clear, without_comments, spells, holds_mark}
 use Rattle.mm_text.proofs.Lists.{choice_mapped, cons_parts, nil_append}
-use Rattle.mm_text.proofs.Tokens.WordsAndComments.{ahead, begin_far, by_place, run, tokens_ahead}
+use Rattle.mm_text.proofs.Tokens.WordsAndComments.{ahead, begin_far, by_position, run, tokens_ahead}
 use Rattle.mm_text.proofs.Tokens.WordsAndComments.{tokens_from-space, tokens_from-nil}
 use Rattle.mm_text.proofs.Tokens.WordsAndComments.{tokens_from-run, tokens_from_begin, BeginFrom}
 use Rattle.mm_text.proofs.Tokens.WordsAndComments.{AreInk, BeginsWithSpace, with_byte_apart}
@@ -44,13 +44,13 @@ tokens_cut file at (c ∷ bytes) b rest space =
 
 -- ---- the same bytes further on
 
--- places of a file from one on become those from another on
+-- positions of a file from one on become those from another on
 abbrev pub Moves : (ℕ → ℕ → ℕ) → ℕ → ℕ → ℕ → Type 0
 Moves line file at to = (i : ℕ) → line file (at + i) ≡ to + i
 
 moved_ahead : (line : ℕ → ℕ → ℕ) (file : ℕ) (s : Bool) (at to : ℕ) (bytes : List ℕ)
     → Moves line file at to
-    → ahead file by_place s to bytes ≡ map (token_on line) (ahead file by_place s at bytes)
+    → ahead file by_position s to bytes ≡ map (token_on line) (ahead file by_position s at bytes)
 moved_ahead line file s at to [] moves = refl
 moved_ahead line file s at to (b ∷ bytes) moves =
     let here : to ≡ line file at = sym (ap (line file) (sym (add-zero at)) ∙ moves 0 ∙ add-zero to) in
@@ -71,14 +71,14 @@ tokens_moved line file at to bytes moves =
 -- where the bytes of a token stand among those of a file: behind some, and before white space or
 -- the file's end; what other bytes after it make of the tokens
 pub record StandsAt (file at : ℕ) (bytes : List ℕ) (before : List PlainToken) (t : PlainToken) (after : List PlainToken) : Type 0 where
-  pub front : List ℕ
+  pub prefix : List ℕ
   pub rest : List ℕ
-  pub whole : bytes ≡ front ++ (t.text ++ rest)
-  pub place : t.at ≡ at + length front
+  pub whole : bytes ≡ prefix ++ (t.text ++ rest)
+  pub position : t.at ≡ at + length prefix
   pub spaced : BeginsWithSpace rest
   pub alone : (more : List ℕ) → BeginsWithSpace more → tokens_from file t.at (t.text ++ more) ≡ t ∷ tokens_from file (t.at + length t.text) more
   pub later : after ≡ tokens_from file (t.at + length t.text) rest
-  pub others : (more : List ℕ) → BeginsWithSpace more → tokens_from file at (front ++ (t.text ++ more)) ≡ before ++ t ∷ tokens_from file (t.at + length t.text) more
+  pub others : (more : List ℕ) → BeginsWithSpace more → tokens_from file at (prefix ++ (t.text ++ more)) ≡ before ++ t ∷ tokens_from file (t.at + length t.text) more
 
 -- bytes are a longest run of other bytes than white space, which may be none, and what is left
 longest_run : (bytes : List ℕ)
@@ -98,14 +98,14 @@ first_stands file at (b ∷ bytes) t after is = elim (cases_Bool (is_space b)) [
       let behind = sym (tokens_from-space file at b bytes e) ∙ is in
       let s = first_stands file (at + 1) bytes t after behind in
       record {
-        front = b ∷ s.front;
+        prefix = b ∷ s.prefix;
         rest = s.rest;
         whole = ap (λ (l : List ℕ). b ∷ l) s.whole;
-        place = omega (arith, s.place);
+        position = omega (arith, s.position);
         spaced = s.spaced;
         alone = s.alone;
         later = s.later;
-        others = λ more h. tokens_from-space file at b (s.front ++ (t.text ++ more)) e ∙ s.others more h;
+        others = λ more h. tokens_from-space file at b (s.prefix ++ (t.text ++ more)) e ∙ s.others more h;
       }
   | inr e ↦
       let (run, rest, split, ink, spaced) = longest_run bytes in
@@ -118,10 +118,10 @@ first_stands file at (b ∷ bytes) t after is = elim (cases_Bool (is_space b)) [
       let parts =
       cons_parts t token after _ (sym is ∙ ap (tokens_from file at) whole ∙ known rest spaced) in
       subst (λ (u : PlainToken). StandsAt file at (b ∷ bytes) [] u after) (sym parts.0) (record {
-        front = [];
+        prefix = [];
         rest = rest;
         whole = whole;
-        place = sym (add-zero at);
+        position = sym (add-zero at);
         spaced = spaced;
         alone = known;
         later = parts.1;
@@ -135,21 +135,21 @@ stands_at file at bytes [] t after is = first_stands file at bytes t after is
 stands_at file at bytes (u ∷ before) t after is =
     let f = first_stands file at bytes u (before ++ t ∷ after) is in
     let s = stands_at file (u.at + length u.text) f.rest before t after (sym f.later) in
-    let regroup : (more : List ℕ) → (f.front ++ (u.text ++ s.front)) ++ (t.text ++ more) ≡ f.front ++ (u.text ++ (s.front ++ (t.text ++ more))) = λ more.
+    let regroup : (more : List ℕ) → (f.prefix ++ (u.text ++ s.prefix)) ++ (t.text ++ more) ≡ f.prefix ++ (u.text ++ (s.prefix ++ (t.text ++ more))) = λ more.
     simp append_assoc in
-    let long : length (f.front ++ (u.text ++ s.front)) ≡ length f.front + (length u.text + length s.front) =
+    let long : length (f.prefix ++ (u.text ++ s.prefix)) ≡ length f.prefix + (length u.text + length s.prefix) =
     simp length-append in
     record {
-      front = f.front ++ (u.text ++ s.front);
+      prefix = f.prefix ++ (u.text ++ s.prefix);
       rest = s.rest;
-      whole = f.whole ∙ ap (λ (l : List ℕ). f.front ++ (u.text ++ l)) s.whole ∙ sym (regroup s.rest);
-      place = omega (arith, s.place, f.place, long);
+      whole = f.whole ∙ ap (λ (l : List ℕ). f.prefix ++ (u.text ++ l)) s.whole ∙ sym (regroup s.rest);
+      position = omega (arith, s.position, f.position, long);
       spaced = s.spaced;
       alone = s.alone;
       later = s.later;
       others = λ more h.
           ap (tokens_from file at) (regroup more)
-          ∙ f.others (s.front ++ (t.text ++ more)) (rw append_assoc at (between (s.front ++ t.text) s.rest more (rw append_assoc (subst BeginsWithSpace s.whole f.spaced)) h))
+          ∙ f.others (s.prefix ++ (t.text ++ more)) (rw append_assoc at (between (s.prefix ++ t.text) s.rest more (rw append_assoc (subst BeginsWithSpace s.whole f.spaced)) h))
           ∙ ap (λ (l : List PlainToken). u ∷ l) (s.others more h);
     }
   where
@@ -182,14 +182,14 @@ spaced_first file at bytes rest s =
 
 -- the bytes of a file with others between two of its tokens
 pub record ReplacedBetween (file : ℕ) (bytes text : List ℕ) (before : List PlainToken) (first : PlainToken) (last : PlainToken) (after : List PlainToken) : Type 0 where
-  pub front : List ℕ
+  pub prefix : List ℕ
   pub within : List ℕ
   pub back : List ℕ
-  pub whole : bytes ≡ front ++ (within ++ back)
-  pub start : first.at + length first.text ≡ length front
-  pub stop : last.at ≡ length front + length within
-  pub tokens : (line : ℕ → ℕ → ℕ) → Moves line file last.at (length front + length text)
-      → tokens_from file 0 (front ++ (text ++ back)) ≡ before ++ first ∷ (tokens_from file (length front) text ++ map (token_on line) (last ∷ after))
+  pub whole : bytes ≡ prefix ++ (within ++ back)
+  pub start : first.at + length first.text ≡ length prefix
+  pub stop : last.at ≡ length prefix + length within
+  pub tokens : (line : ℕ → ℕ → ℕ) → Moves line file last.at (length prefix + length text)
+      → tokens_from file 0 (prefix ++ (text ++ back)) ≡ before ++ first ∷ (tokens_from file (length prefix) text ++ map (token_on line) (last ∷ after))
 
 pub replaced_between : (file : ℕ) (bytes text : List ℕ) (before : List PlainToken) (first : PlainToken) (between : List PlainToken) (last : PlainToken) (after : List PlainToken)
     → tokens_from file 0 bytes ≡ before ++ first ∷ (between ++ last ∷ after) → IsSpaced text
@@ -198,30 +198,30 @@ replaced_between file bytes text before first between last after is spaced =
     let f = stands_at file 0 bytes before first (between ++ last ∷ after) is in
     let from : ℕ = first.at + length first.text in
     let l = stands_at file from f.rest between last after (sym f.later) in
-    let front : List ℕ = f.front ++ first.text in
+    let prefix : List ℕ = f.prefix ++ first.text in
     let back : List ℕ = last.text ++ l.rest in
-    let start : from ≡ length front = omega (arith, f.place, length-append f.front first.text) in
+    let start : from ≡ length prefix = omega (arith, f.position, length-append f.prefix first.text) in
     let behind : tokens_from file last.at back ≡ last ∷ after =
     l.alone l.rest l.spaced ∙ ap (λ (x : List PlainToken). last ∷ x) (sym l.later) in
     record {
-      front = front;
-      within = l.front;
+      prefix = prefix;
+      within = l.prefix;
       back = back;
-      whole = f.whole ∙ ap (λ (b : List ℕ). f.front ++ (first.text ++ b)) l.whole ∙ sym (append_assoc f.front first.text (l.front ++ back));
+      whole = f.whole ∙ ap (λ (b : List ℕ). f.prefix ++ (first.text ++ b)) l.whole ∙ sym (append_assoc f.prefix first.text (l.prefix ++ back));
       start = start;
-      stop = l.place ∙ ap (λ n. n + length l.front) start;
+      stop = l.position ∙ ap (λ n. n + length l.prefix) start;
       tokens = λ line moves.
-          ap (tokens_from file 0) (append_assoc f.front first.text (text ++ back))
-          ∙ f.others (text ++ back) (spaced_front text back spaced)
+          ap (tokens_from file 0) (append_assoc f.prefix first.text (text ++ back))
+          ∙ f.others (text ++ back) (spaced_prefix text back spaced)
           ∙ ap (λ (x : List PlainToken). before ++ first ∷ x)
           (ap (λ n. tokens_from file n (text ++ back)) start
-          ∙ spaced_first file (length front) text back spaced
-          ∙ ap (λ (x : List PlainToken). tokens_from file (length front) text ++ x) (tokens_moved line file last.at (length front + length text) back moves ∙ ap (map (token_on line)) behind));
+          ∙ spaced_first file (length prefix) text back spaced
+          ∙ ap (λ (x : List PlainToken). tokens_from file (length prefix) text ++ x) (tokens_moved line file last.at (length prefix + length text) back moves ∙ ap (map (token_on line)) behind));
     }
   where
-    spaced_front : (text back : List ℕ) → IsSpaced text → BeginsWithSpace (text ++ back)
-    spaced_front [] back s = absurd (nil_append s.inner s.last [] s.whole)
-    spaced_front (b ∷ text) back s = s.begins
+    spaced_prefix : (text back : List ℕ) → IsSpaced text → BeginsWithSpace (text ++ back)
+    spaced_prefix [] back s = absurd (nil_append s.inner s.last [] s.whole)
+    spaced_prefix (b ∷ text) back s = s.begins
 
 -- ==== what is shown of tokens, from a token on that is shown
 

@@ -7,7 +7,7 @@ use Rattle.std.proofs.lemmas.Bool.{cond_both, both_ways, cases_Bool, cases_order
 use Rattle.mm_text.specs.Token.{PlainToken, is_space, tokens_from, IsToken}
 use Rattle.mm_text.specs.Laws.{IsRunOf, TokensAreLongestRuns}
 use Rattle.mm_text.proofs.Inclusions.ItemTokens.{StandsIn, tokens_in_place}
-use Rattle.mm_text.proofs.Tokens.WordsAndComments.{ahead, by_place, run, tokens_ahead}
+use Rattle.mm_text.proofs.Tokens.WordsAndComments.{ahead, by_position, run, tokens_ahead}
 use Rattle.mm_text.proofs.Inclusions.EachOnce.{Rises, tokens_rise}
 use Rattle.mm_text.proofs.Lists.{all_weaker}
 
@@ -17,10 +17,10 @@ use Rattle.mm_text.proofs.Lists.{all_weaker}
 abbrev IsRun : Bool → List ℕ → ℕ → ℕ → Type 0
 IsRun inside bytes start stop = IsToken bytes start stop × (start ≡ 0 → inside ≡ false)
 
--- one more byte in front
+-- one more byte in prefix
 shifted : (s inside : Bool) (b : ℕ) (bytes : List ℕ) (start stop : ℕ) → is_space b ≡ not s
     → IsRun s bytes start stop → IsRun inside (b ∷ bytes) (suc start) (suc stop)
-shifted s inside b bytes start stop is (h, front) = (
+shifted s inside b bytes start stop is (h, prefix) = (
   record {
     some = omega (arith, h.some);
     within = omega (arith, h.within);
@@ -29,7 +29,7 @@ shifted s inside b bytes start stop is (h, front) = (
       | suc k ↦ λ l g. h.run k (omega arith) (omega arith)
     ];
     left = elim [
-      | zero ↦ λ e. is ∙ ap not (front (omega arith))
+      | zero ↦ λ e. is ∙ ap not (prefix (omega arith))
       | suc k ↦ λ e. h.left k (omega arith)
     ];
     right = λ lt. h.right (omega arith);
@@ -75,7 +75,7 @@ first_run b (c ∷ bytes) dark = elim (cases_Bool (is_space c)) [
       rw next (begins b (c ∷ bytes) _ dark h.within (λ k l. h.run k (omega arith) l) h.right)
 ]
 
--- a run ends at one place
+-- a run ends at one position
 no_later : (bytes : List ℕ) (start stop more : ℕ) → IsToken bytes start stop → IsToken bytes start more → stop < more → ⊥
 no_later bytes start stop more h g lt = both_ways _ (g.run stop (omega (arith, h.some)) lt) (h.right (omega (arith, g.within)))
 
@@ -87,13 +87,13 @@ one_stop bytes start stop more h g =
       | inr (inr gt) ↦ absurd (no_later bytes start more stop g h gt)
     ]
 
--- ---- the tokens from a place on
+-- ---- the tokens from a position on
 
--- a token is a run of the bytes that begin at a place
+-- a token is a run of the bytes that begin at a position
 record HasRun (inside : Bool) (at : ℕ) (bytes : List ℕ) (t : PlainToken) : Type 0 where
   start : ℕ
   stop : ℕ
-  place : t.at ≡ at + start
+  position : t.at ≡ at + start
   end : t.at + length t.text ≡ at + stop
   run : IsRun inside bytes start stop
 
@@ -123,7 +123,7 @@ module _ (s inside : Bool) (at b : ℕ) (bytes : List ℕ) (tokens : List PlainT
       all_weaker (HasRun s (at + 1) bytes) (HasRun inside at (b ∷ bytes)) (λ t r. record {
         start = suc r.start;
         stop = suc r.stop;
-        place = omega (arith, r.place);
+        position = omega (arith, r.position);
         end = omega (arith, r.end);
         run = shifted s inside b bytes r.start r.stop is r.run;
       }) tokens h.each
@@ -153,7 +153,7 @@ module _ (s inside : Bool) (at b : ℕ) (bytes : List ℕ) (tokens : List PlainT
   runs_begin t here outside own =
       let so : IsRun inside (b ∷ bytes) 0 (length t.text) = (own, λ _. outside) in record {
         each = (
-          record { start = 0; stop = length t.text; place = omega arith; end = omega arith; run = so },
+          record { start = 0; stop = length t.text; position = omega arith; end = omega arith; run = so },
           each_behind,
         );
         every = elim [
@@ -165,7 +165,7 @@ module _ (s inside : Bool) (at b : ℕ) (bytes : List ℕ) (tokens : List PlainT
       }
 
 ahead_runs : (file : ℕ) (inside : Bool) (at : ℕ) (bytes : List ℕ)
-    → AreRuns inside at bytes (ahead file by_place inside at bytes)
+    → AreRuns inside at bytes (ahead file by_position inside at bytes)
 ahead_runs file inside at [] =
     record { each = tt; every = λ start stop r. omega (arith, r.0.some, r.0.within) }
 ahead_runs file inside at (b ∷ bytes) =
@@ -183,7 +183,7 @@ ahead_runs file inside at (b ∷ bytes) =
 
 run_of : (file : ℕ) (bytes : List ℕ) (t : PlainToken) → StandsIn file bytes t → HasRun false 0 bytes t → IsRunOf file bytes t
 run_of file bytes t s h =
-    let place = h.place in let end = h.end in
+    let position = h.position in let end = h.end in
     let starts : h.start ≡ t.at = omega arith in
     let stops : h.stop ≡ t.at + length t.text = omega arith in
     let long : (t.at + length t.text) - t.at ≡ length t.text = omega arith in
@@ -199,7 +199,7 @@ all_both P Q R f (t ∷ tokens) h g = (f t h.0 g.0, all_both P Q R f tokens h.1 
 
 found : (start stop : ℕ) (tokens : List PlainToken) → Held (Covers 0 start stop) tokens → (t : PlainToken) × Contains tokens t × (t.at ≡ start) × (t.at + length t.text ≡ stop)
 found start stop [] h = absurd h
-found start stop (t ∷ tokens) (inl h) = let place = h.0 in let end = h.1 in (t, (0, omega arith, refl), omega arith, omega arith)
+found start stop (t ∷ tokens) (inl h) = let position = h.0 in let end = h.1 in (t, (0, omega arith, refl), omega arith, omega arith)
 found start stop (t ∷ tokens) (inr h) = let f = found start stop tokens h in (f.0, (suc f.1.0, omega (arith, f.1.1), f.1.2), f.2, f.3)
 
 risen : (file n : ℕ) (tokens : List PlainToken) (j : ℕ) (d : PlainToken) → Rises file n tokens

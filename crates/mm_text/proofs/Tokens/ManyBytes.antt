@@ -16,7 +16,7 @@ use Rattle.std.proofs.lemmas.List.Folds.{list_all_at}
 use Rattle.std.proofs.str.Laws.{order}
 use Rattle.mm_text.specs.Mirror.Sought.{IsRunIn, first_set}
 use Rattle.mm_text.specs.Token.{is_space}
-use Rattle.mm_text.specs.Mirror.Place.{is_legal}
+use Rattle.mm_text.specs.Mirror.Position.{is_legal}
 
 -- ==== from the mask of one load to the bytes that are passed over
 
@@ -82,15 +82,15 @@ pub legal_in : (bytes : List ℕ) (start stop k : ℕ) → stop ≤ length bytes
 legal_in bytes start stop k within low high all =
     let range = slice_range bytes start stop in
     let long : length range ≡ stop - start = length-take-le (stop - start) (drop start bytes) (omega (arith, length-drop start bytes)) in
-    let place : start + (k - start) ≡ k = omega arith in
+    let position : start + (k - start) ≡ k = omega arith in
     let same : get_or range (k - start) 0 ≡ get_or bytes k 0 =
-    get_or-take (stop - start) (drop start bytes) (k - start) 0 (omega arith) ∙ get_or-drop start bytes (k - start) 0 ∙ ap (λ n. get_or bytes n 0) place in
+    get_or-take (stop - start) (drop start bytes) (k - start) 0 (omega arith) ∙ get_or-drop start bytes (k - start) 0 ∙ ap (λ n. get_or bytes n 0) position in
     true_from_ne_false _ (λ other. both_ways _ (list_all_at is_legal range (k - start) 0 (omega (arith, long)) (ap is_legal same ∙ other)) all)
 
--- what holds at each place holds of all
-pub all_from_places : (p : ℕ → Bool) (xs : List ℕ) → ((k : ℕ) → k < length xs → p (get_or xs k 0) ≡ true) → list_all p xs ≡ true
-all_from_places p [] h = refl
-all_from_places p (x ∷ xs) h = ap (λ b. b && list_all p xs) (h 0 (omega arith)) ∙ all_from_places p xs (λ k lt. h (suc k) (omega arith))
+-- what holds at each position holds of all
+pub all_from_positions : (p : ℕ → Bool) (xs : List ℕ) → ((k : ℕ) → k < length xs → p (get_or xs k 0) ≡ true) → list_all p xs ≡ true
+all_from_positions p [] h = refl
+all_from_positions p (x ∷ xs) h = ap (λ b. b && list_all p xs) (h 0 (omega arith)) ∙ all_from_positions p xs (λ k lt. h (suc k) (omega arith))
 
 -- a printable byte or a space
 pub shown_legal : (b : ℕ) → 32 ≤ b → b ≤ 126 → is_legal b ≡ true
@@ -104,5 +104,5 @@ pub plain_legal : (bytes : List ℕ) (least greatest : ℕ) → 32 ≤ least →
     → ((k : ℕ) → k < length bytes → (get_or bytes k 0 ≡ 10) ⊎ (least ≤ get_or bytes k 0))
     → ((k : ℕ) → k < length bytes → get_or bytes k 0 ≤ greatest)
     → list_all is_legal bytes ≡ true
-plain_legal bytes least greatest from to low high = all_from_places is_legal bytes (λ k lt.
+plain_legal bytes least greatest from to low high = all_from_positions is_legal bytes (λ k lt.
     ⊎_elim (λ (feed : get_or bytes k 0 ≡ 10). ap is_legal feed) (λ (more : least ≤ get_or bytes k 0). shown_legal (get_or bytes k 0) (omega arith) (omega (arith, high k lt))) (low k lt))

@@ -9,7 +9,7 @@ use Rattle.mm_text.specs.declared.hollow.State.TheVariants.{Outside, Blank, Doll
 use Rattle.mm_text.specs.declared.hollow.State.TheVariants.{Inside, Marked}
 use Rattle.mm_text.specs.Token.{is_space}
 use Rattle.mm_text.specs.Alike.{shows}
-use Rattle.mm_text.specs.Mirror.Place.{is_quiet}
+use Rattle.mm_text.specs.Mirror.Position.{is_quiet}
 
 -- whatever comes behind them, both show the same
 abbrev pub ShowSame : List ℕ → List ℕ → Type 0
@@ -23,10 +23,10 @@ IsBoundary bytes =
 
 -- a `$(`, and white space alone behind it
 pub record IsOpen (bytes : List ℕ) : Type 0 where
-  pub front : List ℕ
+  pub prefix : List ℕ
   pub behind : List ℕ
-  pub whole : bytes ≡ front ++ codes "$(" ++ behind
-  pub boundary : IsBoundary front
+  pub whole : bytes ≡ prefix ++ codes "$(" ++ behind
+  pub boundary : IsBoundary prefix
   pub some : 1 ≤ length behind
   pub spaces : list_all is_space behind ≡ true
 
@@ -38,7 +38,7 @@ ink b = if is_space b then [] else b ∷ []
 abbrev pub is_spoken : ℕ → Bool
 is_spoken b = nat_le 32 b && nat_le b 126 && not (b == 36)
 
--- the byte before a place so far behind another one, or the one that was last there
+-- the byte before a position so far behind another one, or the one that was last there
 abbrev pub last_before : List ℕ → ℕ → ℕ → ℕ → ℕ
 last_before piece at last zero = last
 last_before piece at last (suc n) = slice_index piece (at + n)
@@ -51,8 +51,8 @@ feeds bytes = filter (λ b. b == 10) bytes
 abbrev pub IsAt : List ℕ → State → Type 0
 IsAt kept Outside = Unit {0}
 IsAt kept Blank = IsBoundary kept
-IsAt kept Dollar = (front : List ℕ) × (kept ≡ front ++ 36 ∷ []) × IsBoundary front
-IsAt kept Begun = (front : List ℕ) × (kept ≡ front ++ codes "$(") × IsBoundary front
+IsAt kept Dollar = (prefix : List ℕ) × (kept ≡ prefix ++ 36 ∷ []) × IsBoundary prefix
+IsAt kept Begun = (prefix : List ℕ) × (kept ≡ prefix ++ codes "$(") × IsBoundary prefix
 IsAt kept (Inside last) = IsOpen kept × (is_quiet last ≡ true)
 IsAt kept (Marked last) = IsOpen kept × (is_quiet last ≡ true)
 

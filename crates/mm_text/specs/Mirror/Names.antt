@@ -7,11 +7,11 @@ use Rattle.mm_text.specs.declared.fault.TextFault.TheVariants.{Load, Fault, Memo
 use Rattle.mm_text.specs.Files.{PlainFile, HasTwins}
 use Rattle.mm_text.specs.Items.{spells}
 
--- the number that a name stands for: its place among the names
+-- the number that a name stands for: its position among the names
 abbrev pub number_among : List (List ℕ) → List ℕ → Option ℕ
 number_among names name = position (spells name) names
 
--- The names of the files, each different from the others; or that two are equal, or want of memory.
+-- The names of the files, each different from the others; or that two are equal, or lack of memory.
 abbrev pub AreNames : List PlainFile → Result (List (List ℕ)) TextFault → Type 0
 AreNames files (Ok names) = (names ≡ map (λ f. f.name) files) × ¬ (HasTwins files)
 AreNames files (Err (Load rule)) = (rule ≡ F2) × HasTwins files

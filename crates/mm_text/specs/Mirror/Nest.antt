@@ -5,7 +5,7 @@ use Rattle.std.specs.Prelude.{◌≡◌, ℕ, ◌+◌, ◌<◌, ◌≤◌, ◌++
 use Rattle.std.specs.Prelude.{map, count_by, if◌then◌else◌, Option, Some, None, IfSome, Result, Ok}
 use Rattle.std.specs.Prelude.{Err, vec_len, vec_capacity}
 use Rattle.std.specs.List.{AllByRecursion}
-use Rattle.mm_text.specs.declared.comments.Place.{Place}
+use Rattle.mm_text.specs.declared.comments.Position.{Position}
 use Rattle.mm_text.specs.declared.comments.Wrong.{Wrong}
 use Rattle.mm_text.specs.declared.nest.Nest.{Nest}
 use Rattle.mm_text.specs.declared.next.Next.{Next}
@@ -18,7 +18,7 @@ use Rattle.mm_text.specs.Files.{most_bytes, plain_file, total_bytes}
 use Rattle.mm_text.specs.Items as items
 use Rattle.mm_text.specs.Items.{Item, Plain, Inclusion, End, Piece, Met, Named, Spot, Outside}
 use Rattle.mm_text.specs.Items.{Naming, Closing, Clear, pieces, put_in, file_number}
-use Rattle.mm_text.specs.Mirror.Place.{IsPlace, IsClear, shown_at}
+use Rattle.mm_text.specs.Mirror.Position.{IsPosition, IsClear, shown_at}
 use Rattle.mm_text.specs.Mirror.Next.{IsOfClass}
 
 -- ---- one file
@@ -34,7 +34,7 @@ pieces_with t (class.Keyword keyword) rest = Met (Plain t) ∷ rest
 pieces_with t class.Word rest = Met (Plain t) ∷ rest
 
 -- the first piece of a file is taken, outside inclusions
-abbrev pub TakesPiece : Place → Next → Place → Type 0
+abbrev pub TakesPiece : Position → Next → Position → Type 0
 TakesPiece old (next.Token t kind) new =
     (pieces old.file Outside (shown_at old)
     ≡ pieces_with (plain_token t) kind (pieces old.file Outside (shown_at new)))
@@ -48,7 +48,7 @@ TakesPiece old next.Nothing new = ⊥
 
 -- the first token in an inclusion is taken; where that can't be, it is a fault before the name and
 -- after it
-abbrev pub TakesInner : PlainToken → Place → Result (Token × Bool) Wrong → Place → Type 0
+abbrev pub TakesInner : PlainToken → Position → Result (Token × Bool) Wrong → Position → Type 0
 TakesInner begin old (Ok found) new =
     (shown_at old ≡ Clear (plain_token found.0) ∷ shown_at new) × IsClear found.0 found.1
 TakesInner begin old (Err w) new =
@@ -58,7 +58,7 @@ TakesInner begin old (Err w) new =
     × (w.token.at < most_bytes)
 
 -- the rest of an inclusion is taken, up to its `$]`
-abbrev pub TakesName : PlainToken → Place → Result Token Wrong → Place → Type 0
+abbrev pub TakesName : PlainToken → Position → Result Token Wrong → Position → Type 0
 TakesName begin old (Ok name) new =
     (pieces old.file (Naming begin) (shown_at old)
     ≡ Named (plain_token name) ∷ pieces old.file Outside (shown_at new)) × (name.at < most_bytes)
@@ -69,9 +69,9 @@ TakesName begin old (Err w) new =
 -- ---- all files
 
 -- what is left of the files that wait, the last of which goes on first
-abbrev pub waiting : List Place → List Piece
+abbrev pub waiting : List Position → List Piece
 waiting [] = []
-waiting (p ∷ places) = waiting places ++ pieces p.file Outside (shown_at p)
+waiting (p ∷ positions) = waiting positions ++ pieces p.file Outside (shown_at p)
 
 -- where the next token stands, by the `$[` whose name wasn't read yet
 abbrev pub spot_of : Option Token → Spot
@@ -80,7 +80,7 @@ spot_of (Some begin) = Naming (plain_token begin)
 
 -- what is left of all files, in pieces
 abbrev pub pieces_left : Nest → List Piece
-pieces_left n = pieces n.place.file (spot_of n.naming) (shown_at n.place) ++ waiting n.«open».items
+pieces_left n = pieces n.position.file (spot_of n.naming) (shown_at n.position) ++ waiting n.«open».items
 
 -- the items of pieces, with the files that weren't named yet put in
 abbrev pub put_into : Nest → List Piece → List Item
@@ -96,11 +96,11 @@ abbrev pub items_left : Nest → List Item
 items_left n =
     if n.is_over then [] else put_into n (pieces_left n)
 
--- What holds of the fields. For each file that wasn't named yet there is room to keep the place
+-- What holds of the fields. For each file that wasn't named yet there is room to keep the position
 -- after its name.
 pub record IsNest (n : Nest) : Type 0 where
-  pub place : IsPlace n.place
-  pub waits : AllByRecursion IsPlace n.«open».items
+  pub position : IsPosition n.position
+  pub waits : AllByRecursion IsPosition n.«open».items
   pub room : vec_len n.«open» + count_by not n.named.items ≤ vec_capacity n.«open»
   pub names : n.names ≡ map (λ f. f.name) (map plain_file n.files.now)
   pub named : length n.named.items ≡ length n.files.now
@@ -108,12 +108,12 @@ pub record IsNest (n : Nest) : Type 0 where
   pub naming : IfSome n.naming (λ begin. begin.at < most_bytes)
 
 -- the file with a number is gone into, where it is named before the rest of a file
-pub record Enters (old : Nest) (place : Place) (number : ℕ) (new : Nest) : Type 0 where
+pub record Enters (old : Nest) (position : Position) (number : ℕ) (new : Nest) : Type 0 where
   pub left : (name : PlainToken)
       → file_number (map plain_file old.files.now) name.text ≡ Some number
       → items_left new
       ≡ put_into old
-      (Named name ∷ pieces place.file Outside (shown_at place) ++ waiting old.«open».items)
+      (Named name ∷ pieces position.file Outside (shown_at position) ++ waiting old.«open».items)
   pub naming : new.naming ≡ None
   pub over : new.is_over ≡ false
 

@@ -46,7 +46,7 @@ TakesWord old (Some t) new = TakesToken old (plain_token t) class.Word new
 TakesWord old None new = new ≡ old
 
 -- The items of the files are left, and no rule is broken by the files as a whole; or one is, or
--- memory is wanting.
+-- memory runs out.
 abbrev pub IsFirstCursor : List PlainFile → Result (List Item) TextFault → Type 0
 IsFirstCursor files (Ok left) =
     (left ≡ items files) × ((rule : LoadRule) → ¬ (BreaksLoad files rule))

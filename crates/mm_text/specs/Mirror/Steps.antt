@@ -52,7 +52,7 @@ fault_of rule file at statement label =
           option_map plain_token label;
     }
 
--- A fault that a part of the reader answers ends the reading. Want of memory may be answered of any
+-- A fault that a part of the reader answers ends the reading. Lack of memory may be answered of any
 -- reading that has something to tell.
 abbrev pub AnswersFault : PlainReading → TextFault → Type 0
 AnswersFault reading (Fault rule file at statement label) =

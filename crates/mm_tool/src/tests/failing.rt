@@ -92,8 +92,8 @@ impl Read for FailingFile<'_> {
             return Err(io::Error::from(ErrorKind::Interrupted));
         }
         match (self.left.split_first(), buf.first_mut()) {
-            (Some((byte, rest)), Some(place)) => {
-                *place = *byte;
+            (Some((byte, rest)), Some(index)) => {
+                *index = *byte;
                 self.left = rest;
                 Ok(1)
             }

@@ -13,5 +13,5 @@ returns-in_err-_used-clause-fault c =
     (λ rule step is. c.in_err-_used.ensures.fault c.requires.whole rule step (ap Err is)))
 
 pub returns-clause-proved : goal.returns-clause-proved
-returns-clause-proved c = λ place s moves number numbered.
-    (c.in_ok-_used.ensures.proved c.requires.whole place s moves number numbered).0
+returns-clause-proved c = λ index s moves number numbered.
+    (c.in_ok-_used.ensures.proved c.requires.whole index s moves number numbered).0

@@ -12,8 +12,8 @@ returns-in_err-steps-clause-fault c =
     error_keeps c.from_residual.result (text_fault c.in_err-steps.field-0.0) _
     c.from_residual.ensures.1
     (fails_as c.in_err-steps.field-0.0 _
-    (λ rule step is place s number. inl (c.in_err-steps.ensures.fault
-    (both_ways _ c.requires.complete) rule step (ap Err is) place s number)))
+    (λ rule step is index s number. inl (c.in_err-steps.ensures.fault
+    (both_ways _ c.requires.complete) rule step (ap Err is) index s number)))
 
 pub unreachable-requires : goal.unreachable-requires
 unreachable-requires c =

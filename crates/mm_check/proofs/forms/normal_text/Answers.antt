@@ -7,9 +7,9 @@ use Rattle.mm_proof.specs.Spelled.{AreLabelsOf}
 use Rattle.mm_check.proofs.forms.normal_text.Goals as goal
 
 pub returns-clause-text : goal.returns-clause-text
-returns-clause-text c = λ place s moves number numbered label below made.
+returns-clause-text c = λ index s moves number numbered label below made.
     let spelled : List (List ℕ) = spelling below ++ label ∷ [] in
-    let told = c.in_ok-labels.ensures.spelled place s moves number numbered label below made in
+    let told = c.in_ok-labels.ensures.spelled index s moves number numbered label below made in
     let names : texts c.in_ok-names.names.items ≡ spelled =
     c.in_ok-names.ensures spelled (subst (λ (ids : List LabelId). AreLabelsOf c.args.book.now.statements ids spelled) (sym c.deref.ensures.value) told.0) in (
       told.1,

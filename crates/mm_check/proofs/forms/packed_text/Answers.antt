@@ -12,8 +12,8 @@ pub compress-requires-clause-makes : goal.compress-requires-clause-makes
 compress-requires-clause-makes c = steps_make c.args.book.now.statements c.args.theorem.now.id.0 c.args.theorem.now.steps c.requires.proved
 
 pub returns-clause-text : goal.returns-clause-text
-returns-clause-text c = λ place s moves number numbered label below made.
-    let told = c.in_ok-packed.ensures.packed place s moves number numbered label below made in
+returns-clause-text c = λ index s moves number numbered label below made.
+    let told = c.in_ok-packed.ensures.packed index s moves number numbered label below made in
     let listed : List (List ℕ) = told.0 in
     let names : texts c.in_ok-names.names.items ≡ listed =
     c.in_ok-names.ensures listed (subst (λ (ids : List LabelId). AreLabelsOf c.args.book.now.statements ids listed) (sym c.deref.ensures.value) told.1) in

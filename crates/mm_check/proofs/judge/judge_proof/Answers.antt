@@ -1,4 +1,4 @@
--- The prover judges the last statement at its place.
+-- The prover judges the last statement at its index.
 use Rattle.std.proofs.Common.{length, ap, ◌∙◌}
 use Rattle.mm_text.specs.Statement.{PlainStatement, plain_statement}
 use Rattle.mm_frame.specs.Sentence.{sentence_of}
@@ -17,4 +17,4 @@ returns-clause-judged c =
     let same = ap token_texts c.deref.ensures.value ∙ texts_of c.args.statement.now.proof.items in
     judged c.args.profile c.args.prover.now.book.statements c.args.id.0 s (token_texts c.deref.result.now) c.requires.formed c.requires.last same c.prove.result c.prove.new.self.used
     c.prove.ensures.incomplete c.prove.ensures.complete c.prove.ensures.proved c.prove.ensures.form
-    c.prove.ensures.fault c.prove.ensures.front_fault
+    c.prove.ensures.fault c.prove.ensures.prefix_fault

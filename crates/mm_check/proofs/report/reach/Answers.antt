@@ -14,7 +14,7 @@ pub loop-step-init : goal.loop-step-init
 loop-step-init c =
     marking_starts c.args.kept.now c.args.theorem.0 (length c.args.kept.now - 0) c.in_ok-marks.marks.items (omega arith) (c.in_ok-marks.ensures.items_if_clones_equal (λ y h. h))
 
--- where the proof at a place, and what it uses, is reached
+-- where the proof at an index, and what it uses, is reached
 reached_at : (marks seen : List Bool) (theorem id number : ℕ) → seen ≡ marks → id ≡ number → (id ≡ theorem) ⊎ IsMarked seen id → (number ≡ theorem) ⊎ IsMarked marks number
 reached_at marks seen theorem id number same is (inl own) = inl (sym is ∙ own)
 reached_at marks seen theorem id number same is (inr marked) =
@@ -31,12 +31,12 @@ marked_same old old' new new' ns ns' e f g h =
 pub mark-requires : goal.mark-requires
 mark-requires c = λ n holds.
     let uses : List ProofUses = c.args.kept.now in
-    let place : ℕ = c.len-count.result - 1 - c.loop-step.step in
-    let within : place < length uses = omega arith in
-    let found = get_within uses place within in
+    let index : ℕ = c.len-count.result - 1 - c.loop-step.step in
+    let within : index < length uses = omega arith in
+    let found = get_within uses index within in
     let u : ProofUses = found.0 in
     let used : Contains u.used n = (c.used.ensures u found.1 n).0 holds in
-    let less : n < u.number = c.requires.below u n (contains_from_at uses u (place, found.1)) used in
+    let less : n < u.number = c.requires.below u n (contains_from_at uses u (index, found.1)) used in
     let reached = reached_at c.loop-step.marks.items c.deref.result.now c.args.theorem.0 c.proof-id.result.0 u.number c.deref.ensures.value (c.proof-id.ensures u found.1)
     (c.is_reached.ensures.0 c.if-is_reached.true) in
     let room : u.number ≤ length c.loop-step.marks.items = reached_within c.loop-step.marks.items c.args.theorem.0 u.number c.loop-step.invariant.long reached in
@@ -51,8 +51,8 @@ loop-step-preserved c =
     let within : next < length uses = omega arith in
     let found = get_within uses next within in
     let u : ProofUses = found.0 in
-    let place : next ≡ c.len-count.result - 1 - c.loop-step.step = omega arith in
-    let at : slice_get uses (c.len-count.result - 1 - c.loop-step.step) ≡ Some u = subst (λ (n : ℕ). slice_get uses n ≡ Some u) place found.1 in
+    let index : next ≡ c.len-count.result - 1 - c.loop-step.step = omega arith in
+    let at : slice_get uses (c.len-count.result - 1 - c.loop-step.step) ≡ Some u = subst (λ (n : ℕ). slice_get uses n ≡ Some u) index found.1 in
     let step : left ≡ suc next = omega arith in
     elim c.if-is_reached.branch [
       | then-is_reached w ↦

@@ -1,4 +1,4 @@
--- The proofs from the last one down to this place were passed.
+-- The proofs from the last one down to this index were passed.
 use Rattle.std.proofs.Common.{◌-◌, length}
 use Rattle.mm_check.proofs.Questions.RestsOn.{IsMarking}
 use Rattle.mm_check.proofs.report.reach.Given as goal

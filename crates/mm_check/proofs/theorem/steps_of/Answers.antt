@@ -8,7 +8,7 @@ unreachable-requires-in-Err-Rule c =
     let proof = c.requires.proof in
     let rule = c.in-Err-Rule.field-0-0 in
     let fault = c.parse.ensures.fault proof.complete rule c.in-Err-Rule.field-0-1
-    (c.in-Err-Rule.is ∙ ap Err c.in-Err-Rule.field-0-is) proof.place proof.s proof.number in
+    (c.in-Err-Rule.is ∙ ap Err c.in-Err-Rule.field-0-is) proof.index proof.s proof.number in
     no_text_fault _ _ _ _ rule proof.proved fault.1
 
 pub returns-in-Ok-Steps-clause-said : goal.returns-in-Ok-Steps-clause-said

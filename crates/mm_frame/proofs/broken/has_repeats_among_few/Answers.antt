@@ -7,18 +7,18 @@ use Rattle.mm_frame.proofs.broken.has_repeats_among_few.Goals as goal
 
 pub returns-then-is_some : goal.returns-then-is_some
 returns-then-is_some c = (
-  (λ t. found_again c.args.symbols.now c.loop-at.at _ (texts_of (take c.loop-at.at c.args.symbols.now)) c.place_among.result c.is_some.result c.loop-at-test.true
-      (sym (take-map (λ (o : Token). o.text.now) c.loop-at.at c.args.symbols.now)) (search rules) c.if-is_some.true c.place_among.ensures),
+  (λ t. found_again c.args.symbols.now c.loop-at.at _ (texts_of (take c.loop-at.at c.args.symbols.now)) c.index_among.result c.is_some.result c.loop-at-test.true
+      (sym (take-map (λ (o : Token). o.text.now) c.loop-at.at c.args.symbols.now)) (search rules) c.if-is_some.true c.index_among.ensures),
   (λ twice. search rules),
 )
 
 pub loop-at-preserved : goal.loop-at-preserved
 loop-at-preserved c =
-    let front = take-map (λ (o : Token). o.text.now) c.loop-at.at c.args.symbols.now in
+    let prefix = take-map (λ (o : Token). o.text.now) c.loop-at.at c.args.symbols.now in
     subst (λ (xs : List (List ℕ)). StandOnce xs)
-    (new_name c.args.symbols.now c.loop-at.at _ (texts_of (take c.loop-at.at c.args.symbols.now)) c.place_among.result c.is_some.result c.loop-at-test.true
-    (sym front) (search rules) c.if-is_some.false c.place_among.ensures)
-    (once_with_name _ _ (subst (λ (xs : List (List ℕ)). StandOnce xs) front c.loop-at.invariant))
+    (new_name c.args.symbols.now c.loop-at.at _ (texts_of (take c.loop-at.at c.args.symbols.now)) c.index_among.result c.is_some.result c.loop-at-test.true
+    (sym prefix) (search rules) c.if-is_some.false c.index_among.ensures)
+    (once_with_name _ _ (subst (λ (xs : List (List ℕ)). StandOnce xs) prefix c.loop-at.invariant))
 
 pub returns : goal.returns
 returns c = (

@@ -10,11 +10,11 @@ loop-symbol-preserved c =
     let i = c.loop-symbol.symbol-index in
     elim c.match-floating.branch [
       | in-Some+in_ok-push-in-Some w ↦
-          ap (λ v. v.items) w.places-is ∙ w.in_ok-push-in-Some.ensures.items
-          ∙ floatings_more infos xs i _ (Some w.in-Some.place) c.args.places.now.items _
+          ap (λ v. v.items) w.indices-is ∙ w.in_ok-push-in-Some.ensures.items
+          ∙ floatings_more infos xs i _ (Some w.in-Some.index) c.args.indices.now.items _
           c.loop-symbol-test.true (sym c.floating.ensures ∙ w.in-Some.is) c.loop-symbol.invariant
       | in-None w ↦
-          ap (λ v. v.items) w.places-is ∙ sym (append-nil c.loop-symbol.places.items)
-          ∙ floatings_more infos xs i _ None c.args.places.now.items _
+          ap (λ v. v.items) w.indices-is ∙ sym (append-nil c.loop-symbol.indices.items)
+          ∙ floatings_more infos xs i _ None c.args.indices.now.items _
           c.loop-symbol-test.true (sym c.floating.ensures ∙ w.in-None.is) c.loop-symbol.invariant
     ]

@@ -6,6 +6,6 @@ use Rattle.mm_frame.proofs.framing.add_pairs.Given as goal
 
 abbrev pub invariant-loop-other : goal.invariant-loop-other
 invariant-loop-other l =
-    (places : List ℕ) (variables : List Sym) → AreVariables (statements_of l.tables) places variables → l.others ≡ take (length l.others) variables → slice_get variables (length l.others) ≡ Some l.variable
+    (indices : List ℕ) (variables : List Sym) → AreVariables (statements_of l.tables) indices variables → l.others ≡ take (length l.others) variables → slice_get variables (length l.others) ≡ Some l.variable
     → AreFound (statements_of l.tables) variables (length l.others) 0 l.fn.pairs.items
     → AreFound (statements_of l.tables) variables (length l.others) l.other-index l.pairs.items

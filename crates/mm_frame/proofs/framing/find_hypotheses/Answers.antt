@@ -6,25 +6,25 @@ use Rattle.mm_frame.proofs.framing.find_hypotheses.Goals as goal
 use Rattle.std.proofs.lemmas.Option.{slice_get-get_or}
 use Rattle.mm_frame.proofs.framing.find_hypotheses.Goals.{in-Some+in_ok-push-in-Some, in-None}
 
-pub loop-place-preserved : goal.loop-place-preserved
-loop-place-preserved c s are =
+pub loop-index-preserved : goal.loop-index-preserved
+loop-index-preserved c s are =
     let t = c.args.tables.now in
     let st = statements_of t in
-    let places = c.args.places.now in
-    let i = c.loop-place.place-index in
+    let indices = c.args.indices.now in
+    let i = c.loop-index.index-index in
     elim c.match-label_at.branch [
       | in-Some+in_ok-push-in-Some w ↦
-          subst (AreThoseAt st (take (i + 1) places)) (sym (ap (λ v. v.items) w.hypotheses-is ∙ w.in_ok-push-in-Some.ensures.items))
+          subst (AreThoseAt st (take (i + 1) indices)) (sym (ap (λ v. v.items) w.hypotheses-is ∙ w.in_ok-push-in-Some.ensures.items))
           (those_step t i c.requires.labels c.requires.sound.1 are
           (record { id = w.in-Some.id; typing = w.typing.result; pattern = record { start = 0; end = 0 } })
-          c.loop-place.hypotheses.items c.loop-place-test.true
-          (sym c.label_at.ensures ∙ w.in-Some.is) w.typing.ensures (c.loop-place.invariant s are))
+          c.loop-index.hypotheses.items c.loop-index-test.true
+          (sym c.label_at.ensures ∙ w.in-Some.is) w.typing.ensures (c.loop-index.invariant s are))
       | in-None w ↦
-          let place = slice_get-get_or places i 0 c.loop-place-test.true in
-          let (id, is, value) = id_at t i c.requires.labels c.requires.sound.1 are _ place in
+          let index = slice_get-get_or indices i 0 c.loop-index-test.true in
+          let (id, is, value) = id_at t i c.requires.labels c.requires.sound.1 are _ index in
           absurd (cc (is, sym c.label_at.ensures ∙ w.in-None.is))
     ]
 
 pub returns : goal.returns
 returns c s are =
-    rw (take_all _ _ c.loop-place-test.false) at (c.loop-place.invariant s are)
+    rw (take_all _ _ c.loop-index-test.false) at (c.loop-index.invariant s are)

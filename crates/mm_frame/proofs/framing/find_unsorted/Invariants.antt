@@ -5,7 +5,7 @@ use Rattle.mm_frame.specs.Mirror.Layout.{statements_of}
 use Rattle.mm_frame.specs.Mirror.Gathered.{AreGathered}
 use Rattle.mm_frame.proofs.framing.find_unsorted.Given as goal
 
-abbrev pub invariant-loop-place : goal.invariant-loop-place
-invariant-loop-place l =
+abbrev pub invariant-loop-index : goal.invariant-loop-index
+invariant-loop-index l =
     (s : Sentence) → AreNumbers (statements_of l.tables) (map (λ n. n.0) l.expression) s.symbols
-    → AreGathered (statements_of l.tables) (take l.place-index l.tables.essentials.items) s l.places.items
+    → AreGathered (statements_of l.tables) (take l.index-index l.tables.essentials.items) s l.indices.items

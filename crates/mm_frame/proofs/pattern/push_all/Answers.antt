@@ -14,7 +14,7 @@ push_pattern-requires-clause-noted c =
     let (t, of) = c.requires.mandatory in
     let have = c.in_ok-push_patterns.ensures.patterned t of in
     rw c.deref.ensures.value
-    (subst (AreNoted c.args.noted.now.places.items) (sym (variables_same c.args.hypotheses.now.items c.push_patterns.new.hypotheses.items have.same)) c.requires.noted)
+    (subst (AreNoted c.args.noted.now.indices.items) (sym (variables_same c.args.hypotheses.now.items c.push_patterns.new.hypotheses.items have.same)) c.requires.noted)
 
 pub returns-clause-patterned : goal.returns-clause-patterned
 returns-clause-patterned c t of =

@@ -29,7 +29,7 @@ loop-i-preserved c =
         count = c.set_pattern.ensures.count ∙ c.loop-i.invariant.count;
         patterned = λ t of.
             let have = c.loop-i.invariant.patterned t of in
-            let there = slice_get-get_or c.args.places.now i 0 c.loop-i-test.true in
+            let there = slice_get-get_or c.args.indices.now i 0 c.loop-i-test.true in
             let (h, at) = get_within hs i (counted of hs i have.same c.loop-i-test.true) in
             let part = rw w.deref-then-is_essential.ensures.value at w.in_ok-pattern.ensures.part in
             rw w.pieces-is (essential_step of _ _ c.set_pattern.new.hypotheses.items _
@@ -52,7 +52,7 @@ loop-i-preserved c =
 
 pub returns-clause-patterned : goal.returns-clause-patterned
 returns-clause-patterned c t of =
-    let all : c.loop-i.i ≡ length c.args.places.now = omega (arith, c.loop-i.auto.i-end, c.loop-i-test.false) in
+    let all : c.loop-i.i ≡ length c.args.indices.now = omega (arith, c.loop-i.auto.i-end, c.loop-i-test.false) in
     subst (HaveFirstPatterns (statements_of t) c.args.hypotheses.now.items c.loop-i.hypotheses.items c.loop-i.pieces.items) all (c.loop-i.invariant.patterned t of)
 
 pub is_essential-requires : goal.is_essential-requires
@@ -64,8 +64,8 @@ is_essential-requires c =
 pub symbols_in-requires : goal.symbols_in-requires
 symbols_in-requires c =
     let (t, of) = c.requires.mandatory in
-    let there = slice_get-get_or c.args.places.now c.loop-i.i 0 c.loop-i-test.true in
-    let within = of.are_places.within c.loop-i.i _ there in
+    let there = slice_get-get_or c.args.indices.now c.loop-i.i 0 c.loop-i-test.true in
+    let within = of.are_indices.within c.loop-i.i _ there in
     let all = all_statements t in
     omega (arith, ap length of.log_is)
 
@@ -80,7 +80,7 @@ push_pattern-requires-clause-noted c =
     let (t, of) = c.requires.mandatory in
     let have = c.loop-i.invariant.patterned t of in
     rw c.deref-then-is_essential.ensures.value
-    (subst (AreNoted c.args.noted.now.places.items) (sym (variables_same c.args.hypotheses.now.items c.loop-i.hypotheses.items have.same)) c.requires.noted)
+    (subst (AreNoted c.args.noted.now.indices.items) (sym (variables_same c.args.hypotheses.now.items c.loop-i.hypotheses.items have.same)) c.requires.noted)
 
 pub set_pattern-requires : goal.set_pattern-requires
 set_pattern-requires c =

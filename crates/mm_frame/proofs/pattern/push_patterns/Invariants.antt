@@ -8,6 +8,6 @@ abbrev pub invariant-loop-i : goal.invariant-loop-i
 invariant-loop-i l = record {
   longer : IsLonger l.fn.pieces.items l.pieces.items;
   count : length l.hypotheses.items ≡ length l.fn.hypotheses.items;
-  patterned : (t : Tables) → AreMandatoryOf t l.log l.flat l.places l.fn.hypotheses.items
+  patterned : (t : Tables) → AreMandatoryOf t l.log l.flat l.indices l.fn.hypotheses.items
       → HaveFirstPatterns (statements_of t) l.fn.hypotheses.items l.hypotheses.items l.pieces.items l.i;
 }

@@ -9,7 +9,7 @@ kind_of-requires c =
     (l, has)
 
 pub returns : goal.returns
-returns c place s numbered =
+returns c index s numbered =
     let (l, same, has) = info_kind _ _ _ _ c.requires.tables numbered _
     (rw c.in-Some.is at c.label_info.ensures) in
     same ∙ c.kind_of.ensures

@@ -1,10 +1,10 @@
 use Rattle.mm_frame.proofs.BookLists.ReadLabels.{frame_hypotheses, frame_typings, frame_pairs}
-use Rattle.mm_frame.proofs.BookLists.ReadLabels.{no_info, frame_places, frame_concluded}
+use Rattle.mm_frame.proofs.BookLists.ReadLabels.{no_info, frame_indices, frame_concluded}
 use Rattle.mm_frame.proofs.BookLists.ReadLabels.{frame_patterns}
 use Rattle.mm_frame.proofs.reads.label_scheme.Goals as goal
 
 pub returns : goal.returns
-returns c place s numbered asserts =
+returns c index s numbered asserts =
     let t = c.args.tables.now in
     let id = c.args.id.0 in
     let info = c.in-Some.info in
@@ -14,14 +14,14 @@ returns c place s numbered asserts =
     let hypotheses = rw c.deref.ensures.value at c.part_of.ensures in
     let pairs = rw c.deref-in-Some.ensures.value at c.part_of-in-Some.ensures in
     record {
-      ids = frame_hypotheses t id place s info tables numbered asserts told hs hypotheses;
-      typed = frame_typings t id place s info tables numbered asserts told hs hypotheses;
-      pairs = frame_pairs t id place s info tables numbered asserts told _ pairs;
-      places = frame_places t id place s info tables numbered asserts told hs _ hypotheses pairs;
-      conclusion = frame_concluded t id place s info tables numbered asserts told hs _ hypotheses
+      ids = frame_hypotheses t id index s info tables numbered asserts told hs hypotheses;
+      typed = frame_typings t id index s info tables numbered asserts told hs hypotheses;
+      pairs = frame_pairs t id index s info tables numbered asserts told _ pairs;
+      indices = frame_indices t id index s info tables numbered asserts told hs _ hypotheses pairs;
+      conclusion = frame_concluded t id index s info tables numbered asserts told hs _ hypotheses
           rw c.deref-in-Some-2.ensures.value at c.part_of-in-Some-2.ensures;
       patterns = rw c.deref-in-Some-3.ensures.value
-          (frame_patterns t id place s info tables numbered asserts told hs hypotheses);
+          (frame_patterns t id index s info tables numbered asserts told hs hypotheses);
     }
 
 pub unreachable-requires : goal.unreachable-requires

@@ -14,7 +14,7 @@ returns-in-Some-variable c =
     let st = statements_of c.args.tables.now in
     let (x, is, known) = rw c.in-Some.is at (number_info _ _ c.requires.infos c.info.ensures) in
     let other = rw c.in-Some-variable.is at (has_constant st x c.in-Some.info c.requires.sound.0 known) in
-    let says = variable_says st x c.in-Some.info c.in-Some-variable.place c.is_active_now.result c.requires.sound.0 known c.in-Some-variable.is c.is_active_now.ensures in
+    let says = variable_says st x c.in-Some.info c.in-Some-variable.index c.is_active_now.result c.requires.sound.0 known c.in-Some-variable.is c.is_active_now.ensures in
     let either = active_symbol st x c.requires.sound.0 in
     of_number st x c.args.symbol.0 (λ y. IsActiveSymbol st y) c.is_active_now.result is (
       (λ t. either.1 (inr (says.0 t))),
@@ -32,11 +32,11 @@ pub returns-in-None : goal.returns-in-None
 returns-in-None c =
     no_number _ _ _ _ (rw c.in-None.is at (number_info _ _ c.requires.infos c.info.ensures)) refl
 
-pub is_active_now-requires-clause-place : goal.is_active_now-requires-clause-place
-is_active_now-requires-clause-place c =
+pub is_active_now-requires-clause-index : goal.is_active_now-requires-clause-index
+is_active_now-requires-clause-index c =
     let st = statements_of c.args.tables.now in
     let (x, is, known) = rw c.in-Some.is at (number_info _ _ c.requires.infos c.info.ensures) in
-    let place = c.in-Some-variable.place in
-    let latest : IsLatest (Declares Variables x) st place = rw c.in-Some-variable.is at
+    let index = c.in-Some-variable.index in
+    let latest : IsLatest (Declares Variables x) st index = rw c.in-Some-variable.is at
     known.known.variable in
-    slice_get_within st place latest.statement latest.there
+    slice_get_within st index latest.statement latest.there

@@ -11,16 +11,16 @@ returns-in-Some-floating c =
     let st = statements_of c.args.tables.now in
     let (x, is, known) = rw c.in-Some.is at (number_info _ _ c.requires.infos c.info.ensures) in
     of_number st x c.args.variable.0 (λ y. IsTyped st y) c.is_active_now.result is
-    (typed_says st x c.in-Some.info c.in-Some-floating.place c.is_active_now.result c.requires.sound.0 known c.in-Some-floating.is c.is_active_now.ensures)
+    (typed_says st x c.in-Some.info c.in-Some-floating.index c.is_active_now.result c.requires.sound.0 known c.in-Some-floating.is c.is_active_now.ensures)
 
 pub returns-in-None : goal.returns-in-None
 returns-in-None c =
     no_number _ _ _ _ (rw c.in-None.is at (number_info _ _ c.requires.infos c.info.ensures)) refl
 
-pub is_active_now-requires-clause-place : goal.is_active_now-requires-clause-place
-is_active_now-requires-clause-place c =
+pub is_active_now-requires-clause-index : goal.is_active_now-requires-clause-index
+is_active_now-requires-clause-index c =
     let st = statements_of c.args.tables.now in
     let (x, is, known) = rw c.in-Some.is at (number_info _ _ c.requires.infos c.info.ensures) in
-    let place = c.in-Some-floating.place in
-    let latest = known_latest st x c.in-Some.info place known c.in-Some-floating.is in
-    slice_get_within st place latest.statement latest.there
+    let index = c.in-Some-floating.index in
+    let latest = known_latest st x c.in-Some.info index known c.in-Some-floating.is in
+    slice_get_within st index latest.statement latest.there

@@ -6,7 +6,7 @@ abbrev pub invariant-loop-pair : goal.invariant-loop-pair
 invariant-loop-pair l = record {
   room : length l.pairs ≤ l.distinct.room + l.pair-index;
   stated : l.distinct.stated ≡ record {
-    pairs = l.fn.distinct.stated.pairs ++ map (stated_at l.place) (take l.pair-index l.pairs);
+    pairs = l.fn.distinct.stated.pairs ++ map (stated_at l.index) (take l.pair-index l.pairs);
     wide = l.fn.distinct.stated.wide;
   };
 }

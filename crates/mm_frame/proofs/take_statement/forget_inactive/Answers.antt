@@ -22,7 +22,7 @@ returns-then-is_last_active c st have small =
 
 pub loop-preserved : goal.loop-preserved
 loop-preserved c =
-    let shorter = popped_size c.loop.places.items c.pop.new.self.items c.pop.result
+    let shorter = popped_size c.loop.indices.items c.pop.new.self.items c.pop.result
     c.pop.ensures.items (c.pop.ensures.variant.1 (let len = c.loop.invariant.sized in omega arith))
     in
     record {

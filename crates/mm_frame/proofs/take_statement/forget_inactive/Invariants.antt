@@ -7,9 +7,9 @@ use Rattle.mm_frame.proofs.take_statement.forget_inactive.Given as goal
 
 abbrev pub invariant-loop : goal.invariant-loop
 invariant-loop l = record {
-  sized : length l.places.items + l.counter ≡ length l.initial.places.items;
-  within : (i p : ℕ) → slice_get l.places.items i ≡ Some p → p < l.at;
+  sized : length l.indices.items + l.counter ≡ length l.initial.indices.items;
+  within : (i p : ℕ) → slice_get l.indices.items i ≡ Some p → p < l.at;
   dropped : (statements : List Sentence) → HaveScopes statements l.scopes
       → length statements ≤ NEVER
-      → AreDropped statements l.initial.places.items l.places.items;
+      → AreDropped statements l.initial.indices.items l.indices.items;
 }

@@ -20,7 +20,7 @@ returns-then-not-are_equal g c limit id at hs called mandatory codes =
     let paired : length (drop c.args.base stack) ≡ length hs =
     omega (arith, length-drop c.args.base stack, c.requires.entries, as_many st xs hs called.known) in
     let r = replaces_by c.one_number.ensures st (variables_of xs) hs (drop c.args.base stack) typed in
-    stops_P10 limit st c.args.own.now.place id at _ hs stack c.args.base c.requires.sound.0 called paired codes
+    stops_P10 limit st c.args.own.now.index id at _ hs stack c.args.base c.requires.sound.0 called paired codes
     (c.if-not-are_equal.ensures (replaced_by hs (all_names_at st (drop c.args.base stack))) r hs called.known)
 
 pub returns-then-are_apart_pairs : goal.returns-then-are_apart_pairs
@@ -39,7 +39,7 @@ returns-then-has_shared_pair g c limit id at hs called mandatory codes =
     let paired : length (drop c.args.base stack) ≡ length hs =
     omega (arith, length-drop c.args.base stack, c.requires.entries, as_many st xs hs called.known) in
     let r = replaces_by c.one_number.ensures st (variables_of xs) hs (drop c.args.base stack) typed in
-    stops_P11 limit c.one_number.ensures st c.args.own.now.place id at _ hs stack c.args.base (variables_of xs) (pairs_in c.args.scheme.now.pairs.now) c.requires.sound.0 called paired typed mandatory
+    stops_P11 limit c.one_number.ensures st c.args.own.now.index id at _ hs stack c.args.base (variables_of xs) (pairs_in c.args.scheme.now.pairs.now) c.requires.sound.0 called paired typed mandatory
     codes (c.if-not-are_equal.ensures (replaced_by hs (all_names_at st (drop c.args.base stack))) r hs called.known)
     c.if-has_shared_pair.ensures
 
@@ -52,6 +52,6 @@ returns g c limit id at hs called mandatory codes =
     let paired : length (drop c.args.base stack) ≡ length hs =
     omega (arith, length-drop c.args.base stack, c.requires.entries, as_many st xs hs called.known) in
     let r = replaces_by c.one_number.ensures st (variables_of xs) hs (drop c.args.base stack) typed in
-    stops_P12 limit c.one_number.ensures st c.args.own.now.place id at _ hs stack c.args.base (variables_of xs) (pairs_in c.args.scheme.now.pairs.now) c.requires.sound.0 called paired typed mandatory
+    stops_P12 limit c.one_number.ensures st c.args.own.now.index id at _ hs stack c.args.base (variables_of xs) (pairs_in c.args.scheme.now.pairs.now) c.requires.sound.0 called paired typed mandatory
     codes (c.if-not-are_equal.ensures (replaced_by hs (all_names_at st (drop c.args.base stack))) r hs called.known)
     c.if-has_shared_pair.ensures c.if-are_apart_pairs.ensures

@@ -8,15 +8,15 @@ use Rattle.mm_proof.proofs.Machines.Building.{first_all, only_item}
 use Rattle.mm_proof.proofs.builder.build_moves.Goals as goal
 
 pub run-requires-clause-allowed : goal.run-requires-clause-allowed
-run-requires-clause-allowed g c place move there =
-    (moves_of c.args.entries.now c.args.codes.now, c.requires.made, first_up_to _ place move there)
+run-requires-clause-allowed g c index move there =
+    (moves_of c.args.entries.now c.args.codes.now, c.requires.made, first_up_to _ index move there)
 
 pub returns-in_err-run-clause-long : goal.returns-in_err-run-clause-long
 returns-in_err-run-clause-long g c =
     handed _ c.from_residual.result c.from_residual.ensures.1 (λ fault is long m.
     let s = c.in_err-run.ensures.stops in
     s.known (subst g.B.Builder.is_long is long) (moves_of c.args.entries.now c.args.codes.now) m
-    (first_up_to _ s.place s.move s.there))
+    (first_up_to _ s.index s.move s.there))
 
 pub index-requires : goal.index-requires
 index-requires g c =

@@ -6,14 +6,14 @@ use Rattle.mm_proof.proofs.ByNumbers.StepByAssertion.{width_hypothesis, width_as
 use Rattle.mm_proof.proofs.builder.width.Goals as goal
 
 pub returns-in-Hypothesis : goal.returns-in-Hypothesis
-returns-in-Hypothesis c place label below used stands =
+returns-in-Hypothesis c index label below used stands =
     let st = c.args.book.now.statements in
-    let of = subst (IsCallOf st place c.args.id.0) c.in-Hypothesis.is (c.call_of.ensures place label used) in
+    let of = subst (IsCallOf st index c.args.id.0) c.in-Hypothesis.is (c.call_of.ensures index label used) in
     let same = (numbered_unique st c.args.id.0 _ _ _ _ of.1.numbered used.numbered).1 in
-    width_hypothesis st place c.args.id.0 label below c.requires.sound.0 used (subst (λ (s : Sentence). IsHypothesis s.kind) same of.2) stands
+    width_hypothesis st index c.args.id.0 label below c.requires.sound.0 used (subst (λ (s : Sentence). IsHypothesis s.kind) same of.2) stands
 
 pub returns-in-Assertion : goal.returns-in-Assertion
-returns-in-Assertion c place label below used stands =
+returns-in-Assertion c index label below used stands =
     let st = c.args.book.now.statements in
-    let of = subst (IsCallOf st place c.args.id.0) c.in-Assertion.is (c.call_of.ensures place label used) in
-    width_assertion st place c.args.id.0 label below c.in-Assertion.scheme c.requires.sound.0 used of stands
+    let of = subst (IsCallOf st index c.args.id.0) c.in-Assertion.is (c.call_of.ensures index label used) in
+    width_assertion st index c.args.id.0 label below c.in-Assertion.scheme c.requires.sound.0 used of stands

@@ -4,5 +4,5 @@ use Rattle.mm_proof.specs.Mirror.CodeSteps.{moves_of}
 use Rattle.mm_proof.specs.Mirror.CodeForm.{IsAfterAssertion}
 use Rattle.mm_proof.proofs.form.are_marks_strict.Given as goal
 
-abbrev pub invariant-loop-place : goal.invariant-loop-place
-invariant-loop-place l = (k : ℕ) → k < l.place → slice_get (moves_of l.entries l.codes) k ≡ Some mark → IsAfterAssertion l.fn.book.statements (moves_of l.entries l.codes) k
+abbrev pub invariant-loop-index : goal.invariant-loop-index
+invariant-loop-index l = (k : ℕ) → k < l.index → slice_get (moves_of l.entries l.codes) k ≡ Some mark → IsAfterAssertion l.fn.book.statements (moves_of l.entries l.codes) k

@@ -10,13 +10,13 @@ run-requires-clause-begun g c =
     judged_none g.S.Store.stack g.S.Store.kept _ c.requires.stack c.requires.kept refl refl c.requires.long c.requires.unmarked
 
 pub run-requires-clause-allowed : goal.run-requires-clause-allowed
-run-requires-clause-allowed g c place move there =
+run-requires-clause-allowed g c index move there =
     let site = c.args.table.now.site in
-    all_at (MayBeMade site.statements site.place) (code_moves c.args.table.now.ids c.args.codes.now)
-    place move c.requires.usable there
+    all_at (MayBeMade site.statements site.index) (code_moves c.args.table.now.ids c.args.codes.now)
+    index move c.requires.usable there
 
 pub returns-in_err-run-clause-fault : goal.returns-in_err-run-clause-fault
 returns-in_err-run-clause-fault g c rule at is =
     let s = c.in_err-run.ensures.stops in
-    stopped_fault c.args.table.now.site _ s.place s.move _ s.there s.known rule at
+    stopped_fault c.args.table.now.site _ s.index s.move _ s.there s.known rule at
     (refused _ _ _ c.from_residual.ensures.1 is)

@@ -19,5 +19,5 @@ loop-label-preserved c = elim c.match-use_of.branch [
 pub returns-then-idle-clause-fault : goal.returns-then-idle-clause-fault
 returns-then-idle-clause-fault c =
     let all = sofar_all _ _ _ _ c.args.labels.now c.loop-label.label-index c.loop-label-test.false c.loop-label.invariant in
-    let idle = subst (λ (b : Bool). IdleOr c.args.book.now.statements c.args.own.now.place b (ids_in c.loop-label.ids.items) (token_texts c.args.labels.now)) c.if-idle.true all.1 in
+    let idle = subst (λ (b : Bool). IdleOr c.args.book.now.statements c.args.own.now.index b (ids_in c.loop-label.ids.items) (token_texts c.args.labels.now)) c.if-idle.true all.1 in
     (refl, (all.0, idle.0, idle.1, idle.2))

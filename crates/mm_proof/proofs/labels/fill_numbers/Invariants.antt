@@ -5,4 +5,4 @@ use Rattle.mm_proof.proofs.labels.fill_numbers.Given as goal
 
 abbrev pub invariant-loop-label : goal.invariant-loop-label
 invariant-loop-label l =
-    SoFar l.fn.book.statements l.fn.own.place l.idle (ids_in l.ids.items) (take l.label-index (token_texts l.labels))
+    SoFar l.fn.book.statements l.fn.own.index l.idle (ids_in l.ids.items) (take l.label-index (token_texts l.labels))

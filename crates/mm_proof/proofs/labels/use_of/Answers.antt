@@ -30,7 +30,7 @@ returns-else-active c =
     record {
       at = f.0;
       s = f.1;
-      there = get_take c.args.book.now.statements c.args.own.now.place f.0 less ∙ f.2.there;
+      there = get_take c.args.book.now.statements c.args.own.now.index f.0 less ∙ f.2.there;
       named = f.3;
       kind = f.4;
       idle = λ active.

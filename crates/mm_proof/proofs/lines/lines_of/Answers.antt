@@ -22,23 +22,23 @@ run-requires-clause-begun g c =
     c.new-lines.ensures.items c.new-tags.ensures.items
 
 pub run-requires-clause-allowed : goal.run-requires-clause-allowed
-run-requires-clause-allowed g c place move there =
+run-requires-clause-allowed g c index move there =
     let site = c.args.table.now.site in
     let moves = code_moves c.args.table.now.ids c.args.codes.now in
-    let front = take place moves ++ move ∷ [] in
+    let prefix = take index moves ++ move ∷ [] in
     let names = c.requires.names in
-    let within = slice_get_within moves place move there in (
-      all_at (MayBeMade site.statements site.place) moves place move c.requires.usable there,
+    let within = slice_get_within moves index move there in (
+      all_at (MayBeMade site.statements site.index) moves index move c.requires.usable there,
       (
-        take (length front) names.0,
-        rw (first_up_to moves place move there) at
-            (zip_take (IsNumberedMove site.statements) moves names.0 (length front) names.1),
+        take (length prefix) names.0,
+        rw (first_up_to moves index move there) at
+            (zip_take (IsNumberedMove site.statements) moves names.0 (length prefix) names.1),
       ),
       omega (
         arith,
         within,
         length-map c.args.codes.now (code_move c.args.table.now.ids),
-        length-take-le place moves (omega (arith, within)),
+        length-take-le index moves (omega (arith, within)),
         c.requires.room,
       ),
     )
@@ -46,7 +46,7 @@ run-requires-clause-allowed g c place move there =
 pub returns-in_err-run-clause-fault : goal.returns-in_err-run-clause-fault
 returns-in_err-run-clause-fault g c rule at is =
     let s = c.in_err-run.ensures.stops in
-    stopped_fault c.args.table.now.site _ s.place s.move _ s.there s.known rule at
+    stopped_fault c.args.table.now.site _ s.index s.move _ s.there s.known rule at
     (refused _ _ _ c.from_residual-in_err-run.ensures.1 is)
 
 pub returns-clause-run : goal.returns-clause-run
@@ -56,5 +56,5 @@ pub returns-clause-lines : goal.returns-clause-lines
 returns-clause-lines g c =
     let site = c.args.table.now.site in
     let moves = code_moves c.args.table.now.ids c.args.codes.now in
-    subst (λ (lines : List Line). AreLinesAt site.statements site.place moves lines)
+    subst (λ (lines : List Line). AreLinesAt site.statements site.index moves lines)
     (search rules) c.in_ok-run.ensures.ran.listed

@@ -1,6 +1,6 @@
 use Rattle.std.proofs.Common.{take, subst}
 use Rattle.std.proofs.lemmas.Result.{IfOk-at_ok, IfErr-at_err, IfOk-weaker}
-use Rattle.mm_frame.proofs.Rules.ObeyedRules.{allmeant_front}
+use Rattle.mm_frame.proofs.Rules.ObeyedRules.{allmeant_prefix}
 use Rattle.mm_proof.specs.Proof.{IsWithin}
 use Rattle.mm_proof.specs.Profiles.{limit_of}
 use Rattle.mm_proof.specs.Steps.{AreNumberedMoves}
@@ -10,20 +10,20 @@ use Rattle.mm_proof.proofs.lines.listing.Goals as goal
 
 pub returns-clause-listed : goal.returns-clause-listed
 returns-clause-listed c =
-    IfOk-weaker c.lines_of_proof.result _ _ (λ lines h place s moves proof numbered.
-    (h place s moves proof (subst (λ l. AreNumberedMoves c.args.book.now.statements l moves) (held_moves _ _ _ _ _ c.deref.ensures.value c.deref-2.ensures.value (seen_moves c.steps.view_is)) numbered)).1) (rw (seen_limit c.steps.view_is) at c.lines_of_proof.ensures.listed)
+    IfOk-weaker c.lines_of_proof.result _ _ (λ lines h index s moves proof numbered.
+    (h index s moves proof (subst (λ l. AreNumberedMoves c.args.book.now.statements l moves) (held_moves _ _ _ _ _ c.deref.ensures.value c.deref-2.ensures.value (seen_moves c.steps.view_is)) numbered)).1) (rw (seen_limit c.steps.view_is) at c.lines_of_proof.ensures.listed)
 
 pub returns-clause-fault : goal.returns-clause-fault
-returns-clause-fault c rule step is place s moves proof numbered =
-    IfErr-at_err _ is (rw (seen_limit c.steps.view_is) at c.lines_of_proof.ensures.fault) place s moves proof (subst (λ l. AreNumberedMoves c.args.book.now.statements l moves) (held_moves _ _ _ _ _ c.deref.ensures.value c.deref-2.ensures.value (seen_moves c.steps.view_is)) numbered)
+returns-clause-fault c rule step is index s moves proof numbered =
+    IfErr-at_err _ is (rw (seen_limit c.steps.view_is) at c.lines_of_proof.ensures.fault) index s moves proof (subst (λ l. AreNumberedMoves c.args.book.now.statements l moves) (held_moves _ _ _ _ _ c.deref.ensures.value c.deref-2.ensures.value (seen_moves c.steps.view_is)) numbered)
 
 pub returns-clause-accepts : goal.returns-clause-accepts
-returns-clause-accepts c place s moves proof numbered p =
-    accepts (IsWithin (limit_of c.args.steps.now.profile)) (take place c.args.book.now.statements) s moves c.lines_of_proof.result (allmeant_front c.args.book.now.statements place c.lines_of_proof.ensures.sound.0)
-    (rules_map c.lines_of_proof.result _ _ (λ rule step h. h place s moves proof (subst (λ l. AreNumberedMoves c.args.book.now.statements l moves) (held_moves _ _ _ _ _ c.deref.ensures.value c.deref-2.ensures.value (seen_moves c.steps.view_is)) numbered)) (rw (seen_limit c.steps.view_is) at c.lines_of_proof.ensures.fault)) p
+returns-clause-accepts c index s moves proof numbered p =
+    accepts (IsWithin (limit_of c.args.steps.now.profile)) (take index c.args.book.now.statements) s moves c.lines_of_proof.result (allmeant_prefix c.args.book.now.statements index c.lines_of_proof.ensures.sound.0)
+    (rules_map c.lines_of_proof.result _ _ (λ rule step h. h index s moves proof (subst (λ l. AreNumberedMoves c.args.book.now.statements l moves) (held_moves _ _ _ _ _ c.deref.ensures.value c.deref-2.ensures.value (seen_moves c.steps.view_is)) numbered)) (rw (seen_limit c.steps.view_is) at c.lines_of_proof.ensures.fault)) p
 
 pub returns-clause-refuses : goal.returns-clause-refuses
-returns-clause-refuses c place s moves proof numbered rule step fault =
-    refuses (IsWithin (limit_of c.args.steps.now.profile)) (take place c.args.book.now.statements) s moves c.lines_of_proof.result (allmeant_front c.args.book.now.statements place c.lines_of_proof.ensures.sound.0)
-    (λ x is. (IfOk-at_ok _ is (rw (seen_limit c.steps.view_is) at c.lines_of_proof.ensures.listed) place s moves proof (subst (λ l. AreNumberedMoves c.args.book.now.statements l moves) (held_moves _ _ _ _ _ c.deref.ensures.value c.deref-2.ensures.value (seen_moves c.steps.view_is)) numbered)).0)
-    (rules_map c.lines_of_proof.result _ _ (λ r n h. h place s moves proof (subst (λ l. AreNumberedMoves c.args.book.now.statements l moves) (held_moves _ _ _ _ _ c.deref.ensures.value c.deref-2.ensures.value (seen_moves c.steps.view_is)) numbered)) (rw (seen_limit c.steps.view_is) at c.lines_of_proof.ensures.fault)) rule step fault
+returns-clause-refuses c index s moves proof numbered rule step fault =
+    refuses (IsWithin (limit_of c.args.steps.now.profile)) (take index c.args.book.now.statements) s moves c.lines_of_proof.result (allmeant_prefix c.args.book.now.statements index c.lines_of_proof.ensures.sound.0)
+    (λ x is. (IfOk-at_ok _ is (rw (seen_limit c.steps.view_is) at c.lines_of_proof.ensures.listed) index s moves proof (subst (λ l. AreNumberedMoves c.args.book.now.statements l moves) (held_moves _ _ _ _ _ c.deref.ensures.value c.deref-2.ensures.value (seen_moves c.steps.view_is)) numbered)).0)
+    (rules_map c.lines_of_proof.result _ _ (λ r n h. h index s moves proof (subst (λ l. AreNumberedMoves c.args.book.now.statements l moves) (held_moves _ _ _ _ _ c.deref.ensures.value c.deref-2.ensures.value (seen_moves c.steps.view_is)) numbered)) (rw (seen_limit c.steps.view_is) at c.lines_of_proof.ensures.fault)) rule step fault

@@ -9,14 +9,14 @@ use Rattle.mm_proof.proofs.packing.list_labels.Goals.{in-Make+in_ok-add-in-Make+
 pub loop-one-preserved : goal.loop-one-preserved
 loop-one-preserved c = elim c.match-one.branch [
   | in-Make+in_ok-add-in-Make+then-branch+in_ok-push-in-Make w ↦
-      let front = one_more c.args.steps.now _ _ _ c.loop-one-test.true w.in-Make.is in
-      rw (w.labels-is, w.listed-is, w.in_ok-push-in-Make.ensures.items, front, labels_made-append, map-append)
+      let prefix = one_more c.args.steps.now _ _ _ c.loop-one-test.true w.in-Make.is in
+      rw (w.labels-is, w.listed-is, w.in_ok-push-in-Make.ensures.items, prefix, labels_made-append, map-append)
       (listing_new c.args.labels.now c.loop-one.labels w.add.new.self _ _ w.in-Make.tree.label c.loop-one.invariant (subst (λ b. AddsNew c.loop-one.labels w.in-Make.tree.label b w.add.new.self) w.if-branch.true w.in_ok-add-in-Make.ensures))
   | in-Make+in_ok-add-in-Make+else-branch w ↦
-      let front = one_more c.args.steps.now _ _ _ c.loop-one-test.true w.in-Make.is in
-      rw (w.labels-is, w.listed-is, front, labels_made-append)
+      let prefix = one_more c.args.steps.now _ _ _ c.loop-one-test.true w.in-Make.is in
+      rw (w.labels-is, w.listed-is, prefix, labels_made-append)
       (listing_old c.args.labels.now c.loop-one.labels w.add.new.self _ _ w.in-Make.tree.label c.loop-one.invariant (subst (λ b. AddsNew c.loop-one.labels w.in-Make.tree.label b w.add.new.self) w.if-branch.false w.in_ok-add-in-Make.ensures))
   | in-Repeat w ↦
-      let front = one_more c.args.steps.now _ _ _ c.loop-one-test.true w.in-Repeat.is in
-      rw (w.labels-is, w.listed-is, front, labels_made-append, append-nil) c.loop-one.invariant
+      let prefix = one_more c.args.steps.now _ _ _ c.loop-one-test.true w.in-Repeat.is in
+      rw (w.labels-is, w.listed-is, prefix, labels_made-append, append-nil) c.loop-one.invariant
 ]

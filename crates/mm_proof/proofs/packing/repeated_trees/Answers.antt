@@ -6,11 +6,11 @@ use Rattle.mm_proof.proofs.packing.repeated_trees.Goals.{in-Make, in-Repeat+in_o
 pub loop-one-preserved : goal.loop-one-preserved
 loop-one-preserved c = elim c.match-one.branch [
   | in-Make w ↦
-      let front = one_more c.args.steps.now _ _ _ c.loop-one-test.true w.in-Make.is in
-      rw (w.trees-is, front) (repeated_make _ _ _ c.loop-one.invariant)
+      let prefix = one_more c.args.steps.now _ _ _ c.loop-one-test.true w.in-Make.is in
+      rw (w.trees-is, prefix) (repeated_make _ _ _ c.loop-one.invariant)
   | in-Repeat+in_ok-add-in-Repeat w ↦
-      let front = one_more c.args.steps.now _ _ _ c.loop-one-test.true w.in-Repeat.is in
-      rw (w.trees-is, front)
+      let prefix = one_more c.args.steps.now _ _ _ c.loop-one-test.true w.in-Repeat.is in
+      rw (w.trees-is, prefix)
       (repeated_repeat _ _ _ w.in-Repeat.tree w.in_ok-add-in-Repeat.ensures c.loop-one.invariant)
 ]
 

@@ -11,7 +11,7 @@ is_apart_from_each-requires-clause-first c = symbol_below c.args.book.now.statem
 pub returns-then-not-is_apart_from_each : goal.returns-then-not-is_apart_from_each
 returns-then-not-is_apart_from_each c =
     let at = number_at c.args.e.now c.loop-symbol.symbol-index (record { 0 = 0 }) c.loop-symbol-test.true in
-    near_told c.args.book.now.statements c.args.own.now.place (numbers_in c.args.e.now) (numbers_in c.args.f.now) c.loop-symbol.symbol-index c.requires.sound.0 c.requires.first c.requires.second
+    near_told c.args.book.now.statements c.args.own.now.index (numbers_in c.args.e.now) (numbers_in c.args.f.now) c.loop-symbol.symbol-index c.requires.sound.0 c.requires.first c.requires.second
     (omega (arith, length-map c.args.e.now (λ s. s.0))) (rw at c.if-not-is_apart_from_each.ensures)
 
 pub loop-symbol-preserved : goal.loop-symbol-preserved

@@ -4,4 +4,4 @@ use Rattle.mm_proof.specs.Mirror.CodeVerify.{IsApartFromEach}
 use Rattle.mm_proof.proofs.pairs.are_apart.Given as goal
 
 abbrev pub invariant-loop-symbol : goal.invariant-loop-symbol
-invariant-loop-symbol l = (k : ℕ) → k < l.symbol-index → IsApartFromEach l.fn.book.statements l.fn.own.place (numbers_in l.f) (get_or (numbers_in l.e) k 0)
+invariant-loop-symbol l = (k : ℕ) → k < l.symbol-index → IsApartFromEach l.fn.book.statements l.fn.own.index (numbers_in l.f) (get_or (numbers_in l.e) k 0)

@@ -8,26 +8,26 @@ use Rattle.mm_proof.proofs.pairs.has_shared_pair.Goals as goal
 
 pub is_shared_pair-requires-clause-first : goal.is_shared_pair-requires-clause-first
 is_shared_pair-requires-clause-first g c =
-    let placed = c.requires.places _ _ (slice_get-get_or _ _ no_pair c.loop-pair-test.true) in
+    let indexed = c.requires.indices _ _ (slice_get-get_or _ _ no_pair c.loop-pair-test.true) in
     omega (arith, variables_counted c.args.scheme.now.hypotheses.now)
 
 pub is_shared_pair-requires-clause-second : goal.is_shared_pair-requires-clause-second
 is_shared_pair-requires-clause-second g c =
-    let placed = c.requires.places _ _ (slice_get-get_or _ _ no_pair c.loop-pair-test.true) in
+    let indexed = c.requires.indices _ _ (slice_get-get_or _ _ no_pair c.loop-pair-test.true) in
     omega (arith, variables_counted c.args.scheme.now.hypotheses.now)
 
 pub returns-then-is_shared_pair : goal.returns-then-is_shared_pair
 returns-then-is_shared_pair g c =
-    let placed = c.requires.places _ _ (slice_get-get_or _ _ no_pair c.loop-pair-test.true) in
-    (_, _, pair_at _ _ no_pair c.loop-pair-test.true, c.if-is_shared_pair.ensures _ placed)
+    let indexed = c.requires.indices _ _ (slice_get-get_or _ _ no_pair c.loop-pair-test.true) in
+    (_, _, pair_at _ _ no_pair c.loop-pair-test.true, c.if-is_shared_pair.ensures _ indexed)
 
 pub loop-pair-preserved : goal.loop-pair-preserved
 loop-pair-preserved g c =
-    let placed = c.requires.places _ _ (slice_get-get_or _ _ no_pair c.loop-pair-test.true) in
+    let indexed = c.requires.indices _ _ (slice_get-get_or _ _ no_pair c.loop-pair-test.true) in
     let values = value_of (variables_of c.args.scheme.now.hypotheses.now)
     (drop c.args.base (g.S.Store.stack c.args.store.now)) in
     pairs_more values _ _ _ no_pair c.loop-pair-test.true c.loop-pair.invariant
-    (c.if-is_shared_pair.ensures _ placed)
+    (c.if-is_shared_pair.ensures _ indexed)
 
 pub returns : goal.returns
 returns g c k p at =

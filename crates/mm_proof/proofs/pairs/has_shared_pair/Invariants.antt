@@ -8,4 +8,4 @@ abbrev pub invariant-loop-pair : goal.invariant-loop-pair
 invariant-loop-pair g l =
     (k : ℕ) (p : ℕ × ℕ) → k < l.pair-index → slice_get (pairs_in l.scheme.pairs.now) k ≡ Some p
     → EachValues (value_of (variables_of l.scheme.hypotheses.now) (drop l.base (g.S.Store.stack l.store))) p.0 p.1
-    (λ e f. ShareNoVariable (take l.fn.own.place l.fn.book.statements) (names_at l.fn.book.statements e) (names_at l.fn.book.statements f))
+    (λ e f. ShareNoVariable (take l.fn.own.index l.fn.book.statements) (names_at l.fn.book.statements e) (names_at l.fn.book.statements f))

@@ -4,4 +4,4 @@ use Rattle.mm_proof.specs.Mirror.CodeVerify.{IsApart}
 use Rattle.mm_proof.proofs.pairs.is_apart_from_each.Given as goal
 
 abbrev pub invariant-loop-symbol : goal.invariant-loop-symbol
-invariant-loop-symbol l = (k : ℕ) → k < l.symbol-index → IsApart l.fn.book.statements l.fn.own.place l.variable.0 (get_or (numbers_in l.f) k 0)
+invariant-loop-symbol l = (k : ℕ) → k < l.symbol-index → IsApart l.fn.book.statements l.fn.own.index l.variable.0 (get_or (numbers_in l.f) k 0)

@@ -7,18 +7,18 @@ use Rattle.mm_proof.proofs.pairs.is_apart_pair.Goals as goal
 
 pub are_apart-requires-clause-first : goal.are_apart-requires-clause-first
 are_apart-requires-clause-first g c =
-    rw c.value_at-e.ensures (entry_symbols _ _ _ c.args.pair.places.0 c.requires.symbols)
+    rw c.value_at-e.ensures (entry_symbols _ _ _ c.args.pair.indices.0 c.requires.symbols)
 
 pub are_apart-requires-clause-second : goal.are_apart-requires-clause-second
 are_apart-requires-clause-second g c =
-    rw c.value_at-f.ensures (entry_symbols _ _ _ c.args.pair.places.1 c.requires.symbols)
+    rw c.value_at-f.ensures (entry_symbols _ _ _ c.args.pair.indices.1 c.requires.symbols)
 
 pub returns : goal.returns
-returns g c variables placed =
+returns g c variables indexed =
     let stack = g.S.Store.stack c.args.store.now in
     let es = drop c.args.base stack in
-    let first : c.args.pair.places.0 < length es = omega (arith, length-drop c.args.base stack, c.requires.first) in
-    let second : c.args.pair.places.1 < length es = omega (arith, length-drop c.args.base stack, c.requires.second) in
+    let first : c.args.pair.indices.0 < length es = omega (arith, length-drop c.args.base stack, c.requires.first) in
+    let second : c.args.pair.indices.1 < length es = omega (arith, length-drop c.args.base stack, c.requires.second) in
     values_apart (value_of variables es) _ _ _ _ _ c.are_apart.result
-    (value_placed _ variables es _ _ placed.0 first c.value_at-e.ensures)
-    (value_placed _ variables es _ _ placed.1 second c.value_at-f.ensures) c.are_apart.ensures
+    (value_placed _ variables es _ _ indexed.0 first c.value_at-e.ensures)
+    (value_placed _ variables es _ _ indexed.1 second c.value_at-f.ensures) c.are_apart.ensures

@@ -12,7 +12,7 @@ pub returns-then-is_shared : goal.returns-then-is_shared
 returns-then-is_shared c =
     let at = number_at c.args.e.now c.loop-symbol.symbol-index (record { 0 = 0 }) c.loop-symbol-test.true in
     let both = c.if-is_shared.ensures in
-    shared_told c.args.book.now.statements c.args.own.now.place (numbers_in c.args.e.now) (numbers_in c.args.f.now) c.loop-symbol.symbol-index c.requires.sound.0 c.requires.first
+    shared_told c.args.book.now.statements c.args.own.now.index (numbers_in c.args.e.now) (numbers_in c.args.f.now) c.loop-symbol.symbol-index c.requires.sound.0 c.requires.first
     (omega (arith, length-map c.args.e.now (λ s. s.0))) (rw at both.0) (rw at both.1)
 
 pub loop-symbol-preserved : goal.loop-symbol-preserved
@@ -22,5 +22,5 @@ loop-symbol-preserved c =
 
 pub returns : goal.returns
 returns c =
-    not_shared_told c.one_number.ensures c.args.book.now.statements c.args.own.now.place _ _ c.requires.first c.requires.second
+    not_shared_told c.one_number.ensures c.args.book.now.statements c.args.own.now.index _ _ c.requires.first c.requires.second
     (λ k less. c.loop-symbol.invariant k (omega (arith, length-map c.args.e.now (λ s. s.0))))

@@ -13,12 +13,12 @@ loop-id-init c = rw (c.clear.ensures.items, c.clear-2.ensures.items) tt
 
 pub loop-id-preserved : goal.loop-id-preserved
 loop-id-preserved c =
-    let placed = c.in_ok-place.ensures in
-    let more = placed.longer in
+    let indexed = c.in_ok-index.ensures in
+    let more = indexed.longer in
     let old = c.loop-id.invariant in
-    rw c.in_ok-push.ensures.items (says_more _ _ c.args.ids.now c.loop-id.id-index _ c.in_ok-place.place
+    rw c.in_ok-push.ensures.items (says_more _ _ c.args.ids.now c.loop-id.id-index _ c.in_ok-index.index
     c.loop-id-test.true (rw (more.1, map-append) (entries_later _ (ids_in more.0) _ _ old))
-    placed.there)
+    indexed.there)
 
 pub returns-clause-ok : goal.returns-clause-ok
 returns-clause-ok c =

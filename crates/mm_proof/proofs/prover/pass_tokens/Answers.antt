@@ -12,9 +12,9 @@ pub returns-clause-allowed : goal.returns-clause-allowed
 returns-clause-allowed c =
     let site = c.new-site.ensures in
     let said = c.in_ok-fill_under.ensures in
-    rw (← site.statements, ← site.number) (on_ok_weaker c.pass.result (λ p. λ place s proof. (
-      said.form place s proof,
-      tokens_pass _ _ _ _ _ said.steps (rw (c.deref.ensures.value, c.deref-2.ensures.value, site.limit) at p) place s proof,
+    rw (← site.statements, ← site.number) (on_ok_weaker c.pass.result (λ p. λ index s proof. (
+      said.form index s proof,
+      tokens_pass _ _ _ _ _ said.steps (rw (c.deref.ensures.value, c.deref-2.ensures.value, site.limit) at p) index s proof,
     )) c.pass.ensures.passed)
 
 pub returns-clause-fault : goal.returns-clause-fault
@@ -22,13 +22,13 @@ returns-clause-fault c =
     let site = c.new-site.ensures in
     let said = c.in_ok-fill_under.ensures in
     rw (← site.statements, ← site.number) (rules_map c.pass.result _ _ (λ rule step f.
-    λ place s proof. have_under c.args.profile _ s _ rule step (said.form place s proof)
+    λ index s proof. have_under c.args.profile _ s _ rule step (said.form index s proof)
     (tokens_stop _ _ _ _ _ rule step said.steps (rw (c.deref.ensures.value, c.deref-2.ensures.value, site.limit) at f)
-    place s proof)) c.pass.ensures.fault)
+    index s proof)) c.pass.ensures.fault)
 
 pub returns-in_err-fill_under-clause-fault : goal.returns-in_err-fill_under-clause-fault
 returns-in_err-fill_under-clause-fault c =
     let p = err_from_is_err_and c.from_residual.result c.from_residual.ensures.1 in
     rw (p.1, p.2, ← c.new-site.ensures.statements, ← c.new-site.ensures.number)
     (on_rule_map c.in_err-fill_under.field-0.0 _ _
-    (λ rule step h. λ place s proof. inl (h place s proof)) c.in_err-fill_under.ensures.fault)
+    (λ rule step h. λ index s proof. inl (h index s proof)) c.in_err-fill_under.ensures.fault)

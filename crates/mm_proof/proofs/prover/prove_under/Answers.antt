@@ -19,9 +19,9 @@ pub returns-clause-proved : goal.returns-clause-proved
 returns-clause-proved c =
     let site = c.new-site.ensures in
     rw (← site.statements, ← site.number, ← site.limit) (
-    on_ok_weaker c.judgement.result (λ p. λ place s proof.
+    on_ok_weaker c.judgement.result (λ p. λ index s proof.
     tokens_prove _ _ _ _ _ _ c.in_ok-fill_under.ensures.steps
-    (rw (c.deref.ensures.value, c.deref-2.ensures.value) at p) place s proof)
+    (rw (c.deref.ensures.value, c.deref-2.ensures.value) at p) index s proof)
     c.judgement.ensures.proved)
 
 pub returns-clause-fault : goal.returns-clause-fault
@@ -29,9 +29,9 @@ returns-clause-fault c =
     let site = c.new-site.ensures in
     let said = c.in_ok-fill_under.ensures in
     rw (← site.statements, ← site.number) (rules_map c.judgement.result _ _ (λ rule step f.
-    λ place s proof. fault_under c.args.profile _ s _ rule step (said.form place s proof)
+    λ index s proof. fault_under c.args.profile _ s _ rule step (said.form index s proof)
     (tokens_fail _ _ _ _ _ rule step said.steps
-    (rw (c.deref.ensures.value, c.deref-2.ensures.value, site.limit) at f) place s proof))
+    (rw (c.deref.ensures.value, c.deref-2.ensures.value, site.limit) at f) index s proof))
     c.judgement.ensures.fault)
 
 pub returns-in_err-fill_under-clause-fault : goal.returns-in_err-fill_under-clause-fault
@@ -39,4 +39,4 @@ returns-in_err-fill_under-clause-fault c =
     let p = err_from_is_err_and c.from_residual.result c.from_residual.ensures.1 in
     rw (p.1, p.2, ← c.new-site.ensures.statements, ← c.new-site.ensures.number)
     (on_rule_map c.in_err-fill_under.field-0.0 _ _
-    (λ rule step h. λ place s proof. inl (h place s proof)) c.in_err-fill_under.ensures.fault)
+    (λ rule step h. λ index s proof. inl (h index s proof)) c.in_err-fill_under.ensures.fault)

@@ -1,12 +1,12 @@
 use Rattle.std.proofs.Common.{drop, ap, ◌+◌, ◌∙◌, length, arith}
 use Rattle.std.proofs.lemmas.List.{length-map}
-use Rattle.mm_proof.specs.Stores.{rows_in, said_by, IsWithinPlaces}
+use Rattle.mm_proof.specs.Stores.{rows_in, said_by, IsWithinIndices}
 use Rattle.mm_proof.proofs.ByNumbers.NumberedSymbols.{said_over, said_appended, within_at}
 use Rattle.mm_proof.proofs.rows.fill_said.Goals as goal
 
 pub append_said-requires-clause-within : goal.append_said-requires-clause-within
 append_said-requires-clause-within c =
-    rw (c.piece.ensures ∙ c.piece-item.is) (within_at (IsWithinPlaces (length (drop c.args.base (rows_in c.args.rows.now)))) c.args.pieces.now c.loop-piece.piece-index _ c.requires.within c.loop-piece-test.true)
+    rw (c.piece.ensures ∙ c.piece-item.is) (within_at (IsWithinIndices (length (drop c.args.base (rows_in c.args.rows.now)))) c.args.pieces.now c.loop-piece.piece-index _ c.requires.within c.loop-piece-test.true)
 
 pub returns-then-not-branch : goal.returns-then-not-branch
 returns-then-not-branch c =

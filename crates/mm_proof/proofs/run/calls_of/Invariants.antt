@@ -6,4 +6,4 @@ use Rattle.mm_proof.proofs.run.calls_of.Given as goal
 
 abbrev pub invariant-loop-id : goal.invariant-loop-id
 invariant-loop-id l =
-    (place : ℕ) → AllZip (MayBeCalled l.fn.book.statements place) (ids_in (take l.id-index l.entries)) l.calls.items
+    (index : ℕ) → AllZip (MayBeCalled l.fn.book.statements index) (ids_in (take l.id-index l.entries)) l.calls.items

@@ -1,12 +1,12 @@
 use Rattle.std.proofs.Common.{◌++◌, take, ◌∙◌, arith}
 use Rattle.std.proofs.lemmas.List.{get_or_default, length-take-le}
-use Rattle.mm_proof.proofs.StoreRanges.{pieces-step, front_stays}
+use Rattle.mm_proof.proofs.StoreRanges.{pieces-step, prefix_stays}
 use Rattle.mm_proof.proofs.ByNumbers.NumberedSymbols.{no_piece}
 use Rattle.mm_proof.proofs.said.put_pieces.Goals as goal
 
-pub returns-in_err-end-clause-front : goal.returns-in_err-end-clause-front
-returns-in_err-end-clause-front c =
-    front_stays c.args.used c.loop-piece.end _ c.loop-piece.room c.args.room.now c.loop-piece.invariant.0 c.put_piece.ensures.front c.loop-piece.invariant.3
+pub returns-in_err-end-clause-prefix : goal.returns-in_err-end-clause-prefix
+returns-in_err-end-clause-prefix c =
+    prefix_stays c.args.used c.loop-piece.end _ c.loop-piece.room c.args.room.now c.loop-piece.invariant.0 c.put_piece.ensures.prefix c.loop-piece.invariant.3
 
 pub loop-piece-preserved : goal.loop-piece-preserved
 loop-piece-preserved c =
@@ -19,7 +19,7 @@ loop-piece-preserved c =
       omega (arith, before.0, c.in_ok-end.ensures.order),
       c.in_ok-end.ensures.within,
       c.in_ok-end.ensures.long ∙ before.2,
-      front_stays c.args.used c.loop-piece.end _ c.loop-piece.room c.args.room.now before.0 c.in_ok-end.ensures.front before.3,
+      prefix_stays c.args.used c.loop-piece.end _ c.loop-piece.room c.args.room.now before.0 c.in_ok-end.ensures.prefix before.3,
       before.4 ++ said.0,
       step.0,
       step.1,

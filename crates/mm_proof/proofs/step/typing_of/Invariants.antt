@@ -1,7 +1,7 @@
 use Rattle.std.proofs.Common.{◌≡◌, ℕ, ◌<◌, IsTrue, List, Some, None, is_some, true, slice_get, drop}
 use Rattle.std.specs.List.{AllByRecursion, slice_index_or}
 use Rattle.mm_frame.specs.Sentence.{Sentence}
-use Rattle.mm_frame.specs.FramePlace.{HaveTypings}
+use Rattle.mm_frame.specs.FrameIndex.{HaveTypings}
 use Rattle.mm_frame.specs.Pieces.{variables_of}
 use Rattle.mm_proof.specs.Plain.{label_ids}
 use Rattle.mm_proof.specs.Mirror.CodeVerify.{AreBelow, AreHypothesesOf, IsRightCode, all_names_at}

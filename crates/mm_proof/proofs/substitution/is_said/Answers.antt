@@ -1,13 +1,13 @@
 use Rattle.std.proofs.Common.{drop, sym, ◌∙◌, length}
 use Rattle.std.proofs.lemmas.Bool.{false≢true}
 use Rattle.std.proofs.lemmas.Bool.Decides.{Decides-eqb}
-use Rattle.mm_proof.specs.Stores.{numbers_in, said_by, IsWithinPlaces}
+use Rattle.mm_proof.specs.Stores.{numbers_in, said_by, IsWithinIndices}
 use Rattle.mm_proof.proofs.ByNumbers.NumberedSymbols.{said_step, said_none, said_end, within_at}
 use Rattle.mm_proof.proofs.substitution.is_said.Goals as goal
 
 pub after_said-requires-clause-within : goal.after_said-requires-clause-within
 after_said-requires-clause-within g c =
-    rw c.piece-item.is (within_at (IsWithinPlaces (length (drop c.args.base (g.S.Store.stack c.args.store.now)))) c.args.pieces.now c.loop-piece.piece-index _ c.requires.within c.loop-piece-test.true)
+    rw c.piece-item.is (within_at (IsWithinIndices (length (drop c.args.base (g.S.Store.stack c.args.store.now)))) c.args.pieces.now c.loop-piece.piece-index _ c.requires.within c.loop-piece-test.true)
 
 pub returns-in-None : goal.returns-in-None
 returns-in-None g c = (

@@ -6,21 +6,21 @@ use Rattle.mm_proof.proofs.ByNumbers.UsedAssertions.{called_all}
 use Rattle.mm_proof.proofs.used.fill_called.Goals as goal
 use Rattle.mm_proof.proofs.used.fill_called.Goals.{then-is_called+in_ok-push, else-is_called}
 
-pub loop-place-init : goal.loop-place-init
-loop-place-init c = rw c.clear.ensures.items (first_none (IsCalledAt c.args.calls.now c.args.marks.now) c.args.entries.now)
+pub loop-index-init : goal.loop-index-init
+loop-index-init c = rw c.clear.ensures.items (first_none (IsCalledAt c.args.calls.now c.args.marks.now) c.args.entries.now)
 
-pub loop-place-preserved : goal.loop-place-preserved
-loop-place-preserved c = elim c.if-is_called.branch [
+pub loop-index-preserved : goal.loop-index-preserved
+loop-index-preserved c = elim c.if-is_called.branch [
   | then-is_called+in_ok-push w ↦ rw (w.named-is, w.in_ok-push.ensures.items)
-      (first_more (IsCalledAt c.args.calls.now c.args.marks.now) c.args.entries.now c.loop-place.place _ c.loop-place.named.ids.items c.loop-place-test.true
-      (called_there c.args.calls.now c.args.marks.now c.loop-place.place c.index-calls-place.result (omega arith)
-      (rw c.index-calls-place.is at (c.is_called.ensures.0 w.if-is_called.true))) c.loop-place.invariant)
+      (first_more (IsCalledAt c.args.calls.now c.args.marks.now) c.args.entries.now c.loop-index.index _ c.loop-index.named.ids.items c.loop-index-test.true
+      (called_there c.args.calls.now c.args.marks.now c.loop-index.index c.index-calls-index.result (omega arith)
+      (rw c.index-calls-index.is at (c.is_called.ensures.0 w.if-is_called.true))) c.loop-index.invariant)
   | else-is_called w ↦ rw w.named-is
-      (first_skipped (IsCalledAt c.args.calls.now c.args.marks.now) c.args.entries.now c.loop-place.place c.loop-place.named.ids.items
-      (λ h. false≢true (sym w.if-is_called.false ∙ c.is_called.ensures.1 (rw c.index-calls-place.is
-      (there_called c.args.calls.now c.args.marks.now c.loop-place.place c.index-calls-place.result (omega arith) h)))) c.loop-place.invariant)
+      (first_skipped (IsCalledAt c.args.calls.now c.args.marks.now) c.args.entries.now c.loop-index.index c.loop-index.named.ids.items
+      (λ h. false≢true (sym w.if-is_called.false ∙ c.is_called.ensures.1 (rw c.index-calls-index.is
+      (there_called c.args.calls.now c.args.marks.now c.loop-index.index c.index-calls-index.result (omega arith) h)))) c.loop-index.invariant)
 ]
 
 pub returns : goal.returns
-returns c statements place moves each made marked =
-    called_all statements place c.args.entries.now c.args.calls.now c.args.marks.now c.loop-place.place _ moves c.loop-place-test.false c.loop-place.invariant each made marked
+returns c statements index moves each made marked =
+    called_all statements index c.args.entries.now c.args.calls.now c.args.marks.now c.loop-index.index _ moves c.loop-index-test.false c.loop-index.invariant each made marked

@@ -1,6 +1,6 @@
 use Rattle.std.proofs.Common.{ℕ, List, Result, Err, take, sym, subst, ◌∙◌}
 use Rattle.mm_frame.specs.declared.number.LabelId.{LabelId}
-use Rattle.mm_frame.proofs.Rules.ObeyedRules.{allmeant_front}
+use Rattle.mm_frame.proofs.Rules.ObeyedRules.{allmeant_prefix}
 use Rattle.mm_proof.specs.declared.fault.ProofFault.{ProofFault}
 use Rattle.mm_proof.specs.Proof.{IsWithin}
 use Rattle.mm_proof.specs.Profiles.{limit_of}
@@ -10,22 +10,22 @@ use Rattle.mm_proof.proofs.ProofVerdicts.FirstFault.{on_rule_map, accepts, refus
 use Rattle.mm_proof.proofs.verdict.answer.Goals as goal
 
 pub returns-in_ok-labels-in-Ok-clause-proved : goal.returns-in_ok-labels-in-Ok-clause-proved
-returns-in_ok-labels-in-Ok-clause-proved g c place s moves proof numbered =
-    subst (λ (ids : List LabelId). ProvesUsing (limit_of c.args.steps.now.profile) c.args.book.now.statements place s moves (ids_in ids)) (sym (c.in_ok-labels-in-Ok.ensures.items ∙ c.deref.ensures.value))
-    (c.in-Ok.ensures.proved place s moves proof numbered)
+returns-in_ok-labels-in-Ok-clause-proved g c index s moves proof numbered =
+    subst (λ (ids : List LabelId). ProvesUsing (limit_of c.args.steps.now.profile) c.args.book.now.statements index s moves (ids_in ids)) (sym (c.in_ok-labels-in-Ok.ensures.items ∙ c.deref.ensures.value))
+    (c.in-Ok.ensures.proved index s moves proof numbered)
 
 pub returns-in_ok-labels-in-Ok-clause-refuses : goal.returns-in_ok-labels-in-Ok-clause-refuses
-returns-in_ok-labels-in-Ok-clause-refuses g c place s moves proof numbered rule step fault =
-    refuses (IsWithin (limit_of c.args.steps.now.profile)) (take place c.args.book.now.statements) s moves _ (allmeant_front c.args.book.now.statements place c.judgement_in_order.ensures.sound.0)
-    (λ x is. (c.in-Ok.ensures.proved place s moves proof numbered).0) tt rule step fault
+returns-in_ok-labels-in-Ok-clause-refuses g c index s moves proof numbered rule step fault =
+    refuses (IsWithin (limit_of c.args.steps.now.profile)) (take index c.args.book.now.statements) s moves _ (allmeant_prefix c.args.book.now.statements index c.judgement_in_order.ensures.sound.0)
+    (λ x is. (c.in-Ok.ensures.proved index s moves proof numbered).0) tt rule step fault
 
 pub returns-in-Err-clause-accepts : goal.returns-in-Err-clause-accepts
-returns-in-Err-clause-accepts g c place s moves proof numbered p =
+returns-in-Err-clause-accepts g c index s moves proof numbered p =
     let r : Result (List ℕ) ProofFault = Err c.in-Err.fault in
-    accepts (IsWithin (limit_of c.args.steps.now.profile)) (take place c.args.book.now.statements) s moves r (allmeant_front c.args.book.now.statements place c.judgement_in_order.ensures.sound.0)
-    (on_rule_map c.in-Err.fault _ _ (λ rule step h. h place s moves proof numbered) c.in-Err.ensures.fault) p
+    accepts (IsWithin (limit_of c.args.steps.now.profile)) (take index c.args.book.now.statements) s moves r (allmeant_prefix c.args.book.now.statements index c.judgement_in_order.ensures.sound.0)
+    (on_rule_map c.in-Err.fault _ _ (λ rule step h. h index s moves proof numbered) c.in-Err.ensures.fault) p
 
 pub returns-in-Err-clause-refuses : goal.returns-in-Err-clause-refuses
-returns-in-Err-clause-refuses g c place s moves proof numbered rule step fault =
-    refuses (IsWithin (limit_of c.args.steps.now.profile)) (take place c.args.book.now.statements) s moves (Err c.in-Err.fault) (allmeant_front c.args.book.now.statements place c.judgement_in_order.ensures.sound.0)
-    (λ x is. absurd cc) (on_rule_map c.in-Err.fault _ _ (λ r n h. h place s moves proof numbered) c.in-Err.ensures.fault) rule step fault
+returns-in-Err-clause-refuses g c index s moves proof numbered rule step fault =
+    refuses (IsWithin (limit_of c.args.steps.now.profile)) (take index c.args.book.now.statements) s moves (Err c.in-Err.fault) (allmeant_prefix c.args.book.now.statements index c.judgement_in_order.ensures.sound.0)
+    (λ x is. absurd cc) (on_rule_map c.in-Err.fault _ _ (λ r n h. h index s moves proof numbered) c.in-Err.ensures.fault) rule step fault

@@ -1,4 +1,4 @@
-//! A statement for which memory was wanting is taken again, and the book is as one that wanted
+//! A statement for which memory ran out is taken again, and the book is as one that wanted
 //! none.
 
 ghost use Rattle.mm_text.specs.Statement.{plain_statement, HasForm};
@@ -19,7 +19,7 @@ struct Books<'a> {
     other: Book<'a>,
 }
 
-/// Takes a statement, once more where memory is wanting the first time.
+/// Takes a statement, once more where memory runs out the first time.
 fn take_on<'a>(book: &mut Book<'a>, statement: &Statement<'a>) -> Result<Taken, Fail>
     requires { HasForm (plain_statement statement.now) }
 {

@@ -20,7 +20,7 @@ const THERE: [&[u8]; 10] = [
     b"same-ends-one-same-ends",
 ];
 
-/// Labels that aren't there. The guesses at the places of some of them are those of others.
+/// Labels that aren't there. The guesses at the indices of some of them are those of others.
 const ABSENT: [&[u8]; 6] = [
     b"c",
     b"c",

@@ -25,10 +25,10 @@ pub(crate) enum Question {
     Frame(&'static [u8], &'static str, usize),
     /// The label of an assertion, and those of the two `$f` of its distinct pair.
     Pair(&'static [u8], &'static [u8], &'static [u8]),
-    /// The labels of an assertion and of a hypothesis, and whether this is active at its place.
+    /// The labels of an assertion and of a hypothesis, and whether this is active at its index.
     Active(&'static [u8], &'static [u8], bool),
     /// The labels of an assertion and of two `$f`, and whether their variables are a distinct pair
-    /// at its place.
+    /// at its index.
     Distinct(&'static [u8], &'static [u8], &'static [u8], bool),
 }
 
@@ -110,7 +110,7 @@ fn is_pair(book: &Book, assertion: &[u8], a: &[u8], b: &[u8]) -> bool {
     }
 }
 
-/// Whether the hypothesis is active at the place of the assertion, as given.
+/// Whether the hypothesis is active at the index of the assertion, as given.
 fn is_active(book: &Book, assertion: &[u8], hypothesis: &[u8], wanted: bool) -> bool {
     match (book.find(assertion), id_of(book, hypothesis)) {
         (Found::Assertion(id), Some(hypothesis)) => book.frame(id).active(hypothesis) == wanted,
@@ -118,7 +118,7 @@ fn is_active(book: &Book, assertion: &[u8], hypothesis: &[u8], wanted: bool) -> 
     }
 }
 
-/// Whether the variables of two `$f` are a distinct pair at the place of the assertion, as given.
+/// Whether the variables of two `$f` are a distinct pair at the index of the assertion, as given.
 fn is_distinct(book: &Book, assertion: &[u8], a: &[u8], b: &[u8], wanted: bool) -> bool {
     match (
         book.find(assertion),

@@ -112,10 +112,10 @@ fn count_refused(alloc: Global, text: &[u8], rule: MeaningRule) -> Result<usize,
 /// Whether a case breaks its rule once between two good parts of a database.
 fn is_refused_once(
     alloc: Global,
-    (front, end): (&[u8], &[u8]),
+    (prefix, end): (&[u8], &[u8]),
     Case(middle, rule): &Case,
 ) -> Result<bool, Fail> {
-    let mut text = Vec::from_slice(alloc, front)?;
+    let mut text = Vec::from_slice(alloc, prefix)?;
     text.extend_from_slice(middle)?;
     text.extend_from_slice(end)?;
     Ok(count_refused(alloc, &text, *rule)? == 1)
@@ -131,11 +131,11 @@ fn each_is_refused(alloc: Global, parts: (&[u8], &[u8]), cases: &[Case]) -> Resu
     Ok(())
 }
 
-const FRONT: &[u8] = b"$c a b $. $v x y $. fx $f a x $. ";
+const PREFIX: &[u8] = b"$c a b $. $v x y $. fx $f a x $. ";
 
 const END: &[u8] = b" fy $f a y $. h $e a x $. ${ $v z $. fz $f a z $. p $a a x z y $. $} $c d $. ";
 
-const FRONT_OF_BLOCKS: &[u8] = b"$c a b $. ${ $v x $. fx $f a x $. $} ";
+const PREFIX_OF_BLOCKS: &[u8] = b"$c a b $. ${ $v x $. fx $f a x $. $} ";
 
 const END_OF_BLOCKS: &[u8] = b" ${ $v x $. fy $f a x $. p $a a x $. $} $c d $. ";
 
@@ -146,7 +146,7 @@ const CASES_OF_BLOCKS: [Case; 4] = [
     Case(b"${ $v x $. a $f a x $. $}", MeaningRule::M6),
 ];
 
-// What breaks a rule after `FRONT`. `END` is taken all the same, which needs its names to be free.
+// What breaks a rule after `PREFIX`. `END` is taken all the same, which needs its names to be free.
 // Each function names a short list, since the proof that a list is well formed grows with the
 // square of its length.
 
@@ -162,7 +162,7 @@ fn refused_declarations(rt: HostRuntime) -> Result<(), Fail> {
         Case(b"$v z z $.", MeaningRule::M3),
         Case(b"$c fx $.", MeaningRule::M4),
     ];
-    each_is_refused(rt.alloc(), (FRONT, END), &CASES)
+    each_is_refused(rt.alloc(), (PREFIX, END), &CASES)
 }
 
 #[test]
@@ -175,7 +175,7 @@ fn refused_labelled_statements(rt: HostRuntime) -> Result<(), Fail> {
         Case(b"p $f b x $.", MeaningRule::M12),
         Case(b"p $a a y $.", MeaningRule::M15),
     ];
-    each_is_refused(rt.alloc(), (FRONT, END), &CASES)
+    each_is_refused(rt.alloc(), (PREFIX, END), &CASES)
 }
 
 #[test]
@@ -185,7 +185,7 @@ fn refused_expressions(rt: HostRuntime) -> Result<(), Fail> {
         Case(b"p $a x $.", MeaningRule::M14),
         Case(b"p $e x $.", MeaningRule::M14),
     ];
-    each_is_refused(rt.alloc(), (FRONT, END), &CASES)
+    each_is_refused(rt.alloc(), (PREFIX, END), &CASES)
 }
 
 #[test]
@@ -197,11 +197,11 @@ fn refused_in_blocks_and_pairs(rt: HostRuntime) -> Result<(), Fail> {
         Case(b"$d x z $.", MeaningRule::M7),
         Case(b"${ $v z $. $} $d x z $.", MeaningRule::M7),
     ];
-    each_is_refused(rt.alloc(), (FRONT, END), &CASES)
+    each_is_refused(rt.alloc(), (PREFIX, END), &CASES)
 }
 
 #[test]
 fn refused_after_blocks(rt: HostRuntime) -> Result<(), Fail> {
-    let parts = (FRONT_OF_BLOCKS, END_OF_BLOCKS);
+    let parts = (PREFIX_OF_BLOCKS, END_OF_BLOCKS);
     each_is_refused(rt.alloc(), parts, &CASES_OF_BLOCKS)
 }

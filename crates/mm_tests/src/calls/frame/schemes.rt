@@ -1,17 +1,17 @@
 //! The scheme of an assertion, beside its frame.
 
-use mm_frame::{Book, DistinctPair, Frame, Hypothesis, Piece, Scheme, ShortPiece, Sym, place_of};
+use mm_frame::{Book, DistinctPair, Frame, Hypothesis, Piece, Scheme, ShortPiece, Sym, index_of};
 
 /// Whether the piece says the symbol, where these are the mandatory hypotheses, also as it is asked
-/// for its symbol and its place.
+/// for its symbol and its index.
 fn is_said(hypotheses: &[Hypothesis], piece: ShortPiece, symbol: Sym) -> bool {
-    let place = place_of(hypotheses, symbol);
+    let index = index_of(hypotheses, symbol);
     match piece.symbol() {
         Some(same) => {
-            same == symbol && place.is_none() && piece.piece() == Piece::Symbol(symbol)
+            same == symbol && index.is_none() && piece.piece() == Piece::Symbol(symbol)
         }
         None => {
-            place == Some(piece.place() as usize) && piece.piece() == Piece::Value(piece.place())
+            index == Some(piece.index() as usize) && piece.piece() == Piece::Value(piece.index())
         }
     }
 }
@@ -35,13 +35,13 @@ fn has_pattern(book: &Book, scheme: &Scheme, hypothesis: &Hypothesis) -> bool {
         )
 }
 
-/// Whether the places of the pair are those of its variables.
-fn has_places(hypotheses: &[Hypothesis], pair: &DistinctPair) -> bool {
-    place_of(hypotheses, pair.variables.0) == Some(pair.places.0 as usize)
-        && place_of(hypotheses, pair.variables.1) == Some(pair.places.1 as usize)
+/// Whether the indices of the pair are those of its variables.
+fn has_indices(hypotheses: &[Hypothesis], pair: &DistinctPair) -> bool {
+    index_of(hypotheses, pair.variables.0) == Some(pair.indices.0 as usize)
+        && index_of(hypotheses, pair.variables.1) == Some(pair.indices.1 as usize)
 }
 
-/// Whether the scheme of an assertion has what its frame has, the places of the variables of its
+/// Whether the scheme of an assertion has what its frame has, the indices of the variables of its
 /// pairs, and the patterns of its symbols.
 pub(crate) fn is_scheme(book: &Book, frame: &Frame) -> bool {
     let scheme = frame.scheme();
@@ -50,7 +50,7 @@ pub(crate) fn is_scheme(book: &Book, frame: &Frame) -> bool {
         && scheme
             .pairs
             .iter()
-            .all(|pair| has_places(scheme.hypotheses, pair))
+            .all(|pair| has_indices(scheme.hypotheses, pair))
         && is_pattern(scheme.hypotheses, scheme.conclusion, frame.expression())
         && scheme
             .hypotheses

@@ -26,9 +26,9 @@ const MOST: usize = 16_777_216;
 /// Whether the steps of a whole proof prove the `$p`.
 fn judge_steps(alloc: Global, book: &Book, id: LabelId, steps: &Steps) -> Result<(), Fail>
     requires steps { AreSteps book.now.statements id.0 steps.now.moves }
-    requires whole { steps.now.front ≡ false }
+    requires whole { steps.now.prefix ≡ false }
     ensures makes { OnOk result (OfMoves book.now.statements id.0 steps.now.moves
-        (λ place s moves. MakeOneTree (take place book.now.statements) moves)) }
+        (λ index s moves. MakeOneTree (take index book.now.statements) moves)) }
 {
     let _used = verify(alloc, Flat::new(alloc), book, id, steps)?;
     Ok(())
@@ -41,13 +41,13 @@ pub(crate) fn accepted_steps(
     id: LabelId,
     tokens: &[&[u8]],
 ) -> Result<Steps, Fail>
-    requires proof { (place : ℕ) × (s : Sentence)
-        × IsProofNumber book.now.statements id.0 place s }
+    requires proof { (index : ℕ) × (s : Sentence)
+        × IsProofNumber book.now.statements id.0 index s }
     requires room { sum_by length (texts tokens.now) ≤ most_bytes }
     ensures steps { IfOk result (λ steps. AreSteps book.now.statements id.0 steps.moves) }
-    ensures whole { IfOk result (λ steps. steps.front ≡ false) }
+    ensures whole { IfOk result (λ steps. steps.prefix ≡ false) }
     ensures makes { IfOk result (λ steps. OfMoves book.now.statements id.0 steps.moves
-        (λ place s moves. MakeOneTree (take place book.now.statements) moves)) }
+        (λ index s moves. MakeOneTree (take index book.now.statements) moves)) }
 {
     match Steps::parse(alloc, Profile::Lenient, book, id, tokens)? {
         Parsed::Steps(steps) => {
@@ -64,8 +64,8 @@ fn expanded(
     theorem: &Theorem,
     max: usize,
 ) -> Result<Result<Vec<LabelId>, ExpandFault>, Fail>
-    requires proof { (place : ℕ) × (s : Sentence)
-        × IsProofNumber theorem.now.book.statements theorem.now.id.0 place s }
+    requires proof { (index : ℕ) × (s : Sentence)
+        × IsProofNumber theorem.now.book.statements theorem.now.id.0 index s }
     requires room { sum_by length (texts theorem.now.tokens.items) ≤ most_bytes }
 {
     let steps = accepted_steps(alloc, &theorem.book, theorem.id, &theorem.tokens)?;
@@ -89,8 +89,8 @@ fn has_spelling(
     max: usize,
     labels: &[&[u8]],
 ) -> Result<bool, Fail>
-    requires proof { (place : ℕ) × (s : Sentence)
-        × IsProofNumber theorem.now.book.statements theorem.now.id.0 place s }
+    requires proof { (index : ℕ) × (s : Sentence)
+        × IsProofNumber theorem.now.book.statements theorem.now.id.0 index s }
     requires room { sum_by length (texts theorem.now.tokens.items) ≤ most_bytes }
 {
     match expanded(alloc, theorem, max)? {
@@ -137,8 +137,8 @@ fn spellings(rt: HostRuntime) -> Result<(), Fail> {
 
 /// Whether the proof of the theorem and other tokens spell one tree.
 fn is_same(alloc: Global, theorem: &Theorem, tokens: &[&[u8]]) -> Result<bool, Fail>
-    requires proof { (place : ℕ) × (s : Sentence)
-        × IsProofNumber theorem.now.book.statements theorem.now.id.0 place s }
+    requires proof { (index : ℕ) × (s : Sentence)
+        × IsProofNumber theorem.now.book.statements theorem.now.id.0 index s }
     requires room { sum_by length (texts theorem.now.tokens.items) ≤ most_bytes }
     requires others_room { sum_by length (texts tokens.now) ≤ most_bytes }
 {
@@ -210,8 +210,8 @@ fn sameness(rt: HostRuntime) -> Result<(), Fail> {
 
 /// The fully shared proof of the theorem.
 fn packed_of(alloc: Global, theorem: &Theorem) -> Result<Packed, Fail>
-    requires proof { (place : ℕ) × (s : Sentence)
-        × IsProofNumber theorem.now.book.statements theorem.now.id.0 place s }
+    requires proof { (index : ℕ) × (s : Sentence)
+        × IsProofNumber theorem.now.book.statements theorem.now.id.0 index s }
     requires room { sum_by length (texts theorem.now.tokens.items) ≤ most_bytes }
 {
     let steps = accepted_steps(alloc, &theorem.book, theorem.id, &theorem.tokens)?;

@@ -33,7 +33,7 @@ fn expect(holds: bool, what: &'static str) -> Result<(), Fail>
     if holds { Ok(()) } else { Err(Fail::from(what)) }
 }
 
-/// Pushes an expression, once more where memory is wanting; the stack is then as long as before.
+/// Pushes an expression, once more where memory runs out; the stack is then as long as before.
 fn push_on<S: Store>(store: &mut S, expression: &[Sym]) -> Result<(), Fail>
     ensures pushed { OnOk result
         (S.stack store.new ≡ S.stack store.old ++ numbers_in expression.now ∷ []) }
@@ -47,7 +47,7 @@ fn push_on<S: Store>(store: &mut S, expression: &[Sym]) -> Result<(), Fail>
     expect(store.push(expression).is_ok(), "a push is refused twice")
 }
 
-/// Keeps the last entry, once more where memory is wanting; the stack is then as long as before.
+/// Keeps the last entry, once more where memory runs out; the stack is then as long as before.
 fn keep_on<S: Store>(store: &mut S) -> Result<(), Fail>
     requires { 0 < length (S.stack store.old) }
     ensures kept { OnOk result ((e : List ℕ)
@@ -63,18 +63,18 @@ fn keep_on<S: Store>(store: &mut S) -> Result<(), Fail>
     expect(store.keep().is_ok(), "a keep is refused twice")
 }
 
-/// Pushes a copy of a kept entry, once more where memory is wanting; the stack is then as long as
+/// Pushes a copy of a kept entry, once more where memory runs out; the stack is then as long as
 /// before.
-fn copy_on<S: Store>(store: &mut S, place: usize) -> Result<(), Fail>
-    requires { place < length (S.kept store.old) }
+fn copy_on<S: Store>(store: &mut S, index: usize) -> Result<(), Fail>
+    requires { index < length (S.kept store.old) }
     ensures kept { S.kept store.new ≡ S.kept store.old }
 {
     let before = store.len();
-    if store.push_copy(place).is_ok() {
+    if store.push_copy(index).is_ok() {
         return Ok(());
     }
     expect(store.len() == before, "a refused copy leaves an entry")?;
-    expect(store.push_copy(place).is_ok(), "a copy is refused twice")
+    expect(store.push_copy(index).is_ok(), "a copy is refused twice")
 }
 
 /// Whether the stack has the two entries that were pushed, and then their copies.
@@ -107,13 +107,13 @@ fn growths_of_stores(rt: HostRuntime) -> Result<(), Fail> {
     go_on(Rows::new(rt.alloc()))
 }
 
-/// The fully shared proof of a whole proof's tree, asked for once more where memory was wanting the
+/// The fully shared proof of a whole proof's tree, asked for once more where memory ran out the
 /// first time.
 fn compress_on(alloc: Global, book: &Book, id: LabelId, steps: &Steps) -> Result<Packed, Fail>
     requires steps { AreSteps book.now.statements id.0 steps.now.moves }
-    requires whole { steps.now.front ≡ false }
+    requires whole { steps.now.prefix ≡ false }
     requires makes { OfMoves book.now.statements id.0 steps.now.moves
-        (λ place s moves. MakeOneTree (take place book.now.statements) moves) }
+        (λ index s moves. MakeOneTree (take index book.now.statements) moves) }
 {
     match compress(alloc, book, id, steps) {
         Ok(packed) => Ok(packed),
@@ -123,8 +123,8 @@ fn compress_on(alloc: Global, book: &Book, id: LabelId, steps: &Steps) -> Result
 
 /// Whether the theorem's fully shared proof is that of `t = t`.
 fn packs_on(alloc: Global, theorem: &Theorem) -> Result<bool, Fail>
-    requires proof { (place : ℕ) × (s : Sentence)
-        × IsProofNumber theorem.now.book.statements theorem.now.id.0 place s }
+    requires proof { (index : ℕ) × (s : Sentence)
+        × IsProofNumber theorem.now.book.statements theorem.now.id.0 index s }
     requires room { sum_by length (texts theorem.now.tokens.items) ≤ most_bytes }
 {
     let steps = accepted_steps(alloc, &theorem.book, theorem.id, &theorem.tokens)?;

@@ -84,8 +84,8 @@ fn take_numbered<'a>(
     statement: &Statement<'a>,
 ) -> Result<Option<LabelId>, Fail>
     requires { HasForm (plain_statement statement.now) }
-    ensures proof { IfOk result (λ taken. IfSome taken (λ id. (place : ℕ) × (s : Sentence)
-        × IsProofNumber prover.new.book.statements id.0 place s)) }
+    ensures proof { IfOk result (λ taken. IfSome taken (λ id. (index : ℕ) × (s : Sentence)
+        × IsProofNumber prover.new.book.statements id.0 index s)) }
 {
     let taken = take(prover, statement)?;
     if let Some(id) = theorem_number(statement.kind, taken) {
@@ -101,8 +101,8 @@ fn told<'a>(
     id: LabelId,
     statement: &Statement<'a>,
 ) -> Told
-    requires { (place : ℕ) × (s : Sentence)
-        × IsProofNumber prover.old.book.statements id.0 place s }
+    requires { (index : ℕ) × (s : Sentence)
+        × IsProofNumber prover.old.book.statements id.0 index s }
 {
     let proved = prover.prove(profile, id, &statement.proof)?;
     Ok((proved == Proved::Complete, !prover.used().is_empty()))

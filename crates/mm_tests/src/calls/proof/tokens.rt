@@ -15,8 +15,8 @@ use std::test::Fail;
 
 /// Whether the tokens, as a proof of the theorem, are refused for a label that isn't known.
 fn have_unknown_label(alloc: Global, theorem: &Theorem, tokens: &[&[u8]]) -> bool
-    requires proof { (place : ℕ) × (s : Sentence)
-        × IsProofNumber theorem.now.book.statements theorem.now.id.0 place s }
+    requires proof { (index : ℕ) × (s : Sentence)
+        × IsProofNumber theorem.now.book.statements theorem.now.id.0 index s }
     requires room { sum_by length (texts tokens.now) ≤ most_bytes }
 {
     let rule = ProofRule::P2;
@@ -24,10 +24,10 @@ fn have_unknown_label(alloc: Global, theorem: &Theorem, tokens: &[&[u8]]) -> boo
     parsed.err() == Some(ProofFault::Rule { rule, step: 0 })
 }
 
-/// Whether a token without bytes is no label: of a normal proof, of a list, and of a known front.
+/// Whether a token without bytes is no label: of a normal proof, of a list, and of a known prefix.
 fn empty_is_no_label(alloc: Global, theorem: &Theorem) -> bool
-    requires { (place : ℕ) × (s : Sentence)
-        × IsProofNumber theorem.now.book.statements theorem.now.id.0 place s }
+    requires { (index : ℕ) × (s : Sentence)
+        × IsProofNumber theorem.now.book.statements theorem.now.id.0 index s }
 {
     let normal: [&[u8]; 2] = [b"nil", b""];
     let listed: [&[u8]; 3] = [b"(", b"", b")"];

@@ -4,5 +4,5 @@ use Rattle.mm_text.proofs.comments.after_blank.Goals as goal
 
 pub returns-then-at-legal-clause-same_tokens : goal.returns-then-at-legal-clause-same_tokens
 returns-then-at-legal-clause-same_tokens c file =
-    let within = c.requires.front.within in
+    let within = c.requires.prefix.within in
     tokens_from-step c.args.bytes.now file c.args.at (omega arith) (c.requires.blank (omega arith))

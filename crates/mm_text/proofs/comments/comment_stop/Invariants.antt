@@ -1,5 +1,5 @@
 use Rattle.std.proofs.Common.{◌≡◌, ℕ, ◌≤◌, ◌<◌, get_or, true}
-use Rattle.mm_text.specs.Mirror.Place.{is_quiet}
+use Rattle.mm_text.specs.Mirror.Position.{is_quiet}
 use Rattle.mm_text.proofs.comments.comment_stop.Given as goal
 
 -- at no byte so far can the comment end or be wrong

@@ -10,16 +10,16 @@ use Rattle.mm_text.proofs.Tokens.WordsAndComments.{skipped_legal}
 use Rattle.mm_text.proofs.comments.take_one.Goals as goal
 
 -- nothing but white space is left
-pub returns-then-start-place-clause-takes : goal.returns-then-start-place-clause-takes
-returns-then-start-place-clause-takes c =
-    let p = c.args.place.now in
+pub returns-then-start-position-clause-takes : goal.returns-then-start-position-clause-takes
+returns-then-start-position-clause-takes c =
+    let p = c.args.position.now in
     ap (without_comments _) (c.skip_space-start.ensures.same_tokens p.file ∙ tokens_from-end p.bytes.now p.file c.skip_space-start.result (omega arith))
     ∙ outside-end
 
-pub returns-then-place-end-clause-takes : goal.returns-then-place-end-clause-takes
-returns-then-place-end-clause-takes c =
-    let p = c.args.place.now in
-    let illegal = token_illegal _ _ _ _ _ _ c.make_token-token.ensures.token (c.legal_front-place.ensures.judged.stops (omega arith)) (skipped_legal _ _ p.at _ _ c.legal_front-place.ensures.judged (omega arith) (omega arith) c.skip_space-start.ensures.space) (omega arith) (omega arith) c.token_end-end.ensures.ink in (
+pub returns-then-position-end-clause-takes : goal.returns-then-position-end-clause-takes
+returns-then-position-end-clause-takes c =
+    let p = c.args.position.now in
+    let illegal = token_illegal _ _ _ _ _ _ c.make_token-token.ensures.token (c.legal_prefix-position.ensures.judged.stops (omega arith)) (skipped_legal _ _ p.at _ _ c.legal_prefix-position.ensures.judged (omega arith) (omega arith) c.skip_space-start.ensures.space) (omega arith) (omega arith) c.token_end-end.ensures.ink in (
       outside_token p _ _ _ c.skip_space-start.ensures.same_tokens c.token_end-end.ensures.token c.make_token-token.ensures.token
           ∙ outside-illegal _ _ illegal,
       c.make_token-token.ensures.at,
@@ -27,40 +27,40 @@ returns-then-place-end-clause-takes c =
 
 pub returns-then-is_close-clause-takes : goal.returns-then-is_close-clause-takes
 returns-then-is_close-clause-takes c =
-    let printable = token_printable _ _ _ _ _ _ c.make_token-token.ensures.token c.legal_front-place.ensures.judged.front (omega arith) (omega arith) c.token_end-end.ensures.ink in
+    let printable = token_printable _ _ _ _ _ _ c.make_token-token.ensures.token c.legal_prefix-position.ensures.judged.prefix (omega arith) (omega arith) c.token_end-end.ensures.ink in
     let close = sym c.is_close.ensures ∙ c.if-is_close.true in
     let none = ap (λ l. spells l (codes "$(")) ((bytes_decides (plain_token c.make_token-token.result).text (codes "$)")).0 close) in (
-      outside_token c.args.place.now _ _ _ c.skip_space-start.ensures.same_tokens c.token_end-end.ensures.token c.make_token-token.ensures.token
+      outside_token c.args.position.now _ _ _ c.skip_space-start.ensures.same_tokens c.token_end-end.ensures.token c.make_token-token.ensures.token
           ∙ outside-close _ _ printable none close,
       c.make_token-token.ensures.at,
     )
 
-pub returns-in_err-place-clause-takes : goal.returns-in_err-place-clause-takes
-returns-in_err-place-clause-takes c =
-    let printable = token_printable _ _ _ _ _ _ c.make_token-token.ensures.token c.legal_front-place.ensures.judged.front (omega arith) (omega arith) c.token_end-end.ensures.ink in
+pub returns-in_err-position-clause-takes : goal.returns-in_err-position-clause-takes
+returns-in_err-position-clause-takes c =
+    let printable = token_printable _ _ _ _ _ _ c.make_token-token.ensures.token c.legal_prefix-position.ensures.judged.prefix (omega arith) (omega arith) c.token_end-end.ensures.ink in
     let e = err_from_is_err_and c.from_residual.result c.from_residual.ensures.1 in
     rw (e.1, e.2) (
-      (outside_token c.args.place.now _ _ _ c.skip_space-start.ensures.same_tokens c.token_end-end.ensures.token c.make_token-token.ensures.token
+      (outside_token c.args.position.now _ _ _ c.skip_space-start.ensures.same_tokens c.token_end-end.ensures.token c.make_token-token.ensures.token
           ∙ outside-begin _ _ printable (sym c.is_begin.ensures ∙ c.if-is_begin.true)
-          ∙ c.in_err-place.ensures.0),
-      c.in_err-place.ensures.1,
+          ∙ c.in_err-position.ensures.0),
+      c.in_err-position.ensures.1,
     )
 
 pub returns-then-is_begin-clause-takes : goal.returns-then-is_begin-clause-takes
 returns-then-is_begin-clause-takes c =
-    let printable = token_printable _ _ _ _ _ _ c.make_token-token.ensures.token c.legal_front-place.ensures.judged.front (omega arith) (omega arith) c.token_end-end.ensures.ink in (
-      omega (arith, c.in_ok-place.ensures.0.after),
-      outside_token c.args.place.now _ _ _ c.skip_space-start.ensures.same_tokens c.token_end-end.ensures.token c.make_token-token.ensures.token
+    let printable = token_printable _ _ _ _ _ _ c.make_token-token.ensures.token c.legal_prefix-position.ensures.judged.prefix (omega arith) (omega arith) c.token_end-end.ensures.ink in (
+      omega (arith, c.in_ok-position.ensures.0.after),
+      outside_token c.args.position.now _ _ _ c.skip_space-start.ensures.same_tokens c.token_end-end.ensures.token c.make_token-token.ensures.token
           ∙ outside-begin _ _ printable (sym c.is_begin.ensures ∙ c.if-is_begin.true)
-          ∙ c.in_ok-place.ensures.1,
+          ∙ c.in_ok-position.ensures.1,
     )
 
 pub returns-clause-takes : goal.returns-clause-takes
 returns-clause-takes c =
-    let printable = token_printable _ _ _ _ _ _ c.make_token-token.ensures.token c.legal_front-place.ensures.judged.front (omega arith) (omega arith) c.token_end-end.ensures.ink in
+    let printable = token_printable _ _ _ _ _ _ c.make_token-token.ensures.token c.legal_prefix-position.ensures.judged.prefix (omega arith) (omega arith) c.token_end-end.ensures.ink in
     let begins = sym c.is_begin.ensures ∙ c.if-is_begin.false in
     let closes = sym c.is_close.ensures ∙ c.if-is_close.false in (
-      outside_token c.args.place.now _ _ _ c.skip_space-start.ensures.same_tokens c.token_end-end.ensures.token c.make_token-token.ensures.token
+      outside_token c.args.position.now _ _ _ c.skip_space-start.ensures.same_tokens c.token_end-end.ensures.token c.make_token-token.ensures.token
           ∙ outside-clear _ _ printable begins closes,
       record {
         at = c.make_token-token.ensures.at;

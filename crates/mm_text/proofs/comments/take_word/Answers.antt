@@ -8,9 +8,9 @@ use Rattle.mm_text.proofs.comments.take_word.Goals as goal
 -- a token without `$` neither begins nor closes a comment
 pub returns-clause-takes : goal.returns-clause-takes
 returns-clause-takes c =
-    let p = c.args.place.now in
+    let p = c.args.position.now in
     let t = plain_token c.make_token.result in
-    let printable = token_printable _ _ _ _ _ _ c.make_token.ensures.token c.requires.front
+    let printable = token_printable _ _ _ _ _ _ c.make_token.ensures.token c.requires.prefix
     (omega arith) (omega arith) c.token_end-end.ensures.ink in
     let lacks : holds_dollar t.text ≡ false =
     ap (λ (u : PlainToken). holds_dollar u.text) c.make_token.ensures.token
@@ -19,7 +19,7 @@ returns-clause-takes c =
           c.token_end-end.ensures.token c.make_token.ensures.token
           ∙ outside-clear t _ printable
           (no_dollar-spells t.text 40 lacks) (no_dollar-spells t.text 41 lacks)
-          ∙ ap (λ tokens. Clear t ∷ without_comments None tokens) (c.after_blank-place.ensures.same_tokens p.file),
+          ∙ ap (λ tokens. Clear t ∷ without_comments None tokens) (c.after_blank-position.ensures.same_tokens p.file),
       record {
         at = c.make_token.ensures.at;
         begins = no_dollar-spells t.text 40 lacks;

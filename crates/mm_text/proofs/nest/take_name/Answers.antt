@@ -1,9 +1,9 @@
 use Rattle.std.proofs.Common.{sym, ap, ◌∙◌}
 use Rattle.std.proofs.lemmas.Result.{err_from_is_err_and}
-use Rattle.mm_text.specs.declared.comments.Place.{Place}
+use Rattle.mm_text.specs.declared.comments.Position.{Position}
 use Rattle.mm_text.specs.Token.{plain_token}
 use Rattle.mm_text.specs.Items.{Naming, Closing, pieces}
-use Rattle.mm_text.specs.Mirror.Place.{shown_at}
+use Rattle.mm_text.specs.Mirror.Position.{shown_at}
 use Rattle.mm_text.proofs.Inclusions.FilePieces.{naming-dollar, naming-name, closing-other}
 use Rattle.mm_text.proofs.Inclusions.FilePieces.{closing-close}
 use Rattle.mm_text.proofs.nest.take_name.Goals as goal
@@ -22,8 +22,8 @@ returns-in_err-close-clause-takes c =
     rw (e.1, e.2) (
       ap (pieces _ (Naming _)) c.in_ok-name.ensures.takes.0
           ∙ naming-name _ _ _ _ (sym c.in_ok-name.ensures.takes.1.dollar ∙ c.if-has_dollar.false)
-          ∙ ap (λ n. pieces n (Closing (plain_token c.args.begin) name) (shown_at c.take_inner.new.place))
-          (sym (ap (λ (q : Place). q.file) c.in_ok-name.ensures.same))
+          ∙ ap (λ n. pieces n (Closing (plain_token c.args.begin) name) (shown_at c.take_inner.new.position))
+          (sym (ap (λ (q : Position). q.file) c.in_ok-name.ensures.same))
           ∙ c.in_err-close.ensures.takes.1 name,
       c.in_err-close.ensures.takes.2,
     )

@@ -2,7 +2,7 @@ use Rattle.std.proofs.Common.{◌≡◌, false, [], ◌∷◌, sym, ap, ◌∙�
 use Rattle.mm_text.specs.Token.{plain_token}
 use Rattle.mm_text.specs.declared.class.Class.TheVariants as class
 use Rattle.mm_text.specs.Items.{Outside, pieces, Met, End, holds_dollar}
-use Rattle.mm_text.specs.declared.comments.Place.{Place}
+use Rattle.mm_text.specs.declared.comments.Position.{Position}
 use Rattle.mm_text.proofs.Tokens.WordsAndComments.{no_dollar-spells}
 use Rattle.mm_text.proofs.Inclusions.FilePieces.{pieces-end, pieces-broken, pieces-inclusion}
 use Rattle.mm_text.proofs.Inclusions.FilePieces.{pieces-class, class_tells}
@@ -25,7 +25,7 @@ returns-in-Err-clause-takes c = (
 pub returns-in-Ok-None-clause-takes : goal.returns-in-Ok-None-clause-takes
 returns-in-Ok-None-clause-takes c =
     let h = rw c.in-Ok-None.field-0-is at c.in-Ok-None.ensures.takes in
-    ap (pieces _ Outside) h ∙ pieces-end _ ∙ ap (λ n. Met (End n) ∷ []) (sym (ap (λ (q : Place). q.file) c.in-Ok-None.ensures.same))
+    ap (pieces _ Outside) h ∙ pieces-end _ ∙ ap (λ n. Met (End n) ∷ []) (sym (ap (λ (q : Position). q.file) c.in-Ok-None.ensures.same))
 
 -- a token without `$` is a word
 pub returns-then-not-has_dollar-clause-takes : goal.returns-then-not-has_dollar-clause-takes

@@ -2,7 +2,7 @@ use Rattle.std.proofs.Common.{◌≡◌, ◌+◌, ◌≤◌, length, sym, ◌∙
 use Rattle.std.specs.Prelude.{slice_range}
 use Rattle.std.specs.List.{list_all}
 use Rattle.std.proofs.str.Laws.{order}
-use Rattle.mm_text.specs.Mirror.Place.{is_legal}
+use Rattle.mm_text.specs.Mirror.Position.{is_legal}
 use Rattle.mm_text.proofs.Tokens.ManyBytes.{legal_in}
 use Rattle.mm_text.proofs.scan.legal_blocks.Goals as goal
 
@@ -16,6 +16,6 @@ loop-end-preserved c =
       omega (arith, c.loop-end.invariant.0),
       record {
         within = within;
-        front = λ k high. ⊎_elim (λ before. c.loop-end.invariant.1.front k before) (λ from. legal_in bytes end (end + 1024) k within from high all) (order k end);
+        prefix = λ k high. ⊎_elim (λ before. c.loop-end.invariant.1.prefix k before) (λ from. legal_in bytes end (end + 1024) k within from high all) (order k end);
       },
     )

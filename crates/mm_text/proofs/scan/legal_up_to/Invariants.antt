@@ -1,5 +1,5 @@
 use Rattle.std.proofs.Common.{◌≡◌, ℕ, ◌<◌, get_or, true}
-use Rattle.mm_text.specs.Mirror.Place.{is_legal}
+use Rattle.mm_text.specs.Mirror.Position.{is_legal}
 use Rattle.mm_text.proofs.scan.legal_up_to.Given as goal
 
 -- each byte so far may stand in a file

@@ -9,7 +9,8 @@ use Rattle.mm_text.specs.Items.{holds_dollar}
 use Rattle.mm_text.proofs.Tokens.WordsAndComments.{tokens_from-token, space_after, slice_byte}
 use Rattle.mm_text.proofs.scan.token_end.Goals as goal
 
--- A token goes on over bytes above `$`; whether it holds a `$`, by its bytes' places in the file.
+-- A token goes on over bytes above `$`; whether it holds a `$`, by its bytes' positions in the
+-- file.
 
 slice_length : (bytes : List ℕ) (start stop : ℕ) → start ≤ stop → stop ≤ length bytes
     → length (slice_range bytes start stop) ≡ stop - start
@@ -34,10 +35,10 @@ has_dollar : (bytes : List ℕ) (start at stop : ℕ) → start ≤ at → at < 
 has_dollar bytes start at stop from before within dollar =
     let text = slice_range bytes start stop in
     let long : length text ≡ stop - start = slice_length bytes start stop (omega arith) within in
-    let place : start + (at - start) ≡ at = omega arith in
+    let position : start + (at - start) ≡ at = omega arith in
     let byte : get_or text (at - start) 0 ≡ 36 =
     slice_byte bytes start stop (at - start) (omega arith)
-    ∙ ap (λ n. get_or bytes n 0) place ∙ dollar in
+    ∙ ap (λ n. get_or bytes n 0) position ∙ dollar in
     list_any_at (λ b. b == 36) text (at - start) 0 (omega arith) (ap (λ b. b == 36) byte)
 
 -- a byte above `$` is no white space
@@ -56,7 +57,7 @@ high_ink b high =
 high_word : (b : ℕ) → nat_lt 36 b ≡ true → (b == 36) ≡ false
 high_word b high = let above : 36 < b = ltb-true 36 b high in ne_eqb b 36 (λ e. omega arith)
 
--- what no byte was up to one place, and none is that is passed over, none was up to the next
+-- what no byte was up to one position, and none is that is passed over, none was up to the next
 run_on : (bytes : List ℕ) (start from at : ℕ) (q : ℕ → Bool)
     → ((b : ℕ) → nat_lt 36 b ≡ true → q b ≡ false)
     → ((k : ℕ) → start ≤ k → k < from → q (get_or bytes k 0) ≡ false)
@@ -103,7 +104,7 @@ returns-then-is_space-clause-dollar c =
     sym (lacks_dollar _ _ _ (omega arith) (omega arith) (run_on _ _ c.words.from _ (λ b. b == 36)
     high_word c.words.invariant.words c.first_sought-at.ensures.passed))
 
--- no byte up to one place is white space, and none up to the next
+-- no byte up to one position is white space, and none up to the next
 ink_on : (bytes : List ℕ) (start at end : ℕ)
     → ((k : ℕ) → start ≤ k → k < at → is_space (get_or bytes k 0) ≡ false)
     → ((k : ℕ) → at ≤ k → k < end → is_space (get_or bytes k 0) ≡ false)

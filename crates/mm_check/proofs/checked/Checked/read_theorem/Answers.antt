@@ -39,8 +39,8 @@ reread-requires-clause-stands c =
     let well = subst KeptWell c.self.view_is c.self.invariant in
     let files : map plain_file c.self.inside.files.now ≡ now.files = ap (λ (v : Conclusion). v.files) c.self.view_is in
     let own : AreOf now well.origin.statements = own_statements now well.origin in
-    let (place, s, at, both) = c.in_ok-id.ensures.found well.origin.statements own.kept in
-    (well.origin.statements, s, rw files own.accepted.reads, (place, at.there, both.0))
+    let (index, s, at, both) = c.in_ok-id.ensures.found well.origin.statements own.kept in
+    (well.origin.statements, s, rw files own.accepted.reads, (index, at.there, both.0))
 
 pub theorem_of-requires-clause-proof : goal.theorem_of-requires-clause-proof
 theorem_of-requires-clause-proof c =

@@ -39,9 +39,9 @@ put_in-requires-clause-there c =
     let statements : List PlainStatement = well.origin.statements in
     let reads : Reads now.files statements None = well.origin.accepted.reads in
     let r = (c.in_ok-theorem.ensures.read statements reads).1 in
-    let home = c.in_ok-theorem.ensures.home statements reads r.s (r.place, r.there, r.named) in
+    let home = c.in_ok-theorem.ensures.home statements reads r.s (r.index, r.there, r.named) in
     subst (λ (fs : List PlainFile). HoldsSpan fs c.in_ok-theorem.theorem.file c.in_ok-theorem.theorem.span) (sym files)
-    (holds_span now.files statements r.place r.s c.in_ok-theorem.theorem.file c.in_ok-theorem.theorem.span reads r.there r.complete home.0 home.1)
+    (holds_span now.files statements r.index r.s c.in_ok-theorem.theorem.file c.in_ok-theorem.theorem.span reads r.there r.complete home.0 home.1)
 
 pub put_in-requires-clause-within : goal.put_in-requires-clause-within
 put_in-requires-clause-within c =

@@ -8,8 +8,8 @@ pub returns-clause-pairs : goal.returns-clause-pairs
 returns-clause-pairs c =
     rw (← c.self.view_is) (c.scheme.ensures _ _ c.self.invariant.1 c.self.invariant.2).pairs
 
-pub returns-clause-places : goal.returns-clause-places
-returns-clause-places c = (c.scheme.ensures _ _ c.self.invariant.1 c.self.invariant.2).places
+pub returns-clause-indices : goal.returns-clause-indices
+returns-clause-indices c = (c.scheme.ensures _ _ c.self.invariant.1 c.self.invariant.2).indices
 
 pub returns-clause-conclusion : goal.returns-clause-conclusion
 returns-clause-conclusion c =

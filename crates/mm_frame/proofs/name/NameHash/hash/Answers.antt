@@ -11,7 +11,7 @@ returns-then-self-gt-MOST_IN_ENDS g c =
 pub returns-else-self-gt-MOST_IN_ENDS : goal.returns-else-self-gt-MOST_IN_ENDS
 unfolding hashed
 returns-else-self-gt-MOST_IN_ENDS g c =
-    let front : c.self.inside.front ≡ (ends_of c.self.inside.bytes.now).0 = ap (λ p. p.0) c.self.invariant.ends in
+    let prefix : c.self.inside.prefix ≡ (ends_of c.self.inside.bytes.now).0 = ap (λ p. p.0) c.self.invariant.ends in
     let back : c.self.inside.back ≡ (ends_of c.self.inside.bytes.now).1 = ap (λ p. p.1) c.self.invariant.ends in
     let short : length c.self.inside.bytes.now ≤ 16 = omega arith in
-    rw (← c.self.view_is, le-ltb 16 (length c.self.inside.bytes.now) short, ← front, ← back, c.write_u64-else-self-gt-MOST_IN_ENDS.ensures, c.write_u64.ensures) refl
+    rw (← c.self.view_is, le-ltb 16 (length c.self.inside.bytes.now) short, ← prefix, ← back, c.write_u64-else-self-gt-MOST_IN_ENDS.ensures, c.write_u64.ensures) refl

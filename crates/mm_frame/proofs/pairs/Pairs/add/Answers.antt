@@ -12,11 +12,11 @@ invariant_of-self c =
     let after = newest_of c.note_newest.new.near.items c.note_newest.new.far in
     let room = ap (λ t. t.room) c.self.view_is in
     let space : vec_len c.self.inside.spans < vec_capacity c.self.inside.spans = omega arith in
-    let s : Span = record { pair = c.args.pair; place = c.args.place; older = c.newest_of-older.result } in
+    let s : Span = record { pair = c.args.pair; index = c.args.index; older = c.newest_of-older.result } in
     let pushed : c.push.new.self.items ≡ spans ++ s ∷ [] =
     c.push.ensures.items ∙ ap (λ b. if b then (spans ++ s ∷ []) else spans) (c.push.ensures.succeeds space) in
     let older : c.newest_of-older.result ≡ before c.args.pair =
     c.newest_of-older.ensures ∙ ap (λ near. newest_of near c.self.inside.newest c.args.pair) c.deref.ensures.value in
     let number : c.len-number.result ≡ length spans = c.len-number.ensures ∙ c.self.inside.spans.ok.0 in
     let values = rw number at c.note_newest.ensures.noted in
-    rw pushed (rw older (linked_push _ _ after c.args.pair c.args.place c.self.invariant values))
+    rw pushed (rw older (linked_push _ _ after c.args.pair c.args.index c.self.invariant values))

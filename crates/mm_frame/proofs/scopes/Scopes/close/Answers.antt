@@ -15,5 +15,5 @@ pub returns : goal.returns
 returns c st e a is_close more =
     let (within, scopes) = closed _ _ e _ _ _ c.pop.new.self.items c.pop.result c.innermost-block.result c.innermost-outer.result
     c.innermost-block.ensures c.innermost-outer.ensures c.pop.ensures.items (λ some. c.pop.ensures.variant.1 (omega arith)) a is_close more in
-    let place : c.len-place.result ≡ length c.args.self.now.blocks.items = omega arith in
-    rw (c.put.ensures, c.write.ensures within, place) scopes
+    let index : c.len-index.result ≡ length c.args.self.now.blocks.items = omega arith in
+    rw (c.put.ensures, c.write.ensures within, index) scopes

@@ -8,8 +8,8 @@ use Rattle.mm_frame.proofs.DistinctPairs.StatedPairs.{wide_at, active_next}
 use Rattle.mm_frame.proofs.tables.Tables.active_wide.Goals as goal
 use Rattle.mm_frame.proofs.BookLists.GrownLists.{all_statements}
 
-pub is_active-requires-clause-place : goal.is_active-requires-clause-place
-is_active-requires-clause-place c =
+pub is_active-requires-clause-index : goal.is_active-requires-clause-index
+is_active-requires-clause-index c =
     let there = wide_at _ _ _ _ _ c.wide-wide.ensures c.if-left-eq0.false
     c.loop.invariant.within c.index-wide-left.is in
     let is = c.requires.stated.wide.each _ _ there in
@@ -38,8 +38,8 @@ loop-preserved c =
     let whole : take c.len-at.result st ≡ st = ap (λ m. take m st) all ∙ take-length st in
     let small : length st ≤ NEVER = omega (arith, c.requires.counted, c.requires.small, size) in
     let tell = c.is_active.ensures st c.requires.scopes small in
-    let no : ¬ (IsActive st w.place) =
-    λ active. absurd (let yes = tell.1 (subst (λ ys. IsActive ys w.place) (sym whole) active) in
+    let no : ¬ (IsActive st w.index) =
+    λ active. absurd (let yes = tell.1 (subst (λ ys. IsActive ys w.index) (sym whole) active) in
     let not = c.if-is_active.false in cc) in
     record {
       within = omega arith;

@@ -7,6 +7,6 @@ use Rattle.mm_frame.proofs.tables.Tables.active_wide.Given as goal
 abbrev pub invariant-loop : goal.invariant-loop
 invariant-loop l = record {
   within : l.left + l.counter ≤ length l.self.distinct.stated.wide;
-  none : NoneFrom (λ w. IsActive (statements_of l.self) w.place)
+  none : NoneFrom (λ w. IsActive (statements_of l.self) w.index)
       l.self.distinct.stated.wide l.left;
 }

@@ -12,9 +12,9 @@ pub returns-then-eq : goal.returns-then-eq
 returns-then-eq c f said =
     let t = c.args.self.now in
     let st = statements_of t in
-    let there : slice_get t.log.items c.args.place ≡ Some c.in-Some.entry = ap (λ xs. slice_get xs c.args.place) (sym c.deref.ensures.value) ∙ sym c.at.ensures ∙ c.in-Some.is in
+    let there : slice_get t.log.items c.args.index ≡ Some c.in-Some.entry = ap (λ xs. slice_get xs c.args.index) (sym c.deref.ensures.value) ∙ sym c.at.ensures ∙ c.in-Some.is in
     let kind : c.in-Some.entry.kind ≡ Floating = same_true the_type (search rules) _ _ (sym c.if-eq.ensures) in
-    let floats = kind_at t.symbols.names t.labels.names t.flat.items t.log.items c.args.place c.in-Some.entry f there said ∙ kind in
+    let floats = kind_at t.symbols.names t.labels.names t.flat.items t.log.items c.args.index c.in-Some.entry f there said ∙ kind in
     let (a, n, is, (code, x, types, first, number)) = typing_says st f c.symbols_at.result.now
     (c.requires.sound.1 _ f said) floats (c.symbols_at.ensures f said) in
     let found = c.at-then-eq.ensures ∙ ap (λ ns. slice_get ns 1) is in

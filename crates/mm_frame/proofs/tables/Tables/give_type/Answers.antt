@@ -44,12 +44,12 @@ returns-clause-ok c =
             | in-Some w ↦
                 let found : Some w.in-Some.variable ≡ Some n = sym w.in-Some.is ∙ c.at.ensures ∙ second in
                 let is_second : w.in-Some.variable ≡ n = cc in
-                let place : w.len.result ≡ length t.log.items = let size = ap length same.log in omega arith in
+                let index : w.len.result ≡ length t.log.items = let size = ap length same.log in omega arith in
                 typed c.requires.tables (subst (λ u. Before t u [] [] []) (sym w.self-is) (search b))
                 c.name-id.ensures.named c.name-id.ensures.id is c.requires.enough c.requires.room
                 code x n info refl types.1 named there
                 (rw w.self-is (noted c.reserve.new.self.infos.items t.infos.items w.note_floating.new.infos.items w.in-Some.variable n info w.len.result (length t.log.items)
-                same.infos is_second place there w.note_floating.ensures))
+                same.infos is_second index there w.note_floating.ensures))
                 (rw w.self-is same.essentials)
             | in-None w ↦ absurd (let found : None ≡ Some n = sym w.in-None.is ∙ c.at.ensures ∙ second in cc)
           ],

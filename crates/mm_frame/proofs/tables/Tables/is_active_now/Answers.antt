@@ -8,5 +8,5 @@ pub returns : goal.returns
 returns c =
     let t = c.args.self.now in
     let all : c.len.result ≡ length (statements_of t) = omega (arith, all_statements t) in
-    at_end (statements_of t) c.args.place c.len.result c.is_active.result all c.requires.place
+    at_end (statements_of t) c.args.index c.len.result c.is_active.result all c.requires.index
     (c.is_active.ensures _ c.requires.tables.scopes (few_statements t c.requires.tables))

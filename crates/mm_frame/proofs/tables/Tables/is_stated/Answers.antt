@@ -8,7 +8,7 @@ returns-in-Some c =
     let t = c.args.self.now in
     let tables = c.requires.tables in
     let (before, tell) =
-    latest_has tables.stated c.args.pair c.args.at c.in-Some.place c.requires.within
+    latest_has tables.stated c.args.pair c.args.at c.in-Some.index c.requires.within
     c.in-Some.ensures in
     let active = c.is_active.ensures (statements_of t) tables.scopes (few_statements _ tables) in
     ((λ is. tell.0 (active.0 is)), (λ has. active.1 (tell.1 has)))

@@ -29,13 +29,13 @@ returns-clause-ok c = (
       let before = t.distinct.stated in
       let e = c.enter_members.ensures.entered in
       let same = c.reserve.ensures.same in
-      let place : c.len-place.result ≡ length st =
-      c.len-place.ensures ∙ u.log.ok.0 ∙ ap length same.log ∙ sym (all_statements t) in
+      let index : c.len-index.result ≡ length st =
+      c.len-index.ensures ∙ u.log.ok.0 ∙ ap length same.log ∙ sym (all_statements t) in
       let stated : c.enter_members.new.self.distinct.stated ≡ record {
         pairs = before.pairs ++ map (stated_at (length st)) c.in_ok-pairs.pairs.items;
         wide = before.wide;
       } = e.stated ∙ c.state.ensures
-      ∙ rw (c.reserve-2.ensures.stated, same.stated, c.deref.ensures.value, place) refl in
+      ∙ rw (c.reserve-2.ensures.stated, same.stated, c.deref.ensures.value, index) refl in
       distinct_grows c.requires.tables (adds_distinct _ _ _ _ _ _ same e)
       (record { kind = kind; label = label; numbered = numbers; meant = meant; formed = formed })
       c.requires.enough c.requires.room refl (e.essentials ∙ same.essentials)

@@ -15,7 +15,7 @@ pub returns-clause-ok : goal.returns-clause-ok
 returns-clause-ok c =
     let t = c.args.self.now in
     let same = c.reserve.ensures.same in
-    let place : c.len.result ≡ length t.log.items = let size = ap length same.log in omega arith in
+    let index : c.len.result ≡ length t.log.items = let size = ap length same.log in omega arith in
     let b = before_same _ _ same in (
       ap Hypothesis (next_number _ c.name-id.result c.requires.tables (c.name-id.ensures.id ∙ ap length same.labels)),
       λ s kind label numbered meant formed.
@@ -24,5 +24,5 @@ returns-clause-ok c =
           (record { kinds = kind; label = label; numbered = numbered; meant = meant; formed = formed })
           c.requires.enough c.requires.room refl same.infos
           (c.put.ensures ∙ ap (λ ys. ys ++ c.len.result ∷ []) same.essentials
-          ∙ ap (λ n. t.essentials.items ++ n ∷ []) place),
+          ∙ ap (λ n. t.essentials.items ++ n ∷ []) index),
     )

@@ -14,12 +14,12 @@ returns c =
     let more = used - start in
     let size : length c.args.self.now ≡ used = omega (arith, ap length c.self.view_is, length-take used room, c.self.invariant) in
     let count : used - (start - to) ≡ to + more = omega (arith, c.requires.order, c.requires.within, size) in
-    let front : take to room ≡ take to c.args.self.now =
+    let prefix : take to room ≡ take to c.args.self.now =
     sym (take-take to used room (omega (arith, c.requires.order, c.requires.within, size))) ∙ ap (take to) c.self.view_is in
     let behind : take more (drop start room) ≡ drop start c.args.self.now =
     sym (cut-before used start room (omega (arith, c.requires.within, size))) ∙ ap (drop start) c.self.view_is in
     ap (take (used - (start - to))) c.copy_within.ensures.items
     ∙ ap (λ k. take k (paste room to (drop start room) more)) count
     ∙ take-paste room to (drop start room) more (omega (arith, c.requires.order, c.requires.within, size, c.self.invariant)) (omega (arith, length-drop start room, c.self.invariant))
-    ∙ ap (λ l. l ++ take more (drop start room)) front
+    ∙ ap (λ l. l ++ take more (drop start room)) prefix
     ∙ ap (λ l. take to c.args.self.now ++ l) behind

@@ -37,16 +37,16 @@ repeat-requires g c =
 pub returns-in_err-item-clause-stops : goal.returns-in_err-item-clause-stops
 returns-in_err-item-clause-stops g c =
     handed _ c.from_residual.result c.from_residual.ensures.1
-    (λ fault is first front may ran long moves m begun.
-    let more = first_more front moves (again c.args.tag) begun in
+    (λ fault is first prefix may ran long moves m begun.
+    let more = first_more prefix moves (again c.args.tag) begun in
     let h = ran.at moves m more.0 in
     let n = next_repeat _ _ moves m _ _ _ c.index.result.now c.args.tag h more.1 c.index.ensures in
     repeat_long _ _ moves m _ _ _ _ _ h n (c.in_err-item.ensures.long
     (subst g.B.Builder.is_long is long) first.builder.now first.book.now.statements))
 
 pub returns-clause-ran : goal.returns-clause-ran
-returns-clause-ran g c first front may ran =
-    built_more g.B.Builder.holds first c.args.self.now _ front _ ran refl refl refl (λ moves m here h.
+returns-clause-ran g c first prefix may ran =
+    built_more g.B.Builder.holds first c.args.self.now _ prefix _ ran refl refl refl (λ moves m here h.
     let stack = c.args.self.now.stack.now.items in
     let n = next_repeat _ _ moves m _ _ _ c.index.result.now c.args.tag h here c.index.ensures in
     let all = take_all c.len-end.result stack (let l = c.len-end.ensures in omega arith) in

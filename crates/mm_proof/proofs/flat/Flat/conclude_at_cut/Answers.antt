@@ -1,12 +1,12 @@
 use Rattle.std.proofs.Common.{◌≡◌, ◌≤◌, ◌+◌, ◌-◌, refl, take, length, ap, ◌∙◌, arith}
 use Rattle.mm_proof.specs.Mirror.Buffer.{AreParts}
-use Rattle.mm_proof.proofs.StoreRanges.{within-later, within-front, within-more, moved-entry}
+use Rattle.mm_proof.proofs.StoreRanges.{within-later, within-prefix, within-more, moved-entry}
 use Rattle.mm_proof.proofs.StoreRanges.{moved-length, parts-moved}
 use Rattle.mm_proof.proofs.flat.Flat.conclude_at_cut.Goals.{After-max-needed}
 use Rattle.mm_proof.proofs.flat.Flat.conclude_at_cut.Goals as goal
 
 pub needed_length-requires : goal.needed_length-requires
-needed_length-requires c = (c.args.start, rw c.deref.ensures.value (within-front c.args.start c.args.base _ c.requires.stacked))
+needed_length-requires c = (c.args.start, rw c.deref.ensures.value (within-prefix c.args.start c.args.base _ c.requires.stacked))
 
 pub needed_length-requires-2 : goal.needed_length-requires-2
 needed_length-requires-2 c = (c.args.start, rw c.deref-2.ensures.value c.requires.saved)
@@ -14,9 +14,9 @@ needed_length-requires-2 c = (c.args.start, rw c.deref-2.ensures.value c.require
 -- what stays begins before the symbols that are moved down
 before_start : (c : After-max-needed) → c.max-needed.result ≤ c.args.start
 before_start c =
-    let front = c.needed_length.ensures.least c.args.start (rw c.deref.ensures.value (within-front c.args.start c.args.base _ c.requires.stacked)) in
+    let prefix = c.needed_length.ensures.least c.args.start (rw c.deref.ensures.value (within-prefix c.args.start c.args.base _ c.requires.stacked)) in
     let others = c.needed_length-2.ensures.least c.args.start (rw c.deref-2.ensures.value c.requires.saved) in
-    omega (arith, c.max-needed.ensures, front, others)
+    omega (arith, c.max-needed.ensures, prefix, others)
 
 pub overflow_sub-end : goal.overflow_sub-end
 overflow_sub-end c = before_start (goal.at.overflow_sub-end c).After-max-needed

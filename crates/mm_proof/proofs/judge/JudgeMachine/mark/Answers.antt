@@ -6,11 +6,11 @@ use Rattle.mm_proof.proofs.Machines.JudgedMoves.{run_mark, judged_more}
 use Rattle.mm_proof.proofs.judge.JudgeMachine.mark.Goals as goal
 
 pub returns-clause-ran : goal.returns-clause-ran
-returns-clause-ran g c first front allowed was =
+returns-clause-ran g c first prefix allowed was =
     let site = first.table.now.site in
     let ok = c.in_ok-mark.ensures.ok in
-    judged_more g.S.Store.stack g.S.Store.kept first c.args.self.now _ front mark was refl refl refl
-    (run_mark site.limit site.statements site.place front _ _ _ _ _ ok.0 ok.1 was.run ok.2
+    judged_more g.S.Store.stack g.S.Store.kept first c.args.self.now _ prefix mark was refl refl refl
+    (run_mark site.limit site.statements site.index prefix _ _ _ _ _ ok.0 ok.1 was.run ok.2
     c.mark.ensures.stack ok.3)
     (omega (
       arith,
@@ -19,5 +19,5 @@ returns-clause-ran g c first front allowed was =
       length-append (g.S.Store.kept c.args.self.now.store.now) (ok.1 ∷ []),
     ))
     was.long
-    (marked_other _ front _ _ (λ id e. absurd cc) was.marked)
+    (marked_other _ prefix _ _ (λ id e. absurd cc) was.marked)
     (omega arith)

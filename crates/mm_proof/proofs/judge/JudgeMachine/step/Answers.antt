@@ -16,7 +16,7 @@ step_entry-requires-clause-long g c =
 pub returns-in_err-step_entry-clause-stops : goal.returns-in_err-step_entry-clause-stops
 returns-in_err-step_entry-clause-stops g c =
     handed _ c.from_residual.result c.from_residual.ensures.1
-    (λ fault is first front id there allowed was. on_rule_from fault _ (λ rule at broken.
+    (λ fault is first prefix id there allowed was. on_rule_from fault _ (λ rule at broken.
     let site = first.table.now.site in
     let told = rw was.same_table at (c.step_entry.ensures.fault rule at
     (c.in_err-step_entry.was ∙ ap Err (sym is ∙ broken))) in
@@ -26,11 +26,11 @@ returns-in_err-step_entry-clause-stops g c =
       steps = c.args.self.now.steps;
       run = was.run;
       number = told.0;
-      first = stops_first site.limit site.statements site.place id _ _ rule (told.1 id there);
+      first = stops_first site.limit site.statements site.index id _ _ rule (told.1 id there);
     }))
 
 pub returns-clause-ran : goal.returns-clause-ran
-returns-clause-ran g c first front id there allowed was =
+returns-clause-ran g c first prefix id there allowed was =
     let site = first.table.now.site in
     let ensures = c.in_ok-step_entry.ensures in
     let did = c.step_entry.ensures in
@@ -39,11 +39,11 @@ returns-clause-ran g c first front id there allowed was =
     let entries = rw was.same_table at ensures.entries in
     let marked = rw was.same_table at did.marked in
     let long = rw was.same_table at did.long in
-    judged_more g.S.Store.stack g.S.Store.kept first c.args.self.now _ front (name id) was
+    judged_more g.S.Store.stack g.S.Store.kept first c.args.self.now _ prefix (name id) was
     refl refl refl
-    (rw kept (run_name site.limit site.statements site.place front id _ _ _ _ was.run
+    (rw kept (run_name site.limit site.statements site.index prefix id _ _ _ _ was.run
     (carried id there) entries))
     (was.tags ∙ sym (ap length kept))
     long
-    (marked front id there was.marked)
+    (marked prefix id there was.marked)
     (omega arith)

@@ -17,7 +17,7 @@ step-requires g c =
       id = c.requires.id;
       next = record {
         first = next.first.judge;
-        front = next.front;
+        prefix = next.prefix;
         ran = next.ran.judged;
         allowed = next.allowed.0;
         few = next.few;
@@ -28,17 +28,17 @@ step-requires g c =
 pub last_line-requires : goal.last_line-requires
 last_line-requires g c =
     let next = c.requires.next in
-    name_stands g.S.Store.stack g.S.Store.kept next.first.judge _ next.front c.requires.id
-    (c.in_ok-step.ensures.ran next.first.judge next.front c.requires.id c.requires.there next.allowed.0 next.ran.judged)
+    name_stands g.S.Store.stack g.S.Store.kept next.first.judge _ next.prefix c.requires.id
+    (c.in_ok-step.ensures.ran next.first.judge next.prefix c.requires.id c.requires.there next.allowed.0 next.ran.judged)
     next.allowed.1
 
 pub returns-clause-ran : goal.returns-clause-ran
-returns-clause-ran g c first front id there allowed was =
+returns-clause-ran g c first prefix id there allowed was =
     let line = c.in_ok-line.ensures in
     let e : c.label-id.result.0 ≡ id =
     same_Some _ id (sym c.label-id.ensures ∙ rw was.judged.same_table there) in
-    lists_step g.S.Store.stack g.S.Store.kept first c.args.self.now _ front (name id) _ was
-    (c.in_ok-step.ensures.ran first.judge front id there allowed.0 was.judged) refl refl
+    lists_step g.S.Store.stack g.S.Store.kept first c.args.self.now _ prefix (name id) _ was
+    (c.in_ok-step.ensures.ran first.judge prefix id there allowed.0 was.judged) refl refl
     c.in_ok-push.ensures.items refl line.expression
     (λ moves move numbered n.
     (by_label n.1, rw (line.name, e) (n.0, n.1, n.2, n.3, refl), rw n.4 refl))

@@ -13,9 +13,9 @@ left : (g : Over) (c : In_ok-step_again g)
     × (0 < length (g.S.Store.stack c.step_again.new.self.store.now))
 left g c =
     let next = c.requires in
-    tag_stands g.S.Store.stack g.S.Store.kept next.first c.args.self.now _ next.front c.args.tag
+    tag_stands g.S.Store.stack g.S.Store.kept next.first c.args.self.now _ next.prefix c.args.tag
     next.ran
-    (c.in_ok-step_again.ensures.ran next.first.judge next.front next.allowed.0 next.ran.judged)
+    (c.in_ok-step_again.ensures.ran next.first.judge next.prefix next.allowed.0 next.ran.judged)
     next.allowed.1
 
 pub index-after-requires : goal.index-after-requires
@@ -29,14 +29,14 @@ pub last_line-requires : goal.last_line-requires
 last_line-requires g c = (left g (goal.at.last_line-requires g c).In_ok-step_again).1
 
 pub returns-clause-ran : goal.returns-clause-ran
-returns-clause-ran g c first front allowed was =
+returns-clause-ran g c first prefix allowed was =
     let line = c.in_ok-line.ensures in
     let tag = c.args.tag in
     let within = (left g (goal.at.returns-clause-ran g c).In_ok-step_again).0 in
     let there = slice_get_read c.args.self.now.tags.now.items _ tag c.index-after.result.now refl within
     c.index-after.ensures in
-    lists_step g.S.Store.stack g.S.Store.kept first c.args.self.now _ front (again tag) _ was
-    (c.in_ok-step_again.ensures.ran first.judge front allowed.0 was.judged) refl refl
+    lists_step g.S.Store.stack g.S.Store.kept first c.args.self.now _ prefix (again tag) _ was
+    (c.in_ok-step_again.ensures.ran first.judge prefix allowed.0 was.judged) refl refl
     c.in_ok-push.ensures.items refl line.expression
     (λ moves move numbered n. let stands = was.stand moves numbered tag _ there in
     (by_step c.index-after.result.now, rw line.name refl, rw n (_, stands, refl)))

@@ -10,7 +10,7 @@ returns-clause-made c first st stack shelf rest below kept steps label named man
     let s = h.subtrees in
     let new = c.in_ok-tree.ensures.made first.table st stack shelf rest below kept steps label named many s in
     let keep = (c.in_ok-tree.ensures.made old st stack shelf rest below kept steps label named many
-    (record { keep = λ place row there. there; once = s.once; stands = s.stands; shelved = s.shelved })).keep in
+    (record { keep = λ index row there. there; once = s.once; stands = s.stands; shelved = s.shelved })).keep in
     record {
       subtrees = new;
       few = fewer_steps c.in_ok-tree.tree (length c.args.below.now) steps _ _ _ _ c.in_ok-share.ensures h.few;

@@ -9,7 +9,7 @@ invariant_of-self-2 c = once_of_distinct _ (λ r. search rules) c.insert_full.ne
 pub returns-clause-kept : goal.returns-clause-kept
 returns-clause-kept c =
     subst (λ rows. KeepNumbers rows c.insert_full.new.self.keys) c.self.view_is
-    (kept_inserted _ c.args.row c.self.inside.rows.keys c.insert_full.new.self.keys c.in_ok-place.ensures.keys)
+    (kept_inserted _ c.args.row c.self.inside.rows.keys c.insert_full.new.self.keys c.in_ok-index.ensures.keys)
 
 pub returns-clause-once : goal.returns-clause-once
 returns-clause-once c = once_of_distinct _ (λ r. search rules) c.insert_full.new.self.keys c.insert_full.ensures.unique

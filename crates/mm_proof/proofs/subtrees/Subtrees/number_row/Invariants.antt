@@ -4,7 +4,7 @@ use Rattle.mm_proof.specs.Tree.{Trees}
 use Rattle.mm_proof.specs.Mirror.Subtrees.{AreOnce, KeepNumbers, AreTreesOf, StandsFor}
 use Rattle.mm_proof.proofs.subtrees.Subtrees.number_row.Given as goal
 
-abbrev pub invariant-loop-place : goal.invariant-loop-place
-invariant-loop-place l =
+abbrev pub invariant-loop-index : goal.invariant-loop-index
+invariant-loop-index l =
     KeepNumbers l.fn.self l.self × (AreOnce l.fn.self → AreOnce l.self)
-    × ((st : List Sentence) (row : Trees) → AreTreesOf st l.fn.self (drop l.place l.trees) row → StandsFor st l.self l.right row)
+    × ((st : List Sentence) (row : Trees) → AreTreesOf st l.fn.self (drop l.index l.trees) row → StandsFor st l.self l.right row)

@@ -1,4 +1,4 @@
--- The steps of a complete proof are those of no front.
+-- The steps of a complete proof are those of no prefix.
 use Rattle.std.proofs.Common.{Ok, ap}
 use Rattle.mm_tests.proofs.calls.proof.listing_of.Goals as goal
 

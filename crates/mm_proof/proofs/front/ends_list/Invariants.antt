@@ -1,7 +1,0 @@
-use Rattle.std.proofs.Common.{◌≡◌, take, false}
-use Rattle.mm_proof.specs.KnownFront.{ends_list}
-use Rattle.mm_proof.specs.Plain.{token_texts}
-use Rattle.mm_proof.proofs.front.ends_list.Given as goal
-
-abbrev pub invariant-loop-token : goal.invariant-loop-token
-invariant-loop-token l = ends_list (take l.token-index (token_texts l.tokens)) ≡ false

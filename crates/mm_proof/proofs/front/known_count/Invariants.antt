@@ -1,8 +1,0 @@
-use Rattle.std.proofs.Common.{◌≡◌, ℕ, ◌<◌, [], get_or, false}
-use Rattle.mm_proof.specs.Tokens.{is_unknown}
-use Rattle.mm_proof.specs.Plain.{token_texts}
-use Rattle.mm_proof.proofs.front.known_count.Given as goal
-
-abbrev pub invariant-loop-place : goal.invariant-loop-place
-invariant-loop-place l =
-    (k : ℕ) → k < l.place → is_unknown (get_or (token_texts l.tokens) k []) ≡ false

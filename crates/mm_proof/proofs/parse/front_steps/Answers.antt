@@ -1,9 +1,0 @@
-use Rattle.mm_proof.proofs.parse.front_steps.Goals as goal
-
-pub returns-clause-steps : goal.returns-clause-steps
-returns-clause-steps c =
-    rw (c.deref.ensures.value, c.in_ok-front.ensures) at c.steps_of.ensures.steps
-
-pub returns-clause-fault : goal.returns-clause-fault
-returns-clause-fault c =
-    rw (c.deref.ensures.value, c.in_ok-front.ensures) at c.steps_of.ensures.fault

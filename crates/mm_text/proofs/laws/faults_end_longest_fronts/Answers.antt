@@ -1,5 +1,0 @@
-use Rattle.mm_text.proofs.Reader.OneReading.{faults_end_longest_fronts}
-use Rattle.mm_text.proofs.laws.faults_end_longest_fronts.Goals as goal
-
-pub returns : goal.returns
-returns c = faults_end_longest_fronts
