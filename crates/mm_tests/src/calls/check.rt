@@ -87,13 +87,18 @@ fn are_of_p_and_r(refusals: &[Refusal]) -> bool {
     }
 }
 
+/// Whether all faults of the files are those of p and of r.
+fn has_faults_of_p_and_r<'a>(alloc: Global, files: &'a [File<'a>]) -> bool {
+    match all_faults(alloc, Seed::known(), Profile::Lenient, files) {
+        Err(AllFaults::Refused(refusals)) => are_of_p_and_r(&refusals),
+        _ => false,
+    }
+}
+
 #[test]
 fn finds_all_faults(rt: HostRuntime) -> Result<(), Fail> {
     let files = file(FAULTY);
-    let is_found = match all_faults(rt.alloc(), Seed::known(), Profile::Lenient, &files) {
-        Err(AllFaults::Refused(refusals)) => are_of_p_and_r(&refusals),
-        _ => false,
-    };
+    let is_found = has_faults_of_p_and_r(rt.alloc(), &files);
     assert!(rt; is_found);
     Ok(())
 }
