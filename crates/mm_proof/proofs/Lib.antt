@@ -7,3 +7,4 @@ pub mod ByNumbers
 pub mod Machines
 pub mod FullSharing
 pub mod PackedProofs
+pub mod LackingPairs

@@ -28,3 +28,7 @@ pub mod Spelled
 pub mod Packing
 pub mod Answer
 pub mod Stores
+pub mod Halted
+pub mod Asked
+pub mod Lacking
+pub mod Places

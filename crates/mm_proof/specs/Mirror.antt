@@ -4,8 +4,12 @@
 pub mod Buffer
 pub mod Builders
 pub mod CodeApply
+pub mod CodeAsked
 pub mod CodeForm
+pub mod CodeHalts
+pub mod CodeLacking
 pub mod CodeLines
+pub mod CodePlaces
 pub mod CodeRun
 pub mod CodeSharing
 pub mod CodeSteps
@@ -14,5 +18,6 @@ pub mod Judges
 pub mod Machines
 pub mod SharedSteps
 pub mod Sites
+pub mod StackMakers
 pub mod Subtrees
 pub mod Words

@@ -1,5 +1,6 @@
 -- What the stores' lists are as lists of numbers, and what pieces say over them.
 use Rattle.std.specs.Prelude.{ℕ, ◌<◌, List, [], ◌∷◌, map, drop, slice_index_or, Vec}
+use denote.Ref.{Bor}
 use Rattle.std.specs.List.{flat_map}
 use Rattle.mm_frame.specs.declared.number.Sym.{Sym}
 use Rattle.mm_frame.specs.declared.piece.Piece.{Piece}
@@ -12,6 +13,10 @@ numbers_in symbols = map (λ s. s.0) symbols
 -- rows of symbols as expressions
 abbrev pub rows_in : {Z : Type 0} → List (Vec Sym Z) → List (List ℕ)
 rows_in rows = map (λ row. map (λ s. s.0) row.items) rows
+
+-- lent expressions, by the numbers of their symbols
+abbrev pub entries_in : List (Bor (List Sym)) → List (List ℕ)
+entries_in entries = map (λ e. map (λ s. s.0) e.now) entries
 
 -- what the piece says, where the entries of the hypotheses are these
 abbrev pub said_by : List (List ℕ) → Piece → List ℕ

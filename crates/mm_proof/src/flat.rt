@@ -275,6 +275,7 @@ impl Store for Flat {
         }
     }
 
+    #[inline(always)]
     fn conclude(
         &mut self,
         base: usize,

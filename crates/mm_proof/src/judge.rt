@@ -1,7 +1,7 @@
 //! The judge of the moves of a proof.
 
-ghost use Rattle.std.specs.Prelude.{◌≡◌, ◌≤◌, ◌<◌, ℕ, List, [], ◌∷◌, ◌++◌, All, take, length};
-ghost use Rattle.std.specs.Prelude.{slice_get, Some, Err, IfOk, OnOk};
+ghost use Rattle.std.specs.Prelude.{◌≡◌, ◌≢◌, ◌≤◌, ◌<◌, ℕ, List, [], ◌∷◌, ◌++◌, All, take};
+ghost use Rattle.std.specs.Prelude.{length, slice_get, Some, Err, IfOk, OnOk};
 ghost use Rattle.std.specs.List.{AllByRecursion};
 ghost use Rattle.mm_code.specs.Letters.{HasSpelling};
 ghost use Rattle.mm_proof.specs.Moves.{Move, name};
@@ -38,6 +38,7 @@ pub(crate) fn ending<S: Store>(
     ensures ok { OnOk result (S.stack store.now ≡ numbers_in expression.now ∷ []) }
     ensures fault { (rule : ProofRule) → (at : ℕ) → result ≡ Err (ProofFault.Rule rule at)
         → (at ≡ number) × EndsWrong rule (S.stack store.now) (numbers_in expression.now) }
+    ensures told { result ≢ Err ProofFault.Memory }
 {
     if store.len() != 1 {
         return fault_at_step(ProofRule::P13, number);

@@ -2,6 +2,7 @@
 #![tactic(auto)]
 
 mod apply;
+mod asked;
 mod buffer;
 mod builder;
 mod call;
@@ -11,16 +12,21 @@ mod expansion;
 mod fault;
 mod flat;
 mod form;
+mod halt;
+mod halting;
 mod judge;
 mod label_set;
 mod labels;
+mod lacking;
 mod laws;
 mod lines;
 mod machine;
+mod makers;
 mod moves;
 mod packing;
 mod pairs;
 mod parse;
+mod places;
 mod prefix;
 mod profile;
 mod prover;
@@ -39,9 +45,13 @@ mod used;
 mod verdict;
 mod words;
 
+pub use asked::{asked_by, missing_pairs, shared_variables};
 pub use expansion::expand;
 pub use fault::{ExpandFault, ProofFault, ProofRule};
 pub use flat::Flat;
+pub use halt::{Halt, HaltAt};
+pub use halting::halt_of;
+pub use lacking::lacking_pairs;
 pub use laws::{
     by_spelling, by_word, fewest_steps, limits_aside, made_by_word, mark_before_any_step, one_fit,
     one_packed, one_prefix_verdict, one_prefix_verdict_under, one_tree, one_verdict,
@@ -51,6 +61,7 @@ pub use laws::{
 pub use lines::{Line, Name, listing};
 pub use moves::{Parsed, Steps};
 pub use packing::{Packed, compress};
+pub use places::move_place;
 pub use prefix::is_unknown;
 pub use profile::Profile;
 pub use prover::{Proved, Prover};

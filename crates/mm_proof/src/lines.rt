@@ -67,15 +67,15 @@ fn last_line<S: Store>(alloc: Global, judge: &Judge<S>, name: Name) -> Result<Li
     })
 }
 
-// What lists moves while it judges them: the lines of the steps so far, and for each mark the
-// number of the step before it. Both are lent to it, as the store is to the judge, since nothing
-// is known of what was lent to a struct that owns memory.
+/// What lists moves while it judges them: the lines of the steps so far, and for each mark the
+/// number of the step before it. Both are lent to it, as the store is to the judge, since nothing
+/// is known of what was lent to a struct that owns memory.
 #[derive(Drop)]
-struct Lister<'s, 'e, 'b, 'a, S> {
-    alloc: Global,
-    judge: Judge<'s, 'e, 'b, 'a, S>,
-    lines: &'s mut Vec<Line>,
-    tags: &'s mut Vec<u32>,
+pub(crate) struct Lister<'s, 'e, 'b, 'a, S> {
+    pub(crate) alloc: Global,
+    pub(crate) judge: Judge<'s, 'e, 'b, 'a, S>,
+    pub(crate) lines: &'s mut Vec<Line>,
+    pub(crate) tags: &'s mut Vec<u32>,
 }
 
 // It stops where the judge does.

@@ -19,9 +19,9 @@ use crate::store::Store;
 use crate::substitution::value_at;
 use mm_frame::{Book, DistinctPair, Frame, Scheme, Sym, one_number};
 
-// Whether the symbol is one of these.
+/// Whether the symbol is one of these.
 #[tactic(auto, using(crate::proofs::ByNumbers::SharedVariables::symbol_steps))]
-fn has_symbol(symbols: &[Sym], symbol: Sym) -> bool
+pub(crate) fn has_symbol(symbols: &[Sym], symbol: Sym) -> bool
     ensures { IsTrue result ↔ Contains (numbers_in symbols.now) symbol.0 }
 {
     for other in symbols {

@@ -102,6 +102,7 @@ fn put_piece(
 
 /// Puts what the pieces say of the entries from the base on behind the symbols that are used, and
 /// answers how many are used then; none where the room is too short for it.
+#[inline(always)]
 pub(crate) fn put_pieces(
     room: &mut [Sym],
     used: usize,

@@ -74,6 +74,7 @@ pub(crate) fn typing_of<S: Store>(store: &S, base: usize, hypotheses: &[Hypothes
 
 /// Whether each `$e`, with each variable replaced, is its entry. It is told whether all hypotheses
 /// are `$f`, so that then nothing is asked.
+#[inline(always)]
 pub(crate) fn are_equal<S: Store>(
     store: &S,
     base: usize,

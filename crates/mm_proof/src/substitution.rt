@@ -121,6 +121,7 @@ fn after_said<'e, S: Store>(
 }
 
 /// Whether the symbols are what the pieces say.
+#[inline(always)]
 pub(crate) fn is_said<S: Store>(
     store: &S,
     base: usize,

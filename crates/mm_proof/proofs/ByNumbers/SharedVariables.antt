@@ -52,12 +52,14 @@ pub symbol_at : (st before : List Sentence) (ns : List ℕ) (k : ℕ) → AreDec
 symbol_at st before ns k all less = within_at (IsSymbol st before) ns k 0 all less
 
 -- a variable of all statements that was declared before is a variable of those before
-variable_before : (st : List Sentence) (index n : ℕ) → AllMeant st → IsSymbol st (take index st) n → IsVariable st (name_at st n) → ¬ (¬ (IsVariable (take index st) (name_at st n)))
+pub variable_before : (st : List Sentence) (index n : ℕ) → AllMeant st
+    → IsSymbol st (take index st) n → IsVariable st (name_at st n)
+    → ¬ (¬ (IsVariable (take index st) (name_at st n)))
 variable_before st index n all s variable none =
     s.declared (λ d. ⊎_elim (λ c. one_role st (name_at st n) all (some_later st index (Declares Constants (name_at st n)) c) variable) none d)
 
 -- a name stands among the names as the number does among the numbers
-named_has : (st : List Sentence) (ns : List ℕ) (n : ℕ) → Contains ns n → Contains (names_at st ns) (name_at st n)
+pub named_has : (st : List Sentence) (ns : List ℕ) (n : ℕ) → Contains ns n → Contains (names_at st ns) (name_at st n)
 named_has st ns n (k, less, is) = (
   k,
   omega (arith, less, length-map ns (name_at st)),
@@ -70,7 +72,7 @@ has_named st ns u (k, less, is) =
     (k, within, sym (get_or-map (name_at st) ns k 0 u within) ∙ is)
 
 -- the number at an index is one of the numbers
-number_among : (ns : List ℕ) (k : ℕ) → k < length ns → Contains ns (get_or ns k 0)
+pub number_among : (ns : List ℕ) (k : ℕ) → k < length ns → Contains ns (get_or ns k 0)
 number_among ns k less = (k, less, get_or_default ns k (get_or ns k 0) 0 less)
 
 -- a shared variable

@@ -60,7 +60,7 @@ use Rattle.mm_frame.specs.declared.number.LabelKind.TheVariants as kinds
 -- ---- names
 
 -- the label of a move is that of the statement with its number
-label_of : (st : List Sentence) (id at : ℕ) (s : Sentence) (label : List ℕ) → IsNumbered st id at s → IsNumberedMove st (name id) (name label) → IsLabelled label s
+pub label_of : (st : List Sentence) (id at : ℕ) (s : Sentence) (label : List ℕ) → IsNumbered st id at s → IsNumberedMove st (name id) (name label) → IsLabelled label s
 label_of st id at s label n move =
     let e : name label ≡ name move.1 = move.4 in
     cc (numbered_get st id at s n, move.2, move.3)
@@ -76,7 +76,8 @@ names_of st index id at ids hs label c move =
     }
 
 -- what the step meets
-abbrev met : (st : List Sentence) (index id at : ℕ) (ids : List ℕ) (hs : List Sentence) (label : List ℕ) (stack : List (List ℕ)) (base : ℕ) → AllMeant st
+abbrev pub met : (st : List Sentence) (index id at : ℕ) (ids : List ℕ) (hs : List Sentence)
+    (label : List ℕ) (stack : List (List ℕ)) (base : ℕ) → AllMeant st
     → IsAppliedAssertion st index id at ids hs → IsNumberedMove st (name id) (name label) → length (drop base stack) ≡ length hs → MeetsHypotheses (take index st) (all_names_at st stack) label
 met st index id at ids hs label stack base all c move paired =
     meets_of (take index st) (all_names_at st stack) label at c.s hs (all_names_at st (take base stack)) (all_names_at st (drop base stack)) (allmeant_prefix st index all)
@@ -88,7 +89,8 @@ met st index id at ids hs label stack base all c move paired =
 -- ---- pairs
 
 -- what replaces the names of a pair's numbers
-value_at : (st : List Sentence) (σ : List ℕ → Option (List (List ℕ))) (vs : List (Option ℕ)) (es : List (List ℕ)) (x : List ℕ) (n : ℕ) (e : List ℕ) → Replaces st σ vs es
+pub value_at : (st : List Sentence) (σ : List ℕ → Option (List (List ℕ))) (vs : List (Option ℕ))
+    (es : List (List ℕ)) (x : List ℕ) (n : ℕ) (e : List ℕ) → Replaces st σ vs es
     → IsNumberOf st x n → value_of vs es n ≡ Some e → σ x ≡ Some (names_at st e)
 value_at st σ vs es x n e r number value =
     ap σ (sym (name_is st n x number)) ∙ r n (slice_get_within (symbols_of st) n x number) ∙ ap (option_map (names_at st)) value
@@ -133,7 +135,8 @@ module _ (limit : ℕ) (st : List Sentence) (index id at : ℕ) (ids : List ℕ)
         }
 
 -- the pair of names behind a pair of numbers, with what replaces it
-pair_found : (st : List Sentence) (index id at : ℕ) (ids : List ℕ) (hs : List Sentence) (pairs : List (ℕ × ℕ)) → (c : IsAppliedAssertion st index id at ids hs)
+pub pair_found : (st : List Sentence) (index id at : ℕ) (ids : List ℕ) (hs : List Sentence)
+    (pairs : List (ℕ × ℕ)) → (c : IsAppliedAssertion st index id at ids hs)
     → ArePairs (record { statements = st; index = at }) pairs → (k : ℕ) (p : ℕ × ℕ) → slice_get pairs k ≡ Some p
     → (x : List ℕ) × (y : List ℕ) × IsNumberOf st x p.0 × IsNumberOf st y p.1 × IsMandatoryPair (take at (take index st)) c.s x y
 pair_found st index id at ids hs pairs c mand k p there =
@@ -155,7 +158,9 @@ value_back st σ vs es x n e r number is = go (value_of vs es n) refl
     go None p = absurd (let q : None ≡ Some e = sym (ap (option_map (names_at st)) p) ∙ mapped in cc)
     go (Some l) p = (l, p, same_Some (names_at st l) e (sym (ap (option_map (names_at st)) p) ∙ mapped))
 
-each_pair : OneNumber → (st : List Sentence) (index id at : ℕ) (ids : List ℕ) (hs : List Sentence) (label : List ℕ) (stack : List (List ℕ)) (base : ℕ) (vs : List (Option ℕ)) (pairs : List (ℕ × ℕ))
+pub each_pair : OneNumber → (st : List Sentence) (index id at : ℕ) (ids : List ℕ)
+    (hs : List Sentence) (label : List ℕ) (stack : List (List ℕ)) (base : ℕ) (vs : List (Option ℕ))
+    (pairs : List (ℕ × ℕ))
     (P : List (List ℕ) → List (List ℕ) → Type 0) → ((e f : List (List ℕ)) → P e f → P f e) → (all : AllMeant st) → (c : IsAppliedAssertion st index id at ids hs) → (move : IsNumberedMove st (name id) (name label))
     → (paired : length (drop base stack) ≡ length hs) → AreVariablesOf st vs hs → ArePairs (record { statements = st; index = at }) pairs
     → EachPairValues (value_of vs (drop base stack)) pairs (λ e f. P (names_at st e) (names_at st f))
@@ -219,7 +224,8 @@ module _ (limit : ℕ) (one : OneNumber) (st : List Sentence) (index id at : ℕ
 -- ---- what the step makes
 
 -- what is made, by names
-made_named : OneNumber → (st : List Sentence) (hs : List Sentence) (vs : List (Option ℕ)) (es : List (List ℕ)) (pattern : List ℕ) (symbols : List (List ℕ)) → AreVariablesOf st vs hs
+pub made_named : OneNumber → (st : List Sentence) (hs : List Sentence) (vs : List (Option ℕ))
+    (es : List (List ℕ)) (pattern : List ℕ) (symbols : List (List ℕ)) → AreVariablesOf st vs hs
     → AreNumbers st pattern symbols → names_at st (replaced_in (value_of vs es) pattern) ≡ instance_of (replaced_by hs (all_names_at st es)) symbols
 made_named one st hs vs es pattern symbols typed numbers =
     replaced_named st (replaced_by hs (all_names_at st es)) vs es pattern (replaces_by one st vs hs es typed) (below_is st pattern symbols numbers)
@@ -316,7 +322,8 @@ replaced_symbols st before vs es (n ∷ ns) all are =
     all_append (IsSymbol st before) _ _
     (piece_symbols st before n (value_of vs es n) are.0 (λ v is. value_symbols st before vs es n v all is)) (replaced_symbols st before vs es ns all are.1)
 
-entries_drop : (st before : List Sentence) (n : ℕ) (entries : List (List ℕ)) → AreStackEntries st before entries → AreStackEntries st before (drop n entries)
+pub entries_drop : (st before : List Sentence) (n : ℕ) (entries : List (List ℕ))
+    → AreStackEntries st before entries → AreStackEntries st before (drop n entries)
 entries_drop st before n entries all =
     all_back (AreDeclaredSymbols st before) (take n entries) (drop n entries)
     (rw (take-append-drop n entries) all)
@@ -328,16 +335,29 @@ drop_below st before base stack entries =
     all_weaker (AreDeclaredSymbols st before) (AreBelow st) (symbols_below st before)
     (drop base stack) (entries_drop st before base stack entries)
 
+-- what the step makes has declared symbols
+pub replaced_entries : (st : List Sentence) (index at : ℕ) (s : Sentence) (stack : List (List ℕ))
+    (base : ℕ) (vs : List (Option ℕ)) (pattern made : List ℕ) → AllMeant st
+    → slice_get st at ≡ Some s → at < index → IsUse s.kind → AreNumbers st pattern s.symbols
+    → made ≡ replaced_in (value_of vs (drop base stack)) pattern
+    → AreStackEntries st (take index st) stack → AreStackEntries st (take index st)
+    (take base stack ++ made ∷ [])
+replaced_entries st index at s stack base vs pattern made all there less in_use numbers is entries =
+    let known = known_symbols st index at s pattern all there less in_use numbers in
+    all_push (AreDeclaredSymbols st (take index st)) (take base stack) made
+    (all_prefix _ (take base stack) (drop base stack) (rw (take-append-drop base stack) entries))
+    (subst (AreDeclaredSymbols st (take index st)) (sym is)
+    (replaced_symbols st (take index st) vs (drop base stack) pattern
+    (entries_drop st (take index st) base stack entries) known))
+
 pub made_entries : (st : List Sentence) (index id at : ℕ) (stack : List (List ℕ)) (base : ℕ) (vs : List (Option ℕ)) (conclusion : List Piece) (made : List ℕ) → AllMeant st
     → IsReady st index id at vs (drop base stack) conclusion → length (drop base stack) ≡ length vs
     → made ≡ all_said_by (drop base stack) conclusion → AreStackEntries st (take index st) stack → AreStackEntries st (take index st) (take base stack ++ made ∷ [])
 made_entries st index id at stack base vs conclusion made all ready as_many is entries =
-    let pattern = ready.concluded.0 in
-    let known = known_symbols st index at ready.called.s pattern all ready.called.numbered.there ready.called.before (inr (inr (inr ready.called.kind))) ready.concluded.1 in
-    all_push (AreDeclaredSymbols st (take index st)) (take base stack) made
-    (all_prefix _ (take base stack) (drop base stack) (rw (take-append-drop base stack) entries))
-    (subst (AreDeclaredSymbols st (take index st)) (sym (is ∙ made_is st index id at vs (drop base stack) conclusion as_many ready))
-    (replaced_symbols st (take index st) vs (drop base stack) pattern (entries_drop st (take index st) base stack entries) known))
+    replaced_entries st index at ready.called.s stack base vs ready.concluded.0 made all
+    ready.called.numbered.there ready.called.before
+    (inr (inr (inr ready.called.kind))) ready.concluded.1 (is ∙ made_is st index id at vs
+    (drop base stack) conclusion as_many ready) entries
 
 -- ---- what the frame tells
 

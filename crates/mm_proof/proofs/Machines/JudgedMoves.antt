@@ -114,7 +114,9 @@ run_name limit st index prefix id stack kept stack' steps run carries entries =
     (carries n.1 moves (all_names_at st kept) (n.0, n.1, n.2, n.3, refl) passed))
     entries run.kept_entries refl
 
-named_there : (st : List Sentence) (entries : List (List ℕ)) (i : ℕ) (e : List ℕ) → slice_get entries i ≡ Some e → slice_get (all_names_at st entries) i ≡ Some (names_at st e)
+pub named_there : (st : List Sentence) (entries : List (List ℕ)) (i : ℕ) (e : List ℕ)
+    → slice_get entries i ≡ Some e
+    → slice_get (all_names_at st entries) i ≡ Some (names_at st e)
 named_there st [] i e there = absurd cc
 named_there st (x ∷ entries) zero e there = let same : x ≡ e = cc in ap (λ (l : List ℕ). Some (names_at st l)) same
 named_there st (x ∷ entries) (suc i) e there = named_there st entries i e there
@@ -173,10 +175,11 @@ stops_first limit st index id stack kept rule stops move n =
     rw n.4 (stops n.1 (all_names_at st kept) (n.0, n.1, n.2, n.3, refl))
 
 -- a fault that is handed on is the one of the call
-pub refused : {X : Type 0} (r : Result X ProofFault) (e f : ProofFault) → IsErrAnd r (λ x. x ≡ e) → r ≡ Err f → e ≡ f
-refused {X} r e f from is =
+pub refused : {X F : Type 0} (r : Result X F) (e f : F) → IsErrAnd r (λ x. x ≡ e) → r ≡ Err f
+    → e ≡ f
+refused {X} {F} r e f from is =
     let p = err_from_is_err_and r from in
-    let same : ◌≡◌ {A = Result X ProofFault} (Err p.0) (Err f) = sym p.1 ∙ is in sym p.2 ∙ cc
+    let same : ◌≡◌ {A = Result X F} (Err p.0) (Err f) = sym p.1 ∙ is in sym p.2 ∙ cc
 
 -- ---- a judge
 
@@ -317,6 +320,23 @@ proved_with limit st id xs used all a named_so proved index s names proof number
     let uses = used_numbers st index xs names (tree p.label p.below none) p.kept all numbered (usable_names st id xs index s names a proof.numbered numbered) p.made in
     (p, λ k. ((λ h. (uses k).1 ((named_so k).0 h)), λ h. (named_so k).1 ((uses k).0 h)))
 
+-- what they left is something else, by names too
+pub end_broken : (st : List Sentence) (index : ℕ) (s : Sentence) (stack : List (List ℕ))
+    (numbers : List ℕ) (rule : ProofRule) → OneNumber → names_at st numbers ≡ s.symbols
+    → AreBelow st numbers → AreStackEntries st (take index st) stack → EndsWrong rule stack numbers
+    → BreaksEnd rule (all_names_at st stack) s.symbols
+end_broken st index s stack numbers rule one symbols_are below entries (inl w) =
+    rw w.0 (λ e. w.1 (sym (length-map stack (names_at st)) ∙ e))
+end_broken st index s stack numbers rule one symbols_are below entries (inr w) =
+    let entry = (subst (AreStackEntries st (take index st)) w.2 entries).0 in
+    let entry_below = all_weaker (IsSymbol st (take index st)) (λ k. k < length (symbols_of st))
+    (λ k i. i.below) w.1 entry in
+    rw w.0 (
+      names_at st w.1,
+      ap (all_names_at st) w.2,
+      λ same. w.3 (named_once one st w.1 numbers entry_below below (same ∙ sym symbols_are)),
+    )
+
 -- they have run, and left something else
 pub wrong_end : (limit : ℕ) (st : List Sentence) (id own : ℕ) (t : Sentence) (xs : List (Move ℕ)) (stack kept : List (List ℕ)) (count : ℕ) (numbers : List ℕ) (rule : ProofRule) (at : ℕ) → OneNumber
     → IsNumbered st id own t → AreItsSymbols (record { statements = st; index = own }) numbers → HasRun limit st own xs stack kept count → (at ≡ count + 1) × EndsWrong rule stack numbers
@@ -326,17 +346,8 @@ wrong_end limit st id own t xs stack kept count numbers rule at one n symbols ru
     let moved = subst (λ p. HasRun limit st p xs stack kept count) here run in
     let expression = its_symbols st own index s numbers here proof.numbered.there symbols in
     end_fault (IsWithin limit) (take index st) s names (all_names_at st stack) (all_names_at st kept) rule at (moved.passed names numbered)
-    (broken expression.0 expression.1 moved.entries wrong.1) (wrong.0 ∙ ap (λ k. k + 1) (moved.count ∙ same_steps st xs names numbered))
-  where
-    broken : names_at st numbers ≡ s.symbols → AreBelow st numbers → AreStackEntries st (take index st) stack → EndsWrong rule stack numbers → BreaksEnd rule (all_names_at st stack) s.symbols
-    broken symbols_are below entries (inl w) = rw w.0 (λ e. w.1 (sym (length-map stack (names_at st)) ∙ e))
-    broken symbols_are below entries (inr w) =
-        let entry = (subst (AreStackEntries st (take index st)) w.2 entries).0 in
-        rw w.0 (
-          names_at st w.1,
-          ap (all_names_at st) w.2,
-          λ same. w.3 (named_once one st w.1 numbers (all_weaker (IsSymbol st (take index st)) (λ k. k < length (symbols_of st)) (λ k i. i.below) w.1 entry) below (same ∙ sym symbols_are)),
-        )
+    (end_broken st index s stack numbers rule one expression.0 expression.1 moved.entries wrong.1)
+    (wrong.0 ∙ ap (λ k. k + 1) (moved.count ∙ same_steps st xs names numbered))
 
 -- a move breaks a rule
 pub wrong_move : (limit : ℕ) (st : List Sentence) (id own : ℕ) (t : Sentence) (xs : List (Move ℕ)) (rule : ProofRule) (at : ℕ) → IsNumbered st id own t

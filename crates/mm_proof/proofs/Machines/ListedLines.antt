@@ -37,7 +37,7 @@ use Rattle.mm_proof.proofs.Machines.JudgedMoves.{last_split, same_steps, named_p
 -- ---- a list with one element more
 
 -- an element is an old one or the new one
-old_or_new : {X : Type 0} (xs : List X) (x y : X) (i : ℕ) → slice_get (xs ++ x ∷ []) i ≡ Some y
+pub old_or_new : {X : Type 0} (xs : List X) (x y : X) (i : ℕ) → slice_get (xs ++ x ∷ []) i ≡ Some y
     → ((i < length xs) × (slice_get xs i ≡ Some y)) ⊎ ((i ≡ length xs) × (x ≡ y))
 old_or_new xs x y i e =
     ⊎_elim (λ there. inl (slice_get_within xs i y there, there)) inr (pushed_cases xs x i y e)
@@ -45,7 +45,7 @@ old_or_new xs x y i e =
 -- ---- steps
 
 -- one step is one
-one_step : {X : Type 0} (move : Move X) → is_step move ≡ true → steps_in (move ∷ []) ≡ 1
+pub one_step : {X : Type 0} (move : Move X) → is_step move ≡ true → steps_in (move ∷ []) ≡ 1
 one_step mark is = absurd (false≢true is)
 one_step move is = refl
 
@@ -156,7 +156,7 @@ again_leaves Fits before moves tag stack kept passed =
 -- ---- numbers and names
 
 -- the names of symbols by their numbers
-numbers_named : (st : List Sentence) (ns : List ℕ) → AreBelow st ns → AreNumbers st ns (names_at st ns)
+pub numbers_named : (st : List Sentence) (ns : List ℕ) → AreBelow st ns → AreNumbers st ns (names_at st ns)
 numbers_named st [] below = refl
 numbers_named st (n ∷ ns) below =
     let here = number_of_name st n below.0 in

@@ -145,6 +145,17 @@ module _ (before : List Sentence) (label : List ℕ) (index : ℕ) (assertion : 
       let h = those_hold (IsMandatoryAt (take index before) assertion) 0 (take index before) hypotheses i f names.mandatory there in
       ⊎_elim (λ essential. absurd (cc (essential, floating))) (λ t. (t.0, t.1, t.2, t.3, h.0, h.1)) h.2.1
 
+  -- nothing replaces the type code of a mandatory `$f`
+  pub code_kept : (σ : List ℕ → Option (List (List ℕ))) (i : ℕ) (f : Sentence) (code x : List ℕ)
+      → AllMeant before → Names before label index assertion hypotheses
+      → IsOn (IsMandatory (take index before) assertion) σ → slice_get hypotheses i ≡ Some f
+      → Types code x f → σ code ≡ None
+  code_kept σ i f code x all names on there types =
+      let t = typing_of i f names there types.0 in
+      absent (σ code) (λ some.
+      code_is_constant (take index before) t.4 f code x (allmeant_prefix before index all) t.5
+      types ((on code).0 some).0)
+
   -- what the trees below leave for the mandatory `$f`
   entry_of : (σ : List ℕ → Option (List (List ℕ))) (i : ℕ) (f : Sentence) (entry : List (List ℕ))
       (code x : List ℕ) → AllMeant before → Names before label index assertion hypotheses
@@ -155,8 +166,7 @@ module _ (before : List Sentence) (label : List ℕ) (index : ℕ) (assertion : 
       let t = typing_of i f names there types.0 in
       let same = same_typing f t.0 t.1 code x t.2 types in
       let mandatory : IsMandatory (take index before) assertion x = subst (IsMandatory (take index before) assertion) same.1 t.3 in
-      let constant : σ code ≡ None = absent (σ code) (λ some.
-      code_is_constant (take index before) t.4 f code x (allmeant_prefix before index all) t.5 types ((on code).0 some).0) in
+      let constant : σ code ≡ None = code_kept σ i f code x all names on there types in
       let r = present (σ x) ((on x).1 mandatory) in
       let made : entry ≡ instance_of σ f.symbols =
       same_Some entry (instance_of σ f.symbols) (sym at ∙ slice_get-map (λ (h : Sentence). instance_of σ h.symbols) hypotheses i ∙ rw there refl) in

@@ -76,7 +76,7 @@ from_one text codes letters = subst (AllByRecursion HasSpelling) (sym letters.ar
 -- most: each label has a byte, and each letter is one
 
 -- a piece of text that says a code has a letter
-piece_letters : (piece : List ℕ) (code : Code) → letter.SaysCode piece code → 1 ≤ length piece
+pub piece_letters : (piece : List ℕ) (code : Code) → letter.SaysCode piece code → 1 ≤ length piece
 piece_letters piece (Number number) s =
     omega (arith, ap length s.letters, length-append (map letter.leading_letter s.leading) (letter.last_letter s.last ∷ []))
 piece_letters piece Tag s = omega (arith, ap length s)

@@ -96,7 +96,7 @@ end_rule P14 stack e b = inr (refl, ap length b.1, λ same. b.2 (let p : b.0 ∷
 end_rule rule stack e b = absurd b
 
 module _ (Fits : List (List ℕ) → Type 0) (before : List Sentence) where
-  proof_no_fault : (s : Sentence) (moves : List (Move (List ℕ))) (rule : ProofRule) (step : ℕ)
+  pub proof_no_fault : (s : Sentence) (moves : List (Move (List ℕ))) (rule : ProofRule) (step : ℕ)
       → AllMeant before → Prove Fits before s moves → ¬ (IsMovesFault Fits before s moves rule step)
   proof_no_fault s moves rule step all p (inl f) =
       let whole = proof_passed Fits before s moves all p in
@@ -155,7 +155,7 @@ module _ (Fits : List (List ℕ) → Type 0) (before : List Sentence) where
         (grind arith, f.number ∙ sym g.number)
 
     -- of the moves
-    one_moves_fault : IsMovesFault Fits before s moves rule step
+    pub one_moves_fault : IsMovesFault Fits before s moves rule step
         → IsMovesFault Fits before s moves rule' step' → Same rule step rule' step'
     one_moves_fault (inl f) (inl g) = two_moves moves rule rule' step step' all f g
     one_moves_fault (inl f) (inr g) = absurd (longer_passed f.earlier f.move f.later moves f.stack f.kept g.stack g.kept rule all f.parts g.passed f.passed f.fault)

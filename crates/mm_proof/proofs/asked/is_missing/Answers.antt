@@ -1,0 +1,11 @@
+use Rattle.mm_proof.proofs.ByNumbers.ListedVariables.{variable_number, missing_told}
+use Rattle.mm_proof.proofs.asked.is_missing.Goals as goal
+
+pub returns : goal.returns
+returns c =
+    let first = variable_number _ _ _ c.is_variable.ensures.variable c.is_variable.ensures.known in
+    let second = variable_number _ _ _ c.is_variable-else-not-is_variable.ensures.variable
+    c.is_variable-else-not-is_variable.ensures.known in
+    missing_told _ _ _ _ c.distinct.result (first.0 c.if-not-is_variable.false)
+    (second.0 c.if-not-is_variable-2.false)
+    c.if-u-v.false (rw c.requires at c.distinct.ensures)
