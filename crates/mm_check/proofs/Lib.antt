@@ -1,5 +1,16 @@
 pub mod Numbers
+pub mod WordBits
 pub mod Verdicts
 pub mod Questions
 pub mod ReplyTexts
+pub mod Explanations
+pub mod StepEnds
 pub mod Saving
+pub mod Lines
+pub mod DetailTexts
+pub mod HaltDetails
+pub mod TokenHalts
+pub mod AskedDetails
+pub mod LackingDetails
+pub mod ApartDetails
+pub mod PairsAsked

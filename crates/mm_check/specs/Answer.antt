@@ -21,6 +21,7 @@ use Rattle.mm_check.specs.Rests.{IsNumberWhere, AreInOrder, AreUses}
 abbrev pub plain_refusal : Refusal → PlainRefusal
 plain_refusal r = record {
   file = r.file;
+  at = r.at;
   line = r.line;
   statement = r.statement;
   label = option_map (λ l. l.now) r.label;

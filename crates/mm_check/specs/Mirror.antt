@@ -10,3 +10,8 @@ pub mod AllSaving
 pub mod Marks
 pub mod Judged
 pub mod Visits
+pub mod Explaining
+pub mod Reached
+pub mod Reasons
+pub mod Bits
+pub mod Tables

@@ -1,14 +1,20 @@
 -- The reply to a command: its text and its status, which are this project's own.
-use Rattle.std.specs.Prelude.{◌≡◌, ℕ, ◌<◌, List, [], ◌∷◌, ◌++◌, map, length, slice_get, Option}
+use Rattle.std.specs.Prelude.{◌≡◌, ℕ, ◌<◌, List, [], ◌∷◌, ◌++◌, map, length, Option}
 use Rattle.std.specs.Prelude.{Bool, true, false, None}
-use Rattle.std.specs.Prelude.{option_map, unwrap_or, Result, MatchOption, ◌⊎◌, codes, decimal}
+use Rattle.std.specs.Prelude.{unwrap_or, Result, MatchOption, ◌⊎◌, codes, decimal}
 use Rattle.std.specs.List.{flat_map}
 use Rattle.std.specs.Io.KnownBytes.{Appends}
 use Rattle.mm_text.specs.declared.fault.LoadRule.TheVariants.{F3}
 use Rattle.mm_text.specs.Statement.{PlainStatement}
 use Rattle.mm_text.specs.Files.{PlainFile}
 use Rattle.mm_text.specs.Device.{AppendsBeginning}
+use Rattle.mm_code.specs.Words.{tokens_in}
+use Rattle.mm_frame.specs.Sentence.{Sentence, sentence_of}
+use Rattle.mm_proof.specs.declared.fault.ProofRule.{ProofRule}
 use Rattle.mm_proof.specs.declared.fault.ProofRule.TheVariants.{L1}
+use Rattle.mm_proof.specs.KnownPrefix.{known_prefix}
+use Rattle.mm_proof.specs.Tokens.{is_incomplete}
+use Rattle.mm_proof.specs.UnderProfile.{IsProvedUnder, IsPrefixAllowedUnder}
 use Rattle.mm_proof.specs.declared.profile.Profile.{Profile}
 use Rattle.mm_proof.specs.declared.profile.Profile.TheVariants.{Lenient}
 use Rattle.mm_check.specs.declared.rule.Rule.{Rule}
@@ -19,16 +25,24 @@ use Rattle.mm_check.specs.RuleCodes.{ask_code, code_of}
 use Rattle.mm_check.specs.declared.fault.CheckFault.{CheckFault}
 use Rattle.mm_check.specs.Conclusion.{Conclusion}
 use Rattle.mm_check.specs.Answer.{verdict_of_answer, labels_at}
+use Rattle.mm_check.specs.AllAxioms.{ReportLine, AreReportLines}
 use Rattle.mm_check.specs.declared.ask.AskFault.{AskFault}
 use Rattle.mm_check.specs.declared.ask.AskFault.TheVariants as ask
 use Rattle.mm_check.specs.declared.command.Command.{Command}
-use Rattle.mm_check.specs.declared.command.Command.TheVariants.{Whole, About, File}
+use Rattle.mm_check.specs.declared.command.Command.TheVariants.{Whole, About, Lone, File}
 use Rattle.mm_check.specs.declared.question.Question.{Question}
 use Rattle.mm_check.specs.declared.question.Question.TheVariants as question
+use Rattle.mm_check.specs.declared.question.LoneQuestion.{LoneQuestion}
+use Rattle.mm_check.specs.declared.question.LoneQuestion.TheVariants.{Known, Try}
 use Rattle.mm_check.specs.declared.question.WholeQuestion.{WholeQuestion}
-use Rattle.mm_check.specs.declared.question.WholeQuestion.TheVariants.{Check, Faults}
+use Rattle.mm_check.specs.declared.question.WholeQuestion.TheVariants.{Check, Faults, Why}
+use Rattle.mm_check.specs.declared.question.WholeQuestion.TheVariants.{Axioms as AllAxioms}
+use Rattle.mm_check.specs.Users.{IsAssertionFault, AreUsers}
 use Rattle.mm_check.specs.Rests.{IsAskFault, IsReport}
-use Rattle.mm_check.specs.Shown.{ShowsProof}
+use Rattle.mm_check.specs.Alone.{IsRefusedBefore, IsNoTheorem, IsTheoremAt, HasProofTokens}
+use Rattle.mm_check.specs.Alone.{BreaksTokens, judged_tokens, AreStepsBefore}
+use Rattle.mm_check.specs.Explained.{Detail, IsTokensFault, AreDetails, AreLeftOver, details_text}
+use Rattle.mm_check.specs.Shown.{ShowsProof, IsListingText}
 use Rattle.mm_check.specs.declared.form.Form.{Form}
 use Rattle.mm_check.specs.declared.form.Form.TheVariants as form
 use Rattle.mm_check.specs.Forms.{IsNormalOf, IsPackedOf, IsNormalFault}
@@ -36,8 +50,11 @@ use Rattle.mm_check.specs.Compared.{IsCompared, IsSameFault}
 use Rattle.mm_check.specs.Saved.{IsSaved, FitsSaved, IsSaveFault}
 use Rattle.mm_check.specs.AllSaved.{IsAllSaved, IsFirstTooLong, IsAllSaveFault}
 use Rattle.mm_check.specs.Verdict.{PlainRefusal, Verdict, Load, Refused, Incomplete, Yes}
-use Rattle.mm_check.specs.Verdict.{HasVerdict, AreAccepted, labels_of}
+use Rattle.mm_check.specs.Verdict.{HasVerdict, AreAccepted, labels_of, proof_of, sentences}
+use Rattle.mm_check.specs.Verdict.{refusal_of}
 use Rattle.mm_check.specs.Faults.{HaveFaults, refusal_in}
+use Rattle.mm_check.specs.Why.{TellsFaults}
+pub use Rattle.mm_check.specs.Places.{name_of}
 
 -- A line of a refusal begins with `limit` for a limit that was passed, else with `no`.
 abbrev pub refusal_word : Rule → List ℕ
@@ -48,10 +65,6 @@ refusal_word rule = codes "no"
 abbrev pub line_with : List ℕ → List (List ℕ) → List ℕ
 line_with word [] = word ++ codes "\n"
 line_with word (other ∷ others) = word ++ codes " " ++ line_with other others
-
--- the name of a handed file; nothing where there is no such file
-abbrev pub name_of : List PlainFile → ℕ → List ℕ
-name_of files file = unwrap_or (option_map (λ f. f.name) (slice_get files file)) []
 
 -- a line for each label
 abbrev pub lines_of : List (List ℕ) → List ℕ
@@ -108,6 +121,21 @@ IsFaultsReply profile files text status =
     ⊎ ((first : PlainRefusal) × (others : List PlainRefusal)
     × HaveFaults profile files (first ∷ others)
     × (text ≡ refusals_text files (first ∷ others)) × (status ≡ refusal_status first.rule))
+
+-- This is the text and the status of the reply to `why` in the profile: where `check` tells no
+-- refusal, those of its reply; else what tells all faults and explains them, and the status of the
+-- first.
+abbrev pub IsWhyReply : Profile → List PlainFile → List ℕ → ℕ → Type 0
+IsWhyReply profile files text status =
+    ((verdict : Verdict) × HasVerdict profile files verdict × (refusal_in verdict ≡ None)
+    × (text ≡ text_of files verdict) × (status ≡ status_of verdict))
+    ⊎ ((first : PlainRefusal) × (others : List PlainRefusal)
+    × HaveFaults profile files (first ∷ others) × TellsFaults profile files (first ∷ others) text
+    × (status ≡ refusal_status first.rule))
+
+-- the text of lines that tell what theorems rest on
+abbrev pub lines_text : List ReportLine → List ℕ
+lines_text lines = flat_map (λ line. line_with line.word line.others) lines
 
 -- ---- questions
 
@@ -172,6 +200,16 @@ IsAxiomsReply label statements text status =
     ⊎ ((axioms : List ℕ) × (unproved : List ℕ) × IsReport statements label axioms unproved
     × (text ≡ report_text (labels_of statements) axioms unproved)
     × (status ≡ report_status unproved))
+
+-- the reply to the question who uses the assertion with a label, or for all that rest on it: a line
+-- for each
+abbrev pub IsUsersReply : (all : Bool) → (label : List ℕ) → List PlainStatement → List ℕ → ℕ
+    → Type 0
+IsUsersReply all label statements text status =
+    ((fault : AskFault) × IsAssertionFault statements label fault
+    × IsAskReply fault label text status)
+    ⊎ ((users : List ℕ) × AreUsers all statements label users
+    × (text ≡ lines_of (labels_at (labels_of statements) users)) × (status ≡ 0))
 
 -- the reply to the question how the theorem with a label is proved
 abbrev pub IsShowReply : List ℕ → List PlainStatement → List ℕ → ℕ → Type 0
@@ -240,6 +278,8 @@ IsAnswerTo (question.Form wanted whole) files label statements text status =
     IsFormReply whole wanted files label statements text status
 IsAnswerTo (question.Same proof) files label statements text status =
     IsSameReply label proof.now statements text status
+IsAnswerTo (question.Users all) files label statements text status =
+    IsUsersReply all label statements text status
 
 -- the reply to the question for the file with a number, with each complete proof in a form: the bytes
 -- of the file, and nothing else; or the label of the first theorem whose proof is too long, or the
@@ -263,6 +303,118 @@ IsQuestionReply files Answers text status =
     ⊎ ((statements : List PlainStatement) × AreAccepted Lenient files statements
     × Answers statements text status)
 
+-- ---- one theorem alone
+
+-- The reply where no theorem is found at the label: the files can't be taken, or they are refused
+-- before it is known what stands there; or no theorem stands there.
+abbrev pub IsNotFoundReply : List PlainFile → (label : List ℕ) → List ℕ → ℕ → Type 0
+IsNotFoundReply files label text status =
+    ((rule : Rule) × HasVerdict Lenient files (Load rule) × (text ≡ text_of files (Load rule))
+    × (status ≡ status_of (Load rule)))
+    ⊎ (((refusal : PlainRefusal) × IsRefusedBefore files label refusal
+    × (text ≡ text_of files (Refused refusal)) × (status ≡ refusal_status refusal.rule))
+    ⊎ ((rule : AskRule) × IsNoTheorem files label rule
+    × IsAskReply (ask.Rule rule) label text status))
+
+-- the text begins with these lines, which the text of the facts follows
+abbrev pub IsExplained : (lines : List ℕ) → List Detail → (text : List ℕ) → Type 0
+IsExplained lines details text = text ≡ lines ++ details_text details
+
+-- The tokens are not a proof of the `$p`: the line of their first fault, and the facts that explain
+-- it.
+pub record IsTriedFault (before : List Sentence) (s : Sentence) (tokens : List (List ℕ))
+    (text : List ℕ) (status : ℕ) : Type 0 where
+  pub rule : ProofRule
+  pub step : ℕ
+  pub fault : IsTokensFault Lenient before s tokens rule step
+  pub line : List ℕ
+  pub told : IsAskReply (ask.Text (rules.Proof rule) step) [] line status
+  pub details : List Detail
+  pub explained : AreDetails Lenient before s tokens rule step details
+  pub said : IsExplained line details text
+
+-- They are incomplete, and their known prefix breaks no rule: the line of that, and what the prefix
+-- leaves on the stack.
+pub record IsTriedPrefix (before : List Sentence) (s : Sentence) (tokens : List (List ℕ))
+    (text : List ℕ) (status : ℕ) : Type 0 where
+  pub incomplete : is_incomplete tokens ≡ true
+  pub allowed : IsPrefixAllowedUnder Lenient before s tokens
+  pub line : List ℕ
+  pub told : IsAskReply (ask.Text (rules.Ask A3) 0) [] line status
+  pub details : List Detail
+  pub left : AreLeftOver Lenient before s tokens details
+  pub said : IsExplained line details text
+
+-- the reply what tokens are as a proof of the `$p`
+abbrev pub IsTokensReply : (before : List Sentence) → Sentence → (tokens : List (List ℕ))
+    → List ℕ → ℕ → Type 0
+IsTokensReply before s tokens text status =
+    ((is_incomplete tokens ≡ false) × IsProvedUnder Lenient before s tokens
+    × (text ≡ line_with (codes "proof") []) × (status ≡ 0))
+    ⊎ (IsTriedPrefix before s tokens text status ⊎ IsTriedFault before s tokens text status)
+
+-- the reply whether a text is a proof of the `$p`
+abbrev pub IsTryReply : (proof : List ℕ) → (before : List Sentence) → Sentence → List ℕ → ℕ
+    → Type 0
+IsTryReply proof before s text status =
+    ((rule : Rule) × BreaksTokens rule proof × IsAskReply (ask.Text rule 0) [] text status)
+    ⊎ (HasProofTokens proof × IsTokensReply before s (tokens_in proof) text status)
+
+-- The proof of the `$p`, or what is known of it, is at fault: the lines of the steps before the
+-- fault, the refusal, and the facts that explain it.
+pub record IsKnownFault (files : List PlainFile) (before : List PlainStatement) (s : PlainStatement)
+    (text : List ℕ) (status : ℕ) : Type 0 where
+  pub rule : ProofRule
+  pub step : ℕ
+  pub fault : IsTokensFault Lenient (sentences before) (sentence_of s) (proof_of s) rule step
+  pub lines : List ℕ
+  pub shown : AreStepsBefore (sentences before) (sentence_of s) (judged_tokens (proof_of s)) step
+      lines
+  pub details : List Detail
+  pub explained : AreDetails Lenient (sentences before) (sentence_of s) (proof_of s) rule step
+      details
+  pub said :
+      let refusal = refusal_of files (length before) s (rules.Proof rule) step in
+      IsExplained (lines ++ text_of files (Refused refusal)) details text
+  pub ends : status ≡ refusal_status (rules.Proof rule)
+
+-- The proof is incomplete, and its known prefix breaks no rule: the lines of the prefix's steps,
+-- and what it leaves on the stack.
+pub record IsKnownPrefix (before : List Sentence) (s : Sentence) (tokens : List (List ℕ))
+    (text : List ℕ) (status : ℕ) : Type 0 where
+  pub incomplete : is_incomplete tokens ≡ true
+  pub allowed : IsPrefixAllowedUnder Lenient before s tokens
+  pub lines : List ℕ
+  pub shown : IsListingText before s (known_prefix tokens) lines
+  pub details : List Detail
+  pub left : AreLeftOver Lenient before s tokens details
+  pub said : IsExplained lines details text
+  pub ends : status ≡ 3
+
+-- the reply how the `$p` is proved, as far as that is known
+abbrev pub IsKnownReply : List PlainFile → (before : List PlainStatement) → PlainStatement → List ℕ
+    → ℕ → Type 0
+IsKnownReply files before s text status =
+    ((is_incomplete (proof_of s) ≡ false)
+    × IsProvedUnder Lenient (sentences before) (sentence_of s) (proof_of s)
+    × IsListingText (sentences before) (sentence_of s) (proof_of s) text × (status ≡ 0))
+    ⊎ (IsKnownPrefix (sentences before) (sentence_of s) (proof_of s) text status
+    ⊎ IsKnownFault files before s text status)
+
+-- the answer about the theorem after those before it
+abbrev pub IsLoneAnswer : LoneQuestion → List PlainFile → (before : List PlainStatement)
+    → PlainStatement → List ℕ → ℕ → Type 0
+IsLoneAnswer Known files before s text status = IsKnownReply files before s text status
+IsLoneAnswer (Try proof) files before s text status =
+    IsTryReply proof.now (sentences before) (sentence_of s) text status
+
+-- the reply to a question about the theorem with a label alone
+abbrev pub IsLoneReply : LoneQuestion → List PlainFile → (label : List ℕ) → List ℕ → ℕ → Type 0
+IsLoneReply asked files label text status =
+    IsNotFoundReply files label text status
+    ⊎ ((before : List PlainStatement) × (s : PlainStatement) × IsTheoremAt files label before s
+    × IsLoneAnswer asked files before s text status)
+
 -- ---- commands
 
 -- a file that the command asks for by its number is one of those that are handed in
@@ -270,17 +422,31 @@ abbrev pub AsksHanded : List PlainFile → Command → Type 0
 AsksHanded files (File form number) = number < length files
 AsksHanded files command = Unit {0}
 
+-- the reply to the question what each theorem rests on, in the profile: where the files are refused,
+-- the text of the refusal, else the lines of all theorems; and the status of the verdict
+abbrev pub IsAllAxiomsReply : Profile → List PlainFile → List ℕ → ℕ → Type 0
+IsAllAxiomsReply profile files text status =
+    (verdict : Verdict) × HasVerdict profile files verdict × (status ≡ status_of verdict)
+    × ((IsRefusal verdict × (text ≡ text_of files verdict))
+    ⊎ ((statements : List PlainStatement) × AreAccepted profile files statements
+    × (lines : List ReportLine) × AreReportLines statements lines
+    × (text ≡ lines_text lines)))
+
 -- the reply to a question about the whole database, in the profile
 abbrev pub IsWholeReply : WholeQuestion → Profile → List PlainFile → List ℕ → ℕ → Type 0
 IsWholeReply Check profile files text status = IsReply profile files text status
 IsWholeReply Faults profile files text status = IsFaultsReply profile files text status
+IsWholeReply Why profile files text status = IsWhyReply profile files text status
+IsWholeReply AllAxioms profile files text status = IsAllAxiomsReply profile files text status
 
 -- This is the text and the status of the reply to a command. Questions about a theorem, and those for
--- a file, are answered where the lenient profile accepts the files.
+-- a file, are answered where the lenient profile accepts the files; those about a theorem alone where
+-- the statements up to it break no rule of meaning.
 abbrev pub IsReplyTo : List PlainFile → Command → List ℕ → ℕ → Type 0
 IsReplyTo files (Whole profile asked) text status = IsWholeReply asked profile files text status
 IsReplyTo files (About label asked) text status =
     IsQuestionReply files (IsAnswerTo asked files label.now) text status
+IsReplyTo files (Lone label asked) text status = IsLoneReply asked files label.now text status
 IsReplyTo files (File wanted number) text status =
     IsQuestionReply files (IsAllSavedReply wanted files number) text status
 

@@ -27,6 +27,7 @@ use Rattle.mm_check.specs.declared.rule.Rule.TheVariants as rules
 -- where and why a database is refused
 pub record PlainRefusal : Type 0 where
   pub file : ℕ
+  pub at : ℕ
   pub line : ℕ
   pub statement : ℕ
   pub label : Option (List ℕ)
@@ -44,6 +45,7 @@ pub data Verdict : Type 0 where
 abbrev pub refusal_of : List PlainFile → ℕ → PlainStatement → Rule → ℕ → PlainRefusal
 refusal_of files count s rule step = record {
   file = s.first.file;
+  at = s.first.at;
   line = line_of files s.first.file s.first.at;
   statement = count + 1;
   label = option_map (λ t. t.text) s.label;
@@ -55,6 +57,7 @@ refusal_of files count s rule step = record {
 abbrev pub text_refusal : List PlainFile → PlainFault → PlainRefusal
 text_refusal files fault = record {
   file = fault.file;
+  at = fault.at;
   line = line_of files fault.file fault.at;
   statement = fault.statement;
   label = option_map (λ t. t.text) fault.label;

@@ -8,9 +8,10 @@ ghost use Rattle.mm_check.specs.Reply.{AsksHanded, IsReplyTo, Writes};
 ghost use Rattle.mm_check.specs.Reply.{WritesBeginningOf};
 ghost use Rattle.mm_check.specs.declared.command.RunFault.TheVariants.{Memory};
 
+use crate::alone::lone_reply;
 use crate::form::Form;
 use crate::question::{
-    Question, Reply, WholeQuestion, all_saved_reply, question_reply, whole_reply,
+    LoneQuestion, Question, Reply, WholeQuestion, all_saved_reply, question_reply, whole_reply,
 };
 use crate::status::Status;
 use mm_proof::Profile;
@@ -32,6 +33,11 @@ pub enum Command<'a> {
     About {
         label: &'a [u8],
         question: Question<'a>,
+    },
+    /// A question about the theorem with this label alone, over the statements before it.
+    Lone {
+        label: &'a [u8],
+        question: LoneQuestion<'a>,
     },
     /// For the bytes of the handed file with this number, which is below the count of files, with
     /// each complete proof in this form.
@@ -76,6 +82,7 @@ fn reply_to(
             whole_reply(alloc, seed, files, *profile, *question)
         }
         Command::About { label, question } => question_reply(alloc, seed, files, question, label),
+        Command::Lone { label, question } => lone_reply(alloc, seed, files, label, question),
         Command::File { form, file } => all_saved_reply(alloc, seed, files, *form, *file),
     }
 }

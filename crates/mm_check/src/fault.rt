@@ -15,7 +15,9 @@ use thiserror::Error;
 pub struct Refusal<'a> {
     /// The number of the handed file, from 0.
     pub file: usize,
-    /// The line of the fault's position in its file, from 1.
+    /// The fault's position in its file, in bytes.
+    pub at: usize,
+    /// The line of that position, from 1.
     pub line: usize,
     /// The number of the statement in reading order, from 1.
     pub statement: usize,

@@ -1,9 +1,9 @@
 //! The verdict over one statement.
 
-ghost use Rattle.std.specs.Prelude.{◌≡◌, ◌+◌, ◌<◌, ◌≤◌, ◌^◌, map, IfOk, IfErr, option_map};
+ghost use Rattle.std.specs.Prelude.{◌≡◌, ◌+◌, ◌<◌, ◌≤◌, ◌^◌, IfOk, IfErr, option_map};
 ghost use Rattle.mm_text.specs.declared.statement.Kind.TheVariants.{Closing};
 ghost use Rattle.mm_text.specs.Statement.{plain_statement, HasForm, bytes_in};
-ghost use Rattle.mm_text.specs.Files.{most_bytes, plain_file};
+ghost use Rattle.mm_text.specs.Files.{most_bytes};
 ghost use Rattle.mm_frame.specs.Active.{open_marks, close_marks};
 ghost use Rattle.mm_check.specs.Verdict.{refusal_of};
 ghost use Rattle.mm_check.specs.Mirror.Judged.{IsLastProof, IsTaken, JudgesProof};
@@ -11,12 +11,12 @@ ghost use Rattle.mm_check.specs.Mirror.Judged.{RefusesMeaning, TriesProof};
 ghost use Rattle.mm_check.specs.Answer.{plain_refusal};
 
 use crate::fault::{Refusal, Stop};
-use crate::position::line_of;
+use crate::position::LineCount;
 use crate::progress::Progress;
 use crate::rule::Rule;
 use mm_frame::{LabelId, RuleFault, Taken};
 use mm_proof::{Profile, ProofFault, Proved, Prover};
-use mm_text::{File, Kind, Statement};
+use mm_text::{Kind, Statement};
 use std::alloc::AllocError;
 
 /// What a statement came to that breaks no rule of meaning.
@@ -42,20 +42,22 @@ fn label_of<'a>(statement: &Statement<'a>) -> Option<&'a [u8]>
 }
 
 /// The refusal at the first token of a statement.
-fn refusal<'a>(
-    files: &[File<'a>],
+pub(crate) fn refusal<'a>(
+    lines: &mut LineCount,
     count: usize,
     statement: &Statement<'a>,
     rule: Rule,
     step: usize,
 ) -> Refusal<'a>
     requires { count < 2 ^ 63 }
-    ensures { plain_refusal result
-        ≡ refusal_of (map plain_file files.now) count (plain_statement statement.now) rule step }
+    ensures told { plain_refusal result
+        ≡ refusal_of lines.old count (plain_statement statement.now) rule step }
+    ensures files { lines.new ≡ lines.old }
 {
     Refusal {
         file: statement.first.file,
-        line: line_of(files, statement.first.file, statement.first.at as usize),
+        at: statement.first.at as usize,
+        line: lines.line_of(statement.first.file, statement.first.at as usize),
         statement: count + 1,
         label: label_of(statement),
         rule,
@@ -85,7 +87,6 @@ fn judge_proof<'a>(
 /// the refusal for it, and counts nothing.
 fn prove<'a>(
     profile: Profile,
-    files: &[File<'a>],
     progress: &mut Progress<'a>,
     id: LabelId,
     statement: &Statement<'a>,
@@ -95,7 +96,7 @@ fn prove<'a>(
         (plain_statement statement.now) }
     requires count { progress.old.count < 2 ^ 63 }
     requires proofs { progress.old.proofs < 2 ^ 63 }
-    ensures { IfOk result (λ judged. TriesProof profile (map plain_file files.now) progress.old
+    ensures { IfOk result (λ judged. TriesProof profile progress.old.lines progress.old
         id.0 (plain_statement statement.now) judged progress.new) }
 {
     match judge_proof(&mut progress.prover, profile, id, statement) {
@@ -109,7 +110,13 @@ fn prove<'a>(
             Ok(Judged::Other)
         }
         Err(ProofFault::Rule { rule, step }) => {
-            let refusal = refusal(files, progress.count, statement, Rule::Proof(rule), step);
+            let refusal = refusal(
+                &mut progress.lines,
+                progress.count,
+                statement,
+                Rule::Proof(rule),
+                step,
+            );
             Ok(Judged::Faulty(refusal))
         }
         Err(ProofFault::Memory) => Err(AllocError),
@@ -122,7 +129,6 @@ fn prove<'a>(
 /// depend on earlier proofs.
 pub(crate) fn judge<'a>(
     profile: Profile,
-    files: &[File<'a>],
     progress: &mut Progress<'a>,
     statement: &Statement<'a>,
 ) -> Result<Judged<'a>, Stop<'a>>
@@ -134,19 +140,25 @@ pub(crate) fn judge<'a>(
         + bytes_in (plain_statement statement.now) ≤ most_bytes }
     requires count { progress.old.count < 2 ^ 62 }
     requires proofs { progress.old.proofs < 2 ^ 62 }
-    ensures taken { IfOk result (λ judged. IsTaken profile (map plain_file files.now) progress.old
+    ensures taken { IfOk result (λ judged. IsTaken profile progress.old.lines progress.old
         (plain_statement statement.now) judged progress.new) }
-    ensures refused { IfErr result (RefusesMeaning (map plain_file files.now)
+    ensures refused { IfErr result (RefusesMeaning progress.old.lines
         progress.old.prover.book.statements progress.old.count
         (plain_statement statement.now)) }
 {
     let judged = match progress.prover.take(statement) {
         Ok(Taken::Assertion(id)) if statement.kind == Kind::Provable => {
-            prove(profile, files, progress, id, statement)?
+            prove(profile, progress, id, statement)?
         }
         Ok(_) => Judged::Other,
         Err(RuleFault::Rule(rule)) => {
-            let refusal = refusal(files, progress.count, statement, Rule::Meaning(rule), 0);
+            let refusal = refusal(
+                &mut progress.lines,
+                progress.count,
+                statement,
+                Rule::Meaning(rule),
+                0,
+            );
             return Err(Stop::Refused(refusal));
         }
         Err(RuleFault::Memory) => return Err(Stop::Memory),

@@ -10,6 +10,7 @@ ghost use Rattle.mm_check.specs.FormLaws.{PackedTextsTell};
 ghost use Rattle.mm_check.specs.Laws.{OneVerdict, SomeVerdict, BetweenProfiles, OneReport};
 ghost use Rattle.mm_check.specs.SavedLaws.{SavingChangesNoAnswer, SavedProofIsStrict, OneSaved};
 ghost use Rattle.mm_check.specs.SavedLaws.{OneSaveAnswer, SavingAgainChangesNothing};
+ghost use Rattle.mm_check.specs.Users.{ReportsTellUsers};
 
 /// Files have at most one verdict: it can't be said of them both that they obey the rules and that
 /// a statement is at fault, nor that two statements are, nor that one is in two ways.
@@ -49,6 +50,12 @@ pub fn some_list_of_faults()
 /// for one label, have the same axioms and the same unproved theorems, in the same order.
 pub fn one_report()
     ensures { OneReport }
+{}
+
+/// An axiom is in the report of a theorem exactly if the theorem is among all users of the axiom;
+/// so is an unproved theorem.
+pub fn reports_tell_users()
+    ensures { ReportsTellUsers }
 {}
 
 /// What comments say changes no reply (the Metamath book, section 4.1.2): files with the same names

@@ -1,24 +1,33 @@
 //! The verdict over a database, and the replies of the program.
 #![tactic(auto)]
 
+mod all_axioms;
+mod alone;
+mod apart;
 mod ask;
+mod bits;
 mod checked;
 mod command;
 mod comparison;
+mod details;
 mod fault;
 mod faults;
 mod form;
 mod forms;
 mod judge;
 mod kept;
+mod known;
 mod laws;
+mod meanings;
 mod position;
 mod progress;
 mod question;
+mod read_to;
 mod reply;
 mod report;
 mod reread;
 mod rewrite;
+mod rows;
 mod rule;
 mod save;
 mod save_all;
@@ -26,10 +35,15 @@ mod save_fault;
 mod shown;
 mod size;
 mod status;
+mod step_places;
 mod text;
 mod theorem;
+mod told;
+mod tried;
+mod users;
 mod verdict;
 mod visitor;
+mod why;
 mod words;
 
 pub use ask::AskFault;
@@ -41,12 +55,13 @@ pub use form::Form;
 pub use laws::{
     alike_files_have_one_reply, all_saved_proofs_are_strict, between_profiles, first_fault_is_told,
     one_all_saved, one_list_of_faults, one_report, one_save_all_answer, one_save_answer, one_saved,
-    one_verdict, packed_files_are_strict, packed_texts_tell, saved_proof_is_strict,
-    saving_again_changes_nothing, saving_all_again_changes_nothing, saving_all_changes_no_answer,
-    saving_changes_no_answer, saving_in_turn_is_saving_all, some_list_of_faults, some_verdict,
+    one_verdict, packed_files_are_strict, packed_texts_tell, reports_tell_users,
+    saved_proof_is_strict, saving_again_changes_nothing, saving_all_again_changes_nothing,
+    saving_all_changes_no_answer, saving_changes_no_answer, saving_in_turn_is_saving_all,
+    some_list_of_faults, some_verdict,
 };
 pub use mm_frame::LabelId;
-pub use question::{Question, WholeQuestion};
+pub use question::{LoneQuestion, Question, WholeQuestion};
 pub use report::Report;
 pub use rule::{AskRule, Rule};
 pub use save::saved;

@@ -1,6 +1,7 @@
 //! What checking has come to.
 
 use crate::kept::Kept;
+use crate::position::LineCount;
 use mm_frame::LabelId;
 use mm_proof::Prover;
 
@@ -17,4 +18,6 @@ pub(crate) struct Progress<'a> {
     pub(crate) incomplete: Vec<LabelId>,
     /// What the complete proofs use.
     pub(crate) kept: Kept,
+    /// The lines of the files.
+    pub(crate) lines: LineCount<'a>,
 }

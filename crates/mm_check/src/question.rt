@@ -1,6 +1,6 @@
 //! Whole replies: to `check`, to `faults`, and to questions about a theorem.
 
-ghost use Rattle.std.specs.Prelude.{◌≡◌, ◌<◌, ◌++◌, [], ◌∷◌, List, map, length, OnOk, IfOk};
+ghost use Rattle.std.specs.Prelude.{◌≡◌, ◌<◌, ◌++◌, [], ◌∷◌, List, map, length, OnOk, IfOk, IfErr};
 ghost use Rattle.std.specs.Prelude.{IfSome, None, codes, decimal};
 ghost use Rattle.std.specs.List.{AllByRecursion};
 ghost use Rattle.mm_text.specs.Statement.{PlainStatement};
@@ -15,27 +15,31 @@ ghost use Rattle.mm_check.specs.RuleCodes.{code_of};
 ghost use Rattle.mm_check.specs.Reply.{line_with, lines_of, status_of as status_at, Tells};
 ghost use Rattle.mm_check.specs.Reply.{ask_status as ask_status_at};
 ghost use Rattle.mm_check.specs.Reply.{IsReply, IsAskReply, IsAxiomsReply, IsShowReply};
-ghost use Rattle.mm_check.specs.Reply.{IsFaultsReply, refusals_text, refusal_status};
+ghost use Rattle.mm_check.specs.Reply.{IsFaultsReply, IsWhyReply, refusals_text, refusal_status};
 ghost use Rattle.mm_check.specs.Reply.{IsNormalReply, IsPackedReply, IsSavedReply, IsSameReply};
 ghost use Rattle.mm_check.specs.Reply.{IsAllSavedReply, IsAnswerTo, IsFormReply, IsWholeReply};
 ghost use Rattle.mm_check.specs.Reply.{same_text, same_status, text_status as text_status_at};
 ghost use Rattle.mm_check.specs.Reply.{IsQuestionReply, report_text as report_text_at};
-ghost use Rattle.mm_check.specs.Reply.{report_status as report_status_at};
+ghost use Rattle.mm_check.specs.Reply.{report_status as report_status_at, IsUsersReply};
+ghost use Rattle.mm_check.specs.Reply.{IsAllAxiomsReply};
+ghost use Rattle.mm_proof.specs.declared.profile.Profile.{Profile};
+ghost use Rattle.mm_check.specs.Users.{AreUsers, IsAssertionFault};
 
+use crate::all_axioms::all_axioms_text;
 use crate::ask::AskFault;
 use crate::checked::Checked;
 use crate::fault::{CheckFault, Refusal};
 use crate::faults::{AllFaults, all_faults};
 use crate::form::Form;
-use crate::reply::{
-    first_status, name_of, push_label, push_labels, push_refusals, status_of, text_of,
-};
+use crate::position::name_of;
+use crate::reply::{first_status, push_label, push_labels, push_refusals, status_of, text_of};
 use crate::report::Report;
 use crate::rule::{AskRule, Rule};
 use crate::save_all::saved_all;
 use crate::save_fault::SaveFault;
 use crate::status::Status;
 use crate::verdict::{check, check_with};
+use crate::why::{Unaccepted, explained};
 use crate::words::{push_number, push_word};
 use mm_frame::LabelId;
 use mm_proof::{Profile, ProofRule};
@@ -56,9 +60,13 @@ pub enum WholeQuestion {
     Check,
     /// For all its faults, in one run.
     Faults,
+    /// For an explanation of each of them.
+    Why,
+    /// What each theorem rests on.
+    Axioms,
 }
 
-/// A question about the theorem with a label.
+/// A question about the theorem with a label, or about the assertion.
 #[derive(Clone, Copy, PartialEq, Eq, Debug)]
 pub enum Question<'a> {
     /// What it rests on.
@@ -70,6 +78,19 @@ pub enum Question<'a> {
     Form { form: Form, whole: bool },
     /// Whether this text is the same proof.
     Same(&'a [u8]),
+    /// Of the assertion with the label: for the theorems whose proofs use it; if `all`, for those
+    /// that rest on it.
+    Users { all: bool },
+}
+
+/// A question about the theorem with a label alone, over the statements before it, whatever their
+/// proofs. What stands after it isn't read.
+#[derive(Clone, Copy, PartialEq, Eq, Debug)]
+pub enum LoneQuestion<'a> {
+    /// How it is proved, step by step, as far as that is known.
+    Known,
+    /// Whether this text is a proof of it, whatever stands in the file as its proof.
+    Try(&'a [u8]),
 }
 
 /// A line for the label of each of these numbers, after a question mark.
@@ -143,7 +164,7 @@ fn ask_status(rule: AskRule) -> Status
 
 /// The line that says why a proof's text that is handed in is refused.
 #[tactic(auto, using(crate::proofs::ReplyTexts::three_words))]
-fn refused_text(alloc: Global, rule: Rule, step: usize) -> Result<Vec<u8>, AllocError>
+pub(crate) fn refused_text(alloc: Global, rule: Rule, step: usize) -> Result<Vec<u8>, AllocError>
     ensures { IfOk result (λ text. text.items
         ≡ line_with (codes "text") (code_of rule ∷ decimal step ∷ [])) }
 {
@@ -156,7 +177,7 @@ fn refused_text(alloc: Global, rule: Rule, step: usize) -> Result<Vec<u8>, Alloc
 }
 
 /// The status where a proof's text that is handed in is refused.
-fn text_status(rule: Rule) -> Status
+pub(crate) fn text_status(rule: Rule) -> Status
     ensures { number_of result ≡ text_status_at rule }
 {
     match rule {
@@ -167,7 +188,7 @@ fn text_status(rule: Rule) -> Status
 }
 
 /// The reply where a question about a label has no answer.
-fn ask_reply(alloc: Global, label: &[u8], fault: AskFault) -> Result<Reply, AllocError>
+pub(crate) fn ask_reply(alloc: Global, label: &[u8], fault: AskFault) -> Result<Reply, AllocError>
     ensures { IfOk result (λ reply.
         IsAskReply fault label.now reply.text.items (number_of reply.status)) }
 {
@@ -333,6 +354,53 @@ fn form_answer(
     }
 }
 
+/// The theorems that use the assertion with a label, or all that rest on it.
+fn users_of(
+    alloc: Global,
+    checked: &Checked,
+    label: &[u8],
+    all: bool,
+) -> Result<Vec<LabelId>, AskFault>
+    ensures users { IfOk result (λ users. (statements : List PlainStatement)
+        → Reads checked.now.files statements None
+        → AreUsers all statements label.now (map (λ id. id.0) users.items)) }
+    ensures fault { IfErr result (λ fault. (statements : List PlainStatement)
+        → Reads checked.now.files statements None
+        → IsAssertionFault statements label.now fault) }
+    ensures in_range { IfOk result (λ users.
+        AllByRecursion (λ n. n < length checked.now.labels) (map (λ id. id.0) users.items)) }
+{
+    if all {
+        checked.all_users(alloc, label)
+    } else {
+        checked.users(alloc, label)
+    }
+}
+
+/// The reply of a database in which nothing is at fault to the question who uses an assertion.
+fn users_answer(
+    alloc: Global,
+    checked: &Checked,
+    label: &[u8],
+    all: bool,
+) -> Result<Reply, AllocError>
+    ensures { IfOk result (λ reply. (statements : List PlainStatement)
+        → Reads checked.now.files statements None → checked.now.labels ≡ labels_of statements
+        → IsUsersReply all label.now statements reply.text.items (number_of reply.status)) }
+{
+    match users_of(alloc, checked, label, all) {
+        Ok(users) => {
+            let mut text = Vec::new(alloc);
+            push_labels(&mut text, checked, &users)?;
+            Ok(Reply {
+                text,
+                status: Status::Done,
+            })
+        }
+        Err(fault) => ask_reply(alloc, label, fault),
+    }
+}
+
 /// The reply of a database in which nothing is at fault to a question about a theorem.
 fn answer_to(
     alloc: Global,
@@ -352,11 +420,12 @@ fn answer_to(
         Question::Show => show_answer(alloc, checked, label),
         Question::Form { form, whole } => form_answer(alloc, checked, label, *form, *whole),
         Question::Same(text) => same_answer(alloc, checked, label, text),
+        Question::Users { all } => users_answer(alloc, checked, label, *all),
     }
 }
 
 /// The reply that tells the verdict.
-fn verdict_reply(
+pub(crate) fn verdict_reply(
     alloc: Global,
     files: &[File],
     answer: &Result<Checked, CheckFault>,
@@ -420,6 +489,62 @@ fn faults_reply(
     }
 }
 
+/// The reply to `why` under a profile.
+fn why_reply(
+    alloc: Global,
+    seed: Seed,
+    profile: Profile,
+    files: &[File],
+) -> Result<Reply, AllocError>
+    ensures { IfOk result (λ reply. IsWhyReply profile (map plain_file files.now)
+        reply.text.items (number_of reply.status)) }
+{
+    match explained(alloc, seed, profile, files) {
+        Ok(checked) => verdict_reply(alloc, files, &Ok(checked)),
+        Err(Unaccepted::Load(rule)) => verdict_reply(alloc, files, &Err(CheckFault::Load(rule))),
+        Err(Unaccepted::Refused { text, status }) => Ok(Reply { text, status }),
+        Err(Unaccepted::Memory) => Err(AllocError),
+    }
+}
+
+/// The reply to the question what each theorem rests on, where this is the answer of `check`.
+fn all_axioms_answer(
+    alloc: Global,
+    files: &[File],
+    answer: &Result<Checked, CheckFault>,
+) -> Result<Reply, AllocError>
+    requires labels { IfOk answer.now (KeepsLabels (map plain_file files.now)) }
+    requires files { IfOk answer.now (KeepsFiles (map plain_file files.now)) }
+    ensures { IfOk result (λ reply. (profile : Profile)
+        → IsVerdict profile (map plain_file files.now) answer.now
+        → IsAllAxiomsReply profile (map plain_file files.now) reply.text.items
+        (number_of reply.status)) }
+{
+    match answer {
+        Ok(checked) => Ok(Reply {
+            text: all_axioms_text(alloc, checked)?,
+            status: status_of(answer),
+        }),
+        Err(_) => verdict_reply(alloc, files, answer),
+    }
+}
+
+/// The reply to the question what each theorem rests on, under a profile.
+fn all_axioms_reply(
+    alloc: Global,
+    seed: Seed,
+    profile: Profile,
+    files: &[File],
+) -> Result<Reply, AllocError>
+    ensures { IfOk result (λ reply. IsAllAxiomsReply profile (map plain_file files.now)
+        reply.text.items (number_of reply.status)) }
+{
+    let answer = check_with(alloc, seed, profile, files);
+    let reply = all_axioms_answer(alloc, files, &answer);
+    drop(answer);
+    reply
+}
+
 /// The reply to a question about the whole database under a profile.
 pub(crate) fn whole_reply(
     alloc: Global,
@@ -434,6 +559,8 @@ pub(crate) fn whole_reply(
     match question {
         WholeQuestion::Check => check_reply(alloc, seed, profile, files),
         WholeQuestion::Faults => faults_reply(alloc, seed, profile, files),
+        WholeQuestion::Why => why_reply(alloc, seed, profile, files),
+        WholeQuestion::Axioms => all_axioms_reply(alloc, seed, profile, files),
     }
 }
 

@@ -8,7 +8,7 @@ ghost use Rattle.mm_text.specs.Files.{plain_file};
 ghost use Rattle.mm_check.specs.Reply.{text_of as text_at, status_of as status_at};
 ghost use Rattle.mm_check.specs.Reply.{refusal_status as refusal_status_at, refusal_word};
 ghost use Rattle.mm_check.specs.Reply.{refusals_text};
-ghost use Rattle.mm_check.specs.Reply.{name_of as name_at, line_with, lines_of, Tells};
+ghost use Rattle.mm_check.specs.Reply.{line_with, lines_of, Tells};
 ghost use Rattle.mm_check.specs.RuleCodes.{code_of};
 ghost use Rattle.mm_check.specs.Verdict.{Refused};
 ghost use Rattle.mm_check.specs.Answer.{plain_refusal, labels_at, verdict_of_conclusion};
@@ -17,6 +17,7 @@ ghost use Rattle.mm_check.specs.Status.{number_of};
 
 use crate::checked::Checked;
 use crate::fault::{CheckFault, Refusal};
+use crate::position::name_of;
 use crate::rule::Rule;
 use crate::status::Status;
 use crate::words::{push_number, push_word};
@@ -24,16 +25,6 @@ use mm_frame::LabelId;
 use mm_proof::ProofRule;
 use mm_text::File;
 use std::alloc::{AllocError, Global};
-
-/// The name of a file; nothing where there is none.
-pub(crate) fn name_of<'a>(files: &[File<'a>], file: usize) -> &'a [u8]
-    ensures { result.now ≡ name_at (map plain_file files.now) file }
-{
-    match files.get(file) {
-        Some(file) => file.name,
-        None => b"",
-    }
-}
 
 /// The word with which the line of a refusal begins.
 fn word_of(rule: Rule) -> &'static [u8]
@@ -146,7 +137,7 @@ fn push_conclusion(out: &mut Vec<u8>, checked: &Checked) -> Result<(), AllocErro
 }
 
 /// The status of a refusal: a limit stops the program, any other rule is a refusal.
-fn refusal_status(rule: Rule) -> Status
+pub(crate) fn refusal_status(rule: Rule) -> Status
     ensures { number_of result ≡ refusal_status_at rule }
 {
     match rule {
@@ -157,7 +148,11 @@ fn refusal_status(rule: Rule) -> Status
 
 /// The line of a refusal.
 #[tactic(auto, using(crate::proofs::ReplyTexts::six_words))]
-fn push_refusal(out: &mut Vec<u8>, files: &[File], refusal: &Refusal) -> Result<(), AllocError>
+pub(crate) fn push_refusal(
+    out: &mut Vec<u8>,
+    files: &[File],
+    refusal: &Refusal,
+) -> Result<(), AllocError>
     ensures { OnOk result (out.new.items ≡ out.old.items
         ++ text_at (map plain_file files.now) (Refused (plain_refusal refusal.now))) }
 {

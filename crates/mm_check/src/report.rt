@@ -5,8 +5,12 @@ ghost use Rattle.std.specs.Prelude.{Contains, true, false, IfOk, IsTrue, Some};
 ghost use Rattle.mm_frame.specs.Numbers.{labelled_sentences};
 ghost use Rattle.mm_check.specs.Rests.{AreRising, AreInOrder, RestsOn};
 ghost use Rattle.mm_check.specs.Mirror.Marks.{IsMarked, UsedIn, AreBackward, IsAxiomNumber};
+ghost use Rattle.mm_check.specs.Mirror.Tables.{IsOfKind, AreTables, IsReportIn};
+ghost use Rattle.mm_frame.specs.Taken.{kind_behind};
+ghost use Rattle.mm_text.specs.declared.statement.Kind.TheVariants.{Provable};
 
 use crate::kept::Kept;
+use crate::rows::{Rows, reached, rows_of};
 use mm_frame::{Book, LabelId, LabelKind};
 use std::alloc::{AllocError, Global};
 
@@ -30,7 +34,7 @@ fn is_marked(marks: &[bool], id: LabelId) -> bool
 }
 
 /// Whether a number is a theorem's own, or marked.
-fn is_reached(marks: &[bool], theorem: LabelId, id: LabelId) -> bool
+pub(crate) fn is_reached(marks: &[bool], theorem: LabelId, id: LabelId) -> bool
     ensures { IsTrue result ↔ ((id.0 ≡ theorem.0) ⊎ IsMarked marks.now id.0) }
 {
     id == theorem || is_marked(marks, id)
@@ -125,4 +129,87 @@ pub(crate) fn marked_among(
         }
     }
     Ok(marked)
+}
+
+/// Whether two kinds are the same.
+fn is_same(kind: LabelKind, other: LabelKind) -> bool
+    ensures { IsTrue result ↔ (kind ≡ other) }
+{
+    kind == other
+}
+
+/// The numbers of the statements of a kind, in database order.
+fn numbers_of_kind(alloc: Global, book: &Book, kind: LabelKind) -> Result<Vec<LabelId>, AllocError>
+    requires { length (labelled_sentences book.now.statements) < 4294967295 }
+    ensures { IfOk result (λ ids.
+        AreInOrder (IsOfKind book.now.statements (kind_behind kind)) (map (λ l. l.0) ids.items)) }
+{
+    let mut numbers = Vec::new(alloc);
+    for number in 0..u32::MAX {
+        let id = LabelId(number);
+        if !book.is_label(id) {
+            break;
+        }
+        if is_same(book.kind(id), kind) {
+            numbers.push(id)?;
+        }
+    }
+    Ok(numbers)
+}
+
+/// The `$p`, in database order.
+pub(crate) fn theorems_of(alloc: Global, book: &Book) -> Result<Vec<LabelId>, AllocError>
+    requires { length (labelled_sentences book.now.statements) < 4294967295 }
+    ensures { IfOk result (λ ids.
+        AreInOrder (IsOfKind book.now.statements Provable) (map (λ l. l.0) ids.items)) }
+{
+    numbers_of_kind(alloc, book, LabelKind::Proof)
+}
+
+/// What all theorems rest on.
+#[derive(Drop)]
+pub(crate) struct Tables {
+    axioms: Vec<LabelId>,
+    axiom_rows: Rows,
+    unproved_rows: Rows,
+}
+
+/// The tables of a database with these incomplete proofs.
+pub(crate) fn tables_of(
+    alloc: Global,
+    book: &Book,
+    kept: &Kept,
+    incomplete: &[LabelId],
+) -> Result<Tables, AllocError>
+    requires few { length (labelled_sentences book.now.statements) < 4294967295 }
+    requires backward { AreBackward kept.now }
+    requires rising { AreRising (map (λ l. l.0) incomplete.now) }
+    ensures { IfOk result (λ tables. AreTables book.now.statements
+        (map (λ l. l.0) incomplete.now) kept.now tables) }
+{
+    let axioms = numbers_of_kind(alloc, book, LabelKind::Axiom)?;
+    let axiom_rows = rows_of(alloc, kept, &axioms)?;
+    let unproved_rows = rows_of(alloc, kept, incomplete)?;
+    Ok(Tables {
+        axioms,
+        axiom_rows,
+        unproved_rows,
+    })
+}
+
+/// What a theorem rests on, as the tables tell it.
+pub(crate) fn report_in(
+    alloc: Global,
+    tables: &Tables,
+    incomplete: &[LabelId],
+    theorem: LabelId,
+) -> Result<Report, AllocError>
+    requires axioms { AreRising (map (λ l. l.0) tables.now.axioms.items) }
+    requires incomplete { AreRising (map (λ l. l.0) incomplete.now) }
+    ensures { IfOk result (λ report. IsReportIn tables.now (map (λ l. l.0) incomplete.now)
+        theorem.0 report) }
+{
+    let axioms = reached(alloc, &tables.axioms, &tables.axiom_rows, theorem)?;
+    let unproved = reached(alloc, incomplete, &tables.unproved_rows, theorem)?;
+    Ok(Report { axioms, unproved })
 }

@@ -16,7 +16,7 @@ use mm_text::{File, Seed, Statement, Statements, TextFault};
 use std::alloc::{AllocError, Global};
 
 /// Whether a statement has a label.
-fn has_label(statement: &Statement, label: &[u8]) -> bool
+pub(crate) fn has_label(statement: &Statement, label: &[u8]) -> bool
     ensures { IsTrue result ↔ IsLabelled label.now (sentence_in statement.now) }
 {
     match &statement.label {

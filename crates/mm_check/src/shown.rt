@@ -37,7 +37,11 @@ fn push_name(out: &mut Vec<u8>, book: &Book, name: Name) -> Result<(), AllocErro
 
 /// Puts a space and the symbol at the end, for each of these symbols.
 #[tactic(auto, using(crate::proofs::Questions::ShownSteps::symbol_steps))]
-fn push_symbols(out: &mut Vec<u8>, book: &Book, symbols: &[Sym]) -> Result<(), AllocError>
+pub(crate) fn push_symbols(
+    out: &mut Vec<u8>,
+    book: &Book,
+    symbols: &[Sym],
+) -> Result<(), AllocError>
     requires { AllByRecursion (λ n. n < length (symbols_of book.now.statements))
         (numbers_in symbols.now) }
     ensures { OnOk result (out.new.items ≡ out.old.items
@@ -64,7 +68,7 @@ fn push_line(out: &mut Vec<u8>, book: &Book, number: usize, line: &Line) -> Resu
 }
 
 /// The text of these lines.
-fn text_of(alloc: Global, book: &Book, lines: &[Line]) -> Result<Vec<u8>, AllocError>
+pub(crate) fn text_of(alloc: Global, book: &Book, lines: &[Line]) -> Result<Vec<u8>, AllocError>
     requires { (steps : List ListedStep)
         × AllZip (TellsStep book.now.statements) lines.now steps }
     ensures { IfOk result (λ text. (steps : List ListedStep)

@@ -9,7 +9,9 @@ ghost use Rattle.mm_code.specs.Layout.{texts};
 ghost use Rattle.mm_code.specs.Words.{tokens_in, LacksWhiteSpace};
 ghost use Rattle.mm_proof.specs.Tokens.{is_incomplete};
 ghost use Rattle.mm_check.specs.Compared.{are_printable, hold_dollar, IsProofText};
+ghost use Rattle.mm_check.specs.Alone.{HasProofTokens};
 ghost use Rattle.mm_check.specs.Mirror.Comparisons.{IsIllegal};
+ghost use Rattle.mm_check.specs.Mirror.Reached.{HasNoTokens};
 
 use crate::ask::AskFault;
 use crate::rule::{AskRule, Rule};
@@ -119,12 +121,12 @@ fn broken<T>(rule: Rule) -> Result<T, AskFault>
     Err(AskFault::Text { rule, step: 0 })
 }
 
-/// The tokens of a text, where they may stand in a proof with no unknown step.
-pub(crate) fn proof_tokens<'a>(alloc: Global, text: &'a [u8]) -> Result<Vec<&'a [u8]>, AskFault>
+/// The tokens of a text, where they may stand in a proof, with unknown steps or without.
+pub(crate) fn handed_tokens<'a>(alloc: Global, text: &'a [u8]) -> Result<Vec<&'a [u8]>, AskFault>
     ensures tokens { IfOk result (λ tokens. texts tokens.items ≡ tokens_in text.now) }
     ensures room { IfOk result (λ tokens. sum_by length (texts tokens.items) ≤ most_bytes) }
-    ensures legal { IfOk result (λ tokens. IsProofText text.now) }
-    ensures fault { IfErr result (IsIllegal text.now) }
+    ensures legal { IfOk result (λ tokens. HasProofTokens text.now) }
+    ensures fault { IfErr result (HasNoTokens text.now) }
 {
     if text.len() > BYTE_LIMIT {
         return broken(Rule::Load(LoadRule::F3));
@@ -136,6 +138,17 @@ pub(crate) fn proof_tokens<'a>(alloc: Global, text: &'a [u8]) -> Result<Vec<&'a 
     if any_dollar(&tokens) {
         return broken(Rule::Text(TextRule::X9));
     }
+    Ok(tokens)
+}
+
+/// The tokens of a text, where they may stand in a proof with no unknown step.
+pub(crate) fn proof_tokens<'a>(alloc: Global, text: &'a [u8]) -> Result<Vec<&'a [u8]>, AskFault>
+    ensures tokens { IfOk result (λ tokens. texts tokens.items ≡ tokens_in text.now) }
+    ensures room { IfOk result (λ tokens. sum_by length (texts tokens.items) ≤ most_bytes) }
+    ensures legal { IfOk result (λ tokens. IsProofText text.now) }
+    ensures fault { IfErr result (IsIllegal text.now) }
+{
+    let tokens = handed_tokens(alloc, text)?;
     if any_question(&tokens) {
         return broken(Rule::Ask(AskRule::A3));
     }

@@ -20,7 +20,7 @@ use crate::checked::Checked;
 use crate::fault::{CheckFault, Refusal, Stop};
 use crate::judge::{Judged, judge};
 use crate::kept::Kept;
-use crate::position::line_of;
+use crate::position::{LineCount, line_of};
 use crate::progress::Progress;
 use crate::rule::Rule;
 use crate::size::size_of;
@@ -31,7 +31,7 @@ use mm_text::{File, Seed, Statement, Statements, TextFault, TextRule, Token};
 use std::alloc::{AllocError, Global};
 
 /// A reader of the files, or why they can't be taken as a whole.
-fn load<'a>(
+pub(crate) fn load<'a>(
     alloc: Global,
     seed: Seed,
     files: &'a [File<'a>],
@@ -69,6 +69,7 @@ fn text_refusal<'a>(
 {
     Refusal {
         file,
+        at: at as usize,
         line: line_of(files, file, at as usize),
         statement,
         label: label.map(|label| label.text),
@@ -78,7 +79,7 @@ fn text_refusal<'a>(
 }
 
 /// Reads the next statement; `false` where there is none.
-fn next<'a>(
+pub(crate) fn next<'a>(
     files: &[File<'a>],
     statements: &mut Statements<'a>,
     into: &mut Statement<'a>,
@@ -108,10 +109,15 @@ fn next<'a>(
     }
 }
 
-/// The progress before any statement.
-fn beginning<'a>(alloc: Global, seed: Seed) -> Result<Progress<'a>, AllocError>
+/// The progress before any statement of the files.
+pub(crate) fn beginning<'a>(
+    alloc: Global,
+    seed: Seed,
+    files: &'a [File<'a>],
+) -> Result<Progress<'a>, AllocError>
     ensures taken { IfOk result (HasTaken []) }
     ensures known { IfOk result (Knows []) }
+    ensures lines { IfOk result (λ progress. progress.lines ≡ map plain_file files.now) }
 {
     match Prover::new(alloc, seed) {
         Ok(prover) => Ok(Progress {
@@ -120,6 +126,7 @@ fn beginning<'a>(alloc: Global, seed: Seed) -> Result<Progress<'a>, AllocError>
             proofs: 0,
             incomplete: Vec::new(alloc),
             kept: Kept::new(alloc),
+            lines: LineCount::new(files),
         }),
         Err(RuleFault::Memory) => Err(AllocError),
         // No statement was taken, so that no rule is broken.
@@ -129,7 +136,7 @@ fn beginning<'a>(alloc: Global, seed: Seed) -> Result<Progress<'a>, AllocError>
 
 /// Before the first statement, makes room for what all of them have, so that lists need not be
 /// moved while they grow. Files without a statement, which may be great, need none.
-fn make_room<'a>(files: &[File<'a>], progress: &mut Progress<'a>)
+pub(crate) fn make_room<'a>(files: &[File<'a>], progress: &mut Progress<'a>)
     ensures { progress.new ≡ progress.old }
 {
     if progress.count == 0 {
@@ -158,7 +165,7 @@ fn judge_next<'a>(
         return Ok(None);
     }
     make_room(files, progress);
-    Ok(Some(judge(profile, files, progress, into)?))
+    Ok(Some(judge(profile, progress, into)?))
 }
 
 /// Reads the statements that are left, one after the other, and judges each; the visitor sees them,
@@ -190,7 +197,7 @@ fn last_progress<'a, V: Visitor<'a>>(
     alloc: Global,
     seed: Seed,
     profile: Profile,
-    files: &[File<'a>],
+    files: &'a [File<'a>],
     statements: &mut Statements<'a>,
     visitor: &mut V,
 ) -> Result<Progress<'a>, CheckFault<'a>>
@@ -202,7 +209,7 @@ fn last_progress<'a, V: Visitor<'a>>(
     ensures stopped { IfErr result (HasStopped V.has_seen V.may_stop profile
         (map plain_file files.now) visitor.old visitor.new) }
 {
-    let mut progress: Progress<'a> = beginning(alloc, seed)?;
+    let mut progress: Progress<'a> = beginning(alloc, seed, files)?;
     match judge_rest(alloc, profile, files, statements, &mut progress, visitor) {
         Ok(()) => Ok(progress),
         Err(fault) => {

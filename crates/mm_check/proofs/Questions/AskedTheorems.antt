@@ -93,7 +93,7 @@ same_proof statements test id index s at other =
     let same : s ≡ other.1 = (at_unique statements id index other.0 s other.1 at other.2).1 in
     ap test same ∙ other.3
 
-proof_or_not : (kind : Kind) (incomplete : Bool) → kind ≡ Provable → ¬ ((is_provable kind && incomplete) ≡ true) → (is_provable kind && not incomplete) ≡ true
+pub proof_or_not : (kind : Kind) (incomplete : Bool) → kind ≡ Provable → ¬ ((is_provable kind && incomplete) ≡ true) → (is_provable kind && not incomplete) ≡ true
 proof_or_not kind false e h = rw e refl
 proof_or_not kind true e h = absurd (h (rw e refl))
 
@@ -118,6 +118,14 @@ found_other statements c label id index t kept numbered labelled_sentences other
     named_as statements label (λ s. s.kind ≢ Provable) id index t
     (subst (λ (ss : List Sentence). IsNumbered ss id index t) kept.sentences numbered) labelled_sentences
     (λ s at kind e. other (sym kind ∙ e))
+
+-- what is known of the kind under the label
+pub found_as : (statements : List PlainStatement) (c : Conclusion) (label : List ℕ) (P : Kind → Type 0) (id index : ℕ) (t : Sentence) → IsKeptOf statements c → IsNumbered c.sentences id index t
+    → IsLabelled label t → P t.kind → IsNamed statements label (λ s. P s.kind) id
+found_as statements c label P id index t kept numbered labelled_sentences holds =
+    named_as statements label (λ s. P s.kind) id index t
+    (subst (λ (ss : List Sentence). IsNumbered ss id index t) kept.sentences numbered) labelled_sentences
+    (λ s at kind. subst P (sym kind) holds)
 
 -- what a hypothesis is not, and what a kind that isn't that of a `$p` is not
 pub hypothesis_other : (kind : Kind) → IsHypothesis kind → kind ≢ Provable
@@ -219,13 +227,14 @@ axiom_is statements n = (
   λ (index, s, at, kind). (index, sentence_of s, at.numbered, kind),
 )
 
-pub report_of : (statements : List PlainStatement) (c : Conclusion) (label : List ℕ) (id : ℕ) (marks : List Bool) (axioms unproved : List ℕ)
+-- by what is known of each number whether the theorem rests on it
+pub report_by : (statements : List PlainStatement) (c : Conclusion) (label : List ℕ) (id : ℕ) (Reached : ℕ → Type 0) (axioms unproved : List ℕ)
     → IsKeptOf statements c → AllMeant c.sentences → IsNamed statements label (λ s. is_proof s ≡ true) id
-    → ((n : ℕ) → IsMarked marks n ↔ RestsOn (UsedIn c.uses) id n)
-    → AreInOrder (λ n. IsAxiomNumber c.sentences n × IsMarked marks n) axioms
-    → AreInOrder (λ n. Contains c.incomplete n × IsMarked marks n) unproved
-    → IsReport statements label axioms unproved
-report_of statements c label id marks axioms unproved kept all named marked are_axioms are_unproved =
+    → ((n : ℕ) → Reached n ↔ RestsOn (UsedIn c.uses) id n)
+    → AreInOrder (λ n. IsAxiomNumber c.sentences n × Reached n) axioms
+    → AreInOrder (λ n. Contains c.incomplete n × Reached n) unproved
+    → (report : IsReport statements label axioms unproved) × (report.id ≡ id)
+report_by statements c label id Reached axioms unproved kept all named marked are_axioms are_unproved =
     let meant : AllMeant (sentences statements) = subst AllMeant kept.sentences all in
     let same = used_is statements c.uses meant kept.uses in
     let rests : (n : ℕ) → RestsOn (UsedIn c.uses) id n ↔ RestsOn (Uses statements) id n =
@@ -233,19 +242,30 @@ report_of statements c label id marks axioms unproved kept all named marked are_
       rests_as (UsedIn c.uses) (Uses statements) (λ x y. (same x y).0) id n,
       rests_as (Uses statements) (UsedIn c.uses) (λ x y. (same x y).1) id n,
     ) in
-    let indexed = rw kept.sentences at are_axioms in
-    record {
-      id = id;
-      theorem = named;
-      are_axioms = in_order_same _ _ axioms indexed (λ n. (
-        (λ h. ((axiom_is statements n).0 h.0, (rests n).0 ((marked n).0 h.1))),
-        λ h. ((axiom_is statements n).1 h.0, (marked n).1 ((rests n).1 h.1)),
-      ));
-      are_unproved = in_order_same _ _ unproved are_unproved (λ n. (
-        (λ h. ((kept.incomplete.each n).0 h.0, (rests n).0 ((marked n).0 h.1))),
-        λ h. ((kept.incomplete.each n).1 h.0, (marked n).1 ((rests n).1 h.1)),
-      ));
-    }
+    let indexed = rw kept.sentences at are_axioms in (
+      record {
+        id = id;
+        theorem = named;
+        are_axioms = in_order_same _ _ axioms indexed (λ n. (
+          (λ h. ((axiom_is statements n).0 h.0, (rests n).0 ((marked n).0 h.1))),
+          λ h. ((axiom_is statements n).1 h.0, (marked n).1 ((rests n).1 h.1)),
+        ));
+        are_unproved = in_order_same _ _ unproved are_unproved (λ n. (
+          (λ h. ((kept.incomplete.each n).0 h.0, (rests n).0 ((marked n).0 h.1))),
+          λ h. ((kept.incomplete.each n).1 h.0, (marked n).1 ((rests n).1 h.1)),
+        ));
+      },
+      refl,
+    )
+
+pub report_of : (statements : List PlainStatement) (c : Conclusion) (label : List ℕ) (id : ℕ) (marks : List Bool) (axioms unproved : List ℕ)
+    → IsKeptOf statements c → AllMeant c.sentences → IsNamed statements label (λ s. is_proof s ≡ true) id
+    → ((n : ℕ) → IsMarked marks n ↔ RestsOn (UsedIn c.uses) id n)
+    → AreInOrder (λ n. IsAxiomNumber c.sentences n × IsMarked marks n) axioms
+    → AreInOrder (λ n. Contains c.incomplete n × IsMarked marks n) unproved
+    → IsReport statements label axioms unproved
+report_of statements c label id marks axioms unproved kept all named marked are_axioms are_unproved =
+    (report_by statements c label id (IsMarked marks) axioms unproved kept all named marked are_axioms are_unproved).0
 
 -- ---- ranges of numbers
 

@@ -61,7 +61,7 @@ marked_within [] n h = absurd cc
 marked_within (m ∷ marks) zero h = omega arith
 marked_within (m ∷ marks) (suc n) h = let rest : n < length marks = marked_within marks n h in omega arith
 
-marked_set : (marks : List Bool) (x n : ℕ) → x < length marks → IsMarked marks n ⊎ (n ≡ x) → IsMarked (set marks x true) n
+pub marked_set : (marks : List Bool) (x n : ℕ) → x < length marks → IsMarked marks n ⊎ (n ≡ x) → IsMarked (set marks x true) n
 marked_set marks x n less h = elim (cases_eq n x) [
   | inl same ↦ subst (λ (m : ℕ). get_or (set marks x true) m false ≡ true) (sym same) (get_or-set_same marks x true false less)
   | inr other ↦ elim h [
@@ -214,7 +214,7 @@ up_to_ended P ids k order below =
     in_order_same (λ n. (n < k) × P n) P (ids_in ids) order (λ n. ((λ h. h.1), λ p. (below n p, p)))
 
 -- numbers of a list up to an index
-among_more : (xs : List LabelId) (i : ℕ) (x : LabelId) → slice_get xs i ≡ Some x → ids_in (take (i + 1) xs) ≡ ids_in (take i xs) ++ x.0 ∷ []
+pub among_more : (xs : List LabelId) (i : ℕ) (x : LabelId) → slice_get xs i ≡ Some x → ids_in (take (i + 1) xs) ≡ ids_in (take i xs) ++ x.0 ∷ []
 among_more xs i x at =
     ap (λ (n : ℕ). ids_in (take n xs)) (add-one i) ∙ ap ids_in (take_next xs i x at) ∙ map-append (λ (l : LabelId). l.0) (take i xs) (x ∷ [])
 

@@ -26,7 +26,7 @@ use Rattle.mm_check.specs.Verdict.{HasVerdict, Obeys, AllObey, RefusesStatement,
 use Rattle.mm_check.specs.Verdict.{AreAccepted, CanBeRead, sentences, proof_of, is_proof}
 use Rattle.mm_check.specs.Verdict.{is_unproved, label_of, unproved_of, proofs_of, refusal_of}
 use Rattle.mm_check.specs.Verdict.{text_refusal}
-use Rattle.mm_check.specs.Reply.{text_of, name_of, line_with, refusal_word}
+use Rattle.mm_check.specs.Reply.{text_of, status_of, name_of, line_with, refusal_word}
 use Rattle.mm_check.specs.RuleCodes.{code_of}
 use Rattle.mm_check.specs.Alike.{AlikeFilesHaveOneReply}
 use Rattle.mm_text.proofs.Lists.{cons_split, append_split, same_length}
@@ -143,44 +143,65 @@ all_obey_alike profile h k ss us is obeyed before after s split =
 
 -- ## Refusals
 
+-- a refusal without its position, of which its line alone is told
+abbrev without_at : PlainRefusal → PlainRefusal
+without_at refusal = record refusal { at = 0 }
+
 -- the refusal of a statement, by its first token's line
 abbrev refusal_at : ℕ → PlainStatement → Rule → ℕ → PlainRefusal
-refusal_at count s rule step = record (refusal_of [] count s rule step) { line = s.first.at + 1 }
+refusal_at count s rule step =
+    record (refusal_of [] count s rule step) { at = 0; line = s.first.at + 1 }
 
-refusal_on : (files : List PlainFile) (count : ℕ) (s : PlainStatement) (rule : Rule) (step : ℕ) → refusal_of files count s rule step ≡ refusal_at count (statement_on (feeds_in files) s) rule step
+refusal_on : (files : List PlainFile) (count : ℕ) (s : PlainStatement) (rule : Rule) (step : ℕ)
+    → without_at (refusal_of files count s rule step)
+    ≡ refusal_at count (statement_on (feeds_in files) s) rule step
 refusal_on files count s rule step =
-    λ i. record (refusal_of files count s rule step) { label = text_on (feeds_in files) s.label i }
+    λ i. record (without_at (refusal_of files count s rule step)) {
+      label = text_on (feeds_in files) s.label i;
+    }
 
 -- the refusal of the text, by the line of its fault
 abbrev text_refusal_at : PlainFault → PlainRefusal
-text_refusal_at fault = record (text_refusal [] fault) { line = fault.at + 1 }
+text_refusal_at fault = record (text_refusal [] fault) { at = 0; line = fault.at + 1 }
 
-text_refusal_on : (files : List PlainFile) (fault : PlainFault) → text_refusal files fault ≡ text_refusal_at (fault_on (feeds_in files) fault)
+text_refusal_on : (files : List PlainFile) (fault : PlainFault)
+    → without_at (text_refusal files fault) ≡ text_refusal_at (fault_on (feeds_in files) fault)
 text_refusal_on files fault =
-    λ i. record (text_refusal files fault) { label = text_on (feeds_in files) fault.label i }
+    λ i. record (without_at (text_refusal files fault)) {
+      label = text_on (feeds_in files) fault.label i;
+    }
+
+-- another refusal is the same, but for its position
+abbrev IsSameRefusal : (PlainRefusal → Type 0) → PlainRefusal → Type 0
+IsSameRefusal Refuses refusal =
+    (other : PlainRefusal) × Refuses other × (without_at refusal ≡ without_at other)
 
 refuses_statement_alike : (profile : Profile) (files others : List PlainFile) (ss us : List PlainStatement) (refusal : PlainRefusal)
     → map (statement_on (feeds_in files)) ss ≡ map (statement_on (feeds_in others)) us
-    → RefusesStatement profile files ss refusal → RefusesStatement profile others us refusal
+    → RefusesStatement profile files ss refusal
+    → IsSameRefusal (RefusesStatement profile others us) refusal
 refuses_statement_alike profile files others ss us refusal is r =
     let h : ℕ → ℕ → ℕ = feeds_in files in
     let k : ℕ → ℕ → ℕ = feeds_in others in
     let (before, rest, whole, prefix, back) = append_split (statement_on h) (statement_on k) r.before (r.s ∷ r.after) us (sym (ap (map (statement_on h)) r.split) ∙ is) in
     let (t, after, cut, same, tail) = cons_split (statement_on h) (statement_on k) r.s r.after rest back in
-    let count = same_length (statement_on h) (statement_on k) r.before before prefix in
-    record {
-      before = before;
-      s = t;
-      after = after;
-      split = whole ∙ ap (λ (l : List PlainStatement). before ++ l) cut;
-      obeyed = all_obey_alike profile h k r.before before prefix r.obeyed;
-      rule = r.rule;
-      step = r.step;
-      fault = moved (HasFaultAs profile r.rule r.step) _ _ _ _ _ _ (same_sentences h k r.before before prefix) (same_sentence h k r.s t same) (same_proof h k r.s t same) r.fault;
-      refused = r.refused ∙ refusal_on files (length r.before) r.s r.rule r.step
+    let count = same_length (statement_on h) (statement_on k) r.before before prefix in (
+      refusal_of others (length before) t r.rule r.step,
+      record {
+        before = before;
+        s = t;
+        after = after;
+        split = whole ∙ ap (λ (l : List PlainStatement). before ++ l) cut;
+        obeyed = all_obey_alike profile h k r.before before prefix r.obeyed;
+        rule = r.rule;
+        step = r.step;
+        fault = moved (HasFaultAs profile r.rule r.step) _ _ _ _ _ _ (same_sentences h k r.before before prefix) (same_sentence h k r.s t same) (same_proof h k r.s t same) r.fault;
+        refused = refl;
+      },
+      ap without_at r.refused ∙ refusal_on files (length r.before) r.s r.rule r.step
           ∙ (λ i. refusal_at (count i) (same i) r.rule r.step)
-          ∙ sym (refusal_on others (length before) t r.rule r.step);
-    }
+          ∙ sym (refusal_on others (length before) t r.rule r.step),
+    )
 
 -- no fault corresponds to none, and a fault to a fault
 no_fault : (k : ℕ → ℕ → ℕ) (o : Option PlainFault) → None ≡ option_map (fault_on k) o → o ≡ None
@@ -195,18 +216,22 @@ some_fault h k f (Some g) is = (g, refl, cc is)
 refuses_text_alike : (profile : Profile) (files others : List PlainFile) (ss us : List PlainStatement) (ending end : Option PlainFault) (refusal : PlainRefusal)
     → map (statement_on (feeds_in files)) ss ≡ map (statement_on (feeds_in others)) us
     → option_map (fault_on (feeds_in files)) ending ≡ option_map (fault_on (feeds_in others)) end
-    → RefusesText profile files ss ending refusal → RefusesText profile others us end refusal
+    → RefusesText profile files ss ending refusal
+    → IsSameRefusal (RefusesText profile others us end) refusal
 refuses_text_alike profile files others ss us ending end refusal is ended r =
     let h : ℕ → ℕ → ℕ = feeds_in files in
     let k : ℕ → ℕ → ℕ = feeds_in others in
-    let (g, there, same) = some_fault h k r.fault end (sym (ap (option_map (fault_on h)) r.ended) ∙ ended) in
-    record {
-      obeyed = all_obey_alike profile h k ss us is r.obeyed;
-      fault = g;
-      ended = there;
-      refused = r.refused ∙ text_refusal_on files r.fault ∙ ap text_refusal_at same
-          ∙ sym (text_refusal_on others g);
-    }
+    let (g, there, same) = some_fault h k r.fault end (sym (ap (option_map (fault_on h)) r.ended) ∙ ended) in (
+      text_refusal others g,
+      record {
+        obeyed = all_obey_alike profile h k ss us is r.obeyed;
+        fault = g;
+        ended = there;
+        refused = refl;
+      },
+      ap without_at r.refused ∙ text_refusal_on files r.fault ∙ ap text_refusal_at same
+          ∙ sym (text_refusal_on others g),
+    )
 
 -- ## The files as a whole
 
@@ -282,28 +307,53 @@ accepted_alike profile law files others alike small statements accepted =
       read.spelled,
     )
 
-pub verdict_alike : (profile : Profile) → AlikeFilesAreReadAlike → (files others : List PlainFile) → AllZip AreAlike files others
+-- a verdict without the position of its refusal
+abbrev verdict_without_at : Verdict → Verdict
+verdict_without_at (Refused refusal) = Refused (without_at refusal)
+verdict_without_at verdict = verdict
+
+-- another verdict is the same, but for that
+abbrev IsSameVerdict : (Verdict → Type 0) → Verdict → Type 0
+IsSameVerdict Holds verdict =
+    (other : Verdict) × Holds other × (verdict_without_at verdict ≡ verdict_without_at other)
+
+verdict_alike : (profile : Profile) → AlikeFilesAreReadAlike → (files others : List PlainFile) → AllZip AreAlike files others
     → total_bytes files ≤ most_bytes → total_bytes others ≤ most_bytes
-    → (verdict : Verdict) → HasVerdict profile files verdict → HasVerdict profile others verdict
+    → (verdict : Verdict) → HasVerdict profile files verdict
+    → IsSameVerdict (HasVerdict profile others) verdict
 verdict_alike profile law files others alike small short (Load rule) holds =
-    (holds.0, breaks_alike files others alike small holds.0 holds.1, holds.2)
+    (Load rule, (holds.0, breaks_alike files others alike small holds.0 holds.1, holds.2), refl)
 verdict_alike profile law files others alike small short (Refused refusal) holds =
     let read : AreReadAlike files others holds.1 holds.2 = law files others alike holds.1 holds.2 holds.3 in
-    let refuses : RefusesStatement profile others read.same refusal ⊎ RefusesText profile others read.same read.end refusal = elim (holds.4) [
-      | inl r ↦ inl (refuses_statement_alike profile files others holds.1 read.same refusal read.spelled r)
-      | inr r ↦ inr (refuses_text_alike profile files others holds.1 read.same holds.2 read.end refusal read.spelled read.ended r)
-    ] in
-    (readable_alike files others alike short holds.0, read.same, read.end, read.reads, refuses)
+    let refuses : IsSameRefusal (λ r. RefusesStatement profile others read.same r ⊎ RefusesText profile others read.same read.end r) refusal = elim (holds.4) [
+      | inl r ↦
+          let (other, told, same) = refuses_statement_alike profile files others holds.1 read.same refusal read.spelled r in
+          (other, inl told, same)
+      | inr r ↦
+          let (other, told, same) = refuses_text_alike profile files others holds.1 read.same holds.2 read.end refusal read.spelled read.ended r in
+          (other, inr told, same)
+    ] in (
+      Refused refuses.0,
+      (readable_alike files others alike short holds.0, read.same, read.end, read.reads, refuses.1),
+      ap Refused refuses.2,
+    )
 verdict_alike profile law files others alike small short (Incomplete labels) holds =
-    let (same, accepted, is) = accepted_alike profile law files others alike short holds.0 holds.1 in
-    (same, accepted, holds.2 ∙ same_unproved (feeds_in files) (feeds_in others) holds.0 same is, holds.3)
+    let (same, accepted, is) = accepted_alike profile law files others alike short holds.0 holds.1 in (
+      Incomplete labels,
+      (same, accepted, holds.2 ∙ same_unproved (feeds_in files) (feeds_in others) holds.0 same is, holds.3),
+      refl,
+    )
 verdict_alike profile law files others alike small short (Yes count proofs) holds =
     let (same, accepted, is) = accepted_alike profile law files others alike short holds.0 holds.1 in (
-      same,
-      accepted,
-      sym (same_unproved (feeds_in files) (feeds_in others) holds.0 same is) ∙ holds.2,
-      holds.3 ∙ same_length (statement_on (feeds_in files)) (statement_on (feeds_in others)) holds.0 same is,
-      holds.4 ∙ same_proofs (feeds_in files) (feeds_in others) holds.0 same is,
+      Yes count proofs,
+      (
+        same,
+        accepted,
+        sym (same_unproved (feeds_in files) (feeds_in others) holds.0 same is) ∙ holds.2,
+        holds.3 ∙ same_length (statement_on (feeds_in files)) (statement_on (feeds_in others)) holds.0 same is,
+        holds.4 ∙ same_proofs (feeds_in files) (feeds_in others) holds.0 same is,
+      ),
+      refl,
     )
 
 -- ## The reply
@@ -317,10 +367,28 @@ text_alike files others alike (Refused r) =
 text_alike files others alike (Incomplete labels) = refl
 text_alike files others alike (Yes statements proofs) = refl
 
+-- nor the position of a refusal, and so it is with the status
+text_without_at : (files : List PlainFile) (verdict : Verdict) → text_of files verdict ≡ text_of files (verdict_without_at verdict)
+text_without_at files (Load rule) = refl
+text_without_at files (Refused r) = refl
+text_without_at files (Incomplete labels) = refl
+text_without_at files (Yes statements proofs) = refl
+
+status_without_at : (verdict : Verdict) → status_of verdict ≡ status_of (verdict_without_at verdict)
+status_without_at (Load rule) = refl
+status_without_at (Refused r) = refl
+status_without_at (Incomplete labels) = refl
+status_without_at (Yes statements proofs) = refl
+
 pub alike_files_have_one_reply : AlikeFilesAreReadAlike → AlikeFilesHaveOneReply
-alike_files_have_one_reply law profile files others alike small short text status reply = record {
-  verdict = reply.verdict;
-  holds = verdict_alike profile law files others alike small short reply.verdict reply.holds;
-  said = reply.said ∙ text_alike files others alike reply.verdict;
-  ends = reply.ends;
-}
+alike_files_have_one_reply law profile files others alike small short text status reply =
+    let (other, holds, same) = verdict_alike profile law files others alike small short reply.verdict reply.holds in
+    record {
+      verdict = other;
+      holds = holds;
+      said = reply.said ∙ text_alike files others alike reply.verdict
+          ∙ text_without_at others reply.verdict ∙ ap (text_of others) same
+          ∙ sym (text_without_at others other);
+      ends = reply.ends ∙ status_without_at reply.verdict ∙ ap status_of same
+          ∙ sym (status_without_at other);
+    }

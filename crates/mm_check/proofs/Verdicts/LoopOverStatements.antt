@@ -2,7 +2,7 @@
 -- meets on the way.
 use Rattle.std.proofs.Common.{◌≡◌, ℕ, ◌≤◌, List, [], ◌∷◌, ◌++◌, Bool, true, false, cond, Option}
 use Rattle.std.proofs.Common.{Some, None, inl, inr, refl, sym, ap, subst, ◌∙◌, arith, append_assoc}
-use Rattle.std.proofs.Common.{append-nil, rules, Vec, length}
+use Rattle.std.proofs.Common.{append-nil, rules, Vec, length, ◌<◌}
 use Rattle.std.specs.List.{AllByRecursion}
 use Rattle.mm_text.specs.Statement.{PlainStatement, HasForm}
 use Rattle.mm_text.specs.Files.{PlainFile}
@@ -20,6 +20,7 @@ use Rattle.mm_check.specs.declared.progress.Progress.{Progress}
 use Rattle.mm_check.specs.Verdict.{PlainRefusal, CanBeRead, IsProofFault, Obeys, is_proof}
 use Rattle.mm_check.specs.Verdict.{refusal_of, text_refusal, sentences, Load, Refused, HasVerdict}
 use Rattle.mm_check.specs.Answer.{plain_refusal}
+use Rattle.mm_check.specs.Why.{is_of_proofs}
 use Rattle.mm_check.specs.Faults.{AreRefused, HaveFaults, IsMeaningRefusal, IsProofRefusal}
 use Rattle.mm_check.specs.Mirror.Judged.{Begins, HasTaken, IsAtEnd, IsRead, IsTaken, IsUnderWay}
 use Rattle.mm_check.specs.Mirror.Judged.{Knows, StopsTurn, Takes, TakesFaulty, TakesNext}
@@ -33,7 +34,7 @@ use Rattle.mm_check.proofs.Verdicts.StatementByStatement.{one_more}
 use Rattle.std.specs.Bool.{◌==◌}
 use Rattle.std.specs.Global.{Global}
 use Rattle.std.specs.Vec.{vec_len}
-use Rattle.std.proofs.lemmas.Bool.{eqb-true}
+use Rattle.std.proofs.lemmas.Bool.{eqb-true, cases_lt}
 use Rattle.std.proofs.lemmas.List.{nil_from_length}
 use Rattle.std.proofs.lemmas.Option.{same_Some}
 use Rattle.mm_check.specs.declared.fault.CheckFault.{CheckFault}
@@ -70,15 +71,16 @@ none_more (y ∷ xs) x e = absurd cc
 -- ## The beginning
 
 pub starts : (profile : Profile) (files : List PlainFile) (p : Progress) (left : Remaining)
-    → IsUnread files left → CanBeRead files → HasTaken [] p → Knows [] p
+    → IsUnread files left → CanBeRead files → HasTaken [] p → Knows [] p → p.lines ≡ files
     → (way : IsUnderWay profile files p left []) × (way.read.earlier ≡ [])
-starts profile files p left unread readable taken known = (
+starts profile files p left unread readable taken known lines = (
   record {
     read = record {
       earlier = [];
       readable = readable;
       reads = unread.reads;
       taken = taken;
+      lines = lines;
     };
     meant = none_meant;
     begins = λ later h. h;
@@ -167,12 +169,13 @@ module _ (profile : Profile) (files : List PlainFile) (listed : List PlainRefusa
       (on : IsUnderWay profile files q new (listed ++ more))
       × (on.read.earlier ≡ earlier ++ s ∷ [])
 
-  abbrev read_on : HasTaken (earlier ++ s ∷ []) q → IsRead files q new
-  read_on has = record {
+  abbrev read_on : HasTaken (earlier ++ s ∷ []) q → q.lines ≡ p.lines → IsRead files q new
+  read_on has same = record {
     earlier = earlier ++ s ∷ [];
     readable = way.read.readable;
     reads = rw (← append_assoc earlier (s ∷ []) new.statements) at next_reads;
     taken = has;
+    lines = same ∙ way.read.lines;
   }
 
   obeying_on : HasForm s → Takes profile p s q → Goes []
@@ -180,7 +183,7 @@ module _ (profile : Profile) (files : List PlainFile) (listed : List PlainRefusa
       let obeys = obeys_here takes in
       rw (append-nil listed) (
         record {
-          read = read_on (takes_on takes);
+          read = read_on (takes_on takes) takes.lines;
           meant = meant_more earlier s way.meant obeys.meant;
           begins = more_obeying profile files earlier new.ending listed s new.statements next_begins
               obeys;
@@ -197,7 +200,7 @@ module _ (profile : Profile) (files : List PlainFile) (listed : List PlainRefusa
       let first : PlainRefusal = plain_refusal refusal in
       let refused = refused_here refusal faulty in (
         record {
-          read = read_on (taken_on (Faulty refusal) faulty);
+          read = read_on (taken_on (Faulty refusal) faulty) faulty.lines;
           meant = meant_more earlier s way.meant refused.meant;
           begins = more_faulty profile files earlier new.ending listed s new.statements next_begins
               first refused;
@@ -314,6 +317,15 @@ module _ (profile : Profile) (files : List PlainFile) (listed : List PlainRefusa
   refused_last refusal (inr (t, rest, taken, broken)) =
       last_meaning (plain_refusal refusal) t rest broken.0 taken broken.1 broken.2
 
+-- it isn't one of a proof
+ends_run : (files : List PlainFile) (p : Progress) (left : Remaining) (refusal : Refusal)
+    → StopsTurn files p left (stop.Refused refusal)
+    → is_of_proofs (plain_refusal refusal).rule ≡ false
+ends_run files p left refusal (inl (none, at, ended, same)) =
+    ap (λ (r : PlainRefusal). is_of_proofs r.rule) same
+ends_run files p left refusal (inr (t, rest, taken, broken)) =
+    ap (λ (r : PlainRefusal). is_of_proofs r.rule) broken.2
+
 -- ==== what a visitor meets on the way through a database, and what it tells in the end
 
 module _ {V : Type 0} (has_seen : Seeing V) (may_stop : Type 0) (profile : Profile)
@@ -344,6 +356,7 @@ module _ {V : Type 0} (has_seen : Seeing V) (may_stop : Type 0) (profile : Profi
     seen = v.seen;
     faults = refused_last profile files v.listed p old v.way refusal stops;
     rest = inr refl;
+    kind = inr (ends_run files p old refusal stops);
   }
 
   -- the visitor stops at the next statement
@@ -361,6 +374,7 @@ module _ {V : Type 0} (has_seen : Seeing V) (may_stop : Type 0) (profile : Profi
         seen = rw same v.seen;
         faults = faults;
         rest = inl may;
+        kind = inl may;
       }
 
 -- the files can't be taken
@@ -404,3 +418,15 @@ pub none_there : (refusals : Vec Refusal Global) → (vec_len refusals == 0) ≡
 none_there refusals e =
     let long : vec_len refusals ≡ length refusals.items = search rules in
     nil_from_length refusals.items (sym long ∙ eqb-true (vec_len refusals) 0 e)
+
+-- and some where it isn't
+pub some_there : (refusals : Vec Refusal Global) → (vec_len refusals == 0) ≡ false
+    → 0 < length refusals.items
+some_there refusals e =
+    let long : vec_len refusals ≡ length refusals.items = search rules in
+    elim (cases_lt 0 (length refusals.items)) [
+      | inl some ↦ some
+      | inr none ↦
+          let zero : vec_len refusals ≡ 0 = omega (arith, long, none) in
+          absurd (cc (e, rw zero at e))
+    ]

@@ -137,6 +137,7 @@ pub record CountsProof (profile : Profile) (old : Progress) (id : ℕ) (s : Plai
       ++ (if is_incomplete (proof_of s) then id ∷ [] else [])
   pub kept : (before : List Sentence) → old.prover.book.statements ≡ before ++ sentence_of s ∷ []
       → KeepsProof profile before s id (not (is_incomplete (proof_of s))) old.kept new.kept
+  pub lines : new.lines ≡ old.lines
 
 -- This is the refusal of the last statement for the fault of its proof, or of what is known of it,
 -- and nothing was counted.
@@ -150,6 +151,7 @@ pub record FailsProof (profile : Profile) (files : List PlainFile) (old : Progre
   pub book : new.prover.book ≡ old.prover.book
   pub count : new.count ≡ old.count
   pub proofs : new.proofs ≡ old.proofs
+  pub lines : new.lines ≡ old.lines
 
 -- The proof of the last statement, which has the number, was counted, as a complete one or as an
 -- incomplete one; or this is the refusal for its fault.
@@ -175,6 +177,7 @@ pub record Takes (profile : Profile) (old : Progress) (s : PlainStatement)
       ++ (if is_unproved s then length (labelled_sentences old.prover.book.statements) ∷ [] else [])
   pub kept : KeepsProof profile old.prover.book.statements s
       (length (labelled_sentences old.prover.book.statements)) (is_proof s) old.kept new.kept
+  pub lines : new.lines ≡ old.lines
 
 -- The statement breaks no rule of meaning, and this is the refusal for the fault of its proof. It is
 -- taken into the progress all the same; its proof isn't.
@@ -189,6 +192,7 @@ pub record TakesFaulty (profile : Profile) (files : List PlainFile) (old : Progr
   pub bytes : new.prover.book.bytes ≡ old.prover.book.bytes + bytes_in s
   pub count : new.count ≡ old.count + 1
   pub proofs : new.proofs ≡ old.proofs
+  pub lines : new.lines ≡ old.lines
 
 -- The statement is taken, and came to this: a theorem with this number, or another statement, which
 -- obeys the rules; or this is the refusal for the fault of its proof.
@@ -217,12 +221,13 @@ pub record Knows (statements : List PlainStatement) (p : Progress) : Type 0 wher
   pub kept : AreUses statements p.kept
 
 -- The statements so far and those that are left are the reading of the files, and the progress has
--- those so far. Of their proofs nothing is known.
+-- those so far, and counts the lines of these files. Of their proofs nothing is known.
 pub record IsRead (files : List PlainFile) (p : Progress) (left : Remaining) : Type 0 where
   pub earlier : List PlainStatement
   pub readable : CanBeRead files
   pub reads : Reads files (earlier ++ left.statements) left.ending
   pub taken : HasTaken earlier p
+  pub lines : p.lines ≡ files
 
 -- What reading and judging the next statement came to; nothing where there is none.
 abbrev pub Turns : Profile → List PlainFile → (old : Progress) → Remaining → Option Judged

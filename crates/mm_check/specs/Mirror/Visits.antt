@@ -18,6 +18,7 @@ use Rattle.mm_check.specs.Verdict.{PlainRefusal, AllObey, CanBeRead, HasVerdict,
 use Rattle.mm_check.specs.Verdict.{is_proof, sentences}
 use Rattle.mm_check.specs.Answer.{plain_refusal}
 use Rattle.mm_check.specs.Faults.{HaveFaults, IsProofRefusal}
+use Rattle.mm_check.specs.Why.{is_of_proofs}
 use Rattle.mm_check.specs.Mirror.Judged.{IsAtEnd, IsLastProof, IsUnderWay}
 
 -- what a visitor is after these statements of the files, of which these refusals are listed, since
@@ -107,7 +108,8 @@ pub record HasVisited {V : Type 0} (has_seen : Seeing V) (profile : Profile)
       → (end : IsAtEnd profile files p) × (end.statements ≡ statements)
 
 -- The visitor has seen the statements up to one, or to the end, and this is the refusal that comes
--- next after those listed. Others come after it only where the visitor stopped.
+-- next after those listed. Others come after it only where the visitor stopped; else it isn't one
+-- of a proof.
 pub record HasMetFault {V : Type 0} (has_seen : Seeing V) (may_stop : Type 0) (profile : Profile)
     (files : List PlainFile) (first now : V) (refusal : PlainRefusal) : Type 0 where
   pub taken : List PlainStatement
@@ -116,6 +118,7 @@ pub record HasMetFault {V : Type 0} (has_seen : Seeing V) (may_stop : Type 0) (p
   pub seen : has_seen profile files first now taken listed
   pub faults : HaveFaults profile files (listed ++ refusal ∷ others)
   pub rest : may_stop ⊎ (others ≡ [])
+  pub kind : may_stop ⊎ (is_of_proofs refusal.rule ≡ false)
 
 -- the files can't be taken; or this is where it ends; or memory ran out
 abbrev pub HasStopped : {V : Type 0} → Seeing V → (may_stop : Type 0) → Profile → List PlainFile

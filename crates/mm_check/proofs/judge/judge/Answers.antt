@@ -1,7 +1,6 @@
 -- The refusal tells the fault of the statement.
-use Rattle.std.proofs.Common.{Err, map, refl, ap, ◌∙◌}
+use Rattle.std.proofs.Common.{Err, refl, ap, ◌∙◌}
 use Rattle.mm_text.specs.Statement.{PlainStatement, plain_statement}
-use Rattle.mm_text.specs.Files.{plain_file}
 use Rattle.mm_check.specs.declared.rule.Rule.TheVariants as rules
 use Rattle.mm_check.proofs.Verdicts.JudgedProofs.{same_refusal}
 use Rattle.mm_check.proofs.judge.judge.Goals as goal
@@ -10,9 +9,9 @@ pub returns-in-Err-Rule-clause-refused : goal.returns-in-Err-Rule-clause-refused
 returns-in-Err-Rule-clause-refused c =
     let s : PlainStatement = plain_statement c.args.statement.now in
     let same =
-    same_refusal (map plain_file c.args.files.now) c.args.progress.now.count s
+    same_refusal c.args.progress.now.lines c.args.progress.now.count s
     (ap rules.Meaning c.in-Err-Rule.rule-is) refl in (
       c.in-Err-Rule.rule,
       c.take.ensures.rule c.in-Err-Rule.rule (c.in-Err-Rule.is ∙ ap Err c.in-Err-Rule.field-0-is),
-      c.refusal-refusal.ensures ∙ same,
+      c.refusal-refusal.ensures.told ∙ same,
     )

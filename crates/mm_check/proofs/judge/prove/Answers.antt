@@ -1,9 +1,8 @@
 -- The refusal tells the fault of the proof.
-use Rattle.std.proofs.Common.{◌≡◌, ◌++◌, ◌∷◌, [], List, map, refl, subst, ap, ◌∙◌}
+use Rattle.std.proofs.Common.{◌≡◌, ◌++◌, ◌∷◌, [], List, refl, subst, ap, ◌∙◌}
 use Rattle.mm_text.specs.Statement.{PlainStatement, plain_statement}
 use Rattle.mm_frame.specs.Sentence.{Sentence, sentence_of}
 use Rattle.mm_proof.specs.declared.fault.ProofFault.TheVariants.{Rule}
-use Rattle.mm_text.specs.Files.{plain_file}
 use Rattle.mm_check.specs.declared.rule.Rule.TheVariants as rules
 use Rattle.mm_check.proofs.Verdicts.JudgedProofs.{same_refusal}
 use Rattle.mm_check.specs.Mirror.Judged.{Fails}
@@ -18,9 +17,10 @@ returns-in-Err-Rule c =
       rule = c.in-Err-Rule.rule;
       step = c.in-Err-Rule.step;
       fault = fails;
-      told = c.refusal-refusal.ensures
-          ∙ same_refusal (map plain_file c.args.files.now) c.args.progress.now.count s (ap rules.Proof c.in-Err-Rule.rule-is) c.in-Err-Rule.step-is;
+      told = c.refusal-refusal.ensures.told
+          ∙ same_refusal c.args.progress.now.lines c.args.progress.now.count s (ap rules.Proof c.in-Err-Rule.rule-is) c.in-Err-Rule.step-is;
       book = c.in-Err-Rule.ensures.book;
       count = refl;
       proofs = refl;
+      lines = c.refusal-refusal.ensures.files;
     }

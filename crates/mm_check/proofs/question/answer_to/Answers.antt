@@ -18,3 +18,10 @@ returns-in-Form c = rw c.in-Form.is c.form_answer.ensures
 
 pub returns-in-Same : goal.returns-in-Same
 returns-in-Same c = rw c.in-Same.is c.same_answer.ensures
+
+pub returns-in-Users : goal.returns-in-Users
+returns-in-Users c =
+    rw c.in-Users.is
+    (IfOk-weaker c.users_answer.result _ _
+    (λ reply h statements reads. h statements reads (c.requires.labels statements None reads))
+    c.users_answer.ensures)

@@ -36,5 +36,5 @@ returns-in_err-judge-clause-stopped c =
       plain_statement c.next.new.into,
       c.next.new.statements,
       rw c.if-not-branch.false at c.in_ok-next.ensures.taken,
-      rw c.make_room.ensures at c.in_err-judge.ensures.refused,
+      rw (c.make_room.ensures, c.requires.lines) at c.in_err-judge.ensures.refused,
     ))

@@ -9,5 +9,6 @@ judge_rest-requires g c κs =
     let files : List PlainFile = map plain_file c.args.files.now in
     let (way, none) =
     starts c.args.profile files c.in_ok-progress.progress c.args.statements.now c.requires.unread
-    c.requires.readable c.in_ok-progress.ensures.taken c.in_ok-progress.ensures.known in
+    c.requires.readable c.in_ok-progress.ensures.taken c.in_ok-progress.ensures.known
+    c.in_ok-progress.ensures.lines in
     ((refl, tt), record { listed = _; way = way; seen = rw none c.requires.begun })

@@ -1,0 +1,30 @@
+-- What is said of the `$p` with the number is said of the theorem.
+use Rattle.std.proofs.Common.{length, map}
+use Rattle.std.proofs.lemmas.Result.{IfOk-weaker}
+use Rattle.mm_text.specs.Files.{plain_file}
+use Rattle.mm_text.specs.Statement.{plain_statement}
+use Rattle.mm_frame.specs.Sentence.{sentence_of}
+use Rattle.mm_check.specs.Reply.{IsTryReply}
+use Rattle.mm_check.specs.Status.{number_of}
+use Rattle.mm_check.proofs.Questions.LoneTheorems.{of_reached, reached_number}
+use Rattle.mm_check.proofs.alone.answer_about.Goals as goal
+
+pub try_reply-requires : goal.try_reply-requires
+try_reply-requires c =
+    let h = c.requires.1 in (
+      length h.before,
+      sentence_of (plain_statement c.args.reached.now.statement),
+      reached_number (map plain_file c.args.files.now) c.requires.0 c.args.reached.now h,
+    )
+
+pub returns-in-Known : goal.returns-in-Known
+returns-in-Known c = rw c.in-Known.is c.known_reply.ensures
+
+pub returns-in-Try : goal.returns-in-Try
+returns-in-Try c =
+    rw c.in-Try.is
+    (IfOk-weaker c.try_reply.result _ _
+    (λ reply told label r. of_reached (map plain_file c.args.files.now) label c.args.reached.now r
+    (λ before s. IsTryReply c.in-Try.proof.now before s reply.text.items (number_of reply.status))
+    told)
+    c.try_reply.ensures)

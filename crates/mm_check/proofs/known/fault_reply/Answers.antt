@@ -1,0 +1,63 @@
+-- The lines, the refusal and the facts are those of the fault.
+use Rattle.std.proofs.Common.{ℕ, List, length, map, ap, ◌∙◌, ◌++◌, ◌≡◌, subst}
+use Rattle.mm_code.specs.Layout.{texts}
+use Rattle.mm_text.specs.Files.{plain_file, PlainFile}
+use Rattle.mm_text.specs.Statement.{plain_statement, PlainStatement}
+use Rattle.mm_frame.specs.Sentence.{sentence_of}
+use Rattle.mm_proof.specs.declared.profile.Profile.TheVariants.{Lenient}
+use Rattle.mm_check.specs.declared.rule.Rule.TheVariants as rules
+use Rattle.mm_check.specs.Alone.{AreStepsBefore, judged_tokens}
+use Rattle.mm_check.specs.Explained.{AreDetails, Detail, details_text, IsTokensFault}
+use Rattle.mm_check.specs.Reply.{text_of}
+use Rattle.mm_check.specs.Verdict.{PlainRefusal, Refused, refusal_of, sentences}
+use Rattle.mm_check.proofs.Questions.LoneTheorems.{of_reached, reached_few, reached_number}
+use Rattle.mm_check.proofs.known.fault_reply.Goals as goal
+
+pub refusal-refusal-requires : goal.refusal-refusal-requires
+refusal-refusal-requires c =
+    reached_few (map plain_file c.args.files.now) c.requires.reached.0 c.args.reached.now
+    c.requires.reached.1
+
+pub push_details-requires-clause-proof : goal.push_details-requires-clause-proof
+push_details-requires-clause-proof c =
+    let h = c.requires.reached.1 in (
+      length h.before,
+      sentence_of (plain_statement c.args.reached.now.statement),
+      reached_number (map plain_file c.args.files.now) c.requires.reached.0 c.args.reached.now h,
+    )
+
+pub returns : goal.returns
+returns c = λ label r.
+    let files : List PlainFile = map plain_file c.args.files.now in
+    let s : PlainStatement = plain_statement c.args.reached.now.statement in
+    let tokens : List (List ℕ) = texts c.args.tokens.now in
+    let rule = c.args.fault.0 in
+    let step = c.args.fault.1 in
+    let told = of_reached files label c.args.reached.now r
+    (λ before s. (details : List Detail) × AreDetails Lenient before s tokens rule step details
+    × (c.push_details.new.out.items ≡ c.push_refusal.new.out.items ++ details_text details))
+    c.in_ok-push_details.ensures in
+    record {
+      rule = rule;
+      step = step;
+      fault = rw c.requires.tokens at (of_reached files label c.args.reached.now r
+          (λ before s. IsTokensFault Lenient before s tokens rule step) c.requires.fault);
+      lines = c.args.lines.items;
+      shown = rw c.requires.tokens at (of_reached files label c.args.reached.now r
+          (λ before s. AreStepsBefore before s (judged_tokens tokens) step c.args.lines.items)
+          c.requires.shown);
+      details = told.0;
+      explained = subst
+          (λ (ts : List (List ℕ)). AreDetails Lenient (sentences r.before) (sentence_of s) ts rule
+          step told.0)
+          c.requires.tokens told.1;
+      said = told.2
+          ∙ ap (λ (first : List ℕ). first ++ details_text told.0)
+          (c.in_ok-push_refusal.ensures
+          ∙ ap (λ (refusal : PlainRefusal). c.args.lines.items ++ text_of files (Refused refusal))
+          (c.refusal-refusal.ensures.told
+          ∙ ap (λ (fs : List PlainFile). refusal_of fs c.args.reached.now.before s
+          (rules.Proof rule) step) c.new-counted.ensures
+          ∙ ap (λ (n : ℕ). refusal_of files n s (rules.Proof rule) step) r.count));
+      ends = c.refusal_status.ensures;
+    }

@@ -1,0 +1,69 @@
+//! The replies to questions about one theorem alone, over the statements before it.
+
+ghost use Rattle.std.specs.Prelude.{ℕ, List, map, IfOk};
+ghost use Rattle.mm_text.specs.Files.{plain_file};
+ghost use Rattle.mm_text.specs.Statement.{plain_statement};
+ghost use Rattle.mm_check.specs.Mirror.Reached.{HasReached, IsUnreached};
+ghost use Rattle.mm_check.specs.Reply.{IsLoneAnswer, IsLoneReply, IsNotFoundReply};
+ghost use Rattle.mm_check.specs.Status.{number_of};
+
+use crate::ask::AskFault;
+use crate::known::known_reply;
+use crate::question::{LoneQuestion, Reply, ask_reply, verdict_reply};
+use crate::read_to::{Reached, Unreached, read_to};
+use crate::tried::try_reply;
+use mm_text::{File, Seed};
+use std::alloc::{AllocError, Global};
+
+/// The reply where no theorem is found at the label.
+fn not_found_reply(
+    alloc: Global,
+    files: &[File],
+    label: &[u8],
+    why: Unreached,
+) -> Result<Reply, AllocError>
+    requires { IsUnreached (map plain_file files.now) label.now why }
+    ensures { IfOk result (λ reply. IsNotFoundReply (map plain_file files.now) label.now
+        reply.text.items (number_of reply.status)) }
+{
+    match why {
+        Unreached::Check(fault) => verdict_reply(alloc, files, &Err(fault)),
+        Unreached::Ask(rule) => ask_reply(alloc, label, AskFault::Rule(rule)),
+    }
+}
+
+/// The answer about the theorem that was reached.
+fn answer_about(
+    alloc: Global,
+    files: &[File],
+    reached: &Reached,
+    question: &LoneQuestion,
+) -> Result<Reply, AllocError>
+    requires { (label : List ℕ) × HasReached (map plain_file files.now) label reached.now }
+    ensures { IfOk result (λ reply. (label : List ℕ)
+        (r : HasReached (map plain_file files.now) label reached.now)
+        → IsLoneAnswer question.now (map plain_file files.now) r.before
+        (plain_statement reached.now.statement) reply.text.items (number_of reply.status)) }
+{
+    match question {
+        LoneQuestion::Known => known_reply(alloc, files, reached),
+        LoneQuestion::Try(proof) => try_reply(alloc, &reached.book, reached.id, proof),
+    }
+}
+
+/// The reply to a question about the theorem with a label alone.
+pub(crate) fn lone_reply(
+    alloc: Global,
+    seed: Seed,
+    files: &[File],
+    label: &[u8],
+    question: &LoneQuestion,
+) -> Result<Reply, AllocError>
+    ensures { IfOk result (λ reply. IsLoneReply question.now (map plain_file files.now) label.now
+        reply.text.items (number_of reply.status)) }
+{
+    match read_to(alloc, seed, files, label) {
+        Ok(reached) => answer_about(alloc, files, &reached, question),
+        Err(why) => not_found_reply(alloc, files, label, why),
+    }
+}

@@ -1,0 +1,170 @@
+//! Whether a text is a proof of a theorem, whatever stands in its file as its proof.
+
+ghost use Rattle.std.specs.Prelude.{◌≡◌, ◌≤◌, ℕ, length, take, IfOk, IfErr};
+ghost use Rattle.std.specs.List.{sum_by};
+ghost use Rattle.mm_text.specs.Files.{most_bytes};
+ghost use Rattle.mm_code.specs.Layout.{texts};
+ghost use Rattle.mm_frame.specs.Sentence.{Sentence};
+ghost use Rattle.mm_proof.specs.Answer.{OnRule};
+ghost use Rattle.mm_proof.specs.declared.profile.Profile.TheVariants.{Lenient};
+ghost use Rattle.mm_proof.specs.Parsed.{OfProof, SaySteps};
+ghost use Rattle.mm_proof.specs.Steps.{AreSteps, IsProofNumber};
+ghost use Rattle.mm_proof.specs.Tokens.{is_incomplete};
+ghost use Rattle.mm_check.specs.Alone.{judged_tokens};
+ghost use Rattle.mm_check.specs.Explained.{IsTokensFault};
+ghost use Rattle.mm_check.specs.Mirror.Reached.{AreTried};
+ghost use Rattle.mm_check.specs.Reply.{IsTokensReply, IsTriedFault, IsTriedPrefix, IsTryReply};
+ghost use Rattle.mm_check.specs.Status.{number_of};
+
+use crate::details::{push_details, push_left_over};
+use crate::question::{Reply, ask_reply, refused_text, text_status};
+use crate::rule::{AskRule, Rule};
+use crate::status::Status;
+use crate::text::handed_tokens;
+use mm_frame::{Book, LabelId};
+use mm_proof::{Flat, Parsed, Profile, ProofFault, ProofRule, Proved, Steps, verify};
+use std::alloc::{AllocError, Global};
+
+/// The steps that the tokens say as a proof of the `$p` with the number, or that their known prefix
+/// says; or the first rule that those break over the whole of them, at step 0.
+pub(crate) fn judged_steps(
+    alloc: Global,
+    book: &Book,
+    id: LabelId,
+    tokens: &[&[u8]],
+) -> Result<Steps, ProofFault>
+    requires proof { (index : ℕ) × (s : Sentence) × IsProofNumber book.now.statements id.0 index s }
+    requires room { sum_by length (texts tokens.now) ≤ most_bytes }
+    ensures said { IfOk result (λ steps. OfProof book.now.statements id.0 (λ index s.
+        SaySteps book.now.statements index s (judged_tokens (texts tokens.now)) steps.moves)) }
+    ensures usable { IfOk result (λ steps. AreSteps book.now.statements id.0 steps.moves) }
+    ensures prefix { IfOk result (λ steps. steps.prefix ≡ is_incomplete (texts tokens.now)) }
+    ensures profile { IfOk result (λ steps. steps.profile ≡ Lenient) }
+    ensures fault { IfErr result (λ fault. OnRule fault (λ rule step. (step ≡ 0)
+        × OfProof book.now.statements id.0 (λ index s.
+        IsTokensFault Lenient (take index book.now.statements) s (texts tokens.now) rule step))) }
+{
+    match Steps::parse(alloc, Profile::Lenient, book, id, tokens)? {
+        Parsed::Steps(steps) => Ok(steps),
+        Parsed::Incomplete(steps) => Ok(steps),
+    }
+}
+
+/// What the tokens are as a proof of the `$p` with the number: a complete one, an incomplete one
+/// whose known prefix breaks no rule, or one with this first fault.
+fn try_tokens(
+    alloc: Global,
+    book: &Book,
+    id: LabelId,
+    tokens: &[&[u8]],
+) -> Result<Proved, ProofFault>
+    requires proof { (index : ℕ) × (s : Sentence) × IsProofNumber book.now.statements id.0 index s }
+    requires room { sum_by length (texts tokens.now) ≤ most_bytes }
+    ensures tried { IfOk result (λ proved. OfProof book.now.statements id.0 (λ index s.
+        AreTried (take index book.now.statements) s (texts tokens.now) proved)) }
+    ensures fault { IfErr result (λ fault. OnRule fault (λ rule step.
+        OfProof book.now.statements id.0 (λ index s.
+        IsTokensFault Lenient (take index book.now.statements) s (texts tokens.now) rule step))) }
+{
+    let steps = judged_steps(alloc, book, id, tokens)?;
+    let _used = verify(alloc, Flat::new(alloc), book, id, &steps)?;
+    if steps.is_prefix() {
+        Ok(Proved::Incomplete)
+    } else {
+        Ok(Proved::Complete)
+    }
+}
+
+/// The reply where the known prefix of the tokens breaks no rule: that they are incomplete, and
+/// what the prefix leaves on the stack.
+fn prefix_reply(
+    alloc: Global,
+    book: &Book,
+    id: LabelId,
+    tokens: &[&[u8]],
+) -> Result<Reply, AllocError>
+    requires proof { (index : ℕ) × (s : Sentence) × IsProofNumber book.now.statements id.0 index s }
+    requires room { sum_by length (texts tokens.now) ≤ most_bytes }
+    requires tried { OfProof book.now.statements id.0 (λ index s.
+        AreTried (take index book.now.statements) s (texts tokens.now) Proved.Incomplete) }
+    ensures { IfOk result (λ reply. OfProof book.now.statements id.0 (λ index s.
+        IsTriedPrefix (take index book.now.statements) s (texts tokens.now) reply.text.items
+        (number_of reply.status))) }
+{
+    let rule = Rule::Ask(AskRule::A3);
+    let mut text = refused_text(alloc, rule, 0)?;
+    push_left_over(&mut text, alloc, Profile::Lenient, book, id, tokens)?;
+    Ok(Reply {
+        text,
+        status: text_status(rule),
+    })
+}
+
+/// The reply where the tokens have this first fault: the fault, and the facts that explain it.
+fn fault_reply(
+    alloc: Global,
+    book: &Book,
+    id: LabelId,
+    tokens: &[&[u8]],
+    fault: (ProofRule, usize),
+) -> Result<Reply, AllocError>
+    requires proof { (index : ℕ) × (s : Sentence) × IsProofNumber book.now.statements id.0 index s }
+    requires room { sum_by length (texts tokens.now) ≤ most_bytes }
+    requires fault { OfProof book.now.statements id.0 (λ index s.
+        IsTokensFault Lenient (take index book.now.statements) s (texts tokens.now) fault.0
+        fault.1) }
+    ensures { IfOk result (λ reply. OfProof book.now.statements id.0 (λ index s.
+        IsTriedFault (take index book.now.statements) s (texts tokens.now) reply.text.items
+        (number_of reply.status))) }
+{
+    let rule = Rule::Proof(fault.0);
+    let mut text = refused_text(alloc, rule, fault.1)?;
+    push_details(&mut text, alloc, Profile::Lenient, book, id, tokens, fault)?;
+    Ok(Reply {
+        text,
+        status: text_status(rule),
+    })
+}
+
+/// The reply what the tokens are as a proof of the `$p` with the number.
+fn tokens_reply(
+    alloc: Global,
+    book: &Book,
+    id: LabelId,
+    tokens: &[&[u8]],
+) -> Result<Reply, AllocError>
+    requires proof { (index : ℕ) × (s : Sentence) × IsProofNumber book.now.statements id.0 index s }
+    requires room { sum_by length (texts tokens.now) ≤ most_bytes }
+    ensures { IfOk result (λ reply. OfProof book.now.statements id.0 (λ index s.
+        IsTokensReply (take index book.now.statements) s (texts tokens.now) reply.text.items
+        (number_of reply.status))) }
+{
+    match try_tokens(alloc, book, id, tokens) {
+        Ok(Proved::Complete) => Ok(Reply {
+            text: Vec::from_slice(alloc, b"proof\n")?,
+            status: Status::Done,
+        }),
+        Ok(Proved::Incomplete) => prefix_reply(alloc, book, id, tokens),
+        Err(ProofFault::Rule { rule, step }) => fault_reply(alloc, book, id, tokens, (rule, step)),
+        Err(ProofFault::Memory) => Err(AllocError),
+    }
+}
+
+/// The reply whether a text is a proof of the `$p` with the number.
+pub(crate) fn try_reply(
+    alloc: Global,
+    book: &Book,
+    id: LabelId,
+    proof: &[u8],
+) -> Result<Reply, AllocError>
+    requires { (index : ℕ) × (s : Sentence) × IsProofNumber book.now.statements id.0 index s }
+    ensures { IfOk result (λ reply. OfProof book.now.statements id.0 (λ index s.
+        IsTryReply proof.now (take index book.now.statements) s reply.text.items
+        (number_of reply.status))) }
+{
+    match handed_tokens(alloc, proof) {
+        Ok(tokens) => tokens_reply(alloc, book, id, &tokens),
+        // A fault of the text alone, which tells no label.
+        Err(fault) => ask_reply(alloc, b"", fault),
+    }
+}

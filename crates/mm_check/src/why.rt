@@ -1,0 +1,426 @@
+//! All faults of a database in one run, each with what explains it.
+
+ghost use Rattle.std.specs.Prelude.{◌≡◌, ◌<◌, ◌-◌, ◌++◌, List, ℕ, [], ◌∷◌, map, length, true};
+ghost use Rattle.std.specs.Prelude.{OnOk, IfOk, IfErr};
+ghost use Rattle.mm_text.specs.declared.statement.Kind.TheVariants.{Provable};
+ghost use Rattle.mm_text.specs.Statement.{plain_statement, HasForm};
+ghost use Rattle.mm_text.specs.Files.{plain_file};
+ghost use Rattle.mm_frame.specs.Sentence.{Sentence, sentence_of};
+ghost use Rattle.mm_proof.specs.Steps.{IsProofNumber};
+ghost use Rattle.mm_check.specs.Verdict.{HasVerdict};
+ghost use Rattle.mm_check.specs.Answer.{plain_refusal, verdict_of_conclusion};
+ghost use Rattle.mm_check.specs.Status.{number_of};
+ghost use Rattle.mm_check.specs.Why.{owner_words as owner_words_of, owner_text, step_text};
+ghost use Rattle.mm_check.specs.Why.{head_text, fault_at as fault_at_of};
+ghost use Rattle.mm_check.specs.Why.{step_at as step_at_of, mark_at as mark_at_of};
+ghost use Rattle.mm_check.specs.Why.{IsExplanation, is_of_proofs, most_explained, more_text};
+ghost use Rattle.mm_check.specs.Why.{count_text};
+ghost use Rattle.mm_check.specs.Reply.{refusal_status};
+ghost use Rattle.mm_check.specs.Mirror.Reasons.{IsRefusedLast, Notes, TellsWhy};
+ghost use Rattle.mm_check.specs.declared.fault.Refusal.{Refusal};
+ghost use Rattle.mm_check.specs.declared.why.Unaccepted.TheVariants.{Memory};
+ghost use Rattle.mm_check.specs.declared.rule.Rule.TheVariants.{Proof};
+
+use crate::checked::Checked;
+use crate::details::push_details;
+use crate::fault::{CheckFault, Refusal, Stop};
+use crate::judge::Judged;
+use crate::meanings::meaning;
+use crate::position::{place_of, push_place};
+use crate::reply::first_status;
+use crate::reread::proof_of;
+use crate::rule::Rule;
+use crate::status::Status;
+use crate::step_places::{after_list, step_places};
+use crate::verdict::{conclude, judge_files};
+use crate::visitor::Visitor;
+use crate::words::push_decimal;
+use mm_frame::{Book, Found, LabelId};
+use mm_proof::{Profile, ProofRule};
+use mm_text::{File, Seed, Statement};
+use std::alloc::{AllocError, Global};
+
+/// How many faults of proofs are explained.
+const MOST_EXPLAINED: usize = 10;
+
+/// Why a database isn't accepted.
+#[derive(Drop)]
+pub(crate) enum Unaccepted {
+    /// The handed files break F1, F2 or F3 as a whole.
+    Load(Rule),
+    /// Statements are at fault: what tells all faults, and the status of the first.
+    Refused { text: Vec<u8>, status: Status },
+    /// A growth was refused.
+    Memory,
+}
+
+impl From<AllocError> for Unaccepted {
+    ghost from_gives = { λ _ e. e ≡ Memory };
+
+    fn from(_e: AllocError) -> Unaccepted {
+        Unaccepted::Memory
+    }
+}
+
+/// In what a fault is: in a proof, or in another part of a statement.
+fn owner_words(rule: Rule) -> &'static [u8]
+    ensures { result.now ≡ owner_words_of rule }
+{
+    match rule {
+        Rule::Proof(_) => b", in the proof of ",
+        _ => b", in ",
+    }
+}
+
+/// Puts at the end in what a fault is, with the statement's label; nothing where no label was read.
+fn push_owner(out: &mut Vec<u8>, refusal: &Refusal) -> Result<(), AllocError>
+    ensures { OnOk result (out.new.items ≡ out.old.items
+        ++ owner_text refusal.now.rule (plain_refusal refusal.now).label) }
+{
+    match refusal.label {
+        Some(label) => {
+            out.extend_from_slice(owner_words(refusal.rule))?;
+            out.extend_from_slice(label)
+        }
+        None => Ok(()),
+    }
+}
+
+/// Puts the step of a fault at the end; nothing where it is at none.
+fn push_step(out: &mut Vec<u8>, step: usize) -> Result<(), AllocError>
+    ensures { OnOk result (out.new.items ≡ out.old.items ++ step_text step) }
+{
+    if step == 0 {
+        return Ok(());
+    }
+    out.extend_from_slice(b", at step ")?;
+    push_decimal(out, step)
+}
+
+/// Puts the first line of an explanation at the end, with the place of a position.
+#[tactic(auto, using(crate::proofs::Explanations::eight_parts))]
+fn push_head(
+    out: &mut Vec<u8>,
+    files: &[File],
+    at: usize,
+    refusal: &Refusal,
+) -> Result<(), AllocError>
+    ensures { OnOk result (out.new.items ≡ out.old.items
+        ++ head_text (map plain_file files.now) at (plain_refusal refusal.now)) }
+{
+    push_place(out, files, place_of(files, refusal.file, at))?;
+    out.extend_from_slice(b": ")?;
+    out.extend_from_slice(refusal.rule.code())?;
+    out.extend_from_slice(b": ")?;
+    out.extend_from_slice(meaning(refusal.rule))?;
+    push_owner(out, refusal)?;
+    push_step(out, refusal.step)?;
+    out.push(b'\n')?;
+    Ok(())
+}
+
+/// Puts at the end how many faults of proofs aren't explained, if there are such.
+#[tactic(auto, using(crate::proofs::DetailTexts::three_parts))]
+fn push_more(out: &mut Vec<u8>, count: usize) -> Result<(), AllocError>
+    ensures { OnOk result (out.new.items ≡ out.old.items ++ more_text count) }
+{
+    if count == 0 {
+        return Ok(());
+    }
+    out.extend_from_slice(b"and ")?;
+    push_decimal(out, count)?;
+    out.extend_from_slice(b" more, which mm faults lists\n")?;
+    Ok(())
+}
+
+/// Puts at the end how many faults there are.
+fn push_count(out: &mut Vec<u8>, count: usize) -> Result<(), AllocError>
+    ensures { OnOk result (out.new.items ≡ out.old.items ++ count_text count) }
+{
+    if count == 1 {
+        return out.extend_from_slice(b"1 fault\n");
+    }
+    push_decimal(out, count)?;
+    out.extend_from_slice(b" faults\n")
+}
+
+/// The number of the `$p` that a book took last.
+fn last_number(book: &Book, statement: &Statement) -> LabelId
+    requires formed { HasForm (plain_statement statement.now) }
+    requires provable { statement.now.kind ≡ Provable }
+    requires last { (before : List Sentence)
+        × (book.now.statements ≡ before ++ sentence_of (plain_statement statement.now) ∷ []) }
+    ensures { (before : List Sentence)
+        → book.now.statements ≡ before ++ sentence_of (plain_statement statement.now) ∷ []
+        → IsProofNumber book.now.statements result.0 (length before)
+        (sentence_of (plain_statement statement.now)) }
+{
+    match &statement.label {
+        Some(label) => match book.find(label.text) {
+            Found::Assertion(id) => id,
+            // No other statement has its label.
+            Found::None | Found::Hypothesis { .. } => unreachable!(),
+        },
+        // Each `$p` has a label.
+        None => unreachable!(),
+    }
+}
+
+/// The rule and the step of a proof's refusal.
+fn fault_in(refusal: &Refusal) -> (ProofRule, usize)
+    requires { is_of_proofs refusal.now.rule ≡ true }
+    ensures rule { Proof result.0 ≡ refusal.now.rule }
+    ensures step { result.1 ≡ refusal.now.step }
+{
+    match refusal.rule {
+        Rule::Proof(rule) => (rule, refusal.step),
+        _ => unreachable!(),
+    }
+}
+
+/// The position of a step of the statement's proof.
+fn step_at(alloc: Global, statement: &Statement, step: usize) -> Result<usize, AllocError>
+    ensures { IfOk result (λ at. at ≡ step_at_of (plain_statement statement.now) step) }
+{
+    let places = step_places(alloc, &statement.proof)?;
+    match places.get(step.saturating_sub(1)) {
+        Some(at) => Ok(*at),
+        None => Ok(statement.first.at as usize),
+    }
+}
+
+/// The position of a `Z` before any step of the statement's proof.
+fn mark_at(statement: &Statement) -> usize
+    ensures { result ≡ mark_at_of (plain_statement statement.now) }
+{
+    match after_list(&statement.proof) {
+        [first, ..] => first.at as usize,
+        [] => statement.first.at as usize,
+    }
+}
+
+/// The position of a proof's fault.
+fn fault_at(
+    alloc: Global,
+    statement: &Statement,
+    fault: (ProofRule, usize),
+) -> Result<usize, AllocError>
+    ensures { IfOk result (λ at.
+        at ≡ fault_at_of (plain_statement statement.now) fault.0 fault.1) }
+{
+    match fault.0 {
+        ProofRule::P7 => Ok(mark_at(statement)),
+        ProofRule::P13 | ProofRule::P14 => Ok(statement.span.1 as usize),
+        ProofRule::P1
+        | ProofRule::P2
+        | ProofRule::P3
+        | ProofRule::P4
+        | ProofRule::P5
+        | ProofRule::P15 => Ok(statement.first.at as usize),
+        _ => step_at(alloc, statement, fault.1),
+    }
+}
+
+/// Explains the refusal of the `$p` that the book took last, for the fault of its proof.
+fn push_explanation(
+    out: &mut Vec<u8>,
+    alloc: Global,
+    profile: Profile,
+    files: &[File],
+    book: &Book,
+    statement: &Statement,
+    refusal: &Refusal,
+) -> Result<(), AllocError>
+    requires formed { HasForm (plain_statement statement.now) }
+    requires refused { IsRefusedLast profile (map plain_file files.now) book.now.statements
+        (plain_statement statement.now) (plain_refusal refusal.now) }
+    ensures { OnOk result ((text : List ℕ)
+        × IsExplanation profile (map plain_file files.now) (plain_refusal refusal.now) text
+        × (out.new.items ≡ out.old.items ++ text)) }
+{
+    let fault = fault_in(refusal);
+    let at = fault_at(alloc, statement, fault)?;
+    push_head(out, files, at, refusal)?;
+    let id = last_number(book, statement);
+    let tokens = proof_of(alloc, statement)?;
+    push_details(out, alloc, profile, book, id, &tokens, fault)?;
+    Ok(())
+}
+
+/// A visitor that keeps the refusals of all proofs that are at fault, and explains the first of
+/// them.
+#[derive(Drop)]
+struct Reasons<'a> {
+    alloc: Global,
+    profile: Profile,
+    files: &'a [File<'a>],
+    refusals: Vec<Refusal<'a>>,
+    /// The explanations.
+    text: Vec<u8>,
+}
+
+impl<'a> Reasons<'a> {
+    /// Keeps one more refusal.
+    fn keep(&mut self, refusal: Refusal<'a>) -> Result<(), AllocError>
+        ensures kept { OnOk result (self.new.refusals.items
+            ≡ self.old.refusals.items ++ refusal.entry ∷ []) }
+        ensures text { self.new.text ≡ self.old.text }
+        ensures profile { self.new.profile ≡ self.old.profile }
+        ensures files { self.new.files ≡ self.old.files }
+    {
+        self.refusals.push(refusal)?;
+        Ok(())
+    }
+
+    /// Explains the refusal of the `$p` that the book took last.
+    fn explain(
+        &mut self,
+        book: &Book<'a>,
+        statement: &Statement<'a>,
+        refusal: &Refusal<'a>,
+    ) -> Result<(), AllocError>
+        requires formed { HasForm (plain_statement statement.now) }
+        requires refused { IsRefusedLast self.old.profile (map plain_file self.old.files.now)
+            book.now.statements (plain_statement statement.now) (plain_refusal refusal.now) }
+        ensures explained { OnOk result ((text : List ℕ)
+            × IsExplanation self.old.profile (map plain_file self.old.files.now)
+            (plain_refusal refusal.now) text
+            × (self.new.text.items ≡ self.old.text.items ++ text)) }
+        ensures kept { self.new.refusals ≡ self.old.refusals }
+        ensures profile { self.new.profile ≡ self.old.profile }
+        ensures files { self.new.files ≡ self.old.files }
+    {
+        let text = &mut self.text;
+        push_explanation(
+            text,
+            self.alloc,
+            self.profile,
+            self.files,
+            book,
+            statement,
+            refusal,
+        )
+    }
+
+    /// Keeps the refusal of the `$p` that the book took last, and explains it unless enough are.
+    fn note(
+        &mut self,
+        book: &Book<'a>,
+        statement: &Statement<'a>,
+        refusal: Refusal<'a>,
+    ) -> Result<(), AllocError>
+        requires formed { HasForm (plain_statement statement.now) }
+        requires refused { IsRefusedLast self.old.profile (map plain_file self.old.files.now)
+            book.now.statements (plain_statement statement.now) (plain_refusal refusal) }
+        ensures { OnOk result (Notes self.old refusal.entry self.new) }
+    {
+        if self.refusals.len() >= MOST_EXPLAINED {
+            return self.keep(refusal);
+        }
+        self.explain(book, statement, &refusal)?;
+        self.keep(refusal)
+    }
+
+    /// Tells how many faults of proofs aren't explained.
+    fn tell_more(&mut self) -> Result<(), AllocError>
+        ensures text { OnOk result (self.new.text.items ≡ self.old.text.items
+            ++ more_text (length self.old.refusals.items - most_explained)) }
+        ensures kept { self.new.refusals ≡ self.old.refusals }
+        ensures profile { self.new.profile ≡ self.old.profile }
+        ensures files { self.new.files ≡ self.old.files }
+    {
+        let more = self.refusals.len().saturating_sub(MOST_EXPLAINED);
+        push_more(&mut self.text, more)
+    }
+
+    /// Tells the fault that ended the run, and keeps it.
+    fn tell_last(&mut self, last: Refusal<'a>) -> Result<(), AllocError>
+        ensures text { OnOk result (self.new.text.items ≡ self.old.text.items
+            ++ head_text (map plain_file self.old.files.now) last.entry.at
+            (plain_refusal last.entry)) }
+        ensures kept { OnOk result (self.new.refusals.items
+            ≡ self.old.refusals.items ++ last.entry ∷ []) }
+    {
+        push_head(&mut self.text, self.files, last.at, &last)?;
+        self.keep(last)
+    }
+
+    /// Counts all faults, of which there is one: the whole text, and the status of the first.
+    fn finish(self) -> Result<(Vec<u8>, Status), AllocError>
+        requires { 0 < length self.refusals.items }
+        ensures text { IfOk result (λ told. told.0.items ≡ self.entry.text.items
+            ++ count_text (length self.entry.refusals.items)) }
+        ensures status { IfOk result (λ told. (first : Refusal) (others : List Refusal)
+            → self.entry.refusals.items ≡ first ∷ others
+            → number_of told.1 ≡ refusal_status first.rule) }
+    {
+        let mut text = self.text;
+        push_count(&mut text, self.refusals.len())?;
+        Ok((text, first_status(&self.refusals)))
+    }
+}
+
+impl<'a> Visitor<'a> for Reasons<'a> {
+    ghost use Rattle.mm_check.specs.Mirror.Reasons.{HasExplained};
+
+    ghost has_seen = { HasExplained };
+
+    ghost may_stop = { ⊥ };
+
+    fn see(
+        &mut self,
+        book: &Book<'a>,
+        statement: &Statement<'a>,
+        judged: Judged<'a>,
+    ) -> Result<(), Stop<'a>> {
+        match judged {
+            Judged::Faulty(refusal) => Ok(self.note(book, statement, refusal)?),
+            _ => Ok(()),
+        }
+    }
+}
+
+/// Checks in a profile the database that the files hold, as `all_faults` does, and tells all faults
+/// in one run, each with what explains it.
+///
+/// # Errors
+///
+/// `Load` where the files can't be taken as a whole, else `Refused` with what tells all faults;
+/// `Memory` where a growth was refused, and nothing is said of the files then.
+pub(crate) fn explained<'a>(
+    alloc: Global,
+    seed: Seed,
+    profile: Profile,
+    files: &'a [File<'a>],
+) -> Result<Checked<'a>, Unaccepted>
+    ensures verdict { IfOk result (λ checked. HasVerdict profile (map plain_file files.now)
+        (verdict_of_conclusion checked)) }
+    ensures why { IfErr result (TellsWhy profile (map plain_file files.now)) }
+{
+    let mut reasons = Reasons {
+        alloc,
+        profile,
+        files,
+        refusals: Vec::new(alloc),
+        text: Vec::new(alloc),
+    };
+    match judge_files(alloc, seed, profile, files, &mut reasons) {
+        Ok(progress) => {
+            if reasons.refusals.is_empty() {
+                return Ok(conclude(profile, files, progress));
+            }
+            drop(progress);
+            reasons.tell_more()?;
+            let (text, status) = reasons.finish()?;
+            Err(Unaccepted::Refused { text, status })
+        }
+        Err(CheckFault::Refused(last)) => {
+            reasons.tell_more()?;
+            reasons.tell_last(last)?;
+            let (text, status) = reasons.finish()?;
+            Err(Unaccepted::Refused { text, status })
+        }
+        Err(CheckFault::Load(rule)) => Err(Unaccepted::Load(rule)),
+        Err(CheckFault::Memory) => Err(Unaccepted::Memory),
+    }
+}
