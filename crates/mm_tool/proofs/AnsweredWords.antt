@@ -9,7 +9,7 @@ use Rattle.std.proofs.Math.Seq.{take-append-add}
 use Rattle.std.proofs.KnownBytes.{Appends-trans}
 use Rattle.mm_text.specs.declared.counted.Counted.{Counted}
 use Rattle.mm_tool.specs.Ending.{BreaksOff, TakesWhole, TellsLine, AsksNamed, StopsRun, stop_of}
-use Rattle.mm_tool.specs.Ending.{IsProofRead, IsSameReplyOver, IsSameCommand, StopsSame, Ends}
+use Rattle.mm_tool.specs.Ending.{IsProofRead, IsTextReplyOver, IsTextCommand, StopsText, Ends}
 use Rattle.mm_tool.specs.Ending.{EndsWithoutWords, AnswersWords, IsReplyOver, Stops, TellsNotes}
 use Rattle.mm_tool.specs.Ending.{error_line, stop_status, unread_stop, AddsLabel, IsHelp}
 use Rattle.mm_tool.specs.Ending.{IsHelpFault, label_of}
@@ -31,9 +31,10 @@ use Rattle.mm_tool.specs.declared.stop.Stop.{Stop}
 use Rattle.mm_tool.specs.declared.stop.Stop.TheVariants.{CannotWrite, Memory, Usage, CannotRead}
 use Rattle.std.specs.Global.{Vec}
 use Rattle.mm_check.specs.Status.{number_of}
-use Rattle.mm_tool.specs.Words.{Asks, AsksExplain, AsksHelp, AsksRun, AsksSame}
+use Rattle.mm_tool.specs.Words.{Asks, AsksExplain, AsksHelp, AsksRun, AsksText}
 use Rattle.mm_tool.specs.Explained.{IsExplanation}
 use Rattle.mm_tool.specs.declared.words.Request.{Request}
+use Rattle.mm_tool.specs.declared.words.TextQuestion.{TextQuestion}
 use Rattle.mm_tool.specs.declared.words.Request.TheVariants.{Help, Explain, Run}
 use Rattle.mm_tool.specs.declared.answer.Answer.{Answer}
 use Rattle.mm_tool.specs.declared.folder.ArgumentFault.{ArgumentFault}
@@ -233,50 +234,50 @@ module _ {O : Type 0} (contents : O → Option (List ℕ)) (holds : List ℕ →
   stops_command command names label Memory told old new asked given adds h = rw adds h
   stops_command command names label ended told old new asked given adds h = absurd h
 
-  -- Where the comparison that they ask for ended without a reply, the words have no answer.
-  pub stops_same : (asked_label proof : List ℕ) (names : List (List ℕ))
+  -- Where the question about a text that they ask ended without a reply, the words have no answer.
+  pub stops_text : (question : TextQuestion) (asked_label proof : List ℕ) (names : List (List ℕ))
       (label : Option (Bor (List ℕ))) (ended told : Stop) (old new : Counted O)
-      → AsksSame words asked_label proof names → option_map (λ l. l.now) label ≡ Some asked_label
+      → AsksText question words asked_label proof names → option_map (λ l. l.now) label ≡ Some asked_label
       → AddsLabel label ended told
-      → StopsSame contents holds may_fail asked_label proof names max ended old new
+      → StopsText question contents holds may_fail asked_label proof names max ended old new
       → Stops contents holds may_fail texts max words told old new
-  stops_same word proof names label (CannotRead name before) told old new asked given adds h =
-      rw adds (inr (word, proof, names, asked, h.0, given), h.1)
-  stops_same word proof names label CannotWrite told old new asked given adds
+  stops_text question word proof names label (CannotRead name before) told old new asked given adds h =
+      rw adds (inr (question, word, proof, names, asked, h.0, given), h.1)
+  stops_text question word proof names label CannotWrite told old new asked given adds
       (text, outcome, reply, broke) =
-      rw adds (text, outcome, inr (inr (inr (inr (word, proof, names, asked, reply)))), broke)
-  stops_same word proof names label Memory told old new asked given adds h = rw adds h
-  stops_same word proof names label ended told old new asked given adds h = absurd h
+      rw adds (text, outcome, inr (inr (inr (inr (question, word, proof, names, asked, reply)))), broke)
+  stops_text question word proof names label Memory told old new asked given adds h = rw adds h
+  stops_text question word proof names label ended told old new asked given adds h = absurd h
 
--- A comparison ends as the command over the files does, once the proof is read.
-pub same_replies : {O E : Type 0} (contents : O → Option (List ℕ)) (holds : List ℕ → KnownFile) (max : ℕ) (label proof : List ℕ) (names : List (List ℕ)) (command : Command)
-    (given : PlainFile) (r : Result Answer E) (old new : Counted O) → IsProofRead holds proof max given → IsSameCommand label given.bytes command
+-- A question about a text ends as the command over the files does, once the proof is read.
+pub text_replies : {O E : Type 0} (question : TextQuestion) (contents : O → Option (List ℕ)) (holds : List ℕ → KnownFile) (max : ℕ) (label proof : List ℕ) (names : List (List ℕ)) (command : Command)
+    (given : PlainFile) (r : Result Answer E) (old new : Counted O) → IsProofRead holds proof max given → IsTextCommand question label given.bytes command
     → IfOk r (λ answer. (text : List ℕ) × IsReplyOver holds command names max text (outcome_of answer) × TakesWhole contents text old new)
-    → IfOk r (λ answer. (text : List ℕ) × IsSameReplyOver holds label proof names max text (outcome_of answer) × TakesWhole contents text old new)
-same_replies contents holds max label proof names command given (Ok answer) old new read asks (text, reply, taken) =
+    → IfOk r (λ answer. (text : List ℕ) × IsTextReplyOver question holds label proof names max text (outcome_of answer) × TakesWhole contents text old new)
+text_replies question contents holds max label proof names command given (Ok answer) old new read asks (text, reply, taken) =
     (text, inr (given, read, command, asks, reply), taken)
-same_replies contents holds max label proof names command given (Err e) old new read asks h = tt
+text_replies question contents holds max label proof names command given (Err e) old new read asks h = tt
 
-pub same_stops : {O T : Type 0} (contents : O → Option (List ℕ)) (holds : List ℕ → KnownFile) (may_fail : List ℕ → Type 0) (max : ℕ) (label proof : List ℕ) (names : List (List ℕ))
+pub text_stops : {O T : Type 0} (question : TextQuestion) (contents : O → Option (List ℕ)) (holds : List ℕ → KnownFile) (may_fail : List ℕ → Type 0) (max : ℕ) (label proof : List ℕ) (names : List (List ℕ))
     (command : Command) (given : PlainFile) (r : Result T Stop) (old new : Counted O) → IsProofRead holds proof max given
-    → IsSameCommand label given.bytes command
+    → IsTextCommand question label given.bytes command
     → IfErr r (λ stop. StopsRun contents holds may_fail command names max stop old new)
-    → IfErr r (λ stop. StopsSame contents holds may_fail label proof names max stop old new)
-same_stops contents holds may_fail max label proof names command given (Ok v) old new read asks h = tt
-same_stops contents holds may_fail max label proof names command given (Err (CannotRead name told)) old new read asks h = (inr (given, read, h.0), h.1)
-same_stops contents holds may_fail max label proof names command given (Err CannotWrite) old new read asks (text, outcome, reply, broke) =
+    → IfErr r (λ stop. StopsText question contents holds may_fail label proof names max stop old new)
+text_stops question contents holds may_fail max label proof names command given (Ok v) old new read asks h = tt
+text_stops question contents holds may_fail max label proof names command given (Err (CannotRead name told)) old new read asks h = (inr (given, read, h.0), h.1)
+text_stops question contents holds may_fail max label proof names command given (Err CannotWrite) old new read asks (text, outcome, reply, broke) =
     (text, outcome, inr (given, read, command, asks, reply), broke)
-same_stops contents holds may_fail max label proof names command given (Err Memory) old new read asks h = h
-same_stops contents holds may_fail max label proof names command given (Err s) old new read asks h =
+text_stops question contents holds may_fail max label proof names command given (Err Memory) old new read asks h = h
+text_stops question contents holds may_fail max label proof names command given (Err s) old new read asks h =
     absurd h
 
 -- The line that the proof holds too many bytes broke off.
-pub same_too_long : {O T : Type 0} (contents : O → Option (List ℕ)) (holds : List ℕ → KnownFile) (may_fail : List ℕ → Type 0)
+pub text_too_long : {O T : Type 0} (question : TextQuestion) (contents : O → Option (List ℕ)) (holds : List ℕ → KnownFile) (may_fail : List ℕ → Type 0)
     (label proof : List ℕ) (names : List (List ℕ)) (max : ℕ) (r : Result T Stop) (old new : Counted O)
     → IfErr r (λ stop. stop ≡ CannotWrite) → OnErr r (BreaksOff contents (codes "text F3 0\n") old new) → MayHold (holds proof) (λ all. max < length all)
-    → IfErr r (λ stop. StopsSame contents holds may_fail label proof names max stop old new)
-same_too_long contents holds may_fail label proof names max (Ok v) old new stop broke long = tt
-same_too_long contents holds may_fail label proof names max (Err s) old new stop broke long =
+    → IfErr r (λ stop. StopsText question contents holds may_fail label proof names max stop old new)
+text_too_long question contents holds may_fail label proof names max (Ok v) old new stop broke long = tt
+text_too_long question contents holds may_fail label proof names max (Err s) old new stop broke long =
     rw stop (codes "text F3 0\n", quiet 4, inl (long, refl, refl), broke)
 
 -- The words were answered, and standard error was told the notes.

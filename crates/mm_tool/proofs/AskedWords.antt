@@ -46,7 +46,8 @@ use Rattle.std.proofs.lemmas.Option.{slice_get-map, slice_get_past, slice_get_re
 use Rattle.std.specs.Char.{to_ascii_uppercase}
 use Rattle.std.specs.Option.{option_copied}
 use Rattle.std.specs.Slice.{IsGetResult}
-use Rattle.mm_tool.specs.Explained.{asked_code, code_in_reply, line_of, rules_in, IsAskedFor}
+use Rattle.mm_tool.specs.Explained.{advice_on, asked_code, code_in_reply, line_of, rules_in}
+use Rattle.mm_tool.specs.Explained.{IsAskedFor}
 use Rattle.mm_tool.specs.Explained.{IsExplanation, IsUnknownCode}
 use Rattle.mm_tool.specs.declared.rule_text.RuleText.{RuleText}
 use Rattle.mm_tool.specs.declared.texts.Texts.{Texts}
@@ -298,13 +299,25 @@ last_told (w ∷ ws) first at tells =
     ∙ ap (slice_get (texts_in (w ∷ ws))) index
     ∙ sym (cond-true (tells_last w.now) _ _ here)
 
+-- the first word is `incomplete`
+abbrev pub tells_incomplete : List ℕ → Bool
+tells_incomplete first = bytes_eq first (codes "incomplete")
+
+pub incomplete_told : (words : List (Bor (List ℕ))) (first : Bor (List ℕ))
+    → slice_get words 0 ≡ Some first → tells_last first.now ≡ false → tells_second first.now ≡ false
+    → tells_incomplete first.now ≡ true → code_in_reply (texts_in words) ≡ Some (codes "A3")
+incomplete_told [] first at other more tells = absurd (cc)
+incomplete_told (w ∷ ws) first at other more tells =
+    let same : w ≡ first = cc in
+    rw (same, other, more, tells) refl
+
 pub none_told : (words : List (Bor (List ℕ))) (first : Bor (List ℕ))
     → slice_get words 0 ≡ Some first → tells_last first.now ≡ false → tells_second first.now ≡ false
-    → code_in_reply (texts_in words) ≡ None
-none_told [] first at other more = absurd (cc)
-none_told (w ∷ ws) first at other more =
+    → tells_incomplete first.now ≡ false → code_in_reply (texts_in words) ≡ None
+none_told [] first at other more most = absurd (cc)
+none_told (w ∷ ws) first at other more most =
     let same : w ≡ first = cc in
-    rw (same, other, more) refl
+    rw (same, other, more, most) refl
 
 -- ---- the code that a line asks for
 
@@ -338,15 +351,21 @@ pub capitals_asked : (words : List (Bor (List ℕ))) (line code capitals : List 
 capitals_asked words line code capitals is_line is_code are =
     are ∙ ap (map to_ascii_uppercase) (is_code ∙ ap asked_code (is_line ∙ joined words))
 
--- The text of the rule with these capitals is the explanation.
-pub explains : (texts : Texts) (words : List (Bor (List ℕ))) (capitals : List ℕ) (rule : RuleText)
-    → (length words == 0) ≡ false
+-- The text of the rule with these capitals, and what is said after it, is the explanation.
+pub explains : (texts : Texts) (words : List (Bor (List ℕ))) (line capitals text : List ℕ)
+    (rule : RuleText) → (length words == 0) ≡ false
+    → line ≡ join_by (λ (word : Bor (List ℕ)). word.now) (codes " ") words
     → capitals ≡ map to_ascii_uppercase (asked_code (line_of (texts_in words)))
     → Contains (rules_in texts.chapters.now) rule → rule.code.now ≡ capitals
-    → IsExplanation texts (texts_in words) rule.text.now
-explains texts [] capitals rule some are there same = absurd (cc)
-explains texts (w ∷ ws) capitals rule some are there same =
-    (rule, there, same ∙ are, refl)
+    → text ≡ rule.text.now ++ advice_on line
+    → IsExplanation texts (texts_in words) text
+explains texts [] line capitals text rule some is_line are there same is = absurd (cc)
+explains texts (w ∷ ws) line capitals text rule some is_line are there same is = (
+  rule,
+  there,
+  same ∙ are,
+  is ∙ ap (λ l. rule.text.now ++ advice_on l) (is_line ∙ joined (w ∷ ws)),
+)
 
 -- No rule has these capitals, and so none is asked for.
 pub explains_none : (texts : Texts) (words : List (Bor (List ℕ))) (capitals : List ℕ)

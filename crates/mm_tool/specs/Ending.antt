@@ -13,8 +13,11 @@ use Rattle.mm_text.specs.declared.counted.Counted.{Counted}
 use Rattle.mm_check.specs.Reply.{IsReplyTo}
 use Rattle.mm_check.specs.Status.{number_of}
 use Rattle.mm_check.specs.declared.command.Command.{Command}
-use Rattle.mm_check.specs.declared.command.Command.TheVariants.{Whole, About, File}
+use Rattle.mm_check.specs.declared.command.Command.TheVariants.{Whole, About, File, Lone}
 use Rattle.mm_check.specs.declared.question.Question.TheVariants.{Same}
+use Rattle.mm_check.specs.declared.question.LoneQuestion.TheVariants as lone
+use Rattle.mm_tool.specs.declared.words.TextQuestion.{TextQuestion}
+use Rattle.mm_tool.specs.declared.words.TextQuestion.TheVariants as of_text
 use Rattle.mm_check.specs.declared.command.RunFault.{RunFault}
 use Rattle.mm_check.specs.declared.command.RunFault.TheVariants as run
 use Rattle.mm_check.specs.declared.status.Status.{Status}
@@ -24,7 +27,7 @@ use Rattle.mm_tool.specs.Folder.{AreHeld, AreTooLong, IsHeld, IsUnreadable, Know
 use Rattle.mm_tool.specs.Answer.{Outcome, quiet}
 use Rattle.mm_tool.specs.Explained.{IsExplanation, IsUnknownCode}
 use Rattle.mm_tool.specs.Notes.{AreNotesOn}
-use Rattle.mm_tool.specs.Words.{AsksHelp, AsksVersion, AsksExplain, AsksRun, AsksSame}
+use Rattle.mm_tool.specs.Words.{AsksHelp, AsksVersion, AsksExplain, AsksRun, AsksText}
 use Rattle.mm_tool.specs.Words.{AreRefusedWords}
 use Rattle.mm_tool.specs.declared.folder.ArgumentFault.{ArgumentFault}
 use Rattle.mm_tool.specs.declared.folder.ArgumentFault.TheVariants as argument
@@ -64,25 +67,28 @@ IsReplyOver holds command names max text outcome =
     × IsReplyTo files command text outcome.status × AreNotesOn files outcome.notes)
     ⊎ (AreTooLong holds names max × (text ≡ codes "load F3\n") × (outcome ≡ quiet 4))
 
--- the command asks whether this text is the same proof as that of the theorem with this label
-abbrev pub IsSameCommand : (label text : List ℕ) → Command → Type 0
-IsSameCommand label text (About asked (Same given)) = (asked.now ≡ label) × (given.now ≡ text)
-IsSameCommand label text other = ⊥
+-- the command asks this about this text and the theorem with this label
+abbrev pub IsTextCommand : TextQuestion → (label text : List ℕ) → Command → Type 0
+IsTextCommand of_text.Same label text (About asked (Same given)) =
+    (asked.now ≡ label) × (given.now ≡ text)
+IsTextCommand of_text.Try label text (Lone asked (lone.Try given)) =
+    (asked.now ≡ label) × (given.now ≡ text)
+IsTextCommand question label text other = ⊥
 
 -- The file with the proof was read, and holds no more bytes than it may.
 abbrev pub IsProofRead : (List ℕ → KnownFile) → (proof : Text) → ℕ → PlainFile → Type 0
 IsProofRead holds proof max given =
     (given.name ≡ proof) × IsHeld holds given × (length given.bytes ≤ max)
 
--- This is the reply to the question whether the text in the file with this name is the same proof as
--- that of the theorem with this label, or the one that says that it holds too many bytes.
-abbrev pub IsSameReplyOver : (List ℕ → KnownFile) → (label proof : Text) → List Text → ℕ
-    → List ℕ → Outcome → Type 0
-IsSameReplyOver holds label proof names max text outcome =
+-- This is the reply to the question about the text in the file with this name and the theorem with
+-- this label, or the one that says that the text holds too many bytes.
+abbrev pub IsTextReplyOver : TextQuestion → (List ℕ → KnownFile) → (label proof : Text) → List Text
+    → ℕ → List ℕ → Outcome → Type 0
+IsTextReplyOver question holds label proof names max text outcome =
     (MayHold (holds proof) (λ all. max < length all) × (text ≡ codes "text F3 0\n")
     × (outcome ≡ quiet 4))
     ⊎ ((given : PlainFile) × IsProofRead holds proof max given
-    × (command : Command) × IsSameCommand label given.bytes command
+    × (command : Command) × IsTextCommand question label given.bytes command
     × IsReplyOver holds command names max text outcome)
 
 -- This is the page of the command with the asked name; where none is asked for, the whole help.
@@ -113,8 +119,9 @@ AnswersWords holds texts max words text outcome =
     × (outcome ≡ quiet 0))
     ⊎ (((command : Command) × (names : List Text) × AsksRun words command names
     × IsReplyOver holds command names max text outcome)
-    ⊎ ((label proof : Text) × (names : List Text) × AsksSame words label proof names
-    × IsSameReplyOver holds label proof names max text outcome))))
+    ⊎ ((question : TextQuestion) × (label proof : Text) × (names : List Text)
+    × AsksText question words label proof names
+    × IsTextReplyOver question holds label proof names max text outcome))))
 
 -- ---- ends without an answer
 
@@ -170,6 +177,7 @@ error_line Memory = codes "mm: out of memory\n"
 abbrev pub label_of : Command → Option Text
 label_of (Whole profile question) = None
 label_of (About label question) = Some label.now
+label_of (Lone label question) = Some label.now
 label_of (File form number) = None
 
 -- the file about which a command asks is one of those with these names
@@ -204,17 +212,19 @@ IsProofUnreadable holds may_fail proof names max name =
     ⊎ ((given : PlainFile) × IsProofRead holds proof max given
     × IsUnreadable holds may_fail names max name)
 
--- The comparison with the proof in a file ended so, and that is what standard output shows of it.
-abbrev pub StopsSame : {O : Type 0} → (O → Option (List ℕ)) → (List ℕ → KnownFile)
+-- The question about the proof in a file ended so, and that is what standard output shows of it.
+abbrev pub StopsText : {O : Type 0} → TextQuestion → (O → Option (List ℕ)) → (List ℕ → KnownFile)
     → (List ℕ → Type 0) → (label proof : Text) → List Text → ℕ
     → Stop → Counted O → Counted O → Type 0
-StopsSame contents holds may_fail label proof names max (CannotRead name told) old new =
+StopsText question contents holds may_fail label proof names max (CannotRead name told) old new =
     IsProofUnreadable holds may_fail proof names max name.now × IsUntouched old new
-StopsSame contents holds may_fail label proof names max CannotWrite old new =
-    (text : List ℕ) × (outcome : Outcome) × IsSameReplyOver holds label proof names max text outcome
+StopsText question contents holds may_fail label proof names max CannotWrite old new =
+    (text : List ℕ) × (outcome : Outcome)
+    × IsTextReplyOver question holds label proof names max text outcome
     × BreaksOff contents text old new
-StopsSame contents holds may_fail label proof names max Memory old new = IsUntouched old new
-StopsSame contents holds may_fail label proof names max other old new = ⊥
+StopsText question contents holds may_fail label proof names max Memory old new =
+    IsUntouched old new
+StopsText question contents holds may_fail label proof names max other old new = ⊥
 
 -- The words have no answer, and that is what standard output shows of it.
 abbrev pub Stops : {O : Type 0} → (O → Option (List ℕ)) → (List ℕ → KnownFile)
@@ -230,7 +240,8 @@ Stops contents holds may_fail texts max words (CannotRead name told) old new =
     (((command : Command) × (names : List Text) × AsksRun words command names
     × IsUnreadable holds may_fail names max name.now
     × (option_map (λ l. l.now) told ≡ label_of command))
-    ⊎ ((label proof : Text) × (names : List Text) × AsksSame words label proof names
+    ⊎ ((question : TextQuestion) × (label proof : Text) × (names : List Text)
+    × AsksText question words label proof names
     × IsProofUnreadable holds may_fail proof names max name.now
     × (option_map (λ l. l.now) told ≡ Some label)))
     × IsUntouched old new

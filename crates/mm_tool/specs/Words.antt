@@ -16,18 +16,22 @@ use Rattle.clap.specs.declared.error.kind.ErrorKind.{ErrorKind}
 use Rattle.clap.specs.declared.error.kind.ErrorKind.TheVariants.{DisplayHelp, DisplayVersion}
 use Rattle.clap.specs.declared.error.kind.ErrorKind.TheVariants.{OutOfMemory}
 use Rattle.mm_check.specs.declared.command.Command.{Command}
-use Rattle.mm_check.specs.declared.command.Command.TheVariants.{Whole, About, File}
+use Rattle.mm_check.specs.declared.command.Command.TheVariants.{Whole, About, File, Lone}
 use Rattle.mm_check.specs.declared.question.Question.{Question}
 use Rattle.mm_check.specs.declared.question.Question.TheVariants as question
 use Rattle.mm_check.specs.declared.question.WholeQuestion.{WholeQuestion}
-use Rattle.mm_check.specs.declared.question.WholeQuestion.TheVariants.{Check, Faults}
+use Rattle.mm_check.specs.declared.question.WholeQuestion.TheVariants.{Check, Faults, Why, Axioms}
+use Rattle.mm_check.specs.declared.question.LoneQuestion.{LoneQuestion}
+use Rattle.mm_check.specs.declared.question.LoneQuestion.TheVariants as lone
 use Rattle.mm_check.specs.declared.form.Form.{Form}
 use Rattle.mm_check.specs.declared.form.Form.TheVariants.{Normal, Packed}
 use Rattle.mm_proof.specs.declared.profile.Profile.{Profile}
 use Rattle.mm_proof.specs.declared.profile.Profile.TheVariants.{Strict, Lenient}
 use Rattle.mm_tool.specs.declared.words.Request.{Request}
 use Rattle.mm_tool.specs.declared.words.Request.TheVariants.{Help, Version, Explain, Run}
-use Rattle.mm_tool.specs.declared.words.Request.TheVariants.{Compare}
+use Rattle.mm_tool.specs.declared.words.Request.TheVariants as requests
+use Rattle.mm_tool.specs.declared.words.TextQuestion.{TextQuestion}
+use Rattle.mm_tool.specs.declared.words.TextQuestion.TheVariants as of_text
 use Rattle.mm_tool.specs.declared.stop.Stop.{Stop}
 use Rattle.mm_tool.specs.declared.stop.Stop.TheVariants as stop
 
@@ -46,7 +50,7 @@ label_rule = record (new_rule (codes "LABEL")) {
   action = Some Set;
 }
 
--- a flag: `--file`, `--all` or `--strict`
+-- a flag: `--file`, `--all`, `--known` or `--strict`
 abbrev pub flag_rule : Text → Rule
 flag_rule name = record (new_rule name) {
   long = Some name;
@@ -86,6 +90,10 @@ check_line = profile_line (codes "check")
 abbrev pub faults_line : App
 faults_line = profile_line (codes "faults")
 
+-- `why [--strict] FILES..`
+abbrev pub why_line : App
+why_line = profile_line (codes "why")
+
 -- a question about the theorem with a label: the command's name, and then `LABEL FILES..`
 abbrev pub question_line : Text → App
 question_line name = with_rule (with_rule (new_app name) label_rule) files_rule
@@ -94,9 +102,13 @@ question_line name = with_rule (with_rule (new_app name) label_rule) files_rule
 abbrev pub axioms_line : App
 axioms_line = question_line (codes "axioms")
 
--- `show LABEL FILES..`
+-- `show [--known] LABEL FILES..`
 abbrev pub show_line : App
-show_line = question_line (codes "show")
+show_line = with_rule (question_line (codes "show")) (flag_rule (codes "known"))
+
+-- `users [--all] LABEL FILES..`
+abbrev pub users_line : App
+users_line = with_rule (question_line (codes "users")) (flag_rule (codes "all"))
 
 -- a question for the proof of the theorem with a label in a form, or for all proofs of a file: the
 -- command's name, and then `[--file] LABEL FILES..` or `--all NAME FILES..`, where NAME stands in the
@@ -113,9 +125,18 @@ normal_line = form_line (codes "normal")
 abbrev pub packed_line : App
 packed_line = form_line (codes "packed")
 
+-- a question about a proof's text and the theorem with a label: the command's name, and then
+-- `LABEL PROOF FILES..`
+abbrev pub text_line : Text → App
+text_line name = with_rule (with_rule (with_rule (new_app name) label_rule) proof_rule) files_rule
+
 -- `same LABEL PROOF FILES..`
 abbrev pub same_line : App
-same_line = with_rule (with_rule (with_rule (new_app (codes "same")) label_rule) proof_rule) files_rule
+same_line = text_line (codes "same")
+
+-- `try LABEL PROOF FILES..`
+abbrev pub try_line : App
+try_line = text_line (codes "try")
 
 -- `explain [CODE..]`
 abbrev pub explain_line : App
@@ -141,29 +162,34 @@ bare_line = record (new_app (codes "mm")) {
 
 -- the commands that check a database
 abbrev pub check_lines : App
-check_lines = with_subcommand (with_subcommand bare_line check_line.top) faults_line.top
+check_lines =
+    with_subcommand (with_subcommand (with_subcommand bare_line check_line.top) faults_line.top)
+    why_line.top
 
 -- and those that ask something of it
 abbrev pub database_line : App
 database_line =
-    with_subcommand (with_subcommand check_lines axioms_line.top) show_line.top
-
--- and those that ask for a proof in another form, or compare one
-abbrev pub forms_line : App
-forms_line =
     with_subcommand
-    (with_subcommand (with_subcommand database_line normal_line.top) packed_line.top) same_line.top
+    (with_subcommand (with_subcommand check_lines axioms_line.top) users_line.top) show_line.top
 
--- `mm check [--strict] FILES..`, `mm faults [--strict] FILES..`, `mm axioms LABEL FILES..`,
--- `mm show LABEL FILES..`,
+-- and those that ask for a proof in another form
+abbrev pub forms_line : App
+forms_line = with_subcommand (with_subcommand database_line normal_line.top) packed_line.top
+
+-- and those that ask about a proof's text
+abbrev pub proofs_line : App
+proofs_line = with_subcommand (with_subcommand forms_line same_line.top) try_line.top
+
+-- `mm check [--strict] FILES..`, `mm faults [--strict] FILES..`, `mm why [--strict] FILES..`,
+-- `mm axioms LABEL FILES..`, `mm users [--all] LABEL FILES..`, `mm show [--known] LABEL FILES..`,
 -- `mm normal [--file] LABEL FILES..`, `mm packed [--file] LABEL FILES..`, both with
 -- `--all NAME FILES..` too,
--- `mm same LABEL PROOF FILES..`, `mm explain [CODE..]`, `mm help [COMMAND]`, `mm version`,
--- `mm --version`, and everywhere `--help`
+-- `mm same LABEL PROOF FILES..`, `mm try LABEL PROOF FILES..`, `mm explain [CODE..]`,
+-- `mm help [COMMAND]`, `mm version`, `mm --version`, and everywhere `--help`
 abbrev pub command_line : App
 command_line =
     with_subcommand
-    (with_subcommand (with_subcommand forms_line explain_line.top) help_line.top) version_line.top
+    (with_subcommand (with_subcommand proofs_line explain_line.top) help_line.top) version_line.top
 
 -- the names of the commands, in their order
 abbrev pub command_names : List Text
@@ -275,33 +301,66 @@ AsksAllAmiss words =
     ⊎ (number_among (unwrap_or (all_of (codes "FILES") rows) [])
     (unwrap_or (first_of (codes "LABEL") rows) []) ≡ None))
 
--- They ask whether the text in the file with this name is the same proof as that of the theorem with
--- this label in the files with these names.
-abbrev pub AsksSame : List Text → (label proof : Text) → List Text → Type 0
-AsksSame words label proof names =
-    (rows : List Row) × Commands words (codes "same") rows
+-- They ask about the theorem with this label how it is proved, or with `--known` for the steps that
+-- pass.
+abbrev pub AsksShow : List Text → (label : Text) → (known : Bool) → List Text → Type 0
+AsksShow words label known names =
+    (rows : List Row) × Commands words (codes "show") rows
+    × (unwrap_or (first_of (codes "LABEL") rows) [] ≡ label)
+    × IsGiven (codes "known") rows known
+    × (unwrap_or (all_of (codes "FILES") rows) [] ≡ names)
+
+-- They ask about the assertion with this label for the theorems whose proofs use it, or with `--all`
+-- for those that rest on it.
+abbrev pub AsksUsers : List Text → (label : Text) → (all : Bool) → List Text → Type 0
+AsksUsers words label all names =
+    (rows : List Row) × Commands words (codes "users") rows
+    × (unwrap_or (first_of (codes "LABEL") rows) [] ≡ label)
+    × IsGiven (codes "all") rows all
+    × (unwrap_or (all_of (codes "FILES") rows) [] ≡ names)
+
+-- the command that asks this about a proof's text and a theorem
+abbrev pub name_of_text : TextQuestion → Text
+name_of_text of_text.Same = codes "same"
+name_of_text of_text.Try = codes "try"
+
+-- They ask this about the text in the file with this name and the theorem with this label in the
+-- files with these names.
+abbrev pub AsksText : TextQuestion → List Text → (label proof : Text) → List Text → Type 0
+AsksText asked words label proof names =
+    (rows : List Row) × Commands words (name_of_text asked) rows
     × (unwrap_or (first_of (codes "LABEL") rows) [] ≡ label)
     × (unwrap_or (first_of (codes "PROOF") rows) [] ≡ proof)
     × (unwrap_or (all_of (codes "FILES") rows) [] ≡ names)
 
--- the command that asks a question about the whole database
+-- the command that asks a question about the whole database; what each theorem rests on is asked by
+-- none so far
 abbrev pub name_of_whole : WholeQuestion → Text
 name_of_whole Check = codes "check"
 name_of_whole Faults = codes "faults"
+name_of_whole Why = codes "why"
+name_of_whole Axioms = []
 
 -- They ask this question about the theorem with this label in the files with these names. No words
--- alone ask to compare a text: it stands in a further file, which `AsksSame` names.
+-- alone ask to compare a text: it stands in a further file, which `AsksText` names.
 abbrev pub AsksAbout : List Text → (label : Text) → Question → List Text → Type 0
 AsksAbout words label question.Axioms names = AsksQuestion (codes "axioms") words label names
-AsksAbout words label question.Show names = AsksQuestion (codes "show") words label names
+AsksAbout words label question.Show names = AsksShow words label false names
 AsksAbout words label (question.Form form whole) names =
     AsksForm (name_of_form form) words label whole names
 AsksAbout words label (question.Same text) names = ⊥
+AsksAbout words label (question.Users all) names = AsksUsers words label all names
+
+-- They ask this question about the theorem with this label alone. No words alone ask to try a text.
+abbrev pub AsksLone : List Text → (label : Text) → LoneQuestion → List Text → Type 0
+AsksLone words label lone.Known names = AsksShow words label true names
+AsksLone words label (lone.Try text) names = ⊥
 
 -- They ask to run this command over the files with these names.
 abbrev pub AsksRun : List Text → Command → List Text → Type 0
 AsksRun words (Whole profile asked) names = AsksUnder (name_of_whole asked) words profile names
 AsksRun words (About label asked) names = AsksAbout words label.now asked names
+AsksRun words (Lone label asked) names = AsksLone words label.now asked names
 AsksRun words (File form number) names = AsksAll words form number names
 
 -- They ask for what the request says.
@@ -310,8 +369,9 @@ Asks words (Help topic) = AsksHelp words (option_map (λ name. name.now) topic)
 Asks words Version = AsksVersion words
 Asks words (Explain asked) = AsksExplain words (map (λ code. code.now) asked.items)
 Asks words (Run command names) = AsksRun words command (map (λ name. name.now) names.items)
-Asks words (Compare asked) =
-    AsksSame words asked.label.now asked.proof.now (map (λ name. name.now) asked.names.items)
+Asks words (requests.Text asked) =
+    AsksText asked.question words asked.label.now asked.proof.now
+    (map (λ name. name.now) asked.names.items)
 
 -- The words are refused, by a fault that is no wish for help or for the version.
 abbrev pub IsFaulty : List Text → Type 0
@@ -324,7 +384,7 @@ abbrev pub NamesNoForm : List Text → Type 0
 NamesNoForm words =
     (rows : List Row)
     → ¬ Commands words (codes "normal") rows × ¬ Commands words (codes "packed") rows
-    × ¬ Commands words (codes "same") rows
+    × ¬ Commands words (codes "same") rows × ¬ Commands words (codes "try") rows
 
 -- They name no command that asks for a text of the program itself.
 abbrev pub NamesNoText : List Text → Type 0
@@ -338,7 +398,9 @@ abbrev pub NamesNoCommand : List Text → Type 0
 NamesNoCommand words = IsAccepted words × NamesNoForm words × NamesNoText words
     × ((rows : List Row)
     → ¬ Commands words (codes "check") rows × ¬ Commands words (codes "faults") rows
-    × ¬ Commands words (codes "axioms") rows × ¬ Commands words (codes "show") rows)
+    × ¬ Commands words (codes "why") rows
+    × ¬ Commands words (codes "axioms") rows × ¬ Commands words (codes "users") rows
+    × ¬ Commands words (codes "show") rows)
 
 -- The words aren't understood.
 abbrev pub AreRefusedWords : List Text → Type 0

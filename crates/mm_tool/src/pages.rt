@@ -62,6 +62,25 @@ Example:
   mm faults set.mm
 ";
 
+const WHY: &str = "Usage: mm why [--strict] FILES..
+
+Checks a database as `mm faults` does, and explains the faults that it lists, at
+most ten: where each stands, the rule and its meaning, and the facts that show
+it, as what a step's hypotheses ask and what its entries give.
+
+Options:
+  --strict   as for check: `mm help check`
+
+Replies:
+  FILE:LINE:COLUMN: RULE: MEANING, and what it is a fault of        status 1, 4
+      An explanation. Lines that begin with spaces follow: its facts. At the end
+      stands how many faults there are. The status is that of faults.
+  Where nothing is at fault: the reply of check, with its status.
+
+Example:
+  mm why set.mm
+";
+
 const AXIOMS: &str = "Usage: mm axioms LABEL FILES..
 
 Checks the database, and lists the axioms that the theorem with this label
@@ -85,10 +104,38 @@ Example:
   mm axioms id set.mm
 ";
 
-const SHOW: &str = "Usage: mm show LABEL FILES..
+const USERS: &str = "Usage: mm users [--all] LABEL FILES..
+
+Checks the database, and lists the theorems whose proofs use the assertion with
+this label. An unfinished proof uses nothing.
+
+Options:
+  --all   the theorems that rest on it: by their own proofs, or by those of
+          theorems that they use
+
+Replies:
+  LABEL, one on each line                                           status 0
+      A theorem, in the order of the database.
+  ask A1 LABEL                                                      status 1
+      No statement has this label.
+  ask A2 LABEL                                                      status 1
+      It is the label of a hypothesis.
+  no, limit or load                                                 status 1, 4
+      The database is refused: `mm help check`.
+
+Example:
+  mm users ax-mp set.mm
+";
+
+const SHOW: &str = "Usage: mm show [--known] LABEL FILES..
 
 Checks the database, and lists the steps of the proof of the theorem with this
 label.
+
+Options:
+  --known   the steps that pass, whatever the other proofs: of a proof with a
+            `?` those before it, and what is on the stack there; of a proof at
+            fault those before the fault, and why it stops there
 
 Replies:
   STEP NAME EXPRESSION, one on each line                            status 0
@@ -102,9 +149,13 @@ Replies:
       The proof of this theorem holds a `?`.
   no, limit or load                                                 status 1, 4
       The database is refused: `mm help check`.
+  with --known, after the steps:
+  the entries of the stack, and what the theorem states             status 3
+  no or limit, and then the facts that explain it                   status 1, 4
 
-Example:
+Examples:
   mm show id set.mm
+  mm show --known id set.mm
 ";
 
 const NORMAL: &str = "Usage: mm normal [--file] LABEL FILES..
@@ -194,6 +245,32 @@ Example:
   mm same id proof.txt set.mm
 ";
 
+const TRY: &str = "Usage: mm try LABEL PROOF FILES..
+
+Tells whether the text in the file PROOF is a proof of the theorem with this
+label, whatever stands in the files as its proof. No other proof is judged, and
+nothing after the theorem is read.
+
+Replies:
+  proof                                                             status 0
+      The text is a proof of the theorem.
+  text RULE STEP                                                    status 1, 4
+      It is none: the rule that it breaks, and the step; and then the facts that
+      explain it. Status 4 for L1 and F3.
+  text A3 0                                                         status 3
+      The text holds a `?`, and what stands before it breaks no rule. What this
+      leaves on the stack follows.
+  ask A1 LABEL                                                      status 1
+      No statement has this label.
+  ask A2 LABEL                                                      status 1
+      It is the label of a hypothesis or of an axiom.
+  no or load                                                        status 1, 4
+      What stands before the theorem is refused: `mm help check`.
+
+Example:
+  mm try id proof.txt set.mm
+";
+
 const EXPLAIN: &str = "Usage: mm explain [CODE]
 
 Says what the rule with this code is, its usual cause and the remedy; a reply
@@ -241,8 +318,16 @@ fn faults_page() -> &'static str {
     FAULTS
 }
 
+fn why_page() -> &'static str {
+    WHY
+}
+
 fn axioms_page() -> &'static str {
     AXIOMS
+}
+
+fn users_page() -> &'static str {
+    USERS
 }
 
 fn show_page() -> &'static str {
@@ -261,6 +346,10 @@ fn same_page() -> &'static str {
     SAME
 }
 
+fn try_page() -> &'static str {
+    TRY
+}
+
 fn explain_page() -> &'static str {
     EXPLAIN
 }
@@ -274,7 +363,7 @@ fn version_page() -> &'static str {
 }
 
 /// A page for each command, in the order of the command line.
-pub(crate) fn program_pages() -> [Page<'static>; 10]
+pub(crate) fn program_pages() -> [Page<'static>; 13]
     ensures { map (λ page. page.command.now) result ≡ command_names }
 {
     [
@@ -287,8 +376,16 @@ pub(crate) fn program_pages() -> [Page<'static>; 10]
             text: faults_page(),
         },
         Page {
+            command: "why",
+            text: why_page(),
+        },
+        Page {
             command: "axioms",
             text: axioms_page(),
+        },
+        Page {
+            command: "users",
+            text: users_page(),
         },
         Page {
             command: "show",
@@ -305,6 +402,10 @@ pub(crate) fn program_pages() -> [Page<'static>; 10]
         Page {
             command: "same",
             text: same_page(),
+        },
+        Page {
+            command: "try",
+            text: try_page(),
         },
         Page {
             command: "explain",

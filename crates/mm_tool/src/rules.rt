@@ -711,9 +711,9 @@ Usual cause: a step, or in a compressed proof a letter or a listed label, is
 missing, too many or swapped, perhaps many steps before; or the theorem has
 other hypotheses or variables than when it was proved, as where a `$}` before it
 is missing.
-Remedy: compare the steps before this one with the mandatory hypotheses of the
-assertion that it names, in their order; with a `?` in place of this proof `mm
-show` answers again, and lists the steps of theorems that use that assertion.
+Remedy: `mm why` shows what each hypothesis of the assertion asks beside the
+entry that it gets, and `mm show --known` lists the steps up to there: change
+the step that gives another type, or write the one that is missing.
 
 This file breaks it:
     $c a b $. $v x $. fx $f a x $. one $a b $. two $a a x x $.
@@ -733,8 +733,9 @@ Usual cause: the hypothesis that the assertion wants isn't what the proof gives:
 a wrong theorem or a wrong replacement of a variable stands in the proof; a
 step, a letter or a listed label is missing, too many or swapped, perhaps many
 steps before; or a `$e` was changed, of the theorem or of the assertion.
-Remedy: compare what the proof gives with the hypothesis, symbol by symbol, and
-change the step that proves it or the step that replaces the variable.
+Remedy: `mm why` shows what each hypothesis asks beside the entry that it gets,
+and from which symbol on they differ: change the step that proves the
+hypothesis, or the step that replaces the variable.
 
 This file breaks it:
     $c a b |- $. $v x $. fx $f a x $.
@@ -773,9 +774,8 @@ distinct pair where the `$p` stands. In the example the pair is `y`, `x`, and
 the `$d` of line 2 is no longer active.
 Place: the statement's first token.
 Usual cause: a `$d x y $.` is missing, or several are.
-Remedy: add a `$d` before the theorem, in its block, for each variable of the
-one replacement with each variable of the other: the step stays at fault until
-the last pair is there.
+Remedy: add the `$d` statements that `mm why` names before the theorem, in its
+block: they are all that the whole proof lacks.
 
 This file breaks it:
     $c a |- $. $v x y $. fx $f a x $. fy $f a y $.

@@ -9,7 +9,7 @@ ghost use Rattle.mm_tool.specs.Ending.{BreaksOff, Ends, EndsWithoutWords, Answer
 ghost use Rattle.mm_tool.specs.Ending.{IsReplyOver};
 ghost use Rattle.mm_tool.specs.Answer.{outcome_of, quiet};
 ghost use Rattle.mm_tool.specs.Ending.{Stops, TellsNotes};
-ghost use Rattle.mm_tool.specs.Ending.{AsksNamed, IsSameCommand, IsSameReplyOver, StopsSame};
+ghost use Rattle.mm_tool.specs.Ending.{AsksNamed, IsTextCommand, IsTextReplyOver, StopsText};
 ghost use Rattle.mm_tool.specs.Ending.{StopsRun, TakesWhole, TellsLine, error_line, stop_status};
 ghost use Rattle.mm_check.specs.declared.command.Command.TheVariants.{Whole};
 ghost use Rattle.mm_check.specs.declared.question.WholeQuestion.TheVariants.{Check};
@@ -27,8 +27,10 @@ use crate::notes::notes_on;
 use crate::stop::Stop;
 use crate::texts::Texts;
 use crate::unread::{asked_label, labelled, tell_unread};
-use crate::words::{Comparison, Request, request_of};
-use mm_check::{Command, Question, Status, WholeQuestion, alike_files_have_one_reply, run};
+use crate::words::{AskedText, Request, TextQuestion, request_of};
+use mm_check::{
+    Command, LoneQuestion, Question, Status, WholeQuestion, alike_files_have_one_reply, run,
+};
 use mm_text::{BYTE_LIMIT, Counted, File, Seed, alike_files_leave_out_the_same};
 use std::alloc::{AllocError, Global};
 use std::io::Write;
@@ -133,34 +135,43 @@ pub(crate) fn run_over<'a, F: Folder, O: Write>(
     Ok(Answer { status, notes })
 }
 
-/// The question whether this text is the same proof as that of the theorem with a label.
-fn same_command<'c>(label: &'c [u8], text: &'c [u8]) -> Command<'c>
-    ensures { IsSameCommand label.now text.now result }
+/// The question about this text and the theorem with a label.
+fn text_command<'c>(question: TextQuestion, label: &'c [u8], text: &'c [u8]) -> Command<'c>
+    ensures { IsTextCommand question label.now text.now result }
 {
-    let question = Question::Same(text);
-    Command::About { label, question }
+    match question {
+        TextQuestion::Same => Command::About {
+            label,
+            question: Question::Same(text),
+        },
+        TextQuestion::Try => Command::Lone {
+            label,
+            question: LoneQuestion::Try(text),
+        },
+    }
 }
 
-/// Answers the question whether two proofs are the same, and writes the reply. The file with the
-/// proof is read first; its bytes are counted apart.
+/// Answers a question about a proof's text, and writes the reply. The file with the proof is read
+/// first; its bytes are counted apart.
 ///
 /// # Errors
 ///
 /// As for `run_over`.
-fn compare_over<'a, F: Folder, O: Write>(
+fn text_over<'a, F: Folder, O: Write>(
     alloc: Global,
     seed: Seed,
     folder: &F,
-    asked: &Comparison<'a>,
+    asked: &AskedText<'a>,
     max: usize,
     out: &mut Counted<O>,
 ) -> Result<Answer, Stop<'a>>
     requires { faults_of out.old < u64.MAX }
-    ensures replies { IfOk result (λ answer. (text : _) × IsSameReplyOver (F.holds folder.now)
-        asked.now.label.now asked.now.proof.now (map (λ name. name.now) asked.now.names.items) max
+    ensures replies { IfOk result (λ answer. (text : _) × IsTextReplyOver asked.now.question
+        (F.holds folder.now) asked.now.label.now asked.now.proof.now
+        (map (λ name. name.now) asked.now.names.items) max
         text (outcome_of answer) × TakesWhole O.contents text out.old out.new) }
-    ensures stops { IfErr result (λ stop. StopsSame O.contents (F.holds folder.now)
-        (F.may_fail folder.now) asked.now.label.now asked.now.proof.now
+    ensures stops { IfErr result (λ stop. StopsText asked.now.question O.contents
+        (F.holds folder.now) (F.may_fail folder.now) asked.now.label.now asked.now.proof.now
         (map (λ name. name.now) asked.now.names.items) max stop out.old out.new) }
 {
     let file = match read_file(alloc, folder, asked.proof, max, Comments::Kept) {
@@ -169,7 +180,7 @@ fn compare_over<'a, F: Folder, O: Write>(
         Err(FileFault::TooLong) => return reply(out, TOO_LONG_PROOF, Status::Stopped),
         Err(FileFault::Memory) => return Err(Stop::Memory),
     };
-    let command = same_command(asked.label.as_bytes(), &file.bytes);
+    let command = text_command(asked.question, asked.label.as_bytes(), &file.bytes);
     run_over(alloc, seed, folder, &command, &asked.names, max, out)
 }
 
@@ -206,8 +217,8 @@ fn answer<'a, F: Folder, O: Write>(
                 Err(stop) => Err(labelled(stop, asked_label(&command))),
             }
         }
-        Request::Compare(asked) => {
-            match compare_over(alloc, seed, folder, &asked, BYTE_LIMIT, out) {
+        Request::Text(asked) => {
+            match text_over(alloc, seed, folder, &asked, BYTE_LIMIT, out) {
                 Ok(answer) => Ok(answer),
                 Err(stop) => Err(labelled(stop, Some(asked.label.as_bytes()))),
             }

@@ -7,9 +7,10 @@ mod folder;
 use crate::pages::Page;
 use crate::serve::{run_over, serve, start};
 use crate::texts::Texts;
+use crate::words::{Request, TextQuestion, request_of};
 use failing::{FailingFolder, Failure, Wordless, failing_writer};
 use folder::{Entry, Shelf};
-use mm_check::{Command, Status, WholeQuestion};
+use mm_check::{Command, LoneQuestion, Question, Status, WholeQuestion};
 use mm_proof::Profile;
 use mm_text::{Counted, Seed};
 use std::alloc::Global;
@@ -127,6 +128,72 @@ fn replies(rt: HostRuntime) {
         assert_eq!(rt; status, 0, "at {words:?}");
         assert!(rt; out.as_slice() == reply, "at {words:?}");
         assert!(rt; err.is_empty(), "at {words:?}");
+    }
+}
+
+/// Whether the words ask to run this command over `first.mm`.
+fn asks_to_run(alloc: Global, words: &[&str], wanted: Command<'_>) -> bool {
+    match request_of(alloc, words) {
+        Ok(Request::Run { command, names }) => {
+            command == wanted && names.as_slice() == ["first.mm"].as_slice()
+        }
+        _ => false,
+    }
+}
+
+// A flag may stand before the label or after it.
+#[test]
+fn asks_by_its_words(rt: HostRuntime) {
+    let why = |profile| Command::Whole {
+        profile,
+        question: WholeQuestion::Why,
+    };
+    let known = Command::Lone {
+        label: b"th".as_slice(),
+        question: LoneQuestion::Known,
+    };
+    let show = Command::About {
+        label: b"th".as_slice(),
+        question: Question::Show,
+    };
+    for (words, wanted) in [
+        (["mm", "why", "first.mm"].as_slice(), why(Profile::Lenient)),
+        (
+            ["mm", "why", "--strict", "first.mm"].as_slice(),
+            why(Profile::Strict),
+        ),
+        (["mm", "show", "th", "first.mm"].as_slice(), show),
+        (
+            ["mm", "show", "--known", "th", "first.mm"].as_slice(),
+            known,
+        ),
+        (
+            ["mm", "show", "th", "--known", "first.mm"].as_slice(),
+            known,
+        ),
+    ] {
+        assert!(rt; asks_to_run(rt.alloc(), words, wanted), "at {words:?}");
+    }
+}
+
+/// Whether the words ask this about the text in `proof.txt`, the theorem `th` and `first.mm`.
+fn asks_about_a_text(alloc: Global, words: &[&str], wanted: TextQuestion) -> bool {
+    match request_of(alloc, words) {
+        Ok(Request::Text(asked)) => {
+            asked.question == wanted
+                && asked.label == "th"
+                && asked.proof == "proof.txt"
+                && asked.names.as_slice() == ["first.mm"].as_slice()
+        }
+        _ => false,
+    }
+}
+
+#[test]
+fn asks_about_a_text_by_its_words(rt: HostRuntime) {
+    for (name, wanted) in [("same", TextQuestion::Same), ("try", TextQuestion::Try)] {
+        let words = ["mm", name, "th", "proof.txt", "first.mm"];
+        assert!(rt; asks_about_a_text(rt.alloc(), &words, wanted), "at {name}");
     }
 }
 

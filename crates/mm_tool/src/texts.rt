@@ -33,10 +33,18 @@ Commands:
                          in it was checked
   faults [--strict] FILES..
                          checks the database as check does, and lists all its faults in one run
+  why [--strict] FILES..
+                         checks the database as faults does, and explains what it lists: where each
+                         fault stands, its rule, and what was asked and found
   axioms LABEL FILES..   checks the database, and lists the axioms that the theorem with this
                          label rests on
-  show LABEL FILES..     checks the database, and lists the steps of the proof of the theorem with
-                         this label
+  users [--all] LABEL FILES..
+                         checks the database, and lists the theorems whose proofs use the assertion
+                         with this label; with --all those that rest on it
+  show [--known] LABEL FILES..
+                         checks the database, and lists the steps of the proof of the theorem with
+                         this label; with --known the steps that pass, of an unfinished proof or of
+                         one at fault, and what is on the stack there
   normal [--file] LABEL FILES..
                          checks the database, and writes the normal proof of the theorem with this
                          label; with --file the whole file in which the theorem stands, with that
@@ -51,6 +59,9 @@ Commands:
   same LABEL PROOF FILES..
                          checks the database, and tells whether the text in the file PROOF is the
                          same proof as that of the theorem with this label
+  try LABEL PROOF FILES..
+                         tells whether the text in the file PROOF is a proof of the theorem with
+                         this label, whatever stands in FILES as its proof
   explain [CODE]         says what the rule with this code is, its usual cause and the remedy; a
                          reply line that names one, pasted, does as well; without a code, lists all
                          codes
@@ -92,16 +103,29 @@ Replies of faults, on standard output:
       the first line is a limit.
   Where nothing is at fault: the reply of check, with its status.
 
+Replies of why, on standard output:
+  FILE:LINE:COLUMN: RULE: MEANING, in the proof of LABEL, at step STEP
+      The fault that faults tells in the same place of its list. Its facts follow, in lines that
+      begin with spaces. At most ten faults are explained; the last line counts all. Status 1; 4
+      where the first one is a limit.
+  Where nothing is at fault: the reply of check, with its status.
+
 Replies of axioms, on standard output:
   LABEL, one on each line
       The axioms that the theorem rests on, in the order of the database. Status 0.
   ? LABEL, one on each line, after the axioms
       The theorems that it rests on and whose proofs hold a `?`. Status 3.
 
+Reply of users, on standard output:
+  LABEL, one on each line
+      The theorems, in the order of the database. Status 0.
+
 Reply of show, on standard output:
   STEP NAME EXPRESSION, one on each line
       A step of the proof: its number, from 1; the label that it names, or @N where it repeats the
       expression of step N; and the symbols of its expression. Status 0.
+  With --known, after the steps that pass: the entries of the stack, status 3; or the refusal of the
+  proof and the facts that explain it, status 1, or 4 for a limit.
 
 Replies of normal and packed, on standard output:
   the proof, in lines; with --file or --all the bytes of the file, and nothing else
@@ -119,6 +143,13 @@ Replies of same, on standard output:
       The text is no proof of the theorem: the code of the rule that it breaks, and the step.
       Status 1; 3 for A3, a `?` in the text; 4 for L1 and F3.
 
+Replies of try, on standard output:
+  proof
+      The text is a proof of the theorem. Status 0.
+  text RULE STEP
+      It is none, as for same; or, with A3, what stands before its `?` breaks no rule. What explains
+      it, or is on the stack, follows. Status 1; 3 for A3; 4 for L1 and F3.
+
 Other replies to a LABEL: that of check, where it is no, limit or load; and
   ask A1 LABEL
       No statement has this label. Status 1.
@@ -128,7 +159,8 @@ Other replies to a LABEL: that of check, where it is no, limit or load; and
       The proof of this theorem holds a `?`. Status 3.
 
 Statuses:
-  0  yes, or same; or axioms, steps or a proof; or help, the version or an explanation was asked for
+  0  yes, same or proof; or axioms, steps or a proof; or help, the version or an explanation was
+     asked for
   1  no: a statement is at fault; or the label is not that of a theorem; or different, or a text is
      no proof of the theorem
   2  the words are not understood
@@ -146,6 +178,7 @@ Examples:
   mm packed id set.mm
   mm packed --all set.mm set.mm
   mm same id proof.txt set.mm
+  mm try id proof.txt set.mm
   mm explain P8
   mm help check
 ";

@@ -25,7 +25,7 @@ pub(crate) fn asked_label<'a>(command: &Command<'a>) -> Option<&'a [u8]>
 {
     match command {
         Command::Whole { .. } | Command::File { .. } => None,
-        Command::About { label, .. } => Some(*label),
+        Command::About { label, .. } | Command::Lone { label, .. } => Some(*label),
     }
 }
 

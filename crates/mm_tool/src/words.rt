@@ -2,7 +2,7 @@
 
 ghost use Rattle.std.specs.Prelude.{◌≡◌, [], List, map, IfOk, IfErr, IfSome, IfNone, false};
 ghost use Rattle.std.specs.Prelude.{unwrap_or};
-ghost use Rattle.std.specs.Prelude.{ℕ, option_map, position};
+ghost use Rattle.std.specs.Prelude.{ℕ, codes, option_map, position};
 ghost use Rattle.std.specs.Str.{bytes_eq};
 ghost use Rattle.clap.specs.Words.{Text, all_of, app_of, first_of, found_of, kind_of};
 ghost use Rattle.clap.specs.Words.{rows_of, rule_of};
@@ -13,6 +13,7 @@ ghost use Rattle.mm_tool.specs.Words.{command_line, database_line, explain_line,
 ghost use Rattle.mm_tool.specs.Words.{files_rule, profile_line};
 ghost use Rattle.mm_tool.specs.Words.{help_line, label_rule, question_line, show_line};
 ghost use Rattle.mm_tool.specs.Words.{proof_rule, normal_line, packed_line, same_line, forms_line};
+ghost use Rattle.mm_tool.specs.Words.{proofs_line, text_line, try_line, users_line, why_line, name_of_text};
 ghost use Rattle.mm_tool.specs.Words.{is_strict, flag_rule, Commands, IsAllFault, name_of_form};
 ghost use Rattle.mm_tool.specs.Words.{NamesNoForm, IsGiven, form_line, number_among};
 ghost use Rattle.mm_tool.specs.Words.{name_of_whole, AsksQuestion, AsksAbout};
@@ -23,7 +24,7 @@ ghost use Rattle.mm_tool.specs.Words.{NamesNoText, first_command, topic_rule, ve
 use crate::stop::Stop;
 use clap::error::ErrorKind;
 use clap::{Arg, ArgAction, ArgMatches, Command, Error};
-use mm_check::{Form, Question, WholeQuestion};
+use mm_check::{Form, LoneQuestion, Question, WholeQuestion};
 use mm_proof::Profile;
 use std::alloc::{AllocError, Global};
 
@@ -33,7 +34,11 @@ const CHECK: &str = "check";
 
 const FAULTS: &str = "faults";
 
+const WHY: &str = "why";
+
 const AXIOMS: &str = "axioms";
+
+const USERS: &str = "users";
 
 const SHOW: &str = "show";
 
@@ -42,6 +47,8 @@ const NORMAL: &str = "normal";
 const PACKED: &str = "packed";
 
 const SAME: &str = "same";
+
+const TRY: &str = "try";
 
 const EXPLAIN: &str = "explain";
 
@@ -56,6 +63,8 @@ const LABEL: &str = "LABEL";
 const FILE: &str = "file";
 
 const ALL: &str = "all";
+
+const KNOWN: &str = "known";
 
 const STRICT: &str = "strict";
 
@@ -74,10 +83,20 @@ const ADVICE: &str = "\n\n  tip: to pass '";
 /// How it begins the usage, which comes after that advice.
 const USAGE: &str = "\n\nUsage: ";
 
-/// The question whether the text in the file `proof` is the same proof as that of the theorem with
-/// a label, in the database in the files with these names.
+/// What is asked about a proof's text and a theorem.
+#[derive(Clone, Copy, PartialEq, Eq, Debug)]
+pub(crate) enum TextQuestion {
+    /// Whether the text is the same proof as the theorem's own.
+    Same,
+    /// Whether it is a proof of the theorem.
+    Try,
+}
+
+/// A question about the text in the file `proof` and the theorem with a label, in the database in
+/// the files with these names.
 #[derive(Drop)]
-pub(crate) struct Comparison<'a> {
+pub(crate) struct AskedText<'a> {
+    pub(crate) question: TextQuestion,
     pub(crate) label: &'a str,
     pub(crate) proof: &'a str,
     pub(crate) names: Vec<&'a str>,
@@ -97,8 +116,8 @@ pub(crate) enum Request<'a> {
         command: mm_check::Command<'a>,
         names: Vec<&'a str>,
     },
-    /// To tell whether two proofs are the same.
-    Compare(Comparison<'a>),
+    /// To read a proof's text, and to say what it is to a theorem.
+    Text(AskedText<'a>),
 }
 
 /// The names of the files, for `clap`.
@@ -199,6 +218,19 @@ fn faults_command<'a>(alloc: Global) -> Result<Command<'a>, AllocError>
     )
 }
 
+/// The command `why`, for `clap`.
+fn why_command<'a>(alloc: Global) -> Result<Command<'a>, AllocError>
+    ensures shape { IfOk result (λ command. app_of command ≡ why_line) }
+    ensures local { IfOk result (λ command. (out-Command command).has_globals ≡ false) }
+{
+    profile_command(
+        alloc,
+        WHY,
+        "explains the faults of a database",
+        "mm why [--strict] FILES..",
+    )
+}
+
 /// A command that asks about the theorem with a label, for `clap`.
 fn question_command<'a>(
     alloc: Global,
@@ -245,6 +277,20 @@ fn axioms_command<'a>(alloc: Global) -> Result<Command<'a>, AllocError>
     )
 }
 
+/// The command `users`, for `clap`.
+fn users_command<'a>(alloc: Global) -> Result<Command<'a>, AllocError>
+    ensures shape { IfOk result (λ command. app_of command ≡ users_line) }
+    ensures local { IfOk result (λ command. (out-Command command).has_globals ≡ false) }
+{
+    question_command(
+        alloc,
+        USERS,
+        "lists the theorems whose proofs use an assertion",
+        "mm users [--all] LABEL FILES..",
+    )?
+    .arg(flag_argument(alloc, ALL))
+}
+
 /// The command `show`, for `clap`.
 fn show_command<'a>(alloc: Global) -> Result<Command<'a>, AllocError>
     ensures shape { IfOk result (λ command. app_of command ≡ show_line) }
@@ -254,8 +300,9 @@ fn show_command<'a>(alloc: Global) -> Result<Command<'a>, AllocError>
         alloc,
         SHOW,
         "lists the steps of the proof of a theorem",
-        "mm show LABEL FILES..",
-    )
+        "mm show [--known] LABEL FILES..",
+    )?
+    .arg(flag_argument(alloc, KNOWN))
 }
 
 /// The command `normal`, for `clap`.
@@ -284,17 +331,48 @@ fn packed_command<'a>(alloc: Global) -> Result<Command<'a>, AllocError>
     )
 }
 
+/// A command that asks about a proof's text and the theorem with a label, for `clap`.
+fn text_command<'a>(
+    alloc: Global,
+    name: &'a str,
+    about: &'a str,
+    usage: &'a str,
+) -> Result<Command<'a>, AllocError>
+    ensures shape { IfOk result (λ command. app_of command ≡ text_line name.entry.now) }
+    ensures local { IfOk result (λ command. (out-Command command).has_globals ≡ false) }
+{
+    Command::new(alloc, name)
+        .about(about)
+        .override_usage(usage)
+        .arg(label_argument(alloc))?
+        .arg(proof_argument(alloc))?
+        .arg(files_argument(alloc))
+}
+
 /// The command `same`, for `clap`.
 fn same_command<'a>(alloc: Global) -> Result<Command<'a>, AllocError>
     ensures shape { IfOk result (λ command. app_of command ≡ same_line) }
     ensures local { IfOk result (λ command. (out-Command command).has_globals ≡ false) }
 {
-    Command::new(alloc, SAME)
-        .about("tells whether a proof's text is the same proof as that of a theorem")
-        .override_usage("mm same LABEL PROOF FILES..")
-        .arg(label_argument(alloc))?
-        .arg(proof_argument(alloc))?
-        .arg(files_argument(alloc))
+    text_command(
+        alloc,
+        SAME,
+        "tells whether a proof's text is the same proof as that of a theorem",
+        "mm same LABEL PROOF FILES..",
+    )
+}
+
+/// The command `try`, for `clap`.
+fn try_command<'a>(alloc: Global) -> Result<Command<'a>, AllocError>
+    ensures shape { IfOk result (λ command. app_of command ≡ try_line) }
+    ensures local { IfOk result (λ command. (out-Command command).has_globals ≡ false) }
+{
+    text_command(
+        alloc,
+        TRY,
+        "tells whether a text is a proof of a theorem, whatever its own proof",
+        "mm try LABEL PROOF FILES..",
+    )
 }
 
 /// The command `explain`, for `clap`.
@@ -347,7 +425,8 @@ fn check_commands<'a>(alloc: Global) -> Result<Command<'a>, AllocError>
 {
     bare_command(alloc)?
         .subcommand(check_command(alloc)?)?
-        .subcommand(faults_command(alloc)?)
+        .subcommand(faults_command(alloc)?)?
+        .subcommand(why_command(alloc)?)
 }
 
 /// That with the commands that ask something of it, for `clap`.
@@ -357,6 +436,7 @@ fn database_command<'a>(alloc: Global) -> Result<Command<'a>, AllocError>
 {
     check_commands(alloc)?
         .subcommand(axioms_command(alloc)?)?
+        .subcommand(users_command(alloc)?)?
         .subcommand(show_command(alloc)?)
 }
 
@@ -367,15 +447,24 @@ fn forms_command<'a>(alloc: Global) -> Result<Command<'a>, AllocError>
 {
     database_command(alloc)?
         .subcommand(normal_command(alloc)?)?
-        .subcommand(packed_command(alloc)?)?
-        .subcommand(same_command(alloc)?)
+        .subcommand(packed_command(alloc)?)
+}
+
+/// That with the commands that ask about a proof's text, for `clap`.
+fn proofs_command<'a>(alloc: Global) -> Result<Command<'a>, AllocError>
+    ensures shape { IfOk result (λ command. app_of command ≡ proofs_line) }
+    ensures local { IfOk result (λ command. (out-Command command).has_globals ≡ false) }
+{
+    forms_command(alloc)?
+        .subcommand(same_command(alloc)?)?
+        .subcommand(try_command(alloc)?)
 }
 
 /// The program's command line, for `clap`.
 fn whole_command<'a>(alloc: Global) -> Result<Command<'a>, AllocError>
     ensures { IfOk result (λ command. app_of command ≡ command_line) }
 {
-    forms_command(alloc)?
+    proofs_command(alloc)?
         .subcommand(explain_command(alloc)?)?
         .subcommand(help_command(alloc)?)?
         .subcommand(version_command(alloc))
@@ -401,12 +490,26 @@ fn around_advice(text: &str) -> Option<(&str, &str)> {
     Some((found, usage))
 }
 
+/// The command that does what a word asks for elsewhere, if there is one.
+fn kin_of(word: &str) -> &'static str {
+    match word {
+        "verify" | "read" => "\n`mm check FILES..` checks a database\n",
+        "save" => "\n`mm packed --file LABEL FILES..` writes a file with a packed proof\n",
+        "prove" => "\n`mm try LABEL PROOF FILES..` tells whether a text is a proof\n",
+        _ => "",
+    }
+}
+
 /// What is said of words that `clap` refuses: which word isn't understood, and the usage.
-fn refusal(alloc: Global, error: &Error) -> Result<String, AllocError> {
+fn refusal(alloc: Global, error: &Error, words: &[&str]) -> Result<String, AllocError> {
     let text = format!(in alloc; "{error}")?;
+    let kin = match words.get(1) {
+        Some(word) => kin_of(word),
+        None => "",
+    };
     match around_advice(&text) {
-        Some((found, usage)) => format!(in alloc; "{found}{USAGE}{usage}"),
-        None => format!(in alloc; "{text}"),
+        Some((found, usage)) => format!(in alloc; "{found}{USAGE}{usage}{kin}"),
+        None => format!(in alloc; "{text}{kin}"),
     }
 }
 
@@ -416,6 +519,7 @@ fn request_of_error<'a>(
     alloc: Global,
     error: &Error,
     topic: Option<&'a str>,
+    words: &[&str],
 ) -> Result<Request<'a>, Stop<'a>>
     ensures request { IfOk result (IsOfKind (kind_of error.now)
         (option_map (λ name. name.now) topic.entry)) }
@@ -425,7 +529,7 @@ fn request_of_error<'a>(
         ErrorKind::OutOfMemory => Err(Stop::Memory),
         ErrorKind::DisplayHelp => Ok(Request::Help(topic)),
         ErrorKind::DisplayVersion => Ok(Request::Version),
-        _ => Err(Stop::Usage(refusal(alloc, error)?)),
+        _ => Err(Stop::Usage(refusal(alloc, error, words)?)),
     }
 }
 
@@ -558,6 +662,62 @@ fn label_request<'a>(
     })
 }
 
+/// What the matches of the command `users` ask for.
+fn users_request<'a>(alloc: Global, matches: &ArgMatches<'a>) -> Result<Request<'a>, AllocError>
+    ensures { IfOk result (λ request. (words : List Text)
+        → Commands words (codes "users") (rows_of (found_of matches.now))
+        → Asks words request) }
+{
+    let label = asked_word(matches, LABEL).as_bytes();
+    let all = is_given(matches, ALL);
+    let names = values_of(alloc, matches, FILES)?;
+    let command = mm_check::Command::About {
+        label,
+        question: Question::Users { all },
+    };
+    Ok(Request::Run { command, names })
+}
+
+/// What the matches of the command `show` ask for.
+fn show_request<'a>(alloc: Global, matches: &ArgMatches<'a>) -> Result<Request<'a>, AllocError>
+    ensures { IfOk result (λ request. (words : List Text)
+        → Commands words (codes "show") (rows_of (found_of matches.now))
+        → Asks words request) }
+{
+    let label = asked_word(matches, LABEL).as_bytes();
+    let command = if is_given(matches, KNOWN) {
+        mm_check::Command::Lone {
+            label,
+            question: LoneQuestion::Known,
+        }
+    } else {
+        mm_check::Command::About {
+            label,
+            question: Question::Show,
+        }
+    };
+    let names = values_of(alloc, matches, FILES)?;
+    Ok(Request::Run { command, names })
+}
+
+/// What the matches of a command that asks this about a proof's text ask for.
+fn asked_text<'a>(
+    alloc: Global,
+    matches: &ArgMatches<'a>,
+    question: TextQuestion,
+) -> Result<Request<'a>, AllocError>
+    ensures { IfOk result (λ request. (words : List Text)
+        → Commands words (name_of_text question) (rows_of (found_of matches.now))
+        → Asks words request) }
+{
+    Ok(Request::Text(AskedText {
+        question,
+        label: asked_word(matches, LABEL),
+        proof: asked_word(matches, PROOF),
+        names: values_of(alloc, matches, FILES)?,
+    }))
+}
+
 /// What the matches of the command that asks for proofs in a form ask for.
 fn proof_request<'a>(
     alloc: Global,
@@ -585,8 +745,8 @@ fn proof_request<'a>(
     Ok(Request::Run { command, names })
 }
 
-/// What these matches of the words ask for by the commands `normal`, `packed` and `same`; nothing
-/// where they name none of these.
+/// What these matches of the words ask for by the commands `normal`, `packed`, `same` and `try`;
+/// nothing where they name none of these.
 fn form_request<'a>(
     alloc: Global,
     matches: &ArgMatches<'a>,
@@ -605,11 +765,10 @@ fn form_request<'a>(
         return Ok(Some(proof_request(alloc, packed, Form::Packed)?));
     }
     if let Some(same) = matches.subcommand_matches(SAME) {
-        return Ok(Some(Request::Compare(Comparison {
-            label: asked_word(same, LABEL),
-            proof: asked_word(same, PROOF),
-            names: values_of(alloc, same, FILES)?,
-        })));
+        return Ok(Some(asked_text(alloc, same, TextQuestion::Same)?));
+    }
+    if let Some(tried) = matches.subcommand_matches(TRY) {
+        return Ok(Some(asked_text(alloc, tried, TextQuestion::Try)?));
     }
     Ok(None)
 }
@@ -654,11 +813,17 @@ fn request_of_matches<'a>(
     if let Some(faults) = matches.subcommand_matches(FAULTS) {
         return Ok(whole_request(alloc, faults, WholeQuestion::Faults)?);
     }
+    if let Some(why) = matches.subcommand_matches(WHY) {
+        return Ok(whole_request(alloc, why, WholeQuestion::Why)?);
+    }
     if let Some(axioms) = matches.subcommand_matches(AXIOMS) {
         return Ok(label_request(alloc, axioms, Question::Axioms)?);
     }
+    if let Some(users) = matches.subcommand_matches(USERS) {
+        return Ok(users_request(alloc, users)?);
+    }
     if let Some(show) = matches.subcommand_matches(SHOW) {
-        return Ok(label_request(alloc, show, Question::Show)?);
+        return Ok(show_request(alloc, show)?);
     }
     if let Some(request) = form_request(alloc, matches)? {
         return Ok(request);
@@ -686,7 +851,7 @@ fn request_by<'a>(
             drop(matches);
             request
         }
-        Err(error) => request_of_error(alloc, &error, topic),
+        Err(error) => request_of_error(alloc, &error, topic, words),
     }
 }
 

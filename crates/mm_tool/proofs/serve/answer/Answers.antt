@@ -2,7 +2,7 @@
 use Rattle.std.proofs.Common.{Some, inl, inr, refl, ap}
 use Rattle.mm_tool.specs.Answer.{quiet}
 use Rattle.mm_tool.proofs.AnsweredWords.{answers_text, asks_run, explained, helped, stops_answer}
-use Rattle.mm_tool.proofs.AnsweredWords.{stops_command, stops_help, stops_same}
+use Rattle.mm_tool.proofs.AnsweredWords.{stops_command, stops_help, stops_text}
 use Rattle.mm_tool.proofs.AskedWords.{named_by_words, texts_in}
 use Rattle.mm_tool.proofs.serve.answer.Goals as goal
 
@@ -93,19 +93,20 @@ returns-in-Run-clause-stops g c =
     c.in_ok-topic.ensures.request c.in-Run.is c.deref-in-Run.ensures.value)
     c.asked_label.ensures c.labelled.ensures c.in-Err.ensures.stops
 
-pub returns-in-Ok-compare_over-clause-answers : goal.returns-in-Ok-compare_over-clause-answers
-returns-in-Ok-compare_over-clause-answers g c =
-    let asked = rw c.in-Compare.is at c.in_ok-topic.ensures.request in
-    let (text, reply, taken) = c.in-Ok-compare_over.ensures.replies in
-    (text, inr (inr (inr (inr (_, _, _, asked, reply)))), taken)
+pub returns-in-Ok-text_over-clause-answers : goal.returns-in-Ok-text_over-clause-answers
+returns-in-Ok-text_over-clause-answers g c =
+    let asked = rw c.in-Text.is at c.in_ok-topic.ensures.request in
+    let (text, reply, taken) = c.in-Ok-text_over.ensures.replies in
+    (text, inr (inr (inr (inr (_, _, _, _, asked, reply)))), taken)
 
 pub returns-clause-stops : goal.returns-clause-stops
 returns-clause-stops g c =
-    let asked = rw c.in-Compare.is at c.in_ok-topic.ensures.request in
-    stops_same g.O.Write.contents (g.F.Folder.holds c.args.folder.now)
+    let asked = rw c.in-Text.is at c.in_ok-topic.ensures.request in
+    stops_text g.O.Write.contents (g.F.Folder.holds c.args.folder.now)
     (g.F.Folder.may_fail c.args.folder.now) c.args.texts.now _
-    (texts_in c.args.words.now) c.in-Compare.asked.label.now c.in-Compare.asked.proof.now _
-    (Some c.as_bytes-in-Err-compare_over.result) c.in-Err-compare_over.stop
-    c.labelled-in-Err-compare_over.result _ _ asked
-    (ap Some c.as_bytes-in-Err-compare_over.ensures.value)
-    c.labelled-in-Err-compare_over.ensures c.in-Err-compare_over.ensures.stops
+    (texts_in c.args.words.now) c.in-Text.asked.question c.in-Text.asked.label.now
+    c.in-Text.asked.proof.now _
+    (Some c.as_bytes-in-Err-text_over.result) c.in-Err-text_over.stop
+    c.labelled-in-Err-text_over.result _ _ asked
+    (ap Some c.as_bytes-in-Err-text_over.ensures.value)
+    c.labelled-in-Err-text_over.ensures c.in-Err-text_over.ensures.stops

@@ -5,21 +5,48 @@ use Rattle.mm_tool.proofs.words.request_of_matches.Goals as goal
 
 pub returns-in-Some-clause-request : goal.returns-in-Some-clause-request
 returns-in-Some-clause-request c = λ words met. c.in_ok-whole_request.ensures words
-    (commands_met words c.args.matches.now _ _ met (c.in-Some.ensures.found.0 refl) c.in-Some.ensures.rows)
+    (commands_met words c.args.matches.now _ _ met (c.in-Some.ensures.found.0 refl)
+    c.in-Some.ensures.rows)
 
-pub returns-in-Some-subcommand_matches-clause-request : goal.returns-in-Some-subcommand_matches-clause-request
-returns-in-Some-subcommand_matches-clause-request c = λ words met. c.in_ok-whole_request-2.ensures words
-    (commands_met words c.args.matches.now _ _ met (c.in-Some-subcommand_matches.ensures.found.0 refl) c.in-Some-subcommand_matches.ensures.rows)
+pub returns-in-Some-subcommand_matches-clause-request :
+    goal.returns-in-Some-subcommand_matches-clause-request
+returns-in-Some-subcommand_matches-clause-request c = λ words met.
+    c.in_ok-whole_request-2.ensures words
+    (commands_met words c.args.matches.now _ _ met
+    (c.in-Some-subcommand_matches.ensures.found.0 refl) c.in-Some-subcommand_matches.ensures.rows)
 
-pub returns-in-Some-subcommand_matches-2-clause-request : goal.returns-in-Some-subcommand_matches-2-clause-request
-returns-in-Some-subcommand_matches-2-clause-request c = λ words met. c.in_ok-label_request.ensures words _
-    (commands_met words c.args.matches.now _ _ met (c.in-Some-subcommand_matches-2.ensures.found.0 refl) c.in-Some-subcommand_matches-2.ensures.rows)
+pub returns-in-Some-subcommand_matches-2-clause-request :
+    goal.returns-in-Some-subcommand_matches-2-clause-request
+returns-in-Some-subcommand_matches-2-clause-request c = λ words met.
+    c.in_ok-whole_request-3.ensures words
+    (commands_met words c.args.matches.now _ _ met
+    (c.in-Some-subcommand_matches-2.ensures.found.0 refl)
+    c.in-Some-subcommand_matches-2.ensures.rows)
+
+pub returns-in-Some-subcommand_matches-3-clause-request :
+    goal.returns-in-Some-subcommand_matches-3-clause-request
+returns-in-Some-subcommand_matches-3-clause-request c = λ words met.
+    c.in_ok-label_request.ensures words _
+    (commands_met words c.args.matches.now _ _ met
+    (c.in-Some-subcommand_matches-3.ensures.found.0 refl)
+    c.in-Some-subcommand_matches-3.ensures.rows)
     (λ label names asks. asks)
 
-pub returns-in-Some-subcommand_matches-3-clause-request : goal.returns-in-Some-subcommand_matches-3-clause-request
-returns-in-Some-subcommand_matches-3-clause-request c = λ words met. c.in_ok-label_request-2.ensures words _
-    (commands_met words c.args.matches.now _ _ met (c.in-Some-subcommand_matches-3.ensures.found.0 refl) c.in-Some-subcommand_matches-3.ensures.rows)
-    (λ label names asks. asks)
+pub returns-in-Some-subcommand_matches-4-clause-request :
+    goal.returns-in-Some-subcommand_matches-4-clause-request
+returns-in-Some-subcommand_matches-4-clause-request c = λ words met.
+    c.in_ok-users_request.ensures words
+    (commands_met words c.args.matches.now _ _ met
+    (c.in-Some-subcommand_matches-4.ensures.found.0 refl)
+    c.in-Some-subcommand_matches-4.ensures.rows)
+
+pub returns-in-Some-subcommand_matches-5-clause-request :
+    goal.returns-in-Some-subcommand_matches-5-clause-request
+returns-in-Some-subcommand_matches-5-clause-request c = λ words met.
+    c.in_ok-show_request.ensures words
+    (commands_met words c.args.matches.now _ _ met
+    (c.in-Some-subcommand_matches-5.ensures.found.0 refl)
+    c.in-Some-subcommand_matches-5.ensures.rows)
 
 pub returns-clause-fault : goal.returns-clause-fault
 returns-clause-fault c = λ words met.
@@ -37,5 +64,9 @@ returns-clause-fault c = λ words met.
             c.in_default-subcommand_matches-2.is (c.subcommand_matches-3.ensures.found.1 named)),
         other _ rows met (λ named. none_there c.subcommand_matches-4.result
             c.in_default-subcommand_matches-3.is (c.subcommand_matches-4.ensures.found.1 named)),
+        other _ rows met (λ named. none_there c.subcommand_matches-5.result
+            c.in_default-subcommand_matches-4.is (c.subcommand_matches-5.ensures.found.1 named)),
+        other _ rows met (λ named. none_there c.subcommand_matches-6.result
+            c.in_default-subcommand_matches-5.is (c.subcommand_matches-6.ensures.found.1 named)),
       ),
     ))

@@ -3,7 +3,7 @@ use Rattle.std.proofs.Common.{Bor, IsSome, refl, rules, sym, ◌∙◌, codes, i
 use Rattle.clap.specs.Words.{found_of, rows_of}
 use Rattle.clap.specs.declared.parser.matches.ArgMatches.{ArgMatches}
 use Rattle.clap.proofs.WalkLemmas.{first_value-rows}
-use Rattle.mm_tool.proofs.AskedWords.{commands_met, rows_there}
+use Rattle.mm_tool.proofs.AskedWords.{commands_met, none_there, not_commanded, rows_there}
 use Rattle.mm_tool.proofs.words.text_request.Goals as goal
 
 pub returns-in-Some-subcommand_matches-clause-request :
@@ -26,4 +26,15 @@ returns-then-is_some-clause-request c = λ words met.
       found.0,
       commands_met words c.args.matches.now _ found.0 met
           (c.subcommand_matches-3.ensures.found.0 there) found.1,
+    )
+
+pub returns-clause-none : goal.returns-clause-none
+returns-clause-none c = λ words met rows.
+    let other = not_commanded words c.args.matches.now in (
+      other _ rows met (λ named. none_there c.subcommand_matches.result c.in_default.is
+          (c.subcommand_matches.ensures.found.1 named)),
+      other _ rows met (λ named. none_there c.subcommand_matches-2.result
+          c.in_default-subcommand_matches.is (c.subcommand_matches-2.ensures.found.1 named)),
+      other _ rows met (λ named.
+          let there = c.subcommand_matches-3.ensures.found.1 named in search rules),
     )

@@ -1,11 +1,11 @@
--- Once the proof is read, the comparison ends as the command over the files does.
+-- Once the proof is read, the question ends as the command over the files does.
 use Rattle.std.proofs.Common.{◌≤◌, Err, length, ap, arith, ◌∙◌}
-use Rattle.mm_tool.proofs.AnsweredWords.{same_replies, same_stops, same_too_long}
-use Rattle.mm_tool.proofs.serve.compare_over.Goals as goal
+use Rattle.mm_tool.proofs.AnsweredWords.{text_replies, text_stops, text_too_long}
+use Rattle.mm_tool.proofs.serve.text_over.Goals as goal
 
 pub returns-in-Err-TooLong-clause-stops : goal.returns-in-Err-TooLong-clause-stops
 returns-in-Err-TooLong-clause-stops g c =
-    same_too_long g.O.Write.contents (g.F.Folder.holds c.args.folder.now)
+    text_too_long c.args.asked.now.question g.O.Write.contents (g.F.Folder.holds c.args.folder.now)
     (g.F.Folder.may_fail c.args.folder.now) c.args.asked.now.label.now c.args.asked.now.proof.now _
     c.args.max c.reply.result _ _
     c.reply.ensures.stop c.reply.ensures.beginning
@@ -16,10 +16,10 @@ returns-clause-replies g c =
     let (whole, named, held, count, reads) = c.in-Ok.ensures.read in
     let within : length whole.bytes ≤ c.args.max =
     let few = c.in-Ok.ensures.within in omega (arith, count, few) in
-    same_replies g.O.Write.contents (g.F.Folder.holds c.args.folder.now) c.args.max
+    text_replies c.args.asked.now.question g.O.Write.contents (g.F.Folder.holds c.args.folder.now) c.args.max
     c.args.asked.now.label.now c.args.asked.now.proof.now _
-    c.same_command-command.result whole c.run_over.result _ _ (named, held, within)
-    (rw (c.as_bytes.ensures.value, c.deref.ensures.value ∙ reads.1) at c.same_command-command.ensures)
+    c.text_command-command.result whole c.run_over.result _ _ (named, held, within)
+    (rw (c.as_bytes.ensures.value, c.deref.ensures.value ∙ reads.1) at c.text_command-command.ensures)
     (rw c.deref-2.ensures.value at c.run_over.ensures.replies)
 
 pub returns-clause-stops : goal.returns-clause-stops
@@ -27,9 +27,9 @@ returns-clause-stops g c =
     let (whole, named, held, count, reads) = c.in-Ok.ensures.read in
     let within : length whole.bytes ≤ c.args.max =
     let few = c.in-Ok.ensures.within in omega (arith, count, few) in
-    same_stops g.O.Write.contents (g.F.Folder.holds c.args.folder.now)
+    text_stops c.args.asked.now.question g.O.Write.contents (g.F.Folder.holds c.args.folder.now)
     (g.F.Folder.may_fail c.args.folder.now) c.args.max
     c.args.asked.now.label.now c.args.asked.now.proof.now _
-    c.same_command-command.result whole c.run_over.result _ _ (named, held, within)
-    (rw (c.as_bytes.ensures.value, c.deref.ensures.value ∙ reads.1) at c.same_command-command.ensures)
+    c.text_command-command.result whole c.run_over.result _ _ (named, held, within)
+    (rw (c.as_bytes.ensures.value, c.deref.ensures.value ∙ reads.1) at c.text_command-command.ensures)
     (rw c.deref-2.ensures.value at c.run_over.ensures.stops)
