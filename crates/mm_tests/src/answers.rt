@@ -89,7 +89,7 @@ fn called(alloc: Global, command: &Command, files: &[File]) -> Result<Answer, Fa
 fn label_of<'a>(command: &Command<'a>) -> &'a [u8] {
     match command {
         Command::Whole { .. } | Command::File { .. } => b"",
-        Command::About { label, .. } => label,
+        Command::About { label, .. } | Command::Lone { label, .. } => label,
     }
 }
 

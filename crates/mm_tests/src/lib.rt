@@ -29,6 +29,8 @@ mod forms;
 #[cfg(test)]
 mod incomplete;
 #[cfg(test)]
+mod lone;
+#[cfg(test)]
 mod names;
 #[cfg(test)]
 mod one_file;
@@ -54,6 +56,10 @@ mod saving_all;
 mod scopes;
 #[cfg(test)]
 mod tests;
+#[cfg(test)]
+mod users;
+#[cfg(test)]
+mod why;
 
 /// A piece of a file: bytes, or bytes so many times one after the other.
 #[cfg(test)]

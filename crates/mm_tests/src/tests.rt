@@ -6,8 +6,8 @@ ghost use Rattle.mm_check.specs.Reply.{AsksHanded};
 
 use crate::databases::{DEMO, HEAD};
 use crate::{
-    Case, Part, compressed, damaged, faults, files, incomplete, names, one_file, orders, prefixes,
-    profiles, proofs, questions, scopes,
+    Case, Part, compressed, damaged, faults, files, incomplete, lone, names, one_file, orders,
+    prefixes, profiles, proofs, questions, scopes, users, why,
 };
 use mm_check::{Checked, Command, Status, WholeQuestion, check, run};
 use mm_proof::Profile;
@@ -264,6 +264,11 @@ fn all_faults(rt: HostRuntime) -> Result<(), Fail> {
     compare_commands(&rt, rt.alloc(), &faults::FAULTS)
 }
 
+#[test]
+fn explained_faults(rt: HostRuntime) -> Result<(), Fail> {
+    compare_commands(&rt, rt.alloc(), &why::EXPLAINED)
+}
+
 /// Whether 20 statements and one complete proof are counted beside the incomplete proof of `u1`.
 fn is_counted_beside(checked: &Checked) -> bool {
     match checked.incomplete() {
@@ -448,6 +453,41 @@ fn unanswered_steps(rt: HostRuntime) -> Result<(), Fail> {
 #[test]
 fn axioms_of_refused_files(rt: HostRuntime) -> Result<(), Fail> {
     compare_commands(&rt, rt.alloc(), &questions::AXIOMS_REFUSED)
+}
+
+#[test]
+fn tried_texts(rt: HostRuntime) -> Result<(), Fail> {
+    compare_commands(&rt, rt.alloc(), &lone::TRIED)
+}
+
+#[test]
+fn texts_without_tokens(rt: HostRuntime) -> Result<(), Fail> {
+    compare_commands(&rt, rt.alloc(), &lone::NO_TOKENS)
+}
+
+#[test]
+fn theorems_not_found(rt: HostRuntime) -> Result<(), Fail> {
+    compare_commands(&rt, rt.alloc(), &lone::NOT_FOUND)
+}
+
+#[test]
+fn users_of_assertions(rt: HostRuntime) -> Result<(), Fail> {
+    compare_commands(&rt, rt.alloc(), &users::USERS)
+}
+
+#[test]
+fn all_users_of_assertions(rt: HostRuntime) -> Result<(), Fail> {
+    compare_commands(&rt, rt.alloc(), &users::ALL_USERS)
+}
+
+#[test]
+fn unanswered_users(rt: HostRuntime) -> Result<(), Fail> {
+    compare_commands(&rt, rt.alloc(), &users::USERS_UNANSWERED)
+}
+
+#[test]
+fn axioms_of_all_theorems(rt: HostRuntime) -> Result<(), Fail> {
+    compare_commands(&rt, rt.alloc(), &users::ALL_AXIOMS)
 }
 
 /// What is done to the byte at a position.

@@ -32,6 +32,13 @@ t $p a $= s $. u $p a $= q $.";
 const SHARED: &[u8] = b"$c e $. $v x y $. fx $f e x $. fy $f e y $. nil $a e $. cat $a e x y $. \
 th $p e $= ( nil cat ) AABZCB $.";
 
+// The proofs of q, t and u are at fault, and between q and t those of r and s, which stand in the
+// file that is included.
+const OUTER: &[u8] = b"$c a $.\np $a a $.\nq $p a $= no $.\n$[ b.mm $]\n\
+t $p a $= no $. u $p a $= no $.\n";
+
+const INNER: &[u8] = b"\n\n\n\nr $p a $= no $.\ns $p a $= no $.\n";
+
 const REFUSED: &[u8] = b"$c a $.\np $a b $.\n";
 
 const REPLY: &[u8] = b"yes 7 statements 1 proofs\n";
@@ -100,6 +107,45 @@ fn finds_all_faults(rt: HostRuntime) -> Result<(), Fail> {
     let files = file(FAULTY);
     let is_found = has_faults_of_p_and_r(rt.alloc(), &files);
     assert!(rt; is_found);
+    Ok(())
+}
+
+/// Whether the refusals stand in these files and lines.
+fn stand_in(refusals: &[Refusal], places: &[(usize, usize)]) -> bool {
+    if refusals.len() != places.len() {
+        return false;
+    }
+    for (refusal, place) in refusals.iter().zip(places) {
+        if (refusal.file, refusal.line) != *place {
+            return false;
+        }
+    }
+    true
+}
+
+/// Whether all faults of the files stand in these files and lines.
+fn have_faults_in<'a>(alloc: Global, files: &'a [File<'a>], places: &[(usize, usize)]) -> bool {
+    match all_faults(alloc, Seed::known(), Profile::Lenient, files) {
+        Err(AllFaults::Refused(refusals)) => stand_in(&refusals, places),
+        _ => false,
+    }
+}
+
+#[test]
+fn tells_lines_of_all_faults(rt: HostRuntime) -> Result<(), Fail> {
+    let files = [
+        File {
+            name: b"a.mm",
+            bytes: OUTER,
+        },
+        File {
+            name: b"b.mm",
+            bytes: INNER,
+        },
+    ];
+    let places = [(0, 3), (1, 5), (1, 6), (0, 5), (0, 5)];
+    let are_told = have_faults_in(rt.alloc(), &files, &places);
+    assert!(rt; are_told);
     Ok(())
 }
 

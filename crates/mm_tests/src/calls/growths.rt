@@ -240,6 +240,25 @@ fn axioms_text(alloc: Global, checked: &Checked, label: &[u8]) -> Result<Vec<u8>
     Ok(text)
 }
 
+/// How many theorems use an assertion, or rest on it, as a text of so many bytes.
+fn users_text(
+    alloc: Global,
+    checked: &Checked,
+    label: &[u8],
+    all: bool,
+) -> Result<Vec<u8>, AskFault> {
+    let users = if all {
+        checked.all_users(alloc, label)?
+    } else {
+        checked.users(alloc, label)?
+    };
+    let mut text = Vec::new(alloc);
+    for _ in &users {
+        text.push(b'u')?;
+    }
+    Ok(text)
+}
+
 /// What the call of a question answers about a theorem, as a text.
 fn answer_to(
     alloc: Global,
@@ -262,6 +281,7 @@ fn answer_to(
             let is_same = checked.same_text(alloc, label, text)?;
             Ok(Vec::from_slice(alloc, if is_same { b"same" } else { b"no" })?)
         }
+        Question::Users { all } => users_text(alloc, checked, label, *all),
     }
 }
 

@@ -1,7 +1,11 @@
 //! Both stores, and the verdicts on proofs of small databases with either.
 
+mod asked;
 mod forms;
 mod growths;
+mod halts;
+mod lacking;
+mod places;
 mod prefixes;
 mod prover;
 mod tokens;

@@ -1,0 +1,206 @@
+//! The acceptance cases of questions about a theorem alone.
+
+use crate::Case;
+use crate::Part::Text;
+use crate::databases::{FIRST, FIRST_HEAD};
+use mm_check::Command::{self, Lone};
+use mm_check::LoneQuestion::{Known, Try};
+
+/// Texts that are proofs of a theorem, whatever stands as its proof.
+pub(crate) const TRIED: [(Command<'static>, Case); 5] = [
+    (
+        Lone {
+            label: b"th",
+            question: Try(b"tze tze\n  tpl\n"),
+        },
+        Case {
+            name: "a text is a proof of a theorem",
+            files: &[(b"first.mm", &[Text(FIRST)])],
+            reply: b"proof\n",
+            status: 0,
+        },
+    ),
+    (
+        Lone {
+            label: b"th",
+            question: Try(b"tze tze tpl"),
+        },
+        Case {
+            name: "a text is a proof of a theorem with a wrong one",
+            files: &[(
+                b"h.mm",
+                &[
+                    Text(FIRST_HEAD),
+                    Text(b"th $p term ( 0 + 0 ) $= tpl tpl $.\n"),
+                ],
+            )],
+            reply: b"proof\n",
+            status: 0,
+        },
+    ),
+    (
+        Lone {
+            label: b"th",
+            question: Try(b"( tze tpl ) AAB"),
+        },
+        Case {
+            name: "a compressed text is a proof of a theorem with an incomplete one",
+            files: &[(
+                b"h.mm",
+                &[Text(FIRST_HEAD), Text(b"th $p term ( 0 + 0 ) $= ? $.\n")],
+            )],
+            reply: b"proof\n",
+            status: 0,
+        },
+    ),
+    (
+        Lone {
+            label: b"th2",
+            question: Try(b"th"),
+        },
+        Case {
+            name: "a text is a proof after a theorem whose proof is at fault",
+            files: &[(
+                b"h.mm",
+                &[
+                    Text(FIRST_HEAD),
+                    Text(b"th $p term ( 0 + 0 ) $= tze $.\n"),
+                    Text(b"th2 $p term ( 0 + 0 ) $= tze $.\n"),
+                ],
+            )],
+            reply: b"proof\n",
+            status: 0,
+        },
+    ),
+    (
+        Lone {
+            label: b"th",
+            question: Try(b"tze tze tpl"),
+        },
+        Case {
+            name: "what stands after the theorem isn't read",
+            files: &[(
+                b"h.mm",
+                &[Text(FIRST), Text(b"th $p term none $= $. $} no end")],
+            )],
+            reply: b"proof\n",
+            status: 0,
+        },
+    ),
+];
+
+/// Texts that may stand in no proof.
+pub(crate) const NO_TOKENS: [(Command<'static>, Case); 2] = [
+    (
+        Lone {
+            label: b"th",
+            question: Try(b"tze \x01 $."),
+        },
+        Case {
+            name: "a text holds a byte that none may hold",
+            files: &[(b"first.mm", &[Text(FIRST)])],
+            reply: b"text X1 0\n",
+            status: 1,
+        },
+    ),
+    (
+        Lone {
+            label: b"th",
+            question: Try(b"tze ? tpl $."),
+        },
+        Case {
+            name: "a text holds a dollar sign",
+            files: &[(b"first.mm", &[Text(FIRST)])],
+            reply: b"text X9 0\n",
+            status: 1,
+        },
+    ),
+];
+
+/// Labels at which no theorem is found.
+pub(crate) const NOT_FOUND: [(Command<'static>, Case); 6] = [
+    (
+        Lone {
+            label: b"none",
+            question: Known,
+        },
+        Case {
+            name: "a theorem alone that is not there",
+            files: &[(
+                b"h.mm",
+                &[Text(FIRST_HEAD), Text(b"th $p term 0 $= tpl $.\n")],
+            )],
+            reply: b"ask A1 none\n",
+            status: 1,
+        },
+    ),
+    (
+        Lone {
+            label: b"tze",
+            question: Try(b"$"),
+        },
+        Case {
+            name: "an axiom alone",
+            files: &[(b"first.mm", &[Text(FIRST)])],
+            reply: b"ask A2 tze\n",
+            status: 1,
+        },
+    ),
+    (
+        Lone {
+            label: b"none",
+            question: Known,
+        },
+        Case {
+            name: "a fault of the text stands before a label that is not there",
+            files: &[(b"first.mm", &[Text(FIRST), Text(b"${\n")])],
+            reply: b"no first.mm 8 - S7 0\n",
+            status: 1,
+        },
+    ),
+    (
+        Lone {
+            label: b"th2",
+            question: Known,
+        },
+        Case {
+            name: "a statement before the theorem breaks a rule of meaning",
+            files: &[(
+                b"first.mm",
+                &[
+                    Text(FIRST),
+                    Text(b"bad $a term x $.\nth2 $p term 0 $= tze $.\n"),
+                ],
+            )],
+            reply: b"no first.mm 8 bad M7 0\n",
+            status: 1,
+        },
+    ),
+    (
+        Lone {
+            label: b"th2",
+            question: Try(b"tze"),
+        },
+        Case {
+            name: "the theorem breaks a rule of meaning",
+            files: &[(
+                b"first.mm",
+                &[Text(FIRST), Text(b"th2 $p term x $= tze $.\n")],
+            )],
+            reply: b"no first.mm 8 th2 M7 0\n",
+            status: 1,
+        },
+    ),
+    (
+        Lone {
+            label: b"th",
+            question: Try(b"tze tze tpl"),
+        },
+        Case {
+            name: "a theorem alone in files that can't be taken",
+            files: &[(b"first.mm", &[Text(FIRST)]), (b"first.mm", &[Text(FIRST)])],
+            reply: b"load F2\n",
+            status: 4,
+        },
+    ),
+];
