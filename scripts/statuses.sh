@@ -77,6 +77,15 @@ explains() {
     prints wanted.txt explain "$@"
 }
 
+# advises CODE WORDS..: the same, and these words are a refusal, whose fault `mm why` explains.
+advises() {
+    code=$1
+    shift
+    "$mm" explain "$code" >wanted.txt
+    echo "This is the rule; \`mm why FILES..\` explains the fault." >>wanted.txt
+    prints wanted.txt explain "$@"
+}
+
 # unknown CODE NEAREST WORDS..: these words ask for this code, which no rule has, and of those that
 # there are this one is the nearest.
 unknown() {
@@ -209,6 +218,53 @@ ends 0 'yes 3 statements 1 proofs\n' '' faults loose.mm
 ends 1 'no loose.mm 2 p P15 0\n' '' faults --strict loose.mm
 ends 3 'incomplete 1\nq\n' '' faults open.mm
 ends 4 'load F2\n' '' faults first.mm first.mm
+
+# Explanations of all faults, and of what one theorem alone comes to.
+cat >whys.txt <<'END'
+faults.mm:3:15: P14: the proof proves something else than is stated, in the proof of p, at step 2
+  it states
+    b
+  but step 1 gives
+    a
+  they differ at symbol 1: a for b
+faults.mm:5:1: P2: no earlier statement has the label, in the proof of r
+2 faults
+END
+told() {
+    wanted=$1
+    shift
+    status=0
+    "$mm" "$@" >got.out 2>got.err || status=$?
+    if [ "$status" != "$wanted" ] || [ -s got.err ] || ! cmp -s got.out whys.txt; then
+        echo "statuses.sh: mm $*: status $status, wanted $wanted" >&2
+        diff got.out whys.txt >&2 || :
+        failures=$((failures + 1))
+    fi
+}
+told 1 why faults.mm
+ends 0 'yes 3 statements 1 proofs\n' '' why loose.mm
+ends 3 'incomplete 1\nq\n' '' why open.mm
+ends 4 'load F2\n' '' why first.mm first.mm
+printf 'tze tze tpl\n' >th.txt
+ends 0 'proof\n' '' try th th.txt first.mm
+printf 'tze ?\n' >th.txt
+ends 3 'text A3 0\n  step 1 gives\n    term 0\n  th states\n    term ( 0 + 0 )\n' '' \
+    try th th.txt first.mm
+printf 'tze tpl\n' >th.txt
+ends 1 'text P8 2\n  step: tpl\n  entries it takes: 2, entries there are: 1\n  tt states\n    term t\n  tr states\n    term r\n  step 1 gives\n    term 0\n' '' \
+    try th th.txt first.mm
+ends 1 'ask A1 none\n' '' try none th.txt first.mm
+ends 0 'th\n' '' users tze first.mm
+ends 0 'th\n' '' users --all tpl first.mm
+ends 0 '' '' users th first.mm
+ends 1 'ask A2 tt\n' '' users tt first.mm
+ends 1 'ask A1 none\n' '' users --all none first.mm
+ends 1 'ask A2 tze\n' '' try tze th.txt first.mm
+ends 0 '1 tze term 0\n2 tze term 0\n3 tpl term ( 0 + 0 )\n' '' show --known th first.mm
+ends 1 'ask A1 none\n' '' show --known none first.mm
+if ! "$top/docs/make-explanations" --check "$mm"; then
+    failures=$((failures + 1))
+fi
 ends 0 'yes 19 statements 1 proofs\n' '' check demo0.mm
 ends 0 'yes 19 statements 1 proofs\n' '' check demo0c.mm
 ends 0 'yes 6 statements 1 proofs\n' '' check top.mm terms.mm rules.mm symbols.mm
@@ -244,7 +300,7 @@ for words in --help -h help '--help check' '-h nonsense'; do
     prints help.txt $words
 done
 narrow help.txt 100
-commands='check faults axioms show normal packed same explain help version'
+commands='check faults why axioms users show normal packed same try explain help version'
 for command in $commands; do
     constant=$(echo "$command" | tr a-z A-Z)
     literal pages.rt "$constant" >page.txt
@@ -318,6 +374,12 @@ misused packed --file --file th first.mm
 misused axioms --strict th first.mm
 misused check --strict
 misused faults
+misused why
+misused users
+misused users th
+misused try
+misused try th first.mm
+misused show --known th
 misused check --strict --strict first.mm
 misused check -first.mm
 misused help check axioms
@@ -332,20 +394,22 @@ mistaken --quiet 'mm help [COMMAND]' help --quiet
 begins 2 '' 'error: the following required arguments were not provided:' axioms th
 begins 2 '' "error: unexpected argument '--strict' found" axioms --strict th first.mm
 explains P8 p8
-explains P9 no set.mm 655068 x P9 4378
-explains P9 'no set.mm 655068 x P9 4378'
-explains M2 no 'two words.mm' 2 - M2 0
-explains L1 limit f.mm 2 p L1 21
+advises P9 no set.mm 655068 x P9 4378
+advises P9 'no set.mm 655068 x P9 4378'
+advises M2 no 'two words.mm' 2 - M2 0
+advises L1 limit f.mm 2 p L1 21
 explains F2 load F2
 explains A1 ask A1 no
 explains P9 text P9 3
 explains F3 text F3 0
-unknown M222 M2 M222
-unknown m222 M2 m222
+explains A3 incomplete 2
+unknown M222 M12 M222
+unknown m222 M12 m222
 unknown X0 X1 X0
 unknown P99 P9 no set.mm 655068 x P99 4378
-unknown 'P8 P9' P8 P8 P9
-unknown 'yes 7 statements 1 proofs' S1 yes 7 statements 1 proofs
+unknown P16 P15 P16
+unknown 'P8 P9' P9 P8 P9
+unknown 'yes 7 statements 1 proofs' M15 yes 7 statements 1 proofs
 unknown no F1 no
 unknown no F1 no P9
 unknown load L1 load
@@ -527,8 +591,8 @@ typed() {
             break
         fi
         printed=$(sed -n 's/.*# prints: //p' "$command")
-        case $printed in
-        'no '*) wanted=1 ;;
+        case $(cat "$command") in
+        *'# prints: no '* | *'status 1') wanted=1 ;;
         *) wanted=0 ;;
         esac
         status=0
@@ -547,11 +611,11 @@ typed() {
 mkdir top
 ln -s "$mm" top/mm
 cp -r "$top/examples" top/examples
-typed README.md top
-
-# docs/USING.md is typed where the program is on the PATH, and beside databases of these names.
 PATH=$folder/top:$PATH
 export PATH
+typed README.md top
+
+# docs/USING.md is typed beside databases of these names.
 mkdir using
 cp "$top/examples/demo0c.mm" using/set.mm
 cp "$top/examples/demo0.mm" using/old.mm
@@ -578,7 +642,7 @@ shows() {
 grep '^reply=' "$top/docs/USING.md" | sed 's/set\.mm/faults.mm/g' >using/job
 grep '^mm check .* = 3' "$top/docs/USING.md" | sed 's/set\.mm/unfinished.mm/g' >using/pass
 cp "$top/examples/unfinished.mm" using
-shows 'the job' "1 no faults.mm 3 p P14 2 no faults.mm 3 p P14 2 no faults.mm 5 r P2 0" \
+shows 'the job' "1 no faults.mm 3 p P14 2 $(echo $(cd using && "$mm" why faults.mm))" \
     "$(cd using && status=0 && out=$(sh job) || status=$?; echo $status $out)"
 shows 'the job that lets unfinished proofs pass' '0 incomplete 2 u1 u2' \
     "$(cd using && status=0 && out=$(sh pass) || status=$?; echo $status $out)"
@@ -590,16 +654,20 @@ if command -v make >/dev/null 2>&1; then
         sed 's/old.packed //; s/new.packed //')"
     shows 'the packed file' "$("$mm" packed --all demo0c.mm demo0c.mm)" "$(cat using/set.packed)"
 fi
+# fault NUMBER: what stands behind the place in the first line of an explanation of faults.mm.
+fault() {
+    (cd using && "$mm" why faults.mm || :) | sed -n 's/^faults.mm:[0-9]*:[0-9]*: //p' | sed -n "$1p"
+}
 if command -v vim >/dev/null 2>&1; then
     block vim >using/vimrc
     (cd using && vim -es -N -u vimrc faults.mm -c 'silent make!' -c 'redir! > list' \
         -c 'silent clist' -c 'redir END' -c 'qa!') </dev/null >got.out 2>&1 || cat got.out >&2
-    shows vim '1 faults.mm:3: p P14 2 2 faults.mm:5: r P2 0' "$(echo $(cat using/list))"
+    shows vim "1 faults.mm:3 col 15: $(fault 1) 2 faults.mm:5 col 1: $(fault 2)" \
+        "$(echo $(grep '^ *[0-9]' using/list))"
 fi
 if command -v emacs >/dev/null 2>&1; then
-    block elisp >using/mm.el
     cat >using/list.el <<'END'
-(with-current-buffer (compile "mm faults faults.mm")
+(with-current-buffer (compile "mm why faults.mm")
   (while (get-buffer-process (current-buffer)) (accept-process-output nil 0.1))
   (compilation--ensure-parse (point-max))
   (goto-char (point-min))
@@ -608,7 +676,7 @@ if command -v emacs >/dev/null 2>&1; then
     (let ((place (compilation--message->loc (get-text-property (point) 'compilation-message))))
       (princ (format "%s " (compilation--loc->line place))))))
 END
-    shows emacs '3 5' "$(cd using && echo $(emacs -Q --batch -l ./mm.el -l ./list.el 2>../got.err))"
+    shows emacs '3 5' "$(cd using && echo $(emacs -Q --batch -l compile -l ./list.el 2>../got.err))"
 fi
 
 # The commands in the text of the documents, which end in several ways: the program understands

@@ -1,34 +1,40 @@
 //! Numbers in decimal digits.
 
 /// Room for the digits of a number.
-pub struct Buffer([u8; 20]);
+pub struct Buffer([u8; 39]);
 
-/// A number of at most 64 bits.
+/// A number of at most 128 bits.
 pub trait Number {
-    fn number(self) -> u64;
+    fn number(self) -> u128;
 }
 
 impl Number for usize {
-    fn number(self) -> u64 {
-        self as u64
+    fn number(self) -> u128 {
+        self as u128
     }
 }
 
-impl Number for u64 {
-    fn number(self) -> u64 {
+impl Number for u128 {
+    fn number(self) -> u128 {
         self
     }
 }
 
+impl Number for u64 {
+    fn number(self) -> u128 {
+        self.into()
+    }
+}
+
 impl Number for u32 {
-    fn number(self) -> u64 {
+    fn number(self) -> u128 {
         self.into()
     }
 }
 
 impl Buffer {
     pub fn new() -> Buffer {
-        Buffer([b'0'; 20])
+        Buffer([b'0'; 39])
     }
 
     pub fn format(&mut self, number: impl Number) -> &str {
