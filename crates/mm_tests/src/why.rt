@@ -103,7 +103,7 @@ f.mm:14:3: M2: a symbol of a $c was declared before, or stands twice in it
                     Text(b"th $p w p q r $= wp wq wr wa wa $.\n"),
                 ],
             )],
-            reply: b"f.mm:4:1: P12: variables aren't stated to be distinct, in the proof of th, at step 4
+            reply: b"f.mm:4:27: P12: variables aren't stated to be distinct, in the proof of th, at step 4
   step: wa
   it asks $d p q $., where p is
     q
@@ -132,7 +132,7 @@ f.mm:14:3: M2: a symbol of a $c was declared before, or stands twice in it
                     Text(b"th $p w p q p $= wp wq wp wa $.\n"),
                 ],
             )],
-            reply: b"f.mm:4:1: P11: what replaces distinct variables shares a variable, in the proof of th, at step 4
+            reply: b"f.mm:4:27: P11: what replaces distinct variables shares a variable, in the proof of th, at step 4
   step: wa
   it asks $d p r $., where p is
     p
