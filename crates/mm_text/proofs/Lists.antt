@@ -68,14 +68,14 @@ three_parts all prefix a b tail e split = e ∙ ap (λ l. l ++ tail) split
 
 -- ---- elements
 
--- there is an element at each position within
+-- there is an element at each index within
 pub get_within : {A : Type 0} (xs : List A) (i : ℕ) → i < length xs → (x : A)
     × (slice_get xs i ≡ Some x)
 get_within [] i lt = absurd (omega arith)
 get_within (z ∷ xs) zero lt = (z, refl)
 get_within (z ∷ xs) (suc i) lt = get_within xs i (omega arith)
 
--- an element stays at its position when more is appended
+-- an element stays at its index when more is appended
 pub get_kept : {A : Type 0} (xs ys : List A) (i : ℕ) (x : A) → slice_get xs i ≡ Some x
     → slice_get (xs ++ ys) i ≡ Some x
 get_kept [] ys i x there = absurd (cc)
@@ -98,7 +98,7 @@ get_parted (z ∷ xs) ys x = get_parted xs ys x
 pub get_pushed : {A : Type 0} (xs : List A) (y : A) → slice_get (xs ++ y ∷ []) (length xs) ≡ Some y
 get_pushed xs y = get_parted xs [] y
 
--- one element stands at a position
+-- one element stands at an index
 pub one_there : {A : Type 0} (xs : List A) (i : ℕ) (x y : A) → slice_get xs i ≡ Some x
     → slice_get xs i ≡ Some y → x ≡ y
 one_there xs i x y at_x at_y = same_Some x y (sym at_x ∙ at_y)
@@ -124,21 +124,21 @@ get_set_cases (z ∷ xs) (suc i) (suc j) y x there =
       | inr (apart, old) ↦ inr ((λ e. apart (omega arith)), old)
     ]
 
--- the prefix before the element at a position, and the element
+-- the prefix before the element at an index, and the element
 pub take_next : {A : Type 0} (xs : List A) (i : ℕ) (x : A) → slice_get xs i ≡ Some x
     → take (suc i) xs ≡ take i xs ++ x ∷ []
 take_next [] i x there = absurd (cc)
 take_next (z ∷ xs) zero x there = let e : z ≡ x = cc in ap (λ y. y ∷ []) e
 take_next (z ∷ xs) (suc i) x there = ap (λ ys. z ∷ ys) (take_next xs i x there)
 
--- the element at a position, with what stands before it and after it
+-- the element at an index, with what stands before it and after it
 pub split_at : {A : Type 0} (xs : List A) (i : ℕ) (x : A) → slice_get xs i ≡ Some x
     → xs ≡ take i xs ++ x ∷ drop (suc i) xs
 split_at [] i x e = absurd (none-some x e)
 split_at (y ∷ xs) zero x e = ap (λ z. z ∷ xs) (same_Some y x e)
 split_at (y ∷ xs) (suc i) x e = ap (λ l. y ∷ l) (split_at xs i x e)
 
--- an element of what lies past a position, in the whole list
+-- an element of what lies past an index, in the whole list
 pub get_dropped : {A : Type 0} (n : ℕ) (xs : List A) (k : ℕ) (x : A)
     → slice_get (drop n xs) k ≡ Some x → slice_get xs (n + k) ≡ Some x
 get_dropped zero xs k x there = rw zero-add there
@@ -184,12 +184,12 @@ one_parting {A} a b c d e l =
       sym (drop_at a b (length c) n) ∙ ap (drop (length c)) e ∙ drop_at c d (length c) refl,
     )
 
--- a member stands at a position
+-- a member stands at an index
 pub at_from_contains : {A : Type 0} (xs : List A) (x : A) → Contains xs x
     → (i : ℕ) × (slice_get xs i ≡ Some x)
 at_from_contains xs x (i, lt, is) = (i, slice_get_read xs (length xs) i x refl lt (sym is))
 
--- what stands at a position is a member
+-- what stands at an index is a member
 pub contains_from_at : {A : Type 0} (xs : List A) (x : A) → (i : ℕ) × (slice_get xs i ≡ Some x)
     → Contains xs x
 contains_from_at xs x (i, there) =
@@ -248,12 +248,12 @@ module _ {A : Type 0} (P : A → Type 0) where
   pub all_push : (xs : List A) (x : A) → AllByRecursion P xs → P x → AllByRecursion P (xs ++ x ∷ [])
   all_push xs x a p = all_append xs (x ∷ []) a (p, tt)
 
-  -- of each where it is said of the element at each position
+  -- of each where it is said of the element at each index
   pub all_positions : (xs : List A) (d : A)
       → ((k : ℕ) → k < length xs → P (get_or xs k d)) → AllByRecursion P xs
   all_positions xs d h = recursion_from_All P xs (All-from_get_or P xs d h)
 
-  -- of each where it is said of what stands at each position
+  -- of each where it is said of what stands at each index
   pub all_there : (xs : List A)
       → ((k : ℕ) (x : A) → slice_get xs k ≡ Some x → P x) → AllByRecursion P xs
   all_there [] each = tt
@@ -266,7 +266,7 @@ module _ {A : Type 0} (P : A → Type 0) where
   all_filtered test xs all =
       recursion_from_All P (filter test xs) (All-filter test P xs (All-from_recursion P xs all))
 
-  -- of the element at a position
+  -- of the element at an index
   pub all_at : (xs : List A) (i : ℕ) (x : A) → AllByRecursion P xs → slice_get xs i ≡ Some x → P x
   all_at [] i x a e = absurd (none-some x e)
   all_at (y ∷ xs) zero x a e = subst P (same_Some y x e) a.0
@@ -274,7 +274,7 @@ module _ {A : Type 0} (P : A → Type 0) where
 
 -- ---- lists of which some are so
 
--- some passes a test where what a function makes of the element at a position does
+-- some passes a test where what a function makes of the element at an index does
 pub any_found : {A B : Type 0} (f : A → B) (p : B → Bool) (xs : List A) (i : ℕ) (d : A)
     → i < length xs → p (f (get_or xs i d)) ≡ true → list_any p (map f xs) ≡ true
 any_found f p xs i d within so =
@@ -318,7 +318,7 @@ one_split f g a ys e =
     let (b, bs, whole, same, rest) = cons_split f g a [] ys e in
     (b, whole ∙ ap (λ l. b ∷ l) (nil_split f g bs rest), same)
 
--- ---- two lists, position by position
+-- ---- two lists, index by index
 
 -- lists whose elements correspond map to one
 pub zip_mapped : {A B C : Type 0} (f : A → C) (g : B → C) (xs : List A) (ys : List B)
@@ -355,7 +355,7 @@ module _ {A B : Type 0} (R : A → B → Type 0) where
       → AllZip R xs ys → R x y → AllZip R (xs ++ x ∷ []) (ys ++ y ∷ [])
   zip_push xs ys x y r h = zip_append xs ys (x ∷ []) (y ∷ []) r (h, tt)
 
-  -- what stands in the second list at a position has one beside it in the first
+  -- what stands in the second list at an index has one beside it in the first
   pub zip_right : (xs : List A) (ys : List B) (i : ℕ) (y : B) → AllZip R xs ys
       → slice_get ys i ≡ Some y → (x : A) × (slice_get xs i ≡ Some x) × R x y
   zip_right [] [] i y r e = absurd (none-some y e)

@@ -162,14 +162,14 @@ fault_at rule t statements unfinished =
 abbrev pub MeetsX6 : List PlainStatement → List PlainToken → Type 0
 MeetsX6 statements unfinished = (unfinished ≢ []) ⊎ ¬ (AreClosed statements)
 
--- X8: a file ends in a statement. The position is the statement's first token.
+-- X8: a file ends in a statement. The place is that of the statement's first token.
 abbrev pub EndsInX8 : List PlainStatement → List PlainToken → PlainFault → Type 0
 EndsInX8 statements unfinished fault =
     (first : PlainToken) × (others : List PlainToken) × (unfinished ≡ first ∷ others)
     × (fault ≡ fault_at X8 first statements unfinished)
 
--- S7: the top file ends with a block open. The position is the `${` of the innermost one, and the
--- statement is that `${`.
+-- S7: the top file ends with a block open. The place is that of the `${` of the innermost one, and
+-- the statement is that `${`.
 abbrev pub EndsInS7 : List PlainStatement → List PlainToken → ℕ → PlainFault → Type 0
 EndsInS7 statements unfinished file fault =
     IsNothing unfinished × (file ≡ 0)

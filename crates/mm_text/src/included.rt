@@ -1,4 +1,4 @@
-//! Which of the handed files nothing includes.
+//! Which of the handed files no inclusion names, so that they are left out.
 
 ghost use Rattle.std.specs.Prelude.{◌≡◌, ◌≤◌, length, map, [], IfOk};
 ghost use Rattle.mm_text.specs.declared.fault.LoadRule.{LoadRule};
@@ -14,7 +14,7 @@ use crate::next::Next;
 use crate::seed::Seed;
 use std::alloc::{AllocError, Global};
 
-/// Takes the words that come next, as many as are told at once, and notes their files as met.
+/// Consumes the next run of plain words and marks their files as seen.
 fn meet_words(cursor: &mut Cursor, met: &mut [bool])
     requires { AreOfFiles (length met.old) cursor.old }
     ensures same { met_with met.new cursor.new ≡ met_with met.old cursor.old }

@@ -1,4 +1,5 @@
-//! The files as they stand in one another: each is put in where it is first named.
+//! The files as they stand in one another: each handed file is put in where `$[ .. $]` names it
+//! first.
 
 ghost use Rattle.std.specs.Prelude.{◌≡◌, ◌<◌, ◌≤◌, length, map, codes, slice_index_or, None, Some};
 ghost use Rattle.std.specs.Prelude.{IfOk, true, false};

@@ -180,11 +180,11 @@ module _ (h k : ℕ → ℕ → ℕ) where
 
 -- ---- files that show the same
 
--- files with the same names, position by position
+-- files with the same names, index by index
 abbrev pub SameNames : List PlainFile → List PlainFile → Type 0
 SameNames files others = AllZip (λ f g. f.name ≡ g.name) files others
 
--- a name stands at one position in both lists
+-- a name stands at one index in both lists
 first_position : (text : List ℕ) (files others : List PlainFile) → SameNames files others
     → prefix_len (λ f. not (spells text f.name)) files
     ≡ prefix_len (λ f. not (spells text f.name)) others

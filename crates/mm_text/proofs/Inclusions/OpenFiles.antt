@@ -42,9 +42,9 @@ use Rattle.mm_text.proofs.Inclusions.FilePieces.{waiting-push}
 use Rattle.mm_text.specs.declared.class.Class.TheVariants as class
 use Rattle.mm_text.specs.Items as items
 
--- ==== the names of files: different up to a position, two of them equal, and where one stands
+-- ==== the names of files: different up to an index, two of them equal, and where one stands
 
--- the names before a position are different
+-- the names before an index are different
 abbrev pub AreApart : List (List ℕ) → ℕ → Type 0
 AreApart names n = (i j : ℕ) → i < j → j < n → get_or names i [] ≢ get_or names j []
 
@@ -67,7 +67,7 @@ no_twins files n all apart twins =
     let within : twins.j < n = omega (arith, slice_get_within (map plain_file files) twins.j twins.other twins.at_j, length-map files plain_file) in
     apart twins.i twins.j twins.apart within (name_at files twins.i twins.one twins.at_i ∙ twins.same ∙ sym (name_at files twins.j twins.other twins.at_j))
 
--- the name at a position is among those before it, or isn't
+-- the name at an index is among those before it, or isn't
 apart_more : (names : List (List ℕ)) (n : ℕ) → n < length names → AreApart names n → list_any (spells (get_or names n [])) (take n names) ≡ false → AreApart names (n + 1)
 apart_more names n within apart none i j less more same =
     ⊎_elim (λ (below : j < n). apart i j less below same)
@@ -93,7 +93,7 @@ position_or_len-map : {K : Type 0} (g : K → List ℕ) (p : List ℕ → Bool) 
 position_or_len-map g p [] = refl
 position_or_len-map g p (k ∷ ks) = ap (λ n. cond (not (p (g k))) (1 + n) 0) (position_or_len-map g p ks)
 
--- the position of a key is that of its name
+-- the index of a key is that of its name
 pub position-names : {K : Type 0} (g : K → List ℕ) (p : List ℕ → Bool) (ks : List K) → position (λ k. p (g k)) ks ≡ position p (map g ks)
 position-names g p ks =
     ap (λ n. cond (nat_lt n (length ks)) (Some n) None) (position_or_len-map g p ks)

@@ -17,7 +17,7 @@ use Rattle.mm_text.proofs.Lists.{all_weaker}
 abbrev IsRun : Bool → List ℕ → ℕ → ℕ → Type 0
 IsRun inside bytes start stop = IsToken bytes start stop × (start ≡ 0 → inside ≡ false)
 
--- one more byte in prefix
+-- one more byte in front
 shifted : (s inside : Bool) (b : ℕ) (bytes : List ℕ) (start stop : ℕ) → is_space b ≡ not s
     → IsRun s bytes start stop → IsRun inside (b ∷ bytes) (suc start) (suc stop)
 shifted s inside b bytes start stop is (h, prefix) = (

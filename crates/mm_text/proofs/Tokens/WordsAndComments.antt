@@ -24,7 +24,7 @@ use Rattle.mm_text.proofs.Tokens.ManyBytes.{all_from_positions}
 -- ==== how the tokens of a file come from its bytes: white space is skipped, and a run of other
 -- bytes is one token
 
--- a space in prefix is skipped
+-- a space in front is skipped
 pub tokens_from-space : (file at b : ℕ) (bytes : List ℕ) → is_space b ≡ true → tokens_from file at (b ∷ bytes) ≡ tokens_from file (at + 1) bytes
 unfolding tokens_from
 tokens_from-space file at b bytes space = simp space

@@ -7,7 +7,7 @@ use Rattle.mm_text.specs.declared.fault.TextFault.TheVariants.{Load, Fault, Memo
 use Rattle.mm_text.specs.Files.{PlainFile, HasTwins}
 use Rattle.mm_text.specs.Items.{spells}
 
--- the number that a name stands for: its position among the names
+-- the number that a name stands for: its index among the names
 abbrev pub number_among : List (List ℕ) → List ℕ → Option ℕ
 number_among names name = position (spells name) names
 
