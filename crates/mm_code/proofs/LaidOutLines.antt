@@ -12,6 +12,8 @@ use Rattle.std.proofs.lemmas.List.Sums.{sum_by-append, sum_by-cons}
 use Rattle.mm_code.specs.Layout.{indent, token_line, width, IsLine, IsFull, LaidOut, AreLetterLines}
 use Rattle.mm_code.specs.Layout.{LettersLaidOut, in_parentheses, CompressedLaidOut, IsGreedy}
 use Rattle.mm_code.specs.Layout.{size_of, lines_bound, letters_bound}
+use Rattle.mm_code.proofs.GreedyLines.{prefixes, same, longer, shorter, no_items}
+use Rattle.mm_code.proofs.GreedyLines.{one_greedy_cut}
 use Rattle.mm_code.specs.Mirror.Lines.{rest_of, room_after, AppendsLetters}
 
 -- ==== one step of `rest_of`, and the lines that it makes
@@ -180,29 +182,6 @@ some_compressed_layout labels letters =
 
 -- ==== tokens have one layout, and letters have one
 
--- Of two prefixes of one list, they are the same, or one goes on where the other ends.
-data Prefixes {A : Type 0} (a c b d : List A) : Type 0 where
-  same : a ≡ b → c ≡ d → Prefixes a c b d
-  longer : (x : A) (more : List A) → b ≡ a ++ x ∷ more → c ≡ (x ∷ more) ++ d → Prefixes a c b d
-  shorter : (x : A) (more : List A) → a ≡ b ++ x ∷ more → d ≡ (x ∷ more) ++ c → Prefixes a c b d
-
-prefixes : {A : Type 0} (a c b d : List A) → a ++ c ≡ b ++ d → Prefixes a c b d
-prefixes [] c [] d e = same refl e
-prefixes [] c (y ∷ b) d e = longer y b refl e
-prefixes (x ∷ a) c [] d e = shorter x a refl (sym e)
-prefixes (x ∷ a) c (y ∷ b) d e =
-    let head : x ≡ y = cc in
-    elim (prefixes a c b d (cc)) [
-      | same first rest ↦ same (cc) rest
-      | longer z more whole rest ↦ longer z more (cc) rest
-      | shorter z more whole rest ↦ shorter z more (cc) rest
-    ]
-
-no_items : {A : Type 0} (line : List A) (lines : List (List A)) → 0 < length line
-    → [] ≡ flat_map (λ l. l) (line ∷ lines) → ⊥
-no_items line lines some e =
-    omega (arith, length-append line (flat_map (λ l. l) lines), ap length e)
-
 -- ---- lines of tokens
 
 -- a line grows with its tokens
@@ -212,30 +191,12 @@ join-grows (x ∷ y ∷ a) b =
     omega (arith, join-grows (y ∷ a) b, length-append x (32 ∷ join_with_byte 32 (y ∷ a)), length-append x (32 ∷ join_with_byte 32 ((y ∷ a) ++ b)))
 join-grows a b = omega arith
 
-narrow : (line : List (List ℕ)) → IsLine line → 1 < length line → width line ≤ 79
-narrow line (inl one) lt = absurd (omega (arith, one))
-narrow line (inr more) lt = more.1
-
--- a line that is full before a token does not go on with it
-not_longer : (line following other rest more : List (List ℕ)) (token : List ℕ) → IsLine line → IsFull line following → IsLine other → other ≡ line ++ token ∷ more → following ≡ (token ∷ more) ++ rest → ⊥
-not_longer line following other rest more token is full is_other whole next =
-    let wide : 79 < width (line ++ token ∷ []) = rw next at full in
-    let some = line_length line is in
-    let count = ap length whole ∙ length-append line (token ∷ more) in
-    let slim : width ((line ++ token ∷ []) ++ more) ≤ 79 =
-    rw (append_assoc line (token ∷ []) more, ← whole) (narrow other is_other (omega arith)) in
-    omega (arith, join-grows (line ++ token ∷ []) more)
+width-grows : (a b : List (List ℕ)) → width a ≤ width (a ++ b)
+width-grows a b = omega (arith, join-grows a b)
 
 one_lines : (a b : List (List (List ℕ))) → AllByRecursion IsLine a → AllByRecursion IsLine b → IsGreedy a → IsGreedy b → flat_map (λ l. l) a ≡ flat_map (λ l. l) b → a ≡ b
-one_lines [] [] p q g h e = refl
-one_lines [] (y ∷ b) p q g h e = absurd (no_items y b (line_length y q.0) e)
-one_lines (x ∷ a) [] p q g h e = absurd (no_items x a (line_length x p.0) (sym e))
-one_lines (x ∷ a) (y ∷ b) p q g h e =
-    elim (prefixes x (flat_map (λ l. l) a) y (flat_map (λ l. l) b) e) [
-      | same first others ↦ let rest : a ≡ b = one_lines a b p.1 q.1 g.1 h.1 others in cc
-      | longer token more whole next ↦ absurd (not_longer x (flat_map (λ l. l) a) y (flat_map (λ l. l) b) more token p.0 g.0 q.0 whole next)
-      | shorter token more whole next ↦ absurd (not_longer y (flat_map (λ l. l) b) x (flat_map (λ l. l) a) more token q.0 h.0 p.0 whole next)
-    ]
+one_lines a b p q g h e =
+    one_greedy_cut width width-grows a b p q g h e
 
 pub one_text_of_tokens : (tokens : List (List ℕ)) (a b : List ℕ) → LaidOut tokens a → LaidOut tokens b → a ≡ b
 one_text_of_tokens tokens a b p q =
@@ -279,10 +240,10 @@ one_text_of_compressed labels letters a b p q =
 
 -- ==== how many bytes the lines take at most
 
-size-append : (a b : List (List ℕ)) → size_of (a ++ b) ≡ size_of a + size_of b
+pub size-append : (a b : List (List ℕ)) → size_of (a ++ b) ≡ size_of a + size_of b
 size-append a b = sum_by-append (λ (token : List ℕ). length token + 1) a b
 
-size-cons : (token : List ℕ) (tokens : List (List ℕ)) → size_of (token ∷ tokens) ≡ length token + 1 + size_of tokens
+pub size-cons : (token : List ℕ) (tokens : List (List ℕ)) → size_of (token ∷ tokens) ≡ length token + 1 + size_of tokens
 size-cons token tokens = sum_by-cons (λ (t : List ℕ). length t + 1) token tokens
 
 join-size : (first : List ℕ) (line : List (List ℕ)) → length (join_with_byte 32 (first ∷ line)) + 1 ≡ size_of (first ∷ line)

@@ -114,7 +114,7 @@ tokens_in-on byte next bytes dark dark_next =
 -- ==== what is laid out is found again: the words of the text are its tokens
 
 -- a token before white space is found
-tokens_in-token : (token : List ℕ) (space : ℕ) (bytes : List ℕ) → IsOneToken token → is_space space ≡ true → tokens_in (token ++ space ∷ bytes) ≡ token ∷ tokens_in bytes
+pub tokens_in-token : (token : List ℕ) (space : ℕ) (bytes : List ℕ) → IsOneToken token → is_space space ≡ true → tokens_in (token ++ space ∷ bytes) ≡ token ∷ tokens_in bytes
 tokens_in-token [] space bytes is white = absurd (omega (arith, is.0))
 tokens_in-token (byte ∷ token) space bytes is white =
     sym (texts_in 0 0 (byte ∷ token ++ space ∷ bytes))

@@ -9,7 +9,7 @@ use thiserror::Error;
 /// What one piece of the letters says (the Metamath book, appendix B).
 #[derive(Clone, Copy, Debug, PartialEq, Eq)]
 pub enum Code {
-    /// A number, from 1 on: the index of a mandatory hypothesis, a listed label or a tagged step.
+    /// A number, from 1 on: that of a mandatory hypothesis, a listed label or a tagged step.
     /// The largest `u32`, 4,294,967,295, stands for itself and for each number above it.
     Number(u32),
     /// `Z`: the step before it is tagged.

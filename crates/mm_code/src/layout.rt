@@ -58,7 +58,7 @@ fn add_tokens(text: &mut Vec<u8>, room: usize, tokens: &[&[u8]]) -> Result<usize
 }
 
 /// The bytes of tokens, each with what stands behind it: a space, or its line's end.
-fn size_of_tokens(tokens: &[&[u8]]) -> usize
+pub(crate) fn size_of_tokens(tokens: &[&[u8]]) -> usize
     ensures { result ≡ min (size_of (texts tokens.now)) usize.MAX }
 {
     let mut size = 0usize;
