@@ -8,3 +8,4 @@ pub mod ObeyedRules
 pub mod RepeatedSymbols
 pub mod SymbolLookups
 pub mod RuleOrder
+pub mod BreakingSymbols

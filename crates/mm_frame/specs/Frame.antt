@@ -40,3 +40,14 @@ IsDistinct before x y =
 abbrev pub IsMandatoryPair : List Sentence → Sentence → List ℕ → List ℕ → Type 0
 IsMandatoryPair before s x y =
     IsDistinct before x y × IsMandatory before s x × IsMandatory before s y
+
+-- a `$d` that says more than mandatory pairs: it is active, and one of its members isn't a
+-- mandatory variable. Of a `$p`, what it says holds in the proof (section 4.2.7).
+abbrev pub IsFurtherAt : List Sentence → Sentence → ℕ → Sentence → Type 0
+IsFurtherAt before s index d =
+    IsActive before index × (d.kind ≡ Distinct)
+    × ((x : List ℕ) × Contains d.symbols x × ¬ (IsMandatory before s x))
+
+-- those that do, in database order
+abbrev pub AreFurther : List Sentence → Sentence → List Sentence → Type 0
+AreFurther before s further = AreThose (IsFurtherAt before s) 0 before further

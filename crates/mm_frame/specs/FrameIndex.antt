@@ -6,7 +6,7 @@ use Rattle.mm_text.specs.declared.statement.Kind.TheVariants.{Essential}
 use Rattle.mm_frame.specs.declared.number.Sym.{Sym}
 use Rattle.mm_frame.specs.declared.hypothesis.Hypothesis.{Hypothesis}
 use Rattle.mm_frame.specs.Sentence.{Sentence, Types}
-use Rattle.mm_frame.specs.Frame.{AreMandatory, IsMandatoryPair}
+use Rattle.mm_frame.specs.Frame.{AreMandatory, IsMandatoryPair, AreFurther}
 use Rattle.mm_frame.specs.Numbers.{labelled_sentences, IsNumberOf, AreNumbers}
 
 -- the statements of a book, and the index of the assertion
@@ -65,6 +65,14 @@ pub record ArePairs (frame : FrameIndex) (pairs : List (ℕ × ℕ)) : Type 0 wh
   pub once :
       (i j : ℕ) (p q : ℕ × ℕ) → slice_get pairs i ≡ Some p → slice_get pairs j ≡ Some q
       → IsSamePair p q → i ≡ j
+
+-- these are the indices of the `$d` that say more than mandatory pairs, in database order
+pub record AreFurtherIndices (frame : FrameIndex) (indices : List ℕ) : Type 0 where
+  pub assertion : Sentence
+  pub there : slice_get frame.statements frame.index ≡ Some assertion
+  pub further : List Sentence
+  pub are_further : AreFurther (before_it frame) assertion further
+  pub indexed : map (slice_get frame.statements) indices ≡ map Some further
 
 -- these are the numbers of the assertion's symbols
 pub record AreItsSymbols (frame : FrameIndex) (numbers : List ℕ) : Type 0 where

@@ -3,6 +3,7 @@ pub mod Sentence
 pub mod Active
 pub mod Pieces
 pub mod Rules
+pub mod Breaking
 pub mod RuleCodes
 pub mod Frame
 pub mod Form

@@ -4,6 +4,7 @@
 pub mod Asked
 pub mod Declaring
 pub mod Forgotten
+pub mod Further
 pub mod Gathered
 pub mod Grows
 pub mod Latest

@@ -54,7 +54,7 @@ Breaks M14 before s = IsStated s.kind × ItsFirst s (IsVariable before)
 Breaks M15 before s =
     IsStated s.kind × SomeSymbol s (λ x. IsVariable before x × ¬ (IsTyped before x))
 
--- the index of a rule in the order in which the rules are judged
+-- the rank of a rule in the order in which the rules are judged
 abbrev pub rank : MeaningRule → ℕ
 rank M1 = 1
 rank M2 = 2

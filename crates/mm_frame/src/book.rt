@@ -2,7 +2,7 @@
 
 ghost use Rattle.std.specs.Prelude.{◌≡◌, ◌↔◌, ℕ, ◌+◌, ◌-◌, ◌<◌, ◌≤◌, List, [], ◌∷◌, ◌++◌, IsTrue};
 ghost use Rattle.std.specs.Prelude.{IfOk, IfErr, OnErr, Err, Some, length, map, take, slice_get};
-ghost use Rattle.std.specs.Prelude.{sum_by};
+ghost use Rattle.std.specs.Prelude.{sum_by, vec_len};
 ghost use Rattle.mm_text.specs.declared.statement.Kind.TheVariants.{Closing};
 ghost use Rattle.mm_text.specs.Statement.{plain_statement, HasForm, bytes_in};
 ghost use Rattle.mm_text.specs.Files.{most_bytes};
@@ -11,31 +11,36 @@ ghost use Rattle.mm_frame.specs.declared.answer.RuleFault.TheVariants.{Rule, Mem
 ghost use Rattle.mm_frame.specs.Sentence.{Sentence, sentence_in, IsLabelled, IsAssertion};
 ghost use Rattle.mm_frame.specs.Active.{IsActive, IsVariable, open_marks, close_marks};
 ghost use Rattle.mm_frame.specs.Rules.{IsMeant, FirstBroken};
+ghost use Rattle.mm_frame.specs.Breaking.{BreaksAt};
 ghost use Rattle.mm_frame.specs.Form.{IsSound};
 ghost use Rattle.mm_frame.specs.Frame.{IsDistinct};
 ghost use Rattle.mm_frame.specs.Numbers.{symbols_of, labelled_sentences, IsNumberOf, AreNumbers};
 ghost use Rattle.mm_frame.specs.Numbers.{IsNumbered, IsLabelNumber, IsAssertionNumber};
 ghost use Rattle.mm_frame.specs.Found.{Finds};
 ghost use Rattle.mm_frame.specs.Taken.{TakenAs, kind_behind};
-ghost use Rattle.mm_frame.specs.FrameIndex.{AreHypotheses, HaveTypings, ArePairs};
+ghost use Rattle.mm_frame.specs.FrameIndex.{AreFurtherIndices, AreHypotheses, HaveTypings};
+ghost use Rattle.mm_frame.specs.FrameIndex.{ArePairs};
 ghost use Rattle.mm_frame.specs.Pieces.{HaveMandatoryPatterns, HaveMandatoryIndices};
 ghost use Rattle.mm_frame.specs.Mirror.Patterned.{IsSchemeOf};
 
 use crate::answer::{Found, RuleFault, Taken};
+use crate::breaking::breaking_index;
 use crate::broken::first_broken;
 use crate::distinct::DistinctPair;
 use crate::framing::FrameLists;
+use crate::further::find_further;
 use crate::guesses::Guesses;
 use crate::hypothesis::Hypothesis;
 use crate::number::{LabelId, LabelKind, Sym};
 use crate::reads::{
-    find_label, find_label_guessed, is_label, is_label_active, label_hypotheses, label_kind,
-    label_pairs, label_scheme, label_symbols, label_text,
+    find_label, find_label_guessed, is_label, is_label_active, label_hypotheses, label_index,
+    label_kind, label_pairs, label_scheme, label_symbols, label_text,
 };
+use crate::rule::MeaningRule;
 use crate::scheme::Scheme;
 use crate::tables::Tables;
 use mm_text::{Seed, Statement, Token};
-use std::alloc::Global;
+use std::alloc::{AllocError, Global};
 use std::marker::Model;
 
 /// The statements of a database as far as they were taken, and what they say of each symbol, label
@@ -129,6 +134,21 @@ impl<'a> Book<'a> {
             Ok(taken) => Ok(taken),
             Err(refused) => Err(RuleFault::from(refused)),
         }
+    }
+
+    /// The index of the first symbol that breaks the rule, of a statement that can't be taken since
+    /// it breaks the rule first, or `None` where no symbol does: the rule is of a `$c` in a block,
+    /// or of a label.
+    pub fn breaking_symbol(
+        &self,
+        statement: &Statement,
+        rule: MeaningRule,
+    ) -> Result<Option<usize>, AllocError>
+        requires broken { FirstBroken rule self.now.statements (sentence_in statement.now) }
+        requires few { vec_len statement.now.symbols < 2147483648 }
+        ensures { IfOk result (BreaksAt rule self.now.statements (sentence_in statement.now)) }
+    {
+        breaking_index(&self.tables, statement, rule)
     }
 
     /// How many blocks are open.
@@ -235,6 +255,18 @@ impl<'a> Book<'a> {
         }
     }
 
+    /// The symbols of the statement at an index. Of an index at which none stands, nothing is told.
+    pub fn symbols_at(&self, index: usize) -> &[Sym]
+        ensures { (s : Sentence) → slice_get self.now.statements index ≡ Some s
+            → AreNumbers self.now.statements (map (λ n. n.0) result.now) s.symbols }
+    {
+        if index < self.tables.log.len() {
+            self.tables.symbols_at(index)
+        } else {
+            &[]
+        }
+    }
+
     /// The kind of a labelled statement.
     #[tactic(auto, using(crate::proofs::Names::LabelNumbers::numbered_from_get))]
     pub fn kind(&self, id: LabelId) -> LabelKind
@@ -292,6 +324,23 @@ impl<'a> Book<'a> {
             (record { statements = self.now.statements; index = index }) result.now }
     {
         label_pairs(&self.tables, id)
+    }
+
+    // The indices of the `$d` that say more than the mandatory pairs of an assertion.
+    pub(crate) fn further(&self, alloc: Global, id: LabelId) -> Result<Vec<usize>, AllocError>
+        requires { IsAssertionNumber self.now.statements id.0 }
+        ensures { IfOk result (λ indices. (index : ℕ) (s : Sentence)
+            → IsNumbered self.now.statements id.0 index s → IsAssertion s.kind
+            → AreFurtherIndices (record { statements = self.now.statements; index = index })
+            indices.items) }
+    {
+        let hypotheses = self.hypotheses(id);
+        find_further(
+            &self.tables,
+            alloc,
+            hypotheses,
+            label_index(&self.tables, id),
+        )
     }
 
     // What a step by an assertion asks of it.

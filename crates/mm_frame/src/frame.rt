@@ -1,6 +1,7 @@
 //! Frames of assertions.
 
-ghost use Rattle.std.specs.Prelude.{◌≡◌, ◌↔◌, ◌<◌, ℕ, List, Some, IsTrue, length, map, slice_get};
+ghost use Rattle.std.specs.Prelude.{◌≡◌, ◌↔◌, ◌<◌, ℕ, List, Some, IfOk, IsTrue, length, map};
+ghost use Rattle.std.specs.Prelude.{slice_get};
 ghost use Rattle.mm_text.specs.Files.{most_bytes};
 ghost use Rattle.mm_frame.specs.Sentence.{Sentence, IsAssertion};
 ghost use Rattle.mm_frame.specs.Active.{IsActive};
@@ -8,7 +9,7 @@ ghost use Rattle.mm_frame.specs.Frame.{IsDistinct};
 ghost use Rattle.mm_frame.specs.Form.{IsSound};
 ghost use Rattle.mm_frame.specs.Numbers.{IsNumbered, IsNumberOf, IsAssertionNumber};
 ghost use Rattle.mm_frame.specs.FrameIndex.{AreHypotheses, HaveTypings, ArePairs};
-ghost use Rattle.mm_frame.specs.FrameIndex.{AreItsSymbols, before_it};
+ghost use Rattle.mm_frame.specs.FrameIndex.{AreFurtherIndices, AreItsSymbols, before_it};
 ghost use Rattle.mm_frame.specs.Pieces.{variables_of, AreItsPieces, HavePatterns};
 ghost use Rattle.mm_frame.specs.Pieces.{HaveIndices, HaveMandatoryPatterns, HaveMandatoryIndices};
 
@@ -18,6 +19,7 @@ use crate::hypothesis::Hypothesis;
 use crate::number::{LabelId, Sym};
 use crate::reads::label_index;
 use crate::scheme::Scheme;
+use std::alloc::{AllocError, Global};
 use std::marker::Model;
 
 /// What an assertion of a book takes from the statements before it (the Metamath book, section
@@ -78,6 +80,14 @@ impl<'b, 'a> Frame<'b, 'a> {
         ensures indices { HaveMandatoryIndices self.now result.now }
     {
         self.book.pairs(self.id)
+    }
+
+    /// The indices, in its book, of the `$d` that say more than the mandatory pairs, in database
+    /// order: they are active at the assertion, and one of their members isn't mandatory.
+    pub fn further(&self, alloc: Global) -> Result<Vec<usize>, AllocError>
+        ensures { IfOk result (λ indices. AreFurtherIndices self.now indices.items) }
+    {
+        self.book.further(alloc, self.id)
     }
 
     /// The symbols of the assertion.

@@ -3,11 +3,13 @@
 
 mod answer;
 mod book;
+mod breaking;
 mod broken;
 mod distinct;
 mod distinct_at;
 mod frame;
 mod framing;
+mod further;
 mod guesses;
 mod hypothesis;
 mod laws;

@@ -14,7 +14,7 @@ const FEWEST_WITH_ENDS: usize = 2;
 // A name of more bytes has some that are none of its ends.
 const MOST_IN_ENDS: usize = 16;
 
-// For the index of a name's guess its back is turned by so many bits before it meets its prefix, so
+// For the index of a name's guess its back is turned by so many bits before it meets its front, so
 // that the two ends of a short name don't cancel each other.
 const BACK_TURN: u32 = 29;
 

@@ -12,9 +12,9 @@ use crate::tables::Tables;
 use mm_text::{Statement, Token};
 use std::alloc::AllocError;
 
-// The number of a symbol. One that isn't declared has the next free number, which no symbol has.
+/// The number of a symbol. One that isn't declared has the next free number, which no symbol has.
 #[tactic(auto, using(crate::proofs::Rules::SymbolLookups::sought_steps))]
-fn number_of(tables: &Tables, symbol: &[u8]) -> Sym
+pub(crate) fn number_of(tables: &Tables, symbol: &[u8]) -> Sym
     requires { AreTables tables.now }
     ensures { IsSought (statements_of tables.now) symbol.now result.0 }
 {

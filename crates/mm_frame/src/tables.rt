@@ -37,7 +37,7 @@ pub(crate) struct SymbolInfo {
 }
 
 /// A labelled statement. What the steps of proofs ask of it stands together, as they name labels in
-/// any order: so one index of memory is read, and not that of the entry too.
+/// any order: so one place of memory is read, and not that of the entry too.
 #[derive(Clone, Copy)]
 pub(crate) struct LabelInfo {
     pub(crate) index: u32,

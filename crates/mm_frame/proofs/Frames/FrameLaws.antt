@@ -10,7 +10,7 @@ use Rattle.mm_text.proofs.Lists.{at_from_contains, contains_from_at, get_kept, g
 use Rattle.mm_text.proofs.Lists.{pushed_cases, get_before, zip_mapped, mapped_zip}
 use Rattle.mm_frame.proofs.Names.NameNumbers.{At, symbols_grow, symbols_unique}
 use Rattle.mm_frame.proofs.Names.NameNumbers.{number_from_declared}
-use Rattle.std.proofs.lemmas.Option.{slice_get_within}
+use Rattle.std.proofs.lemmas.Option.{slice_get_within, same_Some, none-some}
 use Rattle.std.proofs.lemmas.List.{take-append-le}
 use Rattle.mm_text.specs.declared.statement.Kind.TheVariants.{Distinct}
 use Rattle.mm_frame.specs.declared.distinct.DistinctPair.{DistinctPair}
@@ -46,6 +46,39 @@ those_unique P n (x ∷ xs) ys zs one other =
         | inr (not_again, left) ↦ those_unique P (n + 1) xs ys zs rest left
       ]
     ]
+
+-- P holds of each of them
+pub those_hold : {X : Type 0} (P : ℕ → X → Type 0) (index : ℕ) (xs those : List X) (i : ℕ) (x : X) → AreThose P index xs those → slice_get those i ≡ Some x
+    → (j : ℕ) × (slice_get xs j ≡ Some x) × P (index + j) x
+those_hold P index [] those i x a e = absurd (none-some x (subst (λ l. slice_get l i ≡ Some x) a e))
+those_hold P index (y ∷ xs) those zero x (inl a) e =
+    let same : y ≡ x = same_Some y x (subst (λ l. slice_get l 0 ≡ Some x) a.2 e) in
+    let at : index ≡ index + 0 = omega arith in
+    (0, ap Some same, subst (λ k. P k x) at (subst (P index) same a.0))
+those_hold P index (y ∷ xs) those (suc i) x (inl a) e =
+    let h = those_hold P (index + 1) xs a.1 i x a.3 (subst (λ l. slice_get l (suc i) ≡ Some x) a.2 e) in
+    let at : index + 1 + h.0 ≡ index + suc h.0 = omega arith in
+    (suc h.0, h.1, subst (λ k. P k x) at h.2)
+those_hold P index (y ∷ xs) those i x (inr a) e =
+    let h = those_hold P (index + 1) xs those i x a.1 e in
+    let at : index + 1 + h.0 ≡ index + suc h.0 = omega arith in
+    (suc h.0, h.1, subst (λ k. P k x) at h.2)
+
+-- each of which P holds is one of them
+pub those_have : {X : Type 0} (P : ℕ → X → Type 0) (index : ℕ) (xs those : List X) (j : ℕ) (x : X) → AreThose P index xs those → slice_get xs j ≡ Some x
+    → P (index + j) x → (i : ℕ) × (slice_get those i ≡ Some x)
+those_have P index [] those j x a e p = absurd (none-some x e)
+those_have P index (y ∷ xs) those zero x (inl a) e p = (0, subst (λ l. slice_get l 0 ≡ Some x) (sym a.2) e)
+those_have P index (y ∷ xs) those zero x (inr a) e p =
+    let at : index + 0 ≡ index = omega arith in
+    absurd (a.0 (subst (P index) (sym (same_Some y x e)) (subst (λ k. P k x) at p)))
+those_have P index (y ∷ xs) those (suc j) x (inl a) e p =
+    let at : index + suc j ≡ index + 1 + j = omega arith in
+    let h = those_have P (index + 1) xs a.1 j x a.3 e (subst (λ k. P k x) at p) in
+    (suc h.0, subst (λ l. slice_get l (suc h.0) ≡ Some x) (sym a.2) h.1)
+those_have P index (y ∷ xs) those (suc j) x (inr a) e p =
+    let at : index + suc j ≡ index + 1 + j = omega arith in
+    those_have P (index + 1) xs those j x a.1 e (subst (λ k. P k x) at p)
 
 pub mandatory_unique : (before : List Sentence) (s : Sentence) (hs gs : List Sentence) → AreMandatory before s hs → AreMandatory before s gs → hs ≡ gs
 mandatory_unique before s hs gs one other = those_unique (IsMandatoryAt before s) 0 before hs gs one other

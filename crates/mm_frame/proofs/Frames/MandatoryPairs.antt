@@ -356,7 +356,7 @@ pub ruleset pair_steps = (pairs_step, found_next, all_statements)
 -- hypotheses
 
 -- the `$f` of the variable types it, and so it isn't nowhere
-typed_somewhere : (st more : List Sentence) (n : ℕ) (code x : List ℕ) (f : Sentence) (o : Option ℕ) (typing : Option (Sym × Sym)) → Types code x f → IsTypingOf st typing f → IsNumberOf (st ++ more) x n
+pub typed_somewhere : (st more : List Sentence) (n : ℕ) (code x : List ℕ) (f : Sentence) (o : Option ℕ) (typing : Option (Sym × Sym)) → Types code x f → IsTypingOf st typing f → IsNumberOf (st ++ more) x n
     → o ≡ option_map (λ typing. typing.1.0) typing → is_of n o ≡ false → ⊥
 typed_somewhere st more n code x f o None types is number at none = absurd (let floats = types.0 in cc)
 typed_somewhere st more n code x f o (Some typing) types (c, y, other, code_is, variable_is) number at none =
