@@ -8,3 +8,4 @@ pub mod Machines
 pub mod FullSharing
 pub mod PackedProofs
 pub mod LackingPairs
+pub mod SmallProofs

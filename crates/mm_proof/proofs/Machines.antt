@@ -1,12 +1,15 @@
 -- What the machines have made of the moves so far, for the one loop over moves (`machine`). Begin
 -- with `JudgedMoves`: the judge, and the verdict at the end of a proof. `ListedLines`: the lister.
 -- `StackMakers`: the tracker, which knows what step made each entry of the stack; `ProofHalts`:
--- where moves stop. `Building`: any forest of items; `TreeWords`: its words and lengths (`expand`),
--- and laws of words. Clauses of `verify`, `listing`, `halt_of`, `expand` and `Prover::prove` rest
--- on it.
+-- where moves stop; `StepUses`: the linker, which knows what each step uses; `ReachedSteps`: which
+-- steps the last one is reached from. `Building`: any forest of items; `TreeWords`: its words
+-- and lengths (`expand`), and laws of words. Clauses of `verify`, `listing`, `halt_of`,
+-- `uses_of`, `expand` and `Prover::prove` rest on it.
 pub mod JudgedMoves
 pub mod ListedLines
 pub mod StackMakers
 pub mod ProofHalts
+pub mod StepUses
+pub mod ReachedSteps
 pub mod Building
 pub mod TreeWords

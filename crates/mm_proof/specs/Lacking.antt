@@ -1,5 +1,5 @@
--- Which `$d` statements a proof lacks: those that, put before the theorem, let its moves pass (the
--- Metamath book, sections 4.1.4 and 4.2.4).
+-- Which `$d` statements a proof lacks: those with which, put before the theorem, no move breaks
+-- P12, up to the first that breaks another rule (the Metamath book, sections 4.1.4 and 4.2.4).
 use Rattle.std.specs.Prelude.{◌≡◌, ◌≢◌, ℕ, List, [], ◌∷◌, ◌++◌, map, slice_get, Contains, Some}
 use Rattle.std.specs.Prelude.{None}
 use Rattle.std.specs.Prelude.{◌⊎◌}
@@ -29,7 +29,8 @@ StopsElsewhere Fits before stack kept [] = Unit {0}
 StopsElsewhere Fits before stack kept (move ∷ more) =
     (rule : ProofRule) × (rule ≢ P12) × FirstAtMove Fits rule before stack kept move
 
--- No move breaks P12: they pass up to the end, or up to one that breaks another rule first.
+-- No move breaks P12, up to the first that breaks another rule: they pass up to the end, or up to
+-- one that breaks another rule first.
 pub record PassElsewhere (Fits : Expression → Type 0) (before : List Sentence)
     (moves : List (Move (List ℕ))) : Type 0 where
   pub earlier : List (Move (List ℕ))
@@ -54,8 +55,8 @@ pub record AskApart (Fits : Expression → Type 0) (before : List Sentence)
   pub asked : SomeReplacedPair before stack label (λ e f. Contains e u × Contains f v)
 
 -- These are the pairs of variables that the moves lack, each once in one order. With a `$d` for
--- each of them the statements break no rule of meaning, and no move breaks P12; and each is asked
--- for by a step, and isn't active without them.
+-- each of them the statements break no rule of meaning, and no move breaks P12, up to the first
+-- that breaks another rule; and each is asked for by a step, and isn't active without them.
 pub record AreLacking (Fits : Expression → Type 0) (before : List Sentence)
     (moves : List (Move (List ℕ))) (pairs : List (Symbol × Symbol)) : Type 0 where
   pub meant : AllMeant (with_pairs before pairs)

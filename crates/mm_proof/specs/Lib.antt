@@ -7,6 +7,8 @@ pub mod BigSubtrees
 pub mod Visits
 pub mod Sharing
 pub mod SharingLaws
+pub mod SmallProofs
+pub mod SmallLaws
 pub mod Tokens
 pub mod Proof
 pub mod RuleCodes
@@ -26,9 +28,12 @@ pub mod Laws
 pub mod OneTree
 pub mod Spelled
 pub mod Packing
+pub mod ChosenSharing
 pub mod Answer
 pub mod Stores
 pub mod Halted
+pub mod Uses
 pub mod Asked
 pub mod Lacking
 pub mod Places
+pub mod WholePlaces

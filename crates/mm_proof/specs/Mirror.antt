@@ -5,6 +5,7 @@ pub mod Buffer
 pub mod Builders
 pub mod CodeApply
 pub mod CodeAsked
+pub mod CodeChosen
 pub mod CodeForm
 pub mod CodeHalts
 pub mod CodeLacking
@@ -12,12 +13,15 @@ pub mod CodeLines
 pub mod CodePlaces
 pub mod CodeRun
 pub mod CodeSharing
+pub mod CodeSmall
 pub mod CodeSteps
 pub mod CodeVerify
+pub mod CodeWhole
 pub mod Judges
 pub mod Machines
 pub mod SharedSteps
 pub mod Sites
 pub mod StackMakers
+pub mod StepUses
 pub mod Subtrees
 pub mod Words

@@ -8,17 +8,24 @@ use Rattle.mm_proof.specs.Tree.{Trees, none, tree}
 use Rattle.mm_proof.specs.Moves.{Move}
 use Rattle.mm_proof.specs.OneTree.{MakeTree}
 use Rattle.mm_proof.specs.Spelled.{AreLabelsOf}
-use Rattle.mm_proof.specs.Sharing.{IsPacked}
+use Rattle.mm_proof.specs.BigSubtrees.{IsBig}
+use Rattle.mm_proof.specs.Sharing.{IsSharedProof}
 
 -- of the tree that the moves make this holds
 abbrev pub OfTree : List Sentence → List (Move (List ℕ)) → (Trees → Type 0) → Type 0
 OfTree before moves P =
     (label : List ℕ) (below : Trees) → MakeTree before moves label below → P (tree label below none)
 
--- The labels with these numbers and the codes are the fully shared proof of the trees, as a proof of
--- the statement at the index.
+-- The labels with these numbers and the codes are the proof of the trees that shares those
+-- subtrees, as a proof of the statement at the index.
+abbrev pub AreSharedProof : (P : Trees → Type 0) → List Sentence → (index : ℕ) → Sentence → Trees
+    → List LabelId → List Code → Type 0
+AreSharedProof P statements index s trees ids codes =
+    (listed : List (List ℕ)) × AreLabelsOf statements ids listed
+    × IsSharedProof P (take index statements) s trees listed codes
+
+-- they are the fully shared proof of the trees
 abbrev pub ArePacked : List Sentence → (index : ℕ) → Sentence → Trees → List LabelId → List Code
     → Type 0
 ArePacked statements index s trees ids codes =
-    (listed : List (List ℕ)) × AreLabelsOf statements ids listed
-    × IsPacked (take index statements) s trees listed codes
+    AreSharedProof IsBig statements index s trees ids codes

@@ -38,7 +38,7 @@ BreaksWhole P4 before tokens = (text : List ℕ) × AreLetters tokens text × Le
 BreaksWhole P5 before tokens = (text : List ℕ) × AreLetters tokens text × LettersBreak code.P5 text
 BreaksWhole rule before tokens = ⊥
 
--- the index of a rule among those that are judged together
+-- the rank of a rule among those that are judged together
 abbrev pub proof_rank : ProofRule → ℕ
 proof_rank P1 = 1
 proof_rank P2 = 2

@@ -41,28 +41,32 @@ pub record PairMakes (before : List Sentence) (s : Sentence) (trees : Trees)
   pub kept : List Trees
   pub made : Makes before moves none [] trees kept
 
--- no two steps by labels make the same tree of two or more nodes
-abbrev pub MakeOnce : List Visit → Type 0
-MakeOnce list =
-    (i j : ℕ) (t : Trees) → IsBig t → slice_get list i ≡ Some (makes t)
+-- no two steps by labels make the same tree of those
+abbrev pub MakeOnce : (P : Trees → Type 0) → List Visit → Type 0
+MakeOnce P list =
+    (i j : ℕ) (t : Trees) → P t → slice_get list i ≡ Some (makes t)
     → slice_get list j ≡ Some (makes t) → i ≡ j
 
--- each mark stands right after a step by a label, and keeps the tree of two or more nodes that this
--- step makes
-abbrev pub KeepMade : List Visit → Type 0
-KeepMade list =
+-- each mark stands right after a step by a label, and keeps the tree that this step makes, which is
+-- one of those
+abbrev pub KeepMade : (P : Trees → Type 0) → List Visit → Type 0
+KeepMade P list =
     (i : ℕ) (t : Trees) → slice_get list i ≡ Some (keeps t)
-    → IsBig t × (j : ℕ) × (i ≡ j + 1) × (slice_get list j ≡ Some (makes t))
+    → P t × (j : ℕ) × (i ≡ j + 1) × (slice_get list j ≡ Some (makes t))
 
--- The moves make the trees and share all that can be shared: each subtree of two or more nodes is
--- made once; only such a tree is kept, where it is made; and each tag is referred to.
-pub record ShareAll (before : List Sentence) (trees : Trees)
+-- The moves make the trees and share those subtrees, and no other: each of those is made once; only
+-- such a tree is kept, where it is made; and each tag is referred to.
+pub record ShareThose (P : Trees → Type 0) (before : List Sentence) (trees : Trees)
     (moves : List (Move (List ℕ))) : Type 0 where
   pub kept : List Trees
   pub made : Makes before moves none [] trees kept
-  pub once : MakeOnce (visits before moves none [] trees kept made)
-  pub marked : KeepMade (visits before moves none [] trees kept made)
+  pub once : MakeOnce P (visits before moves none [] trees kept made)
+  pub marked : KeepMade P (visits before moves none [] trees kept made)
   pub referred : (tag : ℕ) → tag < length kept → Contains moves (again tag)
+
+-- they share all that can be shared: the subtrees of two or more nodes
+abbrev pub ShareAll : List Sentence → Trees → List (Move (List ℕ)) → Type 0
+ShareAll before trees moves = ShareThose IsBig before trees moves
 
 -- The listed labels are those of the word that weren't seen before, by first use, each once.
 abbrev pub AreFirstUses : (seen word listed : List (List ℕ)) → Type 0
@@ -72,12 +76,16 @@ AreFirstUses seen (label ∷ word) listed =
     ⊎ (¬ (Contains seen label) × (others : List (List ℕ)) × (listed ≡ label ∷ others)
     × AreFirstUses (label ∷ seen) word others)
 
--- The listed labels and the codes are the fully shared proof of the trees: its moves share all that
--- can be shared, and the list has the labels of the trees that aren't mandatory hypotheses, by first
--- use.
-pub record IsPacked (before : List Sentence) (s : Sentence) (trees : Trees)
-    (listed : List (List ℕ)) (codes : List Code) : Type 0 where
+-- The listed labels and the codes are the proof of the trees that shares those subtrees: so do its
+-- moves, and the list has the labels of the trees that aren't mandatory hypotheses, by first use.
+pub record IsSharedProof (P : Trees → Type 0) (before : List Sentence) (s : Sentence)
+    (trees : Trees) (listed : List (List ℕ)) (codes : List Code) : Type 0 where
   pub moves : List (Move (List ℕ))
   pub says : PairSays before s listed codes moves
-  pub shared : ShareAll before trees moves
+  pub shared : ShareThose P before trees moves
   pub uses : AreFirstUses says.labels (spelling trees) listed
+
+-- they are the fully shared proof of the trees: it shares all that can be shared
+abbrev pub IsPacked : (before : List Sentence) (s : Sentence) (trees : Trees)
+    (listed : List (List ℕ)) (codes : List Code) → Type 0
+IsPacked before s trees listed codes = IsSharedProof IsBig before s trees listed codes

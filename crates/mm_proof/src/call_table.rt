@@ -30,7 +30,9 @@ impl<'e, 'b, 'a> Model for CallTable<'e, 'b, 'a> {
 }
 
 impl<'e, 'b, 'a> CallTable<'e, 'b, 'a> {
-    ghost use Rattle.std.specs.Prelude.{◌≡◌, ◌<◌, length, slice_get, Some};
+    ghost use Rattle.std.specs.Prelude.{◌≡◌, ◌<◌, ℕ, List, length, slice_get, Some};
+    ghost use Rattle.mm_proof.specs.Mirror.CodeSteps.{MayBeUsed};
+    ghost use Rattle.mm_proof.specs.Mirror.CodeApply.{IsCallOf};
 
     /// The label that stands at an index.
     pub(crate) fn label(&self, index: usize) -> LabelId
@@ -39,5 +41,17 @@ impl<'e, 'b, 'a> CallTable<'e, 'b, 'a> {
     {
         let entries = self.entries;
         entries[index]
+    }
+
+    /// What it stands for.
+    pub(crate) fn call(&self, index: usize) -> &'e Call<'b>
+        requires { index < length self.now.ids }
+        ensures { let site = self.now.site in
+            (id : ℕ) (label : List ℕ) → slice_get self.now.ids index ≡ Some id
+            → MayBeUsed site.statements site.index label id
+            → IsCallOf site.statements site.index id result.now }
+    {
+        let calls = self.calls;
+        &calls[index]
     }
 }

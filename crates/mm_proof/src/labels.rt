@@ -12,7 +12,8 @@ use mm_frame::{Book, Found, Frame, Guesses, LabelId};
 use mm_text::Token;
 
 /// What a label of a proof stands for.
-enum Use {
+#[derive(Clone, Copy)]
+pub(crate) enum Use {
     /// No statement before the proof's own has it.
     Unknown,
     /// A hypothesis that isn't active has it.
@@ -22,7 +23,13 @@ enum Use {
 }
 
 // What the label stands for in the proof of the `$p` with a number.
-fn use_of(book: &Book, guesses: &mut Guesses, own: &Frame, id: LabelId, label: &[u8]) -> Use
+pub(crate) fn use_of(
+    book: &Book,
+    guesses: &mut Guesses,
+    own: &Frame,
+    id: LabelId,
+    label: &[u8],
+) -> Use
     requires book { own.now.statements ≡ book.now.statements }
     requires own { (s : Sentence) × IsNumbered book.now.statements id.0 own.now.index s }
     ensures { IsUseOf book.now.statements own.now.index label.now result }

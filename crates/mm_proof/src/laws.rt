@@ -7,6 +7,8 @@ ghost use Rattle.mm_proof.specs.KnownPrefix.{OnePrefixVerdict};
 ghost use Rattle.mm_proof.specs.UnderProfile.{OneVerdictUnder, OnePrefixVerdictUnder};
 ghost use Rattle.mm_proof.specs.SharingLaws.{OnePacked, SomePacked};
 ghost use Rattle.mm_proof.specs.SharingLaws.{StepsMakeChildren, FewestSteps, ToldByPacked};
+ghost use Rattle.mm_proof.specs.SmallLaws.{OneSmall, SmallIsStrict, NoBetterOrder};
+ghost use Rattle.mm_proof.specs.SmallLaws.{SmallIsNoLarger, SomeSmall};
 
 /// A spelling spells one tree.
 ///
@@ -184,4 +186,46 @@ pub fn told_by_packed()
 #[tactic(auto, using(crate::proofs::FullSharing::OneSharedProof::some_packed_holds))]
 pub fn some_packed()
     ensures { SomePacked }
+{}
+
+/// A tree has one small proof at most.
+///
+/// After statements that break no rule of meaning, two small proofs of one tree have the same
+/// listed labels and the same codes.
+pub fn one_small()
+    ensures { OneSmall }
+{}
+
+/// A small proof has the form that the strict profile demands.
+///
+/// Its list names no mandatory hypothesis and no label twice, and each of its marks stands directly
+/// after a step by the label of an assertion (the Metamath book, appendix B).
+pub fn small_is_strict()
+    ensures { SmallIsStrict }
+{}
+
+/// No list gives fewer letters than the one by use.
+///
+/// After statements that break no rule of meaning, where the labels are listed by use, the codes
+/// that say the moves of a proof have at most as many letters as any codes that say these moves,
+/// whatever labels are listed for them and in whatever order (the Metamath book, appendix B).
+pub fn no_better_order()
+    ensures { NoBetterOrder }
+{}
+
+/// A small proof is no larger than the fully shared one.
+///
+/// After statements that break no rule of meaning, the codes of the small proof of a tree have at
+/// most as many letters as those of its fully shared proof.
+pub fn small_is_no_larger()
+    ensures { SmallIsNoLarger }
+{}
+
+/// A tree that fits has a small proof.
+///
+/// After statements in form that break no rule of meaning, each tree that fits (each leaf names an
+/// active hypothesis, each node an earlier assertion, with as many trees below as it has mandatory
+/// hypotheses) has one, whether it derives anything or not.
+pub fn some_small()
+    ensures { SomeSmall }
 {}

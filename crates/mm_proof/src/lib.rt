@@ -7,6 +7,7 @@ mod buffer;
 mod builder;
 mod call;
 mod call_table;
+mod chosen;
 mod entry;
 mod expansion;
 mod fault;
@@ -36,13 +37,16 @@ mod said;
 mod sameness;
 mod sharing;
 mod site;
+mod small;
 mod step;
 mod store;
 mod substitution;
 mod subtree_set;
 mod subtrees;
 mod used;
+mod uses;
 mod verdict;
+mod whole_places;
 mod words;
 
 pub use asked::{asked_by, missing_pairs, shared_variables};
@@ -53,10 +57,10 @@ pub use halt::{Halt, HaltAt};
 pub use halting::halt_of;
 pub use lacking::lacking_pairs;
 pub use laws::{
-    by_spelling, by_word, fewest_steps, limits_aside, made_by_word, mark_before_any_step, one_fit,
-    one_packed, one_prefix_verdict, one_prefix_verdict_under, one_tree, one_verdict,
-    one_verdict_under, one_word, some_packed, some_verdict, steps_make_children, tag_over_marks,
-    told_by_packed,
+    by_spelling, by_word, fewest_steps, limits_aside, made_by_word, mark_before_any_step,
+    no_better_order, one_fit, one_packed, one_prefix_verdict, one_prefix_verdict_under, one_small,
+    one_tree, one_verdict, one_verdict_under, one_word, small_is_no_larger, small_is_strict,
+    some_packed, some_small, some_verdict, steps_make_children, tag_over_marks, told_by_packed,
 };
 pub use lines::{Line, Name, listing};
 pub use moves::{Parsed, Steps};
@@ -67,6 +71,9 @@ pub use profile::Profile;
 pub use prover::{Proved, Prover};
 pub use rows::Rows;
 pub use sameness::same;
+pub use small::compress_small;
 pub use store::Store;
 pub use used::Used;
+pub use uses::{UsedSteps, uses_of};
 pub use verdict::verify;
+pub use whole_places::whole_place;

@@ -62,8 +62,11 @@ pub(crate) struct Track {
     pub(crate) makers: Vec<usize>,
 }
 
-// The step that was made last has made the last entry of the stack.
-fn put_maker<S: Store>(judge: &Judge<S>, makers: &mut Vec<usize>) -> Result<(), AllocError>
+/// The step that was made last has made the last entry of the stack.
+pub(crate) fn put_maker<S: Store>(
+    judge: &Judge<S>,
+    makers: &mut Vec<usize>,
+) -> Result<(), AllocError>
     requires made { 0 < length (S.stack judge.now.store.now) }
     requires within { length (S.stack judge.now.store.now) - 1 ≤ length makers.old.items }
     ensures { OnOk result

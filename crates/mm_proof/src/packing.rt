@@ -1,15 +1,16 @@
 //! The fully shared proof of a tree: its listed labels and its codes (the Metamath book, section
 //! 4.3 and appendix B).
 
-ghost use Rattle.std.specs.Prelude.{◌≡◌, ◌≤◌, ◌<◌, ◌↔◌, ◌++◌, List, [], length, take, Contains};
-ghost use Rattle.std.specs.Prelude.{All, IfOk, OnOk, false};
+ghost use Rattle.std.specs.Prelude.{◌≡◌, ◌+◌, ◌*◌, ◌≤◌, ◌<◌, ◌↔◌, ◌++◌, List, [], length, take};
+ghost use Rattle.std.specs.Prelude.{Contains, All, IfOk, OnOk, false};
 ghost use Rattle.mm_text.specs.Files.{most_bytes};
 ghost use Rattle.mm_code.specs.declared.code.Code.{Code};
-ghost use Rattle.mm_code.specs.Letters.{HasSpelling, IsExact};
+ghost use Rattle.mm_code.specs.Letters.{HasSpelling, IsExact, largest};
 ghost use Rattle.mm_proof.specs.declared.subtrees.Subtree.{Subtree};
 ghost use Rattle.mm_proof.specs.declared.sharing.SharedStep.TheVariants.{Make, Repeat};
 ghost use Rattle.mm_proof.specs.OneTree.{MakeOneTree};
 ghost use Rattle.mm_proof.specs.Packing.{OfTree, ArePacked};
+ghost use Rattle.mm_proof.specs.ChosenSharing.{AreChosen};
 ghost use Rattle.mm_proof.specs.Steps.{AreSteps};
 ghost use Rattle.mm_proof.specs.Verified.{OfMoves};
 ghost use Rattle.mm_proof.specs.Plain.{ids_in, label_ids};
@@ -18,6 +19,7 @@ ghost use Rattle.mm_proof.specs.Mirror.CodeSharing.{AreEncoded};
 ghost use Rattle.mm_proof.specs.Mirror.CodeSharing.{AreStepsPacked, AreMadeBefore};
 
 use crate::builder::build;
+use crate::chosen::choose_steps;
 use crate::label_set::LabelSet;
 use crate::moves::Steps;
 use crate::sharing::{SharedStep, SharedSteps};
@@ -37,10 +39,21 @@ pub struct Packed {
     pub codes: Vec<Code>,
 }
 
+/// Two proofs of one tree.
+#[derive(Drop)]
+pub(crate) struct BothPacked {
+    /// The fully shared one.
+    pub(crate) full: Packed,
+    /// The one that shares what is worth a tag alone.
+    pub(crate) chosen: Packed,
+}
+
 // The trees that the steps repeat.
 fn repeated_trees(alloc: Global, seed: Seed, steps: &[SharedStep]) -> Result<SubtreeSet, AllocError>
-    ensures { IfOk result (λ trees. (t : Subtree)
+    ensures those { IfOk result (λ trees. (t : Subtree)
         → Contains trees t ↔ Contains steps.now (Repeat t)) }
+    ensures few { IfOk result (λ trees. length (labels_made steps.now) + length trees
+        ≤ length steps.now) }
 {
     let mut trees = SubtreeSet::new(alloc, seed);
     for one in steps {
@@ -100,8 +113,7 @@ fn encode(
     repeated: &SubtreeSet,
     one: SharedStep,
 ) -> Result<(), AllocError>
-    requires labels { length labels.now ≤ 2147483648 }
-    requires kept { length kept.old ≤ most_bytes }
+    requires numbers { length labels.now + length kept.old + 1 < largest }
     requires known { (t : Subtree) → one ≡ Make t → Contains labels.now t.label }
     requires made { (t : Subtree) → one ≡ Repeat t → Contains kept.old t }
     ensures said { OnOk result ((here : List Code) × (codes.new.items ≡ codes.old.items ++ here)
@@ -137,8 +149,7 @@ fn codes_of(
     repeated: &SubtreeSet,
     steps: &[SharedStep],
 ) -> Result<Vec<Code>, AllocError>
-    requires labels { length labels.now ≤ 2147483648 }
-    requires few { length steps.now ≤ most_bytes }
+    requires numbers { length labels.now + length repeated.now + 1 < largest }
     requires known { (t : Subtree) → Contains steps.now (Make t) → Contains labels.now t.label }
     requires each { (t : Subtree) → Contains steps.now (Repeat t) → Contains repeated.now t }
     requires made { AreMadeBefore steps.now }
@@ -163,12 +174,13 @@ fn pack(
     steps: &[SharedStep],
 ) -> Result<Packed, AllocError>
     requires hypotheses { length hypotheses.now < most_bytes }
-    requires steps { length steps.now ≤ most_bytes }
+    requires steps { length steps.now ≤ 2 * most_bytes }
     requires made { AreMadeBefore steps.now }
     ensures packed { IfOk result (λ packed. AreStepsPacked (label_ids hypotheses.now) steps.now
         (ids_in packed.labels.items) packed.codes.items) }
     ensures spelled { IfOk result (λ packed. All HasSpelling packed.codes.items) }
     ensures exact { IfOk result (λ packed. All IsExact packed.codes.items) }
+    ensures few { IfOk result (λ packed. length packed.codes.items ≤ 4 * most_bytes) }
 {
     let repeated = repeated_trees(alloc, seed, steps)?;
     let mut known = hypothesis_labels(alloc, seed, hypotheses)?;
@@ -203,9 +215,50 @@ pub fn compress(
     // Each code can be written in letters, and each number stands for itself alone.
     ensures spelled { IfOk result (λ packed. All HasSpelling packed.codes.items) }
     ensures exact { IfOk result (λ packed. All IsExact packed.codes.items) }
+
+    // No step has more than two codes.
+    ensures few { IfOk result (λ packed. length packed.codes.items ≤ 4 * most_bytes) }
 {
     let mut shared = SharedSteps::with_room(alloc, book.seed(), steps.codes.len())?;
     build(alloc, &mut shared, book, id, steps)?;
     let own = book.frame(id);
     pack(alloc, book.seed(), own.hypotheses(), &shared.steps)
+}
+
+/// The fully shared proof of the tree that the steps make, under what `compress` asks, and the one
+/// that shares what is worth a tag alone: a tree of two nodes is written out again there.
+///
+/// # Errors
+///
+/// Only where a growth was refused.
+pub(crate) fn compress_both(
+    alloc: Global,
+    book: &Book,
+    id: LabelId,
+    steps: &Steps,
+) -> Result<BothPacked, AllocError>
+    requires steps { AreSteps book.now.statements id.0 steps.now.moves }
+    requires whole { steps.now.prefix ≡ false }
+    requires makes { OfMoves book.now.statements id.0 steps.now.moves
+        (λ index s moves. MakeOneTree (take index book.now.statements) moves) }
+    ensures full { IfOk result (λ both. OfMoves book.now.statements id.0 steps.now.moves
+        (λ index s moves. OfTree (take index book.now.statements) moves (λ t.
+        ArePacked book.now.statements index s t both.full.labels.items both.full.codes.items))) }
+    ensures chosen { IfOk result (λ both. OfMoves book.now.statements id.0 steps.now.moves
+        (λ index s moves. OfTree (take index book.now.statements) moves (λ t. AreChosen
+        book.now.statements index s t both.chosen.labels.items both.chosen.codes.items))) }
+    ensures spelled { IfOk result (λ both. All HasSpelling both.full.codes.items
+        × All HasSpelling both.chosen.codes.items) }
+    ensures exact { IfOk result (λ both. All IsExact both.full.codes.items
+        × All IsExact both.chosen.codes.items) }
+    ensures few { IfOk result (λ both. (length both.full.codes.items ≤ 4 * most_bytes)
+        × (length both.chosen.codes.items ≤ 4 * most_bytes)) }
+{
+    let mut shared = SharedSteps::with_room(alloc, book.seed(), steps.codes.len())?;
+    build(alloc, &mut shared, book, id, steps)?;
+    let fewer = choose_steps(alloc, &shared.table, &shared.steps)?;
+    let own = book.frame(id);
+    let full = pack(alloc, book.seed(), own.hypotheses(), &shared.steps)?;
+    let chosen = pack(alloc, book.seed(), own.hypotheses(), &fewer)?;
+    Ok(BothPacked { full, chosen })
 }

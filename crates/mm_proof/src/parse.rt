@@ -212,7 +212,7 @@ fn closing_index(tokens: &[Token]) -> Option<usize>
 }
 
 // The list and the letters of a compressed proof, whose tokens after the `(` are these.
-fn parts<'t, 'a>(rest: &'t [Token<'a>]) -> Option<(&'t [Token<'a>], &'t [Token<'a>])>
+pub(crate) fn parts<'t, 'a>(rest: &'t [Token<'a>]) -> Option<(&'t [Token<'a>], &'t [Token<'a>])>
     ensures { MatchOption
         result
         (¬ (Contains (token_texts rest.now) closing_token))
@@ -456,7 +456,10 @@ fn prefix_steps(
 }
 
 // Tokens with these texts, which stand nowhere.
-fn tokens_with<'a>(alloc: Global, pieces: &[&'a [u8]]) -> Result<Vec<Token<'a>>, AllocError>
+pub(crate) fn tokens_with<'a>(
+    alloc: Global,
+    pieces: &[&'a [u8]],
+) -> Result<Vec<Token<'a>>, AllocError>
     ensures { IfOk result (λ v. token_texts v.items ≡ texts pieces.now) }
 {
     let mut tokens = Vec::with_capacity(alloc, pieces.len())?;

@@ -58,7 +58,7 @@ fn again(tree: Subtree) -> SharedStep
 /// The steps of the fully shared proof of the trees that moves make.
 #[derive(Drop)]
 pub(crate) struct SharedSteps {
-    table: Subtrees,
+    pub(crate) table: Subtrees,
     made: SubtreeSet,
     pub(crate) steps: Vec<SharedStep>,
 }

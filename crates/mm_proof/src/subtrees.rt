@@ -1,10 +1,11 @@
 //! Numbers of subtrees: equal trees of proofs have equal numbers.
 
-ghost use Rattle.std.specs.Prelude.{◌≡◌, ◌↔◌, List, [], IfOk, OnOk, IsTrue};
+ghost use Rattle.std.specs.Prelude.{◌≡◌, ◌↔◌, List, [], Some, None, IfOk, OnOk, IsTrue};
 ghost use Rattle.mm_frame.specs.Sentence.{Sentence};
 ghost use Rattle.mm_proof.specs.Tree.{Trees};
 ghost use Rattle.mm_proof.specs.Mirror.Subtrees.{IsNumberOfRow, KeepNumbers, AreOnce, AreTreesOf};
-ghost use Rattle.mm_proof.specs.Mirror.Subtrees.{StandsFor};
+ghost use Rattle.mm_proof.specs.Mirror.Subtrees.{StandsFor, IsOverLeaf};
+ghost use Rattle.mm_proof.specs.declared.subtrees.Subtree.{Subtree};
 
 use crate::builder::Builder;
 use indexmap::IndexSet;
@@ -84,6 +85,20 @@ impl Subtrees {
             })?;
         }
         Ok(right)
+    }
+
+    /// The leaf below a tree of two nodes; none below any other tree.
+    pub(crate) fn only_leaf(&self, tree: Subtree) -> Option<Subtree>
+        ensures some { (leaf : Subtree) → result ≡ Some leaf → IsOverLeaf self.now tree leaf }
+        ensures none { result ≡ None → (leaf : Subtree) → ¬ (IsOverLeaf self.now tree leaf) }
+    {
+        if tree.below == 0 {
+            return None;
+        }
+        match self.rows.get_index(tree.below - 1) {
+            Some(row) if row.right == 0 && row.first.below == 0 => Some(row.first),
+            _ => None,
+        }
     }
 
     /// Whether two trees, whose rows are in the table, are equal: each row is in it once.

@@ -217,25 +217,26 @@ bigs_of (t ∷ ts) =
     ]
 
 -- what is tidy stays so with its first visit done
-pub tidy_later : (x : Visit) (v done : List Visit) → Tidy done (x ∷ v) → Tidy (x ∷ done) v
-tidy_later (keeps t) v done c = c.2
-tidy_later x v done c = c.1
+pub tidy_later : (P : Trees → Type 0) (x : Visit) (v done : List Visit) → Tidy P done (x ∷ v)
+    → Tidy P (x ∷ done) v
+tidy_later P (keeps t) v done c = c.2
+tidy_later P x v done c = c.1
 
--- tidy visits make each big tree once
-pub not_made_again : (v done : List Visit) (t : Trees) → Tidy done v → In done (makes t) → IsBig t
-    → In (trees_made v) t → ⊥
-not_made_again [] done t c made big h = h
-not_made_again (makes u ∷ v) done t c made big (inl e) = c.0 (rw e big) (rw e made)
-not_made_again (makes u ∷ v) done t c made big (inr h) =
-    not_made_again v (makes u ∷ done) t c.1 (inr made) big h
-not_made_again (x ∷ v) done t c made big h =
-    not_made_again v (x ∷ done) t (tidy_later x v done c) (inr made) big h
+-- tidy visits make each tree that they share once
+pub not_made_again : (P : Trees → Type 0) (v done : List Visit) (t : Trees) → Tidy P done v
+    → In done (makes t) → P t → In (trees_made v) t → ⊥
+not_made_again P [] done t c made is h = h
+not_made_again P (makes u ∷ v) done t c made is (inl e) = c.0 (rw e is) (rw e made)
+not_made_again P (makes u ∷ v) done t c made is (inr h) =
+    not_made_again P v (makes u ∷ done) t c.1 (inr made) is h
+not_made_again P (x ∷ v) done t c made is h =
+    not_made_again P v (x ∷ done) t (tidy_later P x v done c) (inr made) is h
 
-pub tidy_big_once : (v done : List Visit) → Tidy done v → BigOnce (trees_made v)
+pub tidy_big_once : (v done : List Visit) → Tidy IsBig done v → BigOnce (trees_made v)
 tidy_big_once [] done c = tt
 tidy_big_once (makes t ∷ v) done c =
-    (not_made_again v (makes t ∷ done) t c.1 (inl refl), tidy_big_once v (makes t ∷ done) c.1)
-tidy_big_once (x ∷ v) done c = tidy_big_once v (x ∷ done) (tidy_later x v done c)
+    (not_made_again IsBig v (makes t ∷ done) t c.1 (inl refl), tidy_big_once v (makes t ∷ done) c.1)
+tidy_big_once (x ∷ v) done c = tidy_big_once v (x ∷ done) (tidy_later IsBig x v done c)
 
 -- ---- sums
 
@@ -256,6 +257,16 @@ sum_within {X} f (x ∷ xs) ys once within =
     (in_apart prefix (x ∷ back) u (subst (λ l. In l u) parts (within u (inr h)))) in
     let ih = simp (sum_by-append f) at (sum_within f xs (prefix ++ back) once.1 rest) in
     rw parts (simp (sum_by-append f, sum_by-cons f) (omega arith))
+
+one_each : {X : Type 0} (xs : List X) → sum_by (λ (x : X). 1) xs ≡ length xs
+one_each [] = refl
+one_each {X} (x ∷ xs) = omega (arith, sum_by-cons (λ (y : X). 1) x xs, one_each xs)
+
+-- nor is it longer
+pub length_within : {X : Type 0} (xs ys : List X) → Once xs → ((x : X) → In xs x → In ys x)
+    → length xs ≤ length ys
+length_within {X} xs ys once within =
+    omega (arith, sum_within (λ (x : X). 1) xs ys once within, one_each xs, one_each ys)
 
 -- ==== steps that share all, one step more: what a tree that was made before is made of takes one
 -- step for each child
@@ -278,17 +289,18 @@ pub record AllMade (made : List Trees) (trees : Trees) (v : List Visit) : Type 0
   pub closed : Closed (after made v)
   pub subtrees : (u : Trees) → IsSubtree trees u → In (after made v) u
 
-pub all_made : (trees : Trees) (made : List Trees) (v : List Visit) → Closed made → Covers trees v → Careful made v → AllMade made trees v
+pub all_made : (trees : Trees) (made : List Trees) (v : List Visit) → Closed made → Covers trees v → Careful IsBig made v → AllMade made trees v
 all_made none made v closed p c = record { closed = subst (λ x. Closed (after made x)) (sym p) closed; subtrees = λ u h. absurd h }
 all_made (tree label below right) made v closed p c =
     let t : Trees = tree label below none in
-    let parts = careful_apart made p.0 p.1 (subst (Careful made) p.2 c) in
+    let parts = careful_apart IsBig made p.0 p.1 (subst (Careful IsBig made) p.2 c) in
     let here : AllMade made t p.0 = ⊎_elim
     (λ a.
-    let cut : Careful made (repeats t ∷ []) = subst (Careful made) a parts.0 in
+    let cut : Careful IsBig made (repeats t ∷ []) = subst (Careful IsBig made) a parts.0 in
     record { closed = rw a closed; subtrees = λ u h. rw a (closed t u cut.0.1 h) })
     (λ a.
-    let inner = careful_apart made a.0 (makes t ∷ []) (subst (Careful made) a.1 parts.0) in
+    let inner = careful_apart IsBig made a.0 (makes t ∷ [])
+    (subst (Careful IsBig made) a.1 parts.0) in
     let all = all_made below made a.0 closed a.2 inner.0 in
     let is : after made p.0 ≡ t ∷ after made a.0 = ap (after made) a.1 ∙ after-append made a.0 (makes t ∷ []) in
     let of_new : (u : Trees) → IsSubtree t u → In (t ∷ after made a.0) u = λ u h. ⊎_elim
@@ -314,15 +326,16 @@ pub record EachOne (made : List Trees) (trees : Trees) (v : List Visit) : Type 0
   pub long : length v ≡ roots trees
   pub same : (u : Trees) → IsBig u → In (after made v) u → In made u
 
-pub each_one : (trees : Trees) (made : List Trees) (v : List Visit) → ((u : Trees) → IsSubtree trees u → IsBig u → In made u) → Covers trees v → Careful made v → EachOne made trees v
+pub each_one : (trees : Trees) (made : List Trees) (v : List Visit) → ((u : Trees) → IsSubtree trees u → IsBig u → In made u) → Covers trees v → Careful IsBig made v → EachOne made trees v
 each_one none made v has p c = record { long = ap length p; same = λ u big h. subst (λ x. In (after made x) u) p h }
 each_one (tree label below right) made v has p c =
     let t : Trees = tree label below none in
-    let parts = careful_apart made p.0 p.1 (subst (Careful made) p.2 c) in
+    let parts = careful_apart IsBig made p.0 p.1 (subst (Careful IsBig made) p.2 c) in
     let here : EachOne made t p.0 = ⊎_elim
     (λ a. record { long = ap length a; same = λ u big h. subst (λ x. In (after made x) u) a h })
     (λ a.
-    let inner = careful_apart made a.0 (makes t ∷ []) (subst (Careful made) a.1 parts.0) in
+    let inner = careful_apart IsBig made a.0 (makes t ∷ [])
+    (subst (Careful IsBig made) a.1 parts.0) in
     let small : ¬ (IsBig t) = λ big. inner.1.0 (big, after_has made a.0 t (has t (inl refl) big)) in
     let bare : below ≡ none = no_child below (λ l b r e. small (subst (λ x. IsBig (tree label x none)) (sym e) (parent_big label l b r))) in
     let empty : a.0 ≡ [] = subst (λ x. Covers x a.0) bare a.2 in
@@ -359,7 +372,7 @@ sharing_make rest kept v label below s fresh =
     record {
       covers = subst (λ x. Covers (beside rest t) x) (sym (append_assoc parts.0 parts.1 (makes t ∷ [])) ∙ ap (λ x. x ++ makes t ∷ []) (sym parts.2))
           (covers_beside rest t parts.0 (parts.1 ++ makes t ∷ []) parts.3 (covers_made_one label below parts.1 parts.4));
-      careful = careful_join [] v (makes t ∷ []) s.careful (fresh, tt);
+      careful = careful_join IsBig [] v (makes t ∷ []) s.careful (fresh, tt);
       kept_made = λ u h big. after_make v t u (s.kept_made u h big);
     }
 
@@ -378,7 +391,7 @@ pub sharing_cut : (rest : Trees) (kept : List Trees) (v : List Visit) (label : L
 sharing_cut rest kept v label below s big made =
     let t : Trees = tree label below none in
     let parts = covers_apart rest below v s.covers in
-    let c = careful_apart [] parts.0 parts.1 (subst (Careful []) parts.2 s.careful) in
+    let c = careful_apart IsBig [] parts.0 parts.1 (subst (Careful IsBig []) parts.2 s.careful) in
     let whole : after [] v ≡ after (after [] parts.0) parts.1 = ap (after []) parts.2 ∙ after-append [] parts.0 parts.1 in
     let before : In (after [] parts.0) t = ⊎_elim
     (λ h. h)
@@ -396,7 +409,7 @@ sharing_cut rest kept v label below s big made =
       long = one.long;
       sharing = record {
         covers = covers_beside rest t parts.0 (repeats t ∷ []) parts.3 (covers_one label below);
-        careful = careful_join [] parts.0 (repeats t ∷ []) c.0 ((big, before), tt);
+        careful = careful_join IsBig [] parts.0 (repeats t ∷ []) c.0 ((big, before), tt);
         kept_made = λ u h is. same u is (s.kept_made u h is);
       };
       same = same;
@@ -410,7 +423,8 @@ sharing_repeat row kept v label below s among big =
     let t : Trees = tree label below none in
     record {
       covers = covers_beside row t v (repeats t ∷ []) s.covers (covers_one label below);
-      careful = careful_join [] v (repeats t ∷ []) s.careful ((big, s.kept_made t among big), tt);
+      careful = careful_join IsBig [] v (repeats t ∷ []) s.careful
+          ((big, s.kept_made t among big), tt);
       kept_made = λ u h is. subst (λ x. In x u) (sym (after-append [] v (repeats t ∷ []))) (s.kept_made u h is);
     }
 

@@ -1,4 +1,5 @@
--- A tree that fits has a fully shared proof, no more than one, and is told by it.
+-- A tree that fits has a proof that shares those of its subtrees, no more than one, and is told by
+-- it: so with its fully shared proof.
 use Rattle.std.proofs.Common.{◌≡◌, ℕ, ◌<◌, List, [], ◌∷◌, ◌++◌, map, slice_get, Some, inl, inr}
 use Rattle.std.proofs.Common.{⊎_elim, refl, sym, ap, subst, ◌∙◌, arith, ◌+◌, length}
 use Rattle.std.specs.List.{AllZip}
@@ -7,11 +8,12 @@ use Rattle.mm_code.specs.declared.code.Code.TheVariants.{Number, Tag}
 use Rattle.mm_frame.specs.Sentence.{Sentence}
 use Rattle.mm_frame.specs.Frame.{AreMandatory, IsMandatoryAt}
 use Rattle.mm_frame.specs.Rules.{AllMeant}
+use Rattle.mm_frame.specs.Form.{AllFormed}
 use Rattle.mm_frame.proofs.Frames.FrameLaws.{mandatory_unique}
-use Rattle.mm_proof.specs.Tree.{Trees, none, tree, spelling}
+use Rattle.mm_proof.specs.Tree.{Trees, none, tree, spelling, TreesFit}
 use Rattle.mm_proof.specs.Moves.{Move, Makes, name, again, mark}
 use Rattle.mm_proof.specs.Tokens.{Says}
-use Rattle.mm_proof.specs.Sharing.{PairSays, AreFirstUses, IsPacked}
+use Rattle.mm_proof.specs.Sharing.{PairSays, AreFirstUses, IsPacked, IsSharedProof}
 use Rattle.mm_proof.specs.SharingLaws.{OnePacked, ToldByPacked, SomePacked}
 use Rattle.mm_proof.proofs.ProofSteps.OneStep.{one_label}
 use Rattle.mm_proof.proofs.ProofSteps.Derivations.{zip_once, makes_once}
@@ -23,7 +25,8 @@ use Rattle.mm_proof.proofs.Members.{In, in_contains, in_apart, Once, once_indice
 use Rattle.mm_proof.proofs.Members.{those_of, in_get, contains_in, in_left, in_right}
 use Rattle.mm_proof.proofs.FullSharing.OneSharing.{shared_once}
 use Rattle.mm_frame.proofs.Rules.DecidedStatements.{contains_dec, mandatory_at_dec}
-use Rattle.mm_proof.specs.BigSubtrees.{IsSubtree}
+use Rattle.std.proofs.Math.Decide.{dec_le}
+use Rattle.mm_proof.specs.BigSubtrees.{nodes, IsBig, IsSubtree}
 use Rattle.mm_proof.specs.Visits.{visits, trees_made}
 use Rattle.mm_proof.proofs.FullSharing.FewestSteps.{made_subtrees}
 use Rattle.mm_proof.proofs.FullSharing.SharedMoves.{some_shared}
@@ -78,8 +81,8 @@ module _ (before : List Sentence) (s : Sentence) (hypotheses : List Sentence)
       let less = not_twice i j l all mandatory labelled p q in
       let more = not_twice j i l all mandatory labelled q p in omega arith)
 
-once_joined : {X : Type 0} (xs ys : List X) → Once xs → Once ys → ((x : X) → In ys x → ¬ (In xs x))
-    → Once (xs ++ ys)
+pub once_joined : {X : Type 0} (xs ys : List X) → Once xs → Once ys
+    → ((x : X) → In ys x → ¬ (In xs x)) → Once (xs ++ ys)
 once_joined [] ys o p apart = p
 once_joined (x ∷ xs) ys o p apart = (
   λ h. ⊎_elim (λ a. o.0 a) (λ b. apart x b (inl refl)) (in_apart xs ys x h),
@@ -104,7 +107,7 @@ module _ (labels : List (List ℕ)) where
       (λ a. ⊎_elim (λ b. absurd (cc (a.2, b.2))) (λ b. cc (a.1, a.2, b.1, b.2)) q.2) p.2 in
       ap Number (omega (arith, p.1, q.1, index))
 
-  codes_once : (codes codes' : List Code) (moves : List (Move (List ℕ))) → Once labels
+  pub codes_once : (codes codes' : List Code) (moves : List (Move (List ℕ))) → Once labels
       → AllZip (Says labels) codes moves → AllZip (Says labels) codes' moves → codes ≡ codes'
   codes_once [] [] [] once p q = refl
   codes_once (c ∷ codes) codes' [] once p q = absurd p
@@ -116,7 +119,7 @@ module _ (labels : List (List ℕ)) where
 -- ---- the laws
 
 -- the labels of the mandatory hypotheses are determined
-same_mandatory : (before : List Sentence) (s : Sentence) (listed listed' : List (List ℕ))
+pub same_mandatory : (before : List Sentence) (s : Sentence) (listed listed' : List (List ℕ))
     (codes codes' : List Code) (moves moves' : List (Move (List ℕ)))
     (p : PairSays before s listed codes moves) (q : PairSays before s listed' codes' moves')
     → p.labels ≡ q.labels
@@ -125,14 +128,14 @@ same_mandatory before s listed listed' codes codes' moves moves' p q =
     (sym p.labelled ∙ ap (map (λ (h : Sentence). h.label))
     (mandatory_unique before s p.hypotheses q.hypotheses p.mandatory q.mandatory) ∙ q.labelled)
 
-pub one_pair : (before : List Sentence) (s : Sentence) (trees : Trees)
+pub one_pair : (P : Trees → Type 0) (before : List Sentence) (s : Sentence) (trees : Trees)
     (listed listed' : List (List ℕ)) (codes codes' : List Code) → AllMeant before
-    → IsPacked before s trees listed codes
-    → IsPacked before s trees listed' codes' → (listed ≡ listed') × (codes ≡ codes')
-one_pair before s trees listed listed' codes codes' all p q =
+    → IsSharedProof P before s trees listed codes
+    → IsSharedProof P before s trees listed' codes' → (listed ≡ listed') × (codes ≡ codes')
+one_pair P before s trees listed listed' codes codes' all p q =
     let labels = same_mandatory _ _ listed listed' codes codes' p.moves q.moves p.says q.says in
     let same = uses_once _ _ listed listed' (rw labels at p.uses) q.uses in
-    let moves = shared_once before trees p.moves q.moves p.shared q.shared in
+    let moves = shared_once P before trees p.moves q.moves p.shared q.shared in
     let each = rw (labels, same, moves) at p.says.each in
     let apart = uses_apart (spelling trees) q.says.labels listed' q.uses in
     let once : Once (q.says.labels ++ listed') =
@@ -142,7 +145,7 @@ one_pair before s trees listed listed' codes codes' all p q =
     (same, codes_once (q.says.labels ++ listed') codes codes' q.moves once each q.says.each)
 
 pub one_packed_holds : OnePacked
-one_packed_holds before s label below listed listed' codes codes' all p q = one_pair before s
+one_packed_holds before s label below listed listed' codes codes' all p q = one_pair IsBig before s
     (tree label below none) listed listed' codes codes' all p q
 
 -- the same pair says the same moves, and these make the same
@@ -161,7 +164,7 @@ same_made before s trees trees' listed listed' codes codes' all p q e f =
 
 pub told_by_packed_holds : ToldByPacked
 told_by_packed_holds before s l m a b listed listed' codes codes' all p q = (
-  λ same. one_pair before s (tree m b none) listed listed' codes codes' all (rw same at p) q,
+  λ same. one_pair IsBig before s (tree m b none) listed listed' codes codes' all (rw same at p) q,
   λ e. same_made before s (tree l a none)
       (tree m b none) listed listed' codes codes' all p q e.0 e.1,
 )
@@ -170,7 +173,7 @@ told_by_packed_holds before s l m a b listed listed' codes codes' all p q = (
 
 -- ---- the listed labels
 
-some_uses : (word seen : List (List ℕ)) → (listed : List (List ℕ)) × AreFirstUses seen word listed
+pub some_uses : (word seen : List (List ℕ)) → (listed : List (List ℕ)) × AreFirstUses seen word listed
 some_uses [] seen = ([], refl)
 some_uses (label ∷ word) seen = elim (contains_dec seen label) [
   | yes c ↦ let r = some_uses word seen in (r.0, inl (c, r.1))
@@ -178,7 +181,7 @@ some_uses (label ∷ word) seen = elim (contains_dec seen label) [
 ]
 
 -- each label was seen or is listed
-uses_have : (word seen listed : List (List ℕ)) (label : List ℕ) → AreFirstUses seen word listed
+pub uses_have : (word seen listed : List (List ℕ)) (label : List ℕ) → AreFirstUses seen word listed
     → In word label → In (seen ++ listed) label
 uses_have [] seen listed label u h = absurd h
 uses_have (l ∷ word) seen listed label (inl u) h =
@@ -193,7 +196,7 @@ uses_have (l ∷ word) seen listed label (inr u) h = rw u.2
 
 -- ---- the labels of moves
 
-sub_label : (trees : Trees) (label : List ℕ) (below : Trees)
+pub sub_label : (trees : Trees) (label : List ℕ) (below : Trees)
     → IsSubtree trees (tree label below none) → In (spelling trees) label
 sub_label none label below h = absurd h
 sub_label (tree l b r) label below h =
@@ -203,7 +206,7 @@ sub_label (tree l b r) label below h =
     let j = sub_label r label below in grind arith
 
 -- a step by a label makes a tree with this label
-label_made : (before : List Sentence) (moves : List (Move (List ℕ))) (row : Trees)
+pub label_made : (before : List Sentence) (moves : List (Move (List ℕ))) (row : Trees)
     (kept : List Trees) (row' : Trees) (kept' : List Trees)
     (m : Makes before moves row kept row' kept') (label : List ℕ)
     → In moves (name label) → (below : Trees)
@@ -219,7 +222,7 @@ label_made before (move ∷ moves) row kept row' kept' m label (inr h) =
 
 -- ---- codes
 
-some_codes : (labels : List (List ℕ)) (moves : List (Move (List ℕ)))
+pub some_codes : (labels : List (List ℕ)) (moves : List (Move (List ℕ)))
     → ((label : List ℕ) → In moves (name label) → In labels label) → (codes : List Code)
     × AllZip (Says labels) codes moves
 some_codes labels [] known = ([], tt)
@@ -236,8 +239,11 @@ some_codes labels (mark ∷ moves) known =
     let rest = some_codes labels moves (λ l h. known l (inr h)) in
     (Tag ∷ rest.0, (refl, rest.1))
 
-pub some_packed_holds : SomePacked
-some_packed_holds before s label below formed fit =
+pub some_pair : (P : Trees → Type 0) → ((t : Trees) → Dec (P t)) → (before : List Sentence)
+    (s : Sentence) (label : List ℕ) (below : Trees) → AllFormed before
+    → TreesFit before (tree label below none) → (listed : List (List ℕ)) × (codes : List Code)
+    × IsSharedProof P before s (tree label below none) listed codes
+some_pair P each before s label below formed fit =
     let trees : Trees = tree label below none in
     let frame : (hypotheses : List Sentence)
     × AreMandatory before s hypotheses = those_of (IsMandatoryAt before s)
@@ -245,7 +251,7 @@ some_packed_holds before s label below formed fit =
     let named = labels_of before s frame.0 formed
     (λ i h e. let a = mandatory_active before s frame.0 i h frame.1 e in (a.0, a.1, a.3)) in
     let uses = some_uses (spelling trees) named.0 in
-    let shared = some_shared before trees fit in
+    let shared = some_shared P each before trees fit in
     let known : (l : List ℕ) → In shared.0 (name l) → In (named.0 ++ uses.0) l = λ l h.
     let g = label_made before shared.0 none [] trees shared.1.kept shared.1.made l h in
     let sub = made_subtrees before shared.0 none [] trees shared.1.kept shared.1.made
@@ -267,3 +273,7 @@ some_packed_holds before s label below formed fit =
         uses = uses.1;
       },
     )
+
+pub some_packed_holds : SomePacked
+some_packed_holds before s label below formed fit =
+    some_pair IsBig (λ t. dec_le 2 (nodes t)) before s label below formed fit

@@ -10,10 +10,10 @@ use Rattle.mm_proof.specs.Visits.{Visit, makes, repeats, keeps, visits, trees_ma
 pub use Rattle.mm_proof.specs.Mirror.SharedSteps.{Covers, Careful, after}
 use Rattle.mm_proof.proofs.Members.{In, get_in, in_push, Once, in_get, contains_in, in_apart}
 use Rattle.mm_proof.proofs.Members.{once_indices}
-use Rattle.mm_proof.specs.BigSubtrees.{IsBig, StandOnce}
+use Rattle.mm_proof.specs.BigSubtrees.{StandOnce}
 use Rattle.std.proofs.lemmas.Option.{same_Some, slice_get_within}
 use Rattle.mm_text.proofs.Lists.{get_kept}
-use Rattle.mm_proof.specs.Sharing.{MakeOnce, KeepMade, ShareAll}
+use Rattle.mm_proof.specs.Sharing.{MakeOnce, KeepMade, ShareThose}
 
 -- ==== how steps make trees: each tree is repeated, or its children are made and then itself. Steps
 -- that make no tree twice, and repeat what was made, are one list
@@ -112,47 +112,48 @@ after-append made [] w = refl
 after-append made (makes u ∷ v) w = after-append (u ∷ made) v w
 after-append made (x ∷ v) w = after-append made v w
 
-pub careful_apart : (made : List Trees) (v w : List Visit) → Careful made (v ++ w) → Careful made v
-    × Careful (after made v) w
-careful_apart made [] w c = (tt, c)
-careful_apart made (makes u ∷ v) w c = let h = careful_apart (u ∷ made) v w c.1 in ((c.0, h.0), h.1)
-careful_apart made (repeats u ∷ v) w c = let h = careful_apart made v w c.1 in ((c.0, h.0), h.1)
-careful_apart made (keeps u ∷ v) w c = careful_apart made v w c
+pub careful_apart : (P : Trees → Type 0) (made : List Trees) (v w : List Visit)
+    → Careful P made (v ++ w) → Careful P made v × Careful P (after made v) w
+careful_apart P made [] w c = (tt, c)
+careful_apart P made (makes u ∷ v) w c =
+    let h = careful_apart P (u ∷ made) v w c.1 in ((c.0, h.0), h.1)
+careful_apart P made (repeats u ∷ v) w c = let h = careful_apart P made v w c.1 in ((c.0, h.0), h.1)
+careful_apart P made (keeps u ∷ v) w c = careful_apart P made v w c
 
-pub careful_join : (made : List Trees) (v w : List Visit) → Careful made v
-    → Careful (after made v) w → Careful made (v ++ w)
-careful_join made [] w c d = d
-careful_join made (makes u ∷ v) w c d = (c.0, careful_join (u ∷ made) v w c.1 d)
-careful_join made (repeats u ∷ v) w c d = (c.0, careful_join made v w c.1 d)
-careful_join made (keeps u ∷ v) w c d = careful_join made v w c d
+pub careful_join : (P : Trees → Type 0) (made : List Trees) (v w : List Visit) → Careful P made v
+    → Careful P (after made v) w → Careful P made (v ++ w)
+careful_join P made [] w c d = d
+careful_join P made (makes u ∷ v) w c d = (c.0, careful_join P (u ∷ made) v w c.1 d)
+careful_join P made (repeats u ∷ v) w c d = (c.0, careful_join P made v w c.1 d)
+careful_join P made (keeps u ∷ v) w c d = careful_join P made v w c d
 
 -- a tree isn't both repeated and made
-repeated_or_made : (made : List Trees) (inner : List Visit) (t : Trees)
-    → Careful made (repeats t ∷ []) → Careful made (inner ++ makes t ∷ []) → ⊥
-repeated_or_made made inner t c d =
-    (careful_apart made inner (makes t ∷ []) d).1.0 (c.0.0, after_has made inner t c.0.1)
+repeated_or_made : (P : Trees → Type 0) (made : List Trees) (inner : List Visit) (t : Trees)
+    → Careful P made (repeats t ∷ []) → Careful P made (inner ++ makes t ∷ []) → ⊥
+repeated_or_made P made inner t c d =
+    (careful_apart P made inner (makes t ∷ []) d).1.0 (c.0.0, after_has made inner t c.0.1)
 
 -- such steps are determined by what they cover
-one_cover : (trees : Trees) (made : List Trees) (v w : List Visit) → Covers trees v
-    → Covers trees w → Careful made v → Careful made w → v ≡ w
-one_cover none made v w p q c d = p ∙ sym q
-one_cover (tree label below right) made v w p q c d =
+one_cover : (P : Trees → Type 0) (trees : Trees) (made : List Trees) (v w : List Visit)
+    → Covers trees v → Covers trees w → Careful P made v → Careful P made w → v ≡ w
+one_cover P none made v w p q c d = p ∙ sym q
+one_cover P (tree label below right) made v w p q c d =
     let t : Trees = tree label below none in
-    let cv = careful_apart made p.0 p.1 (subst (Careful made) p.2 c) in
-    let cw = careful_apart made q.0 q.1 (subst (Careful made) q.2 d) in
+    let cv = careful_apart P made p.0 p.1 (subst (Careful P made) p.2 c) in
+    let cw = careful_apart P made q.0 q.1 (subst (Careful P made) q.2 d) in
     let here : p.0 ≡ q.0 = ⊎_elim
     (λ a. ⊎_elim
     (λ b. a ∙ sym b)
-    (λ b. absurd (repeated_or_made made b.0 t (rw a at cv.0) (rw b.1 at cw.0))) q.4)
+    (λ b. absurd (repeated_or_made P made b.0 t (rw a at cv.0) (rw b.1 at cw.0))) q.4)
     (λ a. ⊎_elim
-    (λ b. absurd (repeated_or_made made a.0 t (rw b at cw.0) (rw a.1 at cv.0)))
+    (λ b. absurd (repeated_or_made P made a.0 t (rw b at cw.0) (rw a.1 at cv.0)))
     (λ b.
-    let ca = careful_apart made a.0 (makes t ∷ []) (subst (Careful made) a.1 cv.0) in
-    let cb = careful_apart made b.0 (makes t ∷ []) (subst (Careful made) b.1 cw.0) in
-    a.1 ∙ ap (λ x. x ++ makes t ∷ []) (one_cover below made a.0 b.0 a.2 b.2 ca.0 cb.0) ∙ sym b.1)
+    let ca = careful_apart P made a.0 (makes t ∷ []) (subst (Careful P made) a.1 cv.0) in
+    let cb = careful_apart P made b.0 (makes t ∷ []) (subst (Careful P made) b.1 cw.0) in
+    a.1 ∙ ap (λ x. x ++ makes t ∷ []) (one_cover P below made a.0 b.0 a.2 b.2 ca.0 cb.0) ∙ sym b.1)
     q.4) p.4 in
-    let later : p.1 ≡ q.1 = one_cover right (after made q.0) p.1 q.1 p.3 q.3
-    (subst (λ x. Careful (after made x) p.1) here cv.1) cw.1 in
+    let later : p.1 ≡ q.1 = one_cover P right (after made q.0) p.1 q.1 p.3 q.3
+    (subst (λ x. Careful P (after made x) p.1) here cv.1) cw.1 in
     p.2 ∙ ap (λ x. x ++ p.1) here ∙ ap (λ x. q.0 ++ x) later ∙ sym q.2
 
 -- ==== what moves that share all do, said of each visit by those before it; and that it is told by
@@ -160,18 +161,18 @@ one_cover (tree label below right) made v w p q c d =
 
 -- The visits, after those done, the last of which comes first: none makes a big tree again, each
 -- repeats a kept one, and each keeps the big tree that was just made.
-abbrev pub Tidy : (done : List Visit) → List Visit → Type 0
-Tidy done [] = Unit {0}
-Tidy done (makes t ∷ v) = (IsBig t → ¬ (In done (makes t))) × Tidy (makes t ∷ done) v
-Tidy done (repeats t ∷ v) = In done (keeps t) × Tidy (repeats t ∷ done) v
-Tidy done (keeps t ∷ v) = IsBig t × ((rest : List Visit) × (done ≡ makes t ∷ rest))
-    × Tidy (keeps t ∷ done) v
+abbrev pub Tidy : (P : Trees → Type 0) → (done : List Visit) → List Visit → Type 0
+Tidy P done [] = Unit {0}
+Tidy P done (makes t ∷ v) = (P t → ¬ (In done (makes t))) × Tidy P (makes t ∷ done) v
+Tidy P done (repeats t ∷ v) = In done (keeps t) × Tidy P (repeats t ∷ done) v
+Tidy P done (keeps t ∷ v) = P t × ((rest : List Visit) × (done ≡ makes t ∷ rest))
+    × Tidy P (keeps t ∷ done) v
 
 -- ---- what the visits that are done say
 
 -- what is kept is big, and was made
-abbrev pub KeepsMade : List Visit → Type 0
-KeepsMade done = (t : Trees) → In done (keeps t) → IsBig t × In done (makes t)
+abbrev pub KeepsMade : (P : Trees → Type 0) → List Visit → Type 0
+KeepsMade P done = (t : Trees) → In done (keeps t) → P t × In done (makes t)
 
 -- ---- the trees made, and the visits that make them
 
@@ -185,40 +186,42 @@ visit_made [] t h = absurd h
 visit_made (x ∷ v) t h = let ih = visit_made v t in grind arith
 
 -- tidy visits are careful steps
-tidy_careful : (v done : List Visit) → KeepsMade done → Tidy done v
-    → Careful (trees_made done) (strip v)
-tidy_careful [] done k c = tt
-tidy_careful (makes t ∷ v) done k c =
-    (λ h. c.0 h.0 (made_visit done t h.1), tidy_careful v (makes t ∷ done) (λ u h. grind arith) c.1)
-tidy_careful (repeats t ∷ v) done k c =
+tidy_careful : (P : Trees → Type 0) (v done : List Visit) → KeepsMade P done → Tidy P done v
+    → Careful P (trees_made done) (strip v)
+tidy_careful P [] done k c = tt
+tidy_careful P (makes t ∷ v) done k c = (
+  λ h. c.0 h.0 (made_visit done t h.1),
+  tidy_careful P v (makes t ∷ done) (λ u h. grind arith) c.1,
+)
+tidy_careful P (repeats t ∷ v) done k c =
     let g = k t c.0 in
-    ((g.0, visit_made done t g.1), tidy_careful v (repeats t ∷ done) (λ u h. grind arith) c.1)
-tidy_careful (keeps t ∷ v) done k c = tidy_careful v (keeps t ∷ done) (λ u h. grind arith) c.2
+    ((g.0, visit_made done t g.1), tidy_careful P v (repeats t ∷ done) (λ u h. grind arith) c.1)
+tidy_careful P (keeps t ∷ v) done k c = tidy_careful P v (keeps t ∷ done) (λ u h. grind arith) c.2
 
 -- ---- a tree that was made and isn't kept next is never kept, and so never repeated
 
 -- the visit before one that keeps made the tree
-next_keeps : (x : Visit) (done v rest : List Visit) (t : Trees) → Tidy (x ∷ done) v
-    → v ≡ keeps t ∷ rest → IsBig t × (x ≡ makes t)
-next_keeps x done v rest t c e =
-    let d : Tidy (x ∷ done) (keeps t ∷ rest) = rw e at c in (d.0, cc d.1.1)
+next_keeps : (P : Trees → Type 0) (x : Visit) (done v rest : List Visit) (t : Trees)
+    → Tidy P (x ∷ done) v → v ≡ keeps t ∷ rest → P t × (x ≡ makes t)
+next_keeps P x done v rest t c e =
+    let d : Tidy P (x ∷ done) (keeps t ∷ rest) = rw e at c in (d.0, cc d.1.1)
 
-pub not_kept : (v done : List Visit) (t : Trees) → Tidy done v → In done (makes t)
-    → ((rest : List Visit) → v ≡ keeps t ∷ rest → ⊥) → In v (keeps t) → ⊥
-not_kept [] done t c made next h = h
-not_kept (x ∷ v) done t c made next (inl e) = next v (ap (λ y. y ∷ v) e)
-not_kept (keeps u ∷ v) done t c made next (inr h) = not_kept v (keeps u ∷ done) t c.2 (inr made)
-    (λ rest e. let n = next_keeps (keeps u) done v rest t c.2 e in cc) h
-not_kept (x ∷ v) done t c made next (inr h) = not_kept v (x ∷ done) t c.1 (inr made)
-    (λ rest e. let n = next_keeps x done v rest t c.1 e in grind arith) h
+pub not_kept : (P : Trees → Type 0) (v done : List Visit) (t : Trees) → Tidy P done v
+    → In done (makes t) → ((rest : List Visit) → v ≡ keeps t ∷ rest → ⊥) → In v (keeps t) → ⊥
+not_kept P [] done t c made next h = h
+not_kept P (x ∷ v) done t c made next (inl e) = next v (ap (λ y. y ∷ v) e)
+not_kept P (keeps u ∷ v) done t c made next (inr h) = not_kept P v (keeps u ∷ done) t c.2 (inr made)
+    (λ rest e. let n = next_keeps P (keeps u) done v rest t c.2 e in cc) h
+not_kept P (x ∷ v) done t c made next (inr h) = not_kept P v (x ∷ done) t c.1 (inr made)
+    (λ rest e. let n = next_keeps P x done v rest t c.1 e in grind arith) h
 
 -- what is repeated is kept before
-repeated_kept : (v done : List Visit) (t : Trees) → Tidy done v → In v (repeats t)
-    → In done (keeps t) ⊎ In v (keeps t)
-repeated_kept [] done t c h = absurd h
-repeated_kept (keeps u ∷ v) done t c h =
-    let k = repeated_kept v (keeps u ∷ done) t c.2 in grind arith
-repeated_kept (x ∷ v) done t c h = let k = repeated_kept v (x ∷ done) t c.1 in grind arith
+repeated_kept : (P : Trees → Type 0) (v done : List Visit) (t : Trees) → Tidy P done v
+    → In v (repeats t) → In done (keeps t) ⊎ In v (keeps t)
+repeated_kept P [] done t c h = absurd h
+repeated_kept P (keeps u ∷ v) done t c h =
+    let k = repeated_kept P v (keeps u ∷ done) t c.2 in grind arith
+repeated_kept P (x ∷ v) done t c h = let k = repeated_kept P v (x ∷ done) t c.1 in grind arith
 
 -- ---- where marks stand is told by the steps
 
@@ -246,41 +249,41 @@ unmark (keeps t ∷ v) = v
 unmark v = v
 
 -- a mark follows only what is made, so that one behind something else is none
-tidy_marked : (whole v done : List Visit) → KeepsMade done
-    → ((t : Trees) → In done (repeats t) → In done (keeps t)) → Tidy done v
+tidy_marked : (P : Trees → Type 0) (whole v done : List Visit) → KeepsMade P done
+    → ((t : Trees) → In done (repeats t) → In done (keeps t)) → Tidy P done v
     → ((t : Trees) → In whole (repeats t) → In done (repeats t) ⊎ In v (repeats t))
     → ((t : Trees) → In v (keeps t) → In whole (repeats t))
     → Marked whole (strip v) (unmark v)
-tidy_marked whole [] done k r c parts refer = refl
-tidy_marked whole (makes t ∷ keeps u ∷ v) done k r c parts refer =
+tidy_marked P whole [] done k r c parts refer = refl
+tidy_marked P whole (makes t ∷ keeps u ∷ v) done k r c parts refer =
     let same : t ≡ u = cc c.1.1.1 in (
       v,
-      tidy_marked whole (keeps u ∷ v) (makes t ∷ done) (λ x h. grind arith) (λ x h. grind arith) c.1
-          (λ x h. let p = parts x h in grind arith) (λ x h. refer x (inr h)),
+      tidy_marked P whole (keeps u ∷ v) (makes t ∷ done) (λ x h. grind arith)
+          (λ x h. grind arith) c.1 (λ x h. let p = parts x h in grind arith) (λ x h. refer x (inr h)),
       inl (refer t (inr (inl cc)), cc),
     )
-tidy_marked whole (makes t ∷ v) done k r c parts refer = (
+tidy_marked P whole (makes t ∷ v) done k r c parts refer = (
   v,
-  tidy_marked whole v (makes t ∷ done) (λ x h. grind arith) (λ x h. grind arith) c.1
+  tidy_marked P whole v (makes t ∷ done) (λ x h. grind arith) (λ x h. grind arith) c.1
       (λ x h. let p = parts x h in grind arith) (λ x h. refer x (inr h)),
   inr (
     λ has.
-        let kept = repeated_kept v (makes t ∷ done) t c.1 in
-        let never = not_kept v (makes t ∷ done) t c.1 (inl refl) (λ rest e. cc) in
+        let kept = repeated_kept P v (makes t ∷ done) t c.1 in
+        let never = not_kept P v (makes t ∷ done) t c.1 (inl refl) (λ rest e. cc) in
         let p = parts t has in grind arith,
     refl,
   ),
 )
-tidy_marked whole (repeats t ∷ keeps u ∷ v) done k r c parts refer = absurd (cc c.1.1.1)
-tidy_marked whole (repeats t ∷ v) done k r c parts refer = (
+tidy_marked P whole (repeats t ∷ keeps u ∷ v) done k r c parts refer = absurd (cc c.1.1.1)
+tidy_marked P whole (repeats t ∷ v) done k r c parts refer = (
   v,
-  tidy_marked whole v (repeats t ∷ done) (λ x h. grind arith) (λ x h. grind arith) c.1
+  tidy_marked P whole v (repeats t ∷ done) (λ x h. grind arith) (λ x h. grind arith) c.1
       (λ x h. let p = parts x h in grind arith) (λ x h. refer x (inr h)),
   refl,
 )
-tidy_marked whole (keeps t ∷ keeps u ∷ v) done k r c parts refer = absurd (cc c.2.1.1)
-tidy_marked whole (keeps t ∷ v) done k r c parts refer =
-    tidy_marked whole v (keeps t ∷ done) (λ x h. grind arith) (λ x h. grind arith) c.2
+tidy_marked P whole (keeps t ∷ keeps u ∷ v) done k r c parts refer = absurd (cc c.2.1.1)
+tidy_marked P whole (keeps t ∷ v) done k r c parts refer =
+    tidy_marked P whole v (keeps t ∷ done) (λ x h. grind arith) (λ x h. grind arith) c.2
     (λ x h. let p = parts x h in grind arith) (λ x h. refer x (inr h))
 
 -- ---- what is kept is kept once
@@ -299,19 +302,19 @@ pub visit_kept : (v : List Visit) (t : Trees) → In v (keeps t) → In (trees_k
 visit_kept [] t h = absurd h
 visit_kept (x ∷ v) t h = let ih = visit_kept v t in grind arith
 
-pub tidy_once : (v done : List Visit) → Tidy done v → Once (trees_kept v)
-tidy_once [] done c = tt
-tidy_once (keeps t ∷ v) done c = (
-  λ h. not_kept v (keeps t ∷ done) t c.2 (inr (rw c.1.1 (inl refl)))
-      (λ rest e. let n = next_keeps (keeps t) done v rest t c.2 e in cc) (kept_visit v t h),
-  tidy_once v (keeps t ∷ done) c.2,
+pub tidy_once : (P : Trees → Type 0) (v done : List Visit) → Tidy P done v → Once (trees_kept v)
+tidy_once P [] done c = tt
+tidy_once P (keeps t ∷ v) done c = (
+  λ h. not_kept P v (keeps t ∷ done) t c.2 (inr (rw c.1.1 (inl refl)))
+      (λ rest e. let n = next_keeps P (keeps t) done v rest t c.2 e in cc) (kept_visit v t h),
+  tidy_once P v (keeps t ∷ done) c.2,
 )
-tidy_once (x ∷ v) done c = tidy_once v (x ∷ done) c.1
+tidy_once P (x ∷ v) done c = tidy_once P v (x ∷ done) c.1
 
 -- no mark comes first
-bare_prefix : (v : List Visit) → Tidy [] v → unmark v ≡ v
-bare_prefix (keeps t ∷ v) c = absurd (let e : [] ≡ makes t ∷ c.1.0 = c.1.1 in cc)
-bare_prefix v c = refl
+bare_prefix : (P : Trees → Type 0) (v : List Visit) → Tidy P [] v → unmark v ≡ v
+bare_prefix P (keeps t ∷ v) c = absurd (let e : [] ≡ makes t ∷ c.1.0 = c.1.1 in cc)
+bare_prefix P v c = refl
 
 -- ==== moves that share all and make the same trees are the same
 
@@ -390,14 +393,14 @@ just_done (y ∷ done) v j x long there =
 
 module _ (before : List Sentence) where
   -- where what is kept so far was kept by a mark that is done
-  tidy_of : (moves : List (Move (List ℕ))) (row : Trees) (kept : List Trees) (row' : Trees)
-      (kept' : List Trees) (m : Makes before moves row kept row' kept') (done : List Visit)
+  tidy_of : (P : Trees → Type 0) (moves : List (Move (List ℕ))) (row : Trees)
+      (kept : List Trees) (row' : Trees) (kept' : List Trees) (m : Makes before moves row kept row' kept') (done : List Visit)
       → ((t : Trees) → In kept t → In done (keeps t))
-      → MakeOnce (onto done (visits before moves row kept row' kept' m))
-      → KeepMade (onto done (visits before moves row kept row' kept' m))
-      → Tidy done (visits before moves row kept row' kept' m)
-  tidy_of [] row kept row' kept' m done are once marked = tt
-  tidy_of (name label ∷ moves) row kept row' kept' m done are once marked =
+      → MakeOnce P (onto done (visits before moves row kept row' kept' m))
+      → KeepMade P (onto done (visits before moves row kept row' kept' m))
+      → Tidy P done (visits before moves row kept row' kept' m)
+  tidy_of P [] row kept row' kept' m done are once marked = tt
+  tidy_of P (name label ∷ moves) row kept row' kept' m done are once marked =
       let t : Trees = tree label m.2.1 none in
       let later : List Visit = visits before moves m.0 m.1 row' kept' m.3 in (
         λ big has.
@@ -405,21 +408,21 @@ module _ (before : List Sentence) where
             let same : g.0 ≡ length done + 0 = once g.0 (length done + 0) t big g.2
             (at_later done (makes t ∷ later) 0) in
             absurd (omega (arith, g.1, same)),
-        tidy_of moves m.0 m.1 row' kept' m.3 (makes t ∷ done)
+        tidy_of P moves m.0 m.1 row' kept' m.3 (makes t ∷ done)
             (λ u h. inr (are u (rw m.2.5 at h))) once marked,
       )
-  tidy_of (again tag ∷ moves) row kept row' kept' m done are once marked = (
+  tidy_of P (again tag ∷ moves) row kept row' kept' m done are once marked = (
     are m.2.0 (get_in kept tag m.2.0 m.2.1),
-    tidy_of moves m.0 m.1 row' kept' m.3 (repeats m.2.0 ∷ done)
+    tidy_of P moves m.0 m.1 row' kept' m.3 (repeats m.2.0 ∷ done)
         (λ u h. inr (are u (rw m.2.3 at h))) once marked,
   )
-  tidy_of (mark ∷ moves) row kept row' kept' m done are once marked =
+  tidy_of P (mark ∷ moves) row kept row' kept' m done are once marked =
       let t : Trees = tree m.2.1 m.2.2 none in
       let later : List Visit = visits before moves m.0 m.1 row' kept' m.3 in
       let g = marked (length done + 0) t (at_later done (keeps t ∷ later) 0) in (
         g.0,
         just_done done (keeps t ∷ later) g.1 (makes t) (omega (arith, g.2)) g.3,
-        tidy_of moves m.0 m.1 row' kept' m.3 (keeps t ∷ done)
+        tidy_of P moves m.0 m.1 row' kept' m.3 (keeps t ∷ done)
             (λ u h.
             let k = in_apart kept (t ∷ []) u (rw m.2.5 at h) in
             let old = are u in grind arith) once marked,
@@ -469,18 +472,18 @@ pub made_covers : (before : List Sentence) (trees : Trees) (moves : List (Move (
 made_covers before trees moves kept m = covers_made before moves none [] trees kept m []
     (λ t h. absurd h) refl
 
-module _ (before : List Sentence) (trees : Trees) (moves : List (Move (List ℕ)))
-    (s : ShareAll before trees moves) where
+module _ {P : Trees → Type 0} (before : List Sentence) (trees : Trees)
+    (moves : List (Move (List ℕ))) (s : ShareThose P before trees moves) where
   -- what the moves do
   abbrev pub course : List Visit
   course = visits before moves none [] trees s.kept s.made
 
-  pub shared_tidy : Tidy [] course
+  pub shared_tidy : Tidy P [] course
   shared_tidy =
-      tidy_of before moves none [] trees s.kept s.made [] (λ t h. absurd h) s.once s.marked
+      tidy_of before P moves none [] trees s.kept s.made [] (λ t h. absurd h) s.once s.marked
 
-  shared_careful : Careful [] (strip course)
-  shared_careful = tidy_careful course [] (λ t h. absurd h) shared_tidy
+  pub shared_careful : Careful P [] (strip course)
+  shared_careful = tidy_careful P course [] (λ t h. absurd h) shared_tidy
 
   -- what is kept is repeated
   shared_referred : (t : Trees) → In course (keeps t) → In course (repeats t)
@@ -494,23 +497,24 @@ module _ (before : List Sentence) (trees : Trees) (moves : List (Move (List ℕ)
       let same : g.0 ≡ t = cc in rw same at g.2
 
   shared_marked : Marked (strip course) (strip course) course
-  shared_marked = rw (bare_prefix course shared_tidy) at
-      (tidy_marked (strip course) course [] (λ t h. absurd h) (λ t h. absurd h) shared_tidy
+  shared_marked = rw (bare_prefix P course shared_tidy) at
+      (tidy_marked P (strip course) course [] (λ t h. absurd h) (λ t h. absurd h) shared_tidy
       (λ t h. inr (strip_repeats course t h))
       (λ t h. repeats_strip course t (shared_referred t h)))
 
   pub shared_kept_once : StandOnce s.kept
   shared_kept_once i j t =
       once_indices s.kept i j t
-      (rw (kept_are before moves none [] trees s.kept s.made) (tidy_once course [] shared_tidy))
+      (rw (kept_are before moves none [] trees s.kept s.made) (tidy_once P course [] shared_tidy))
 
-pub shared_once : (before : List Sentence) (trees : Trees) (moves moves' : List (Move (List ℕ)))
-    → ShareAll before trees moves → ShareAll before trees moves' → moves ≡ moves'
-shared_once before trees moves moves' s s' =
+pub shared_once : (P : Trees → Type 0) (before : List Sentence) (trees : Trees)
+    (moves moves' : List (Move (List ℕ))) → ShareThose P before trees moves
+    → ShareThose P before trees moves' → moves ≡ moves'
+shared_once P before trees moves moves' s s' =
     let v : List Visit = course before trees moves s in
     let w : List Visit = course before trees moves' s' in
     let steps : strip v ≡ strip w =
-    one_cover trees [] (strip v) (strip w) (made_covers before trees moves s.kept s.made)
+    one_cover P trees [] (strip v) (strip w) (made_covers before trees moves s.kept s.made)
     (made_covers before trees moves' s'.kept s'.made)
     (shared_careful before trees moves s) (shared_careful before trees moves' s') in
     let same : v ≡ w =

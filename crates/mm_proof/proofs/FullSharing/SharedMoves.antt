@@ -5,9 +5,8 @@ use Rattle.std.proofs.lemmas.Option.{slice_get-get_or}
 use Rattle.mm_frame.specs.Sentence.{Sentence}
 use Rattle.mm_proof.specs.Tree.{Trees, none, tree, beside, MayStandOver, TreesFit}
 use Rattle.mm_proof.specs.Moves.{Move, name, again, mark, Makes}
-use Rattle.mm_proof.specs.BigSubtrees.{IsBig}
 use Rattle.mm_proof.specs.Visits.{Visit, makes, repeats, keeps, visit, visits}
-use Rattle.mm_proof.specs.Sharing.{MakeOnce, KeepMade, ShareAll}
+use Rattle.mm_proof.specs.Sharing.{MakeOnce, KeepMade, ShareThose}
 use Rattle.mm_proof.proofs.ProofSteps.Derivations.{beside-none, beside_assoc}
 use Rattle.mm_proof.proofs.Members.{In, in_get, get_in, in_contains, in_left, in_right, Once}
 use Rattle.mm_proof.proofs.Members.{once_indices}
@@ -17,7 +16,7 @@ use Rattle.mm_proof.proofs.FullSharing.OneSharing.{onto, kept_stays, kept_are}
 use Rattle.mm_proof.proofs.FullSharing.FewestSteps.{not_made_again, tidy_later}
 use Rattle.mm_proof.proofs.FullSharing.SomeSharing.{some_cover, covers_no_keeps, some_marks}
 use Rattle.mm_proof.proofs.FullSharing.SomeSharing.{marked_kept, marked_repeats, marked_tidy}
-use Rattle.mm_proof.proofs.FullSharing.SomeSharing.{careful_big}
+use Rattle.mm_proof.proofs.FullSharing.SomeSharing.{careful_those}
 
 module _ (before : List Sentence) where
   -- the moves lead from the first row and kept trees to the second, and do these visits
@@ -54,11 +53,12 @@ marked_apart whole (repeats t ∷ x) y v m =
     let h = marked_apart whole x y m.0 m.1 in (repeats t ∷ h.0, h.1, cc, (h.0, h.3, refl), h.4)
 marked_apart whole (keeps t ∷ x) y v m = absurd m
 
-tidy_apart : (done v w : List Visit) → Tidy done (v ++ w) → Tidy done v × Tidy (onto v done) w
-tidy_apart done [] w c = (tt, c)
-tidy_apart done (keeps t ∷ v) w c = let h = tidy_apart (keeps t ∷ done) v w c.2 in
+tidy_apart : (P : Trees → Type 0) (done v w : List Visit) → Tidy P done (v ++ w)
+    → Tidy P done v × Tidy P (onto v done) w
+tidy_apart P done [] w c = (tt, c)
+tidy_apart P done (keeps t ∷ v) w c = let h = tidy_apart P (keeps t ∷ done) v w c.2 in
     ((c.0, c.1, h.0), h.1)
-tidy_apart done (x ∷ v) w c = let h = tidy_apart (x ∷ done) v w c.1 in ((c.0, h.0), h.1)
+tidy_apart P done (x ∷ v) w c = let h = tidy_apart P (x ∷ done) v w c.1 in ((c.0, h.0), h.1)
 
 in_onto : (v done : List Visit) (x : Visit) → In (onto v done) x → In v x ⊎ In done x
 in_onto [] done x h = inr h
@@ -120,9 +120,9 @@ module _ (before : List Sentence) (whole : List Visit) where
       }) m.2
 
   -- the step by a tag
-  leads_again : (t row : Trees) (kept : List Trees) (done v : List Visit) → HasKept done kept
-      → Tidy done v → Marked whole (repeats t ∷ []) v → Leads before row kept (beside row t) v
-  leads_again t row kept done v has c m =
+  leads_again : (P : Trees → Type 0) (t row : Trees) (kept : List Trees) (done v : List Visit)
+      → HasKept done kept → Tidy P done v → Marked whole (repeats t ∷ []) v → Leads before row kept (beside row t) v
+  leads_again P t row kept done v has c m =
       let e : v ≡ repeats t ∷ [] = cc in
       let at = in_get kept t (has t (rw e at c).0) in
       record {
@@ -131,66 +131,69 @@ module _ (before : List Sentence) (whole : List Visit) where
         led = ((beside row t, kept, (t, at.1, refl, refl), (refl, refl)), sym e);
       }
 
-  leads_to : (trees row : Trees) (kept : List Trees) (steps done v : List Visit)
-      → TreesFit before trees → Covers trees steps → Marked whole steps v → Tidy done v
+  leads_to : (P : Trees → Type 0) (trees row : Trees) (kept : List Trees)
+      (steps done v : List Visit)
+      → TreesFit before trees → Covers trees steps → Marked whole steps v → Tidy P done v
       → HasKept done kept → Leads before row kept (beside row trees) v
-  leads_to none row kept steps done v fit covers m c has =
+  leads_to P none row kept steps done v fit covers m c has =
       record { moves = []; kept' = kept; led = ((beside-none row, refl), sym (rw covers at m)) }
-  leads_to (tree label below right) row kept steps done v fit covers m c has =
+  leads_to P (tree label below right) row kept steps done v fit covers m c has =
       let t : Trees = tree label below none in
       let parts = marked_apart whole covers.0 covers.1 v (rw covers.2 at m) in
-      let tidy = tidy_apart done parts.0 parts.1 (rw parts.2 at c) in
+      let tidy = tidy_apart P done parts.0 parts.1 (rw parts.2 at c) in
       let first : Leads before row kept (beside row t) parts.0 = ⊎_elim
-      (λ a. leads_again t row kept done parts.0 has tidy.0
+      (λ a. leads_again P t row kept done parts.0 has tidy.0
       (subst (λ s. Marked whole s parts.0) a parts.3))
       (λ a.
       let inner = marked_apart whole a.0 (makes t ∷ []) parts.0
       (subst (λ s. Marked whole s parts.0) a.1 parts.3) in
-      let within = tidy_apart done inner.0 inner.1 (rw inner.2 at tidy.0) in
-      let p = leads_to below row kept a.0 done inner.0 fit.1 a.2 inner.3 within.0 has in
+      let within = tidy_apart P done inner.0 inner.1 (rw inner.2 at tidy.0) in
+      let p = leads_to P below row kept a.0 done inner.0 fit.1 a.2 inner.3 within.0 has in
       rw inner.2
       (leads_join p (leads_label label row below p.kept' inner.1 fit.0 inner.4)))
       covers.4 in
       let second : Leads before (beside row t) first.kept' (beside (beside row t) right) parts.1 =
-      leads_to right (beside row t) first.kept' covers.1
+      leads_to P right (beside row t) first.kept' covers.1
       (onto parts.0 done) parts.1 fit.2 covers.3 parts.4 tidy.1
       (has_after before first.moves row (beside row t) kept first.kept' parts.0 done first.led has) in
       rw parts.2 (leads_join first (rw (beside_assoc row t right) at second))
 
 -- ---- what is said of tidy visits, by indices
 
-not_twice : (x : Visit) (v done : List Visit) (t : Trees) (j : ℕ) → Tidy done (x ∷ v) → IsBig t
-    → x ≡ makes t → slice_get v j ≡ Some (makes t) → ⊥
-not_twice x v done t j c big e q =
-    let d : Tidy done (makes t ∷ v) = rw e at c in
-    not_made_again v (makes t ∷ done) t d.1 (inl refl) big (visit_made v t (get_in v j _ q))
+not_twice : (P : Trees → Type 0) (x : Visit) (v done : List Visit) (t : Trees) (j : ℕ)
+    → Tidy P done (x ∷ v) → P t → x ≡ makes t → slice_get v j ≡ Some (makes t) → ⊥
+not_twice P x v done t j c big e q =
+    let d : Tidy P done (makes t ∷ v) = rw e at c in
+    not_made_again P v (makes t ∷ done) t d.1 (inl refl) big (visit_made v t (get_in v j _ q))
 
-tidy_make_once : (v done : List Visit) → Tidy done v → MakeOnce v
-tidy_make_once [] done c i j t big p q = absurd cc
-tidy_make_once (x ∷ v) done c zero zero t big p q = refl
-tidy_make_once (x ∷ v) done c zero (suc j) t big p q = absurd (not_twice x v done t j c big (cc) q)
-tidy_make_once (x ∷ v) done c (suc i) zero t big p q = absurd (not_twice x v done t i c big (cc) p)
-tidy_make_once (x ∷ v) done c (suc i) (suc j) t big p q = ap suc
-    (tidy_make_once v (x ∷ done) (tidy_later x v done c) i j t big p q)
+tidy_make_once : (P : Trees → Type 0) (v done : List Visit) → Tidy P done v → MakeOnce P v
+tidy_make_once P [] done c i j t big p q = absurd cc
+tidy_make_once P (x ∷ v) done c zero zero t big p q = refl
+tidy_make_once P (x ∷ v) done c zero (suc j) t big p q =
+    absurd (not_twice P x v done t j c big (cc) q)
+tidy_make_once P (x ∷ v) done c (suc i) zero t big p q =
+    absurd (not_twice P x v done t i c big (cc) p)
+tidy_make_once P (x ∷ v) done c (suc i) (suc j) t big p q = ap suc
+    (tidy_make_once P v (x ∷ done) (tidy_later P x v done c) i j t big p q)
 
 -- what a mark keeps was just made: by the last visit that is done, or by the one before the mark
-tidy_just : (v done : List Visit) (i : ℕ) (t : Trees) → Tidy done v → slice_get v i ≡ Some (keeps t)
-    → IsBig t × (((i ≡ 0) × (rest : List Visit) × (done ≡ makes t ∷ rest))
+tidy_just : (P : Trees → Type 0) (v done : List Visit) (i : ℕ) (t : Trees) → Tidy P done v
+    → slice_get v i ≡ Some (keeps t) → P t × (((i ≡ 0) × (rest : List Visit) × (done ≡ makes t ∷ rest))
     ⊎ ((j : ℕ) × (i ≡ j + 1) × (slice_get v j ≡ Some (makes t))))
-tidy_just [] done i t c p = absurd cc
-tidy_just (keeps u ∷ v) done zero t c p =
+tidy_just P [] done i t c p = absurd cc
+tidy_just P (keeps u ∷ v) done zero t c p =
     let same : u ≡ t = cc in (rw same at c.0, inl (refl, c.1.0, rw (← same) c.1.1))
-tidy_just (x ∷ v) done zero t c p = absurd cc
-tidy_just (x ∷ v) done (suc i) t c p =
-    let h = tidy_just v (x ∷ done) i t (tidy_later x v done c) p in (
+tidy_just P (x ∷ v) done zero t c p = absurd cc
+tidy_just P (x ∷ v) done (suc i) t c p =
+    let h = tidy_just P v (x ∷ done) i t (tidy_later P x v done c) p in (
       h.0,
       ⊎_elim (λ a. inr (0, omega (arith, a.0), cc a.2))
           (λ a. inr (suc a.0, omega (arith, a.1), a.2)) h.1,
     )
 
-tidy_keep_made : (v : List Visit) → Tidy [] v → KeepMade v
-tidy_keep_made v c i t p =
-    let h = tidy_just v [] i t c p in
+tidy_keep_made : (P : Trees → Type 0) (v : List Visit) → Tidy P [] v → KeepMade P v
+tidy_keep_made P v c i t p =
+    let h = tidy_just P v [] i t c p in
     let r : (j : ℕ) × (i ≡ j + 1) × (slice_get v j ≡ Some (makes t)) = ⊎_elim
     (λ a. absurd (let e : [] ≡ makes t ∷ a.1 = a.2 in cc)) (λ a. a) h.1 in
     (h.0, r.0, r.1, r.2)
@@ -209,30 +212,33 @@ visit_again before (move ∷ moves) row kept row' kept' m t (inl e) = absurd cc
 visit_again before (move ∷ moves) row kept row' kept' m t (inr h) =
     let g = visit_again before moves m.0 m.1 row' kept' m.3 t h in (g.0, inr g.1, g.2)
 
--- ---- moves that share all
+-- ---- moves that share those trees
 
--- moves that share all, for the trees that these steps cover
-pub record SharedMoves (before : List Sentence) (trees : Trees) (steps : List Visit) : Type 0 where
+-- moves that share those, for the trees that these steps cover
+pub record SharedMoves (P : Trees → Type 0) (before : List Sentence) (trees : Trees)
+    (steps : List Visit) : Type 0 where
   pub moves : List (Move (List ℕ))
   pub v : List Visit
   pub marked : Marked steps steps v
   pub kept : List Trees
   pub led : Led before moves none [] trees kept v
   pub once : Once kept
-  pub shared : ShareAll before trees moves
+  pub shared : ShareThose P before trees moves
 
-pub shared_moves : (before : List Sentence) (trees : Trees) (steps : List Visit) → TreesFit before trees
-    → Covers trees steps → Careful [] steps → SharedMoves before trees steps
-shared_moves before trees steps fit covers careful =
+pub shared_moves : (P : Trees → Type 0) (before : List Sentence) (trees : Trees)
+    (steps : List Visit) → TreesFit before trees
+    → Covers trees steps → Careful P [] steps → SharedMoves P before trees steps
+shared_moves P before trees steps fit covers careful =
     let marks = some_marks steps steps (covers_no_keeps trees steps covers) in
     let v : List Visit = marks.0 in
-    let tidy : Tidy [] v = marked_tidy steps steps v []
-    (λ t h. careful_big [] steps t careful h) (λ t h. h) (λ t h needed. absurd h) careful marks.1 in
-    let l = leads_to before steps trees none [] steps [] v fit covers marks.1 tidy
+    let tidy : Tidy P [] v = marked_tidy P steps steps v []
+    (λ t h. careful_those P [] steps t careful h) (λ t h. h) (λ t h needed. absurd h) careful
+    marks.1 in
+    let l = leads_to before steps P trees none [] steps [] v fit covers marks.1 tidy
     (λ t h. absurd h) in
     let kept : l.kept' ≡ trees_kept v =
     rw (kept_are before l.moves none [] trees l.kept' l.led.0, l.led.1) in
-    let once : Once l.kept' = rw kept (tidy_once v [] tidy) in
+    let once : Once l.kept' = rw kept (tidy_once P v [] tidy) in
     record {
       moves = l.moves;
       v = v;
@@ -243,8 +249,8 @@ shared_moves before trees steps fit covers careful =
       shared = record {
         kept = l.kept';
         made = l.led.0;
-        once = rw l.led.1 (tidy_make_once v [] tidy);
-        marked = rw l.led.1 (tidy_keep_made v tidy);
+        once = rw l.led.1 (tidy_make_once P v [] tidy);
+        marked = rw l.led.1 (tidy_keep_made P v tidy);
         referred = λ tag less.
             let t : Trees = get_or l.kept' tag none in
             let there : slice_get l.kept' tag ≡ Some t = slice_get-get_or l.kept' tag none less in
@@ -258,9 +264,10 @@ shared_moves before trees steps fit covers careful =
       };
     }
 
-pub some_shared : (before : List Sentence) (trees : Trees) → TreesFit before trees
-    → (moves : List (Move (List ℕ))) × ShareAll before trees moves
-some_shared before trees fit =
-    let cover = some_cover trees [] in
-    let s = shared_moves before trees cover.0 fit cover.1 cover.2 in
+pub some_shared : (P : Trees → Type 0) → ((t : Trees) → Dec (P t)) → (before : List Sentence)
+    (trees : Trees) → TreesFit before trees
+    → (moves : List (Move (List ℕ))) × ShareThose P before trees moves
+some_shared P each before trees fit =
+    let cover = some_cover P each trees [] in
+    let s = shared_moves P before trees cover.0 fit cover.1 cover.2 in
     (s.moves, s.shared)

@@ -2,11 +2,10 @@
 -- uses them.
 use Rattle.std.proofs.Common.{◌≡◌, ℕ, ◌≤◌, List, [], ◌∷◌, ◌++◌, ◌⊎◌, inl, inr, ⊎_elim, refl, arith}
 use Rattle.std.proofs.Common.{sym, ap, subst, ◌∙◌, append_assoc, append-nil}
-use Rattle.std.proofs.Math.Decide.{dec_le}
 use Rattle.std.proofs.lemmas.List.{length-append}
 use Rattle.mm_frame.proofs.Rules.DecidedStatements.{symbol_dec, dec_as, dec_both, dec_or}
 use Rattle.mm_proof.specs.Tree.{Trees, none, tree, spelling}
-use Rattle.mm_proof.specs.BigSubtrees.{nodes, IsBig, IsSubtree}
+use Rattle.mm_proof.specs.BigSubtrees.{nodes, IsSubtree}
 use Rattle.mm_proof.specs.Visits.{Visit, makes, repeats, keeps, trees_made}
 use Rattle.mm_proof.proofs.Members.{In, in_apart, contains_in, in_contains, in_left, in_right}
 use Rattle.mm_proof.proofs.Members.{in_push}
@@ -74,33 +73,33 @@ covered_made (tree label below right) made v u p h =
 
 -- ---- steps
 
-pub some_cover : (trees : Trees) (made : List Trees) → (v : List Visit) × Covers trees v
-    × Careful made v
-some_cover none made = ([], refl, tt)
-some_cover (tree label below right) made = elim (dec_both (dec_le 2 (nodes t)) (in_dec made t)) [
-  | yes h ↦ join (repeats t ∷ []) (h, tt) (inl refl) (some_cover right made)
+pub some_cover : (P : Trees → Type 0) → ((t : Trees) → Dec (P t)) → (trees : Trees)
+    (made : List Trees) → (v : List Visit) × Covers trees v × Careful P made v
+some_cover P each none made = ([], refl, tt)
+some_cover P each (tree label below right) made = elim (dec_both (each t) (in_dec made t)) [
+  | yes h ↦ join (repeats t ∷ []) (h, tt) (inl refl) (some_cover P each right made)
   | no n ↦
-      let inner = some_cover below made in
-      let fresh : ¬ (IsBig t × In (after made inner.0) t) = λ h. ⊎_elim (λ old. n (h.0, old))
+      let inner = some_cover P each below made in
+      let fresh : ¬ (P t × In (after made inner.0) t) = λ h. ⊎_elim (λ old. n (h.0, old))
       (not_below label below) (covered_made below made inner.0 t inner.1 h.1) in
       join (inner.0 ++ makes t ∷ [])
-      (careful_join made inner.0 (makes t ∷ []) inner.2 (fresh, tt))
+      (careful_join P made inner.0 (makes t ∷ []) inner.2 (fresh, tt))
       (inr (inner.0, refl, inner.1))
-      (some_cover right (after made (inner.0 ++ makes t ∷ [])))
+      (some_cover P each right (after made (inner.0 ++ makes t ∷ [])))
 ]
   where
     t : Trees
     t = tree label below none
 
-    join : (here : List Visit) → Careful made here
+    join : (here : List Visit) → Careful P made here
         → ((here ≡ repeats t ∷ [])
         ⊎ ((inner : List Visit) × (here ≡ inner ++ makes t ∷ []) × Covers below inner))
-        → (later : List Visit) × Covers right later × Careful (after made here) later
-        → (v : List Visit) × Covers (tree label below right) v × Careful made v
+        → (later : List Visit) × Covers right later × Careful P (after made here) later
+        → (v : List Visit) × Covers (tree label below right) v × Careful P made v
     join here c is later = (
       here ++ later.0,
       (here, later.0, refl, later.1, is),
-      careful_join made here later.0 c later.2,
+      careful_join P made here later.0 c later.2,
     )
 
 -- ---- marks
@@ -151,45 +150,47 @@ marked_repeats whole (repeats u ∷ steps) v t m h =
     let later = marked_repeats whole steps m.0 t m.1 in rw m.2 (grind arith)
 marked_repeats whole (keeps u ∷ steps) v t m h = absurd m
 
--- what careful steps repeat is big
-pub careful_big : (made : List Trees) (v : List Visit) (t : Trees) → Careful made v
-    → In v (repeats t) → IsBig t
-careful_big made [] t c h = absurd h
-careful_big made (makes u ∷ v) t c h = let i = careful_big (u ∷ made) v t c.1 in grind arith
-careful_big made (repeats u ∷ v) t c h = let i = careful_big made v t c.1 in grind arith
-careful_big made (keeps u ∷ v) t c h = let i = careful_big made v t c in grind arith
+-- what careful steps repeat is one of those that they share
+pub careful_those : (P : Trees → Type 0) (made : List Trees) (v : List Visit) (t : Trees)
+    → Careful P made v → In v (repeats t) → P t
+careful_those P made [] t c h = absurd h
+careful_those P made (makes u ∷ v) t c h =
+    let i = careful_those P (u ∷ made) v t c.1 in grind arith
+careful_those P made (repeats u ∷ v) t c h = let i = careful_those P made v t c.1 in grind arith
+careful_those P made (keeps u ∷ v) t c h = let i = careful_those P made v t c in grind arith
 
 -- ---- they are tidy
 
 -- where what was made so far, and is repeated by the whole, was kept
-pub marked_tidy : (whole steps v done : List Visit) → ((t : Trees) → In whole (repeats t) → IsBig t)
+pub marked_tidy : (P : Trees → Type 0) (whole steps v done : List Visit)
+    → ((t : Trees) → In whole (repeats t) → P t)
     → ((t : Trees) → In steps (repeats t) → In whole (repeats t))
     → ((t : Trees) → In done (makes t) → In whole (repeats t) → In done (keeps t))
-    → Careful (trees_made done) steps → Marked whole steps v → Tidy done v
-marked_tidy whole [] v done big parts kept c m = rw m tt
-marked_tidy whole (makes t ∷ steps) v done big parts kept c m =
-    let fresh : IsBig t → ¬ (In done (makes t)) = λ is has. c.0 (is, visit_made done t has) in
+    → Careful P (trees_made done) steps → Marked whole steps v → Tidy P done v
+marked_tidy P whole [] v done big parts kept c m = rw m tt
+marked_tidy P whole (makes t ∷ steps) v done big parts kept c m =
+    let fresh : P t → ¬ (In done (makes t)) = λ is has. c.0 (is, visit_made done t has) in
     ⊎_elim
     (λ a. rw a.1 (
       fresh,
       (
         big t a.0,
         (done, refl),
-        marked_tidy whole steps m.0 (keeps t ∷ makes t ∷ done) big (λ u h. parts u (inr h))
+        marked_tidy P whole steps m.0 (keeps t ∷ makes t ∷ done) big (λ u h. parts u (inr h))
             (λ u h needed. grind arith) c.1 m.1,
       ),
     ))
     (λ a. rw a.1 (
       fresh,
-      marked_tidy whole steps m.0 (makes t ∷ done) big (λ u h. parts u (inr h))
+      marked_tidy P whole steps m.0 (makes t ∷ done) big (λ u h. parts u (inr h))
           (λ u h needed. grind arith) c.1 m.1,
     )) m.2
-marked_tidy whole (repeats t ∷ steps) v done big parts kept c m = rw m.2 (
+marked_tidy P whole (repeats t ∷ steps) v done big parts kept c m = rw m.2 (
   kept t (made_visit done t c.0.1) (parts t (inl refl)),
-  marked_tidy whole steps m.0 (repeats t ∷ done) big (λ u h. parts u (inr h))
+  marked_tidy P whole steps m.0 (repeats t ∷ done) big (λ u h. parts u (inr h))
       (λ u h needed. grind arith) c.1 m.1,
 )
-marked_tidy whole (keeps t ∷ steps) v done big parts kept c m = absurd m
+marked_tidy P whole (keeps t ∷ steps) v done big parts kept c m = absurd m
 
 -- ==== the labels that careful steps use first are those that the spelling of their trees does
 
@@ -272,29 +273,29 @@ sub_spelled (tree label below right) t x (inr (inr s)) h = in_right (spelling be
 abbrev pub AreKnown : List Trees → List (List ℕ) → Type 0
 AreKnown made seen = (t : Trees) → In made t → (x : List ℕ) → In (spelling t) x → In seen x
 
-pub spelled_uses : (trees : Trees) (made : List Trees) (v : List Visit) (seen listed : List (List ℕ)) → AreKnown made seen → Covers trees v → Careful made v → AreFirstUses seen (labels_in v) listed
+pub spelled_uses : (P : Trees → Type 0) (trees : Trees) (made : List Trees) (v : List Visit) (seen listed : List (List ℕ)) → AreKnown made seen → Covers trees v → Careful P made v → AreFirstUses seen (labels_in v) listed
     → AreFirstUses seen (spelling trees) listed
-spelled_uses none made v seen listed known p c u = subst (λ x. AreFirstUses seen (labels_in x) listed) p u
-spelled_uses (tree label below right) made v seen listed known p c u =
+spelled_uses P none made v seen listed known p c u = subst (λ x. AreFirstUses seen (labels_in x) listed) p u
+spelled_uses P (tree label below right) made v seen listed known p c u =
     let t : Trees = tree label below none in
-    let parts = careful_apart made p.0 p.1 (subst (Careful made) p.2 c) in
+    let parts = careful_apart P made p.0 p.1 (subst (Careful P made) p.2 c) in
     let s = uses_split (labels_in p.0) (labels_in p.1) seen listed
     (subst (λ w. AreFirstUses seen w listed) (ap labels_in p.2 ∙ labels_in-append p.0 p.1) u) in
     let first : AreFirstUses seen (spelling below ++ label ∷ []) s.mid = ⊎_elim
     (λ a.
     let bare : s.mid ≡ [] = subst (λ x. AreFirstUses seen (labels_in x) s.mid) a s.first in
-    let again : Careful made (repeats t ∷ []) = subst (Careful made) a parts.0 in
+    let again : Careful P made (repeats t ∷ []) = subst (Careful P made) a parts.0 in
     subst (AreFirstUses seen (spelling t)) (sym bare) (uses_none (spelling t) seen (known t again.0.1)))
     (λ a.
-    let inner = careful_apart made a.0 (makes t ∷ []) (subst (Careful made) a.1 parts.0) in
+    let inner = careful_apart P made a.0 (makes t ∷ []) (subst (Careful P made) a.1 parts.0) in
     let q = uses_split (labels_in a.0) (label ∷ []) seen s.mid
     (subst (λ w. AreFirstUses seen w s.mid) (ap labels_in a.1 ∙ labels_in-append a.0 (makes t ∷ [])) s.first) in
     subst (AreFirstUses seen (spelling below ++ label ∷ [])) (sym q.parts)
-    (uses_join (spelling below) (label ∷ []) seen q.mid q.others (spelled_uses below made a.0 seen q.mid known a.2 inner.0 q.first) q.second))
+    (uses_join (spelling below) (label ∷ []) seen q.mid q.others (spelled_uses P below made a.0 seen q.mid known a.2 inner.0 q.first) q.second))
     p.4 in
     let covers : Covers t p.0 = (p.0, [], sym (append-nil p.0), refl, p.4) in
     let second : AreFirstUses (upon s.mid seen) (spelling right) s.others =
-    spelled_uses right (after made p.0) p.1 (upon s.mid seen) s.others (λ u h x k. ⊎_elim
+    spelled_uses P right (after made p.0) p.1 (upon s.mid seen) s.others (λ u h x k. ⊎_elim
     (λ old. in_upon s.mid seen x (known u old x k))
     (λ sub. uses_known (spelling t) seen s.mid x first (sub_spelled t u x sub k))
     (covered_made t made p.0 u covers h)) p.3 parts.1 s.second in

@@ -316,7 +316,8 @@ makers_none Fits before = record {
 -- ==== by numbers
 
 -- nothing was made
-makers_at_none : (limit : ℕ) (st : List Sentence) (index : ℕ) → AreMakersAt limit st index [] [] []
+pub makers_at_none : (limit : ℕ) (st : List Sentence) (index : ℕ) → AreMakersAt limit st index [] []
+    []
 makers_at_none limit st index [] numbered = makers_none (IsWithin limit) (take index st)
 makers_at_none limit st index (m ∷ moves) numbered = absurd numbered
 
@@ -325,7 +326,7 @@ module _ (limit : ℕ) (st : List Sentence) (index : ℕ) (prefix : List (Move �
     (all : AllMeant (take index st)) (was : HasRun limit st index prefix stack kept count)
     (made : AreMakersAt limit st index prefix stack makers) where
   -- a step more
-  makers_at_step : (x : Move ℕ) → is_step x ≡ true
+  pub makers_at_step : (x : Move ℕ) → is_step x ≡ true
       → HasRun limit st index (prefix ++ x ∷ []) stack' kept' count'
       → AreMakersAt limit st index (prefix ++ x ∷ []) stack'
       (take (length stack' - 1) makers ++ count' ∷ [])
@@ -357,7 +358,7 @@ module _ (limit : ℕ) (st : List Sentence) (index : ℕ) (prefix : List (Move �
       (take (length stack' - 1) makers ++ count' ∷ [])) (sym h.2) two
 
   -- a mark more
-  makers_at_mark : HasRun limit st index (prefix ++ mark ∷ []) stack' kept' count'
+  pub makers_at_mark : HasRun limit st index (prefix ++ mark ∷ []) stack' kept' count'
       → AreMakersAt limit st index (prefix ++ mark ∷ []) stack' makers
   makers_at_mark now moves numbered =
       let before : List Sentence = take index st in
@@ -372,7 +373,7 @@ module _ (limit : ℕ) (st : List Sentence) (index : ℕ) (prefix : List (Move �
       names (all_names_at st kept') makers (was.passed h.0 h.3) passed (made h.0 h.3))
 
   -- a step leaves something, and keeps no more entries than there are makers
-  leaves_last : (x : Move ℕ) → is_step x ≡ true
+  pub leaves_last : (x : Move ℕ) → is_step x ≡ true
       → HasRun limit st index (prefix ++ x ∷ []) stack' kept' count'
       → (names : List (Move (List ℕ))) → AreNumberedMoves st (prefix ++ x ∷ []) names
       → (0 < length stack') × (length stack' - 1 ≤ length makers)

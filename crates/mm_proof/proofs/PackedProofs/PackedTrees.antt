@@ -37,7 +37,7 @@ use Rattle.mm_frame.specs.FrameIndex.{FrameIndex, AreHypotheses}
 use Rattle.mm_frame.proofs.Rules.ObeyedRules.{allmeant_prefix}
 use Rattle.mm_proof.specs.OneTree.{MakeTree}
 use Rattle.mm_proof.specs.Sharing.{AreFirstUses}
-use Rattle.mm_proof.specs.Packing.{ArePacked}
+use Rattle.mm_proof.specs.Packing.{AreSharedProof}
 use Rattle.mm_proof.specs.Plain.{ids_in}
 use Rattle.mm_proof.proofs.Machines.TreeWords.{made_word}
 use Rattle.mm_proof.proofs.ByNumbers.NumberedLabels.{one_index}
@@ -289,12 +289,12 @@ repeats_of st rows steps v repeated all once z each t label below is = (
 
 -- ---- the fully shared proof
 
-pub packed_steps : (st : List Sentence) (index : ℕ) (s : Sentence) (rows : List Row) (label : List ℕ) (below : Trees) (steps : List SharedStep) (hypotheses : List ℕ) (ids : List LabelId) (codes : List Code)
+pub packed_steps : (P : Trees → Type 0) (st : List Sentence) (index : ℕ) (s : Sentence) (rows : List Row) (label : List ℕ) (below : Trees) (steps : List SharedStep) (hypotheses : List ℕ) (ids : List LabelId) (codes : List Code)
     → AllMeant st → AllFormed (take index st) → AreOnce rows → TreesFit (take index st) (tree label below none) → slice_get st index ≡ Some s
     → AreHypotheses (record { statements = st; index = index }) hypotheses
-    → AreSharedSteps st rows (tree label below none) steps → AreStepsPacked hypotheses steps (ids_in ids) codes
-    → ArePacked st index s (tree label below none) ids codes
-packed_steps st index s rows label below steps hypotheses ids codes all formed once fit there own shared packed =
+    → AreSharedSteps P st rows (tree label below none) steps → AreStepsPacked hypotheses steps (ids_in ids) codes
+    → AreSharedProof P st index s (tree label below none) ids codes
+packed_steps P st index s rows label below steps hypotheses ids codes all formed once fit there own shared packed =
     let before = take index st in
     let trees : Trees = tree label below none in
     let same : own.assertion ≡ s = same_Some own.assertion s (sym own.there ∙ there) in
@@ -305,7 +305,7 @@ packed_steps st index s rows label below steps hypotheses ids codes all formed o
     let given : packed.given ≡ hypotheses = first_all [] hypotheses packed.given apart (λ n h k. k) packed.own in
     let others : AreFirstNumbers hypotheses (labels_made steps) (ids_in ids) = rw given at packed.others in
     let uses = named_uses st hypotheses (labels_made steps) (ids_in ids) named.0 (labels_in shared.visits) all numbers (step_labels st rows steps shared.visits shared.said) others in
-    let moves = shared_moves before trees shared.visits fit shared.covers shared.careful in
+    let moves = shared_moves P before trees shared.visits fit shared.covers shared.careful in
     let whole : Whole st rows (hypotheses ++ ids_in ids) (named.0 ++ uses.labels) packed.repeated shared.visits moves.kept = record {
       meant = all;
       rows_once = once;
@@ -328,15 +328,15 @@ packed_steps st index s rows label below steps hypotheses ids codes all formed o
               (rw given at packed.said);
         };
         shared = moves.shared;
-        uses = spelled_uses trees [] shared.visits named.0 uses.labels (λ t h. absurd h) shared.covers shared.careful uses.first;
+        uses = spelled_uses P trees [] shared.visits named.0 uses.labels (λ t h. absurd h) shared.covers shared.careful uses.first;
       },
     )
 
-pub packed_made : (st : List Sentence) (id index : ℕ) (s t : Sentence) (own : FrameIndex) (rows : List Row) (label : List ℕ) (below : Trees) (names : List (Move (List ℕ))) (steps : List SharedStep) (hypotheses : List ℕ) (ids : List LabelId) (codes : List Code)
+pub packed_made : (P : Trees → Type 0) (st : List Sentence) (id index : ℕ) (s t : Sentence) (own : FrameIndex) (rows : List Row) (label : List ℕ) (below : Trees) (names : List (Move (List ℕ))) (steps : List SharedStep) (hypotheses : List ℕ) (ids : List LabelId) (codes : List Code)
     → IsSound st → AreOnce rows → IsNumbered st id index s → own.statements ≡ st → IsNumbered st id own.index t → AreHypotheses own hypotheses → MakeTree (take index st) names label below
-    → AreSharedSteps st rows (tree label below none) steps → AreStepsPacked hypotheses steps (ids_in ids) codes → ArePacked st index s (tree label below none) ids codes
-packed_made st id index s t own rows label below names steps hypotheses ids codes sound once numbered book its are made shared packed =
+    → AreSharedSteps P st rows (tree label below none) steps → AreStepsPacked hypotheses steps (ids_in ids) codes → AreSharedProof P st index s (tree label below none) ids codes
+packed_made P st id index s t own rows label below names steps hypotheses ids codes sound once numbered book its are made shared packed =
     let at : own.index ≡ index = one_index st id own.index index t s its numbered in
     let fit = made_word (take index st) names (tree label below none) made.kept made.made in
-    packed_steps st index s rows label below steps hypotheses ids codes sound.0 (λ i u e. sound.1 i u (get_from_take st index i u e).1) once fit.1 numbered.there
+    packed_steps P st index s rows label below steps hypotheses ids codes sound.0 (λ i u e. sound.1 i u (get_from_take st index i u e).1) once fit.1 numbered.there
     (rw (← book, ← at) are) shared packed

@@ -1,4 +1,5 @@
 -- The steps, labels and codes so far of a fully shared proof, as it is made and packed.
+use Rattle.std.proofs.Common.{◌*◌}
 use Rattle.std.proofs.Common.{◌≡◌, ◌≢◌, ℕ, zero, suc, Some, slice_get, ◌+◌, ◌-◌, ◌≤◌, List, [], ◌∷◌}
 use Rattle.std.proofs.Common.{◌++◌, length, take, Contains, ◌⊎◌, inl, inr, ⊎_elim, refl, ap, ◌∙◌}
 use Rattle.std.proofs.Common.{arith, sym, subst, ◌<◌, get_or, Bool, true, false, ◌↔◌, append_assoc}
@@ -26,13 +27,14 @@ use Rattle.mm_proof.specs.Mirror.CodeSharing.{SharingSteps, ShareSteps, AreMadeB
 use Rattle.mm_proof.specs.Mirror.CodeSharing.{AddsNew, labels_made, AreFirstNumbers, IsEncoded}
 use Rattle.mm_proof.specs.Mirror.CodeSharing.{AreEncoded}
 use Rattle.mm_proof.proofs.Members.{In, in_contains, contains_in, get_in, in_left, in_right}
-use Rattle.mm_proof.proofs.Members.{in_apart}
+use Rattle.mm_proof.proofs.Members.{in_apart, in_push, Once}
 use Rattle.mm_proof.proofs.FullSharing.OneSharing.{after, after-append}
 use Rattle.mm_proof.proofs.PackedProofs.SubtreeNumbers.{tree_later, tree_once, subtree_once}
 use Rattle.mm_proof.proofs.PackedProofs.SubtreeNumbers.{subtrees_keep}
 use Rattle.mm_proof.proofs.FullSharing.FewestSteps.{leaf_small, parent_big, sharing_make}
 use Rattle.mm_proof.proofs.FullSharing.FewestSteps.{sharing_cut, sharing_repeat, sharing_leaf}
-use Rattle.mm_proof.proofs.FullSharing.FewestSteps.{sharing_keep, after_make}
+use Rattle.mm_proof.proofs.FullSharing.FewestSteps.{sharing_keep, after_make, length_within}
+use Rattle.mm_proof.proofs.FullSharing.OneSharedProof.{once_joined}
 use Rattle.mm_code.specs.declared.code.Code.{Code}
 use Rattle.mm_frame.specs.declared.hypothesis.Hypothesis.{Hypothesis}
 use Rattle.mm_proof.specs.declared.sharing.SharedStep.TheVariants.{Make, Repeat}
@@ -44,7 +46,7 @@ use Rattle.mm_proof.specs.declared.sharing.SharedStep.TheVariants as step
 -- ---- leaves and others
 
 -- where no tree is below, the number is 0; and where one is, it isn't
-leaf_below : (st : List Sentence) (rows : List Row) (n : ℕ) (below : Trees) → StandsFor st rows n below → n ≡ 0 → below ≡ none
+pub leaf_below : (st : List Sentence) (rows : List Row) (n : ℕ) (below : Trees) → StandsFor st rows n below → n ≡ 0 → below ≡ none
 leaf_below st rows n none s e = refl
 leaf_below st rows n (tree l b r) s e = absurd (let next = s.1.next in omega arith)
 
@@ -181,22 +183,22 @@ shared_keep first now st stack shelf item rest kept steps label below h = record
   shared = λ all. let s = h.shared all in record { v = s.v; are = s.are; sharing = sharing_keep rest kept s.v label below s.sharing; known = s.known; only = s.only };
 }
 
-pub steps_end : (st : List Sentence) (rows : List Row) (steps : List SharedStep) (keys : List Subtree) (row : Trees) (kept : List Trees) → SharingSteps st rows steps keys row kept → AreSharedSteps st rows row steps
+pub steps_end : (st : List Sentence) (rows : List Row) (steps : List SharedStep) (keys : List Subtree) (row : Trees) (kept : List Trees) → SharingSteps st rows steps keys row kept → AreSharedSteps IsBig st rows row steps
 steps_end st rows steps keys row kept h = record { visits = h.v; said = h.are; covers = h.sharing.covers; careful = h.sharing.careful }
 
 -- ---- what is repeated was made before
 
 -- it is one of those that were made, or a step before makes it
-made_before : (st : List Sentence) (rows : List Row) (made : List Trees) (steps : List SharedStep) (v : List Visit) (i : ℕ) (t : Subtree) (label : List ℕ) (below : Trees)
-    → AllMeant st → AreOnce rows → AllZip (IsStepOf st rows) steps v → Careful made v → slice_get steps i ≡ Some (step.Repeat t) → IsTreeOf st rows t label below
+made_before : (P : Trees → Type 0) (st : List Sentence) (rows : List Row) (made : List Trees) (steps : List SharedStep) (v : List Visit) (i : ℕ) (t : Subtree) (label : List ℕ) (below : Trees)
+    → AllMeant st → AreOnce rows → AllZip (IsStepOf st rows) steps v → Careful P made v → slice_get steps i ≡ Some (step.Repeat t) → IsTreeOf st rows t label below
     → In made (tree label below none) ⊎ In (take i steps) (step.Make t)
-made_before st rows made [] v i t label below all once z careful there is = absurd (none-some (step.Repeat t) there)
-made_before st rows made (x ∷ steps) [] i t label below all once z careful there is = absurd z
-made_before st rows made (step.Make u ∷ steps) (w ∷ v) zero t label below all once z careful there is = absurd cc
-made_before st rows made (step.Make u ∷ steps) (w ∷ v) (suc i) t label below all once z careful there is =
+made_before P st rows made [] v i t label below all once z careful there is = absurd (none-some (step.Repeat t) there)
+made_before P st rows made (x ∷ steps) [] i t label below all once z careful there is = absurd z
+made_before P st rows made (step.Make u ∷ steps) (w ∷ v) zero t label below all once z careful there is = absurd cc
+made_before P st rows made (step.Make u ∷ steps) (w ∷ v) (suc i) t label below all once z careful there is =
     let o : (l : List ℕ) × (b : Trees) × IsTreeOf st rows u l b × (w ≡ makes (tree l b none)) = z.0 in
     let later = rw o.3 at careful in
-    elim (made_before st rows (tree o.0 o.1 none ∷ made) steps v i t label below all once z.1 later.1 there is) [
+    elim (made_before P st rows (tree o.0 o.1 none ∷ made) steps v i t label below all once z.1 later.1 there is) [
       | inl (inl e) ↦
           let same : (o.0 ≡ label) × (o.1 ≡ below) = (cc, cc) in
           let its = rw (same.0, same.1) at o.2 in
@@ -204,23 +206,25 @@ made_before st rows made (step.Make u ∷ steps) (w ∷ v) (suc i) t label below
       | inl (inr h) ↦ inl h
       | inr h ↦ inr (inr h)
     ]
-made_before st rows made (step.Repeat u ∷ steps) (w ∷ v) zero t label below all once z careful there is =
+made_before P st rows made (step.Repeat u ∷ steps) (w ∷ v) zero t label below all once z careful there is =
     let o : (l : List ℕ) × (b : Trees) × IsTreeOf st rows u l b × (w ≡ repeats (tree l b none)) = z.0 in
     let now = rw o.3 at careful in
     let one : u ≡ t = cc in
     let same = tree_once st rows t o.0 label o.1 below (rw one at o.2) is in
     inl (rw (same.0, same.1) at now.0.1)
-made_before st rows made (step.Repeat u ∷ steps) (w ∷ v) (suc i) t label below all once z careful there is =
+made_before P st rows made (step.Repeat u ∷ steps) (w ∷ v) (suc i) t label below all once z careful there is =
     let o : (l : List ℕ) × (b : Trees) × IsTreeOf st rows u l b × (w ≡ repeats (tree l b none)) = z.0 in
     let later = rw o.3 at careful in
-    ⊎_elim inl (λ h. inr (inr h)) (made_before st rows made steps v i t label below all once z.1 later.1 there is)
+    ⊎_elim inl (λ h. inr (inr h)) (made_before P st rows made steps v i t label below all once z.1 later.1 there is)
 
-pub steps_made_before : (st : List Sentence) (rows : List Row) (steps : List SharedStep) (keys : List Subtree) (row : Trees) (kept : List Trees) → AllMeant st → AreOnce rows
-    → SharingSteps st rows steps keys row kept → AreMadeBefore steps
-steps_made_before st rows steps keys row kept all once h i t there =
-    let one = (zip_left (IsStepOf st rows) steps h.v i (step.Repeat t) h.are there).2 in
+pub steps_made_before : (P : Trees → Type 0) (st : List Sentence) (rows : List Row)
+    (trees : Trees) (steps : List SharedStep) → AllMeant st → AreOnce rows
+    → AreSharedSteps P st rows trees steps → AreMadeBefore steps
+steps_made_before P st rows trees steps all once h i t there =
+    let one = (zip_left (IsStepOf st rows) steps h.visits i (step.Repeat t) h.said there).2 in
     in_contains (take i steps) (step.Make t)
-    (⊎_elim (λ k. absurd k) (λ k. k) (made_before st rows [] steps h.v i t one.0 one.1 all once h.are h.sharing.careful there one.2))
+    (⊎_elim (λ k. absurd k) (λ k. k) (made_before P st rows [] steps h.visits i t one.0 one.1 all once h.said h.careful there
+    one.2))
 
 -- ---- how many they are
 
@@ -339,10 +343,26 @@ labels_made-append [] b = refl
 labels_made-append (Make u ∷ a) b = ap (λ l. u.label ∷ l) (labels_made-append a b)
 labels_made-append (Repeat u ∷ a) b = labels_made-append a b
 
-pub labels_made-few : (steps : List SharedStep) → length (labels_made steps) ≤ length steps
-labels_made-few [] = omega arith
-labels_made-few (Make u ∷ steps) = let h = labels_made-few steps in omega arith
-labels_made-few (Repeat u ∷ steps) = let h = labels_made-few steps in omega arith
+-- the trees that are repeated, and the labels, are no more than the steps
+pub few_make : (steps : List SharedStep) (t : Subtree) (count i : ℕ)
+    → length (labels_made steps) + count ≤ i
+    → length (labels_made (steps ++ Make t ∷ [])) + count ≤ i + 1
+few_make steps t count i few =
+    let e = ap length (labels_made-append steps (Make t ∷ [])) in
+    let n = length-append (labels_made steps) (t.label ∷ []) in omega arith
+
+adds_few : {X : Type 0} (old new : List X) (x : X) → Adds old x new → length new ≤ length old + 1
+adds_few old new x (inl p) = let l = ap length p.1 in omega arith
+adds_few old new x (inr p) =
+    let l = ap length p.1 in let n = length-append old (x ∷ []) in omega arith
+
+pub few_repeat : (steps : List SharedStep) (t : Subtree) (trees trees' : List Subtree) (i : ℕ)
+    → Adds trees t trees' → length (labels_made steps) + length trees ≤ i
+    → length (labels_made (steps ++ Repeat t ∷ [])) + length trees' ≤ i + 1
+few_repeat steps t trees trees' i adds few =
+    let e = ap length (labels_made-append steps (Repeat t ∷ [])) in
+    let n = ap length (append-nil (labels_made steps)) in
+    let more = adds_few trees trees' t adds in omega arith
 
 pub first_few : (seen numbers listed : List ℕ) → AreFirstNumbers seen numbers listed → length listed ≤ length numbers
 first_few seen [] listed e = let l = ap length e in omega arith
@@ -383,23 +403,59 @@ encoded_more labels repeated kept [] codes next one here kept' a is =
 encoded_more labels repeated kept (s ∷ steps) codes next one here kept' a is =
     (a.0, a.1, a.2 ++ here, ap (λ c. c ++ here) a.3 ∙ append_assoc a.0 a.2 here, a.4, encoded_more labels repeated a.1 steps a.2 next one here kept' a.5 is)
 
--- each step tags one tree at most
-encoded_few : (labels : List ℕ) (repeated kept : List Subtree) (one : SharedStep) (codes : List Code) (kept' : List Subtree) → IsEncoded labels repeated kept one codes kept' → length kept' ≤ length kept + 1
-encoded_few labels repeated kept (Repeat t) codes kept' a = let l = ap length a.3 in omega arith
-encoded_few labels repeated kept (Make t) codes kept' a = ⊎_elim (λ p. added p.2) (λ p. let l = ap length p.2 in omega arith) a.2
-  where
-    added : Adds kept t kept' → length kept' ≤ length kept + 1
-    added (inl p) = let l = ap length p.1 in omega arith
-    added (inr p) = let l = ap length p.1 in let n = length-append kept (t ∷ []) in omega arith
+-- the trees that are tagged stand once, and are among those that are repeated
+pub record AreTagged (repeated kept : List Subtree) : Type 0 where
+  pub once : Once kept
+  pub within : (t : Subtree) → In kept t → In repeated t
 
-pub encoded_next : (labels : List ℕ) (repeated : List Subtree) (steps : List SharedStep) (i : ℕ) (d : SharedStep) (codes codes' : List Code) (kept kept' : List Subtree) → i < length steps → length kept ≤ i
+pub tagged_few : (repeated kept : List Subtree) → AreTagged repeated kept
+    → length kept ≤ length repeated
+tagged_few repeated kept a = length_within kept repeated a.once a.within
+
+tagged_more : (repeated kept kept' : List Subtree) (t : Subtree) → Contains repeated t
+    → Adds kept t kept' → AreTagged repeated kept → AreTagged repeated kept'
+tagged_more repeated kept kept' t among (inl p) a = rw p.1 a
+tagged_more repeated kept kept' t among (inr p) a =
+    let fresh : ¬ (In kept t) = λ h. p.0 (in_contains kept t h) in
+    rw p.1 (record {
+      once = once_joined kept (t ∷ []) a.once ((λ h. h), tt)
+          (λ u h k. ⊎_elim (λ e. fresh (rw (← e) at k)) (λ z. z) h);
+      within = λ u h. ⊎_elim (λ old. a.within u old)
+          (λ e. subst (In repeated) e (contains_in repeated t among)) (in_push kept t u h);
+    })
+
+pub tagged_step : (labels : List ℕ) (repeated kept : List Subtree) (one : SharedStep)
+    (codes : List Code) (kept' : List Subtree) → IsEncoded labels repeated kept one codes kept'
+    → AreTagged repeated kept → AreTagged repeated kept'
+tagged_step labels repeated kept (Repeat t) codes kept' is a = rw is.3 a
+tagged_step labels repeated kept (Make t) codes kept' is a = ⊎_elim
+    (λ p. tagged_more repeated kept kept' t p.0 p.2 a) (λ p. rw p.2 a) is.2
+
+-- each step has two codes at most
+encoded_two : (labels : List ℕ) (repeated kept : List Subtree) (one : SharedStep)
+    (codes : List Code) (kept' : List Subtree) → IsEncoded labels repeated kept one codes kept'
+    → length codes ≤ 2
+encoded_two labels repeated kept (Repeat t) codes kept' a =
+    let l = ap length a.2 in omega arith
+encoded_two labels repeated kept (Make t) codes kept' a =
+    ⊎_elim (λ p. let l = ap length p.1 in omega arith) (λ p. let l = ap length p.1 in omega arith)
+    a.2
+
+pub encoded_many : (labels : List ℕ) (repeated kept : List Subtree) (steps : List SharedStep)
+    (codes : List Code) (kept' : List Subtree)
+    → AreEncoded labels repeated kept steps codes kept' → length codes ≤ 2 * length steps
+encoded_many labels repeated kept [] codes kept' a = let l = ap length a.0 in omega arith
+encoded_many labels repeated kept (one ∷ steps) codes kept' a =
+    let l = ap length a.3 ∙ length-append a.0 a.2 in
+    let here = encoded_two labels repeated kept one a.0 a.1 a.4 in
+    let later = encoded_many labels repeated a.1 steps a.2 kept' a.5 in omega arith
+
+pub encoded_next : (labels : List ℕ) (repeated : List Subtree) (steps : List SharedStep) (i : ℕ) (d : SharedStep) (codes codes' : List Code) (kept kept' : List Subtree) → i < length steps
     → AreEncoded labels repeated [] (take i steps) codes kept → (here : List Code) × (codes' ≡ codes ++ here) × IsEncoded labels repeated kept (get_or steps i d) here kept'
-    → (length kept' ≤ i + 1) × AreEncoded labels repeated [] (take (i + 1) steps) codes' kept'
-encoded_next labels repeated steps i d codes codes' kept kept' less few are is = (
-  (let more = encoded_few labels repeated kept (get_or steps i d) is.0 kept' is.2 in omega arith),
-  rw (take_more steps i d less, is.1)
-      (encoded_more labels repeated [] (take i steps) codes kept (get_or steps i d) is.0 kept' are is.2),
-)
+    → AreEncoded labels repeated [] (take (i + 1) steps) codes' kept'
+encoded_next labels repeated steps i d codes codes' kept kept' less are is =
+    rw (take_more steps i d less, is.1)
+    (encoded_more labels repeated [] (take i steps) codes kept (get_or steps i d) is.0 kept' are is.2)
 
 -- ---- trees that are tagged
 

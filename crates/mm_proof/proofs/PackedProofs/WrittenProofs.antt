@@ -20,7 +20,7 @@ use Rattle.mm_proof.specs.Moves.{name, Move, mark, Makes}
 use Rattle.mm_proof.specs.Tokens.{opening_token, closing_token, IsNormal, SaysCompressed, AreLabels}
 use Rattle.mm_proof.specs.Tokens.{AreLetters}
 use Rattle.mm_proof.specs.Proof.{BreaksWhole, IsWhole, IsProvedWithin}
-use Rattle.mm_proof.specs.Sharing.{AreFirstUses, IsPacked, ShareAll}
+use Rattle.mm_proof.specs.Sharing.{AreFirstUses, PairMakes, IsPacked, ShareThose}
 use Rattle.mm_proof.proofs.ProofSteps.Derivations.{derive_fits, fit_makes}
 use Rattle.mm_proof.proofs.ProofTokens.SaidMoves.{normal_or_compressed, labels_once, letters_once}
 use Rattle.mm_proof.proofs.ProofTokens.SaidMoves.{compressed_once, moves_once}
@@ -123,55 +123,98 @@ first_used seen (own ∷ word) listed label (inr (new, others, e, uses)) c =
 
 module _ (before : List Sentence) (s : Sentence) (trees : Trees) (listed : List (List ℕ))
     (codes : List Code) where
+  -- a pair that makes trees, whose list has labels of the trees alone
+  pub record MakesKnown : Type 0 where
+    pub makes : PairMakes before s trees listed codes
+    pub known : (label : List ℕ) → Contains listed label → Contains (spelling trees) label
+
   pub packed_listed : (label : List ℕ) → IsPacked before s trees listed codes
       → Contains listed label → Contains (spelling trees) label
   packed_listed label p c = first_used p.says.labels (spelling trees) listed label p.uses c
 
-  -- the tokens of a packed proof say its moves
-  abbrev pub packed_says : (letters : List ℕ) (pieces : List (List ℕ))
-      (p : IsPacked before s trees listed codes) → Letters letters codes
+  abbrev pub packed_makes : IsPacked before s trees listed codes → MakesKnown
+  packed_makes p = record {
+    makes = record { moves = p.moves; says = p.says; kept = p.shared.kept; made = p.shared.made };
+    known = λ label c. packed_listed label p c;
+  }
+
+  -- its tokens say its moves
+  abbrev pub pair_says : (letters : List ℕ) (pieces : List (List ℕ))
+      (p : MakesKnown) → Letters letters codes
       → flat_map (λ piece. piece) pieces ≡ letters → ¬ (Contains (spelling trees) closing_token)
-      → SaysCompressed before s (in_parentheses listed ++ pieces) p.moves
-  packed_says letters pieces p coded joined apart = record {
+      → SaysCompressed before s (in_parentheses listed ++ pieces) p.makes.moves
+  pair_says letters pieces p coded joined apart = record {
     listed = listed;
     letters = pieces;
     parts = record {
       whole = ap (λ (l : List (List ℕ)). opening_token ∷ l)
           (append_assoc listed (closing_token ∷ []) pieces);
-      first = λ c. apart (packed_listed closing_token p c);
+      first = λ c. apart (p.known closing_token c);
     };
     codes = codes;
     coded = subst (λ (text : List ℕ). Letters text codes) (sym joined) coded;
-    hypotheses = p.says.hypotheses;
-    mandatory = p.says.mandatory;
-    labels = p.says.labels;
-    labelled = p.says.labelled;
-    each = p.says.each;
+    hypotheses = p.makes.says.hypotheses;
+    mandatory = p.makes.says.mandatory;
+    labels = p.makes.says.labels;
+    labelled = p.makes.says.labelled;
+    each = p.makes.says.each;
   }
 
-pub packed_proves : (Fits : List (List ℕ) → Type 0) (before : List Sentence) (s : Sentence) (label : List ℕ) (below : Trees) (listed : List (List ℕ)) (codes : List Code) (letters : List ℕ) (pieces : List (List ℕ)) → AllMeant before
-    → IsPacked before s (tree label below none) listed codes → Letters letters codes → flat_map (λ piece. piece) pieces ≡ letters
-    → ¬ (Contains (spelling (tree label below none)) closing_token) → DeriveAll Fits before (tree label below none) (s.symbols ∷ [])
+-- the tokens of a pair that makes a tree prove what the tree derives
+pub pair_proves : (Fits : List (List ℕ) → Type 0) (before : List Sentence) (s : Sentence)
+    (label : List ℕ) (below : Trees) (listed : List (List ℕ)) (codes : List Code)
+    (letters : List ℕ) (pieces : List (List ℕ)) → AllMeant before
+    → MakesKnown before s (tree label below none) listed codes → Letters letters codes
+    → flat_map (λ piece. piece) pieces ≡ letters
+    → ¬ (Contains (spelling (tree label below none)) closing_token)
+    → DeriveAll Fits before (tree label below none) (s.symbols ∷ [])
     → IsProofBy Fits before s (in_parentheses listed ++ pieces) label below
-packed_proves Fits before s label below listed codes letters pieces meant p coded joined apart derived =
+pair_proves Fits before s label below listed codes letters pieces meant p coded joined apart
+    derived =
     let trees : Trees = tree label below none in
     let tokens : List (List ℕ) = in_parentheses listed ++ pieces in
+    let text : List ℕ = flat_map (λ piece. piece) pieces in
     let fit : TreesFit before trees = derive_fits Fits before trees (s.symbols ∷ []) derived in
-    let says = packed_says before s trees listed codes letters pieces p coded joined apart in
+    let says = pair_says before s trees listed codes letters pieces p coded joined apart in
     let closes : Contains (drop 1 tokens) closing_token =
-    Contains-append_left (listed ++ closing_token ∷ []) pieces closing_token (Contains-append_right listed (closing_token ∷ []) closing_token (contains_first closing_token [])) in
-    let broken_not : (text : List ℕ) (rule : CodeRule) → AreLetters tokens text → ¬ (LettersBreak rule text) = λ text rule are broken.
-    let same : text ≡ flat_map (λ piece. piece) pieces = letters_once tokens text (flat_map (λ piece. piece) pieces) are (listed, pieces, says.parts, refl) in
-    coded_not_broken (flat_map (λ piece. piece) pieces) codes rule says.coded (subst (LettersBreak rule) same broken) in (
+    Contains-append_left (listed ++ closing_token ∷ []) pieces closing_token
+    (Contains-append_right listed (closing_token ∷ []) closing_token
+    (contains_first closing_token [])) in
+    let broken_not : (others : List ℕ) (rule : CodeRule) → AreLetters tokens others
+    → ¬ (LettersBreak rule others) = λ others rule are broken.
+    let same : others ≡ text =
+    letters_once tokens others text are (listed, pieces, says.parts, refl) in
+    coded_not_broken text codes rule says.coded (subst (LettersBreak rule) same broken) in (
       record {
-        whole = whole_of before tokens listed meant (λ broken. broken.1 closes) (λ others are. labels_once tokens others listed are (inr (pieces, says.parts)))
-            (λ l used. label_fits before trees l fit (packed_listed before s trees listed codes l p used)) broken_not;
-        moves = p.moves;
+        whole = whole_of before tokens listed meant (λ broken. broken.1 closes)
+            (λ others are. labels_once tokens others listed are (inr (pieces, says.parts)))
+            (λ l used. label_fits before trees l fit (p.known l used)) broken_not;
+        moves = p.makes.moves;
         said = inr says;
-        proves = record { label = label; below = below; kept = p.shared.kept; made = p.shared.made; derived = derived };
+        proves = record {
+          label = label;
+          below = below;
+          kept = p.makes.kept;
+          made = p.makes.made;
+          derived = derived;
+        };
       },
       refl,
     )
+
+pub packed_proves : (Fits : List (List ℕ) → Type 0) (before : List Sentence) (s : Sentence)
+    (label : List ℕ) (below : Trees) (listed : List (List ℕ)) (codes : List Code)
+    (letters : List ℕ) (pieces : List (List ℕ)) → AllMeant before
+    → IsPacked before s (tree label below none) listed codes → Letters letters codes
+    → flat_map (λ piece. piece) pieces ≡ letters
+    → ¬ (Contains (spelling (tree label below none)) closing_token)
+    → DeriveAll Fits before (tree label below none) (s.symbols ∷ [])
+    → IsProofBy Fits before s (in_parentheses listed ++ pieces) label below
+packed_proves Fits before s label below listed codes letters pieces meant p coded joined apart
+    derived =
+    let trees : Trees = tree label below none in
+    pair_proves Fits before s label below listed codes letters pieces meant
+    (packed_makes before s trees listed codes p) coded joined apart derived
 
 -- ==== a normal proof has the strict form, and so has the packed proof of a tree
 
@@ -183,7 +226,7 @@ normal_is_strict before s tokens normal = strict_normal before s tokens normal
 -- ---- the list
 
 -- a hypothesis has its label among theirs
-label_in : (hypotheses : List Sentence) (labels : List (List ℕ)) (h : Sentence) (label : List ℕ)
+pub label_in : (hypotheses : List Sentence) (labels : List (List ℕ)) (h : Sentence) (label : List ℕ)
     → map (λ (g : Sentence). g.label) hypotheses ≡ map Some labels → In hypotheses h
     → IsLabelled label h → In labels label
 label_in hypotheses labels h label e has named =
@@ -250,9 +293,11 @@ module _ (before : List Sentence) where
   big_assertion label below big (inr (index, assertion, hypotheses, names, many)) =
       (index, assertion, names.there, (names.named, names.kind))
 
-  shared_marks : (trees : Trees) (moves : List (Move (List ℕ))) → ShareAll before trees moves
+  -- where moves share big subtrees alone, each mark stands right after a step by an assertion
+  pub shared_marks : (P : Trees → Type 0) → ((t : Trees) → P t → IsBig t) → (trees : Trees)
+      (moves : List (Move (List ℕ))) → ShareThose P before trees moves
       → MarkAssertions before moves
-  shared_marks trees moves s prefix after parts =
+  shared_marks P are_big trees moves s prefix after parts =
       let at : slice_get moves (length prefix) ≡ Some mark = rw parts (get_parted prefix after mark) in
       let k = kept_there before moves none [] trees s.kept s.made (length prefix) at in
       let m = s.marked (length prefix) k.0 k.1 in
@@ -264,10 +309,27 @@ module _ (before : List Sentence) where
         last.0,
         l.label,
         last.1,
-        big_assertion l.label l.below (subst IsBig l.whole m.0) l.stands,
+        big_assertion l.label l.below (subst IsBig l.whole (are_big k.0 m.0)) l.stands,
       )
 
   -- ---- the form
+
+  -- the tokens of a pair whose list and whose marks are strict have the strict form
+  pub pair_is_strict : (s : Sentence) (trees : Trees) (listed : List (List ℕ)) (codes : List Code)
+      (letters : List ℕ) (pieces : List (List ℕ)) (p : MakesKnown before s trees listed codes)
+      → IsStrictList before s listed → MarkAssertions before p.makes.moves
+      → Letters letters codes → flat_map (λ piece. piece) pieces ≡ letters
+      → ¬ (Contains (spelling trees) closing_token)
+      → IsStrict before s (in_parentheses listed ++ pieces)
+  pair_is_strict s trees listed codes letters pieces p list marks coded joined apart =
+      let tokens = in_parentheses listed ++ pieces in
+      let says = pair_says before s trees listed codes letters pieces p coded joined apart in
+      record {
+        listed = λ labels others parts. subst (IsStrictList before s)
+            (compressed_once tokens says.listed labels says.letters others says.parts parts).0 list;
+        marked = λ others other. subst (MarkAssertions before)
+            (moves_once before s tokens p.makes.moves others (inr says) (inr other)) marks;
+      }
 
   -- the tokens of a packed proof have the strict form
   pub packed_is_strict : (s : Sentence) (trees : Trees) (listed : List (List ℕ)) (codes : List Code)
@@ -276,13 +338,6 @@ module _ (before : List Sentence) where
       → ¬ (Contains (spelling trees) closing_token)
       → IsStrict before s (in_parentheses listed ++ pieces)
   packed_is_strict s trees listed codes letters pieces p coded joined apart =
-      let tokens = in_parentheses listed ++ pieces in
-      let says = packed_says before s trees listed codes letters pieces p coded joined apart in
-      record {
-        listed = λ labels others parts. subst (IsStrictList before s)
-            (compressed_once tokens says.listed labels says.letters others says.parts parts).0
-            (packed_list before s trees listed codes p);
-        marked = λ others other. subst (MarkAssertions before)
-            (moves_once before s tokens p.moves others (inr says) (inr other))
-            (shared_marks trees p.moves p.shared);
-      }
+      pair_is_strict s trees listed codes letters pieces
+      (packed_makes before s trees listed codes p) (packed_list before s trees listed codes p)
+      (shared_marks IsBig (λ t big. big) trees p.moves p.shared) coded joined apart

@@ -1,9 +1,9 @@
 -- One step of a proof on a stack of expressions, as a relation, and that it makes one thing only;
 -- before it what statements and frames have of which no rule of meaning is broken.
 use Rattle.std.proofs.Common.{◌≡◌, ℕ, List, take, slice_get, Contains, Some, inl, inr, refl, sym}
-use Rattle.std.proofs.Common.{ap, subst, ◌∙◌, arith, zero, suc, ◌+◌, [], ◌∷◌, ◌<◌, length, drop}
+use Rattle.std.proofs.Common.{ap, subst, ◌∙◌, arith, ◌+◌, ◌<◌, length, drop}
 use Rattle.std.proofs.Common.{Option, None, ◌⊎◌}
-use Rattle.std.proofs.lemmas.Option.{same_Some, none-some}
+use Rattle.std.proofs.lemmas.Option.{same_Some}
 use Rattle.mm_text.specs.declared.statement.Kind.TheVariants.{Constants, Floating, Essential}
 use Rattle.mm_frame.specs.declared.rule.MeaningRule.TheVariants.{M10}
 use Rattle.mm_frame.specs.Sentence.{Sentence, Declares, IsLabelled, Types, IsHypothesis}
@@ -13,11 +13,12 @@ use Rattle.mm_frame.specs.Rules.{AllMeant}
 use Rattle.mm_frame.proofs.Rules.ObeyedRules.{meant_at, one_role, one_label as only_index}
 use Rattle.mm_frame.proofs.Rules.ObeyedRules.{allmeant_prefix, some_later, used_declared}
 use Rattle.mm_frame.proofs.Rules.ObeyedRules.{mandatory_typed}
-use Rattle.mm_frame.specs.Frame.{AreThose, IsMandatory, IsMandatoryAt, AreMandatory}
+use Rattle.mm_frame.specs.Frame.{IsMandatory, IsMandatoryAt, AreMandatory}
 use Rattle.mm_frame.specs.Frame.{IsMandatoryPair}
 use Rattle.std.proofs.lemmas.List.{length-append}
 use Rattle.mm_text.specs.declared.statement.Kind.{Kind}
-use Rattle.mm_frame.proofs.Frames.FrameLaws.{those_unique}
+use Rattle.mm_frame.proofs.Frames.FrameLaws.{those_unique, those_have}
+pub use Rattle.mm_frame.proofs.Frames.FrameLaws.{those_hold}
 use Rattle.mm_proof.specs.declared.fault.ProofRule.{ProofRule}
 use Rattle.mm_proof.specs.declared.fault.ProofRule.TheVariants.{P8, P9, P10, P11, P12, L1}
 use Rattle.mm_proof.specs.Substitution.{IsOn, instance_of}
@@ -55,42 +56,6 @@ code_is_constant before i f code x all there types variable =
           one_role before code all (some_later before i (Declares Constants code) constant) variable
       | inr declared ↦ meant M10 (code, x, types, declared)
     ]
-
--- ==== the elements that a property picks from a list: there is one such list, and what stands in
--- it
-
--- P holds of each of them
-pub those_hold : {X : Type 0} (P : ℕ → X → Type 0) (index : ℕ) (xs those : List X) (i : ℕ) (x : X) → AreThose P index xs those → slice_get those i ≡ Some x
-    → (j : ℕ) × (slice_get xs j ≡ Some x) × P (index + j) x
-those_hold P index [] those i x a e = absurd (none-some x (subst (λ l. slice_get l i ≡ Some x) a e))
-those_hold P index (y ∷ xs) those zero x (inl a) e =
-    let same : y ≡ x = same_Some y x (subst (λ l. slice_get l 0 ≡ Some x) a.2 e) in
-    let at : index ≡ index + 0 = omega arith in
-    (0, ap Some same, subst (λ k. P k x) at (subst (P index) same a.0))
-those_hold P index (y ∷ xs) those (suc i) x (inl a) e =
-    let h = those_hold P (index + 1) xs a.1 i x a.3 (subst (λ l. slice_get l (suc i) ≡ Some x) a.2 e) in
-    let at : index + 1 + h.0 ≡ index + suc h.0 = omega arith in
-    (suc h.0, h.1, subst (λ k. P k x) at h.2)
-those_hold P index (y ∷ xs) those i x (inr a) e =
-    let h = those_hold P (index + 1) xs those i x a.1 e in
-    let at : index + 1 + h.0 ≡ index + suc h.0 = omega arith in
-    (suc h.0, h.1, subst (λ k. P k x) at h.2)
-
--- each of which P holds is one of them
-those_have : {X : Type 0} (P : ℕ → X → Type 0) (index : ℕ) (xs those : List X) (j : ℕ) (x : X) → AreThose P index xs those → slice_get xs j ≡ Some x
-    → P (index + j) x → (i : ℕ) × (slice_get those i ≡ Some x)
-those_have P index [] those j x a e p = absurd (none-some x e)
-those_have P index (y ∷ xs) those zero x (inl a) e p = (0, subst (λ l. slice_get l 0 ≡ Some x) (sym a.2) e)
-those_have P index (y ∷ xs) those zero x (inr a) e p =
-    let at : index + 0 ≡ index = omega arith in
-    absurd (a.0 (subst (P index) (sym (same_Some y x e)) (subst (λ k. P k x) at p)))
-those_have P index (y ∷ xs) those (suc j) x (inl a) e p =
-    let at : index + suc j ≡ index + 1 + j = omega arith in
-    let h = those_have P (index + 1) xs a.1 j x a.3 e (subst (λ k. P k x) at p) in
-    (suc h.0, subst (λ l. slice_get l (suc h.0) ≡ Some x) (sym a.2) h.1)
-those_have P index (y ∷ xs) those (suc j) x (inr a) e p =
-    let at : index + suc j ≡ index + 1 + j = omega arith in
-    those_have P (index + 1) xs those j x a.1 e (subst (λ k. P k x) at p)
 
 -- ==== one step of a proof on a stack of expressions, as a relation, and that it makes one thing
 -- only

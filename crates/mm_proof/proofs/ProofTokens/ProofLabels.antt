@@ -119,7 +119,7 @@ for_known statements index ids labels label all has =
     (id.0, id.2)
 
 -- no hypothesis with such a label is idle
-used_not_idle : (statements : List Sentence) (index : ℕ) (label : List ℕ) (id : ℕ) → AllMeant statements → MayBeUsed statements index label id
+pub used_not_idle : (statements : List Sentence) (index : ℕ) (label : List ℕ) (id : ℕ) → AllMeant statements → MayBeUsed statements index label id
     → (at : ℕ) (h : Sentence) → slice_get (take index statements) at ≡ Some h → IsLabelled label h → IsHypothesis h.kind → ¬ (¬ (IsActive (take index statements) at))
 used_not_idle statements index label id all m at h there named kind idle =
     let prefix = get_from_take statements index at h there in

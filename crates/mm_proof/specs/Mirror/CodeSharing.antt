@@ -36,13 +36,13 @@ IsStepOf statements rows (step.Repeat t) v =
     (label : List ℕ) × (below : Trees) × IsTreeOf statements rows t label below
     × (v ≡ repeats (tree label below none))
 
--- the steps put the trees side by side, and share all that can be shared
-pub record AreSharedSteps (statements : List Sentence) (rows : List Row) (trees : Trees)
-    (steps : List SharedStep) : Type 0 where
+-- the steps put the trees side by side, and share those subtrees
+pub record AreSharedSteps (P : Trees → Type 0) (statements : List Sentence) (rows : List Row)
+    (trees : Trees) (steps : List SharedStep) : Type 0 where
   pub visits : List Visit
   pub said : AllZip (IsStepOf statements rows) steps visits
   pub covers : Covers trees visits
-  pub careful : Careful [] visits
+  pub careful : Careful P [] visits
 
 -- the step by which a tree stands there again
 abbrev pub IsRepeat : Subtree → SharedStep → Type 0
@@ -64,7 +64,7 @@ Shares t count steps made steps' made' =
 -- the steps cover the row, and what is kept and is big was made
 pub record Sharing (row : Trees) (kept : List Trees) (v : List Visit) : Type 0 where
   pub covers : Covers row v
-  pub careful : Careful [] v
+  pub careful : Careful IsBig [] v
   pub kept_made : (t : Trees) → In kept t → IsBig t → In (after [] v) t
 
 -- they do, and these are the big trees that they make

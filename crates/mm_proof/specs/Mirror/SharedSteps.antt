@@ -1,8 +1,7 @@
--- Steps that make trees and share all that can be shared, without the marks, as the code makes them
+-- Steps that make trees and share those of some kind, without the marks, as the code makes them
 -- before it packs them. This file mirrors the code, and is cited by mirrors alone.
 use Rattle.std.specs.Prelude.{◌≡◌, List, [], ◌∷◌, ◌++◌, ◌⊎◌}
 use Rattle.mm_proof.specs.Tree.{Trees, none, tree}
-use Rattle.mm_proof.specs.BigSubtrees.{IsBig}
 use Rattle.mm_proof.specs.Visits.{Visit, makes, repeats, keeps}
 
 -- x is one of the list
@@ -19,12 +18,12 @@ Covers (tree label below right) v =
     ⊎ ((inner : List Visit) × (here ≡ inner ++ makes (tree label below none) ∷ [])
     × Covers below inner))
 
--- no step makes a tree of two or more nodes again, and each repeats one that was made before
-abbrev pub Careful : List Trees → List Visit → Type 0
-Careful made [] = Unit {0}
-Careful made (makes t ∷ v) = ¬ (IsBig t × In made t) × Careful (t ∷ made) v
-Careful made (repeats t ∷ v) = (IsBig t × In made t) × Careful made v
-Careful made (keeps t ∷ v) = Careful made v
+-- no step makes such a tree again, and each repeats such a one that was made before
+abbrev pub Careful : (P : Trees → Type 0) → List Trees → List Visit → Type 0
+Careful P made [] = Unit {0}
+Careful P made (makes t ∷ v) = ¬ (P t × In made t) × Careful P (t ∷ made) v
+Careful P made (repeats t ∷ v) = (P t × In made t) × Careful P made v
+Careful P made (keeps t ∷ v) = Careful P made v
 
 -- what is made before the steps or by them
 abbrev pub after : List Trees → List Visit → List Trees

@@ -36,6 +36,14 @@ pub record IsTreeOf (statements : List Sentence) (rows : List Row) (t : Subtree)
   pub named : IsNumberOfLabel statements t.label label
   pub stands : StandsFor statements rows t.below below
 
+-- the subtree has two nodes: the row below it is this leaf alone
+pub record IsOverLeaf (rows : List Row) (t leaf : Subtree) : Type 0 where
+  pub row : Row
+  pub numbered : IsNumberOfRow rows t.below row
+  pub first : row.first ≡ leaf
+  pub bare : leaf.below ≡ 0
+  pub alone : row.right ≡ 0
+
 -- the subtrees are these trees side by side
 abbrev pub AreTreesOf : List Sentence → List Row → List Subtree → Trees → Type 0
 AreTreesOf statements rows [] none = Unit {0}

@@ -1,13 +1,13 @@
-use Rattle.std.proofs.Common.{◌≤◌, [], take, length, All}
+use Rattle.std.proofs.Common.{[], take, All}
 use Rattle.mm_code.specs.Letters.{HasSpelling, IsExact}
 use Rattle.mm_proof.specs.Mirror.CodeSharing.{AreEncoded}
-use Rattle.mm_proof.proofs.PackedProofs.PackingLoops.{AreTaggedSo}
+use Rattle.mm_proof.proofs.PackedProofs.PackingLoops.{AreTaggedSo, AreTagged}
 use Rattle.mm_proof.proofs.packing.codes_of.Given as goal
 
 abbrev pub invariant-loop-one : goal.invariant-loop-one
 invariant-loop-one l = record {
-  few : length l.kept ≤ l.one-index;
   said : AreEncoded l.labels l.repeated [] (take l.one-index l.steps) l.codes.items l.kept;
+  among : AreTagged l.repeated l.kept;
   tagged : AreTaggedSo l.repeated l.kept (take l.one-index l.steps);
   spelled : All HasSpelling l.codes.items;
   exact : All IsExact l.codes.items;

@@ -24,7 +24,7 @@ pack-requires-clause-made c =
     let all = (c.in_ok-build.ensures.built a.index a.s a.moves a.proof a.numbered t.0 t.1 t.2).holds in
     let meant = c.frame-own.ensures.sound.0 in
     rw c.deref.ensures.value
-    (steps_made_before _ _ _ _ _ _ meant all.subtrees.once (all.shared meant))
+    (steps_made_before _ _ _ _ _ meant all.subtrees.once (steps_end _ _ _ _ _ _ (all.shared meant)))
 
 pub returns-clause-packed : goal.returns-clause-packed
 returns-clause-packed c = IfOk-weaker c.pack.result _ _ (λ packed h index s moves proof numbered label below makes.
@@ -32,6 +32,6 @@ returns-clause-packed c = IfOk-weaker c.pack.result _ _ (λ packed h index s mov
     let sound = c.frame-own.ensures.sound in
     let all = (c.in_ok-build.ensures.built index s moves proof numbered label below makes).holds in
     let its = c.frame-own.ensures.index in
-    packed_made st c.args.id.0 index s its.0 c.frame-own.result _ label below moves _ (label_ids c.hypotheses.result.now) packed.labels.items packed.codes.items
+    packed_made _ st c.args.id.0 index s its.0 c.frame-own.result _ label below moves _ (label_ids c.hypotheses.result.now) packed.labels.items packed.codes.items
     sound all.subtrees.once proof.numbered c.frame-own.ensures.book its.1 c.hypotheses.ensures.ids makes (steps_end st _ _ _ _ _ (all.shared sound.0))
     (rw c.deref.ensures.value at h)) c.pack.ensures.packed

@@ -1,0 +1,22 @@
+-- What the code knows of steps that share what is worth a tag alone: it mirrors the code.
+use Rattle.std.specs.Prelude.{◌≡◌, List, [], ◌∷◌, ◌++◌, ◌⊎◌}
+use Rattle.mm_proof.specs.declared.subtrees.Subtree.{Subtree}
+use Rattle.mm_proof.specs.declared.subtrees.Row.{Row}
+use Rattle.mm_proof.specs.declared.sharing.SharedStep.{SharedStep}
+use Rattle.mm_proof.specs.declared.sharing.SharedStep.TheVariants as step
+use Rattle.mm_proof.specs.Mirror.Subtrees.{IsOverLeaf}
+
+-- A step that repeats a tree of two nodes is written out: a step makes its leaf, and one the tree.
+-- Another stays as it is.
+abbrev pub IsWrittenOut : List Row → SharedStep → List SharedStep → Type 0
+IsWrittenOut rows (step.Make t) here = here ≡ step.Make t ∷ []
+IsWrittenOut rows (step.Repeat t) here =
+    ((leaf : Subtree) × IsOverLeaf rows t leaf × (here ≡ step.Make leaf ∷ step.Make t ∷ []))
+    ⊎ (((leaf : Subtree) → ¬ (IsOverLeaf rows t leaf)) × (here ≡ step.Repeat t ∷ []))
+
+-- the steps are, one after the other
+abbrev pub AreWrittenOut : List Row → List SharedStep → List SharedStep → Type 0
+AreWrittenOut rows [] new = new ≡ []
+AreWrittenOut rows (one ∷ steps) new =
+    (here : List SharedStep) × (later : List SharedStep) × (new ≡ here ++ later)
+    × IsWrittenOut rows one here × AreWrittenOut rows steps later
