@@ -5,7 +5,7 @@ use Rattle.std.proofs.Common.{not}
 use Rattle.std.proofs.Common.{Bool, true, false, Some, refl, sym, ap, subst, ◌∙◌, arith}
 use Rattle.std.proofs.Common.{inl, inr, slice_get, ◌&&◌, ◌==◌, codes, decimal}
 use denote.Ref.{Bor}
-use Rattle.std.specs.List.{AllByRecursion, sum_by}
+use Rattle.std.specs.List.{AllByRecursion, AllZip, sum_by}
 use Rattle.std.proofs.lemmas.Bool.{cases_lt, eqb-true, false_from_ne_true}
 use Rattle.std.proofs.lemmas.List.{take_all, take-append-le, map-append, length-map}
 use Rattle.std.proofs.lemmas.List.Elements.{filter-append}
@@ -30,8 +30,8 @@ use Rattle.mm_proof.specs.Steps.{IsProofNumber}
 use Rattle.mm_check.specs.declared.fault.Refusal.{Refusal}
 use Rattle.mm_check.specs.Verdict.{PlainRefusal, sentences, proof_of, IsProofFault}
 use Rattle.mm_check.specs.Answer.{plain_refusal}
-use Rattle.mm_check.specs.Why.{IsExplanation, TellsFaults, is_of_proofs, most_explained, head_text}
-use Rattle.mm_check.specs.Why.{fault_at}
+use Rattle.mm_check.specs.Why.{IsExplanation, IsLastExplanation, TellsFaults, is_of_proofs}
+use Rattle.mm_check.specs.Why.{most_explained, head_text, IsFaultPlace}
 use Rattle.mm_check.specs.Why.{more_text, count_text}
 use Rattle.mm_check.specs.Explained.{IsTokensFault, Detail, AreDetails, details_text}
 use Rattle.mm_check.specs.Faults.{HaveFaults}
@@ -134,6 +134,16 @@ facts_of profile s {before} {others} {tokens} {texts} {rule} {broken} {step} {nu
     (subst (λ r. AreDetails profile before s texts r step details) f
     (subst (λ ts. AreDetails profile before s ts rule step details) e facts)))
 
+-- so is its place
+place_of_same : (profile : Profile) (s : PlainStatement) {before others : List Sentence}
+    {rule broken : ProofRule} {step number : ℕ} → rule ≡ broken → step ≡ number → before ≡ others
+    → (at : ℕ) → IsFaultPlace profile before s rule step at
+    → IsFaultPlace profile others s broken number at
+place_of_same profile s {before} {others} {rule} {broken} {step} {number} f g h at place =
+    subst (λ ss. IsFaultPlace profile ss s broken number at) h
+    (subst (λ n. IsFaultPlace profile before s broken n at) g
+    (subst (λ r. IsFaultPlace profile before s r step at) f place))
+
 module _ {profile : Profile} {files : List PlainFile} {told : List Sentence} {s : PlainStatement}
     {refusal : PlainRefusal} (r : IsRefusedLast profile files told s refusal) where
   -- what the statements before it say, and what it says, is all that is told
@@ -175,17 +185,20 @@ module _ {profile : Profile} {files : List PlainFile} {told : List Sentence} {s 
 
       pub explained_there : (tokens : List (List ℕ)) → tokens ≡ proof_of s
           → (rule : ProofRule) (step : ℕ) → rules.Proof rule ≡ refusal.rule → step ≡ refusal.step
+          → (place : ℕ)
+          → IsFaultPlace profile (take (length (sentences r.before)) told) s rule step place
           → (details : List Detail)
           → AreDetails profile (take (length (sentences r.before)) told) (sentence_of s) tokens rule
           step details
           → IsExplanation profile files refusal
-          (head_text files (fault_at s rule step) refusal ++ details_text details)
-      explained_there tokens same rule step one at details facts =
+          (head_text files place refusal ++ details_text details)
+      explained_there tokens same rule step one at place stands details facts =
           let told_rule : rules.Proof rule ≡ rules.Proof r.refused.rule =
           one ∙ ap (λ (x : PlainRefusal). x.rule) r.refused.refused in
           let told_step : step ≡ r.refused.step =
           at ∙ ap (λ (x : PlainRefusal). x.step) r.refused.refused in
           let same_rule : rule ≡ r.refused.rule = cc told_rule in
+          let earlier = prefix_of told (sentences r.before) (sentence_of s) told_parts in
           record {
             before = r.before;
             s = s;
@@ -194,10 +207,10 @@ module _ {profile : Profile} {files : List PlainFile} {told : List Sentence} {s 
             reads = r.reads;
             refused = r.refused;
             details = details;
-            facts = facts_of profile (sentence_of s) same same_rule told_step
-                (prefix_of told (sentences r.before) (sentence_of s) told_parts) details facts;
-            said = λ i. head_text files (fault_at s (same_rule i) (told_step i)) refusal
-                ++ details_text details;
+            at = place;
+            place = place_of_same profile s same_rule told_step earlier place stands;
+            facts = facts_of profile (sentence_of s) same same_rule told_step earlier details facts;
+            said = refl;
           }
 
 -- ==== the refusals that are kept
@@ -321,7 +334,8 @@ module _ (profile : Profile) (files : List PlainFile) (listed : List PlainRefusa
     (explained : AreExplained profile files listed text₀)
     (others : AllByRecursion (λ r. is_of_proofs r.rule ≡ false) (map plain_refusal ends))
     (put₁ : text₁ ≡ text₀ ++ more_text (length refusals - most_explained))
-    (put₂ : text₂ ≡ text₁ ++ flat_map (λ r. head_text files r.at r) (map plain_refusal ends)) where
+    (told : List (List ℕ)) (ended : AllZip (IsLastExplanation files) (map plain_refusal ends) told)
+    (put₂ : text₂ ≡ text₁ ++ flat_map (λ t. t) told) where
   tells : (count : ℕ) → count ≡ length (listed ++ map plain_refusal ends)
       → text ≡ text₂ ++ count_text count
       → TellsFaults profile files (listed ++ map plain_refusal ends) text
@@ -338,7 +352,9 @@ module _ (profile : Profile) (files : List PlainFile) (listed : List PlainRefusa
       record {
         explanations = explained.explanations;
         each = rw proofs explained.each;
-        said = rw (proofs, last, ← counted, ← long, put, put₂, put₁, explained.said)
+        last = told;
+        ended = rw last ended;
+        said = rw (proofs, ← counted, ← long, put, put₂, put₁, explained.said)
             (simp append_assoc);
       }
 

@@ -4,7 +4,7 @@ pub mod Verdicts
 pub mod Questions
 pub mod ReplyTexts
 pub mod Explanations
-pub mod StepEnds
+pub mod LastFaults
 pub mod Saving
 pub mod Lines
 pub mod DetailTexts
@@ -14,3 +14,9 @@ pub mod AskedDetails
 pub mod LackingDetails
 pub mod ApartDetails
 pub mod PairsAsked
+pub mod FaultPlaces
+pub mod Breaches
+pub mod InnermostBlocks
+pub mod NamesMet
+pub mod NearLabels
+pub mod Collisions

@@ -3,9 +3,11 @@
 -- On this room rest the contracts of `saved` and `saved_all`, and the laws that begin with `saving`,
 -- `one_saved`, `one_all_saved`, `packed_files_are_strict` and `packed_texts_tell`.
 pub mod ProofTexts
+pub mod SpanTexts
 pub mod SavedFiles
 pub mod SavedOnce
 pub mod FileSpans
+pub mod ReplacedSpans
 pub mod AllSavedFiles
 pub mod SavedOrder
 pub mod AllSavedAnswers

@@ -24,7 +24,14 @@ use Rattle.mm_proof.specs.ReadSteps.{ReadSteps}
 use Rattle.mm_proof.specs.Steps.{IsProofNumber}
 use Rattle.mm_proof.specs.Verified.{OfMoves}
 use Rattle.mm_check.specs.Explained.{IsTokensFault, judged_tokens, TokensHalt}
-use Rattle.mm_check.specs.Mirror.Explaining.{AreJudgedSteps}
+use Rattle.mm_check.specs.Mirror.Explaining.{AreJudgedSteps, Causes, IsCauseOf, IsHaltOf}
+use Rattle.mm_check.specs.Mirror.Explaining.{StopsIn}
+use Rattle.mm_check.specs.declared.details.Cause.{Cause}
+use Rattle.mm_check.specs.declared.details.Cause.TheVariants as cause
+use Rattle.mm_frame.proofs.Rules.ObeyedRules.{allformed_prefix, allmeant_prefix}
+use Rattle.std.proofs.Common.{Bor, ◌≤◌, length, slice_get, arith}
+use Rattle.mm_proof.specs.Parsed.{OfProof}
+use Rattle.mm_proof.specs.WholePlaces.{IsWholePlace}
 
 -- ---- moves
 
@@ -260,3 +267,97 @@ tokens_halt profile st before s tokens halt rule is f = record {
   said = f.said;
   halts = halts_as (IsWithin (limit_of profile)) before s (is_incomplete tokens) (is_incomplete tokens) f.moves halt.rule rule refl is f.halts.there;
 }
+
+-- ---- the cause of a fault
+
+-- a byte of a token: it is at no step
+pub token_caused : {profile : Profile} {st : List Sentence} {id : ℕ} {tokens : List (List ℕ)}
+    {rule : ProofRule} {step : ℕ} {it : Cause} {token byte : ℕ} {text : Bor (List ℕ)}
+    → it ≡ cause.Token token byte text → IsCauseOf profile st id tokens rule step it
+    → (step ≡ 0) × OfProof st id
+    (λ index s. IsWholePlace (take index st) (judged_tokens tokens) rule token byte)
+    × (slice_get tokens token ≡ Some text.now) × (byte ≤ length text.now)
+token_caused {profile} {st} {id} {tokens} {rule} {step} {it} is r =
+    subst (Causes profile st id tokens rule step) is r.causes
+
+-- what is said of the judged tokens, whether they are all or those of the known prefix
+pub of_judged : (tokens : List (List ℕ)) (P : List (List ℕ) → Type 0)
+    → (¬ (is_incomplete tokens ≡ true) → P tokens)
+    → (is_incomplete tokens ≡ true → P (known_prefix tokens)) → P (judged_tokens tokens)
+of_judged tokens P whole known = go (is_incomplete tokens) refl
+  where
+    go : (b : Bool) → is_incomplete tokens ≡ b → P (judged_tokens tokens)
+    go true e = subst P (sym (judged_known tokens e)) (known e)
+    go false e =
+        subst P (sym (judged_complete tokens e)) (whole (λ other. let e' = e in cc))
+
+-- a fault at no step is one of all the tokens that are judged
+no_step : (Fits : Expression → Type 0) (before : List Sentence) (s : Sentence)
+    (moves : List (Move (List ℕ))) (rule : ProofRule) (step : ℕ)
+    → IsMovesFault Fits before s moves rule step → step ≡ 0 → ⊥
+no_step Fits before s moves rule step (inl fault) none = omega (arith, fault.number, none)
+no_step Fits before s moves rule step (inr fault) none = omega (arith, fault.number, none)
+
+pub text_fault : (profile : Profile) (before : List Sentence) (s : Sentence)
+    (tokens : List (List ℕ)) (rule : ProofRule) (step : ℕ)
+    → IsTokensFault profile before s tokens rule step → step ≡ 0
+    → ¬ (is_incomplete tokens ≡ true) → IsTextFault profile before s tokens rule
+text_fault profile before s tokens rule step (inl (c, inl fault)) none whole = fault.1
+text_fault profile before s tokens rule step (inl (c, inr fault)) none whole =
+    absurd (no_step (IsWithin (limit_of profile)) before s fault.2 rule step fault.4 none)
+text_fault profile before s tokens rule step (inr (c, fault)) none whole = absurd (whole c)
+
+pub known_text_fault : (profile : Profile) (before : List Sentence) (s : Sentence)
+    (tokens : List (List ℕ)) (rule : ProofRule) (step : ℕ)
+    → IsTokensFault profile before s tokens rule step → step ≡ 0
+    → is_incomplete tokens ≡ true → IsTextFault profile before s (known_prefix tokens) rule
+known_text_fault profile before s tokens rule step (inl (c, fault)) none known =
+    absurd (let e = c in let e' = known in cc)
+known_text_fault profile before s tokens rule step (inr (c, inl fault)) none known = fault.1
+known_text_fault profile before s tokens rule step (inr (c, inr fault)) none known =
+    absurd (no_step (IsWithin (limit_of profile)) before s fault.2 rule step (inl fault.4) none)
+
+-- the moves of the judged tokens
+module _ {profile : Profile} {st : List Sentence} {id : ℕ} {tokens : List (List ℕ)}
+    {rule : ProofRule} {step : ℕ} {it : Cause} {steps : ReadSteps} {halt : Halt}
+    (is : it ≡ cause.Moves steps halt) (r : IsCauseOf profile st id tokens rule step it) where
+  pub moves_caused : (step ≢ 0) × AreJudgedSteps profile st id tokens steps
+      × OfMoves st id steps.moves (λ index s moves. HaltsProof (limit_of steps.profile) st
+      (take index st) s steps.prefix moves halt)
+  moves_caused = subst (Causes profile st id tokens rule step) is r.causes
+
+  module _ (index : ℕ) (s : Sentence) (proof : IsProofNumber st id index s) where
+    -- they stop there
+    abbrev pub halt_caused : FoundHalt profile st (take index st) s tokens halt
+    halt_caused =
+        found_halt profile st id tokens steps halt moves_caused.1 moves_caused.2 index s proof
+
+    -- by the rule of the fault, and at its step
+    pub fault_caused : (halt.rule ≡ Some rule)
+        × (step ≡ steps_in halt_caused.halts.there.earlier + 1)
+    fault_caused =
+        found_fault profile st (take index st) s tokens halt rule step
+        (allmeant_prefix st index r.sound.0) (allformed_prefix st index r.sound.1)
+        (r.fault index s proof) halt_caused
+
+    pub is_halt_of : IsHaltOf (limit_of profile) st id halt
+    is_halt_of = record {
+      index = index;
+      s = s;
+      proof = proof;
+      prefix = is_incomplete tokens;
+      moves = halt_caused.moves;
+      halts = halt_caused.halts;
+    }
+
+    pub stops_in : StopsIn tokens halt
+    stops_in = (
+      limit_of profile,
+      st,
+      take index st,
+      s,
+      is_incomplete tokens,
+      halt_caused.moves,
+      halt_caused.said,
+      halt_caused.halts,
+    )

@@ -19,7 +19,7 @@ use Rattle.mm_check.specs.declared.save_fault.SaveFault.TheVariants.{Check, Ask,
 use Rattle.mm_check.specs.Verdict.{Verdict, HasVerdict, AreAccepted, is_proof, sentences}
 use Rattle.mm_check.specs.Answer.{verdict_of_fault}
 use Rattle.mm_check.specs.Forms.{HasProofTree, most_labels}
-use Rattle.mm_check.specs.Saved.{IsTextIn, total_with}
+use Rattle.mm_check.specs.Saved.{IsSpanText, within_span, total_with}
 
 -- a `$p` with a complete proof that stands in the file with the number
 abbrev pub is_theorem_of : (number : ℕ) → PlainStatement → Bool
@@ -34,20 +34,18 @@ pub record Replacement : Type 0 where
   pub span : ℕ × ℕ
   pub text : List ℕ
 
--- what stands between the `$=` and the `$.` of the theorem is replaced by a line feed and its proof
--- in this form
-pub record IsReplacement (form : Form) (statements : List PlainStatement) (s : PlainStatement)
-    (new : Replacement) : Type 0 where
+-- in a file of these bytes, what stands between the `$=` and the `$.` of the theorem is replaced by
+-- what is put there in this form
+pub record IsReplacement (form : Form) (bytes : List ℕ) (statements : List PlainStatement)
+    (s : PlainStatement) (new : Replacement) : Type 0 where
   pub label : List ℕ
   pub index : ℕ
   pub root : List ℕ
   pub below : Trees
   pub proof : HasProofTree statements label index s root below
-  pub text : List ℕ
-  pub laid : IsTextIn form (sentences (take index statements)) (sentence_of s)
-      (tree root below none) text
+  pub laid : IsSpanText form (sentences (take index statements)) (sentence_of s)
+      (tree root below none) (within_span bytes s.span) new.text
   pub span : new.span ≡ s.span
-  pub put : new.text ≡ 10 ∷ text
 
 -- The bytes with several spans replaced, each of which stands after those before it. The last one
 -- is replaced first, so that each is replaced where it stood.
@@ -62,19 +60,21 @@ pub record IsAllSaved (form : Form) (files : List PlainFile) (statements : List 
   pub file : PlainFile
   pub handed : slice_get files number ≡ Some file
   pub replaced : List Replacement
-  pub each : AllZip (IsReplacement form statements) (theorems_of number statements) replaced
+  pub each : AllZip (IsReplacement form file.bytes statements) (theorems_of number statements)
+      replaced
   pub whole : bytes ≡ with_replaced file.bytes replaced
 
 -- The theorem with the label is the first one of the file whose normal proof has more labels than
--- may be written.
+-- may be written: those before it can be replaced, whatever the bytes of the file are.
 pub record IsFirstTooLong (statements : List PlainStatement) (number : ℕ)
     (label : List ℕ) : Type 0 where
   pub before : List PlainStatement
   pub s : PlainStatement
   pub after : List PlainStatement
   pub split : theorems_of number statements ≡ before ++ s ∷ after
+  pub bytes : List ℕ
   pub news : List Replacement
-  pub fit : AllZip (IsReplacement Normal statements) before news
+  pub fit : AllZip (IsReplacement Normal bytes statements) before news
   pub index : ℕ
   pub root : List ℕ
   pub below : Trees

@@ -1,6 +1,7 @@
 -- Laws of a file in which each complete proof is written anew: it is what saving one theorem after
 -- the other gives, in whichever order, and it changes nothing that is answered.
-use Rattle.std.specs.Prelude.{◌≡◌, ℕ, ◌<◌, ◌↔◌, List, [], ◌∷◌, take, length, slice_get, Contains}
+use Rattle.std.specs.Prelude.{◌≡◌, ℕ, ◌<◌, ◌≤◌, ◌↔◌, List, [], ◌∷◌, take, length, slice_get}
+use Rattle.std.specs.Prelude.{Contains}
 use Rattle.std.specs.Prelude.{Some, None, ◌⊎◌}
 use Rattle.mm_text.specs.Statement.{PlainStatement}
 use Rattle.mm_text.specs.Files.{PlainFile, most_bytes}
@@ -11,13 +12,13 @@ use Rattle.mm_proof.specs.declared.profile.Profile.{Profile}
 use Rattle.mm_proof.specs.declared.profile.Profile.TheVariants.{Lenient, Strict}
 use Rattle.mm_proof.specs.Strict.{HasFormOf}
 use Rattle.mm_check.specs.declared.form.Form.{Form}
-use Rattle.mm_check.specs.declared.form.Form.TheVariants.{Normal, Packed}
+use Rattle.mm_check.specs.declared.form.Form.TheVariants.{Normal, Packed, Small}
 use Rattle.mm_check.specs.declared.ask.AskFault.{AskFault}
 use Rattle.mm_check.specs.declared.ask.AskFault.TheVariants.{F3, Memory}
 use Rattle.mm_check.specs.Verdict.{AreAccepted, sentences, proof_of, unproved_of}
 use Rattle.mm_check.specs.Compared.{IsTheorem}
 use Rattle.mm_check.specs.Saved.{IsSaved, FitsSaved, total_with}
-use Rattle.mm_check.specs.SavedLaws.{SayTheSame}
+use Rattle.mm_check.specs.SavedLaws.{SayTheSame, IsKeptProof}
 use Rattle.mm_check.specs.AllSaved.{IsAllSaved, IsFirstTooLong, IsAllSaveFault, theorems_of}
 
 -- With the new bytes in place of the old, the verdict, each tree and each report are as they were.
@@ -29,8 +30,8 @@ SavingAllChangesNoAnswer =
     → (same : List PlainStatement)
     × SayTheSame profile files (with_bytes files number bytes) statements same
 
--- Each proof that is put in has the strict form, whatever the profile is in which the files are
--- accepted.
+-- Each proof that stands in the file then has the strict form, whatever the profile is in which the
+-- files are accepted; or it is the one that stood there, which small form keeps.
 abbrev pub AllSavedProofsAreStrict : Type 0
 AllSavedProofsAreStrict =
     (profile : Profile) (form : Form) (files : List PlainFile)
@@ -41,6 +42,7 @@ AllSavedProofsAreStrict =
     → (label : List ℕ) (index : ℕ) (s : PlainStatement) → IsTheorem same label index s
     → s.first.file ≡ number
     → HasFormOf Strict (sentences (take index same)) (sentence_of s) (proof_of s)
+    ⊎ IsKeptProof form statements index (proof_of s)
 
 -- what is saved is one
 abbrev pub OneAllSaved : Type 0
@@ -55,8 +57,9 @@ OneAllSaved =
 -- written. That the bytes are one is the law above.
 pub record HasOneAnswer (files : List PlainFile) (statements : List PlainStatement)
     (number : ℕ) : Type 0 where
-  -- In packed form its bytes are due.
+  -- In packed form its bytes are due, and so they are in small form.
   pub packed : (bytes : List ℕ) × IsAllSaved Packed files statements number bytes
+  pub small : (bytes : List ℕ) × IsAllSaved Small files statements number bytes
   -- In normal form its bytes are due, or the label is.
   pub normal : ((bytes : List ℕ) × IsAllSaved Normal files statements number bytes)
       ⊎ ((label : List ℕ) × IsFirstTooLong statements number label)
@@ -140,3 +143,11 @@ PackedFilesAreStrict =
     → ((number : ℕ) → number < length files → Contains numbers number)
     → AreFilesSaved Lenient Packed files numbers others
     → (same : List PlainStatement) × AreAccepted Strict others same × (unproved_of same ≡ [])
+
+-- in small form, the file has no more bytes than before
+abbrev pub AllSmallFilesDoNotGrow : Type 0
+AllSmallFilesDoNotGrow =
+    (profile : Profile) (files : List PlainFile) (statements : List PlainStatement) (number : ℕ)
+    (bytes : List ℕ) → AreAccepted profile files statements
+    → IsAllSaved Small files statements number bytes
+    → (file : PlainFile) × (slice_get files number ≡ Some file) × (length bytes ≤ length file.bytes)

@@ -5,10 +5,10 @@ use Rattle.std.specs.Prelude.{true, false, ◌⊎◌, if◌then◌else◌, Optio
 use Rattle.std.specs.Prelude.{option_map, slice_get, take, Contains}
 use Rattle.std.specs.List.{flat_map, AllZip}
 use Rattle.std.specs.Str.{bytes_eq}
-use Rattle.mm_frame.specs.Sentence.{Sentence}
+use Rattle.mm_frame.specs.Sentence.{Sentence, SomeSentence, IsLabelled}
 use Rattle.mm_frame.specs.Frame.{IsMandatoryPair}
 use Rattle.mm_proof.specs.declared.fault.ProofRule.{ProofRule}
-use Rattle.mm_proof.specs.declared.fault.ProofRule.TheVariants.{P8, P9, P10}
+use Rattle.mm_proof.specs.declared.fault.ProofRule.TheVariants.{P2, P3, P4, P8, P9, P10}
 use Rattle.mm_proof.specs.declared.fault.ProofRule.TheVariants.{P11, P12, P14, L1}
 use Rattle.mm_proof.specs.declared.profile.Profile.{Profile}
 use Rattle.mm_proof.specs.Substitution.{Symbol, Expression, Substitution}
@@ -21,6 +21,7 @@ use Rattle.mm_proof.specs.Profiles.{limit_of}
 use Rattle.mm_proof.specs.Halted.{Halts}
 use Rattle.mm_proof.specs.Asked.{AsksFor, AreShared, AreMissing}
 use Rattle.mm_proof.specs.Lacking.{AreLacking}
+use Rattle.mm_proof.specs.WholePlaces.{IsWholePlace}
 use Rattle.mm_proof.specs.UnderProfile.{IsFaultUnder, IsPrefixFaultUnder}
 use Rattle.mm_check.specs.Shown.{symbols_text}
 
@@ -28,6 +29,8 @@ use Rattle.mm_check.specs.Shown.{symbols_text}
 pub data Detail : Type 0 where
   -- the token at fault
   token_at_fault : (text : List ℕ) → Detail
+  -- the label of an earlier statement, to which that token is near
+  near_label : (label : List ℕ) → Detail
   -- the label of the step
   step_label : (label : List ℕ) → Detail
   -- the step repeats what the mark with a number, from 1 on, keeps, and there are so many marks
@@ -45,12 +48,28 @@ pub data Detail : Type 0 where
   pair_asked : (x y : Symbol) → (e f : List Symbol) → Detail
   -- the variables that both have
   shared_by_both : (variables : List Symbol) → Detail
+  -- two variables of a `$d` that this step lacks
+  step_lacks : (x y : Symbol) → Detail
   -- two variables of a `$d` that the whole proof lacks
   missing_pair : (x y : Symbol) → Detail
   -- what is to be proved, and what the step with a number gives
   end_given : (expression : Expression) → (number : ℕ) → (given : Expression) → Detail
   -- the most symbols that an expression may have
   most_symbols : (symbols : ℕ) → Detail
+  -- the place where began what the fault stands in
+  begun_at : (place : List ℕ) → Detail
+  -- the place where the last block is closed
+  last_closed_at : (place : List ℕ) → Detail
+  -- the place where the block begins in which the statement stands
+  block_opened : (place : List ℕ) → Detail
+  -- the place where the symbol was declared
+  declared_at : (place : List ℕ) → Detail
+  -- the place where it stands before in the statement
+  repeated_at : (place : List ℕ) → Detail
+  -- the place where it is a label
+  labelled_at : (place : List ℕ) → Detail
+  -- the place of the `$f` that gave the variable its type code
+  typed_at : (place : List ℕ) → Detail
 
 -- ---- the fault
 
@@ -106,7 +125,7 @@ told_of [] details = []
 told_of (x ∷ xs) details = details
 
 -- The facts of a mandatory pair whose members these replace: for P11 they tell of the pair where
--- both share variables, for P12 where a `$d` of their variables is missing.
+-- both share variables, for P12 where a `$d` of their variables is missing, and of each that is.
 abbrev pub AreApartDetails : (before : List Sentence) → ProofRule → (x y : Symbol)
     → (e f : Expression) → List Detail → Type 0
 AreApartDetails before P11 x y e f details =
@@ -114,7 +133,7 @@ AreApartDetails before P11 x y e f details =
     × (details ≡ told_of shared (pair_asked x y e f ∷ shared_by_both shared ∷ []))
 AreApartDetails before P12 x y e f details =
     (missing : List (Symbol × Symbol)) × AreMissing before e f missing
-    × (details ≡ told_of missing (pair_asked x y e f ∷ []))
+    × (details ≡ told_of missing (pair_asked x y e f ∷ map (λ p. step_lacks p.0 p.1) missing))
 AreApartDetails before rule x y e f details = details ≡ []
 
 -- those of the pair, under this substitution
@@ -197,7 +216,7 @@ abbrev pub pairs_lacking : List (Symbol × Symbol) → List Detail
 pairs_lacking pairs = map (λ p. missing_pair p.0 p.1) pairs
 
 -- The facts of the moves as a whole, which stop by the rule: for P12 the `$d` statements that they
--- lack, those behind the place where they stop too.
+-- lack, those behind the place where they stop too, up to the first that breaks another rule.
 abbrev pub AreWholeDetails : (limit : ℕ) → (before : List Sentence)
     → (moves : List (Move (List ℕ))) → ProofRule → List Detail → Type 0
 AreWholeDetails limit before moves P12 details =
@@ -205,12 +224,31 @@ AreWholeDetails limit before moves P12 details =
     × (details ≡ pairs_lacking pairs)
 AreWholeDetails limit before moves rule details = details ≡ []
 
--- The facts that explain this fault, in order: none of all the tokens, else those of the place
--- where their moves stop, and then those of the whole.
+-- These are no facts, or the label of an earlier statement.
+abbrev pub AreNearDetails : (before : List Sentence) → List Detail → Type 0
+AreNearDetails before details =
+    (details ≡ [])
+    ⊎ ((label : List ℕ) × SomeSentence before (IsLabelled label)
+    × (details ≡ near_label label ∷ []))
+
+-- The facts of a token at which the rule over the whole of a proof is broken. For P2 they may tell
+-- of a label that an earlier statement has.
+abbrev pub AreTokenDetails : (before : List Sentence) → ProofRule → (text : List ℕ) → List Detail
+    → Type 0
+AreTokenDetails before P2 text details =
+    (near : List Detail) × AreNearDetails before near × (details ≡ token_at_fault text ∷ near)
+AreTokenDetails before P3 text details = details ≡ token_at_fault text ∷ []
+AreTokenDetails before P4 text details = details ≡ token_at_fault text ∷ []
+AreTokenDetails before rule text details = details ≡ []
+
+-- The facts that explain this fault, in order: those of the token where a rule over the whole of
+-- the proof is broken; else those of the place where the moves stop, and then those of the whole.
 abbrev pub AreDetails : Profile → (before : List Sentence) → Sentence → (tokens : List (List ℕ))
     → ProofRule → (step : ℕ) → List Detail → Type 0
 AreDetails profile before s tokens rule step details =
-    ((step ≡ 0) × (details ≡ []))
+    ((step ≡ 0) × (token : ℕ) × (byte : ℕ) × (text : List ℕ)
+    × IsWholePlace before (judged_tokens tokens) rule token byte
+    × (slice_get tokens token ≡ Some text) × AreTokenDetails before rule text details)
     ⊎ ((h : TokensHalt profile before s tokens (Some rule))
     × (step ≡ steps_in h.halts.earlier + 1)
     × (there : List Detail) × (whole : List Detail)
@@ -270,6 +308,7 @@ asks_text label asked number given (Some index) =
 -- the lines of a fact, indented by two, and those of its expressions by four
 abbrev pub detail_text : Detail → List ℕ
 detail_text (token_at_fault text) = codes "  token: " ++ text ++ codes "\n"
+detail_text (near_label label) = codes "  near: " ++ label ++ codes "\n"
 detail_text (step_label label) = codes "  step: " ++ label ++ codes "\n"
 detail_text (mark_asked wanted there) =
     codes "  it repeats Z number " ++ decimal wanted ++ codes ", and there are " ++ decimal there
@@ -288,12 +327,21 @@ detail_text (pair_asked x y e f) =
     ++ expression_line e ++ codes "  and " ++ y ++ codes " is\n" ++ expression_line f
 detail_text (shared_by_both variables) =
     codes "  both have:" ++ symbols_text variables ++ codes "\n"
+detail_text (step_lacks x y) =
+    codes "  this step lacks: $d " ++ x ++ codes " " ++ y ++ codes " $.\n"
 detail_text (missing_pair x y) =
     codes "  the whole proof lacks: $d " ++ x ++ codes " " ++ y ++ codes " $.\n"
 detail_text (end_given expression number given) =
     codes "  it states\n" ++ but_given_text expression number given
 detail_text (most_symbols symbols) =
     codes "  an expression may have " ++ decimal symbols ++ codes " symbols\n"
+detail_text (begun_at place) = codes "  begun: " ++ place ++ codes "\n"
+detail_text (last_closed_at place) = codes "  the last block is closed: " ++ place ++ codes "\n"
+detail_text (block_opened place) = codes "  in the block: " ++ place ++ codes "\n"
+detail_text (declared_at place) = codes "  declared: " ++ place ++ codes "\n"
+detail_text (repeated_at place) = codes "  before: " ++ place ++ codes "\n"
+detail_text (labelled_at place) = codes "  labelled: " ++ place ++ codes "\n"
+detail_text (typed_at place) = codes "  typed: " ++ place ++ codes "\n"
 
 -- the text of facts
 abbrev pub details_text : List Detail → List ℕ

@@ -1,17 +1,19 @@
--- The two forms in which a theorem's proof is written anew: the normal proof, which is the spelling
--- of its tree, and the packed one, which is the fully shared proof of its tree (the Metamath book,
--- sections 4.3 and 4.4.3, appendix B).
+-- The forms in which a theorem's proof is written anew: the normal proof, which is the spelling of
+-- its tree, the packed one, which is the fully shared proof of its tree, and the small one, whose
+-- labels are listed by use (the Metamath book, sections 4.3 and 4.4.3, appendix B).
 use Rattle.std.specs.Prelude.{◌≡◌, ℕ, ◌<◌, ◌≤◌, List, take, length, slice_get, true, Some}
 use Rattle.mm_text.specs.Statement.{PlainStatement}
 use Rattle.mm_code.specs.declared.code.Code.{Code}
 use Rattle.mm_code.specs.Letters.{SpellsCodes, Letters}
 use Rattle.mm_code.specs.Layout.{LaidOut, CompressedLaidOut}
+use Rattle.mm_code.specs.SmallLayout.{SmallLaidOut}
 use Rattle.mm_frame.specs.Sentence.{Sentence, sentence_of, IsLabelled}
 use Rattle.mm_proof.specs.Tree.{Trees, none, tree, spelling}
 use Rattle.mm_proof.specs.Moves.{Move}
 use Rattle.mm_proof.specs.Tokens.{SayMoves}
 use Rattle.mm_proof.specs.OneTree.{MakeTree}
 use Rattle.mm_proof.specs.Sharing.{IsPacked}
+use Rattle.mm_proof.specs.SmallProofs.{IsSmall}
 use Rattle.mm_check.specs.declared.ask.AskFault.{AskFault}
 use Rattle.mm_check.specs.declared.ask.AskFault.TheVariants.{Rule}
 use Rattle.mm_check.specs.declared.rule.AskRule.TheVariants.{L2}
@@ -49,6 +51,29 @@ pub record IsPackedText (before : List Sentence) (s : Sentence) (trees : Trees)
   pub coded : Letters letters codes
   pub laid : CompressedLaidOut listed letters text
 
+-- The trees have a small proof whose listed labels and letters stand so: the letters spell its
+-- codes, which are read from them again.
+pub record HasSmallProof (before : List Sentence) (s : Sentence) (trees : Trees)
+    (Stand : List (List ℕ) → List ℕ → Type 0) : Type 0 where
+  pub listed : List (List ℕ)
+  pub codes : List Code
+  pub letters : List ℕ
+  pub small : IsSmall before s trees listed codes
+  pub spelled : SpellsCodes letters codes
+  pub coded : Letters letters codes
+  pub laid : Stand listed letters
+
+-- the text is the small proof of the trees, in the lines of packed proofs
+abbrev pub IsSmallText : List Sentence → Sentence → Trees → (text : List ℕ) → Type 0
+IsSmallText before s trees text =
+    HasSmallProof before s trees (λ listed letters. CompressedLaidOut listed letters text)
+
+-- the text is the small proof of the trees, in the lines that files have, behind so many spaces
+abbrev pub IsSmallBehind : (indent : ℕ) → List Sentence → Sentence → Trees → (text : List ℕ)
+    → Type 0
+IsSmallBehind indent before s trees text =
+    HasSmallProof before s trees (λ listed letters. SmallLaidOut indent listed letters text)
+
 -- the text is the normal proof of the theorem with the label
 abbrev pub IsNormalOf : List PlainStatement → (label : List ℕ) → (text : List ℕ) → Type 0
 IsNormalOf statements label text =
@@ -62,6 +87,13 @@ IsPackedOf statements label text =
     (index : ℕ) × (s : PlainStatement) × (root : List ℕ) × (below : Trees)
     × HasProofTree statements label index s root below
     × IsPackedText (sentences (take index statements)) (sentence_of s) (tree root below none) text
+
+-- the text is the small proof of the theorem with the label
+abbrev pub IsSmallOf : List PlainStatement → (label : List ℕ) → (text : List ℕ) → Type 0
+IsSmallOf statements label text =
+    (index : ℕ) × (s : PlainStatement) × (root : List ℕ) × (below : Trees)
+    × HasProofTree statements label index s root below
+    × IsSmallText (sentences (take index statements)) (sentence_of s) (tree root below none) text
 
 -- Why the theorem with the label has no normal proof that is written: besides the faults of each
 -- question, that its tree spells more labels than may be written.

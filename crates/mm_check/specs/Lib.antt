@@ -9,6 +9,9 @@ pub mod Faults
 pub mod Rests
 pub mod Users
 pub mod Shown
+pub mod ShownUses
+pub mod Near
+pub mod Stated
 pub mod Forms
 pub mod Compared
 pub mod Saved
@@ -24,5 +27,7 @@ pub mod AllSavedLaws
 pub mod Alike
 pub mod Explained
 pub mod Alone
-pub mod StepPlaces
+pub mod TextFacts
+pub mod LastFacts
 pub mod Why
+pub mod MeaningFacts

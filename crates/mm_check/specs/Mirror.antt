@@ -13,5 +13,7 @@ pub mod Visits
 pub mod Explaining
 pub mod Reached
 pub mod Reasons
+pub mod Breaches
 pub mod Bits
 pub mod Tables
+pub mod Last

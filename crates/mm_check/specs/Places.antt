@@ -11,6 +11,10 @@ use Rattle.mm_check.specs.declared.position.Place.{Place}
 abbrev pub name_of : List PlainFile → ℕ → List ℕ
 name_of files file = unwrap_or (option_map (λ f. f.name) (slice_get files file)) []
 
+-- the bytes of a handed file; none where there is no such file
+abbrev pub bytes_of : List PlainFile → ℕ → List ℕ
+bytes_of files file = unwrap_or (option_map (λ f. f.bytes) (slice_get files file)) []
+
 -- how many bytes stand at the end of a text, behind its last line feed
 abbrev pub bytes_since_feed : List ℕ → ℕ
 bytes_since_feed bytes = suffix_len (λ b. not (b == 10)) bytes
@@ -21,8 +25,7 @@ column_in bytes at = bytes_since_feed (take at bytes) + 1
 
 -- the column of a position in one of the files; 1 where there is no such file
 abbrev pub column_of : List PlainFile → ℕ → ℕ → ℕ
-column_of files file at =
-    column_in (unwrap_or (option_map (λ f. f.bytes) (slice_get files file)) []) at
+column_of files file at = column_in (bytes_of files file) at
 
 -- the place of a position in one of the files
 abbrev pub place_of : List PlainFile → ℕ → ℕ → Place

@@ -43,11 +43,13 @@ use Rattle.mm_check.specs.Alone.{IsRefusedBefore, IsNoTheorem, IsTheoremAt, HasP
 use Rattle.mm_check.specs.Alone.{BreaksTokens, judged_tokens, AreStepsBefore}
 use Rattle.mm_check.specs.Explained.{Detail, IsTokensFault, AreDetails, AreLeftOver, details_text}
 use Rattle.mm_check.specs.Shown.{ShowsProof, IsListingText}
+use Rattle.mm_check.specs.ShownUses.{ShowsUses}
 use Rattle.mm_check.specs.declared.form.Form.{Form}
 use Rattle.mm_check.specs.declared.form.Form.TheVariants as form
-use Rattle.mm_check.specs.Forms.{IsNormalOf, IsPackedOf, IsNormalFault}
+use Rattle.mm_check.specs.Forms.{IsNormalOf, IsPackedOf, IsSmallOf, IsNormalFault}
 use Rattle.mm_check.specs.Compared.{IsCompared, IsSameFault}
 use Rattle.mm_check.specs.Saved.{IsSaved, FitsSaved, IsSaveFault}
+use Rattle.mm_check.specs.Stated.{IsStatementFault, TellsStatement}
 use Rattle.mm_check.specs.AllSaved.{IsAllSaved, IsFirstTooLong, IsAllSaveFault}
 use Rattle.mm_check.specs.Verdict.{PlainRefusal, Verdict, Load, Refused, Incomplete, Yes}
 use Rattle.mm_check.specs.Verdict.{HasVerdict, AreAccepted, labels_of, proof_of, sentences}
@@ -211,11 +213,26 @@ IsUsersReply all label statements text status =
     ⊎ ((users : List ℕ) × AreUsers all statements label users
     × (text ≡ lines_of (labels_at (labels_of statements) users)) × (status ≡ 0))
 
+-- the reply to the question what stands at a label
+abbrev pub IsStatementReply : List PlainFile → (label : List ℕ) → List PlainStatement → List ℕ → ℕ
+    → Type 0
+IsStatementReply files label statements text status =
+    ((fault : AskFault) × IsStatementFault statements label fault
+    × IsAskReply fault label text status)
+    ⊎ (TellsStatement files statements label text × (status ≡ 0))
+
 -- the reply to the question how the theorem with a label is proved
 abbrev pub IsShowReply : List ℕ → List PlainStatement → List ℕ → ℕ → Type 0
 IsShowReply label statements text status =
     ((fault : AskFault) × IsAskFault statements label fault × IsAskReply fault label text status)
     ⊎ (ShowsProof statements label text × (status ≡ 0))
+
+-- the reply to the question what each step of the proof of the theorem with a label uses; of the
+-- essential steps alone, if these are asked for
+abbrev pub IsUsesReply : (essential : Bool) → List ℕ → List PlainStatement → List ℕ → ℕ → Type 0
+IsUsesReply essential label statements text status =
+    ((fault : AskFault) × IsAskFault statements label fault × IsAskReply fault label text status)
+    ⊎ (ShowsUses essential statements label text × (status ≡ 0))
 
 -- the reply to the question for the normal proof of the theorem with a label
 abbrev pub IsNormalReply : List ℕ → List PlainStatement → List ℕ → ℕ → Type 0
@@ -228,6 +245,12 @@ abbrev pub IsPackedReply : List ℕ → List PlainStatement → List ℕ → ℕ
 IsPackedReply label statements text status =
     ((fault : AskFault) × IsAskFault statements label fault × IsAskReply fault label text status)
     ⊎ (IsPackedOf statements label text × (status ≡ 0))
+
+-- the reply to the question for the small proof of the theorem with a label
+abbrev pub IsSmallReply : List ℕ → List PlainStatement → List ℕ → ℕ → Type 0
+IsSmallReply label statements text status =
+    ((fault : AskFault) × IsAskFault statements label fault × IsAskReply fault label text status)
+    ⊎ (IsSmallOf statements label text × (status ≡ 0))
 
 -- the line and the status that tell whether two proofs are the same
 abbrev pub same_text : Bool → List ℕ
@@ -266,20 +289,26 @@ IsFormReply false form.Normal files label statements text status =
     IsNormalReply label statements text status
 IsFormReply false form.Packed files label statements text status =
     IsPackedReply label statements text status
+IsFormReply false form.Small files label statements text status =
+    IsSmallReply label statements text status
 
--- the reply to a question about the theorem with a label
+-- the reply to a question about the statement with a label
 abbrev pub IsAnswerTo : Question → List PlainFile → (label : List ℕ) → List PlainStatement → List ℕ
     → ℕ → Type 0
 IsAnswerTo question.Axioms files label statements text status =
     IsAxiomsReply label statements text status
 IsAnswerTo question.Show files label statements text status =
     IsShowReply label statements text status
+IsAnswerTo (question.Uses essential) files label statements text status =
+    IsUsesReply essential label statements text status
 IsAnswerTo (question.Form wanted whole) files label statements text status =
     IsFormReply whole wanted files label statements text status
 IsAnswerTo (question.Same proof) files label statements text status =
     IsSameReply label proof.now statements text status
 IsAnswerTo (question.Users all) files label statements text status =
     IsUsersReply all label statements text status
+IsAnswerTo question.Statement files label statements text status =
+    IsStatementReply files label statements text status
 
 -- the reply to the question for the file with a number, with each complete proof in a form: the bytes
 -- of the file, and nothing else; or the label of the first theorem whose proof is too long, or the

@@ -1,5 +1,6 @@
 -- Laws of saving: what it changes, and that it changes nothing else.
-use Rattle.std.specs.Prelude.{◌≡◌, ℕ, ◌<◌, List, take, None, ◌↔◌, ◌⊎◌}
+use Rattle.std.specs.Prelude.{◌≡◌, ℕ, ◌<◌, ◌≤◌, List, take, length, slice_get, None, Some, ◌↔◌}
+use Rattle.std.specs.Prelude.{◌⊎◌}
 use Rattle.mm_text.specs.Statement.{PlainStatement}
 use Rattle.mm_text.specs.Files.{PlainFile, most_bytes}
 use Rattle.mm_text.specs.Replaced.{with_bytes}
@@ -10,6 +11,7 @@ use Rattle.mm_proof.specs.declared.profile.Profile.TheVariants.{Strict}
 use Rattle.mm_proof.specs.Strict.{HasFormOf}
 use Rattle.mm_proof.specs.Tree.{Trees}
 use Rattle.mm_check.specs.declared.form.Form.{Form}
+use Rattle.mm_check.specs.declared.form.Form.TheVariants.{Small}
 use Rattle.mm_check.specs.declared.ask.AskFault.{AskFault}
 use Rattle.mm_check.specs.declared.ask.AskFault.TheVariants.{F3, Memory}
 use Rattle.mm_check.specs.Verdict.{Verdict, HasVerdict, AreAccepted, sentences, proof_of}
@@ -37,8 +39,15 @@ SavingChangesNoAnswer =
     → (same : List PlainStatement)
     × SayTheSame profile files (with_bytes files number bytes) statements same
 
--- The proof that is put in has the strict form, whatever the profile is in which the files are
--- accepted.
+-- the statement at the index had this proof, and the form is the small one, in which a proof is
+-- kept that is short already
+abbrev pub IsKeptProof : Form → List PlainStatement → (index : ℕ) → (proof : List (List ℕ)) → Type 0
+IsKeptProof form statements index proof =
+    (form ≡ Small) × (s : PlainStatement) × (slice_get statements index ≡ Some s)
+    × (proof ≡ proof_of s)
+
+-- The proof that stands there then has the strict form, whatever the profile is in which the files
+-- are accepted; or it is the one that stood there, which small form keeps.
 abbrev pub SavedProofIsStrict : Type 0
 SavedProofIsStrict =
     (profile : Profile) (form : Form) (files : List PlainFile)
@@ -47,7 +56,8 @@ SavedProofIsStrict =
     → IsSaved form files statements label number bytes → FitsSaved files number bytes
     → Reads (with_bytes files number bytes) same None
     → (index : ℕ) × (s : PlainStatement) × IsTheorem same label index s
-    × HasFormOf Strict (sentences (take index same)) (sentence_of s) (proof_of s)
+    × (HasFormOf Strict (sentences (take index same)) (sentence_of s) (proof_of s)
+    ⊎ IsKeptProof form statements index (proof_of s))
 
 -- what is saved is one
 abbrev pub OneSaved : Type 0
@@ -82,3 +92,11 @@ SavingAgainChangesNothing =
     × ((again : ℕ) (others : List ℕ)
     → IsSaved form (with_bytes files number bytes) same label again others
     → (again ≡ number) × (others ≡ bytes))
+
+-- in small form, no file has more bytes than before
+abbrev pub SmallFilesDoNotGrow : Type 0
+SmallFilesDoNotGrow =
+    (profile : Profile) (files : List PlainFile) (statements : List PlainStatement)
+    (label : List ℕ) (number : ℕ) (bytes : List ℕ) → AreAccepted profile files statements
+    → IsSaved Small files statements label number bytes
+    → (file : PlainFile) × (slice_get files number ≡ Some file) × (length bytes ≤ length file.bytes)

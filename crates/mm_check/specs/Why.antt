@@ -1,26 +1,28 @@
 -- Why the files aren't accepted: all their faults, each with what explains it. The explanations are
 -- this project's own.
-use Rattle.std.specs.Prelude.{◌≡◌, ℕ, ◌-◌, ◌==◌, if◌then◌else◌, List, [], ◌∷◌, ◌++◌, filter}
+use Rattle.std.specs.Prelude.{◌≡◌, ℕ, ◌+◌, ◌-◌, ◌==◌, if◌then◌else◌, List, [], ◌∷◌, ◌++◌, filter}
 use Rattle.std.specs.Prelude.{take, length, Bool, true, false, not, Option, Some, None, codes}
-use Rattle.std.specs.Prelude.{decimal, slice_get, option_map, unwrap_or}
+use Rattle.std.specs.Prelude.{decimal, slice_get, ◌⊎◌}
 use Rattle.std.specs.List.{flat_map, AllZip}
+use Rattle.mm_text.specs.Token.{PlainToken}
 use Rattle.mm_text.specs.Statement.{PlainStatement}
 use Rattle.mm_text.specs.Files.{PlainFile}
 use Rattle.mm_text.specs.Reading.{PlainFault, Reads}
-use Rattle.mm_frame.specs.Sentence.{sentence_of}
+use Rattle.mm_frame.specs.Sentence.{Sentence, sentence_of}
 use Rattle.mm_proof.specs.declared.fault.ProofRule.{ProofRule}
-use Rattle.mm_proof.specs.declared.fault.ProofRule.TheVariants.{P6, P7, P8, P9, P10, P11}
-use Rattle.mm_proof.specs.declared.fault.ProofRule.TheVariants.{P12, P13, P14, L1}
 use Rattle.mm_proof.specs.declared.profile.Profile.{Profile}
+use Rattle.mm_proof.specs.Moves.{Move, steps_in}
+use Rattle.mm_proof.specs.Places.{IsMovePlace}
+use Rattle.mm_proof.specs.WholePlaces.{IsWholePlace}
 use Rattle.mm_check.specs.declared.rule.Rule.{Rule}
 use Rattle.mm_check.specs.declared.rule.Rule.TheVariants as rules
 use Rattle.mm_check.specs.RuleCodes.{code_of}
 use Rattle.mm_check.specs.Meanings.{meaning_of}
 use Rattle.mm_check.specs.Verdict.{PlainRefusal, sentences, proof_of}
 use Rattle.mm_check.specs.Faults.{IsProofRefusal}
-use Rattle.mm_check.specs.Explained.{Detail, AreDetails, details_text}
+use Rattle.mm_check.specs.Explained.{judged_tokens, TokensHalt, Detail, AreDetails, details_text}
+use Rattle.mm_check.specs.LastFacts.{AreLastFacts}
 use Rattle.mm_check.specs.Places.{place_of, place_text}
-use Rattle.mm_check.specs.StepPlaces.{places_of_steps, letters_after}
 
 -- ---- the first line of an explanation
 
@@ -46,31 +48,35 @@ head_text files at r =
     ++ codes ": " ++ meaning_of r.rule ++ owner_text r.rule r.label ++ step_text r.step
     ++ codes "\n"
 
+-- ---- places
+
+-- the position of a byte of a token of the statement's proof
+abbrev pub IsPosition : PlainStatement → (token byte : ℕ) → (at : ℕ) → Type 0
+IsPosition s token byte at =
+    (t : PlainToken) × (slice_get s.proof token ≡ Some t) × (at ≡ t.at + byte)
+
+-- The position at which the moves of the statement's proof stop, where so many passed and these are
+-- left: that of the first of these, or else that of the `$.`.
+abbrev pub IsStopPlace : PlainStatement → (passed : ℕ) → (left : List (Move (List ℕ))) → (at : ℕ)
+    → Type 0
+IsStopPlace s passed [] at = at ≡ s.span.1
+IsStopPlace s passed (move ∷ more) at =
+    (token : ℕ) × (byte : ℕ) × IsMovePlace (proof_of s) passed token byte
+    × IsPosition s token byte at
+
+-- The position of the first fault of the statement's proof: that of the byte at which a rule over
+-- the whole of it is broken; or that at which the moves of the judged tokens stop.
+abbrev pub IsFaultPlace : Profile → (before : List Sentence) → PlainStatement → ProofRule
+    → (step : ℕ) → (at : ℕ) → Type 0
+IsFaultPlace profile before s rule step at =
+    ((step ≡ 0) × (token : ℕ) × (byte : ℕ)
+    × IsWholePlace before (judged_tokens (proof_of s)) rule token byte
+    × IsPosition s token byte at)
+    ⊎ ((h : TokensHalt profile before (sentence_of s) (proof_of s) (Some rule))
+    × (step ≡ steps_in h.halts.earlier + 1)
+    × IsStopPlace s (length h.halts.earlier) h.halts.left at)
+
 -- ---- explanations
-
--- the position of a step of the statement's proof; where no such step stands, that of the
--- statement's first token
-abbrev pub step_at : PlainStatement → (step : ℕ) → ℕ
-step_at s step = unwrap_or (slice_get (places_of_steps s.proof) (step - 1)) s.first.at
-
--- The position of a `Z` before any step: that of the first letters.
-abbrev pub mark_at : PlainStatement → ℕ
-mark_at s = unwrap_or (option_map (λ t. t.at) (slice_get (letters_after s.proof) 0)) s.first.at
-
--- The position of a proof's fault: for a rule of steps that of the step, for what all of them leave
--- the `$.`, else the statement's first token.
-abbrev pub fault_at : PlainStatement → ProofRule → (step : ℕ) → ℕ
-fault_at s P6 step = step_at s step
-fault_at s P7 step = mark_at s
-fault_at s P8 step = step_at s step
-fault_at s P9 step = step_at s step
-fault_at s P10 step = step_at s step
-fault_at s P11 step = step_at s step
-fault_at s P12 step = step_at s step
-fault_at s L1 step = step_at s step
-fault_at s P13 step = s.span.1
-fault_at s P14 step = s.span.1
-fault_at s rule step = s.first.at
 
 -- The text explains the refusal of a statement of the files for the fault of its proof: the first
 -- line, and the facts.
@@ -82,11 +88,20 @@ pub record IsExplanation (profile : Profile) (files : List PlainFile) (refusal :
   pub ending : Option PlainFault
   pub reads : Reads files (before ++ s ∷ after) ending
   pub refused : IsProofRefusal profile files before s refusal
+  pub at : ℕ
+  pub place : IsFaultPlace profile (sentences before) s refused.rule refused.step at
   pub details : List Detail
   pub facts : AreDetails profile (sentences before) (sentence_of s) (proof_of s) refused.rule
       refused.step details
-  pub said : text ≡ head_text files (fault_at s refused.rule refused.step) refusal
-      ++ details_text details
+  pub said : text ≡ head_text files at refusal ++ details_text details
+
+-- The text explains the refusal for the fault that ends the run: the first line, and the facts.
+pub record IsLastExplanation (files : List PlainFile) (refusal : PlainRefusal)
+    (text : List ℕ) : Type 0 where
+  pub at : ℕ
+  pub details : List Detail
+  pub facts : AreLastFacts files refusal at details
+  pub said : text ≡ head_text files at refusal ++ details_text details
 
 -- how many faults of proofs are explained
 abbrev pub most_explained : ℕ
@@ -108,14 +123,17 @@ abbrev pub count_text : ℕ → List ℕ
 count_text count =
     if count == 1 then codes "1 fault\n" else (decimal count ++ codes " faults\n")
 
--- The text tells these faults: it explains the first of those of proofs, counts the others, tells
+-- The text tells these faults: it explains the first of those of proofs, counts the others, explains
 -- the one that ended the run, if one did, and counts all.
 pub record TellsFaults (profile : Profile) (files : List PlainFile) (refusals : List PlainRefusal)
     (text : List ℕ) : Type 0 where
   pub explanations : List (List ℕ)
   pub each : AllZip (IsExplanation profile files)
       (take most_explained (filter (λ r. is_of_proofs r.rule) refusals)) explanations
+  pub last : List (List ℕ)
+  pub ended : AllZip (IsLastExplanation files) (filter (λ r. not (is_of_proofs r.rule)) refusals)
+      last
   pub said : text ≡ flat_map (λ t. t) explanations
       ++ more_text (length (filter (λ r. is_of_proofs r.rule) refusals) - most_explained)
-      ++ flat_map (λ r. head_text files r.at r) (filter (λ r. not (is_of_proofs r.rule)) refusals)
+      ++ flat_map (λ t. t) last
       ++ count_text (length refusals)

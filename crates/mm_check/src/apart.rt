@@ -1,15 +1,17 @@
 //! The facts of the variables that a step by an assertion asks to stay apart, and that don't.
 
 ghost use Rattle.std.specs.Prelude.{◌≡◌, ◌<◌, ◌++◌, ℕ, length, drop, OnOk};
-ghost use Rattle.std.specs.Prelude.{slice_get, Some};
+ghost use Rattle.std.specs.Prelude.{slice_get, Some, List, map};
 ghost use Rattle.mm_frame.specs.Numbers.{symbols_of};
 ghost use Rattle.mm_proof.specs.declared.fault.ProofRule.TheVariants.{P11, P12};
 ghost use Rattle.mm_proof.specs.Stores.{numbers_in, entries_in};
-ghost use Rattle.mm_check.specs.Mirror.Explaining.{IsDeclaredIn, AddsApart};
+ghost use Rattle.mm_proof.specs.Substitution.{Symbol};
+ghost use Rattle.mm_check.specs.Explained.{details_text, step_lacks};
+ghost use Rattle.mm_check.specs.Mirror.Explaining.{IsDeclaredIn, AddsApart, AreNamedPairs};
 ghost use Rattle.mm_check.specs.Mirror.Explaining.{AreEntriesIn, IsPairWithin, AddsPair, AddsPairs};
 ghost use Rattle.mm_frame.specs.declared.distinct.DistinctPair.{DistinctPair};
 
-use crate::told::{push_pair, push_shared};
+use crate::told::{push_pair, push_shared, push_step_lacks};
 use mm_frame::{Book, DistinctPair, LabelId, Sym};
 use mm_proof::{ProofRule, missing_pairs, shared_variables};
 use std::alloc::{AllocError, Global};
@@ -46,7 +48,23 @@ fn push_sharing(
     push_shared(out, book, &shared)
 }
 
-/// A mandatory pair, and what replaces its members, where a `$d` of their variables is missing.
+/// The `$d` statements of these pairs, which the step lacks.
+fn push_lacked(out: &mut Vec<u8>, book: &Book, pairs: &[(Sym, Sym)]) -> Result<(), AllocError>
+    requires { (named : List (Symbol × Symbol))
+        × AreNamedPairs book.now.statements pairs.now named }
+    ensures { OnOk result ((named : List (Symbol × Symbol))
+        → AreNamedPairs book.now.statements pairs.now named
+        → out.new.items ≡ out.old.items
+        ++ details_text (map (λ p. step_lacks p.0 p.1) named)) }
+{
+    for pair in pairs {
+        push_step_lacks(out, book.name(pair.0), book.name(pair.1))?;
+    }
+    Ok(())
+}
+
+/// A mandatory pair, and what replaces its members, where a `$d` of their variables is missing; and
+/// each such `$d`.
 fn push_lacking(
     out: &mut Vec<u8>,
     alloc: Global,
@@ -74,7 +92,8 @@ fn push_lacking(
         book.name(variables.1),
         e,
         f,
-    )
+    )?;
+    push_lacked(out, book, &missing)
 }
 
 /// What follows the first symbol.

@@ -8,16 +8,19 @@ use crate::ask::AskFault;
 use crate::bits::index_of;
 use crate::comparison::is_same;
 use crate::form::Form;
-use crate::forms::{normal_text, packed_text, proof_text};
+use crate::forms::{normal_text, packed_text, small_text, span_text};
 use crate::kept::Kept;
+use crate::position::{place_of, push_place};
 use crate::progress::Progress;
 use crate::report::{
     Report, Tables, axioms_among, marked_among, reach, report_in, tables_of, theorems_of,
 };
 use crate::reread::{proof_of, reread};
-use crate::rewrite::put_in;
+use crate::rewrite::{bytes_of, put_in};
 use crate::rule::AskRule;
 use crate::shown::listing_text;
+use crate::shown_uses::uses_text;
+use crate::stated::push_told;
 use crate::theorem::{Theorem, theorem_of};
 use crate::users::{all_users_among, users_among};
 use mm_frame::{Book, Found, LabelId, LabelKind};
@@ -88,10 +91,12 @@ impl<'a> Checked<'a> {
     ghost use Rattle.mm_frame.specs.Sentence.{IsAssertion};
     ghost use Rattle.mm_proof.specs.Steps.{AreSteps};
     ghost use Rattle.mm_check.specs.Shown.{ShowsProof};
+    ghost use Rattle.mm_check.specs.ShownUses.{ShowsUses};
     ghost use Rattle.mm_check.specs.Compared.{IsCompared, IsSameFault};
-    ghost use Rattle.mm_check.specs.Forms.{IsNormalOf, IsNormalFault, IsPackedOf};
+    ghost use Rattle.mm_check.specs.Forms.{IsNormalOf, IsNormalFault, IsPackedOf, IsSmallOf};
     ghost use Rattle.mm_check.specs.Mirror.Theorems.{AreProvedSteps, AreStepsOf};
     ghost use Rattle.mm_check.specs.Answer.{IsKeptOf};
+    ghost use Rattle.mm_check.specs.Stated.{IsStatementFault, TellsStatement};
     ghost use Rattle.mm_check.specs.Saved.{IsSaved, FitsSaved, IsSaveFault};
     ghost use Rattle.mm_check.specs.Mirror.Rewriting.{IsHomeOf};
 
@@ -274,6 +279,54 @@ impl<'a> Checked<'a> {
         Ok(all_users_among(alloc, kept, assertion)?)
     }
 
+    /// The number of the statement that has this label.
+    fn labelled(&self, label: &[u8]) -> Result<LabelId, AskFault>
+        ensures within { IfOk result (λ id. id.0 < length (labelled_sentences self.now.sentences)) }
+        ensures found { IfOk result (λ id. (statements : List PlainStatement)
+            → IsKeptOf statements self.now
+            → IsNamed statements label.now (λ s. Unit {0}) id.0) }
+        ensures fault { IfErr result (λ fault. (statements : List PlainStatement)
+            → IsKeptOf statements self.now → IsStatementFault statements label.now fault) }
+        ensures sound { IsSound self.now.sentences }
+    {
+        let id = match self.book.find(label) {
+            Found::Assertion(id) => id,
+            Found::Hypothesis { id, .. } => id,
+            Found::None => return Err(AskFault::Rule(AskRule::A1)),
+        };
+        Ok(id)
+    }
+
+    /// What is told of the statement with this label: a line with the place of its first token; of
+    /// an assertion, a line for each mandatory hypothesis and each mandatory pair, and of a `$p` one
+    /// for each `$d` that says more; and a line of the statement itself.
+    ///
+    /// # Errors
+    ///
+    /// `A1` where no statement has the label; `Memory` where a growth was refused.
+    pub fn statement(&self, alloc: Global, label: &[u8]) -> Result<Vec<u8>, AskFault>
+        ensures told { IfOk result (λ text. (statements : List PlainStatement)
+            → Reads self.now.files statements None
+            → TellsStatement self.now.files statements label.now text.items) }
+        ensures fault { IfErr result (λ fault. (statements : List PlainStatement)
+            → Reads self.now.files statements None
+            → IsStatementFault statements label.now fault) }
+    {
+        let files = self.files;
+        let id = self.labelled(label)?;
+        let statement = reread(alloc, self.book.seed(), files, label)?;
+        let first = statement.first;
+        let mut out = Vec::new(alloc);
+        push_place(
+            &mut out,
+            files,
+            place_of(files, first.file, first.at as usize),
+        )?;
+        out.push(b'\n')?;
+        push_told(&mut out, alloc, &self.book, id)?;
+        Ok(out)
+    }
+
     /// The tables of what all theorems rest on.
     pub(crate) fn tables(&self, alloc: Global) -> Result<Tables, AllocError>
         ensures { IfOk result (λ tables. AreTables self.now.sentences self.now.incomplete
@@ -369,6 +422,25 @@ impl<'a> Checked<'a> {
         listing_text(alloc, &self.book, &theorem)
     }
 
+    /// What each step of the proof of the `$p` with this label uses, as text, in lines: the number
+    /// of a step, the numbers of the steps that gave it its mandatory hypotheses, its name, and its
+    /// expression. If `essential`, only the steps that the last one is reached from through `$e`,
+    /// and only what they use so.
+    ///
+    /// # Errors
+    ///
+    /// As for `axioms`.
+    pub fn uses(&self, alloc: Global, label: &[u8], essential: bool) -> Result<Vec<u8>, AskFault>
+        ensures shown { IfOk result (λ text. (statements : List PlainStatement)
+            → Reads self.now.files statements None
+            → ShowsUses essential statements label.now text.items) }
+        ensures fault { IfErr result (λ fault. (statements : List PlainStatement)
+            → Reads self.now.files statements None → IsAskFault statements label.now fault) }
+    {
+        let theorem = self.read_theorem(alloc, label)?;
+        uses_text(alloc, &self.book, &theorem, essential)
+    }
+
     /// The normal proof of the `$p` with this label, laid out in lines: the labels that its proof's
     /// tree spells.
     ///
@@ -401,6 +473,23 @@ impl<'a> Checked<'a> {
     {
         let theorem = self.read_theorem(alloc, label)?;
         packed_text(alloc, &self.book, &theorem)
+    }
+
+    /// The small proof of the `$p` with this label, laid out in lines as a packed one: the one
+    /// compressed proof of its proof's tree whose labels are listed by use.
+    ///
+    /// # Errors
+    ///
+    /// As for `axioms`.
+    pub fn small(&self, alloc: Global, label: &[u8]) -> Result<Vec<u8>, AskFault>
+        ensures text { IfOk result (λ text. (statements : List PlainStatement)
+            → Reads self.now.files statements None
+            → IsSmallOf statements label.now text.items) }
+        ensures fault { IfErr result (λ fault. (statements : List PlainStatement)
+            → Reads self.now.files statements None → IsAskFault statements label.now fault) }
+    {
+        let theorem = self.read_theorem(alloc, label)?;
+        small_text(alloc, &self.book, &theorem)
     }
 
     /// Whether a text, as a proof of the `$p` with this label, is the same proof as its own:
@@ -444,8 +533,9 @@ impl<'a> Checked<'a> {
             → IsSaveFault form self.now.files statements label.now fault) }
     {
         let theorem = self.read_theorem(alloc, label)?;
-        let text = proof_text(alloc, &self.book, &theorem, form)?;
-        let bytes = put_in(alloc, self.files, theorem.file, theorem.span, &text)?;
+        let old = bytes_of(self.files, theorem.file, theorem.span);
+        let put = span_text(alloc, &self.book, &theorem, form, old)?;
+        let bytes = put_in(alloc, self.files, theorem.file, theorem.span, &put)?;
         Ok((theorem.file, bytes))
     }
 }

@@ -66,8 +66,8 @@ impl From<AllocError> for RunFault {
     }
 }
 
-/// The reply to a command over the files.
-fn reply_to(
+/// The reply to a command over the files, the first of which is the top file, before it is written.
+pub fn reply_to(
     alloc: Global,
     seed: Seed,
     command: &Command,

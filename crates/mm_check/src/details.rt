@@ -1,14 +1,14 @@
 //! The facts that explain a fault of a proof.
 
 ghost use Rattle.std.specs.Prelude.{◌≡◌, ◌≤◌, ◌+◌, ◌++◌, ℕ, List, length, map, take, slice_get};
-ghost use Rattle.std.specs.Prelude.{OnOk, IfOk, Some, true, ◌⊎◌};
+ghost use Rattle.std.specs.Prelude.{OnOk, IfOk, IfSome, Some, true, ◌⊎◌};
 ghost use Rattle.std.specs.List.{sum_by};
 ghost use Rattle.mm_text.specs.Files.{most_bytes};
 ghost use Rattle.mm_code.specs.Layout.{texts};
-ghost use Rattle.mm_frame.specs.Sentence.{Sentence};
+ghost use Rattle.mm_frame.specs.Sentence.{Sentence, SomeSentence, IsLabelled};
 ghost use Rattle.mm_frame.specs.Form.{IsSound};
 ghost use Rattle.mm_proof.specs.Mirror.CodeVerify.{AreHypothesesOf};
-ghost use Rattle.mm_proof.specs.declared.fault.ProofRule.TheVariants.{P8, P9, P10, P11, P12};
+ghost use Rattle.mm_proof.specs.declared.fault.ProofRule.TheVariants.{P2, P8, P9, P10, P11, P12};
 ghost use Rattle.mm_proof.specs.Stores.{entries_in};
 ghost use Rattle.mm_proof.specs.Halted.{TellsEntry};
 ghost use Rattle.mm_proof.specs.Parsed.{OfProof, SaySteps};
@@ -22,20 +22,22 @@ ghost use Rattle.mm_proof.specs.UnderProfile.{IsPrefixAllowedUnder};
 ghost use Rattle.mm_check.specs.Explained.{Detail, IsTokensFault, AreDetails, AreLeftOver};
 ghost use Rattle.mm_check.specs.Explained.{details_text, judged_tokens, hypotheses_stated};
 ghost use Rattle.mm_check.specs.Explained.{entries_given, AreEndDetails, AreStepDetails};
-ghost use Rattle.mm_check.specs.Explained.{AreMoveDetails, AreHaltDetails};
+ghost use Rattle.mm_check.specs.Explained.{AreMoveDetails, AreHaltDetails, AreTokenDetails};
 ghost use Rattle.mm_check.specs.Explained.{AreWholeDetails, pairs_lacking};
 ghost use Rattle.mm_check.specs.Mirror.Explaining.{IsHaltOf, AddsAtHalt, StepFacts, LabelFacts};
 ghost use Rattle.mm_check.specs.Mirror.Explaining.{AreJudgedSteps, IsJudgedWhole, AskedFacts};
-ghost use Rattle.mm_check.specs.Mirror.Explaining.{AreNamedPairs, ApartFacts};
+ghost use Rattle.mm_check.specs.Mirror.Explaining.{AreNamedPairs, ApartFacts, IsCauseOf};
 
 use crate::apart::push_apart_pairs;
+use crate::near::Nearest;
 use crate::told::{
-    push_asks, push_counts, push_end, push_given, push_marks, push_missing, push_most, push_stated,
-    push_step,
+    push_asks, push_counts, push_end, push_given, push_marks, push_missing, push_most, push_near,
+    push_stated, push_step, push_token,
 };
 use mm_frame::{Book, Hypothesis, LabelId, Sym};
 use mm_proof::{
     Halt, HaltAt, Parsed, Profile, ProofFault, ProofRule, Steps, asked_by, halt_of, lacking_pairs,
+    whole_place,
 };
 use std::alloc::{AllocError, Global};
 
@@ -334,6 +336,142 @@ fn steps_of(
     }
 }
 
+/// The cause of the fault of a proof.
+#[derive(Drop)]
+pub(crate) enum Cause<'t> {
+    /// A rule over the whole of the proof is broken at a byte of a token.
+    Token {
+        index: usize,
+        byte: usize,
+        text: &'t [u8],
+    },
+    /// The moves of the judged tokens, and where they stop.
+    Moves {
+        steps: Steps,
+        halt: Halt,
+    },
+}
+
+/// The cause of the fault of the tokens as the proof of the `$p` with the number, which breaks the
+/// rule at the step.
+pub(crate) fn cause_of<'t>(
+    alloc: Global,
+    profile: Profile,
+    book: &Book,
+    id: LabelId,
+    tokens: &[&'t [u8]],
+    fault: (ProofRule, usize),
+) -> Result<Cause<'t>, AllocError>
+    requires proof { (index : ℕ) × (s : Sentence) × IsProofNumber book.now.statements id.0 index s }
+    requires room { sum_by length (texts tokens.now) ≤ most_bytes }
+    requires fault { OfProof book.now.statements id.0 (λ index s.
+        IsTokensFault profile (take index book.now.statements) s (texts tokens.now)
+        fault.0 fault.1) }
+    ensures { IfOk result
+        (IsCauseOf profile book.now.statements id.0 (texts tokens.now) fault.0 fault.1) }
+{
+    // The frame of the `$p` tells that its book is sound.
+    let _own = book.frame(id);
+    if fault.1 == 0 {
+        let (index, byte) = whole_place(alloc, book, id, tokens, fault.0)?;
+        return Ok(Cause::Token {
+            index,
+            byte,
+            text: tokens[index],
+        });
+    }
+    let steps = steps_of(alloc, profile, book, id, tokens)?;
+    let halt = halt_of(alloc, book, id, &steps)?;
+    Ok(Cause::Moves { steps, halt })
+}
+
+/// The label of a statement before the `$p` with the number that is nearest to the wanted one, if
+/// one is near.
+fn near_label<'a>(
+    alloc: Global,
+    book: &Book<'a>,
+    id: LabelId,
+    wanted: &[u8],
+) -> Result<Option<&'a [u8]>, AllocError>
+    ensures { IfOk result (λ found. IfSome found (λ label.
+        OfProof book.now.statements id.0 (λ index s.
+        SomeSentence (take index book.now.statements) (IsLabelled label.now)))) }
+{
+    let mut nearest = Nearest::new(alloc, wanted);
+    for number in 0..id.0 {
+        nearest.offer(book.label(LabelId(number)))?;
+    }
+    Ok(nearest.found)
+}
+
+/// A label that no statement before the `$p` with the number has, and one that is near.
+fn push_unknown_label(
+    out: &mut Vec<u8>,
+    alloc: Global,
+    book: &Book,
+    id: LabelId,
+    label: &[u8],
+) -> Result<(), AllocError>
+    ensures { OnOk result (OfProof book.now.statements id.0 (λ index s. (details : List Detail)
+        × AreTokenDetails (take index book.now.statements) P2 label.now details
+        × (out.new.items ≡ out.old.items ++ details_text details))) }
+{
+    push_token(out, label)?;
+    match near_label(alloc, book, id, label)? {
+        Some(near) => push_near(out, near),
+        None => Ok(()),
+    }
+}
+
+/// What is told of a token at which a rule over the whole of a proof is broken.
+fn push_at_token(
+    out: &mut Vec<u8>,
+    alloc: Global,
+    book: &Book,
+    id: LabelId,
+    rule: ProofRule,
+    text: &[u8],
+) -> Result<(), AllocError>
+    ensures { OnOk result (OfProof book.now.statements id.0 (λ index s. (details : List Detail)
+        × AreTokenDetails (take index book.now.statements) rule text.now details
+        × (out.new.items ≡ out.old.items ++ details_text details))) }
+{
+    match rule {
+        ProofRule::P2 => push_unknown_label(out, alloc, book, id, text),
+        ProofRule::P3 => push_token(out, text),
+        ProofRule::P4 => push_token(out, text),
+        _ => Ok(()),
+    }
+}
+
+/// The facts that explain a fault, whose cause and rule these are.
+pub(crate) fn push_cause(
+    out: &mut Vec<u8>,
+    alloc: Global,
+    profile: Profile,
+    book: &Book,
+    id: LabelId,
+    cause: &Cause,
+    rule: ProofRule,
+) -> Result<(), AllocError>
+    requires proof { (index : ℕ) × (s : Sentence) × IsProofNumber book.now.statements id.0 index s }
+    requires cause { (tokens : List (List ℕ)) × (step : ℕ)
+        × IsCauseOf profile book.now.statements id.0 tokens rule step cause.now }
+    ensures { OnOk result ((tokens : List (List ℕ)) (step : ℕ)
+        → IsCauseOf profile book.now.statements id.0 tokens rule step cause.now
+        → OfProof book.now.statements id.0 (λ index s. (details : List Detail)
+        × AreDetails profile (take index book.now.statements) s tokens rule step details
+        × (out.new.items ≡ out.old.items ++ details_text details))) }
+{
+    match cause {
+        Cause::Token { text, .. } => push_at_token(out, alloc, book, id, rule, text),
+        Cause::Moves { steps, halt } => {
+            push_halt(out, alloc, book, id, profile, halt, rule)?;
+            push_whole(out, alloc, book, id, steps, rule)
+        }
+    }
+}
+
 /// The facts that explain the fault of the tokens as the proof of the `$p` with the number, which
 /// breaks the rule at the step.
 pub(crate) fn push_details(
@@ -355,16 +493,8 @@ pub(crate) fn push_details(
         fault.0 fault.1 details
         × (out.new.items ≡ out.old.items ++ details_text details))) }
 {
-    // All the tokens are at fault.
-    if fault.1 == 0 {
-        return Ok(());
-    }
-    // The frame of the `$p` tells that its book is sound.
-    let _own = book.frame(id);
-    let steps = steps_of(alloc, profile, book, id, tokens)?;
-    let halt = halt_of(alloc, book, id, &steps)?;
-    push_halt(out, alloc, book, id, profile, &halt, fault.0)?;
-    push_whole(out, alloc, book, id, &steps, fault.0)
+    let cause = cause_of(alloc, profile, book, id, tokens, fault)?;
+    push_cause(out, alloc, profile, book, id, &cause, fault.0)
 }
 
 /// What the known prefix of the tokens, which breaks no rule, leaves on the stack.

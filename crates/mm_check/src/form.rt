@@ -7,4 +7,6 @@ pub enum Form {
     Normal,
     /// The packed proof: the one fully shared proof of its tree.
     Packed,
+    /// The small proof: a compressed one with as few letters as its labels and steps allow.
+    Small,
 }

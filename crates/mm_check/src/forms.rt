@@ -1,7 +1,9 @@
-//! The normal and the packed proof of a theorem, as texts.
+//! The normal, the packed and the small proof of a theorem, as texts.
 
 ghost use Rattle.std.specs.Prelude.{◌≡◌, ◌⊎◌, ◌<◌, ◌≤◌, List, ℕ, length, take, false, IfOk, IfErr};
+ghost use Rattle.std.specs.Prelude.{◌∷◌};
 ghost use Rattle.mm_code.specs.Layout.{texts};
+ghost use Rattle.mm_code.specs.SmallLayout.{most_indent};
 ghost use Rattle.mm_proof.specs.Tree.{spelling};
 ghost use Rattle.mm_proof.specs.Spelled.{AreLabelsOf, OfSpelling};
 ghost use Rattle.mm_proof.specs.Packing.{OfTree};
@@ -9,17 +11,19 @@ ghost use Rattle.mm_proof.specs.Steps.{AreSteps};
 ghost use Rattle.mm_proof.specs.Verified.{OfMoves};
 ghost use Rattle.mm_check.specs.declared.ask.AskFault.TheVariants.{Rule, Memory};
 ghost use Rattle.mm_check.specs.declared.rule.AskRule.TheVariants.{L2};
-ghost use Rattle.mm_check.specs.Forms.{most_labels, IsNormalText, IsPackedText};
+ghost use Rattle.mm_check.specs.Forms.{most_labels, IsNormalText, IsPackedText, IsSmallText};
+ghost use Rattle.mm_check.specs.Forms.{HasSmallProof, IsSmallBehind};
+ghost use Rattle.mm_check.specs.Saved.{IsSpanText, IsShorter, spaces, indent_of};
 ghost use Rattle.mm_check.specs.Mirror.Theorems.{AreProvedSteps};
-ghost use Rattle.mm_check.specs.Mirror.Rewriting.{IsTextOf, IsTextFault};
+ghost use Rattle.mm_check.specs.Mirror.Rewriting.{IsSpanTextOf, IsTextFault};
 
 use crate::ask::AskFault;
 use crate::form::Form;
 use crate::rule::AskRule;
 use crate::theorem::Theorem;
-use mm_code::{lay_out_compressed, lay_out_normal, write_codes};
+use mm_code::{MOST_INDENT, lay_out_compressed, lay_out_normal, lay_out_small, write_codes};
 use mm_frame::{Book, LabelId};
-use mm_proof::{ExpandFault, compress, expand};
+use mm_proof::{ExpandFault, compress, compress_small, expand};
 use std::alloc::{AllocError, Global};
 
 // The most labels of a normal proof that is written.
@@ -107,23 +111,147 @@ pub(crate) fn packed_text(
     Ok(lay_out_compressed(alloc, &names, &letters)?)
 }
 
-/// The text of the proof of a theorem in a form.
-pub(crate) fn proof_text(
+/// The small proof of a theorem, before it is laid out.
+#[derive(Drop)]
+struct SmallProof<'a> {
+    /// The labels that it lists.
+    names: Vec<&'a [u8]>,
+    /// The letters that spell its codes.
+    letters: Vec<u8>,
+}
+
+/// The small proof of a theorem.
+fn small_proof<'a>(
+    alloc: Global,
+    book: &Book<'a>,
+    theorem: &Theorem,
+) -> Result<SmallProof<'a>, AllocError>
+    requires steps { AreSteps book.now.statements theorem.now.id.0 theorem.now.steps.moves }
+    requires proved { AreProvedSteps book.now.statements theorem.now.id.0 theorem.now.steps }
+    requires whole { theorem.now.steps.prefix ≡ false }
+    ensures { IfOk result (λ proof.
+        OfMoves book.now.statements theorem.now.id.0 theorem.now.steps.moves
+        (λ index s moves. OfTree (take index book.now.statements) moves
+        (λ trees. HasSmallProof (take index book.now.statements) s trees
+        (λ listed letters. (texts proof.names.items ≡ listed)
+        × (proof.letters.items ≡ letters))))) }
+{
+    let small = compress_small(alloc, book, theorem.id, &theorem.steps)?;
+    let names = names_of(alloc, book, &small.labels)?;
+    let letters = write_codes(alloc, &small.codes)?;
+    Ok(SmallProof { names, letters })
+}
+
+/// The text of the small proof of a theorem, in the lines of packed proofs.
+pub(crate) fn small_text(alloc: Global, book: &Book, theorem: &Theorem) -> Result<Vec<u8>, AskFault>
+    requires steps { AreSteps book.now.statements theorem.now.id.0 theorem.now.steps.moves }
+    requires proved { AreProvedSteps book.now.statements theorem.now.id.0 theorem.now.steps }
+    requires whole { theorem.now.steps.prefix ≡ false }
+    ensures text { IfOk result (λ text.
+        OfMoves book.now.statements theorem.now.id.0 theorem.now.steps.moves
+        (λ index s moves. OfTree (take index book.now.statements) moves
+        (λ trees. IsSmallText (take index book.now.statements) s trees text.items))) }
+    ensures memory { IfErr result (λ fault. fault ≡ Memory) }
+{
+    let small = small_proof(alloc, book, theorem)?;
+    Ok(lay_out_compressed(alloc, &small.names, &small.letters)?)
+}
+
+/// How many spaces bytes begin with.
+fn spaces_before(bytes: &[u8]) -> usize
+    ensures { result ≡ spaces bytes.now }
+{
+    for at in 0..bytes.len() {
+        if bytes[at] != b' ' {
+            return at;
+        }
+    }
+    bytes.len()
+}
+
+// The indent of a proof that doesn't stand on lines of its own.
+const USUAL_INDENT: usize = 4;
+
+/// The indent of a proof that stands in a file as these bytes: where they begin with a line feed,
+/// the spaces right behind it, but no more than a line may begin with.
+fn indent_in(old: &[u8]) -> usize
+    ensures { result ≡ indent_of old.now }
+{
+    if old.is_empty() || old[0] != b'\n' {
+        return USUAL_INDENT;
+    }
+    spaces_before(&old[1..]).min(MOST_INDENT)
+}
+
+/// The text of the small proof of a theorem in the lines that files have, behind so many spaces.
+fn small_behind(
+    alloc: Global,
+    book: &Book,
+    theorem: &Theorem,
+    indent: usize,
+) -> Result<Vec<u8>, AllocError>
+    requires indent { indent ≤ most_indent }
+    requires steps { AreSteps book.now.statements theorem.now.id.0 theorem.now.steps.moves }
+    requires proved { AreProvedSteps book.now.statements theorem.now.id.0 theorem.now.steps }
+    requires whole { theorem.now.steps.prefix ≡ false }
+    ensures { IfOk result (λ text.
+        OfMoves book.now.statements theorem.now.id.0 theorem.now.steps.moves
+        (λ index s moves. OfTree (take index book.now.statements) moves
+        (λ trees. IsSmallBehind indent (take index book.now.statements) s trees text.items))) }
+{
+    let small = small_proof(alloc, book, theorem)?;
+    lay_out_small(alloc, indent, &small.names, &small.letters)
+}
+
+/// The new bytes, where they are fewer than the old ones; else the old ones.
+fn shorter(alloc: Global, old: &[u8], new: Vec<u8>) -> Result<Vec<u8>, AllocError>
+    ensures { IfOk result (λ put. IsShorter old.now new.items put.items) }
+{
+    if new.len() < old.len() {
+        Ok(new)
+    } else {
+        Vec::from_slice(alloc, old)
+    }
+}
+
+/// A text behind a line feed.
+fn behind_line_feed(alloc: Global, text: &[u8]) -> Result<Vec<u8>, AllocError>
+    ensures { IfOk result (λ put. put.items ≡ 10 ∷ text.now) }
+{
+    let mut put = Vec::with_capacity(alloc, text.len().saturating_add(1))?;
+    put.push(b'\n')?;
+    put.extend_from_slice(text)?;
+    Ok(put)
+}
+
+/// What is put in place of the bytes of a theorem's proof in a form.
+pub(crate) fn span_text(
     alloc: Global,
     book: &Book,
     theorem: &Theorem,
     form: Form,
+    old: &[u8],
 ) -> Result<Vec<u8>, AskFault>
     requires steps { AreSteps book.now.statements theorem.now.id.0 theorem.now.steps.moves }
     requires proved { AreProvedSteps book.now.statements theorem.now.id.0 theorem.now.steps }
     requires whole { theorem.now.steps.prefix ≡ false }
-    ensures text { IfOk result (λ text. IsTextOf form book.now.statements theorem.now.id.0
-        theorem.now.steps.moves text.items) }
+    ensures put { IfOk result (λ put. IsSpanTextOf form book.now.statements theorem.now.id.0
+        theorem.now.steps.moves old.now put.items) }
     ensures fault { IfErr result (IsTextFault form book.now.statements theorem.now.id.0
         theorem.now.steps.moves) }
 {
     match form {
-        Form::Normal => normal_text(alloc, book, theorem),
-        Form::Packed => packed_text(alloc, book, theorem),
+        Form::Normal => {
+            let text = normal_text(alloc, book, theorem)?;
+            Ok(behind_line_feed(alloc, &text)?)
+        }
+        Form::Packed => {
+            let text = packed_text(alloc, book, theorem)?;
+            Ok(behind_line_feed(alloc, &text)?)
+        }
+        Form::Small => {
+            let text = small_behind(alloc, book, theorem, indent_in(old))?;
+            Ok(shorter(alloc, old, text)?)
+        }
     }
 }

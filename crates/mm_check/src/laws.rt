@@ -3,13 +3,14 @@
 ghost use Rattle.mm_check.specs.Alike.{AlikeFilesHaveOneReply};
 ghost use Rattle.mm_check.specs.AllSavedLaws.{SavingAllChangesNoAnswer, AllSavedProofsAreStrict};
 ghost use Rattle.mm_check.specs.AllSavedLaws.{OneAllSaved, OneSaveAllAnswer};
-ghost use Rattle.mm_check.specs.AllSavedLaws.{SavingAllAgainChangesNothing};
+ghost use Rattle.mm_check.specs.AllSavedLaws.{SavingAllAgainChangesNothing, AllSmallFilesDoNotGrow};
 ghost use Rattle.mm_check.specs.AllSavedLaws.{SavingInTurnIsSavingAll, PackedFilesAreStrict};
 ghost use Rattle.mm_check.specs.FaultLaws.{FirstFaultIsTold, OneListOfFaults, SomeListOfFaults};
 ghost use Rattle.mm_check.specs.FormLaws.{PackedTextsTell};
 ghost use Rattle.mm_check.specs.Laws.{OneVerdict, SomeVerdict, BetweenProfiles, OneReport};
 ghost use Rattle.mm_check.specs.SavedLaws.{SavingChangesNoAnswer, SavedProofIsStrict, OneSaved};
 ghost use Rattle.mm_check.specs.SavedLaws.{OneSaveAnswer, SavingAgainChangesNothing};
+ghost use Rattle.mm_check.specs.SavedLaws.{SmallFilesDoNotGrow};
 ghost use Rattle.mm_check.specs.Users.{ReportsTellUsers};
 
 /// Files have at most one verdict: it can't be said of them both that they obey the rules and that
@@ -79,8 +80,8 @@ pub fn saving_changes_no_answer()
     ensures { SavingChangesNoAnswer }
 {}
 
-/// The proof that saving puts in has the strict form, whatever the profile is in which the files
-/// are accepted.
+/// The proof that stands in the file after saving has the strict form, whatever the profile is in
+/// which the files are accepted; or it is the one that stood there, which small form keeps.
 pub fn saved_proof_is_strict()
     ensures { SavedProofIsStrict }
 {}
@@ -108,8 +109,9 @@ pub fn saving_all_changes_no_answer()
     ensures { SavingAllChangesNoAnswer }
 {}
 
-/// Each proof that saving all proofs of a file puts in has the strict form, whatever the profile is
-/// in which the files are accepted.
+/// Each proof that stands in a file after all its proofs were saved has the strict form, whatever
+/// the profile is in which the files are accepted; or it is the one that stood there, which small
+/// form keeps.
 pub fn all_saved_proofs_are_strict()
     ensures { AllSavedProofsAreStrict }
 {}
@@ -144,4 +146,11 @@ pub fn saving_in_turn_is_saving_all()
 /// the other in any order, the strict profile accepts the files.
 pub fn packed_files_are_strict()
     ensures { PackedFilesAreStrict }
+{}
+
+/// In small form no file grows: its new bytes are at most as many as before, whether the proof of
+/// one theorem is saved or all of its proofs.
+pub fn small_files_do_not_grow()
+    ensures one { SmallFilesDoNotGrow }
+    ensures all { AllSmallFilesDoNotGrow }
 {}

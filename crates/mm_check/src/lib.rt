@@ -6,19 +6,27 @@ mod alone;
 mod apart;
 mod ask;
 mod bits;
+mod breach;
 mod checked;
+mod collision;
 mod command;
 mod comparison;
 mod details;
+mod earlier;
 mod fault;
+mod fault_places;
 mod faults;
 mod form;
 mod forms;
 mod judge;
 mod kept;
 mod known;
+mod last;
 mod laws;
 mod meanings;
+mod near;
+mod nearest;
+mod placed;
 mod position;
 mod progress;
 mod question;
@@ -33,10 +41,12 @@ mod save;
 mod save_all;
 mod save_fault;
 mod shown;
+mod shown_uses;
 mod size;
+mod stated;
 mod status;
-mod step_places;
 mod text;
+mod text_fault;
 mod theorem;
 mod told;
 mod tried;
@@ -48,7 +58,7 @@ mod words;
 
 pub use ask::AskFault;
 pub use checked::Checked;
-pub use command::{Command, RunFault, run};
+pub use command::{Command, RunFault, reply_to, run};
 pub use fault::{CheckFault, Refusal};
 pub use faults::{AllFaults, all_faults};
 pub use form::Form;
@@ -58,10 +68,11 @@ pub use laws::{
     one_verdict, packed_files_are_strict, packed_texts_tell, reports_tell_users,
     saved_proof_is_strict, saving_again_changes_nothing, saving_all_again_changes_nothing,
     saving_all_changes_no_answer, saving_changes_no_answer, saving_in_turn_is_saving_all,
-    some_list_of_faults, some_verdict,
+    small_files_do_not_grow, some_list_of_faults, some_verdict,
 };
 pub use mm_frame::LabelId;
-pub use question::{LoneQuestion, Question, WholeQuestion};
+pub use nearest::nearest_label;
+pub use question::{LoneQuestion, Question, Reply, WholeQuestion};
 pub use report::Report;
 pub use rule::{AskRule, Rule};
 pub use save::saved;

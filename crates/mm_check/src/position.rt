@@ -1,10 +1,10 @@
 //! Lines and columns, as a person counts them.
 
-ghost use Rattle.std.specs.Prelude.{◌≡◌, ◌≤◌, ◌==◌, List, [], ◌++◌, map, take, drop};
-ghost use Rattle.std.specs.Prelude.{count_by, option_map, slice_get, unwrap_or, OnOk};
+ghost use Rattle.std.specs.Prelude.{◌≡◌, ◌≤◌, ◌==◌, List, ◌++◌, map, take, drop, count_by, OnOk};
 ghost use Rattle.mm_text.specs.Files.{plain_file};
 ghost use Rattle.mm_text.specs.LineNumbers.{line_in, line_of as line_at};
-ghost use Rattle.mm_check.specs.Places.{bytes_since_feed, column_of as column_at};
+ghost use Rattle.mm_check.specs.Places.{bytes_of as bytes_at, bytes_since_feed};
+ghost use Rattle.mm_check.specs.Places.{column_of as column_at};
 ghost use Rattle.mm_check.specs.Places.{name_of as name_at, place_of as place_at, place_text};
 
 use crate::words::push_decimal;
@@ -13,9 +13,8 @@ use std::alloc::AllocError;
 use std::marker::Model;
 
 /// The bytes of one of the files; none where there is no such file.
-fn bytes_of<'a>(files: &[File<'a>], file: usize) -> &'a [u8]
-    ensures { result.now
-        ≡ unwrap_or (option_map (λ f. f.bytes) (slice_get (map plain_file files.now) file)) [] }
+pub(crate) fn bytes_of<'a>(files: &[File<'a>], file: usize) -> &'a [u8]
+    ensures { result.now ≡ bytes_at (map plain_file files.now) file }
 {
     match files.get(file) {
         Some(file) => file.bytes,
@@ -31,14 +30,14 @@ fn count_feeds(bytes: &[u8]) -> usize
 }
 
 /// The bytes of a text before a position.
-fn bytes_before(bytes: &[u8], at: usize) -> &[u8]
+pub(crate) fn bytes_before(bytes: &[u8], at: usize) -> &[u8]
     ensures { result.now ≡ take at bytes.now }
 {
     bytes.get(..at).unwrap_or(bytes)
 }
 
 /// The bytes of a text from a position on.
-fn bytes_from(bytes: &[u8], at: usize) -> &[u8]
+pub(crate) fn bytes_from(bytes: &[u8], at: usize) -> &[u8]
     ensures { result.now ≡ drop at bytes.now }
 {
     bytes.get(at..).unwrap_or(b"")

@@ -17,11 +17,13 @@ ghost use Rattle.mm_check.specs.Reply.{ask_status as ask_status_at};
 ghost use Rattle.mm_check.specs.Reply.{IsReply, IsAskReply, IsAxiomsReply, IsShowReply};
 ghost use Rattle.mm_check.specs.Reply.{IsFaultsReply, IsWhyReply, refusals_text, refusal_status};
 ghost use Rattle.mm_check.specs.Reply.{IsNormalReply, IsPackedReply, IsSavedReply, IsSameReply};
+ghost use Rattle.mm_check.specs.Reply.{IsSmallReply};
 ghost use Rattle.mm_check.specs.Reply.{IsAllSavedReply, IsAnswerTo, IsFormReply, IsWholeReply};
 ghost use Rattle.mm_check.specs.Reply.{same_text, same_status, text_status as text_status_at};
 ghost use Rattle.mm_check.specs.Reply.{IsQuestionReply, report_text as report_text_at};
 ghost use Rattle.mm_check.specs.Reply.{report_status as report_status_at, IsUsersReply};
-ghost use Rattle.mm_check.specs.Reply.{IsAllAxiomsReply};
+ghost use Rattle.mm_check.specs.Reply.{IsUsesReply};
+ghost use Rattle.mm_check.specs.Reply.{IsAllAxiomsReply, IsStatementReply};
 ghost use Rattle.mm_proof.specs.declared.profile.Profile.{Profile};
 ghost use Rattle.mm_check.specs.Users.{AreUsers, IsAssertionFault};
 
@@ -48,9 +50,9 @@ use std::alloc::{AllocError, Global};
 
 /// The text of a reply, and the status that goes with it.
 #[derive(Drop)]
-pub(crate) struct Reply {
-    pub(crate) text: Vec<u8>,
-    pub(crate) status: Status,
+pub struct Reply {
+    pub text: Vec<u8>,
+    pub status: Status,
 }
 
 /// A question about the whole database.
@@ -66,13 +68,16 @@ pub enum WholeQuestion {
     Axioms,
 }
 
-/// A question about the theorem with a label, or about the assertion.
+/// A question about the theorem with a label, or about the assertion or the statement.
 #[derive(Clone, Copy, PartialEq, Eq, Debug)]
 pub enum Question<'a> {
     /// What it rests on.
     Axioms,
     /// How it is proved, step by step.
     Show,
+    /// What each step of its proof uses; if `essential`, of the steps alone that it is reached from
+    /// through `$e`.
+    Uses { essential: bool },
     /// For its proof in this form; if `whole`, for the bytes of its file, with this proof in place of
     /// its own.
     Form { form: Form, whole: bool },
@@ -81,6 +86,9 @@ pub enum Question<'a> {
     /// Of the assertion with the label: for the theorems whose proofs use it; if `all`, for those
     /// that rest on it.
     Users { all: bool },
+    /// Of the statement with the label, whatever its kind: where it stands, its frame and what it
+    /// says.
+    Statement,
 }
 
 /// A question about the theorem with a label alone, over the statements before it, whatever their
@@ -240,6 +248,27 @@ fn show_answer(alloc: Global, checked: &Checked, label: &[u8]) -> Result<Reply, 
     }
 }
 
+/// The reply of a database in which nothing is at fault to the question what each step of a proof
+/// uses.
+fn uses_answer(
+    alloc: Global,
+    checked: &Checked,
+    label: &[u8],
+    essential: bool,
+) -> Result<Reply, AllocError>
+    ensures { IfOk result (λ reply. (statements : List PlainStatement)
+        → Reads checked.now.files statements None
+        → IsUsesReply essential label.now statements reply.text.items (number_of reply.status)) }
+{
+    match checked.uses(alloc, label, essential) {
+        Ok(text) => Ok(Reply {
+            text,
+            status: Status::Done,
+        }),
+        Err(fault) => ask_reply(alloc, label, fault),
+    }
+}
+
 /// The reply of a database in which nothing is at fault to the question for a normal proof.
 fn normal_answer(alloc: Global, checked: &Checked, label: &[u8]) -> Result<Reply, AllocError>
     ensures { IfOk result (λ reply. (statements : List PlainStatement)
@@ -262,6 +291,21 @@ fn packed_answer(alloc: Global, checked: &Checked, label: &[u8]) -> Result<Reply
         → IsPackedReply label.now statements reply.text.items (number_of reply.status)) }
 {
     match checked.packed(alloc, label) {
+        Ok(text) => Ok(Reply {
+            text,
+            status: Status::Done,
+        }),
+        Err(fault) => ask_reply(alloc, label, fault),
+    }
+}
+
+/// The reply of a database in which nothing is at fault to the question for a small proof.
+fn small_answer(alloc: Global, checked: &Checked, label: &[u8]) -> Result<Reply, AllocError>
+    ensures { IfOk result (λ reply. (statements : List PlainStatement)
+        → Reads checked.now.files statements None
+        → IsSmallReply label.now statements reply.text.items (number_of reply.status)) }
+{
+    match checked.small(alloc, label) {
         Ok(text) => Ok(Reply {
             text,
             status: Status::Done,
@@ -351,6 +395,7 @@ fn form_answer(
         _ if whole => saved_answer(alloc, checked, label, form),
         Form::Normal => normal_answer(alloc, checked, label),
         Form::Packed => packed_answer(alloc, checked, label),
+        Form::Small => small_answer(alloc, checked, label),
     }
 }
 
@@ -401,7 +446,23 @@ fn users_answer(
     }
 }
 
-/// The reply of a database in which nothing is at fault to a question about a theorem.
+/// The reply of a database in which nothing is at fault to the question what stands at a label.
+fn statement_answer(alloc: Global, checked: &Checked, label: &[u8]) -> Result<Reply, AllocError>
+    ensures { IfOk result (λ reply. (statements : List PlainStatement)
+        → Reads checked.now.files statements None
+        → IsStatementReply checked.now.files label.now statements reply.text.items
+        (number_of reply.status)) }
+{
+    match checked.statement(alloc, label) {
+        Ok(text) => Ok(Reply {
+            text,
+            status: Status::Done,
+        }),
+        Err(fault) => ask_reply(alloc, label, fault),
+    }
+}
+
+/// The reply of a database in which nothing is at fault to a question about a label.
 fn answer_to(
     alloc: Global,
     checked: &Checked,
@@ -418,9 +479,11 @@ fn answer_to(
     match question {
         Question::Axioms => axioms_answer(alloc, checked, label),
         Question::Show => show_answer(alloc, checked, label),
+        Question::Uses { essential } => uses_answer(alloc, checked, label, *essential),
         Question::Form { form, whole } => form_answer(alloc, checked, label, *form, *whole),
         Question::Same(text) => same_answer(alloc, checked, label, text),
         Question::Users { all } => users_answer(alloc, checked, label, *all),
+        Question::Statement => statement_answer(alloc, checked, label),
     }
 }
 

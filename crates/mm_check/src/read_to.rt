@@ -70,7 +70,10 @@ impl<'a> From<AskRule> for Unreached<'a> {
 
 /// Takes a statement after those that the progress has, unless it breaks a rule of meaning. Its
 /// proof isn't judged.
-fn take<'a>(progress: &mut Progress<'a>, statement: &Statement<'a>) -> Result<Taken, Stop<'a>>
+pub(crate) fn take<'a>(
+    progress: &mut Progress<'a>,
+    statement: &Statement<'a>,
+) -> Result<Taken, Stop<'a>>
     requires formed { HasForm (plain_statement statement.now) }
     requires closes { statement.now.kind ≡ Closing
         → close_marks progress.old.prover.book.statements

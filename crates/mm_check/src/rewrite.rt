@@ -1,19 +1,19 @@
 //! A file with a text in place of a span of its bytes.
 
-ghost use Rattle.std.specs.Prelude.{◌≡◌, ◌<◌, ◌≤◌, ◌↔◌, ◌∷◌, List, ℕ, map, length, IfOk, IfErr};
+ghost use Rattle.std.specs.Prelude.{◌≡◌, ◌<◌, ◌≤◌, ◌↔◌, List, ℕ, map, length, IfOk, IfErr};
 ghost use Rattle.std.specs.Prelude.{IsTrue};
 ghost use Rattle.mm_text.specs.Files.{most_bytes, plain_file, total_bytes};
 ghost use Rattle.mm_text.specs.Replaced.{with_span};
 ghost use Rattle.mm_check.specs.Saved.{FitsSaved, total_with};
 ghost use Rattle.mm_check.specs.Mirror.AllSaving.{IsMostFor};
-ghost use Rattle.mm_check.specs.Mirror.Rewriting.{HoldsSpan, IsPutIn, IsPutFault};
+ghost use Rattle.mm_check.specs.Mirror.Rewriting.{HoldsSpan, StandIn, IsPutIn, IsPutFault};
 
 use crate::ask::AskFault;
 use crate::size::size_of;
 use mm_text::{BYTE_LIMIT, File};
 use std::alloc::{AllocError, Global};
 
-/// The bytes with a line feed and a text in place of those of a span.
+/// The bytes with a text in place of those of a span.
 fn with_text(
     alloc: Global,
     bytes: &[u8],
@@ -22,12 +22,11 @@ fn with_text(
 ) -> Result<Vec<u8>, AllocError>
     requires start { span.0 ≤ length bytes.now }
     requires stop { span.1 ≤ length bytes.now }
-    ensures { IfOk result (λ new. new.items ≡ with_span bytes.now span (10 ∷ text.now)) }
+    ensures { IfOk result (λ new. new.items ≡ with_span bytes.now span text.now) }
 {
-    let room = bytes.len().saturating_add(text.len()).saturating_add(1);
+    let room = bytes.len().saturating_add(text.len());
     let mut new = Vec::with_capacity(alloc, room)?;
     new.extend_from_slice(&bytes[..span.0 as usize])?;
-    new.push(b'\n')?;
     new.extend_from_slice(text)?;
     new.extend_from_slice(&bytes[span.1 as usize..])?;
     Ok(new)
@@ -55,7 +54,15 @@ fn is_over(files: &[File], number: usize, count: usize) -> bool
     count > most_for(files, number)
 }
 
-/// The bytes of the file with a number, with a line feed and a text in place of those of a span.
+/// The bytes of a span in the file with a number.
+pub(crate) fn bytes_of<'a>(files: &'a [File<'a>], number: usize, span: (u32, u32)) -> &'a [u8]
+    requires { HoldsSpan (map plain_file files.now) number span }
+    ensures { StandIn (map plain_file files.now) number span result.now }
+{
+    &files[number].bytes[span.0 as usize..span.1 as usize]
+}
+
+/// The bytes of the file with a number, with a text in place of those of a span.
 pub(crate) fn put_in(
     alloc: Global,
     files: &[File],

@@ -15,13 +15,14 @@ use std::alloc::Global;
 
 /// The number of the file in which the `$p` with a label stands, and the bytes of that file with
 /// the proof of the `$p` written in a form, in lines: they stand after a line feed, in place of the
-/// bytes between its `$=` and its `$.`. All other bytes are kept.
+/// bytes between its `$=` and its `$.`. All other bytes are kept. With `Form::Small` the lines have
+/// the indent of the proof that stands there, and that one is kept where it has no more bytes.
 ///
 /// # Errors
 ///
 /// `Check`, with what `check` answers, where it doesn't accept the files. Else `Ask`, with what
-/// `Checked::normal` or `Checked::packed` answers, and with `F3` where that would be no refusal and
-/// the files would have over 1,073,741,824 bytes in all.
+/// `Checked::normal`, `Checked::packed` or `Checked::small` answers, and with `F3` where that would
+/// be no refusal and the files would have over 1,073,741,824 bytes in all.
 pub fn saved<'a>(
     alloc: Global,
     seed: Seed,

@@ -1,6 +1,6 @@
 //! A file with each complete proof written anew.
 
-ghost use Rattle.std.specs.Prelude.{◌≡◌, ◌<◌, ◌≤◌, ◌↔◌, [], List, map, length};
+ghost use Rattle.std.specs.Prelude.{◌≡◌, ◌<◌, ◌≤◌, ◌↔◌, [], List, ℕ, map, length};
 ghost use Rattle.std.specs.Prelude.{OnOk, IfOk, IfErr, IsTrue, None, ◌⊎◌};
 ghost use Rattle.mm_text.specs.declared.statement.Kind.TheVariants.{Provable};
 ghost use Rattle.mm_text.specs.Statement.{PlainStatement, plain_statement, HasForm};
@@ -8,7 +8,7 @@ ghost use Rattle.mm_text.specs.Files.{most_bytes, plain_file, total_bytes};
 ghost use Rattle.mm_frame.specs.Sentence.{sentence_in, IsLabelled};
 ghost use Rattle.mm_proof.specs.declared.profile.Profile.TheVariants.{Lenient};
 ghost use Rattle.mm_check.specs.Verdict.{AreAccepted, proof_of};
-ghost use Rattle.mm_check.specs.Saved.{FitsSaved};
+ghost use Rattle.mm_check.specs.Saved.{FitsSaved, within_span};
 ghost use Rattle.mm_check.specs.AllSaved.{IsAllSaved, IsReplacement, IsSavingAllFault};
 ghost use Rattle.mm_check.specs.Mirror.AllSaving.{IsTheoremAmong, IsTheoremFault, replacement};
 ghost use Rattle.mm_check.specs.Mirror.AllSaving.{PutsAfter, PutsText};
@@ -18,7 +18,7 @@ ghost use Rattle.mm_check.specs.Mirror.AllSaving.{IsWhole, IsFinishFault};
 use crate::ask::AskFault;
 use crate::fault::{CheckFault, Stop};
 use crate::form::Form;
-use crate::forms::proof_text;
+use crate::forms::span_text;
 use crate::judge::Judged;
 use crate::reread::read_proof;
 use crate::rewrite::most_for;
@@ -43,7 +43,7 @@ struct NewFile<'a> {
     source: &'a [u8],
     /// How many of them were taken.
     taken: usize,
-    /// What stands in their place. Past the most that there may be, nothing more is put.
+    /// What stands in their place. Nothing is appended past the size limit.
     bytes: Vec<u8>,
     /// How many bytes there may be.
     most: usize,
@@ -108,7 +108,7 @@ fn label_of<'a>(statement: &Statement<'a>) -> &'a [u8]
     }
 }
 
-/// The text of the proof of a theorem in a form, whose tokens are these.
+/// What is put in place of the old bytes of a theorem's proof in a form. Its tokens are these.
 fn text_of<'a>(
     alloc: Global,
     form: Form,
@@ -116,19 +116,21 @@ fn text_of<'a>(
     id: LabelId,
     statement: &Statement<'a>,
     tokens: &[&'a [u8]],
+    old: &[u8],
 ) -> Result<Vec<u8>, AskFault>
     requires theorem { IsTheoremAmong book.now.statements id.0 (plain_statement statement.now) }
     requires tokens { map (λ t. t.now) tokens.now ≡ proof_of (plain_statement statement.now) }
     requires formed { HasForm (plain_statement statement.now) }
-    ensures text { IfOk result (λ text.
+    ensures text { IfOk result (λ text. (bytes : List ℕ)
         (theorem : IsTheoremAmong book.now.statements id.0 (plain_statement statement.now))
-        → IsReplacement form theorem.statements (plain_statement statement.now)
+        → old.now ≡ within_span bytes (plain_statement statement.now).span
+        → IsReplacement form bytes theorem.statements (plain_statement statement.now)
         (replacement (plain_statement statement.now) text.items)) }
     ensures fault { IfErr result (IsTheoremFault form book.now.statements id.0
         (plain_statement statement.now)) }
 {
     let theorem = theorem_of(alloc, Profile::Lenient, book, id, statement, tokens)?;
-    proof_text(alloc, book, &theorem, form)
+    span_text(alloc, book, &theorem, form, old)
 }
 
 impl<'a> NewFile<'a> {
@@ -140,7 +142,7 @@ impl<'a> NewFile<'a> {
         self.too_long.is_none() && statement.first.file == self.number
     }
 
-    /// Takes the bytes up to a span, and puts a line feed and a text in place of the span.
+    /// Takes the bytes up to a span, and puts a text in place of the span.
     fn put(&mut self, span: (u32, u32), text: &[u8]) -> Result<(), AllocError>
         requires after { self.old.taken ≤ span.0 }
         requires order { span.0 ≤ span.1 }
@@ -149,7 +151,6 @@ impl<'a> NewFile<'a> {
     {
         let kept = &self.source[self.taken..span.0 as usize];
         append(self.most, &mut self.bytes, kept)?;
-        append(self.most, &mut self.bytes, b"\n")?;
         append(self.most, &mut self.bytes, text)?;
         self.taken = span.1 as usize;
         Ok(())
@@ -174,7 +175,16 @@ impl<'a> NewFile<'a> {
             (plain_statement statement.now) self.new) }
     {
         read_proof(&mut self.tokens, statement)?;
-        match text_of(self.alloc, self.form, book, id, statement, &self.tokens) {
+        let old = &self.source[statement.span.0 as usize..statement.span.1 as usize];
+        match text_of(
+            self.alloc,
+            self.form,
+            book,
+            id,
+            statement,
+            &self.tokens,
+            old,
+        ) {
             Ok(text) => self.put(statement.span, &text),
             Err(AskFault::Rule(AskRule::L2)) => {
                 self.too_long = Some(label_of(statement));

@@ -22,7 +22,7 @@ use mm_proof::{Line, Name, ProofFault, listing};
 use std::alloc::{AllocError, Global};
 
 /// Puts what a step is called at the end.
-fn push_name(out: &mut Vec<u8>, book: &Book, name: Name) -> Result<(), AllocError>
+pub(crate) fn push_name(out: &mut Vec<u8>, book: &Book, name: Name) -> Result<(), AllocError>
     ensures { OnOk result ((called : StepName) → IsNameOf book.now.statements name called
         → out.new.items ≡ out.old.items ++ name_text called) }
 {

@@ -20,7 +20,7 @@ use mm_text::{BYTE_LIMIT, LoadRule, TextRule};
 use std::alloc::{AllocError, Global};
 
 /// Whether a byte is white space.
-fn is_space(byte: u8) -> bool
+pub(crate) fn is_space(byte: u8) -> bool
     ensures { result ≡ is_white_space byte }
 {
     matches!(byte, b' ' | b'\n' | b'\t' | 12 | b'\r')

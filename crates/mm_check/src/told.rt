@@ -1,8 +1,10 @@
 //! The text of the facts that explain a fault of a proof.
 
 ghost use Rattle.std.specs.Prelude.{◌≡◌, ◌≢◌, ◌<◌, ◌++◌, ◌+◌, ◌^◌, ℕ, length, decimal, OnOk, codes};
-ghost use Rattle.std.specs.Prelude.{Some, None, IfSome, slice_get};
+ghost use Rattle.std.specs.Prelude.{Some, None, IfSome, slice_get, map};
 ghost use Rattle.std.specs.List.{AllByRecursion};
+ghost use Rattle.mm_text.specs.Files.{plain_file};
+ghost use Rattle.mm_text.specs.Token.{plain_token};
 ghost use Rattle.mm_frame.specs.Numbers.{symbols_of};
 ghost use Rattle.mm_proof.specs.Stores.{numbers_in};
 ghost use Rattle.mm_check.specs.Explained.{detail_text, expression_line, difference_line};
@@ -10,13 +12,17 @@ ghost use Rattle.mm_check.specs.Explained.{but_given_text, pair_asked, end_given
 ghost use Rattle.mm_check.specs.Explained.{symbol_at as symbol_there};
 ghost use Rattle.mm_check.specs.Explained.{token_at_fault, step_label, mark_asked, entry_counts};
 ghost use Rattle.mm_check.specs.Explained.{hypothesis_stated, entry_given, hypothesis_asks};
-ghost use Rattle.mm_check.specs.Explained.{most_symbols, missing_pair, shared_by_both};
+ghost use Rattle.mm_check.specs.Explained.{most_symbols, missing_pair, step_lacks, shared_by_both};
+ghost use Rattle.mm_check.specs.Explained.{block_opened, near_label};
+ghost use Rattle.mm_check.specs.MeaningFacts.{met_as, token_place};
 ghost use Rattle.mm_check.specs.Answer.{labels_at};
 
+use crate::position::{place_of, push_place};
 use crate::shown::push_symbols;
 use crate::words::push_decimal;
 use itoa::Buffer;
-use mm_frame::{Book, Sym};
+use mm_frame::{Book, MeaningRule, Sym};
+use mm_text::{File, Token};
 use std::alloc::AllocError;
 
 /// A word between two others.
@@ -56,6 +62,13 @@ pub(crate) fn push_token(out: &mut Vec<u8>, text: &[u8]) -> Result<(), AllocErro
     ensures { OnOk result (out.new.items ≡ out.old.items ++ detail_text (token_at_fault text.now)) }
 {
     push_between(out, b"  token: ", text, b"\n")
+}
+
+/// A label that is near to the token at fault.
+pub(crate) fn push_near(out: &mut Vec<u8>, label: &[u8]) -> Result<(), AllocError>
+    ensures { OnOk result (out.new.items ≡ out.old.items ++ detail_text (near_label label.now)) }
+{
+    push_between(out, b"  near: ", label, b"\n")
 }
 
 /// The label of the step.
@@ -303,6 +316,15 @@ pub(crate) fn push_shared(
     Ok(())
 }
 
+/// Two variables of a `$d` that this step lacks.
+pub(crate) fn push_step_lacks(out: &mut Vec<u8>, x: &[u8], y: &[u8]) -> Result<(), AllocError>
+    ensures { OnOk result (out.new.items ≡ out.old.items
+        ++ detail_text (step_lacks x.now y.now)) }
+{
+    push_between(out, b"  this step lacks: $d ", x, b" ")?;
+    push_between(out, b"", y, b" $.\n")
+}
+
 /// Two variables of a `$d` that the whole proof lacks.
 pub(crate) fn push_missing(out: &mut Vec<u8>, x: &[u8], y: &[u8]) -> Result<(), AllocError>
     ensures { OnOk result (out.new.items ≡ out.old.items
@@ -366,4 +388,48 @@ pub(crate) fn push_most(out: &mut Vec<u8>, symbols: usize) -> Result<(), AllocEr
     ensures { OnOk result (out.new.items ≡ out.old.items ++ detail_text (most_symbols symbols)) }
 {
     push_number_between(out, b"  an expression may have ", symbols, b" symbols\n")
+}
+
+/// The place where a token stands, between words and the line's end.
+#[tactic(auto, using(crate::proofs::DetailTexts::three_parts))]
+fn push_where(
+    out: &mut Vec<u8>,
+    words: &[u8],
+    files: &[File],
+    token: Token,
+) -> Result<(), AllocError>
+    ensures { OnOk result (out.new.items ≡ out.old.items
+        ++ (words.now ++ token_place (map plain_file files.now) (plain_token token.entry)
+        ++ codes "\n")) }
+{
+    out.extend_from_slice(words)?;
+    push_place(out, files, place_of(files, token.file, token.at as usize))?;
+    out.push(b'\n')?;
+    Ok(())
+}
+
+/// Where the block begins in which the statement stands.
+pub(crate) fn push_block(out: &mut Vec<u8>, files: &[File], token: Token) -> Result<(), AllocError>
+    ensures { OnOk result (out.new.items ≡ out.old.items ++ detail_text
+        (block_opened (token_place (map plain_file files.now) (plain_token token.entry)))) }
+{
+    push_where(out, b"  in the block: ", files, token)
+}
+
+/// Where a name was met before, by what the rule says that it was met as.
+pub(crate) fn push_met(
+    out: &mut Vec<u8>,
+    files: &[File],
+    rule: MeaningRule,
+    token: Token,
+) -> Result<(), AllocError>
+    ensures { OnOk result (out.new.items ≡ out.old.items ++ detail_text
+        (met_as rule (token_place (map plain_file files.now) (plain_token token.entry)))) }
+{
+    match rule {
+        MeaningRule::M4 | MeaningRule::M5 => push_where(out, b"  labelled: ", files, token),
+        MeaningRule::M9 => push_where(out, b"  before: ", files, token),
+        MeaningRule::M12 | MeaningRule::M13 => push_where(out, b"  typed: ", files, token),
+        _ => push_where(out, b"  declared: ", files, token),
+    }
 }

@@ -11,27 +11,27 @@ ghost use Rattle.mm_check.specs.Verdict.{HasVerdict};
 ghost use Rattle.mm_check.specs.Answer.{plain_refusal, verdict_of_conclusion};
 ghost use Rattle.mm_check.specs.Status.{number_of};
 ghost use Rattle.mm_check.specs.Why.{owner_words as owner_words_of, owner_text, step_text};
-ghost use Rattle.mm_check.specs.Why.{head_text, fault_at as fault_at_of};
-ghost use Rattle.mm_check.specs.Why.{step_at as step_at_of, mark_at as mark_at_of};
-ghost use Rattle.mm_check.specs.Why.{IsExplanation, is_of_proofs, most_explained, more_text};
-ghost use Rattle.mm_check.specs.Why.{count_text};
+ghost use Rattle.mm_check.specs.Why.{head_text, IsExplanation, IsLastExplanation, is_of_proofs};
+ghost use Rattle.mm_check.specs.Why.{most_explained, more_text, count_text};
 ghost use Rattle.mm_check.specs.Reply.{refusal_status};
+ghost use Rattle.mm_check.specs.Mirror.Last.{EndsRun};
 ghost use Rattle.mm_check.specs.Mirror.Reasons.{IsRefusedLast, Notes, TellsWhy};
 ghost use Rattle.mm_check.specs.declared.fault.Refusal.{Refusal};
 ghost use Rattle.mm_check.specs.declared.why.Unaccepted.TheVariants.{Memory};
 ghost use Rattle.mm_check.specs.declared.rule.Rule.TheVariants.{Proof};
 
 use crate::checked::Checked;
-use crate::details::push_details;
+use crate::details::{cause_of, push_cause};
 use crate::fault::{CheckFault, Refusal, Stop};
+use crate::fault_places::fault_place;
 use crate::judge::Judged;
+use crate::last::last_facts;
 use crate::meanings::meaning;
 use crate::position::{place_of, push_place};
 use crate::reply::first_status;
 use crate::reread::proof_of;
 use crate::rule::Rule;
 use crate::status::Status;
-use crate::step_places::{after_list, step_places};
 use crate::verdict::{conclude, judge_files};
 use crate::visitor::Visitor;
 use crate::words::push_decimal;
@@ -178,49 +178,6 @@ fn fault_in(refusal: &Refusal) -> (ProofRule, usize)
     }
 }
 
-/// The position of a step of the statement's proof.
-fn step_at(alloc: Global, statement: &Statement, step: usize) -> Result<usize, AllocError>
-    ensures { IfOk result (λ at. at ≡ step_at_of (plain_statement statement.now) step) }
-{
-    let places = step_places(alloc, &statement.proof)?;
-    match places.get(step.saturating_sub(1)) {
-        Some(at) => Ok(*at),
-        None => Ok(statement.first.at as usize),
-    }
-}
-
-/// The position of a `Z` before any step of the statement's proof.
-fn mark_at(statement: &Statement) -> usize
-    ensures { result ≡ mark_at_of (plain_statement statement.now) }
-{
-    match after_list(&statement.proof) {
-        [first, ..] => first.at as usize,
-        [] => statement.first.at as usize,
-    }
-}
-
-/// The position of a proof's fault.
-fn fault_at(
-    alloc: Global,
-    statement: &Statement,
-    fault: (ProofRule, usize),
-) -> Result<usize, AllocError>
-    ensures { IfOk result (λ at.
-        at ≡ fault_at_of (plain_statement statement.now) fault.0 fault.1) }
-{
-    match fault.0 {
-        ProofRule::P7 => Ok(mark_at(statement)),
-        ProofRule::P13 | ProofRule::P14 => Ok(statement.span.1 as usize),
-        ProofRule::P1
-        | ProofRule::P2
-        | ProofRule::P3
-        | ProofRule::P4
-        | ProofRule::P5
-        | ProofRule::P15 => Ok(statement.first.at as usize),
-        _ => step_at(alloc, statement, fault.1),
-    }
-}
-
 /// Explains the refusal of the `$p` that the book took last, for the fault of its proof.
 fn push_explanation(
     out: &mut Vec<u8>,
@@ -239,12 +196,29 @@ fn push_explanation(
         × (out.new.items ≡ out.old.items ++ text)) }
 {
     let fault = fault_in(refusal);
-    let at = fault_at(alloc, statement, fault)?;
-    push_head(out, files, at, refusal)?;
     let id = last_number(book, statement);
     let tokens = proof_of(alloc, statement)?;
-    push_details(out, alloc, profile, book, id, &tokens, fault)?;
-    Ok(())
+    let cause = cause_of(alloc, profile, book, id, &tokens, fault)?;
+    push_head(out, files, fault_place(statement, &tokens, &cause), refusal)?;
+    push_cause(out, alloc, profile, book, id, &cause, fault.0)
+}
+
+/// Explains the refusal for the fault that ended the run.
+fn push_last<'a>(
+    out: &mut Vec<u8>,
+    alloc: Global,
+    seed: Seed,
+    files: &'a [File<'a>],
+    refusal: &Refusal<'a>,
+) -> Result<(), AllocError>
+    requires { EndsRun (map plain_file files.now) (plain_refusal refusal.now) }
+    ensures { OnOk result ((text : List ℕ)
+        × IsLastExplanation (map plain_file files.now) (plain_refusal refusal.now) text
+        × (out.new.items ≡ out.old.items ++ text)) }
+{
+    let (at, facts) = last_facts(alloc, seed, files, refusal)?;
+    push_head(out, files, at, refusal)?;
+    out.extend_from_slice(&facts)
 }
 
 /// A visitor that keeps the refusals of all proofs that are at fault, and explains the first of
@@ -333,15 +307,16 @@ impl<'a> Reasons<'a> {
         push_more(&mut self.text, more)
     }
 
-    /// Tells the fault that ended the run, and keeps it.
-    fn tell_last(&mut self, last: Refusal<'a>) -> Result<(), AllocError>
-        ensures text { OnOk result (self.new.text.items ≡ self.old.text.items
-            ++ head_text (map plain_file self.old.files.now) last.entry.at
-            (plain_refusal last.entry)) }
+    /// Explains the fault that ended the run, and keeps it.
+    fn tell_last(&mut self, seed: Seed, last: Refusal<'a>) -> Result<(), AllocError>
+        requires { EndsRun (map plain_file self.old.files.now) (plain_refusal last) }
+        ensures explained { OnOk result ((text : List ℕ)
+            × IsLastExplanation (map plain_file self.old.files.now) (plain_refusal last.entry) text
+            × (self.new.text.items ≡ self.old.text.items ++ text)) }
         ensures kept { OnOk result (self.new.refusals.items
             ≡ self.old.refusals.items ++ last.entry ∷ []) }
     {
-        push_head(&mut self.text, self.files, last.at, &last)?;
+        push_last(&mut self.text, self.alloc, seed, self.files, &last)?;
         self.keep(last)
     }
 
@@ -416,7 +391,7 @@ pub(crate) fn explained<'a>(
         }
         Err(CheckFault::Refused(last)) => {
             reasons.tell_more()?;
-            reasons.tell_last(last)?;
+            reasons.tell_last(seed, last)?;
             let (text, status) = reasons.finish()?;
             Err(Unaccepted::Refused { text, status })
         }

@@ -1,16 +1,16 @@
 -- Of a file whose proofs are all saved one answer is due, and these proofs have the strict form.
 use Rattle.std.proofs.Common.{◌≡◌, ℕ, suc, ◌<◌, ◌≤◌, List, [], ◌∷◌, ◌++◌, take, drop, length, ◌⊎◌}
 use Rattle.std.proofs.Common.{slice_get, Contains, true, Some, None, inl, inr, refl, sym, ap, subst}
-use Rattle.std.proofs.Common.{◌∙◌, arith, Bool, false, not, ◌&&◌}
+use Rattle.std.proofs.Common.{◌∙◌, ◌-◌, arith, Bool, false, not, ◌&&◌, min}
 use Rattle.std.specs.List.{AllZip, AllByRecursion}
 use Rattle.std.proofs.lemmas.Bool.{cases_lt}
 use Rattle.std.proofs.lemmas.List.Elements.{recursion_from_All, All-contains_itself}
-use Rattle.std.proofs.lemmas.List.{length-map, length-take-le, length-set}
+use Rattle.std.proofs.lemmas.List.{length-map, length-take, length-take-le, length-set}
 use Rattle.std.proofs.lemmas.Option.{same_Some, slice_get_within}
 use Rattle.mm_text.specs.Statement.{PlainStatement, HasForm, is_provable}
 use Rattle.mm_text.specs.Files.{PlainFile, most_bytes}
 use Rattle.mm_text.proofs.Lists.{all_weaker, at_from_contains, get_within, split_at, two_cuts}
-use Rattle.mm_text.proofs.Lists.{zip_left, get_parted}
+use Rattle.mm_text.proofs.Lists.{zip_left, get_parted, zip_weaker}
 use Rattle.mm_text.proofs.Reader.WholeReadings.{readings_are_formed_in_place, readings_few}
 use Rattle.mm_code.proofs.LaidOutLines.{some_layout}
 use Rattle.mm_frame.specs.Sentence.{sentence_of}
@@ -23,21 +23,25 @@ use Rattle.mm_proof.proofs.ProofSteps.Derivations.{derive_fits}
 use Rattle.mm_check.specs.declared.form.Form.{Form}
 use Rattle.mm_check.specs.declared.ask.AskFault.{AskFault}
 use Rattle.mm_check.specs.Verdict.{AreAccepted, AllObey, sentences, is_proof, proof_of, unproved_of}
-use Rattle.mm_check.specs.Forms.{HasProofTree, IsPackedText, most_labels}
-use Rattle.mm_check.specs.Saved.{IsTextIn, total_with}
+use Rattle.mm_check.specs.Forms.{HasProofTree, IsPackedText, IsSmallBehind, most_labels}
+use Rattle.mm_check.specs.Saved.{IsSpanText, IsShorter, indent_of, within_span, total_with}
 use Rattle.mm_check.specs.AllSaved.{theorems_of, Replacement, IsReplacement, with_replaced}
 use Rattle.mm_check.specs.AllSaved.{IsAllSaved, IsFirstTooLong, IsAllSaveFault, is_theorem_of}
 use Rattle.mm_check.specs.AllSavedLaws.{OneSaveAllAnswer, AllSavedProofsAreStrict, AreFilesSaved}
-use Rattle.mm_check.specs.AllSavedLaws.{PackedFilesAreStrict}
+use Rattle.mm_check.specs.AllSavedLaws.{PackedFilesAreStrict, AllSmallFilesDoNotGrow}
 use Rattle.mm_check.specs.Mirror.AllSaving.{HasTooLongProof, replacement}
 use Rattle.mm_check.proofs.Verdicts.OneVerdict.{formed_sentences, formed_before}
 use Rattle.mm_check.proofs.Verdicts.AcceptedStatements.{within_limit, said_there, proof_fits}
 use Rattle.mm_check.proofs.Verdicts.AcceptedStatements.{same_reading}
-use Rattle.mm_check.proofs.Saving.ProofTexts.{some_packed_text}
+use Rattle.mm_check.proofs.Saving.ProofTexts.{some_packed_text, some_small_behind, IsFewBytes}
 use Rattle.mm_check.proofs.Saving.SavedFiles.{provable_proof, with_bytes_is, home_file, prefix_told}
 use Rattle.mm_check.proofs.Saving.SavedOnce.{one_proof_tree, not_over, one_all_saved}
+use Rattle.mm_check.proofs.Saving.SavedOnce.{prefix_meant}
+use Rattle.mm_frame.specs.Sentence.{Sentence}
 use Rattle.mm_check.proofs.Saving.FileSpans.{theorem_complete, each_theorem, replaced_by}
-use Rattle.mm_check.proofs.Saving.FileSpans.{first_too_long, theorem_there}
+use Rattle.mm_check.proofs.Saving.FileSpans.{first_too_long, theorem_there, spans_rise}
+use Rattle.mm_check.proofs.Saving.ReplacedSpans.{spans_within, replaced_no_longer}
+use Rattle.mm_check.proofs.Saving.SpanTexts.{small_no_longer}
 use Rattle.std.proofs.Math.Seq.{take-append_seam}
 use Rattle.mm_text.specs.Replaced.{with_bytes}
 use Rattle.mm_proof.specs.Strict.{IsStrict}
@@ -56,7 +60,8 @@ use Rattle.mm_check.specs.declared.ask.AskFault.TheVariants as ask
 
 -- ---- the tree of a theorem
 
--- the tree of the proof, under the theorem's label, and a packed text of it
+-- the tree of the proof, under the theorem's label, a packed text of it, and small ones behind each
+-- indent
 record HasOwnTree (statements : List PlainStatement) (s : PlainStatement) : Type 0 where
   pub label : List ℕ
   pub index : ℕ
@@ -64,6 +69,9 @@ record HasOwnTree (statements : List PlainStatement) (s : PlainStatement) : Type
   pub below : Trees
   pub proof : HasProofTree statements label index s root below
   pub packed : (text : List ℕ) × IsPackedText (sentences (take index statements)) (sentence_of s)
+      (tree root below none) text
+  pub small : (indent : ℕ) → (text : List ℕ)
+      × IsSmallBehind indent (sentences (take index statements)) (sentence_of s)
       (tree root below none) text
 
 module _ (profile : Profile) {files : List PlainFile} {statements : List PlainStatement}
@@ -86,6 +94,20 @@ module _ (profile : Profile) {files : List PlainFile} {statements : List PlainSt
       let limited = within_limit files accepted.readable in
       let few : length (sentences before) ≤ most_bytes =
       omega (arith, within, length-map before sentence_of, taken, fewer, limited) in
+      let trees : Trees = tree p.proves.label p.proves.below none in
+      let inside = formed_before statements before s after formed split in
+      let fit = derive_fits (IsWithin (limit_of profile)) (sentences before) trees
+      ((sentence_of s).symbols ∷ []) p.proves.derived in
+      let bytes : IsFewBytes (sentences before) (sentence_of s) trees = record {
+        tokens = _;
+        moves = p.moves;
+        kept = p.proves.kept;
+        whole = p.whole;
+        said = p.said;
+        made = p.proves.made;
+        few = few;
+        room = proof_fits files statements None index s accepted.readable accepted.reads at;
+      } in
       record {
         label = label;
         index = index;
@@ -99,12 +121,11 @@ module _ (profile : Profile) {files : List PlainFile} {statements : List PlainSt
           told = p.said;
           made = record { kept = p.proves.kept; made = p.proves.made };
         };
-        packed = some_packed_text (sentences before) (sentence_of s) p.proves.label p.proves.below _
-            p.moves p.proves.kept (formed_before statements before s after formed split)
-            (derive_fits (IsWithin (limit_of profile)) (sentences before)
-            (tree p.proves.label p.proves.below none) ((sentence_of s).symbols ∷ [])
-            p.proves.derived) p.whole p.said p.proves.made few
-            (proof_fits files statements None index s accepted.readable accepted.reads at);
+        packed = some_packed_text (sentences before) (sentence_of s) p.proves.label p.proves.below
+            inside fit bytes;
+        small = λ indent. some_small_behind indent (sentences before) (sentence_of s)
+            p.proves.label p.proves.below
+            (prefix_meant profile statements index accepted.obeyed) inside fit bytes;
       }
 
   -- each theorem of a file has one
@@ -114,14 +135,22 @@ module _ (profile : Profile) {files : List PlainFile} {statements : List PlainSt
       (λ s there is. own_tree s there (theorem_complete number s is)) statements
       (recursion_from_All (Contains statements) statements (All-contains_itself statements)))
 
--- a text of the tree is put in
-put_for : (f : Form) (statements : List PlainStatement) (s : PlainStatement)
-    → (t : HasOwnTree statements s) → (text : List ℕ)
-    → IsTextIn f (sentences (take t.index statements)) (sentence_of s) (tree t.root t.below none)
-    text
-    → (new : Replacement) × IsReplacement f statements s new
-put_for f statements s t text laid =
-    (replacement s text, replaced_by f text t.proof laid refl refl)
+-- in a file of these bytes, something is put for the tree
+put_for : (f : Form) (bytes : List ℕ) (statements : List PlainStatement) (s : PlainStatement)
+    → (t : HasOwnTree statements s) → (put : List ℕ)
+    → IsSpanText f (sentences (take t.index statements)) (sentence_of s)
+    (tree t.root t.below none) (within_span bytes s.span) put
+    → (new : Replacement) × IsReplacement f bytes statements s new
+put_for f bytes statements s t put laid =
+    (replacement s put, replaced_by f bytes t.proof laid refl)
+
+-- the shorter one of two
+some_shorter : (old new : List ℕ) → (put : List ℕ) × IsShorter old new put
+some_shorter old new =
+    elim (cases_lt (length new) (length old)) [
+      | inl less ↦ (new, inl (less, refl))
+      | inr more ↦ (old, inr (more, refl))
+    ]
 
 -- ---- in normal form
 
@@ -129,15 +158,17 @@ put_for f statements s t text laid =
 abbrev IsTooLong : List PlainStatement → PlainStatement → Type 0
 IsTooLong statements s = (label : List ℕ) × HasTooLongProof statements s label
 
-normal_or_long : (statements : List PlainStatement) (s : PlainStatement) → HasOwnTree statements s
-    → ((new : Replacement) × IsReplacement form.Normal statements s new) ⊎ IsTooLong statements s
-normal_or_long statements s t =
+normal_or_long : (bytes : List ℕ) (statements : List PlainStatement) (s : PlainStatement)
+    → HasOwnTree statements s
+    → ((new : Replacement) × IsReplacement form.Normal bytes statements s new)
+    ⊎ IsTooLong statements s
+normal_or_long bytes statements s t =
     let labels : List (List ℕ) = spelling (tree t.root t.below none) in
     elim (cases_lt most_labels (length labels)) [
       | inl over ↦ inr (t.label, (t.index, t.root, t.below, t.proof, over))
       | inr within ↦
           let (text, laid) = some_layout labels in
-          inl (put_for form.Normal statements s t text (within, laid))
+          inl (put_for form.Normal bytes statements s t (10 ∷ text) (text, (within, laid), refl))
     ]
 
 -- each of the theorems is replaced, or those before one that isn't
@@ -167,26 +198,31 @@ module _ (profile : Profile) {files : List PlainFile} {statements : List PlainSt
   normal_answer : ((bytes : List ℕ) × IsAllSaved form.Normal files statements number bytes)
       ⊎ ((label : List ℕ) × IsFirstTooLong statements number label)
   normal_answer =
-      elim (replaced_up_to (IsReplacement form.Normal statements) (IsTooLong statements)
+      elim (replaced_up_to (IsReplacement form.Normal file.bytes statements) (IsTooLong statements)
       (theorems_of number statements) (all_weaker (HasOwnTree statements) _
-      (normal_or_long statements) _ (own_trees profile accepted number))) [
+      (normal_or_long file.bytes statements) _ (own_trees profile accepted number))) [
         | inl (news, each) ↦
             inl (
               with_replaced file.bytes news,
               record { file = file; handed = handed; replaced = news; each = each; whole = refl },
             )
         | inr (before, s, after, split, news, fit, (label, long)) ↦
-            inr (label, first_too_long statements number label before s after news split fit long)
+            inr (
+              label,
+              first_too_long statements number label before s after file.bytes news split fit long,
+            )
       ]
 
-  -- ---- in packed form
+  -- ---- in packed and in small form
 
-  packed_answer : (bytes : List ℕ) × IsAllSaved form.Packed files statements number bytes
-  packed_answer =
-      elim (replaced_up_to (IsReplacement form.Packed statements) (λ s. ⊥)
+  -- where something is put for each theorem
+  each_answer : (f : Form) → ((s : PlainStatement) → HasOwnTree statements s
+      → (new : Replacement) × IsReplacement f file.bytes statements s new)
+      → (bytes : List ℕ) × IsAllSaved f files statements number bytes
+  each_answer f puts =
+      elim (replaced_up_to (IsReplacement f file.bytes statements) (λ s. ⊥)
       (theorems_of number statements) (all_weaker (HasOwnTree statements) _
-      (λ s t. inl (put_for form.Packed statements s t t.packed.0 t.packed.1)) _
-      (own_trees profile accepted number))) [
+      (λ s t. inl (puts s t)) _ (own_trees profile accepted number))) [
         | inl (news, each) ↦ (
           with_replaced file.bytes news,
           record { file = file; handed = handed; replaced = news; each = each; whole = refl },
@@ -194,27 +230,42 @@ module _ (profile : Profile) {files : List PlainFile} {statements : List PlainSt
         | inr (before, s, after, split, news, fit, none_left) ↦ absurd none_left
       ]
 
+  packed_answer : (bytes : List ℕ) × IsAllSaved form.Packed files statements number bytes
+  packed_answer =
+      each_answer form.Packed (λ s t.
+      put_for form.Packed file.bytes statements s t (10 ∷ t.packed.0)
+      (t.packed.0, t.packed.1, refl))
+
+  small_answer : (bytes : List ℕ) × IsAllSaved form.Small files statements number bytes
+  small_answer =
+      each_answer form.Small (λ s t.
+      let old : List ℕ = within_span file.bytes s.span in
+      let (text, laid) = t.small (indent_of old) in
+      let (put, shorter) = some_shorter old text in
+      put_for form.Small file.bytes statements s t put (text, laid, shorter))
+
 -- ---- never both, and one label
 
 -- a normal proof that is put in isn't too long
-put_not_long : (profile : Profile) (statements : List PlainStatement) (s : PlainStatement)
-    (new : Replacement) → AllObey profile statements → IsReplacement form.Normal statements s new
-    → ¬ (IsTooLong statements s)
-put_not_long profile statements s new obeyed r (label, (index, root, below, proof, long)) =
+put_not_long : (profile : Profile) (bytes : List ℕ) (statements : List PlainStatement)
+    (s : PlainStatement) (new : Replacement) → AllObey profile statements
+    → IsReplacement form.Normal bytes statements s new → ¬ (IsTooLong statements s)
+put_not_long profile bytes statements s new obeyed r (label, (index, root, below, proof, long)) =
     let same = same_Some label r.label (sym proof.named ∙ r.proof.named) in
     let (here, (one, trees)) = one_proof_tree profile statements r.label r.index index s s r.root
     root r.below below obeyed r.proof (rw same at proof) in
-    not_over _ r.laid.0 (subst (λ (u : Trees). most_labels < length (spelling u)) trees long)
+    not_over _ r.laid.1.0 (subst (λ (u : Trees). most_labels < length (spelling u)) trees long)
 
 -- so none of those that are replaced is
-none_long : (profile : Profile) (statements before : List PlainStatement) (s : PlainStatement)
-    (after theorems : List PlainStatement) (news : List Replacement) → AllObey profile statements
-    → AllZip (IsReplacement form.Normal statements) theorems news
+none_long : (profile : Profile) (bytes : List ℕ) (statements before : List PlainStatement)
+    (s : PlainStatement) (after theorems : List PlainStatement) (news : List Replacement)
+    → AllObey profile statements
+    → AllZip (IsReplacement form.Normal bytes statements) theorems news
     → theorems ≡ before ++ s ∷ after → ¬ (IsTooLong statements s)
-none_long profile statements before s after theorems news obeyed each split long =
-    let (new, at, r) = zip_left (IsReplacement form.Normal statements) theorems news (length before)
-    s each (rw split (get_parted before after s)) in
-    put_not_long profile statements s new obeyed r long
+none_long profile bytes statements before s after theorems news obeyed each split long =
+    let (new, at, r) = zip_left (IsReplacement form.Normal bytes statements) theorems news
+    (length before) s each (rw split (get_parted before after s)) in
+    put_not_long profile bytes statements s new obeyed r long
 
 first_is_long : (statements : List PlainStatement) (number : ℕ) (label : List ℕ)
     → (first : IsFirstTooLong statements number label) → IsTooLong statements first.s
@@ -231,11 +282,13 @@ one_first profile statements number label other obeyed p q =
           ∙ ap (λ (s : PlainStatement). (sentence_of s).label) same ∙ q.proof.named)
       | inr (inl (between, whole, rest)) ↦
           absurd
-          (none_long profile statements p.before p.s between q.before q.news obeyed q.fit whole
+          (none_long profile q.bytes statements p.before p.s between q.before q.news
+          obeyed q.fit whole
           (first_is_long statements number label p))
       | inr (inr (between, whole, rest)) ↦
           absurd
-          (none_long profile statements q.before q.s between p.before p.news obeyed p.fit whole
+          (none_long profile p.bytes statements q.before q.s between p.before p.news
+          obeyed p.fit whole
           (first_is_long statements number other q))
     ]
 
@@ -256,9 +309,10 @@ one_save_all_answer profile files statements number accepted within =
     let (file, handed) = get_within files number within in
     record {
       packed = packed_answer profile number accepted file handed;
+      small = small_answer profile number accepted file handed;
       normal = normal_answer profile number accepted file handed;
       never_both = λ bytes label sv first.
-          none_long profile statements first.before first.s first.after
+          none_long profile sv.file.bytes statements first.before first.s first.after
           (theorems_of number statements) sv.replaced accepted.obeyed sv.each first.split
           (first_is_long statements number label first);
       one_label = λ label other.
@@ -266,6 +320,35 @@ one_save_all_answer profile files statements number accepted within =
       one_fault = λ f bytes fault.
           fault_of_saved profile f files statements number bytes fault accepted;
     }
+
+-- ==== in small form the file is no longer
+
+-- no text is longer than the span of its theorem
+small_texts : (bytes : List ℕ) (statements theorems : List PlainStatement)
+    (news : List Replacement)
+    → AllZip (IsReplacement form.Small bytes statements) theorems news
+    → AllByRecursion (λ new. length new.text ≤ new.span.1 - new.span.0) news
+small_texts bytes statements [] [] each = tt
+small_texts bytes statements [] (new ∷ news) each = absurd each
+small_texts bytes statements (s ∷ theorems) [] each = absurd each
+small_texts bytes statements (s ∷ theorems) (new ∷ news) (r, each) =
+    let less = small_no_longer _ _ _ (within_span bytes s.span) new.text r.laid in
+    let long = length-take (s.span.1 - s.span.0) (drop s.span.0 bytes) in
+    let start : new.span.0 ≡ s.span.0 = ap (λ (n : ℕ × ℕ). n.0) r.span in
+    let stop : new.span.1 ≡ s.span.1 = ap (λ (n : ℕ × ℕ). n.1) r.span in
+    (omega (arith, less, long, start, stop), small_texts bytes statements theorems news each)
+
+pub all_small_no_longer : AllSmallFilesDoNotGrow
+all_small_no_longer profile files statements number bytes accepted sv =
+    let theorems : List PlainStatement = theorems_of number statements in
+    let R : PlainStatement → Replacement → Type 0 =
+    IsReplacement form.Small sv.file.bytes statements in
+    let rise = spans_rise files statements number sv.file accepted.reads sv.handed in
+    let spans = spans_within 0 (length sv.file.bytes) theorems sv.replaced rise
+    (zip_weaker R (λ s new. new.span ≡ s.span) (λ s new r. r.span) theorems sv.replaced sv.each) in
+    let less = replaced_no_longer 0 (length sv.file.bytes) sv.file.bytes sv.replaced spans
+    (omega arith) (small_texts sv.file.bytes statements theorems sv.replaced sv.each) in
+    (sv.file, sv.handed, rw sv.whole less)
 
 -- ==== the proofs that saving whole files puts in have the strict form
 
@@ -279,8 +362,11 @@ all_saved_proofs_are_strict profile f files statements same number bytes accepte
     (same_reading (with_bytes files number bytes) same put.same None None reads
     put.accepted.reads).0 in
     let there = ap (λ (ss : List PlainStatement). slice_get ss index) (sym read) ∙ theorem.there in
-    let (t, here, saved) = saved_as_at number [] statements put.same put.each index s there in
-    rw read (saved.strict (theorem_there number s theorem.complete home))
+    let (t, here, saved) = saved_as_at f number [] statements put.same put.each index s there in
+    elim (saved.strict (theorem_there number s theorem.complete home)) [
+      | inl strict ↦ inl (rw read strict)
+      | inr kept ↦ inr (kept.0, t, here, kept.1)
+    ]
 
 -- ---- after several files were
 
@@ -290,15 +376,24 @@ AreStrictIn P statements =
     (index : ℕ) (s : PlainStatement) → slice_get statements index ≡ Some s → is_proof s ≡ true
     → P s.first.file → IsStrict (sentences (take index statements)) (sentence_of s) (proof_of s)
 
+-- packed form keeps no proof
+packed_strict : {prefix : List Sentence} {s t : PlainStatement} {number : ℕ}
+    → IsSavedAs Packed number prefix s t → is_theorem_of number t ≡ true
+    → IsStrict prefix (sentence_of t) (proof_of t)
+packed_strict saved is = elim (saved.strict is) [
+  | inl strict ↦ strict
+  | inr kept ↦ absurd (cc kept.0)
+]
+
 -- a proof that was kept is as strict as before
 kept_strict : (P : ℕ → Type 0) (statements same : List PlainStatement) (number index : ℕ)
     (s t : PlainStatement) → sentences statements ≡ sentences same → AreStrictIn P statements
     → slice_get statements index ≡ Some s
-    → IsSavedAs number (sentences (take index same)) s t → is_proof t ≡ true → P t.first.file
+    → IsSavedAs Packed number (sentences (take index same)) s t → is_proof t ≡ true → P t.first.file
     → (b : Bool) → is_theorem_of number t ≡ b
     → IsStrict (sentences (take index same)) (sentence_of t) (proof_of t)
 kept_strict P statements same number index s t told strict there saved complete so true is =
-    saved.strict is
+    packed_strict saved is
 kept_strict P statements same number index s t told strict there saved complete so false is =
     let proof : proof_of s ≡ proof_of t = saved.kept is in
     let proved : is_proof s ≡ true =
@@ -308,14 +403,16 @@ kept_strict P statements same number index s t told strict there saved complete 
 
 strict_with : (P : ℕ → Type 0) (profile : Profile) (files : List PlainFile)
     (statements : List PlainStatement) (number : ℕ) (bytes : List ℕ) (news : List Replacement)
-    → (put : AreAllPut profile files statements number bytes news) → AreStrictIn P statements
+    → (put : AreAllPut profile Packed files statements number bytes news)
+    → AreStrictIn P statements
     → AreStrictIn (λ n. P n ⊎ (n ≡ number)) put.same
 strict_with P profile files statements number bytes news put strict index t there complete so =
-    let (s, here, saved) = saved_as_at number [] statements put.same put.each index t there in
+    let (s, here, saved) =
+    saved_as_at Packed number [] statements put.same put.each index t there in
     elim so [
       | inl old ↦ kept_strict P statements put.same number index s t put.alike.to.told strict here
           saved complete old (is_theorem_of number t) refl
-      | inr home ↦ saved.strict (theorem_there number t complete home)
+      | inr home ↦ packed_strict saved (theorem_there number t complete home)
     ]
 
 -- the files are accepted, no proof is incomplete, and each in a file whose number is so is strict

@@ -3,7 +3,7 @@
 use Rattle.std.proofs.Common.{◌≡◌, ℕ, List, [], ◌∷◌, ◌++◌, Bool, true, false, not, ◌&&◌, ◌==◌}
 use Rattle.std.proofs.Common.{eq-eqb, cond, refl, ap, take, ◌∙◌, append-nil, ◌+◌, ◌-◌, ◌≤◌, map}
 use Rattle.std.proofs.Common.{drop, length, sym, arith, append_assoc, length-append, length-drop}
-use Rattle.std.proofs.Common.{slice_get, Some, None, zero-add}
+use Rattle.std.proofs.Common.{slice_get, Some, None, zero-add, subst}
 use Rattle.std.specs.List.{AllZip, AllByRecursion}
 use Rattle.std.proofs.lemmas.Bool.{and_parts, eqb-true}
 use Rattle.std.proofs.lemmas.List.Elements.{filter-append}
@@ -15,13 +15,13 @@ use Rattle.mm_proof.specs.Tree.{Trees, none, tree}
 use Rattle.mm_check.specs.declared.form.Form.{Form}
 use Rattle.mm_check.specs.Verdict.{sentences, is_proof}
 use Rattle.mm_check.specs.Forms.{HasProofTree}
-use Rattle.mm_check.specs.Saved.{IsTextIn}
+use Rattle.mm_check.specs.Saved.{IsSpanText, within_span}
 use Rattle.mm_check.specs.declared.form.Form.TheVariants.{Normal}
 use Rattle.mm_check.specs.AllSaved.{is_theorem_of, theorems_of, Replacement, IsReplacement}
 use Rattle.mm_check.specs.AllSaved.{IsFirstTooLong, with_replaced}
 use Rattle.mm_check.specs.Mirror.AllSaving.{HasTooLongProof}
 use Rattle.mm_check.proofs.Verdicts.AlikeVerdicts.{same_sentence, same_proof}
-use Rattle.mm_check.proofs.Saving.SavedFiles.{nowhere, span_put, handed_anew, put_anew}
+use Rattle.mm_check.proofs.Saving.SavedFiles.{nowhere, handed_anew}
 use Rattle.mm_check.proofs.Saving.SavedFiles.{provable_proof, within_bytes}
 use Rattle.std.proofs.lemmas.List.{take-append-drop, length-take-le}
 use Rattle.std.proofs.lemmas.Option.{same_Some}
@@ -32,7 +32,8 @@ use Rattle.mm_text.proofs.Replaced.ProofSpans.{proof_spans_follow_holds}
 use Rattle.mm_text.proofs.Replaced.ProofSpans.{proofs_stand_in_spans_holds}
 use Rattle.mm_text.proofs.Lists.{mapped_zip, zip_both}
 use Rattle.mm_proof.specs.declared.profile.Profile.{Profile}
-use Rattle.mm_check.proofs.Saving.SavedOnce.{IsToPut, anew_of, are_put_anew, read_anew}
+use Rattle.mm_check.proofs.Saving.SpanTexts.{span_put, span_within}
+use Rattle.mm_check.proofs.Saving.SavedOnce.{IsToPut, are_put_anew, anew, read_anew}
 
 -- ==== the theorems of a file: the `$p` with complete proofs that stand there
 
@@ -114,37 +115,38 @@ theorems_passed number before s other =
     ∙ ap (λ (b : Bool). theorems_of number before ++ cond b (s ∷ []) []) other
     ∙ append-nil (theorems_of number before)
 
--- a theorem's proof is replaced by a text of its tree
-pub replaced_by : (form : Form) (text : List ℕ) {statements : List PlainStatement} {label : List ℕ}
+-- in a file of these bytes, a theorem's proof is replaced by what is put for its tree
+pub replaced_by : (form : Form) (bytes : List ℕ) {statements : List PlainStatement} {label : List ℕ}
     {index : ℕ} {s : PlainStatement} {root : List ℕ} {below : Trees} {new : Replacement}
     → HasProofTree statements label index s root below
-    → IsTextIn form (sentences (take index statements)) (sentence_of s) (tree root below none) text
-    → new.span ≡ s.span → new.text ≡ 10 ∷ text → IsReplacement form statements s new
-replaced_by form text {label = label} {index = index} {root = root} {below = below} proof laid span
-    put = record {
+    → IsSpanText form (sentences (take index statements)) (sentence_of s) (tree root below none)
+    (within_span bytes s.span) new.text
+    → new.span ≡ s.span → IsReplacement form bytes statements s new
+replaced_by form bytes {label = label} {index = index} {root = root} {below = below} proof laid span
+    = record {
       label = label;
       index = index;
       root = root;
       below = below;
       proof = proof;
-      text = text;
       laid = laid;
       span = span;
-      put = put;
     }
 
 -- a normal proof that is too long is the first one if those before it are replaced
 pub first_too_long : (statements : List PlainStatement) (number : ℕ) (label : List ℕ)
     (before : List PlainStatement) (s : PlainStatement) (after : List PlainStatement)
-    (news : List Replacement) → theorems_of number statements ≡ before ++ s ∷ after
-    → AllZip (IsReplacement Normal statements) before news → HasTooLongProof statements s label
-    → IsFirstTooLong statements number label
-first_too_long statements number label before s after news split fit
+    (bytes : List ℕ) (news : List Replacement)
+    → theorems_of number statements ≡ before ++ s ∷ after
+    → AllZip (IsReplacement Normal bytes statements) before news
+    → HasTooLongProof statements s label → IsFirstTooLong statements number label
+first_too_long statements number label before s after bytes news split fit
     (index, root, below, proof, long) = record {
       before = before;
       s = s;
       after = after;
       split = split;
+      bytes = bytes;
       news = news;
       fit = fit;
       index = index;
@@ -216,6 +218,27 @@ put_woven before first (x ∷ prefix) slot back (u ∷ earlier) s later long (st
     (rw (length-append (before ++ first) x.now, length-append before first) rest)
     ∙ sym (passed_is before first x.now (woven x.kept (prefix ++ filled slot ∷ back)))
 put_woven before first prefix slot back earlier s later long stands = absurd (omega arith)
+
+-- what stands in a slot stands in the span of its statement
+pub now_within : (before first : List ℕ) (slots : List Slot) (statements : List PlainStatement)
+    → StandAt (length before) first slots statements
+    → AllZip (λ slot s. within_span (before ++ woven first slots) s.span ≡ slot.now) slots
+    statements
+now_within before first [] [] stands = tt
+now_within before first (x ∷ slots) (s ∷ statements) (start, stop, rest) =
+    let one = length-append before first in
+    let whole = passed_is before first x.now (woven x.kept slots) in
+    let here = ap (λ (l : List ℕ). within_span l s.span)
+    (sym (append_assoc before first (x.now ++ woven x.kept slots)))
+    ∙ span_within (before ++ first) x.now (woven x.kept slots) s.span (start ∙ sym one)
+    (stop ∙ ap (λ (n : ℕ). n + length x.now) (sym one)) in
+    let later = now_within (passed before first x.now) x.kept slots statements
+    (rw (length-append (before ++ first) x.now, one) rest) in (
+      here,
+      subst (λ (l : List ℕ). AllZip (λ slot s. within_span l s.span ≡ slot.now) slots statements)
+          (sym whole) later,
+    )
+now_within before first slots statements stands = absurd stands
 
 -- ---- and the spans then
 
@@ -414,10 +437,6 @@ rise number at end (s ∷ statements) less behind follow within =
           later others,
     ))
 
-pub ends_within : (s : PlainStatement) (bytes : List ℕ) → IsProofSpan s bytes
-    → EndsWithin (length bytes) s
-ends_within s bytes p = (omega (arith, p.start, p.stop), (within_bytes s bytes p).1)
-
 -- the spans of the theorems of a file rise in its bytes
 pub spans_rise : (files : List PlainFile) (statements : List PlainStatement)
     (number : ℕ) (file : PlainFile) → Reads files statements None
@@ -436,7 +455,7 @@ spans_rise files statements number file reads there =
 
     within : EachTheorem number (EndsWithin (length file.bytes)) statements
     within before after s split is =
-        ends_within s file.bytes
+        within_bytes s file.bytes
         (proofs_stand_in_spans_holds files before s after None file (rw split at reads)
         (provable_proof s (theorem_complete number s is))
         (ap (slice_get files) (theorem_home number s is) ∙ there))
@@ -490,28 +509,40 @@ theorems_moved number end other_end after later same moved =
     record { start = own.start home; stop = own.stop home }) after later (zip_both Alike Moved after
     later (mapped_zip placeless placeless Alike (λ s t alike. alike) after later same) moved)
 
+-- what stands in the slots of a file stands in the spans of its theorems
+pub slots_within : {files : List PlainFile} {statements : List PlainStatement} {number : ℕ}
+    {first : List ℕ} {slots : List Slot} (has : HasSlots files statements number first slots)
+    → AllZip (λ slot s. within_span has.file.bytes s.span ≡ slot.now) slots
+    (theorems_of number statements)
+slots_within {statements = statements} {number} {first} {slots} has =
+    subst (λ (l : List ℕ). AllZip (λ slot s. within_span l s.span ≡ slot.now) slots
+    (theorems_of number statements)) (sym has.whole)
+    (now_within [] first slots (theorems_of number statements) has.stand)
+
 module _ {profile : Profile} {f : Form} {files : List PlainFile} {before : List PlainStatement}
-    {s : PlainStatement} {after : List PlainStatement} {file : PlainFile} {text : List ℕ}
-    (p : IsToPut profile f files before s after file text) where
+    {s : PlainStatement} {after : List PlainStatement} {file : PlainFile} {put : List ℕ}
+    (p : IsToPut profile f files before s after file put) where
   -- With one proof put in, the i-th theorem stands where the i-th text does: the file is woven of
   -- the slots of which that one is filled.
   pub slots_put_anew : (number : ℕ) (first : List ℕ) (prefix : List Slot) (slot : Slot)
-      (back : List Slot) → s.first.file ≡ number → slot.put ≡ 10 ∷ text
+      (back : List Slot) → s.first.file ≡ number → slot.put ≡ put
       → length prefix ≡ length (theorems_of number before)
       → HasSlots files (before ++ s ∷ after) number first (prefix ++ slot ∷ back)
       → HasSlots (with_bytes files number (with_span file.bytes s.span slot.put)) (read_anew p)
       number first (prefix ++ filled slot ∷ back)
   slots_put_anew number first prefix slot back home fills long has =
-      let t : PlainStatement = put_anew s (10 ∷ text) in
-      let put = are_put_anew p in
+      let t : PlainStatement = anew p in
+      let new = are_put_anew p in
       let is : is_theorem_of number s ≡ true = theorem_there number s p.complete home in
-      let new : is_theorem_of number t ≡ true = theorem_there number t (anew_of p).complete home in
+      let is_new : is_theorem_of number t ≡ true = theorem_there number t new.proved.complete
+      (sym new.proved.home ∙ home) in
       let there = ap (slice_get files) (sym home) ∙ p.handed in
       let earlier : List PlainStatement = theorems_of number before in
       let bytes : List ℕ = with_span file.bytes s.span slot.put in
-      let span = ap (λ (l : List ℕ). (s.span.0, s.span.0 + length l)) (sym fills) in
-      let moved = theorems_moved number s.span.1 (s.span.0 + length slot.put) after put.later
-      put.same (rw (← home, fills) put.moved) in
+      let span : t.span ≡ (s.span.0, s.span.0 + length slot.put) =
+      new.span ∙ ap (λ (l : List ℕ). (s.span.0, s.span.0 + length l)) (sym fills) in
+      let moved = theorems_moved number s.span.1 (s.span.0 + length slot.put) after new.later
+      new.same (rw (← home, fills) new.moved) in
       let whole = rw (same_Some has.file file (sym has.handed ∙ there)) at has.whole in
       let stand = rw (theorems_parted number before s after is) at has.stand in
       record {
@@ -519,7 +550,7 @@ module _ {profile : Profile} {f : Form} {files : List PlainFile} {before : List 
         handed = handed_anew files number file bytes there;
         whole = ap (λ (l : List ℕ). with_span l s.span slot.put) whole
             ∙ put_woven [] first prefix slot back earlier s (theorems_of number after) long stand;
-        stand = rw (theorems_parted number before t put.later new)
+        stand = rw (theorems_parted number before t new.later is_new)
             (put_stands 0 first prefix slot back earlier s t (theorems_of number after)
-            (theorems_of number put.later) long span moved stand);
+            (theorems_of number new.later) long span moved stand);
       }

@@ -38,13 +38,20 @@ use Rattle.mm_proof.proofs.ProofTokens.SaidMoves.{moves_once, compressed_once}
 use Rattle.mm_proof.proofs.PackedProofs.WrittenProofs.{normal_is_strict, packed_is_strict}
 use Rattle.mm_proof.proofs.PackedProofs.WrittenProofs.{label_fits, stands_known, IsProofBy}
 use Rattle.mm_proof.proofs.PackedProofs.WrittenProofs.{spelled_proves, packed_listed, packed_proves}
+use Rattle.mm_proof.proofs.SmallProofs.MadeBySmall.{small_makes, small_known, small_keeps_few}
+use Rattle.mm_proof.proofs.SmallProofs.WrittenSmallProofs.{small_proves, small_text_is_strict}
+use Rattle.mm_proof.proofs.SmallProofs.SomeSmallProof.{some_small_holds}
+use Rattle.mm_code.proofs.SmallLines.{some_small_layout}
+use Rattle.mm_proof.proofs.SmallProofs.OneSmallProof.{small_is_strict_holds}
+use Rattle.mm_code.proofs.SmallReadBack.{small_read_back}
+use Rattle.mm_code.proofs.SmallEnds.{small_begins, small_ends}
 use Rattle.mm_check.specs.declared.form.Form.{Form}
-use Rattle.mm_check.specs.Forms.{IsPackedText}
-use Rattle.mm_check.specs.Saved.{IsTextIn}
+use Rattle.mm_check.specs.Forms.{IsPackedText, IsSmallBehind}
+use Rattle.mm_check.specs.Saved.{IsSpanText, indent_of}
 use Rattle.mm_check.proofs.Questions.AskedTheorems.{all_within, map-take}
 use Rattle.mm_code.proofs.LaidOutLines.{one_text_of_compressed, some_compressed_layout}
 use Rattle.mm_code.proofs.OneSpelling.{one_text_only, one_reading_only, some_text}
-use Rattle.mm_proof.specs.Sharing.{AreFirstUses, ShareAll, IsPacked}
+use Rattle.mm_proof.specs.Sharing.{AreFirstUses, PairMakes}
 use Rattle.mm_proof.proofs.Machines.TreeWords.{made_word}
 use Rattle.mm_proof.proofs.FullSharing.OneSharedProof.{told_by_packed_holds, uses_apart}
 use Rattle.mm_proof.proofs.FullSharing.OneSharedProof.{some_packed_holds}
@@ -57,17 +64,14 @@ use Rattle.mm_check.proofs.Verdicts.StatementByStatement.{all_meant}
 use Rattle.std.proofs.Math.Nat.{min-eq_left}
 use Rattle.std.proofs.lemmas.List.{length-map, length-append}
 use Rattle.std.proofs.lemmas.List.Elements.{All-from_recursion}
-use Rattle.std.proofs.lemmas.List.Sums.{sum_by-cons}
 use Rattle.std.proofs.lemmas.Option.{slice_get_within, slice_get-map}
 use Rattle.mm_text.specs.Files.{most_bytes}
 use Rattle.mm_frame.specs.Frame.{IsMandatoryAt}
-use Rattle.mm_proof.specs.BigSubtrees.{IsSubtree}
-use Rattle.mm_proof.specs.Visits.{Visit, keeps, visits, trees_made}
-use Rattle.mm_proof.proofs.FullSharing.FewestSteps.{made_subtrees, subtrees_made, sum_within}
+use Rattle.mm_proof.proofs.FullSharing.FewestSteps.{length_within}
+use Rattle.mm_proof.proofs.FullSharing.FewestKept.{few_kept}
 use Rattle.mm_proof.proofs.ProofTokens.CodeLetters.{said_moves}
-use Rattle.mm_proof.proofs.Members.{In, in_get, get_in, in_contains, indices_once}
-use Rattle.mm_proof.proofs.FullSharing.OneSharing.{kept_are, kept_stays, shared_kept_once}
-use Rattle.mm_proof.proofs.FullSharing.OneSharing.{kept_visit, visit_made}
+use Rattle.mm_proof.proofs.Members.{In, Once, get_in, in_contains, indices_once}
+use Rattle.mm_proof.proofs.FullSharing.OneSharing.{kept_stays}
 use Rattle.mm_check.specs.declared.form.Form.TheVariants as form
 
 -- ==== the tokens of a text that is laid out in lines are those of a proof
@@ -222,31 +226,44 @@ compressed_ends labels letters text laid =
 pub words_after_feed : (text : List ℕ) → tokens_in (10 ∷ text) ≡ tokens_in text
 words_after_feed text = tokens_in-space 10 text refl
 
-pub is_proof_text : (text : List ℕ) (tokens : List (List ℕ)) → tokens_in text ≡ tokens → AllByRecursion AreFine tokens → EndsLine text → IsProofText (10 ∷ text)
-is_proof_text text tokens read fine (inner, ends) = record {
-  first = 10;
-  more = text;
-  begins = refl;
-  first_space = refl;
+-- its tokens are such, and it begins and ends with white space
+pub is_proof_text : (put : List ℕ) (tokens : List (List ℕ)) (first : ℕ) (more inner : List ℕ)
+    (last : ℕ) → tokens_in put ≡ tokens → AllByRecursion AreFine tokens → put ≡ first ∷ more
+    → is_space first ≡ true → put ≡ inner ++ last ∷ [] → is_space last ≡ true → IsProofText put
+is_proof_text put tokens first more inner last read fine begins white ends last_white = record {
+  first = first;
+  more = more;
+  begins = begins;
+  first_space = white;
   inner = inner;
-  last = 10;
+  last = last;
   ends = ends;
-  last_space = refl;
-  tokens = λ file at. fine_tokens (tokens_from file at (10 ∷ text)) (subst (AllByRecursion AreFine) (sym (texts_in file at (10 ∷ text) ∙ words_after_feed text ∙ read)) fine);
+  last_space = last_white;
+  tokens = λ file at. fine_tokens (tokens_from file at put)
+      (subst (AllByRecursion AreFine) (sym (texts_in file at put ∙ read)) fine);
 }
 
--- ==== a text in one of the two forms is a proof of its theorem
+-- a text of whole lines behind a line feed
+behind_feed : (text : List ℕ) (tokens : List (List ℕ)) → tokens_in (10 ∷ text) ≡ tokens
+    → AllByRecursion AreFine tokens → EndsLine text → IsProofText (10 ∷ text)
+behind_feed text tokens read fine (inner, ends) =
+    is_proof_text (10 ∷ text) tokens 10 text inner 10 read fine refl refl ends refl
+
+-- ==== a text in one of the forms is a proof of its theorem
 
 -- ---- its tokens
 
--- what a text says where it stands for a proof of the statement by this tree
-pub record ReadsAsProof (before : List Sentence) (s : Sentence) (root : List ℕ) (below : Trees) (text : List ℕ) : Type 1 where
+-- These bytes, between a `$=` and a `$.`, are a proof of the tree.
+pub record ReadsAsProof (before : List Sentence) (s : Sentence) (root : List ℕ) (below : Trees)
+    (put : List ℕ) : Type 1 where
   pub tokens : List (List ℕ)
-  pub read : tokens_in text ≡ tokens
+  pub read : tokens_in put ≡ tokens
   pub fine : AllByRecursion AreFine tokens
-  pub ends : EndsLine text
+  pub is_text : IsProofText put
   pub strict : IsStrict before s tokens
-  pub proves : (Fits : List (List ℕ) → Type 0) → DeriveAll Fits before (tree root below none) (s.symbols ∷ []) → IsProofBy Fits before s tokens root below
+  pub proves : (Fits : List (List ℕ) → Type 0)
+      → DeriveAll Fits before (tree root below none) (s.symbols ∷ [])
+      → IsProofBy Fits before s tokens root below
 
 spelled_labels : (before : List Sentence) (trees : Trees) → AllFormed before → TreesFit before trees
     → (label : List ℕ) → Contains (spelling trees) label → IsLabel label
@@ -254,53 +271,125 @@ spelled_labels before trees formed fit label c =
     let f = label_fits before trees label fit c in
     label_named before label formed (stands_known before label f.0 f.1)
 
-normal_reads : (before : List Sentence) (s : Sentence) (root : List ℕ) (below : Trees) (text : List ℕ) → AllMeant before → AllFormed before → TreesFit before (tree root below none)
-    → LaidOut (spelling (tree root below none)) text → ReadsAsProof before s root below text
+normal_reads : (before : List Sentence) (s : Sentence) (root : List ℕ) (below : Trees)
+    (text : List ℕ) → AllMeant before → AllFormed before → TreesFit before (tree root below none)
+    → LaidOut (spelling (tree root below none)) text → ReadsAsProof before s root below (10 ∷ text)
 normal_reads before s root below text meant formed fit laid =
     let tokens : List (List ℕ) = spelling (tree root below none) in
-    let words : AllByRecursion IsLabel tokens = all_within IsLabel tokens (spelled_labels before (tree root below none) formed fit) in
+    let words : AllByRecursion IsLabel tokens =
+    all_within IsLabel tokens (spelled_labels before (tree root below none) formed fit) in
     let apart : ¬ (Contains tokens opening_token) = λ c.
     no_parenthesis 40 (omega arith)
     (spelled_labels before (tree root below none) formed fit opening_token c) in
     let normal : IsNormal tokens = λ e. apart (contains_from_at tokens opening_token (0, e)) in
+    let fine = all_weaker IsLabel AreFine label_all_fine tokens words in
+    let read = words_after_feed text
+    ∙ normal_read_back tokens text (all_weaker IsLabel IsOneToken label_token tokens words) laid in
     record {
       tokens = tokens;
-      read = normal_read_back tokens text (all_weaker IsLabel IsOneToken label_token tokens words) laid;
-      fine = all_weaker IsLabel AreFine label_all_fine tokens words;
-      ends = normal_ends tokens text laid;
+      read = read;
+      fine = fine;
+      is_text = behind_feed text tokens read fine (normal_ends tokens text laid);
       strict = normal_is_strict before s tokens normal;
       proves = λ Fits derived. spelled_proves Fits before s root below meant apart derived;
     }
 
-packed_reads : (before : List Sentence) (s : Sentence) (root : List ℕ) (below : Trees) (text : List ℕ) → AllMeant before → AllFormed before → TreesFit before (tree root below none)
-    → IsPackedText before s (tree root below none) text → ReadsAsProof before s root below text
+-- ---- compressed proofs
+
+left_fine : AreFine (40 ∷ [])
+left_fine = ((omega arith, (omega arith, ((λ e. omega (arith, e)), (λ e. omega (arith, e))))), tt)
+
+right_fine : AreFine (41 ∷ [])
+right_fine = ((omega arith, (omega arith, ((λ e. omega (arith, e)), (λ e. omega (arith, e))))), tt)
+
+list_fine : (listed pieces : List (List ℕ)) (letters : List ℕ) → AllByRecursion IsLabel listed
+    → AreFine letters → flat_map (λ piece. piece) pieces ≡ letters
+    → AllByRecursion AreFine (in_parentheses listed ++ pieces)
+list_fine listed pieces letters words fine joined =
+    let labels = all_weaker IsLabel AreFine label_all_fine listed words in
+    all_append AreFine (in_parentheses listed) pieces
+    (left_fine, all_append AreFine listed ((41 ∷ []) ∷ []) labels (right_fine, tt))
+    (cut_fine pieces (subst AreFine (sym joined) fine))
+
+packed_reads : (before : List Sentence) (s : Sentence) (root : List ℕ) (below : Trees)
+    (text : List ℕ) → AllMeant before → AllFormed before → TreesFit before (tree root below none)
+    → IsPackedText before s (tree root below none) text
+    → ReadsAsProof before s root below (10 ∷ text)
 packed_reads before s root below text meant formed fit p =
     let trees : Trees = tree root below none in
-    let words : AllByRecursion IsLabel p.listed = all_within IsLabel p.listed (λ label c. spelled_labels before trees formed fit label (packed_listed before s trees p.listed p.codes label p.packed c)) in
+    let words : AllByRecursion IsLabel p.listed =
+    all_within IsLabel p.listed (λ label c. spelled_labels before trees formed fit label
+    (packed_listed before s trees p.listed p.codes label p.packed c)) in
     let letters : AreFine p.letters = letters_fine p.letters p.codes p.spelled in
-    let (pieces, read, joined) = compressed_read_back p.listed p.letters text (all_weaker IsLabel IsOneToken label_token p.listed words) (fine_lacks p.letters letters) p.laid in
-    let listed : AllByRecursion AreFine p.listed = all_weaker IsLabel AreFine label_all_fine p.listed words in
+    let (pieces, found, joined) = compressed_read_back p.listed p.letters text
+    (all_weaker IsLabel IsOneToken label_token p.listed words) (fine_lacks p.letters letters)
+    p.laid in
     let apart : ¬ (Contains (spelling trees) closing_token) = λ c.
     no_parenthesis 41 (omega arith) (spelled_labels before trees formed fit closing_token c) in
-    let left : AreFine (40 ∷ []) = ((omega arith, (omega arith, ((λ e. omega (arith, e)), (λ e. omega (arith, e))))), tt) in
-    let right : AreFine (41 ∷ []) = ((omega arith, (omega arith, ((λ e. omega (arith, e)), (λ e. omega (arith, e))))), tt) in
+    let read = words_after_feed text ∙ found in
+    let fine = list_fine p.listed pieces p.letters words letters joined in
     record {
       tokens = in_parentheses p.listed ++ pieces;
       read = read;
-      fine = all_append AreFine (in_parentheses p.listed) pieces
-          (left, all_append AreFine p.listed ((41 ∷ []) ∷ []) listed (right, tt))
-          (cut_fine pieces (subst AreFine (sym joined) letters));
-      ends = compressed_ends p.listed p.letters text p.laid;
+      fine = fine;
+      is_text = behind_feed text _ read fine (compressed_ends p.listed p.letters text p.laid);
       strict = packed_is_strict before s trees p.listed p.codes p.letters pieces p.packed p.coded
           joined apart;
-      proves = λ Fits derived. packed_proves Fits before s root below p.listed p.codes p.letters pieces meant p.packed p.coded joined
-          apart derived;
+      proves = λ Fits derived. packed_proves Fits before s root below p.listed p.codes p.letters
+          pieces meant p.packed p.coded joined apart derived;
     }
 
-pub text_reads : (f : Form) (before : List Sentence) (s : Sentence) (root : List ℕ) (below : Trees) (text : List ℕ) → AllMeant before → AllFormed before → TreesFit before (tree root below none)
-    → IsTextIn f before s (tree root below none) text → ReadsAsProof before s root below text
-text_reads form.Normal before s root below text meant formed fit laid = normal_reads before s root below text meant formed fit laid.1
-text_reads form.Packed before s root below text meant formed fit laid = packed_reads before s root below text meant formed fit laid
+small_reads : (indent : ℕ) (before : List Sentence) (s : Sentence) (root : List ℕ) (below : Trees)
+    (put : List ℕ) → AllMeant before → AllFormed before → TreesFit before (tree root below none)
+    → IsSmallBehind indent before s (tree root below none) put
+    → ReadsAsProof before s root below put
+small_reads indent before s root below put meant formed fit p =
+    let trees : Trees = tree root below none in
+    let words : AllByRecursion IsLabel p.listed =
+    all_within IsLabel p.listed (λ label c. spelled_labels before trees formed fit label
+    (small_known before s root below p.listed p.codes p.small label c)) in
+    let letters : AreFine p.letters = letters_fine p.letters p.codes p.spelled in
+    let (pieces, read, joined) = small_read_back indent p.listed p.letters put
+    (all_weaker IsLabel IsOneToken label_token p.listed words) (fine_lacks p.letters letters)
+    p.laid in
+    let apart : ¬ (Contains (spelling trees) closing_token) = λ c.
+    no_parenthesis 41 (omega arith) (spelled_labels before trees formed fit closing_token c) in
+    let fine = list_fine p.listed pieces p.letters words letters joined in
+    let begins = small_begins indent p.listed p.letters put p.laid in
+    let ends = small_ends indent p.listed p.letters put p.laid in
+    record {
+      tokens = in_parentheses p.listed ++ pieces;
+      read = read;
+      fine = fine;
+      is_text = is_proof_text put _ 10 _ ends.inner ends.last read fine begins.is refl ends.is
+          ends.white;
+      strict = small_text_is_strict before s root below p.listed p.codes p.letters pieces p.small
+          p.coded joined apart;
+      proves = λ Fits derived. small_proves before s root below p.listed p.codes p.letters pieces
+          p.small p.coded joined apart Fits meant derived;
+    }
+
+-- ---- what is put in place of a proof is one, or the bytes that stood there
+
+-- small form keeps them
+abbrev pub KeepsBytes : Form → (old put : List ℕ) → Type 0
+KeepsBytes f old put = (f ≡ form.Small) × (put ≡ old)
+
+pub span_reads : {P : Type 0} (f : Form) (before : List Sentence) (s : Sentence) (root : List ℕ)
+    (below : Trees) (old put : List ℕ) → AllMeant before → AllFormed before
+    → TreesFit before (tree root below none)
+    → IsSpanText f before s (tree root below none) old put
+    → (ReadsAsProof before s root below put → P) → (KeepsBytes f old put → P) → P
+span_reads form.Normal before s root below old put meant formed fit (text, laid, is) new kept =
+    new (rw is (normal_reads before s root below text meant formed fit laid.1))
+span_reads form.Packed before s root below old put meant formed fit (text, laid, is) new kept =
+    new (rw is (packed_reads before s root below text meant formed fit laid))
+span_reads form.Small before s root below old put meant formed fit (text, laid, inl (less, is)) new
+    kept =
+    new (rw is (small_reads (indent_of old) before s root below text meant formed fit laid))
+span_reads form.Small before s root below old put meant formed fit (text, laid, inr (more, is)) new
+    kept =
+    kept (refl, is)
 
 -- ---- the tree of a proof
 
@@ -401,72 +490,25 @@ packed_texts profile files statements index s moves others l m a b text other ac
 -- ==== the fully shared proof of a theorem's tree is small enough to be written: it lists no more
 -- labels than there are statements, and keeps no more trees than the theorem's own proof has bytes
 
--- ---- the trees that are kept
-
--- what is kept is made, so it is a subtree
-kept_subtree : (before : List Sentence) (trees : Trees) (moves : List (Move (List ℕ)))
-    (shared : ShareAll before trees moves) (t : Trees) → In shared.kept t → IsSubtree trees t
-kept_subtree before trees moves shared t has =
-    let v : List Visit = visits before moves none [] trees shared.kept shared.made in
-    let kept = rw (kept_are before moves none [] trees shared.kept shared.made) at has in
-    let (i, there) = in_get v (keeps t) (kept_visit v t kept) in
-    let (big, j, next, made) = shared.marked i t there in
-    made_subtrees before moves none [] trees shared.kept shared.made t
-    (visit_made v t (get_in v j _ made))
-
-one_each : {X : Type 0} (xs : List X) → sum_by (λ (x : X). 1) xs ≡ length xs
-one_each [] = refl
-one_each {X} (x ∷ xs) = omega (arith, sum_by-cons (λ (y : X). 1) x xs, one_each xs)
-
--- steps make no more trees than there are moves
-few_made : (before : List Sentence) (moves : List (Move (List ℕ))) (row : Trees)
-    (kept : List Trees) (row' : Trees) (kept' : List Trees)
-    (m : Makes before moves row kept row' kept')
-    → length (trees_made (visits before moves row kept row' kept' m)) ≤ length moves
-few_made before [] row kept row' kept' m = omega arith
-few_made before (name label ∷ moves) row kept row' kept' m =
-    let rest = few_made before moves m.0 m.1 row' kept' m.3 in omega (arith, rest)
-few_made before (move ∷ moves) row kept row' kept' m =
-    let rest = few_made before moves m.0 m.1 row' kept' m.3 in omega (arith, rest)
-
--- They are no more than the moves that any proof of the tree has.
-few_kept : (before : List Sentence) (trees : Trees) (moves others : List (Move (List ℕ)))
-    (kept : List Trees) (shared : ShareAll before trees moves)
-    → Makes before others none [] trees kept → length shared.kept ≤ length others
-few_kept before trees moves others kept shared m =
-    let made : List Trees = trees_made (visits before others none [] trees kept m) in
-    let once = indices_once shared.kept (shared_kept_once before trees moves shared) in
-    let within : (t : Trees) → In shared.kept t → In made t = λ t has.
-    subtrees_made (In made) before others none [] trees kept m (λ u h. absurd h)
-    (λ u w h. absurd h) (λ u h. h) t (kept_subtree before trees moves shared t has) in
-    let most = sum_within (λ (t : Trees). 1) shared.kept made once within in
-    let few = few_made before others none [] trees kept m in
-    omega (arith, most, one_each shared.kept, one_each made, few)
-
 -- ---- the labels
 
 -- a label, or none at all
 abbrev name_or_none : Sentence → List ℕ
 name_or_none s = unwrap_or s.label []
 
--- and neither are the listed labels: each is that of a statement, and none stands twice
-few_listed : (before : List Sentence) (s : Sentence) (trees : Trees) (listed : List (List ℕ))
-    (codes : List Code) → TreesFit before trees → IsPacked before s trees listed codes
+-- Listed labels are no more than the statements: each is that of one, and none stands twice.
+few_listed : (before : List Sentence) (listed : List (List ℕ)) → Once listed
+    → ((label : List ℕ) → Contains listed label → SomeSentence before (IsLabelled label))
     → length listed ≤ length before
-few_listed before s trees listed codes fit p =
+few_listed before listed once named =
     let names : List (List ℕ) = map name_or_none before in
     let known : (label : List ℕ) → In listed label → In names label = λ label has.
-    let f =
-    label_fits before trees label fit
-    (packed_listed before s trees listed codes label p (in_contains listed label has)) in
-    let (index, t, there, named) = stands_known before label f.0 f.1 in
+    let (index, t, there, is) = named label (in_contains listed label has) in
     get_in names index label
     (slice_get-map name_or_none before index ∙ ap (option_map name_or_none) there
-    ∙ ap (λ (o : Option (List ℕ)). Some (unwrap_or o [])) named) in
-    let most =
-    sum_within (λ (label : List ℕ). 1) listed names
-    (uses_apart (spelling trees) p.says.labels listed p.uses).0 known in
-    omega (arith, most, one_each listed, one_each names, length-map before name_or_none)
+    ∙ ap (λ (o : Option (List ℕ)). Some (unwrap_or o [])) is) in
+    let most = length_within listed names once known in
+    omega (arith, most, length-map before name_or_none)
 
 -- ---- the codes
 
@@ -533,35 +575,73 @@ within_exact (Tag ∷ codes) within =
 
 -- ---- so there is a text
 
--- where the statements are few, and so are the bytes of some proof of the tree
-pub some_packed_text : (before : List Sentence) (s : Sentence) (root : List ℕ) (below : Trees)
-    (tokens : List (List ℕ)) (moves : List (Move (List ℕ))) (kept : List Trees) → AllFormed before
-    → TreesFit before (tree root below none) → IsWhole before tokens
-    → SayMoves before s tokens moves → Makes before moves none [] (tree root below none) kept
-    → length before ≤ most_bytes → sum_by length tokens ≤ most_bytes
-    → (text : List ℕ) × IsPackedText before s (tree root below none) text
-some_packed_text before s root below tokens moves kept formed fit whole said made few room =
-    let trees : Trees = tree root below none in
-    let (listed, codes, p) = some_packed_holds before s root below formed fit in
-    let labels : List (List ℕ) = p.says.labels in
-    let many : length (labels ++ listed) + length p.shared.kept ≤ largest =
+-- The labels and the kept trees of a pair are few enough, where the statements are, and so are the
+-- bytes of some proof with no fewer moves than the pair keeps trees.
+are_few : (before : List Sentence) (s : Sentence) (trees : Trees) (listed : List (List ℕ))
+    (codes : List Code) (p : PairMakes before s trees listed codes) (tokens : List (List ℕ))
+    (moves : List (Move (List ℕ))) → AllFormed before → IsWhole before tokens
+    → SayMoves before s tokens moves → length listed ≤ length before
+    → length p.kept ≤ length moves → length before ≤ most_bytes
+    → sum_by length tokens ≤ most_bytes
+    → length (p.says.labels ++ listed) + length p.kept ≤ largest
+are_few before s trees listed codes p tokens moves formed whole said listed_few kept_few few room =
     omega (
       arith,
       few,
       room,
-      length-append labels listed,
-      same_length (λ (h : Sentence). h.label) (λ (l : List ℕ). Some l) p.says.hypotheses labels
-          p.says.labelled,
+      listed_few,
+      kept_few,
+      length-append p.says.labels listed,
+      same_length (λ (h : Sentence). h.label) (λ (l : List ℕ). Some l) p.says.hypotheses
+          p.says.labels p.says.labelled,
       those_few (IsMandatoryAt before s) 0 before p.says.hypotheses p.says.mandatory,
-      few_listed before s trees listed codes fit p,
-      few_kept before trees p.moves moves kept p.shared made,
       said_moves before s tokens moves formed whole said,
-    ) in
+    )
+
+-- so the codes have letters
+some_letters : (before : List Sentence) (s : Sentence) (trees : Trees) (listed : List (List ℕ))
+    (codes : List Code) (p : PairMakes before s trees listed codes)
+    → length (p.says.labels ++ listed) + length p.kept ≤ largest
+    → (letters : List ℕ) × SpellsCodes letters codes × Letters letters codes
+some_letters before s trees listed codes p many =
+    let labels : List (List ℕ) = p.says.labels in
     let within : AllByRecursion (IsWithinMost largest) codes =
-    lengths_within (labels ++ listed) (length p.shared.kept) largest codes p.moves many p.says.each
-    (tags_below before p.moves none [] trees p.shared.kept p.shared.made) in
+    lengths_within (labels ++ listed) (length p.kept) largest codes p.moves many p.says.each
+    (tags_below before p.moves none [] trees p.kept p.made) in
     let spelled = all_weaker (IsWithinMost largest) HasSpelling within_spelled codes within in
-    let (letters, spells) = some_text codes (All-from_recursion HasSpelling codes spelled) in
+    let (letters, spells) = some_text codes (All-from_recursion HasSpelling codes spelled) in (
+      letters,
+      spells,
+      record { spelled = codes; spells = spells; are_codes = within_exact codes within },
+    )
+
+-- a proof of the tree whose bytes are few
+pub record IsFewBytes (before : List Sentence) (s : Sentence) (trees : Trees) : Type 0 where
+  pub tokens : List (List ℕ)
+  pub moves : List (Move (List ℕ))
+  pub kept : List Trees
+  pub whole : IsWhole before tokens
+  pub said : SayMoves before s tokens moves
+  pub made : Makes before moves none [] trees kept
+  pub few : length before ≤ most_bytes
+  pub room : sum_by length tokens ≤ most_bytes
+
+pub some_packed_text : (before : List Sentence) (s : Sentence) (root : List ℕ) (below : Trees)
+    → AllFormed before → TreesFit before (tree root below none)
+    → IsFewBytes before s (tree root below none)
+    → (text : List ℕ) × IsPackedText before s (tree root below none) text
+some_packed_text before s root below formed fit b =
+    let trees : Trees = tree root below none in
+    let (listed, codes, p) = some_packed_holds before s root below formed fit in
+    let makes : PairMakes before s trees listed codes =
+    record { moves = p.moves; says = p.says; kept = p.shared.kept; made = p.shared.made } in
+    let listed_few = few_listed before listed
+    (uses_apart (spelling trees) p.says.labels listed p.uses).0 (λ label c.
+    let f = label_fits before trees label fit (packed_listed before s trees listed codes label p c)
+    in stands_known before label f.0 f.1) in
+    let many = are_few before s trees listed codes makes b.tokens b.moves formed b.whole b.said
+    listed_few (few_kept before trees p.moves b.moves b.kept p.shared b.made) b.few b.room in
+    let (letters, spells, coded) = some_letters before s trees listed codes makes many in
     let (text, laid) = some_compressed_layout listed letters in (
       text,
       record {
@@ -570,7 +650,37 @@ some_packed_text before s root below tokens moves kept formed fit whole said mad
         letters = letters;
         packed = p;
         spelled = spells;
-        coded = record { spelled = codes; spells = spells; are_codes = within_exact codes within };
+        coded = coded;
+        laid = laid;
+      },
+    )
+
+-- and so there is one in small form, behind any indent
+pub some_small_behind : (indent : ℕ) (before : List Sentence) (s : Sentence) (root : List ℕ)
+    (below : Trees) → AllMeant before → AllFormed before → TreesFit before (tree root below none)
+    → IsFewBytes before s (tree root below none)
+    → (text : List ℕ) × IsSmallBehind indent before s (tree root below none) text
+some_small_behind indent before s root below meant formed fit b =
+    let trees : Trees = tree root below none in
+    let (listed, codes, p) = some_small_holds before s root below meant formed fit in
+    let makes = small_makes before s root below listed codes p in
+    let strict = small_is_strict_holds before s root below listed codes p in
+    let listed_few = few_listed before listed (indices_once listed strict.0.once) (λ label c.
+    let f = label_fits before trees label fit (small_known before s root below listed codes p label c)
+    in stands_known before label f.0 f.1) in
+    let many = are_few before s trees listed codes makes b.tokens b.moves formed b.whole b.said
+    listed_few (small_keeps_few before s root below listed codes p b.moves b.kept b.made) b.few
+    b.room in
+    let (letters, spells, coded) = some_letters before s trees listed codes makes many in
+    let (text, laid) = some_small_layout indent listed letters in (
+      text,
+      record {
+        listed = listed;
+        codes = codes;
+        letters = letters;
+        small = p;
+        spelled = spells;
+        coded = coded;
         laid = laid;
       },
     )

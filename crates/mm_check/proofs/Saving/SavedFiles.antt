@@ -23,7 +23,7 @@ use Rattle.mm_check.proofs.Questions.AskedTheorems.{ask_fault, same_tree}
 use Rattle.mm_check.proofs.Numbers.{in_order_same}
 use Rattle.std.proofs.lemmas.List.Sums.{get_or-le-sum_by, sum_by-set}
 use Rattle.std.proofs.lemmas.List.{length-map, length-set, set-set, set-get_or}
-use Rattle.std.proofs.lemmas.Option.{slice_get_within, get_or_from_slice_get}
+use Rattle.std.proofs.lemmas.Option.{slice_get_within, get_or_from_slice_get, same_Some}
 use Rattle.mm_text.specs.declared.file.File.{File}
 use Rattle.mm_text.specs.Files.{most_bytes, PlainFile, plain_file, total_bytes, BreaksLoad}
 use Rattle.mm_text.specs.Reading.{Reads, IsInPlace}
@@ -42,10 +42,11 @@ use Rattle.mm_check.specs.declared.fault.CheckFault.{CheckFault}
 use Rattle.mm_check.specs.Conclusion.{Conclusion}
 use Rattle.mm_check.specs.Answer.{verdict_of_answer, verdict_of_conclusion, IsVerdict}
 use Rattle.mm_check.specs.Shown.{Stands}
-use Rattle.mm_check.specs.Saved.{IsTextIn, IsSaved, total_with, IsFormFault, IsSaveFault}
+use Rattle.mm_check.specs.Saved.{IsSpanText, IsSaved, total_with, IsFormFault, IsSaveFault}
+use Rattle.mm_check.specs.Saved.{within_span}
 use Rattle.mm_check.specs.Mirror.Theorems.{AreProvedSteps, AreStepsOf}
-use Rattle.mm_check.specs.Mirror.Rewriting.{IsHomeOf, IsTextOf, IsTextFault, HoldsSpan, IsPutIn}
-use Rattle.mm_check.specs.Mirror.Rewriting.{IsPutFault}
+use Rattle.mm_check.specs.Mirror.Rewriting.{IsHomeOf, IsSpanTextOf, IsTextFault, HoldsSpan}
+use Rattle.mm_check.specs.Mirror.Rewriting.{StandIn, IsPutIn, IsPutFault}
 use Rattle.mm_check.proofs.ReplyTexts.{accepted_with}
 use Rattle.mm_check.proofs.Verdicts.AcceptedStatements.{one_stands, same_reading}
 use Rattle.mm_check.proofs.Verdicts.StatementByStatement.{provable_kind, unproved_of-append}
@@ -68,7 +69,7 @@ use Rattle.mm_check.specs.SavedLaws.{SayTheSame}
 use Rattle.mm_check.proofs.Verdicts.AlikeVerdicts.{moved, obeys_alike, same_sentence, same_proof}
 use Rattle.mm_check.proofs.Verdicts.AlikeVerdicts.{same_sentences, same_proofs, same_unproved}
 use Rattle.mm_check.proofs.Verdicts.OneVerdict.{accepted_or_refused}
-use Rattle.mm_check.proofs.Saving.ProofTexts.{words_after_feed, fine_complete, ReadsAsProof}
+use Rattle.mm_check.proofs.Saving.ProofTexts.{fine_complete, ReadsAsProof}
 use Rattle.mm_check.proofs.Saving.ProofTexts.{tree_is, tree_derives}
 use Rattle.mm_check.specs.declared.form.Form.TheVariants as form
 use Rattle.mm_check.specs.declared.ask.AskFault.TheVariants as ask
@@ -258,11 +259,13 @@ home_file files statements index s reads there =
 pub provable_proof : (s : PlainStatement) → is_proof s ≡ true → s.kind ≡ Provable
 provable_proof s complete = provable_kind s.kind (not (is_incomplete (proof_of s))) complete
 
-pub within_bytes : (s : PlainStatement) (bytes : List ℕ) → IsProofSpan s bytes → (s.span.0 ≤ length bytes) × (s.span.1 ≤ length bytes)
+pub within_bytes : (s : PlainStatement) (bytes : List ℕ) → IsProofSpan s bytes
+    → (s.span.0 ≤ s.span.1) × (s.span.1 ≤ length bytes)
 within_bytes s bytes p =
     let long : length bytes ≡ length p.prefix + (length p.within + length p.back) =
-    ap length p.whole ∙ length-append p.prefix (p.within ++ p.back) ∙ ap (λ (n : ℕ). length p.prefix + n) (length-append p.within p.back) in
-    (omega (arith, long, p.start), omega (arith, long, p.stop))
+    ap length p.whole ∙ length-append p.prefix (p.within ++ p.back)
+    ∙ ap (λ (n : ℕ). length p.prefix + n) (length-append p.within p.back) in
+    (omega (arith, p.start, p.stop), omega (arith, long, p.stop))
 
 pub holds_span : (files : List PlainFile) (statements : List PlainStatement) (index : ℕ) (s : PlainStatement) (number : ℕ) (span : ℕ × ℕ) → Reads files statements None → slice_get statements index ≡ Some s
     → is_proof s ≡ true → number ≡ s.first.file → span ≡ s.span → HoldsSpan files number span
@@ -284,26 +287,35 @@ home_of statements label t number span all stands home same s (index, there, nam
 
 -- ---- its file with another proof
 
-pub saved_of : (form : Form) (ss : List Sentence) (files : List PlainFile) (statements : List PlainStatement) (label : List ℕ) (id : ℕ) (steps : ReadSteps) (number : ℕ) (span : ℕ × ℕ) (text bytes : List ℕ)
-    → ss ≡ sentences statements → AreStepsOf statements label id steps.moves → AreProvedSteps ss id steps → IsTextOf form ss id steps.moves text
-    → IsHomeOf statements label number span → IsPutIn files number span text bytes → IsSaved form files statements label number bytes
-saved_of form ss files statements label id steps number span text bytes same r proved laid home put =
+pub saved_of : (form : Form) (ss : List Sentence) (files : List PlainFile)
+    (statements : List PlainStatement) (label : List ℕ) (id : ℕ) (steps : ReadSteps) (number : ℕ)
+    (span : ℕ × ℕ) (old put bytes : List ℕ) → ss ≡ sentences statements
+    → AreStepsOf statements label id steps.moves → AreProvedSteps ss id steps
+    → IsSpanTextOf form ss id steps.moves old put → IsHomeOf statements label number span
+    → StandIn files number span old → IsPutIn files number span put bytes
+    → IsSaved form files statements label number bytes
+saved_of form ss files statements label id steps number span old put bytes same r proved laid home
+    stood new =
     let (root, below, has, told) =
     tree_told ss statements label id steps same r proved
-    (λ before s trees. IsTextIn form before s trees text) laid in
+    (λ before s trees. IsSpanText form before s trees old put) laid in
     let at = home r.s (r.index, r.there, r.named) in
+    let file : stood.0 ≡ new.0 = same_Some stood.0 new.0 (sym stood.1 ∙ new.1) in
+    let place : old ≡ within_span new.0.bytes r.s.span =
+    stood.2 ∙ (λ i. within_span (file i).bytes (at.1 i)) in
     record {
       index = r.index;
       s = r.s;
       root = root;
       below = below;
       proof = has;
-      text = text;
-      laid = told;
       home = at.0;
-      file = put.0;
-      handed = put.1;
-      whole = put.2 ∙ ap (λ (p : ℕ × ℕ). with_span put.0.bytes p (10 ∷ text)) at.1;
+      file = new.0;
+      handed = new.1;
+      put = put;
+      laid = subst (λ (o : List ℕ). IsSpanText form (sentences (take r.index statements))
+          (sentence_of r.s) (tree root below none) o put) place told;
+      whole = new.2 ∙ ap (λ (p : ℕ × ℕ). with_span new.0.bytes p put) at.1;
     }
 
 -- ---- why there is none
@@ -311,11 +323,13 @@ saved_of form ss files statements label id steps number span text bytes same r p
 form_save_fault : (form : Form) (files : List PlainFile) (statements : List PlainStatement) (label : List ℕ) (fault : AskFault) → IsFormFault form statements label fault → IsSaveFault form files statements label fault
 form_save_fault form.Normal files statements label ask.F3 h = absurd h
 form_save_fault form.Packed files statements label ask.F3 h = absurd h
+form_save_fault form.Small files statements label ask.F3 h = absurd h
 form_save_fault form files statements label _ h = h
 
 asked_fault : (form : Form) (statements : List PlainStatement) (label : List ℕ) (fault : AskFault) → IsAskFault statements label fault → IsFormFault form statements label fault
 asked_fault form.Normal statements label fault h = ask_fault statements label fault h
 asked_fault form.Packed statements label fault h = h
+asked_fault form.Small statements label fault h = h
 
 pub ask_save_fault : (form : Form) (files : List PlainFile) (statements : List PlainStatement) (label : List ℕ) (fault : AskFault) → IsAskFault statements label fault → IsSaveFault form files statements label fault
 ask_save_fault form files statements label fault h = form_save_fault form files statements label fault (asked_fault form statements label fault h)
@@ -328,14 +342,22 @@ pub text_save_fault : (form : Form) (ss : List Sentence) (files : List PlainFile
 text_save_fault form.Normal ss files statements label id steps fault same r proved why =
     form_save_fault form.Normal files statements label fault (normal_fault ss statements label id steps fault same r proved why)
 text_save_fault form.Packed ss files statements label id steps fault same r proved why = memory_fault form.Packed files statements label fault why
+text_save_fault form.Small ss files statements label id steps fault same r proved why =
+    memory_fault form.Small files statements label fault why
 
-pub put_save_fault : (form : Form) (ss : List Sentence) (files : List PlainFile) (statements : List PlainStatement) (label : List ℕ) (id : ℕ) (steps : ReadSteps) (number : ℕ) (span : ℕ × ℕ) (text : List ℕ) (fault : AskFault)
-    → ss ≡ sentences statements → AreStepsOf statements label id steps.moves → AreProvedSteps ss id steps → IsTextOf form ss id steps.moves text
-    → IsHomeOf statements label number span → IsPutFault files number span text fault → IsSaveFault form files statements label fault
-put_save_fault form ss files statements label id steps number span text fault same r proved laid home (inl memory) = memory_fault form files statements label fault memory
-put_save_fault form ss files statements label id steps number span text fault same r proved laid home (inr (is, bytes, put, over)) =
-    let saved = saved_of form ss files statements label id steps number span text bytes same r
-    proved laid home put in
+pub put_save_fault : (form : Form) (ss : List Sentence) (files : List PlainFile)
+    (statements : List PlainStatement) (label : List ℕ) (id : ℕ) (steps : ReadSteps) (number : ℕ)
+    (span : ℕ × ℕ) (old put : List ℕ) (fault : AskFault) → ss ≡ sentences statements
+    → AreStepsOf statements label id steps.moves → AreProvedSteps ss id steps
+    → IsSpanTextOf form ss id steps.moves old put → IsHomeOf statements label number span
+    → StandIn files number span old → IsPutFault files number span put fault
+    → IsSaveFault form files statements label fault
+put_save_fault form ss files statements label id steps number span old put fault same r proved laid
+    home stood (inl memory) = memory_fault form files statements label fault memory
+put_save_fault form ss files statements label id steps number span old put fault same r proved laid
+    home stood (inr (is, bytes, new, over)) =
+    let saved = saved_of form ss files statements label id steps number span old put bytes same r
+    proved laid home stood new in
     rw is (number, bytes, saved, over)
 
 -- ---- files that are accepted
@@ -356,10 +378,17 @@ nowhere file at = 0
 abbrev pub put_anew : PlainStatement → List ℕ → PlainStatement
 put_anew s text = record s { proof = tokens_from s.first.file s.span.0 text; span = (s.span.0, s.span.0 + length text) }
 
--- what is told of its proof
-pub record IsProvedAnew (profile : Profile) (prefix : List Sentence) (t : PlainStatement) (root : List ℕ) (below : Trees) : Type 0 where
+-- small form keeps the proof that was there
+abbrev pub IsKept : Form → (s t : PlainStatement) → Type 0
+IsKept f s t = (f ≡ form.Small) × (proof_of t ≡ proof_of s)
+
+-- What is told of a statement with its new proof: this is one of the tree, and strict or kept.
+pub record IsProvedAnew (f : Form) (profile : Profile) (prefix : List Sentence)
+    (s t : PlainStatement) (root : List ℕ) (below : Trees) : Type 0 where
+  pub said : sentence_of s ≡ sentence_of t
+  pub home : s.first.file ≡ t.first.file
   pub complete : is_proof t ≡ true
-  pub strict : IsStrict prefix (sentence_of t) (proof_of t)
+  pub strict : IsStrict prefix (sentence_of t) (proof_of t) ⊎ IsKept f s t
   pub under : IsProvedUnder profile prefix (sentence_of t) (proof_of t)
   pub proof : IsProved prefix (sentence_of t) (proof_of t)
   pub spelled : tree_of proof ≡ tree root below none
@@ -370,34 +399,70 @@ form_of_strict : (profile : Profile) (prefix : List Sentence) (s : Sentence)
 form_of_strict Strict prefix s tokens strict = strict
 form_of_strict Lenient prefix s tokens strict = tt
 
-pub proved_anew : (profile : Profile) (prefix : List Sentence) (s : PlainStatement) (root : List ℕ) (below : Trees) (moves : List (Move (List ℕ))) (text : List ℕ) → AllMeant prefix → is_proof s ≡ true
-    → IsProvedWithin (IsWithin (limit_of profile)) prefix (sentence_of s) (proof_of s) → SayMoves prefix (sentence_of s) (proof_of s) moves → MakeTree prefix moves root below
-    → ReadsAsProof prefix (sentence_of s) root below text → IsProvedAnew profile prefix (put_anew s (10 ∷ text)) root below
-proved_anew profile prefix s root below moves text meant complete old told made ra =
-    let t : PlainStatement = put_anew s (10 ∷ text) in
-    let Fits : List (List ℕ) → Type 0 = IsWithin (limit_of profile) in
-    let tokens : proof_of t ≡ ra.tokens = texts_in s.first.file s.span.0 (10 ∷ text) ∙ words_after_feed text ∙ ra.read in
-    let within : IsProofBy Fits prefix (sentence_of s) ra.tokens root below = ra.proves Fits (tree_derives Fits prefix (sentence_of s) (proof_of s) moves root below meant old told made) in
-    let any : IsProofBy AnyExpression prefix (sentence_of s) ra.tokens root below =
-    ra.proves AnyExpression (tree_derives AnyExpression prefix (sentence_of s) (proof_of s) moves root below meant (any_proof profile prefix (sentence_of s) (proof_of s) old) told made) in
-    let strict : IsStrict prefix (sentence_of s) (proof_of t) = rw tokens ra.strict in
-    let here : IsProofBy AnyExpression prefix (sentence_of s) (proof_of t) root below = subst (λ (ts : List (List ℕ)). IsProofBy AnyExpression prefix (sentence_of s) ts root below) (sym tokens) any in
-    record {
-      complete = proof_there t (provable_proof s complete) (ap is_incomplete tokens ∙ fine_complete ra.tokens ra.fine);
-      strict = strict;
-      under = (form_of_strict profile prefix (sentence_of s) _ strict, rw tokens within.0);
-      proof = here.0;
-      spelled = here.1;
-    }
+module _ (f : Form) (profile : Profile) (prefix : List Sentence) (s : PlainStatement)
+    (root : List ℕ) (below : Trees) (moves : List (Move (List ℕ))) (meant : AllMeant prefix)
+    (complete : is_proof s ≡ true)
+    (old : IsProvedUnder profile prefix (sentence_of s) (proof_of s))
+    (told : SayMoves prefix (sentence_of s) (proof_of s) moves)
+    (made : MakeTree prefix moves root below) where
+  old_proof : IsProved prefix (sentence_of s) (proof_of s)
+  old_proof = any_proof profile prefix (sentence_of s) (proof_of s) old.1
+
+  pub proved_anew : (put : List ℕ) → ReadsAsProof prefix (sentence_of s) root below put
+      → IsProvedAnew f profile prefix s (put_anew s put) root below
+  proved_anew put ra =
+      let t : PlainStatement = put_anew s put in
+      let Fits : List (List ℕ) → Type 0 = IsWithin (limit_of profile) in
+      let tokens : proof_of t ≡ ra.tokens = texts_in s.first.file s.span.0 put ∙ ra.read in
+      let within : IsProofBy Fits prefix (sentence_of s) ra.tokens root below =
+      ra.proves Fits (tree_derives Fits prefix (sentence_of s) (proof_of s) moves root below meant
+      old.1 told made) in
+      let any : IsProofBy AnyExpression prefix (sentence_of s) ra.tokens root below =
+      ra.proves AnyExpression (tree_derives AnyExpression prefix (sentence_of s) (proof_of s) moves
+      root below meant old_proof told made) in
+      let strict : IsStrict prefix (sentence_of s) (proof_of t) = rw tokens ra.strict in
+      let here : IsProofBy AnyExpression prefix (sentence_of s) (proof_of t) root below =
+      subst (λ (ts : List (List ℕ)).
+      IsProofBy AnyExpression prefix (sentence_of s) ts root below) (sym tokens) any in
+      record {
+        said = refl;
+        home = refl;
+        complete = proof_there t (provable_proof s complete)
+            (ap is_incomplete tokens ∙ fine_complete ra.tokens ra.fine);
+        strict = inl strict;
+        under = (form_of_strict profile prefix (sentence_of s) _ strict, rw tokens within.0);
+        proof = here.0;
+        spelled = here.1;
+      }
+
+  -- where it is kept, it is what it was
+  pub proved_as_before : f ≡ form.Small → IsProvedAnew f profile prefix s s root below
+  proved_as_before small = record {
+    said = refl;
+    home = refl;
+    complete = complete;
+    strict = inr (small, refl);
+    under = old;
+    proof = old_proof;
+    spelled = tree_is AnyExpression prefix (sentence_of s) (proof_of s) moves root below meant
+        old_proof told made;
+  }
 
 -- it is alike, one way and the other
-pub anew_alike : (profile : Profile) (prefix : List Sentence) (s : PlainStatement) (root : List ℕ) (below : Trees) (moves : List (Move (List ℕ))) (text : List ℕ) → AllMeant prefix → is_proof s ≡ true
-    → SayMoves prefix (sentence_of s) (proof_of s) moves → MakeTree prefix moves root below → IsProvedAnew profile prefix (put_anew s text) root below → AreAlikeAt prefix s (put_anew s text)
-anew_alike profile prefix s root below moves text meant complete told made new = record {
-  said = refl;
+pub anew_alike : (f : Form) (profile : Profile) (prefix : List Sentence) (s t : PlainStatement)
+    (root : List ℕ) (below : Trees) (moves : List (Move (List ℕ))) → AllMeant prefix
+    → is_proof s ≡ true → SayMoves prefix (sentence_of s) (proof_of s) moves
+    → MakeTree prefix moves root below → IsProvedAnew f profile prefix s t root below
+    → AreAlikeAt prefix s t
+anew_alike f profile prefix s t root below moves meant complete told made new = record {
+  said = new.said;
   proofs = complete ∙ sym new.complete;
-  unproved = proof_not_unproved s complete ∙ sym (proof_not_unproved (put_anew s text) new.complete);
-  tree = λ c p. (new.proof, tree_is AnyExpression prefix (sentence_of s) (proof_of s) moves root below meant p told made ∙ sym new.spelled);
+  unproved = proof_not_unproved s complete ∙ sym (proof_not_unproved t new.complete);
+  tree = λ c p. (
+    new.proof,
+    tree_is AnyExpression prefix (sentence_of s) (proof_of s) moves root below meant p told made
+        ∙ sym new.spelled,
+  );
 }
 
 pub alike_turned : (prefix : List Sentence) (s t : PlainStatement) → AllMeant prefix
@@ -483,18 +548,6 @@ all_obey_anew profile before s t after later own same obeyed new earlier rest y 
     let there : slice_get su (length earlier) ≡ Some y = rw split (get_parted earlier rest y) in
     let prefix : take (length earlier) su ≡ earlier = ap (take (length earlier)) split ∙ take-append_seam earlier (y ∷ rest) in
     subst (λ (ss : List PlainStatement). Obeys profile (sentences ss) y) prefix (obeys_at profile before s t after later own same obeyed new (length earlier) y there)
-
--- ---- the bytes of a file
-
--- a text between two parts is replaced
-pub span_put : (prefix now back put : List ℕ) (span : ℕ × ℕ) → span.0 ≡ length prefix
-    → span.1 ≡ length prefix + length now
-    → with_span (prefix ++ (now ++ back)) span put ≡ prefix ++ (put ++ back)
-span_put prefix now back put span start stop =
-    let after : drop span.1 (prefix ++ (now ++ back)) ≡ back =
-    rw (stop, ← length-append prefix now, ← append_assoc prefix now back)
-    (drop-append_seam (prefix ++ now) back) in
-    rw (start, take-append_seam prefix (now ++ back), after)
 
 -- ---- one file among the files
 

@@ -1,10 +1,11 @@
 -- Saving changes nothing that is answered, saving again changes nothing, and what is saved is one.
 use Rattle.std.proofs.Common.{◌≡◌, ℕ, suc, ◌+◌, ◌≤◌, ◌<◌, List, [], ◌∷◌, ◌++◌, map, take, drop}
 use Rattle.std.proofs.Common.{length, slice_get, true, Some, None, inl, inr, refl, sym, ap, subst}
-use Rattle.std.proofs.Common.{◌∙◌, arith, is_some}
+use Rattle.std.proofs.Common.{◌∙◌, ◌⊎◌, arith, is_some}
 use Rattle.std.specs.List.{AllZip}
 use Rattle.std.proofs.Math.Seq.{take-append_seam}
-use Rattle.std.proofs.lemmas.Option.{same_Some}
+use Rattle.std.proofs.lemmas.Option.{same_Some, slice_get_within}
+use Rattle.std.proofs.lemmas.List.{length-take-le}
 use Rattle.mm_text.specs.declared.statement.Kind.TheVariants.{Provable}
 use Rattle.mm_text.specs.Statement.{PlainStatement}
 use Rattle.mm_text.specs.Files.{most_bytes, PlainFile}
@@ -14,10 +15,6 @@ use Rattle.mm_text.proofs.Lists.{split_at, get_parted}
 use Rattle.mm_text.proofs.Reader.WholeReadings.{readings_are_formed_in_place}
 use Rattle.mm_text.proofs.Replaced.ReplacedFiles.{replaced_proofs_are_read_holds}
 use Rattle.mm_text.proofs.Replaced.ProofSpans.{proofs_stand_in_spans_holds}
-use Rattle.mm_code.specs.declared.code.Code.{Code}
-use Rattle.mm_code.specs.Letters.{SpellsCodes}
-use Rattle.mm_code.proofs.LaidOutLines.{one_text_of_tokens, one_text_of_compressed}
-use Rattle.mm_code.proofs.OneSpelling.{one_text_only}
 use Rattle.mm_frame.specs.Sentence.{Sentence, sentence_of, IsLabelled}
 use Rattle.mm_frame.specs.Rules.{AllMeant}
 use Rattle.mm_frame.specs.Numbers.{labelled_sentences}
@@ -31,7 +28,7 @@ use Rattle.mm_proof.specs.Strict.{IsStrict}
 use Rattle.mm_proof.specs.declared.profile.Profile.{Profile}
 use Rattle.mm_proof.specs.Profiles.{limit_of}
 use Rattle.mm_proof.proofs.ProofSteps.Derivations.{makes_once, derive_fits, zip_once}
-use Rattle.mm_proof.proofs.FullSharing.OneSharedProof.{one_packed_holds}
+use Rattle.mm_proof.specs.UnderProfile.{IsProvedUnder}
 use Rattle.mm_proof.proofs.ProofTokens.SaidMoves.{moves_once}
 use Rattle.mm_check.specs.declared.form.Form.{Form}
 use Rattle.mm_check.specs.declared.rule.AskRule.TheVariants.{A1, A2, A3, L2}
@@ -39,20 +36,25 @@ use Rattle.mm_check.specs.Verdict.{AreAccepted, AllObey, Obeys, sentences, proof
 use Rattle.mm_check.specs.Rests.{IsNamed, tree_of}
 use Rattle.mm_check.specs.Compared.{IsTheorem}
 use Rattle.mm_check.specs.Forms.{HasProofTree, most_labels}
-use Rattle.mm_check.specs.Saved.{IsTextIn, IsSaved, FitsSaved, total_with}
+use Rattle.mm_check.specs.Saved.{IsSpanText, within_span, IsSaved, FitsSaved, total_with}
 use Rattle.mm_check.specs.SavedLaws.{SavingChangesNoAnswer, SavedProofIsStrict, OneSaved}
-use Rattle.mm_check.specs.SavedLaws.{OneSaveAnswer, SavingAgainChangesNothing}
+use Rattle.mm_check.specs.SavedLaws.{OneSaveAnswer, SavingAgainChangesNothing, IsKeptProof}
+use Rattle.mm_check.specs.SavedLaws.{SmallFilesDoNotGrow}
 use Rattle.mm_check.proofs.Verdicts.AlikeVerdicts.{moved}
 use Rattle.mm_check.proofs.Questions.AskedTheorems.{map-take}
 use Rattle.mm_check.proofs.Verdicts.OneVerdict.{formed_before}
 use Rattle.mm_check.proofs.Verdicts.AcceptedStatements.{same_reading, said_there, one_stands}
 use Rattle.mm_check.proofs.Saving.SavedFiles.{provable_proof, put_anew, IsProvedAnew, proved_anew}
+use Rattle.mm_check.proofs.Saving.SavedFiles.{proved_as_before, IsKept, with_bytes_own}
 use Rattle.mm_check.proofs.Saving.SavedFiles.{anew_alike, alike_turned, carries_of, all_obey_anew}
 use Rattle.mm_check.proofs.Saving.SavedFiles.{readable_anew, handed_anew, same_left, same_count}
-use Rattle.mm_check.proofs.Saving.SavedFiles.{same_many, SayAlike, said_same, span_put, Carries}
+use Rattle.mm_check.proofs.Saving.SavedFiles.{same_many, SayAlike, said_same, Carries}
 use Rattle.mm_check.proofs.Saving.SavedFiles.{prefix_told}
+use Rattle.mm_check.proofs.Saving.SpanTexts.{kept_span, kept_long, put_stands_within, put_again}
+use Rattle.mm_check.proofs.Saving.SpanTexts.{span_text_once, span_text_again, small_no_longer}
+use Rattle.mm_check.proofs.Saving.SpanTexts.{put_no_longer}
 use Rattle.mm_check.proofs.Verdicts.StatementByStatement.{any_proof, all_meant, proof_not_unproved}
-use Rattle.mm_check.proofs.Saving.ProofTexts.{is_proof_text, ReadsAsProof, text_reads, tree_derives}
+use Rattle.mm_check.proofs.Saving.ProofTexts.{ReadsAsProof, KeepsBytes, span_reads, tree_derives}
 use Rattle.mm_check.proofs.Saving.ProofTexts.{tree_is}
 use Rattle.mm_check.specs.AllSaved.{Replacement, IsReplacement, theorems_of, with_replaced}
 use Rattle.mm_check.specs.AllSavedLaws.{OneAllSaved}
@@ -67,7 +69,9 @@ prefix_meant profile statements n obeyed = subst AllMeant (sym (map-take n state
 -- ---- the files with the text put in
 
 -- what is known of a theorem whose proof is to be written anew
-pub record IsToPut (profile : Profile) (f : Form) (files : List PlainFile) (before : List PlainStatement) (s : PlainStatement) (after : List PlainStatement) (file : PlainFile) (text : List ℕ) : Type 0 where
+pub record IsToPut (profile : Profile) (f : Form) (files : List PlainFile)
+    (before : List PlainStatement) (s : PlainStatement) (after : List PlainStatement)
+    (file : PlainFile) (put : List ℕ) : Type 0 where
   pub reads : Reads files (before ++ s ∷ after) None
   pub obeyed : AllObey profile (before ++ s ∷ after)
   pub complete : is_proof s ≡ true
@@ -76,189 +80,237 @@ pub record IsToPut (profile : Profile) (f : Form) (files : List PlainFile) (befo
   pub moves : List (Move (List ℕ))
   pub told : SayMoves (sentences before) (sentence_of s) (proof_of s) moves
   pub made : MakeTree (sentences before) moves root below
-  pub laid : IsTextIn f (sentences before) (sentence_of s) (tree root below none) text
+  pub laid : IsSpanText f (sentences before) (sentence_of s) (tree root below none)
+      (within_span file.bytes s.span) put
   pub handed : slice_get files s.first.file ≡ Some file
 
 abbrev pub files_anew : List PlainFile → PlainStatement → PlainFile → List ℕ → List PlainFile
-files_anew files s file text = with_bytes files s.first.file (with_span file.bytes s.span (10 ∷ text))
+files_anew files s file put = with_bytes files s.first.file (with_span file.bytes s.span put)
 
--- the files with the text put in read as what obeys the profile
-pub record ArePutAnew (profile : Profile) (files : List PlainFile) (before : List PlainStatement) (s : PlainStatement) (after : List PlainStatement) (file : PlainFile) (text : List ℕ) : Type 0 where
+-- The files with what is put read as what obeys the profile: the statement with its new proof
+-- stands in place of the other, and its span is that of what was put.
+pub record ArePutAnew (profile : Profile) (f : Form) (files : List PlainFile)
+    (before : List PlainStatement) (s : PlainStatement) (after : List PlainStatement)
+    (file : PlainFile) (put : List ℕ) (root : List ℕ) (below : Trees) : Type 0 where
+  pub t : PlainStatement
   pub later : List PlainStatement
-  pub reads : Reads (files_anew files s file text) (before ++ put_anew s (10 ∷ text) ∷ later) None
-  pub obeyed : AllObey profile (before ++ put_anew s (10 ∷ text) ∷ later)
+  pub reads : Reads (files_anew files s file put) (before ++ t ∷ later) None
+  pub obeyed : AllObey profile (before ++ t ∷ later)
   pub same : map placeless after ≡ map placeless later
   pub moved : AllZip (λ u v. u.kind ≡ Provable
-      → IsMoved s.first.file s.span.1 (s.span.0 + length (10 ∷ text)) u v) after later
+      → IsMoved s.first.file s.span.1 (s.span.0 + length put) u v) after later
+  pub span : t.span ≡ (s.span.0, s.span.0 + length put)
+  pub proved : IsProvedAnew f profile (sentences before) s t root below
 
--- a text put in place of itself changes nothing
-put_again : (s : PlainStatement) (bytes text : List ℕ) → IsProofSpan s bytes → with_span (with_span bytes s.span text) (s.span.0, s.span.0 + length text) text ≡ with_span bytes s.span text
-put_again s bytes text p =
-    let once : with_span bytes s.span text ≡ p.prefix ++ (text ++ p.back) =
-    ap (λ (l : List ℕ). with_span l s.span text) p.whole
-    ∙ span_put p.prefix p.within p.back text s.span p.start p.stop in
-    let span : ℕ × ℕ = (s.span.0, s.span.0 + length text) in
-    ap (λ (l : List ℕ). with_span l span text) once
-    ∙ span_put p.prefix text p.back text span p.start
-    (ap (λ (n : ℕ). n + length text) p.start) ∙ sym once
-
--- the statement that has the label has a proof in the strict form
-abbrev HasStrictProof : List PlainStatement → List ℕ → Type 0
-HasStrictProof statements label =
-    (index : ℕ) × (s : PlainStatement) × IsTheorem statements label index s
-    × IsStrict (sentences (take index statements)) (sentence_of s) (proof_of s)
+-- where bytes end where they ended, what stands behind them is where it was
+moved_nowhere : (number end other_end : ℕ) (after : List PlainStatement) → end ≡ other_end
+    → AllZip (λ u v. u.kind ≡ Provable → IsMoved number end other_end u v) after after
+moved_nowhere number end other_end [] same = tt
+moved_nowhere number end other_end (u ∷ after) same = (
+  λ provable. record {
+    home = refl;
+    elsewhere = λ other. refl;
+    start = λ home. omega (arith, same);
+    stop = λ home. omega (arith, same);
+  },
+  moved_nowhere number end other_end after same,
+)
 
 module _ {profile : Profile} {f : Form} {files : List PlainFile} {before : List PlainStatement}
-    {s : PlainStatement} {after : List PlainStatement} {file : PlainFile} {text : List ℕ}
-    (p : IsToPut profile f files before s after file text) where
+    {s : PlainStatement} {after : List PlainStatement} {file : PlainFile} {put : List ℕ}
+    (p : IsToPut profile f files before s after file put) where
   meant_before : AllMeant (sentences before)
   meant_before =
       rw (take-append_seam before (s ∷ after)) at
       (prefix_meant profile (before ++ s ∷ after) (length before) p.obeyed)
 
-  proved_before : IsProvedWithin (IsWithin (limit_of profile)) (sentences before) (sentence_of s)
-      (proof_of s)
-  proved_before = ((p.obeyed before after s refl).proved p.complete).1
+  old_under : IsProvedUnder profile (sentences before) (sentence_of s) (proof_of s)
+  old_under = (p.obeyed before after s refl).proved p.complete
 
-  reads_anew : ReadsAsProof (sentences before) (sentence_of s) p.root p.below text
-  reads_anew =
-      let prefix : List Sentence = sentences before in
-      let Fits : List (List ℕ) → Type 0 = IsWithin (limit_of profile) in
-      let fit = derive_fits Fits prefix (tree p.root p.below none) ((sentence_of s).symbols ∷ [])
-      (tree_derives Fits prefix (sentence_of s) (proof_of s) p.moves p.root p.below meant_before
-      proved_before p.told p.made) in
-      let formed = formed_before (before ++ s ∷ after) before s after
-      (readings_are_formed_in_place files (before ++ s ∷ after) None p.reads).formed refl in
-      text_reads f prefix (sentence_of s) p.root p.below text meant_before formed fit p.laid
-
-  -- the theorem's new proof
-  pub anew_of : IsProvedAnew profile (sentences before) (put_anew s (10 ∷ text)) p.root p.below
-  anew_of =
-      proved_anew profile (sentences before) s p.root p.below p.moves text meant_before p.complete
-      proved_before p.told p.made reads_anew
-
-  pub are_put_anew : ArePutAnew profile files before s after file text
-  are_put_anew =
-      let ra = reads_anew in
-      let new = anew_of in
-      let read = replaced_proofs_are_read_holds files before s after file (10 ∷ text) p.reads
+  stands : IsProofSpan s file.bytes
+  stands =
+      proofs_stand_in_spans_holds files before s after None file p.reads
       (provable_proof s p.complete) p.handed
-      (is_proof_text text ra.tokens ra.read ra.fine ra.ends) in
-      let t : PlainStatement = put_anew s (10 ∷ text) in
+
+  -- with a new proof
+  put_new : ReadsAsProof (sentences before) (sentence_of s) p.root p.below put
+      → ArePutAnew profile f files before s after file put p.root p.below
+  put_new ra =
+      let t : PlainStatement = put_anew s put in
+      let new = proved_anew f profile (sentences before) s p.root p.below p.moves meant_before
+      p.complete old_under p.told p.made put ra in
+      let read = replaced_proofs_are_read_holds files before s after file put p.reads
+      (provable_proof s p.complete) p.handed ra.is_text in
       let obeys : Obeys profile (sentences before) t = record {
         meant = (p.obeyed before after s refl).meant;
         proved = λ complete. new.under;
         known = λ unproved. absurd (cc (proof_not_unproved t new.complete));
       } in
       record {
+        t = t;
         later = read.later;
         reads = read.reads;
         obeyed = all_obey_anew profile before s t after read.later refl read.same p.obeyed obeys;
         same = read.same;
         moved = read.moved;
+        span = refl;
+        proved = new;
       }
+
+  -- with the bytes that stood there, the files are as they were
+  put_old : KeepsBytes f (within_span file.bytes s.span) put
+      → ArePutAnew profile f files before s after file put p.root p.below
+  put_old (small, is) =
+      let same : files ≡ files_anew files s file put =
+      sym ((λ i. files_anew files s file (is i))
+      ∙ ap (with_bytes files s.first.file) (kept_span s file.bytes stands)
+      ∙ with_bytes_own files s.first.file file p.handed) in
+      let long : s.span ≡ (s.span.0, s.span.0 + length put) =
+      rw is (kept_long s file.bytes stands) in
+      record {
+        t = s;
+        later = after;
+        reads = subst (λ (fs : List PlainFile). Reads fs (before ++ s ∷ after) None) same p.reads;
+        obeyed = p.obeyed;
+        same = refl;
+        moved = moved_nowhere s.first.file s.span.1 (s.span.0 + length put) after
+            (ap (λ (n : ℕ × ℕ). n.1) long);
+        span = long;
+        proved = proved_as_before f profile (sentences before) s p.root p.below p.moves meant_before
+            p.complete old_under p.told p.made small;
+      }
+
+  pub are_put_anew : ArePutAnew profile f files before s after file put p.root p.below
+  are_put_anew =
+      let prefix : List Sentence = sentences before in
+      let Fits : List (List ℕ) → Type 0 = IsWithin (limit_of profile) in
+      let fit = derive_fits Fits prefix (tree p.root p.below none) ((sentence_of s).symbols ∷ [])
+      (tree_derives Fits prefix (sentence_of s) (proof_of s) p.moves p.root p.below meant_before
+      old_under.1 p.told p.made) in
+      let formed = formed_before (before ++ s ∷ after) before s after
+      (readings_are_formed_in_place files (before ++ s ∷ after) None p.reads).formed refl in
+      span_reads f prefix (sentence_of s) p.root p.below (within_span file.bytes s.span) put
+      meant_before formed fit p.laid put_new put_old
+
+  -- the statement with its new proof
+  abbrev pub anew : PlainStatement
+  anew = are_put_anew.t
 
   -- the statements with the new proof
   abbrev pub read_anew : List PlainStatement
-  read_anew = before ++ put_anew s (10 ∷ text) ∷ are_put_anew.later
+  read_anew = before ++ anew ∷ are_put_anew.later
 
   -- they say alike what is answered
   pub put_says_alike : SayAlike (before ++ s ∷ after) read_anew
   put_says_alike =
       let prefix : List Sentence = sentences before in
-      let t : PlainStatement = put_anew s (10 ∷ text) in
-      let old = any_proof profile prefix (sentence_of s) (proof_of s) proved_before in
-      let new = anew_of in
-      let put = are_put_anew in
-      let alike = anew_alike profile prefix s p.root p.below p.moves (10 ∷ text) meant_before
-      p.complete p.told p.made new in
+      let new = are_put_anew.proved in
+      let old = any_proof profile prefix (sentence_of s) (proof_of s) old_under.1 in
+      let same = are_put_anew.same in
+      let later = are_put_anew.later in
+      let alike = anew_alike f profile prefix s anew p.root p.below p.moves meant_before p.complete
+      p.told p.made new in
       record {
-        to = carries_of before s t after put.later put.same alike;
-        from = carries_of before t s put.later after (sym put.same)
-            (alike_turned prefix s t meant_before p.complete old alike);
-        left = same_left before s t after put.later (proof_not_unproved s p.complete)
-            (proof_not_unproved t new.complete) put.same;
-        many = same_many before s t after put.later put.same;
-        count = same_count before s t after put.later (p.complete ∙ sym new.complete) put.same;
+        to = carries_of before s anew after later same alike;
+        from = carries_of before anew s later after (sym same)
+            (alike_turned prefix s anew meant_before p.complete old alike);
+        left = same_left before s anew after later (proof_not_unproved s p.complete)
+            (proof_not_unproved anew new.complete) same;
+        many = same_many before s anew after later same;
+        count = same_count before s anew after later (p.complete ∙ sym new.complete) same;
       }
 
-  -- the proof is strict then
+  -- it has the label
+  named_anew : (label : List ℕ) → IsLabelled label (sentence_of s)
+      → IsLabelled label (sentence_of anew)
+  named_anew label named = subst (IsLabelled label) are_put_anew.proved.said named
+
+  -- the proof is strict then, or as it was
   strict_anew : (label : List ℕ) → IsLabelled label (sentence_of s)
-      → HasStrictProof read_anew label
+      → IsTheorem read_anew label (length before) anew
+      × (IsStrict (sentences (take (length before) read_anew)) (sentence_of anew) (proof_of anew)
+      ⊎ IsKept f s anew)
   strict_anew label named =
-      let t : PlainStatement = put_anew s (10 ∷ text) in
-      let there = get_parted before are_put_anew.later t in (
-        length before,
-        t,
-        record { there = there; named = named; complete = anew_of.complete },
-        rw (take-append_seam before (t ∷ are_put_anew.later)) anew_of.strict,
+      let new = are_put_anew.proved in (
+        record {
+          there = get_parted before are_put_anew.later anew;
+          named = named_anew label named;
+          complete = new.complete;
+        },
+        rw (take-append_seam before (anew ∷ are_put_anew.later)) new.strict,
       )
+
+  -- what was put stands in its span
+  pub put_stands : within_span (with_span file.bytes s.span put) anew.span ≡ put
+  put_stands = put_stands_within s file.bytes stands put anew.span are_put_anew.span
 
   -- and the files are saved as they are
   again_saved : (label : List ℕ) → IsLabelled label (sentence_of s)
-      → IsSaved f (files_anew files s file text) read_anew label s.first.file
-      (with_span file.bytes s.span (10 ∷ text))
+      → IsSaved f (files_anew files s file put) read_anew label s.first.file
+      (with_span file.bytes s.span put)
   again_saved label named =
-      let t : PlainStatement = put_anew s (10 ∷ text) in
-      let q = anew_of.proof.proves in
-      let made : MakeTree (sentences before) anew_of.proof.moves p.root p.below =
-      record { kept = q.kept; made = rw anew_of.spelled at q.made } in
-      let prefix = take-append_seam before (t ∷ are_put_anew.later) in
+      let new = are_put_anew.proved in
+      let q = new.proof.proves in
+      let made : MakeTree (sentences before) new.proof.moves p.root p.below =
+      record { kept = q.kept; made = rw new.spelled at q.made } in
+      let prefix = take-append_seam before (anew ∷ are_put_anew.later) in
+      let laid = span_text_again f (sentences before) (sentence_of s) (tree p.root p.below none)
+      (within_span file.bytes s.span) put p.laid in
       record {
         index = length before;
-        s = t;
+        s = anew;
         root = p.root;
         below = p.below;
         proof = record {
-          there = get_parted before are_put_anew.later t;
-          named = named;
-          complete = anew_of.complete;
-          moves = anew_of.proof.moves;
-          told = rw prefix anew_of.proof.said;
+          there = get_parted before are_put_anew.later anew;
+          named = named_anew label named;
+          complete = new.complete;
+          moves = new.proof.moves;
+          told = rw prefix new.proof.said;
           made = rw prefix made;
         };
-        text = text;
-        laid = rw prefix p.laid;
-        home = refl;
-        file = record file { bytes = with_span file.bytes s.span (10 ∷ text) };
-        handed = handed_anew files s.first.file file _ p.handed;
-        whole = sym (put_again s file.bytes (10 ∷ text)
-            (proofs_stand_in_spans_holds files before s after None file p.reads
-            (provable_proof s p.complete) p.handed));
+        home = new.home;
+        file = record file { bytes = with_span file.bytes s.span put };
+        handed = subst (λ (n : ℕ). slice_get (files_anew files s file put) n
+            ≡ Some (record file { bytes = with_span file.bytes s.span put })) refl
+            (handed_anew files s.first.file file _ p.handed);
+        put = put;
+        laid = rw (prefix, ← new.said, put_stands) laid;
+        whole = sym (put_again s file.bytes stands put anew.span are_put_anew.span);
       }
 
 -- ---- what is saved is put in
 
--- a text of the tree of a proof
+-- what is put for the tree of a proof
 pub to_put : {profile : Profile} {f : Form} {statements : List PlainStatement} {label : List ℕ}
     {index : ℕ} {root : List ℕ} {below : Trees} {files : List PlainFile}
     {before : List PlainStatement} {s : PlainStatement} {after : List PlainStatement}
-    {file : PlainFile} {text : List ℕ} → HasProofTree statements label index s root below
-    → IsTextIn f (sentences (take index statements)) (sentence_of s) (tree root below none) text
+    {file : PlainFile} {put : List ℕ} → HasProofTree statements label index s root below
+    → IsSpanText f (sentences (take index statements)) (sentence_of s) (tree root below none)
+    (within_span file.bytes s.span) put
     → sentences (take index statements) ≡ sentences before
     → Reads files (before ++ s ∷ after) None → AllObey profile (before ++ s ∷ after)
     → slice_get files s.first.file ≡ Some file
-    → IsToPut profile f files before s after file text
-to_put {f = f} {root = root} {below = below} {s = s} {text = text} proof laid prefix reads obeyed
-    handed = record {
-      reads = reads;
-      obeyed = obeyed;
-      complete = proof.complete;
-      root = root;
-      below = below;
-      moves = proof.moves;
-      told = rw prefix at proof.told;
-      made = rw prefix at proof.made;
-      laid = rw prefix at laid;
-      handed = handed;
-    }
+    → IsToPut profile f files before s after file put
+to_put {root = root} {below = below} proof laid prefix reads obeyed handed = record {
+  reads = reads;
+  obeyed = obeyed;
+  complete = proof.complete;
+  root = root;
+  below = below;
+  moves = proof.moves;
+  told = rw prefix at proof.told;
+  made = rw prefix at proof.made;
+  laid = rw prefix at laid;
+  handed = handed;
+}
 
 module _ {profile : Profile} {f : Form} {files : List PlainFile} {statements : List PlainStatement}
     {label : List ℕ} {number : ℕ} {bytes : List ℕ} (accepted : AreAccepted profile files statements)
     (sv : IsSaved f files statements label number bytes) where
   -- the theorem that is saved
   pub saved_to_put : IsToPut profile f files (take sv.index statements) sv.s
-      (drop (suc sv.index) statements) sv.file sv.text
+      (drop (suc sv.index) statements) sv.file sv.put
   saved_to_put =
       let parted = split_at statements sv.index sv.s sv.proof.there in
       to_put sv.proof sv.laid refl
@@ -291,16 +343,30 @@ pub saved_proof_is_strict : SavedProofIsStrict
 saved_proof_is_strict profile f files statements same label number bytes accepted sv fits reads =
     let p = saved_to_put accepted sv in
     let read = (same_reading (with_bytes files number bytes) same (read_anew p) None None reads
-    (saved_accepted accepted sv fits).reads).0 in rw read (strict_anew p label sv.proof.named)
+    (saved_accepted accepted sv fits).reads).0 in
+    let n : ℕ = length (take sv.index statements) in
+    let t : PlainStatement = anew p in
+    let here : n ≡ sv.index = length-take-le sv.index statements
+    (omega (arith, slice_get_within statements sv.index sv.s sv.proof.there)) in
+    let there : slice_get statements n ≡ Some sv.s =
+    ap (slice_get statements) here ∙ sv.proof.there in
+    let (theorem, strict) = strict_anew p label sv.proof.named in
+    let told : IsStrict (sentences (take n (read_anew p))) (sentence_of t) (proof_of t)
+    ⊎ IsKeptProof f statements n (proof_of t) = elim strict [
+      | inl is ↦ inl is
+      | inr kept ↦ inr (kept.0, sv.s, there, kept.1)
+    ] in
+    rw read (n, t, theorem, told)
+
+-- ---- in small form no file grows
+
+pub small_saved_no_longer : SmallFilesDoNotGrow
+small_saved_no_longer profile files statements label number bytes accepted sv =
+    let less = small_no_longer _ _ _ (within_span sv.file.bytes sv.s.span) sv.put sv.laid in
+    let long = put_no_longer sv.s sv.file.bytes (stands (saved_to_put accepted sv)) sv.put less in
+    (sv.file, sv.handed, rw sv.whole long)
 
 -- ---- what is saved is one
-
-texts_once : (f : Form) (prefix : List Sentence) (s : Sentence) (root : List ℕ) (below : Trees) (a b : List ℕ) → AllMeant prefix → IsTextIn f prefix s (tree root below none) a → IsTextIn f prefix s (tree root below none) b → a ≡ b
-texts_once form.Normal prefix s root below a b meant x y = one_text_of_tokens (spelling (tree root below none)) a b x.1 y.1
-texts_once form.Packed prefix s root below a b meant x y =
-    let same = one_packed_holds prefix s root below x.listed y.listed x.codes y.codes meant x.packed y.packed in
-    let letters : x.letters ≡ y.letters = one_text_only x.letters y.letters x.codes x.spelled (subst (λ (codes : List Code). SpellsCodes y.letters codes) (sym same.1) y.spelled) in
-    one_text_of_compressed x.listed x.letters a b x.laid (rw (same.0, letters) y.laid)
 
 one_tree_made : (prefix : List Sentence) (s : Sentence) (tokens : List (List ℕ)) (a b : List (Move (List ℕ))) (root other : List ℕ) (below under : Trees) → AllMeant prefix
     → SayMoves prefix s tokens a → SayMoves prefix s tokens b → MakeTree prefix a root below → MakeTree prefix b other under → tree root below none ≡ tree other under none
@@ -320,30 +386,34 @@ one_proof_tree profile statements label index other s t root under below beneath
     let moved : HasProofTree statements label index s under beneath = rw (here, same) at k in
     (here, (same, one_tree_made (sentences (take index statements)) (sentence_of s) (proof_of s) moved.moves h.moves under root beneath below (prefix_meant profile statements index obeyed) moved.told h.told moved.made h.made))
 
--- and its text is one
+-- and what is put in place of the same bytes is one
 pub one_text_of : (profile : Profile) (f : Form) (statements : List PlainStatement) (label : List ℕ)
     (index other : ℕ) (s t : PlainStatement) (root under : List ℕ) (below beneath : Trees)
-    (a b : List ℕ) → AllObey profile statements
+    (old a b : List ℕ) → AllObey profile statements
     → HasProofTree statements label index s root below
     → HasProofTree statements label other t under beneath
-    → IsTextIn f (sentences (take index statements)) (sentence_of s) (tree root below none) a
-    → IsTextIn f (sentences (take other statements)) (sentence_of t) (tree under beneath none) b
-    → a ≡ b
-one_text_of profile f statements label index other s t root under below beneath a b obeyed h k one
-    two =
+    → IsSpanText f (sentences (take index statements)) (sentence_of s) (tree root below none) old a
+    → IsSpanText f (sentences (take other statements)) (sentence_of t) (tree under beneath none)
+    old b → a ≡ b
+one_text_of profile f statements label index other s t root under below beneath old a b obeyed h k
+    one two =
     let (here, (same, trees)) = one_proof_tree profile _ _ _ _ _ _ _ _ _ _ obeyed h k in
-    texts_once f (sentences (take index statements)) (sentence_of s) root below a b
+    span_text_once f (sentences (take index statements)) (sentence_of s) root below old a b
     (prefix_meant profile statements index obeyed) one (rw (here, same, trees) at two)
 
 pub one_saved : OneSaved
 one_saved profile f files statements label number other bytes others accepted sv sw =
     let same : sw.s ≡ sv.s =
     (one_proof_tree profile _ _ _ _ _ _ _ _ _ _ accepted.obeyed sv.proof sw.proof).1.0 in
-    let text = one_text_of profile f _ _ _ _ _ _ _ _ _ _ sv.text sw.text accepted.obeyed
-    sv.proof sw.proof sv.laid sw.laid in
-    let home : number ≡ other = sv.home ∙ ap (λ (s : PlainStatement). s.first.file) (sym same) ∙ sym sw.home in
-    let file : sv.file ≡ sw.file = same_Some sv.file sw.file (sym sv.handed ∙ ap (slice_get files) home ∙ sw.handed) in
-    (home, sv.whole ∙ (λ i. with_span (file i).bytes (sym same i).span (10 ∷ text i)) ∙ sym sw.whole)
+    let home : number ≡ other =
+    sv.home ∙ ap (λ (s : PlainStatement). s.first.file) (sym same) ∙ sym sw.home in
+    let file : sv.file ≡ sw.file = same_Some sv.file sw.file
+    (sym sv.handed ∙ ap (slice_get files) home ∙ sw.handed) in
+    let old : within_span sw.file.bytes sw.s.span ≡ within_span sv.file.bytes sv.s.span =
+    λ i. within_span (sym file i).bytes (same i).span in
+    let put = one_text_of profile f _ _ _ _ _ _ _ _ _ _ _ sv.put sw.put accepted.obeyed
+    sv.proof sw.proof sv.laid (rw old at sw.laid) in
+    (home, sv.whole ∙ (λ i. with_span (file i).bytes (sym same i).span (put i)) ∙ sym sw.whole)
 
 -- ---- no other fault where something is saved
 
@@ -360,7 +430,8 @@ not_over n h k = omega (arith, h, k)
 pub one_save_answer : OneSaveAnswer
 one_save_answer profile form.Normal files statements label number bytes (ask.Rule L2) accepted sv (index, t, root, below, has, over) =
     let (here, (same, trees)) = one_proof_tree profile statements label sv.index index sv.s t sv.root root sv.below below accepted.obeyed sv.proof has in
-    absurd (not_over (length (spelling (tree sv.root sv.below none))) sv.laid.0 (subst (λ (u : Trees). most_labels < length (spelling u)) trees over))
+    absurd (not_over (length (spelling (tree sv.root sv.below none))) sv.laid.1.0
+    (subst (λ (u : Trees). most_labels < length (spelling u)) trees over))
 one_save_answer profile f files statements label number bytes ask.F3 accepted sv (other, others, sw, over) =
     let once = one_saved profile f files statements label number other bytes others accepted sv sw in
     inr (refl, subst (λ (n : ℕ). most_bytes < n) (λ i. total_with files (sym once.0 i) (sym once.1 i)) over)
@@ -389,8 +460,8 @@ saving_again profile f files statements same label number bytes accepted sv fits
     let su : List PlainStatement = read_anew p in
     let anew : List PlainFile = with_bytes files number bytes in
     let own = moved (λ (fs : List PlainFile) (n : ℕ) (b : List ℕ). IsSaved f fs su label n b)
-    (files_anew files sv.s sv.file sv.text) anew sv.s.first.file number
-    (with_span sv.file.bytes sv.s.span (10 ∷ sv.text)) bytes
+    (files_anew files sv.s sv.file sv.put) anew sv.s.first.file number
+    (with_span sv.file.bytes sv.s.span sv.put) bytes
     (λ i. with_bytes files (sym sv.home i) (sym sv.whole i)) (sym sv.home) (sym sv.whole)
     (again_saved p label sv.proof.named) in
     let read = (same_reading anew same su None None reads still.reads).0 in (
@@ -403,12 +474,12 @@ saving_again profile f files statements same label number bytes accepted sv fits
 
 -- ==== the text of a theorem's proof is the same where other proofs of the same trees stand
 
--- the theorem with the label has this tree, and its proof this text
+-- the theorem with the label has this tree, and this is put in place of the old bytes
 pub record HasText (f : Form) (statements : List PlainStatement) (label : List ℕ) (index : ℕ)
-    (s : PlainStatement) (root : List ℕ) (below : Trees) (text : List ℕ) : Type 0 where
+    (s : PlainStatement) (root : List ℕ) (below : Trees) (old put : List ℕ) : Type 0 where
   pub proof : HasProofTree statements label index s root below
-  pub laid : IsTextIn f (sentences (take index statements)) (sentence_of s) (tree root below none)
-      text
+  pub laid : IsSpanText f (sentences (take index statements)) (sentence_of s)
+      (tree root below none) old put
 
 -- a tree that a complete proof spells is the one that its tokens make
 proof_tree : (profile : Profile) (statements : List PlainStatement) (label : List ℕ) (index : ℕ)
@@ -432,10 +503,10 @@ proof_tree profile statements label index s root below obeyed has =
 -- the theorem has its text among others too
 pub text_carried : (profile : Profile) (f : Form) (statements others : List PlainStatement)
     (label : List ℕ) (index : ℕ) (s : PlainStatement) (root : List ℕ) (below : Trees)
-    (text : List ℕ) → AllObey profile statements → Carries statements others
-    → HasText f statements label index s root below text
-    → (t : PlainStatement) × HasText f others label index t root below text
-text_carried profile f statements others label index s root below text obeyed carries has =
+    (old put : List ℕ) → AllObey profile statements → Carries statements others
+    → HasText f statements label index s root below old put
+    → (t : PlainStatement) × HasText f others label index t root below old put
+text_carried profile f statements others label index s root below old put obeyed carries has =
     let prefix : List Sentence = sentences (take index statements) in
     let (t, there, alike) = carries.at index s has.proof.there in
     let (p, first) = proof_tree profile statements label index s root below obeyed has.proof in
@@ -461,48 +532,56 @@ text_carried profile f statements others label index s root below text obeyed ca
       },
     )
 
--- What is put in for a theorem is put in for it among others too.
-pub same_text : (profile : Profile) (f : Form) (statements others : List PlainStatement)
-    (s t : PlainStatement) (new : Replacement) (label : List ℕ) (index : ℕ) (root : List ℕ)
-    (below : Trees) (text : List ℕ) → AllObey profile statements → AllObey profile others
-    → Carries statements others → sentence_of s ≡ sentence_of t → IsReplacement f statements s new
-    → HasText f others label index t root below text → new.text ≡ 10 ∷ text
-same_text profile f statements others s t new label index root below text obeyed still carries said
-    r has =
+-- What is put in for a theorem is put in for it among others too, in place of the same bytes, and
+-- in place of itself.
+pub same_text : (profile : Profile) (f : Form) (bytes : List ℕ)
+    (statements others : List PlainStatement) (s t : PlainStatement) (new : Replacement)
+    (label : List ℕ) (index : ℕ) (root : List ℕ) (below : Trees) (old put : List ℕ)
+    → AllObey profile statements → AllObey profile others → Carries statements others
+    → sentence_of s ≡ sentence_of t → IsReplacement f bytes statements s new
+    → HasText f others label index t root below old put
+    → (old ≡ within_span bytes s.span) ⊎ (old ≡ new.text) → new.text ≡ put
+same_text profile f bytes statements others s t new label index root below old put obeyed still
+    carries said r has stood =
     let one : r.label ≡ label =
     same_Some r.label label
     (sym r.proof.named ∙ ap (λ (x : Sentence). x.label) said ∙ has.proof.named) in
-    let (u, own) = text_carried profile f statements others r.label r.index s r.root r.below r.text
-    obeyed carries (record { proof = r.proof; laid = r.laid }) in
+    let (u, own) = text_carried profile f statements others r.label r.index s r.root r.below
+    (within_span bytes s.span) new.text obeyed carries
+    (record { proof = r.proof; laid = r.laid }) in
     let named : HasProofTree others label r.index u r.root r.below =
     subst (λ (l : List ℕ). HasProofTree others l r.index u r.root r.below) one own.proof in
-    let same : r.text ≡ text =
-    one_text_of profile f others label r.index index u t r.root root r.below below r.text text still
-    named has.proof own.laid has.laid in
-    r.put ∙ ap (λ (l : List ℕ). 10 ∷ l) same
+    let laid : IsSpanText f (sentences (take r.index others)) (sentence_of u)
+    (tree r.root r.below none) old new.text = elim stood [
+      | inl first ↦ rw first own.laid
+      | inr anew ↦ rw anew (span_text_again f _ _ _ (within_span bytes s.span) new.text own.laid)
+    ] in
+    one_text_of profile f others label r.index index u t r.root root r.below below old new.text put
+    still named has.proof laid has.laid
 
 -- ==== what is saved of a whole file is one
 
 -- a theorem is replaced by one text
-one_replacement : (profile : Profile) (f : Form) (statements : List PlainStatement)
+one_replacement : (profile : Profile) (f : Form) (bytes : List ℕ) (statements : List PlainStatement)
     (s : PlainStatement) (new other : Replacement) → AllObey profile statements
-    → IsReplacement f statements s new → IsReplacement f statements s other → new ≡ other
-one_replacement profile f statements s new other obeyed r q =
+    → IsReplacement f bytes statements s new → IsReplacement f bytes statements s other
+    → new ≡ other
+one_replacement profile f bytes statements s new other obeyed r q =
     let label : q.label ≡ r.label = same_Some q.label r.label (sym q.proof.named ∙ r.proof.named) in
     let proof : HasProofTree statements r.label q.index s q.root q.below = rw label at q.proof in
-    let text : r.text ≡ q.text =
+    let put : new.text ≡ other.text =
     one_text_of profile f statements r.label r.index q.index s s r.root q.root r.below q.below
-    r.text q.text obeyed r.proof proof r.laid q.laid in
+    (within_span bytes s.span) new.text other.text obeyed r.proof proof r.laid q.laid in
     let span : new.span ≡ other.span = r.span ∙ sym q.span in
-    let put = r.put ∙ ap (λ (t : List ℕ). 10 ∷ t) text ∙ sym q.put in
     λ i. record { span = span i; text = put i }
 
 pub one_all_saved : OneAllSaved
 one_all_saved profile f files statements number bytes others accepted sv sw =
-    let file : sv.file ≡ sw.file = same_Some sv.file sw.file (sym sv.handed ∙ sw.handed) in
+    let file : sw.file ≡ sv.file = same_Some sw.file sv.file (sym sw.handed ∙ sv.handed) in
+    let R : PlainStatement → Replacement → Type 0 = IsReplacement f sv.file.bytes statements in
+    let each : AllZip R (theorems_of number statements) sw.replaced = rw file at sw.each in
     let news : sv.replaced ≡ sw.replaced =
-    zip_once (IsReplacement f statements) (IsReplacement f statements)
-    (theorems_of number statements) sv.replaced sw.replaced
-    (λ s new other. one_replacement profile f statements s new other accepted.obeyed)
-    sv.each sw.each in
-    sv.whole ∙ (λ i. with_replaced (file i).bytes (news i)) ∙ sym sw.whole
+    zip_once R R (theorems_of number statements) sv.replaced sw.replaced
+    (λ s new other.
+    one_replacement profile f sv.file.bytes statements s new other accepted.obeyed) sv.each each in
+    sv.whole ∙ (λ i. with_replaced (sym file i).bytes (news i)) ∙ sym sw.whole

@@ -18,18 +18,18 @@ use Rattle.mm_proof.specs.declared.profile.Profile.{Profile}
 use Rattle.mm_proof.proofs.Members.{contains_cases}
 use Rattle.mm_check.specs.declared.form.Form.{Form}
 use Rattle.mm_check.specs.Verdict.{AreAccepted, AllObey, sentences}
-use Rattle.mm_check.specs.Saved.{IsSaved, FitsSaved}
+use Rattle.mm_check.specs.Saved.{IsSaved, FitsSaved, within_span}
 use Rattle.mm_check.specs.AllSaved.{is_theorem_of, theorems_of, Replacement, IsReplacement}
 use Rattle.mm_check.specs.AllSaved.{with_replaced}
 use Rattle.mm_check.specs.AllSavedLaws.{AreSavedInTurn, IsLabelInFile, SavingInTurnIsSavingAll}
 use Rattle.mm_check.proofs.Verdicts.AcceptedStatements.{same_reading, said_there}
 use Rattle.mm_check.proofs.Verdicts.StatementByStatement.{all_meant}
-use Rattle.mm_check.proofs.Saving.SavedFiles.{Carries, carries_self, carries_on, put_anew}
-use Rattle.mm_check.proofs.Saving.SavedOnce.{anew_of, are_put_anew, read_anew, put_says_alike}
+use Rattle.mm_check.proofs.Saving.SavedFiles.{Carries, carries_self, carries_on}
+use Rattle.mm_check.proofs.Saving.SavedOnce.{anew, are_put_anew, read_anew, put_says_alike}
 use Rattle.mm_check.proofs.Saving.SavedOnce.{saved_to_put, saved_accepted, same_text}
 use Rattle.mm_check.proofs.Saving.FileSpans.{theorem_there, theorems_parted, Slot, filled, woven}
 use Rattle.mm_check.proofs.Saving.FileSpans.{IsFor, all_filled, HasSlots, cut_into_slots}
-use Rattle.mm_check.proofs.Saving.FileSpans.{theorems_said, slots_put_anew}
+use Rattle.mm_check.proofs.Saving.FileSpans.{theorems_said, slots_put_anew, slots_within}
 
 -- ---- other statements have other labels
 
@@ -59,6 +59,16 @@ module _ (profile : Profile) (before : List PlainStatement) (s : PlainStatement)
       all_there (HasNot label) after
       (λ k t there. others_named (length before + suc k) t
       (get_after before (s ∷ after) (suc k) t there) (λ e. omega (arith, e)))
+
+-- what stands at one place in both
+zip_at : {A B : Type 0} (R : A → B → Type 0) (before : List A) (earlier : List B) (x : A) (y : B)
+    (back : List A) (later : List B) → length before ≡ length earlier
+    → AllZip R (before ++ x ∷ back) (earlier ++ y ∷ later) → R x y
+zip_at R [] [] x y back later long zip = zip.0
+zip_at R [] (b ∷ earlier) x y back later long zip = absurd (omega (arith, long))
+zip_at R (a ∷ before) [] x y back later long zip = absurd (omega (arith, long))
+zip_at R (a ∷ before) (b ∷ earlier) x y back later long zip =
+    zip_at R before earlier x y back later (omega (arith, long)) zip.1
 
 -- ---- slots that are still to be filled
 
@@ -132,10 +142,17 @@ record IsOneFurther (profile : Profile) (statements : List PlainStatement) (numb
       (with_bytes files number new) others
   pub left : AllByRecursion (IsFilledOrAmong labels) (prefix ++ filled slot ∷ back)
 
-module _ {profile : Profile} {f : Form} {statements : List PlainStatement} {number : ℕ}
-    {first : List ℕ} {slots : List Slot} {files : List PlainFile} {others : List PlainStatement}
-    {label new : List ℕ} (obeyed : AllObey profile statements)
-    (each : AllByRecursion (IsFor (IsReplacement f statements)) slots)
+-- what stands in the slot is what stood there at first, in these bytes, or what is put there
+abbrev IsNowOrPut : (bytes : List ℕ) → Slot → Type 0
+IsNowOrPut bytes slot =
+    (slot.now ≡ within_span bytes slot.owner.span) ⊎ (slot.now ≡ slot.put)
+
+module _ {profile : Profile} {f : Form} {statements : List PlainStatement}
+    {number : ℕ} {first : List ℕ} {slots : List Slot} {files : List PlainFile}
+    {others : List PlainStatement} {label new : List ℕ} (old : List ℕ)
+    (obeyed : AllObey profile statements)
+    (each : AllByRecursion (IsFor (IsReplacement f old statements)) slots)
+    (stand : AllByRecursion (IsNowOrPut old) slots)
     (on : AreOnTheWay profile statements number first slots files others)
     (sv : IsSaved f files others label number new) where
   -- the slot of what is saved
@@ -149,16 +166,41 @@ module _ {profile : Profile} {f : Form} {statements : List PlainStatement} {numb
       (rw (ap (theorems_of number) (split_at others sv.index sv.s sv.proof.there)
       ∙ theorems_parted number before sv.s after is) at on.owners)
 
+  -- what stands there
+  now_of : within_span sv.file.bytes sv.s.span ≡ slot_of.x.now
+  now_of =
+      let before : List PlainStatement = take sv.index others in
+      let after : List PlainStatement = drop (suc sv.index) others in
+      let is = theorem_there number sv.s sv.proof.complete (sym sv.home) in
+      let parts = slot_of in
+      let file : on.has.file ≡ sv.file =
+      same_Some on.has.file sv.file (sym on.has.handed ∙ sv.handed) in
+      let within = rw (
+        file,
+        ap (theorems_of number) (split_at others sv.index sv.s sv.proof.there)
+            ∙ theorems_parted number before sv.s after is,
+        parts.whole,
+      ) at (slots_within on.has) in
+      zip_at (λ (slot : Slot) s. within_span sv.file.bytes s.span ≡ slot.now) parts.prefix
+      (theorems_of number before) parts.x sv.s parts.back (theorems_of number after)
+      (zip_length Owns parts.prefix _ parts.earlier) within
+
   -- and what is to stand there
-  text_of : slot_of.x.put ≡ 10 ∷ sv.text
+  text_of : slot_of.x.put ≡ sv.put
   text_of =
       let parts = slot_of in
-      let (replacement, r, put) = (all_back (IsFor (IsReplacement f statements)) parts.prefix
+      let (replacement, r, put) = (all_back (IsFor (IsReplacement f old statements)) parts.prefix
       (parts.x ∷ parts.back) (rw parts.whole at each)).0 in
+      let stood = (all_back (IsNowOrPut old) parts.prefix (parts.x ∷ parts.back)
+      (rw parts.whole at stand)).0 in
       sym put
-      ∙ same_text profile f statements others parts.x.owner sv.s replacement label sv.index sv.root
-      sv.below sv.text obeyed on.accepted.obeyed on.carries parts.here r
-      (record { proof = sv.proof; laid = sv.laid })
+      ∙ same_text profile f old statements others parts.x.owner sv.s replacement label sv.index
+      sv.root sv.below (within_span sv.file.bytes sv.s.span) sv.put obeyed on.accepted.obeyed
+      on.carries parts.here r (record { proof = sv.proof; laid = sv.laid })
+      (elim stood [
+        | inl now ↦ inl (now_of ∙ now)
+        | inr filled_now ↦ inr (now_of ∙ filled_now ∙ sym put)
+      ])
 
   -- it is filled
   filled_on : HasSlots (with_bytes files number new) (read_anew (saved_to_put on.accepted sv))
@@ -182,12 +224,13 @@ module _ {profile : Profile} {f : Form} {statements : List PlainStatement} {numb
       let parted = split_at others sv.index sv.s sv.proof.there in
       let p = saved_to_put on.accepted sv in
       let put = are_put_anew p in
-      let t : PlainStatement = put_anew sv.s (10 ∷ sv.text) in
+      let t : PlainStatement = anew p in
       let parts = slot_of in
       let prefix : List Slot = parts.prefix in
       let slot : Slot = parts.x in
       let back : List Slot = parts.back in
-      let new_is = theorem_there number t (anew_of p).complete (sym sv.home) in
+      let new_is = theorem_there number t put.proved.complete
+      (sym put.proved.home ∙ sym sv.home) in
       let carried = subst (λ (ss : List PlainStatement). Carries ss (read_anew p)) (sym parted)
       (put_says_alike p).to in
       let others_prefix = others_slots label prefix number before parts.earlier
@@ -197,7 +240,7 @@ module _ {profile : Profile} {f : Form} {statements : List PlainStatement} {numb
       let among = rw parts.whole at left in
       let owners = zip_append Owns prefix (theorems_of number before) (filled slot ∷ back)
       (t ∷ theorems_of number put.later) parts.earlier (
-        parts.here,
+        parts.here ∙ put.proved.said,
         zip_on Owns (λ x y. sentence_of x ≡ sentence_of y) Owns
             (λ x y z one other. one ∙ other) back (theorems_of number after)
             (theorems_of number put.later) parts.later
@@ -231,54 +274,80 @@ still_for : (R : PlainStatement → Replacement → Type 0) (prefix : List Slot)
 still_for R [] slot back all = all
 still_for R (x ∷ prefix) slot back all = (all.0, still_for R prefix slot back all.1)
 
+still_stand : (bytes : List ℕ) (prefix : List Slot) (slot : Slot) (back : List Slot)
+    → AllByRecursion (IsNowOrPut bytes) (prefix ++ slot ∷ back)
+    → AllByRecursion (IsNowOrPut bytes) (prefix ++ filled slot ∷ back)
+still_stand bytes [] slot back all = (inr refl, all.1)
+still_stand bytes (x ∷ prefix) slot back all = (all.0, still_stand bytes prefix slot back all.1)
+
 -- at the end all slots are filled
-all_in_turn : (profile : Profile) (f : Form) (statements : List PlainStatement)
+all_in_turn : (profile : Profile) (f : Form) (old : List ℕ) (statements : List PlainStatement)
     (number : ℕ) (first : List ℕ) (labels : List (List ℕ)) (slots : List Slot)
     (files : List PlainFile) (others : List PlainStatement) (bytes : List ℕ)
-    → AllObey profile statements → AllByRecursion (IsFor (IsReplacement f statements)) slots
+    → AllObey profile statements → AllByRecursion (IsFor (IsReplacement f old statements)) slots
+    → AllByRecursion (IsNowOrPut old) slots
     → AreOnTheWay profile statements number first slots files others
     → AllByRecursion (IsFilledOrAmong labels) slots
     → AreSavedInTurn profile f files number labels bytes
     → bytes ≡ woven first (map filled slots)
-all_in_turn profile f statements number first [] slots files others bytes obeyed each on left
-    (file, there, is) =
+all_in_turn profile f old statements number first [] slots files others bytes obeyed each stand on
+    left (file, there, is) =
     let same : file ≡ on.has.file = same_Some file on.has.file (sym there ∙ on.has.handed) in
     is ∙ ap (λ (g : PlainFile). g.bytes) same ∙ on.has.whole
     ∙ ap (woven first) (sym (all_are_filled slots left))
-all_in_turn profile f statements number first (label ∷ labels) slots files others bytes obeyed
-    each on left (ss, new, accepted, sv, fits, more) =
+all_in_turn profile f old statements number first (label ∷ labels) slots files others bytes obeyed
+    each stand on left (ss, new, accepted, sv, fits, more) =
     let same = (same_reading files ss others None None accepted.reads on.accepted.reads).0 in
     let here : IsSaved f files others label number new = rw same at sv in
-    let n = one_further obeyed each on here labels fits left in
-    let still = still_for (IsReplacement f statements) n.prefix n.slot n.back (rw n.whole at each) in
-    all_in_turn profile f statements number first labels (n.prefix ++ filled n.slot ∷ n.back)
-    (with_bytes files number new) n.others bytes obeyed still n.on n.left more
+    let n = one_further old obeyed each stand on here labels fits left in
+    let still = still_for (IsReplacement f old statements) n.prefix n.slot n.back
+    (rw n.whole at each) in
+    let now = still_stand old n.prefix n.slot n.back (rw n.whole at stand) in
+    all_in_turn profile f old statements number first labels (n.prefix ++ filled n.slot ∷ n.back)
+    (with_bytes files number new) n.others bytes obeyed still now n.on n.left more
     ∙ ap (woven first) (map-append filled n.prefix (filled n.slot ∷ n.back)
     ∙ sym (map-append filled n.prefix (n.slot ∷ n.back)) ∙ ap (map filled) (sym n.whole))
 
 -- ---- the law
 
 -- each slot is that of a theorem whose label is among those of the file
-among_labels : (f : Form) (statements : List PlainStatement) (number : ℕ) (labels : List (List ℕ))
+among_labels : (f : Form) (bytes : List ℕ) (statements : List PlainStatement) (number : ℕ)
+    (labels : List (List ℕ))
     → ((label : List ℕ) → IsLabelInFile statements number label → Contains labels label)
-    → (slots : List Slot) → AllByRecursion (IsFor (IsReplacement f statements)) slots
+    → (slots : List Slot) → AllByRecursion (IsFor (IsReplacement f bytes statements)) slots
     → AllByRecursion (λ slot. Contains (theorems_of number statements) slot.owner) slots
     → AllByRecursion (IsFilledOrAmong labels) slots
-among_labels f statements number labels each [] all owned = tt
-among_labels f statements number labels each (slot ∷ slots) ((new, r, put), all) (own, owned) = (
-  inr (r.label, each r.label (slot.owner, own, r.proof.named), r.proof.named),
-  among_labels f statements number labels each slots all owned,
+among_labels f bytes statements number labels each [] all owned = tt
+among_labels f bytes statements number labels each (slot ∷ slots) ((new, r, put), all)
+    (own, owned) = (
+      inr (r.label, each r.label (slot.owner, own, r.proof.named), r.proof.named),
+      among_labels f bytes statements number labels each slots all owned,
+    )
+
+-- at first what stands in each slot is what stood there
+first_now : (bytes : List ℕ) (slots : List Slot) (theorems : List PlainStatement)
+    → AllZip (λ slot s. slot.owner ≡ s) slots theorems
+    → AllZip (λ slot s. within_span bytes s.span ≡ slot.now) slots theorems
+    → AllByRecursion (IsNowOrPut bytes) slots
+first_now bytes [] [] owners within = tt
+first_now bytes (slot ∷ slots) (s ∷ theorems) (own, owners) (is, within) = (
+  inl (sym is ∙ ap (λ (u : PlainStatement). within_span bytes u.span) (sym own)),
+  first_now bytes slots theorems owners within,
 )
+first_now bytes slots theorems owners within = absurd owners
 
 pub saving_in_turn : SavingInTurnIsSavingAll
 saving_in_turn profile f files statements number labels bytes all accepted sv each turn =
     let theorems : List PlainStatement = theorems_of number statements in
-    let c = cut_into_slots (IsReplacement f statements) files statements number sv.file sv.replaced
-    accepted.reads sv.handed sv.each in
+    let R : PlainStatement → Replacement → Type 0 = IsReplacement f sv.file.bytes statements in
+    let c = cut_into_slots R files statements number sv.file sv.replaced accepted.reads sv.handed
+    sv.each in
+    let has : HasSlots files statements number c.first c.slots =
+    record { file = sv.file; handed = sv.handed; whole = c.whole; stand = c.stands } in
     let on : AreOnTheWay profile statements number c.first c.slots files statements = record {
       accepted = accepted;
       carries = carries_self statements;
-      has = record { file = sv.file; handed = sv.handed; whole = c.whole; stand = c.stands };
+      has = has;
       owners = zip_weaker (λ slot s. slot.owner ≡ s) Owns (λ slot s same. ap sentence_of same)
           c.slots theorems c.owners;
     } in
@@ -286,11 +355,13 @@ saving_in_turn profile f files statements number labels bytes all accepted sv ea
     (Contains theorems) (λ slot s same own. rw same own) c.slots theorems c.owners
     (recursion_from_All (Contains theorems) theorems (All-contains_itself theorems)) in
     let left =
-    among_labels f statements number labels (λ label. (each label).1) c.slots c.each owned in
-    let in_turn = all_in_turn profile f statements number c.first labels c.slots files statements
-    bytes accepted.obeyed c.each on left turn in
+    among_labels f sv.file.bytes statements number labels (λ label. (each label).1) c.slots c.each
+    owned in
+    let stand = first_now sv.file.bytes c.slots theorems c.owners (slots_within has) in
+    let in_turn = all_in_turn profile f sv.file.bytes statements number c.first labels c.slots files
+    statements bytes accepted.obeyed c.each stand on left turn in
     let at_once = ap (λ (l : List ℕ). with_replaced l sv.replaced) c.whole
     ∙ all_filled [] c.first c.slots theorems sv.replaced c.stands
-    (zip_weaker (IsReplacement f statements) (λ s new. new.span ≡ s.span) (λ s new r. r.span)
-    theorems sv.replaced sv.each) c.texts in
+    (zip_weaker R (λ s new. new.span ≡ s.span) (λ s new r. r.span) theorems sv.replaced sv.each)
+    c.texts in
     in_turn ∙ sym at_once ∙ sym sv.whole

@@ -18,19 +18,21 @@ use Rattle.mm_text.specs.Statement.{PlainStatement, HasForm}
 use Rattle.mm_frame.specs.Sentence.{Sentence, sentence_of, IsLabelled}
 use Rattle.mm_proof.specs.declared.profile.Profile.TheVariants.{Lenient}
 use Rattle.mm_proof.specs.ReadSteps.{ReadSteps}
-use Rattle.mm_proof.specs.Tree.{spelling, Trees}
+use Rattle.mm_proof.specs.Tree.{spelling, Trees, none, tree}
 use Rattle.mm_check.specs.declared.form.Form.{Form}
 use Rattle.mm_check.specs.declared.ask.AskFault.{AskFault}
 use Rattle.mm_check.specs.Verdict.{proof_of, AreAccepted, PlainRefusal, sentences}
 use Rattle.mm_check.specs.Forms.{most_labels, HasProofTree}
 use Rattle.mm_check.specs.Rests.{IsAt}
-use Rattle.mm_check.specs.Saved.{IsTextIn, FitsSaved, total_with}
+use Rattle.mm_check.specs.Saved.{IsSpanText, within_span, FitsSaved, total_with}
 use Rattle.mm_check.specs.Mirror.Theorems.{IsProofOf, SayStepsOf, AreProvedSteps, AreStepsOf}
-use Rattle.mm_check.specs.Mirror.Rewriting.{IsTextOf, IsTextFault}
+use Rattle.mm_check.specs.Mirror.Rewriting.{IsSpanTextOf, IsTextFault}
 use Rattle.mm_check.proofs.Questions.AskedTheorems.{map-take, tree_told}
 use Rattle.mm_check.proofs.Verdicts.AcceptedStatements.{proof_stands, proof_fits}
 use Rattle.mm_check.proofs.Saving.FileSpans.{replaced_by, theorem_there, theorems_parted}
-use Rattle.mm_check.proofs.Saving.FileSpans.{theorems_passed, first_too_long, ends_within}
+use Rattle.mm_check.proofs.Saving.FileSpans.{theorems_passed, first_too_long}
+use Rattle.mm_check.proofs.Saving.SavedFiles.{within_bytes}
+use Rattle.mm_check.proofs.Saving.ReplacedSpans.{spans_push, one_more_replaced, all_replaced}
 use Rattle.mm_check.proofs.Verdicts.JudgedProofs.{labelled_said, last_number}
 use Rattle.std.proofs.lemmas.Bool.{cases_lt, false_from_ne_true}
 use Rattle.std.proofs.lemmas.List.Elements.{filter-append}
@@ -51,131 +53,7 @@ use Rattle.mm_check.proofs.Verdicts.StatementByStatement.{one_more}
 use Rattle.mm_check.specs.declared.form.Form.TheVariants as form
 use Rattle.mm_check.specs.declared.save_fault.SaveFault.TheVariants as fault
 
--- ==== bytes in which several spans are replaced, from the first one on
-
--- ---- one span
-
--- bytes after the span are kept
-with_span-append : (xs ys : List ℕ) (span : ℕ × ℕ) (text : List ℕ) → span.0 ≤ length xs
-    → span.1 ≤ length xs → with_span (xs ++ ys) span text ≡ with_span xs span text ++ ys
-with_span-append xs ys span text start stop =
-    ap (λ (prefix : List ℕ). prefix ++ (text ++ drop span.1 (xs ++ ys)))
-    (take-append-le span.0 xs ys start)
-    ∙ ap (λ (back : List ℕ). take span.0 xs ++ (text ++ back)) (drop-append-le span.1 xs ys stop)
-    ∙ ap (λ (rest : List ℕ). take span.0 xs ++ rest) (sym (append_assoc text (drop span.1 xs) ys))
-    ∙ sym (append_assoc (take span.0 xs) (text ++ drop span.1 xs) ys)
-
--- so are those before it
-take-with_span : (n : ℕ) (xs : List ℕ) (span : ℕ × ℕ) (text : List ℕ) → n ≤ span.0
-    → span.0 ≤ length xs → take n (with_span xs span text) ≡ take n xs
-take-with_span n xs span text before start =
-    let long : length (take span.0 xs) ≡ span.0 = length-take-le span.0 xs start in
-    take-append-le n (take span.0 xs) (text ++ drop span.1 xs) (omega (arith, long, before))
-    ∙ take-take n span.0 xs before
-
-length-with_span : (n : ℕ) (xs : List ℕ) (span : ℕ × ℕ) (text : List ℕ) → n ≤ span.0
-    → span.0 ≤ length xs → n ≤ length (with_span xs span text)
-length-with_span n xs span text before start =
-    omega (
-      arith,
-      before,
-      length-take-le span.0 xs start,
-      length-append (take span.0 xs) (text ++ drop span.1 xs),
-    )
-
--- ---- several spans
-
-spans_rise : (start stop : ℕ) (news : List Replacement) → AreSpansWithin start stop news
-    → start ≤ stop
-spans_rise start stop [] h = h
-spans_rise start stop (new ∷ news) h =
-    omega (arith, h.0, h.1, spans_rise new.span.1 stop news h.2)
-
--- what stands before the first of them is kept
-prefix_kept : (start stop : ℕ) (xs : List ℕ) (news : List Replacement)
-    → AreSpansWithin start stop news → stop ≤ length xs
-    → (start ≤ length (with_replaced xs news)) × (take start (with_replaced xs news) ≡ take start xs)
-prefix_kept start stop xs [] h within = (omega (arith, h, within), refl)
-prefix_kept start stop xs (new ∷ news) h within =
-    let later = prefix_kept new.span.1 stop xs news h.2 within in
-    let inner : List ℕ = with_replaced xs news in
-    let begins : new.span.0 ≤ length inner = omega (arith, h.1, later.0) in
-    let before : start ≤ new.span.1 = omega (arith, h.0, h.1) in (
-      length-with_span start inner new.span new.text h.0 begins,
-      take-with_span start inner new.span new.text h.0 begins
-          ∙ sym (take-take start new.span.1 inner before) ∙ ap (take start) later.1
-          ∙ take-take start new.span.1 xs before,
-    )
-
--- and so is what stands behind the last
-with_replaced-append : (start stop : ℕ) (xs ys : List ℕ) (news : List Replacement)
-    → AreSpansWithin start stop news → stop ≤ length xs
-    → with_replaced (xs ++ ys) news ≡ with_replaced xs news ++ ys
-with_replaced-append start stop xs ys [] h within = refl
-with_replaced-append start stop xs ys (new ∷ news) h within =
-    let later = prefix_kept new.span.1 stop xs news h.2 within in
-    ap (λ (bytes : List ℕ). with_span bytes new.span new.text)
-    (with_replaced-append new.span.1 stop xs ys news h.2 within)
-    ∙ with_span-append (with_replaced xs news) ys new.span new.text (omega (arith, h.1, later.0))
-    later.0
-
-with_replaced-push : (xs : List ℕ) (news : List Replacement) (new : Replacement)
-    → with_replaced xs (news ++ new ∷ []) ≡ with_replaced (with_span xs new.span new.text) news
-with_replaced-push xs [] new = refl
-with_replaced-push xs (first ∷ news) new =
-    ap (λ (bytes : List ℕ). with_span bytes first.span first.text) (with_replaced-push xs news new)
-
--- a span that stands behind the others
-pub spans_push : (start stop : ℕ) (news : List Replacement) (new : Replacement)
-    → AreSpansWithin start stop news → stop ≤ new.span.0 → new.span.0 ≤ new.span.1
-    → AreSpansWithin start new.span.1 (news ++ new ∷ [])
-spans_push start stop [] new h after order =
-    (omega (arith, h, after), order, omega arith)
-spans_push start stop (first ∷ news) new h after order =
-    (h.0, h.1, spans_push first.span.1 stop news new h.2 after order)
-
--- the bytes up to it, of which those after a position stand before it
-cut_at : (at : ℕ) (xs : List ℕ) (span : ℕ × ℕ) (text : List ℕ) → at ≤ span.0
-    → span.0 ≤ span.1 → span.1 ≤ length xs
-    → with_span (take span.1 xs) span text ≡ take at xs ++ (slice_range xs at span.0 ++ text)
-cut_at at xs span text after order within =
-    let long : length (take span.1 xs) ≡ span.1 = length-take-le span.1 xs within in
-    let none = drop_of_length-le (take span.1 xs) {i = span.1} (omega (arith, long)) in
-    let sum : at + (span.0 - at) ≡ span.0 = omega (arith, after) in
-    let between = ap (λ (n : ℕ). drop at (take n xs)) (sym sum) ∙ drop-take at (span.0 - at) xs in
-    let prefix : take span.0 xs ≡ take at xs ++ slice_range xs at span.0 =
-    sym (take-append-drop at (take span.0 xs))
-    ∙ ap (λ (ys : List ℕ). ys ++ drop at (take span.0 xs)) (take-take at span.0 xs after)
-    ∙ ap (λ (ys : List ℕ). take at xs ++ ys) between in
-    ap (λ (ys : List ℕ). ys ++ (text ++ drop span.1 (take span.1 xs)))
-    (take-take span.0 span.1 xs order ∙ prefix)
-    ∙ ap (λ (ys : List ℕ). (take at xs ++ slice_range xs at span.0) ++ (text ++ ys)) none
-    ∙ ap (λ (ys : List ℕ). (take at xs ++ slice_range xs at span.0) ++ ys) (append-nil text)
-    ∙ append_assoc (take at xs) (slice_range xs at span.0) text
-
--- one span more: what stands between the others and it is kept, and then comes its text
-pub one_more_replaced : (at : ℕ) (xs : List ℕ) (news : List Replacement) (new : Replacement)
-    → AreSpansWithin 0 at news → at ≤ new.span.0 → new.span.0 ≤ new.span.1
-    → new.span.1 ≤ length xs
-    → with_replaced (take new.span.1 xs) (news ++ new ∷ [])
-    ≡ with_replaced (take at xs) news ++ (slice_range xs at new.span.0 ++ new.text)
-one_more_replaced at xs news new h after order within =
-    let long : length (take at xs) ≡ at = length-take-le at xs (omega (arith, after, order, within)) in
-    with_replaced-push (take new.span.1 xs) news new
-    ∙ ap (λ (bytes : List ℕ). with_replaced bytes news)
-    (cut_at at xs new.span new.text after order within)
-    ∙ with_replaced-append 0 at (take at xs) (slice_range xs at new.span.0 ++ new.text) news h
-    (omega (arith, long))
-
--- what stands behind all of them is kept
-pub all_replaced : (at : ℕ) (xs : List ℕ) (news : List Replacement) → AreSpansWithin 0 at news
-    → at ≤ length xs → with_replaced (take at xs) news ++ drop at xs ≡ with_replaced xs news
-all_replaced at xs news h within =
-    let long : length (take at xs) ≡ at = length-take-le at xs within in
-    sym (with_replaced-append 0 at (take at xs) (drop at xs) news h (omega (arith, long)))
-    ∙ ap (λ (bytes : List ℕ). with_replaced bytes news) (take-append-drop at xs)
-
--- ---- up to a most
+-- ==== up to a most
 
 pub put_twice : (most : ℕ) (first then old between new : List ℕ)
     → PutsAfter most first old between → PutsAfter most then between new
@@ -228,19 +106,21 @@ steps_among told s label id steps t named said =
       numbered = moves.2;
     }
 
--- written in a form
+-- written in a form, in place of the old bytes
 pub theorem_replaced : (form : Form) (told : List Sentence)
-    (s : PlainStatement) (label : List ℕ) (id : ℕ) (steps : ReadSteps) (text : List ℕ)
+    (s : PlainStatement) (label : List ℕ) (id : ℕ) (steps : ReadSteps) (old put bytes : List ℕ)
     (t : IsTheoremAmong told id s) → IsLabelled label (sentence_of s)
     → SayStepsOf told id (proof_of s) steps.moves → AreProvedSteps told id steps
-    → IsTextOf form told id steps.moves text
-    → IsReplacement form t.statements s (replacement s text)
-theorem_replaced form told s label id steps text t named said proved laid =
+    → IsSpanTextOf form told id steps.moves old put → old ≡ within_span bytes s.span
+    → IsReplacement form bytes t.statements s (replacement s put)
+theorem_replaced form told s label id steps old put bytes t named said proved laid stands =
     let (root, below, has, written) =
     tree_told told t.statements label id steps t.same
     (steps_among told s label id steps t named said) proved
-    (λ before u trees. IsTextIn form before u trees text) laid in
-    replaced_by form text has written refl refl
+    (λ before u trees. IsSpanText form before u trees old put) laid in
+    replaced_by form bytes has (subst (λ (o : List ℕ). IsSpanText form
+    (sentences (take t.index t.statements)) (sentence_of s) (tree root below none) o put) stands
+    written) refl
 
 -- why it isn't written
 
@@ -249,6 +129,8 @@ pub theorem_fault : (f : Form) (told : List Sentence) (s : PlainStatement) (id :
     → SayStepsOf told id (proof_of s) steps.moves → AreProvedSteps told id steps
     → IsTextFault f told id steps.moves why → IsTheoremFault f told id s why
 theorem_fault form.Packed told s id steps why said proved memory =
+    rw memory refl
+theorem_fault form.Small told s id steps why said proved memory =
     rw memory refl
 theorem_fault form.Normal told s id steps why said proved (inl memory) =
     rw memory refl
@@ -288,13 +170,14 @@ module _ (statements more : List PlainStatement) where
       )
 
   -- so it is written anew as before
-  all_kept : (form : Form) (theorems : List PlainStatement) (news : List Replacement)
-      → AllZip (IsReplacement form statements) theorems news
-      → AllZip (IsReplacement form (statements ++ more)) theorems news
-  all_kept form =
-      zip_weaker (IsReplacement form statements) (IsReplacement form (statements ++ more))
+  all_kept : (form : Form) (bytes : List ℕ) (theorems : List PlainStatement)
+      (news : List Replacement) → AllZip (IsReplacement form bytes statements) theorems news
+      → AllZip (IsReplacement form bytes (statements ++ more)) theorems news
+  all_kept form bytes =
+      zip_weaker (IsReplacement form bytes statements)
+      (IsReplacement form bytes (statements ++ more))
       (λ s new r. let (proof, prefix) = tree_kept r.proof in
-      replaced_by form r.text proof (rw prefix r.laid) r.span r.put)
+      replaced_by form bytes proof (rw prefix r.laid) r.span)
 
   -- the first theorem whose normal proof is too long stays the first one
   long_kept : (number : ℕ) (label : List ℕ) → IsFirstTooLong statements number label
@@ -305,7 +188,7 @@ module _ (statements more : List PlainStatement) where
       ∙ ap (λ (ss : List PlainStatement). ss ++ later) first.split
       ∙ append_assoc first.before (first.s ∷ first.after) later in
       first_too_long (statements ++ more) number label first.before first.s (first.after ++ later)
-      first.news split (all_kept Normal first.before first.news first.fit)
+      first.bytes first.news split (all_kept Normal first.bytes first.before first.news first.fit)
       (first.index, first.root, first.below, (tree_kept first.proof).0, first.long)
 
 last_kept : (number at : ℕ) (taken : List PlainStatement) (s : PlainStatement)
@@ -326,7 +209,8 @@ passed_so taken s file (Some label) other (normal, first) =
 passed_so taken s file None other h = record {
   replaced = h.replaced;
   each = rw (theorems_passed file.number taken s (other refl))
-      (all_kept taken (s ∷ []) file.form (theorems_of file.number taken) h.replaced h.each);
+      (all_kept taken (s ∷ []) file.form file.source.now (theorems_of file.number taken)
+      h.replaced h.each);
   spans = h.spans;
   put = h.put;
 }
@@ -398,7 +282,7 @@ module _ {files : List PlainFile} {told : List Sentence} {id : LabelId}
     -- it stands in the file
     pub span_stands : (s.span.0 ≤ s.span.1) × (s.span.1 ≤ length file.source.now)
     span_stands =
-        rw w.source (ends_within s w.own.bytes
+        rw w.source (within_bytes s w.own.bytes
         (proofs_stand_in_spans_holds files taken s met.left.statements met.left.ending w.own
         met.reads met.came.1.provable (ap (slice_get files) home ∙ w.handed)))
 
@@ -427,9 +311,10 @@ module _ {files : List PlainFile} {told : List Sentence} {id : LabelId}
         span_follows order within in
         let so_far : AreReplacedSoFar more next = record {
           replaced = old.replaced ++ new ∷ [];
-          each = rw (same.form, same.number, theorems_parted file.number taken s [] is)
-              (zip_push (IsReplacement file.form more) _ old.replaced s new
-              (all_kept taken (s ∷ []) file.form _ _ old.each) (put.anew (theorem_met formed)));
+          each = rw (same.form, same.number, same.source, theorems_parted file.number taken s [] is)
+              (zip_push (IsReplacement file.form file.source.now more) _ old.replaced s new
+              (all_kept taken (s ∷ []) file.form file.source.now _ _ old.each)
+              (put.anew (theorem_met formed)));
           spans = rw put.puts.taken
               (spans_push 0 file.taken old.replaced new old.spans span_follows order);
           put = rw (same.most, same.source, put.puts.taken, one) (put.puts.put _ old.put);
@@ -456,8 +341,8 @@ module _ {files : List PlainFile} {told : List Sentence} {id : LabelId}
         let (normal, long) = kept.long in
         let (index, root, below, proof, over) = long (theorem_met formed) in
         let first = first_too_long more file.number kept.label (theorems_of file.number taken) s []
-        old.replaced (theorems_parted file.number taken s [] is)
-        (simp normal at (all_kept taken (s ∷ []) file.form _ old.replaced old.each))
+        file.source.now old.replaced (theorems_parted file.number taken s [] is)
+        (simp normal at (all_kept taken (s ∷ []) file.form file.source.now _ old.replaced old.each))
         (index, root, below, proof, over) in
         record {
           own = w.own;
@@ -525,7 +410,7 @@ whole_so files statements file bytes w h is = record {
   file = w.own;
   handed = w.handed;
   replaced = h.replaced;
-  each = h.each;
+  each = rw w.source at h.each;
   whole = is ∙ all_replaced file.taken file.source.now h.replaced h.spans w.within
       ∙ ap (λ (own : List ℕ). with_replaced own h.replaced) w.source;
 }

@@ -60,7 +60,7 @@ within_limit files readable = elim (cases_lt most_bytes (total_bytes files)) [
 -- ## Blocks
 
 -- what is counted by the kind is counted alike without where they lie in memory
-counted_alike : (p : Kind → Bool) (statements : List PlainStatement)
+pub counted_alike : (p : Kind → Bool) (statements : List PlainStatement)
     → count_by (λ (s : Sentence). p s.kind) (sentences statements) ≡ count_by (λ (s : PlainStatement). p s.kind) statements
 counted_alike p [] = refl
 counted_alike p (s ∷ statements) =

@@ -38,9 +38,9 @@ pub record IsTheoremAmong (told : List Sentence) (id : ℕ) (s : PlainStatement)
   pub complete : is_proof s ≡ true
   pub room : sum_by length (proof_of s) ≤ most_bytes
 
--- a line feed and a text, in place of what stands between its `$=` and its `$.`
-abbrev pub replacement : PlainStatement → (text : List ℕ) → Replacement
-replacement s text = record { span = s.span; text = 10 ∷ text }
+-- these bytes, in place of what stands between its `$=` and its `$.`
+abbrev pub replacement : PlainStatement → (put : List ℕ) → Replacement
+replacement s put = record { span = s.span; text = put }
 
 -- its normal proof has more labels than may be written
 abbrev pub HasTooLongProof : List PlainStatement → PlainStatement → (label : List ℕ) → Type 0
@@ -92,12 +92,12 @@ pub record IsSameFile (old new : NewFile) : Type 0 where
   pub source : new.source.now ≡ old.source.now
   pub most : new.most ≡ old.most
 
--- the bytes up to a span were taken, and then a line feed and a text put in place of the span
+-- the bytes up to a span were taken, and then a text put in place of the span
 pub record PutsText (old : NewFile) (span : ℕ × ℕ) (text : List ℕ) (new : NewFile) : Type 0 where
   pub same : IsSameFile old new
   pub long : new.too_long ≡ old.too_long
   pub taken : new.taken ≡ span.1
-  pub put : PutsAfter old.most (slice_range old.source.now old.taken span.0 ++ 10 ∷ text)
+  pub put : PutsAfter old.most (slice_range old.source.now old.taken span.0 ++ text)
       old.bytes.items new.bytes.items
 
 -- a theorem's proof was put in place of the one that it had
@@ -106,7 +106,7 @@ pub record PutsProof (told : List Sentence) (id : ℕ) (old : NewFile) (s : Plai
   pub text : List ℕ
   pub puts : PutsText old s.span text new
   pub anew : (theorem : IsTheoremAmong told id s)
-      → IsReplacement old.form theorem.statements s (replacement s text)
+      → IsReplacement old.form old.source.now theorem.statements s (replacement s text)
 
 -- the theorem's label was kept, since its normal proof is too long
 pub record KeepsLabel (told : List Sentence) (id : ℕ) (old : NewFile) (s : PlainStatement)
@@ -145,7 +145,8 @@ IsLastEnd number taken at =
 -- theorems so far replaced
 pub record AreReplacedSoFar (taken : List PlainStatement) (file : NewFile) : Type 0 where
   pub replaced : List Replacement
-  pub each : AllZip (IsReplacement file.form taken) (theorems_of file.number taken) replaced
+  pub each : AllZip (IsReplacement file.form file.source.now taken)
+      (theorems_of file.number taken) replaced
   pub spans : AreSpansWithin 0 file.taken replaced
   pub put : IsUpTo file.most (with_replaced (take file.taken file.source.now) replaced)
       file.bytes.items

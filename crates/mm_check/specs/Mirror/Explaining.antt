@@ -1,6 +1,7 @@
 -- What the code of an explanation knows on its way. This file mirrors the code, and is cited by
 -- private contracts alone.
-use Rattle.std.specs.Prelude.{◌≡◌, ◌<◌, ◌+◌, ℕ, [], ◌∷◌, ◌++◌, List, Bool, take, length, slice_get}
+use Rattle.std.specs.Prelude.{◌≡◌, ◌≢◌, ◌<◌, ◌≤◌, ◌+◌, ℕ, [], ◌∷◌, ◌++◌, List, Bool, take, length}
+use Rattle.std.specs.Prelude.{slice_get}
 use Rattle.std.specs.Prelude.{Some, unwrap_or, map, drop}
 use Rattle.mm_frame.specs.Sentence.{Sentence}
 use Rattle.mm_frame.specs.Numbers.{AreNumbers, symbols_of}
@@ -11,17 +12,23 @@ use Rattle.mm_proof.specs.Substitution.{Expression, Symbol, Substitution}
 use Rattle.mm_proof.specs.Moves.{Move, name}
 use Rattle.mm_proof.specs.Steps.{IsProofNumber, AreSteps}
 use Rattle.mm_proof.specs.declared.profile.Profile.{Profile}
-use Rattle.mm_proof.specs.Tokens.{is_incomplete}
+use Rattle.mm_proof.specs.Tokens.{is_incomplete, SayMoves}
 use Rattle.mm_proof.specs.Proof.{IsWhole, MeetsHypotheses}
 use Rattle.mm_proof.specs.Asked.{AsksFor, AreDeclared}
 use Rattle.mm_proof.specs.Mirror.CodeVerify.{name_at}
 use Rattle.mm_proof.specs.Strict.{HasFormOf}
 use Rattle.mm_proof.specs.Parsed.{OfProof, SaySteps}
 use Rattle.mm_proof.specs.ReadSteps.{ReadSteps}
+use Rattle.mm_proof.specs.Verified.{OfMoves}
+use Rattle.mm_proof.specs.WholePlaces.{IsWholePlace}
+use Rattle.mm_proof.specs.Profiles.{limit_of}
+use Rattle.mm_frame.specs.Form.{IsSound}
 use Rattle.mm_proof.specs.Halted.{HaltsProof}
 use Rattle.mm_check.specs.Explained.{Detail, details_text, AreStepDetails, AreMoveDetails}
 use Rattle.mm_check.specs.Explained.{judged_tokens, AreAsked, hypothesis_asks, AreApartDetails}
-use Rattle.mm_check.specs.Explained.{ArePairDetails, ArePairsAsked}
+use Rattle.mm_check.specs.Explained.{ArePairDetails, ArePairsAsked, IsTokensFault}
+use Rattle.mm_check.specs.declared.details.Cause.{Cause}
+use Rattle.mm_check.specs.declared.details.Cause.TheVariants as cause
 use Rattle.std.specs.List.{AllZip, AllByRecursion, flat_map}
 use Rattle.mm_frame.specs.declared.distinct.DistinctPair.{DistinctPair}
 
@@ -50,6 +57,35 @@ abbrev pub IsJudgedWhole : Profile → List Sentence → (id : ℕ) → (tokens 
 IsJudgedWhole profile statements id tokens = OfProof statements id
     (λ index s. IsWhole (take index statements) (judged_tokens tokens)
     × HasFormOf profile (take index statements) s (judged_tokens tokens))
+
+-- What causes the fault of the tokens by the rule at the step: a byte of one of them; or the steps
+-- that the judged ones say, which stop there.
+abbrev pub Causes : Profile → (statements : List Sentence) → (id : ℕ) → (tokens : List (List ℕ))
+    → ProofRule → (step : ℕ) → Cause → Type 0
+Causes profile statements id tokens rule step (cause.Token token byte text) =
+    (step ≡ 0) × OfProof statements id
+    (λ index s. IsWholePlace (take index statements) (judged_tokens tokens) rule token byte)
+    × (slice_get tokens token ≡ Some text.now) × (byte ≤ length text.now)
+Causes profile statements id tokens rule step (cause.Moves steps halt) =
+    (step ≢ 0) × AreJudgedSteps profile statements id tokens steps
+    × OfMoves statements id steps.moves (λ index s moves. HaltsProof (limit_of steps.profile)
+    statements (take index statements) s steps.prefix moves halt)
+
+-- That is the cause of the first fault of the tokens, as the proof of the `$p` with the number.
+pub record IsCauseOf (profile : Profile) (statements : List Sentence) (id : ℕ)
+    (tokens : List (List ℕ)) (rule : ProofRule) (step : ℕ) (it : Cause) : Type 0 where
+  pub sound : IsSound statements
+  pub fault : OfProof statements id
+      (λ index s. IsTokensFault profile (take index statements) s tokens rule step)
+  pub causes : Causes profile statements id tokens rule step it
+
+-- moves that the judged ones of the tokens say stop so
+abbrev pub StopsIn : (tokens : List (List ℕ)) → Halt → Type 0
+StopsIn tokens halt =
+    (limit : ℕ) × (statements : List Sentence) × (before : List Sentence) × (s : Sentence)
+    × (prefix : Bool) × (moves : List (Move (List ℕ)))
+    × SayMoves before s (judged_tokens tokens) moves
+    × HaltsProof limit statements before s prefix moves halt
 
 -- the symbols of these pairs have these numbers
 abbrev pub AreNamedPairs : List Sentence → List (Sym × Sym) → List (Symbol × Symbol) → Type 0

@@ -1,6 +1,6 @@
 -- What the code knows of a theorem that it reads again. This file mirrors the code, and is cited by
 -- private contracts alone.
-use Rattle.std.specs.Prelude.{◌≡◌, ℕ, List, take, slice_get, true, Some, None}
+use Rattle.std.specs.Prelude.{◌≡◌, ℕ, List, take, slice_get, Bool, true, Some, None}
 use Rattle.mm_text.specs.Statement.{PlainStatement}
 use Rattle.mm_text.specs.Remaining.{Remaining}
 use Rattle.mm_frame.specs.Sentence.{Sentence, sentence_of, IsLabelled}
@@ -16,7 +16,9 @@ use Rattle.mm_proof.specs.UnderProfile.{IsProvedUnder}
 use Rattle.mm_proof.specs.Verified.{OfMoves}
 use Rattle.mm_proof.specs.Listing.{ListedStep, AreListed}
 use Rattle.mm_check.specs.Verdict.{proof_of, is_proof, sentences}
+use Rattle.mm_proof.specs.Uses.{AreUses, IsRoot}
 use Rattle.mm_check.specs.Shown.{listing_text, Stands}
+use Rattle.mm_check.specs.ShownUses.{AreTold, used_steps_text}
 
 -- the tokens are a complete proof of the `$p` with this number under the profile
 pub record IsProofOf (profile : Profile) (statements : List Sentence) (id : ℕ)
@@ -70,3 +72,16 @@ pub record IsStillLeft (label : List ℕ) (first left : Remaining) : Type 0 wher
   pub some : (s : PlainStatement) × Stands left.statements label s
   pub within : (s : PlainStatement) → Stands left.statements label s
       → Stands first.statements label s
+
+-- the text tells what the steps of the moves use
+pub record IsUsesTextOf (essential : Bool) (before : List Sentence) (moves : List (Move (List ℕ)))
+    (text : List ℕ) : Type 0 where
+  pub steps : List ListedStep
+  pub listed : AreListed before moves steps
+  pub rows : List (List ℕ)
+  pub used : AreUses essential before moves rows
+  pub root : ℕ
+  pub rooted : IsRoot moves root
+  pub told : List Bool
+  pub chosen : AreTold essential root rows told
+  pub laid : text ≡ used_steps_text 1 steps rows told

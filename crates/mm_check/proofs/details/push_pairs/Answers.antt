@@ -3,7 +3,7 @@ use Rattle.std.proofs.Common.{ap, ◌∙◌, arith, ◌++◌}
 use Rattle.std.proofs.lemmas.List.{take_all}
 use Rattle.std.proofs.lemmas.Option.{slice_get_within}
 use Rattle.mm_frame.specs.Numbers.{symbols_of}
-use Rattle.mm_check.specs.Explained.{details_text, pairs_lacking}
+use Rattle.mm_check.specs.Explained.{details_text, missing_pair, pairs_lacking}
 use Rattle.mm_check.proofs.LackingDetails.{pair_there, as_many_pairs, lacking_told}
 use Rattle.mm_check.proofs.details.push_pairs.Goals as goal
 
@@ -23,7 +23,7 @@ pub loop-pair-preserved : goal.loop-pair-preserved
 loop-pair-preserved c = λ named are.
     let st = c.args.book.now.statements in
     let p = pair_there st c.args.pairs.now named c.loop-pair.pair-index _ are c.loop-pair-test.true in
-    lacking_told st named c.loop-pair.pair-index p.0 _ _ c.name.result.now c.name-in-loop-pair.result.now
+    lacking_told missing_pair st named c.loop-pair.pair-index p.0 _ _ c.name.result.now c.name-in-loop-pair.result.now
     c.args.out.now.items c.loop-pair.out.items c.push_missing.new.out.items p.1 p.2 p.3 c.name.ensures c.name-in-loop-pair.ensures
     (c.loop-pair.invariant named are) c.in_ok-push_missing.ensures
 

@@ -13,6 +13,9 @@ returns-in-Axioms c =
 pub returns-in-Show : goal.returns-in-Show
 returns-in-Show c = rw c.in-Show.is c.show_answer.ensures
 
+pub returns-in-Uses : goal.returns-in-Uses
+returns-in-Uses c = rw c.in-Uses.is c.uses_answer.ensures
+
 pub returns-in-Form : goal.returns-in-Form
 returns-in-Form c = rw c.in-Form.is c.form_answer.ensures
 
@@ -25,3 +28,6 @@ returns-in-Users c =
     (IfOk-weaker c.users_answer.result _ _
     (λ reply h statements reads. h statements reads (c.requires.labels statements None reads))
     c.users_answer.ensures)
+
+pub returns-in-Statement : goal.returns-in-Statement
+returns-in-Statement c = rw c.in-Statement.is c.statement_answer.ensures

@@ -9,3 +9,6 @@ returns-in-Normal c = rw (c.if-whole.false, c.in-Normal.is) c.normal_answer.ensu
 
 pub returns-in-Packed : goal.returns-in-Packed
 returns-in-Packed c = rw (c.if-whole.false, c.in-Packed.is) c.packed_answer.ensures
+
+pub returns-in-Small : goal.returns-in-Small
+returns-in-Small c = rw (c.if-whole.false, c.in-Small.is) c.small_answer.ensures

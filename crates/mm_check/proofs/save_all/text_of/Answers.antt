@@ -21,10 +21,11 @@ returns-clause-text c =
     let said = rw (c.requires.tokens, c.in_ok-theorem.ensures.id) at c.in_ok-theorem.ensures.said in
     let proved = rw c.in_ok-theorem.ensures.id at c.in_ok-theorem.ensures.proved in
     let (label, named) = label_there s c.requires.formed c.requires.theorem.number.provable in
-    IfOk-weaker c.proof_text.result _ _
-    (λ text laid t. theorem_replaced c.args.form told s label id c.in_ok-theorem.theorem.steps
-    text.items t named said proved (rw c.in_ok-theorem.ensures.id at laid))
-    c.proof_text.ensures.text
+    IfOk-weaker c.span_text.result _ _
+    (λ put laid bytes t stands. theorem_replaced c.args.form told s label id
+    c.in_ok-theorem.theorem.steps c.args.old.now put.items bytes t named said proved
+    (rw c.in_ok-theorem.ensures.id at laid) stands)
+    c.span_text.ensures.put
 
 pub returns-clause-fault : goal.returns-clause-fault
 returns-clause-fault c =
@@ -32,7 +33,7 @@ returns-clause-fault c =
     let told : List Sentence = c.args.book.now.statements in
     let said = rw (c.requires.tokens, c.in_ok-theorem.ensures.id) at c.in_ok-theorem.ensures.said in
     let proved = rw c.in_ok-theorem.ensures.id at c.in_ok-theorem.ensures.proved in
-    why c.proof_text.result _ _
+    why c.span_text.result _ _
     (λ fault is. theorem_fault c.args.form told s c.args.id.0 c.in_ok-theorem.theorem.steps fault
     said proved (rw c.in_ok-theorem.ensures.id at is))
-    c.proof_text.ensures.fault
+    c.span_text.ensures.fault

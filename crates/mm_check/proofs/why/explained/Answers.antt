@@ -5,9 +5,10 @@ use Rattle.std.proofs.Common.{arith, length-append}
 use Rattle.mm_text.specs.Files.{PlainFile, plain_file}
 use Rattle.mm_check.specs.Answer.{plain_refusal}
 use Rattle.mm_check.specs.Status.{number_of}
-use Rattle.mm_check.specs.Why.{is_of_proofs, head_text}
+use Rattle.mm_check.specs.Why.{is_of_proofs}
 use Rattle.mm_check.proofs.Verdicts.LoopOverStatements.{none_there, some_there}
 use Rattle.mm_check.proofs.Explanations.{tells_why}
+use Rattle.mm_check.proofs.LastFaults.{ends_run}
 use Rattle.mm_check.proofs.why.explained.Goals as goal
 
 pub conclude-requires : goal.conclude-requires
@@ -24,11 +25,26 @@ returns-in-Ok-clause-why c =
     reasons.text.items c.tell_more.new.self.text.items c.tell_more.new.self.text.items
     c.in_ok-text-in-Ok.text.items (number_of c.in_ok-text-in-Ok.status)
     (rw (append-nil v.listed) v.faults) v.seen.kept v.seen.explained tt
-    c.in_ok-tell_more-in-Ok.ensures.text (sym (append-nil _)) c.tell_more.new.self.refusals.items
+    c.in_ok-tell_more-in-Ok.ensures.text [] tt (sym (append-nil _)) c.tell_more.new.self.refusals.items
     (ap (λ r. r.items) c.in_ok-tell_more-in-Ok.ensures.kept ∙ sym (append-nil _))
     (rw c.in_ok-tell_more-in-Ok.ensures.kept
     (some_there reasons.refusals (sym c.if-is_empty.ensures)))
     c.in_ok-text-in-Ok.ensures.text c.in_ok-text-in-Ok.ensures.status
+
+pub tell_last-requires : goal.tell_last-requires
+tell_last-requires c =
+    let m = rw c.in-Err-Refused.field-0-is at c.in-Err-Refused.ensures.stopped in
+    let last = c.in-Err-Refused.last in
+    let none : m.others ≡ [] = elim (m.rest) [ inl never ↦ absurd never | inr e ↦ e ] in
+    let other : is_of_proofs last.rule ≡ false =
+    elim (m.kind) [ inl never ↦ absurd never | inr e ↦ e ] in
+    rw (
+      c.in-Err-Refused.field-0-is,
+      c.in_ok-tell_more-in-Err-Refused.ensures.files,
+      m.seen.same_files,
+    )
+    (ends_run c.args.profile (map plain_file c.args.files.now) m.listed (plain_refusal last) other
+    (rw none at m.faults))
 
 pub returns-in-Err-Refused-clause-why : goal.returns-in-Err-Refused-clause-why
 returns-in-Err-Refused-clause-why c =
@@ -43,13 +59,13 @@ returns-in-Err-Refused-clause-why c =
     let all : c.tell_last.new.self.refusals.items ≡ reasons.refusals.items ++ last ∷ [] =
     (rw c.in-Err-Refused.field-0-is at c.in_ok-tell_last-in-Err-Refused.ensures.kept)
     ∙ ap (λ r. r.items ++ last ∷ []) told.kept in
-    let head = rw (told.files, m.seen.same_files, c.in-Err-Refused.field-0-is)
-    at c.in_ok-tell_last-in-Err-Refused.ensures.text in
+    let (text, explains, put) = rw (told.files, m.seen.same_files, c.in-Err-Refused.field-0-is)
+    at c.in_ok-tell_last-in-Err-Refused.ensures.explained in
     tells_why c.args.profile files m.listed reasons.refusals.items (last ∷ []) reasons.text.items
     c.tell_more-in-Err-Refused.new.self.text.items c.tell_last.new.self.text.items
     c.in_ok-text-in-Err-Refused.text.items (number_of c.in_ok-text-in-Err-Refused.status)
-    (rw none at m.faults) m.seen.kept m.seen.explained (other, tt) told.text
-    (rw (append-nil (head_text files last.at (plain_refusal last))) head)
+    (rw none at m.faults) m.seen.kept m.seen.explained (other, tt) told.text (text ∷ [])
+    (explains, tt) (rw (append-nil text) put)
     c.tell_last.new.self.refusals.items all
     (rw all (omega (arith, length-append reasons.refusals.items (last ∷ []))))
     c.in_ok-text-in-Err-Refused.ensures.text c.in_ok-text-in-Err-Refused.ensures.status

@@ -1,5 +1,5 @@
--- The three parts come one after the other.
-use Rattle.std.proofs.Common.{ℕ, [], ◌∷◌, slice_range, refl}
+-- The two parts come one after the other.
+use Rattle.std.proofs.Common.{ℕ, slice_range, refl}
 use Rattle.mm_check.proofs.Saving.WrittenFiles.{put_twice}
 use Rattle.mm_check.proofs.save_all.NewFile.put.Goals as goal
 
@@ -11,9 +11,7 @@ returns c =
       same = record { number = refl; form = refl; source = refl; most = refl };
       long = refl;
       taken = refl;
-      put = put_twice most kept (10 ∷ c.args.text.now) c.args.self.now.bytes.items
-          c.append.new.bytes.items c.append-3.new.bytes.items c.in_ok-append.ensures
-          (put_twice most (10 ∷ []) c.args.text.now c.append.new.bytes.items
-          c.append-2.new.bytes.items c.append-3.new.bytes.items c.in_ok-append-2.ensures
-          c.in_ok-append-3.ensures);
+      put = put_twice most kept c.args.text.now c.args.self.now.bytes.items
+          c.append.new.bytes.items c.append-2.new.bytes.items c.in_ok-append.ensures
+          c.in_ok-append-2.ensures;
     }

@@ -1,0 +1,305 @@
+-- The fault that ends a run: that it is one of the text or of meaning, and that the facts that are
+-- written explain it. `text_fault.rt`, `last.rt` and `why.rt` rest on it.
+use Rattle.std.proofs.Common.{◌≡◌, ℕ, ◌-◌, List, [], ◌∷◌, ◌++◌, map, filter, length, Bool, true, false}
+use Rattle.std.proofs.Common.{Option, Some, None, if◌then◌else◌, slice_get, inl, inr, refl, sym, ap}
+use Rattle.std.proofs.Common.{Result, Ok, Err, OnOk, take, option_map, IfSome, ◌⊎◌, Bor}
+use Rattle.std.proofs.Common.{◌∙◌, subst, arith, length-append, append_assoc, append-nil}
+use Rattle.std.proofs.lemmas.List.{map-append}
+use Rattle.std.proofs.lemmas.List.Elements.{filter-append}
+use Rattle.mm_text.specs.declared.fault.TextRule.{TextRule}
+use Rattle.mm_text.specs.declared.fault.TextRule.TheVariants.{X3, S6}
+use Rattle.mm_text.specs.Token.{PlainToken}
+use Rattle.mm_text.specs.Statement.{PlainStatement}
+use Rattle.mm_text.specs.Blocks.{is_closing}
+use Rattle.mm_text.specs.Files.{PlainFile}
+use Rattle.mm_text.specs.Reading.{PlainFault, Reads}
+use Rattle.mm_text.specs.Remaining.{IsUnread, Remaining}
+use Rattle.mm_text.proofs.Lists.{get_parted, get_pushed}
+use Rattle.mm_frame.specs.Rules.{AllMeant}
+use Rattle.mm_proof.specs.declared.profile.Profile.{Profile}
+use Rattle.mm_check.specs.Verdict.{PlainRefusal, CanBeRead, sentences, text_refusal}
+use Rattle.mm_check.specs.Faults.{AreRefused, HaveFaults}
+use Rattle.mm_check.specs.Why.{is_of_proofs}
+use Rattle.mm_check.specs.declared.rule.Rule.TheVariants as rules
+use Rattle.mm_check.specs.Explained.{Detail, token_at_fault, detail_text, details_text}
+use Rattle.mm_check.specs.Near.{IsLabelIn, IsLabelOf}
+use Rattle.mm_check.specs.Places.{bytes_of}
+use Rattle.mm_check.specs.TextFacts.{AreOrigins, AreTextFacts, IsLastOpening, blocks_closed}
+use Rattle.mm_check.specs.TextFacts.{closing_tokens, comments_begun, label_before, last_of}
+use Rattle.mm_check.specs.TextFacts.{statements_begun, token_from}
+use Rattle.mm_check.specs.Mirror.Last.{BeginsComment, EndsRun, IsReading, IsSearching, ReadsOn}
+use Rattle.mm_check.specs.Mirror.Last.{TellsOrigins}
+use Rattle.mm_check.proofs.NearLabels.{name_kept}
+use Rattle.mm_check.proofs.Verdicts.FaultLists.{meant_more}
+
+-- ==== what ends the run
+
+-- a list isn't empty where something stands in it
+not_empty : {X : Type 0} (xs ys : List X) (x : X) → xs ++ x ∷ ys ≡ [] → ⊥
+not_empty [] ys x e = cc e
+not_empty (z ∷ xs) ys x e = cc e
+
+module _ (profile : Profile) (files : List PlainFile) (readable : CanBeRead files)
+    (last : PlainRefusal) (other : is_of_proofs last.rule ≡ false) where
+  -- the last refusal is of the text or of meaning
+  last_refused : (before left : List PlainStatement) (ending : Option PlainFault)
+      (listed : List PlainRefusal) → Reads files (before ++ left) ending
+      → AllMeant (sentences before)
+      → AreRefused profile files before left ending (listed ++ last ∷ []) → EndsRun files last
+  last_refused before [] None listed reads meant refused =
+      absurd (not_empty listed [] last refused)
+  last_refused before [] (Some fault) [] reads meant refused =
+      inl (record {
+        readable = readable;
+        statements = before;
+        fault = fault;
+        reads = rw (append-nil before) at reads;
+        refused = cc refused;
+      })
+  last_refused before [] (Some fault) (one ∷ listed) reads meant refused =
+      let none : listed ++ last ∷ [] ≡ [] = cc refused in
+      absurd (not_empty listed [] last none)
+  last_refused before (s ∷ left) ending listed reads meant (inl (obeys, rest)) =
+      last_refused (before ++ s ∷ []) left ending listed
+      (rw (← append_assoc before (s ∷ []) left) at reads)
+      (meant_more before s meant obeys.meant) rest
+  last_refused before (s ∷ left) ending [] reads meant (inr (inl (first, proof, others, rest, same))) =
+      let mine : last ≡ first = cc same in
+      let rule : is_of_proofs last.rule ≡ true =
+      ap (λ (r : PlainRefusal). is_of_proofs r.rule) (mine ∙ proof.refused) in
+      absurd (cc (rule, other))
+  last_refused before (s ∷ left) ending (one ∷ listed) reads meant
+      (inr (inl (first, proof, others, rest, same))) =
+      let left_over : others ≡ listed ++ last ∷ [] = cc same in
+      last_refused (before ++ s ∷ []) left ending listed
+      (rw (← append_assoc before (s ∷ []) left) at reads)
+      (meant_more before s meant proof.meant) (rw left_over at rest)
+  last_refused before (s ∷ left) ending [] reads meant (inr (inr (final, meaning, same))) =
+      let mine : last ≡ final = cc same in
+      inr (record {
+        readable = readable;
+        before = before;
+        s = s;
+        after = left;
+        ending = ending;
+        reads = reads;
+        meant = meant;
+        refused = rw mine meaning;
+      })
+  last_refused before (s ∷ left) ending (one ∷ listed) reads meant
+      (inr (inr (final, meaning, same))) =
+      let none : listed ++ last ∷ [] ≡ [] = cc same in
+      absurd (not_empty listed [] last none)
+
+-- nothing stands before the first statement
+none_meant : AllMeant []
+none_meant before after s e = absurd (not_empty before after s (sym e))
+
+-- the refusal after those of proofs ends the run
+pub ends_run : (profile : Profile) (files : List PlainFile) (listed : List PlainRefusal)
+    (last : PlainRefusal) → is_of_proofs last.rule ≡ false
+    → HaveFaults profile files (listed ++ last ∷ []) → EndsRun files last
+ends_run profile files listed last other faults =
+    last_refused profile files faults.readable last other [] faults.statements faults.ending listed
+    faults.reads none_meant faults.refused
+
+-- ==== the second reading
+
+-- the last one of those that one more follows
+last_pushed : {X : Type 0} (xs : List X) (x : X) → last_of (xs ++ x ∷ []) ≡ Some x
+last_pushed xs x =
+    let at : length (xs ++ x ∷ []) - 1 ≡ length xs = omega (arith, length-append xs (x ∷ [])) in
+    ap (slice_get (xs ++ x ∷ [])) at ∙ get_pushed xs x
+
+-- the tokens of `$}`, with one statement more
+closing_more : (so_far : List PlainStatement) (s : PlainStatement)
+    → closing_tokens (so_far ++ s ∷ []) ≡ closing_tokens so_far ++ closing_tokens (s ∷ [])
+closing_more so_far s =
+    ap (map (λ (t : PlainStatement). t.first))
+    (filter-append (λ (t : PlainStatement). is_closing t.kind) so_far (s ∷ []))
+    ∙ map-append (λ (t : PlainStatement). t.first)
+    (filter (λ (t : PlainStatement). is_closing t.kind) so_far)
+    (filter (λ (t : PlainStatement). is_closing t.kind) (s ∷ []))
+
+-- the last `$}`, with one statement more
+last_closing : (so_far : List PlainStatement) (s : PlainStatement) (b : Bool)
+    → is_closing s.kind ≡ b
+    → last_of (closing_tokens (so_far ++ s ∷ []))
+    ≡ (if b then Some s.first else last_of (closing_tokens so_far))
+last_closing so_far s true is =
+    let own : closing_tokens (s ∷ []) ≡ s.first ∷ [] = rw is refl in
+    ap last_of (closing_more so_far s ∙ ap (λ ts. closing_tokens so_far ++ ts) own)
+    ∙ last_pushed (closing_tokens so_far) s.first
+last_closing so_far s false is =
+    let own : closing_tokens (s ∷ []) ≡ [] = rw is refl in
+    ap last_of (closing_more so_far s ∙ ap (λ ts. closing_tokens so_far ++ ts) own
+    ∙ append-nil (closing_tokens so_far))
+
+-- one more statement is read
+pub reading_on : {all : List PlainStatement} {ending : Option PlainFault} {old : Remaining}
+    {closed : Option PlainToken} → IsReading all ending old closed → (new : Remaining)
+    (s : PlainStatement) → ReadsOn old true s new → (b : Bool) → is_closing s.kind ≡ b
+    → IsReading all ending new (if b then Some s.first else closed)
+reading_on r new s on b is = record {
+  so_far = r.so_far ++ s ∷ [];
+  whole = r.whole ∙ ap (λ ss. r.so_far ++ ss) on.0
+      ∙ sym (append_assoc r.so_far (s ∷ []) new.statements);
+  same = on.1 ∙ r.same;
+  last = rw r.last (sym (last_closing r.so_far s b is));
+}
+
+-- ==== the facts
+
+-- what tells the origins of any fault that the files are refused for with this refusal
+abbrev pub TellsAll : List PlainFile → PlainRefusal → (old new : List ℕ) → Type 0
+TellsAll files refusal old new =
+    (statements : List PlainStatement) (fault : PlainFault) → Reads files statements (Some fault)
+    → refusal ≡ text_refusal files fault → TellsOrigins files statements fault old new
+
+-- a fault of another rule stands in a statement
+other_origins : (files : List PlainFile) (statements : List PlainStatement) (fault : PlainFault)
+    (rule : TextRule) (details : List Detail) → ¬ (rule ≡ X3) → ¬ (rule ≡ S6)
+    → details ≡ statements_begun files (label_before fault.label fault.file fault.at)
+    → AreOrigins files statements fault rule details
+other_origins files statements fault X3 details comment block e = absurd (comment refl)
+other_origins files statements fault S6 details comment block e = absurd (block refl)
+other_origins files statements fault rule details comment block e = e
+
+module _ {T E : Type 0} (files : List PlainFile) (refusal : PlainRefusal) (old new : List ℕ) where
+  -- for X3 the comment
+  pub comment_told : (r : Result T E) → refusal.rule ≡ rules.Text X3
+      → OnOk r (BeginsComment files refusal.file refusal.at old new)
+      → OnOk r (TellsAll files refusal old new)
+  comment_told (Err e) is begins = tt
+  comment_told (Ok v) is begins = λ statements fault reads refused.
+      let told : rules.Text fault.rule ≡ rules.Text X3 =
+      ap (λ (p : PlainRefusal). p.rule) (sym refused) ∙ is in
+      let rule : fault.rule ≡ X3 = cc told in
+      let last = subst
+      (λ (p : PlainRefusal). IsLastOpening (take p.at (bytes_of files p.file)) begins.begin) refused
+      begins.last in
+      record {
+        details = comments_begun files fault.file begins.begin;
+        begun = subst (λ (t : TextRule). AreOrigins files statements fault t
+            (comments_begun files fault.file begins.begin)) (sym rule) (begins.begin, last, refl);
+        put = begins.put
+            ∙ ap (λ (p : PlainRefusal). old
+            ++ details_text (comments_begun files p.file begins.begin)) refused;
+      }
+
+  -- for S6 the last block that is closed
+  pub block_told : (r : Result T E) (closed : Option PlainToken)
+      → refusal.rule ≡ rules.Text S6
+      → ((statements : List PlainStatement) (fault : PlainFault)
+      → Reads files statements (Some fault) → closed ≡ last_of (closing_tokens statements))
+      → OnOk r (new ≡ old ++ details_text (blocks_closed files closed))
+      → OnOk r (TellsAll files refusal old new)
+  block_told (Err e) closed is last put = tt
+  block_told (Ok v) closed is last put = λ statements fault reads refused.
+      let told : rules.Text fault.rule ≡ rules.Text S6 =
+      ap (λ (p : PlainRefusal). p.rule) (sym refused) ∙ is in
+      let rule : fault.rule ≡ S6 = cc told in
+      record {
+        details = blocks_closed files closed;
+        begun = subst (λ (t : TextRule). AreOrigins files statements fault t
+            (blocks_closed files closed)) (sym rule)
+            (ap (blocks_closed files) (last statements fault reads));
+        put = put;
+      }
+
+  -- else the statement
+  pub statement_told : (r : Result T E) (label met : Option PlainToken)
+      → ¬ (refusal.rule ≡ rules.Text X3) → ¬ (refusal.rule ≡ rules.Text S6)
+      → label ≡ label_before met refusal.file refusal.at
+      → ((statements : List PlainStatement) (fault : PlainFault)
+      → Reads files statements (Some fault) → met ≡ fault.label)
+      → OnOk r (new ≡ old ++ details_text (statements_begun files label))
+      → OnOk r (TellsAll files refusal old new)
+  statement_told (Err e) label met comment block before own put = tt
+  statement_told (Ok v) label met comment block before own put = λ statements fault reads refused.
+      let rule : refusal.rule ≡ rules.Text fault.rule = ap (λ (p : PlainRefusal). p.rule) refused in
+      let same : label ≡ label_before fault.label fault.file fault.at =
+      before ∙ ap (λ o. label_before o refusal.file refusal.at) (own statements fault reads)
+      ∙ ap (λ (p : PlainRefusal). label_before fault.label p.file p.at) refused in
+      record {
+        details = statements_begun files label;
+        begun = other_origins files statements fault fault.rule (statements_begun files label)
+            (λ is. comment (rule ∙ ap rules.Text is)) (λ is. block (rule ∙ ap rules.Text is))
+            (ap (statements_begun files) same);
+        put = put;
+      }
+
+-- the token, and then where what it stands in began
+pub text_told : (files : List PlainFile) (refusal : PlainRefusal)
+    (statements : List PlainStatement) (fault : PlainFault) → Reads files statements (Some fault)
+    → refusal ≡ text_refusal files fault → (bytes token start middle out : List ℕ)
+    → bytes ≡ bytes_of files refusal.file → token ≡ token_from bytes refusal.at → start ≡ []
+    → middle ≡ start ++ detail_text (token_at_fault token)
+    → TellsOrigins files statements fault middle out
+    → (details : List Detail) × AreTextFacts files refusal refusal.at details
+    × (out ≡ details_text details)
+text_told files refusal statements fault reads refused bytes token start middle out from is none put
+    told =
+    let word : token ≡ token_from (bytes_of files fault.file) fault.at =
+    is ∙ ap (λ b. token_from b refusal.at) from
+    ∙ ap (λ (p : PlainRefusal). token_from (bytes_of files p.file) p.at) refused in
+    let first : middle ≡ detail_text (token_at_fault (token_from (bytes_of files fault.file) fault.at)) =
+    put ∙ ap (λ s. s ++ detail_text (token_at_fault token)) none
+    ∙ ap (λ t. detail_text (token_at_fault t)) word in (
+      token_at_fault (token_from (bytes_of files fault.file) fault.at) ∷ told.details,
+      record {
+        statements = statements;
+        fault = fault;
+        reads = reads;
+        refused = refused;
+        there = ap (λ (p : PlainRefusal). p.at) refused;
+        origins = told.details;
+        begun = told.begun;
+        told = refl;
+      },
+      told.put ∙ ap (λ m. m ++ details_text told.details) first,
+    )
+
+-- ==== the search for a label
+
+-- what is offered is the label of a statement that was left
+pub label_met : (all : List PlainStatement) (old new : Remaining) (found : Option (Bor (List ℕ)))
+    (s : PlainStatement) (label : List ℕ) → IsSearching all old found → ReadsOn old true s new
+    → option_map (λ (t : PlainToken). t.text) s.label ≡ Some label → IsLabelOf all label
+label_met all old new found s label search on is =
+    let there : slice_get all (length search.so_far) ≡ Some s =
+    ap (λ (ss : List PlainStatement). slice_get ss (length search.so_far))
+    (search.whole ∙ ap (λ ss. search.so_far ++ ss) on.0)
+    ∙ get_parted search.so_far new.statements s in
+    (s, (length search.so_far, there, is))
+
+module _ (all : List PlainStatement) (old new : Remaining) (found : Option (Bor (List ℕ)))
+    (s : PlainStatement) (search : IsSearching all old found) (on : ReadsOn old true s new) where
+  more_so_far : all ≡ (search.so_far ++ s ∷ []) ++ new.statements
+  more_so_far =
+      search.whole ∙ ap (λ ss. search.so_far ++ ss) on.0
+      ∙ sym (append_assoc search.so_far (s ∷ []) new.statements)
+
+  -- a statement without a label is passed over
+  pub searched_past : IsSearching all new found
+  searched_past =
+      record { so_far = search.so_far ++ s ∷ []; whole = more_so_far; labels = search.labels }
+
+  -- the label of another is offered
+  pub searched_on : (label : Bor (List ℕ)) (after : Option (Bor (List ℕ)))
+      → option_map (λ (t : PlainToken). t.text) s.label ≡ Some label.now
+      → (after ≡ found) ⊎ (after ≡ Some label) → IsSearching all new after
+  searched_on label after is kept = record {
+    so_far = search.so_far ++ s ∷ [];
+    whole = more_so_far;
+    labels = name_kept (IsLabelOf all) label found after search.labels
+        (label_met all old new found s label.now search on is) kept;
+  }
+
+-- what a new reader has left is the statements of the files
+pub labels_in : (files : List PlainFile) (left : Remaining) (found : Option (Bor (List ℕ)))
+    → IsUnread files left → IfSome found (λ near. IsLabelOf left.statements near.now)
+    → IfSome found (λ near. IsLabelIn files near.now)
+labels_in files left None unread labels = tt
+labels_in files left (Some near) unread labels =
+    (left.statements, left.ending, unread.reads, labels)
