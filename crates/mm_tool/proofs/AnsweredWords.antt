@@ -2,44 +2,40 @@
 -- do, and so the words are answered.
 use Rattle.std.proofs.Common.{ℕ, ◌+◌, ◌≤◌, List, ◌++◌, length, length-append, take, Option, Result}
 use Rattle.std.proofs.Common.{Ok, Err, OnOk, OnErr, inl, inr, ap, ◌∙◌, arith, ◌≡◌, codes, IfErr}
-use Rattle.std.proofs.Common.{IsErrAnd, IsErrOf, refl, sym, map, ◌<◌, IfOk, subst, Bor, Some}
+use Rattle.std.proofs.Common.{IsErrAnd, refl, sym, map, ◌<◌, IfOk, subst, Bor, Some}
 use Rattle.std.proofs.Common.{option_map}
 use Rattle.std.proofs.lemmas.List.{take-append-le, length-map}
 use Rattle.std.proofs.Math.Seq.{take-append-add}
 use Rattle.std.proofs.KnownBytes.{Appends-trans}
 use Rattle.mm_text.specs.declared.counted.Counted.{Counted}
-use Rattle.mm_tool.specs.Ending.{BreaksOff, TakesWhole, TellsLine, AsksNamed, StopsRun, stop_of}
+use Rattle.mm_tool.specs.Ending.{BreaksOff, TakesWhole, TellsLine, AsksNamed, StopsRun}
 use Rattle.mm_tool.specs.Ending.{IsProofRead, IsTextReplyOver, IsTextCommand, StopsText, Ends}
 use Rattle.mm_tool.specs.Ending.{EndsWithoutWords, AnswersWords, IsReplyOver, Stops, TellsNotes}
 use Rattle.mm_tool.specs.Ending.{error_line, stop_status, unread_stop, AddsLabel, IsHelp}
 use Rattle.mm_tool.specs.Ending.{IsHelpFault, label_of}
 use Rattle.std.specs.List.{AllZip}
-use Rattle.mm_text.proofs.Lists.{zip_length, error_keeps}
-use Rattle.mm_check.specs.Reply.{AsksHanded, IsReplyTo, WritesBeginningOf}
+use Rattle.mm_text.proofs.Lists.{zip_length}
+use Rattle.mm_check.specs.Reply.{AsksHanded}
 use Rattle.mm_check.specs.declared.command.Command.TheVariants.{File}
 use Rattle.mm_tool.specs.ReadFiles.{IsReadAs}
 use Rattle.mm_tool.specs.declared.files.Comments.{Comments}
-use Rattle.mm_text.specs.Device.{faults_of, inner_of}
-use Rattle.mm_text.specs.Files.{PlainFile, total_bytes}
+use Rattle.mm_text.specs.Files.{PlainFile}
 use Rattle.mm_check.specs.declared.command.Command.{Command}
-use Rattle.mm_check.specs.declared.command.RunFault.{RunFault}
 use Rattle.mm_check.specs.declared.status.Status.{Status}
-use Rattle.mm_tool.specs.Folder.{AreHeld, AreTooLong, KnownFile, MayHold}
+use Rattle.mm_tool.specs.Folder.{AreTooLong, KnownFile, MayHold}
 use Rattle.mm_tool.specs.Answer.{Outcome, quiet, outcome_of}
-use Rattle.mm_tool.specs.Notes.{AreNotesOn}
 use Rattle.mm_tool.specs.declared.stop.Stop.{Stop}
 use Rattle.mm_tool.specs.declared.stop.Stop.TheVariants.{CannotWrite, Memory, Usage, CannotRead}
 use Rattle.std.specs.Global.{Vec}
 use Rattle.mm_check.specs.Status.{number_of}
-use Rattle.mm_tool.specs.Words.{Asks, AsksExplain, AsksHelp, AsksRun, AsksText}
-use Rattle.mm_tool.specs.Explained.{IsExplanation}
+use Rattle.mm_tool.specs.Words.{Asks, AsksExplain, AsksHelp, AsksRun, AsksText, IsWordFault}
+use Rattle.mm_tool.specs.Explained.{IsExplanation, IsExplanationFault}
 use Rattle.mm_tool.specs.declared.words.Request.{Request}
 use Rattle.mm_tool.specs.declared.words.TextQuestion.{TextQuestion}
 use Rattle.mm_tool.specs.declared.words.Request.TheVariants.{Help, Explain, Run}
 use Rattle.mm_tool.specs.declared.answer.Answer.{Answer}
 use Rattle.mm_tool.specs.declared.folder.ArgumentFault.{ArgumentFault}
 use Rattle.mm_tool.specs.declared.texts.Texts.{Texts}
-use Rattle.mm_check.specs.declared.command.RunFault.TheVariants as run
 use Rattle.mm_tool.specs.declared.folder.ArgumentFault.TheVariants as argument
 
 -- ==== texts that are written one after the other
@@ -100,9 +96,6 @@ told_line contents text (Err e) a b whole broke = inr broke
 
 -- ==== how a command over files ends, from how its parts end
 
-abbrev run_error : RunFault → Result Status RunFault
-run_error fault = Err fault
-
 module _ {O : Type 0} (contents : O → Option (List ℕ)) (holds : List ℕ → KnownFile)
     (may_fail : List ℕ → Type 0) (command : Command) (names : List (List ℕ)) (max : ℕ) where
   -- The line that the files hold too many bytes broke off.
@@ -114,35 +107,26 @@ module _ {O : Type 0} (contents : O → Option (List ℕ)) (holds : List ℕ →
   stops_too_long (Err s) old new stop broke long =
       rw stop (codes "load F3\n", quiet 4, inr (long, refl, refl), broke)
 
-  -- The reply over the files that were read broke off, or memory for it was wanting.
-  pub stops_at_run : {T : Type 0} (r : Result T Stop) (fault : RunFault)
-      (given files : List PlainFile) (notes : List ℕ) (old new : Counted O)
-      → IsErrAnd r (λ stop. stop ≡ stop_of fault)
-      → ((text : List ℕ) (status : ℕ) → IsReplyTo given command text status
-      → IsReplyTo files command text status)
-      → AreHeld holds names files → total_bytes files ≤ max → AreNotesOn files notes
-      → (IsErrOf (run_error fault) run.Device
-      → WritesBeginningOf given command (contents (inner_of old)) (contents (inner_of new)))
-      → (IsErrOf (run_error fault) run.Memory → inner_of new ≡ inner_of old)
-      → (IsErrOf (run_error fault) run.Device → faults_of new ≡ faults_of old + 1)
-      → ((IsErrOf (run_error fault) run.Device → ⊥) → faults_of new ≡ faults_of old)
+  -- The reply over the files that were read was written.
+  pub replies_written : (r : Result Answer Stop) (text : List ℕ) (outcome : Outcome)
+      (old new : Counted O) → IfOk r (λ answer. outcome_of answer ≡ outcome)
+      → OnOk r (TakesWhole contents text old new)
+      → IsReplyOver holds command names max text outcome
+      → IfOk r (λ answer. (told : List ℕ)
+      × IsReplyOver holds command names max told (outcome_of answer)
+      × TakesWhole contents told old new)
+  replies_written (Ok answer) text outcome old new is whole reply =
+      (text, subst (IsReplyOver holds command names max text) (sym is) reply, whole)
+  replies_written (Err s) text outcome old new is whole reply = tt
+
+  -- It broke off.
+  pub stops_written : {T : Type 0} (r : Result T Stop) (text : List ℕ) (outcome : Outcome)
+      (old new : Counted O) → IfErr r (λ stop. stop ≡ CannotWrite)
+      → OnErr r (BreaksOff contents text old new)
+      → IsReplyOver holds command names max text outcome
       → IfErr r (λ stop. StopsRun contents holds may_fail command names max stop old new)
-  stops_at_run r run.Device given files notes old new is same held within noted device memory
-      counted uncounted =
-      let (text, status, reply, beginning) = device refl in
-      let outcome : Outcome = record { status = status; notes = notes } in
-      error_keeps r CannotWrite
-      (λ stop. StopsRun contents holds may_fail command names max stop old new) is (
-        text,
-        outcome,
-        inl (files, held, within, same text status reply, noted),
-        (beginning, counted refl),
-      )
-  stops_at_run r run.Memory given files notes old new is same held within noted device memory
-      counted uncounted =
-      error_keeps r Memory
-      (λ stop. StopsRun contents holds may_fail command names max stop old new) is
-      (memory refl, uncounted (λ other. absurd (cc)))
+  stops_written (Ok v) text outcome old new stop broke reply = tt
+  stops_written (Err s) text outcome old new stop broke reply = rw stop (text, outcome, reply, broke)
 
 -- The file about which a command asks is one of those that were read, of which there are as many as
 -- names.
@@ -180,6 +164,12 @@ pub helped : (holds : List ℕ → KnownFile) (texts : Texts) (max : ℕ) (words
 helped holds texts max words request topic page text asked is helps same =
     inl (_, rw is at asked, rw same helps, refl)
 
+-- The words ask for the explanation of their request.
+pub asks_explained : (words : List (List ℕ)) (request : Request) (asked : Vec (Bor (List ℕ)))
+    (given : List (Bor (List ℕ))) → Asks words request → request ≡ Explain asked
+    → given ≡ asked.items → AsksExplain words (map (λ code. code.now) given)
+asks_explained words request asked given asks is same = rw same (rw is at asks)
+
 -- And so does the text for a request for an explanation.
 pub explained : (holds : List ℕ → KnownFile) (texts : Texts) (max : ℕ) (words : List (List ℕ))
     (request : Request) (asked : Vec (Bor (List ℕ))) (given : List (Bor (List ℕ)))
@@ -187,7 +177,7 @@ pub explained : (holds : List ℕ → KnownFile) (texts : Texts) (max : ℕ) (wo
     → IsExplanation texts (map (λ code. code.now) given) said → text ≡ said
     → AnswersWords holds texts max words text (quiet 0)
 explained holds texts max words request asked given said text asks is same explains written =
-    let named : AsksExplain words (map (λ code. code.now) given) = rw same (rw is at asks) in
+    let named = asks_explained words request asked given asks is same in
     inr (inr (inl (_, named, rw written explains, refl)))
 
 -- The words ask for the command of their request over the files that it names.
@@ -218,6 +208,26 @@ module _ {O : Type 0} (contents : O → Option (List ℕ)) (holds : List ℕ →
       rw is (inr (inr (topic, asked, fault)), (refl, refl))
   stops_help topic (Err s) Memory out asked fault is = rw is (refl, refl)
   stops_help topic (Err s) stop out asked fault is = absurd fault
+
+  -- The words are refused, or memory ran out.
+  pub stops_refused : {T : Type 0} (r : Result T Stop) (stop : Stop) (out : Counted O)
+      → IsWordFault words stop → IsErrAnd r (λ s. s ≡ stop)
+      → IfErr r (λ s. Stops contents holds may_fail texts max words s out out)
+  stops_refused (Ok v) stop out fault is = tt
+  stops_refused (Err s) (Usage text) out fault is = rw is (inl fault, (refl, refl))
+  stops_refused (Err s) Memory out fault is = rw is (refl, refl)
+  stops_refused (Err s) stop out fault is = absurd fault
+
+  -- No rule has the code for which the words ask, or memory ran out.
+  pub stops_unexplained : {T : Type 0} (asked : List (List ℕ)) (r : Result T Stop) (stop : Stop)
+      (out : Counted O) → AsksExplain words asked → IsExplanationFault texts asked stop
+      → IsErrAnd r (λ s. s ≡ stop)
+      → IfErr r (λ s. Stops contents holds may_fail texts max words s out out)
+  stops_unexplained asked (Ok v) stop out named fault is = tt
+  stops_unexplained asked (Err s) (Usage text) out named fault is =
+      rw is (inr (inl (asked, named, fault)), (refl, refl))
+  stops_unexplained asked (Err s) Memory out named fault is = rw is (refl, refl)
+  stops_unexplained asked (Err s) stop out named fault is = absurd fault
 
   -- Where the command that the words ask for ended without a reply, the words have no answer.
   pub stops_command : (command : Command) (names : List (List ℕ))

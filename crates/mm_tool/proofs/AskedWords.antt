@@ -35,7 +35,7 @@ use Rattle.mm_check.specs.declared.form.Form.{Form}
 use Rattle.mm_tool.specs.Ending.{AsksNamed}
 use Rattle.mm_tool.specs.Words.{AsksForm, AsksRun, IsAllFault, IsGiven, name_of_form, number_among}
 use Rattle.mm_tool.specs.Words.{AreMatchesOf, Asks, Commands, IsAccepted, IsFaultOfKind, IsOfKind}
-use Rattle.mm_tool.specs.Words.{IsWordFault, command_line, first_command}
+use Rattle.mm_tool.specs.Words.{AsksAxioms, IsFilesFault, IsWordFault, command_line, first_command}
 use Rattle.mm_tool.specs.declared.words.Request.{Request}
 use Rattle.mm_tool.specs.declared.words.Request.TheVariants.{Help, Version, Run}
 use Rattle.mm_tool.specs.declared.stop.Stop.{Stop}
@@ -249,9 +249,9 @@ module _ (rows : List Row) (form : Form) (whole given : Bool) (name : Text)
       → IsWordFault words stop)
   all_refused names (Ok request) files h = tt
   all_refused names (Err (Usage text)) files (inl both) = λ words commands.
-      inr (inr (form, rows, commands, rw is_given at all, inl (rw both at file)))
+      inr (inr (inl (form, rows, commands, rw is_given at all, inl (rw both at file))))
   all_refused names (Err (Usage text)) files (inr none) = λ words commands.
-      inr (inr (form, rows, commands, rw is_given at all, inr (rw (word, files) at none)))
+      inr (inr (inl (form, rows, commands, rw is_given at all, inr (rw (word, files) at none))))
   all_refused names (Err Memory) files h = λ words commands. tt
   all_refused names (Err other) files h = absurd h
 
@@ -264,6 +264,25 @@ pub form_asked : (words : List Text) (form : Form) (rows : List Row) (whole give
     → AsksForm (name_of_form form) words label whole names
 form_asked words form rows whole given label names commands file all not_given word files =
     (rows, commands, sym word, file, rw not_given at all, sym files)
+
+-- They ask on which axioms the theorem with a label rests, where `--all` isn't given.
+pub axioms_asked : (words : List Text) (rows : List Row) (given : Bool) (found parts : List Text)
+    (label : Text) (names : List Text) → Commands words (codes "axioms") rows
+    → IsGiven (codes "all") rows given → given ≡ false
+    → found ≡ unwrap_or (all_of (codes "FILES") rows) [] → parts ≡ found
+    → (parts ≡ label ∷ names) × (names ≢ []) → AsksAxioms words label names
+axioms_asked words rows given found parts label names commands all not_given files same (is, some) =
+    (rows, commands, rw not_given at all, sym (same ∙ files) ∙ is, some)
+
+-- Where no file follows the label, the words are refused.
+pub files_refused : (rows : List Row) (given : Bool) (found parts : List Text) (stop : Stop)
+    → IsGiven (codes "all") rows given → given ≡ false
+    → found ≡ unwrap_or (all_of (codes "FILES") rows) [] → parts ≡ found → IsFilesFault parts stop
+    → (words : List Text) → Commands words (codes "axioms") rows → IsWordFault words stop
+files_refused rows given found parts (Usage text) all not_given files same few = λ words commands.
+    inr (inr (inr (inl (rows, commands, rw not_given at all, rw (same ∙ files) at few))))
+files_refused rows given found parts Memory all not_given files same few = λ words commands. tt
+files_refused rows given found parts other all not_given files same few = absurd few
 
 -- ==== the code that words ask for, and the rule that has it
 

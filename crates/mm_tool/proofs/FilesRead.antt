@@ -3,7 +3,7 @@ use Rattle.std.proofs.Common.{◌≡◌, ℕ, suc, ◌+◌, ◌<◌, List, ◌�
 use Rattle.std.proofs.Common.{get_or, Result, Err, IsErrOf, refl, sym, ap, ◌∙◌, arith, Bor}
 use Rattle.std.proofs.Common.{take-append-drop, ◌≤◌, [], ap₂, subst, Option, Some, IfSome, zero}
 use Rattle.std.proofs.Common.{filter, Bool, true, false, cond, append_assoc, Ok, OnOk, is_ok}
-use Rattle.std.proofs.Common.{if◌then◌else◌}
+use Rattle.std.proofs.Common.{if◌then◌else◌, inr}
 use Rattle.std.proofs.Math.Seq.{drop-cons}
 use Rattle.std.proofs.lemmas.List.{map-append, take_more, length-map}
 use Rattle.std.specs.List.{AllByRecursion, AllZip, range_with_len}
@@ -31,7 +31,10 @@ use Rattle.mm_text.specs.declared.file.File.{File}
 use Rattle.mm_text.specs.Included.{AlikeFilesLeaveOutTheSame, is_left_out, left_out}
 use Rattle.mm_text.proofs.Lists.{all_at, all_weaker}
 use Rattle.mm_check.proofs.Verdicts.AlikeVerdicts.{alike_back, breaks_alike, name_alike}
-use Rattle.mm_tool.specs.Notes.{AreLeftOut, AreNotesOn}
+use Rattle.mm_tool.specs.Ending.{label_of}
+use Rattle.mm_check.specs.Near.{IsLabelIn}
+use Rattle.mm_tool.specs.Notes.{AreLeftOut, AreNotesBeside, AreNotesOn, IsNearLine, near_line}
+use Rattle.mm_tool.specs.Notes.{unknown_text}
 
 -- ==== from the reading of one file to that of all
 
@@ -211,6 +214,16 @@ three_parts (Ok v) old first second new a b d one two three =
     rw (three, two, one) (simp append_assoc)
 three_parts (Err e) old first second new a b d one two three = tt
 
+-- The line on a near label was put at the end, where the reply says that no statement has the asked
+-- one.
+pub near_told : {T E : Type 0} (r : Result T E) (files : List PlainFile) (asked : Option (List ℕ))
+    (label reply near old new : List ℕ) → asked ≡ Some label → reply ≡ unknown_text label
+    → IsLabelIn files near → OnOk r (new ≡ old ++ near_line near)
+    → OnOk r ((line : List ℕ) × IsNearLine files asked reply line × (new ≡ old ++ line))
+near_told (Ok v) files asked label reply near old new is unknown among put =
+    (near_line near, rw is (inr (unknown, near, among, refl)), put)
+near_told (Err e) files asked label reply near old new is unknown among put = tt
+
 -- ---- files that were read
 
 -- the names by numbers are the same
@@ -237,17 +250,35 @@ names_left_out_alike law files others alike small short names are = record {
 }
 
 -- The notes on files as they were read are those on the whole files.
-pub notes_over : AlikeFilesLeaveOutTheSame → (comments : Comments) (command : Command) (max : ℕ)
-    → (comments ≡ LeftOut → ((profile : Profile) × (command ≡ Whole profile Check)) × (max ≤ most_bytes))
-    → (wholes reads : List PlainFile) → AllZip (IsReadAs comments) wholes reads
-    → total_bytes wholes ≤ max → (notes : List ℕ) → AreNotesOn reads notes → AreNotesOn wholes notes
-notes_over law Kept command max only wholes reads all within notes on =
-    subst (λ files. AreNotesOn files notes) (same_files wholes reads all) on
-notes_over law LeftOut command max only wholes reads all within notes (names, are, made) =
-    let few = (only refl).1 in
+files_noted_over : AlikeFilesLeaveOutTheSame → (wholes reads : List PlainFile)
+    → AllZip (IsReadAs LeftOut) wholes reads → total_bytes wholes ≤ most_bytes → (notes : List ℕ)
+    → AreNotesOn reads notes → AreNotesOn wholes notes
+files_noted_over law wholes reads all few notes (names, are, made) =
     let fewer = fewer_bytes wholes reads all in
     let alike = alike_files wholes reads all in (
       names,
-      names_left_out_alike law reads wholes alike (omega arith) (omega arith) names are,
+      names_left_out_alike law reads wholes alike (omega arith) few names are,
       made,
     )
+
+-- So are those beside a reply.
+pub notes_over : AlikeFilesLeaveOutTheSame → (comments : Comments) (command : Command) (max : ℕ)
+    → (comments ≡ LeftOut → ((profile : Profile) × (command ≡ Whole profile Check)) × (max ≤ most_bytes))
+    → (wholes reads : List PlainFile) → AllZip (IsReadAs comments) wholes reads
+    → total_bytes wholes ≤ max → (reply notes : List ℕ)
+    → AreNotesBeside reads (label_of command) reply notes
+    → AreNotesBeside wholes (label_of command) reply notes
+notes_over law Kept command max only wholes reads all within reply notes beside =
+    subst (λ files. AreNotesBeside files (label_of command) reply notes)
+    (same_files wholes reads all) beside
+notes_over law LeftOut command max only wholes reads all within reply notes beside =
+    let ((profile, check), most) = only refl in
+    let none : beside.near ≡ [] = rw check at beside.label_noted in
+    record {
+      on_files = beside.on_files;
+      near = beside.near;
+      files_noted = files_noted_over law wholes reads all (omega arith) beside.on_files
+          beside.files_noted;
+      label_noted = rw check none;
+      whole = beside.whole;
+    }

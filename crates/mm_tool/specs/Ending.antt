@@ -18,15 +18,13 @@ use Rattle.mm_check.specs.declared.question.Question.TheVariants.{Same}
 use Rattle.mm_check.specs.declared.question.LoneQuestion.TheVariants as lone
 use Rattle.mm_tool.specs.declared.words.TextQuestion.{TextQuestion}
 use Rattle.mm_tool.specs.declared.words.TextQuestion.TheVariants as of_text
-use Rattle.mm_check.specs.declared.command.RunFault.{RunFault}
-use Rattle.mm_check.specs.declared.command.RunFault.TheVariants as run
 use Rattle.mm_check.specs.declared.status.Status.{Status}
 use Rattle.mm_check.specs.declared.status.Status.TheVariants as status
 use Rattle.clap.specs.Words.{Text}
 use Rattle.mm_tool.specs.Folder.{AreHeld, AreTooLong, IsHeld, IsUnreadable, KnownFile, MayHold}
 use Rattle.mm_tool.specs.Answer.{Outcome, quiet}
 use Rattle.mm_tool.specs.Explained.{IsExplanation, IsUnknownCode}
-use Rattle.mm_tool.specs.Notes.{AreNotesOn}
+use Rattle.mm_tool.specs.Notes.{AreNotesBeside}
 use Rattle.mm_tool.specs.Words.{AsksHelp, AsksVersion, AsksExplain, AsksRun, AsksText}
 use Rattle.mm_tool.specs.Words.{AreRefusedWords}
 use Rattle.mm_tool.specs.declared.folder.ArgumentFault.{ArgumentFault}
@@ -59,12 +57,20 @@ IsUntouched old new = (inner_of new ≡ inner_of old) × (faults_of new ≡ faul
 
 -- ---- answers
 
--- This is the reply to the command over the files with these names, with the notes on those that
--- weren't included; or the one that says that they hold too many bytes.
+-- the label that a command asks about
+abbrev pub label_of : Command → Option Text
+label_of (Whole profile question) = None
+label_of (About label question) = Some label.now
+label_of (Lone label question) = Some label.now
+label_of (File form number) = None
+
+-- This is the reply to the command over the files with these names, with the notes beside it; or the
+-- one that says that they hold too many bytes.
 abbrev pub IsReplyOver : (List ℕ → KnownFile) → Command → List Text → ℕ → List ℕ → Outcome → Type 0
 IsReplyOver holds command names max text outcome =
     ((files : List PlainFile) × AreHeld holds names files × (total_bytes files ≤ max)
-    × IsReplyTo files command text outcome.status × AreNotesOn files outcome.notes)
+    × IsReplyTo files command text outcome.status
+    × AreNotesBeside files (label_of command) text outcome.notes)
     ⊎ (AreTooLong holds names max × (text ≡ codes "load F3\n") × (outcome ≡ quiet 4))
 
 -- the command asks this about this text and the theorem with this label
@@ -125,11 +131,6 @@ AnswersWords holds texts max words text outcome =
 
 -- ---- ends without an answer
 
--- the end of the program where `run` didn't write the whole reply
-abbrev pub stop_of : RunFault → Stop
-stop_of run.Device = CannotWrite
-stop_of run.Memory = Memory
-
 -- the end of the program where the words weren't read
 abbrev pub unread_stop : ArgumentFault → Stop
 unread_stop argument.NotText = NotText
@@ -172,13 +173,6 @@ error_line NotText = codes "mm: a word is not UTF-8\n"
 error_line (CannotRead name label) = unread_lines name.now (option_map (λ l. l.now) label)
 error_line CannotWrite = codes "mm: cannot write\n"
 error_line Memory = codes "mm: out of memory\n"
-
--- the label that a command asks about
-abbrev pub label_of : Command → Option Text
-label_of (Whole profile question) = None
-label_of (About label question) = Some label.now
-label_of (Lone label question) = Some label.now
-label_of (File form number) = None
 
 -- the file about which a command asks is one of those with these names
 abbrev pub AsksNamed : Command → List Text → Type 0

@@ -1,11 +1,12 @@
--- The notes on files that were handed in and not included.
+-- The notes on files that were handed in and not included, and on a label that no statement has.
 use Rattle.std.specs.Prelude.{◌≡◌, ℕ, ◌-◌, ◌==◌, List, [], ◌++◌, length, map, take, codes, decimal}
-use Rattle.std.specs.Prelude.{if◌then◌else◌}
+use Rattle.std.specs.Prelude.{if◌then◌else◌, Option, Some, None, ◌⊎◌}
 use Rattle.std.specs.List.{flat_map}
 use Rattle.clap.specs.Words.{Text}
 use Rattle.mm_text.specs.declared.fault.LoadRule.{LoadRule}
 use Rattle.mm_text.specs.Files.{BreaksLoad, PlainFile}
 use Rattle.mm_text.specs.Included.{left_out}
+use Rattle.mm_check.specs.Near.{IsLabelIn}
 use Rattle.mm_check.specs.Reply.{name_of}
 
 -- the line on a file that wasn't included
@@ -40,3 +41,29 @@ pub record AreLeftOut (files : List PlainFile) (names : List Text) : Type 0 wher
 -- These are the notes on the files.
 abbrev pub AreNotesOn : List PlainFile → List ℕ → Type 0
 AreNotesOn files notes = (names : List Text) × AreLeftOut files names × (notes ≡ notes_on names)
+
+-- the reply that no statement has this label
+abbrev pub unknown_text : (label : Text) → List ℕ
+unknown_text label = codes "ask A1 " ++ (label ++ codes "\n")
+
+-- the line on a near label
+abbrev pub near_line : (near : List ℕ) → List ℕ
+near_line near = codes "mm: the nearest label is " ++ (near ++ codes "\n")
+
+-- This is said beside the reply to a command that asks about this label: where no statement has it,
+-- at most one line, with the label of a statement; else nothing.
+abbrev pub IsNearLine : List PlainFile → (asked : Option Text) → (reply line : List ℕ) → Type 0
+IsNearLine files None reply line = line ≡ []
+IsNearLine files (Some label) reply line =
+    (line ≡ [])
+    ⊎ ((reply ≡ unknown_text label)
+    × (near : List ℕ) × IsLabelIn files near × (line ≡ near_line near))
+
+-- These are the notes beside the reply: those on the files, and then the one on a near label.
+pub record AreNotesBeside (files : List PlainFile) (asked : Option Text) (reply notes : List ℕ)
+    : Type 0 where
+  pub on_files : List ℕ
+  pub near : List ℕ
+  pub files_noted : AreNotesOn files on_files
+  pub label_noted : IsNearLine files asked reply near
+  pub whole : notes ≡ on_files ++ near

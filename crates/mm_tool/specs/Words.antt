@@ -2,7 +2,7 @@
 -- them. The first word is the program's name.
 use Rattle.std.specs.Prelude.{◌≡◌, ◌≢◌, ◌↔◌, List, [], map, Some, Bool, true, IsTrue, codes}
 use Rattle.std.specs.Prelude.{ℕ, Option, None, find, option_and_then, option_map, position, slice_get}
-use Rattle.std.specs.Prelude.{unwrap_or, false, ◌⊎◌}
+use Rattle.std.specs.Prelude.{unwrap_or, false, ◌⊎◌, ◌∷◌, ◌<◌, length}
 use Rattle.std.specs.Str.{bytes_eq}
 use Rattle.clap.specs.Lexer.{usize_max}
 use Rattle.clap.specs.Simple.{label_of}
@@ -24,7 +24,7 @@ use Rattle.mm_check.specs.declared.question.WholeQuestion.TheVariants.{Check, Fa
 use Rattle.mm_check.specs.declared.question.LoneQuestion.{LoneQuestion}
 use Rattle.mm_check.specs.declared.question.LoneQuestion.TheVariants as lone
 use Rattle.mm_check.specs.declared.form.Form.{Form}
-use Rattle.mm_check.specs.declared.form.Form.TheVariants.{Normal, Packed}
+use Rattle.mm_check.specs.declared.form.Form.TheVariants.{Normal, Packed, Small}
 use Rattle.mm_proof.specs.declared.profile.Profile.{Profile}
 use Rattle.mm_proof.specs.declared.profile.Profile.TheVariants.{Strict, Lenient}
 use Rattle.mm_tool.specs.declared.words.Request.{Request}
@@ -50,7 +50,7 @@ label_rule = record (new_rule (codes "LABEL")) {
   action = Some Set;
 }
 
--- a flag: `--file`, `--all`, `--known` or `--strict`
+-- a flag: `--file`, `--all`, `--known`, `--essential`, `--uses` or `--strict`
 abbrev pub flag_rule : Text → Rule
 flag_rule name = record (new_rule name) {
   long = Some name;
@@ -98,13 +98,24 @@ why_line = profile_line (codes "why")
 abbrev pub question_line : Text → App
 question_line name = with_rule (with_rule (new_app name) label_rule) files_rule
 
--- `axioms LABEL FILES..`
+-- `axioms LABEL FILES..`, `axioms --all FILES..`: what stands behind the command are words, at least
+-- one; with `--all` all of them name files, else the first is the label
 abbrev pub axioms_line : App
-axioms_line = question_line (codes "axioms")
+axioms_line =
+    with_rule (with_rule (new_app (codes "axioms")) (flag_rule (codes "all"))) files_rule
 
--- `show [--known] LABEL FILES..`
+-- `statement LABEL FILES..`
+abbrev pub statement_line : App
+statement_line = question_line (codes "statement")
+
+-- `show [--known | --essential | --uses] LABEL FILES..`
 abbrev pub show_line : App
-show_line = with_rule (question_line (codes "show")) (flag_rule (codes "known"))
+show_line =
+    with_rule
+    (with_rule
+    (with_rule (question_line (codes "show")) (flag_rule (codes "known")))
+    (flag_rule (codes "essential")))
+    (flag_rule (codes "uses"))
 
 -- `users [--all] LABEL FILES..`
 abbrev pub users_line : App
@@ -124,6 +135,10 @@ normal_line = form_line (codes "normal")
 -- `packed [--file] LABEL FILES..`, `packed --all NAME FILES..`
 abbrev pub packed_line : App
 packed_line = form_line (codes "packed")
+
+-- `small [--file] LABEL FILES..`, `small --all NAME FILES..`
+abbrev pub small_line : App
+small_line = form_line (codes "small")
 
 -- a question about a proof's text and the theorem with a label: the command's name, and then
 -- `LABEL PROOF FILES..`
@@ -166,24 +181,29 @@ check_lines =
     with_subcommand (with_subcommand (with_subcommand bare_line check_line.top) faults_line.top)
     why_line.top
 
--- and those that ask something of it
+-- and those that ask what rests on what
+abbrev pub rests_line : App
+rests_line = with_subcommand (with_subcommand check_lines axioms_line.top) users_line.top
+
+-- and those that ask what stands there, and how it is proved
 abbrev pub database_line : App
-database_line =
-    with_subcommand
-    (with_subcommand (with_subcommand check_lines axioms_line.top) users_line.top) show_line.top
+database_line = with_subcommand (with_subcommand rests_line statement_line.top) show_line.top
 
 -- and those that ask for a proof in another form
 abbrev pub forms_line : App
-forms_line = with_subcommand (with_subcommand database_line normal_line.top) packed_line.top
+forms_line =
+    with_subcommand
+    (with_subcommand (with_subcommand database_line normal_line.top) packed_line.top) small_line.top
 
 -- and those that ask about a proof's text
 abbrev pub proofs_line : App
 proofs_line = with_subcommand (with_subcommand forms_line same_line.top) try_line.top
 
 -- `mm check [--strict] FILES..`, `mm faults [--strict] FILES..`, `mm why [--strict] FILES..`,
--- `mm axioms LABEL FILES..`, `mm users [--all] LABEL FILES..`, `mm show [--known] LABEL FILES..`,
--- `mm normal [--file] LABEL FILES..`, `mm packed [--file] LABEL FILES..`, both with
--- `--all NAME FILES..` too,
+-- `mm axioms LABEL FILES..`, `mm axioms --all FILES..`, `mm users [--all] LABEL FILES..`,
+-- `mm statement LABEL FILES..`, `mm show [--known | --essential | --uses] LABEL FILES..`,
+-- `mm normal [--file] LABEL FILES..`, `mm packed [--file] LABEL FILES..`,
+-- `mm small [--file] LABEL FILES..`, all three with `--all NAME FILES..` too,
 -- `mm same LABEL PROOF FILES..`, `mm try LABEL PROOF FILES..`, `mm explain [CODE..]`,
 -- `mm help [COMMAND]`, `mm version`, `mm --version`, and everywhere `--help`
 abbrev pub command_line : App
@@ -237,7 +257,7 @@ AsksExplain words asked =
     (rows : List Row) × Commands words (codes "explain") rows
     × (unwrap_or (all_of (codes "CODE") rows) [] ≡ asked)
 
--- They ask, by the command with this name, about the theorem with this label in the files with
+-- They ask, by the command with this name, about the statement with this label in the files with
 -- these names.
 abbrev pub AsksQuestion : Text → List Text → Text → List Text → Type 0
 AsksQuestion name words label names =
@@ -277,6 +297,7 @@ AsksForm name words label whole names =
 abbrev pub name_of_form : Form → Text
 name_of_form Normal = codes "normal"
 name_of_form Packed = codes "packed"
+name_of_form Small = codes "small"
 
 -- the number of the first of the files with these names that has the name
 abbrev pub number_among : List Text → (name : Text) → Option ℕ
@@ -301,14 +322,52 @@ AsksAllAmiss words =
     ⊎ (number_among (unwrap_or (all_of (codes "FILES") rows) [])
     (unwrap_or (first_of (codes "LABEL") rows) []) ≡ None))
 
--- They ask about the theorem with this label how it is proved, or with `--known` for the steps that
--- pass.
-abbrev pub AsksShow : List Text → (label : Text) → (known : Bool) → List Text → Type 0
-AsksShow words label known names =
+-- They ask on which axioms the theorem with this label rests: without `--all` the first word behind
+-- the command is the label, and the others, of which there is one at least, name the files.
+abbrev pub AsksAxioms : List Text → (label : Text) → List Text → Type 0
+AsksAxioms words label names =
+    (rows : List Row) × Commands words (codes "axioms") rows × IsGiven (codes "all") rows false
+    × (unwrap_or (all_of (codes "FILES") rows) [] ≡ label ∷ names) × (names ≢ [])
+
+-- With `--all` they ask on which axioms each theorem rests, and all those words name the files.
+abbrev pub AsksAllAxioms : List Text → List Text → Type 0
+AsksAllAxioms words names =
+    (rows : List Row) × Commands words (codes "axioms") rows × IsGiven (codes "all") rows true
+    × (unwrap_or (all_of (codes "FILES") rows) [] ≡ names)
+
+-- They ask so without `--all`, and name no file behind the label.
+abbrev pub AsksAxiomsAmiss : List Text → Type 0
+AsksAxiomsAmiss words =
+    (rows : List Row) × Commands words (codes "axioms") rows × IsGiven (codes "all") rows false
+    × (length (unwrap_or (all_of (codes "FILES") rows) []) < 2)
+
+-- Of the flags of `show` these are given, if so it is said.
+abbrev pub AreShowFlags : List Row → (known essential uses : Bool) → Type 0
+AreShowFlags rows known essential uses =
+    IsGiven (codes "known") rows known × IsGiven (codes "essential") rows essential
+    × IsGiven (codes "uses") rows uses
+
+-- They ask with these flags for the steps of the proof of the theorem with this label.
+abbrev pub AsksShow : List Text → (label : Text) → (known essential uses : Bool) → List Text
+    → Type 0
+AsksShow words label known essential uses names =
     (rows : List Row) × Commands words (codes "show") rows
     × (unwrap_or (first_of (codes "LABEL") rows) [] ≡ label)
-    × IsGiven (codes "known") rows known
+    × AreShowFlags rows known essential uses
     × (unwrap_or (all_of (codes "FILES") rows) [] ≡ names)
+
+-- Two of the flags are given, which exclude each other.
+abbrev pub AreSeveral : (known essential uses : Bool) → Type 0
+AreSeveral known essential uses =
+    (IsTrue known × IsTrue essential)
+    ⊎ ((IsTrue known × IsTrue uses) ⊎ (IsTrue essential × IsTrue uses))
+
+-- They ask so with two of them.
+abbrev pub AsksShowAmiss : List Text → Type 0
+AsksShowAmiss words =
+    (rows : List Row) × (known essential uses : Bool)
+    × Commands words (codes "show") rows × AreShowFlags rows known essential uses
+    × AreSeveral known essential uses
 
 -- They ask about the assertion with this label for the theorems whose proofs use it, or with `--all`
 -- for those that rest on it.
@@ -333,32 +392,38 @@ AsksText asked words label proof names =
     × (unwrap_or (first_of (codes "PROOF") rows) [] ≡ proof)
     × (unwrap_or (all_of (codes "FILES") rows) [] ≡ names)
 
--- the command that asks a question about the whole database; what each theorem rests on is asked by
--- none so far
-abbrev pub name_of_whole : WholeQuestion → Text
-name_of_whole Check = codes "check"
-name_of_whole Faults = codes "faults"
-name_of_whole Why = codes "why"
-name_of_whole Axioms = []
+-- They ask this question about the whole database in the files with these names, under this profile.
+-- On which axioms each theorem rests is asked under the lenient one, as questions about a theorem are.
+abbrev pub AsksWhole : List Text → WholeQuestion → Profile → List Text → Type 0
+AsksWhole words Check profile names = AsksUnder (codes "check") words profile names
+AsksWhole words Faults profile names = AsksUnder (codes "faults") words profile names
+AsksWhole words Why profile names = AsksUnder (codes "why") words profile names
+AsksWhole words Axioms profile names = (profile ≡ Lenient) × AsksAllAxioms words names
 
--- They ask this question about the theorem with this label in the files with these names. No words
--- alone ask to compare a text: it stands in a further file, which `AsksText` names.
+-- They ask this question about the statement with this label in the files with these names: how a
+-- theorem is proved by `show` without a flag, and by a flag what the steps of its proof use, or the
+-- essential ones. No words alone ask to compare a text: it stands in a further file, which `AsksText`
+-- names.
 abbrev pub AsksAbout : List Text → (label : Text) → Question → List Text → Type 0
-AsksAbout words label question.Axioms names = AsksQuestion (codes "axioms") words label names
-AsksAbout words label question.Show names = AsksShow words label false names
+AsksAbout words label question.Axioms names = AsksAxioms words label names
+AsksAbout words label question.Show names = AsksShow words label false false false names
+AsksAbout words label (question.Uses true) names = AsksShow words label false true false names
+AsksAbout words label (question.Uses false) names = AsksShow words label false false true names
 AsksAbout words label (question.Form form whole) names =
     AsksForm (name_of_form form) words label whole names
 AsksAbout words label (question.Same text) names = ⊥
 AsksAbout words label (question.Users all) names = AsksUsers words label all names
+AsksAbout words label question.Statement names = AsksQuestion (codes "statement") words label names
 
--- They ask this question about the theorem with this label alone. No words alone ask to try a text.
+-- They ask this question about the theorem with this label alone: by `show --known` for the steps that
+-- pass. No words alone ask to try a text.
 abbrev pub AsksLone : List Text → (label : Text) → LoneQuestion → List Text → Type 0
-AsksLone words label lone.Known names = AsksShow words label true names
+AsksLone words label lone.Known names = AsksShow words label true false false names
 AsksLone words label (lone.Try text) names = ⊥
 
 -- They ask to run this command over the files with these names.
 abbrev pub AsksRun : List Text → Command → List Text → Type 0
-AsksRun words (Whole profile asked) names = AsksUnder (name_of_whole asked) words profile names
+AsksRun words (Whole profile asked) names = AsksWhole words asked profile names
 AsksRun words (About label asked) names = AsksAbout words label.now asked names
 AsksRun words (Lone label asked) names = AsksLone words label.now asked names
 AsksRun words (File form number) names = AsksAll words form number names
@@ -384,6 +449,7 @@ abbrev pub NamesNoForm : List Text → Type 0
 NamesNoForm words =
     (rows : List Row)
     → ¬ Commands words (codes "normal") rows × ¬ Commands words (codes "packed") rows
+    × ¬ Commands words (codes "small") rows
     × ¬ Commands words (codes "same") rows × ¬ Commands words (codes "try") rows
 
 -- They name no command that asks for a text of the program itself.
@@ -400,11 +466,14 @@ NamesNoCommand words = IsAccepted words × NamesNoForm words × NamesNoText word
     → ¬ Commands words (codes "check") rows × ¬ Commands words (codes "faults") rows
     × ¬ Commands words (codes "why") rows
     × ¬ Commands words (codes "axioms") rows × ¬ Commands words (codes "users") rows
-    × ¬ Commands words (codes "show") rows)
+    × ¬ Commands words (codes "statement") rows × ¬ Commands words (codes "show") rows)
 
 -- The words aren't understood.
 abbrev pub AreRefusedWords : List Text → Type 0
-AreRefusedWords words = IsFaulty words ⊎ (NamesNoCommand words ⊎ AsksAllAmiss words)
+AreRefusedWords words =
+    IsFaulty words
+    ⊎ (NamesNoCommand words
+    ⊎ (AsksAllAmiss words ⊎ (AsksAxiomsAmiss words ⊎ AsksShowAmiss words)))
 
 -- why there is no request
 abbrev pub IsWordFault : List Text → Stop → Type 0
@@ -418,6 +487,12 @@ abbrev pub IsAllFault : (whole : Bool) → (name : Text) → List Text → Stop 
 IsAllFault whole name names (stop.Usage text) = (whole ≡ true) ⊎ (number_among names name ≡ None)
 IsAllFault whole name names stop.Memory = Unit {0}
 IsAllFault whole name names other = ⊥
+
+-- why no label stands before files among these words
+abbrev pub IsFilesFault : (words : List Text) → Stop → Type 0
+IsFilesFault words (stop.Usage text) = length words < 2
+IsFilesFault words stop.Memory = Unit {0}
+IsFilesFault words other = ⊥
 
 -- a request that stands in place of matches is one for help, on this topic, or for the version,
 -- which clap's answer says by its kind

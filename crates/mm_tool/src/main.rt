@@ -3,10 +3,12 @@
 
 mod answer;
 mod code_lines;
+mod command_line;
 mod explain;
 mod files;
 mod folder;
 mod help;
+mod near;
 mod notes;
 mod pages;
 mod rule_text;

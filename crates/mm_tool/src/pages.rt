@@ -82,9 +82,13 @@ Example:
 ";
 
 const AXIOMS: &str = "Usage: mm axioms LABEL FILES..
+       mm axioms --all FILES..
 
 Checks the database, and lists the axioms that the theorem with this label
 rests on, in the order of the database.
+
+Options:
+  --all   what each theorem rests on, a line for each
 
 Replies:
   LABEL, one on each line                                           status 0
@@ -99,9 +103,14 @@ Replies:
       The proof of this theorem holds a `?`.
   no, limit or load                                                 status 1, 4
       The database is refused: `mm help check`.
+  with --all, one on each line, in the order of the database:
+  LABEL, and then the axioms, and ?LABEL for each unproved theorem  status 0, 3
+  ? LABEL                                                           status 3
+      The proof of this theorem holds a `?`. Status 0 where there is none.
 
-Example:
+Examples:
   mm axioms id set.mm
+  mm axioms --all set.mm
 ";
 
 const USERS: &str = "Usage: mm users [--all] LABEL FILES..
@@ -127,20 +136,45 @@ Example:
   mm users ax-mp set.mm
 ";
 
-const SHOW: &str = "Usage: mm show [--known] LABEL FILES..
+const STATEMENT: &str = "Usage: mm statement LABEL FILES..
+
+Checks the database, and tells what stands at this label: a statement of any
+kind, and of an axiom or a theorem its frame.
+
+Replies:
+  FILE:LINE:COLUMN, and then lines as in the file, with no end      status 0
+      Where the statement begins. Of an axiom or a theorem these lines follow:
+      each mandatory hypothesis, in the order of the database; `$d X Y` for each
+      mandatory distinct pair; of a theorem `also $d X Y ..` for each `$d` that
+      says more, which holds in its proof. At the end the statement itself.
+  ask A1 LABEL                                                      status 1
+      No statement has this label.
+  no, limit or load                                                 status 1, 4
+      The database is refused: `mm help check`.
+
+Example:
+  mm statement ax-mp set.mm
+";
+
+const SHOW: &str = "Usage: mm show [--known | --essential | --uses] LABEL FILES..
 
 Checks the database, and lists the steps of the proof of the theorem with this
 label.
 
-Options:
-  --known   the steps that pass, whatever the other proofs: of a proof with a
-            `?` those before it, and what is on the stack there; of a proof at
-            fault those before the fault, and why it stops there
+Options, of which at most one is given:
+  --known       the steps that pass, whatever the other proofs: of a proof with
+                a `?` those before it, and what is on the stack there; of a
+                proof at fault those before the fault, and why it stops there
+  --uses        each step, with the steps that gave it its hypotheses
+  --essential   the steps that the last one is reached from through `$e`
+                hypotheses, each with the steps that gave it these
 
 Replies:
   STEP NAME EXPRESSION, one on each line                            status 0
       A step: its number, from 1; the label that it names, or @N where it
       repeats the expression of step N; and the symbols of its expression.
+  STEP USES NAME EXPRESSION, with --uses and --essential            status 0
+      USES is the numbers of those steps with commas between them, or -.
   ask A1 LABEL                                                      status 1
       No statement has this label.
   ask A2 LABEL                                                      status 1
@@ -156,6 +190,7 @@ Replies:
 Examples:
   mm show id set.mm
   mm show --known id set.mm
+  mm show --essential id set.mm
 ";
 
 const NORMAL: &str = "Usage: mm normal [--file] LABEL FILES..
@@ -194,7 +229,9 @@ const PACKED: &str = "Usage: mm packed [--file] LABEL FILES..
        mm packed --all NAME FILES..
 
 Checks the database, and writes the packed proof of the theorem with this label:
-the one compressed proof that makes each part of it once.
+the one compressed proof that makes each part of it once. So it has the fewest
+steps, and proofs are the same exactly if their packed texts are; but it hasn't
+the fewest bytes: for these ask `mm small`.
 
 Options:
   --file   the whole file in which the theorem stands, with that proof in place
@@ -217,6 +254,35 @@ Replies:
 Examples:
   mm packed id set.mm
   mm packed --all set.mm set.mm
+";
+
+const SMALL: &str = "Usage: mm small [--file] LABEL FILES..
+       mm small --all NAME FILES..
+
+Checks the database, and writes the small proof of the theorem with this label:
+a compressed one whose labels stand by how often they are used, so that it has
+few letters.
+
+Options:
+  --file   the whole file in which the theorem stands, with that proof in place
+           of its own where it has fewer bytes, and behind the indent of its own
+  --all    the file NAME, which is one of FILES, with each complete proof so;
+           it is never longer than it was
+
+Replies:
+  the proof, in lines; with --file or --all the file, nothing else  status 0
+  ask A1 LABEL                                                      status 1
+      No statement has this label.
+  ask A2 LABEL                                                      status 1
+      It is the label of a hypothesis or of an axiom.
+  ask A3 LABEL                                                      status 3
+      The proof of this theorem holds a `?`.
+  no, limit or load                                                 status 1, 4
+      The database is refused: `mm help check`.
+
+Examples:
+  mm small id set.mm
+  mm small --all set.mm set.mm
 ";
 
 const SAME: &str = "Usage: mm same LABEL PROOF FILES..
@@ -330,6 +396,10 @@ fn users_page() -> &'static str {
     USERS
 }
 
+fn statement_page() -> &'static str {
+    STATEMENT
+}
+
 fn show_page() -> &'static str {
     SHOW
 }
@@ -340,6 +410,10 @@ fn normal_page() -> &'static str {
 
 fn packed_page() -> &'static str {
     PACKED
+}
+
+fn small_page() -> &'static str {
+    SMALL
 }
 
 fn same_page() -> &'static str {
@@ -363,7 +437,7 @@ fn version_page() -> &'static str {
 }
 
 /// A page for each command, in the order of the command line.
-pub(crate) fn program_pages() -> [Page<'static>; 13]
+pub(crate) fn program_pages() -> [Page<'static>; 15]
     ensures { map (λ page. page.command.now) result ≡ command_names }
 {
     [
@@ -388,6 +462,10 @@ pub(crate) fn program_pages() -> [Page<'static>; 13]
             text: users_page(),
         },
         Page {
+            command: "statement",
+            text: statement_page(),
+        },
+        Page {
             command: "show",
             text: show_page(),
         },
@@ -398,6 +476,10 @@ pub(crate) fn program_pages() -> [Page<'static>; 13]
         Page {
             command: "packed",
             text: packed_page(),
+        },
+        Page {
+            command: "small",
+            text: small_page(),
         },
         Page {
             command: "same",

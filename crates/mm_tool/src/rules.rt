@@ -42,7 +42,7 @@ const TEXT: &[RuleText<'static>] = &[
     RuleText {
         code: "X1",
         text: "X1: a token, in a comment too, holds a byte outside 0x21 to 0x7E. Place: that
-token. In the example it holds the two bytes 0xC3 and 0xA9.
+token.
 Usual cause: an accented letter, a typographic quote or a dash was typed or
 pasted.
 Remedy: write the token with ASCII characters alone, in a comment too; such
@@ -50,6 +50,7 @@ bytes are found by `LC_ALL=C grep -anP '[^\\t\\r\\f -~]' FILE`.
 
 This file breaks it:
     $c é $.
+Here it holds the two bytes 0xC3 and 0xA9.
 
 The reply:
     no f.mm 1 - X1 0
@@ -281,8 +282,8 @@ The reply:
     },
     RuleText {
         code: "S7",
-        text: "S7: the top file ends and a block is open. Place: the innermost open `${`, in
-the example the one in line 2. It may stand in an included file.
+        text: "S7: the top file ends and a block is open. Place: the innermost open `${`. It
+may stand in an included file.
 Usual cause: the `$}` of the block is missing.
 Remedy: write the `$}` where the block ends.
 
@@ -291,6 +292,7 @@ This file breaks it:
     ${
     ${
     $}
+Here it is the one in line 2.
 
 The reply:
     no f.mm 2 - S7 0
@@ -633,7 +635,7 @@ The reply:
         text: "P15: under the strict profile, the list of a compressed proof names a mandatory
 hypothesis, or a label twice; or a `Z` doesn't stand directly after a number of
 a listed label that is an assertion's. Step 0; it is judged over the whole
-proof, after P5. In the example the list names `one` twice.
+proof, after P5.
 Place: the statement's first token.
 Usual cause: the program that wrote the proof tags hypotheses, or lists a label
 that has a number already.
@@ -643,6 +645,7 @@ Remedy: write the proof anew by `mm packed --file`, or all proofs of a file by
 This file breaks it:
     $c a $. one $a a $.
     p $p a $= ( one one ) B $.
+Here the list names `one` twice.
 
 The reply to `mm check --strict f.mm`:
     no f.mm 2 p P15 0
@@ -651,8 +654,7 @@ The reply to `mm check --strict f.mm`:
     RuleText {
         code: "P6",
         text: "P6: a number in the letters exceeds m + n + t, with m mandatory hypotheses, n
-listed labels and t tags so far. In the example m and t are 0, n is 1, and the
-number is 2.
+listed labels and t tags so far.
 Place: the statement's first token.
 Usual cause: a label is missing in the list, or a `Z` in the letters, or
 hypotheses of the theorem were removed after the proof was made.
@@ -662,6 +664,7 @@ the proof.
 This file breaks it:
     $c a $. one $a a $.
     p $p a $= ( one ) B $.
+Here m and t are 0, n is 1, and the number is 2.
 
 The reply:
     no f.mm 2 p P6 1
@@ -686,7 +689,7 @@ The reply:
     RuleText {
         code: "P8",
         text: "P8: the step's assertion has more mandatory hypotheses than the stack holds
-entries. In the example `two` has one, `fx`.
+entries.
 Place: the statement's first token.
 Usual cause: a step, or in a compressed proof a letter or a listed label, is
 missing, too many or swapped, perhaps many steps before; or the theorem has
@@ -697,6 +700,7 @@ order, before the step.
 This file breaks it:
     $c a b $. $v x $. fx $f a x $. one $a a b $. two $a a x x $.
     p $p a b b $= two one $.
+Here `two` has one, `fx`.
 
 The reply:
     no f.mm 2 p P8 1
@@ -705,7 +709,7 @@ The reply:
     RuleText {
         code: "P9",
         text: "P9: the entry that the step takes for a `$f` doesn't begin with the type code of
-that `$f`. In the example `a` is asked for, and the entry is `b`.
+that `$f`.
 Place: the statement's first token.
 Usual cause: a step, or in a compressed proof a letter or a listed label, is
 missing, too many or swapped, perhaps many steps before; or the theorem has
@@ -718,6 +722,7 @@ the step that gives another type, or write the one that is missing.
 This file breaks it:
     $c a b $. $v x $. fx $f a x $. one $a b $. two $a a x x $.
     p $p a $= one two $.
+Here `a` is asked for, and the entry is `b`.
 
 The reply:
     no f.mm 2 p P9 2
@@ -726,8 +731,7 @@ The reply:
     RuleText {
         code: "P10",
         text: "P10: the entry that the step takes for an `$e` isn't that `$e` with its
-variables replaced. In the example the entry of `fx` replaces `x` by `b`, so
-that `h` becomes `|- b`, and its entry is `|- b b`.
+variables replaced.
 Place: the statement's first token.
 Usual cause: the hypothesis that the assertion wants isn't what the proof gives:
 a wrong theorem or a wrong replacement of a variable stands in the proof; a
@@ -742,6 +746,8 @@ This file breaks it:
     one $a a b $. bb $a |- b b $.
     ${ h $e |- x $. two $a |- x x $. $}
     p $p |- b b $= one bb two $.
+Here the entry of `fx` replaces `x` by `b`, so that `h` becomes `|- b`, and its
+entry is `|- b b`.
 
 The reply:
     no f.mm 4 p P10 3
@@ -750,7 +756,7 @@ The reply:
     RuleText {
         code: "P11",
         text: "P11: the step replaces two variables that its assertion keeps distinct by
-expressions that share a variable. In the example both are `x`.
+expressions that share a variable.
 Place: the statement's first token.
 Usual cause: the proof puts a variable into two places of which the assertion's
 `$d` says that they have none in common.
@@ -761,6 +767,7 @@ This file breaks it:
     $c a |- $. $v x y $. fx $f a x $. fy $f a y $.
     ${ $d x y $. ax $a |- x y $. $}
     p $p |- x x $= fx fx ax $.
+Here both are `x`.
 
 The reply:
     no f.mm 3 p P11 3
@@ -770,17 +777,18 @@ The reply:
         code: "P12",
         text: "P12: the step replaces two variables that its assertion keeps distinct, and a
 variable of the one replacement and a variable of the other aren't an active
-distinct pair where the `$p` stands. In the example the pair is `y`, `x`, and
-the `$d` of line 2 is no longer active.
+distinct pair where the `$p` stands.
 Place: the statement's first token.
 Usual cause: a `$d x y $.` is missing, or several are.
 Remedy: add the `$d` statements that `mm why` names before the theorem, in its
-block: they are all that the whole proof lacks.
+block: they are all that the whole proof lacks, up to the first step that breaks
+another rule.
 
 This file breaks it:
     $c a |- $. $v x y $. fx $f a x $. fy $f a y $.
     ${ $d x y $. ax $a |- x y $. $}
     p $p |- y x $= fy fx ax $.
+Here the pair is `y`, `x`, and the `$d` of line 2 is no longer active.
 
 The reply:
     no f.mm 3 p P12 3
@@ -789,9 +797,7 @@ The reply:
     RuleText {
         code: "L1",
         text: "L1: a step pushes an expression of more than 1,048,576 symbols, its type code
-counted; under the strict profile, of more than 16,777,216. In the example step
-1 pushes 2 symbols, and each further step twice as many as the one before: step
-20 pushes 1,048,576.
+counted; under the strict profile, of more than 16,777,216.
 Place: the statement's first token.
 Usual cause: each of many steps repeats the expression of the step before.
 Remedy: prove the theorem by lemmas with shorter expressions.
@@ -799,6 +805,8 @@ Remedy: prove the theorem by lemmas with shorter expressions.
 This file breaks it:
     $c a b $. $v x $. fx $f a x $. one $a a b $. two $a a x x b $.
     p $p a $= one two two two two two two two two two two two two two two two two two two two two $.
+Here step 1 pushes 2 symbols, and each further step twice as many as the one
+before: step 20 pushes 1,048,576.
 
 The reply:
     limit f.mm 2 p L1 21
@@ -894,9 +902,7 @@ The reply to `mm show p f.mm`:
     RuleText {
         code: "L2",
         text: "L2: the normal proof of the asked `$p` has more than 16,777,216 labels. It is
-judged after A1 to A3, for `mm normal` alone. In the example each use of `cat`
-but the first takes the expression before it twice, so that there are 33,554,431
-labels.
+judged after A1 to A3, for `mm normal` alone.
 Usual cause: the compressed proof shares parts that the normal one has to
 repeat.
 Remedy: ask for the packed proof, by `mm packed`.
@@ -906,6 +912,8 @@ A file:
     p $p e $= ( nil cat )
       AABZCBZDBZEBZFBZGBZHBZIBZJBZKBZLBZMB
       ZNBZOBZPBZQBZRBZSBZTBZUABZUBBZUCBZUDBZUEB $.
+Here each use of `cat` but the first takes the expression before it twice, so
+that there are 33,554,431 labels.
 
 The reply to `mm normal p f.mm`:
     ask L2 p

@@ -23,13 +23,14 @@ use crate::explain::explanation;
 use crate::files::{Comments, FileFault, ReadFile, read_file, read_files};
 use crate::folder::{Arguments, Folder};
 use crate::help::help_text;
-use crate::notes::notes_on;
+use crate::near::notes_beside;
 use crate::stop::Stop;
 use crate::texts::Texts;
 use crate::unread::{asked_label, labelled, tell_unread};
 use crate::words::{AskedText, Request, TextQuestion, request_of};
 use mm_check::{
-    Command, LoneQuestion, Question, Status, WholeQuestion, alike_files_have_one_reply, run,
+    Command, LoneQuestion, Question, Reply, Status, WholeQuestion, alike_files_have_one_reply,
+    reply_to,
 };
 use mm_text::{BYTE_LIMIT, Counted, File, Seed, alike_files_leave_out_the_same};
 use std::alloc::{AllocError, Global};
@@ -66,6 +67,33 @@ fn reply<'a, O: Write>(
     }
 }
 
+/// Writes the reply to a command, beside which these notes are told.
+fn noted_reply<'a, O: Write>(
+    out: &mut Counted<O>,
+    reply: &Reply,
+    notes: Vec<u8>,
+) -> Result<Answer, Stop<'a>>
+    requires { faults_of out.old < u64.MAX }
+    ensures outcome { IfOk result (λ answer. outcome_of answer ≡ record {
+      status = number_of reply.now.status;
+      notes = notes.items;
+    }) }
+    ensures all { OnOk result (TakesWhole O.contents reply.now.text.items out.old out.new) }
+    ensures stop { IfErr result (λ stop. stop ≡ CannotWrite) }
+    ensures beginning { OnErr result (BreaksOff O.contents reply.now.text.items out.old out.new) }
+{
+    match out.write_all(&reply.text) {
+        Ok(()) => Ok(Answer {
+            status: reply.status,
+            notes: Some(notes),
+        }),
+        Err(_) => {
+            drop(notes);
+            Err(Stop::CannotWrite)
+        }
+    }
+}
+
 /// The files as the verdict takes them.
 fn plain_files<'f>(alloc: Global, files: &'f [ReadFile<'_>]) -> Result<Vec<File<'f>>, AllocError>
     ensures { IfOk result (λ plain. map plain_file plain.items ≡ map plain_read files.now) }
@@ -96,7 +124,8 @@ fn comments_for(command: &Command<'_>, max: usize) -> Comments
 }
 
 /// Runs a command over the database in the files with these names, which may hold at most `max`
-/// bytes in all, and writes the reply. The notes on files that weren't included are made before it.
+/// bytes in all, and writes the reply. The notes beside it, on files that weren't included and on an
+/// asked label that no statement has, are made before it is written.
 ///
 /// # Errors
 ///
@@ -130,9 +159,9 @@ pub(crate) fn run_over<'a, F: Folder, O: Write>(
         Err(FileFault::Memory) => return Err(Stop::Memory),
     };
     let files = plain_files(alloc, &files)?;
-    let notes = Some(notes_on(alloc, seed, &files)?);
-    let status = run(alloc, seed, command, &files, out)?;
-    Ok(Answer { status, notes })
+    let reply = reply_to(alloc, seed, command, &files)?;
+    let notes = notes_beside(alloc, seed, &files, command, &reply.text)?;
+    noted_reply(out, &reply, notes)
 }
 
 /// The question about this text and the theorem with a label.

@@ -1,11 +1,10 @@
 //! Why the program ends without an answer.
 
 ghost use Rattle.std.specs.Prelude.{◌≡◌};
-ghost use Rattle.mm_tool.specs.Ending.{stop_of, unread_stop};
+ghost use Rattle.mm_tool.specs.Ending.{unread_stop};
 ghost use Rattle.mm_tool.specs.declared.stop.Stop.TheVariants.{Memory};
 
 use crate::folder::ArgumentFault;
-use mm_check::RunFault;
 use std::alloc::AllocError;
 use thiserror::Error;
 
@@ -39,17 +38,6 @@ impl<'a> From<AllocError> for Stop<'a> {
 
     fn from(_e: AllocError) -> Stop<'a> {
         Stop::Memory
-    }
-}
-
-impl<'a> From<RunFault> for Stop<'a> {
-    ghost from_gives = { λ fault e. e ≡ stop_of fault };
-
-    fn from(fault: RunFault) -> Stop<'a> {
-        match fault {
-            RunFault::Device => Stop::CannotWrite,
-            RunFault::Memory => Stop::Memory,
-        }
     }
 }
 

@@ -97,6 +97,9 @@ fn outcome_of(alloc: Global, words: &[&str]) -> (u8, Vec<u8>, Vec<u8>) {
     (status, out.into_inner(), err.into_inner())
 }
 
+/// What stands at `tze`, which has an empty frame.
+const STATED: &[u8] = b"first.mm:5:1\ntze $a term 0\n";
+
 #[test]
 fn replies(rt: HostRuntime) {
     for (words, reply) in [
@@ -113,12 +116,25 @@ fn replies(rt: HostRuntime) {
             b"tze\ntpl\n".as_slice(),
         ),
         (
+            ["mm", "axioms", "--all", "first.mm"].as_slice(),
+            b"th tze tpl\n".as_slice(),
+        ),
+        (["mm", "statement", "tze", "first.mm"].as_slice(), STATED),
+        (
             ["mm", "show", "th", "first.mm"].as_slice(),
             b"1 tze term 0\n2 tze term 0\n3 tpl term ( 0 + 0 )\n".as_slice(),
         ),
         (
             ["mm", "packed", "--file", "th", "first.mm"].as_slice(),
             PACKED,
+        ),
+        (
+            ["mm", "small", "th", "first.mm"].as_slice(),
+            b"      ( tze tpl )\n      AAB\n".as_slice(),
+        ),
+        (
+            ["mm", "small", "--file", "th", "first.mm"].as_slice(),
+            FIRST,
         ),
         (["mm", "help", "check"].as_slice(), b"check\n".as_slice()),
         (["mm", "check", "--help"].as_slice(), b"check\n".as_slice()),
@@ -156,8 +172,28 @@ fn asks_by_its_words(rt: HostRuntime) {
         label: b"th".as_slice(),
         question: Question::Show,
     };
+    let uses = |essential| Command::About {
+        label: b"th".as_slice(),
+        question: Question::Uses { essential },
+    };
+    let axioms = Command::About {
+        label: b"th".as_slice(),
+        question: Question::Axioms,
+    };
+    let all_axioms = Command::Whole {
+        profile: Profile::Lenient,
+        question: WholeQuestion::Axioms,
+    };
+    let statement = Command::About {
+        label: b"th".as_slice(),
+        question: Question::Statement,
+    };
     for (words, wanted) in [
         (["mm", "why", "first.mm"].as_slice(), why(Profile::Lenient)),
+        (["mm", "axioms", "th", "first.mm"].as_slice(), axioms),
+        (["mm", "axioms", "--all", "first.mm"].as_slice(), all_axioms),
+        (["mm", "axioms", "first.mm", "--all"].as_slice(), all_axioms),
+        (["mm", "statement", "th", "first.mm"].as_slice(), statement),
         (
             ["mm", "why", "--strict", "first.mm"].as_slice(),
             why(Profile::Strict),
@@ -171,8 +207,40 @@ fn asks_by_its_words(rt: HostRuntime) {
             ["mm", "show", "th", "--known", "first.mm"].as_slice(),
             known,
         ),
+        (
+            ["mm", "show", "--essential", "th", "first.mm"].as_slice(),
+            uses(true),
+        ),
+        (
+            ["mm", "show", "--uses", "th", "first.mm"].as_slice(),
+            uses(false),
+        ),
     ] {
         assert!(rt; asks_to_run(rt.alloc(), words, wanted), "at {words:?}");
+    }
+}
+
+// Without `--all` the one word is a label.
+#[test]
+fn asks_for_a_file_behind_the_label(rt: HostRuntime) {
+    let (status, out, err) = outcome_of(rt.alloc(), &["mm", "axioms", "first.mm"]);
+    assert_eq!(rt; status, 2);
+    assert!(rt; out.is_empty());
+    assert!(rt; err.starts_with(b"error: the following required arguments were not provided:\n"));
+}
+
+#[test]
+fn takes_one_flag_of_show(rt: HostRuntime) {
+    for (first, second) in [
+        ("--known", "--essential"),
+        ("--known", "--uses"),
+        ("--uses", "--essential"),
+    ] {
+        let words = ["mm", "show", first, second, "th", "first.mm"];
+        let (status, out, err) = outcome_of(rt.alloc(), &words);
+        assert_eq!(rt; status, 2);
+        assert!(rt; out.is_empty());
+        assert!(rt; err.starts_with(b"mm: --known, --essential and --uses exclude each other\n"));
     }
 }
 
@@ -232,6 +300,50 @@ fn notes_a_file_that_was_not_included(rt: HostRuntime) {
         assert_eq!(rt; status, wanted, "at {words:?}");
         assert!(rt; out.as_slice() == reply, "at {words:?}");
         assert!(rt; err.as_slice() == note, "at {words:?}");
+    }
+}
+
+// The line comes after the note on a file, and only beside A1.
+#[test]
+fn tells_the_nearest_label(rt: HostRuntime) {
+    for (words, reply, told) in [
+        (
+            ["mm", "axioms", "tzee", "first.mm"].as_slice(),
+            b"ask A1 tzee\n".as_slice(),
+            b"mm: the nearest label is tze\n".as_slice(),
+        ),
+        (
+            ["mm", "show", "--known", "ht", "first.mm"].as_slice(),
+            b"ask A1 ht\n".as_slice(),
+            b"mm: the nearest label is tt\n".as_slice(),
+        ),
+        (
+            ["mm", "normal", "tlp", "first.mm", "four.mm"].as_slice(),
+            b"ask A1 tlp\n".as_slice(),
+            b"mm: note: four.mm was not included, so nothing in it was checked
+mm: the nearest label is tpl\n"
+                .as_slice(),
+        ),
+        (
+            ["mm", "axioms", "other", "first.mm"].as_slice(),
+            b"ask A1 other\n".as_slice(),
+            b"".as_slice(),
+        ),
+        (
+            ["mm", "axioms", "tr", "first.mm"].as_slice(),
+            b"ask A2 tr\n".as_slice(),
+            b"".as_slice(),
+        ),
+        (
+            ["mm", "axioms", "tzee", "twice.mm"].as_slice(),
+            b"no twice.mm 4 - M2 0\n".as_slice(),
+            b"".as_slice(),
+        ),
+    ] {
+        let (status, out, err) = outcome_of(rt.alloc(), words);
+        assert_eq!(rt; status, 1, "at {words:?}");
+        assert!(rt; out.as_slice() == reply, "at {words:?}");
+        assert!(rt; err.as_slice() == told, "at {words:?}");
     }
 }
 

@@ -38,13 +38,19 @@ Commands:
                          fault stands, its rule, and what was asked and found
   axioms LABEL FILES..   checks the database, and lists the axioms that the theorem with this
                          label rests on
+  axioms --all FILES..   likewise of each theorem, a line for each
   users [--all] LABEL FILES..
                          checks the database, and lists the theorems whose proofs use the assertion
                          with this label; with --all those that rest on it
-  show [--known] LABEL FILES..
+  statement LABEL FILES..
+                         checks the database, and tells what stands at this label, a statement of
+                         any kind: where it begins, its frame, and what it says
+  show [--known | --essential | --uses] LABEL FILES..
                          checks the database, and lists the steps of the proof of the theorem with
                          this label; with --known the steps that pass, of an unfinished proof or of
-                         one at fault, and what is on the stack there
+                         one at fault, and what is on the stack there; with --uses which steps gave
+                         each step its hypotheses; with --essential those steps alone that the last
+                         one is reached from through `$e` hypotheses
   normal [--file] LABEL FILES..
                          checks the database, and writes the normal proof of the theorem with this
                          label; with --file the whole file in which the theorem stands, with that
@@ -52,8 +58,12 @@ Commands:
   packed [--file] LABEL FILES..
                          likewise with the one compressed proof of the theorem with this label that
                          makes each part of it once
+  small [--file] LABEL FILES..
+                         likewise with a compressed proof whose labels stand by how often they are
+                         used; with --file only where it has fewer bytes than the one in its place
   normal --all NAME FILES..
   packed --all NAME FILES..
+  small --all NAME FILES..
                          checks the database, and writes the file NAME, which is one of FILES, with
                          each complete proof in that form
   same LABEL PROOF FILES..
@@ -115,19 +125,30 @@ Replies of axioms, on standard output:
       The axioms that the theorem rests on, in the order of the database. Status 0.
   ? LABEL, one on each line, after the axioms
       The theorems that it rests on and whose proofs hold a `?`. Status 3.
+  With --all, one on each line: LABEL of a theorem, and then its axioms, and ?LABEL for each of
+  those theorems; or ? LABEL of a theorem whose own proof holds a `?`. Status 0, or 3 if there is
+  one.
 
 Reply of users, on standard output:
   LABEL, one on each line
       The theorems, in the order of the database. Status 0.
 
+Reply of statement, on standard output:
+  FILE:LINE:COLUMN, and then lines as they stand in the file, without their ends
+      Where the statement begins. Of an axiom or a theorem a line follows for each mandatory
+      hypothesis, `$d X Y` for each mandatory distinct pair, and of a theorem `also $d X Y ..` for
+      each `$d` that says more, which holds in its proof. The last line is the statement. Status 0.
+
 Reply of show, on standard output:
   STEP NAME EXPRESSION, one on each line
       A step of the proof: its number, from 1; the label that it names, or @N where it repeats the
       expression of step N; and the symbols of its expression. Status 0.
+  With --uses and --essential: STEP USES NAME EXPRESSION, where USES is the numbers of the steps
+  that gave the step its hypotheses, or its `$e` alone, with commas between them, or -.
   With --known, after the steps that pass: the entries of the stack, status 3; or the refusal of the
   proof and the facts that explain it, status 1, or 4 for a limit.
 
-Replies of normal and packed, on standard output:
+Replies of normal, packed and small, on standard output:
   the proof, in lines; with --file or --all the bytes of the file, and nothing else
       Status 0.
   ask L2 LABEL
@@ -159,8 +180,8 @@ Other replies to a LABEL: that of check, where it is no, limit or load; and
       The proof of this theorem holds a `?`. Status 3.
 
 Statuses:
-  0  yes, same or proof; or axioms, steps or a proof; or help, the version or an explanation was
-     asked for
+  0  yes, same or proof; or axioms, steps, a statement or a proof; or help, the version or an
+     explanation was asked for
   1  no: a statement is at fault; or the label is not that of a theorem; or different, or a text is
      no proof of the theorem
   2  the words are not understood
@@ -174,9 +195,13 @@ Examples:
   mm check set.mm
   mm check --strict set.mm
   mm axioms id set.mm
+  mm axioms --all set.mm
+  mm statement ax-mp set.mm
   mm show id set.mm
+  mm show --essential id set.mm
   mm packed id set.mm
   mm packed --all set.mm set.mm
+  mm small --all set.mm set.mm
   mm same id proof.txt set.mm
   mm try id proof.txt set.mm
   mm explain P8

@@ -1,81 +1,49 @@
-//! What the program is asked by its words.
+//! What the program is asked by its words: the requests that are made of what `clap` found in them.
 
-ghost use Rattle.std.specs.Prelude.{◌≡◌, [], List, map, IfOk, IfErr, IfSome, IfNone, false};
-ghost use Rattle.std.specs.Prelude.{unwrap_or};
-ghost use Rattle.std.specs.Prelude.{ℕ, codes, option_map, position};
+ghost use Rattle.std.specs.Prelude.{◌≡◌, ◌≢◌, ◌∷◌, [], List, map, IfOk, IfErr, IfSome, IfNone, false};
+ghost use Rattle.std.specs.Prelude.{ℕ, codes, option_map, position, unwrap_or};
 ghost use Rattle.std.specs.Str.{bytes_eq};
-ghost use Rattle.clap.specs.Words.{Text, all_of, app_of, first_of, found_of, kind_of};
-ghost use Rattle.clap.specs.Words.{rows_of, rule_of};
-ghost use Rattle.clap.specs.declared.builder.command.Command.TheViews.{out-Command};
-ghost use Rattle.mm_tool.specs.Words.{Asks, IsOfKind, IsFaultOfKind, IsWordFault, axioms_line};
-ghost use Rattle.mm_tool.specs.Words.{AreMatchesOf, bare_line, check_line, check_lines, code_rule};
-ghost use Rattle.mm_tool.specs.Words.{command_line, database_line, explain_line, faults_line};
-ghost use Rattle.mm_tool.specs.Words.{files_rule, profile_line};
-ghost use Rattle.mm_tool.specs.Words.{help_line, label_rule, question_line, show_line};
-ghost use Rattle.mm_tool.specs.Words.{proof_rule, normal_line, packed_line, same_line, forms_line};
-ghost use Rattle.mm_tool.specs.Words.{proofs_line, text_line, try_line, users_line, why_line, name_of_text};
-ghost use Rattle.mm_tool.specs.Words.{is_strict, flag_rule, Commands, IsAllFault, name_of_form};
-ghost use Rattle.mm_tool.specs.Words.{NamesNoForm, IsGiven, form_line, number_among};
-ghost use Rattle.mm_tool.specs.Words.{name_of_whole, AsksQuestion, AsksAbout};
-ghost use Rattle.mm_tool.specs.declared.words.Request.TheVariants.{Run};
+ghost use Rattle.clap.specs.Words.{Text, all_of, app_of, first_of, found_of, kind_of, rows_of};
 ghost use Rattle.mm_check.specs.declared.command.Command.TheVariants.{File};
-ghost use Rattle.mm_tool.specs.Words.{NamesNoText, first_command, topic_rule, version_line};
+ghost use Rattle.mm_tool.specs.Words.{AreMatchesOf, AreSeveral, Asks, AsksAbout, AsksQuestion};
+ghost use Rattle.mm_tool.specs.Words.{AsksRun, AsksShow, AsksUnder, AsksWhole, Commands};
+ghost use Rattle.mm_tool.specs.Words.{IsFilesFault};
+ghost use Rattle.mm_tool.specs.Words.{IsAllFault, IsFaultOfKind, IsGiven, IsOfKind, IsWordFault};
+ghost use Rattle.mm_tool.specs.Words.{NamesNoForm, NamesNoText, command_line, first_command};
+ghost use Rattle.mm_tool.specs.Words.{is_strict, name_of_form, name_of_text};
+ghost use Rattle.mm_tool.specs.Words.{number_among};
+ghost use Rattle.mm_proof.specs.declared.profile.Profile.{Profile};
+ghost use Rattle.mm_tool.specs.declared.words.Request.TheVariants.{Run};
 
+use crate::command_line::{
+    ALL, AXIOMS, CHECK, CODE, COMMAND, ESSENTIAL, EXPLAIN, FAULTS, FILE, FILES, HELP, KNOWN, LABEL,
+    NORMAL, PACKED, PROOF, SAME, SHOW, SMALL, STATEMENT, STRICT, TRY, USERS, USES, VERSION, WHY,
+    whole_command,
+};
 use crate::stop::Stop;
 use clap::error::ErrorKind;
-use clap::{Arg, ArgAction, ArgMatches, Command, Error};
+use clap::{ArgMatches, Command, Error};
 use mm_check::{Form, LoneQuestion, Question, WholeQuestion};
 use mm_proof::Profile;
 use std::alloc::{AllocError, Global};
 
-const PROGRAM: &str = "mm";
+/// What is said where no file's name follows the label, as `clap` says it of a missing argument.
+const NO_FILES: &str = "error: the following required arguments were not provided:
+  <FILES>...
 
-const CHECK: &str = "check";
+Usage: mm axioms LABEL FILES..
+       mm axioms --all FILES..
 
-const FAULTS: &str = "faults";
+For more information, try '--help'.
+";
 
-const WHY: &str = "why";
-
-const AXIOMS: &str = "axioms";
-
-const USERS: &str = "users";
-
-const SHOW: &str = "show";
-
-const NORMAL: &str = "normal";
-
-const PACKED: &str = "packed";
-
-const SAME: &str = "same";
-
-const TRY: &str = "try";
-
-const EXPLAIN: &str = "explain";
-
-const HELP: &str = "help";
-
-const VERSION: &str = "version";
-
-const FILES: &str = "FILES";
-
-const LABEL: &str = "LABEL";
-
-const FILE: &str = "file";
-
-const ALL: &str = "all";
-
-const KNOWN: &str = "known";
-
-const STRICT: &str = "strict";
+/// What is said where two flags of `show` are given.
+const SHOW_FLAGS: &str = "mm: --known, --essential and --uses exclude each other
+Usage: mm show [--known | --essential | --uses] LABEL FILES..
+";
 
 /// What `clap` finds for a flag that is given.
 const GIVEN: &str = "true";
-
-const PROOF: &str = "PROOF";
-
-const CODE: &str = "CODE";
-
-const COMMAND: &str = "COMMAND";
 
 /// How `clap` begins the advice to pass an unknown option as a value.
 const ADVICE: &str = "\n\n  tip: to pass '";
@@ -118,356 +86,6 @@ pub(crate) enum Request<'a> {
     },
     /// To read a proof's text, and to say what it is to a theorem.
     Text(AskedText<'a>),
-}
-
-/// The names of the files, for `clap`.
-fn files_argument<'a>(alloc: Global) -> Arg<'a>
-    ensures rule { rule_of result ≡ files_rule }
-    ensures local { result.global ≡ false }
-{
-    Arg::new(alloc, FILES)
-        .required(true)
-        .num_args(1..)
-        .action(ArgAction::Append)
-}
-
-/// The label of a theorem, for `clap`.
-fn label_argument<'a>(alloc: Global) -> Arg<'a>
-    ensures rule { rule_of result ≡ label_rule }
-    ensures local { result.global ≡ false }
-{
-    Arg::new(alloc, LABEL).required(true).action(ArgAction::Set)
-}
-
-/// The flag with this name, for `clap`.
-fn flag_argument<'a>(alloc: Global, name: &'a str) -> Arg<'a>
-    ensures rule { rule_of result ≡ flag_rule name.entry.now }
-    ensures local { result.global ≡ false }
-{
-    Arg::new(alloc, name).long(name).action(ArgAction::SetTrue)
-}
-
-/// The name of the file with a proof's text, for `clap`.
-fn proof_argument<'a>(alloc: Global) -> Arg<'a>
-    ensures rule { rule_of result ≡ proof_rule }
-    ensures local { result.global ≡ false }
-{
-    Arg::new(alloc, PROOF).required(true).action(ArgAction::Set)
-}
-
-/// The code of a rule, or the words of a reply that names one, for `clap`.
-fn code_argument<'a>(alloc: Global) -> Arg<'a>
-    ensures rule { rule_of result ≡ code_rule }
-    ensures local { result.global ≡ false }
-{
-    Arg::new(alloc, CODE)
-        .num_args(0..)
-        .action(ArgAction::Append)
-}
-
-/// The name of a command, for `clap`.
-fn topic_argument<'a>(alloc: Global) -> Arg<'a>
-    ensures rule { rule_of result ≡ topic_rule }
-    ensures local { result.global ≡ false }
-{
-    Arg::new(alloc, COMMAND)
-        .num_args(0..=1)
-        .action(ArgAction::Append)
-}
-
-/// A command that checks a database under a profile, for `clap`.
-fn profile_command<'a>(
-    alloc: Global,
-    name: &'a str,
-    about: &'a str,
-    usage: &'a str,
-) -> Result<Command<'a>, AllocError>
-    ensures shape { IfOk result (λ command. app_of command ≡ profile_line name.entry.now) }
-    ensures local { IfOk result (λ command. (out-Command command).has_globals ≡ false) }
-{
-    Command::new(alloc, name)
-        .about(about)
-        .override_usage(usage)
-        .arg(flag_argument(alloc, STRICT))?
-        .arg(files_argument(alloc))
-}
-
-/// The command `check`, for `clap`.
-fn check_command<'a>(alloc: Global) -> Result<Command<'a>, AllocError>
-    ensures shape { IfOk result (λ command. app_of command ≡ check_line) }
-    ensures local { IfOk result (λ command. (out-Command command).has_globals ≡ false) }
-{
-    profile_command(
-        alloc,
-        CHECK,
-        "checks each statement and each proof of a database",
-        "mm check [--strict] FILES..",
-    )
-}
-
-/// The command `faults`, for `clap`.
-fn faults_command<'a>(alloc: Global) -> Result<Command<'a>, AllocError>
-    ensures shape { IfOk result (λ command. app_of command ≡ faults_line) }
-    ensures local { IfOk result (λ command. (out-Command command).has_globals ≡ false) }
-{
-    profile_command(
-        alloc,
-        FAULTS,
-        "lists all faults of a database",
-        "mm faults [--strict] FILES..",
-    )
-}
-
-/// The command `why`, for `clap`.
-fn why_command<'a>(alloc: Global) -> Result<Command<'a>, AllocError>
-    ensures shape { IfOk result (λ command. app_of command ≡ why_line) }
-    ensures local { IfOk result (λ command. (out-Command command).has_globals ≡ false) }
-{
-    profile_command(
-        alloc,
-        WHY,
-        "explains the faults of a database",
-        "mm why [--strict] FILES..",
-    )
-}
-
-/// A command that asks about the theorem with a label, for `clap`.
-fn question_command<'a>(
-    alloc: Global,
-    name: &'a str,
-    about: &'a str,
-    usage: &'a str,
-) -> Result<Command<'a>, AllocError>
-    ensures shape { IfOk result (λ command. app_of command ≡ question_line name.entry.now) }
-    ensures local { IfOk result (λ command. (out-Command command).has_globals ≡ false) }
-{
-    Command::new(alloc, name)
-        .about(about)
-        .override_usage(usage)
-        .arg(label_argument(alloc))?
-        .arg(files_argument(alloc))
-}
-
-/// A command that asks for the proof of the theorem with a label in a form, or for its whole file
-/// with that proof, or for a file with all its proofs in that form, for `clap`.
-fn form_command<'a>(
-    alloc: Global,
-    name: &'a str,
-    about: &'a str,
-    usage: &'a str,
-) -> Result<Command<'a>, AllocError>
-    ensures shape { IfOk result (λ command. app_of command ≡ form_line name.entry.now) }
-    ensures local { IfOk result (λ command. (out-Command command).has_globals ≡ false) }
-{
-    question_command(alloc, name, about, usage)?
-        .arg(flag_argument(alloc, FILE))?
-        .arg(flag_argument(alloc, ALL))
-}
-
-/// The command `axioms`, for `clap`.
-fn axioms_command<'a>(alloc: Global) -> Result<Command<'a>, AllocError>
-    ensures shape { IfOk result (λ command. app_of command ≡ axioms_line) }
-    ensures local { IfOk result (λ command. (out-Command command).has_globals ≡ false) }
-{
-    question_command(
-        alloc,
-        AXIOMS,
-        "lists the axioms that a theorem rests on",
-        "mm axioms LABEL FILES..",
-    )
-}
-
-/// The command `users`, for `clap`.
-fn users_command<'a>(alloc: Global) -> Result<Command<'a>, AllocError>
-    ensures shape { IfOk result (λ command. app_of command ≡ users_line) }
-    ensures local { IfOk result (λ command. (out-Command command).has_globals ≡ false) }
-{
-    question_command(
-        alloc,
-        USERS,
-        "lists the theorems whose proofs use an assertion",
-        "mm users [--all] LABEL FILES..",
-    )?
-    .arg(flag_argument(alloc, ALL))
-}
-
-/// The command `show`, for `clap`.
-fn show_command<'a>(alloc: Global) -> Result<Command<'a>, AllocError>
-    ensures shape { IfOk result (λ command. app_of command ≡ show_line) }
-    ensures local { IfOk result (λ command. (out-Command command).has_globals ≡ false) }
-{
-    question_command(
-        alloc,
-        SHOW,
-        "lists the steps of the proof of a theorem",
-        "mm show [--known] LABEL FILES..",
-    )?
-    .arg(flag_argument(alloc, KNOWN))
-}
-
-/// The command `normal`, for `clap`.
-fn normal_command<'a>(alloc: Global) -> Result<Command<'a>, AllocError>
-    ensures shape { IfOk result (λ command. app_of command ≡ normal_line) }
-    ensures local { IfOk result (λ command. (out-Command command).has_globals ≡ false) }
-{
-    form_command(
-        alloc,
-        NORMAL,
-        "writes the normal proof of a theorem",
-        "mm normal [--file] LABEL FILES..\n       mm normal --all NAME FILES..",
-    )
-}
-
-/// The command `packed`, for `clap`.
-fn packed_command<'a>(alloc: Global) -> Result<Command<'a>, AllocError>
-    ensures shape { IfOk result (λ command. app_of command ≡ packed_line) }
-    ensures local { IfOk result (λ command. (out-Command command).has_globals ≡ false) }
-{
-    form_command(
-        alloc,
-        PACKED,
-        "writes the packed proof of a theorem",
-        "mm packed [--file] LABEL FILES..\n       mm packed --all NAME FILES..",
-    )
-}
-
-/// A command that asks about a proof's text and the theorem with a label, for `clap`.
-fn text_command<'a>(
-    alloc: Global,
-    name: &'a str,
-    about: &'a str,
-    usage: &'a str,
-) -> Result<Command<'a>, AllocError>
-    ensures shape { IfOk result (λ command. app_of command ≡ text_line name.entry.now) }
-    ensures local { IfOk result (λ command. (out-Command command).has_globals ≡ false) }
-{
-    Command::new(alloc, name)
-        .about(about)
-        .override_usage(usage)
-        .arg(label_argument(alloc))?
-        .arg(proof_argument(alloc))?
-        .arg(files_argument(alloc))
-}
-
-/// The command `same`, for `clap`.
-fn same_command<'a>(alloc: Global) -> Result<Command<'a>, AllocError>
-    ensures shape { IfOk result (λ command. app_of command ≡ same_line) }
-    ensures local { IfOk result (λ command. (out-Command command).has_globals ≡ false) }
-{
-    text_command(
-        alloc,
-        SAME,
-        "tells whether a proof's text is the same proof as that of a theorem",
-        "mm same LABEL PROOF FILES..",
-    )
-}
-
-/// The command `try`, for `clap`.
-fn try_command<'a>(alloc: Global) -> Result<Command<'a>, AllocError>
-    ensures shape { IfOk result (λ command. app_of command ≡ try_line) }
-    ensures local { IfOk result (λ command. (out-Command command).has_globals ≡ false) }
-{
-    text_command(
-        alloc,
-        TRY,
-        "tells whether a text is a proof of a theorem, whatever its own proof",
-        "mm try LABEL PROOF FILES..",
-    )
-}
-
-/// The command `explain`, for `clap`.
-fn explain_command<'a>(alloc: Global) -> Result<Command<'a>, AllocError>
-    ensures shape { IfOk result (λ command. app_of command ≡ explain_line) }
-    ensures local { IfOk result (λ command. (out-Command command).has_globals ≡ false) }
-{
-    Command::new(alloc, EXPLAIN)
-        .about("says what the rule with this code is; without a code, lists all codes")
-        .override_usage("mm explain [CODE]")
-        .arg(code_argument(alloc))
-}
-
-/// The command `help`, for `clap`.
-fn help_command<'a>(alloc: Global) -> Result<Command<'a>, AllocError>
-    ensures shape { IfOk result (λ command. app_of command ≡ help_line) }
-    ensures local { IfOk result (λ command. (out-Command command).has_globals ≡ false) }
-{
-    Command::new(alloc, HELP)
-        .about("prints the help, or the page of a command")
-        .override_usage("mm help [COMMAND]")
-        .arg(topic_argument(alloc))
-}
-
-/// The command `version`, for `clap`.
-fn version_command<'a>(alloc: Global) -> Command<'a>
-    ensures shape { app_of result ≡ version_line }
-    ensures local { (out-Command result).has_globals ≡ false }
-{
-    Command::new(alloc, VERSION).about("prints the version")
-}
-
-/// The program's command line without its commands, for `clap`.
-fn bare_command<'a>(alloc: Global) -> Result<Command<'a>, AllocError>
-    ensures shape { IfOk result (λ command. app_of command ≡ bare_line) }
-    ensures local { IfOk result (λ command. (out-Command command).has_globals ≡ false) }
-{
-    Command::new(alloc, PROGRAM)
-        .version(PROGRAM)
-        .disable_help_subcommand(true)
-        .subcommand_required(true)
-        .arg_required_else_help(true)
-        .bin_name(PROGRAM)
-}
-
-/// The program's command line with the commands that check a database, for `clap`.
-fn check_commands<'a>(alloc: Global) -> Result<Command<'a>, AllocError>
-    ensures shape { IfOk result (λ command. app_of command ≡ check_lines) }
-    ensures local { IfOk result (λ command. (out-Command command).has_globals ≡ false) }
-{
-    bare_command(alloc)?
-        .subcommand(check_command(alloc)?)?
-        .subcommand(faults_command(alloc)?)?
-        .subcommand(why_command(alloc)?)
-}
-
-/// That with the commands that ask something of it, for `clap`.
-fn database_command<'a>(alloc: Global) -> Result<Command<'a>, AllocError>
-    ensures shape { IfOk result (λ command. app_of command ≡ database_line) }
-    ensures local { IfOk result (λ command. (out-Command command).has_globals ≡ false) }
-{
-    check_commands(alloc)?
-        .subcommand(axioms_command(alloc)?)?
-        .subcommand(users_command(alloc)?)?
-        .subcommand(show_command(alloc)?)
-}
-
-/// That with the commands that ask for the forms of a proof, for `clap`.
-fn forms_command<'a>(alloc: Global) -> Result<Command<'a>, AllocError>
-    ensures shape { IfOk result (λ command. app_of command ≡ forms_line) }
-    ensures local { IfOk result (λ command. (out-Command command).has_globals ≡ false) }
-{
-    database_command(alloc)?
-        .subcommand(normal_command(alloc)?)?
-        .subcommand(packed_command(alloc)?)
-}
-
-/// That with the commands that ask about a proof's text, for `clap`.
-fn proofs_command<'a>(alloc: Global) -> Result<Command<'a>, AllocError>
-    ensures shape { IfOk result (λ command. app_of command ≡ proofs_line) }
-    ensures local { IfOk result (λ command. (out-Command command).has_globals ≡ false) }
-{
-    forms_command(alloc)?
-        .subcommand(same_command(alloc)?)?
-        .subcommand(try_command(alloc)?)
-}
-
-/// The program's command line, for `clap`.
-fn whole_command<'a>(alloc: Global) -> Result<Command<'a>, AllocError>
-    ensures { IfOk result (λ command. app_of command ≡ command_line) }
-{
-    proofs_command(alloc)?
-        .subcommand(explain_command(alloc)?)?
-        .subcommand(help_command(alloc)?)?
-        .subcommand(version_command(alloc))
 }
 
 /// The command that the first word after the program's name names.
@@ -582,6 +200,7 @@ fn form_name(form: Form) -> &'static str
     match form {
         Form::Normal => NORMAL,
         Form::Packed => PACKED,
+        Form::Small => SMALL,
     }
 }
 
@@ -622,14 +241,16 @@ fn all_request<'a>(
     Ok(Request::Run { command, names })
 }
 
-/// What the matches of the command that asks this question about the whole database ask for.
+/// What the matches of a command that asks this question about the whole database ask for.
 fn whole_request<'a>(
     alloc: Global,
     matches: &ArgMatches<'a>,
     question: WholeQuestion,
 ) -> Result<Request<'a>, AllocError>
-    ensures { IfOk result (λ request. (words : List Text)
-        → Commands words (name_of_whole question) (rows_of (found_of matches.now))
+    ensures { IfOk result (λ request. (words : List Text) (name : Text)
+        → Commands words name (rows_of (found_of matches.now))
+        → ((profile : Profile) (names : List Text) → AsksUnder name words profile names
+        → AsksWhole words question profile names)
         → Asks words request) }
 {
     Ok(Request::Run {
@@ -641,7 +262,52 @@ fn whole_request<'a>(
     })
 }
 
-/// What the matches of a command that asks this question about the theorem with a label ask for.
+/// A label and the files' names behind it, of which there is one at least.
+fn label_and_names<'a>(
+    alloc: Global,
+    words: &[&'a str],
+) -> Result<(&'a str, Vec<&'a str>), Stop<'a>>
+    ensures parts { IfOk result (λ parts. (map (λ word. word.now) words.now
+        ≡ parts.0.now ∷ map (λ name. name.now) parts.1.items)
+        × (map (λ name. name.now) parts.1.items ≢ [])) }
+    ensures fault { IfErr result (IsFilesFault (map (λ word. word.now) words.now)) }
+{
+    match words {
+        [label, names @ ..] if !names.is_empty() => Ok((*label, names.to_vec(alloc)?)),
+        _ => Err(Stop::Usage(format!(in alloc; "{NO_FILES}")?)),
+    }
+}
+
+/// What the matches of the command `axioms` ask for: with `--all` each word names a file, else the
+/// first is a label.
+fn axioms_request<'a>(alloc: Global, matches: &ArgMatches<'a>) -> Result<Request<'a>, Stop<'a>>
+    ensures request { IfOk result (λ request. (words : List Text)
+        → Commands words (codes "axioms") (rows_of (found_of matches.now))
+        → Asks words request) }
+    ensures fault { IfErr result (λ stop. (words : List Text)
+        → Commands words (codes "axioms") (rows_of (found_of matches.now))
+        → IsWordFault words stop) }
+{
+    let words = values_of(alloc, matches, FILES)?;
+    if is_given(matches, ALL) {
+        let command = mm_check::Command::Whole {
+            profile: Profile::Lenient,
+            question: WholeQuestion::Axioms,
+        };
+        return Ok(Request::Run {
+            command,
+            names: words,
+        });
+    }
+    let (label, names) = label_and_names(alloc, &words)?;
+    let command = mm_check::Command::About {
+        label: label.as_bytes(),
+        question: Question::Axioms,
+    };
+    Ok(Request::Run { command, names })
+}
+
+/// What the matches of a command that asks this question about the statement with a label ask for.
 fn label_request<'a>(
     alloc: Global,
     matches: &ArgMatches<'a>,
@@ -678,26 +344,69 @@ fn users_request<'a>(alloc: Global, matches: &ArgMatches<'a>) -> Result<Request<
     Ok(Request::Run { command, names })
 }
 
-/// What the matches of the command `show` ask for.
-fn show_request<'a>(alloc: Global, matches: &ArgMatches<'a>) -> Result<Request<'a>, AllocError>
-    ensures { IfOk result (λ request. (words : List Text)
-        → Commands words (codes "show") (rows_of (found_of matches.now))
-        → Asks words request) }
+/// The command for the steps of the proof of the theorem with a label, by the flags that are given;
+/// none where two are.
+fn show_command<'a>(
+    label: &'a [u8],
+    known: bool,
+    essential: bool,
+    uses: bool,
+) -> Option<mm_check::Command<'a>>
+    ensures asked { IfSome result (λ command. (words names : List Text)
+        → AsksShow words label.now known essential uses names → AsksRun words command names) }
+    ensures none { IfNone result (AreSeveral known essential uses) }
 {
-    let label = asked_word(matches, LABEL).as_bytes();
-    let command = if is_given(matches, KNOWN) {
-        mm_check::Command::Lone {
+    if known {
+        if essential {
+            return None;
+        }
+        if uses {
+            return None;
+        }
+        return Some(mm_check::Command::Lone {
             label,
             question: LoneQuestion::Known,
+        });
+    }
+    if essential {
+        if uses {
+            return None;
         }
-    } else {
-        mm_check::Command::About {
+        return Some(mm_check::Command::About {
             label,
-            question: Question::Show,
-        }
-    };
+            question: Question::Uses { essential: true },
+        });
+    }
+    if uses {
+        return Some(mm_check::Command::About {
+            label,
+            question: Question::Uses { essential: false },
+        });
+    }
+    Some(mm_check::Command::About {
+        label,
+        question: Question::Show,
+    })
+}
+
+/// What the matches of the command `show` ask for.
+fn show_request<'a>(alloc: Global, matches: &ArgMatches<'a>) -> Result<Request<'a>, Stop<'a>>
+    ensures request { IfOk result (λ request. (words : List Text)
+        → Commands words (codes "show") (rows_of (found_of matches.now))
+        → Asks words request) }
+    ensures fault { IfErr result (λ stop. (words : List Text)
+        → Commands words (codes "show") (rows_of (found_of matches.now))
+        → IsWordFault words stop) }
+{
+    let label = asked_word(matches, LABEL).as_bytes();
+    let known = is_given(matches, KNOWN);
+    let essential = is_given(matches, ESSENTIAL);
+    let uses = is_given(matches, USES);
     let names = values_of(alloc, matches, FILES)?;
-    Ok(Request::Run { command, names })
+    match show_command(label, known, essential, uses) {
+        Some(command) => Ok(Request::Run { command, names }),
+        None => Err(Stop::Usage(format!(in alloc; "{SHOW_FLAGS}")?)),
+    }
 }
 
 /// What the matches of a command that asks this about a proof's text ask for.
@@ -745,8 +454,8 @@ fn proof_request<'a>(
     Ok(Request::Run { command, names })
 }
 
-/// What these matches of the words ask for by the commands `normal`, `packed`, `same` and `try`;
-/// nothing where they name none of these.
+/// What these matches of the words ask for by the commands `normal`, `packed`, `small`, `same` and
+/// `try`; nothing where they name none of these.
 fn form_request<'a>(
     alloc: Global,
     matches: &ArgMatches<'a>,
@@ -763,6 +472,9 @@ fn form_request<'a>(
     }
     if let Some(packed) = matches.subcommand_matches(PACKED) {
         return Ok(Some(proof_request(alloc, packed, Form::Packed)?));
+    }
+    if let Some(small) = matches.subcommand_matches(SMALL) {
+        return Ok(Some(proof_request(alloc, small, Form::Small)?));
     }
     if let Some(same) = matches.subcommand_matches(SAME) {
         return Ok(Some(asked_text(alloc, same, TextQuestion::Same)?));
@@ -817,13 +529,16 @@ fn request_of_matches<'a>(
         return Ok(whole_request(alloc, why, WholeQuestion::Why)?);
     }
     if let Some(axioms) = matches.subcommand_matches(AXIOMS) {
-        return Ok(label_request(alloc, axioms, Question::Axioms)?);
+        return axioms_request(alloc, axioms);
     }
     if let Some(users) = matches.subcommand_matches(USERS) {
         return Ok(users_request(alloc, users)?);
     }
+    if let Some(statement) = matches.subcommand_matches(STATEMENT) {
+        return Ok(label_request(alloc, statement, Question::Statement)?);
+    }
     if let Some(show) = matches.subcommand_matches(SHOW) {
-        return Ok(show_request(alloc, show)?);
+        return show_request(alloc, show);
     }
     if let Some(request) = form_request(alloc, matches)? {
         return Ok(request);

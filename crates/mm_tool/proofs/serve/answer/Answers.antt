@@ -1,8 +1,9 @@
 -- The words are answered by the request that they make.
 use Rattle.std.proofs.Common.{Some, inl, inr, refl, ap}
 use Rattle.mm_tool.specs.Answer.{quiet}
-use Rattle.mm_tool.proofs.AnsweredWords.{answers_text, asks_run, explained, helped, stops_answer}
-use Rattle.mm_tool.proofs.AnsweredWords.{stops_command, stops_help, stops_text}
+use Rattle.mm_tool.proofs.AnsweredWords.{answers_text, asks_explained, asks_run, explained}
+use Rattle.mm_tool.proofs.AnsweredWords.{helped, stops_answer, stops_command, stops_help}
+use Rattle.mm_tool.proofs.AnsweredWords.{stops_refused, stops_text, stops_unexplained}
 use Rattle.mm_tool.proofs.AskedWords.{named_by_words, texts_in}
 use Rattle.mm_tool.proofs.serve.answer.Goals as goal
 
@@ -69,6 +70,24 @@ returns-in_err-text-in-Help-clause-stops g c =
     (texts_in c.args.words.now) _ c.from_residual-in_err-text-in-Help.result
     c.in_err-text-in-Help.field-0.0 c.args.out.now asked
     c.in_err-text-in-Help.ensures.unknown c.from_residual-in_err-text-in-Help.ensures.1
+
+pub returns-in_err-topic-clause-stops : goal.returns-in_err-topic-clause-stops
+returns-in_err-topic-clause-stops g c =
+    stops_refused g.O.Write.contents (g.F.Folder.holds c.args.folder.now)
+    (g.F.Folder.may_fail c.args.folder.now) c.args.texts.now _
+    (texts_in c.args.words.now) c.from_residual.result c.in_err-topic.field-0.0 c.args.out.now
+    c.in_err-topic.ensures.fault c.from_residual.ensures.1
+
+pub returns-in_err-text-in-Explain-clause-stops :
+    goal.returns-in_err-text-in-Explain-clause-stops
+returns-in_err-text-in-Explain-clause-stops g c =
+    let asked = asks_explained (texts_in c.args.words.now) _ c.in-Explain.asked c.deref.result.now
+    c.in_ok-topic.ensures.request c.in-Explain.is c.deref.ensures.value in
+    stops_unexplained g.O.Write.contents (g.F.Folder.holds c.args.folder.now)
+    (g.F.Folder.may_fail c.args.folder.now) c.args.texts.now _
+    (texts_in c.args.words.now) _ c.from_residual-in_err-text-in-Explain.result
+    c.in_err-text-in-Explain.field-0.0 c.args.out.now asked
+    c.in_err-text-in-Explain.ensures.unknown c.from_residual-in_err-text-in-Explain.ensures.1
 
 pub run_over-requires-clause-named : goal.run_over-requires-clause-named
 run_over-requires-clause-named g c =

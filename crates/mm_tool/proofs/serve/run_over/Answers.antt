@@ -1,13 +1,13 @@
--- What `read_files`, `reply` and `run` say of their failing is what is said of the command over the files.
-use Rattle.std.proofs.Common.{map, ap, ◌∙◌, subst, inl}
+-- What `read_files`, `reply_to` and the writing say is what is said of the command over the files.
+use Rattle.std.proofs.Common.{List, ℕ, map, ap, ◌∙◌, subst, inl}
 use Rattle.mm_text.specs.Files.{plain_file}
 use Rattle.mm_tool.specs.Folder.{IsFileFault, plain_read}
 use Rattle.mm_tool.specs.declared.files.FileFault.{FileFault}
 use Rattle.mm_check.specs.Reply.{IsReplyTo}
 use Rattle.mm_check.specs.Status.{number_of}
-use Rattle.mm_tool.specs.Notes.{AreNotesOn}
 use Rattle.mm_tool.proofs.FilesRead.{notes_over, reply_over}
-use Rattle.mm_tool.proofs.AnsweredWords.{as_many, asks_handed, stops_at_run, stops_too_long}
+use Rattle.mm_tool.proofs.AnsweredWords.{as_many, asks_handed, replies_written}
+use Rattle.mm_tool.proofs.AnsweredWords.{stops_too_long, stops_written}
 use Rattle.mm_tool.proofs.serve.run_over.Goals as goal
 
 pub returns-in-Err-TooLong-clause-stops : goal.returns-in-Err-TooLong-clause-stops
@@ -17,57 +17,59 @@ returns-in-Err-TooLong-clause-stops g c =
     stops_too_long g.O.Write.contents (g.F.Folder.holds c.args.folder.now) (g.F.Folder.may_fail c.args.folder.now) c.args.command.now _ c.args.max c.reply.result
     _ _ c.reply.ensures.stop c.reply.ensures.beginning (subst Fault c.in-Err-TooLong.field-0-is c.in-Err-TooLong.ensures.fault)
 
-pub run-requires-clause-asks : goal.run-requires-clause-asks
-run-requires-clause-asks g c =
+pub reply_to-requires : goal.reply_to-requires
+reply_to-requires g c =
     let (wholes, held, within, reads) = c.in-Ok.ensures.read in
-    let given = ap (map plain_file) c.deref-3.ensures.value ∙ c.in_ok-files.ensures
+    let given = ap (map plain_file) c.deref-2.ensures.value ∙ c.in_ok-files.ensures
     ∙ ap (map plain_read) c.deref.ensures.value in
     rw given (asks_handed c.args.command.now _ (map plain_read c.in-Ok.files.items)
     (as_many c.comments_for.result _ wholes (map plain_read c.in-Ok.files.items) held.0 reads)
     c.requires.named)
 
-pub returns-in_err-status-clause-stops : goal.returns-in_err-status-clause-stops
-returns-in_err-status-clause-stops g c =
-    let (wholes, held, within, reads) = c.in-Ok.ensures.read in
-    let read = c.in_ok-files.ensures ∙ ap (map plain_read) c.deref.ensures.value in
-    let given = ap (map plain_file) c.deref-3.ensures.value ∙ read in
-    let noted = ap (map plain_file) c.deref-2.ensures.value ∙ read in
-    stops_at_run g.O.Write.contents (g.F.Folder.holds c.args.folder.now)
-    (g.F.Folder.may_fail c.args.folder.now) c.args.command.now _ c.args.max
-    c.from_residual-in_err-status.result c.in_err-status.field-0.0
-    (map plain_file c.deref-3.result.now) wholes c.in_ok-notes_on.field-0.items _ _
-    c.from_residual-in_err-status.ensures.1
-    (λ text status reply. reply_over c.alike_files_have_one_reply.ensures c.comments_for.result
-    c.args.command.now c.args.max c.comments_for.ensures wholes _ reads within text status
-    (subst (λ l. IsReplyTo l c.args.command.now text status) given reply))
-    held within
-    (notes_over c.alike_files_leave_out_the_same.ensures c.comments_for.result c.args.command.now
-    c.args.max c.comments_for.ensures wholes _ reads within c.in_ok-notes_on.field-0.items
-    (subst (λ l. AreNotesOn l c.in_ok-notes_on.field-0.items) noted c.in_ok-notes_on.ensures))
-    c.in_err-status.ensures.device c.in_err-status.ensures.memory
-    c.in_err-status.ensures.counted.0 c.in_err-status.ensures.uncounted
-
 pub returns-clause-replies : goal.returns-clause-replies
 returns-clause-replies g c =
     let (wholes, held, within, reads) = c.in-Ok.ensures.read in
     let read = c.in_ok-files.ensures ∙ ap (map plain_read) c.deref.ensures.value in
-    let given = ap (map plain_file) c.deref-3.ensures.value ∙ read in
-    let noted = ap (map plain_file) c.deref-2.ensures.value ∙ read in
-    let (text, reply, appended) = c.in_ok-status.ensures.reply in (
-      text,
-      inl (
-        wholes,
-        held,
-        within,
-        reply_over c.alike_files_have_one_reply.ensures c.comments_for.result c.args.command.now
-            c.args.max c.comments_for.ensures wholes _ reads within text _
-            (subst (λ l. IsReplyTo l c.args.command.now text (number_of c.in_ok-status.status))
-            given reply),
-        notes_over c.alike_files_leave_out_the_same.ensures c.comments_for.result
-            c.args.command.now c.args.max c.comments_for.ensures wholes _ reads within
-            c.in_ok-notes_on.field-0.items
-            (subst (λ l. AreNotesOn l c.in_ok-notes_on.field-0.items) noted
-            c.in_ok-notes_on.ensures),
-      ),
-      (appended, c.in_ok-status.ensures.uncounted (λ other. absurd cc)),
-    )
+    let given = ap (map plain_file) c.deref-2.ensures.value ∙ read in
+    let noted = ap (map plain_file) c.deref-3.ensures.value ∙ read in
+    let text : List ℕ = c.in_ok-reply.reply.text.items in
+    let notes : List ℕ = c.in_ok-notes.notes.items in
+    replies_written g.O.Write.contents (g.F.Folder.holds c.args.folder.now)
+    (g.F.Folder.may_fail c.args.folder.now) c.args.command.now _ c.args.max c.noted_reply.result
+    text _ _ _ c.noted_reply.ensures.outcome c.noted_reply.ensures.all
+    (inl (
+      wholes,
+      held,
+      within,
+      reply_over c.alike_files_have_one_reply.ensures c.comments_for.result c.args.command.now
+          c.args.max c.comments_for.ensures wholes _ reads within text _
+          (subst (λ l. IsReplyTo l c.args.command.now text (number_of c.in_ok-reply.reply.status))
+          given c.in_ok-reply.ensures),
+      notes_over c.alike_files_leave_out_the_same.ensures c.comments_for.result
+          c.args.command.now c.args.max c.comments_for.ensures wholes _ reads within text notes
+          (rw (noted, c.deref-4.ensures.value) at c.in_ok-notes.ensures),
+    ))
+
+pub returns-clause-stops : goal.returns-clause-stops
+returns-clause-stops g c =
+    let (wholes, held, within, reads) = c.in-Ok.ensures.read in
+    let read = c.in_ok-files.ensures ∙ ap (map plain_read) c.deref.ensures.value in
+    let given = ap (map plain_file) c.deref-2.ensures.value ∙ read in
+    let noted = ap (map plain_file) c.deref-3.ensures.value ∙ read in
+    let text : List ℕ = c.in_ok-reply.reply.text.items in
+    let notes : List ℕ = c.in_ok-notes.notes.items in
+    stops_written g.O.Write.contents (g.F.Folder.holds c.args.folder.now)
+    (g.F.Folder.may_fail c.args.folder.now) c.args.command.now _ c.args.max c.noted_reply.result
+    text _ _ _ c.noted_reply.ensures.stop c.noted_reply.ensures.beginning
+    (inl (
+      wholes,
+      held,
+      within,
+      reply_over c.alike_files_have_one_reply.ensures c.comments_for.result c.args.command.now
+          c.args.max c.comments_for.ensures wholes _ reads within text _
+          (subst (λ l. IsReplyTo l c.args.command.now text (number_of c.in_ok-reply.reply.status))
+          given c.in_ok-reply.ensures),
+      notes_over c.alike_files_leave_out_the_same.ensures c.comments_for.result
+          c.args.command.now c.args.max c.comments_for.ensures wholes _ reads within text notes
+          (rw (noted, c.deref-4.ensures.value) at c.in_ok-notes.ensures),
+    ))

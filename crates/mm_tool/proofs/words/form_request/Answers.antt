@@ -2,7 +2,7 @@
 use Rattle.std.proofs.Common.{List, refl}
 use Rattle.clap.specs.Words.{Text}
 use Rattle.mm_tool.specs.Words.{AreMatchesOf, IsWordFault}
-use Rattle.mm_tool.proofs.AskedWords.{commands_met}
+use Rattle.mm_tool.proofs.AskedWords.{commands_met, none_there, not_commanded}
 use Rattle.mm_text.proofs.Lists.{error_keeps}
 use Rattle.mm_tool.proofs.words.form_request.Goals as goal
 
@@ -24,3 +24,36 @@ returns-in_err-proof_request-2-clause-fault c =
     (commands_met words c.args.matches.now _ _ met
     (c.in-Some-subcommand_matches.ensures.found.0 refl)
     c.in-Some-subcommand_matches.ensures.rows))
+
+pub returns-in_err-proof_request-3-clause-fault :
+    goal.returns-in_err-proof_request-3-clause-fault
+returns-in_err-proof_request-3-clause-fault c =
+    error_keeps c.from_residual-in_err-proof_request-3.result c.in_err-proof_request-3.field-0.0
+    (λ stop. (words : List Text) → AreMatchesOf words c.args.matches.now → IsWordFault words stop)
+    c.from_residual-in_err-proof_request-3.ensures.1
+    (λ words met. c.in_err-proof_request-3.ensures.fault words
+    (commands_met words c.args.matches.now _ _ met
+    (c.in-Some-subcommand_matches-2.ensures.found.0 refl)
+    c.in-Some-subcommand_matches-2.ensures.rows))
+
+pub returns-in-Some-subcommand_matches-4-clause-request :
+    goal.returns-in-Some-subcommand_matches-4-clause-request
+returns-in-Some-subcommand_matches-4-clause-request c = λ words met.
+    c.in_ok-asked_text-2.ensures words (commands_met words c.args.matches.now _ _ met
+    (c.in-Some-subcommand_matches-4.ensures.found.0 refl)
+    c.in-Some-subcommand_matches-4.ensures.rows)
+
+pub returns-clause-none : goal.returns-clause-none
+returns-clause-none c = λ words met rows.
+    let other = not_commanded words c.args.matches.now in (
+      other _ rows met (λ named. none_there c.subcommand_matches.result c.in_default.is
+          (c.subcommand_matches.ensures.found.1 named)),
+      other _ rows met (λ named. none_there c.subcommand_matches-2.result
+          c.in_default-subcommand_matches.is (c.subcommand_matches-2.ensures.found.1 named)),
+      other _ rows met (λ named. none_there c.subcommand_matches-3.result
+          c.in_default-subcommand_matches-2.is (c.subcommand_matches-3.ensures.found.1 named)),
+      other _ rows met (λ named. none_there c.subcommand_matches-4.result
+          c.in_default-subcommand_matches-3.is (c.subcommand_matches-4.ensures.found.1 named)),
+      other _ rows met (λ named. none_there c.subcommand_matches-5.result
+          c.in_default-subcommand_matches-4.is (c.subcommand_matches-5.ensures.found.1 named)),
+    )

@@ -1,36 +1,51 @@
 -- The words ask for what their matches say.
 use Rattle.std.proofs.Common.{inl, inr, refl}
+use Rattle.std.proofs.lemmas.Result.{IfErr-weaker, IfOk-weaker}
 use Rattle.mm_tool.proofs.AskedWords.{commands_met, none_there, not_commanded}
 use Rattle.mm_tool.proofs.words.request_of_matches.Goals as goal
 
 pub returns-in-Some-clause-request : goal.returns-in-Some-clause-request
-returns-in-Some-clause-request c = λ words met. c.in_ok-whole_request.ensures words
+returns-in-Some-clause-request c = λ words met. c.in_ok-whole_request.ensures words _
     (commands_met words c.args.matches.now _ _ met (c.in-Some.ensures.found.0 refl)
     c.in-Some.ensures.rows)
+    (λ profile names asks. asks)
 
 pub returns-in-Some-subcommand_matches-clause-request :
     goal.returns-in-Some-subcommand_matches-clause-request
 returns-in-Some-subcommand_matches-clause-request c = λ words met.
-    c.in_ok-whole_request-2.ensures words
+    c.in_ok-whole_request-2.ensures words _
     (commands_met words c.args.matches.now _ _ met
     (c.in-Some-subcommand_matches.ensures.found.0 refl) c.in-Some-subcommand_matches.ensures.rows)
+    (λ profile names asks. asks)
 
 pub returns-in-Some-subcommand_matches-2-clause-request :
     goal.returns-in-Some-subcommand_matches-2-clause-request
 returns-in-Some-subcommand_matches-2-clause-request c = λ words met.
-    c.in_ok-whole_request-3.ensures words
+    c.in_ok-whole_request-3.ensures words _
     (commands_met words c.args.matches.now _ _ met
     (c.in-Some-subcommand_matches-2.ensures.found.0 refl)
     c.in-Some-subcommand_matches-2.ensures.rows)
+    (λ profile names asks. asks)
 
 pub returns-in-Some-subcommand_matches-3-clause-request :
     goal.returns-in-Some-subcommand_matches-3-clause-request
-returns-in-Some-subcommand_matches-3-clause-request c = λ words met.
-    c.in_ok-label_request.ensures words _
+returns-in-Some-subcommand_matches-3-clause-request c =
+    IfOk-weaker c.axioms_request.result _ _
+    (λ request asks words met. asks words
     (commands_met words c.args.matches.now _ _ met
     (c.in-Some-subcommand_matches-3.ensures.found.0 refl)
-    c.in-Some-subcommand_matches-3.ensures.rows)
-    (λ label names asks. asks)
+    c.in-Some-subcommand_matches-3.ensures.rows))
+    c.axioms_request.ensures.request
+
+pub returns-in-Some-subcommand_matches-3-clause-fault :
+    goal.returns-in-Some-subcommand_matches-3-clause-fault
+returns-in-Some-subcommand_matches-3-clause-fault c =
+    IfErr-weaker c.axioms_request.result _ _
+    (λ stop refused words met. refused words
+    (commands_met words c.args.matches.now _ _ met
+    (c.in-Some-subcommand_matches-3.ensures.found.0 refl)
+    c.in-Some-subcommand_matches-3.ensures.rows))
+    c.axioms_request.ensures.fault
 
 pub returns-in-Some-subcommand_matches-4-clause-request :
     goal.returns-in-Some-subcommand_matches-4-clause-request
@@ -43,10 +58,31 @@ returns-in-Some-subcommand_matches-4-clause-request c = λ words met.
 pub returns-in-Some-subcommand_matches-5-clause-request :
     goal.returns-in-Some-subcommand_matches-5-clause-request
 returns-in-Some-subcommand_matches-5-clause-request c = λ words met.
-    c.in_ok-show_request.ensures words
+    c.in_ok-label_request.ensures words _
     (commands_met words c.args.matches.now _ _ met
     (c.in-Some-subcommand_matches-5.ensures.found.0 refl)
     c.in-Some-subcommand_matches-5.ensures.rows)
+    (λ label names asks. asks)
+
+pub returns-in-Some-subcommand_matches-6-clause-request :
+    goal.returns-in-Some-subcommand_matches-6-clause-request
+returns-in-Some-subcommand_matches-6-clause-request c =
+    IfOk-weaker c.show_request.result _ _
+    (λ request asks words met. asks words
+    (commands_met words c.args.matches.now _ _ met
+    (c.in-Some-subcommand_matches-6.ensures.found.0 refl)
+    c.in-Some-subcommand_matches-6.ensures.rows))
+    c.show_request.ensures.request
+
+pub returns-in-Some-subcommand_matches-6-clause-fault :
+    goal.returns-in-Some-subcommand_matches-6-clause-fault
+returns-in-Some-subcommand_matches-6-clause-fault c =
+    IfErr-weaker c.show_request.result _ _
+    (λ stop refused words met. refused words
+    (commands_met words c.args.matches.now _ _ met
+    (c.in-Some-subcommand_matches-6.ensures.found.0 refl)
+    c.in-Some-subcommand_matches-6.ensures.rows))
+    c.show_request.ensures.fault
 
 pub returns-clause-fault : goal.returns-clause-fault
 returns-clause-fault c = λ words met.
@@ -68,5 +104,7 @@ returns-clause-fault c = λ words met.
             c.in_default-subcommand_matches-4.is (c.subcommand_matches-5.ensures.found.1 named)),
         other _ rows met (λ named. none_there c.subcommand_matches-6.result
             c.in_default-subcommand_matches-5.is (c.subcommand_matches-6.ensures.found.1 named)),
+        other _ rows met (λ named. none_there c.subcommand_matches-7.result
+            c.in_default-subcommand_matches-6.is (c.subcommand_matches-7.ensures.found.1 named)),
       ),
     ))

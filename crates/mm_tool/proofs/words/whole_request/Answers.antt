@@ -3,7 +3,7 @@ use Rattle.std.proofs.Common.{sym}
 use Rattle.mm_tool.proofs.words.whole_request.Goals as goal
 
 pub returns : goal.returns
-returns c = λ words commands. (
+returns c = λ words name commands asks. asks _ _ (
   _,
   commands,
   c.asked_profile.ensures,

@@ -1,0 +1,456 @@
+//! The commands of the program, for `clap`: their names, and what stands behind each.
+
+ghost use Rattle.std.specs.Prelude.{◌≡◌, IfOk, false};
+ghost use Rattle.clap.specs.Words.{app_of, rule_of};
+ghost use Rattle.clap.specs.declared.builder.command.Command.TheViews.{out-Command};
+ghost use Rattle.mm_tool.specs.Words.{axioms_line, bare_line, check_line, check_lines, code_rule};
+ghost use Rattle.mm_tool.specs.Words.{command_line, database_line, explain_line, faults_line};
+ghost use Rattle.mm_tool.specs.Words.{files_rule, flag_rule, form_line, forms_line, help_line};
+ghost use Rattle.mm_tool.specs.Words.{label_rule, normal_line, packed_line, profile_line};
+ghost use Rattle.mm_tool.specs.Words.{proof_rule, proofs_line, question_line, rests_line, same_line};
+ghost use Rattle.mm_tool.specs.Words.{show_line, small_line, statement_line, text_line, topic_rule};
+ghost use Rattle.mm_tool.specs.Words.{try_line, users_line, version_line, why_line};
+
+use clap::{Arg, ArgAction, Command};
+use std::alloc::{AllocError, Global};
+
+const PROGRAM: &str = "mm";
+
+pub(crate) const CHECK: &str = "check";
+
+pub(crate) const FAULTS: &str = "faults";
+
+pub(crate) const WHY: &str = "why";
+
+pub(crate) const AXIOMS: &str = "axioms";
+
+pub(crate) const STATEMENT: &str = "statement";
+
+pub(crate) const USERS: &str = "users";
+
+pub(crate) const SHOW: &str = "show";
+
+pub(crate) const NORMAL: &str = "normal";
+
+pub(crate) const PACKED: &str = "packed";
+
+pub(crate) const SMALL: &str = "small";
+
+pub(crate) const SAME: &str = "same";
+
+pub(crate) const TRY: &str = "try";
+
+pub(crate) const EXPLAIN: &str = "explain";
+
+pub(crate) const HELP: &str = "help";
+
+pub(crate) const VERSION: &str = "version";
+
+pub(crate) const FILES: &str = "FILES";
+
+pub(crate) const LABEL: &str = "LABEL";
+
+pub(crate) const FILE: &str = "file";
+
+pub(crate) const ALL: &str = "all";
+
+pub(crate) const KNOWN: &str = "known";
+
+pub(crate) const ESSENTIAL: &str = "essential";
+
+pub(crate) const USES: &str = "uses";
+
+pub(crate) const STRICT: &str = "strict";
+
+pub(crate) const PROOF: &str = "PROOF";
+
+pub(crate) const CODE: &str = "CODE";
+
+pub(crate) const COMMAND: &str = "COMMAND";
+
+/// The names of the files, for `clap`.
+fn files_argument<'a>(alloc: Global) -> Arg<'a>
+    ensures rule { rule_of result ≡ files_rule }
+    ensures local { result.global ≡ false }
+{
+    Arg::new(alloc, FILES)
+        .required(true)
+        .num_args(1..)
+        .action(ArgAction::Append)
+}
+
+/// The label of a theorem, for `clap`.
+fn label_argument<'a>(alloc: Global) -> Arg<'a>
+    ensures rule { rule_of result ≡ label_rule }
+    ensures local { result.global ≡ false }
+{
+    Arg::new(alloc, LABEL).required(true).action(ArgAction::Set)
+}
+
+/// The flag with this name, for `clap`.
+fn flag_argument<'a>(alloc: Global, name: &'a str) -> Arg<'a>
+    ensures rule { rule_of result ≡ flag_rule name.entry.now }
+    ensures local { result.global ≡ false }
+{
+    Arg::new(alloc, name).long(name).action(ArgAction::SetTrue)
+}
+
+/// The name of the file with a proof's text, for `clap`.
+fn proof_argument<'a>(alloc: Global) -> Arg<'a>
+    ensures rule { rule_of result ≡ proof_rule }
+    ensures local { result.global ≡ false }
+{
+    Arg::new(alloc, PROOF).required(true).action(ArgAction::Set)
+}
+
+/// The code of a rule, or the words of a reply that names one, for `clap`.
+fn code_argument<'a>(alloc: Global) -> Arg<'a>
+    ensures rule { rule_of result ≡ code_rule }
+    ensures local { result.global ≡ false }
+{
+    Arg::new(alloc, CODE)
+        .num_args(0..)
+        .action(ArgAction::Append)
+}
+
+/// The name of a command, for `clap`.
+fn topic_argument<'a>(alloc: Global) -> Arg<'a>
+    ensures rule { rule_of result ≡ topic_rule }
+    ensures local { result.global ≡ false }
+{
+    Arg::new(alloc, COMMAND)
+        .num_args(0..=1)
+        .action(ArgAction::Append)
+}
+
+/// A command that checks a database under a profile, for `clap`.
+fn profile_command<'a>(
+    alloc: Global,
+    name: &'a str,
+    about: &'a str,
+    usage: &'a str,
+) -> Result<Command<'a>, AllocError>
+    ensures shape { IfOk result (λ command. app_of command ≡ profile_line name.entry.now) }
+    ensures local { IfOk result (λ command. (out-Command command).has_globals ≡ false) }
+{
+    Command::new(alloc, name)
+        .about(about)
+        .override_usage(usage)
+        .arg(flag_argument(alloc, STRICT))?
+        .arg(files_argument(alloc))
+}
+
+/// The command `check`, for `clap`.
+fn check_command<'a>(alloc: Global) -> Result<Command<'a>, AllocError>
+    ensures shape { IfOk result (λ command. app_of command ≡ check_line) }
+    ensures local { IfOk result (λ command. (out-Command command).has_globals ≡ false) }
+{
+    profile_command(
+        alloc,
+        CHECK,
+        "checks each statement and each proof of a database",
+        "mm check [--strict] FILES..",
+    )
+}
+
+/// The command `faults`, for `clap`.
+fn faults_command<'a>(alloc: Global) -> Result<Command<'a>, AllocError>
+    ensures shape { IfOk result (λ command. app_of command ≡ faults_line) }
+    ensures local { IfOk result (λ command. (out-Command command).has_globals ≡ false) }
+{
+    profile_command(
+        alloc,
+        FAULTS,
+        "lists all faults of a database",
+        "mm faults [--strict] FILES..",
+    )
+}
+
+/// The command `why`, for `clap`.
+fn why_command<'a>(alloc: Global) -> Result<Command<'a>, AllocError>
+    ensures shape { IfOk result (λ command. app_of command ≡ why_line) }
+    ensures local { IfOk result (λ command. (out-Command command).has_globals ≡ false) }
+{
+    profile_command(
+        alloc,
+        WHY,
+        "explains the faults of a database",
+        "mm why [--strict] FILES..",
+    )
+}
+
+/// A command that asks about the statement with a label, for `clap`.
+fn question_command<'a>(
+    alloc: Global,
+    name: &'a str,
+    about: &'a str,
+    usage: &'a str,
+) -> Result<Command<'a>, AllocError>
+    ensures shape { IfOk result (λ command. app_of command ≡ question_line name.entry.now) }
+    ensures local { IfOk result (λ command. (out-Command command).has_globals ≡ false) }
+{
+    Command::new(alloc, name)
+        .about(about)
+        .override_usage(usage)
+        .arg(label_argument(alloc))?
+        .arg(files_argument(alloc))
+}
+
+/// A command that asks for the proof of the theorem with a label in a form, or for its whole file
+/// with that proof, or for a file with all its proofs in that form, for `clap`.
+fn form_command<'a>(
+    alloc: Global,
+    name: &'a str,
+    about: &'a str,
+    usage: &'a str,
+) -> Result<Command<'a>, AllocError>
+    ensures shape { IfOk result (λ command. app_of command ≡ form_line name.entry.now) }
+    ensures local { IfOk result (λ command. (out-Command command).has_globals ≡ false) }
+{
+    question_command(alloc, name, about, usage)?
+        .arg(flag_argument(alloc, FILE))?
+        .arg(flag_argument(alloc, ALL))
+}
+
+/// The command `axioms`, for `clap`.
+fn axioms_command<'a>(alloc: Global) -> Result<Command<'a>, AllocError>
+    ensures shape { IfOk result (λ command. app_of command ≡ axioms_line) }
+    ensures local { IfOk result (λ command. (out-Command command).has_globals ≡ false) }
+{
+    Command::new(alloc, AXIOMS)
+        .about("lists the axioms that a theorem rests on, or each theorem")
+        .override_usage("mm axioms LABEL FILES..\n       mm axioms --all FILES..")
+        .arg(flag_argument(alloc, ALL))?
+        .arg(files_argument(alloc))
+}
+
+/// The command `statement`, for `clap`.
+fn statement_command<'a>(alloc: Global) -> Result<Command<'a>, AllocError>
+    ensures shape { IfOk result (λ command. app_of command ≡ statement_line) }
+    ensures local { IfOk result (λ command. (out-Command command).has_globals ≡ false) }
+{
+    question_command(
+        alloc,
+        STATEMENT,
+        "tells what stands at a label, and its frame",
+        "mm statement LABEL FILES..",
+    )
+}
+
+/// The command `users`, for `clap`.
+fn users_command<'a>(alloc: Global) -> Result<Command<'a>, AllocError>
+    ensures shape { IfOk result (λ command. app_of command ≡ users_line) }
+    ensures local { IfOk result (λ command. (out-Command command).has_globals ≡ false) }
+{
+    question_command(
+        alloc,
+        USERS,
+        "lists the theorems whose proofs use an assertion",
+        "mm users [--all] LABEL FILES..",
+    )?
+    .arg(flag_argument(alloc, ALL))
+}
+
+/// The command `show`, for `clap`.
+fn show_command<'a>(alloc: Global) -> Result<Command<'a>, AllocError>
+    ensures shape { IfOk result (λ command. app_of command ≡ show_line) }
+    ensures local { IfOk result (λ command. (out-Command command).has_globals ≡ false) }
+{
+    question_command(
+        alloc,
+        SHOW,
+        "lists the steps of the proof of a theorem",
+        "mm show [--known | --essential | --uses] LABEL FILES..",
+    )?
+    .arg(flag_argument(alloc, KNOWN))?
+    .arg(flag_argument(alloc, ESSENTIAL))?
+    .arg(flag_argument(alloc, USES))
+}
+
+/// The command `normal`, for `clap`.
+fn normal_command<'a>(alloc: Global) -> Result<Command<'a>, AllocError>
+    ensures shape { IfOk result (λ command. app_of command ≡ normal_line) }
+    ensures local { IfOk result (λ command. (out-Command command).has_globals ≡ false) }
+{
+    form_command(
+        alloc,
+        NORMAL,
+        "writes the normal proof of a theorem",
+        "mm normal [--file] LABEL FILES..\n       mm normal --all NAME FILES..",
+    )
+}
+
+/// The command `packed`, for `clap`.
+fn packed_command<'a>(alloc: Global) -> Result<Command<'a>, AllocError>
+    ensures shape { IfOk result (λ command. app_of command ≡ packed_line) }
+    ensures local { IfOk result (λ command. (out-Command command).has_globals ≡ false) }
+{
+    form_command(
+        alloc,
+        PACKED,
+        "writes the packed proof of a theorem",
+        "mm packed [--file] LABEL FILES..\n       mm packed --all NAME FILES..",
+    )
+}
+
+/// The command `small`, for `clap`.
+fn small_command<'a>(alloc: Global) -> Result<Command<'a>, AllocError>
+    ensures shape { IfOk result (λ command. app_of command ≡ small_line) }
+    ensures local { IfOk result (λ command. (out-Command command).has_globals ≡ false) }
+{
+    form_command(
+        alloc,
+        SMALL,
+        "writes a small proof of a theorem",
+        "mm small [--file] LABEL FILES..\n       mm small --all NAME FILES..",
+    )
+}
+
+/// A command that asks about a proof's text and the theorem with a label, for `clap`.
+fn text_command<'a>(
+    alloc: Global,
+    name: &'a str,
+    about: &'a str,
+    usage: &'a str,
+) -> Result<Command<'a>, AllocError>
+    ensures shape { IfOk result (λ command. app_of command ≡ text_line name.entry.now) }
+    ensures local { IfOk result (λ command. (out-Command command).has_globals ≡ false) }
+{
+    Command::new(alloc, name)
+        .about(about)
+        .override_usage(usage)
+        .arg(label_argument(alloc))?
+        .arg(proof_argument(alloc))?
+        .arg(files_argument(alloc))
+}
+
+/// The command `same`, for `clap`.
+fn same_command<'a>(alloc: Global) -> Result<Command<'a>, AllocError>
+    ensures shape { IfOk result (λ command. app_of command ≡ same_line) }
+    ensures local { IfOk result (λ command. (out-Command command).has_globals ≡ false) }
+{
+    text_command(
+        alloc,
+        SAME,
+        "tells whether a proof's text is the same proof as that of a theorem",
+        "mm same LABEL PROOF FILES..",
+    )
+}
+
+/// The command `try`, for `clap`.
+fn try_command<'a>(alloc: Global) -> Result<Command<'a>, AllocError>
+    ensures shape { IfOk result (λ command. app_of command ≡ try_line) }
+    ensures local { IfOk result (λ command. (out-Command command).has_globals ≡ false) }
+{
+    text_command(
+        alloc,
+        TRY,
+        "tells whether a text is a proof of a theorem, whatever its own proof",
+        "mm try LABEL PROOF FILES..",
+    )
+}
+
+/// The command `explain`, for `clap`.
+fn explain_command<'a>(alloc: Global) -> Result<Command<'a>, AllocError>
+    ensures shape { IfOk result (λ command. app_of command ≡ explain_line) }
+    ensures local { IfOk result (λ command. (out-Command command).has_globals ≡ false) }
+{
+    Command::new(alloc, EXPLAIN)
+        .about("says what the rule with this code is; without a code, lists all codes")
+        .override_usage("mm explain [CODE]")
+        .arg(code_argument(alloc))
+}
+
+/// The command `help`, for `clap`.
+fn help_command<'a>(alloc: Global) -> Result<Command<'a>, AllocError>
+    ensures shape { IfOk result (λ command. app_of command ≡ help_line) }
+    ensures local { IfOk result (λ command. (out-Command command).has_globals ≡ false) }
+{
+    Command::new(alloc, HELP)
+        .about("prints the help, or the page of a command")
+        .override_usage("mm help [COMMAND]")
+        .arg(topic_argument(alloc))
+}
+
+/// The command `version`, for `clap`.
+fn version_command<'a>(alloc: Global) -> Command<'a>
+    ensures shape { app_of result ≡ version_line }
+    ensures local { (out-Command result).has_globals ≡ false }
+{
+    Command::new(alloc, VERSION).about("prints the version")
+}
+
+/// The program's command line without its commands, for `clap`.
+fn bare_command<'a>(alloc: Global) -> Result<Command<'a>, AllocError>
+    ensures shape { IfOk result (λ command. app_of command ≡ bare_line) }
+    ensures local { IfOk result (λ command. (out-Command command).has_globals ≡ false) }
+{
+    Command::new(alloc, PROGRAM)
+        .version(PROGRAM)
+        .disable_help_subcommand(true)
+        .subcommand_required(true)
+        .arg_required_else_help(true)
+        .bin_name(PROGRAM)
+}
+
+/// The program's command line with the commands that check a database, for `clap`.
+fn check_commands<'a>(alloc: Global) -> Result<Command<'a>, AllocError>
+    ensures shape { IfOk result (λ command. app_of command ≡ check_lines) }
+    ensures local { IfOk result (λ command. (out-Command command).has_globals ≡ false) }
+{
+    bare_command(alloc)?
+        .subcommand(check_command(alloc)?)?
+        .subcommand(faults_command(alloc)?)?
+        .subcommand(why_command(alloc)?)
+}
+
+/// That with the commands that ask what rests on what, for `clap`.
+fn rests_command<'a>(alloc: Global) -> Result<Command<'a>, AllocError>
+    ensures shape { IfOk result (λ command. app_of command ≡ rests_line) }
+    ensures local { IfOk result (λ command. (out-Command command).has_globals ≡ false) }
+{
+    check_commands(alloc)?
+        .subcommand(axioms_command(alloc)?)?
+        .subcommand(users_command(alloc)?)
+}
+
+/// That with the commands that ask what stands there, and how it is proved, for `clap`.
+fn database_command<'a>(alloc: Global) -> Result<Command<'a>, AllocError>
+    ensures shape { IfOk result (λ command. app_of command ≡ database_line) }
+    ensures local { IfOk result (λ command. (out-Command command).has_globals ≡ false) }
+{
+    rests_command(alloc)?
+        .subcommand(statement_command(alloc)?)?
+        .subcommand(show_command(alloc)?)
+}
+
+/// That with the commands that ask for the forms of a proof, for `clap`.
+fn forms_command<'a>(alloc: Global) -> Result<Command<'a>, AllocError>
+    ensures shape { IfOk result (λ command. app_of command ≡ forms_line) }
+    ensures local { IfOk result (λ command. (out-Command command).has_globals ≡ false) }
+{
+    database_command(alloc)?
+        .subcommand(normal_command(alloc)?)?
+        .subcommand(packed_command(alloc)?)?
+        .subcommand(small_command(alloc)?)
+}
+
+/// That with the commands that ask about a proof's text, for `clap`.
+fn proofs_command<'a>(alloc: Global) -> Result<Command<'a>, AllocError>
+    ensures shape { IfOk result (λ command. app_of command ≡ proofs_line) }
+    ensures local { IfOk result (λ command. (out-Command command).has_globals ≡ false) }
+{
+    forms_command(alloc)?
+        .subcommand(same_command(alloc)?)?
+        .subcommand(try_command(alloc)?)
+}
+
+/// The program's command line, for `clap`.
+pub(crate) fn whole_command<'a>(alloc: Global) -> Result<Command<'a>, AllocError>
+    ensures { IfOk result (λ command. app_of command ≡ command_line) }
+{
+    proofs_command(alloc)?
+        .subcommand(explain_command(alloc)?)?
+        .subcommand(help_command(alloc)?)?
+        .subcommand(version_command(alloc))
+}
