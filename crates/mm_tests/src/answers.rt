@@ -38,6 +38,10 @@ fn answer_of(alloc: Global, checked: &Checked, command: &Command) -> Result<Answ
             form: Form::Packed,
             ..
         } => Ok(checked.packed(alloc, label)),
+        Question::Form {
+            form: Form::Small,
+            ..
+        } => Ok(checked.small(alloc, label)),
         Question::Same(text) => match checked.same_text(alloc, label, text) {
             Ok(same) => Ok(Ok(sameness_line(alloc, same)?)),
             Err(fault) => Ok(Err(fault)),
@@ -185,6 +189,11 @@ fn compare(rt: &impl Abort, alloc: Global, table: &[Asked]) -> Result<(), Fail> 
 #[test]
 fn packed_proofs(rt: HostRuntime) -> Result<(), Fail> {
     compare(&rt, rt.alloc(), &forms::PACKED)
+}
+
+#[test]
+fn small_proofs(rt: HostRuntime) -> Result<(), Fail> {
+    compare(&rt, rt.alloc(), &forms::SMALL)
 }
 
 #[test]

@@ -9,6 +9,7 @@ mod frame;
 mod growths;
 mod included;
 mod load;
+mod near;
 mod profiles;
 mod proof;
 mod save;

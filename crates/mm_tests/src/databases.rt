@@ -111,6 +111,54 @@ th1 $p |- t = t $=
 $.
 ";
 
+/// What stands before its theorem.
+pub(crate) const DEMO_HEAD: &[u8] = b"\
+$( The demo0 database $)
+$c 0 + = -> ( ) term wff |- $.
+$v t r s P Q $.
+tt $f term t $.
+tr $f term r $.
+ts $f term s $.
+wp $f wff P $.
+wq $f wff Q $.
+tze $a term 0 $.
+tpl $a term ( t + r ) $.
+weq $a wff t = r $.
+wim $a wff ( P -> Q ) $.
+a1 $a |- ( t = r -> ( t = s -> r = s ) ) $.
+a2 $a |- ( t + 0 ) = t $.
+${
+  min $e |- P $.
+  maj $e |- ( P -> Q ) $.
+  mp $a |- Q $.
+$}
+";
+
+/// The demonstration database with its theorem in a small proof.
+pub(crate) const DEMO_SMALL: &[u8] = b"\
+$( The demo0 database $)
+$c 0 + = -> ( ) term wff |- $.
+$v t r s P Q $.
+tt $f term t $.
+tr $f term r $.
+ts $f term s $.
+wp $f wff P $.
+wq $f wff Q $.
+tze $a term 0 $.
+tpl $a term ( t + r ) $.
+weq $a wff t = r $.
+wim $a wff ( P -> Q ) $.
+a1 $a |- ( t = r -> ( t = s -> r = s ) ) $.
+a2 $a |- ( t + 0 ) = t $.
+${
+  min $e |- P $.
+  maj $e |- ( P -> Q ) $.
+  mp $a |- Q $.
+$}
+th1 $p |- t = t $=
+      ( weq mp tze tpl a2 wim a1 ) ADEZABZAABZAFZJJKGLIAAHCC $.
+";
+
 /// The demonstration database with its theorem in a compressed proof: `demo0c.mm`.
 pub(crate) const DEMO_COMPRESSED: &[u8] = b"\
 $( The demo0 database $)

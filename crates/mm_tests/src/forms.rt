@@ -1,4 +1,4 @@
-//! The acceptance cases of the normal and the packed proof of a theorem.
+//! The acceptance cases of the normal, the packed and the small proof of a theorem.
 
 use crate::Asked;
 use crate::Part::{Text, Times};
@@ -9,6 +9,53 @@ use crate::doublings::{
 };
 use mm_check::Command::About;
 use mm_check::{Form, Question};
+
+/// Small proofs: in them `weq` and `mp`, which are used twice, come before the labels that are used
+/// once.
+pub(crate) const SMALL: [Asked; 3] = [
+    Asked {
+        name: "the small form of the demonstration theorem",
+        command: About {
+            label: b"th1",
+            question: Question::Form {
+                form: Form::Small,
+                whole: false,
+            },
+        },
+        files: &[(b"demo0.mm", &[Text(DEMO)])],
+        reply: &[
+            Text(b"      ( weq mp tze tpl a2 wim a1 )\n"),
+            Text(b"      ADEZABZAABZAFZJJKGLIAAHCC\n"),
+        ],
+        status: 0,
+    },
+    Asked {
+        name: "the small form of a theorem of one use of each label",
+        command: About {
+            label: b"th",
+            question: Question::Form {
+                form: Form::Small,
+                whole: false,
+            },
+        },
+        files: &[(b"first.mm", &[Text(FIRST)])],
+        reply: &[Text(b"      ( tze tpl )\n"), Text(b"      AAB\n")],
+        status: 0,
+    },
+    Asked {
+        name: "the small form of a label that isn't there",
+        command: About {
+            label: b"none",
+            question: Question::Form {
+                form: Form::Small,
+                whole: false,
+            },
+        },
+        files: &[(b"demo0.mm", &[Text(DEMO)])],
+        reply: &[Text(b"ask A1 none\n")],
+        status: 1,
+    },
+];
 
 /// Packed proofs.
 pub(crate) const PACKED: [Asked; 9] = [

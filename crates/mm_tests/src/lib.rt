@@ -55,11 +55,19 @@ mod saving_all;
 #[cfg(test)]
 mod scopes;
 #[cfg(test)]
+mod statements;
+#[cfg(test)]
 mod tests;
 #[cfg(test)]
 mod users;
 #[cfg(test)]
+mod uses;
+#[cfg(test)]
 mod why;
+#[cfg(test)]
+mod why_meaning;
+#[cfg(test)]
+mod why_text;
 
 /// A piece of a file: bytes, or bytes so many times one after the other.
 #[cfg(test)]

@@ -2,13 +2,13 @@
 
 use crate::Asked;
 use crate::Part::Text;
-use crate::databases::{CAT, DEMO, DEMO_COMPRESSED, DIST, FIRST, FIRST_HEAD, HEAD};
+use crate::databases::{CAT, DEMO, DEMO_COMPRESSED, DEMO_SMALL, DIST, FIRST, FIRST_HEAD, HEAD};
 use crate::doublings::{TWENTY_FOUR, TWENTY_FOUR_LINES};
 use mm_check::Command::About;
 use mm_check::{Form, Question};
 
 /// Files with a proof written anew.
-pub(crate) const SAVED: [Asked; 9] = [
+pub(crate) const SAVED: [Asked; 12] = [
     Asked {
         name: "the compressed demonstration database saved in normal form",
         command: About {
@@ -33,6 +33,45 @@ pub(crate) const SAVED: [Asked; 9] = [
         },
         files: &[(b"demo0.mm", &[Text(DEMO)])],
         reply: &[Text(DEMO_COMPRESSED)],
+        status: 0,
+    },
+    Asked {
+        name: "the demonstration database saved in small form, behind its six spaces",
+        command: About {
+            label: b"th1",
+            question: Question::Form {
+                form: Form::Small,
+                whole: true,
+            },
+        },
+        files: &[(b"demo0.mm", &[Text(DEMO)])],
+        reply: &[Text(DEMO_SMALL)],
+        status: 0,
+    },
+    Asked {
+        name: "the demonstration database in small form saved so again",
+        command: About {
+            label: b"th1",
+            question: Question::Form {
+                form: Form::Small,
+                whole: true,
+            },
+        },
+        files: &[(b"demo0.mm", &[Text(DEMO_SMALL)])],
+        reply: &[Text(DEMO_SMALL)],
+        status: 0,
+    },
+    Asked {
+        name: "a proof that is shorter than its small form is kept",
+        command: About {
+            label: b"th",
+            question: Question::Form {
+                form: Form::Small,
+                whole: true,
+            },
+        },
+        files: &[(b"first.mm", &[Text(FIRST)])],
+        reply: &[Text(FIRST)],
         status: 0,
     },
     Asked {

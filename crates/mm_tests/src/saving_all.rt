@@ -2,13 +2,15 @@
 
 use crate::Asked;
 use crate::Part::Text;
-use crate::databases::{CAT, DEMO, DEMO_COMPRESSED, DIST, FIRST, FIRST_HEAD, HEAD};
+use crate::databases::{
+    CAT, DEMO, DEMO_COMPRESSED, DEMO_HEAD, DEMO_SMALL, DIST, FIRST, FIRST_HEAD, HEAD,
+};
 use crate::doublings::{TWENTY_FOUR, TWENTY_FOUR_LINES};
 use mm_check::Command::File;
-use mm_check::Form::{Normal, Packed};
+use mm_check::Form::{Normal, Packed, Small};
 
 /// Files with each complete proof written anew.
-pub(crate) const SAVED: [Asked; 9] = [
+pub(crate) const SAVED: [Asked; 12] = [
     Asked {
         name: "the compressed demonstration database saved whole in normal form",
         command: File {
@@ -27,6 +29,53 @@ pub(crate) const SAVED: [Asked; 9] = [
         },
         files: &[(b"demo0.mm", &[Text(DEMO)])],
         reply: &[Text(DEMO_COMPRESSED)],
+        status: 0,
+    },
+    Asked {
+        name: "in small form one proof is replaced, and a shorter one is kept",
+        command: File {
+            form: Small,
+            file: 0,
+        },
+        files: &[(
+            b"demo0.mm",
+            &[Text(DEMO), Text(b"th2 $p |- t = t $= tt th1 $.\n")],
+        )],
+        reply: &[Text(DEMO_SMALL), Text(b"th2 $p |- t = t $= tt th1 $.\n")],
+        status: 0,
+    },
+    Asked {
+        name: "what was saved in small form is saved so again",
+        command: File {
+            form: Small,
+            file: 0,
+        },
+        files: &[(
+            b"demo0.mm",
+            &[Text(DEMO_SMALL), Text(b"th2 $p |- t = t $= tt th1 $.\n")],
+        )],
+        reply: &[Text(DEMO_SMALL), Text(b"th2 $p |- t = t $= tt th1 $.\n")],
+        status: 0,
+    },
+    Asked {
+        name: "a proof on the line of its statement is saved in small form behind four spaces",
+        command: File {
+            form: Small,
+            file: 0,
+        },
+        files: &[(
+            b"demo0.mm",
+            &[
+                Text(DEMO_HEAD),
+                Text(b"th1 $p |- t = t $= ( tze tpl weq a2 wim a1 mp )\n"),
+                Text(b"  ABCZADZAADZAEZJJKFLIAAGHH     $.\n"),
+            ],
+        )],
+        reply: &[
+            Text(DEMO_HEAD),
+            Text(b"th1 $p |- t = t $=\n"),
+            Text(b"    ( weq mp tze tpl a2 wim a1 ) ADEZABZAABZAFZJJKGLIAAHCC $.\n"),
+        ],
         status: 0,
     },
     Asked {

@@ -7,7 +7,8 @@ ghost use Rattle.mm_check.specs.Reply.{AsksHanded};
 use crate::databases::{DEMO, HEAD};
 use crate::{
     Case, Part, compressed, damaged, faults, files, incomplete, lone, names, one_file, orders,
-    prefixes, profiles, proofs, questions, scopes, users, why,
+    prefixes, profiles, proofs, questions, scopes, statements, users, uses, why, why_meaning,
+    why_text,
 };
 use mm_check::{Checked, Command, Status, WholeQuestion, check, run};
 use mm_proof::Profile;
@@ -269,6 +270,26 @@ fn explained_faults(rt: HostRuntime) -> Result<(), Fail> {
     compare_commands(&rt, rt.alloc(), &why::EXPLAINED)
 }
 
+#[test]
+fn explained_faults_of_the_text(rt: HostRuntime) -> Result<(), Fail> {
+    compare_commands(&rt, rt.alloc(), &why_text::TEXTS)
+}
+
+#[test]
+fn explained_faults_of_declarations(rt: HostRuntime) -> Result<(), Fail> {
+    compare_commands(&rt, rt.alloc(), &why_meaning::DECLARATIONS)
+}
+
+#[test]
+fn explained_faults_of_labels(rt: HostRuntime) -> Result<(), Fail> {
+    compare_commands(&rt, rt.alloc(), &why_meaning::LABELS)
+}
+
+#[test]
+fn explained_faults_of_symbols(rt: HostRuntime) -> Result<(), Fail> {
+    compare_commands(&rt, rt.alloc(), &why_meaning::SYMBOLS)
+}
+
 /// Whether 20 statements and one complete proof are counted beside the incomplete proof of `u1`.
 fn is_counted_beside(checked: &Checked) -> bool {
     match checked.incomplete() {
@@ -471,6 +492,21 @@ fn theorems_not_found(rt: HostRuntime) -> Result<(), Fail> {
 }
 
 #[test]
+fn uses_of_steps(rt: HostRuntime) -> Result<(), Fail> {
+    compare_commands(&rt, rt.alloc(), &uses::USES)
+}
+
+#[test]
+fn essential_steps(rt: HostRuntime) -> Result<(), Fail> {
+    compare_commands(&rt, rt.alloc(), &uses::ESSENTIAL)
+}
+
+#[test]
+fn unanswered_uses(rt: HostRuntime) -> Result<(), Fail> {
+    compare_commands(&rt, rt.alloc(), &uses::USES_UNANSWERED)
+}
+
+#[test]
 fn users_of_assertions(rt: HostRuntime) -> Result<(), Fail> {
     compare_commands(&rt, rt.alloc(), &users::USERS)
 }
@@ -488,6 +524,11 @@ fn unanswered_users(rt: HostRuntime) -> Result<(), Fail> {
 #[test]
 fn axioms_of_all_theorems(rt: HostRuntime) -> Result<(), Fail> {
     compare_commands(&rt, rt.alloc(), &users::ALL_AXIOMS)
+}
+
+#[test]
+fn statements_at_labels(rt: HostRuntime) -> Result<(), Fail> {
+    compare_commands(&rt, rt.alloc(), &statements::STATEMENTS)
 }
 
 /// What is done to the byte at a position.

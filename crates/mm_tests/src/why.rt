@@ -5,10 +5,10 @@ use crate::Part::Text;
 use crate::databases::FIRST;
 use mm_check::Command::{self, Whole};
 use mm_check::WholeQuestion;
-use mm_proof::Profile::Lenient;
+use mm_proof::Profile::{Lenient, Strict};
 
 /// Databases with several faults, with one, and with none.
-pub(crate) const EXPLAINED: [(Command<'static>, Case); 7] = [
+pub(crate) const EXPLAINED: [(Command<'static>, Case); 12] = [
     (
         Whole {
             profile: Lenient,
@@ -32,8 +32,10 @@ pub(crate) const EXPLAINED: [(Command<'static>, Case); 7] = [
                 b"f.mm",
                 &[Text(b"$c a $.\np $p a $= nope $.\n  q $p a $= nope $.\n")],
             )],
-            reply: b"f.mm:2:1: P2: no earlier statement has the label, in the proof of p
-f.mm:3:3: P2: no earlier statement has the label, in the proof of q
+            reply: b"f.mm:2:11: P2: no earlier statement has the label, in the proof of p
+  token: nope
+f.mm:3:13: P2: no earlier statement has the label, in the proof of q
+  token: nope
 2 faults
 ",
             status: 1,
@@ -57,18 +59,30 @@ f.mm:3:3: P2: no earlier statement has the label, in the proof of q
                     Text(b"  $c a $.\n"),
                 ],
             )],
-            reply: b"f.mm:2:1: P2: no earlier statement has the label, in the proof of p01
-f.mm:3:1: P2: no earlier statement has the label, in the proof of p02
-f.mm:4:1: P2: no earlier statement has the label, in the proof of p03
-f.mm:5:1: P2: no earlier statement has the label, in the proof of p04
-f.mm:6:1: P2: no earlier statement has the label, in the proof of p05
-f.mm:7:1: P2: no earlier statement has the label, in the proof of p06
-f.mm:8:1: P2: no earlier statement has the label, in the proof of p07
-f.mm:9:1: P2: no earlier statement has the label, in the proof of p08
-f.mm:10:1: P2: no earlier statement has the label, in the proof of p09
-f.mm:11:1: P2: no earlier statement has the label, in the proof of p10
+            reply: b"f.mm:2:13: P2: no earlier statement has the label, in the proof of p01
+  token: nope
+f.mm:3:13: P2: no earlier statement has the label, in the proof of p02
+  token: nope
+f.mm:4:13: P2: no earlier statement has the label, in the proof of p03
+  token: nope
+f.mm:5:13: P2: no earlier statement has the label, in the proof of p04
+  token: nope
+f.mm:6:13: P2: no earlier statement has the label, in the proof of p05
+  token: nope
+f.mm:7:13: P2: no earlier statement has the label, in the proof of p06
+  token: nope
+f.mm:8:13: P2: no earlier statement has the label, in the proof of p07
+  token: nope
+f.mm:9:13: P2: no earlier statement has the label, in the proof of p08
+  token: nope
+f.mm:10:13: P2: no earlier statement has the label, in the proof of p09
+  token: nope
+f.mm:11:13: P2: no earlier statement has the label, in the proof of p10
+  token: nope
 and 2 more, which mm faults lists
-f.mm:14:3: M2: a symbol of a $c was declared before, or stands twice in it
+f.mm:14:6: M2: a symbol of a $c was declared before, or stands twice in it
+  token: a
+  declared: f.mm:1:4
 13 faults
 ",
             status: 1,
@@ -83,6 +97,8 @@ f.mm:14:3: M2: a symbol of a $c was declared before, or stands twice in it
             name: "a fault of the text",
             files: &[(b"f.mm", &[Text(b"$c a $.\nq $a a $( open\n")])],
             reply: b"f.mm:2:8: X2: a comment isn't closed in its file, in q
+  token: $(
+  begun: f.mm:2:1
 1 fault
 ",
             status: 1,
@@ -109,9 +125,50 @@ f.mm:14:3: M2: a symbol of a $c was declared before, or stands twice in it
     q
   and q is
     r
+  this step lacks: $d q r $.
   the whole proof lacks: $d q r $.
   the whole proof lacks: $d p q $.
   the whole proof lacks: $d p r $.
+1 fault
+",
+            status: 1,
+        },
+    ),
+    (
+        Whole {
+            profile: Lenient,
+            question: WholeQuestion::Why,
+        },
+        Case {
+            name: "a step that lacks two pairs for each of two",
+            files: &[(
+                b"f.mm",
+                &[
+                    Text(b"$c w ( ) $. $v p q r s $.\n"),
+                    Text(b"wp $f w p $. wq $f w q $. wr $f w r $. ws $f w s $.\n"),
+                    Text(b"both $a w ( p q ) $.\n"),
+                    Text(b"${ $d p q $. $d p r $. wa $a w p q r $. $}\n"),
+                    Text(b"th $p w ( p q ) r s $= wp wq both wr ws wa $.\n"),
+                ],
+            )],
+            reply: b"f.mm:5:41: P12: variables aren't stated to be distinct, in the proof of th, at step 6
+  step: wa
+  it asks $d p q $., where p is
+    ( p q )
+  and q is
+    r
+  this step lacks: $d p r $.
+  this step lacks: $d q r $.
+  it asks $d p r $., where p is
+    ( p q )
+  and r is
+    s
+  this step lacks: $d p s $.
+  this step lacks: $d q s $.
+  the whole proof lacks: $d p r $.
+  the whole proof lacks: $d q r $.
+  the whole proof lacks: $d p s $.
+  the whole proof lacks: $d q s $.
 1 fault
 ",
             status: 1,
@@ -140,6 +197,172 @@ f.mm:14:3: M2: a symbol of a $c was declared before, or stands twice in it
     p
   both have: p
 1 fault
+",
+            status: 1,
+        },
+    ),
+    (
+        Whole {
+            profile: Lenient,
+            question: WholeQuestion::Why,
+        },
+        Case {
+            name: "faults of moves, each at its own place",
+            files: &[(
+                b"f.mm",
+                &[
+                    Text(b"$c a b $. $v x $. fx $f a x $. one $a a a $. two $a a x $.\n"),
+                    Text(b"${ e $e a b $. bad $a a b $. $}\n"),
+                    Text(b"p1 $p a a $= ( one ) AZ\n  ZB D $.\n"),
+                    Text(b"p2 $p a a $= ( one ) ZA $.\n"),
+                    Text(b"p3 $p a a $= ( one two ) A Z BC UF? $.\n"),
+                    Text(b"p4 $p a a $= two $.\np5 $p a a $= one one\n  bad ? $.\n"),
+                    Text(b"p6 $p a a $= one one $.\np7 $p a b $= ( one ) A $.\n"),
+                ],
+            )],
+            reply: b"f.mm:4:6: P6: a number exceeds those of hypotheses, listed labels and tags, \
+in the proof of p1, at step 3
+  it repeats Z number 3, and there are 2
+f.mm:5:22: P7: a Z comes before any step, in the proof of p2, at step 1
+f.mm:6:34: P6: a number exceeds those of hypotheses, listed labels and tags, \
+in the proof of p3, at step 4
+  it repeats Z number 24, and there are 1
+f.mm:7:14: P8: the stack has fewer entries than the step takes, in the proof of p4, at step 1
+  step: two
+  entries it takes: 1, entries there are: 0
+  fx states
+    a x
+f.mm:9:3: P10: an entry isn't what its hypothesis asks, in the proof of p5, at step 3
+  step: bad
+  e asks
+    a b
+  but step 2 gives
+    a a
+  they differ at symbol 2: a for b
+f.mm:10:22: P13: the proof doesn't leave exactly one entry, in the proof of p6, at step 3
+  step 1 gives
+    a a
+  step 2 gives
+    a a
+f.mm:11:24: P14: the proof proves something else than is stated, in the proof of p7, at step 2
+  it states
+    a b
+  but step 1 gives
+    a a
+  they differ at symbol 2: a for b
+7 faults
+",
+            status: 1,
+        },
+    ),
+    (
+        Whole {
+            profile: Lenient,
+            question: WholeQuestion::Why,
+        },
+        Case {
+            name: "faults of whole proofs, each at its own place",
+            files: &[(
+                b"f.mm",
+                &[
+                    Text(b"$c a $. $v x y $. fx $f a x $. one $a a a $. two $a a x $.\n"),
+                    Text(b"${ fy $f a y $. e $e a a $. three $a a y $. $}\n"),
+                    Text(b"p1 $p a a $= one nope no $.\np2 $p a a $= ( one\n  nope no ) A $.\n"),
+                    Text(b"p3 $p a a $= ( one A $.\np4 $p a a $= one fy e $.\n"),
+                    Text(b"p5 $p a a $= ( one fy ) A $.\np6 $p a a $= ( one ) Aa\n  aB $.\n"),
+                    Text(b"p7 $p a a $= ( one ) AU\n  U ZA $.\np8 $p a a $= ( one ) AZB UV $.\n"),
+                ],
+            )],
+            reply: b"f.mm:3:18: P2: no earlier statement has the label, in the proof of p1
+  token: nope
+  near: one
+f.mm:5:3: P2: no earlier statement has the label, in the proof of p2
+  token: nope
+  near: one
+f.mm:6:14: P1: the ( of a compressed proof isn't closed, in the proof of p3
+f.mm:7:18: P3: a hypothesis isn't active, in the proof of p4
+  token: fy
+f.mm:8:20: P3: a hypothesis isn't active, in the proof of p5
+  token: fy
+f.mm:9:23: P4: a byte of the letters isn't one of A to Z, in the proof of p6
+  token: Aa
+f.mm:11:23: P5: a number in the letters isn't ended, in the proof of p7
+f.mm:13:26: P5: a number in the letters isn't ended, in the proof of p8
+8 faults
+",
+            status: 1,
+        },
+    ),
+    (
+        Whole {
+            profile: Strict,
+            question: WholeQuestion::Why,
+        },
+        Case {
+            name: "faults of known prefixes as a whole, and of the form",
+            files: &[(
+                b"f.mm",
+                &[
+                    Text(b"$c a $. $v y $. one $a a a $. ${ fy $f a y $. three $a a y $. $}\n"),
+                    Text(b"p1 $p a a $= one nope ? no $.\np2 $p a a $= ( one nope ) A? $.\n"),
+                    Text(b"p3 $p a a $= one ? fy $.\np4 $p a a $= fy ? $.\n"),
+                    Text(b"p5 $p a a $= ( one ) A aA? $.\np6 $p a a $= ( one ) A AV? ) $.\n"),
+                    Text(b"p7 $p a a $= ( one one ) A $.\n"),
+                ],
+            )],
+            reply: b"f.mm:2:18: P2: no earlier statement has the label, in the proof of p1
+  token: nope
+  near: one
+f.mm:3:20: P2: no earlier statement has the label, in the proof of p2
+  token: nope
+  near: one
+f.mm:5:14: P3: a hypothesis isn't active, in the proof of p4
+  token: fy
+f.mm:6:24: P4: a byte of the letters isn't one of A to Z, in the proof of p5
+  token: aA?
+f.mm:7:25: P5: a number in the letters isn't ended, in the proof of p6
+f.mm:8:14: P15: the list or a Z isn't as the strict profile demands, in the proof of p7
+6 faults
+",
+            status: 1,
+        },
+    ),
+    (
+        Whole {
+            profile: Lenient,
+            question: WholeQuestion::Why,
+        },
+        Case {
+            name: "labels that are near to earlier ones, to their own and later ones, and to none",
+            files: &[(
+                b"f.mm",
+                &[
+                    Text(b"$c a $. one $a a $. three $a a $. there $a a $.\n"),
+                    Text(b"p1 $p a $= thre $.\np2 $p a $= tehre $.\np3 $p a $= p4 $.\n"),
+                    Text(b"q5 $p a $= q6 $. q7 $a a $.\nr $p a $= ( one thrax ) A $.\n"),
+                    Text(b"s $p a $= on ? $.\nt $p a $= thrush $.\n"),
+                ],
+            )],
+            reply: b"f.mm:2:12: P2: no earlier statement has the label, in the proof of p1
+  token: thre
+  near: three
+f.mm:3:12: P2: no earlier statement has the label, in the proof of p2
+  token: tehre
+  near: there
+f.mm:4:12: P2: no earlier statement has the label, in the proof of p3
+  token: p4
+  near: p1
+f.mm:5:12: P2: no earlier statement has the label, in the proof of q5
+  token: q6
+f.mm:6:17: P2: no earlier statement has the label, in the proof of r
+  token: thrax
+  near: three
+f.mm:7:11: P2: no earlier statement has the label, in the proof of s
+  token: on
+  near: one
+f.mm:8:11: P2: no earlier statement has the label, in the proof of t
+  token: thrush
+7 faults
 ",
             status: 1,
         },

@@ -3,8 +3,8 @@
 ghost use Rattle.std.specs.Prelude.{◌≤◌};
 
 use mm_code::{
-    Code, CodeFault, CodeRule, fill_codes, lay_out_compressed, lay_out_normal, read_codes,
-    write_codes,
+    Code, CodeFault, CodeRule, MOST_INDENT, fill_codes, lay_out_compressed, lay_out_normal,
+    lay_out_small, letter_count, letters_for, read_codes, write_codes,
 };
 use std::alloc::Global;
 use std::test::Fail;
@@ -204,5 +204,132 @@ fn compressed_lines(rt: HostRuntime) -> Result<(), Fail> {
     let labels = [b"nil".as_slice(), b"cat".as_slice()];
     let text = lay_out_compressed(rt.alloc(), &labels, b"AABZCB")?;
     assert!(rt; text.as_slice() == b"      ( nil cat )\n      AABZCB\n".as_slice());
+    Ok(())
+}
+
+#[test]
+fn letters_of_numbers(rt: HostRuntime) {
+    assert!(rt; letters_for(1) == 1 && letters_for(20) == 1);
+    assert!(rt; letters_for(21) == 2 && letters_for(120) == 2);
+    assert!(rt; letters_for(121) == 3 && letters_for(620) == 3);
+    assert!(rt; letters_for(621) == 4 && letters_for(4_294_967_295) == 13);
+    assert!(rt; letters_for(0) == 0);
+}
+
+#[test]
+fn letters_of_codes(rt: HostRuntime) {
+    assert!(rt; letter_count(&CODES) == LETTERS.len());
+    assert!(rt; letter_count(&[Code::Tag, Code::Tag]) == 2);
+    assert!(rt; letter_count(&[]) == 0);
+}
+
+/// Whether labels and letters are laid out as this text in the lines of real libraries.
+fn is_small(
+    alloc: Global,
+    indent: usize,
+    labels: &[&[u8]],
+    letters: &[u8],
+    wanted: &[u8],
+) -> Result<bool, Fail>
+    requires { indent ≤ 39 }
+{
+    let text = lay_out_small(alloc, indent, labels, letters)?;
+    Ok(text.as_slice() == wanted)
+}
+
+#[test]
+fn a_short_proof_is_one_line(rt: HostRuntime) -> Result<(), Fail> {
+    let labels = [b"ax-1".as_slice(), b"mp2".as_slice()];
+    let wanted = b"\n  ( ax-1 mp2 ) ABBCZDE ";
+    assert!(rt; is_small(rt.alloc(), 2, &labels, b"ABBCZDE", wanted)?);
+    assert!(rt; is_small(rt.alloc(), 0, &labels, b"A", b"\n( ax-1 mp2 ) A ")?);
+    assert!(rt; is_small(rt.alloc(), 0, &labels, b"", b"\n( ax-1 mp2 ) ")?);
+    Ok(())
+}
+
+#[test]
+fn no_labels_have_two_spaces(rt: HostRuntime) -> Result<(), Fail> {
+    assert!(rt; is_small(rt.alloc(), 6, &[], b"B", b"\n      (  ) B ")?);
+    Ok(())
+}
+
+// `an12` of iset.mm, as it stands there: with ` $.` the line has 79 bytes.
+#[test]
+fn the_end_fits_exactly(rt: HostRuntime) -> Result<(), Fail> {
+    let labels: [&[u8]; 5] = [b"wa", b"ancom", b"anbi1i", b"anass", b"3bitr3i"];
+    let wanted = b"\n\
+      \x20   ( wa ancom anbi1i anass 3bitr3i ) ABDZCDBADZCDABCDDBACDDIJCABEFABCGBACGH ";
+    let letters = b"ABDZCDBADZCDABCDDBACDDIJCABEFABCGBACGH";
+    assert!(rt; is_small(rt.alloc(), 4, &labels, letters, wanted)?);
+    Ok(())
+}
+
+// `un12` of iset.mm: with ` $.` the line would have 80 bytes.
+#[test]
+fn the_end_has_a_line_of_its_own(rt: HostRuntime) -> Result<(), Fail> {
+    let labels: [&[u8]; 5] = [b"cun", b"uncom", b"uneq1i", b"unass", b"3eqtr3i"];
+    let wanted = b"\n\
+      \x20   ( cun uncom uneq1i unass 3eqtr3i ) ABDZCDBADZCDABCDDBACDDIJCABEFABCGBACGH\n\
+      \x20   ";
+    let letters = b"ABDZCDBADZCDABCDDBACDDIJCABEFABCGBACGH";
+    assert!(rt; is_small(rt.alloc(), 4, &labels, letters, wanted)?);
+    Ok(())
+}
+
+// `ax0lt1` of iset.mm: the line of the list has 79 bytes.
+#[test]
+fn letters_begin_a_line(rt: HostRuntime) -> Result<(), Fail> {
+    let labels: [&[u8]; 14] = [
+        b"c0r", b"cop", b"c1r", b"cc0", b"c1", b"cltrr", b"wbr", b"cltr", b"0lt1sr", b"ltresr",
+        b"mpbir", b"df-0", b"df-1", b"3brtr4i",
+    ];
+    let wanted = b"\n\
+      \x20   ( c0r cop c1r cc0 c1 cltrr wbr cltr 0lt1sr ltresr mpbir df-0 df-1 3brtr4i )\n\
+      \x20   AABZCABZDEFOPFGACHGIACJKLMN ";
+    let letters = b"AABZCABZDEFOPFGACHGIACJKLMN";
+    assert!(rt; is_small(rt.alloc(), 4, &labels, letters, wanted)?);
+    Ok(())
+}
+
+// `gtso` of iset.mm: one letter stands on the line of the list.
+#[test]
+fn one_letter_fits(rt: HostRuntime) -> Result<(), Fail> {
+    let labels: [&[u8]; 16] = [
+        b"vx", b"cr", b"clt", b"wor", b"ccnv", b"ltso", b"cc0", b"wcel", b"cv", b"wex", b"wb",
+        b"0re", b"elex2", b"cnvsom", b"mp2b", b"mpbi",
+    ];
+    let wanted = b"\n\
+      \x20   ( vx cr clt wor ccnv ltso cc0 wcel cv wex wb 0re elex2 cnvsom mp2b mpbi ) B\n\
+      \x20   CDZBCEDZFGBHAIBHAJQRKLAGBMABCNOP ";
+    let letters = b"BCDZBCEDZFGBHAIBHAJQRKLAGBMABCNOP";
+    assert!(rt; is_small(rt.alloc(), 4, &labels, letters, wanted)?);
+    Ok(())
+}
+
+// A label that no line has room for, and the letters behind it.
+#[test]
+fn a_long_label_stands_alone(rt: HostRuntime) -> Result<(), Fail> {
+    let labels: [&[u8]; 2] = [
+        b"a",
+        b"xxxxxxxxxxxxxxxxxxxxxxxxxxxxxxxxxxxxxxxxxxxxxxxxxxxxxxxxxxxxxxxxxxxxxxxxxxxxxxxxx",
+    ];
+    let wanted = b"\n\
+      \x20 ( a\n\
+      \x20 xxxxxxxxxxxxxxxxxxxxxxxxxxxxxxxxxxxxxxxxxxxxxxxxxxxxxxxxxxxxxxxxxxxxxxxxxxxxxxxxx\n\
+      \x20 ) AB ";
+    assert!(rt; is_small(rt.alloc(), 2, &labels, b"AB", wanted)?);
+    Ok(())
+}
+
+// Lines of 40 bytes behind 39 spaces: `( ` and a label, a full line of letters, and `$.`.
+#[test]
+fn the_widest_indent(rt: HostRuntime) -> Result<(), Fail> {
+    let labels: [&[u8]; 1] = [b"yyyyyyyyyyyyyyyyyyyyyyyyyyyyyyyyyyyyyy"];
+    let wanted = b"\n\
+      \x20                                      ( yyyyyyyyyyyyyyyyyyyyyyyyyyyyyyyyyyyyyy\n\
+      \x20                                      ) AAAAAAAAAAAAAAAAAAAAAAAAAAAAAAAAAAAAAA\n\
+      \x20                                      AAAAAAAAAAAAAAAAAAAAAAAAAAAAAAAAAAAAAAAA\n\
+      \x20                                      A ";
+    assert!(rt; is_small(rt.alloc(), MOST_INDENT, &labels, &[b'A'; 79], wanted)?);
     Ok(())
 }

@@ -2,6 +2,7 @@
 
 mod alike;
 mod asked;
+mod breaking;
 mod databases;
 mod growths;
 mod guessed;
@@ -10,12 +11,49 @@ mod refused;
 mod schemes;
 mod taking;
 
-use crate::calls::frame::taking::empty_book;
+use crate::calls::frame::taking::{book_of, empty_book};
 use mm_frame::{
-    MeaningRule, RuleFault, Sym, active_statements, one_frame, one_label_number, one_number,
-    open_blocks, open_count,
+    Book, Found, MeaningRule, RuleFault, Sym, active_statements, one_frame, one_label_number,
+    one_number, open_blocks, open_count,
 };
+use mm_text::File;
+use std::alloc::{AllocError, Global};
 use std::test::Fail;
+
+/// An axiom among `$d`: that at index 5 is its mandatory pair, that at 7 isn't active, that at 9 says
+/// more, and that at 11 stands behind it.
+const FURTHER: [File<'static>; 1] = [File {
+    name: b"d.mm",
+    bytes: b"$c w $. $v x y z $. fx $f w x $. fy $f w y $. fz $f w z $.
+$d x y $. ${ $d x z $. $} $d y z x $. a $a w x y $. $d y x $.\n",
+}];
+
+/// The indices of what says more than the mandatory pairs of an assertion, and how many symbols
+/// stand at each; nothing where no assertion has the label.
+fn further_of(
+    alloc: Global,
+    book: &Book,
+    label: &[u8],
+) -> Result<Option<Vec<(usize, usize)>>, AllocError> {
+    let Found::Assertion(id) = book.find(label) else {
+        return Ok(None);
+    };
+    let mut told = Vec::new(alloc);
+    for index in &book.frame(id).further(alloc)? {
+        told.push((*index, book.symbols_at(*index).len()))?;
+    }
+    Ok(Some(told))
+}
+
+#[test]
+fn further_distinct_variables(rt: HostRuntime) -> Result<(), Fail> {
+    let book = book_of(rt.alloc(), &FURTHER, 11)?;
+    let told = further_of(rt.alloc(), &book, b"a")?;
+    let is_last = book.symbols_at(11).is_empty();
+    drop(book);
+    assert!(rt; told.as_deref() == Some(&[(9, 3)]) && is_last);
+    Ok(())
+}
 
 #[test]
 fn book_of_nothing(rt: HostRuntime) -> Result<(), Fail> {

@@ -7,7 +7,7 @@
 
 use crate::calls::code::{CODES, LETTERS};
 use crate::calls::load::{HOLLOW, failing_reader};
-use crate::databases::{DEMO, DEMO_COMPRESSED};
+use crate::databases::{DEMO, DEMO_COMPRESSED, DEMO_SMALL};
 use crate::tests::{CHECK, asks_handed};
 use mm_check::{
     AskFault, CheckFault, Checked, Command, Form, Question, RunFault, SaveFault, Status,
@@ -220,7 +220,7 @@ fn growths_of_questions(rt: HostRuntime) -> Result<(), Fail> {
 #[test]
 fn growths_of_forms(rt: HostRuntime) -> Result<(), Fail> {
     let label = b"th1".as_slice();
-    for form in [Form::Normal, Form::Packed] {
+    for form in [Form::Normal, Form::Packed, Form::Small] {
         for whole in [false, true] {
             let question = Question::Form { form, whole };
             expect_replies(rt.alloc(), &Command::About { label, question })?;
@@ -269,6 +269,7 @@ fn answer_to(
     match question {
         Question::Axioms => axioms_text(alloc, checked, label),
         Question::Show => checked.show(alloc, label),
+        Question::Uses { essential } => checked.uses(alloc, label, *essential),
         Question::Form {
             form: Form::Normal,
             ..
@@ -277,11 +278,16 @@ fn answer_to(
             form: Form::Packed,
             ..
         } => checked.packed(alloc, label),
+        Question::Form {
+            form: Form::Small,
+            ..
+        } => checked.small(alloc, label),
         Question::Same(text) => {
             let is_same = checked.same_text(alloc, label, text)?;
             Ok(Vec::from_slice(alloc, if is_same { b"same" } else { b"no" })?)
         }
         Question::Users { all } => users_text(alloc, checked, label, *all),
+        Question::Statement => checked.statement(alloc, label),
     }
 }
 
@@ -336,7 +342,22 @@ fn growths_of_calls(rt: HostRuntime) -> Result<(), Fail> {
         whole: false,
     };
     let same = Question::Same(PROOF);
-    let asked = [Question::Axioms, Question::Show, normal, packed, same];
+    let small = Question::Form {
+        form: Form::Small,
+        whole: false,
+    };
+    let uses = Question::Uses { essential: true };
+    let statement = Question::Statement;
+    let asked = [
+        Question::Axioms,
+        Question::Show,
+        uses,
+        normal,
+        packed,
+        small,
+        same,
+        statement,
+    ];
     let checked = checked_on(rt.alloc(), &FILES)?;
     let answer = answers_alike(rt.alloc(), &checked, label, &asked);
     drop(checked);
@@ -379,5 +400,6 @@ fn expect_saved(alloc: Global, form: Form, bytes: &[u8]) -> Result<(), Fail> {
 #[test]
 fn growths_of_saved(rt: HostRuntime) -> Result<(), Fail> {
     expect_saved(rt.alloc(), Form::Normal, DEMO)?;
-    expect_saved(rt.alloc(), Form::Packed, DEMO_COMPRESSED)
+    expect_saved(rt.alloc(), Form::Packed, DEMO_COMPRESSED)?;
+    expect_saved(rt.alloc(), Form::Small, DEMO_SMALL)
 }

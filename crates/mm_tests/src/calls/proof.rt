@@ -8,7 +8,9 @@ mod lacking;
 mod places;
 mod prefixes;
 mod prover;
+mod small;
 mod tokens;
+mod wholes;
 
 ghost use Rattle.std.specs.Prelude.{◌≡◌, ◌≤◌, ◌++◌, ◌∷◌, [], ℕ, map, length, IfOk, IfSome, OnOk};
 ghost use Rattle.std.specs.List.{sum_by};
@@ -24,11 +26,11 @@ ghost use Rattle.mm_code.specs.Layout.{texts};
 use crate::databases::{HEAD, LIMIT};
 use mm_frame::{Book, Found, LabelId, Piece, ShortPiece, Sym, Taken};
 use mm_proof::{
-    Flat, Line, Name, Parsed, Profile, ProofFault, ProofRule, Rows, Steps, Store, Used,
+    Flat, Line, Name, Parsed, Profile, ProofFault, ProofRule, Rows, Steps, Store, Used, UsedSteps,
     by_spelling, by_word, fewest_steps, limits_aside, listing, made_by_word, mark_before_any_step,
     one_fit, one_packed, one_prefix_verdict, one_prefix_verdict_under, one_tree, one_verdict,
     one_verdict_under, one_word, some_packed, some_verdict, steps_make_children, tag_over_marks,
-    told_by_packed, verify,
+    told_by_packed, uses_of, verify,
 };
 use mm_text::{File, Kind, Seed, Statement, Statements, Token};
 use std::alloc::{AllocError, Global};
@@ -448,6 +450,63 @@ fn lists_shared_steps(alloc: Global, bytes: &[u8]) -> Result<bool, Fail> {
     let answer = shares_a_step(alloc, &theorem);
     drop(theorem);
     answer
+}
+
+/// The steps of the proof, with what each of them uses.
+fn uses_in(alloc: Global, theorem: &Theorem) -> Result<UsedSteps, Fail>
+    requires proof { (index : ℕ) × (s : Sentence)
+        × IsProofNumber theorem.now.book.statements theorem.now.id.0 index s }
+    requires room { sum_by length (texts theorem.now.tokens.items) ≤ most_bytes }
+{
+    let parsed = Steps::parse(
+        alloc,
+        Profile::Lenient,
+        &theorem.book,
+        theorem.id,
+        &theorem.tokens,
+    )?;
+    match parsed {
+        Parsed::Steps(steps) => Ok(uses_of(alloc, &theorem.book, theorem.id, &steps, false)?),
+        Parsed::Incomplete(_) => Err(Fail::from("incomplete")),
+    }
+}
+
+/// Whether the last step of the proof that makes one joining and uses it twice uses that one twice,
+/// and isn't reached from the step by the tag.
+fn links_steps(alloc: Global, theorem: &Theorem) -> Result<bool, Fail>
+    requires proof { (index : ℕ) × (s : Sentence)
+        × IsProofNumber theorem.now.book.statements theorem.now.id.0 index s }
+    requires room { sum_by length (texts theorem.now.tokens.items) ≤ most_bytes }
+{
+    let used = uses_in(alloc, theorem)?;
+    let reached = used.reached(alloc)?;
+    let twice = match used.uses.last() {
+        Some(last) => last.as_slice() == [3, 3].as_slice(),
+        None => false,
+    };
+    let all = reached.as_slice() == [true, true, true, false, true].as_slice();
+    let answer = twice && all && used.root == 5 && used.lines.len() == 5;
+    drop(reached);
+    drop(used);
+    Ok(answer)
+}
+
+/// Whether the steps of the first `$p` of a database do.
+fn links_shared_steps(alloc: Global, bytes: &[u8]) -> Result<bool, Fail> {
+    let files = [File {
+        name: b"cat.mm",
+        bytes,
+    }];
+    let theorem = first_theorem(alloc, &files)?;
+    let answer = links_steps(alloc, &theorem);
+    drop(theorem);
+    answer
+}
+
+#[test]
+fn steps_are_linked(rt: HostRuntime) -> Result<(), Fail> {
+    assert!(rt; links_shared_steps(rt.alloc(), SHARED)?);
+    Ok(())
 }
 
 #[test]

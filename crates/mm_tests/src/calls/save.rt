@@ -9,6 +9,7 @@ use mm_check::{
     one_save_all_answer, one_save_answer, one_saved, packed_files_are_strict, packed_texts_tell,
     saved, saved_all, saving_again_changes_nothing, saving_all_again_changes_nothing,
     saving_all_changes_no_answer, saving_changes_no_answer, saving_in_turn_is_saving_all,
+    small_files_do_not_grow,
 };
 use mm_text::{File, Seed};
 use std::alloc::{AllocError, Global};
@@ -49,6 +50,17 @@ th $p term ( 0 + 0 ) $=
 $. $( the end $)
 ";
 
+const SMALL: &[u8] = b"\
+$c 0 + ( ) term $. $( a comment $)
+$v t r $.
+tt $f term t $.
+tr $f term r $.
+tze $a term 0 $.
+tpl $a term ( t + r ) $.
+th $p term ( 0 + 0 ) $=
+    ( tze tpl ) AAB $. $( the end $)
+";
+
 /// A top file that includes another one, with these bytes.
 fn two_files(bytes: &[u8]) -> [File<'_>; 2] {
     [
@@ -76,6 +88,7 @@ fn saves(alloc: Global, old: &[u8], form: Form, bytes: &[u8]) -> Result<bool, Fa
 fn a_proof_is_saved_in_its_own_file(rt: HostRuntime) -> Result<(), Fail> {
     assert!(rt; saves(rt.alloc(), OLD, Form::Normal, NORMAL)?);
     assert!(rt; saves(rt.alloc(), OLD, Form::Packed, PACKED)?);
+    assert!(rt; saves(rt.alloc(), OLD, Form::Small, SMALL)?);
     Ok(())
 }
 
@@ -83,6 +96,7 @@ fn a_proof_is_saved_in_its_own_file(rt: HostRuntime) -> Result<(), Fail> {
 fn saving_again_gives_equal_bytes(rt: HostRuntime) -> Result<(), Fail> {
     assert!(rt; saves(rt.alloc(), NORMAL, Form::Normal, NORMAL)?);
     assert!(rt; saves(rt.alloc(), PACKED, Form::Packed, PACKED)?);
+    assert!(rt; saves(rt.alloc(), SMALL, Form::Small, SMALL)?);
     assert!(rt; saves(rt.alloc(), PACKED, Form::Normal, NORMAL)?);
     Ok(())
 }
@@ -128,6 +142,7 @@ fn saves_all(alloc: Global, old: &[u8], form: Form, bytes: &[u8]) -> Result<bool
 fn all_proofs_of_a_file_are_saved(rt: HostRuntime) -> Result<(), Fail> {
     assert!(rt; saves_all(rt.alloc(), OLD, Form::Normal, NORMAL)?);
     assert!(rt; saves_all(rt.alloc(), OLD, Form::Packed, PACKED)?);
+    assert!(rt; saves_all(rt.alloc(), OLD, Form::Small, SMALL)?);
     Ok(())
 }
 
@@ -204,6 +219,7 @@ fn laws_of_saving_whole_files_are_called() {
 #[test]
 fn laws_of_saving_and_forms_are_called() {
     packed_texts_tell();
+    small_files_do_not_grow();
     saving_changes_no_answer();
     one_saved();
     one_save_answer();

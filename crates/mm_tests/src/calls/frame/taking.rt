@@ -1,7 +1,11 @@
 //! Books of the first statements of a database, and what they have under a label.
 
-ghost use Rattle.std.specs.Prelude.{◌≡◌, ◌≤◌, IsTrue, length, sum_by, Ok, true};
+ghost use Rattle.std.specs.Prelude.{◌≡◌, ◌≤◌, IsTrue, length, sum_by, Ok, Err, true};
 ghost use Rattle.mm_text.specs.Statement.{plain_statement, HasForm, bytes_in};
+ghost use Rattle.mm_frame.specs.declared.rule.MeaningRule.{MeaningRule};
+ghost use Rattle.mm_frame.specs.declared.answer.RuleFault.TheVariants.{Rule};
+ghost use Rattle.mm_frame.specs.Sentence.{sentence_in};
+ghost use Rattle.mm_frame.specs.Rules.{FirstBroken};
 
 use mm_frame::{Book, Found, LabelId, RuleFault, Sym, Taken};
 use mm_text::{File, Kind, Seed, Statement, Statements, Token};
@@ -37,6 +41,8 @@ pub(crate) fn take<'a>(
     statement: &Statement<'a>,
 ) -> Result<Result<Taken, RuleFault>, Fail>
     requires { HasForm (plain_statement statement.now) }
+    ensures { (rule : MeaningRule) → result ≡ Ok (Err (Rule rule))
+        → FirstBroken rule book.new.statements (sentence_in statement.now) }
 {
     if book.bytes() > 100_000 || !is_short(statement) {
         return Err(Fail::from("a great statement"));

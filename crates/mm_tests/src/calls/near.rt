@@ -1,0 +1,43 @@
+//! The label that is nearest to another, and a reply before it is written.
+
+use crate::tests::CHECK;
+use mm_check::{Status, nearest_label, reply_to};
+use mm_text::{File, Seed};
+use std::test::Fail;
+
+// The last token is at fault.
+const LABELS: &[u8] = b"$c a $. syl5 $a a $. syl $a a $. th $p a $= no $. th2 $a a $. $}";
+
+#[test]
+fn finds_the_nearest_label(rt: HostRuntime) -> Result<(), Fail> {
+    let files = [File {
+        name: b"a.mm",
+        bytes: LABELS,
+    }];
+    for (label, wanted) in [
+        (b"slyl5".as_slice(), Some(b"syl5".as_slice())),
+        (b"yssl".as_slice(), Some(b"syl".as_slice())),
+        (b"syl".as_slice(), Some(b"syl5".as_slice())),
+        (b"sy".as_slice(), Some(b"syl".as_slice())),
+        (b"ht".as_slice(), Some(b"th".as_slice())),
+        (b"th1".as_slice(), Some(b"th".as_slice())),
+        (b"a".as_slice(), None),
+        (b"other".as_slice(), None),
+    ] {
+        let near = nearest_label(rt.alloc(), Seed::known(), &files, label)?;
+        assert!(rt; near == wanted, "at {label:?}");
+    }
+    Ok(())
+}
+
+#[test]
+fn makes_a_reply(rt: HostRuntime) -> Result<(), Fail> {
+    let files = [File {
+        name: b"a.mm",
+        bytes: b"$c a $.",
+    }];
+    let reply = reply_to(rt.alloc(), Seed::known(), &CHECK, &files)?;
+    assert!(rt; reply.text.as_slice() == b"yes 1 statements 0 proofs\n".as_slice());
+    assert_eq!(rt; reply.status, Status::Done);
+    Ok(())
+}

@@ -1,0 +1,103 @@
+//! Where proofs break rules that are judged over the whole of them.
+
+ghost use Rattle.std.specs.Prelude.{◌≤◌, ℕ, length};
+ghost use Rattle.std.specs.List.{sum_by};
+ghost use Rattle.mm_text.specs.Files.{most_bytes};
+ghost use Rattle.mm_frame.specs.Sentence.{Sentence};
+ghost use Rattle.mm_proof.specs.Steps.{IsProofNumber};
+ghost use Rattle.mm_code.specs.Layout.{texts};
+
+use crate::calls::proof::{Theorem, first_theorem, joined};
+use mm_proof::{Profile, ProofFault, ProofRule, Steps, whole_place};
+use mm_text::File;
+use std::alloc::{AllocError, Global};
+use std::test::Fail;
+
+/// An assertion, and hypotheses that aren't active behind their block.
+const HEAD: &[u8] = b"\
+$c a $. $v x y $.
+fx $f a x $.
+one $a a a $.
+${ fy $f a y $. e $e a a $. two $a a y $. $}
+th $p a a $= ";
+
+/// A proof, the rule that it breaks under the strict profile, and the token and the byte there.
+struct Case(&'static [u8], ProofRule, usize, usize);
+
+/// Proofs with a list that isn't closed, with labels that mayn't stand there, or of a loose form.
+const LABELS: [Case; 8] = [
+    Case(b"( one A $.", ProofRule::P1, 0, 0),
+    Case(b"one nope no $.", ProofRule::P2, 1, 0),
+    Case(b"( one fy nope no ) A $.", ProofRule::P2, 3, 0),
+    Case(b"one nope ? no $.", ProofRule::P2, 1, 0),
+    Case(b"one one e fy $.", ProofRule::P3, 2, 0),
+    Case(b"( fy one e ) A $.", ProofRule::P3, 1, 0),
+    Case(b"( one one ) A $.", ProofRule::P15, 0, 0),
+    Case(b"( fx ) AZ ? $.", ProofRule::P15, 0, 0),
+];
+
+/// Proofs with letters that are none, and with numbers that aren't ended.
+const LETTERS: [Case; 6] = [
+    Case(b"( one ) AB AaBa $.", ProofRule::P4, 4, 1),
+    Case(b"( one ) AB Aa?* $.", ProofRule::P4, 4, 1),
+    Case(b"( one ) AUB UV VZU $.", ProofRule::P5, 4, 0),
+    Case(b"( one ) AUBV $.", ProofRule::P5, 3, 3),
+    Case(b"( one ) AUB YU? A $.", ProofRule::P5, 4, 0),
+    Case(b"( one ) UZ $.", ProofRule::P5, 3, 0),
+];
+
+/// The rule that the tokens, or those of their known prefix, break first over the whole of them,
+/// and the token and the byte there.
+fn place_of(
+    alloc: Global,
+    theorem: &Theorem,
+) -> Result<Option<(ProofRule, usize, usize)>, AllocError>
+    requires proof { (index : ℕ) × (s : Sentence)
+        × IsProofNumber theorem.now.book.statements theorem.now.id.0 index s }
+    requires room { sum_by length (texts theorem.now.tokens.items) ≤ most_bytes }
+{
+    let book = &theorem.book;
+    let id = theorem.id;
+    let tokens: &[&[u8]] = &theorem.tokens;
+    match Steps::parse(alloc, Profile::Strict, book, id, tokens) {
+        Ok(_) => Ok(None),
+        Err(ProofFault::Memory) => Err(AllocError),
+        Err(ProofFault::Rule { rule, .. }) => {
+            let (token, byte) = whole_place(alloc, book, id, tokens, rule)?;
+            Ok(Some((rule, token, byte)))
+        }
+    }
+}
+
+/// Whether the proof of the case, behind the head, breaks its rule there.
+fn breaks_there(alloc: Global, Case(proof, rule, token, byte): &Case) -> Result<bool, Fail> {
+    let bytes = joined(alloc, &[HEAD, proof])?;
+    let files = [File {
+        name: b"a.mm",
+        bytes: &bytes,
+    }];
+    let theorem = first_theorem(alloc, &files)?;
+    let place = place_of(alloc, &theorem);
+    drop(theorem);
+    Ok(place? == Some((*rule, *token, *byte)))
+}
+
+/// In each case the rule is broken there.
+fn each_breaks_there(alloc: Global, cases: &[Case]) -> Result<(), Fail> {
+    for case in cases {
+        if !breaks_there(alloc, case)? {
+            return Err(Fail::from("another place"));
+        }
+    }
+    Ok(())
+}
+
+#[test]
+fn lists_and_labels_break_rules_there(rt: HostRuntime) -> Result<(), Fail> {
+    each_breaks_there(rt.alloc(), &LABELS)
+}
+
+#[test]
+fn letters_break_rules_there(rt: HostRuntime) -> Result<(), Fail> {
+    each_breaks_there(rt.alloc(), &LETTERS)
+}
