@@ -2,6 +2,7 @@
 # Writes crates/mm_tool/src/rules.rt and code_lines.rt, the texts of `mm explain`, from
 # docs/RULES.md: each rule has a paragraph there that begins with its code in bold, with its usual
 # cause and its remedy, or a row in the table of the files. Each section with rules is a chapter.
+# What its paragraph says of the example stands below the example.
 # `scripts/rules.sh --check` compares them.
 set -eu
 top=$(CDPATH='' cd -- "$(dirname -- "$0")/.." && pwd)
@@ -24,6 +25,7 @@ made() {
         }
         code = ""
         body = ""
+        aside = ""
         told = 0
     }
     # a text in lines of at most 80 bytes, without the asterisks of its variables
@@ -81,6 +83,11 @@ made() {
         text = $0
         sub(/^\*\*[A-Z][0-9]+\*\*: /, "", text)
         sentence = summary(code ": " text)
+        # What is said of the example stands below it.
+        if (match(text, / In the example /)) {
+            aside = "Here " substr(text, RSTART + RLENGTH)
+            text = substr(text, 1, RSTART - 1)
+        }
         body = wrapped(code ": " text) "\n" place(code)
         next
     }
@@ -101,7 +108,12 @@ made() {
         fenced = replied = 1
         next
     }
-    /^```$/ { told = replied; fenced = replied = 0; next }
+    /^```$/ {
+        if (aside != "") { body = body wrapped(aside) "\n"; aside = "" }
+        told = replied
+        fenced = replied = 0
+        next
+    }
     fenced { body = body "    " $0 "\n"; next }
     /^$/ { finish() }
     END {

@@ -227,7 +227,9 @@ faults.mm:3:15: P14: the proof proves something else than is stated, in the proo
   but step 1 gives
     a
   they differ at symbol 1: a for b
-faults.mm:5:1: P2: no earlier statement has the label, in the proof of r
+faults.mm:5:11: P2: no earlier statement has the label, in the proof of r
+  token: nope
+  near: one
 2 faults
 END
 told() {
@@ -254,6 +256,14 @@ printf 'tze tpl\n' >th.txt
 ends 1 'text P8 2\n  step: tpl\n  entries it takes: 2, entries there are: 1\n  tt states\n    term t\n  tr states\n    term r\n  step 1 gives\n    term 0\n' '' \
     try th th.txt first.mm
 ends 1 'ask A1 none\n' '' try none th.txt first.mm
+ends 0 'th tze tpl\n' '' axioms --all first.mm
+ends 3 '? open\nhalf step ?open\nfull one step\n' '' axioms --all rests.mm
+ends 0 'th tze refl\n' '' axioms --all top.mm terms.mm rules.mm symbols.mm
+ends 4 'load F2\n' '' axioms first.mm --all first.mm
+ends 0 'first.mm:7:1\nth $p term ( 0 + 0 )\n' '' statement th first.mm
+ends 0 'rests.mm:2:14\nh $e a\nstep $a b\n' '' statement step rests.mm
+ends 1 'ask A1 none\n' '' statement none first.mm
+ends 1 'no twice.mm 2 - M2 0\n' '' statement p twice.mm
 ends 0 'th\n' '' users tze first.mm
 ends 0 'th\n' '' users --all tpl first.mm
 ends 0 '' '' users th first.mm
@@ -278,6 +288,13 @@ ends 0 'one\nstep\n' '' axioms full rests.mm
 ends 3 'ask A3 open\n' '' axioms open rests.mm
 ends 1 'ask A2 h\n' '' axioms h rests.mm
 ends 0 '1 nil e\n2 nil e\n3 cat e\n4 @3 e\n5 cat e\n' '' show th steps.mm
+ends 0 '1 - nil e\n2 - nil e\n3 1,2 cat e\n4 - @3 e\n5 3,3 cat e\n' '' show --uses th steps.mm
+ends 0 '5 - cat e\n' '' show --essential th steps.mm
+ends 1 'ask A2 tt\n' '' show --essential tt first.mm
+for flags in '--known --uses' '--known --essential' '--essential --uses'; do
+    ends 2 '' "mm: --known, --essential and --uses exclude each other
+Usage: mm show [--known | --essential | --uses] LABEL FILES..\n" show $flags th first.mm
+done
 ends 0 '      ( nil cat )\n      AABZCB\n' '' packed th shared.mm
 ends 3 'incomplete 2\nu1\nu2\n' '' check unfinished.mm
 ends 0 'tze\ntpl\nweq\nwim\na1\na2\nmp\n' '' axioms th1 demo0c.mm
@@ -289,6 +306,15 @@ printf '      ( tze tpl )\n      AAB\n$.\n' >>saved.mm
 prints saved.mm packed --file th first.mm
 prints saved.mm packed th first.mm --file
 prints saved.mm packed --file th saved.mm
+ends 0 '      ( tze tpl )\n      AAB\n' '' small th first.mm
+ends 0 '      ( weq mp tze tpl a2 wim a1 )\n      ADEZABZAABZAFZJJKGLIAAHCC\n' '' small th1 demo0c.mm
+prints first.mm small --file th first.mm
+sed 's/[$]= .*/$=/' first.mm >spaced.mm
+cp spaced.mm smaller.mm
+printf '     ( tze   tpl )\n  AAB    \n$.\n' >>spaced.mm
+printf '     ( tze tpl ) AAB $.\n' >>smaller.mm
+prints smaller.mm small --file th spaced.mm
+prints smaller.mm small --file th smaller.mm
 ends 0 'same\n' '' same th proof.txt saved.mm
 ends 1 'text X9 0\n' '' same th first.mm first.mm
 ends 1 'ask A1 --file\n' '' packed -- --file first.mm
@@ -300,7 +326,7 @@ for words in --help -h help '--help check' '-h nonsense'; do
     prints help.txt $words
 done
 narrow help.txt 100
-commands='check faults why axioms users show normal packed same try explain help version'
+commands='check faults why axioms users statement show normal packed small same try explain help version'
 for command in $commands; do
     constant=$(echo "$command" | tr a-z A-Z)
     literal pages.rt "$constant" >page.txt
@@ -356,7 +382,7 @@ ends 1 'no twice.mm 2 - M2 0\n' '' check twice.mm
 ends 1 'no twice.mm 2 - M2 0\n' '' axioms p twice.mm
 ends 1 'ask A1 none\n' '' axioms none first.mm
 ends 1 'ask A1 -\n' '' axioms - first.mm
-ends 1 'ask A1 -th\n' '' axioms -- -th first.mm
+ends 1 'ask A1 -th\n' 'mm: the nearest label is th\n' axioms -- -th first.mm
 ends 1 'ask A2 tze\n' '' axioms tze first.mm
 ends 1 'no twice.mm 2 - M2 0\n' '' show p twice.mm
 ends 1 'ask A1 -\n' '' show - first.mm
@@ -367,6 +393,11 @@ misused check
 misused axioms
 misused show
 misused axioms th
+misused axioms --all
+misused axioms --all --all first.mm
+misused statement
+misused statement th
+misused statement --all th first.mm
 misused show th
 misused axioms -th first.mm
 misused show --file th first.mm
@@ -380,18 +411,29 @@ misused users th
 misused try
 misused try th first.mm
 misused show --known th
+misused show --uses th
+misused show --essential --essential th first.mm
 misused check --strict --strict first.mm
 misused check -first.mm
 misused help check axioms
 misused version first.mm
 mistaken --quiet 'mm check [--strict] FILES..' check --quiet first.mm
 mistaken -q 'mm check [--strict] FILES..' check -q first.mm
-mistaken -t 'mm axioms LABEL FILES..' axioms -th first.mm
+mistaken -t 'mm axioms LABEL FILES..
+       mm axioms --all FILES..' axioms -th first.mm
 mistaken --quiet 'mm packed [--file] LABEL FILES..
        mm packed --all NAME FILES..' packed --file th first.mm --quiet
 mistaken --quiet 'mm explain [CODE]' explain --quiet
 mistaken --quiet 'mm help [COMMAND]' help --quiet
-begins 2 '' 'error: the following required arguments were not provided:' axioms th
+for words in axioms 'axioms th' 'axioms --all'; do
+    ends 2 '' "error: the following required arguments were not provided:
+  <FILES>...
+
+Usage: mm axioms LABEL FILES..
+       mm axioms --all FILES..
+
+For more information, try '--help'.\n" $words
+done
 begins 2 '' "error: unexpected argument '--strict' found" axioms --strict th first.mm
 explains P8 p8
 advises P9 no set.mm 655068 x P9 4378
@@ -435,7 +477,7 @@ taken() {
         "$2" "${3-}" "$1" "$2" 'the label comes first'
 }
 input='mm: the name of standard input is /dev/stdin\n'
-for command in axioms show normal packed 'packed --file'; do
+for command in axioms show normal packed 'packed --file' small; do
     ends 4 '' "$(taken first.mm th)" $command first.mm th
 done
 ends 4 '' "$(taken first.mm th)" axioms first.mm first.mm th none.mm
@@ -471,7 +513,8 @@ ends 0 'yes 6 statements 1 proofs\n' "$(note first.mm)" \
     check top.mm terms.mm first.mm rules.mm symbols.mm
 ends 1 'no top.mm 2 - X7 0\n' "$(note first.mm)" check top.mm terms.mm first.mm symbols.mm
 ends 0 'tze\ntpl\n' "$(note empty.mm)" axioms th first.mm empty.mm
-ends 1 'ask A1 h\n' "$(note rests.mm)" axioms h first.mm rests.mm
+ends 1 'ask A1 h\n' "$(note rests.mm)mm: the nearest label is th\n" axioms h first.mm rests.mm
+ends 1 'ask A1 zte\n' 'mm: the nearest label is tze\n' show --known zte first.mm
 ends 0 'same\n' "$(note empty.mm)" same th proof.txt saved.mm empty.mm
 ends 0 'yes 7 statements 1 proofs\n' "$(note twice.mm empty.mm rests.mm)" \
     check first.mm twice.mm empty.mm rests.mm
@@ -508,6 +551,9 @@ prints tight.mm packed --all loose.mm loose.mm
 prints tight.mm packed loose.mm loose.mm --all
 prints tight.mm packed --all tight.mm tight.mm
 prints saved.mm packed --all first.mm first.mm
+prints first.mm small --all first.mm first.mm
+prints smaller.mm small --all spaced.mm spaced.mm
+prints smaller.mm small --all smaller.mm smaller.mm
 sed 's/[$]= .*/$=/' first.mm >long.mm
 printf '      tze tze tpl\n$.\n' >>long.mm
 prints long.mm normal --all first.mm first.mm
@@ -519,7 +565,7 @@ printf '$c b $.\n$[ open.mm $]\ns $p a $=\n      ( r )\n      A\n$.\n' >above.mm
 prints half.mm packed --all open.mm over.mm open.mm
 prints above.mm packed --all over.mm over.mm open.mm
 prints empty.mm normal --all empty.mm empty.mm
-for form in normal packed; do
+for form in normal packed small; do
     ends 2 '' "mm: none.mm is none of the files\nUsage: mm $form --all NAME FILES..\n" \
         $form --all none.mm first.mm
     ends 2 '' "mm: ./first.mm is none of the files\nUsage: mm $form --all NAME FILES..\n" \
@@ -662,7 +708,7 @@ if command -v vim >/dev/null 2>&1; then
     block vim >using/vimrc
     (cd using && vim -es -N -u vimrc faults.mm -c 'silent make!' -c 'redir! > list' \
         -c 'silent clist' -c 'redir END' -c 'qa!') </dev/null >got.out 2>&1 || cat got.out >&2
-    shows vim "1 faults.mm:3 col 15: $(fault 1) 2 faults.mm:5 col 1: $(fault 2)" \
+    shows vim "1 faults.mm:3 col 15: $(fault 1) 2 faults.mm:5 col 11: $(fault 2)" \
         "$(echo $(grep '^ *[0-9]' using/list))"
 fi
 if command -v emacs >/dev/null 2>&1; then

@@ -93,6 +93,11 @@ impl<T> Vec<T> {
         self.0.dedup()
     }
 
+    pub fn sort_by_key<K: Ord>(&mut self, key: impl FnMut(&T) -> K) -> Result<(), AllocError> {
+        self.0.sort_by_key(key);
+        Ok(())
+    }
+
     pub fn as_slice(&self) -> &[T] {
         &self.0
     }
