@@ -4,3 +4,4 @@ pub mod Inclusions
 pub mod Reader
 pub mod Alike
 pub mod Replaced
+pub mod SaidBefore

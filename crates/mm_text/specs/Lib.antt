@@ -3,6 +3,7 @@ pub mod Files
 pub mod Items
 pub mod ItemLaws
 pub mod Reading
+pub mod Remarks
 pub mod RuleCodes
 pub mod Remaining
 pub mod Statement

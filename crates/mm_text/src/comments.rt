@@ -102,7 +102,7 @@ fn is_close(text: &[u8]) -> bool
 }
 
 /// Whether two bytes are `$(` or `$)`.
-fn are_mark(first: u8, second: u8) -> bool
+pub fn are_mark(first: u8, second: u8) -> bool
     ensures { result ≡ (first == 36 && (second == 40 || second == 41)) }
 {
     first == b'$' && (second == b'(' || second == b')')

@@ -16,6 +16,7 @@ mod names;
 mod nest;
 mod next;
 mod parts;
+mod remarks;
 mod scan;
 mod scope;
 mod seed;
@@ -37,6 +38,7 @@ pub use laws::{
     tokens_fit_files, top_file_ends_last, top_file_is_never_left_out,
 };
 pub use load::{HollowBytes, LoadFault, read_all, read_hollow};
+pub use remarks::{headings_between, mathbox_at, says_before};
 pub use seed::Seed;
 pub use statement::{Kind, Statement};
 pub use statements::Statements;
