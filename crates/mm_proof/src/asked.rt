@@ -1,8 +1,9 @@
 //! What a step by an assertion asks of its entries, and what keeps it from being made.
 
-ghost use Rattle.std.specs.Prelude.{◌≡◌, ◌<◌, ◌↔◌, ℕ, List, ◌∷◌, ◌++◌, length, map, take, drop};
+ghost use Rattle.std.specs.Prelude.{◌≡◌, ◌≢◌, ◌<◌, ◌↔◌, ℕ, List, [], ◌∷◌, ◌++◌, length, map, take};
+ghost use Rattle.std.specs.Prelude.{drop};
 ghost use Rattle.std.specs.Prelude.{slice_get, slice_range, Some, Contains, IsTrue, IfOk, OnOk};
-ghost use Rattle.std.specs.List.{AllByRecursion, AllZip, list_any};
+ghost use Rattle.std.specs.List.{AllByRecursion, AllZip};
 ghost use Rattle.mm_frame.specs.Sentence.{Sentence};
 ghost use Rattle.mm_frame.specs.Numbers.{AreNumbers};
 ghost use Rattle.mm_frame.specs.declared.hypothesis.Hypothesis.{Hypothesis};
@@ -17,8 +18,10 @@ ghost use Rattle.mm_proof.specs.Stores.{numbers_in, entries_in, said_by, all_sai
 ghost use Rattle.mm_proof.specs.Stores.{IsWithinIndices};
 ghost use Rattle.mm_proof.specs.Asked.{AsksFor, AreDeclared, AreShared, AreMissing};
 ghost use Rattle.mm_proof.specs.Mirror.CodeAsked.{IsVariableNumber, PutsOnce, AreOnce};
-ghost use Rattle.mm_proof.specs.Mirror.CodeAsked.{asked_numbers, IsMissingPair, HasEither};
-ghost use Rattle.mm_proof.specs.Mirror.CodeAsked.{number_pairs, is_either, AddsMissing};
+ghost use Rattle.mm_proof.specs.Mirror.CodeAsked.{asked_numbers, IsMissingPair};
+ghost use Rattle.mm_proof.specs.Mirror.CodeAsked.{number_pairs, AddsMissing, IsTurned};
+ghost use Rattle.mm_proof.specs.Mirror.CodeAsked.{AreSamePairs, IsEachHigher};
+ghost use Rattle.mm_proof.specs.Mirror.CodeAsked.{ArePutInOrder, AreMissingInOrder};
 ghost use Rattle.mm_proof.specs.Mirror.CodeAsked.{AreSharedNumbers, AreMissingNumbers};
 
 use crate::pairs::has_symbol;
@@ -177,18 +180,20 @@ fn those_in(alloc: Global, symbols: &[Sym], f: &[Sym]) -> Result<Vec<Sym>, Alloc
     Ok(shared)
 }
 
-// The variables that stand in both expressions, each once.
+// The variables that stand in both expressions, each once, in the order of their declarations.
 fn shared_numbers(alloc: Global, book: &Book, e: &[Sym], f: &[Sym]) -> Result<Vec<Sym>, AllocError>
     ensures { IfOk result (λ shared. AreSharedNumbers book.now.statements (numbers_in e.now)
         (numbers_in f.now) (numbers_in shared.items)) }
 {
     let variables = variables_in(alloc, book, e)?;
-    those_in(alloc, &variables, f)
+    let mut shared = those_in(alloc, &variables, f)?;
+    shared.sort_unstable();
+    Ok(shared)
 }
 
-/// The variables that stand in both expressions, each once, in the proof of the `$p` with the
-/// number. It is told of a first expression whose symbols are declared before the `$p`, as those of
-/// all entries are.
+/// The variables that stand in both expressions, each once, in the order of their declarations: in
+/// the proof of the `$p` with the number. It is told of a first expression whose symbols are
+/// declared before the `$p`, as those of all entries are.
 ///
 /// # Errors
 ///
@@ -214,14 +219,6 @@ pub fn shared_variables(
     shared_numbers(alloc, book, e, f)
 }
 
-// Whether the pair is among these, in one order or the other.
-fn has_pair(pairs: &[(Sym, Sym)], u: Sym, v: Sym) -> bool
-    ensures { result ≡ list_any (is_either u.0 v.0) pairs.now }
-{
-    pairs.iter().any(|pair| (pair.0.0 == u.0 && pair.1.0 == v.0)
-        || (pair.0.0 == v.0 && pair.1.0 == u.0))
-}
-
 // Whether both are variables, and not an active pair.
 fn is_missing(book: &Book, own: &Frame, u: Sym, v: Sym) -> bool
     requires { own.now.statements ≡ book.now.statements }
@@ -233,7 +230,33 @@ fn is_missing(book: &Book, own: &Frame, u: Sym, v: Sym) -> bool
     !own.distinct(u, v)
 }
 
-// Puts the pair behind the others where it is missing, and isn't among them in some order.
+// Puts the pairs in the order of the declarations, each once.
+fn sort_once(pairs: &mut Vec<(Sym, Sym)>)
+    ensures same { AreSamePairs (number_pairs pairs.old.items) (number_pairs pairs.new.items) }
+    ensures rising { IsEachHigher (number_pairs pairs.new.items) }
+{
+    pairs.sort_unstable();
+    pairs.dedup();
+}
+
+// Makes room for a pair more. Repeated pairs are dropped before the list grows, and it grows only
+// where more than half of them were not: so it never takes far more memory than the pairs that
+// differ, and each pair is sorted few times.
+fn make_room_for_pair(pairs: &mut Vec<(Sym, Sym)>) -> Result<(), AllocError>
+    ensures { OnOk result (AreSamePairs (number_pairs pairs.old.items)
+        (number_pairs pairs.new.items)) }
+{
+    if pairs.len() < pairs.capacity() {
+        return Ok(());
+    }
+    sort_once(pairs);
+    if pairs.len() > pairs.capacity() / 2 {
+        pairs.reserve(pairs.len())?;
+    }
+    Ok(())
+}
+
+// Puts the pair among the others where it is missing.
 fn add_missing(
     missing: &mut Vec<(Sym, Sym)>,
     book: &Book,
@@ -242,19 +265,19 @@ fn add_missing(
     v: Sym,
 ) -> Result<(), AllocError>
     requires { own.now.statements ≡ book.now.statements }
-    ensures { OnOk result (PutsOnce
-        (IsMissingPair book.now.statements own.now.index u.0 v.0)
-        (HasEither (number_pairs missing.old.items) (u.0, v.0))
-        (number_pairs missing.old.items) (u.0, v.0) (number_pairs missing.new.items)) }
+    ensures { OnOk result (AddsMissing book.now.statements own.now.index u.0 (v.0 ∷ [])
+        (number_pairs missing.old.items) (number_pairs missing.new.items)) }
 {
-    if !is_missing(book, own, u, v) || has_pair(missing, u, v) {
+    if !is_missing(book, own, u, v) {
         return Ok(());
     }
+    make_room_for_pair(missing)?;
     missing.push((u, v))?;
     Ok(())
 }
 
-/// Puts the missing pairs of the symbol and of those in the expression behind the others.
+/// Puts the missing pairs of the symbol and of those in the expression among the others, some
+/// repeatedly.
 pub(crate) fn add_missing_of(
     missing: &mut Vec<(Sym, Sym)>,
     book: &Book,
@@ -272,7 +295,7 @@ pub(crate) fn add_missing_of(
     Ok(())
 }
 
-// The missing pairs, one of each list.
+// The missing pairs, one of each list, some repeatedly.
 fn missing_among(
     alloc: Global,
     book: &Book,
@@ -291,7 +314,37 @@ fn missing_among(
     Ok(missing)
 }
 
-// The missing pairs, one of each expression.
+// The same pair, with the symbol first that was declared first.
+fn in_order(pair: (Sym, Sym)) -> (Sym, Sym)
+    ensures { IsTurned pair result }
+{
+    if pair.1.0 < pair.0.0 {
+        (pair.1, pair.0)
+    } else {
+        pair
+    }
+}
+
+// Turns the pairs, so that the symbol stands first in each that was declared first.
+fn turn_all(pairs: &mut [(Sym, Sym)])
+    ensures { AllZip IsTurned pairs.old pairs.new }
+{
+    for pair in pairs.iter_mut() {
+        *pair = in_order(*pair);
+    }
+}
+
+/// Turns the pairs, so that the symbol stands first in each that was declared first, and puts them
+/// in the order of these declarations, each once.
+pub(crate) fn put_in_order(pairs: &mut Vec<(Sym, Sym)>)
+    requires { (p : ℕ × ℕ) → Contains (number_pairs pairs.old.items) p → p.0 ≢ p.1 }
+    ensures { ArePutInOrder (number_pairs pairs.old.items) (number_pairs pairs.new.items) }
+{
+    turn_all(pairs);
+    sort_once(pairs);
+}
+
+// The missing pairs, one of each expression, in order.
 fn missing_numbers(
     alloc: Global,
     book: &Book,
@@ -300,17 +353,20 @@ fn missing_numbers(
     f: &[Sym],
 ) -> Result<Vec<(Sym, Sym)>, AllocError>
     requires { own.now.statements ≡ book.now.statements }
-    ensures { IfOk result (λ missing. AreMissingNumbers book.now.statements own.now.index
+    ensures { IfOk result (λ missing. AreMissingInOrder book.now.statements own.now.index
         (numbers_in e.now) (numbers_in f.now) (number_pairs missing.items)) }
 {
     let first = variables_in(alloc, book, e)?;
     let second = variables_in(alloc, book, f)?;
-    missing_among(alloc, book, own, &first, &second)
+    let mut missing = missing_among(alloc, book, own, &first, &second)?;
+    put_in_order(&mut missing);
+    Ok(missing)
 }
 
 /// The pairs of variables, one of each expression, that a `$d` has to state for the proof of the
-/// `$p` with the number: those that differ and aren't active pairs, each once. It is told of
-/// expressions whose symbols are declared before the `$p`, as those of all entries are.
+/// `$p` with the number: those that differ and aren't active pairs, each once, the one first that
+/// was declared first, and in the order of their declarations. It is told of expressions whose
+/// symbols are declared before the `$p`, as those of all entries are.
 ///
 /// # Errors
 ///

@@ -24,7 +24,7 @@ ghost use Rattle.mm_proof.specs.Steps.{AreSteps};
 ghost use Rattle.mm_proof.specs.Verified.{OfMoves};
 ghost use Rattle.mm_proof.specs.Lacking.{AreLacking};
 
-use crate::asked::{add_missing_of, variables_in};
+use crate::asked::{add_missing_of, put_in_order, variables_in};
 use crate::call::Call;
 use crate::call_table::CallTable;
 use crate::flat::Flat;
@@ -40,7 +40,7 @@ use mm_code::Code;
 use mm_frame::{Book, DistinctPair, Frame, LabelId, Scheme, Sym, one_number};
 use std::alloc::{AllocError, Global};
 
-// Puts the missing pairs, one of each list, behind the others.
+// Puts the missing pairs, one of each list, among the others, some repeatedly.
 fn add_between(
     lacking: &mut Vec<(Sym, Sym)>,
     book: &Book,
@@ -58,7 +58,7 @@ fn add_between(
     Ok(())
 }
 
-// Puts the missing pairs of what replaces the members of a mandatory pair behind the others.
+// Puts the missing pairs of what replaces the members of a mandatory pair among the others.
 fn add_of_pair<S: Store>(
     alloc: Global,
     lacking: &mut Vec<(Sym, Sym)>,
@@ -83,7 +83,7 @@ fn add_of_pair<S: Store>(
     add_between(lacking, book, own, &first, &second)
 }
 
-// Puts the missing pairs of what replaces the members of each mandatory pair behind the others.
+// Puts the missing pairs of what replaces the members of each mandatory pair among the others.
 fn add_of_pairs<S: Store>(
     alloc: Global,
     lacking: &mut Vec<(Sym, Sym)>,
@@ -109,7 +109,7 @@ fn add_of_pairs<S: Store>(
 }
 
 // Makes the step by an assertion, unless it breaks a rule besides P12: whether it was made. The
-// pairs that it lacks are put behind the others.
+// pairs that it lacks are put among the others.
 fn step_assertion<S: Store>(
     alloc: Global,
     lacking: &mut Vec<(Sym, Sym)>,
@@ -150,7 +150,7 @@ fn step_assertion<S: Store>(
 }
 
 // Makes the step by what a label stands for, unless it breaks a rule besides P12: whether it was
-// made. The pairs that it lacks are put behind the others.
+// made. The pairs that it lacks are put among the others.
 fn step_call<S: Store>(
     alloc: Global,
     lacking: &mut Vec<(Sym, Sym)>,
@@ -185,7 +185,7 @@ fn step_call<S: Store>(
 }
 
 // Makes the step by the entry at an index, unless it breaks a rule besides P12: whether it was
-// made. The pairs that it lacks are put behind the others.
+// made. The pairs that it lacks are put among the others.
 fn step_entry<S: Store>(
     alloc: Global,
     lacking: &mut Vec<(Sym, Sym)>,
@@ -299,7 +299,7 @@ impl<'s, 'e, 'b, 'a, S: Store> Machine for Seeker<'s, 'e, 'b, 'a, S> {
     }
 }
 
-// The pairs that the moves of all codes lack.
+// The pairs that the moves of all codes lack, some repeatedly.
 fn lacking_of_codes<S: Store>(
     alloc: Global,
     store: &mut S,
@@ -329,7 +329,7 @@ fn lacking_of_codes<S: Store>(
     Ok(lacking)
 }
 
-// The pairs that the moves lack.
+// The pairs that the moves lack, in order.
 fn lacking_in_frame<S: Store>(
     alloc: Global,
     store: &mut S,
@@ -351,12 +351,15 @@ fn lacking_in_frame<S: Store>(
     one_number();
     // The site of the table is that of a sound book.
     let _own = table.site.expression();
-    lacking_of_codes(alloc, store, table, codes)
+    let mut lacking = lacking_of_codes(alloc, store, table, codes)?;
+    put_in_order(&mut lacking);
+    Ok(lacking)
 }
 
-/// The pairs of variables that the proof of the `$p` with the number lacks, in the order of the
-/// steps that ask for them first: with a `$d` for each of them before the `$p`, no step breaks P12.
-/// These are the pairs that steps ask for up to the end, or up to a move that breaks another rule.
+/// The pairs of variables that the proof of the `$p` with the number lacks, each once, the one
+/// first that was declared first, and in the order of their declarations: with a `$d` for each of
+/// them before the `$p`, no step breaks P12. These are the pairs that steps ask for up to the end,
+/// or up to a move that breaks another rule.
 ///
 /// # Errors
 ///

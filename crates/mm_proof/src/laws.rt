@@ -9,6 +9,7 @@ ghost use Rattle.mm_proof.specs.SharingLaws.{OnePacked, SomePacked};
 ghost use Rattle.mm_proof.specs.SharingLaws.{StepsMakeChildren, FewestSteps, ToldByPacked};
 ghost use Rattle.mm_proof.specs.SmallLaws.{OneSmall, SmallIsStrict, NoBetterOrder};
 ghost use Rattle.mm_proof.specs.SmallLaws.{SmallIsNoLarger, SomeSmall};
+ghost use Rattle.mm_proof.specs.AskedLaws.{OneShared, OneMissing};
 
 /// A spelling spells one tree.
 ///
@@ -228,4 +229,21 @@ pub fn small_is_no_larger()
 /// hypotheses) has one, whether it derives anything or not.
 pub fn some_small()
     ensures { SomeSmall }
+{}
+
+/// The variables that stand in two expressions are told in one way.
+///
+/// The list of those that stand in both, each once, in the order of their declarations, is
+/// determined by the statements before and the expressions.
+pub fn one_shared()
+    ensures { OneShared }
+{}
+
+/// The pairs of variables that a `$d` has to state are told in one way.
+///
+/// The list of those that differ and aren't active pairs, one of each expression, each once, with
+/// the variable first that was declared first, in the order of their declarations, is determined by
+/// the statements before and the expressions.
+pub fn one_missing()
+    ensures { OneMissing }
 {}

@@ -347,8 +347,8 @@ fn fill_steps<'a>(
     }
 }
 
-/// Fills the lists with what says the moves of the tokens as a proof of the `$p`, or tells the first
-/// of P1 to P5 that they break, or else P15, where the proof hasn't the form that the profile
+/// Fills the lists with what says the moves of the tokens as a proof of the `$p`, or tells the
+/// first of P1 to P5 that they break, or else P15, where the proof hasn't the form that the profile
 /// demands.
 pub(crate) fn fill_under<'a>(
     alloc: Global,

@@ -1,4 +1,4 @@
-//! What each step of a proof uses, and which steps the last one is reached from.
+//! What each step of a proof uses, and which steps are reached from the last one.
 
 ghost use Rattle.std.specs.Prelude.{◌≡◌, ◌-◌, ◌<◌, ◌≤◌, ◌↔◌, ◌^◌, ℕ, List, [], All, length};
 ghost use Rattle.std.specs.Prelude.{take, drop};

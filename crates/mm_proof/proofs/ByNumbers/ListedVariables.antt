@@ -3,17 +3,15 @@
 use Rattle.std.proofs.Common.{◌≡◌, ℕ, ◌+◌, ◌<◌, List, [], ◌∷◌, ◌++◌, length, map, take, get_or}
 use Rattle.std.proofs.Common.{suc, option_map, slice_get, Contains, Option, Some, None, Bool, true}
 use Rattle.std.proofs.Common.{false, IsTrue}
-use Rattle.std.proofs.Common.{eqb, not, ◌&&◌, ◌||◌}
+use Rattle.std.proofs.Common.{not}
 use Rattle.std.proofs.Common.{◌↔◌, ◌⊎◌, inl, inr, ⊎_elim, refl, sym, ap, subst, ◌∙◌, arith}
 use Rattle.std.proofs.lemmas.Bool.{false≢true}
 use Rattle.std.proofs.lemmas.Option.{same_Some, none-some, slice_get-map, slice_get_within}
 use Rattle.std.proofs.lemmas.List.{take_more, map-append}
-use Rattle.std.proofs.lemmas.Bool.Decides.{Decides-eqb}
-use Rattle.std.proofs.lemmas.List.Folds.{Any-from_list_any, list_any_at}
-use Rattle.std.specs.List.{AllByRecursion, list_any}
-use Rattle.mm_text.proofs.Lists.{contains_from_at, at_from_contains, pushed_cases}
+use Rattle.std.specs.List.{AllByRecursion}
+use Rattle.mm_text.proofs.Lists.{contains_from_at, at_from_contains}
 use Rattle.mm_frame.specs.declared.number.Sym.{Sym}
-use Rattle.mm_text.specs.declared.statement.Kind.TheVariants.{Constants, Variables}
+use Rattle.mm_text.specs.declared.statement.Kind.TheVariants.{Constants}
 use Rattle.mm_frame.specs.Sentence.{Sentence, Declares}
 use Rattle.mm_frame.specs.Active.{IsVariable}
 use Rattle.mm_frame.specs.Frame.{IsDistinct}
@@ -23,14 +21,15 @@ use Rattle.mm_frame.specs.Laws.{OneNumber}
 use Rattle.mm_frame.proofs.Rules.ObeyedRules.{some_later, one_role}
 use Rattle.mm_frame.proofs.Names.NameNumbers.{once_pushed}
 use Rattle.mm_proof.specs.Stores.{numbers_in}
-use Rattle.mm_proof.specs.Asked.{AreDeclared, AreShared, AreMissing}
+use Rattle.mm_proof.specs.Asked.{AreDeclared}
 use Rattle.mm_proof.specs.Mirror.CodeVerify.{name_at, names_at, AreBelow}
 use Rattle.mm_proof.specs.Mirror.CodeAsked.{IsVariableNumber, PutsOnce, AreOnce}
 use Rattle.mm_proof.specs.Mirror.CodeAsked.{AreSharedNumbers}
-use Rattle.mm_proof.specs.Mirror.CodeAsked.{IsMissingPair, HasEither, EitherOnce, number_pairs}
-use Rattle.mm_proof.specs.Mirror.CodeAsked.{is_either, AddsMissing, AreMissingNumbers}
+use Rattle.mm_proof.specs.Mirror.CodeRun.{DoRise}
+use Rattle.mm_proof.specs.Mirror.CodeAsked.{IsMissingPair, HasEither, AreSamePairs, number_pairs}
+use Rattle.mm_proof.specs.Mirror.CodeAsked.{AddsMissing, AreMissingNumbers}
 use Rattle.mm_proof.proofs.Members.{in_contains, contains_in, in_push, in_left, in_right}
-use Rattle.mm_proof.proofs.ByNumbers.NumberedSymbols.{name_is, named_is, number_of_name, one_name}
+use Rattle.mm_proof.proofs.ByNumbers.NumberedSymbols.{name_is, named_is, number_of_name}
 use Rattle.mm_proof.proofs.ByNumbers.NumberedSymbols.{below_is, within_at}
 use Rattle.mm_proof.proofs.ByNumbers.SharedVariables.{has_named, number_among}
 use Rattle.mm_proof.proofs.ByNumbers.SharedVariables.{named_has}
@@ -68,6 +67,10 @@ module _ {X : Type 0} (xs : List X) (y : X) where
 
   pub last_pushed : Contains (xs ++ y ∷ []) y
   last_pushed = in_contains (xs ++ y ∷ []) y (in_right xs (y ∷ []) y (inl refl))
+
+only_member : (n k : ℕ) → Contains (n ∷ []) k → n ≡ k
+only_member n k c = ⊎_elim (λ none. absurd (omega (arith, none.1))) (λ e. e)
+    (pushed_contains [] n k c)
 
 -- the elements up to an index, and the one there
 module _ (ns : List ℕ) (i : ℕ) (less : i < length ns) where
@@ -159,19 +162,21 @@ once_more P e old new i less puts are = elim puts [
       once = are.once;
     }
 
--- the variables of the one that stand in the other are those that both share
-pub shared_of : (st : List Sentence) (e f variables shared : List ℕ)
-    → AreOnce (IsVariableNumber st) e variables → AreOnce (Contains f) variables shared
+-- the variables of the one that stand in the other are those that both share, and so they are in
+-- another order
+pub shared_of : (st : List Sentence) (e f variables those shared : List ℕ)
+    → AreOnce (IsVariableNumber st) e variables → AreOnce (Contains f) variables those
+    → ((n : ℕ) → Contains shared n ↔ Contains those n) → DoRise shared
     → AreSharedNumbers st e f shared
-shared_of st e f variables shared are those = record {
+shared_of st e f variables those shared are picked same rising = record {
   each = λ n. (
     λ c.
-        let h = (those.each n).0 c in
+        let h = (picked.each n).0 ((same n).0 c) in
         let v = (are.each n).0 h.1 in
         (v.0, v.1, h.0),
-    λ h. (those.each n).1 (h.2, (are.each n).1 (h.0, h.1)),
+    λ h. (same n).1 ((picked.each n).1 (h.2, (are.each n).1 (h.0, h.1))),
   );
-  once = those.once;
+  rising = rising;
 }
 
 -- ---- by names
@@ -182,7 +187,7 @@ named_at : (st : List Sentence) (ns : List ℕ) (i : ℕ) (x : List ℕ)
 named_at st ns i x there = mapped_at (name_at st) ns i x there
 
 -- what holds of each that stands in a list
-all_there : {X : Type 0} (P : X → Type 0) (xs : List X) → ((x : X) → Contains xs x → P x)
+pub all_there : {X : Type 0} (P : X → Type 0) (xs : List X) → ((x : X) → Contains xs x → P x)
     → AllByRecursion P xs
 all_there P [] each = tt
 all_there P (x ∷ xs) each = (
@@ -192,7 +197,7 @@ all_there P (x ∷ xs) each = (
 
 module _ (one : OneNumber) (st : List Sentence) (index : ℕ) (all : AllMeant st) where
   -- a declared symbol that is a variable of all statements is one of those before
-  declared_variable : (x : List (List ℕ)) (u : List ℕ) → AreDeclared (take index st) x
+  pub declared_variable : (x : List (List ℕ)) (u : List ℕ) → AreDeclared (take index st) x
       → Contains x u
       → IsVariable st u → IsVariable (take index st) u
   declared_variable x u declared has variable = ⊎_elim
@@ -200,13 +205,13 @@ module _ (one : OneNumber) (st : List Sentence) (index : ℕ) (all : AllMeant st
       (λ v. v) (declared u has)
 
   -- the name of a number that stands among these
-  has_name : (ns : List ℕ) (xs : List (List ℕ)) (n : ℕ) → AreNumbers st ns xs → Contains ns n
+  pub has_name : (ns : List ℕ) (xs : List (List ℕ)) (n : ℕ) → AreNumbers st ns xs → Contains ns n
       → Contains xs (name_at st n)
   has_name ns xs n are c = subst (λ l. Contains l (name_at st n)) (named_is st ns xs are)
       (named_has st ns n c)
 
   -- the number of a name that stands among these
-  has_number : (ns : List ℕ) (xs : List (List ℕ)) (u : List ℕ) → AreNumbers st ns xs → Contains xs u
+  pub has_number : (ns : List ℕ) (xs : List (List ℕ)) (u : List ℕ) → AreNumbers st ns xs → Contains xs u
       → (n : ℕ) × Contains ns n × IsNumberOf st u n
   has_number ns xs u are c =
       let k = has_named st ns u (subst (λ l. Contains l u) (sym (named_is st ns xs are)) c) in
@@ -219,55 +224,6 @@ module _ (one : OneNumber) (st : List Sentence) (index : ℕ) (all : AllMeant st
       all_at_number : (ns : List ℕ) → AreBelow st ns → (k : ℕ) → k < length ns
           → get_or ns k 0 < length (symbols_of st)
       all_at_number ns below k less = within_at (λ n. n < length (symbols_of st)) ns k 0 below less
-
-  shared_names : (e f shared : List ℕ) (x y : List (List ℕ)) → AreNumbers st e x → AreNumbers st f y
-      → AreDeclared (take index st) x → AreSharedNumbers st e f shared
-      → AreShared (take index st) x y (names_at st shared)
-  shared_names e f shared x y at_e at_f declared are = record {
-    each = λ u. (
-      λ c.
-          let k = has_named st shared u c in
-          let n = get_or shared k.0 0 in
-          let h = (are.each n).0 (number_among shared k.0 k.1) in
-          let named : name_at st n ≡ u = k.2 in
-          let in_x = subst (Contains x) named (has_name e x n at_e h.1) in
-          let variable = subst (IsVariable st) (sym (name_is st n h.0.0 h.0.1) ∙ named) h.0.2 in (
-            declared_variable x u declared in_x variable,
-            in_x,
-            subst (Contains y) named (has_name f y n at_f h.2),
-          ),
-      λ h.
-          let m = has_number e x u at_e h.1 in
-          let n = has_number f y u at_f h.2 in
-          let same : n.0 ≡ m.0 = (one st [] u).1 n.0 m.0 n.2 m.2 in
-          let c = (are.each m.0).1 (
-            (u, m.2, some_later st index (Declares Variables u) h.0),
-            m.1,
-            subst (Contains f) same n.1,
-          ) in
-          subst (Contains (names_at st shared)) (name_is st m.0 u m.2) (named_has st shared m.0 c),
-    );
-    once = λ i j u p q.
-        let m = named_at st shared i u p in
-        let n = named_at st shared j u q in
-        let bm = below m.0 (contains_from_at shared m.0 (i, m.1)) in
-        let bn = below n.0 (contains_from_at shared n.0 (j, n.1)) in
-        are.once i j m.0 m.1 (n.1 ∙ ap Some (one_name one st n.0 m.0 bn bm (n.2 ∙ sym m.2)));
-  }
-    where
-      below : (n : ℕ) → Contains shared n → n < length (symbols_of st)
-      below n c = let v = ((are.each n).0 c).0 in slice_get_within (symbols_of st) n v.0 v.1
-
-  pub shared_named : (e f shared : List ℕ) (x y : List (List ℕ)) → AreNumbers st e x
-      → AreNumbers st f y
-      → AreDeclared (take index st) x → AreSharedNumbers st e f shared
-      → (u : List (List ℕ)) × AreNumbers st shared u × AreShared (take index st) x y u
-  shared_named e f shared x y at_e at_f declared are = (
-    names_at st shared,
-    numbers_named st shared (all_there (λ n. n < length (symbols_of st)) shared (λ n c.
-        let v = ((are.each n).0 c).0 in slice_get_within (symbols_of st) n v.0 v.1)),
-    shared_names e f shared x y at_e at_f declared are,
-  )
 
 -- ==== missing pairs
 
@@ -295,84 +251,12 @@ missing_told st index m n false first second differ told = (
   λ p. refl,
 )
 
-abbrev numbers_of : Sym × Sym → ℕ × ℕ
+abbrev pub numbers_of : Sym × Sym → ℕ × ℕ
 numbers_of p = (p.0.0, p.1.0)
 
 pub pair_pushed : (old new : List (Sym × Sym)) (p : Sym × Sym) → new ≡ old ++ p ∷ []
     → number_pairs new ≡ number_pairs old ++ (p.0.0, p.1.0) ∷ []
 pair_pushed old new p is = ap number_pairs is ∙ map-append numbers_of old (p ∷ [])
-
-either_true : (a b c d : Bool) → (a && b) || (c && d) ≡ true
-    → ((a ≡ true) × (b ≡ true)) ⊎ ((c ≡ true) × (d ≡ true))
-either_true true true c d e = inl (refl, refl)
-either_true true false true true e = inr (refl, refl)
-either_true true false true false e = absurd (false≢true e)
-either_true true false false d e = absurd (false≢true e)
-either_true false b true true e = inr (refl, refl)
-either_true false b true false e = absurd (false≢true e)
-either_true false b false d e = absurd (false≢true e)
-
-first_true : (a b c d : Bool) → a ≡ true → b ≡ true → (a && b) || (c && d) ≡ true
-first_true a b c d p q = rw (p, q) refl
-
-second_true : (a b c d : Bool) → c ≡ true → d ≡ true → (a && b) || (c && d) ≡ true
-second_true true true c d p q = refl
-second_true true false c d p q = rw (p, q) refl
-second_true false b c d p q = rw (p, q) refl
-
--- the test whether a pair is among others
-pub either_found : (pairs : List (Sym × Sym)) (m n : ℕ) → list_any (is_either m n) pairs ≡ true
-    → HasEither (number_pairs pairs) (m, n)
-either_found pairs m n found =
-    let (k, p, less, is, passes) = Any-from_list_any (is_either m n) pairs found in
-    let has = contains_mapped numbers_of pairs p (k, less, is) in
-    elim (either_true (eqb p.0.0 m) (eqb p.1.0 n) (eqb p.0.0 n) (eqb p.1.0 m) passes) [
-      | inl both ↦ inl (rw ((Decides-eqb p.0.0 m).0 both.0, (Decides-eqb p.1.0 n).0 both.1) at has)
-      | inr both ↦ inr (rw ((Decides-eqb p.0.0 n).0 both.0, (Decides-eqb p.1.0 m).0 both.1) at has)
-    ]
-
-pub found_either : (pairs : List (Sym × Sym)) (m n : ℕ) → HasEither (number_pairs pairs) (m, n)
-    → list_any (is_either m n) pairs ≡ true
-found_either pairs m n (inl has) =
-    let p = mapped_contains numbers_of pairs (m, n) has in
-    let first : p.0.0.0 ≡ m = ap (λ (q : ℕ × ℕ). q.0) p.2 in
-    let second : p.0.1.0 ≡ n = ap (λ (q : ℕ × ℕ). q.1) p.2 in
-    list_any_at (is_either m n) pairs p.1.0 p.0 p.1.1
-    (rw p.1.2 (first_true (eqb p.0.0.0 m) (eqb p.0.1.0 n) (eqb p.0.0.0 n) (eqb p.0.1.0 m)
-    ((Decides-eqb p.0.0.0 m).1 first) ((Decides-eqb p.0.1.0 n).1 second)))
-found_either pairs m n (inr has) =
-    let p = mapped_contains numbers_of pairs (n, m) has in
-    let first : p.0.0.0 ≡ n = ap (λ (q : ℕ × ℕ). q.0) p.2 in
-    let second : p.0.1.0 ≡ m = ap (λ (q : ℕ × ℕ). q.1) p.2 in
-    list_any_at (is_either m n) pairs p.1.0 p.0 p.1.1
-    (rw p.1.2 (second_true (eqb p.0.0.0 m) (eqb p.0.1.0 n) (eqb p.0.0.0 n) (eqb p.0.1.0 m)
-    ((Decides-eqb p.0.0.0 n).1 first) ((Decides-eqb p.0.1.0 m).1 second)))
-
--- the same pair in the other order is the other pair in the other order
-same_turned : (p q : ℕ × ℕ) → p ≡ (q.1, q.0) → q ≡ (p.1, p.0)
-same_turned p q is = ap (λ (r : ℕ × ℕ). (r.1, r.0)) (sym is)
-
--- a pair that isn't among the others in any order
-either_pushed : (pairs : List (ℕ × ℕ)) (p : ℕ × ℕ) → EitherOnce pairs → ¬ (HasEither pairs p)
-    → EitherOnce (pairs ++ p ∷ [])
-either_pushed pairs p once absent i j a b at_i at_j same = elim (pushed_cases pairs p i a at_i) [
-  | inl i_before ↦ elim (pushed_cases pairs p j b at_j) [
-    | inl j_before ↦ once i j a b i_before j_before same
-    | inr (j_last, is) ↦ absurd (absent (⊎_elim
-        (λ e. inl (contains_from_at pairs p (i, i_before ∙ ap Some (e ∙ sym is))))
-        (λ e. inr (contains_from_at pairs (p.1, p.0)
-        (i, i_before ∙ ap Some (e ∙ ap (λ (q : ℕ × ℕ). (q.1, q.0)) (sym is)))))
-        same))
-  ]
-  | inr (i_last, is) ↦ elim (pushed_cases pairs p j b at_j) [
-    | inl j_before ↦ absurd (absent (⊎_elim
-        (λ e. inl (contains_from_at pairs p (j, j_before ∙ ap Some (sym (is ∙ e)))))
-        (λ e. inr (contains_from_at pairs (p.1, p.0)
-        (j, j_before ∙ ap Some (same_turned a b e ∙ ap (λ (q : ℕ × ℕ). (q.1, q.0)) (sym is)))))
-        same))
-    | inr (j_last, is') ↦ i_last ∙ sym j_last
-  ]
-]
 
 pub more_either : (old new : List (ℕ × ℕ)) (p : ℕ × ℕ) → ((q : ℕ × ℕ) → Contains old q
     → Contains new q)
@@ -380,58 +264,51 @@ pub more_either : (old new : List (ℕ × ℕ)) (p : ℕ × ℕ) → ((q : ℕ �
 more_either old new p kept (inl c) = inl (kept p c)
 more_either old new p kept (inr c) = inr (kept (p.1, p.0) c)
 
+-- a pair that isn't missing
+pub adds_none : (st : List Sentence) (index m n : ℕ) (old : List (ℕ × ℕ))
+    → ¬ (IsMissingPair st index m n) → AddsMissing st index m (n ∷ []) old old
+adds_none st index m n old not = record {
+  kept = λ p c. c;
+  only = λ p c. inl c;
+  each = λ k p c. absurd (not (subst (IsMissingPair st index m) (sym (only_member n k c)) p));
+}
+
+-- a missing pair, which was put behind the others
+pub adds_pair : (st : List Sentence) (index m n : ℕ) (old before new : List (ℕ × ℕ))
+    → IsMissingPair st index m n → AreSamePairs old before → new ≡ before ++ (m, n) ∷ []
+    → AddsMissing st index m (n ∷ []) old new
+adds_pair st index m n old before new is same pushed =
+    subst (AddsMissing st index m (n ∷ []) old) (sym pushed) (record {
+      kept = λ p c. contains_pushed before (m, n) p ((same p).1 c);
+      only = λ p c. elim (pushed_contains before (m, n) p c) [
+        | inl b ↦ inl ((same p).0 b)
+        | inr e ↦ inr (subst (λ (q : ℕ × ℕ). (q.0 ≡ m) × IsMissingPair st index q.0 q.1
+            × Contains (n ∷ []) q.1) e (refl, is, last_pushed [] n))
+      ];
+      each = λ k p c. inl (subst (λ (j : ℕ). Contains (before ++ (m, n) ∷ []) (m, j))
+          (only_member n k c) (last_pushed before (m, n)));
+    })
+
 -- one symbol more of the expression
 pub adds_more : (st : List Sentence) (index m : ℕ) (f : List ℕ) (old before new : List (ℕ × ℕ))
-    (i : ℕ) → i < length f
-    → PutsOnce (IsMissingPair st index m (get_or f i 0)) (HasEither before (m, get_or f i 0))
-    before (m, get_or f i 0) new
+    (i : ℕ) → i < length f → AddsMissing st index m (get_or f i 0 ∷ []) before new
     → AddsMissing st index m (take i f) old before → AddsMissing st index m (take (i + 1) f) old new
-adds_more st index m f old before new i less puts adds = elim puts [
-  | inl (not, same) ↦ subst (AddsMissing st index m (take (i + 1) f) old) (sym same)
-      (kept (λ p. absurd (not p)))
-  | inr (inl (is, there, same)) ↦
-      subst (AddsMissing st index m (take (i + 1) f) old) (sym same) (kept (λ p. there))
-  | inr (inr (is, none, pushed)) ↦
-      subst (AddsMissing st index m (take (i + 1) f) old) (sym pushed) (record {
-        kept = λ p c. contains_pushed before (m, last) p (adds.kept p c);
-        only = λ p c. elim (pushed_contains before (m, last) p c) [
-          | inl b ↦ longer p (adds.only p b)
-          | inr e ↦ inr (subst (λ (q : ℕ × ℕ). (q.0 ≡ m) × IsMissingPair st index q.0 q.1
-              × Contains (take (i + 1) f) q.1) e
-              (refl, is, last_taken f i less))
-        ];
-        each = λ n p c. elim (taken_more f i less n c) [
-          | inl b ↦ more_either before (before ++ (m, last) ∷ []) (m, n)
-              (contains_pushed before (m, last)) (adds.each n p b)
-          | inr e ↦ inl (subst (λ (k : ℕ). Contains (before ++ (m, last) ∷ []) (m, k)) e
-              (last_pushed before (m, last)))
-        ];
-        once = λ once. either_pushed before (m, last) (adds.once once) none;
-      })
-]
-  where
-    last : ℕ
-    last = get_or f i 0
-
-    longer : (p : ℕ × ℕ) → Contains old p
-        ⊎ ((p.0 ≡ m) × IsMissingPair st index p.0 p.1 × Contains (take i f) p.1)
-        → Contains old p ⊎ ((p.0 ≡ m) × IsMissingPair st index p.0 p.1
-        × Contains (take (i + 1) f) p.1)
-    longer p (inl c) = inl c
-    longer p (inr h) = inr (h.0, h.1, more_taken f i less p.1 h.2)
-
-    kept : (IsMissingPair st index m last → HasEither before (m, last))
-        → AddsMissing st index m (take (i + 1) f) old before
-    kept there = record {
-      kept = adds.kept;
-      only = λ p c. longer p (adds.only p c);
-      each = λ n p c. elim (taken_more f i less n c) [
-        | inl b ↦ adds.each n p b
-        | inr e ↦ subst (λ k. HasEither before (m, k)) e
-            (there (subst (IsMissingPair st index m) (sym e) p))
-      ];
-      once = adds.once;
-    }
+adds_more st index m f old before new i less adds was = record {
+  kept = λ p c. adds.kept p (was.kept p c);
+  only = λ p c. elim (adds.only p c) [
+    | inl b ↦ ⊎_elim inl (λ h. inr (h.0, h.1, more_taken f i less p.1 h.2)) (was.only p b)
+    | inr h ↦ inr (
+      h.0,
+      h.1,
+      subst (Contains (take (i + 1) f))
+          (only_member (get_or f i 0) p.1 h.2) (last_taken f i less),
+    )
+  ];
+  each = λ n p c. elim (taken_more f i less n c) [
+    | inl b ↦ more_either before new (m, n) adds.kept (was.each n p b)
+    | inr e ↦ adds.each n p (subst (Contains (get_or f i 0 ∷ [])) e (last_pushed [] (get_or f i 0)))
+  ];
+}
 
 -- one symbol more of the first expression
 pub missing_more : (st : List Sentence) (index : ℕ) (e f : List ℕ) (old new : List (ℕ × ℕ)) (i : ℕ)
@@ -449,7 +326,6 @@ missing_more st index e f old new i less adds are = record {
     | inr same ↦ subst (λ k. HasEither new (k, n)) same
         (adds.each n (subst (λ k. IsMissingPair st index k n) (sym same) p) d)
   ];
-  once = adds.once are.once;
 }
 
 -- the missing pairs of the variables of the expressions are those of the expressions
@@ -462,7 +338,6 @@ missing_of st index e f first second missing in_e in_f are = record {
       let h = are.only p c in
       (h.0, ((in_e.each p.0).0 h.1).1, ((in_f.each p.1).0 h.2).1);
   each = λ m n p c d. are.each m n p ((in_e.each m).1 (p.first, c)) ((in_f.each n).1 (p.second, d));
-  once = are.once;
 }
 
 -- ---- by names
@@ -506,41 +381,6 @@ pub named_variable : (st : List Sentence) (n : ℕ) → IsVariableNumber st n
     → IsVariable st (name_at st n)
 named_variable st n v = subst (IsVariable st) (sym (name_is st n v.0 v.1)) v.2
 
-module _ (one : OneNumber) (st : List Sentence) (index : ℕ) where
-  numbers_same : (m n : ℕ × ℕ) → IsMissingPair st index m.0 m.1 → IsMissingPair st index n.0 n.1
-      → names_of st m ≡ names_of st n → m ≡ n
-  numbers_same m n hm hn is =
-      let first = one_name one st m.0 n.0 (variable_below st m.0 hm.first)
-      (variable_below st n.0 hn.first) (ap (λ (r : List ℕ × List ℕ). r.0) is) in
-      let second = one_name one st m.1 n.1 (variable_below st m.1 hm.second)
-      (variable_below st n.1 hn.second) (ap (λ (r : List ℕ × List ℕ). r.1) is) in
-      λ i. (first i, second i)
-
-  numbers_turned : (m n : ℕ × ℕ) → IsMissingPair st index m.0 m.1 → IsMissingPair st index n.0 n.1
-      → names_of st m ≡ names_of st (n.1, n.0) → m ≡ (n.1, n.0)
-  numbers_turned m n hm hn is =
-      let first = one_name one st m.0 n.1 (variable_below st m.0 hm.first)
-      (variable_below st n.1 hn.second) (ap (λ (r : List ℕ × List ℕ). r.0) is) in
-      let second = one_name one st m.1 n.0 (variable_below st m.1 hm.second)
-      (variable_below st n.0 hn.first) (ap (λ (r : List ℕ × List ℕ). r.1) is) in
-      λ i. (first i, second i)
-
-  -- each pair stands once by names if it does by numbers
-  pub once_named : (pairs : List (ℕ × ℕ))
-      → ((p : ℕ × ℕ) → Contains pairs p → IsMissingPair st index p.0 p.1) → EitherOnce pairs
-      → (i j : ℕ) (p q : List ℕ × List ℕ) → slice_get (name_pairs st pairs) i ≡ Some p
-      → slice_get (name_pairs st pairs) j ≡ Some q → (p ≡ q) ⊎ (p ≡ (q.1, q.0)) → i ≡ j
-  once_named pairs missing once i j p q at_i at_j same =
-      let a = mapped_at (names_of st) pairs i p at_i in
-      let b = mapped_at (names_of st) pairs j q at_j in
-      let ha = missing a.0 (contains_from_at pairs a.0 (i, a.1)) in
-      let hb = missing b.0 (contains_from_at pairs b.0 (j, b.1)) in
-      once i j a.0 b.0 a.1 b.1 (⊎_elim
-      (λ s. inl (numbers_same a.0 b.0 ha hb (a.2 ∙ s ∙ sym b.2)))
-      (λ s. inr (numbers_turned a.0 b.0 ha hb
-      (a.2 ∙ s ∙ ap (λ (r : List ℕ × List ℕ). let n : List ℕ × List ℕ = (r.1, r.0) in
-      n) (sym b.2)))) same)
-
 -- the numbers of missing pairs are those of their names
 pub pairs_named : (st : List Sentence) (index : ℕ) (pairs : List (Sym × Sym))
     → ((p : ℕ × ℕ) → Contains (number_pairs pairs) p → IsMissingPair st index p.0 p.1)
@@ -558,79 +398,3 @@ pairs_named st index pairs missing = (
       let h = missing (numbers_of p.0) (contains_mapped numbers_of pairs p.0 p.1) in
       subst (λ n. n < length (symbols_of st)) p.2 (variable_below st p.0.1.0 h.second))),
 )
-
-module _ (one : OneNumber) (st : List Sentence) (index : ℕ) (all : AllMeant st) (e f : List ℕ)
-    (x y : List (List ℕ)) (at_e : AreNumbers st e x) (at_f : AreNumbers st f y)
-    (first : AreDeclared (take index st) x) (second : AreDeclared (take index st) y)
-    (pairs : List (ℕ × ℕ)) (are : AreMissingNumbers st index e f pairs) where
-  only_named : (p : List ℕ × List ℕ) → Contains (name_pairs st pairs) p
-      → IsVariable (take index st) p.0 × IsVariable (take index st) p.1 × (p.0 ≡ p.1 → ⊥)
-      × ¬ (IsDistinct (take index st) p.0 p.1) × Contains x p.0 × Contains y p.1
-  only_named p c =
-      let q = mapped_contains (names_of st) pairs p c in
-      let h = are.only q.0 q.1 in
-      let m = q.0.0 in
-      let n = q.0.1 in
-      let bm = variable_below st m h.0.first in
-      let bn = variable_below st n h.0.second in
-      let in_x = has_name one st index all e x m at_e h.1 in
-      let in_y = has_name one st index all f y n at_f h.2 in
-      subst (λ (r : List ℕ × List ℕ). IsVariable (take index st) r.0
-      × IsVariable (take index st) r.1 × (r.0 ≡ r.1 → ⊥)
-      × ¬ (IsDistinct (take index st) r.0 r.1) × Contains x r.0 × Contains y r.1) q.2 (
-        declared_variable one st index all x (name_at st m) first
-            in_x (named_variable st m h.0.first),
-        declared_variable one st index all y (name_at st n) second
-            in_y (named_variable st n h.0.second),
-        λ same. h.0.differ (one_name one st m n bm bn same),
-        h.0.inactive (name_at st m) (name_at st n) (number_of_name st m bm)
-            (number_of_name st n bn),
-        in_x,
-        in_y,
-      )
-
-  each_named : (u v : List ℕ) → IsVariable (take index st) u → IsVariable (take index st) v
-      → (u ≡ v → ⊥)
-      → ¬ (IsDistinct (take index st) u v) → Contains x u → Contains y v
-      → Contains (name_pairs st pairs) (u, v) ⊎ Contains (name_pairs st pairs) (v, u)
-  each_named u v var_u var_v differ apart in_x in_y =
-      let m = has_number one st index all e x u at_e in_x in
-      let n = has_number one st index all f y v at_f in_y in
-      let missing : IsMissingPair st index m.0 n.0 = record {
-        first = (u, m.2, some_later st index (Declares Variables u) var_u);
-        second = (v, n.2, some_later st index (Declares Variables v) var_v);
-        differ = λ same. differ (same_Some u v
-            (sym m.2 ∙ ap (slice_get (symbols_of st)) same ∙ n.2));
-        inactive = λ a b p q d. apart (subst
-            (λ c. IsDistinct (take index st) c v) (same_Some a u (sym p ∙ m.2))
-            (subst (IsDistinct (take index st) a) (same_Some b v (sym q ∙ n.2)) d));
-      } in
-      let named_u = name_is st m.0 u m.2 in
-      let named_v = name_is st n.0 v n.2 in
-      ⊎_elim
-      (λ c. inl (rw (named_u, named_v) at (contains_mapped (names_of st) pairs (m.0, n.0) c)))
-      (λ c. inr (rw (named_u, named_v) at (contains_mapped (names_of st) pairs (n.0, m.0) c)))
-      (are.each m.0 n.0 missing m.1 n.1)
-
-  missing_names : AreMissing (take index st) x y (name_pairs st pairs)
-  missing_names = record {
-    only = only_named;
-    each = each_named;
-    once = once_named one st index pairs (λ p c. (are.only p c).0) are.once;
-  }
-
-pub missing_named : OneNumber → (st : List Sentence) (index : ℕ) → AllMeant st
-    → (e f : List ℕ) (x y : List (List ℕ)) → AreNumbers st e x → AreNumbers st f y
-    → AreDeclared (take index st) x → AreDeclared (take index st) y → (pairs : List (Sym × Sym))
-    → AreMissingNumbers st index e f (number_pairs pairs)
-    → (names : List (List ℕ × List ℕ))
-    × AreNumbers st (map (λ p. p.0.0) pairs) (map (λ p. p.0) names)
-    × AreNumbers st (map (λ p. p.1.0) pairs) (map (λ p. p.1) names)
-    × AreMissing (take index st) x y names
-missing_named one st index all e f x y at_e at_f first second pairs are =
-    let numbers = pairs_named st index pairs (λ p c. (are.only p c).0) in (
-      name_pairs st (number_pairs pairs),
-      numbers.0,
-      numbers.1,
-      missing_names one st index all e f x y at_e at_f first second (number_pairs pairs) are,
-    )

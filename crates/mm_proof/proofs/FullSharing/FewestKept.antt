@@ -1,7 +1,7 @@
 -- A proof that shares some subtrees alone keeps no more trees than any proof of the tree has moves.
-use Rattle.std.proofs.Common.{◌≡◌, ℕ, ◌+◌, ◌≤◌, List, [], ◌∷◌, length, arith}
+use Rattle.std.proofs.Common.{ℕ, ◌≤◌, List, [], ◌∷◌, length, arith}
 use Rattle.mm_frame.specs.Sentence.{Sentence}
-use Rattle.mm_proof.specs.Tree.{Trees, none, tree}
+use Rattle.mm_proof.specs.Tree.{Trees, none}
 use Rattle.mm_proof.specs.Moves.{Move, Makes, name}
 use Rattle.mm_proof.specs.Sharing.{ShareThose}
 use Rattle.mm_proof.specs.BigSubtrees.{IsSubtree}

@@ -32,7 +32,6 @@ between_more st index e f old before new i less adds was = record {
         subst (λ k. HasEither new (k, n)) same
         (adds.each n (subst (λ k. IsMissingPair st index k n) (sym same) p) d)
   ];
-  once = λ once. adds.once (was.once once);
 }
 
 -- those of the variables of the expressions are those of the expressions
@@ -46,7 +45,6 @@ between_of st index e f first second old new in_e in_f adds = record {
       (adds.only p c);
   each = λ m n p c d. adds.each m n p ((in_e.each m).1 (p.first, c))
       ((in_f.each n).1 (p.second, d));
-  once = adds.once;
 }
 
 only_pair : (p q : ℕ × ℕ) (k : ℕ) → slice_get (p ∷ []) k ≡ Some q → p ≡ q
@@ -70,7 +68,6 @@ module _ (st : List Sentence) (index : ℕ) (σ : ℕ → Option (List ℕ)) whe
         ∙ at_y) in
         adds.each m n missing (subst (λ l. Contains l m) first in_a)
         (subst (λ l. Contains l n) second in_b);
-    once = adds.once;
   }
 
   -- one pair more
@@ -94,7 +91,6 @@ module _ (st : List Sentence) (index : ℕ) (σ : ℕ → Option (List ℕ)) whe
               let same : p ≡ q = same_Some p q (sym there ∙ ap (slice_get pairs) (sym e) ∙ here) in
               adds.each 0 q (ap Some same) a b at_a at_b m n missing in_a in_b
         ];
-    once = λ once. adds.once (was.once once);
   }
     where
       longer : (P : List ℕ → List ℕ → Type 0) → SomePairValues σ (take i pairs) P

@@ -1,6 +1,5 @@
 -- The moves of a proof, one after the other, where a `$d` for each of the missing pairs is put
--- behind
--- the statements before it: what the seeker of `lacking` has found, and what is told by names.
+-- behind the statements before it: what the seeker of `lacking` has found, and what is told by names.
 use Rattle.std.proofs.Common.{◌≡◌, ℕ, ◌+◌, ◌<◌, ◌≤◌, List, [], ◌∷◌, ◌++◌, length, map, take}
 use Rattle.std.proofs.Common.{slice_get}
 use Rattle.std.proofs.Common.{Contains, Some, Bool, true, false, not, MatchBool, inl, inr, ⊎_elim}
@@ -11,11 +10,10 @@ use Rattle.std.proofs.lemmas.Option.{none-some}
 use Rattle.std.proofs.lemmas.List.{length-append, length-map}
 use Rattle.mm_text.proofs.Lists.{all_push, all_at, all_back, zip_front}
 use Rattle.mm_frame.specs.Sentence.{Sentence}
-use Rattle.mm_frame.specs.Active.{IsVariable}
 use Rattle.mm_frame.specs.Rules.{AllMeant}
 use Rattle.mm_frame.proofs.Rules.ObeyedRules.{allmeant_prefix}
-use Rattle.mm_frame.specs.Frame.{IsDistinct}
-use Rattle.mm_frame.specs.Numbers.{AreNumbers, IsNumbered}
+use Rattle.mm_frame.proofs.Frames.FrameLaws.{distinct_other}
+use Rattle.mm_frame.specs.Numbers.{AreNumbers, IsNumbered, IsNumberOf}
 use Rattle.mm_frame.specs.Laws.{OneNumber}
 use Rattle.mm_frame.specs.declared.number.Sym.{Sym}
 use Rattle.mm_proof.specs.declared.fault.ProofRule.TheVariants.{P6, P7}
@@ -27,24 +25,55 @@ use Rattle.mm_proof.specs.Verified.{OfMoves}
 use Rattle.mm_proof.specs.Lacking.{with_pairs, StopsElsewhere, PassElsewhere, AskApart, AreLacking}
 use Rattle.mm_proof.specs.Mirror.CodeVerify.{name_at, names_at, all_names_at, AreDeclaredSymbols}
 use Rattle.mm_proof.specs.Mirror.CodeVerify.{AreStackEntries}
-use Rattle.mm_proof.specs.Mirror.CodeAsked.{number_pairs, IsMissingPair}
+use Rattle.mm_proof.specs.Asked.{IsUnstated}
+use Rattle.mm_proof.specs.Mirror.CodeAsked.{number_pairs, ArePutInOrder}
 use Rattle.mm_proof.specs.Mirror.Sites.{ProofSite}
 use Rattle.mm_proof.specs.Mirror.CodeLacking.{Cover, StepsWith, RunsWith}
-use Rattle.mm_proof.specs.Mirror.CodeLacking.{StoppedWith}
-use Rattle.mm_proof.specs.Mirror.CodeLacking.{AreFound, HasSought, AreLackingNumbers}
+use Rattle.mm_proof.specs.Mirror.CodeLacking.{StoppedWith, AreFound, HasSought, IsLackingPair}
+use Rattle.mm_proof.specs.Mirror.CodeLacking.{AreLackingNumbers, AreLackingInOrder}
 use Rattle.mm_proof.specs.declared.lacking.Seeker.{Seeker}
 use Rattle.mm_proof.proofs.ProofSteps.PassedMoves.{passed_none, passed_again, passed_mark}
 use Rattle.mm_proof.proofs.ProofVerdicts.FirstFault.{only_P6, only_P7}
 use Rattle.mm_proof.proofs.ByNumbers.NumberedLabels.{one_index}
-use Rattle.mm_proof.proofs.ByNumbers.NumberedSymbols.{number_of_name, one_name}
-use Rattle.mm_proof.proofs.ByNumbers.ListedVariables.{names_of, name_pairs, pairs_named, once_named}
+use Rattle.mm_proof.proofs.ByNumbers.ListedVariables.{names_of, name_pairs, pairs_named}
 use Rattle.mm_proof.proofs.ByNumbers.ListedVariables.{mapped_contains, contains_mapped}
 use Rattle.mm_proof.proofs.ByNumbers.ListedVariables.{variable_below}
+use Rattle.mm_proof.proofs.ByNumbers.NamedVariables.{missing_other, found_put, unstated_named}
+use Rattle.mm_proof.proofs.ByNumbers.NamedVariables.{pairs_in_order}
 use Rattle.mm_proof.proofs.Machines.JudgedMoves.{named_push, named_there}
-use Rattle.mm_proof.proofs.LackingPairs.WithPairs.{some_added}
+use Rattle.mm_proof.proofs.LackingPairs.WithPairs.{some_added, breaks_fall}
 use Rattle.mm_proof.proofs.LackingPairs.PastedPairs.{lacking_meant}
 
 -- ==== one move more behind the moves
+
+module _ (Fits : Expression → Type 0) (before : List Sentence) (moves : List (Move (List ℕ)))
+  where
+    -- what is asked of two is asked of them in the other order
+    pub asked_other : (u v : Symbol) → AskApart Fits before moves u v
+        → AskApart Fits before moves v u
+    asked_other u v a =
+        let (m, x, y, e, f, pair, at_x, at_y, (in_e, in_f)) = a.asked in
+        record {
+          earlier = a.earlier;
+          label = a.label;
+          later = a.later;
+          parts = a.parts;
+          stack = a.stack;
+          kept = a.kept;
+          passed = a.passed;
+          unbroken = a.unbroken;
+          asked = (
+            m,
+            y,
+            x,
+            f,
+            e,
+            (distinct_other (take m.index before) x y pair.0, pair.2, pair.1),
+            at_y,
+            at_x,
+            (in_f, in_e),
+          );
+        }
 
 module _ (Fits : Expression → Type 0) (before : List Sentence) (moves : List (Move (List ℕ)))
     (x : Move (List ℕ)) where
@@ -59,6 +88,7 @@ module _ (Fits : Expression → Type 0) (before : List Sentence) (moves : List (
     stack = a.stack;
     kept = a.kept;
     passed = a.passed;
+    unbroken = a.unbroken;
     asked = a.asked;
   }
 
@@ -106,7 +136,6 @@ module _ (site : ProofSite) (prefix : List (Move ℕ)) where
     -- nothing was found
     found_longer : AreFound site lacking prefix → AreFound site lacking (prefix ++ x ∷ [])
     found_longer found = record {
-      once = found.once;
       variables = found.variables;
       asked = λ p has pairs cover moves numbered.
           let h = zip_front (IsNumberedMove site.statements) prefix x moves numbered in
@@ -186,7 +215,6 @@ module _ (site : ProofSite) (prefix : List (Move ℕ)) where
     where
       found_name : AreFound site lacking prefix → AreFound site lacking' (prefix ++ name id ∷ [])
       found_name found = record {
-        once = does.once found.once;
         variables = λ p has. ⊎_elim (found.variables p) (λ n. n.0) (does.asked p has);
         asked = λ p has pairs cover moves numbered.
             let st = site.statements in
@@ -208,8 +236,11 @@ module _ (site : ProofSite) (prefix : List (Move ℕ)) where
                 stack = all_names_at st stack;
                 kept = all_names_at st kept;
                 passed = run.passed pairs cover' h.0 h.3;
+                unbroken = λ other less b. (asks n.1 (n.0, n.1, n.2, n.3, refl)).unbroken other less
+                    (breaks_fall before pairs (all_names_at st stack) n.1 (IsWithin site.limit) other
+                    b);
                 asked = some_added before pairs (all_names_at st stack) n.1 _ _ (λ e f so. so)
-                    (asks n.1 (n.0, n.1, n.2, n.3, refl));
+                    (asks n.1 (n.0, n.1, n.2, n.3, refl)).asked;
               }
             ];
       }
@@ -315,7 +346,6 @@ module _ {S : Type 0} (stack kept : S → List (List ℕ)) (first : Seeker S) wh
         same_lacking = refl;
         same_table = refl;
         found = rw nothing (record {
-          once = λ i j p q at_i at_j same. absurd (none-some p at_i);
           variables = λ p has. absurd (let l : has.0 < 0 = has.1 in omega arith);
           asked = λ p has pairs cover moves numbered. absurd (let l : has.0 < 0 = has.1 in
               omega arith);
@@ -466,54 +496,100 @@ module _ {S : Type 0} (stack kept : S → List (List ℕ)) (first : Seeker S) wh
 
 -- ==== by names
 
+module _ (one : OneNumber) (site : ProofSite) (moves : List (Move (List ℕ)))
+    (steps : List (Move ℕ)) (found pairs : List (ℕ × ℕ)) (all : AllMeant site.statements)
+    (are : AreLackingNumbers site found steps) (ordered : ArePutInOrder found pairs)
+    (numbered : AreNumberedMoves site.statements steps moves) where
+  abbrev before : List Sentence
+  before = take site.index site.statements
+
+  abbrev names : List (Symbol × Symbol)
+  names = name_pairs site.statements pairs
+
+  cover : Cover site.statements found names
+  cover p c = ⊎_elim
+      (λ h. inl (contains_mapped (names_of site.statements) pairs p h))
+      (λ h. inr (contains_mapped (names_of site.statements) pairs (p.1, p.0) h))
+      ((ordered.same p).1 (inl c))
+
+  -- what is known of a pair
+  abbrev IsAsked : ℕ × ℕ → Type 0
+  IsAsked p =
+      IsLackingPair site.statements site.index p
+      × AskApart (IsWithin site.limit) (with_pairs before names) moves
+      (name_at site.statements p.0) (name_at site.statements p.1)
+
+  asked_found : (p : ℕ × ℕ) → Contains found p → IsAsked p × IsAsked (p.1, p.0)
+  asked_found p c =
+      let v = are.0.variables p c in
+      let asks = are.0.asked p c names cover moves numbered in (
+        (v, asks),
+        (
+          record {
+            missing = missing_other site.statements site.index p.0 p.1 v.missing;
+            first = v.second;
+            second = v.first;
+          },
+          asked_other (IsWithin site.limit) (with_pairs before names) moves
+              (name_at site.statements p.0) (name_at site.statements p.1) asks,
+        ),
+      )
+
+  pub asked_put : (p : ℕ × ℕ) → Contains pairs p → IsAsked p
+  asked_put p c = found_put found pairs ordered IsAsked asked_found p c
+
+  needed : (p : Symbol × Symbol) → Contains names p → IsUnstated before p
+      × AskApart (IsWithin site.limit) (with_pairs before names) moves p.0 p.1
+  needed p has =
+      let q = mapped_contains (names_of site.statements) pairs p has in
+      let h = asked_put q.0 q.1 in
+      subst (λ (r : Symbol × Symbol). IsUnstated before r
+      × AskApart (IsWithin site.limit) (with_pairs before names) moves r.0 r.1) q.2 (
+        unstated_named one site.statements site.index q.0.0 q.0.1 h.0.missing h.0.first h.0.second
+            (ordered.in_order.turned q.0 q.1),
+        h.1,
+      )
+
+  differs : (p : Symbol × Symbol) → IsUnstated before p → p.0 ≡ p.1 → ⊥
+  differs p is same =
+      let (m, n, at_m, at_n, less) = is.earlier in
+      let e = (one before [] p.0).1 m n at_m
+      (subst (λ u. IsNumberOf before u n) (sym same) at_n) in
+      omega (arith, less, e)
+
+  pub lacks : AreLacking (IsWithin site.limit) before moves names
+  lacks = record {
+    meant = lacking_meant before (allmeant_prefix site.statements site.index all)
+        (IsWithin site.limit) moves names
+        (λ p has.
+        let h = needed p has in (h.0.first, h.0.second, differs p h.0, h.1));
+    enough = are.1 names cover moves numbered;
+    needed = needed;
+    in_order = pairs_in_order one site.statements site.index pairs (λ p c.
+        let h = asked_put p c in (
+          (h.0.first, variable_below site.statements p.0 h.0.missing.first),
+          (h.0.second, variable_below site.statements p.1 h.0.missing.second),
+        )) ordered.in_order;
+  }
+
 pub lacking_named : OneNumber → (site : ProofSite) (t : Sentence) (steps : List (Move ℕ))
     (pairs : List (Sym × Sym)) → AllMeant site.statements
     → IsNumbered site.statements site.number site.index t
-    → AreLackingNumbers site (number_pairs pairs) steps
+    → AreLackingInOrder site (number_pairs pairs) steps
     → OfMoves site.statements site.number steps (λ index s moves. (names : List (Symbol × Symbol))
     × AreNumbers site.statements (map (λ p. p.0.0) pairs) (map (λ p. p.0) names)
     × AreNumbers site.statements (map (λ p. p.1.0) pairs) (map (λ p. p.1) names)
     × AreLacking (IsWithin site.limit) (take index site.statements) moves names)
-lacking_named one site t steps pairs all n (found, passes) index s moves proof numbered =
+lacking_named one site t steps pairs all n (found, are, ordered) index s moves proof numbered =
     let st = site.statements in
-    let before : List Sentence = take site.index st in
+    let told = number_pairs pairs in
     let here : site.index ≡ index = one_index st site.number site.index index t s n
     proof.numbered in
-    let names = name_pairs st (number_pairs pairs) in
-    let missing : (p : ℕ × ℕ) → Contains (number_pairs pairs) p
-    → IsMissingPair st site.index p.0 p.1 = λ p c. (found.variables p c).missing in
-    let cover : Cover st (number_pairs pairs) names =
-    λ p c. contains_mapped (names_of st) (number_pairs pairs) p c in
-    let numbers = pairs_named st site.index pairs missing in
-    let needed : (p : Symbol × Symbol) → Contains names p → IsVariable before p.0
-    × IsVariable before p.1 × (p.0 ≡ p.1 → ⊥) × ¬ (IsDistinct before p.0 p.1)
-    × AskApart (IsWithin site.limit) (with_pairs before names) moves p.0 p.1 = λ p has.
-    let q = mapped_contains (names_of st) (number_pairs pairs) p has in
-    let v = found.variables q.0 q.1 in
-    let m = q.0.0 in
-    let n = q.0.1 in
-    let bm = variable_below st m v.missing.first in
-    let bn = variable_below st n v.missing.second in
-    subst (λ (r : Symbol × Symbol). IsVariable before r.0 × IsVariable before r.1
-    × (r.0 ≡ r.1 → ⊥) × ¬ (IsDistinct before r.0 r.1)
-    × AskApart (IsWithin site.limit) (with_pairs before names) moves r.0 r.1) q.2 (
-      v.first,
-      v.second,
-      λ same. v.missing.differ (one_name one st m n bm bn same),
-      v.missing.inactive (name_at st m) (name_at st n) (number_of_name st m bm)
-          (number_of_name st n bn),
-      found.asked q.0 q.1 names cover moves numbered,
-    ) in
-    let lacks : AreLacking (IsWithin site.limit) before moves names = record {
-      meant = lacking_meant before (allmeant_prefix st site.index all) (IsWithin site.limit) moves
-          names
-          (λ p has. let h = needed p has in (h.0, h.1, h.2, h.4));
-      enough = passes names cover moves numbered;
-      needed = needed;
-      once = once_named one st site.index (number_pairs pairs) missing found.once;
-    } in (
-      names,
+    let numbers = pairs_named st site.index pairs
+    (λ p c. (asked_put one site moves steps found told all are ordered numbered p c).0.missing) in (
+      name_pairs st told,
       numbers.0,
       numbers.1,
-      subst (λ i. AreLacking (IsWithin site.limit) (take i st) moves names) here lacks,
+      subst (λ i. AreLacking (IsWithin site.limit) (take i st) moves (name_pairs st told)) here
+          (lacks one site moves steps found told all are ordered numbered),
     )

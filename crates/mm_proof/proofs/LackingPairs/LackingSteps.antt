@@ -70,6 +70,14 @@ variable_there st index n all symbol variable = elim (variable_dec (take index s
   | no none ↦ absurd (variable_before st index n all symbol variable none)
 ]
 
+-- a pair among the added ones, in one order or the other, is active
+stated_apart : (before : List Sentence) (pairs : List (Symbol × Symbol)) (u v : Symbol)
+    → (u ≡ v → ⊥) → Contains pairs (u, v) ⊎ Contains pairs (v, u)
+    → IsDistinct (with_pairs before pairs) u v
+stated_apart before pairs u v differ (inl c) = distinct_of before pairs (u, v) c differ
+stated_apart before pairs u v differ (inr c) = distinct_other (with_pairs before pairs) v u
+    (distinct_of before pairs (v, u) c (λ same. differ (sym same)))
+
 -- ==== a rule besides P12 is broken, or a hypothesis is put on the stack
 
 module _ (limit : ℕ) (st : List Sentence) (index id : ℕ) (stack : List (List ℕ))
@@ -78,7 +86,6 @@ module _ (limit : ℕ) (st : List Sentence) (index id : ℕ) (stack : List (List
       → StepsWith limit st index id lacking lacking stack stack false
   stops_with rule other stops = record {
     kept = λ p c. c;
-    once = λ once. once;
     asked = λ p c. inl c;
     outcome = λ pairs cover label kept move. (
       rule,
@@ -95,7 +102,6 @@ module _ (limit : ℕ) (st : List Sentence) (index id : ℕ) (stack : List (List
       → StepsWith limit st index id lacking lacking stack (stack ++ expression ∷ []) true
   pushes_with used expression all u kind numbers within = record {
     kept = λ p c. c;
-    once = λ once. once;
     asked = λ p c. inl c;
     outcome = λ pairs cover label moves kept move passed.
         let before : List Sentence = take index st in
@@ -210,14 +216,29 @@ module _ (limit : ℕ) (one : OneNumber) (st : List Sentence) (index id : ℕ) (
                   (same_Some a u (sym p ∙ number_u))
                   (subst (IsDistinct before a) (same_Some b v (sym q ∙ number_v)) d));
             } in
-            ⊎_elim
-            (λ c. distinct_of before pairs (u, v) (rw (i.2, j.2) at (cover (m, n) c)) differ)
-            (λ c. distinct_other (with_pairs before pairs) v u
-            (distinct_of before pairs (v, u) (rw (j.2, i.2) at (cover (n, m) c))
-            (λ same. differ (sym same))))
+            stated_apart before pairs u v differ (⊎_elim
+            (λ c. rw (i.2, j.2) at (cover (m, n) c))
+            (λ c. ⊎_elim inr inl (rw (j.2, i.2) at (cover (n, m) c)))
             (adds.each k p there e f at_x at_y m n missing (number_among e i.0 i.1)
-            (number_among f j.0 j.1))
+            (number_among f j.0 j.1)))
       ]
+
+  module _ (label : List ℕ) (move : IsNumberedMove st (name id) (name label)) where
+    shared : EachPair (take index st) (all_names_at st stack) label (meets label move)
+        (ShareNoVariable (take index st))
+    shared = each_pair one st index id is.at (label_ids scheme.hypotheses.now)
+        is.hypotheses.hypotheses label stack base
+        (variables_of scheme.hypotheses.now) (pairs_in scheme.pairs.now)
+        (ShareNoVariable (take index st))
+        (share_turned (take index st)) all called move paired typed is.pairs share
+
+    -- no rule that is judged before P12 is broken
+    unbroken : (other : ProofRule) → proof_rank other < proof_rank P12
+        → BreaksStep (IsWithin limit) other (take index st) (all_names_at st stack) label → ⊥
+    unbroken other less b =
+        below (IsWithin limit) (take index st) (all_names_at st stack) label (meets label move)
+        (allmeant_prefix st index all)
+        P12 (omega arith) (λ l. codes) (λ l. equal) (λ l. shared) other less b
 
   module _ (pairs : List (Symbol × Symbol)) (cover : Cover st new pairs) (label : List ℕ)
       (move : IsNumberedMove st (name id) (name label)) where
@@ -229,14 +250,6 @@ module _ (limit : ℕ) (one : OneNumber) (st : List Sentence) (index id : ℕ) (
         (AreDistinct (with_pairs (take index st) pairs))
         (apart_turned (with_pairs (take index st) pairs)) all called move paired typed is.pairs
         (apart_values pairs cover)
-
-    shared : EachPair (take index st) (all_names_at st stack) label (meets label move)
-        (ShareNoVariable (take index st))
-    shared = each_pair one st index id is.at (label_ids scheme.hypotheses.now)
-        is.hypotheses.hypotheses label stack base
-        (variables_of scheme.hypotheses.now) (pairs_in scheme.pairs.now)
-        (ShareNoVariable (take index st))
-        (share_turned (take index st)) all called move paired typed is.pairs share
 
     keeps : KeepsApart (with_pairs (take index st) pairs) (meets label move).index
         (meets label move).assertion
@@ -262,9 +275,7 @@ module _ (limit : ℕ) (one : OneNumber) (st : List Sentence) (index id : ℕ) (
         b.8 (apart b.1 b.2 b.3 b.4 pair (a.replacement b.1 ∙ b.6) (a.replacement b.2 ∙ b.7))
     within_limit L1 less b = absurd (omega arith)
     within_limit other less b =
-        below (IsWithin limit) (take index st) (all_names_at st stack) label (meets label move)
-        (allmeant_prefix st index all)
-        P12 (omega arith) (λ l. codes) (λ l. equal) (λ l. shared) other (omega (arith, less))
+        unbroken label move other (omega (arith, less))
         (breaks_fall (take index st) pairs (all_names_at st stack) label (IsWithin limit) other b)
 
   -- what the assertion says of the entries
@@ -326,7 +337,7 @@ module _ (limit : ℕ) (one : OneNumber) (st : List Sentence) (index id : ℕ) (
       )
 
   asked : (p : ℕ × ℕ) → Contains new p
-      → Contains old p ⊎ (IsLackingPair st index p × AsksFor st index id stack p)
+      → Contains old p ⊎ (IsLackingPair st index p × AsksFor limit st index id stack p)
   asked p has = elim (adds.only p has) [
     | inl c ↦ inl c
     | inr (missing, (k, q, there, (e, f, at_x, at_y, (in_e, in_f)))) ↦
@@ -350,17 +361,20 @@ module _ (limit : ℕ) (one : OneNumber) (st : List Sentence) (index id : ℕ) (
             second = variable_there st index p.1 all (all_at (IsSymbol st before) f j.0 p.1 sf j.1)
                 (named_variable st p.1 missing.second);
           },
-          λ label move. (
-            meets label move,
-            found.0,
-            found.1,
-            names_at st e,
-            names_at st f,
-            found.4,
-            value_at st σ vs es found.0 q.0 e replaces found.2 at_x,
-            value_at st σ vs es found.1 q.1 f replaces found.3 at_y,
-            (named_has st e p.0 in_e, named_has st f p.1 in_f),
-          ),
+          λ label move. record {
+            unbroken = unbroken label move;
+            asked = (
+              meets label move,
+              found.0,
+              found.1,
+              names_at st e,
+              names_at st f,
+              found.4,
+              value_at st σ vs es found.0 q.0 e replaces found.2 at_x,
+              value_at st σ vs es found.1 q.1 f replaces found.3 at_y,
+              (named_has st e p.0 in_e, named_has st f p.1 in_f),
+            );
+          },
         )
   ]
 
@@ -372,7 +386,6 @@ module _ (limit : ℕ) (one : OneNumber) (st : List Sentence) (index id : ℕ) (
       → StepsWith limit st index id old new stack left made
   concludes_with true left (within, is_left) = record {
     kept = adds.kept;
-    once = adds.once;
     asked = asked;
     outcome = subst (λ l. CarriesWith limit st index id new stack l) (sym is_left)
         (carries_with within);
@@ -387,7 +400,6 @@ module _ (limit : ℕ) (one : OneNumber) (st : List Sentence) (index id : ℕ) (
   }
   concludes_with false left (over, is_left) = record {
     kept = adds.kept;
-    once = adds.once;
     asked = asked;
     outcome = over_with over;
     entries = subst (AreStackEntries st (take index st)) (sym is_left) entries;

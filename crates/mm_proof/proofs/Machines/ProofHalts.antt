@@ -301,20 +301,13 @@ entry_told halt index step line maker there limit statements before s prefix mov
 
 -- ---- what a caller asks of a halt
 
--- as many lines as there are steps that passed, and as many makers as entries
+-- as many lines as there are steps that passed
 pub halted_lines : (limit : ℕ) (statements before : List Sentence) (s : Sentence) (prefix : Bool)
     (moves : List (Move (List ℕ))) (halt : Halt)
     → (h : HaltsProof limit statements before s prefix moves halt)
     → length halt.lines.items ≡ steps_in h.there.earlier
 halted_lines limit statements before s prefix moves halt h =
     sym (AllZip-long (TellsStep statements) halt.lines.items h.lines.0 h.lines.2) ∙ h.lines.1.count
-
-pub halted_makers : (limit : ℕ) (statements before : List Sentence) (s : Sentence) (prefix : Bool)
-    (moves : List (Move (List ℕ))) (halt : Halt)
-    → (h : HaltsProof limit statements before s prefix moves halt)
-    → length halt.makers.items ≡ length h.there.stack
-halted_makers limit statements before s prefix moves halt h =
-    ap length h.same_makers ∙ h.there.made.count
 
 module _ (limit : ℕ) (statements before : List Sentence) (s : Sentence)
     (moves : List (Move (List ℕ))) (halt : Halt) (rule : ProofRule) (step : ℕ)

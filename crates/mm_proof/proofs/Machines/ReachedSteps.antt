@@ -1,31 +1,20 @@
--- The steps that the last one is reached from, in one pass from it to the first.
-use Rattle.std.proofs.Common.{◌≡◌, ℕ, suc, ◌+◌, ◌-◌, ◌<◌, ◌≤◌, List, [], ◌∷◌, ◌++◌, length, take}
-use Rattle.std.proofs.Common.{drop, set, get_or, slice_get, slice_index_or, Contains, Some, Bool}
-use Rattle.std.proofs.Common.{true, false, ◌⊎◌, ◌↔◌, ◌≢◌, inl, inr, refl, sym, ap, subst, ◌∙◌}
+-- The steps that are reached from the last one, in one pass from it to the first.
+use Rattle.std.proofs.Common.{◌≡◌, ℕ, ◌+◌, ◌-◌, ◌<◌, ◌≤◌, List, [], ◌∷◌, ◌++◌, length}
+use Rattle.std.proofs.Common.{set, get_or, slice_get, slice_index_or, Contains, Some, Bool}
+use Rattle.std.proofs.Common.{true, false, ◌⊎◌, ◌↔◌, inl, inr, refl, sym, ap, subst, ◌∙◌}
 use Rattle.std.proofs.Common.{arith}
 use Rattle.std.proofs.Common.{All, Vec}
-use Rattle.std.proofs.lemmas.Bool.{cases_lt, false≢true}
+use Rattle.std.proofs.lemmas.Bool.{cases_eq, cases_lt, false≢true}
 use Rattle.std.proofs.lemmas.Option.{slice_get_within, slice_get-map, same_Some, slice_get_read}
 use Rattle.std.proofs.lemmas.Option.{get_or_from_slice_get}
-use Rattle.std.proofs.lemmas.List.Elements.{Contains-get_or}
+use Rattle.std.proofs.lemmas.List.Elements.{Contains-get_or, Contains-push}
 use Rattle.std.proofs.lemmas.Grind.{get_or-set_at}
 use Rattle.std.proofs.lemmas.List.{get_or-set_other, get_or_past, length-set}
 use Rattle.mm_text.proofs.Lists.{at_from_contains, contains_from_at, get_kept, pushed_cases}
-use Rattle.mm_text.proofs.Lists.{get_pushed}
 use Rattle.mm_proof.specs.Uses.{IsReached, AreReached, rows_of}
 use Rattle.mm_proof.specs.Mirror.StepUses.{IsAmong, AreEarlier, AreSet}
 
 -- ---- flags that are set
-
--- two numbers are equal or not
-cases_eq : (m n : ℕ) → (m ≡ n) ⊎ (m ≢ n)
-cases_eq m n = elim (cases_lt m n) [
-  | inl less ↦ inr (λ e. omega (arith, less, e))
-  | inr more ↦ elim (cases_lt n m) [
-    | inl less ↦ inr (λ e. omega (arith, less, e))
-    | inr same ↦ inl (omega (arith, more, same))
-  ]
-]
 
 -- a member of a list with one more is one of the list or the new one
 pub contains_pushed : {X : Type 0} (xs : List X) (x y : X) → Contains (xs ++ x ∷ []) y
@@ -42,10 +31,6 @@ pub contains_old : {X : Type 0} (xs : List X) (x y : X) → Contains xs y → Co
 contains_old xs x y is =
     let at = at_from_contains xs y is in
     contains_from_at (xs ++ x ∷ []) y (at.0, get_kept xs (x ∷ []) at.0 y at.1)
-
-pub contains_new : {X : Type 0} (xs : List X) (x : X) → Contains (xs ++ x ∷ []) x
-contains_new xs x =
-    contains_from_at (xs ++ x ∷ []) x (length xs, get_pushed xs x)
 
 -- no step
 pub set_none : (old : List Bool) → AreSet old old []
@@ -75,7 +60,7 @@ set_more old now used step was among = (
         → IsReached old index ⊎ Contains (used ++ step ∷ []) (index + 1)
     to index within is = elim (cases_eq index (step - 1)) [
       | inl same ↦ inr (subst (Contains (used ++ step ∷ [])) (omega (arith, same, among.0))
-          (contains_new used step))
+          (Contains-push used step))
       | inr apart ↦ elim ((was.1 index within).0
           (sym (get_or-set_other now (step - 1) index true false apart) ∙ is)) [
             | inl old_one ↦ inl old_one

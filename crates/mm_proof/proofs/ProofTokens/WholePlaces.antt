@@ -1,7 +1,7 @@
 -- Where a proof breaks a rule over the whole of it: its first label that is so, and the letter at
 -- which its letters break a rule. Clauses of `whole_place` rest on it.
 use Rattle.std.proofs.Common.{◌≡◌, ◌≢◌, ◌↔◌, ℕ, zero, suc, ◌+◌, ◌-◌, ◌*◌, ◌<◌, ◌≤◌, List, [], ◌∷◌}
-use Rattle.std.proofs.Common.{◌++◌, length, map, take, drop, get_or, slice_get, Contains, All}
+use Rattle.std.proofs.Common.{◌++◌, length, map, take, drop, get_or, slice_get, Contains}
 use Rattle.std.proofs.Common.{Option, Some, None, unwrap_or, ◌⊎◌, inl, inr, refl, sym, ap}
 use Rattle.std.proofs.Common.{subst, ◌∙◌, arith, flat_map, append_assoc, append-nil, Bool, true}
 use Rattle.std.proofs.Common.{false, IsTrue, if◌then◌else◌}
@@ -20,7 +20,7 @@ use Rattle.mm_code.specs.declared.code.Code.TheVariants.{Number, Tag}
 use Rattle.mm_code.specs.declared.code.CodeRule.TheVariants as code
 use Rattle.mm_code.specs.Letters.{Letters, SaysCode, IsSpelling, code_for, last_letter}
 use Rattle.mm_code.specs.Letters.{leading_letter, leading_value, IsLeadingDigit, IsLeadingLetter}
-use Rattle.mm_code.specs.Letters.{IsEndOrTag, LettersBreak, IsLetter}
+use Rattle.mm_code.specs.Letters.{IsEndOrTag, LettersBreak}
 use Rattle.mm_code.proofs.LetterFaults.{breaks_read}
 use Rattle.mm_code.proofs.ReadLetters.{is_read_again}
 use Rattle.mm_frame.specs.Sentence.{Sentence}
@@ -35,7 +35,7 @@ use Rattle.mm_proof.specs.declared.profile.Profile.{Profile}
 use Rattle.mm_proof.specs.declared.profile.Profile.TheVariants.{Strict, Lenient}
 use Rattle.mm_proof.specs.Plain.{token_texts}
 use Rattle.mm_proof.specs.Tokens.{IsNormal, IsCompressed, AreLabels, opening_token, closing_token}
-use Rattle.mm_proof.specs.Tokens.{is_question, is_unknown, AreLetters, BeginsList}
+use Rattle.mm_proof.specs.Tokens.{is_question, is_unknown, BeginsList}
 use Rattle.mm_proof.specs.KnownPrefix.{token_of, known_piece, known_tokens, known_text}
 use Rattle.mm_proof.specs.KnownPrefix.{known_prefix, begins_list, ends_list}
 use Rattle.mm_proof.specs.Proof.{BreaksWhole}
@@ -44,9 +44,9 @@ use Rattle.mm_proof.specs.WholePlaces.{IsLabelAt, IsFirstLabel, IsUnknownLabel, 
 use Rattle.mm_proof.specs.WholePlaces.{IsLetterAt, IsWholePlace}
 use Rattle.mm_proof.specs.Mirror.CodeSteps.{MayBeUsed, IsUseOf}
 use Rattle.mm_proof.specs.Mirror.CodeWhole.{AreLabelsFrom, IsBlamed, IsBegun, IsCutAt, IsByteOf}
-use Rattle.mm_proof.specs.Mirror.CodeWhole.{IsFaultIndex, BreakLetters}
+use Rattle.mm_proof.specs.Mirror.CodeWhole.{IsFaultIndex}
 use Rattle.mm_proof.proofs.ProofTokens.SaidMoves.{normal_or_compressed, compressed_once}
-use Rattle.mm_proof.proofs.ProofTokens.ProofLabels.{texts_more, text_at, prefix_all}
+use Rattle.mm_proof.proofs.ProofTokens.ProofLabels.{texts_more, prefix_all}
 use Rattle.mm_proof.proofs.ProofTokens.ProofLabels.{used_not_idle}
 
 -- ==== labels
@@ -133,14 +133,6 @@ joined_more pieces k d less =
 pub joined_all : (pieces : List Token) (k : ℕ) → length pieces ≤ k
     → joined (take k (token_texts pieces)) ≡ joined (token_texts pieces)
 joined_all pieces k all = ap joined (prefix_all (λ t. t.text.now) pieces k all)
-
--- the byte with an index stands in the piece
-pub byte_here : (pieces : List Token) (index left k : ℕ) (d : Token) → k < length pieces
-    → index ≡ length (joined (take k (token_texts pieces))) + left
-    → left < length (get_or pieces k d).text.now
-    → IsByteOf (token_texts pieces) index k left
-byte_here pieces index left k d less is within =
-    ((get_or pieces k d).text.now, text_at (λ t. t.text.now) pieces k d less, within, is)
 
 -- or behind it
 pub byte_behind : (pieces : List Token) (index left rest k : ℕ) (d : Token) → k < length pieces
@@ -452,18 +444,6 @@ place_of_label st at tokens rule base labels from index label there so none = ab
 
 -- ==== the tokens
 
--- no other rule is judged over the whole of a proof
-pub only_these : (before : List Sentence) (tokens : List (List ℕ)) (rule : ProofRule)
-    → rule ≢ P1 → rule ≢ P2 → rule ≢ P3 → rule ≢ P4 → rule ≢ P5 → rule ≢ P15
-    → BreaksWhole rule before tokens ⊎ (rule ≡ P15) → ⊥
-only_these before tokens P1 a b c d e f broken = a refl
-only_these before tokens P2 a b c d e f broken = b refl
-only_these before tokens P3 a b c d e f broken = c refl
-only_these before tokens P4 a b c d e f broken = d refl
-only_these before tokens P5 a b c d e f broken = e refl
-only_these before tokens rule a b c d e f (inl broken) = broken
-only_these before tokens rule a b c d e f (inr is) = f is
-
 -- a rule that is the first fault of all the tokens is broken, or it is P15
 pub broken_or_form : (profile : Profile) (before : List Sentence) (s : Sentence)
     (tokens : List (List ℕ)) (rule : ProofRule) → IsTextFault profile before s tokens rule
@@ -635,29 +615,6 @@ after_first [] begins = absurd (none-some opening_token begins)
 after_first (t ∷ tokens) begins =
     rw (take_rest (t ∷ tokens) 1)
     (ap (λ (l : List ℕ). l ∷ token_texts tokens) (same_Some t.text.now opening_token begins))
-
--- letters break one of two rules
-pub letters_broken : (before : List Sentence) (tokens : List (List ℕ)) (rule : ProofRule)
-    → (rule ≡ P4) ⊎ (rule ≡ P5) → BreaksWhole rule before tokens
-    → (text : List ℕ) × AreLetters tokens text × BreakLetters rule text
-letters_broken before tokens P4 is broken = broken
-letters_broken before tokens P5 is broken = broken
-letters_broken before tokens rule is broken = absurd (neither is)
-  where
-    neither : (rule ≡ P4) ⊎ (rule ≡ P5) → ⊥
-    neither (inl e) = cc
-    neither (inr e) = cc
-
--- where all bytes are letters none is at fault
-pub never_stray : (letters : List ℕ) → All IsLetter letters → LettersBreak code.P4 letters → ⊥
-never_stray letters all (k, x, less, is, stray) = stray (subst IsLetter is (all k x less))
-
--- the number that is begun can't be cut where P5 alone is judged
-pub only_cut : (rule : ProofRule) (letters : List ℕ) → rule ≢ P4 → BreakLetters rule letters
-    → (rule ≡ P5) × LettersBreak code.P5 letters
-only_cut P4 letters not broken = absurd (not refl)
-only_cut P5 letters not broken = (refl, broken)
-only_cut rule letters not broken = absurd broken
 
 -- the token of a letter is one of the tokens
 pub few_letters : (tokens : List Token) (labels letters : List (List ℕ))

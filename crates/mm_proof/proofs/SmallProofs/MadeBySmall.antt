@@ -8,7 +8,7 @@ use Rattle.mm_proof.specs.Moves.{Move, Makes}
 use Rattle.mm_proof.specs.BigSubtrees.{IsBig}
 use Rattle.mm_proof.specs.ChosenSharing.{IsWorthATag}
 use Rattle.mm_proof.specs.Sharing.{PairMakes}
-use Rattle.mm_proof.specs.SmallProofs.{IsByUse, IsSmall}
+use Rattle.mm_proof.specs.SmallProofs.{IsSmall}
 use Rattle.mm_proof.proofs.FullSharing.FewestKept.{few_kept}
 use Rattle.mm_proof.proofs.SmallProofs.WrittenSmallProofs.{by_use_makes}
 

@@ -23,6 +23,7 @@ use Rattle.mm_proof.proofs.ProofTokens.SaidMoves.{says_once}
 use Rattle.mm_proof.proofs.FullSharing.OneSharing.{shared_once}
 use Rattle.mm_proof.proofs.FullSharing.OneSharedProof.{same_mandatory, codes_once, once_joined}
 use Rattle.mm_proof.proofs.FullSharing.OneSharedProof.{mandatory_once}
+use Rattle.mm_proof.proofs.PackedProofs.ChosenSteps.{worth_big}
 use Rattle.mm_proof.proofs.PackedProofs.WrittenProofs.{label_in, shared_marks}
 use Rattle.mm_proof.proofs.SmallProofs.UsedLabels.{label_told}
 
@@ -183,12 +184,9 @@ by_use_strict P are_big before s trees listed codes p = (
       (shared_marks before P are_big trees p.moves p.shared),
 )
 
-pub worth_is_big : (t : Trees) → IsWorthATag t → IsBig t
-worth_is_big t h = omega arith
-
 pub small_is_strict_holds : SmallIsStrict
 small_is_strict_holds before s label below listed codes p =
     let trees : Trees = tree label below none in
     ⊎_elim
-    (λ a. by_use_strict IsWorthATag worth_is_big before s trees listed codes a.0)
+    (λ a. by_use_strict IsWorthATag worth_big before s trees listed codes a.0)
     (λ a. by_use_strict IsBig (λ t h. h) before s trees listed codes a.0) p

@@ -15,9 +15,10 @@ use Rattle.mm_proof.specs.Strict.{IsStrict}
 use Rattle.mm_proof.proofs.Members.{contains_in, in_contains}
 use Rattle.mm_proof.proofs.FullSharing.FewestSteps.{made_subtrees}
 use Rattle.mm_proof.proofs.FullSharing.OneSharedProof.{label_made, sub_label}
+use Rattle.mm_proof.proofs.PackedProofs.ChosenSteps.{worth_big}
 use Rattle.mm_proof.proofs.PackedProofs.WrittenProofs.{MakesKnown, IsProofBy, pair_proves}
 use Rattle.mm_proof.proofs.PackedProofs.WrittenProofs.{pair_is_strict, shared_marks}
-use Rattle.mm_proof.proofs.SmallProofs.OneSmallProof.{by_use_list, worth_is_big}
+use Rattle.mm_proof.proofs.SmallProofs.OneSmallProof.{by_use_list}
 
 module _ (before : List Sentence) (s : Sentence) (label : List ℕ) (below : Trees)
     (listed : List (List ℕ)) (codes : List Code) where
@@ -53,7 +54,7 @@ module _ (before : List Sentence) (s : Sentence) (label : List ℕ) (below : Tre
     small_text_is_strict = ⊎_elim
         (λ a. pair_is_strict before s trees listed codes letters pieces
         (by_use_makes IsWorthATag a.0) (by_use_list IsWorthATag before s trees listed codes a.0)
-        (shared_marks before IsWorthATag worth_is_big trees a.0.moves a.0.shared) coded joined
+        (shared_marks before IsWorthATag worth_big trees a.0.moves a.0.shared) coded joined
         apart)
         (λ a. pair_is_strict before s trees listed codes letters pieces
         (by_use_makes IsBig a.0) (by_use_list IsBig before s trees listed codes a.0)

@@ -8,16 +8,18 @@ use Rattle.mm_proof.specs.declared.fault.ProofRule.{ProofRule}
 use Rattle.mm_proof.specs.declared.fault.ProofRule.TheVariants.{P12}
 use Rattle.mm_proof.specs.Substitution.{Symbol}
 use Rattle.mm_proof.specs.Moves.{Move, name}
-use Rattle.mm_proof.specs.Proof.{IsWithin, Passed, FirstAtMove, SomeReplacedPair}
+use Rattle.mm_proof.specs.Proof.{IsWithin, Passed, FirstAtMove, SomeReplacedPair, BreaksStep}
+use Rattle.mm_proof.specs.Proof.{proof_rank}
 use Rattle.mm_proof.specs.Steps.{IsNumberedMove, AreNumberedMoves}
 use Rattle.mm_proof.specs.Lacking.{with_pairs, PassElsewhere, AskApart}
 use Rattle.mm_proof.specs.Mirror.CodeVerify.{name_at, all_names_at, AreStackEntries}
 use Rattle.mm_proof.specs.Mirror.CodeVerify.{EachPairValues, SomePairValues}
-use Rattle.mm_proof.specs.Mirror.CodeAsked.{IsMissingPair, HasEither, EitherOnce, number_pairs}
+use Rattle.mm_proof.specs.Mirror.CodeAsked.{IsMissingPair, HasEither, number_pairs}
+use Rattle.mm_proof.specs.Mirror.CodeAsked.{ArePutInOrder}
 use Rattle.mm_proof.specs.Mirror.Sites.{ProofSite}
 use Rattle.mm_proof.specs.declared.lacking.Seeker.{Seeker}
 
--- the missing pairs of the variables of two expressions were put behind the others
+-- the missing pairs of the variables of two expressions were put among the others
 pub record AddsBetween (statements : List Sentence) (index : ℕ) (e f : List ℕ)
     (old new : List (ℕ × ℕ)) : Type 0 where
   pub kept : (p : ℕ × ℕ) → Contains old p → Contains new p
@@ -26,7 +28,6 @@ pub record AddsBetween (statements : List Sentence) (index : ℕ) (e f : List �
       ⊎ (IsMissingPair statements index p.0 p.1 × Contains e p.0 × Contains f p.1)
   pub each : (m n : ℕ) → IsMissingPair statements index m n → Contains e m → Contains f n
       → HasEither new (m, n)
-  pub once : EitherOnce old → EitherOnce new
 
 -- the missing pairs of what replaces the members of each of these pairs were
 pub record AddsLacking (statements : List Sentence) (index : ℕ) (σ : ℕ → Option (List ℕ))
@@ -39,13 +40,13 @@ pub record AddsLacking (statements : List Sentence) (index : ℕ) (σ : ℕ → 
   pub each : EachPairValues σ pairs (λ e f.
       (m n : ℕ) → IsMissingPair statements index m n → Contains e m → Contains f n
       → HasEither new (m, n))
-  pub once : EitherOnce old → EitherOnce new
 
--- the pairs of names have those of the numbers
+-- the pairs of names have those of the numbers, in one order or the other
 abbrev pub Cover : List Sentence → List (ℕ × ℕ) → List (Symbol × Symbol) → Type 0
 Cover statements numbers pairs =
     (p : ℕ × ℕ) → Contains numbers p
     → Contains pairs (name_at statements p.0, name_at statements p.1)
+    ⊎ Contains pairs (name_at statements p.1, name_at statements p.0)
 
 -- with a `$d` for each of these pairs, the step by the label with a number carries passed moves on
 abbrev pub CarriesWith : (limit : ℕ) → List Sentence → (index id : ℕ) → (lacking : List (ℕ × ℕ))
@@ -76,22 +77,30 @@ pub record IsLackingPair (statements : List Sentence) (index : ℕ) (p : ℕ × 
   pub first : IsVariable (take index statements) (name_at statements p.0)
   pub second : IsVariable (take index statements) (name_at statements p.1)
 
--- the step by the label with a number asks the pair to be active
-abbrev pub AsksFor : List Sentence → (index id : ℕ) → (stack : List (List ℕ)) → ℕ × ℕ → Type 0
-AsksFor statements index id stack p =
+-- the step by the label breaks no rule that is judged before P12, and asks the pair to be active
+pub record AsksForPair (limit : ℕ) (statements : List Sentence) (index : ℕ)
+    (stack : List (List ℕ)) (p : ℕ × ℕ) (label : List ℕ) : Type 0 where
+  pub unbroken : (other : ProofRule) → proof_rank other < proof_rank P12
+      → ¬ (BreaksStep (IsWithin limit) other (take index statements)
+      (all_names_at statements stack) label)
+  pub asked : SomeReplacedPair (take index statements) (all_names_at statements stack) label
+      (λ e f. Contains e (name_at statements p.0) × Contains f (name_at statements p.1))
+
+-- the step by the label with a number does
+abbrev pub AsksFor : (limit : ℕ) → List Sentence → (index id : ℕ) → (stack : List (List ℕ))
+    → ℕ × ℕ → Type 0
+AsksFor limit statements index id stack p =
     (label : List ℕ) → IsNumberedMove statements (name id) (name label)
-    → SomeReplacedPair (take index statements) (all_names_at statements stack) label
-    (λ e f. Contains e (name_at statements p.0) × Contains f (name_at statements p.1))
+    → AsksForPair limit statements index stack p label
 
 -- The step by the label with a number was made, or it breaks another rule than P12; the pairs that
--- it lacks were put behind the others.
+-- it lacks were put among the others.
 pub record StepsWith (limit : ℕ) (statements : List Sentence) (index id : ℕ)
     (lacking lacking' : List (ℕ × ℕ)) (old new : List (List ℕ)) (made : Bool) : Type 0 where
   pub kept : (p : ℕ × ℕ) → Contains lacking p → Contains lacking' p
-  pub once : EitherOnce lacking → EitherOnce lacking'
   pub asked : (p : ℕ × ℕ) → Contains lacking' p
       → Contains lacking p
-      ⊎ (IsLackingPair statements index p × AsksFor statements index id old p)
+      ⊎ (IsLackingPair statements index p × AsksFor limit statements index id old p)
   pub outcome : MatchBool
       made
       (CarriesWith limit statements index id lacking' old new)
@@ -121,7 +130,6 @@ StoppedWith site lacking prefix =
 -- the pairs differ, and each is asked for by a step of the moves
 pub record AreFound (site : ProofSite) (lacking : List (ℕ × ℕ)) (prefix : List (Move ℕ)) : Type 0
   where
-    pub once : EitherOnce lacking
     pub variables : (p : ℕ × ℕ) → Contains lacking p
         → IsLackingPair site.statements site.index p
     pub asked :
@@ -147,7 +155,7 @@ pub record HasSought {S : Type 0} (stack kept : S → List (List ℕ)) (first no
       → StoppedWith first.table.now.site (number_pairs now.lacking.now.items) prefix
   pub few : now.kept ≤ length prefix
 
--- these are the pairs that the moves lack, whatever names they stand for
+-- these are pairs that the moves lack, whatever names they stand for
 abbrev pub AreLackingNumbers : ProofSite → (lacking : List (ℕ × ℕ)) → (steps : List (Move ℕ))
     → Type 0
 AreLackingNumbers site lacking steps =
@@ -156,3 +164,9 @@ AreLackingNumbers site lacking steps =
     → (moves : List (Move (List ℕ))) → AreNumberedMoves site.statements steps moves
     → PassElsewhere (IsWithin site.limit) (with_pairs (take site.index site.statements) pairs)
     moves)
+
+-- those pairs, in order
+abbrev pub AreLackingInOrder : ProofSite → (lacking : List (ℕ × ℕ)) → (steps : List (Move ℕ))
+    → Type 0
+AreLackingInOrder site lacking steps =
+    (found : List (ℕ × ℕ)) × AreLackingNumbers site found steps × ArePutInOrder found lacking

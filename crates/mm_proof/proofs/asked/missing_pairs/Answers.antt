@@ -1,9 +1,9 @@
 use Rattle.std.proofs.Common.{subst}
 use Rattle.std.proofs.lemmas.Result.{IfOk-weaker}
 use Rattle.mm_proof.specs.Stores.{numbers_in}
-use Rattle.mm_proof.specs.Mirror.CodeAsked.{AreMissingNumbers, number_pairs}
+use Rattle.mm_proof.specs.Mirror.CodeAsked.{AreMissingInOrder, number_pairs}
 use Rattle.mm_proof.proofs.ByNumbers.NumberedLabels.{one_index}
-use Rattle.mm_proof.proofs.ByNumbers.ListedVariables.{missing_named}
+use Rattle.mm_proof.proofs.ByNumbers.NamedVariables.{missing_named}
 use Rattle.mm_proof.proofs.asked.missing_pairs.Goals as goal
 
 pub returns : goal.returns
@@ -16,7 +16,7 @@ returns c = record {
       proof.numbered in
       missing_named c.one_number.ensures st index c.frame-own.ensures.sound.0 _ _ x y at_e at_f
       first second missing.items
-      (subst (λ at. AreMissingNumbers st at (numbers_in c.args.e.now) (numbers_in c.args.f.now)
+      (subst (λ at. AreMissingInOrder st at (numbers_in c.args.e.now) (numbers_in c.args.f.now)
       (number_pairs missing.items)) same are))
       c.missing_numbers.ensures;
 }

@@ -1,5 +1,5 @@
 use Rattle.std.proofs.lemmas.Result.{IfOk-weaker}
-use Rattle.mm_proof.proofs.ByNumbers.ListedVariables.{shared_named}
+use Rattle.mm_proof.proofs.ByNumbers.NamedVariables.{shared_named}
 use Rattle.mm_proof.proofs.asked.shared_variables.Goals as goal
 
 pub returns : goal.returns

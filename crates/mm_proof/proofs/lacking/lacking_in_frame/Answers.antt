@@ -1,5 +1,5 @@
 use Rattle.std.proofs.Common.{ap}
-use Rattle.std.proofs.lemmas.Result.{IfOk-weaker}
+use Rattle.mm_proof.specs.Mirror.CodeAsked.{number_pairs}
 use Rattle.mm_proof.specs.Mirror.Sites.{CodeSite}
 use Rattle.mm_proof.proofs.Machines.JudgedMoves.{steps_made}
 use Rattle.mm_proof.proofs.LackingPairs.LackingMoves.{lacking_named}
@@ -11,11 +11,16 @@ lacking_of_codes-requires-clause-usable g c =
     let own = rw same at c.expression-own.ensures.site in
     steps_made _ _ _ _ own.s own.sound.0 c.requires.steps own.proof.numbered
 
+pub put_in_order-requires : goal.put_in_order-requires
+put_in_order-requires g c p has = (c.in_ok-lacking.ensures.0.variables p has).missing.differ
+
 pub returns : goal.returns
 returns g c =
     let same = ap (λ (t : CodeSite). t.site) c.table.view_is in
     let own = rw same at c.expression-own.ensures.site in
-    IfOk-weaker c.lacking_of_codes.result _ _ (λ lacking are.
-    lacking_named c.one_number.ensures c.args.table.now.site own.s _ lacking.items own.sound.0
-    own.proof.numbered are)
-    c.lacking_of_codes.ensures
+    lacking_named c.one_number.ensures c.args.table.now.site own.s _
+    c.put_in_order.new.pairs.items own.sound.0 own.proof.numbered (
+      number_pairs c.in_ok-lacking.lacking.items,
+      c.in_ok-lacking.ensures,
+      c.put_in_order.ensures,
+    )

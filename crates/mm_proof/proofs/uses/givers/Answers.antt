@@ -1,9 +1,9 @@
-use Rattle.std.proofs.Common.{List, ℕ, ap, subst, sym, ◌∙◌}
+use Rattle.std.proofs.Common.{List, ℕ, subst, sym, ◌∙◌}
 use Rattle.std.proofs.lemmas.Bool.{false≢true}
 use Rattle.std.proofs.lemmas.List.{take_all}
 use Rattle.mm_frame.specs.Frame.{AreThose}
 use Rattle.mm_proof.specs.Mirror.StepUses.{sources_of, IsAskedOf}
-use Rattle.mm_proof.proofs.Machines.StepUses.{givers_more, givers_skipped}
+use Rattle.mm_proof.proofs.Machines.StepGivers.{givers_more, givers_skipped}
 use Rattle.mm_proof.proofs.uses.givers.Goals.{then-is_asked+in_ok-push, else-is_asked}
 use Rattle.mm_proof.proofs.uses.givers.Goals as goal
 

@@ -10,7 +10,7 @@ use Rattle.mm_proof.specs.Mirror.Sites.{CodeSite}
 use Rattle.mm_proof.specs.Mirror.CodeLines.{AreLinesAt}
 use Rattle.mm_proof.specs.Mirror.CodeRun.{MayBeMade}
 use Rattle.mm_proof.proofs.Machines.JudgedMoves.{refused, judged_none, stopped_fault, first_up_to}
-use Rattle.mm_proof.proofs.Machines.ListedLines.{lists_none, listed_run}
+use Rattle.mm_proof.proofs.Machines.ListedLines.{lists_none}
 use Rattle.mm_proof.proofs.Machines.StackMakers.{same_makers}
 use Rattle.mm_proof.proofs.Machines.StepUses.{links_none}
 use Rattle.mm_proof.proofs.uses.link_codes.Goals as goal

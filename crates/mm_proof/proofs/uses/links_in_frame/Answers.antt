@@ -1,4 +1,4 @@
-use Rattle.std.proofs.Common.{rules, ◌≡◌, ◌+◌, List, ℕ, length, Err, ap, sym, subst, ◌∙◌, vec_len}
+use Rattle.std.proofs.Common.{rules, ◌≡◌, ◌+◌, length, Err, ap, subst, ◌∙◌, vec_len}
 use Rattle.std.proofs.lemmas.Result.{err_from_is_err_and}
 use Rattle.mm_frame.proofs.Names.LabelNumbers.{numbered_unique}
 use Rattle.mm_proof.specs.Uses.{rows_of}

@@ -1,4 +1,4 @@
-use Rattle.std.proofs.Common.{List, ℕ, get_or, set, true, ◌-◌, sym, subst}
+use Rattle.std.proofs.Common.{get_or, set, true, ◌-◌, sym, subst}
 use Rattle.std.proofs.lemmas.List.{take_all, take_more}
 use Rattle.mm_proof.specs.Mirror.StepUses.{AreSet}
 use Rattle.mm_proof.proofs.Machines.ReachedSteps.{set_none, set_more}

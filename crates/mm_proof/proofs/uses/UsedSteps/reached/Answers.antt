@@ -1,10 +1,9 @@
 use Rattle.std.proofs.Common.{◌≡◌, ℕ, ◌+◌, ◌-◌, ◌<◌, List, [], length, slice_get, Some, arith, refl}
-use Rattle.std.proofs.Common.{vec_len, All, rules, ap, sym, subst, ◌∙◌}
+use Rattle.std.proofs.Common.{vec_len, rules, ap, sym, subst, ◌∙◌}
 use Rattle.std.proofs.lemmas.Bool.{false≢true}
 use Rattle.std.proofs.lemmas.List.{length-map}
 use Rattle.std.proofs.lemmas.Option.{slice_get_read, none-some}
 use Rattle.mm_proof.specs.Uses.{rows_of}
-use Rattle.mm_proof.specs.Mirror.StepUses.{IsAmong, AreSet}
 use Rattle.mm_proof.proofs.Machines.ReachedSteps.{HasReached, reached_root, reached_skipped}
 use Rattle.mm_proof.proofs.Machines.ReachedSteps.{reached_more, reached_all, row_there, row_among}
 use Rattle.mm_proof.proofs.Machines.ReachedSteps.{flag_read}
