@@ -16,7 +16,8 @@ use Rattle.mm_check.specs.declared.breach.Breach.{Breach}
 use Rattle.mm_check.specs.declared.rule.Rule.{Rule}
 use Rattle.mm_check.specs.declared.rule.Rule.TheVariants as rules
 use Rattle.mm_check.specs.Explained.{Detail, token_at_fault, detail_text, details_text, block_opened}
-use Rattle.mm_check.specs.MeaningFacts.{AreEarlierFacts, AreMeaningFacts, token_at, token_place}
+use Rattle.mm_check.specs.MeaningFacts.{AreEarlierFacts, AreMeaningFacts, token_at}
+use Rattle.mm_check.specs.Places.{token_place}
 use Rattle.mm_check.specs.MeaningFacts.{last_looked_at, last_met, looked_at, looked_at_within}
 use Rattle.mm_check.specs.MeaningFacts.{met_as, met_facts}
 use Rattle.mm_check.specs.Mirror.Breaches.{IsBreach, IsBroken, IsStopped, Site}

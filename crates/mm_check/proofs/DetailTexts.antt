@@ -18,6 +18,7 @@ use Rattle.mm_check.specs.Answer.{labels_at}
 use Rattle.mm_frame.proofs.Names.LabelNumbers.{one_number_holds}
 use Rattle.mm_check.specs.Explained.{symbol_at, difference, expression_line, difference_line}
 use Rattle.mm_check.specs.Explained.{but_given_text, asks_text, detail_text, hypothesis_asks}
+use Rattle.mm_check.specs.Explained.{mark_text}
 
 -- ---- parts, one behind the other
 
@@ -32,6 +33,22 @@ three_parts out a b c o₁ o₂ o₃ h₁ h₂ h₃ = rw (h₃, h₂, h₁) (sim
 pub five_parts : (out a b c d e o₁ o₂ o₃ : List ℕ) → o₁ ≡ out ++ (a ++ b ++ c) → o₂ ≡ o₁ ++ d
     → o₃ ≡ o₂ ++ e → o₃ ≡ out ++ (a ++ b ++ c ++ d ++ e)
 five_parts out a b c d e o₁ o₂ o₃ h₁ h₂ h₃ = rw (h₃, h₂, h₁) (simp append_assoc)
+
+pub mark_parts : (out a b c d e o₁ o₂ o₃ : List ℕ) → o₁ ≡ out ++ a → o₂ ≡ o₁ ++ b
+    → o₃ ≡ o₂ ++ (c ++ d ++ e) → o₃ ≡ out ++ (a ++ b ++ c ++ d ++ e)
+mark_parts out a b c d e o₁ o₂ o₃ h₁ h₂ h₃ = rw (h₃, h₂, h₁) (simp append_assoc)
+
+-- the number of a mark, where it is told and where it isn't
+pub mark_told : (index : ℕ) → index < 999999999 → mark_text (index + 1) ≡ decimal (index + 1)
+mark_told index less =
+    let is : nat_lt (index + 1) 1000000000 ≡ true = grind (arith, nat_tests) in rw is refl
+
+pub mark_untold : (index : ℕ) → 999999999 ≤ index
+    → mark_text (index + 1) ≡ codes "1000000000 or a later one"
+mark_untold index most =
+    let is : nat_lt (index + 1) 1000000000 ≡ false = grind (arith, nat_tests) in rw is refl
+
+pub ruleset mark_numbers = (mark_told, mark_untold)
 
 -- the words in the middle are those that are named so
 pub three_groups : (out a b c d e f g x y o₁ o₂ o₃ : List ℕ) → x ≡ d → y ≡ f

@@ -2,7 +2,7 @@
 use Rattle.std.proofs.Common.{◌≡◌, ℕ, ◌-◌, ◌<◌, ◌≤◌, List, [], ◌∷◌, ◌++◌, map, take}
 use Rattle.std.proofs.Common.{filter, flat_map, length, length-append, append_assoc, append-nil}
 use Rattle.std.proofs.Common.{not}
-use Rattle.std.proofs.Common.{Bool, true, false, Some, refl, sym, ap, subst, ◌∙◌, arith}
+use Rattle.std.proofs.Common.{Bool, true, false, Option, Some, refl, sym, ap, subst, ◌∙◌, arith}
 use Rattle.std.proofs.Common.{inl, inr, slice_get, ◌&&◌, ◌==◌, codes, decimal}
 use denote.Ref.{Bor}
 use Rattle.std.specs.List.{AllByRecursion, AllZip, sum_by}
@@ -33,14 +33,18 @@ use Rattle.mm_check.specs.Answer.{plain_refusal}
 use Rattle.mm_check.specs.Why.{IsExplanation, IsLastExplanation, TellsFaults, is_of_proofs}
 use Rattle.mm_check.specs.Why.{most_explained, head_text, IsFaultPlace}
 use Rattle.mm_check.specs.Why.{more_text, count_text}
-use Rattle.mm_check.specs.Explained.{IsTokensFault, Detail, AreDetails, details_text}
+use Rattle.mm_check.specs.Explained.{IsTokensFault, Detail, AreDetails, detail_text, details_text}
 use Rattle.mm_check.specs.Faults.{HaveFaults}
+use Rattle.mm_check.specs.Later.{IsUnknownIn, stated_later}
 use Rattle.mm_check.specs.Reply.{refusal_status}
 use Rattle.mm_check.specs.declared.judge.Judged.{Judged}
 use Rattle.mm_check.specs.declared.judge.Judged.TheVariants.{Faulty}
 use Rattle.mm_check.specs.Mirror.Visits.{IsMet, refusals_in}
 use Rattle.mm_check.specs.declared.rule.Rule.TheVariants as rules
-use Rattle.mm_check.specs.Mirror.Reasons.{IsRefusedLast, AreExplained, Notes, HasExplained}
+use Rattle.mm_check.specs.Mirror.Reasons.{IsRefusedLast, IsExplainedBut, AreExplained, Notes}
+use Rattle.mm_check.specs.Mirror.Reasons.{HasExplained}
+use Rattle.mm_check.specs.Mirror.Standing.{IsPlaced}
+use Rattle.mm_check.specs.HypothesisPlaces.{AreHypothesisPlaces}
 use Rattle.mm_check.specs.declared.why.Reasons.{Reasons}
 use Rattle.mm_check.proofs.Verdicts.AcceptedStatements.{proof_fits}
 use Rattle.mm_check.proofs.Verdicts.JudgedProofs.{prefix_of}
@@ -62,6 +66,13 @@ some_more count some =
     let other : (count == 0) ≡ false =
     false_from_ne_true (count == 0) (λ e. some (eqb-true count 0 e)) in
     rw other refl
+
+-- head, facts, and places
+pub explanation_told : (out head : List ℕ) (details places : List Detail) (o₁ o₂ o₃ : List ℕ)
+    → o₁ ≡ out ++ head → o₂ ≡ o₁ ++ details_text details → o₃ ≡ o₂ ++ details_text places
+    → o₃ ≡ out ++ (head ++ details_text (details ++ places))
+explanation_told out head details places o₁ o₂ o₃ h₁ h₂ h₃ =
+    rw (h₃, h₂, h₁, flat_map-append detail_text details places) (simp append_assoc)
 
 -- ==== the `$p` that a book took last
 
@@ -144,6 +155,16 @@ place_of_same profile s {before} {others} {rule} {broken} {step} {number} f g h 
     (subst (λ n. IsFaultPlace profile before s broken n at) g
     (subst (λ r. IsFaultPlace profile before s r step at) f place))
 
+-- so is the label that it breaks P2 at
+unknown_of : {before others : List Sentence} {tokens texts : List (List ℕ)}
+    {rule broken : ProofRule} → tokens ≡ texts → rule ≡ broken → before ≡ others
+    → (label : Option (List ℕ)) → IsUnknownIn before tokens rule label
+    → IsUnknownIn others texts broken label
+unknown_of {before} {others} {tokens} {texts} {rule} {broken} e f h label unknown =
+    subst (λ ss. IsUnknownIn ss texts broken label) h
+    (subst (λ r. IsUnknownIn before texts r label) f
+    (subst (λ ts. IsUnknownIn before ts rule label) e unknown))
+
 module _ {profile : Profile} {files : List PlainFile} {told : List Sentence} {s : PlainStatement}
     {refusal : PlainRefusal} (r : IsRefusedLast profile files told s refusal) where
   -- what the statements before it say, and what it says, is all that is told
@@ -156,6 +177,28 @@ module _ {profile : Profile} {files : List PlainFile} {told : List Sentence} {s 
   proof_in_room tokens same =
       rw same (proof_fits files (r.before ++ s ∷ r.after) r.ending (length r.before) s r.readable
       r.reads (get_parted r.before r.after s))
+
+  -- where it stands
+  abbrev pub refused_place : (id count : ℕ) → count ≡ refusal.statement - 1
+      → IsProofNumber told id (length (sentences r.before)) (sentence_of s)
+      → IsPlaced files told id count
+  refused_place id count is mine =
+      let said = ap (λ (x : PlainRefusal). x.statement) r.refused.refused in
+      let counted : length r.before ≡ count = omega (arith, said, is) in
+      record {
+        readable = r.readable;
+        site = record {
+          before = r.before;
+          s = s;
+          after = r.after;
+          ending = r.ending;
+          reads = r.reads;
+          counted = counted;
+        };
+        told = told_parts;
+        number = subst (λ (n : ℕ). IsProofNumber told id n (sentence_of s))
+            (length-map r.before sentence_of ∙ counted) mine;
+      }
 
   -- its number is one, and so what is said of the `$p` with the number is said of it
   module _ (id : ℕ) (mine : IsProofNumber told id (length (sentences r.before)) (sentence_of s))
@@ -190,28 +233,57 @@ module _ {profile : Profile} {files : List PlainFile} {told : List Sentence} {s 
           → (details : List Detail)
           → AreDetails profile (take (length (sentences r.before)) told) (sentence_of s) tokens rule
           step details
-          → IsExplanation profile files refusal
-          (head_text files place refusal ++ details_text details)
-      explained_there tokens same rule step one at place stands details facts =
+          → (places : List Detail) → AreHypothesisPlaces files r.before s rule step places
+          → (label : Option (List ℕ))
+          → IsUnknownIn (take (length (sentences r.before)) told) tokens rule label
+          → IsExplainedBut profile files told s refusal label
+          (head_text files place refusal ++ details_text (details ++ places))
+      explained_there tokens same rule step one at place stands details facts places stand label
+          unknown =
           let told_rule : rules.Proof rule ≡ rules.Proof r.refused.rule =
           one ∙ ap (λ (x : PlainRefusal). x.rule) r.refused.refused in
           let told_step : step ≡ r.refused.step =
           at ∙ ap (λ (x : PlainRefusal). x.step) r.refused.refused in
           let same_rule : rule ≡ r.refused.rule = cc told_rule in
-          let earlier = prefix_of told (sentences r.before) (sentence_of s) told_parts in
-          record {
-            before = r.before;
-            s = s;
-            after = r.after;
-            ending = r.ending;
-            reads = r.reads;
-            refused = r.refused;
-            details = details;
-            at = place;
-            place = place_of_same profile s same_rule told_step earlier place stands;
-            facts = facts_of profile (sentence_of s) same same_rule told_step earlier details facts;
-            said = refl;
-          }
+          let earlier = prefix_of told (sentences r.before) (sentence_of s) told_parts in (
+            r,
+            record {
+              before = r.before;
+              s = s;
+              after = r.after;
+              ending = r.ending;
+              reads = r.reads;
+              refused = r.refused;
+              details = details;
+              at = place;
+              place = place_of_same profile s same_rule told_step earlier place stands;
+              facts = facts_of profile (sentence_of s) same same_rule told_step earlier details
+                  facts;
+              places = places;
+              stand = subst
+                  (λ (n : ℕ). AreHypothesisPlaces files r.before s r.refused.rule n places)
+                  told_step
+                  (subst (λ (b : ProofRule). AreHypothesisPlaces files r.before s b step places)
+                  same_rule stand);
+              label = label;
+              unknown = unknown_of same same_rule earlier label unknown;
+              said = refl;
+            },
+          )
+
+-- the label that is stated further down is told behind it
+pub explained_later : {profile : Profile} {files : List PlainFile} {told : List Sentence}
+    {s : PlainStatement} {refusal : PlainRefusal} (label : Option (List ℕ)) (text : List ℕ)
+    (b : IsExplainedBut profile files told s refusal label text) (old middle new : List ℕ)
+    → middle ≡ old ++ text
+    → new ≡ middle ++ details_text (stated_later files label b.0.after)
+    → (whole : List ℕ) × IsExplanation profile files refusal whole × (new ≡ old ++ whole)
+explained_later {files} label text (r, explains) old middle new first put =
+    let later : List ℕ = details_text (stated_later files label r.after) in (
+      text ++ later,
+      explains,
+      put ∙ ap (λ m. m ++ later) first ∙ append_assoc old text later,
+    )
 
 -- ==== the refusals that are kept
 
@@ -290,6 +362,7 @@ noted profile files first old new taken listed told s refusal met notes seen =
           (λ short. rw (seen.same_profile, seen.same_files)
           at (notes.few (omega (arith, many, short))))
           (λ long. ap (λ t. t.items) (notes.many (omega (arith, many, long)))) seen.explained;
+      labels = rw seen.same_files at notes.labels;
     }
 
 -- what isn't at fault changes nothing
@@ -306,6 +379,7 @@ passed_over profile files first now taken listed s judged sound seen =
       same_files = seen.same_files;
       kept = seen.kept;
       explained = seen.explained;
+      labels = seen.labels;
     })
 
 -- ==== the whole text

@@ -7,7 +7,7 @@ use Rattle.std.proofs.Common.{◌∙◌, subst, arith, length-append, append_ass
 use Rattle.std.proofs.lemmas.List.{map-append}
 use Rattle.std.proofs.lemmas.List.Elements.{filter-append}
 use Rattle.mm_text.specs.declared.fault.TextRule.{TextRule}
-use Rattle.mm_text.specs.declared.fault.TextRule.TheVariants.{X3, S6}
+use Rattle.mm_text.specs.declared.fault.TextRule.TheVariants.{S6}
 use Rattle.mm_text.specs.Token.{PlainToken}
 use Rattle.mm_text.specs.Statement.{PlainStatement}
 use Rattle.mm_text.specs.Blocks.{is_closing}
@@ -24,11 +24,10 @@ use Rattle.mm_check.specs.declared.rule.Rule.TheVariants as rules
 use Rattle.mm_check.specs.Explained.{Detail, token_at_fault, detail_text, details_text}
 use Rattle.mm_check.specs.Near.{IsLabelIn, IsLabelOf}
 use Rattle.mm_check.specs.Places.{bytes_of}
-use Rattle.mm_check.specs.TextFacts.{AreOrigins, AreTextFacts, IsLastOpening, blocks_closed}
-use Rattle.mm_check.specs.TextFacts.{closing_tokens, comments_begun, label_before, last_of}
-use Rattle.mm_check.specs.TextFacts.{statements_begun, token_from}
-use Rattle.mm_check.specs.Mirror.Last.{BeginsComment, EndsRun, IsReading, IsSearching, ReadsOn}
-use Rattle.mm_check.specs.Mirror.Last.{TellsOrigins}
+use Rattle.mm_check.specs.TextFacts.{AreOrigins, AreTextFacts, blocks_closed, closing_tokens}
+use Rattle.mm_check.specs.TextFacts.{files_up_to, last_of, places_begun, token_from, unclosed_in}
+use Rattle.mm_check.specs.Mirror.Last.{EndsRun, IsBegin, IsListing, IsReading, IsSearching}
+use Rattle.mm_check.specs.Mirror.Last.{ReadsOn, TellsOrigins}
 use Rattle.mm_check.proofs.NearLabels.{name_kept}
 use Rattle.mm_check.proofs.Verdicts.FaultLists.{meant_more}
 
@@ -156,42 +155,22 @@ TellsAll files refusal old new =
     (statements : List PlainStatement) (fault : PlainFault) → Reads files statements (Some fault)
     → refusal ≡ text_refusal files fault → TellsOrigins files statements fault old new
 
--- a fault of another rule stands in a statement
+-- a fault of another rule stands in what isn't closed before it
 other_origins : (files : List PlainFile) (statements : List PlainStatement) (fault : PlainFault)
-    (rule : TextRule) (details : List Detail) → ¬ (rule ≡ X3) → ¬ (rule ≡ S6)
-    → details ≡ statements_begun files (label_before fault.label fault.file fault.at)
+    (rule : TextRule) (details : List Detail) → ¬ (rule ≡ S6)
+    → (earlier : List PlainStatement) × (ending : Option PlainFault)
+    × Reads (files_up_to files fault.file fault.at) earlier ending
+    × (details ≡ places_begun files fault.file (unclosed_in fault.file ending))
     → AreOrigins files statements fault rule details
-other_origins files statements fault X3 details comment block e = absurd (comment refl)
-other_origins files statements fault S6 details comment block e = absurd (block refl)
-other_origins files statements fault rule details comment block e = e
+other_origins files statements fault S6 details block e = absurd (block refl)
+other_origins files statements fault rule details block e = e
 
 module _ {T E : Type 0} (files : List PlainFile) (refusal : PlainRefusal) (old new : List ℕ) where
-  -- for X3 the comment
-  pub comment_told : (r : Result T E) → refusal.rule ≡ rules.Text X3
-      → OnOk r (BeginsComment files refusal.file refusal.at old new)
-      → OnOk r (TellsAll files refusal old new)
-  comment_told (Err e) is begins = tt
-  comment_told (Ok v) is begins = λ statements fault reads refused.
-      let told : rules.Text fault.rule ≡ rules.Text X3 =
-      ap (λ (p : PlainRefusal). p.rule) (sym refused) ∙ is in
-      let rule : fault.rule ≡ X3 = cc told in
-      let last = subst
-      (λ (p : PlainRefusal). IsLastOpening (take p.at (bytes_of files p.file)) begins.begin) refused
-      begins.last in
-      record {
-        details = comments_begun files fault.file begins.begin;
-        begun = subst (λ (t : TextRule). AreOrigins files statements fault t
-            (comments_begun files fault.file begins.begin)) (sym rule) (begins.begin, last, refl);
-        put = begins.put
-            ∙ ap (λ (p : PlainRefusal). old
-            ++ details_text (comments_begun files p.file begins.begin)) refused;
-      }
-
   -- for S6 the last block that is closed
   pub block_told : (r : Result T E) (closed : Option PlainToken)
       → refusal.rule ≡ rules.Text S6
-      → ((statements : List PlainStatement) (fault : PlainFault)
-      → Reads files statements (Some fault) → closed ≡ last_of (closing_tokens statements))
+      → ((statements : List PlainStatement) (ending : Option PlainFault)
+      → Reads files statements ending → closed ≡ last_of (closing_tokens statements))
       → OnOk r (new ≡ old ++ details_text (blocks_closed files closed))
       → OnOk r (TellsAll files refusal old new)
   block_told (Err e) closed is last put = tt
@@ -203,30 +182,32 @@ module _ {T E : Type 0} (files : List PlainFile) (refusal : PlainRefusal) (old n
         details = blocks_closed files closed;
         begun = subst (λ (t : TextRule). AreOrigins files statements fault t
             (blocks_closed files closed)) (sym rule)
-            (ap (blocks_closed files) (last statements fault reads));
+            (ap (blocks_closed files) (last statements (Some fault) reads));
         put = put;
       }
 
-  -- else the statement
-  pub statement_told : (r : Result T E) (label met : Option PlainToken)
-      → ¬ (refusal.rule ≡ rules.Text X3) → ¬ (refusal.rule ≡ rules.Text S6)
-      → label ≡ label_before met refusal.file refusal.at
-      → ((statements : List PlainStatement) (fault : PlainFault)
-      → Reads files statements (Some fault) → met ≡ fault.label)
-      → OnOk r (new ≡ old ++ details_text (statements_begun files label))
+  -- else what isn't closed before it
+  pub begin_told : (r : Result T E) (begin : Option ℕ) → ¬ (refusal.rule ≡ rules.Text S6)
+      → IsBegin files refusal.file refusal.at begin
+      → OnOk r (new ≡ old ++ details_text (places_begun files refusal.file begin))
       → OnOk r (TellsAll files refusal old new)
-  statement_told (Err e) label met comment block before own put = tt
-  statement_told (Ok v) label met comment block before own put = λ statements fault reads refused.
+  begin_told (Err e) begin block begins put = tt
+  begin_told (Ok v) begin block begins put = λ statements fault reads refused.
       let rule : refusal.rule ≡ rules.Text fault.rule = ap (λ (p : PlainRefusal). p.rule) refused in
-      let same : label ≡ label_before fault.label fault.file fault.at =
-      before ∙ ap (λ o. label_before o refusal.file refusal.at) (own statements fault reads)
-      ∙ ap (λ (p : PlainRefusal). label_before fault.label p.file p.at) refused in
       record {
-        details = statements_begun files label;
-        begun = other_origins files statements fault fault.rule (statements_begun files label)
-            (λ is. comment (rule ∙ ap rules.Text is)) (λ is. block (rule ∙ ap rules.Text is))
-            (ap (statements_begun files) same);
-        put = put;
+        details = places_begun files fault.file (unclosed_in fault.file begins.ending);
+        begun = other_origins files statements fault fault.rule _
+            (λ is. block (rule ∙ ap rules.Text is)) (
+              begins.earlier,
+              begins.ending,
+              subst (λ (p : PlainRefusal). Reads (files_up_to files p.file p.at) begins.earlier
+                  begins.ending) refused begins.reads,
+              refl,
+            );
+        put = put
+            ∙ ap (λ b. old ++ details_text (places_begun files refusal.file b)) begins.same
+            ∙ ap (λ (p : PlainRefusal). old
+            ++ details_text (places_begun files p.file (unclosed_in p.file begins.ending))) refused;
       }
 
 -- the token, and then where what it stands in began

@@ -5,6 +5,8 @@ pub mod Questions
 pub mod ReplyTexts
 pub mod Explanations
 pub mod LastFaults
+pub mod CutFiles
+pub mod LaterLabels
 pub mod Saving
 pub mod Lines
 pub mod DetailTexts
@@ -20,3 +22,5 @@ pub mod InnermostBlocks
 pub mod NamesMet
 pub mod NearLabels
 pub mod Collisions
+pub mod HypothesisScopes
+pub mod OwnHypotheses

@@ -27,7 +27,7 @@ use Rattle.mm_check.proofs.Breaches.{past_at, past_more, past_none}
 
 -- ---- the last of two parts
 
-find-append : {X : Type 0} (test : X → Bool) (a b : List X)
+pub find-append : {X : Type 0} (test : X → Bool) (a b : List X)
     → find test (a ++ b) ≡ option_or (find test a) (find test b)
 find-append test [] b = refl
 find-append {X} test (x ∷ a) b = by (test x) (find-append test a b)

@@ -9,6 +9,7 @@ pub mod ComparedTexts
 pub mod KnownSteps
 pub mod LoneTheorems
 pub mod RestsOn
+pub mod ShorterProofs
 pub mod ShownSteps
 pub mod ShownUses
 pub mod ToldStatements

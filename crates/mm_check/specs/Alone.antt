@@ -88,10 +88,6 @@ BreaksTokens rule text = BreaksText rule text
 
 -- ---- the steps of a proof
 
--- the tokens of a proof that are judged: all of them, or those of the known prefix
-abbrev pub judged_tokens : List (List ℕ) → List (List ℕ)
-judged_tokens tokens = if is_incomplete tokens then known_prefix tokens else tokens
-
 -- the text is that of the listing of the moves
 abbrev pub IsTextOfMoves : (before : List Sentence) → List (Move (List ℕ)) → (text : List ℕ)
     → Type 0

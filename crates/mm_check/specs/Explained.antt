@@ -1,8 +1,8 @@
 -- What explains a fault of a proof: facts, and the text that tells them, which is this project's
 -- own.
 use Rattle.std.specs.Prelude.{◌≡◌, ℕ, suc, ◌+◌, List, [], ◌∷◌, ◌++◌, map, length, codes, decimal}
-use Rattle.std.specs.Prelude.{true, false, ◌⊎◌, if◌then◌else◌, Option, Some, None, unwrap_or}
-use Rattle.std.specs.Prelude.{option_map, slice_get, take, Contains}
+use Rattle.std.specs.Prelude.{true, false, ◌⊎◌, if◌then◌else◌, nat_lt, Option, Some, None}
+use Rattle.std.specs.Prelude.{unwrap_or, option_map, slice_get, take, Contains}
 use Rattle.std.specs.List.{flat_map, AllZip}
 use Rattle.std.specs.Str.{bytes_eq}
 use Rattle.mm_frame.specs.Sentence.{Sentence, SomeSentence, IsLabelled}
@@ -33,7 +33,8 @@ pub data Detail : Type 0 where
   near_label : (label : List ℕ) → Detail
   -- the label of the step
   step_label : (label : List ℕ) → Detail
-  -- the step repeats what the mark with a number, from 1 on, keeps, and there are so many marks
+  -- the step repeats what the mark with a number, from 1 on, keeps, or a later one if its number is
+  -- above 4,294,967,295, and there are so many marks
   mark_asked : (wanted there : ℕ) → Detail
   -- the step takes so many entries, and so many are there
   entry_counts : (needed there : ℕ) → Detail
@@ -70,6 +71,16 @@ pub data Detail : Type 0 where
   labelled_at : (place : List ℕ) → Detail
   -- the place of the `$f` that gave the variable its type code
   typed_at : (place : List ℕ) → Detail
+  -- the place where the hypothesis is stated
+  stated_at : (place : List ℕ) → Detail
+  -- the place where the block ends in which it stands
+  block_ended_at : (place : List ℕ) → Detail
+  -- the hypotheses of the theorem itself follow
+  its_hypotheses : Detail
+  -- one of them: the place where it is stated, and its label
+  hypothesis_at : (place label : List ℕ) → Detail
+  -- the place of a later statement, whose label the token at fault is
+  stated_later_at : (place : List ℕ) → Detail
 
 -- ---- the fault
 
@@ -305,13 +316,19 @@ asks_text label asked number given None =
 asks_text label asked number given (Some index) =
     codes "  " ++ label ++ codes " asks\n" ++ but_given_text asked number given
 
+-- The number of a `Z`, from 1 on. That of a billionth or later one isn't told: numbers above
+-- 4,294,967,295 are read as one.
+abbrev pub mark_text : ℕ → List ℕ
+mark_text wanted =
+    if nat_lt wanted 1000000000 then decimal wanted else codes "1000000000 or a later one"
+
 -- the lines of a fact, indented by two, and those of its expressions by four
 abbrev pub detail_text : Detail → List ℕ
 detail_text (token_at_fault text) = codes "  token: " ++ text ++ codes "\n"
 detail_text (near_label label) = codes "  near: " ++ label ++ codes "\n"
 detail_text (step_label label) = codes "  step: " ++ label ++ codes "\n"
 detail_text (mark_asked wanted there) =
-    codes "  it repeats Z number " ++ decimal wanted ++ codes ", and there are " ++ decimal there
+    codes "  it repeats Z number " ++ mark_text wanted ++ codes ", and there are " ++ decimal there
     ++ codes "\n"
 detail_text (entry_counts needed there) =
     codes "  entries it takes: " ++ decimal needed ++ codes ", entries there are: "
@@ -342,6 +359,12 @@ detail_text (declared_at place) = codes "  declared: " ++ place ++ codes "\n"
 detail_text (repeated_at place) = codes "  before: " ++ place ++ codes "\n"
 detail_text (labelled_at place) = codes "  labelled: " ++ place ++ codes "\n"
 detail_text (typed_at place) = codes "  typed: " ++ place ++ codes "\n"
+detail_text (stated_at place) = codes "  stated: " ++ place ++ codes "\n"
+detail_text (block_ended_at place) = codes "  its block ends: " ++ place ++ codes "\n"
+detail_text its_hypotheses = codes "  the theorem's hypotheses\n"
+detail_text (hypothesis_at place label) =
+    codes "    " ++ place ++ codes " " ++ label ++ codes "\n"
+detail_text (stated_later_at place) = codes "  stated further down: " ++ place ++ codes "\n"
 
 -- the text of facts
 abbrev pub details_text : List Detail → List ℕ

@@ -8,6 +8,7 @@ pub mod Conclusion
 pub mod Faults
 pub mod Rests
 pub mod Users
+pub mod Shorter
 pub mod Shown
 pub mod ShownUses
 pub mod Near
@@ -28,6 +29,8 @@ pub mod Alike
 pub mod Explained
 pub mod Alone
 pub mod TextFacts
+pub mod HypothesisPlaces
 pub mod LastFacts
+pub mod Later
 pub mod Why
 pub mod MeaningFacts

@@ -20,7 +20,7 @@ use Rattle.mm_check.specs.Verdict.{PlainRefusal, sentences}
 use Rattle.mm_check.specs.Faults.{IsMeaningRefusal}
 use Rattle.mm_check.specs.Explained.{Detail, token_at_fault, block_opened, declared_at, repeated_at}
 use Rattle.mm_check.specs.Explained.{labelled_at, typed_at}
-use Rattle.mm_check.specs.Places.{place_of, place_text}
+use Rattle.mm_check.specs.Places.{token_place}
 
 -- the token at fault: the symbol at the index, or the statement's first token where no symbol
 -- breaks the rule
@@ -84,10 +84,6 @@ last_looked_at rule before s index name =
     last_met name (flat_map (looked_at rule) before ++ looked_at_within rule s index)
 
 -- ---- facts
-
--- the text of the place where a token stands
-abbrev pub token_place : List PlainFile → PlainToken → List ℕ
-token_place files t = place_text files (place_of files t.file t.at)
 
 -- the fact that tells where the name was met before, by what it was met as
 abbrev pub met_as : MeaningRule → (place : List ℕ) → Detail

@@ -13,7 +13,9 @@ pub mod Visits
 pub mod Explaining
 pub mod Reached
 pub mod Reasons
+pub mod Standing
 pub mod Breaches
 pub mod Bits
 pub mod Tables
 pub mod Last
+pub mod Shortening

@@ -3,6 +3,7 @@
 use Rattle.std.specs.Prelude.{ℕ, ◌+◌, ◌==◌, List, [], ◌++◌, take, not, slice_get, option_map}
 use Rattle.std.specs.Prelude.{unwrap_or, codes, decimal}
 use Rattle.std.specs.List.{suffix_len}
+use Rattle.mm_text.specs.Token.{PlainToken}
 use Rattle.mm_text.specs.Files.{PlainFile}
 use Rattle.mm_text.specs.LineNumbers.{line_of}
 use Rattle.mm_check.specs.declared.position.Place.{Place}
@@ -39,3 +40,7 @@ place_of files file at = record {
 abbrev pub place_text : List PlainFile → Place → List ℕ
 place_text files place =
     name_of files place.file ++ codes ":" ++ decimal place.line ++ codes ":" ++ decimal place.column
+
+-- the text of the place where a token stands
+abbrev pub token_place : List PlainFile → PlainToken → List ℕ
+token_place files t = place_text files (place_of files t.file t.at)

@@ -40,8 +40,9 @@ use Rattle.mm_check.specs.declared.question.WholeQuestion.TheVariants.{Axioms as
 use Rattle.mm_check.specs.Users.{IsAssertionFault, AreUsers}
 use Rattle.mm_check.specs.Rests.{IsAskFault, IsReport}
 use Rattle.mm_check.specs.Alone.{IsRefusedBefore, IsNoTheorem, IsTheoremAt, HasProofTokens}
-use Rattle.mm_check.specs.Alone.{BreaksTokens, judged_tokens, AreStepsBefore}
+use Rattle.mm_check.specs.Alone.{BreaksTokens, AreStepsBefore}
 use Rattle.mm_check.specs.Explained.{Detail, IsTokensFault, AreDetails, AreLeftOver, details_text}
+use Rattle.mm_check.specs.Explained.{judged_tokens}
 use Rattle.mm_check.specs.Shown.{ShowsProof, IsListingText}
 use Rattle.mm_check.specs.ShownUses.{ShowsUses}
 use Rattle.mm_check.specs.declared.form.Form.{Form}
@@ -55,7 +56,7 @@ use Rattle.mm_check.specs.Verdict.{PlainRefusal, Verdict, Load, Refused, Incompl
 use Rattle.mm_check.specs.Verdict.{HasVerdict, AreAccepted, labels_of, proof_of, sentences}
 use Rattle.mm_check.specs.Verdict.{refusal_of}
 use Rattle.mm_check.specs.Faults.{HaveFaults, refusal_in}
-use Rattle.mm_check.specs.Why.{TellsFaults}
+use Rattle.mm_check.specs.Why.{IsFaultPlace, TellsFaults, head_text}
 pub use Rattle.mm_check.specs.Places.{name_of}
 
 -- A line of a refusal begins with `limit` for a limit that was passed, else with `no`.
@@ -390,7 +391,7 @@ IsTryReply proof before s text status =
     ⊎ (HasProofTokens proof × IsTokensReply before s (tokens_in proof) text status)
 
 -- The proof of the `$p`, or what is known of it, is at fault: the lines of the steps before the
--- fault, the refusal, and the facts that explain it.
+-- fault, the refusal, and what explains it: the first line, with the place, and the facts.
 pub record IsKnownFault (files : List PlainFile) (before : List PlainStatement) (s : PlainStatement)
     (text : List ℕ) (status : ℕ) : Type 0 where
   pub rule : ProofRule
@@ -402,9 +403,12 @@ pub record IsKnownFault (files : List PlainFile) (before : List PlainStatement) 
   pub details : List Detail
   pub explained : AreDetails Lenient (sentences before) (sentence_of s) (proof_of s) rule step
       details
+  pub at : ℕ
+  pub place : IsFaultPlace Lenient (sentences before) s rule step at
   pub said :
       let refusal = refusal_of files (length before) s (rules.Proof rule) step in
-      IsExplained (lines ++ text_of files (Refused refusal)) details text
+      IsExplained (lines ++ text_of files (Refused refusal) ++ head_text files at refusal) details
+      text
   pub ends : status ≡ refusal_status (rules.Proof rule)
 
 -- The proof is incomplete, and its known prefix breaks no rule: the lines of the prefix's steps,

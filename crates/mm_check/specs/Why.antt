@@ -21,7 +21,9 @@ use Rattle.mm_check.specs.Meanings.{meaning_of}
 use Rattle.mm_check.specs.Verdict.{PlainRefusal, sentences, proof_of}
 use Rattle.mm_check.specs.Faults.{IsProofRefusal}
 use Rattle.mm_check.specs.Explained.{judged_tokens, TokensHalt, Detail, AreDetails, details_text}
+use Rattle.mm_check.specs.HypothesisPlaces.{AreHypothesisPlaces}
 use Rattle.mm_check.specs.LastFacts.{AreLastFacts}
+use Rattle.mm_check.specs.Later.{IsUnknownIn, stated_later}
 use Rattle.mm_check.specs.Places.{place_of, place_text}
 
 -- ---- the first line of an explanation
@@ -79,7 +81,8 @@ IsFaultPlace profile before s rule step at =
 -- ---- explanations
 
 -- The text explains the refusal of a statement of the files for the fault of its proof: the first
--- line, and the facts.
+-- line, the facts, those of where hypotheses stand, and where a label that no earlier statement has
+-- is stated further down.
 pub record IsExplanation (profile : Profile) (files : List PlainFile) (refusal : PlainRefusal)
     (text : List ℕ) : Type 0 where
   pub before : List PlainStatement
@@ -93,7 +96,12 @@ pub record IsExplanation (profile : Profile) (files : List PlainFile) (refusal :
   pub details : List Detail
   pub facts : AreDetails profile (sentences before) (sentence_of s) (proof_of s) refused.rule
       refused.step details
-  pub said : text ≡ head_text files at refusal ++ details_text details
+  pub places : List Detail
+  pub stand : AreHypothesisPlaces files before s refused.rule refused.step places
+  pub label : Option (List ℕ)
+  pub unknown : IsUnknownIn (sentences before) (proof_of s) refused.rule label
+  pub said : text ≡ head_text files at refusal ++ details_text (details ++ places)
+      ++ details_text (stated_later files label after)
 
 -- The text explains the refusal for the fault that ends the run: the first line, and the facts.
 pub record IsLastExplanation (files : List PlainFile) (refusal : PlainRefusal)

@@ -9,7 +9,7 @@ ghost use Rattle.mm_check.specs.Status.{number_of};
 
 use crate::ask::AskFault;
 use crate::known::known_reply;
-use crate::question::{LoneQuestion, Reply, ask_reply, verdict_reply};
+use crate::question::{LoneQuestion, Reply, ask_reply, fault_reply};
 use crate::read_to::{Reached, Unreached, read_to};
 use crate::tried::try_reply;
 use mm_text::{File, Seed};
@@ -27,7 +27,7 @@ fn not_found_reply(
         reply.text.items (number_of reply.status)) }
 {
     match why {
-        Unreached::Check(fault) => verdict_reply(alloc, files, &Err(fault)),
+        Unreached::Check(fault) => fault_reply(alloc, files, &fault),
         Unreached::Ask(rule) => ask_reply(alloc, label, AskFault::Rule(rule)),
     }
 }

@@ -125,6 +125,28 @@ fn take_before<'a>(
     Ok(())
 }
 
+/// Takes the statements before the one that breaks the rule, which so many are, and reads that one:
+/// the symbol that breaks it.
+fn breaking_after<'a>(
+    files: &[File<'a>],
+    statements: &mut Statements<'a>,
+    progress: &mut Progress<'a>,
+    into: &mut Statement<'a>,
+    count: usize,
+    rule: MeaningRule,
+) -> Result<Option<usize>, AllocError>
+    requires read { IsRead (map plain_file files.now) progress.old statements.old }
+    requires none { progress.old.count ≡ 0 }
+    requires broken { IsBroken (map plain_file files.now) count rule }
+    ensures { IfOk result (λ index. (site : Site (map plain_file files.now) count)
+        → (plain_statement into.new ≡ site.s)
+        × BreaksAt rule (sentences site.before) (sentence_of site.s) index) }
+{
+    take_before(files, statements, progress, into, count)?;
+    read_next(statements, into)?;
+    progress.prover.book().breaking_symbol(into, rule)
+}
+
 /// Reads up to the statement that breaks the rule, which so many stand before: the symbol that
 /// breaks it.
 fn find_breaking<'a>(
@@ -144,9 +166,9 @@ fn find_breaking<'a>(
         × BreaksAt rule (sentences site.before) (sentence_of site.s) index) }
 {
     let mut progress: Progress<'a> = beginning(alloc, seed, files)?;
-    take_before(files, statements, &mut progress, into, count)?;
-    read_next(statements, into)?;
-    progress.prover.book().breaking_symbol(into, rule)
+    let index = breaking_after(files, statements, &mut progress, into, count, rule);
+    drop(progress);
+    index
 }
 
 /// The breach of the rule by the statement that so many stand before. What stands before it is

@@ -2,6 +2,8 @@
 
 ghost use Rattle.std.specs.Prelude.{◌≡◌, ◌<◌, ◌↔◌, List, [], map, length, slice_get, Contains};
 ghost use Rattle.std.specs.Prelude.{true, false, Some, None, IsTrue, IfOk, IfErr, IfSome, ℕ};
+ghost use Rattle.std.specs.Prelude.{◌≤◌, Ok};
+ghost use Rattle.mm_check.specs.declared.ask.AskFault.TheVariants.{Memory};
 ghost use Rattle.std.specs.List.{AllByRecursion};
 
 use crate::ask::AskFault;
@@ -9,7 +11,7 @@ use crate::bits::index_of;
 use crate::comparison::is_same;
 use crate::form::Form;
 use crate::forms::{normal_text, packed_text, small_text, span_text};
-use crate::kept::Kept;
+use crate::kept::{Kept, is_among};
 use crate::position::{place_of, push_place};
 use crate::progress::Progress;
 use crate::report::{
@@ -18,6 +20,10 @@ use crate::report::{
 use crate::reread::{proof_of, reread};
 use crate::rewrite::{bytes_of, put_in};
 use crate::rule::AskRule;
+use crate::search::Search;
+use crate::shorter::{
+    Handed, Place, handed_proof, is_use, may_use, place_in, rests_on_marked, step_count,
+};
 use crate::shown::listing_text;
 use crate::shown_uses::uses_text;
 use crate::stated::push_told;
@@ -25,7 +31,7 @@ use crate::theorem::{Theorem, theorem_of};
 use crate::users::{all_users_among, users_among};
 use mm_frame::{Book, Found, LabelId, LabelKind};
 use mm_proof::Profile;
-use mm_text::File;
+use mm_text::{File, says_before};
 use std::alloc::{AllocError, Global};
 use std::marker::Model;
 
@@ -67,12 +73,8 @@ impl<'a> Model for Checked<'a> {
         c.book.statements (map (λ id. id.0) c.incomplete.items) c.kept };
 }
 
-/// Whether a number is one of these.
-fn is_among(numbers: &[LabelId], id: LabelId) -> bool
-    ensures { IsTrue result ↔ Contains (map (λ l. l.0) numbers.now) id.0 }
-{
-    numbers.contains(&id)
-}
+/// Marks a theorem whose proof should stay as it is.
+const PROOF_MARK: &[u8] = b"(Proof modification is discouraged.)";
 
 impl<'a> Checked<'a> {
     ghost use Rattle.mm_text.specs.Statement.{PlainStatement};
@@ -89,7 +91,8 @@ impl<'a> Checked<'a> {
     ghost use Rattle.mm_check.specs.Mirror.Tables.{AreTables, IsOfKind, IsReportAt};
     ghost use Rattle.mm_text.specs.declared.statement.Kind.TheVariants.{Provable};
     ghost use Rattle.mm_frame.specs.Sentence.{IsAssertion};
-    ghost use Rattle.mm_proof.specs.Steps.{AreSteps};
+    ghost use Rattle.mm_proof.specs.Steps.{AreSteps, IsProofNumber};
+    ghost use Rattle.mm_frame.specs.Sentence.{Sentence};
     ghost use Rattle.mm_check.specs.Shown.{ShowsProof};
     ghost use Rattle.mm_check.specs.ShownUses.{ShowsUses};
     ghost use Rattle.mm_check.specs.Compared.{IsCompared, IsSameFault};
@@ -99,6 +102,9 @@ impl<'a> Checked<'a> {
     ghost use Rattle.mm_check.specs.Stated.{IsStatementFault, TellsStatement};
     ghost use Rattle.mm_check.specs.Saved.{IsSaved, FitsSaved, IsSaveFault};
     ghost use Rattle.mm_check.specs.Mirror.Rewriting.{IsHomeOf};
+    ghost use Rattle.mm_check.specs.Shorter.{IsShorterProof, IsMinimized};
+    ghost use Rattle.mm_check.specs.Mirror.Shortening.{IsPlaceAt, MarkRests, IsAllowedIn};
+    ghost use Rattle.mm_check.specs.Mirror.Shortening.{IsAllowedProof};
 
     /// What the progress over the files has come to in the profile, once nothing is left.
     pub(crate) fn new(
@@ -424,7 +430,7 @@ impl<'a> Checked<'a> {
 
     /// What each step of the proof of the `$p` with this label uses, as text, in lines: the number
     /// of a step, the numbers of the steps that gave it its mandatory hypotheses, its name, and its
-    /// expression. If `essential`, only the steps that the last one is reached from through `$e`,
+    /// expression. If `essential`, only the steps that are reached from the last one through `$e`,
     /// and only what they use so.
     ///
     /// # Errors
@@ -537,5 +543,175 @@ impl<'a> Checked<'a> {
         let put = span_text(alloc, &self.book, &theorem, form, old)?;
         let bytes = put_in(alloc, self.files, theorem.file, theorem.span, &put)?;
         Ok((theorem.file, bytes))
+    }
+
+    /// Where the statement with a number begins.
+    fn place(&self, alloc: Global, id: LabelId) -> Result<Place<'a>, AskFault>
+        requires { id.0 < length (labelled_sentences self.now.sentences) }
+        ensures place { IfOk result (IsPlaceAt self.now.files id.0) }
+        ensures within { IfOk result (λ place. place.at ≤ length place.bytes.now) }
+        ensures memory { IfErr result (λ fault. fault ≡ Memory) }
+    {
+        let files = self.files;
+        let statement = reread(alloc, self.book.seed(), files, self.book.label(id))?;
+        let first = statement.first;
+        Ok(place_in(files, first.file, first.at as usize))
+    }
+
+    /// Whether the proof of a theorem, which begins at a place and rests on what is marked, may use
+    /// an assertion.
+    fn is_allowed(
+        &self,
+        alloc: Global,
+        home: Place<'a>,
+        theorem: LabelId,
+        marks: &[bool],
+        used: LabelId,
+    ) -> Result<bool, AskFault>
+        requires home { IsPlaceAt self.now.files theorem.0 home }
+        requires within { home.at ≤ length home.bytes.now }
+        requires marks { MarkRests self.now theorem.0 marks.now }
+        requires used { used.0 < length (labelled_sentences self.now.sentences) }
+        ensures allowed { result ≡ Ok true → IsAllowedIn self.now.files theorem.0 used.0 }
+        ensures memory { IfErr result (λ fault. fault ≡ Memory) }
+    {
+        let kept = &self.kept;
+        if is_use(kept, theorem, used) {
+            return Ok(true);
+        }
+        let founded = rests_on_marked(alloc, &self.book, kept, &self.incomplete, marks, used)?;
+        if !founded {
+            return Ok(false);
+        }
+        let place = self.place(alloc, used)?;
+        Ok(may_use(home, place))
+    }
+
+    /// Whether it may use all of these.
+    fn are_allowed(
+        &self,
+        alloc: Global,
+        home: Place<'a>,
+        theorem: LabelId,
+        marks: &[bool],
+        used: &[LabelId],
+    ) -> Result<bool, AskFault>
+        requires home { IsPlaceAt self.now.files theorem.0 home }
+        requires within { home.at ≤ length home.bytes.now }
+        requires marks { MarkRests self.now theorem.0 marks.now }
+        requires used { AllByRecursion (λ n. n < length (labelled_sentences self.now.sentences))
+            (map (λ l. l.0) used.now) }
+        ensures allowed { result ≡ Ok true → (n : ℕ) → Contains (map (λ l. l.0) used.now) n
+            → IsAllowedIn self.now.files theorem.0 n }
+        ensures memory { IfErr result (λ fault. fault ≡ Memory) }
+    {
+        for id in used {
+            let may = self.is_allowed(alloc, home, theorem, marks, *id)?;
+            if !may {
+                return Ok(false);
+            }
+        }
+        Ok(true)
+    }
+
+    /// A text as another proof of a theorem, where it is one and may be put in place of its own;
+    /// else none.
+    fn allowed_proof(
+        &self,
+        alloc: Global,
+        id: LabelId,
+        text: &[u8],
+    ) -> Result<Option<Handed>, AskFault>
+        requires { (index : ℕ) × (s : Sentence) × IsProofNumber self.now.sentences id.0 index s }
+        ensures proof { IfOk result (λ found. IfSome found (IsAllowedProof self.now id.0)) }
+        ensures memory { IfErr result (λ fault. fault ≡ Memory) }
+    {
+        let home = self.place(alloc, id)?;
+        if says_before(home.bytes, home.at, PROOF_MARK) {
+            return Ok(None);
+        }
+        let Some(handed) = handed_proof(alloc, self.profile, &self.book, id, text)? else {
+            return Ok(None);
+        };
+        let marks = reach(alloc, &self.kept, id)?;
+        let may = self.are_allowed(alloc, home, id, &marks, handed.used.ids())?;
+        if !may {
+            return Ok(None);
+        }
+        Ok(Some(handed))
+    }
+
+    /// The small text of the tree that a text makes as another proof of a theorem, where that is
+    /// shorter than the theorem's own small text; else none.
+    fn shorter(
+        &self,
+        alloc: Global,
+        theorem: &Theorem,
+        own: &[u8],
+        text: &[u8],
+    ) -> Result<Option<Vec<u8>>, AskFault>
+        requires steps { AreSteps self.now.sentences theorem.now.id.0 theorem.now.steps.moves }
+        requires proved { AreProvedSteps self.now.sentences theorem.now.id.0 theorem.now.steps }
+        requires whole { theorem.now.steps.prefix ≡ false }
+        ensures shorter { IfOk result (λ found. IfSome found (λ new. (label : List ℕ)
+            → (statements : List PlainStatement) → Reads self.now.files statements None
+            → AreStepsOf statements label theorem.now.id.0 theorem.now.steps.moves
+            → IsShorterProof self.now.profile self.now.files statements label (length own.now)
+            new.items)) }
+        ensures memory { IfErr result (λ fault. fault ≡ Memory) }
+    {
+        let Some(handed) = self.allowed_proof(alloc, theorem.id, text)? else {
+            return Ok(None);
+        };
+        let Handed { steps, used: _ } = handed;
+        let other = Theorem {
+            id: theorem.id,
+            steps,
+            file: theorem.file,
+            span: theorem.span,
+        };
+        let new = small_text(alloc, &self.book, &other)?;
+        if new.len() >= own.len() {
+            return Ok(None);
+        }
+        let count = step_count(alloc, &self.book, &other)?;
+        let most = step_count(alloc, &self.book, theorem)?;
+        if count > most {
+            return Ok(None);
+        }
+        Ok(Some(new))
+    }
+
+    /// The small text of the shortest proof of the `$p` with this label that is known: of its own,
+    /// or of one that the search gives, where that has fewer bytes, no more steps, and rests on no
+    /// further axiom. Marks and mathboxes are heeded: an assertion isn't newly used if the comment
+    /// right before it says `(New usage is discouraged.)`, or if it stands in another mathbox; and
+    /// the proof stays if that of the theorem says `(Proof modification is discouraged.)`.
+    ///
+    /// # Errors
+    ///
+    /// As for `axioms`.
+    pub fn minimized<S: Search>(
+        &self,
+        alloc: Global,
+        label: &[u8],
+        search: &mut S,
+    ) -> Result<Vec<u8>, AskFault>
+        ensures text { IfOk result (λ text. (statements : List PlainStatement)
+            → Reads self.now.files statements None
+            → IsMinimized self.now.profile self.now.files statements label.now text.items) }
+        ensures fault { IfErr result (λ fault. (statements : List PlainStatement)
+            → Reads self.now.files statements None → IsAskFault statements label.now fault) }
+    {
+        let theorem = self.read_theorem(alloc, label)?;
+        let own = small_text(alloc, &self.book, &theorem)?;
+        let Some(text) = search.candidate(alloc, &self.book, theorem.id, &theorem.steps)? else {
+            return Ok(own);
+        };
+        let found = self.shorter(alloc, &theorem, &own, &text)?;
+        match found {
+            Some(new) => Ok(new),
+            None => Ok(own),
+        }
     }
 }

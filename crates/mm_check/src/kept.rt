@@ -1,7 +1,7 @@
 //! What is kept of the complete proofs, for the questions that come after the check.
 
 ghost use Rattle.std.specs.Prelude.{◌≡◌, ◌<◌, ◌++◌, ◌↔◌, ℕ, [], ◌∷◌, map, length, slice_get};
-ghost use Rattle.std.specs.Prelude.{Contains, OnOk, Some};
+ghost use Rattle.std.specs.Prelude.{Contains, IsTrue, OnOk, Some};
 ghost use Rattle.mm_check.specs.Conclusion.{ProofUses};
 ghost use Rattle.mm_check.specs.Mirror.Ordered.{ordered};
 
@@ -13,6 +13,13 @@ use std::marker::Model;
 const USE_BYTES: usize = 24;
 
 const PROOF_BYTES: usize = 384;
+
+/// Whether a number is one of these.
+pub(crate) fn is_among(numbers: &[LabelId], id: LabelId) -> bool
+    ensures { IsTrue result ↔ Contains (map (λ l. l.0) numbers.now) id.0 }
+{
+    numbers.contains(&id)
+}
 
 /// The number of a `$p`, and where the numbers of the assertions that its proof uses stand.
 #[derive(Clone, Copy)]

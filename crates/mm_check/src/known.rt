@@ -12,7 +12,8 @@ ghost use Rattle.mm_proof.specs.Parsed.{OfProof, SaySteps};
 ghost use Rattle.mm_proof.specs.Steps.{AreSteps, IsProofNumber};
 ghost use Rattle.mm_proof.specs.Tokens.{is_incomplete};
 ghost use Rattle.mm_proof.specs.UnderProfile.{IsPrefixAllowedUnder};
-ghost use Rattle.mm_check.specs.Alone.{AreStepsBefore, judged_tokens};
+ghost use Rattle.mm_check.specs.Alone.{AreStepsBefore};
+ghost use Rattle.mm_check.specs.Explained.{judged_tokens};
 ghost use Rattle.mm_check.specs.Explained.{IsTokensFault};
 ghost use Rattle.mm_check.specs.Mirror.Reached.{HasReached};
 ghost use Rattle.mm_check.specs.Reply.{IsKnownFault, IsKnownPrefix, IsKnownReply};
@@ -20,7 +21,8 @@ ghost use Rattle.mm_check.specs.Shown.{IsListingText};
 ghost use Rattle.mm_check.specs.Status.{number_of};
 ghost use Rattle.mm_check.specs.Verdict.{proof_of};
 
-use crate::details::{push_details, push_left_over};
+use crate::details::{cause_of, push_cause, push_left_over};
+use crate::fault_places::fault_place;
 use crate::judge::refusal;
 use crate::position::LineCount;
 use crate::question::Reply;
@@ -31,13 +33,14 @@ use crate::rule::Rule;
 use crate::shown::text_of;
 use crate::status::Status;
 use crate::tried::judged_steps;
+use crate::why::push_head;
 use mm_frame::{Book, LabelId};
 use mm_proof::{Profile, ProofFault, ProofRule, Steps, halt_of};
 use mm_text::File;
 use std::alloc::{AllocError, Global};
 
 /// The reply where the proof, or what is known of it, is at fault: the lines of the steps before
-/// the fault, the refusal, and the facts that explain it.
+/// the fault, the refusal, and what explains it.
 fn fault_reply(
     alloc: Global,
     files: &[File],
@@ -70,17 +73,13 @@ fn fault_reply(
         fault.1,
     );
     let book = &reached.book;
+    let profile = Profile::Lenient;
+    let cause = cause_of(alloc, profile, book, reached.id, tokens, fault)?;
     let mut text = lines;
     push_refusal(&mut text, files, &refusal)?;
-    push_details(
-        &mut text,
-        alloc,
-        Profile::Lenient,
-        book,
-        reached.id,
-        tokens,
-        fault,
-    )?;
+    let at = fault_place(&reached.statement, tokens, &cause);
+    push_head(&mut text, files, at, &refusal)?;
+    push_cause(&mut text, alloc, profile, book, reached.id, &cause, fault.0)?;
     Ok(Reply {
         text,
         status: refusal_status(rule),

@@ -28,8 +28,9 @@ fn offer_labels<'a>(
 }
 
 /// The label of a statement of the files that is nearest to this one, which no statement has: it
-/// differs in at most two changes, and in one if the label has fewer than four bytes. The files are
-/// read to their end, or to the first fault of the text.
+/// differs in at most two changes, and in one if the label has fewer than four bytes. None is near a
+/// label of more than 100 bytes. The files are read to their end, or to the first fault of the
+/// text.
 pub fn nearest_label<'a>(
     alloc: Global,
     seed: Seed,

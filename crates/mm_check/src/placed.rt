@@ -2,7 +2,7 @@
 
 ghost use Rattle.std.specs.Prelude.{◌≡◌, ◌++◌, map, OnOk};
 ghost use Rattle.mm_text.specs.Files.{plain_file};
-ghost use Rattle.mm_check.specs.Explained.{begun_at, last_closed_at, detail_text};
+ghost use Rattle.mm_check.specs.Explained.{begun_at, last_closed_at, stated_later_at, detail_text};
 ghost use Rattle.mm_check.specs.Places.{place_of as place_at, place_text};
 
 use crate::position::{place_of, push_place};
@@ -40,6 +40,24 @@ pub(crate) fn push_last_closed(
         (place_at (map plain_file files.now) file at)))) }
 {
     out.extend_from_slice(b"  the last block is closed: ")?;
+    push_place(out, files, place_of(files, file, at))?;
+    out.push(b'\n')?;
+    Ok(())
+}
+
+/// Where a later statement has the label that is the token at fault.
+#[tactic(auto, using(crate::proofs::DetailTexts::three_parts))]
+pub(crate) fn push_stated_later(
+    out: &mut Vec<u8>,
+    files: &[File],
+    file: usize,
+    at: usize,
+) -> Result<(), AllocError>
+    ensures { OnOk result (out.new.items ≡ out.old.items
+        ++ detail_text (stated_later_at (place_text (map plain_file files.now)
+        (place_at (map plain_file files.now) file at)))) }
+{
+    out.extend_from_slice(b"  stated further down: ")?;
     push_place(out, files, place_of(files, file, at))?;
     out.push(b'\n')?;
     Ok(())

@@ -3,12 +3,13 @@
 ghost use Rattle.std.specs.Prelude.{◌≡◌, ◌≤◌, ◌==◌, List, ◌++◌, map, take, drop, count_by, OnOk};
 ghost use Rattle.mm_text.specs.Files.{plain_file};
 ghost use Rattle.mm_text.specs.LineNumbers.{line_in, line_of as line_at};
+ghost use Rattle.mm_text.specs.Token.{plain_token};
 ghost use Rattle.mm_check.specs.Places.{bytes_of as bytes_at, bytes_since_feed};
 ghost use Rattle.mm_check.specs.Places.{column_of as column_at};
 ghost use Rattle.mm_check.specs.Places.{name_of as name_at, place_of as place_at, place_text};
 
 use crate::words::push_decimal;
-use mm_text::File;
+use mm_text::{File, Token};
 use std::alloc::AllocError;
 use std::marker::Model;
 
@@ -158,6 +159,23 @@ fn column_of(files: &[File], file: usize, at: usize) -> usize
     ensures { result ≡ column_at (map plain_file files.now) file at }
 {
     count_since_feed(bytes_before(bytes_of(files, file), at)) + 1
+}
+
+impl<'a> LineCount<'a> {
+    /// The place where a token of the files stands; its line is counted on where it can be.
+    pub(crate) fn place_of(&mut self, token: Token) -> Place
+        ensures place { result
+            ≡ place_at self.old (plain_token token.entry).file (plain_token token.entry).at }
+        ensures files { self.new ≡ self.old }
+    {
+        let at = token.at as usize;
+        let column = column_of(self.files, token.file, at);
+        Place {
+            file: token.file,
+            line: self.line_of(token.file, at),
+            column,
+        }
+    }
 }
 
 /// The place of a position in one of the files.

@@ -1,7 +1,7 @@
 //! Whole replies: to `check`, to `faults`, and to questions about a theorem.
 
 ghost use Rattle.std.specs.Prelude.{◌≡◌, ◌<◌, ◌++◌, [], ◌∷◌, List, map, length, OnOk, IfOk, IfErr};
-ghost use Rattle.std.specs.Prelude.{IfSome, None, codes, decimal};
+ghost use Rattle.std.specs.Prelude.{IfSome, None, Ok, Err, codes, decimal};
 ghost use Rattle.std.specs.List.{AllByRecursion};
 ghost use Rattle.mm_text.specs.Statement.{PlainStatement};
 ghost use Rattle.mm_text.specs.Files.{plain_file};
@@ -9,7 +9,9 @@ ghost use Rattle.mm_text.specs.Reading.{Reads};
 ghost use Rattle.mm_proof.specs.declared.profile.Profile.TheVariants.{Lenient};
 ghost use Rattle.mm_check.specs.Answer.{verdict_of_answer, labels_at, IsVerdict};
 ghost use Rattle.mm_check.specs.Answer.{KeepsLabels, KeepsFiles, plain_refusal};
-ghost use Rattle.mm_check.specs.Verdict.{AreAccepted, labels_of};
+ghost use Rattle.mm_check.specs.Answer.{verdict_of_conclusion, verdict_of_fault};
+ghost use Rattle.mm_check.specs.Faults.{AreAllFaults};
+ghost use Rattle.mm_check.specs.Verdict.{AreAccepted, HasVerdict, labels_of};
 ghost use Rattle.mm_check.specs.Status.{number_of};
 ghost use Rattle.mm_check.specs.RuleCodes.{code_of};
 ghost use Rattle.mm_check.specs.Reply.{line_with, lines_of, status_of as status_at, Tells};
@@ -34,7 +36,10 @@ use crate::fault::{CheckFault, Refusal};
 use crate::faults::{AllFaults, all_faults};
 use crate::form::Form;
 use crate::position::name_of;
-use crate::reply::{first_status, push_label, push_labels, push_refusals, status_of, text_of};
+use crate::reply::{
+    conclusion_status, fault_status, first_status, push_conclusion, push_fault, push_label,
+    push_labels, push_refusals,
+};
 use crate::report::Report;
 use crate::rule::{AskRule, Rule};
 use crate::save_all::saved_all;
@@ -75,8 +80,8 @@ pub enum Question<'a> {
     Axioms,
     /// How it is proved, step by step.
     Show,
-    /// What each step of its proof uses; if `essential`, of the steps alone that it is reached from
-    /// through `$e`.
+    /// What each step of its proof uses; if `essential`, of the steps alone that are reached from
+    /// the last one through `$e`.
     Uses { essential: bool },
     /// For its proof in this form; if `whole`, for the bytes of its file, with this proof in place of
     /// its own.
@@ -487,6 +492,40 @@ fn answer_to(
     }
 }
 
+/// The reply of a database in which nothing is at fault: yes, or the incomplete proofs.
+fn accepted_reply(alloc: Global, files: &[File], checked: &Checked) -> Result<Reply, AllocError>
+    ensures text { IfOk result (λ reply. Tells (map plain_file files.now) (Ok checked.now)
+        reply.text.items) }
+    ensures status { IfOk result (λ reply. number_of reply.status
+        ≡ status_at (verdict_of_conclusion checked.now)) }
+{
+    let mut text = Vec::new(alloc);
+    push_conclusion(&mut text, checked)?;
+    Ok(Reply {
+        text,
+        status: conclusion_status(checked),
+    })
+}
+
+/// The reply that tells a fault.
+pub(crate) fn fault_reply(
+    alloc: Global,
+    files: &[File],
+    fault: &CheckFault,
+) -> Result<Reply, AllocError>
+    ensures text { IfOk result (λ reply. Tells (map plain_file files.now) (Err fault.now)
+        reply.text.items) }
+    ensures status { IfOk result (λ reply. IfSome (verdict_of_fault fault.now)
+        (λ verdict. number_of reply.status ≡ status_at verdict)) }
+{
+    let mut text = Vec::new(alloc);
+    push_fault(&mut text, files, fault)?;
+    Ok(Reply {
+        text,
+        status: fault_status(fault),
+    })
+}
+
 /// The reply that tells the verdict.
 pub(crate) fn verdict_reply(
     alloc: Global,
@@ -499,9 +538,10 @@ pub(crate) fn verdict_reply(
         IfSome (verdict_of_answer answer.now) (λ verdict. number_of reply.status
         ≡ status_at verdict)) }
 {
-    let text = text_of(alloc, files, answer)?;
-    let status = status_of(answer);
-    Ok(Reply { text, status })
+    match answer {
+        Ok(checked) => accepted_reply(alloc, files, checked),
+        Err(fault) => fault_reply(alloc, files, fault),
+    }
 }
 
 /// The reply to `check` under a profile.
@@ -534,6 +574,42 @@ fn refusals_reply(alloc: Global, files: &[File], refusals: &[Refusal]) -> Result
     Ok(Reply { text, status })
 }
 
+/// The reply to `faults` where these are all faults.
+fn faults_told(alloc: Global, files: &[File], faults: &AllFaults) -> Result<Reply, AllocError>
+    requires { (profile : Profile) × AreAllFaults profile (map plain_file files.now) faults.now }
+    ensures { IfOk result (λ reply. (profile : Profile)
+        → AreAllFaults profile (map plain_file files.now) faults.now
+        → IsFaultsReply profile (map plain_file files.now) reply.text.items
+        (number_of reply.status)) }
+{
+    match faults {
+        AllFaults::Load(rule) => fault_reply(alloc, files, &CheckFault::Load(*rule)),
+        AllFaults::Refused(refusals) => refusals_reply(alloc, files, refusals),
+        AllFaults::Memory => Err(AllocError),
+    }
+}
+
+/// The reply to `faults` where this is the answer of `all_faults`.
+fn faults_answer(
+    alloc: Global,
+    files: &[File],
+    answer: &Result<Checked, AllFaults>,
+) -> Result<Reply, AllocError>
+    requires { (profile : Profile)
+        × IfErr answer.now (AreAllFaults profile (map plain_file files.now)) }
+    ensures { IfOk result (λ reply. (profile : Profile)
+        → IfOk answer.now (λ checked. HasVerdict profile (map plain_file files.now)
+        (verdict_of_conclusion checked))
+        → IfErr answer.now (AreAllFaults profile (map plain_file files.now))
+        → IsFaultsReply profile (map plain_file files.now) reply.text.items
+        (number_of reply.status)) }
+{
+    match answer {
+        Ok(checked) => accepted_reply(alloc, files, checked),
+        Err(faults) => faults_told(alloc, files, faults),
+    }
+}
+
 /// The reply to `faults` under a profile.
 fn faults_reply(
     alloc: Global,
@@ -544,12 +620,10 @@ fn faults_reply(
     ensures { IfOk result (λ reply. IsFaultsReply profile (map plain_file files.now)
         reply.text.items (number_of reply.status)) }
 {
-    match all_faults(alloc, seed, profile, files) {
-        Ok(checked) => verdict_reply(alloc, files, &Ok(checked)),
-        Err(AllFaults::Load(rule)) => verdict_reply(alloc, files, &Err(CheckFault::Load(rule))),
-        Err(AllFaults::Refused(refusals)) => refusals_reply(alloc, files, &refusals),
-        Err(AllFaults::Memory) => Err(AllocError),
-    }
+    let answer = all_faults(alloc, seed, profile, files);
+    let reply = faults_answer(alloc, files, &answer);
+    drop(answer);
+    reply
 }
 
 /// The reply to `why` under a profile.
@@ -563,8 +637,8 @@ fn why_reply(
         reply.text.items (number_of reply.status)) }
 {
     match explained(alloc, seed, profile, files) {
-        Ok(checked) => verdict_reply(alloc, files, &Ok(checked)),
-        Err(Unaccepted::Load(rule)) => verdict_reply(alloc, files, &Err(CheckFault::Load(rule))),
+        Ok(checked) => accepted_reply(alloc, files, &checked),
+        Err(Unaccepted::Load(rule)) => fault_reply(alloc, files, &CheckFault::Load(rule)),
         Err(Unaccepted::Refused { text, status }) => Ok(Reply { text, status }),
         Err(Unaccepted::Memory) => Err(AllocError),
     }
@@ -586,7 +660,7 @@ fn all_axioms_answer(
     match answer {
         Ok(checked) => Ok(Reply {
             text: all_axioms_text(alloc, checked)?,
-            status: status_of(answer),
+            status: conclusion_status(checked),
         }),
         Err(_) => verdict_reply(alloc, files, answer),
     }
@@ -687,6 +761,6 @@ pub(crate) fn all_saved_reply(
         }),
         Err(SaveFault::TooLong { label }) => ask_reply(alloc, label, AskFault::Rule(AskRule::L2)),
         Err(SaveFault::Ask(fault)) => ask_reply(alloc, name_of(files, number), fault),
-        Err(SaveFault::Check(fault)) => verdict_reply(alloc, files, &Err(fault)),
+        Err(SaveFault::Check(fault)) => fault_reply(alloc, files, &fault),
     }
 }

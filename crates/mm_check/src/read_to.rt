@@ -1,6 +1,6 @@
 //! The statements of files up to the theorem with a label, whatever their proofs.
 
-ghost use Rattle.std.specs.Prelude.{◌≡◌, ◌+◌, ◌<◌, ◌≤◌, ◌^◌, ℕ, List, map, IfOk, IfErr};
+ghost use Rattle.std.specs.Prelude.{◌≡◌, ◌+◌, ◌-◌, ◌<◌, ◌≤◌, ◌^◌, ℕ, List, map, IfOk, IfErr};
 ghost use Rattle.mm_text.specs.declared.statement.Kind.TheVariants.{Closing};
 ghost use Rattle.mm_text.specs.Files.{most_bytes, plain_file, PlainFile};
 ghost use Rattle.mm_text.specs.Remaining.{IsUnread};
@@ -149,6 +149,24 @@ fn take_to<'a>(
     Ok(None)
 }
 
+/// The theorem with this number, which was taken last into the progress.
+fn reached_at<'a>(progress: Progress<'a>, id: LabelId, statement: Statement<'a>) -> Reached<'a>
+    requires { 0 < progress.count }
+    ensures book { result.book.statements ≡ progress.entry.prover.book.statements }
+    ensures before { result.before ≡ progress.entry.count - 1 }
+    ensures id { result.id ≡ id }
+    ensures statement { result.statement ≡ statement.entry }
+{
+    let before = progress.count - 1;
+    let book = progress.prover.into_book();
+    Reached {
+        book,
+        before,
+        id,
+        statement,
+    }
+}
+
 /// The theorem that was taken last into the progress, if it was found, and it is one.
 fn theorem_in<'a>(
     progress: Progress<'a>,
@@ -165,14 +183,19 @@ fn theorem_in<'a>(
         → IsNoTheorem files label rule) }
 {
     match taken {
-        None => Err(AskRule::A1),
-        Some(Taken::Assertion(id)) if statement.kind == Kind::Provable => Ok(Reached {
-            book: progress.prover.into_book(),
-            before: progress.count - 1,
-            id,
-            statement,
-        }),
-        Some(_) => Err(AskRule::A2),
+        None => {
+            drop(progress);
+            drop(statement);
+            Err(AskRule::A1)
+        }
+        Some(Taken::Assertion(id)) if statement.kind == Kind::Provable => {
+            Ok(reached_at(progress, id, statement))
+        }
+        Some(_) => {
+            drop(progress);
+            drop(statement);
+            Err(AskRule::A2)
+        }
     }
 }
 

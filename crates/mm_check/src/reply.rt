@@ -1,18 +1,18 @@
 //! The text of a reply.
 
 ghost use Rattle.std.specs.Prelude.{◌≡◌, ◌<◌, ◌++◌, [], ◌∷◌, map, OnOk, IfOk, IfSome, codes};
-ghost use Rattle.std.specs.Prelude.{List, decimal, length, unwrap_or};
+ghost use Rattle.std.specs.Prelude.{List, MatchOption, decimal, length, unwrap_or};
 ghost use Rattle.mm_check.specs.declared.fault.Refusal.{Refusal};
 ghost use Rattle.std.specs.List.{AllByRecursion};
 ghost use Rattle.mm_text.specs.Files.{plain_file};
 ghost use Rattle.mm_check.specs.Reply.{text_of as text_at, status_of as status_at};
 ghost use Rattle.mm_check.specs.Reply.{refusal_status as refusal_status_at, refusal_word};
 ghost use Rattle.mm_check.specs.Reply.{refusals_text};
-ghost use Rattle.mm_check.specs.Reply.{line_with, lines_of, Tells};
+ghost use Rattle.mm_check.specs.Reply.{line_with, lines_of};
 ghost use Rattle.mm_check.specs.RuleCodes.{code_of};
 ghost use Rattle.mm_check.specs.Verdict.{Refused};
 ghost use Rattle.mm_check.specs.Answer.{plain_refusal, labels_at, verdict_of_conclusion};
-ghost use Rattle.mm_check.specs.Answer.{verdict_of_answer};
+ghost use Rattle.mm_check.specs.Answer.{verdict_of_fault};
 ghost use Rattle.mm_check.specs.Status.{number_of};
 
 use crate::checked::Checked;
@@ -125,7 +125,7 @@ fn push_incomplete(
 
 /// The lines of a database in which nothing is at fault.
 #[tactic(auto, using(crate::proofs::ReplyTexts::text_of_some))]
-fn push_conclusion(out: &mut Vec<u8>, checked: &Checked) -> Result<(), AllocError>
+pub(crate) fn push_conclusion(out: &mut Vec<u8>, checked: &Checked) -> Result<(), AllocError>
     ensures { OnOk result (out.new.items ≡ out.old.items
         ++ text_at [] (verdict_of_conclusion checked.now)) }
 {
@@ -191,34 +191,41 @@ pub(crate) fn first_status(refusals: &[Refusal]) -> Status
     refusal_status(refusals[0].rule)
 }
 
-/// The text of the reply that tells an answer. For lack of memory there is none.
-pub(crate) fn text_of(
-    alloc: Global,
+/// The line that tells a fault. For lack of memory there is none.
+pub(crate) fn push_fault(
+    out: &mut Vec<u8>,
     files: &[File],
-    answer: &Result<Checked, CheckFault>,
-) -> Result<Vec<u8>, AllocError>
-    ensures { IfOk result (λ text. Tells (map plain_file files.now) answer.now text.items) }
+    fault: &CheckFault,
+) -> Result<(), AllocError>
+    ensures { OnOk result (MatchOption (verdict_of_fault fault.now) ⊥ (λ verdict. out.new.items
+        ≡ out.old.items ++ text_at (map plain_file files.now) verdict)) }
 {
-    let mut out = Vec::new(alloc);
-    match answer {
-        Ok(checked) => push_conclusion(&mut out, checked)?,
-        Err(CheckFault::Load(rule)) => push_load(&mut out, *rule)?,
-        Err(CheckFault::Refused(refusal)) => push_refusal(&mut out, files, refusal)?,
-        Err(CheckFault::Memory) => return Err(AllocError),
+    match fault {
+        CheckFault::Load(rule) => push_load(out, *rule),
+        CheckFault::Refused(refusal) => push_refusal(out, files, refusal),
+        CheckFault::Memory => Err(AllocError),
     }
-    Ok(out)
 }
 
-/// The status of the reply that tells an answer.
-pub(crate) fn status_of(answer: &Result<Checked, CheckFault>) -> Status
-    ensures { IfSome (verdict_of_answer answer.now) (λ verdict. number_of result
+/// The status of the reply of a database in which nothing is at fault.
+pub(crate) fn conclusion_status(checked: &Checked) -> Status
+    ensures { number_of result ≡ status_at (verdict_of_conclusion checked.now) }
+{
+    if checked.is_complete() {
+        Status::Done
+    } else {
+        Status::Incomplete
+    }
+}
+
+/// The status of the reply that tells a fault.
+pub(crate) fn fault_status(fault: &CheckFault) -> Status
+    ensures { IfSome (verdict_of_fault fault.now) (λ verdict. number_of result
         ≡ status_at verdict) }
 {
-    match answer {
-        Ok(checked) if checked.is_complete() => Status::Done,
-        Ok(_) => Status::Incomplete,
-        Err(CheckFault::Load(_)) => Status::Stopped,
-        Err(CheckFault::Refused(refusal)) => refusal_status(refusal.rule),
-        Err(CheckFault::Memory) => Status::Stopped,
+    match fault {
+        CheckFault::Load(_) => Status::Stopped,
+        CheckFault::Refused(refusal) => refusal_status(refusal.rule),
+        CheckFault::Memory => Status::Stopped,
     }
 }

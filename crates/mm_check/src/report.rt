@@ -24,7 +24,7 @@ pub struct Report {
 }
 
 /// Whether a number is marked.
-fn is_marked(marks: &[bool], id: LabelId) -> bool
+pub(crate) fn is_marked(marks: &[bool], id: LabelId) -> bool
     ensures { result ≡ slice_index_or marks.now id.0 false }
 {
     match marks.get(id.0 as usize) {

@@ -1,25 +1,26 @@
 //! The facts that explain a fault of the text.
 
-ghost use Rattle.std.specs.Prelude.{◌≡◌, ◌++◌, List, [], map, not, true, option_map, Some, IfOk, OnOk};
-ghost use Rattle.std.specs.Prelude.{if◌then◌else◌};
+ghost use Rattle.std.specs.Prelude.{◌≡◌, ◌++◌, List, [], map, not, true, option_map, Option, Some};
+ghost use Rattle.std.specs.Prelude.{IfOk, OnOk, if◌then◌else◌};
 ghost use Rattle.std.specs.List.{prefix_len};
 ghost use Rattle.mm_text.specs.Token.{plain_token, is_space as is_white_space};
 ghost use Rattle.mm_text.specs.Statement.{PlainStatement, plain_statement};
 ghost use Rattle.mm_text.specs.Blocks.{is_closing};
 ghost use Rattle.mm_text.specs.Files.{plain_file};
 ghost use Rattle.mm_text.specs.Reading.{PlainFault, Reads};
-ghost use Rattle.mm_text.specs.Remaining.{IsUnread};
 ghost use Rattle.mm_check.specs.Answer.{plain_refusal};
 ghost use Rattle.mm_check.specs.Explained.{Detail, details_text};
-ghost use Rattle.mm_check.specs.Mirror.Last.{BeginsComment, IsTextRefusal, ReadsOn, TellsOrigins};
+ghost use Rattle.mm_check.specs.Mirror.Last.{IsBegin, IsTextRefusal, ReadsOn, TellsOrigins};
 ghost use Rattle.mm_check.specs.Mirror.Last.{is_of_text};
 ghost use Rattle.mm_check.specs.declared.rule.Rule.TheVariants.{Text};
-ghost use Rattle.mm_check.specs.TextFacts.{AreTextFacts, IsLastOpening, blocks_closed};
-ghost use Rattle.mm_check.specs.TextFacts.{closing_tokens, last_of, statements_begun};
-ghost use Rattle.mm_check.specs.TextFacts.{label_before as label_before_of};
+ghost use Rattle.mm_check.specs.TextFacts.{AreTextFacts, blocks_closed, closing_tokens, last_of};
+ghost use Rattle.mm_check.specs.TextFacts.{files_up_to as files_up_to_of, places_begun};
+ghost use Rattle.mm_check.specs.TextFacts.{is_of_unclosed as is_of_unclosed_at};
+ghost use Rattle.mm_check.specs.TextFacts.{unclosed_in as unclosed_in_of};
 ghost use Rattle.mm_check.specs.TextFacts.{token_from as token_from_of};
 ghost use Rattle.mm_check.specs.Verdict.{CanBeRead, text_refusal};
 
+use crate::breach::reader;
 use crate::fault::Refusal;
 use crate::placed::{push_begun, push_last_closed};
 use crate::position::{bytes_before, bytes_from, bytes_of};
@@ -44,55 +45,33 @@ fn token_from(bytes: &[u8], at: usize) -> &[u8]
     bytes_before(rest, token_len(rest))
 }
 
-/// The position of the last `$(` of some bytes.
-fn last_opening(bytes: &[u8]) -> Option<usize>
-    ensures { IsLastOpening bytes.now result }
-{
-    let mut end = bytes.len();
-    while end > 1 {
-        end -= 1;
-        if bytes[end - 1] == b'$' && bytes[end] == b'(' {
-            return Some(end - 1);
-        }
-    }
-    None
-}
-
-/// The label of the statement in which a fault stands, unless it is the token at fault itself.
-fn label_before<'a>(label: Option<Token<'a>>, file: usize, at: usize) -> Option<Token<'a>>
-    ensures { option_map plain_token result
-        ≡ label_before_of (option_map plain_token label.entry) file at }
-{
-    match label {
-        Some(label) if label.file == file && label.at as usize == at => None,
-        _ => label,
-    }
-}
-
-/// What a second reading, up to the fault, has met.
-#[derive(Drop)]
-struct Met<'a> {
-    /// The token of the last `$}`.
-    closed: Option<Token<'a>>,
-    /// The label of the statement in which the fault stands.
-    label: Option<Token<'a>>,
-}
-
-/// A reader of files that can be read.
-fn reader<'a>(
+/// The files, that with the number up to a position alone.
+fn files_up_to<'a>(
     alloc: Global,
-    seed: Seed,
-    files: &'a [File<'a>],
-) -> Result<Statements<'a>, AllocError>
-    requires { CanBeRead (map plain_file files.now) }
-    ensures { IfOk result (IsUnread (map plain_file files.now)) }
+    files: &[File<'a>],
+    file: usize,
+    at: usize,
+) -> Result<Vec<File<'a>>, AllocError>
+    ensures { IfOk result (λ cut. map plain_file cut.items
+        ≡ files_up_to_of (map plain_file files.now) file at) }
 {
-    match Statements::new(alloc, seed, files) {
-        Ok(statements) => Ok(statements),
-        Err(TextFault::Memory) => Err(AllocError),
-        // The files break no rule as a whole, and no token was read.
-        Err(TextFault::Load(_) | TextFault::Fault { .. }) => unreachable!(),
+    let mut cut = Vec::from_slice(alloc, files)?;
+    if file < cut.len() {
+        let whole = cut[file];
+        cut[file] = File {
+            name: whole.name,
+            bytes: bytes_before(whole.bytes, at),
+        };
     }
+    Ok(cut)
+}
+
+/// Whether a rule is broken where a comment, an inclusion or a statement isn't closed at the end of
+/// its file.
+fn is_of_unclosed(rule: TextRule) -> bool
+    ensures { result ≡ is_of_unclosed_at rule }
+{
+    matches!(rule, TextRule::X2 | TextRule::X5 | TextRule::X8)
 }
 
 /// Reads the next statement; `false` where the text ends, or its fault comes.
@@ -141,48 +120,93 @@ fn read_closed<'a>(
     Ok(closed)
 }
 
-/// The label of the statement in which the fault stands, which comes next.
-fn fault_label<'a>(
-    statements: &mut Statements<'a>,
-    into: &mut Statement<'a>,
+/// The token of the last `$}` of the files.
+fn last_closed<'a>(
+    alloc: Global,
+    seed: Seed,
+    files: &'a [File<'a>],
 ) -> Result<Option<Token<'a>>, AllocError>
-    requires read { statements.old.statements ≡ [] }
-    requires faulty { (fault : PlainFault) × (statements.old.ending ≡ Some fault) }
-    ensures { IfOk result (λ label. (fault : PlainFault) → statements.old.ending ≡ Some fault
-        → option_map plain_token label ≡ fault.label) }
-{
-    match statements.read(into) {
-        Err(TextFault::Fault { label, .. }) => Ok(label),
-        Err(TextFault::Memory) => Err(AllocError),
-        // The fault comes next.
-        Ok(_) | Err(TextFault::Load(_)) => unreachable!(),
-    }
-}
-
-/// Reads the files once more, up to the fault.
-fn meet<'a>(alloc: Global, seed: Seed, files: &'a [File<'a>]) -> Result<Met<'a>, AllocError>
-    requires readable { CanBeRead (map plain_file files.now) }
-    requires faulty { (statements : List PlainStatement) × (fault : PlainFault)
-        × Reads (map plain_file files.now) statements (Some fault) }
-    ensures { IfOk result (λ met. (statements : List PlainStatement) (fault : PlainFault)
-        → Reads (map plain_file files.now) statements (Some fault)
-        → (option_map plain_token met.closed ≡ last_of (closing_tokens statements))
-        × (option_map plain_token met.label ≡ fault.label)) }
+    requires { CanBeRead (map plain_file files.now) }
+    ensures { IfOk result (λ closed. (statements : List PlainStatement)
+        (ending : Option PlainFault) → Reads (map plain_file files.now) statements ending
+        → option_map plain_token closed ≡ last_of (closing_tokens statements)) }
 {
     let mut statements = reader(alloc, seed, files)?;
     let mut statement = Statement::empty(alloc);
-    let closed = read_closed(&mut statements, &mut statement)?;
-    let label = fault_label(&mut statements, &mut statement)?;
-    Ok(Met { closed, label })
+    read_closed(&mut statements, &mut statement)
 }
 
-/// Where the comment began in which a fault stands.
-fn push_comment(out: &mut Vec<u8>, files: &[File], file: usize, at: usize) -> Result<(), AllocError>
-    ensures { OnOk result (BeginsComment (map plain_file files.now) file at
-        out.old.items out.new.items) }
+/// Reads what is left, up to the end or to the fault.
+fn read_out<'a>(statements: &mut Statements<'a>, into: &mut Statement<'a>) -> Result<(), AllocError>
+    ensures none { OnOk result (statements.new.statements ≡ []) }
+    ensures ending { OnOk result (statements.new.ending ≡ statements.old.ending) }
 {
-    match last_opening(bytes_before(bytes_of(files, file), at)) {
-        Some(begin) => push_begun(out, files, file, begin),
+    while next(statements, into)? {}
+    Ok(())
+}
+
+/// Where began what isn't closed at the end of a file, by the fault that comes next, or by the end.
+fn unclosed_in<'a>(
+    statements: &mut Statements<'a>,
+    into: &mut Statement<'a>,
+    file: usize,
+) -> Result<Option<usize>, AllocError>
+    requires { statements.old.statements ≡ [] }
+    ensures { IfOk result (λ begin. begin ≡ unclosed_in_of file statements.old.ending) }
+{
+    match statements.read(into) {
+        Err(
+            TextFault::Fault {
+                rule,
+                file: there,
+                at,
+                ..
+            },
+        ) => {
+            if there == file && is_of_unclosed(rule) {
+                Ok(Some(at as usize))
+            } else {
+                Ok(None)
+            }
+        }
+        Err(TextFault::Memory) => Err(AllocError),
+        Ok(false) => Ok(None),
+        // No statement is left, and the files are read.
+        Ok(true) | Err(TextFault::Load(_)) => unreachable!(),
+    }
+}
+
+/// Where the comment, the inclusion or the statement began in which a position of a file stands, if
+/// it stands in one. The files are read once more, that one up to there.
+fn begin_before<'a>(
+    alloc: Global,
+    seed: Seed,
+    files: &[File<'a>],
+    file: usize,
+    at: usize,
+) -> Result<Option<usize>, AllocError>
+    requires { CanBeRead (map plain_file files.now) }
+    ensures { IfOk result (IsBegin (map plain_file files.now) file at) }
+{
+    let cut = files_up_to(alloc, files, file, at)?;
+    let mut statements = reader(alloc, seed, &cut)?;
+    let mut statement = Statement::empty(alloc);
+    read_out(&mut statements, &mut statement)?;
+    unclosed_in(&mut statements, &mut statement, file)
+}
+
+/// Where what isn't closed in a file began, if such is there.
+fn push_begin(
+    out: &mut Vec<u8>,
+    files: &[File],
+    file: usize,
+    begin: Option<usize>,
+) -> Result<(), AllocError>
+    ensures { OnOk result (out.new.items ≡ out.old.items
+        ++ details_text (places_begun (map plain_file files.now) file begin)) }
+{
+    match begin {
+        Some(at) => push_begun(out, files, file, at),
         None => Ok(()),
     }
 }
@@ -195,18 +219,6 @@ fn push_block(out: &mut Vec<u8>, files: &[File], closed: Option<Token>) -> Resul
 {
     match closed {
         Some(closed) => push_last_closed(out, files, closed.file, closed.at as usize),
-        None => Ok(()),
-    }
-}
-
-/// Where the statement began in which a fault stands.
-fn push_statement(out: &mut Vec<u8>, files: &[File], label: Option<Token>) -> Result<(), AllocError>
-    ensures { OnOk result (out.new.items ≡ out.old.items
-        ++ details_text (statements_begun (map plain_file files.now)
-        (option_map plain_token label.entry))) }
-{
-    match label {
-        Some(label) => push_begun(out, files, label.file, label.at as usize),
         None => Ok(()),
     }
 }
@@ -237,13 +249,14 @@ fn push_origins<'a>(
         → plain_refusal refusal.now ≡ text_refusal (map plain_file files.now) fault
         → TellsOrigins (map plain_file files.now) statements fault out.old.items out.new.items) }
 {
-    let met = meet(alloc, seed, files)?;
     match rule_in(refusal) {
-        TextRule::X3 => push_comment(out, files, refusal.file, refusal.at),
-        TextRule::S6 => push_block(out, files, met.closed),
+        TextRule::S6 => {
+            let closed = last_closed(alloc, seed, files)?;
+            push_block(out, files, closed)
+        }
         _ => {
-            let label = label_before(met.label, refusal.file, refusal.at);
-            push_statement(out, files, label)
+            let begin = begin_before(alloc, seed, files, refusal.file, refusal.at)?;
+            push_begin(out, files, refusal.file, begin)
         }
     }
 }

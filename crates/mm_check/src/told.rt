@@ -8,19 +8,20 @@ ghost use Rattle.mm_text.specs.Token.{plain_token};
 ghost use Rattle.mm_frame.specs.Numbers.{symbols_of};
 ghost use Rattle.mm_proof.specs.Stores.{numbers_in};
 ghost use Rattle.mm_check.specs.Explained.{detail_text, expression_line, difference_line};
-ghost use Rattle.mm_check.specs.Explained.{but_given_text, pair_asked, end_given};
+ghost use Rattle.mm_check.specs.Explained.{but_given_text, pair_asked, end_given, mark_text};
 ghost use Rattle.mm_check.specs.Explained.{symbol_at as symbol_there};
 ghost use Rattle.mm_check.specs.Explained.{token_at_fault, step_label, mark_asked, entry_counts};
 ghost use Rattle.mm_check.specs.Explained.{hypothesis_stated, entry_given, hypothesis_asks};
 ghost use Rattle.mm_check.specs.Explained.{most_symbols, missing_pair, step_lacks, shared_by_both};
-ghost use Rattle.mm_check.specs.Explained.{block_opened, near_label};
-ghost use Rattle.mm_check.specs.MeaningFacts.{met_as, token_place};
+ghost use Rattle.mm_check.specs.Explained.{block_opened, near_label, stated_at, block_ended_at};
+ghost use Rattle.mm_check.specs.Explained.{hypothesis_at};
+ghost use Rattle.mm_check.specs.MeaningFacts.{met_as};
 ghost use Rattle.mm_check.specs.Answer.{labels_at};
+ghost use Rattle.mm_check.specs.Places.{place_text, token_place};
 
-use crate::position::{place_of, push_place};
+use crate::position::{Place, place_of, push_place};
 use crate::shown::push_symbols;
 use crate::words::push_decimal;
-use itoa::Buffer;
 use mm_frame::{Book, MeaningRule, Sym};
 use mm_text::{File, Token};
 use std::alloc::AllocError;
@@ -78,19 +79,31 @@ pub(crate) fn push_step(out: &mut Vec<u8>, label: &[u8]) -> Result<(), AllocErro
     push_between(out, b"  step: ", label, b"\n")
 }
 
+/// The index, from 0 on, of the first mark whose number isn't told.
+const UNTOLD: usize = 999_999_999;
+
+/// The number of the mark with an index. A number of the proof that is too large for its type is
+/// read as the largest one, so that of a large index only this is told.
+#[tactic(auto, using(crate::proofs::DetailTexts::mark_numbers))]
+fn push_mark(out: &mut Vec<u8>, index: usize) -> Result<(), AllocError>
+    ensures { OnOk result (out.new.items ≡ out.old.items ++ mark_text (index + 1)) }
+{
+    if index < UNTOLD {
+        push_decimal(out, index + 1)
+    } else {
+        out.extend_from_slice(b"1000000000 or a later one")
+    }
+}
+
 /// Which mark the step by a tag repeats, and how many there are.
-#[tactic(auto, using(crate::proofs::DetailTexts::five_parts))]
+#[tactic(auto, using(crate::proofs::DetailTexts::mark_parts))]
 pub(crate) fn push_marks(out: &mut Vec<u8>, tag: usize, there: usize) -> Result<(), AllocError>
     ensures { OnOk result (out.new.items ≡ out.old.items
         ++ detail_text (mark_asked (tag + 1) there)) }
 {
-    // Nothing bounds the tag, so its number may not fit into its own type.
-    let mut digits = Buffer::new();
-    let number = digits.format(tag as u128 + 1).as_bytes();
-    push_between(out, b"  it repeats Z number ", number, b", and there are ")?;
-    push_decimal(out, there)?;
-    out.push(b'\n')?;
-    Ok(())
+    out.extend_from_slice(b"  it repeats Z number ")?;
+    push_mark(out, tag)?;
+    push_number_between(out, b", and there are ", there, b"\n")
 }
 
 /// How many entries the step takes, and how many there are.
@@ -432,4 +445,44 @@ pub(crate) fn push_met(
         MeaningRule::M12 | MeaningRule::M13 => push_where(out, b"  typed: ", files, token),
         _ => push_where(out, b"  declared: ", files, token),
     }
+}
+
+/// Where a hypothesis is stated.
+pub(crate) fn push_stated_at(
+    out: &mut Vec<u8>,
+    files: &[File],
+    token: Token,
+) -> Result<(), AllocError>
+    ensures { OnOk result (out.new.items ≡ out.old.items ++ detail_text
+        (stated_at (token_place (map plain_file files.now) (plain_token token.entry)))) }
+{
+    push_where(out, b"  stated: ", files, token)
+}
+
+/// Where the block ends in which it stands.
+pub(crate) fn push_block_end(
+    out: &mut Vec<u8>,
+    files: &[File],
+    token: Token,
+) -> Result<(), AllocError>
+    ensures { OnOk result (out.new.items ≡ out.old.items ++ detail_text
+        (block_ended_at (token_place (map plain_file files.now) (plain_token token.entry)))) }
+{
+    push_where(out, b"  its block ends: ", files, token)
+}
+
+/// Where a hypothesis of the theorem itself is stated, and its label.
+#[tactic(auto, using(crate::proofs::DetailTexts::three_groups))]
+pub(crate) fn push_hypothesis_at(
+    out: &mut Vec<u8>,
+    files: &[File],
+    place: Place,
+    label: &[u8],
+) -> Result<(), AllocError>
+    ensures { OnOk result (out.new.items ≡ out.old.items ++ detail_text
+        (hypothesis_at (place_text (map plain_file files.now) place) label.now)) }
+{
+    out.extend_from_slice(b"    ")?;
+    push_place(out, files, place)?;
+    push_between(out, b" ", label, b"\n")
 }

@@ -10,7 +10,7 @@ ghost use Rattle.mm_proof.specs.declared.profile.Profile.TheVariants.{Lenient};
 ghost use Rattle.mm_proof.specs.Parsed.{OfProof, SaySteps};
 ghost use Rattle.mm_proof.specs.Steps.{AreSteps, IsProofNumber};
 ghost use Rattle.mm_proof.specs.Tokens.{is_incomplete};
-ghost use Rattle.mm_check.specs.Alone.{judged_tokens};
+ghost use Rattle.mm_check.specs.Explained.{judged_tokens};
 ghost use Rattle.mm_check.specs.Explained.{IsTokensFault};
 ghost use Rattle.mm_check.specs.Mirror.Reached.{AreTried};
 ghost use Rattle.mm_check.specs.Reply.{IsTokensReply, IsTriedFault, IsTriedPrefix, IsTryReply};

@@ -1,31 +1,40 @@
 //! All faults of a database in one run, each with what explains it.
 
 ghost use Rattle.std.specs.Prelude.{◌≡◌, ◌<◌, ◌-◌, ◌++◌, List, ℕ, [], ◌∷◌, map, length, true};
-ghost use Rattle.std.specs.Prelude.{OnOk, IfOk, IfErr};
+ghost use Rattle.std.specs.Prelude.{OnOk, IfOk, IfErr, Option, Some, drop, take, option_map};
 ghost use Rattle.mm_text.specs.declared.statement.Kind.TheVariants.{Provable};
-ghost use Rattle.mm_text.specs.Statement.{plain_statement, HasForm};
+ghost use Rattle.mm_text.specs.Statement.{PlainStatement, plain_statement, HasForm};
+ghost use Rattle.mm_text.specs.Reading.{PlainFault, Reads};
+ghost use Rattle.mm_text.specs.Token.{plain_token};
 ghost use Rattle.mm_text.specs.Files.{plain_file};
 ghost use Rattle.mm_frame.specs.Sentence.{Sentence, sentence_of};
+ghost use Rattle.mm_proof.specs.declared.profile.Profile.{Profile};
 ghost use Rattle.mm_proof.specs.Steps.{IsProofNumber};
-ghost use Rattle.mm_check.specs.Verdict.{HasVerdict};
+ghost use Rattle.mm_check.specs.Verdict.{CanBeRead, HasVerdict};
 ghost use Rattle.mm_check.specs.Answer.{plain_refusal, verdict_of_conclusion};
 ghost use Rattle.mm_check.specs.Status.{number_of};
 ghost use Rattle.mm_check.specs.Why.{owner_words as owner_words_of, owner_text, step_text};
 ghost use Rattle.mm_check.specs.Why.{head_text, IsExplanation, IsLastExplanation, is_of_proofs};
 ghost use Rattle.mm_check.specs.Why.{most_explained, more_text, count_text};
 ghost use Rattle.mm_check.specs.Reply.{refusal_status};
+ghost use Rattle.mm_check.specs.Explained.{details_text};
+ghost use Rattle.mm_check.specs.Later.{IsUnknownIn, stated_later};
+ghost use Rattle.mm_check.specs.Mirror.Explaining.{IsCauseOf};
 ghost use Rattle.mm_check.specs.Mirror.Last.{EndsRun};
+ghost use Rattle.mm_check.specs.Mirror.Reasons.{AreKeptLabels, AreLabelsIn, IsExplainedBut};
 ghost use Rattle.mm_check.specs.Mirror.Reasons.{IsRefusedLast, Notes, TellsWhy};
 ghost use Rattle.mm_check.specs.declared.fault.Refusal.{Refusal};
 ghost use Rattle.mm_check.specs.declared.why.Unaccepted.TheVariants.{Memory};
 ghost use Rattle.mm_check.specs.declared.rule.Rule.TheVariants.{Proof};
 
 use crate::checked::Checked;
-use crate::details::{cause_of, push_cause};
+use crate::details::{Cause, cause_of, push_cause};
 use crate::fault::{CheckFault, Refusal, Stop};
 use crate::fault_places::fault_place;
+use crate::hypothesis_places::push_hypothesis_places;
 use crate::judge::Judged;
 use crate::last::last_facts;
+use crate::later::{push_later, read_labels};
 use crate::meanings::meaning;
 use crate::position::{place_of, push_place};
 use crate::reply::first_status;
@@ -37,7 +46,7 @@ use crate::visitor::Visitor;
 use crate::words::push_decimal;
 use mm_frame::{Book, Found, LabelId};
 use mm_proof::{Profile, ProofRule};
-use mm_text::{File, Seed, Statement};
+use mm_text::{File, Seed, Statement, Token};
 use std::alloc::{AllocError, Global};
 
 /// How many faults of proofs are explained.
@@ -99,7 +108,7 @@ fn push_step(out: &mut Vec<u8>, step: usize) -> Result<(), AllocError>
 
 /// Puts the first line of an explanation at the end, with the place of a position.
 #[tactic(auto, using(crate::proofs::Explanations::eight_parts))]
-fn push_head(
+pub(crate) fn push_head(
     out: &mut Vec<u8>,
     files: &[File],
     at: usize,
@@ -178,21 +187,47 @@ fn fault_in(refusal: &Refusal) -> (ProofRule, usize)
     }
 }
 
-/// Explains the refusal of the `$p` that the book took last, for the fault of its proof.
-fn push_explanation(
+/// The label at which a proof breaks P2, by the cause of its fault; none where that is by another
+/// rule.
+fn unknown_label<'t>(cause: &Cause<'t>, rule: ProofRule) -> Option<&'t [u8]>
+    requires { (profile : Profile) × (statements : List Sentence) × (id : ℕ) × (index : ℕ)
+        × (s : Sentence) × (tokens : List (List ℕ)) × (step : ℕ)
+        × IsProofNumber statements id index s
+        × IsCauseOf profile statements id tokens rule step cause.now }
+    ensures { (profile : Profile) (statements : List Sentence) (id : ℕ) (index : ℕ)
+        (s : Sentence) (tokens : List (List ℕ)) (step : ℕ)
+        → IsProofNumber statements id index s
+        → IsCauseOf profile statements id tokens rule step cause.now
+        → IsUnknownIn (take index statements) tokens rule (option_map (λ l. l.now) result) }
+{
+    match rule {
+        ProofRule::P2 => match cause {
+            Cause::Token { text, .. } => Some(*text),
+            // P2 is broken over the whole of a proof.
+            Cause::Moves { .. } => unreachable!(),
+        },
+        _ => None,
+    }
+}
+
+/// Explains the refusal of the `$p` that the book took last, for the fault of its proof, but for
+/// where a label that no earlier statement has is stated further down: that label is answered.
+fn push_explanation<'a>(
     out: &mut Vec<u8>,
     alloc: Global,
     profile: Profile,
     files: &[File],
     book: &Book,
-    statement: &Statement,
+    statement: &Statement<'a>,
     refusal: &Refusal,
-) -> Result<(), AllocError>
+) -> Result<Option<&'a [u8]>, AllocError>
     requires formed { HasForm (plain_statement statement.now) }
     requires refused { IsRefusedLast profile (map plain_file files.now) book.now.statements
         (plain_statement statement.now) (plain_refusal refusal.now) }
-    ensures { OnOk result ((text : List ℕ)
-        × IsExplanation profile (map plain_file files.now) (plain_refusal refusal.now) text
+    ensures { IfOk result (λ label. (text : List ℕ)
+        × IsExplainedBut profile (map plain_file files.now) book.now.statements
+        (plain_statement statement.now) (plain_refusal refusal.now)
+        (option_map (λ l. l.now) label) text
         × (out.new.items ≡ out.old.items ++ text)) }
 {
     let fault = fault_in(refusal);
@@ -200,7 +235,10 @@ fn push_explanation(
     let tokens = proof_of(alloc, statement)?;
     let cause = cause_of(alloc, profile, book, id, &tokens, fault)?;
     push_head(out, files, fault_place(statement, &tokens, &cause), refusal)?;
-    push_cause(out, alloc, profile, book, id, &cause, fault.0)
+    push_cause(out, alloc, profile, book, id, &cause, fault.0)?;
+    let place = (id, refusal.statement - 1);
+    push_hypothesis_places(out, alloc, files, book, place, &cause, fault.0)?;
+    Ok(unknown_label(&cause, fault.0))
 }
 
 /// Explains the refusal for the fault that ended the run.
@@ -226,11 +264,14 @@ fn push_last<'a>(
 #[derive(Drop)]
 struct Reasons<'a> {
     alloc: Global,
+    seed: Seed,
     profile: Profile,
     files: &'a [File<'a>],
     refusals: Vec<Refusal<'a>>,
     /// The explanations.
     text: Vec<u8>,
+    /// The labels of all statements of the files, once they were asked for.
+    labels: Vec<Option<Token<'a>>>,
 }
 
 impl<'a> Reasons<'a> {
@@ -241,9 +282,49 @@ impl<'a> Reasons<'a> {
         ensures text { self.new.text ≡ self.old.text }
         ensures profile { self.new.profile ≡ self.old.profile }
         ensures files { self.new.files ≡ self.old.files }
+        ensures labels { self.new.labels ≡ self.old.labels }
     {
         self.refusals.push(refusal)?;
         Ok(())
+    }
+
+    /// Reads the labels of all statements, unless they were read.
+    fn read_labels(&mut self) -> Result<(), AllocError>
+        requires readable { CanBeRead (map plain_file self.old.files.now) }
+        requires labels { AreKeptLabels (map plain_file self.old.files.now)
+            self.old.labels.items }
+        ensures labels { OnOk result (AreLabelsIn (map plain_file self.old.files.now)
+            (map (option_map plain_token) self.new.labels.items)) }
+        ensures kept { self.new.refusals ≡ self.old.refusals }
+        ensures text { self.new.text ≡ self.old.text }
+        ensures profile { self.new.profile ≡ self.old.profile }
+        ensures files { self.new.files ≡ self.old.files }
+    {
+        if self.labels.is_empty() {
+            self.labels = read_labels(self.alloc, self.seed, self.files)?;
+        }
+        Ok(())
+    }
+
+    /// Tells where a label is stated further down than the statement with a number, from 1 on.
+    fn tell_later(&mut self, label: &[u8], number: usize) -> Result<(), AllocError>
+        requires readable { CanBeRead (map plain_file self.old.files.now) }
+        requires labels { AreKeptLabels (map plain_file self.old.files.now)
+            self.old.labels.items }
+        ensures told { OnOk result ((statements : List PlainStatement)
+            (ending : Option PlainFault)
+            → Reads (map plain_file self.old.files.now) statements ending
+            → self.new.text.items ≡ self.old.text.items
+            ++ details_text (stated_later (map plain_file self.old.files.now) (Some label.now)
+            (drop number statements))) }
+        ensures labels { OnOk result (AreKeptLabels (map plain_file self.old.files.now)
+            self.new.labels.items) }
+        ensures kept { self.new.refusals ≡ self.old.refusals }
+        ensures profile { self.new.profile ≡ self.old.profile }
+        ensures files { self.new.files ≡ self.old.files }
+    {
+        self.read_labels()?;
+        push_later(&mut self.text, self.files, &self.labels, number, label)
     }
 
     /// Explains the refusal of the `$p` that the book took last.
@@ -256,16 +337,20 @@ impl<'a> Reasons<'a> {
         requires formed { HasForm (plain_statement statement.now) }
         requires refused { IsRefusedLast self.old.profile (map plain_file self.old.files.now)
             book.now.statements (plain_statement statement.now) (plain_refusal refusal.now) }
+        requires labels { AreKeptLabels (map plain_file self.old.files.now)
+            self.old.labels.items }
         ensures explained { OnOk result ((text : List ℕ)
             × IsExplanation self.old.profile (map plain_file self.old.files.now)
             (plain_refusal refusal.now) text
             × (self.new.text.items ≡ self.old.text.items ++ text)) }
+        ensures labels { OnOk result (AreKeptLabels (map plain_file self.old.files.now)
+            self.new.labels.items) }
         ensures kept { self.new.refusals ≡ self.old.refusals }
         ensures profile { self.new.profile ≡ self.old.profile }
         ensures files { self.new.files ≡ self.old.files }
     {
         let text = &mut self.text;
-        push_explanation(
+        let unknown = push_explanation(
             text,
             self.alloc,
             self.profile,
@@ -273,7 +358,11 @@ impl<'a> Reasons<'a> {
             book,
             statement,
             refusal,
-        )
+        )?;
+        match unknown {
+            Some(label) => self.tell_later(label, refusal.statement),
+            None => Ok(()),
+        }
     }
 
     /// Keeps the refusal of the `$p` that the book took last, and explains it unless enough are.
@@ -286,6 +375,8 @@ impl<'a> Reasons<'a> {
         requires formed { HasForm (plain_statement statement.now) }
         requires refused { IsRefusedLast self.old.profile (map plain_file self.old.files.now)
             book.now.statements (plain_statement statement.now) (plain_refusal refusal) }
+        requires labels { AreKeptLabels (map plain_file self.old.files.now)
+            self.old.labels.items }
         ensures { OnOk result (Notes self.old refusal.entry self.new) }
     {
         if self.refusals.len() >= MOST_EXPLAINED {
@@ -374,10 +465,12 @@ pub(crate) fn explained<'a>(
 {
     let mut reasons = Reasons {
         alloc,
+        seed,
         profile,
         files,
         refusals: Vec::new(alloc),
         text: Vec::new(alloc),
+        labels: Vec::new(alloc),
     };
     match judge_files(alloc, seed, profile, files, &mut reasons) {
         Ok(progress) => {

@@ -22,7 +22,8 @@ use Rattle.mm_proof.specs.Substitution.{Expression}
 use Rattle.mm_proof.specs.Tokens.{is_incomplete, SayMoves}
 use Rattle.mm_proof.specs.Verified.{OfMoves}
 use Rattle.mm_proof.proofs.ProofSteps.PassedMoves.{prove_at_end}
-use Rattle.mm_check.specs.Alone.{AreStepsBefore, judged_tokens}
+use Rattle.mm_check.specs.Alone.{AreStepsBefore}
+use Rattle.mm_check.specs.Explained.{judged_tokens}
 use Rattle.mm_check.specs.Explained.{IsTokensFault}
 use Rattle.mm_check.specs.Mirror.Reached.{AreTried, tried_as}
 use Rattle.mm_check.specs.Shown.{IsListingText, listing_text}

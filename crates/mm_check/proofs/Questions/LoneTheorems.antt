@@ -238,14 +238,16 @@ module _ (files : List PlainFile) (label : List ℕ) (r : Reached)
       rw (length-map h.before sentence_of) at (last_number r.book.statements r.id.0 theorem h.formed
       h.last (sentences h.before) told)
 
+  pub reached_before : take (length h.before) r.book.statements ≡ sentences h.before
+  reached_before =
+      rw (length-map h.before sentence_of) at (prefix_of r.book.statements (sentences h.before)
+      (sentence_of theorem) told)
+
   pub of_reached : (P : List Sentence → Sentence → Type 0)
       → OfProof r.book.statements r.id.0 (λ index s. P (take index r.book.statements) s)
       → P (sentences h.before) (sentence_of theorem)
   of_reached P said =
-      let prefix : take (length h.before) r.book.statements ≡ sentences h.before =
-      rw (length-map h.before sentence_of) at (prefix_of r.book.statements (sentences h.before)
-      (sentence_of theorem) told) in
-      subst (λ (ss : List Sentence). P ss (sentence_of theorem)) prefix
+      subst (λ (ss : List Sentence). P ss (sentence_of theorem)) reached_before
       (said (length h.before) (sentence_of theorem) reached_number)
 
   -- its proof has room

@@ -217,7 +217,7 @@ file_within files k f is =
     omega (arith, own, ap Long (get_or_from_slice_get files k f f is))
 
 -- with others in their place
-replaced_at : (files : List PlainFile) (k : ℕ) (f g : PlainFile) → slice_get files k ≡ Some f → total_bytes (slice_set files k g) + length f.bytes ≡ total_bytes files + length g.bytes
+pub replaced_at : (files : List PlainFile) (k : ℕ) (f g : PlainFile) → slice_get files k ≡ Some f → total_bytes (slice_set files k g) + length f.bytes ≡ total_bytes files + length g.bytes
 replaced_at files k f g is =
     let Long : PlainFile → ℕ = λ x. length x.bytes in
     let all = sum_by-set Long files k g f (slice_get_within files k f is) in

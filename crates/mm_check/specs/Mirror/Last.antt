@@ -1,7 +1,7 @@
 -- What the code knows of the fault that ends the run before it explains it. This file mirrors the
 -- code, and is cited by private contracts alone.
 use Rattle.std.specs.Prelude.{◌≡◌, ℕ, List, [], ◌∷◌, ◌++◌, Bool, true, false, Option, Some, ◌⊎◌}
-use Rattle.std.specs.Prelude.{take, IfSome}
+use Rattle.std.specs.Prelude.{IfSome, map}
 use Rattle.std.specs.Borrow.{Bor}
 use Rattle.mm_text.specs.Token.{PlainToken}
 use Rattle.mm_text.specs.Statement.{PlainStatement}
@@ -14,9 +14,7 @@ use Rattle.mm_check.specs.Verdict.{PlainRefusal, CanBeRead, text_refusal}
 use Rattle.mm_check.specs.Explained.{Detail, details_text}
 use Rattle.mm_check.specs.Mirror.Breaches.{IsStopped}
 use Rattle.mm_check.specs.Near.{IsLabelOf}
-use Rattle.mm_check.specs.Places.{bytes_of}
-use Rattle.mm_check.specs.TextFacts.{last_of, closing_tokens, AreOrigins, IsLastOpening}
-use Rattle.mm_check.specs.TextFacts.{comments_begun}
+use Rattle.mm_check.specs.TextFacts.{last_of, closing_tokens, AreOrigins, files_up_to, unclosed_in}
 
 -- this is the refusal for the fault of the text
 pub record IsTextRefusal (files : List PlainFile) (refusal : PlainRefusal) : Type 0 where
@@ -37,12 +35,12 @@ EndsRun files refusal = IsTextRefusal files refusal ⊎ IsStopped files refusal
 
 -- ---- the facts that are written
 
--- the place is written where the comment began in which a position stands
-pub record BeginsComment (files : List PlainFile) (file at : ℕ)
-    (old new : List ℕ) : Type 0 where
-  pub begin : Option ℕ
-  pub last : IsLastOpening (take at (bytes_of files file)) begin
-  pub put : new ≡ old ++ details_text (comments_begun files file begin)
+-- this is where what isn't closed before a position of a file began, if such is there
+pub record IsBegin (files : List PlainFile) (file at : ℕ) (begin : Option ℕ) : Type 0 where
+  pub earlier : List PlainStatement
+  pub ending : Option PlainFault
+  pub reads : Reads (files_up_to files file at) earlier ending
+  pub same : begin ≡ unclosed_in file ending
 
 -- the facts are written of where what the fault stands in began
 pub record TellsOrigins (files : List PlainFile) (statements : List PlainStatement)
@@ -67,6 +65,15 @@ pub record IsReading (all : List PlainStatement) (ending : Option PlainFault) (l
   pub whole : all ≡ so_far ++ left.statements
   pub same : left.ending ≡ ending
   pub last : closed ≡ last_of (closing_tokens so_far)
+
+-- The statements so far and those left are these, which the reading ends so; these are the labels of
+-- those so far.
+pub record IsListing (all : List PlainStatement) (ending : Option PlainFault) (left : Remaining)
+    (labels : List (Option PlainToken)) : Type 0 where
+  pub so_far : List PlainStatement
+  pub whole : all ≡ so_far ++ left.statements
+  pub same : left.ending ≡ ending
+  pub listed : labels ≡ map (λ s. s.label) so_far
 
 -- The statements so far and those left are these; what was found is the label of one of them.
 pub record IsSearching (all : List PlainStatement) (left : Remaining)

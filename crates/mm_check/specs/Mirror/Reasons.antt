@@ -1,8 +1,10 @@
 -- What the code knows of the faults that it has explained. This file mirrors the code, and is cited
 -- by private contracts alone.
 use Rattle.std.specs.Prelude.{◌≡◌, ℕ, ◌<◌, ◌≤◌, List, [], ◌∷◌, ◌++◌, map, take, length}
-use Rattle.std.specs.Prelude.{true, Option}
+use Rattle.std.specs.Prelude.{true, Option, option_map, ◌⊎◌}
 use Rattle.std.specs.List.{flat_map, AllZip, AllByRecursion}
+use Rattle.mm_text.specs.declared.token.Token.{Token}
+use Rattle.mm_text.specs.Token.{PlainToken, plain_token}
 use Rattle.mm_text.specs.Statement.{PlainStatement}
 use Rattle.mm_text.specs.Files.{PlainFile, plain_file}
 use Rattle.mm_text.specs.Reading.{PlainFault, Reads}
@@ -17,6 +19,8 @@ use Rattle.mm_check.specs.Faults.{HaveFaults, IsProofRefusal}
 use Rattle.mm_check.specs.Answer.{plain_refusal}
 use Rattle.mm_check.specs.Reply.{refusal_status}
 use Rattle.mm_check.specs.Status.{number_of}
+use Rattle.mm_check.specs.Explained.{details_text}
+use Rattle.mm_check.specs.Later.{stated_later}
 use Rattle.mm_check.specs.Why.{IsExplanation, TellsFaults, is_of_proofs, most_explained}
 
 -- The statement was told last, and this is its refusal for the fault of its proof.
@@ -29,6 +33,27 @@ pub record IsRefusedLast (profile : Profile) (files : List PlainFile) (told : Li
   pub reads : Reads files (before ++ s ∷ after) ending
   pub same : told ≡ sentences (before ++ s ∷ [])
   pub refused : IsProofRefusal profile files before s refusal
+
+-- The text explains the refusal of the statement that was told last, but for where this label, at
+-- which its proof breaks P2, is stated further down.
+abbrev pub IsExplainedBut : Profile → List PlainFile → List Sentence → PlainStatement → PlainRefusal
+    → (label : Option (List ℕ)) → (text : List ℕ) → Type 0
+IsExplainedBut profile files told s refusal label text =
+    (r : IsRefusedLast profile files told s refusal)
+    × IsExplanation profile files refusal (text ++ details_text (stated_later files label r.after))
+
+-- these are the labels of all statements of the files
+pub record AreLabelsIn (files : List PlainFile)
+    (labels : List (Option PlainToken)) : Type 0 where
+  pub statements : List PlainStatement
+  pub ending : Option PlainFault
+  pub reads : Reads files statements ending
+  pub listed : labels ≡ map (λ s. s.label) statements
+
+-- these are they, or they weren't read yet
+abbrev pub AreKeptLabels : List PlainFile → List (Option Token) → Type 0
+AreKeptLabels files labels =
+    (labels ≡ []) ⊎ AreLabelsIn files (map (option_map plain_token) labels)
 
 -- The text is the explanations of the first of these refusals, all of which are of proofs.
 pub record AreExplained (profile : Profile) (files : List PlainFile)
@@ -45,6 +70,7 @@ pub record HasExplained (profile : Profile) (files : List PlainFile) (first now 
   pub same_files : map plain_file now.files.now ≡ files
   pub kept : map plain_refusal now.refusals.items ≡ listed
   pub explained : AreExplained profile files listed now.text.items
+  pub labels : AreKeptLabels files now.labels.items
 
 -- The refusal of a proof is kept with the others, and it is explained unless enough are.
 pub record Notes (old : Reasons) (refusal : Refusal) (new : Reasons) : Type 0 where
@@ -56,6 +82,7 @@ pub record Notes (old : Reasons) (refusal : Refusal) (new : Reasons) : Type 0 wh
       × IsExplanation old.profile (map plain_file old.files.now) (plain_refusal refusal) text
       × (new.text.items ≡ old.text.items ++ text)
   pub many : most_explained ≤ length old.refusals.items → new.text ≡ old.text
+  pub labels : AreKeptLabels (map plain_file old.files.now) new.labels.items
 
 -- Why the files aren't accepted: they can't be taken; or this tells all faults, with the status of
 -- the first; or memory ran out.

@@ -5,7 +5,8 @@ use Rattle.mm_text.specs.Files.{PlainFile, plain_file}
 use Rattle.mm_text.specs.Token.{plain_token}
 use Rattle.mm_frame.specs.declared.rule.MeaningRule.{MeaningRule}
 use Rattle.mm_check.specs.Explained.{Detail, block_opened}
-use Rattle.mm_check.specs.MeaningFacts.{AreEarlierFacts, met_as, met_facts, token_place}
+use Rattle.mm_check.specs.MeaningFacts.{AreEarlierFacts, met_as, met_facts}
+use Rattle.mm_check.specs.Places.{token_place}
 use Rattle.mm_check.specs.Mirror.Breaches.{IsBroken}
 use Rattle.mm_check.proofs.Collisions.{block_there, of_names, one_fact}
 use Rattle.mm_check.proofs.InnermostBlocks.{block_open}

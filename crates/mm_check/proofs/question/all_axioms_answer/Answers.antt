@@ -18,7 +18,7 @@ returns-in_ok-all_axioms_text-in-Ok c = λ profile holds.
     let files : List PlainFile = map plain_file c.args.files.now in
     let kept : Conclusion = c.in-Ok.checked in
     let same : kept.files ≡ files = at_ok c.args.answer.now kept (KeepsFiles files) c.in-Ok.is c.requires.files in
-    all_axioms_told profile files c.args.answer.now kept _ _ c.in-Ok.is holds same c.in_ok-all_axioms_text-in-Ok.ensures c.status_of.ensures
+    all_axioms_told profile files c.args.answer.now kept _ _ c.in-Ok.is holds same c.in_ok-all_axioms_text-in-Ok.ensures (rw c.in-Ok.is c.conclusion_status.ensures)
 
 pub returns-in-Err : goal.returns-in-Err
 returns-in-Err c =

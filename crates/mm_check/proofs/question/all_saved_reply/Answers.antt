@@ -27,7 +27,7 @@ returns-in-Err-Check c =
     let files : List PlainFile = map plain_file c.args.files.now in
     let why : CheckFault = c.in-Err-Check.fault in
     let told = rw c.in-Err-Check.field-0-is at c.in-Err-Check.ensures.fault in
-    made_both c.verdict_reply.result _ _ _
+    made_both c.fault_reply.result _ _ _
     (λ reply said ends. question_refused files (Err why) why
     (IsAllSavedReply c.args.form files c.args.number) _ _ refl told said ends)
-    c.verdict_reply.ensures.text c.verdict_reply.ensures.status
+    c.fault_reply.ensures.text c.fault_reply.ensures.status

@@ -7,7 +7,7 @@ use Rattle.mm_check.proofs.question.why_reply.Goals as goal
 
 pub returns-in-Ok : goal.returns-in-Ok
 returns-in-Ok c =
-    made_both c.verdict_reply.result _ _ _
+    made_both c.accepted_reply.result _ _ _
     (λ reply said ends. inl (
       verdict_of_conclusion c.in-Ok.checked,
       c.in-Ok.ensures.verdict,
@@ -15,11 +15,11 @@ returns-in-Ok c =
       said,
       ends,
     ))
-    c.verdict_reply.ensures.text c.verdict_reply.ensures.status
+    c.accepted_reply.ensures.text c.accepted_reply.ensures.status
 
 pub returns-in-Err-Load : goal.returns-in-Err-Load
 returns-in-Err-Load c =
-    made_both c.verdict_reply-in-Err-Load.result _ _ _
+    made_both c.fault_reply.result _ _ _
     (λ reply said ends. inl (
       Load c.in-Err-Load.rule,
       rw c.in-Err-Load.field-0-is at c.in-Err-Load.ensures.why,
@@ -27,7 +27,7 @@ returns-in-Err-Load c =
       said,
       ends,
     ))
-    c.verdict_reply-in-Err-Load.ensures.text c.verdict_reply-in-Err-Load.ensures.status
+    c.fault_reply.ensures.text c.fault_reply.ensures.status
 
 pub returns-in-Err-Refused : goal.returns-in-Err-Refused
 returns-in-Err-Refused c = inr (rw c.in-Err-Refused.field-0-is at c.in-Err-Refused.ensures.why)

@@ -1,8 +1,8 @@
 -- The proof at fault is that of the statement, and the text its head and the facts.
-use Rattle.std.proofs.Common.{ℕ, List, ◌++◌, map, length, ap, sym, subst, ◌∙◌, append_assoc}
-use Rattle.std.proofs.lemmas.Result.{on_ok_weaker}
+use Rattle.std.proofs.Common.{ℕ, List, ◌++◌, ◌-◌, map, length, ap, refl, sym, subst, ◌∙◌}
+use Rattle.std.specs.Prelude.{option_map}
 use Rattle.mm_text.specs.Statement.{plain_statement}
-use Rattle.mm_text.specs.Files.{plain_file}
+use Rattle.mm_text.specs.Files.{PlainFile, plain_file}
 use Rattle.mm_frame.specs.Sentence.{sentence_of}
 use Rattle.mm_code.specs.Layout.{texts}
 use Rattle.mm_check.specs.Answer.{plain_refusal}
@@ -11,6 +11,7 @@ use Rattle.mm_check.specs.Why.{head_text}
 use Rattle.mm_check.specs.Explained.{details_text}
 use Rattle.mm_check.specs.Mirror.Explaining.{IsCauseOf}
 use Rattle.mm_check.proofs.Explanations.{told_parts, proof_in_room, fault_there, explained_there}
+use Rattle.mm_check.proofs.Explanations.{refused_place, explanation_told}
 use Rattle.mm_check.proofs.why.push_explanation.Goals as goal
 
 pub cause_of-requires-clause-proof : goal.cause_of-requires-clause-proof
@@ -73,10 +74,31 @@ pub push_cause-requires-clause-cause : goal.push_cause-requires-clause-cause
 push_cause-requires-clause-cause c =
     (texts c.deref.result.now, c.fault_in-fault.result.1, c.in_ok-cause.ensures)
 
+pub push_hypothesis_places-requires : goal.push_hypothesis_places-requires
+push_hypothesis_places-requires c =
+    let r = c.requires.refused in
+    refused_place r c.last_number-id.result.0 (c.args.refusal.now.statement - 1) refl
+    (c.last_number-id.ensures (sentences r.before) (told_parts r))
+
+pub unknown_label-requires : goal.unknown_label-requires
+unknown_label-requires c =
+    let r = c.requires.refused in (
+      c.args.profile,
+      c.args.book.now.statements,
+      c.last_number-id.result.0,
+      length (sentences r.before),
+      sentence_of (plain_statement c.args.statement.now),
+      texts c.deref.result.now,
+      c.fault_in-fault.result.1,
+      c.last_number-id.ensures (sentences r.before) (told_parts r),
+      c.in_ok-cause.ensures,
+    )
+
 pub returns : goal.returns
 returns c =
     let r = c.requires.refused in
     let st = c.args.book.now.statements in
+    let files : List PlainFile = map plain_file c.args.files.now in
     let id = c.last_number-id.result.0 in
     let rule = c.fault_in-fault.result.0 in
     let step = c.fault_in-fault.result.1 in
@@ -90,18 +112,22 @@ returns c =
     (subst
     (λ (ts : List (List ℕ)). IsCauseOf c.args.profile st id ts rule step c.in_ok-cause.cause) same
     caused) in
-    on_ok_weaker c.push_cause.result
-    (λ told.
-    let (details, facts, put) = told tokens step caused index (sentence_of s) mine in (
-      head_text (map plain_file c.args.files.now) c.fault_place.result
-          (plain_refusal c.args.refusal.now)
-          ++ details_text details,
-      explained_there r id mine tokens (ap texts c.deref.ensures.value ∙ c.in_ok-tokens.ensures)
-          rule step c.fault_in-fault.ensures.rule c.fault_in-fault.ensures.step
-          c.fault_place.result place details facts,
-      put ∙ ap (λ (o : List ℕ). o ++ details_text details) c.in_ok-push_head.ensures
-          ∙ append_assoc c.args.out.now.items
-          (head_text (map plain_file c.args.files.now) c.fault_place.result
-          (plain_refusal c.args.refusal.now)) (details_text details),
-    ))
-    c.push_cause.ensures
+    let placed = refused_place r id (c.args.refusal.now.statement - 1) refl mine in
+    let own = ap texts c.deref.ensures.value ∙ c.in_ok-tokens.ensures in
+    let (details, facts, put) =
+    c.in_ok-push_cause.ensures tokens step caused index (sentence_of s) mine in
+    let head = head_text files c.fault_place.result (plain_refusal c.args.refusal.now) in
+    let (places, stand, more) = c.in_ok-push_hypothesis_places.ensures placed c.args.profile step
+    (subst
+    (λ (ts : List (List ℕ)). IsCauseOf c.args.profile st id ts rule step c.in_ok-cause.cause) own
+    caused) in (
+      head ++ details_text (details ++ places),
+      explained_there r id mine tokens own rule step c.fault_in-fault.ensures.rule
+          c.fault_in-fault.ensures.step c.fault_place.result place details facts places stand
+          (option_map (λ l. l.now) c.unknown_label.result)
+          (c.unknown_label.ensures c.args.profile st id index (sentence_of s) tokens step mine
+          caused),
+      explanation_told c.args.out.now.items head details places c.push_head.new.out.items
+          c.push_cause.new.out.items c.push_hypothesis_places.new.out.items
+          c.in_ok-push_head.ensures put more,
+    )
