@@ -1,0 +1,274 @@
+//! The conclusions that match patterns, found by what their variables are bound to.
+
+ghost use Rattle.std.specs.Prelude.{◌≤◌};
+
+use crate::budget::Budget;
+use crate::patterns::Placed;
+use crate::trie::next_number;
+use indexmap::IndexMap;
+use mm_text::Seed;
+use std::alloc::{AllocError, Global};
+
+const MASK_BITS: usize = 64;
+
+/// A conclusion that matches a pattern.
+#[derive(Clone, Copy)]
+pub(crate) struct Row {
+    /// The pattern's number.
+    pub(crate) pattern: u32,
+    /// The node of the conclusion.
+    pub(crate) conclusion: u32,
+    // Where the bindings of the pattern's variables stand.
+    start: usize,
+    end: usize,
+}
+
+// Some variables of a pattern, as bits by their numbers.
+#[derive(Clone, Copy, PartialEq, Eq, Hash)]
+struct Mask {
+    pattern: u32,
+    bits: u64,
+}
+
+// Some variables of a pattern, and a hash of what they are bound to. Two bindings may have one
+// hash: so who takes a row looks at its bindings again.
+#[derive(Clone, Copy, PartialEq, Eq, Hash)]
+struct Key {
+    mask: Mask,
+    bound: u64,
+}
+
+/// The number of a list with no rows.
+const NO_ROWS: u32 = 0;
+
+/// Rows, and lists of some of them: for each pattern those that were listed, and for some variables
+/// of a pattern and what they are bound to those that may agree with that.
+#[derive(Drop)]
+pub(crate) struct Matches {
+    alloc: Global,
+    rows: Vec<Row>,
+    bindings: Vec<u32>,
+    lists: Vec<Vec<u32>>,
+    /// By pattern, the number of its list.
+    by_pattern: Vec<u32>,
+    by_key: IndexMap<Key, u32, Seed>,
+    /// The variables of patterns whose lists were made.
+    made: IndexMap<Mask, (), Seed>,
+}
+
+impl Matches {
+    /// No rows, of so many patterns; the hashes of what lists are found by begin from the seed.
+    pub(crate) fn new(alloc: Global, seed: Seed, patterns: u32) -> Result<Matches, AllocError> {
+        let mut matches = Matches {
+            alloc,
+            rows: Vec::new(alloc),
+            bindings: Vec::new(alloc),
+            lists: Vec::new(alloc),
+            by_pattern: vec![in alloc; NO_ROWS; patterns as usize]?,
+            by_key: IndexMap::with_hasher(alloc, seed),
+            made: IndexMap::with_hasher(alloc, seed),
+        };
+        matches.add_list()?;
+        Ok(matches)
+    }
+
+    /// How many rows there are.
+    pub(crate) fn len(&self) -> usize {
+        self.rows.len()
+    }
+
+    /// The row with an index.
+    pub(crate) fn row(&self, index: usize) -> Option<Row> {
+        self.rows.get(index).copied()
+    }
+
+    /// For each variable of a row's pattern the node of the syntax that replaces it.
+    pub(crate) fn bindings(&self, row: Row) -> &[u32] {
+        if row.start <= row.end && row.end <= self.bindings.len() {
+            &self.bindings[row.start..row.end]
+        } else {
+            &[]
+        }
+    }
+
+    /// Adds a row, which is in no list.
+    pub(crate) fn add(
+        &mut self,
+        pattern: u32,
+        conclusion: u32,
+        bindings: &[u32],
+    ) -> Result<(), AllocError> {
+        let start = self.bindings.len();
+        self.bindings.extend_from_slice(bindings)?;
+        self.rows.push(Row {
+            pattern,
+            conclusion,
+            start,
+            end: self.bindings.len(),
+        })?;
+        Ok(())
+    }
+
+    /// Puts the rows into the lists of their patterns.
+    pub(crate) fn list_all(&mut self) -> Result<(), AllocError> {
+        for index in 0..self.rows.len() {
+            if let Some(row) = self.row(index) {
+                let list = self.list_for(row.pattern)?;
+                self.put(list, index)?;
+            }
+        }
+        Ok(())
+    }
+
+    /// Whether the pattern has a row that was listed.
+    pub(crate) fn has(&self, pattern: u32) -> bool {
+        self.list_of(pattern) != NO_ROWS
+    }
+
+    /// The indices of the rows in the list with a number.
+    pub(crate) fn list(&self, list: u32) -> &[u32] {
+        match self.lists.get(list as usize) {
+            Some(indices) => indices,
+            None => &[],
+        }
+    }
+
+    /// The number of the list of the rows of a pattern that may agree with what is bound at its
+    /// places.
+    pub(crate) fn find(
+        &mut self,
+        placed: &Placed,
+        bound: &[Option<u32>],
+        budget: &mut Budget,
+    ) -> Result<u32, AllocError>
+        ensures { budget.new ≤ budget.old }
+    {
+        let all = self.list_of(placed.pattern);
+        if all == NO_ROWS {
+            return Ok(NO_ROWS);
+        }
+        let key = key_at(placed, bound);
+        if key.mask.bits == 0 {
+            return Ok(all);
+        }
+        if self.made.get(&key.mask).is_none() {
+            self.make(all, key.mask, budget)?;
+        }
+        Ok(self.by_key.get(&key).copied().unwrap_or(NO_ROWS))
+    }
+
+    // The number of the list of a pattern.
+    fn list_of(&self, pattern: u32) -> u32 {
+        self.by_pattern
+            .get(pattern as usize)
+            .copied()
+            .unwrap_or(NO_ROWS)
+    }
+
+    // The number of the list of a pattern, which is made where there is none.
+    fn list_for(&mut self, pattern: u32) -> Result<u32, AllocError> {
+        let list = self.list_of(pattern);
+        if list != NO_ROWS {
+            return Ok(list);
+        }
+        let list = self.add_list()?;
+        if let Some(place) = self.by_pattern.get_mut(pattern as usize) {
+            *place = list;
+        }
+        Ok(list)
+    }
+
+    // The number of the list of a key, which is made where there is none.
+    fn list_at(&mut self, key: Key) -> Result<u32, AllocError> {
+        if let Some(list) = self.by_key.get(&key) {
+            return Ok(*list);
+        }
+        let list = self.add_list()?;
+        self.by_key.insert(key, list)?;
+        Ok(list)
+    }
+
+    // Adds a list of no rows, and answers its number.
+    fn add_list(&mut self) -> Result<u32, AllocError> {
+        let list = next_number(self.lists.len());
+        self.lists.push(Vec::new(self.alloc))?;
+        Ok(list)
+    }
+
+    // Puts the index of a row into a list.
+    fn put(&mut self, list: u32, row: usize) -> Result<(), AllocError> {
+        let row = next_number(row);
+        if let Some(list) = self.lists.get_mut(list as usize) {
+            list.push(row)?;
+        }
+        Ok(())
+    }
+
+    // Makes the lists of some variables of a pattern, all of whose rows stand in a list.
+    fn make(&mut self, all: u32, mask: Mask, budget: &mut Budget) -> Result<(), AllocError>
+        ensures { budget.new ≤ budget.old }
+    {
+        self.made.insert(mask, ())?;
+        for at in 0..self.list(all).len() {
+            if !budget.take(1) {
+                break;
+            }
+            let index = self.list(all).get(at).copied().unwrap_or(0) as usize;
+            if let Some(row) = self.row(index) {
+                let key = key_in(mask, self.bindings(row));
+                let list = self.list_at(key)?;
+                self.put(list, index)?;
+            }
+        }
+        Ok(())
+    }
+}
+
+// The bit of a variable with a number.
+fn bit(number: usize) -> u64 {
+    if number < MASK_BITS {
+        1 << number as u32
+    } else {
+        0
+    }
+}
+
+// A hash of what was bound before, and of one thing more.
+fn mixed(bound: u64, more: u32) -> u64 {
+    (bound.rotate_left(7) ^ more as u64).wrapping_mul(0x9E37_79B9_7F4A_7C15)
+}
+
+// What is bound at a place.
+fn bound_at(bound: &[Option<u32>], place: u32) -> Option<u32> {
+    bound.get(place as usize).copied().flatten()
+}
+
+// The variables of a pattern that are bound at its places, and what they are bound to.
+fn key_at(placed: &Placed, bound: &[Option<u32>]) -> Key {
+    let mut bits = 0;
+    let mut hash = 1;
+    for (number, place) in placed.places.iter().enumerate() {
+        if let Some(value) = bound_at(bound, *place) {
+            bits |= bit(number);
+            hash = mixed(hash, value);
+        }
+    }
+    Key {
+        mask: Mask {
+            pattern: placed.pattern,
+            bits,
+        },
+        bound: hash,
+    }
+}
+
+// These variables of a pattern, and what a row binds them to.
+fn key_in(mask: Mask, bindings: &[u32]) -> Key {
+    let mut hash = 1;
+    for (number, value) in bindings.iter().enumerate() {
+        if mask.bits & bit(number) != 0 {
+            hash = mixed(hash, *value);
+        }
+    }
+    Key { mask, bound: hash }
+}

@@ -1,0 +1,253 @@
+//! Steps that one hypothesis is missing for, which has to be proved in one step more.
+
+ghost use Rattle.std.specs.Prelude.{◌≤◌};
+
+use crate::assertions::{Library, Template};
+use crate::budget::Budget;
+use crate::goals::Goal;
+use crate::graph::{Edge, Graph, Origin};
+use crate::join::children_of;
+use indexmap::IndexMap;
+use mm_frame::{Piece, Sym};
+use mm_text::Seed;
+use std::alloc::{AllocError, Global};
+
+/// Of one assertion no more steps are opened in a proof.
+pub const OPEN_EACH: u32 = 30;
+
+/// No more steps are opened in a proof.
+pub const MOST_OPEN: usize = 400_000;
+
+/// No more missing hypotheses are sought in a proof.
+pub const MOST_WANTED: usize = 2_000;
+
+/// A step that a hypothesis is missing for.
+#[derive(Drop)]
+pub(crate) struct Open {
+    /// The node that it would derive.
+    pub(crate) goal: u32,
+    /// How many steps it could save.
+    pub(crate) gain: u64,
+    /// The number of the assertion's template.
+    pub(crate) number: u32,
+    /// The index of the missing `$e` among the `$e`.
+    pub(crate) essential: usize,
+    /// For each mandatory hypothesis but the missing one the node that meets it.
+    pub(crate) nodes: Vec<Option<u32>>,
+}
+
+/// The steps of a proof that a hypothesis is missing for.
+#[derive(Drop)]
+pub(crate) struct Opened {
+    steps: Vec<Open>,
+    /// For each template how many there are of it.
+    counts: IndexMap<u32, u32, Seed>,
+}
+
+// Steps by assertions that are rare in a proof come first, and of these the ones that could save
+// most.
+#[derive(Clone, Copy, PartialEq, Eq, PartialOrd, Ord)]
+struct Rank {
+    count: u32,
+    loss: u64,
+    index: usize,
+}
+
+// A step whose missing hypothesis has a node.
+#[derive(Drop)]
+struct Wanting {
+    goal: u32,
+    missing: u32,
+    edge: Edge,
+}
+
+/// The steps that wait for missing hypotheses to be proved, and these.
+#[derive(Drop)]
+pub(crate) struct Wanted {
+    waiting: Vec<Wanting>,
+    /// What is sought: each missing hypothesis, with how many steps it could save.
+    pub(crate) goals: Vec<Goal>,
+    /// By node, the index among the goals.
+    by_node: IndexMap<u32, usize, Seed>,
+}
+
+impl Opened {
+    /// No steps, whose hashes begin from the seed. It takes no memory.
+    pub(crate) fn new(alloc: Global, seed: Seed) -> Opened {
+        Opened {
+            steps: Vec::new(alloc),
+            counts: IndexMap::with_hasher(alloc, seed),
+        }
+    }
+
+    /// Whether there may be one more by a template.
+    pub(crate) fn may_open(&self, number: u32) -> bool {
+        self.count(number) < OPEN_EACH && self.steps.len() < MOST_OPEN
+    }
+
+    /// Adds a step.
+    pub(crate) fn add(&mut self, open: Open) -> Result<(), AllocError> {
+        let count = self.count(open.number).saturating_add(1);
+        self.counts.insert(open.number, count)?;
+        self.steps.push(open)?;
+        Ok(())
+    }
+
+    // How many there are by a template.
+    fn count(&self, number: u32) -> u32 {
+        self.counts.get(&number).copied().unwrap_or(0)
+    }
+
+    // The steps in the order in which their hypotheses are sought.
+    fn ranked(&self, alloc: Global) -> Result<Vec<Rank>, AllocError> {
+        let mut ranks = Vec::with_capacity(alloc, self.steps.len())?;
+        for (index, step) in self.steps.iter().enumerate() {
+            ranks.push(Rank {
+                count: self.count(step.number),
+                loss: u64::MAX - step.gain,
+                index,
+            })?;
+        }
+        ranks.sort_unstable();
+        Ok(ranks)
+    }
+
+    /// The hypotheses that are missing, each as a node of the graph.
+    pub(crate) fn wanted(
+        &self,
+        library: &Library,
+        graph: &mut Graph,
+        budget: &mut Budget,
+    ) -> Result<Wanted, AllocError>
+        ensures { budget.new ≤ budget.old }
+    {
+        let mut wanted = Wanted {
+            waiting: Vec::new(library.alloc),
+            goals: Vec::new(library.alloc),
+            by_node: IndexMap::with_hasher(library.alloc, library.seed),
+        };
+        match self.want_all(library, graph, &mut wanted, budget) {
+            Ok(()) => Ok(wanted),
+            Err(error) => {
+                drop(wanted);
+                Err(error)
+            }
+        }
+    }
+
+    // Wants the hypotheses that are missing, as many as may be sought.
+    fn want_all(
+        &self,
+        library: &Library,
+        graph: &mut Graph,
+        wanted: &mut Wanted,
+        budget: &mut Budget,
+    ) -> Result<(), AllocError>
+        ensures { budget.new ≤ budget.old }
+    {
+        for rank in &self.ranked(library.alloc)? {
+            if wanted.goals.len() >= MOST_WANTED || !budget.take(1) {
+                break;
+            }
+            if let Some(step) = self.steps.get(rank.index) {
+                if let Some(template) = library.template(step.number) {
+                    wanted.add(library.alloc, step, template, graph, budget)?;
+                }
+            }
+        }
+        Ok(())
+    }
+}
+
+impl Wanted {
+    /// Adds the edges of the steps whose missing hypotheses were proved.
+    pub(crate) fn add_proved(self, graph: &mut Graph) -> Result<(), AllocError> {
+        for wanting in self.waiting {
+            if graph.is_known(wanting.missing) {
+                graph.add(wanting.goal, wanting.edge)?;
+            }
+        }
+        Ok(())
+    }
+
+    // Adds a step by a template.
+    fn add(
+        &mut self,
+        alloc: Global,
+        step: &Open,
+        template: &Template,
+        graph: &mut Graph,
+        budget: &mut Budget,
+    ) -> Result<(), AllocError>
+        ensures { budget.new ≤ budget.old }
+    {
+        let Some(essential) = template.essentials.get(step.essential) else {
+            return Ok(());
+        };
+        let expression = instance(alloc, graph, &essential.pieces, &step.nodes, budget)?;
+        let before = graph.expressions.len();
+        let missing = graph.node(&expression)?;
+        if missing == step.goal {
+            return Ok(());
+        }
+        self.want(missing, before, step.gain)?;
+        self.waiting.push(Wanting {
+            goal: step.goal,
+            missing,
+            edge: Edge {
+                label: template.label.0,
+                children: children_of(alloc, &step.nodes, missing)?,
+                origin: Origin::Missing,
+            },
+        })?;
+        Ok(())
+    }
+
+    // Wants a node, unless it was there among so many nodes before anything was wanted.
+    fn want(&mut self, node: u32, before: usize, gain: u64) -> Result<(), AllocError> {
+        if let Some(index) = self.by_node.get(&node).copied() {
+            if let Some(goal) = self.goals.get_mut(index) {
+                goal.steps = goal.steps.max(gain);
+            }
+        } else if node as usize >= before {
+            self.by_node.insert(node, self.goals.len())?;
+            self.goals.push(Goal {
+                node,
+                steps: gain,
+                exclusive: 0,
+            })?;
+        }
+        Ok(())
+    }
+}
+
+// What the pieces say where these nodes meet the hypotheses.
+fn instance(
+    alloc: Global,
+    graph: &Graph,
+    pieces: &[Piece],
+    nodes: &[Option<u32>],
+    budget: &mut Budget,
+) -> Result<Vec<Sym>, AllocError>
+    ensures { budget.new ≤ budget.old }
+{
+    let mut expression = Vec::new(alloc);
+    for piece in pieces {
+        match *piece {
+            Piece::Symbol(symbol) => expression.push(symbol)?,
+            Piece::Value(place) => {
+                let node = nodes
+                    .get(place as usize)
+                    .copied()
+                    .flatten()
+                    .unwrap_or(u32::MAX);
+                let value = graph.expressions.get(node);
+                budget.take(value.len());
+                if let [_, symbols @ ..] = value {
+                    expression.extend_from_slice(symbols)?;
+                }
+            }
+        }
+    }
+    Ok(expression)
+}
