@@ -136,12 +136,26 @@ fn nearest_code<'t>(
     Ok(nearest)
 }
 
-/// What is said of a code that no rule has.
+/// Whether a text has the form of a code: a letter, and then digits.
+fn has_code_form(text: &str) -> bool {
+    let Some((first, digits)) = text.as_bytes().split_first() else {
+        return false;
+    };
+    first.is_ascii_alphabetic()
+        && !digits.is_empty()
+        && digits.iter().all(|byte| byte.is_ascii_digit())
+}
+
+/// What is said of a text that is no rule's code. Another code is near only to one that has the form
+/// of a code.
 fn unknown_code(
     alloc: Global,
     chapters: &[&[RuleText<'_>]],
     code: &str,
 ) -> Result<String, AllocError> {
+    if !has_code_form(code) {
+        return format!(in alloc; "mm: no rule has the code {code}\n`mm explain` lists all codes\n");
+    }
     let nearest = nearest_code(alloc, chapters, code)?;
     format!(in alloc;
         "mm: no rule has the code {code}; the nearest is {nearest}\n`mm explain` lists all codes\n"

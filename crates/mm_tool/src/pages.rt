@@ -64,9 +64,11 @@ Example:
 
 const WHY: &str = "Usage: mm why [--strict] FILES..
 
-Checks a database as `mm faults` does, and explains the faults that it lists, at
-most ten: where each stands, the rule and its meaning, and the facts that show
-it, as what a step's hypotheses ask and what its entries give.
+Checks a database as `mm faults` does, and explains the faults that it lists:
+where each stands, the rule and its meaning, and the facts that show it, as what
+a step's hypotheses ask and what its entries give. Of faults of proofs it
+explains the first ten. A fault that ended the run is explained last, always:
+look at that one first.
 
 Options:
   --strict   as for check: `mm help check`
@@ -85,7 +87,8 @@ const AXIOMS: &str = "Usage: mm axioms LABEL FILES..
        mm axioms --all FILES..
 
 Checks the database, and lists the axioms that the theorem with this label
-rests on, in the order of the database.
+rests on, in the order of the database. Those are all `$a` statements: in set.mm
+syntax and definitions too, and the axioms proper begin with `ax-`.
 
 Options:
   --all   what each theorem rests on, a line for each
@@ -110,6 +113,7 @@ Replies:
 
 Examples:
   mm axioms id set.mm
+  mm axioms id set.mm | grep '^ax-'
   mm axioms --all set.mm
 ";
 
@@ -288,7 +292,8 @@ Examples:
 const SAME: &str = "Usage: mm same LABEL PROOF FILES..
 
 Checks the database, and tells whether the text in the file PROOF is the same
-proof as that of the theorem with this label.
+proof as that of the theorem with this label: only what stands between `$=` and
+`$.`, in any form.
 
 Replies:
   same                                                              status 0
@@ -317,6 +322,10 @@ Tells whether the text in the file PROOF is a proof of the theorem with this
 label, whatever stands in the files as its proof. No other proof is judged, and
 nothing after the theorem is read.
 
+The text is only what stands between `$=` and `$.`, in any form. PROOF comes
+before FILES: where they are exchanged, the reply is about the text, taken for a
+database, as `no proof.txt 1 - S2 0`.
+
 Replies:
   proof                                                             status 0
       The text is a proof of the theorem.
@@ -344,7 +353,7 @@ line that names one, pasted, does as well. Without a code, lists all codes.
 
 Replies:
   the rule, or the codes, one on each line                          status 0
-  Where no rule has the code, standard error names the nearest.     status 2
+  Where no rule has the code, standard error says so.               status 2
 
 Example:
   mm explain P8

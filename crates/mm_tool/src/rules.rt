@@ -167,8 +167,8 @@ The reply:
         text: "X9: a token outside comments and inclusions holds `$` and is no keyword. Place:
 that token.
 Usual cause: a keyword is misspelled or touches a word, as in `b$.`.
-Remedy: write white space before and after each keyword; in a text for `mm
-same`, write the proof alone, without a `$`.
+Remedy: write white space before and after each keyword; in a text for `mm try`
+or `mm same`, write only what stands between `$=` and `$.`.
 
 This file breaks it:
     $c a $.
@@ -308,7 +308,7 @@ const MEANING: &[RuleText<'static>] = &[
     RuleText {
         code: "M1",
         text: "M1: a `$c` stands in a block.
-Place: the statement's first token.
+Line: that where the statement begins; `mm why` tells the place in it.
 Usual cause: the `$}` of a block before is missing, or a constant was declared
 beside the hypotheses that use it.
 Remedy: close the block before the `$c`, or move the `$c` out of it.
@@ -326,7 +326,7 @@ The reply:
         code: "M2",
         text: "M2: a symbol of a `$c` was declared before, as a constant or a variable, active
 or not; or it stands twice in the `$c`.
-Place: the statement's first token.
+Line: that where the statement begins; `mm why` tells the place in it.
 Usual cause: two places of the database declare the same symbol.
 Remedy: delete one of the two declarations, or give one of the symbols another
 name.
@@ -343,7 +343,7 @@ The reply:
         code: "M3",
         text: "M3: a symbol of a `$v` is an active variable, was declared a constant, or stands
 twice in the `$v`.
-Place: the statement's first token.
+Line: that where the statement begins; `mm why` tells the place in it.
 Usual cause: the variable is declared in the same block before, or in one around
 it.
 Remedy: delete the second declaration, or give the variable another name.
@@ -358,7 +358,7 @@ The reply:
     RuleText {
         code: "M4",
         text: "M4: a symbol of a `$c` or `$v` equals an earlier label.
-Place: the statement's first token.
+Line: that where the statement begins; `mm why` tells the place in it.
 Usual cause: a statement has the name of a symbol that is declared further down.
 Remedy: give the symbol or the statement another name.
 
@@ -373,7 +373,7 @@ The reply:
     RuleText {
         code: "M5",
         text: "M5: the label equals an earlier label, also one in a closed block.
-Place: the statement's first token.
+Line: that where the statement begins; `mm why` tells the place in it.
 Usual cause: a statement was copied, and its label wasn't changed, or another
 label was written over the statement's own.
 Remedy: give the statement a label that no other has in the whole database.
@@ -389,7 +389,7 @@ The reply:
     RuleText {
         code: "M6",
         text: "M6: the label equals a symbol that was declared before, active or not.
-Place: the statement's first token.
+Line: that where the statement begins; `mm why` tells the place in it.
 Usual cause: a statement has the name of a symbol.
 Remedy: give the statement another label.
 
@@ -404,7 +404,7 @@ The reply:
         code: "M7",
         text: "M7: a symbol of a `$d`, `$f`, `$e`, `$a` or `$p` isn't active: it was never
 declared, or only in a block that is closed.
-Place: the statement's first token.
+Line: that where the statement begins; `mm why` tells the place in it.
 Usual cause: the symbol is misspelled, touches another as in `(x`, or was
 declared in a block that is closed.
 Remedy: spell the symbol as its declaration does, with white space around it, or
@@ -420,7 +420,7 @@ The reply:
     RuleText {
         code: "M8",
         text: "M8: a member of a `$d` is a constant.
-Place: the statement's first token.
+Line: that where the statement begins; `mm why` tells the place in it.
 Usual cause: a constant has a name that is like that of the variable that was
 meant.
 Remedy: name variables alone in a `$d`.
@@ -436,7 +436,7 @@ The reply:
     RuleText {
         code: "M9",
         text: "M9: a member stands twice in a `$d`.
-Place: the statement's first token.
+Line: that where the statement begins; `mm why` tells the place in it.
 Usual cause: a variable was meant to be another one.
 Remedy: name each variable of a `$d` once.
 
@@ -451,7 +451,7 @@ The reply:
     RuleText {
         code: "M10",
         text: "M10: the type code of a `$f` is a variable.
-Place: the statement's first token.
+Line: that where the statement begins; `mm why` tells the place in it.
 Usual cause: the type code and the variable are swapped.
 Remedy: write the type code first, a constant, and then the variable.
 
@@ -465,7 +465,7 @@ The reply:
     RuleText {
         code: "M11",
         text: "M11: the second symbol of a `$f` is a constant.
-Place: the statement's first token.
+Line: that where the statement begins; `mm why` tells the place in it.
 Usual cause: a symbol that was meant to be a variable is declared by `$c`.
 Remedy: declare the symbol by `$v`, or name a variable in its place.
 
@@ -479,7 +479,7 @@ The reply:
     RuleText {
         code: "M12",
         text: "M12: the variable of a `$f` has an active `$f`.
-Place: the statement's first token.
+Line: that where the statement begins; `mm why` tells the place in it.
 Usual cause: the variable was given a type code before, in this block or in one
 around it.
 Remedy: delete the second `$f`, or use another variable.
@@ -496,7 +496,7 @@ The reply:
         code: "M13",
         text: "M13: an earlier `$f`, active or not, gave the variable of that name another type
 code.
-Place: the statement's first token.
+Line: that where the statement begins; `mm why` tells the place in it.
 Usual cause: a variable's name is used in two blocks for two types.
 Remedy: use a variable of another name for the other type.
 
@@ -512,7 +512,7 @@ The reply:
     RuleText {
         code: "M14",
         text: "M14: the first symbol of an `$e`, `$a` or `$p` is a variable.
-Place: the statement's first token.
+Line: that where the statement begins; `mm why` tells the place in it.
 Usual cause: the type code before the expression, as `|-`, is missing.
 Remedy: begin the expression with a constant.
 
@@ -526,7 +526,7 @@ The reply:
     RuleText {
         code: "M15",
         text: "M15: a variable in an `$e`, `$a` or `$p` has no active `$f`.
-Place: the statement's first token.
+Line: that where the statement begins; `mm why` tells the place in it.
 Usual cause: the `$f` of the variable is missing, or stands in a block that is
 closed.
 Remedy: give the variable a type code by a `$f` before the statement.
@@ -549,7 +549,7 @@ const PROOFS: &[RuleText<'static>] = &[
         code: "P1",
         text: "P1: the first token of a complete proof is `(`, and there is no `)` among the
 others. Step 0.
-Place: the statement's first token.
+Line: that where the statement begins; `mm why` tells the place in the proof.
 Usual cause: the `)` after the listed labels is missing, or touches a word.
 Remedy: write the `)` between the labels and the letters, with white space on
 both sides.
@@ -567,11 +567,11 @@ The reply:
         text: "P2: the proof names a label, in a normal proof or in the list of a compressed
 one, that isn't that of a statement before this `$p`. Step 0, whatever the steps
 before it do, and whether or not a listed label is used.
-Place: the statement's first token.
-Usual cause: a label is misspelled, or is that of a statement further down; the
-line is that of the theorem, not of the label.
-Remedy: spell each label of the proof as its statement does, or move the theorem
-below the statements that it uses.
+Line: that where the statement begins; `mm why` tells the place in the proof.
+Usual cause: a label is misspelled, or is that of a statement further down.
+Remedy: `mm why` tells where the label stands, and one that is near: spell each
+label of the proof as its statement does, or move the theorem below the
+statements that it uses.
 
 This file breaks it:
     $c a $. p $p a $= p $.
@@ -583,7 +583,7 @@ The reply:
     RuleText {
         code: "P3",
         text: "P3: a label is that of a hypothesis that isn't active. Step 0.
-Place: the statement's first token.
+Line: that where the statement begins; `mm why` tells the place in the proof.
 Usual cause: the proof uses a hypothesis of another theorem, whose block is
 closed.
 Remedy: use the hypotheses of the theorem's own block, or state the hypothesis
@@ -601,7 +601,7 @@ The reply:
     RuleText {
         code: "P4",
         text: "P4: a byte of the letters isn't one of `A` to `Z`. Step 0.
-Place: the statement's first token.
+Line: that where the statement begins; `mm why` tells the place in the proof.
 Usual cause: a label stands after the `)`, or a small letter or another
 character came among the letters.
 Remedy: write labels before the `)` and capitals alone after it.
@@ -618,7 +618,7 @@ The reply:
         code: "P5",
         text: "P5: leading digits are followed by `Z`, by the end of the letters, or by a `?`.
 Step 0.
-Place: the statement's first token.
+Line: that where the statement begins; `mm why` tells the place in the proof.
 Usual cause: letters were lost as the proof was copied.
 Remedy: copy the letters again, or replace the proof.
 
@@ -636,7 +636,7 @@ The reply:
 hypothesis, or a label twice; or a `Z` doesn't stand directly after a number of
 a listed label that is an assertion's. Step 0; it is judged over the whole
 proof, after P5.
-Place: the statement's first token.
+Line: that where the statement begins; `mm why` tells the place in the proof.
 Usual cause: the program that wrote the proof tags hypotheses, or lists a label
 that has a number already.
 Remedy: write the proof anew by `mm packed --file`, or all proofs of a file by
@@ -655,7 +655,7 @@ The reply to `mm check --strict f.mm`:
         code: "P6",
         text: "P6: a number in the letters exceeds m + n + t, with m mandatory hypotheses, n
 listed labels and t tags so far.
-Place: the statement's first token.
+Line: that where the statement begins; `mm why` tells the place in the proof.
 Usual cause: a label is missing in the list, or a `Z` in the letters, or
 hypotheses of the theorem were removed after the proof was made.
 Remedy: restore the labels and hypotheses that the letters number, or replace
@@ -674,7 +674,7 @@ The reply:
         code: "P7",
         text: "P7: a `Z` comes before any step. Step 1, and it is judged before P6 there. Under
 the strict profile it is P15.
-Place: the statement's first token.
+Line: that where the statement begins; `mm why` tells the place in the proof.
 Usual cause: letters were lost at the beginning as the proof was copied.
 Remedy: copy the letters again, or delete the `Z`.
 
@@ -690,7 +690,7 @@ The reply:
         code: "P8",
         text: "P8: the step's assertion has more mandatory hypotheses than the stack holds
 entries.
-Place: the statement's first token.
+Line: that where the statement begins; `mm why` tells the place in the proof.
 Usual cause: a step, or in a compressed proof a letter or a listed label, is
 missing, too many or swapped, perhaps many steps before; or the theorem has
 fewer hypotheses than when it was proved.
@@ -710,7 +710,7 @@ The reply:
         code: "P9",
         text: "P9: the entry that the step takes for a `$f` doesn't begin with the type code of
 that `$f`.
-Place: the statement's first token.
+Line: that where the statement begins; `mm why` tells the place in the proof.
 Usual cause: a step, or in a compressed proof a letter or a listed label, is
 missing, too many or swapped, perhaps many steps before; or the theorem has
 other hypotheses or variables than when it was proved, as where a `$}` before it
@@ -732,7 +732,7 @@ The reply:
         code: "P10",
         text: "P10: the entry that the step takes for an `$e` isn't that `$e` with its
 variables replaced.
-Place: the statement's first token.
+Line: that where the statement begins; `mm why` tells the place in the proof.
 Usual cause: the hypothesis that the assertion wants isn't what the proof gives:
 a wrong theorem or a wrong replacement of a variable stands in the proof; a
 step, a letter or a listed label is missing, too many or swapped, perhaps many
@@ -757,7 +757,7 @@ The reply:
         code: "P11",
         text: "P11: the step replaces two variables that its assertion keeps distinct by
 expressions that share a variable.
-Place: the statement's first token.
+Line: that where the statement begins; `mm why` tells the place in the proof.
 Usual cause: the proof puts a variable into two places of which the assertion's
 `$d` says that they have none in common.
 Remedy: put another variable into one of the two places, or use an assertion
@@ -778,7 +778,7 @@ The reply:
         text: "P12: the step replaces two variables that its assertion keeps distinct, and a
 variable of the one replacement and a variable of the other aren't an active
 distinct pair where the `$p` stands.
-Place: the statement's first token.
+Line: that where the statement begins; `mm why` tells the place in the proof.
 Usual cause: a `$d x y $.` is missing, or several are.
 Remedy: add the `$d` statements that `mm why` names before the theorem, in its
 block: they are all that the whole proof lacks, up to the first step that breaks
@@ -798,7 +798,7 @@ The reply:
         code: "L1",
         text: "L1: a step pushes an expression of more than 1,048,576 symbols, its type code
 counted; under the strict profile, of more than 16,777,216.
-Place: the statement's first token.
+Line: that where the statement begins; `mm why` tells the place in the proof.
 Usual cause: each of many steps repeats the expression of the step before.
 Remedy: prove the theorem by lemmas with shorter expressions.
 
@@ -816,12 +816,13 @@ The reply:
         code: "P13",
         text: "P13: at the end of a complete proof the stack doesn't hold exactly one entry. An
 empty proof leaves none, and its step is 1.
-Place: the statement's first token.
+Line: that where the statement begins; `mm why` tells the place in the proof.
 Usual cause: a step at the end is missing, a step anywhere before is one too
 many, a letter is wrong, or a block before the theorem isn't closed, so that it
 has one more hypothesis.
-Remedy: write the step that joins the entries, delete the step that is too many,
-or close the block with `$}`.
+Remedy: `mm why` lists the entries that are left, each with the step that made
+it: write the step that joins them, delete the step that is too many, or close
+the block with `$}`.
 
 This file breaks it:
     $c a b $. one $a a b $.
@@ -835,10 +836,11 @@ The reply:
         code: "P14",
         text: "P14: the one entry at the end of a complete proof isn't the expression of the
 `$p`.
-Place: the statement's first token.
+Line: that where the statement begins; `mm why` tells the place in the proof.
 Usual cause: the proof proves something else than the statement says, as where
 one of the two was changed.
-Remedy: change the statement, or the steps that lead to another expression.
+Remedy: `mm why` shows both, and from which symbol on they differ: change the
+statement, or the steps that lead to another expression.
 
 This file breaks it:
     $c a b $. one $a a b $.
