@@ -12,5 +12,7 @@ mod load;
 mod near;
 mod profiles;
 mod proof;
+mod remarks;
 mod save;
+mod shorter;
 mod text;

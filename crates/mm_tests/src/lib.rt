@@ -65,6 +65,8 @@ mod uses;
 #[cfg(test)]
 mod why;
 #[cfg(test)]
+mod why_hypotheses;
+#[cfg(test)]
 mod why_meaning;
 #[cfg(test)]
 mod why_text;

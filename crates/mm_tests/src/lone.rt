@@ -204,3 +204,74 @@ pub(crate) const NOT_FOUND: [(Command<'static>, Case); 6] = [
         },
     ),
 ];
+
+/// Theorems whose own proofs are at fault, each with what explains it at its place.
+pub(crate) const KNOWN_FAULTS: [(Command<'static>, Case); 3] = [
+    (
+        Lone {
+            label: b"th",
+            question: Known,
+        },
+        Case {
+            name: "a number isn't ended",
+            files: &[(
+                b"h.mm",
+                &[
+                    Text(FIRST_HEAD),
+                    Text(b"th $p term ( 0 + 0 ) $=\n  ( tze tpl ) AAU $.\n"),
+                ],
+            )],
+            reply: b"no h.mm 7 th P5 0
+h.mm:8:17: P5: a number in the letters isn't ended, in the proof of th
+",
+            status: 1,
+        },
+    ),
+    (
+        Lone {
+            label: b"th",
+            question: Known,
+        },
+        Case {
+            name: "a byte is no letter, before an unknown step",
+            files: &[(
+                b"h.mm",
+                &[
+                    Text(FIRST_HEAD),
+                    Text(b"th $p term ( 0 + 0 ) $=\n  ( tze tpl ) A\n AaB?B $.\n"),
+                ],
+            )],
+            reply: b"no h.mm 7 th P4 0
+h.mm:9:3: P4: a byte of the letters isn't one of A to Z, in the proof of th
+  token: AaB?B
+",
+            status: 1,
+        },
+    ),
+    (
+        Lone {
+            label: b"th",
+            question: Known,
+        },
+        Case {
+            name: "another expression is proved, after a fault of another proof",
+            files: &[(
+                b"h.mm",
+                &[
+                    Text(FIRST_HEAD),
+                    Text(b"no $p term 0 $= nope $.\nth $p term ( 0 + 0 ) $= tze\n  $.\n"),
+                ],
+            )],
+            reply: b"1 tze term 0
+no h.mm 8 th P14 2
+h.mm:9:3: P14: the proof proves something else than is stated, in the proof of th, at step 2
+  it states
+    term ( 0 + 0 )
+  but step 1 gives
+    term 0
+  they differ at symbol 2: 0 for (
+",
+            status: 1,
+        },
+    ),
+];

@@ -7,8 +7,8 @@ ghost use Rattle.mm_check.specs.Reply.{AsksHanded};
 use crate::databases::{DEMO, HEAD};
 use crate::{
     Case, Part, compressed, damaged, faults, files, incomplete, lone, names, one_file, orders,
-    prefixes, profiles, proofs, questions, scopes, statements, users, uses, why, why_meaning,
-    why_text,
+    prefixes, profiles, proofs, questions, scopes, statements, users, uses, why, why_hypotheses,
+    why_meaning, why_text,
 };
 use mm_check::{Checked, Command, Status, WholeQuestion, check, run};
 use mm_proof::Profile;
@@ -271,8 +271,23 @@ fn explained_faults(rt: HostRuntime) -> Result<(), Fail> {
 }
 
 #[test]
+fn explained_faults_with_hypotheses(rt: HostRuntime) -> Result<(), Fail> {
+    compare_commands(&rt, rt.alloc(), &why_hypotheses::HYPOTHESES)
+}
+
+#[test]
 fn explained_faults_of_the_text(rt: HostRuntime) -> Result<(), Fail> {
     compare_commands(&rt, rt.alloc(), &why_text::TEXTS)
+}
+
+#[test]
+fn explained_beginnings(rt: HostRuntime) -> Result<(), Fail> {
+    compare_commands(&rt, rt.alloc(), &why_text::BEGUN)
+}
+
+#[test]
+fn labels_stated_further_down(rt: HostRuntime) -> Result<(), Fail> {
+    compare_commands(&rt, rt.alloc(), &why_text::LATER)
 }
 
 #[test]
@@ -484,6 +499,11 @@ fn tried_texts(rt: HostRuntime) -> Result<(), Fail> {
 #[test]
 fn texts_without_tokens(rt: HostRuntime) -> Result<(), Fail> {
     compare_commands(&rt, rt.alloc(), &lone::NO_TOKENS)
+}
+
+#[test]
+fn known_faults(rt: HostRuntime) -> Result<(), Fail> {
+    compare_commands(&rt, rt.alloc(), &lone::KNOWN_FAULTS)
 }
 
 #[test]

@@ -128,7 +128,7 @@ pub(crate) const USES: [(Command<'static>, Case); 4] = [
     ),
 ];
 
-/// The steps alone that the last one is reached from through `$e`.
+/// The steps alone that are reached from the last one through `$e`.
 pub(crate) const ESSENTIAL: [(Command<'static>, Case); 3] = [
     (
         About {

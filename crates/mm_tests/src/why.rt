@@ -126,9 +126,9 @@ f.mm:14:6: M2: a symbol of a $c was declared before, or stands twice in it
   and q is
     r
   this step lacks: $d q r $.
-  the whole proof lacks: $d q r $.
   the whole proof lacks: $d p q $.
   the whole proof lacks: $d p r $.
+  the whole proof lacks: $d q r $.
 1 fault
 ",
             status: 1,
@@ -166,8 +166,8 @@ f.mm:14:6: M2: a symbol of a $c was declared before, or stands twice in it
   this step lacks: $d p s $.
   this step lacks: $d q s $.
   the whole proof lacks: $d p r $.
-  the whole proof lacks: $d q r $.
   the whole proof lacks: $d p s $.
+  the whole proof lacks: $d q r $.
   the whole proof lacks: $d q s $.
 1 fault
 ",
@@ -218,6 +218,7 @@ f.mm:14:6: M2: a symbol of a $c was declared before, or stands twice in it
                     Text(b"p3 $p a a $= ( one two ) A Z BC UF? $.\n"),
                     Text(b"p4 $p a a $= two $.\np5 $p a a $= one one\n  bad ? $.\n"),
                     Text(b"p6 $p a a $= one one $.\np7 $p a b $= ( one ) A $.\n"),
+                    Text(b"p8 $p a a $= ( one ) AZYYYYYYYYYYYYA $.\n"),
                 ],
             )],
             reply: b"f.mm:4:6: P6: a number exceeds those of hypotheses, listed labels and tags, \
@@ -250,7 +251,10 @@ f.mm:11:24: P14: the proof proves something else than is stated, in the proof of
   but step 1 gives
     a a
   they differ at symbol 2: a for b
-7 faults
+f.mm:12:36: P6: a number exceeds those of hypotheses, listed labels and tags, \
+in the proof of p8, at step 2
+  it repeats Z number 1000000000 or a later one, and there are 1
+8 faults
 ",
             status: 1,
         },
@@ -282,8 +286,12 @@ f.mm:5:3: P2: no earlier statement has the label, in the proof of p2
 f.mm:6:14: P1: the ( of a compressed proof isn't closed, in the proof of p3
 f.mm:7:18: P3: a hypothesis isn't active, in the proof of p4
   token: fy
+  stated: f.mm:2:4
+  its block ends: f.mm:2:45
 f.mm:8:20: P3: a hypothesis isn't active, in the proof of p5
   token: fy
+  stated: f.mm:2:4
+  its block ends: f.mm:2:45
 f.mm:9:23: P4: a byte of the letters isn't one of A to Z, in the proof of p6
   token: Aa
 f.mm:11:23: P5: a number in the letters isn't ended, in the proof of p7
@@ -318,6 +326,8 @@ f.mm:3:20: P2: no earlier statement has the label, in the proof of p2
   near: one
 f.mm:5:14: P3: a hypothesis isn't active, in the proof of p4
   token: fy
+  stated: f.mm:1:34
+  its block ends: f.mm:1:63
 f.mm:6:24: P4: a byte of the letters isn't one of A to Z, in the proof of p5
   token: aA?
 f.mm:7:25: P5: a number in the letters isn't ended, in the proof of p6

@@ -88,6 +88,7 @@ pub(crate) const TEXTS: [(Command<'static>, Case); 12] = [
             files: &[(b"f.mm", &[Text(b"$c a\nr $a a $.\n")])],
             reply: b"f.mm:2:3: S4: the keyword can't stand in this place
   token: $a
+  begun: f.mm:1:1
 1 fault
 ",
             status: 1,
@@ -208,6 +209,169 @@ pub(crate) const TEXTS: [(Command<'static>, Case); 12] = [
 f.mm:3:8: S4: the keyword can't stand in this place, in q
   token: $a
   begun: f.mm:3:1
+2 faults
+",
+            status: 1,
+        },
+    ),
+];
+
+/// Faults of the text in what begins before them, without a label.
+pub(crate) const BEGUN: [(Command<'static>, Case); 5] = [
+    (
+        Whole {
+            profile: Lenient,
+            question: WholeQuestion::Why,
+        },
+        Case {
+            name: "an inclusion isn't closed",
+            files: &[(b"f.mm", &[Text(b"$c a $.\n$[ g.mm\n$c b $.\n")])],
+            reply: b"f.mm:3:1: X5: an inclusion isn't of the form $[ NAME $]
+  token: $c
+  begun: f.mm:2:1
+1 fault
+",
+            status: 1,
+        },
+    ),
+    (
+        Whole {
+            profile: Lenient,
+            question: WholeQuestion::Why,
+        },
+        Case {
+            name: "a byte that no token may hold, in a comment in a statement",
+            files: &[(b"f.mm", &[Text(b"$c a $.\nq $a $( one\n\x01two $) a $.\n")])],
+            reply: b"f.mm:3:1: X1: a token holds a byte outside 0x21 to 0x7E, in q
+  token: \x01two
+  begun: f.mm:2:6
+1 fault
+",
+            status: 1,
+        },
+    ),
+    (
+        Whole {
+            profile: Lenient,
+            question: WholeQuestion::Why,
+        },
+        Case {
+            name: "a comment isn't closed, in a statement",
+            files: &[(b"f.mm", &[Text(b"$c a $.\nq $a a $( one\n$.\n")])],
+            reply: b"f.mm:2:8: X2: a comment isn't closed in its file, in q
+  token: $(
+  begun: f.mm:2:1
+1 fault
+",
+            status: 1,
+        },
+    ),
+    (
+        Whole {
+            profile: Lenient,
+            question: WholeQuestion::Why,
+        },
+        Case {
+            name: "an unlabelled statement isn't ended, in an included file",
+            files: &[
+                (b"f.mm", &[Text(b"$c a $.\n$[ g.mm $]\n")]),
+                (b"g.mm", &[Text(b"$v x $.\n  $d x y\n$c b $.\n")]),
+            ],
+            reply: b"g.mm:3:1: S4: the keyword can't stand in this place
+  token: $c
+  begun: g.mm:2:3
+1 fault
+",
+            status: 1,
+        },
+    ),
+    (
+        Whole {
+            profile: Lenient,
+            question: WholeQuestion::Why,
+        },
+        Case {
+            name: "a fault stands in no statement, and a comment of the other file isn't closed",
+            files: &[
+                (b"f.mm", &[Text(b"$[ g.mm $]\n$( no end")]),
+                (b"g.mm", &[Text(b"$c a $.\n$.\n")]),
+            ],
+            reply: b"g.mm:2:1: S1: the keyword begins no statement
+  token: $.
+1 fault
+",
+            status: 1,
+        },
+    ),
+];
+
+/// Proofs that use a label before it is stated.
+pub(crate) const LATER: [(Command<'static>, Case); 3] = [
+    (
+        Whole {
+            profile: Lenient,
+            question: WholeQuestion::Why,
+        },
+        Case {
+            name: "labels are stated further down, each first in another file",
+            files: &[
+                (
+                    b"f.mm",
+                    &[Text(b"$c a $.\np $p a $= q $.\nr $p a $= s $.\n$[ g.mm $]\nq $a a $.\n")],
+                ),
+                (b"g.mm", &[Text(b"s $a a $.\n q $e a $.\n")]),
+            ],
+            reply: b"f.mm:2:11: P2: no earlier statement has the label, in the proof of p
+  token: q
+  stated further down: g.mm:2:2
+f.mm:3:11: P2: no earlier statement has the label, in the proof of r
+  token: s
+  near: p
+  stated further down: g.mm:1:1
+f.mm:5:1: M5: the label is an earlier label, in q
+  token: q
+  labelled: g.mm:2:2
+3 faults
+",
+            status: 1,
+        },
+    ),
+    (
+        Whole {
+            profile: Lenient,
+            question: WholeQuestion::Why,
+        },
+        Case {
+            name: "a label is that of the statement itself",
+            files: &[(
+                b"f.mm",
+                &[Text(b"$c a $.\npone $a a $.\nptwo $p a $= ptwo $.\nr $a a $.\n")],
+            )],
+            reply: b"f.mm:3:14: P2: no earlier statement has the label, in the proof of ptwo
+  token: ptwo
+1 fault
+",
+            status: 1,
+        },
+    ),
+    (
+        Whole {
+            profile: Lenient,
+            question: WholeQuestion::Why,
+        },
+        Case {
+            name: "a label is near to one before, and is stated behind a fault of its own file",
+            files: &[(
+                b"f.mm",
+                &[Text(b"$c a $.\none $a a $.\np $p a $= onf $.\nonf $p a $= nope $.\n")],
+            )],
+            reply: b"f.mm:3:11: P2: no earlier statement has the label, in the proof of p
+  token: onf
+  near: one
+  stated further down: f.mm:4:1
+f.mm:4:13: P2: no earlier statement has the label, in the proof of onf
+  token: nope
+  near: one
 2 faults
 ",
             status: 1,

@@ -8,6 +8,7 @@ mod lacking;
 mod places;
 mod prefixes;
 mod prover;
+mod shorten;
 mod small;
 mod tokens;
 mod wholes;

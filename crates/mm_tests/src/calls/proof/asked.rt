@@ -6,7 +6,7 @@ ghost use Rattle.mm_proof.specs.Steps.{IsProofNumber};
 
 use crate::calls::proof::{Theorem, first_theorem};
 use mm_frame::{Book, Found, Sym};
-use mm_proof::{asked_by, missing_pairs, shared_variables};
+use mm_proof::{asked_by, missing_pairs, one_missing, one_shared, shared_variables};
 use mm_text::File;
 use std::alloc::Global;
 use std::test::Fail;
@@ -116,8 +116,9 @@ fn asks_so(alloc: Global, theorem: &Theorem) -> Result<bool, Fail>
     )
 }
 
-/// Whether the variable is shared, and listed once, where it stands twice.
-fn is_shared_once(alloc: Global, theorem: &Theorem) -> Result<bool, Fail>
+/// Whether the variables are shared that stand in both, each once, in the order of their
+/// declarations.
+fn are_shared_once(alloc: Global, theorem: &Theorem) -> Result<bool, Fail>
     requires { (index : ℕ) × (s : Sentence)
         × IsProofNumber theorem.now.book.statements theorem.now.id.0 index s }
 {
@@ -125,15 +126,17 @@ fn is_shared_once(alloc: Global, theorem: &Theorem) -> Result<bool, Fail>
     let [open, _] = hypothesis(book, b"ws")? else {
         return Err(Fail::from("no variable"));
     };
+    let q = variable(book, b"wq")?;
     let r = variable(book, b"wr")?;
     let s = variable(book, b"ws")?;
-    let first = [*open, s, r, s];
-    let second = [*open, s, s];
+    let first = [*open, s, q, r, s];
+    let second = [*open, s, s, r];
     let shared = shared_variables(alloc, book, theorem.id, &first, &second)?;
-    Ok(shared.as_slice() == [s].as_slice())
+    Ok(shared.as_slice() == [r, s].as_slice())
 }
 
-/// Whether only pairs that aren't active are missing, each once.
+/// Whether only pairs that aren't active are missing, each once, in the order of their
+/// declarations.
 fn are_missing_once(alloc: Global, theorem: &Theorem) -> Result<bool, Fail>
     requires { (index : ℕ) × (s : Sentence)
         × IsProofNumber theorem.now.book.statements theorem.now.id.0 index s }
@@ -146,7 +149,7 @@ fn are_missing_once(alloc: Global, theorem: &Theorem) -> Result<bool, Fail>
     let first = [r, p, q];
     let second = [s, q, p, r];
     let missing = missing_pairs(alloc, book, theorem.id, &first, &second)?;
-    let expected = [(r, q), (r, p), (p, s), (p, q), (q, s)];
+    let expected = [(p, q), (p, r), (p, s), (q, r), (q, s)];
     Ok(missing.as_slice() == expected.as_slice())
 }
 
@@ -170,7 +173,7 @@ fn variables_are_shared(rt: HostRuntime) -> Result<(), Fail> {
         bytes: STATED,
     }];
     let theorem = first_theorem(rt.alloc(), &files)?;
-    let answer = is_shared_once(rt.alloc(), &theorem);
+    let answer = are_shared_once(rt.alloc(), &theorem);
     drop(theorem);
     assert!(rt; answer?);
     Ok(())
@@ -187,4 +190,10 @@ fn pairs_are_missing(rt: HostRuntime) -> Result<(), Fail> {
     drop(theorem);
     assert!(rt; answer?);
     Ok(())
+}
+
+#[test]
+fn laws_of_what_is_asked_are_called() {
+    one_shared();
+    one_missing();
 }

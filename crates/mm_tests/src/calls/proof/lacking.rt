@@ -15,7 +15,8 @@ use mm_text::File;
 use std::alloc::Global;
 use std::test::Fail;
 
-/// Steps that may be made where two variables are distinct, and a step that joins two of them.
+/// Steps that may be made where two variables are distinct, a step that joins two of them, and one
+/// that asks of a step before it too.
 const APART: &[u8] = b"\
 $c t |- $.
 $v x y z $.
@@ -30,6 +31,11 @@ ${
   le $e |- x y $.
   ri $e |- y z $.
   jo $a |- x z $.
+$}
+${
+  $d x z $.
+  of $e |- x y $.
+  as $a |- z y $.
 $}
 ";
 
@@ -77,7 +83,7 @@ fn lacks(alloc: Global, theorem: &[u8], pairs: &[(&[u8], &[u8])]) -> Result<bool
 #[test]
 fn pairs_of_all_steps_are_lacking(rt: HostRuntime) -> Result<(), Fail> {
     let proof = b"th $p |- x z $= vx vy vz vy vx ap vx vy ap vy vz ap jo ? $.";
-    assert!(rt; lacks(rt.alloc(), proof, &[(b"vy", b"vx"), (b"vy", b"vz")])?);
+    assert!(rt; lacks(rt.alloc(), proof, &[(b"vx", b"vy"), (b"vy", b"vz")])?);
     Ok(())
 }
 
@@ -92,5 +98,27 @@ fn active_pairs_are_not_lacking(rt: HostRuntime) -> Result<(), Fail> {
 fn pairs_up_to_another_rule_are_lacking(rt: HostRuntime) -> Result<(), Fail> {
     let proof = b"th $p |- x z $= vx vy ap vx vx ap vy vz ap $.";
     assert!(rt; lacks(rt.alloc(), proof, &[(b"vx", b"vy")])?);
+    Ok(())
+}
+
+#[test]
+fn pairs_of_a_step_that_breaks_p10_are_not_lacking(rt: HostRuntime) -> Result<(), Fail> {
+    let proof = b"th $p |- x z $= vx vz vz vx vy ap as $.";
+    assert!(rt; lacks(rt.alloc(), proof, &[(b"vx", b"vy")])?);
+    Ok(())
+}
+
+#[test]
+fn pairs_of_a_step_whose_hypothesis_is_met_are_lacking(rt: HostRuntime) -> Result<(), Fail> {
+    let proof = b"th $p |- x z $= vx vy vz vx vy ap as $.";
+    assert!(rt; lacks(rt.alloc(), proof, &[(b"vx", b"vy"), (b"vx", b"vz")])?);
+    Ok(())
+}
+
+#[test]
+fn pairs_are_lacking_in_the_order_of_declarations(rt: HostRuntime) -> Result<(), Fail> {
+    let proof = b"th $p |- x z $= vx vz vy vz vy ap vx vz ap vy vx ap ? $.";
+    let pairs: [(&[u8], &[u8]); 3] = [(b"vx", b"vy"), (b"vx", b"vz"), (b"vy", b"vz")];
+    assert!(rt; lacks(rt.alloc(), proof, &pairs)?);
     Ok(())
 }
