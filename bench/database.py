@@ -18,6 +18,10 @@ class Theorem(NamedTuple):
         """How many steps its proof has, if that is compressed."""
         return steps(self.proof)
 
+    def letters(self):
+        """How many letters its proof has, if that is compressed."""
+        return sum(len(word) for word in self.proof.partition(b")")[2].split())
+
 
 def steps(proof):
     """How many steps a compressed proof has."""

@@ -31,20 +31,45 @@ cp "$top/examples/"*.mm "$folder/here"
 cd "$folder/here"
 [ "$(mm check first.mm)" = 'yes 7 statements 1 proofs' ] || fails 'the program does not work'
 
+# The launcher stands for the program that it builds, by a link too.
+if [ $# = 0 ]; then
+    ln -s "$top/mm" "$folder/mm"
+    "$top/scripts/install" "$folder/linked" "$folder/mm" >/dev/null 2>&1 || fails 'the launcher'
+    cmp -s "$folder/linked/bin/mm" "$folder/pre fix/bin/mm" || fails 'the launcher was installed'
+fi
+
+# options COMMAND: those that its page lists, one a line, and --help.
+options() {
+    mm help "$1" | sed -n '/^Options/,/^$/s/^  \(--[a-z]*\) .*/\1/p'
+    echo '--help'
+}
+
 commands=$(mm 2>&1 | sed -n '/^Commands:/,/^$/s/^  \([a-z]*\) .*/\1/p')
+completions="$share/bash-completion/completions/mm"
 for command in $commands; do
     grep -q "^\.SS $command\$" "$share/man/man1/mm.1" || fails "the man page lacks $command"
-    mm help "$command" | tr -s ' ' '\n' | grep '^--[a-z]' | tr -d '`.,;' | sort -u |
-        while IFS= read -r option; do
-            for page in man/man1/mm.1 bash-completion/completions/mm \
-                zsh/site-functions/_mm fish/vendor_completions.d/mm.fish; do
-                word=$(printf '%s' "$option" | sed 's/^--//')
-                grep -q -e "$word" "$share/$page" || echo "$page lacks $option"
-            done
-        done >lacks.txt
-    [ ! -s lacks.txt ] || fails "$command: $(cat lacks.txt)"
+    for option in $(options "$command"); do
+        word=${option#--}
+        [ "$option" = --help ] || sed -n "/^\.SS $command\$/,/^\.S[SH]/p" "$share/man/man1/mm.1" |
+            grep -q -e "^\\\\-\\\\-$word" || fails "the man page of $command lacks $option"
+        sed -n '/^_mm_flags/,/^}/p' "$completions" |
+            grep -q -e "^    $command) .*[ ']$option[ ']" || fails "bash: $command lacks $option"
+        grep -q -e "^        $command) .*'$option\[" "$share/zsh/site-functions/_mm" ||
+            fails "zsh: $command lacks $option"
+        grep -q -e "^complete .*_from $command' -l $word " "$share/fish/vendor_completions.d/mm.fish" ||
+            fails "fish: $command lacks $option"
+    done
 done
 [ -n "$commands" ] || fails 'the program lists no commands'
+for words in '' --help '-x' "$folder/one two three" "$folder/one --help"; do
+    for script in install release plain-rust; do
+        status=0
+        "$top/scripts/$script" $words >out.txt 2>err.txt || status=$?
+        if [ "$status" != 2 ] || [ -s out.txt ] || ! grep -q "^usage: scripts/$script " err.txt; then
+            fails "scripts/$script $words: status $status, wanted 2"
+        fi
+    done
+done
 
 if has groff; then
     groff -man -Tutf8 -ww -z "$share/man/man1/mm.1" 2>groff.txt
@@ -63,7 +88,7 @@ bash_offers() {
         shift
         COMP_WORDS=(mm "$@") COMP_CWORD=$#
         _mm
-        echo "${COMPREPLY[*]:-$offered}"' bash "$share/bash-completion/completions/mm" "$@")
+        echo "${COMPREPLY[*]:-$offered}"' bash "$completions" "$@")
     [ "$offered" = "$wanted" ] || fails "bash offers for mm $*: $offered, wanted $wanted"
 }
 
@@ -75,6 +100,14 @@ if has bash; then
     bash_offers files axioms th ''
     bash_offers nothing packed --file ''
     bash_offers files packed --all ''
+    bash_offers nothing users --all ''
+    bash_offers files users --all th ''
+    bash_offers nothing show t
+    bash_offers nothing show --known t
+    bash_offers '--known --uses --essential --help' show --
+    for command in $commands; do
+        bash_offers "$(echo $(options "$command"))" "$command" --
+    done
     bash_offers P15 explain P15
     bash_offers version help v
     bash_offers nothing version ''
@@ -97,6 +130,10 @@ if has fish; then
     fish_offers '' 'mm axioms fi'
     fish_offers 'first.mm ' 'mm axioms th fi'
     fish_offers 'first.mm ' 'mm packed --all fi'
+    fish_offers '' 'mm users --all fi'
+    fish_offers 'first.mm ' 'mm users --all th fi'
+    fish_offers '' 'mm show fi'
+    fish_offers '--essential ' 'mm show --e'
     fish_offers 'M2 ' 'mm explain M2'
     fish_offers 'version ' 'mm help v'
 fi

@@ -60,8 +60,9 @@ made() {
         return text
     }
     function place(code) {
-        if (code ~ /^[MP]/ || code == "L1") { return "Place: the statement'"'"'s first token.\n" }
-        return ""
+        if (code !~ /^[MP]/ && code != "L1") { return "" }
+        return "Line: that where the statement begins; `mm why` tells the place in " \
+            (code ~ /^M/ ? "it" : "the proof") ".\n"
     }
     /^\| F[0-9] \|/ {
         finish()

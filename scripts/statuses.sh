@@ -96,6 +96,13 @@ unknown() {
         explain "$@"
 }
 
+# unlike CODE WORDS..: these words ask for what no rule has as its code, and it hasn't the form of one.
+unlike() {
+    code=$1
+    shift
+    ends 2 '' "mm: no rule has the code $code\n\`mm explain\` lists all codes\n" explain "$@"
+}
+
 # misused WORDS..: the program refuses these words with status 2, and standard error says which it
 # takes.
 misused() {
@@ -450,12 +457,16 @@ unknown m222 M12 m222
 unknown X0 X1 X0
 unknown P99 P9 no set.mm 655068 x P99 4378
 unknown P16 P15 P16
-unknown 'P8 P9' P9 P8 P9
-unknown 'yes 7 statements 1 proofs' M15 yes 7 statements 1 proofs
-unknown no F1 no
-unknown no F1 no P9
-unknown load L1 load
-unknown '' F1 ''
+unlike 'P8 P9' P8 P9
+unlike 'yes 7 statements 1 proofs' yes 7 statements 1 proofs
+unlike no no
+unlike no no P9
+unlike load load
+unlike foo foo
+unlike P P
+unlike 12 12
+unlike P1x P1x
+unlike '' ''
 ends 2 '' 'mm: a word is not UTF-8\n' check "$(printf '\377')"
 ends 3 'incomplete 1\nq\n' '' check open.mm
 ends 3 '? q\n' '' axioms r open.mm
@@ -661,6 +672,15 @@ PATH=$folder/top:$PATH
 export PATH
 typed README.md top
 
+# What it shows of `mm why` is what that prints of the file that it had made.
+awk '/^```/ { is_shown = !is_shown && $0 == "```text"; next } is_shown' "$top/README.md" >shown.txt
+(cd top && mm why bad.mm) >got.out || true
+if ! cmp -s shown.txt got.out; then
+    echo "statuses.sh: README.md: mm why bad.mm prints something else" >&2
+    diff shown.txt got.out >&2 || true
+    failures=$((failures + 1))
+fi
+
 # docs/USING.md is typed beside databases of these names.
 mkdir using
 cp "$top/examples/demo0c.mm" using/set.mm
@@ -685,17 +705,20 @@ shows() {
 }
 
 # A job fails on a refusal, and on an unfinished proof where that may not be.
-grep '^reply=' "$top/docs/USING.md" | sed 's/set\.mm/faults.mm/g' >using/job
-grep '^mm check .* = 3' "$top/docs/USING.md" | sed 's/set\.mm/unfinished.mm/g' >using/pass
+job() {
+    grep '^mm why set\.mm ||' "$top/docs/USING.md" | sed -n "$1p" | sed "s/set\.mm/$2/g" >using/job
+    (cd using && status=0 && out=$(sh job) || status=$?; echo $status $out)
+}
 cp "$top/examples/unfinished.mm" using
-shows 'the job' "1 no faults.mm 3 p P14 2 $(echo $(cd using && "$mm" why faults.mm))" \
-    "$(cd using && status=0 && out=$(sh job) || status=$?; echo $status $out)"
-shows 'the job that lets unfinished proofs pass' '0 incomplete 2 u1 u2' \
-    "$(cd using && status=0 && out=$(sh pass) || status=$?; echo $status $out)"
+shows 'the job' "1 $(echo $(cd using && "$mm" why faults.mm))" "$(job 1 faults.mm)"
+shows 'the job and an unfinished proof' '1 incomplete 2 u1 u2' "$(job 1 unfinished.mm)"
+shows 'the job that lets unfinished proofs pass' '0 incomplete 2 u1 u2' "$(job 2 unfinished.mm)"
+shows 'that job and a refusal' "1 $(echo $(cd using && "$mm" why faults.mm))" "$(job 2 faults.mm)"
 if command -v make >/dev/null 2>&1; then
     block make >using/makefile
     (cd using && make set.checked set.packed) >got.out 2>&1 || cat got.out >&2
-    (cd using && make -k faults.checked faults.packed) >got.out 2>&1 || :
+    (cd using && make -k faults.checked faults.packed) >got.out 2>/dev/null || :
+    shows 'the faults that make tells' 2 "$(grep -c '^2 faults$' got.out)"
     shows make 'set.checked set.packed' "$(cd using && echo *.checked *.packed |
         sed 's/old.packed //; s/new.packed //')"
     shows 'the packed file' "$("$mm" packed --all demo0c.mm demo0c.mm)" "$(cat using/set.packed)"
@@ -705,9 +728,12 @@ fault() {
     (cd using && "$mm" why faults.mm || :) | sed -n 's/^faults.mm:[0-9]*:[0-9]*: //p' | sed -n "$1p"
 }
 if command -v vim >/dev/null 2>&1; then
-    block vim >using/vimrc
-    (cd using && vim -es -N -u vimrc faults.mm -c 'silent make!' -c 'redir! > list' \
-        -c 'silent clist' -c 'redir END' -c 'qa!') </dev/null >got.out 2>&1 || cat got.out >&2
+    mkdir -p using/home/.vim/ftdetect using/home/.vim/ftplugin
+    block vim | awk 'sub(/^" ~\//, "") { file = "using/home/" $0; next } { print >file }'
+    echo 'filetype plugin on' >using/vimrc
+    (cd using && HOME=$folder/using/home vim -es -N -u vimrc faults.mm -c 'silent make!' \
+        -c 'redir! > list' -c 'silent clist' -c 'redir END' -c 'qa!') </dev/null >got.out 2>&1 ||
+        cat got.out >&2
     shows vim "1 faults.mm:3 col 15: $(fault 1) 2 faults.mm:5 col 11: $(fault 2)" \
         "$(echo $(grep '^ *[0-9]' using/list))"
 fi

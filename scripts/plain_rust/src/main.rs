@@ -10,6 +10,7 @@ mod mm_check;
 mod mm_code;
 mod mm_frame;
 mod mm_proof;
+mod mm_shorten;
 mod mm_text;
 mod mm_tool;
 

@@ -7,6 +7,7 @@ pub mod clap;
 mod digits;
 pub mod env;
 pub mod fs;
+mod heap;
 mod host;
 mod lanes;
 mod list;
@@ -16,6 +17,7 @@ mod nearness;
 
 pub use digits::Buffer;
 pub use fs::OpenFile;
+pub use heap::BinaryHeap;
 pub use host::{AllocGlobal, Env, Files, HostRuntime, RandomSource};
 pub use lanes::{u8x16, u8x64};
 pub use list::{filled, CollectIn, SliceIn, Vec};
