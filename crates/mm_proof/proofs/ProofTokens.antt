@@ -2,11 +2,10 @@
 -- they make. Begin with `SaidMoves`: tokens say one row of moves, by names. `ProofLabels` and
 -- `ProofCodes` join to it what `parse`, `labels` and `machine` read of normal and of compressed
 -- proofs; `MovePlaces` finds where a move stands, and `SomePlaces` shows that each one stands
--- somewhere; `WholePlaces` finds where a rule over the whole of a proof is broken;
--- `QuestionMarks` has the known prefix's tokens, and that no proof that breaks no rule
--- over the whole of it holds a `?`. Clauses of `Steps::parse`, `Prover::prove`, `move_place` and
--- `whole_place` rest
--- on it.
+-- somewhere; `WholePlaces` finds where a rule over the whole of a proof is broken, `FormPlaces`
+-- where one isn't strict; `QuestionMarks` has the known prefix's tokens, and that no proof that
+-- breaks no rule over the whole of it holds a `?`. Clauses of `Steps::parse`, `Prover::prove`,
+-- `move_place` and `whole_place` rest on it.
 pub mod SaidMoves
 pub mod ProofLabels
 pub mod ProofCodes
@@ -14,4 +13,5 @@ pub mod CodeLetters
 pub mod MovePlaces
 pub mod SomePlaces
 pub mod WholePlaces
+pub mod FormPlaces
 pub mod QuestionMarks

@@ -20,12 +20,17 @@ pub record IsStrictList (before : List Sentence) (s : Sentence)
       → AreMandatory before s hypotheses → Contains hypotheses h → IsLabelled label h
       → ¬ (Contains labels label)
 
--- each mark stands directly after a step by the label of an assertion
+-- the moves end with a step by the label of an assertion
+abbrev pub EndWithAssertion : List Sentence → List (Move (List ℕ)) → Type 0
+EndWithAssertion before moves =
+    (earlier : List (Move (List ℕ))) × (label : List ℕ) × (moves ≡ earlier ++ name label ∷ [])
+    × SomeSentence before (λ a. IsLabelled label a × IsAssertion a.kind)
+
+-- each mark stands directly after such a step
 abbrev pub MarkAssertions : List Sentence → List (Move (List ℕ)) → Type 0
 MarkAssertions before moves =
     (prefix after : List (Move (List ℕ))) → moves ≡ prefix ++ mark ∷ after
-    → (earlier : List (Move (List ℕ))) × (label : List ℕ) × (prefix ≡ earlier ++ name label ∷ [])
-    × SomeSentence before (λ a. IsLabelled label a × IsAssertion a.kind)
+    → EndWithAssertion before prefix
 
 -- The proof of the statement is strict: a normal one always, and a compressed one that breaks none of
 -- P1 to P5 if its list and its marks are.

@@ -1,9 +1,10 @@
 //! The strict form of a compressed proof: P15 (the Metamath book, appendix B).
 
 ghost use Rattle.std.specs.Prelude.{◌≡◌, ◌↔◌, ◌<◌, ℕ, List, Contains, All, IsTrue, IfOk, IfErr};
-ghost use Rattle.std.specs.Prelude.{OnOk, length, take, Err, true, false};
+ghost use Rattle.std.specs.Prelude.{OnOk, MatchOption, length, take};
 ghost use Rattle.std.specs.List.{AllByRecursion};
 ghost use Rattle.mm_code.specs.Letters.{HasSpelling};
+ghost use Rattle.mm_frame.specs.FrameIndex.{AreHypotheses};
 ghost use Rattle.mm_proof.specs.Answer.{OnRule};
 ghost use Rattle.mm_proof.specs.declared.fault.ProofRule.TheVariants.{P15};
 ghost use Rattle.mm_proof.specs.Tokens.{IsCompressed};
@@ -14,8 +15,8 @@ ghost use Rattle.mm_proof.specs.Strict.{IsStrict};
 ghost use Rattle.mm_proof.specs.Plain.{ids_in, label_ids, token_texts};
 ghost use Rattle.mm_proof.specs.Mirror.CodeSteps.{AreFor, moves_of};
 ghost use Rattle.mm_proof.specs.Mirror.CodeRun.{MayBeMade};
-ghost use Rattle.mm_proof.specs.Mirror.CodeForm.{AllNew, SomeOld, IsAfterAssertion, AreMarksStrict};
-ghost use Rattle.mm_proof.specs.Mirror.CodeForm.{SomeMarkLoose};
+ghost use Rattle.mm_proof.specs.Mirror.CodeForm.{AllNew, IsFirstOld, IsAfterAssertion};
+ghost use Rattle.mm_proof.specs.Mirror.CodeForm.{AreMarksStrict, IsFirstLoose, IsLooseBy};
 
 use crate::fault::{ProofFault, ProofRule};
 use crate::label_set::LabelSet;
@@ -43,17 +44,32 @@ fn hypothesis_set(
     Ok(seen)
 }
 
-// Whether each of the labels is new: none of those that are seen, and none of those before it.
-fn are_new(seen: &mut LabelSet, listed: &[LabelId]) -> Result<bool, AllocError>
-    ensures new { IfOk result (λ new. new ≡ true → AllNew seen.old (ids_in listed.now)) }
-    ensures old { IfOk result (λ new. new ≡ false → SomeOld seen.old (ids_in listed.now)) }
+// The index of the first label that isn't new: one of those that are seen, or of those before it.
+fn first_old(seen: &mut LabelSet, listed: &[LabelId]) -> Result<Option<usize>, AllocError>
+    ensures { IfOk result (λ found. MatchOption
+        found
+        (AllNew seen.old (ids_in listed.now))
+        (IsFirstOld seen.old (ids_in listed.now))) }
 {
-    for id in listed {
+    for (index, id) in listed.iter().enumerate() {
         if !seen.add(*id)? {
-            return Ok(false);
+            return Ok(Some(index));
         }
     }
-    Ok(true)
+    Ok(None)
+}
+
+// The index of the first label of the list that is spare.
+fn spare_label(alloc: Global, site: &Site, listed: &[LabelId]) -> Result<Option<usize>, AllocError>
+    ensures { IfOk result (λ found. (numbers : List ℕ) × AreHypotheses
+        (record { statements = site.now.statements; index = site.now.index }) numbers
+        × MatchOption
+        found
+        (AllNew numbers (ids_in listed.now))
+        (IsFirstOld numbers (ids_in listed.now))) }
+{
+    let mut seen = hypothesis_set(alloc, site.book.seed(), site.hypotheses())?;
+    first_old(&mut seen, listed)
 }
 
 // Whether the move before an index is a step by an assertion.
@@ -77,34 +93,73 @@ fn is_after_assertion(book: &Book, entries: &[LabelId], codes: &[Code], index: u
     }
 }
 
-// Whether each mark stands directly after a step by an assertion.
-fn are_marks_strict(book: &Book, entries: &[LabelId], codes: &[Code]) -> bool
+// The index of the first mark that doesn't stand directly after a step by an assertion.
+fn loose_mark(book: &Book, entries: &[LabelId], codes: &[Code]) -> Option<usize>
     requires spelled { All HasSpelling codes.now }
     requires usable { (at : ℕ)
         × AllByRecursion (MayBeMade book.now.statements at) (moves_of entries.now codes.now) }
-    ensures strict { result ≡ true
-        → AreMarksStrict book.now.statements (moves_of entries.now codes.now) }
-    ensures loose { result ≡ false
-        → SomeMarkLoose book.now.statements (moves_of entries.now codes.now) }
+    ensures { MatchOption
+        result
+        (AreMarksStrict book.now.statements (moves_of entries.now codes.now))
+        (IsFirstLoose book.now.statements (moves_of entries.now codes.now)) }
 {
     for (index, one) in codes.iter().enumerate() {
         if let Code::Tag = one {
             if !is_after_assertion(book, entries, codes, index) {
-                return false;
+                return Some(index);
             }
         }
     }
-    true
+    None
 }
 
-// That a proof hasn't the strict form.
-fn wrong_form() -> Result<(), ProofFault>
-    ensures { result ≡ Err (ProofFault.Rule P15 0) }
+/// What keeps a proof from the strict form.
+#[derive(Clone, Copy)]
+pub(crate) enum Loose {
+    /// The label with this index in the list is spare: it stands there before, or it is that of a
+    /// mandatory hypothesis.
+    Label(usize),
+    /// The move with this number is a mark that doesn't stand directly after a step by an
+    /// assertion.
+    Mark(usize),
+}
+
+/// What keeps the proof of the `$p` from the strict form first, if something does, where these are
+/// the labels of its list, if it is compressed, and its entries and codes.
+pub(crate) fn first_loose(
+    alloc: Global,
+    site: &Site,
+    tokens: &[Token],
+    listed: &[LabelId],
+    entries: &[LabelId],
+    codes: &[Code],
+) -> Result<Option<Loose>, AllocError>
+    requires site { IsSite site.now }
+    requires listed { (labels letters : List (List ℕ))
+        → IsCompressed (token_texts tokens.now) labels letters
+        → AreFor site.now.statements site.now.index (ids_in listed.now) labels }
+    requires says { OfProof site.now.statements site.now.number (λ index s.
+        SaySteps site.now.statements index s (token_texts tokens.now)
+        (moves_of entries.now codes.now)) }
+    requires steps { AreSteps site.now.statements site.now.number (moves_of entries.now codes.now) }
+    requires spelled { All HasSpelling codes.now }
+    ensures { IfOk result (λ found. MatchOption
+        found
+        (OfProof site.now.statements site.now.number (λ index s.
+        IsStrict (take index site.now.statements) s (token_texts tokens.now)))
+        (λ loose. OfProof site.now.statements site.now.number (λ index s.
+        IsLooseBy (take index site.now.statements) s (token_texts tokens.now) loose))) }
 {
-    Err(ProofFault::Rule {
-        rule: ProofRule::P15,
-        step: 0,
-    })
+    if !begins_list(tokens) {
+        return Ok(None);
+    }
+    if let Some(index) = spare_label(alloc, site, listed)? {
+        return Ok(Some(Loose::Label(index)));
+    }
+    match loose_mark(site.book, entries, codes) {
+        Some(number) => Ok(Some(Loose::Mark(number))),
+        None => Ok(None),
+    }
 }
 
 /// Whether the proof of the `$p` has the strict form, where these are the labels of its
@@ -132,15 +187,11 @@ pub(crate) fn judge_form(
         OfProof site.now.statements site.now.number (λ index s. (step ≡ 0) × (rule ≡ P15)
         × ¬ (IsStrict (take index site.now.statements) s (token_texts tokens.now))))) }
 {
-    if !begins_list(tokens) {
-        return Ok(());
+    match first_loose(alloc, site, tokens, listed, entries, codes)? {
+        Some(_) => Err(ProofFault::Rule {
+            rule: ProofRule::P15,
+            step: 0,
+        }),
+        None => Ok(()),
     }
-    let mut seen = hypothesis_set(alloc, site.book.seed(), site.hypotheses())?;
-    if !are_new(&mut seen, listed)? {
-        return wrong_form();
-    }
-    if !are_marks_strict(site.book, entries, codes) {
-        return wrong_form();
-    }
-    Ok(())
 }

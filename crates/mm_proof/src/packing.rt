@@ -9,6 +9,7 @@ ghost use Rattle.mm_code.specs.Letters.{HasSpelling, IsExact, largest};
 ghost use Rattle.mm_proof.specs.declared.subtrees.Subtree.{Subtree};
 ghost use Rattle.mm_proof.specs.declared.sharing.SharedStep.TheVariants.{Make, Repeat};
 ghost use Rattle.mm_proof.specs.OneTree.{MakeOneTree};
+ghost use Rattle.mm_proof.specs.BigSubtrees.{IsBig};
 ghost use Rattle.mm_proof.specs.Packing.{OfTree, ArePacked};
 ghost use Rattle.mm_proof.specs.ChosenSharing.{AreChosen};
 ghost use Rattle.mm_proof.specs.Steps.{AreSteps};
@@ -17,6 +18,9 @@ ghost use Rattle.mm_proof.specs.Plain.{ids_in, label_ids};
 ghost use Rattle.mm_proof.specs.Mirror.CodeSharing.{AreFirstNumbers, labels_made, IsEncoded};
 ghost use Rattle.mm_proof.specs.Mirror.CodeSharing.{AreEncoded};
 ghost use Rattle.mm_proof.specs.Mirror.CodeSharing.{AreStepsPacked, AreMadeBefore};
+ghost use Rattle.mm_proof.specs.Mirror.CodeSharing.{AreSharedSteps, ShareSomeTrees};
+ghost use Rattle.mm_proof.specs.Mirror.CodeChosen.{ChoosesPacked};
+ghost use Rattle.mm_proof.specs.Mirror.Subtrees.{AreOnce};
 
 use crate::builder::build;
 use crate::chosen::choose_steps;
@@ -65,19 +69,15 @@ fn repeated_trees(alloc: Global, seed: Seed, steps: &[SharedStep]) -> Result<Sub
     Ok(trees)
 }
 
-// The labels of the hypotheses.
-fn hypothesis_labels(
-    alloc: Global,
-    seed: Seed,
-    hypotheses: &[Hypothesis],
-) -> Result<LabelSet, AllocError>
-    ensures { IfOk result (λ labels. AreFirstNumbers [] (label_ids hypotheses.now) labels) }
+// Puts the labels of the hypotheses into a set that has none.
+fn put_hypotheses(labels: &mut LabelSet, hypotheses: &[Hypothesis]) -> Result<(), AllocError>
+    requires { labels.old ≡ [] }
+    ensures { OnOk result (AreFirstNumbers [] (label_ids hypotheses.now) labels.new) }
 {
-    let mut labels = LabelSet::new(alloc, seed);
     for hypothesis in hypotheses {
         labels.add(hypothesis.id)?;
     }
-    Ok(labels)
+    Ok(())
 }
 
 // The labels by which the steps make trees, without those that are given: they are put behind
@@ -166,6 +166,39 @@ fn codes_of(
     Ok(codes)
 }
 
+// The listed labels and the codes of the steps, which repeat these trees. The numbers of labels are
+// put into a set that has none.
+fn pack_repeating(
+    alloc: Global,
+    seed: Seed,
+    hypotheses: &[Hypothesis],
+    known: &mut LabelSet,
+    repeated: &SubtreeSet,
+    steps: &[SharedStep],
+) -> Result<Packed, AllocError>
+    requires hypotheses { length hypotheses.now < most_bytes }
+    requires steps { length steps.now ≤ 2 * most_bytes }
+    requires made { AreMadeBefore steps.now }
+    requires fresh { known.old ≡ [] }
+    requires those { (t : Subtree) → Contains repeated.now t ↔ Contains steps.now (Repeat t) }
+    requires few { length (labels_made steps.now) + length repeated.now ≤ length steps.now }
+    ensures packed { IfOk result (λ packed. AreStepsPacked (label_ids hypotheses.now) steps.now
+        (ids_in packed.labels.items) packed.codes.items) }
+    ensures spelled { IfOk result (λ packed. All HasSpelling packed.codes.items) }
+    ensures exact { IfOk result (λ packed. All IsExact packed.codes.items) }
+    ensures few { IfOk result (λ packed. length packed.codes.items ≤ 4 * most_bytes) }
+{
+    put_hypotheses(known, hypotheses)?;
+    let labels = list_labels(alloc, known, steps)?;
+    match codes_of(alloc, seed, known, repeated, steps) {
+        Ok(codes) => Ok(Packed { labels, codes }),
+        Err(fault) => {
+            drop(labels);
+            Err(fault)
+        }
+    }
+}
+
 // The listed labels and the codes of the steps.
 fn pack(
     alloc: Global,
@@ -183,10 +216,90 @@ fn pack(
     ensures few { IfOk result (λ packed. length packed.codes.items ≤ 4 * most_bytes) }
 {
     let repeated = repeated_trees(alloc, seed, steps)?;
-    let mut known = hypothesis_labels(alloc, seed, hypotheses)?;
-    let labels = list_labels(alloc, &mut known, steps)?;
-    let codes = codes_of(alloc, seed, &known, &repeated, steps)?;
-    Ok(Packed { labels, codes })
+    let mut known = LabelSet::new(alloc, seed);
+    let packed = pack_repeating(alloc, seed, hypotheses, &mut known, &repeated, steps);
+    drop(known);
+    drop(repeated);
+    packed
+}
+
+// The steps of the fully shared proof of the tree that the steps of the `$p` with this number make.
+fn share_steps(
+    alloc: Global,
+    book: &Book,
+    id: LabelId,
+    steps: &Steps,
+) -> Result<SharedSteps, AllocError>
+    requires steps { AreSteps book.now.statements id.0 steps.now.moves }
+    requires makes { OfMoves book.now.statements id.0 steps.now.moves
+        (λ index s moves. MakeOneTree (take index book.now.statements) moves) }
+    ensures shared { IfOk result (λ shared. OfMoves book.now.statements id.0 steps.now.moves
+        (λ index s moves. OfTree (take index book.now.statements) moves (λ t.
+        AreSharedSteps IsBig book.now.statements shared.table t shared.steps.items))) }
+    ensures once { IfOk result (λ shared. AreOnce shared.table) }
+    ensures few { IfOk result (λ shared. length shared.steps.items ≤ most_bytes) }
+{
+    let mut shared = SharedSteps::with_room(alloc, book.seed(), steps.codes.len())?;
+    match build(alloc, &mut shared, book, id, steps) {
+        Ok(_) => Ok(shared),
+        Err(fault) => {
+            drop(shared);
+            Err(fault)
+        }
+    }
+}
+
+// The proof that shares what is worth a tag alone, by the steps of the fully shared one.
+fn pack_chosen(
+    alloc: Global,
+    seed: Seed,
+    hypotheses: &[Hypothesis],
+    shared: &SharedSteps,
+) -> Result<Packed, AllocError>
+    requires hypotheses { length hypotheses.now < most_bytes }
+    requires steps { length shared.now.steps.items ≤ most_bytes }
+    requires shared { ShareSomeTrees shared.now }
+    ensures packed { IfOk result (λ packed. ChoosesPacked shared.now (label_ids hypotheses.now)
+        (ids_in packed.labels.items) packed.codes.items) }
+    ensures spelled { IfOk result (λ packed. All HasSpelling packed.codes.items) }
+    ensures exact { IfOk result (λ packed. All IsExact packed.codes.items) }
+    ensures few { IfOk result (λ packed. length packed.codes.items ≤ 4 * most_bytes) }
+{
+    let fewer = choose_steps(alloc, &shared.table, &shared.steps)?;
+    let packed = pack(alloc, seed, hypotheses, &fewer);
+    drop(fewer);
+    packed
+}
+
+// Both proofs, by the steps of the fully shared one.
+fn pack_both(
+    alloc: Global,
+    seed: Seed,
+    hypotheses: &[Hypothesis],
+    shared: &SharedSteps,
+) -> Result<BothPacked, AllocError>
+    requires hypotheses { length hypotheses.now < most_bytes }
+    requires steps { length shared.now.steps.items ≤ most_bytes }
+    requires shared { ShareSomeTrees shared.now }
+    ensures full { IfOk result (λ both. AreStepsPacked (label_ids hypotheses.now)
+        shared.now.steps.items (ids_in both.full.labels.items) both.full.codes.items) }
+    ensures chosen { IfOk result (λ both. ChoosesPacked shared.now (label_ids hypotheses.now)
+        (ids_in both.chosen.labels.items) both.chosen.codes.items) }
+    ensures spelled { IfOk result (λ both. All HasSpelling both.full.codes.items
+        × All HasSpelling both.chosen.codes.items) }
+    ensures exact { IfOk result (λ both. All IsExact both.full.codes.items
+        × All IsExact both.chosen.codes.items) }
+    ensures few { IfOk result (λ both. (length both.full.codes.items ≤ 4 * most_bytes)
+        × (length both.chosen.codes.items ≤ 4 * most_bytes)) }
+{
+    let full = pack(alloc, seed, hypotheses, &shared.steps)?;
+    match pack_chosen(alloc, seed, hypotheses, shared) {
+        Ok(chosen) => Ok(BothPacked { full, chosen }),
+        Err(fault) => {
+            drop(full);
+            Err(fault)
+        }
+    }
 }
 
 /// The fully shared proof of the tree that the steps of the `$p` with this number make: each
@@ -219,10 +332,11 @@ pub fn compress(
     // No step has more than two codes.
     ensures few { IfOk result (λ packed. length packed.codes.items ≤ 4 * most_bytes) }
 {
-    let mut shared = SharedSteps::with_room(alloc, book.seed(), steps.codes.len())?;
-    build(alloc, &mut shared, book, id, steps)?;
+    let shared = share_steps(alloc, book, id, steps)?;
     let own = book.frame(id);
-    pack(alloc, book.seed(), own.hypotheses(), &shared.steps)
+    let packed = pack(alloc, book.seed(), own.hypotheses(), &shared.steps);
+    drop(shared);
+    packed
 }
 
 /// The fully shared proof of the tree that the steps make, under what `compress` asks, and the one
@@ -254,11 +368,9 @@ pub(crate) fn compress_both(
     ensures few { IfOk result (λ both. (length both.full.codes.items ≤ 4 * most_bytes)
         × (length both.chosen.codes.items ≤ 4 * most_bytes)) }
 {
-    let mut shared = SharedSteps::with_room(alloc, book.seed(), steps.codes.len())?;
-    build(alloc, &mut shared, book, id, steps)?;
-    let fewer = choose_steps(alloc, &shared.table, &shared.steps)?;
+    let shared = share_steps(alloc, book, id, steps)?;
     let own = book.frame(id);
-    let full = pack(alloc, book.seed(), own.hypotheses(), &shared.steps)?;
-    let chosen = pack(alloc, book.seed(), own.hypotheses(), &fewer)?;
-    Ok(BothPacked { full, chosen })
+    let both = pack_both(alloc, book.seed(), own.hypotheses(), &shared);
+    drop(shared);
+    both
 }

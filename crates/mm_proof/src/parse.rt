@@ -36,12 +36,13 @@ use mm_code::{Code, CodeFault, CodeRule, fill_codes};
 use mm_frame::{Book, Guesses, Hypothesis, LabelId};
 use mm_text::Token;
 use std::alloc::{AllocError, Global};
+use std::mem::replace;
 
 /// Lists that the reading of each proof fills anew.
 #[derive(Drop)]
 pub(crate) struct ParseLists<'a> {
     /// The numbers of the labels.
-    ids: Vec<LabelId>,
+    pub(crate) ids: Vec<LabelId>,
     /// Guesses of these numbers, which stay from one proof to the next.
     guesses: Guesses,
     /// What the first numbers stand for: the mandatory hypotheses, and then the listed labels; or
@@ -68,6 +69,16 @@ impl<'a> ParseLists<'a> {
             marks: Vec::new(alloc),
             indices: Vec::new(alloc),
         }
+    }
+
+    // Takes the entries and the codes out of the lists.
+    fn take_moves(&mut self, alloc: Global) -> (Vec<LabelId>, Vec<Code>)
+        ensures entries { result.0.items ≡ self.old.entries.items }
+        ensures codes { result.1.items ≡ self.old.codes.items }
+    {
+        let entries = replace(&mut self.entries, Vec::new(alloc));
+        let codes = replace(&mut self.codes, Vec::new(alloc));
+        (entries, codes)
     }
 }
 
@@ -240,8 +251,11 @@ fn letter_fault(fault: CodeFault) -> ProofFault
     }
 }
 
-// Fills the list with the texts of the tokens.
-fn fill_texts<'a>(pieces: &mut Vec<&'a [u8]>, tokens: &[Token<'a>]) -> Result<(), AllocError>
+/// Fills the list with the texts of the tokens.
+pub(crate) fn fill_texts<'a>(
+    pieces: &mut Vec<&'a [u8]>,
+    tokens: &[Token<'a>],
+) -> Result<(), AllocError>
     ensures { OnOk result (texts pieces.new.items ≡ token_texts tokens.now) }
 {
     pieces.clear();
@@ -325,9 +339,9 @@ fn fill_compressed<'a>(
     Ok(())
 }
 
-// Fills the lists with what says the moves of the tokens as a proof of the `$p`, or tells the first
-// of P1 to P5 that they break: with a `?` among them, one of P1 to P4.
-fn fill_steps<'a>(
+/// Fills the lists with what says the moves of the tokens as a proof of the `$p`, or tells the
+/// first of P1 to P5 that they break: with a `?` among them, one of P1 to P4.
+pub(crate) fn fill_steps<'a>(
     lists: &mut ParseLists<'a>,
     site: &Site,
     tokens: &[Token<'a>],
@@ -394,8 +408,44 @@ pub(crate) fn fill_under<'a>(
     }
 }
 
+/// The moves that the tokens say as a proof of the `$p` with this number, and whether they are those
+/// of the known prefix of another. They are read in these lists, whose entries and codes go into
+/// the steps.
+pub(crate) fn read_steps<'a>(
+    lists: &mut ParseLists<'a>,
+    alloc: Global,
+    profile: Profile,
+    book: &Book,
+    id: LabelId,
+    tokens: &[Token<'a>],
+    prefix: bool,
+) -> Result<Steps, ProofFault>
+    requires proof { (index : ℕ) × (s : Sentence) × IsProofNumber book.now.statements id.0 index s }
+    requires room { sum_by length (token_texts tokens.now) ≤ most_bytes }
+    ensures steps { IfOk result (λ steps. OfProof book.now.statements id.0
+        (λ index s. SaySteps book.now.statements index s (token_texts tokens.now) steps.moves)) }
+    ensures usable { IfOk result (λ steps. AreSteps book.now.statements id.0 steps.moves) }
+    ensures form { OnOk result (OfProof book.now.statements id.0 (λ index s.
+        HasFormOf profile (take index book.now.statements) s (token_texts tokens.now))) }
+    ensures profile { IfOk result (λ steps. steps.profile ≡ profile) }
+    ensures prefix { IfOk result (λ steps. steps.prefix ≡ prefix) }
+    ensures fault { IfErr result (λ e. OnRule e (λ rule step.
+        OfProof book.now.statements id.0 (λ index s. (step ≡ 0)
+        × IsTextFault profile (take index book.now.statements) s (token_texts tokens.now) rule))) }
+{
+    let site = Site::new(book, id, profile);
+    fill_under(alloc, lists, profile, &site, tokens)?;
+    let (entries, codes) = lists.take_moves(alloc);
+    Ok(Steps {
+        profile,
+        prefix,
+        entries,
+        codes,
+    })
+}
+
 // The moves that the tokens say as a proof of the `$p` with this number, and whether they are those
-// of the known prefix of another.
+// of the known prefix of another; read in lists of its own.
 fn steps_of(
     alloc: Global,
     profile: Profile,
@@ -417,15 +467,10 @@ fn steps_of(
         OfProof book.now.statements id.0 (λ index s. (step ≡ 0)
         × IsTextFault profile (take index book.now.statements) s (token_texts tokens.now) rule))) }
 {
-    let site = Site::new(book, id, profile);
     let mut lists = ParseLists::new(alloc);
-    fill_under(alloc, &mut lists, profile, &site, tokens)?;
-    Ok(Steps {
-        profile,
-        prefix,
-        entries: lists.entries,
-        codes: lists.codes,
-    })
+    let steps = read_steps(&mut lists, alloc, profile, book, id, tokens, prefix);
+    drop(lists);
+    steps
 }
 
 // The moves that the known prefix of the tokens says as a proof of the `$p` with this number.

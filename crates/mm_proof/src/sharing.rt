@@ -74,11 +74,11 @@ impl SharedSteps {
         ensures made { IfOk result (λ shared. shared.made ≡ []) }
         ensures steps { IfOk result (λ shared. shared.steps.items ≡ []) }
     {
-        Ok(SharedSteps {
-            table: Subtrees::with_room(alloc, seed, count)?,
-            made: SubtreeSet::with_room(alloc, seed, count)?,
-            steps: Vec::with_capacity(alloc, count)?,
-        })
+        // The list is made first, so that a refused table has little to free.
+        let steps = Vec::with_capacity(alloc, count)?;
+        let made = SubtreeSet::with_room(alloc, seed, count)?;
+        let table = Subtrees::with_room(alloc, seed, count)?;
+        Ok(SharedSteps { table, made, steps })
     }
 }
 

@@ -10,7 +10,7 @@ ghost use Rattle.mm_code.specs.Letters.{IsLetter, LettersBreak};
 ghost use Rattle.mm_frame.specs.Form.{IsSound};
 ghost use Rattle.mm_frame.specs.Numbers.{IsNumbered};
 ghost use Rattle.mm_frame.specs.Sentence.{Sentence};
-ghost use Rattle.mm_proof.specs.declared.fault.ProofRule.TheVariants.{P2, P3, P15};
+ghost use Rattle.mm_proof.specs.declared.fault.ProofRule.TheVariants.{P2, P3};
 ghost use Rattle.mm_proof.specs.declared.profile.Profile.{Profile};
 ghost use Rattle.mm_proof.specs.declared.labels.Use.TheVariants.{Unknown, Idle};
 ghost use Rattle.mm_proof.specs.KnownPrefix.{known_prefix};
@@ -25,6 +25,7 @@ ghost use Rattle.mm_proof.specs.Mirror.CodeWhole.{AreLabelsFrom, IsBlamed, IsBeg
 ghost use Rattle.mm_proof.specs.Mirror.CodeWhole.{IsCutAt, IsByteOf, BreakLetters, IsFaultIndex};
 
 use crate::fault::ProofRule;
+use crate::form_places::form_place;
 use crate::labels::{Use, use_of};
 use crate::parse::{is_incomplete, parts, tokens_with};
 use crate::prefix::{begins_list, known_prefix};
@@ -128,8 +129,8 @@ fn label_place(
     requires rule { (rule ≡ P2) ⊎ (rule ≡ P3) }
     requires broken { BreaksWhole rule (take own.now.index book.now.statements)
         (token_texts tokens.now) }
-    ensures { IsWholePlace (take own.now.index book.now.statements) (token_texts tokens.now) rule
-        result.0 result.1 }
+    ensures { (s : Sentence) → IsWholePlace (take own.now.index book.now.statements) s
+        (token_texts tokens.now) rule result.0 result.1 }
 {
     let (base, labels) = labels_of(tokens);
     match first_blamed(alloc, book, own, id, labels, rule) {
@@ -274,8 +275,8 @@ fn letter_place(
     rule: ProofRule,
 ) -> Result<(usize, usize), AllocError>
     requires { (text : List ℕ) × AreLetters (token_texts tokens.now) text × BreakLetters rule text }
-    ensures { IfOk result (λ place. (before : List Sentence)
-        → IsWholePlace before (token_texts tokens.now) rule place.0 place.1) }
+    ensures { IfOk result (λ place. (before : List Sentence) (s : Sentence)
+        → IsWholePlace before s (token_texts tokens.now) rule place.0 place.1) }
 {
     let (base, letters) = letters_of(tokens);
     let text = joined(alloc, letters)?;
@@ -294,11 +295,13 @@ fn place_in(
 ) -> Result<(usize, usize), AllocError>
     requires sound { IsSound book.now.statements }
     requires book { own.now.statements ≡ book.now.statements }
-    requires own { (s : Sentence) × IsNumbered book.now.statements id.0 own.now.index s }
-    requires broken { BreaksWhole rule (take own.now.index book.now.statements)
-        (token_texts tokens.now) ⊎ (rule ≡ P15) }
-    ensures { IfOk result (λ place. IsWholePlace (take own.now.index book.now.statements)
-        (token_texts tokens.now) rule place.0 place.1) }
+    requires own { (s : Sentence) × IsProofNumber book.now.statements id.0 own.now.index s }
+    requires broken { OfProof book.now.statements id.0 (λ index s.
+        (profile : Profile)
+        × IsTextFault profile (take index book.now.statements) s (token_texts tokens.now) rule) }
+    ensures { IfOk result (λ place. OfProof book.now.statements id.0 (λ index s.
+        IsWholePlace (take index book.now.statements) s (token_texts tokens.now) rule
+        place.0 place.1)) }
 {
     match rule {
         ProofRule::P1 => Ok((0, 0)),
@@ -306,7 +309,7 @@ fn place_in(
         ProofRule::P3 => Ok(label_place(alloc, book, own, id, tokens, rule)),
         ProofRule::P4 => letter_place(alloc, tokens, rule),
         ProofRule::P5 => letter_place(alloc, tokens, rule),
-        ProofRule::P15 => Ok((0, 0)),
+        ProofRule::P15 => form_place(alloc, book, id, tokens),
         // No other rule is judged over the whole of a proof.
         _ => unreachable!(),
     }
@@ -335,10 +338,10 @@ pub fn whole_place(
         (known_prefix (texts tokens.now)) rule) }
     // It is where the rule is broken first.
     ensures place { ¬ (IsIncomplete (texts tokens.now)) → IfOk result (λ place.
-        OfProof book.now.statements id.0 (λ index s. IsWholePlace (take index book.now.statements)
+        OfProof book.now.statements id.0 (λ index s. IsWholePlace (take index book.now.statements) s
         (texts tokens.now) rule place.0 place.1)) }
     ensures known_place { IsIncomplete (texts tokens.now) → IfOk result (λ place.
-        OfProof book.now.statements id.0 (λ index s. IsWholePlace (take index book.now.statements)
+        OfProof book.now.statements id.0 (λ index s. IsWholePlace (take index book.now.statements) s
         (known_prefix (texts tokens.now)) rule place.0 place.1)) }
 
     // It is in one of the tokens.

@@ -25,7 +25,7 @@ use Rattle.mm_proof.specs.Mirror.Subtrees.{AreOnce, KeepNumbers, IsTreeOf, Stand
 use Rattle.mm_proof.specs.Mirror.CodeSharing.{IsStepOf, AreSharedSteps, IsRepeat, Shares}
 use Rattle.mm_proof.specs.Mirror.CodeSharing.{SharingSteps, ShareSteps, AreMadeBefore, Adds}
 use Rattle.mm_proof.specs.Mirror.CodeSharing.{AddsNew, labels_made, AreFirstNumbers, IsEncoded}
-use Rattle.mm_proof.specs.Mirror.CodeSharing.{AreEncoded}
+use Rattle.mm_proof.specs.Mirror.CodeSharing.{AreEncoded, AreStepsPacked}
 use Rattle.mm_proof.proofs.Members.{In, in_contains, contains_in, get_in, in_left, in_right}
 use Rattle.mm_proof.proofs.Members.{in_apart, in_push, Once}
 use Rattle.mm_proof.proofs.FullSharing.OneSharing.{after, after-append}
@@ -490,3 +490,22 @@ pub repeated_tagged : (repeated kept : List Subtree) (steps : List SharedStep) (
 repeated_tagged repeated kept steps i d t less made each are is =
     let there = slice_get-get_or steps i d less ∙ ap Some is in
     are t (made i t there) (each t (in_contains steps (Repeat t) (get_in steps i (Repeat t) there)))
+
+-- ---- what is packed
+
+-- the labels that were numbered are those of the hypotheses, and then the listed ones
+pub steps_packed : (hypotheses given labels listed : List ℕ) (repeated : List Subtree)
+    (steps : List SharedStep) (codes : List Code) → AreFirstNumbers [] hypotheses given
+    → labels ≡ given ++ listed → AreFirstNumbers given (labels_made steps) listed
+    → ((t : Subtree) → Contains repeated t ↔ Contains steps (step.Repeat t))
+    → ((kept : List Subtree) × AreEncoded labels repeated [] steps codes kept)
+    → AreStepsPacked hypotheses steps listed codes
+steps_packed hypotheses given labels listed repeated steps codes own whole others each said = record {
+  given = given;
+  own = own;
+  others = others;
+  repeated = repeated;
+  each = each;
+  kept = said.0;
+  said = subst (λ ls. AreEncoded ls repeated [] steps codes said.0) whole said.1;
+}

@@ -14,7 +14,7 @@ use Rattle.std.proofs.lemmas.Option.{slice_get_within, none-some, same_Some}
 use Rattle.mm_text.specs.declared.token.Token.{Token}
 use Rattle.mm_text.proofs.Lists.{get_after, get_kept, get_in_front, get_take, get_from_take}
 use Rattle.mm_text.proofs.Lists.{contains_from_at, append_cases, all_push, zip_push, split_at}
-use Rattle.mm_text.proofs.Lists.{cons_parts, get_parted}
+use Rattle.mm_text.proofs.Lists.{cons_parts, get_parted, get_within}
 use Rattle.mm_code.specs.declared.code.Code.{Code}
 use Rattle.mm_code.specs.declared.code.Code.TheVariants.{Number, Tag}
 use Rattle.mm_code.specs.declared.code.CodeRule.TheVariants as code
@@ -32,14 +32,16 @@ use Rattle.mm_proof.specs.declared.fault.ProofRule.TheVariants.{P1, P2, P3, P4, 
 use Rattle.mm_proof.specs.declared.labels.Use.{Use}
 use Rattle.mm_proof.specs.declared.labels.Use.TheVariants as uses
 use Rattle.mm_proof.specs.declared.profile.Profile.{Profile}
-use Rattle.mm_proof.specs.declared.profile.Profile.TheVariants.{Strict, Lenient}
 use Rattle.mm_proof.specs.Plain.{token_texts}
-use Rattle.mm_proof.specs.Tokens.{IsNormal, IsCompressed, AreLabels, opening_token, closing_token}
+use Rattle.mm_proof.specs.Tokens.{IsCompressed, AreLabels, opening_token, closing_token}
 use Rattle.mm_proof.specs.Tokens.{is_question, is_unknown, BeginsList}
 use Rattle.mm_proof.specs.KnownPrefix.{token_of, known_piece, known_tokens, known_text}
 use Rattle.mm_proof.specs.KnownPrefix.{known_prefix, begins_list, ends_list}
+use Rattle.mm_proof.specs.Parsed.{OfProof}
+use Rattle.mm_proof.specs.Places.{IsMovePlace}
 use Rattle.mm_proof.specs.Proof.{BreaksWhole}
-use Rattle.mm_proof.specs.Strict.{HasFormOf, IsTextFault}
+use Rattle.mm_proof.specs.Steps.{IsProofNumber}
+use Rattle.mm_proof.specs.Strict.{IsTextFault}
 use Rattle.mm_proof.specs.WholePlaces.{IsLabelAt, IsFirstLabel, IsUnknownLabel, IsIdleLabel}
 use Rattle.mm_proof.specs.WholePlaces.{IsLetterAt, IsWholePlace}
 use Rattle.mm_proof.specs.Mirror.CodeSteps.{MayBeUsed, IsUseOf}
@@ -305,12 +307,12 @@ never_cut letters (codes, said) broken =
 
 -- ==== the letter at which they break one
 
-pub place_of_letter : (before : List Sentence) (tokens labels letters : List (List ℕ))
-    (rule : ProofRule) (index piece byte base : ℕ) → IsCompressed tokens labels letters
-    → base ≡ length labels + 2 → IsByteOf letters index piece byte
-    → IsFaultIndex rule (joined letters) index
-    → IsWholePlace before tokens rule (base + piece) byte
-place_of_letter before tokens labels letters P4 index piece byte base parts is there
+pub place_of_letter : (before : List Sentence) (s : Sentence)
+    (tokens labels letters : List (List ℕ)) (rule : ProofRule) (index piece byte base : ℕ)
+    → IsCompressed tokens labels letters → base ≡ length labels + 2
+    → IsByteOf letters index piece byte → IsFaultIndex rule (joined letters) index
+    → IsWholePlace before s tokens rule (base + piece) byte
+place_of_letter before s tokens labels letters P4 index piece byte base parts is there
     (letter, at, all, not) =
     let rest = drop (suc index) (joined letters) in (
       take index (joined letters),
@@ -321,7 +323,7 @@ place_of_letter before tokens labels letters P4 index piece byte base parts is t
       all,
       not,
     )
-place_of_letter before tokens labels letters P5 index piece byte base parts is there
+place_of_letter before s tokens labels letters P5 index piece byte base parts is there
     (earlier, digit, digits, later, whole, at, codes, said, all, stops) =
     let front : take index (joined letters) ≡ earlier =
     ap (take index) whole ∙ ap (λ (n : ℕ). take n (earlier ++ digit ∷ (digits ++ later))) at
@@ -338,7 +340,7 @@ place_of_letter before tokens labels letters P5 index piece byte base parts is t
       all,
       stops,
     )
-place_of_letter before tokens labels letters rule index piece byte base parts is there wrong =
+place_of_letter before s tokens labels letters rule index piece byte base parts is there wrong =
     absurd wrong
 
 -- the index is that of a byte
@@ -427,47 +429,46 @@ some_blamed st index tokens rule base labels from broken is none = absurd (neith
     neither (inr e) = cc
 
 -- the first of them stands at its token
-pub place_of_label : (st : List Sentence) (at : ℕ) (tokens : List (List ℕ)) (rule : ProofRule)
-    (base : ℕ) (labels : List (List ℕ)) → AreLabelsFrom tokens base labels → (index : ℕ)
-    (label : List ℕ) → slice_get labels index ≡ Some label → IsBlamed rule st at label
+pub place_of_label : (st : List Sentence) (at : ℕ) (s : Sentence) (tokens : List (List ℕ))
+    (rule : ProofRule) (base : ℕ) (labels : List (List ℕ)) → AreLabelsFrom tokens base labels
+    → (index : ℕ) (label : List ℕ) → slice_get labels index ≡ Some label
+    → IsBlamed rule st at label
     → ((other : List ℕ) → Contains (take index labels) other → ¬ (IsBlamed rule st at other))
-    → IsWholePlace (take at st) tokens rule (base + index) 0
-place_of_label st at tokens P2 base labels from index label there so none = (
+    → IsWholePlace (take at st) s tokens rule (base + index) 0
+place_of_label st at s tokens P2 base labels from index label there so none = (
   first_label (IsUnknownLabel (take at st)) tokens base labels from index label there so none,
   refl,
 )
-place_of_label st at tokens P3 base labels from index label there so none = (
+place_of_label st at s tokens P3 base labels from index label there so none = (
   first_label (IsIdleLabel (take at st)) tokens base labels from index label there so none,
   refl,
 )
-place_of_label st at tokens rule base labels from index label there so none = absurd so
+place_of_label st at s tokens rule base labels from index label there so none = absurd so
 
 -- ==== the tokens
 
--- a rule that is the first fault of all the tokens is broken, or it is P15
-pub broken_or_form : (profile : Profile) (before : List Sentence) (s : Sentence)
-    (tokens : List (List ℕ)) (rule : ProofRule) → IsTextFault profile before s tokens rule
-    → BreaksWhole rule before tokens ⊎ (rule ≡ P15)
-broken_or_form profile before s tokens rule (inl fault) = inl fault.broken
-broken_or_form profile before s tokens rule (inr (whole, is, not)) = inr is
+-- a rule that is the first fault of all the tokens is broken, but for P15
+pub broken_first : (before : List Sentence) (s : Sentence) (tokens : List (List ℕ))
+    (rule : ProofRule) → (profile : Profile) × IsTextFault profile before s tokens rule
+    → ¬ (rule ≡ P15) → BreaksWhole rule before tokens
+broken_first before s tokens rule (profile, inl fault) other = fault.broken
+broken_first before s tokens rule (profile, inr (whole, is, not)) other = absurd (other is)
 
--- a normal proof has the form of each profile
-normal_form : (profile : Profile) (before : List Sentence) (s : Sentence)
-    (tokens : List (List ℕ)) → IsNormal tokens → HasFormOf profile before s tokens
-normal_form Strict before s tokens normal = record {
-  listed = λ labels letters parts. absurd (normal_or_compressed tokens labels letters normal parts);
-  marked = λ moves said.
-      absurd (normal_or_compressed tokens said.listed said.letters normal said.parts);
-}
-normal_form Lenient before s tokens normal = tt
-
--- so tokens with another have a first one
-first_token : (profile : Profile) (before : List Sentence) (s : Sentence)
-    (tokens : List (List ℕ)) → ¬ (HasFormOf profile before s tokens)
-    → (text : List ℕ) × (slice_get tokens 0 ≡ Some text)
-first_token profile before s [] not =
-    absurd (not (normal_form profile before s [] (λ begins. none-some opening_token begins)))
-first_token profile before s (t ∷ tokens) not = (t, refl)
+-- it is no other
+pub only_whole : (before : List Sentence) (s : Sentence) (tokens : List (List ℕ))
+    (rule : ProofRule) → (profile : Profile) × IsTextFault profile before s tokens rule
+    → rule ≢ P1 → rule ≢ P2 → rule ≢ P3 → rule ≢ P4 → rule ≢ P5 → rule ≢ P15 → ⊥
+only_whole before s tokens rule fault a b c d e f =
+    go rule a b c d e (broken_first before s tokens rule fault f)
+  where
+    go : (r : ProofRule) → r ≢ P1 → r ≢ P2 → r ≢ P3 → r ≢ P4 → r ≢ P5
+        → BreaksWhole r before tokens → ⊥
+    go P1 a b c d e broken = a refl
+    go P2 a b c d e broken = b refl
+    go P3 a b c d e broken = c refl
+    go P4 a b c d e broken = d refl
+    go P5 a b c d e broken = e refl
+    go r a b c d e broken = broken
 
 label_within : (tokens : List (List ℕ)) (token : ℕ) (label : List ℕ)
     → IsLabelAt tokens token label → slice_get tokens token ≡ Some label
@@ -480,25 +481,40 @@ label_within tokens token label (inr (labels, letters, parts, index, is, there))
     ap (λ (ts : List (List ℕ)). slice_get ts token) parts.whole
     ∙ ap (slice_get (opening_token ∷ (labels ++ closing_token ∷ letters))) next ∙ behind
 
+piece_within : (tokens labels letters : List (List ℕ)) (token byte piece : ℕ) (text : List ℕ)
+    → IsCompressed tokens labels letters → token ≡ length labels + 2 + piece
+    → slice_get letters piece ≡ Some text → byte < length text
+    → (text : List ℕ) × (slice_get tokens token ≡ Some text) × (byte ≤ length text)
+piece_within tokens labels letters token byte piece text c is there within =
+    let behind = get_after (opening_token ∷ labels) (closing_token ∷ letters) (suc piece) text there
+    in
+    let index : token ≡ length (opening_token ∷ labels) + suc piece = omega (arith, is) in (
+      text,
+      ap (λ (ts : List (List ℕ)). slice_get ts token) c.whole
+          ∙ ap (slice_get (opening_token ∷ (labels ++ closing_token ∷ letters))) index ∙ behind,
+      omega (arith, within),
+    )
+
 letter_within : (tokens : List (List ℕ)) (token byte : ℕ) (earlier : List ℕ) (letter : ℕ)
     (later : List ℕ) → IsLetterAt tokens token byte earlier letter later
     → (text : List ℕ) × (slice_get tokens token ≡ Some text) × (byte ≤ length text)
 letter_within tokens token byte earlier letter later at =
-    let behind = get_after (opening_token ∷ at.labels) (closing_token ∷ at.letters) (suc at.piece)
-    at.text at.there in
-    let index : token ≡ length (opening_token ∷ at.labels) + suc at.piece =
-    omega (arith, at.index) in (
-      at.text,
-      ap (λ (ts : List (List ℕ)). slice_get ts token) at.parts.whole
-          ∙ ap (slice_get (opening_token ∷ (at.labels ++ closing_token ∷ at.letters))) index
-          ∙ behind,
-      omega (arith, at.within),
-    )
+    piece_within tokens at.labels at.letters token byte at.piece at.text at.parts at.index at.there
+    at.within
+
+move_within : (tokens : List (List ℕ)) (number token byte : ℕ)
+    → IsMovePlace tokens number token byte
+    → (text : List ℕ) × (slice_get tokens token ≡ Some text) × (byte ≤ length text)
+move_within tokens number token byte (inl (normal, is, start, less)) =
+    let (text, there) = get_within tokens number less in
+    (text, ap (slice_get tokens) is ∙ there, omega arith)
+move_within tokens number token byte (inr (labels, letters, c, piece, is, ends)) =
+    piece_within tokens labels letters token byte piece ends.text c is ends.there ends.within
 
 -- the place is in one of the tokens
 pub in_tokens : (profile : Profile) (before : List Sentence) (s : Sentence)
     (tokens : List (List ℕ)) (rule : ProofRule) (token byte : ℕ)
-    → IsTextFault profile before s tokens rule → IsWholePlace before tokens rule token byte
+    → IsTextFault profile before s tokens rule → IsWholePlace before s tokens rule token byte
     → (text : List ℕ) × (slice_get tokens token ≡ Some text) × (byte ≤ length text)
 in_tokens profile before s tokens P1 token byte (inl fault) (first, start) = (
   opening_token,
@@ -516,10 +532,14 @@ in_tokens profile before s tokens P4 token byte fault
 in_tokens profile before s tokens P5 token byte fault
     (earlier, digit, digits, later, at, codes, said, leads, stops) =
     letter_within tokens token byte earlier digit (digits ++ later) at
-in_tokens profile before s tokens P15 token byte (inl fault) place = absurd fault.broken
-in_tokens profile before s tokens P15 token byte (inr (whole, is, not)) (first, start) =
-    let (text, there) = first_token profile before s tokens not in
-    (text, ap (slice_get tokens) first ∙ there, omega arith)
+in_tokens profile before s tokens P15 token byte fault
+    (inl ((labels, letters, c, index, is, (label, there, spare)), start, first)) = (
+      label,
+      label_within tokens token label (inr (labels, letters, c, index, is, there)),
+      omega arith,
+    )
+in_tokens profile before s tokens P15 token byte fault
+    (inr (none, moves, said, number, first, at)) = move_within tokens number token byte at
 in_tokens profile before s tokens rule token byte fault place = absurd place
 
 -- and each token of the known prefix begins one of the tokens
@@ -631,27 +651,19 @@ few_letters tokens labels letters base index piece byte parts is (text, there, w
 
 -- ==== the `$p` with a number
 
-module _ (st : List Sentence) (id at own : ℕ) (s t : Sentence) where
-  -- what all the tokens break first is broken, where the statement's frame says that it stands
-  pub broken_there : (profile : Profile) (tokens others : List (List ℕ)) (rule : ProofRule)
-      → IsNumbered st id at s → IsNumbered st id own t → tokens ≡ others
-      → IsTextFault profile (take at st) s tokens rule
-      → BreaksWhole rule (take own st) others ⊎ (rule ≡ P15)
-  broken_there profile tokens others rule one other same fault =
-      let (place, is) = numbered_unique st id at own s t one other in
-      subst (λ (n : ℕ). BreaksWhole rule (take n st) others ⊎ (rule ≡ P15)) place
-      (subst (λ (ts : List (List ℕ)). BreaksWhole rule (take at st) ts ⊎ (rule ≡ P15)) same
-      (broken_or_form profile (take at st) s tokens rule fault))
+module _ (st : List Sentence) (id own : ℕ) (t : Sentence) (number : IsNumbered st id own t) where
+  -- it stands where its frame says
+  pub own_proof : (index : ℕ) (s : Sentence) → IsProofNumber st id index s
+      → (s : Sentence) × IsProofNumber st id own s
+  own_proof index s proof =
+      let (place, is) = numbered_unique st id index own s t proof.numbered number in
+      (s, subst (λ (n : ℕ). IsProofNumber st id n s) place proof)
 
-  -- and the place there is the place
-  pub place_there : (tokens others : List (List ℕ)) (rule : ProofRule) (token byte : ℕ)
-      → IsNumbered st id at s → IsNumbered st id own t → others ≡ tokens
-      → IsWholePlace (take own st) others rule token byte
-      → IsWholePlace (take at st) tokens rule token byte
-  place_there tokens others rule token byte one other same there =
-      let (place, is) = numbered_unique st id at own s t one other in
-      subst (λ (n : ℕ). IsWholePlace (take n st) tokens rule token byte) (sym place)
-      (subst (λ (ts : List (List ℕ)). IsWholePlace (take own st) ts rule token byte) same there)
+  -- so what holds there holds of it
+  pub of_own : (P : ℕ → Sentence → Type 0) → ((s : Sentence) → P own s) → OfProof st id P
+  of_own P there index s proof =
+      let (place, is) = numbered_unique st id index own s t proof.numbered number in
+      subst (λ (n : ℕ). P n s) (sym place) (there s)
 
 -- a place in the known prefix is in one of the tokens
 pub place_back : (tokens : List (List ℕ)) (token byte : ℕ)

@@ -2,10 +2,11 @@
 use Rattle.std.proofs.Common.{◌≡◌, ℕ, zero, suc, ◌+◌, ◌-◌, ◌<◌, ◌≤◌, List, [], ◌∷◌, ◌++◌, length}
 use Rattle.std.proofs.Common.{take, get_or, slice_get, Contains, Bool, true, false, Option, Some}
 use Rattle.std.proofs.Common.{None, ◌⊎◌, ◌↔◌, inl, inr, ⊎_elim, refl, sym, ap, subst, ◌∙◌, arith}
-use Rattle.std.proofs.Common.{map, drop}
+use Rattle.std.proofs.Common.{map, drop, append_assoc, MatchOption}
 use Rattle.std.proofs.lemmas.Option.{same_Some, slice_get_within, none-some}
 use Rattle.std.proofs.lemmas.Bool.{cases_lt, cases_order}
 use Rattle.std.proofs.lemmas.List.{length-map, length-take, map_more, take-map, length-append}
+use Rattle.std.proofs.lemmas.List.{length-take-le}
 use Rattle.std.proofs.lemmas.List.Elements.{Contains-append_left, Contains-push}
 use Rattle.std.proofs.lemmas.List.Elements.{Contains-push_cases}
 use Rattle.mm_frame.specs.declared.number.LabelId.{LabelId}
@@ -17,24 +18,28 @@ use Rattle.mm_proof.specs.Plain.{ids_in}
 use Rattle.mm_proof.specs.Mirror.CodeSteps.{code_move, code_moves, move_by, AreFor, MayBeUsed}
 use Rattle.mm_proof.proofs.ProofTokens.ProofCodes.{code_there}
 use Rattle.mm_proof.specs.Mirror.CodeSharing.{AddsNew}
-use Rattle.mm_proof.specs.Mirror.CodeForm.{AllNew, SomeOld, IsAfterAssertion, AreMarksStrict}
-use Rattle.mm_proof.specs.Mirror.CodeForm.{SomeMarkLoose}
+use Rattle.mm_proof.specs.Mirror.CodeForm.{IsOld, AllNew, IsFirstOld, IsAfterAssertion}
+use Rattle.mm_proof.specs.Mirror.CodeForm.{AreMarksStrict, IsFirstLoose, IsLooseBy}
+use Rattle.mm_proof.specs.declared.form.Loose.{Loose}
+use Rattle.mm_proof.specs.declared.form.Loose.TheVariants as loose
+use Rattle.mm_proof.specs.WholePlaces.{IsSpareLabel, IsLooseMark}
 use Rattle.mm_proof.proofs.ByNumbers.UsedAssertions.{entry_at, named_by}
 use Rattle.std.specs.List.{AllByRecursion, AllZip}
 use Rattle.mm_text.proofs.Lists.{zip_left, zip_right, all_at, split_at, get_before, get_parted}
 use Rattle.mm_text.proofs.Lists.{get_take, get_from_take, at_from_contains, contains_from_at}
-use Rattle.mm_text.proofs.Lists.{mapped_zip}
+use Rattle.mm_text.proofs.Lists.{mapped_zip, get_kept}
 use Rattle.mm_frame.specs.Rules.{AllMeant}
 use Rattle.mm_frame.specs.Frame.{AreMandatory}
 use Rattle.mm_frame.specs.FrameIndex.{AreHypotheses}
 use Rattle.mm_frame.specs.Numbers.{labelled_sentences, IsNumbered}
 use Rattle.mm_frame.proofs.Frames.FrameLaws.{mandatory_unique}
 use Rattle.mm_frame.proofs.Names.LabelNumbers.{numbered_get, numbered_from_get, numbered_unique}
-use Rattle.mm_proof.specs.Tokens.{IsCompressed, opening_token}
+use Rattle.mm_proof.specs.Tokens.{IsCompressed, BeginsList, opening_token}
 use Rattle.mm_proof.specs.Steps.{IsNumberedMove, AreNumberedMoves, AreSteps, IsUsable, IsUsableMove}
+use Rattle.mm_proof.specs.Steps.{IsProofNumber}
 use Rattle.mm_proof.proofs.Machines.JudgedMoves.{usable_names}
 use Rattle.mm_proof.specs.Parsed.{OfProof, SaySteps}
-use Rattle.mm_proof.specs.Strict.{IsStrictList, MarkAssertions, IsStrict}
+use Rattle.mm_proof.specs.Strict.{IsStrictList, EndWithAssertion, MarkAssertions, IsStrict}
 use Rattle.mm_proof.proofs.ProofSteps.OneStep.{one_label, one_labelled, not_both_kinds}
 use Rattle.mm_proof.proofs.ByNumbers.NumberedLabels.{one_index}
 use Rattle.mm_proof.proofs.ProofTokens.SaidMoves.{moves_once}
@@ -67,28 +72,31 @@ ids_more ids i d less =
 
 -- so far each is new, and these are seen
 pub record NewSoFar (first seen ids : List ℕ) (i : ℕ) : Type 0 where
-  pub new : (j id : ℕ) → j < i → slice_get ids j ≡ Some id → ¬ (Contains first id) × ¬ (Contains (take j ids) id)
+  pub new : (j : ℕ) → j < i → ¬ (IsOld first ids j)
   pub has : (x : ℕ) → Contains seen x ↔ (Contains first x ⊎ Contains (take i ids) x)
 
 pub new_none : (first : List ℕ) (ids : List ℕ) → NewSoFar first first ids 0
 new_none first ids = record {
-  new = λ j id less. absurd (omega arith);
+  new = λ j less. absurd (omega arith);
   has = λ x. ((λ h. inl h), ⊎_elim (λ f. f) (λ n. absurd (omega (arith, n.1, length-take 0 ids))));
 }
 
 -- one more that is new
-pub new_one : (first seen next : List ℕ) (ids : List LabelId) (i : ℕ) (d : LabelId) (b : Bool) → i < length ids → NewSoFar first seen (ids_in ids) i → AddsNew seen (get_or ids i d).0 b next → b ≡ true
-    → NewSoFar first next (ids_in ids) (i + 1)
+pub new_one : (first seen next : List ℕ) (ids : List LabelId) (i : ℕ) (d : LabelId) (b : Bool)
+    → i < length ids → NewSoFar first seen (ids_in ids) i → AddsNew seen (get_or ids i d).0 b next
+    → b ≡ true → NewSoFar first next (ids_in ids) (i + 1)
 new_one first seen next ids i d b less so added is =
     let a = subst (λ (c : Bool). AddsNew seen (get_or ids i d).0 c next) is added in
+    let here : ¬ (IsOld first (ids_in ids) i) = λ (id, at, among).
+    let one : (get_or ids i d).0 ≡ id =
+    same_Some (get_or ids i d).0 id (sym (entry_at ids i d less) ∙ at) in
+    a.0 (subst (Contains seen) (sym one) ((so.has id).1 among)) in
     record {
-      new = λ j id below at. elim (cases_lt j i) [
-        | inl l ↦ so.new j id l at
+      new = λ j below. elim (cases_lt j i) [
+        | inl l ↦ so.new j l
         | inr m ↦
-            let same : j ≡ i = omega arith in
-            let one : (get_or ids i d).0 ≡ id = same_Some (get_or ids i d).0 id (sym (entry_at ids i d less) ∙ ap (slice_get (ids_in ids)) (sym same) ∙ at) in
-            let none = λ (h : Contains seen id). a.0 (subst (Contains seen) (sym one) h) in
-            ((λ f. none ((so.has id).1 (inl f))), λ t. none ((so.has id).1 (inr (subst (λ k. Contains (take k (ids_in ids)) id) same t))))
+            let same : i ≡ j = omega arith in
+            subst (λ (k : ℕ). ¬ (IsOld first (ids_in ids) k)) same here
       ];
       has = λ x.
           let grown = added_has seen (get_or ids i d).0 true next a x in
@@ -102,15 +110,20 @@ new_one first seen next ids i d b less so added is =
           );
     }
 
-pub new_all : (first seen : List ℕ) (ids : List LabelId) (i : ℕ) → length ids ≤ i → NewSoFar first seen (ids_in ids) i → AllNew first (ids_in ids)
-new_all first seen ids i past so j id at =
-    so.new j id (omega (arith, slice_get_within (ids_in ids) j id at, length-map ids (λ l. l.0))) at
+pub new_all : (first seen : List ℕ) (ids : List LabelId) (i : ℕ) → length ids ≤ i
+    → NewSoFar first seen (ids_in ids) i → AllNew first (ids_in ids)
+new_all first seen ids i past so j (id, at, among) =
+    so.new j (omega (arith, slice_get_within (ids_in ids) j id at, length-map ids (λ l. l.0)))
+    (id, at, among)
 
-pub old_here : (first seen next : List ℕ) (ids : List LabelId) (i : ℕ) (d : LabelId) (b : Bool) → i < length ids → NewSoFar first seen (ids_in ids) i → AddsNew seen (get_or ids i d).0 b next → b ≡ false
-    → SomeOld first (ids_in ids)
+pub old_here : (first seen next : List ℕ) (ids : List LabelId) (i : ℕ) (d : LabelId) (b : Bool)
+    → i < length ids → NewSoFar first seen (ids_in ids) i → AddsNew seen (get_or ids i d).0 b next
+    → b ≡ false → IsFirstOld first (ids_in ids) i
 old_here first seen next ids i d b less so added is =
-    let a = subst (λ (c : Bool). AddsNew seen (get_or ids i d).0 c next) is added in
-    (i, (get_or ids i d).0, entry_at ids i d less, (so.has (get_or ids i d).0).0 a.0)
+    let a = subst (λ (c : Bool). AddsNew seen (get_or ids i d).0 c next) is added in (
+      ((get_or ids i d).0, entry_at ids i d less, (so.has (get_or ids i d).0).0 a.0),
+      so.new,
+    )
 
 -- ---- labels of hypotheses, put into a set one after the other
 
@@ -125,11 +138,18 @@ set_more old new hids more n b same a is x =
     )
 
 module _ (seen hids ids : List ℕ) (same : ((x : ℕ) → Contains seen x ↔ Contains hids x)) where
-  pub new_seen : AllNew seen ids → AllNew hids ids
-  new_seen new j id at = let n = new j id at in ((λ h. n.0 ((same id).1 h)), n.1)
+  old_seen : (j : ℕ) → IsOld seen ids j → IsOld hids ids j
+  old_seen j (id, at, o) = (id, at, ⊎_elim (λ h. inl ((same id).0 h)) (λ t. inr t) o)
 
-  pub old_seen : SomeOld seen ids → SomeOld hids ids
-  old_seen (j, id, at, o) = (j, id, at, ⊎_elim (λ h. inl ((same id).0 h)) (λ t. inr t) o)
+  seen_old : (j : ℕ) → IsOld hids ids j → IsOld seen ids j
+  seen_old j (id, at, o) = (id, at, ⊎_elim (λ h. inl ((same id).1 h)) (λ t. inr t) o)
+
+  -- the first that isn't new stands where it did
+  pub old_found : (found : Option ℕ) → MatchOption found (AllNew seen ids) (IsFirstOld seen ids)
+      → MatchOption found (AllNew hids ids) (IsFirstOld hids ids)
+  old_found None new = λ j old. new j (seen_old j old)
+  old_found (Some j) (old, first) =
+      (old_seen j old, λ k less other. first k less (seen_old k other))
 
 -- ---- codes
 
@@ -200,47 +220,95 @@ once_from xs new i j x p q = elim (cases_order i j) [
   | inr (inr m) ↦ absurd (new i x p (contains_from_at (take i xs) x (j, get_take xs i j m ∙ q)))
 ]
 
-strict_list : (st : List Sentence) (index : ℕ) (s : Sentence) (hids ids : List ℕ) (labels : List (List ℕ)) → AllMeant st → slice_get st index ≡ Some s
-    → AreHypotheses (record { statements = st; index = index }) hids → AreFor st index ids labels → AllNew hids ids → IsStrictList (take index st) s labels
-strict_list st index s hids ids labels all there h each new = record {
-  once = λ i j label p q.
-      let a = zip_right (λ id l. MayBeUsed st index l id) ids labels i label each p in
-      let b = zip_right (λ id l. MayBeUsed st index l id) ids labels j label each q in
-      let same : a.0 ≡ b.0 = number_once st a.2.at b.2.at a.0 b.0 a.2.s b.2.s label all a.2.numbered b.2.numbered a.2.named b.2.named in
-      once_from ids (λ k id at. (new k id at).1) i j b.0 (a.1 ∙ ap Some same) b.1;
-  optional = λ hypotheses g label mandatory has named among.
-      let own : h.assertion ≡ s = same_Some h.assertion s (sym h.there ∙ there) in
-      let mine = subst (λ (a : Sentence). AreMandatory (take index st) a h.hypotheses) own h.mandatory in
-      let same : hypotheses ≡ h.hypotheses = mandatory_unique (take index st) s hypotheses h.hypotheses mandatory mine in
-      let at = at_from_contains h.hypotheses g (subst (λ (l : List Sentence). Contains l g) same has) in
-      let told = told_each (slice_get (labelled_sentences st)) hids h.hypotheses h.numbered in
-      let n = zip_right _ hids h.hypotheses at.0 g told at.1 in
-      let p = numbered_from_get st n.0 g n.2 in
+-- where no label is spare the list is strict
+strict_list : (before : List Sentence) (s : Sentence) (labels : List (List ℕ))
+    → ((j : ℕ) → ¬ (IsSpareLabel before s labels j)) → IsStrictList before s labels
+strict_list before s labels none = record {
+  once = once_from labels (λ j label at has. none j (label, at, inl has));
+  optional = λ hypotheses h label mandatory has named among.
       let l = at_from_contains labels label among in
-      let b = zip_right (λ id k. MayBeUsed st index k id) ids labels l.0 label each l.1 in
-      let one : n.0 ≡ b.0 = number_once st p.0 b.2.at n.0 b.0 g b.2.s label all p.1 b.2.numbered named b.2.named in
-      (new l.0 b.0 b.1).0 (subst (Contains hids) one (contains_from_at hids n.0 (at.0, n.1)));
+      none l.0 (label, l.1, inr (hypotheses, mandatory, h, has, named));
 }
 
-loose_list : (st : List Sentence) (index : ℕ) (s : Sentence) (hids ids : List ℕ) (labels : List (List ℕ)) → slice_get st index ≡ Some s
-    → AreHypotheses (record { statements = st; index = index }) hids → AreFor st index ids labels → SomeOld hids ids → ¬ (IsStrictList (take index st) s labels)
-loose_list st index s hids ids labels there h each (j, id, at, inl among) strict =
-    let own : h.assertion ≡ s = same_Some h.assertion s (sym h.there ∙ there) in
-    let mine = subst (λ (a : Sentence). AreMandatory (take index st) a h.hypotheses) own h.mandatory in
-    let l = zip_left (λ n k. MayBeUsed st index k n) ids labels j id each at in
-    let k = at_from_contains hids id among in
-    let told = told_each (slice_get (labelled_sentences st)) hids h.hypotheses h.numbered in
-    let g = zip_left _ hids h.hypotheses k.0 id told k.1 in
-    let same : l.2.s ≡ g.0 = same_Some l.2.s g.0 (sym (numbered_get st id l.2.at l.2.s l.2.numbered) ∙ g.2) in
-    strict.optional h.hypotheses g.0 l.0 mine (contains_from_at h.hypotheses g.0 (k.0, g.1)) (subst (IsLabelled l.0) same l.2.named) (contains_from_at labels l.0 (j, l.1))
-loose_list st index s hids ids labels there h each (j, id, at, inr before) strict =
-    let k = at_from_contains (take j ids) id before in
-    let f = get_from_take ids j k.0 id k.1 in
-    let a = zip_left (λ n l. MayBeUsed st index l n) ids labels k.0 id each f.1 in
-    let b = zip_left (λ n l. MayBeUsed st index l n) ids labels j id each at in
-    let one = (numbered_unique st id _ _ _ _ a.2.numbered b.2.numbered).1 in
-    let same = same_Some a.0 b.0 (sym (subst (IsLabelled a.0) one a.2.named) ∙ b.2.named) in
-    absurd (omega (arith, f.0, strict.once k.0 j b.0 (a.1 ∙ ap Some same) b.1))
+loose_list : (before : List Sentence) (s : Sentence) (labels : List (List ℕ)) (j : ℕ)
+    → IsSpareLabel before s labels j → ¬ (IsStrictList before s labels)
+loose_list before s labels j (label, at, inl has) strict =
+    let k = at_from_contains (take j labels) label has in
+    let f = get_from_take labels j k.0 label k.1 in
+    absurd (omega (arith, f.0, strict.once k.0 j label f.1 at))
+loose_list before s labels j (label, at, inr (hypotheses, mandatory, h, has, named)) strict =
+    strict.optional hypotheses h label mandatory has named
+    (contains_from_at labels label (j, at))
+
+-- a label is spare where its number isn't new
+module _ (st : List Sentence) (index : ℕ) (s : Sentence) (hids ids : List ℕ)
+    (labels : List (List ℕ)) (all : AllMeant st) (there : slice_get st index ≡ Some s)
+    (h : AreHypotheses (record { statements = st; index = index }) hids)
+    (each : AreFor st index ids labels)
+  where
+    mine : AreMandatory (take index st) s h.hypotheses
+    mine =
+        subst (λ (a : Sentence). AreMandatory (take index st) a h.hypotheses)
+        (same_Some h.assertion s (sym h.there ∙ there)) h.mandatory
+
+    told : AllZip (λ n g. slice_get (labelled_sentences st) n ≡ Some g) hids h.hypotheses
+    told = told_each (slice_get (labelled_sentences st)) hids h.hypotheses h.numbered
+
+    spare_of_old : (j : ℕ) → IsOld hids ids j → IsSpareLabel (take index st) s labels j
+    spare_of_old j (id, at, inl among) =
+        let l = zip_left (λ n k. MayBeUsed st index k n) ids labels j id each at in
+        let k = at_from_contains hids id among in
+        let g = zip_left _ hids h.hypotheses k.0 id told k.1 in
+        let same : l.2.s ≡ g.0 =
+        same_Some l.2.s g.0 (sym (numbered_get st id l.2.at l.2.s l.2.numbered) ∙ g.2) in (
+          l.0,
+          l.1,
+          inr (
+            h.hypotheses,
+            mine,
+            g.0,
+            contains_from_at h.hypotheses g.0 (k.0, g.1),
+            subst (IsLabelled l.0) same l.2.named,
+          ),
+        )
+    spare_of_old j (id, at, inr before) =
+        let k = at_from_contains (take j ids) id before in
+        let f = get_from_take ids j k.0 id k.1 in
+        let a = zip_left (λ n l. MayBeUsed st index l n) ids labels k.0 id each f.1 in
+        let b = zip_left (λ n l. MayBeUsed st index l n) ids labels j id each at in
+        let one = (numbered_unique st id _ _ _ _ a.2.numbered b.2.numbered).1 in
+        let same = same_Some a.0 b.0 (sym (subst (IsLabelled a.0) one a.2.named) ∙ b.2.named) in (
+          b.0,
+          b.1,
+          inl (contains_from_at (take j labels) b.0
+              (k.0, get_take labels j k.0 f.0 ∙ a.1 ∙ ap Some same)),
+        )
+
+    old_of_spare : (j : ℕ) → IsSpareLabel (take index st) s labels j → IsOld hids ids j
+    old_of_spare j (label, at, inl has) =
+        let k = at_from_contains (take j labels) label has in
+        let f = get_from_take labels j k.0 label k.1 in
+        let a = zip_right (λ id l. MayBeUsed st index l id) ids labels k.0 label each f.1 in
+        let b = zip_right (λ id l. MayBeUsed st index l id) ids labels j label each at in
+        let same : a.0 ≡ b.0 =
+        number_once st a.2.at b.2.at a.0 b.0 a.2.s b.2.s label all a.2.numbered b.2.numbered
+        a.2.named b.2.named in (
+          b.0,
+          b.1,
+          inr (contains_from_at (take j ids) b.0
+              (k.0, get_take ids j k.0 f.0 ∙ a.1 ∙ ap Some same)),
+        )
+    old_of_spare j (label, at, inr (hypotheses, mandatory, g, has, named)) =
+        let same : hypotheses ≡ h.hypotheses =
+        mandatory_unique (take index st) s hypotheses h.hypotheses mandatory mine in
+        let k =
+        at_from_contains h.hypotheses g (subst (λ (l : List Sentence). Contains l g) same has) in
+        let n = zip_right _ hids h.hypotheses k.0 g told k.1 in
+        let p = numbered_from_get st n.0 g n.2 in
+        let b = zip_right (λ id l. MayBeUsed st index l id) ids labels j label each at in
+        let one : n.0 ≡ b.0 =
+        number_once st p.0 b.2.at n.0 b.0 g b.2.s label all p.1 b.2.numbered named b.2.named in
+        (b.0, b.1, inl (subst (Contains hids) one (contains_from_at hids n.0 (k.0, n.1))))
 
 -- ---- the marks
 
@@ -266,24 +334,90 @@ assertion_usable st index label p a all there named kind (inl h) =
     let same : h.1 ≡ a = one_labelled st h.0 p h.1 a label all f.1 there h.4.0 named in
     absurd (not_both_kinds a.kind (subst (λ (x : Sentence). IsHypothesis x.kind) same h.4.1) kind)
 
-strict_marks : (st : List Sentence) (index : ℕ) (steps : List (Move ℕ)) (moves : List (Move (List ℕ))) → AllMeant st → AreNumberedMoves st steps moves
-    → AllByRecursion (IsUsableMove (take index st)) moves → AreMarksStrict st steps → MarkAssertions (take index st) moves
-strict_marks st index steps moves all numbered usable strict prefix after parts =
-    let at : slice_get moves (length prefix) ≡ Some mark = ap (λ l. slice_get l (length prefix)) parts ∙ get_parted prefix after mark in
-    let x = zip_right (IsNumberedMove st) steps moves (length prefix) mark numbered at in
-    let s = strict (length prefix) (x.1 ∙ ap Some (marks_mark st x.0 x.2)) in
-    let y = zip_left (IsNumberedMove st) steps moves s.0 (name s.1) numbered s.3 in
-    let label = y.2.1 in
-    let moved : slice_get moves s.0 ≡ Some (name label) = y.1 ∙ ap Some y.2.4 in
-    let held : slice_get prefix s.0 ≡ Some (name label) = get_before prefix (mark ∷ after) s.0 (name label) (omega (arith, s.2)) (ap (λ l. slice_get l s.0) (sym parts) ∙ moved) in
-    let last = last_of prefix s.0 (name label) s.2 held in
-    let same : y.2.0 ≡ s.4.1 = same_Some y.2.0 s.4.1 (sym y.2.2 ∙ numbered_get st s.1 s.4.0 s.4.1 s.4.2) in (
-      last.0,
-      label,
-      last.1,
-      assertion_usable st index label s.4.0 s.4.1 all s.4.2.there (subst (IsLabelled label) same y.2.3) s.4.3
-          (all_at (IsUsableMove (take index st)) moves s.0 (name label) usable moved),
-    )
+-- moves behind which one by an assertion's number stands end with a step by its label
+module _ (st : List Sentence) (index : ℕ) (steps : List (Move ℕ)) (moves : List (Move (List ℕ)))
+    (all : AllMeant st) (numbered : AreNumberedMoves st steps moves)
+  where
+    marked : (k : ℕ) → slice_get moves k ≡ Some mark → slice_get steps k ≡ Some mark
+    marked k at =
+        let x = zip_right (IsNumberedMove st) steps moves k mark numbered at in
+        x.1 ∙ ap Some (marks_mark st x.0 x.2)
+
+    after_named : AllByRecursion (IsUsableMove (take index st)) moves
+        → (prefix rest : List (Move (List ℕ))) → moves ≡ prefix ++ rest
+        → IsAfterAssertion st steps (length prefix) → EndWithAssertion (take index st) prefix
+    after_named usable prefix rest parts (b, id, is, at, (p, a, number, kind)) =
+        let y = zip_left (IsNumberedMove st) steps moves b (name id) numbered at in
+        let label = y.2.1 in
+        let moved : slice_get moves b ≡ Some (name label) = y.1 ∙ ap Some y.2.4 in
+        let held : slice_get prefix b ≡ Some (name label) =
+        get_before prefix rest b (name label) (omega (arith, is))
+        (ap (λ l. slice_get l b) (sym parts) ∙ moved) in
+        let last = last_of prefix b (name label) is held in
+        let same : y.2.0 ≡ a = same_Some y.2.0 a (sym y.2.2 ∙ numbered_get st id p a number) in (
+          last.0,
+          label,
+          last.1,
+          assertion_usable st index label p a all number.there
+              (subst (IsLabelled label) same y.2.3) kind
+              (all_at (IsUsableMove (take index st)) moves b (name label) usable moved),
+        )
+
+    after_numbered : (prefix rest : List (Move (List ℕ))) → moves ≡ prefix ++ rest
+        → EndWithAssertion (take index st) prefix → IsAfterAssertion st steps (length prefix)
+    after_numbered prefix rest parts (earlier, label, ends, (at, a, there, (named, kind))) =
+        let b = length earlier in
+        let held : slice_get prefix b ≡ Some (name label) =
+        ap (λ l. slice_get l b) ends ∙ get_parted earlier [] (name label) in
+        let moved : slice_get moves b ≡ Some (name label) =
+        ap (λ l. slice_get l b) parts ∙ get_kept prefix rest b (name label) held in
+        let x = zip_right (IsNumberedMove st) steps moves b (name label) numbered moved in
+        let n = named_by st x.0 label x.2 in
+        let p = numbered_from_get st n.0 n.1 n.3 in
+        let f = get_from_take st index at a there in
+        let same = one_labelled st at p.0 a n.1 label all f.1 p.1.there named n.4 in (
+          b,
+          n.0,
+          omega (arith, ap length ends, length-append earlier (name label ∷ [])),
+          x.1 ∙ ap Some n.2,
+          (p.0, n.1, p.1, subst (λ (c : Sentence). IsAssertion c.kind) same kind),
+        )
+
+    strict_marks : AllByRecursion (IsUsableMove (take index st)) moves → AreMarksStrict st steps
+        → MarkAssertions (take index st) moves
+    strict_marks usable strict prefix after parts =
+        let at : slice_get moves (length prefix) ≡ Some mark =
+        ap (λ l. slice_get l (length prefix)) parts ∙ get_parted prefix after mark in
+        after_named usable prefix (mark ∷ after) parts (strict (length prefix) (marked _ at))
+
+    -- the first mark that doesn't stand so
+    loose_marks : AllByRecursion (IsUsableMove (take index st)) moves → (k : ℕ)
+        → IsFirstLoose st steps k → IsLooseMark (take index st) moves k
+    loose_marks usable k (at, loose, strict) =
+        let y = zip_left (IsNumberedMove st) steps moves k mark numbered at in
+        let moved : slice_get moves k ≡ Some mark = y.1 ∙ ap Some y.2 in
+        let front = take k moves in
+        let rest = mark ∷ drop (suc k) moves in
+        let parts : moves ≡ front ++ rest = split_at moves k mark moved in
+        let less = slice_get_within moves k mark moved in
+        let long : k ≡ length front = sym (length-take-le k moves (omega (arith, less))) in (
+          front,
+          drop (suc k) moves,
+          parts,
+          long,
+          (λ prefix after inner.
+              let whole : moves ≡ prefix ++ ((mark ∷ after) ++ rest) =
+              parts ∙ ap (λ l. l ++ rest) inner ∙ append_assoc prefix (mark ∷ after) rest in
+              let there : slice_get moves (length prefix) ≡ Some mark =
+              ap (λ l. slice_get l (length prefix)) whole
+              ∙ get_parted prefix (after ++ rest) mark in
+              let below : length prefix < k =
+              omega (arith, long, ap length inner, length-append prefix (mark ∷ after)) in
+              after_named usable prefix ((mark ∷ after) ++ rest) whole
+              (strict (length prefix) below (marked _ there))),
+          (λ ends. loose (subst (IsAfterAssertion st steps) (sym long)
+              (after_numbered front rest parts ends))),
+        )
 
 -- the step before a mark of moves whose marks stand so
 pub step_before : (before : List Sentence) (moves : List (Move (List ℕ))) (k : ℕ)
@@ -298,18 +432,6 @@ step_before before moves k strict marked =
     let held = ap (λ l. slice_get l (length m.0)) m.2 ∙ get_parted m.0 [] (name m.1) in
     (length m.0, m.1, long, (get_from_take moves k (length m.0) (name m.1) held).1, m.3)
 
-loose_marks : (st : List Sentence) (index : ℕ) (steps : List (Move ℕ)) (moves : List (Move (List ℕ))) → AllMeant st → AreNumberedMoves st steps moves
-    → SomeMarkLoose st steps → ¬ (MarkAssertions (take index st) moves)
-loose_marks st index steps moves all numbered (k, at, none) strict =
-    let y = zip_left (IsNumberedMove st) steps moves k mark numbered at in
-    let m = step_before (take index st) moves k strict (y.1 ∙ ap Some y.2) in
-    let x = zip_right (IsNumberedMove st) steps moves m.0 (name m.1) numbered m.3 in
-    let b = named_by st x.0 m.1 x.2 in
-    let p = numbered_from_get st b.0 b.1 b.3 in
-    let a = get_from_take st index m.4.0 m.4.1 m.4.2 in
-    let same = one_labelled st m.4.0 p.0 m.4.1 b.1 m.1 all a.1 p.1.there m.4.3.0 b.4 in
-    none (m.0, b.0, m.2, x.1 ∙ ap Some b.2, (p.0, b.1, p.1, subst (λ (c : Sentence). IsAssertion c.kind) same m.4.3.1))
-
 -- ---- the form
 
 -- a proof that isn't compressed has the form
@@ -321,39 +443,91 @@ strict_normal before s tokens normal = record {
 
 -- ---- wherever the statement with the number stands
 
-pub strict_all : (st : List Sentence) (id own : ℕ) (t : Sentence) (tokens : List (List ℕ)) (hids ids : List ℕ) (steps : List (Move ℕ)) → AllMeant st → IsNumbered st id own t
-    → AreHypotheses (record { statements = st; index = own }) hids → ((labels letters : List (List ℕ)) → IsCompressed tokens labels letters → AreFor st own ids labels)
-    → OfProof st id (λ index s. SaySteps st index s tokens steps) → AreSteps st id steps → AllNew hids ids → AreMarksStrict st steps
-    → OfProof st id (λ index s. IsStrict (take index st) s tokens)
-strict_all st id own t tokens hids ids steps all number h each says made new marks index s proof =
-    let said = says index s proof in
-    let here : own ≡ index = one_index st id own index t s number proof.numbered in
-    let there = subst (λ k. AreHypotheses (record { statements = st; index = k }) hids) here h in
-    let usable = usable_names st id steps index s said.1 made proof.numbered said.3 in
-    record {
-      listed = λ labels letters c. strict_list st index s hids ids labels all proof.numbered.there
-          there (subst (λ k. AreFor st k ids labels) here (each labels letters c)) new;
-      marked = λ others c. subst (MarkAssertions (take index st))
-          (moves_once (take index st) s tokens said.1 others said.2 (inr c))
-          (strict_marks st index steps said.1 all said.3 usable marks);
-    }
+module _ (st : List Sentence) (id own : ℕ) (t : Sentence) (tokens : List (List ℕ))
+    (hids ids : List ℕ) (steps : List (Move ℕ)) (all : AllMeant st)
+    (number : IsNumbered st id own t)
+    (h : AreHypotheses (record { statements = st; index = own }) hids)
+    (each : (labels letters : List (List ℕ)) → IsCompressed tokens labels letters
+    → AreFor st own ids labels)
+    (says : OfProof st id (λ index s. SaySteps st index s tokens steps))
+  where
+    module _ (index : ℕ) (s : Sentence) (proof : IsProofNumber st id index s) where
+      here : own ≡ index
+      here = one_index st id own index t s number proof.numbered
 
-pub old_fault : (st : List Sentence) (id own : ℕ) (t : Sentence) (tokens : List (List ℕ)) (hids ids : List ℕ) (steps : List (Move ℕ)) → IsNumbered st id own t
-    → AreHypotheses (record { statements = st; index = own }) hids → ((labels letters : List (List ℕ)) → IsCompressed tokens labels letters → AreFor st own ids labels)
-    → OfProof st id (λ index s. SaySteps st index s tokens steps) → slice_get tokens 0 ≡ Some opening_token → SomeOld hids ids
-    → OfProof st id (λ index s. ¬ (IsStrict (take index st) s tokens))
-old_fault st id own t tokens hids ids steps number h each says first old index s proof strict =
-    let said = says index s proof in
-    let here : own ≡ index = one_index st id own index t s number proof.numbered in
-    let there = subst (λ k. AreHypotheses (record { statements = st; index = k }) hids) here h in
-    ⊎_elim (λ n. n.0 first)
-    (λ c. loose_list st index s hids ids c.listed proof.numbered.there there
-    (subst (λ k. AreFor st k ids c.listed) here (each c.listed c.letters c.parts)) old
-    (strict.listed c.listed c.letters c.parts)) said.2
+      there : AreHypotheses (record { statements = st; index = index }) hids
+      there = subst (λ k. AreHypotheses (record { statements = st; index = k }) hids) here h
 
-pub loose_fault : (st : List Sentence) (id : ℕ) (tokens : List (List ℕ)) (steps : List (Move ℕ)) → AllMeant st → OfProof st id (λ index s. SaySteps st index s tokens steps)
-    → slice_get tokens 0 ≡ Some opening_token → SomeMarkLoose st steps → OfProof st id (λ index s. ¬ (IsStrict (take index st) s tokens))
-loose_fault st id tokens steps all says first loose index s proof strict =
-    let said = says index s proof in
-    ⊎_elim (λ n. n.0 first)
-    (λ c. loose_marks st index steps said.1 all said.3 loose (strict.marked said.1 c)) said.2
+      for_labels : (labels letters : List (List ℕ)) → IsCompressed tokens labels letters
+          → AreFor st index ids labels
+      for_labels labels letters c =
+          subst (λ k. AreFor st k ids labels) here (each labels letters c)
+
+      spare_here : (labels letters : List (List ℕ)) → IsCompressed tokens labels letters → (j : ℕ)
+          → IsOld hids ids j → IsSpareLabel (take index st) s labels j
+      spare_here labels letters c =
+          spare_of_old st index s hids ids labels all proof.numbered.there there
+          (for_labels labels letters c)
+
+      old_here_of : (labels letters : List (List ℕ)) → IsCompressed tokens labels letters
+          → (j : ℕ) → IsSpareLabel (take index st) s labels j → IsOld hids ids j
+      old_here_of labels letters c =
+          old_of_spare st index s hids ids labels all proof.numbered.there there
+          (for_labels labels letters c)
+
+    pub strict_all : AreSteps st id steps → AllNew hids ids → AreMarksStrict st steps
+        → OfProof st id (λ index s. IsStrict (take index st) s tokens)
+    strict_all made new marks index s proof =
+        let said = says index s proof in
+        let usable = usable_names st id steps index s said.1 made proof.numbered said.3 in
+        record {
+          listed = λ labels letters c. strict_list (take index st) s labels
+              (λ j spare. new j (old_here_of index s proof labels letters c j spare));
+          marked = λ others c. subst (MarkAssertions (take index st))
+              (moves_once (take index st) s tokens said.1 others said.2 (inr c))
+              (strict_marks st index steps said.1 all said.3 usable marks);
+        }
+
+    -- a compressed one that isn't strict: the first label that is spare, or the first loose mark
+    pub loose_label : BeginsList tokens → (k : ℕ) → IsFirstOld hids ids k
+        → OfProof st id (λ index s. IsLooseBy (take index st) s tokens (loose.Label k))
+    loose_label begins k (old, first) index s proof = elim ((says index s proof).2) [
+      | inl n ↦ absurd (n.0 begins)
+      | inr c ↦ (
+        c.listed,
+        c.letters,
+        c.parts,
+        spare_here index s proof c.listed c.letters c.parts k old,
+        λ earlier less spare. first earlier less
+            (old_here_of index s proof c.listed c.letters c.parts earlier spare),
+      )
+    ]
+
+    pub loose_mark : AreSteps st id steps → BeginsList tokens → AllNew hids ids → (k : ℕ)
+        → IsFirstLoose st steps k
+        → OfProof st id (λ index s. IsLooseBy (take index st) s tokens (loose.Mark k))
+    loose_mark made begins new k first index s proof =
+        let said = says index s proof in
+        let usable = usable_names st id steps index s said.1 made proof.numbered said.3 in
+        elim (said.2) [
+          | inl n ↦ absurd (n.0 begins)
+          | inr c ↦ (
+            c.listed,
+            c.letters,
+            c.parts,
+            (λ any spare. new any
+                (old_here_of index s proof c.listed c.letters c.parts any spare)),
+            said.1,
+            c,
+            loose_marks st index steps said.1 all said.3 usable k first,
+          )
+        ]
+
+-- what keeps from the strict form does
+pub never_strict : (before : List Sentence) (s : Sentence) (tokens : List (List ℕ)) (it : Loose)
+    → IsLooseBy before s tokens it → ¬ (IsStrict before s tokens)
+never_strict before s tokens (loose.Label k) (labels, letters, c, spare, first) strict =
+    loose_list before s labels k spare (strict.listed labels letters c)
+never_strict before s tokens (loose.Mark k)
+    (labels, letters, c, none, moves, said, (earlier, later, is, long, marks, ends)) strict =
+    ends (strict.marked moves said earlier later is)

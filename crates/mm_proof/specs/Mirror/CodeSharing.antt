@@ -10,7 +10,7 @@ use Rattle.mm_proof.specs.Tree.{Trees, none, tree}
 use Rattle.mm_proof.specs.BigSubtrees.{IsBig}
 use Rattle.mm_proof.specs.Visits.{Visit, makes, repeats}
 use Rattle.mm_proof.specs.Mirror.SharedSteps.{In, Covers, Careful, after}
-use Rattle.mm_proof.specs.Mirror.Subtrees.{IsTreeOf, AreSubtreesOf}
+use Rattle.mm_proof.specs.Mirror.Subtrees.{IsTreeOf, AreSubtreesOf, AreOnce}
 use Rattle.mm_proof.specs.declared.subtrees.Subtree.{Subtree}
 use Rattle.mm_proof.specs.declared.subtrees.Row.{Row}
 use Rattle.mm_proof.specs.declared.sharing.SharedStep.{SharedStep}
@@ -43,6 +43,14 @@ pub record AreSharedSteps (P : Trees → Type 0) (statements : List Sentence) (r
   pub said : AllZip (IsStepOf statements rows) steps visits
   pub covers : Covers trees visits
   pub careful : Careful P [] visits
+
+-- the steps put some trees side by side, and share all that can be shared
+pub record ShareSomeTrees (shared : SharedSteps) : Type 0 where
+  pub statements : List Sentence
+  pub trees : Trees
+  pub meant : AllMeant statements
+  pub once : AreOnce shared.table
+  pub steps : AreSharedSteps IsBig statements shared.table trees shared.steps.items
 
 -- the step by which a tree stands there again
 abbrev pub IsRepeat : Subtree → SharedStep → Type 0

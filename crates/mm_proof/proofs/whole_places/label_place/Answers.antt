@@ -16,9 +16,9 @@ unreachable-requires c =
     c.labels_of-base.ensures c.requires.broken c.requires.rule c.in-None.ensures
 
 pub returns : goal.returns
-returns c =
+returns c s =
     let found = c.in-Some.ensures in
-    place_of_label c.args.book.now.statements c.args.own.now.index
+    place_of_label c.args.book.now.statements c.args.own.now.index s
     (token_texts c.args.tokens.now) c.args.rule c.labels_of-base.result.0
     (token_texts c.labels_of-base.result.1.now) c.labels_of-base.ensures c.in-Some.index found.0
     found.1 found.2 found.3

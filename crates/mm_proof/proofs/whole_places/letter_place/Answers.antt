@@ -34,9 +34,9 @@ overflow_add-result c =
     )
 
 pub returns : goal.returns
-returns c before =
+returns c before s =
     let parts = c.letters_of-base.ensures in
-    place_of_letter before (token_texts c.args.tokens.now) parts.0
+    place_of_letter before s (token_texts c.args.tokens.now) parts.0
     (token_texts c.letters_of-base.result.1.now) c.args.rule c.fault_index.result
     c.byte_of-piece.result.0 c.byte_of-piece.result.1 c.letters_of-base.result.0 parts.1 parts.2
     c.byte_of-piece.ensures

@@ -2,7 +2,7 @@ use Rattle.std.proofs.Common.{[], take, refl, sym, ap, subst, ◌∙◌}
 use Rattle.mm_proof.specs.Plain.{label_ids}
 use Rattle.mm_proof.specs.Mirror.CodeSharing.{AreFirstNumbers}
 use Rattle.mm_proof.proofs.PackedProofs.PackingLoops.{one_more, label_ids-more, first_added}
-use Rattle.mm_proof.proofs.packing.hypothesis_labels.Goals as goal
+use Rattle.mm_proof.proofs.packing.put_hypotheses.Goals as goal
 
 pub loop-hypothesis-preserved : goal.loop-hypothesis-preserved
 loop-hypothesis-preserved c =

@@ -1,8 +1,8 @@
 use Rattle.mm_code.specs.declared.code.Code.TheVariants.{Tag}
 use Rattle.mm_proof.specs.Plain.{ids_in}
 use Rattle.mm_proof.proofs.ProofVerdicts.StrictForm.{marks_more, marks_all}
-use Rattle.mm_proof.proofs.form.are_marks_strict.Goals as goal
-use Rattle.mm_proof.proofs.form.are_marks_strict.Goals.{in-Tag+else-not-is_after_assertion, in_default}
+use Rattle.mm_proof.proofs.form.loose_mark.Goals as goal
+use Rattle.mm_proof.proofs.form.loose_mark.Goals.{in-Tag+else-not-is_after_assertion, in_default}
 
 pub loop-index-preserved : goal.loop-index-preserved
 loop-index-preserved c = elim c.match-one.branch [
@@ -12,5 +12,7 @@ loop-index-preserved c = elim c.match-one.branch [
       (λ marked. absurd (w.in_default.not-Tag marked))
 ]
 
-pub returns-clause-strict : goal.returns-clause-strict
-returns-clause-strict c is = marks_all c.args.book.now.statements (ids_in c.args.entries.now) c.args.codes.now c.loop-index.index c.loop-index-test.false c.loop-index.invariant
+pub returns : goal.returns
+returns c =
+    marks_all c.args.book.now.statements (ids_in c.args.entries.now) c.args.codes.now
+    c.loop-index.index c.loop-index-test.false c.loop-index.invariant
