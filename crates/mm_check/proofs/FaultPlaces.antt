@@ -1,4 +1,5 @@
--- Where a proof is at fault in its file: what stands where its moves stop, and that it has a place.
+-- Where the tokens of a proof are at fault in their file: what stands where their moves stop, and
+-- that it has a place.
 use Rattle.std.proofs.Common.{◌≡◌, ℕ, suc, ◌+◌, ◌<◌, ◌≤◌, List, [], ◌∷◌, ◌++◌, map, take}
 use Rattle.std.proofs.Common.{length, slice_get, get_or, Option, Some, None, Bool, true, false}
 use Rattle.std.proofs.Common.{inl, inr, refl, sym, ap, subst, ◌∙◌, arith, option_map}
@@ -9,10 +10,10 @@ use Rattle.std.proofs.lemmas.Option.{slice_get_within, slice_get-map, slice_get-
 use Rattle.std.proofs.lemmas.Option.{get_or_from_slice_get}
 use Rattle.mm_text.specs.declared.token.Token.{Token}
 use Rattle.mm_text.specs.Token.{PlainToken, plain_token}
-use Rattle.mm_text.specs.Statement.{PlainStatement}
 use Rattle.mm_text.specs.Files.{most_bytes}
 use Rattle.mm_text.proofs.Lists.{get_within, get_after}
-use Rattle.mm_frame.specs.Sentence.{Sentence, sentence_of}
+use Rattle.mm_code.specs.Words.{texts_of}
+use Rattle.mm_frame.specs.Sentence.{Sentence}
 use Rattle.mm_proof.specs.declared.fault.ProofRule.{ProofRule}
 use Rattle.mm_proof.specs.declared.profile.Profile.{Profile}
 use Rattle.mm_proof.specs.ReadSteps.{ReadSteps}
@@ -26,8 +27,7 @@ use Rattle.mm_proof.specs.KnownPrefix.{known_prefix}
 use Rattle.mm_proof.specs.Places.{IsMovePlace}
 use Rattle.mm_proof.specs.Halted.{StandsAtHalt}
 use Rattle.mm_check.specs.Explained.{judged_tokens, TokensHalt}
-use Rattle.mm_check.specs.Verdict.{proof_of}
-use Rattle.mm_check.specs.Why.{IsPosition, IsStopPlace, IsFaultPlace}
+use Rattle.mm_check.specs.Why.{IsPosition, IsStopPlace, IsPlaceAmong}
 use Rattle.mm_check.specs.Mirror.Explaining.{StopsIn, IsCauseOf}
 use Rattle.mm_check.specs.declared.details.Cause.{Cause}
 use Rattle.mm_check.specs.declared.details.Cause.TheVariants as cause
@@ -73,14 +73,13 @@ place_fits tokens texts number token byte same room place =
 
 -- ---- the position of a byte of a token
 
-pub position_there : (s : PlainStatement) (tokens : List Token) (token byte at : ℕ) (t : Token)
-    → s.proof ≡ map plain_token tokens → token < length tokens → t ≡ get_or tokens token t
-    → at ≡ t.at + byte → IsPosition s token byte at
-position_there s tokens token byte at t same less one is = (
-  plain_token t,
-  ap (λ (ts : List PlainToken). slice_get ts token) same
-      ∙ rw slice_get-map (ap (λ (o : Option Token). option_map plain_token o)
-      (slice_get-get_or tokens token t less ∙ ap Some (sym one))),
+pub position_there : (tokens : List Token) (token byte at : ℕ) (other : Token)
+    → token < length tokens → at ≡ (get_or tokens token other).at + byte
+    → IsPosition (map plain_token tokens) token byte at
+position_there tokens token byte at other less is = (
+  plain_token (get_or tokens token other),
+  rw slice_get-map (ap (λ (o : Option Token). option_map plain_token o)
+      (slice_get-get_or tokens token other less)),
   is,
 )
 
@@ -116,17 +115,18 @@ some_said tokens halt (limit, st, before, s, prefix, moves, said, h) other =
 -- its place is the place where they stop
 pub stop_at_move : (st : List Sentence) (left : List (Move (List ℕ))) (a : HaltAt)
     → ¬ (a ≡ at.End) → StandsAtHalt st left a
-    → (s : PlainStatement) (passed count token byte at : ℕ) → passed ≡ count
-    → IsMovePlace (proof_of s) passed token byte → IsPosition s token byte at
-    → IsStopPlace s count left at
-stop_at_move st [] a other stands s passed count token byte at same place position =
+    → (tokens : List PlainToken) (end passed count token byte at : ℕ) → passed ≡ count
+    → IsMovePlace (texts_of tokens) passed token byte → IsPosition tokens token byte at
+    → IsStopPlace tokens end count left at
+stop_at_move st [] a other stands tokens end passed count token byte at same place position =
     absurd (other stands)
-stop_at_move st (move ∷ more) a other stands s passed count token byte at same place position = (
-  token,
-  byte,
-  subst (λ (n : ℕ). IsMovePlace (proof_of s) n token byte) same place,
-  position,
-)
+stop_at_move st (move ∷ more) a other stands tokens end passed count token byte at same place
+    position = (
+      token,
+      byte,
+      subst (λ (n : ℕ). IsMovePlace (texts_of tokens) n token byte) same place,
+      position,
+    )
 
 -- no move that the judged tokens say lacks a place
 pub never_none : (tokens : List (List ℕ)) (number : ℕ) (found : Option (ℕ × ℕ)) → found ≡ None
@@ -158,23 +158,23 @@ never_none tokens number found none whole known before s moves said less =
 pub place_caused : {profile : Profile} {st : List Sentence} {id : ℕ} {tokens : List (List ℕ)}
     {rule : ProofRule} {step : ℕ} {it : Cause} {steps : ReadSteps} {halt : Halt}
     (is : it ≡ cause.Moves steps halt) (r : IsCauseOf profile st id tokens rule step it)
-    (index : ℕ) (s : PlainStatement) (number : IsProofNumber st id index (sentence_of s))
-    → tokens ≡ proof_of s → (at : ℕ)
-    → IsStopPlace s
-    (length (halt_caused is r index (sentence_of s) number).halts.there.earlier)
-    (halt_caused is r index (sentence_of s) number).halts.there.left at
-    → IsFaultPlace profile (take index st) s rule step at
+    (index : ℕ) (s : Sentence) (number : IsProofNumber st id index s)
+    (placed : List PlainToken) → tokens ≡ texts_of placed → (end at : ℕ)
+    → IsStopPlace placed end
+    (length (halt_caused is r index s number).halts.there.earlier)
+    (halt_caused is r index s number).halts.there.left at
+    → IsPlaceAmong profile (take index st) s placed end rule step at
 place_caused {profile} {st} {id} {tokens} {rule} {step} {it} {steps} {halt} is r index s number
-    same at stops =
-    let found = halt_caused is r index (sentence_of s) number in
-    let fault = fault_caused is r index (sentence_of s) number in
+    placed same end at stops =
+    let found = halt_caused is r index s number in
+    let fault = fault_caused is r index s number in
     let before : List Sentence = take index st in
     inr (subst
-    (λ (ts : List (List ℕ)). (h : TokensHalt profile before (sentence_of s) ts (Some rule))
+    (λ (ts : List (List ℕ)). (h : TokensHalt profile before s ts (Some rule))
     × (step ≡ steps_in h.halts.earlier + 1)
-    × IsStopPlace s (length h.halts.earlier) h.halts.left at)
+    × IsStopPlace placed end (length h.halts.earlier) h.halts.left at)
     same (
-      tokens_halt profile st before (sentence_of s) tokens halt (Some rule) fault.0 found,
+      tokens_halt profile st before s tokens halt (Some rule) fault.0 found,
       fault.1,
       stops,
     ))

@@ -176,15 +176,15 @@ whole_step profile before s tokens step (inr (known, inr moves)) =
     absurd (no_moves (IsWithin (limit_of profile)) before s moves.2 step (inl moves.4))
 
 -- it is asked for the label there
-pub some_unknown : (before : List Sentence) (tokens : List (List ℕ)) (rule : ProofRule)
-    → rule ≡ P2 → (token byte : ℕ) (text : List ℕ)
-    → IsWholePlace before (judged_tokens tokens) rule token byte
+pub some_unknown : (before : List Sentence) (s : Sentence) (tokens : List (List ℕ))
+    (rule : ProofRule) → rule ≡ P2 → (token byte : ℕ) (text : List ℕ)
+    → IsWholePlace before s (judged_tokens tokens) rule token byte
     → slice_get tokens token ≡ Some text → IsUnknownIn before tokens rule (Some text)
-some_unknown before tokens rule is token byte text place there =
+some_unknown before s tokens rule is token byte text place there =
     subst (λ (r : ProofRule). IsUnknownIn before tokens r (Some text)) (sym is) (
       token,
-      byte,
-      subst (λ (r : ProofRule). IsWholePlace before (judged_tokens tokens) r token byte) is place,
+      (subst (λ (r : ProofRule). IsWholePlace before s (judged_tokens tokens) r token byte) is
+          place).0,
       there,
     )
 

@@ -1,5 +1,6 @@
 pub mod Numbers
 pub mod WordBits
+pub mod WordSets
 pub mod Verdicts
 pub mod Questions
 pub mod ReplyTexts

@@ -19,6 +19,8 @@ use Rattle.mm_text.proofs.Lists.{get_within}
 use Rattle.mm_check.specs.Reply.{line_with, lines_of, refusals_text, text_of, IsReply, IsRefused}
 use Rattle.mm_check.specs.Reply.{IsQuestionReply, Tells, status_of, IsFaultsReply, refusal_status}
 use Rattle.mm_check.specs.Reply.{IsAskReply, IsAllSavedReply, IsAllAxiomsReply, lines_text, name_of}
+use Rattle.mm_check.specs.Reply.{IsAllShortenedReply, IsShorterReply}
+use Rattle.mm_check.specs.AllShorter.{IsAllShorterFault, ShorterLine, AreShorterLines, shorter_text}
 use Rattle.mm_check.specs.AllAxioms.{ReportLine, AreReportLines}
 use Rattle.mm_check.specs.Verdict.{Refused, Verdict, Load, HasVerdict, AreAccepted}
 use Rattle.mm_text.specs.Statement.{PlainStatement}
@@ -223,6 +225,74 @@ pub asked_all : (wanted : Form) (files : List PlainFile) (number : ℕ)
 asked_all wanted files number statements ask.F3 text status h reply = inr (inl (h, reply))
 asked_all wanted files number statements ask.Memory text status h reply = absurd reply
 asked_all wanted files number statements _ text status h reply = absurd h
+
+-- ---- a file with shorter proofs
+
+pub asked_shorter : (duplicates : Bool) (files : List PlainFile) (number : ℕ)
+    (statements : List PlainStatement) (fault : AskFault) (text : List ℕ) (status : ℕ)
+    → IsAllShorterFault Lenient duplicates files statements number fault
+    → IsAskReply fault (name_of files number) text status
+    → IsAllShortenedReply duplicates files number statements text status
+asked_shorter duplicates files number statements ask.F3 text status h reply = inl (h, reply)
+asked_shorter duplicates files number statements ask.Memory text status h reply = absurd reply
+asked_shorter duplicates files number statements _ text status h reply = absurd h
+
+-- ---- the list of shorter proofs
+
+shorter_refused : (profile : Profile) (files : List PlainFile) (fault : CheckFault)
+    (text : List ℕ) (status : ℕ)
+    → ((verdict : Verdict) → verdict_of_fault fault ≡ Some verdict
+    → HasVerdict profile files verdict)
+    → MatchOption (verdict_of_fault fault) ⊥ (λ verdict. text ≡ text_of files verdict)
+    → IfSome (verdict_of_fault fault) (λ verdict. status ≡ status_of verdict)
+    → IsShorterReply profile files text status
+shorter_refused profile files (fault.Load rule) text status holds said ends =
+    (Load rule, holds (Load rule) refl, ends, inl (tt, said))
+shorter_refused profile files (fault.Refused r) text status holds said ends =
+    (Refused (plain_refusal r), holds (Refused (plain_refusal r)) refl, ends, inl (tt, said))
+shorter_refused profile files fault.Memory text status holds said ends = absurd said
+
+pub no_shorter_told : (profile : Profile) (files : List PlainFile)
+    (answer : Result Conclusion CheckFault) (fault : CheckFault) (text : List ℕ) (status : ℕ)
+    → answer ≡ Err fault → IsVerdict profile files answer → Tells files answer text
+    → IfSome (verdict_of_answer answer) (λ verdict. status ≡ status_of verdict)
+    → IsShorterReply profile files text status
+no_shorter_told profile files answer fault text status is holds said ends =
+    let Holds : Result Conclusion CheckFault → Type 0 = λ a. IsVerdict profile files a in
+    let Said : Result Conclusion CheckFault → Type 0 = λ a. Tells files a text in
+    let Ends : Result Conclusion CheckFault → Type 0 =
+    λ a. IfSome (verdict_of_answer a) (λ verdict. status ≡ status_of verdict) in
+    shorter_refused profile files fault text status (subst Holds is holds) (subst Said is said)
+    (subst Ends is ends)
+
+pub all_shorter_told : (profile : Profile) (files : List PlainFile)
+    (answer : Result Conclusion CheckFault) (c : Conclusion) (text : List ℕ) (status : ℕ)
+    → answer ≡ Ok c → IsVerdict profile files answer → KeepsFiles files c → c.profile ≡ profile
+    → ((statements : List PlainStatement) → Reads c.files statements None
+    → (lines : List ShorterLine) × AreShorterLines c.profile c.files statements lines
+    × (text ≡ shorter_text statements lines))
+    → IfSome (verdict_of_answer answer) (λ verdict. status ≡ status_of verdict)
+    → IsShorterReply profile files text status
+all_shorter_told profile files answer c text status is holds same under told ends =
+    let verdict : verdict_of_answer answer ≡ Some (verdict_of_conclusion c) =
+    ap verdict_of_answer is in
+    let has = holds (verdict_of_conclusion c) verdict in
+    let found = accepted_with profile files c c.incomplete has in
+    let reads = subst (λ (fs : List PlainFile). Reads fs found.0 None) (sym same) found.1.reads in
+    let (lines, are, said) = told found.0 reads in (
+      verdict_of_conclusion c,
+      has,
+      subst (λ (o : Option Verdict). IfSome o (λ v. status ≡ status_of v)) verdict ends,
+      inr (
+        found.0,
+        found.1,
+        lines,
+        subst (λ (p : Profile).
+            AreShorterLines p files found.0 lines) under
+            (subst (λ (fs : List PlainFile). AreShorterLines c.profile fs found.0 lines) same are),
+        said,
+      ),
+    )
 
 -- ---- what each theorem rests on
 

@@ -275,7 +275,7 @@ pub token_caused : {profile : Profile} {st : List Sentence} {id : ℕ} {tokens :
     {rule : ProofRule} {step : ℕ} {it : Cause} {token byte : ℕ} {text : Bor (List ℕ)}
     → it ≡ cause.Token token byte text → IsCauseOf profile st id tokens rule step it
     → (step ≡ 0) × OfProof st id
-    (λ index s. IsWholePlace (take index st) (judged_tokens tokens) rule token byte)
+    (λ index s. IsWholePlace (take index st) s (judged_tokens tokens) rule token byte)
     × (slice_get tokens token ≡ Some text.now) × (byte ≤ length text.now)
 token_caused {profile} {st} {id} {tokens} {rule} {step} {it} is r =
     subst (Causes profile st id tokens rule step) is r.causes

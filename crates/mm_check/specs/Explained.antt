@@ -9,7 +9,7 @@ use Rattle.mm_frame.specs.Sentence.{Sentence, SomeSentence, IsLabelled}
 use Rattle.mm_frame.specs.Frame.{IsMandatoryPair}
 use Rattle.mm_proof.specs.declared.fault.ProofRule.{ProofRule}
 use Rattle.mm_proof.specs.declared.fault.ProofRule.TheVariants.{P2, P3, P4, P8, P9, P10}
-use Rattle.mm_proof.specs.declared.fault.ProofRule.TheVariants.{P11, P12, P14, L1}
+use Rattle.mm_proof.specs.declared.fault.ProofRule.TheVariants.{P11, P12, P14, P15, L1}
 use Rattle.mm_proof.specs.declared.profile.Profile.{Profile}
 use Rattle.mm_proof.specs.Substitution.{Symbol, Expression, Substitution}
 use Rattle.mm_proof.specs.Tree.{Names}
@@ -250,6 +250,7 @@ AreTokenDetails before P2 text details =
     (near : List Detail) × AreNearDetails before near × (details ≡ token_at_fault text ∷ near)
 AreTokenDetails before P3 text details = details ≡ token_at_fault text ∷ []
 AreTokenDetails before P4 text details = details ≡ token_at_fault text ∷ []
+AreTokenDetails before P15 text details = details ≡ token_at_fault text ∷ []
 AreTokenDetails before rule text details = details ≡ []
 
 -- The facts that explain this fault, in order: those of the token where a rule over the whole of
@@ -258,7 +259,7 @@ abbrev pub AreDetails : Profile → (before : List Sentence) → Sentence → (t
     → ProofRule → (step : ℕ) → List Detail → Type 0
 AreDetails profile before s tokens rule step details =
     ((step ≡ 0) × (token : ℕ) × (byte : ℕ) × (text : List ℕ)
-    × IsWholePlace before (judged_tokens tokens) rule token byte
+    × IsWholePlace before s (judged_tokens tokens) rule token byte
     × (slice_get tokens token ≡ Some text) × AreTokenDetails before rule text details)
     ⊎ ((h : TokensHalt profile before s tokens (Some rule))
     × (step ≡ steps_in h.halts.earlier + 1)

@@ -97,7 +97,7 @@ abbrev pub AreHypothesisPlaces : List PlainFile → (before : List PlainStatemen
     → ProofRule → (step : ℕ) → List Detail → Type 0
 AreHypothesisPlaces files before s rule step details =
     ((step ≡ 0) × (token : ℕ) × (byte : ℕ) × (text : List ℕ)
-    × IsWholePlace (sentences before) (judged_tokens (proof_of s)) rule token byte
+    × IsWholePlace (sentences before) (sentence_of s) (judged_tokens (proof_of s)) rule token byte
     × (slice_get (proof_of s) token ≡ Some text)
     × AreTokenPlaces files before rule text details)
     ⊎ ((step ≢ 0) × AreStopPlaces files before s rule details)

@@ -10,7 +10,7 @@ use Rattle.mm_text.specs.Files.{PlainFile}
 use Rattle.mm_frame.specs.Sentence.{Sentence}
 use Rattle.mm_proof.specs.declared.fault.ProofRule.{ProofRule}
 use Rattle.mm_proof.specs.declared.fault.ProofRule.TheVariants.{P2}
-use Rattle.mm_proof.specs.WholePlaces.{IsWholePlace}
+use Rattle.mm_proof.specs.WholePlaces.{IsUnknownLabel, IsFirstLabel}
 use Rattle.mm_check.specs.Explained.{Detail, judged_tokens, stated_later_at}
 use Rattle.mm_check.specs.Places.{token_place}
 
@@ -20,7 +20,7 @@ abbrev pub IsUnknownIn : (before : List Sentence) → (tokens : List (List ℕ))
     → Option (List ℕ) → Type 0
 IsUnknownIn before tokens P2 None = ⊥
 IsUnknownIn before tokens P2 (Some label) =
-    (token : ℕ) × (byte : ℕ) × IsWholePlace before (judged_tokens tokens) P2 token byte
+    (token : ℕ) × IsFirstLabel (IsUnknownLabel before) (judged_tokens tokens) token
     × (slice_get tokens token ≡ Some label)
 IsUnknownIn before tokens rule label = label ≡ None
 

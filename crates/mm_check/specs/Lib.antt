@@ -17,6 +17,7 @@ pub mod Forms
 pub mod Compared
 pub mod Saved
 pub mod AllSaved
+pub mod AllShorter
 pub mod Answer
 pub mod AllAxioms
 pub mod Mirror
@@ -25,6 +26,8 @@ pub mod FaultLaws
 pub mod FormLaws
 pub mod SavedLaws
 pub mod AllSavedLaws
+pub mod AloneLaws
+pub mod AllShorterLaws
 pub mod Alike
 pub mod Explained
 pub mod Alone

@@ -19,3 +19,5 @@ pub mod Bits
 pub mod Tables
 pub mod Last
 pub mod Shortening
+pub mod Rereading
+pub mod AllShortening

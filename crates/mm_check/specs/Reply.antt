@@ -29,7 +29,7 @@ use Rattle.mm_check.specs.AllAxioms.{ReportLine, AreReportLines}
 use Rattle.mm_check.specs.declared.ask.AskFault.{AskFault}
 use Rattle.mm_check.specs.declared.ask.AskFault.TheVariants as ask
 use Rattle.mm_check.specs.declared.command.Command.{Command}
-use Rattle.mm_check.specs.declared.command.Command.TheVariants.{Whole, About, Lone, File}
+use Rattle.mm_check.specs.declared.command.Command.TheVariants.{Whole, About, Lone, File, Shorter}
 use Rattle.mm_check.specs.declared.question.Question.{Question}
 use Rattle.mm_check.specs.declared.question.Question.TheVariants as question
 use Rattle.mm_check.specs.declared.question.LoneQuestion.{LoneQuestion}
@@ -37,12 +37,14 @@ use Rattle.mm_check.specs.declared.question.LoneQuestion.TheVariants.{Known, Try
 use Rattle.mm_check.specs.declared.question.WholeQuestion.{WholeQuestion}
 use Rattle.mm_check.specs.declared.question.WholeQuestion.TheVariants.{Check, Faults, Why}
 use Rattle.mm_check.specs.declared.question.WholeQuestion.TheVariants.{Axioms as AllAxioms}
+use Rattle.mm_check.specs.declared.question.WholeQuestion.TheVariants.{Shorter as AllShorter}
 use Rattle.mm_check.specs.Users.{IsAssertionFault, AreUsers}
 use Rattle.mm_check.specs.Rests.{IsAskFault, IsReport}
 use Rattle.mm_check.specs.Alone.{IsRefusedBefore, IsNoTheorem, IsTheoremAt, HasProofTokens}
 use Rattle.mm_check.specs.Alone.{BreaksTokens, AreStepsBefore}
 use Rattle.mm_check.specs.Explained.{Detail, IsTokensFault, AreDetails, AreLeftOver, details_text}
 use Rattle.mm_check.specs.Explained.{judged_tokens}
+use Rattle.mm_check.specs.Shorter.{IsMinimized}
 use Rattle.mm_check.specs.Shown.{ShowsProof, IsListingText}
 use Rattle.mm_check.specs.ShownUses.{ShowsUses}
 use Rattle.mm_check.specs.declared.form.Form.{Form}
@@ -52,11 +54,13 @@ use Rattle.mm_check.specs.Compared.{IsCompared, IsSameFault}
 use Rattle.mm_check.specs.Saved.{IsSaved, FitsSaved, IsSaveFault}
 use Rattle.mm_check.specs.Stated.{IsStatementFault, TellsStatement}
 use Rattle.mm_check.specs.AllSaved.{IsAllSaved, IsFirstTooLong, IsAllSaveFault}
+use Rattle.mm_check.specs.AllShorter.{IsAllShortened, IsAllShorterFault, ShorterLine}
+use Rattle.mm_check.specs.AllShorter.{AreShorterLines, shorter_text}
 use Rattle.mm_check.specs.Verdict.{PlainRefusal, Verdict, Load, Refused, Incomplete, Yes}
 use Rattle.mm_check.specs.Verdict.{HasVerdict, AreAccepted, labels_of, proof_of, sentences}
 use Rattle.mm_check.specs.Verdict.{refusal_of}
 use Rattle.mm_check.specs.Faults.{HaveFaults, refusal_in}
-use Rattle.mm_check.specs.Why.{IsFaultPlace, TellsFaults, head_text}
+use Rattle.mm_check.specs.Why.{IsFaultPlace, IsTextPlace, TellsFaults, head_at, head_text}
 pub use Rattle.mm_check.specs.Places.{name_of}
 
 -- A line of a refusal begins with `limit` for a limit that was passed, else with `no`.
@@ -253,6 +257,13 @@ IsSmallReply label statements text status =
     ((fault : AskFault) × IsAskFault statements label fault × IsAskReply fault label text status)
     ⊎ (IsSmallOf statements label text × (status ≡ 0))
 
+-- the reply to the question for a shorter proof of the theorem with a label: its small proof, or
+-- that of a shorter tree
+abbrev pub IsMinimizedReply : List PlainFile → List ℕ → List PlainStatement → List ℕ → ℕ → Type 0
+IsMinimizedReply files label statements text status =
+    ((fault : AskFault) × IsAskFault statements label fault × IsAskReply fault label text status)
+    ⊎ (IsMinimized Lenient files statements label text × (status ≡ 0))
+
 -- the line and the status that tell whether two proofs are the same
 abbrev pub same_text : Bool → List ℕ
 same_text true = line_with (codes "same") []
@@ -310,6 +321,19 @@ IsAnswerTo (question.Users all) files label statements text status =
     IsUsersReply all label statements text status
 IsAnswerTo question.Statement files label statements text status =
     IsStatementReply files label statements text status
+IsAnswerTo question.Minimized files label statements text status =
+    IsMinimizedReply files label statements text status
+
+-- the reply to the question for the file with a number, in which each proof is replaced that became
+-- shorter: the bytes of the file, and nothing else; or the name of the file, where the files would
+-- have too many bytes
+abbrev pub IsAllShortenedReply : (duplicates : Bool) → List PlainFile → (number : ℕ)
+    → List PlainStatement → List ℕ → ℕ → Type 0
+IsAllShortenedReply duplicates files number statements text status =
+    (IsAllShorterFault Lenient duplicates files statements number ask.F3
+    × IsAskReply ask.F3 (name_of files number) text status)
+    ⊎ (IsAllShortened Lenient duplicates files statements number text
+    × FitsSaved files number text × (status ≡ 0))
 
 -- the reply to the question for the file with a number, with each complete proof in a form: the bytes
 -- of the file, and nothing else; or the label of the first theorem whose proof is too long, or the
@@ -350,18 +374,22 @@ IsNotFoundReply files label text status =
 abbrev pub IsExplained : (lines : List ℕ) → List Detail → (text : List ℕ) → Type 0
 IsExplained lines details text = text ≡ lines ++ details_text details
 
--- The tokens are not a proof of the `$p`: the line of their first fault, and the facts that explain
--- it.
-pub record IsTriedFault (before : List Sentence) (s : Sentence) (tokens : List (List ℕ))
+-- The text in a file, or what is known of it where it is incomplete, is at fault as a proof of the
+-- `$p`: the line of the first fault, and what explains it: the first line, with the place in that
+-- file, and the facts.
+pub record IsTriedFault (proof : PlainFile) (before : List Sentence) (s : Sentence)
     (text : List ℕ) (status : ℕ) : Type 0 where
   pub rule : ProofRule
   pub step : ℕ
-  pub fault : IsTokensFault Lenient before s tokens rule step
+  pub fault : IsTokensFault Lenient before s (tokens_in proof.bytes) rule step
   pub line : List ℕ
   pub told : IsAskReply (ask.Text (rules.Proof rule) step) [] line status
+  pub at : ℕ
+  pub place : IsTextPlace Lenient before s proof.bytes rule step at
   pub details : List Detail
-  pub explained : AreDetails Lenient before s tokens rule step details
-  pub said : IsExplained line details text
+  pub explained : AreDetails Lenient before s (tokens_in proof.bytes) rule step details
+  pub said : IsExplained
+      (line ++ head_at (proof ∷ []) 0 at (rules.Proof rule) None step) details text
 
 -- They are incomplete, and their known prefix breaks no rule: the line of that, and what the prefix
 -- leaves on the stack.
@@ -375,20 +403,22 @@ pub record IsTriedPrefix (before : List Sentence) (s : Sentence) (tokens : List 
   pub left : AreLeftOver Lenient before s tokens details
   pub said : IsExplained line details text
 
--- the reply what tokens are as a proof of the `$p`
-abbrev pub IsTokensReply : (before : List Sentence) → Sentence → (tokens : List (List ℕ))
-    → List ℕ → ℕ → Type 0
-IsTokensReply before s tokens text status =
-    ((is_incomplete tokens ≡ false) × IsProvedUnder Lenient before s tokens
+-- the reply what the tokens of the text in a file are as a proof of the `$p`
+abbrev pub IsTokensReply : (proof : PlainFile) → (before : List Sentence) → Sentence → List ℕ → ℕ
+    → Type 0
+IsTokensReply proof before s text status =
+    ((is_incomplete (tokens_in proof.bytes) ≡ false)
+    × IsProvedUnder Lenient before s (tokens_in proof.bytes)
     × (text ≡ line_with (codes "proof") []) × (status ≡ 0))
-    ⊎ (IsTriedPrefix before s tokens text status ⊎ IsTriedFault before s tokens text status)
+    ⊎ (IsTriedPrefix before s (tokens_in proof.bytes) text status
+    ⊎ IsTriedFault proof before s text status)
 
--- the reply whether a text is a proof of the `$p`
-abbrev pub IsTryReply : (proof : List ℕ) → (before : List Sentence) → Sentence → List ℕ → ℕ
+-- the reply whether the text in a file is a proof of the `$p`
+abbrev pub IsTryReply : (proof : PlainFile) → (before : List Sentence) → Sentence → List ℕ → ℕ
     → Type 0
 IsTryReply proof before s text status =
-    ((rule : Rule) × BreaksTokens rule proof × IsAskReply (ask.Text rule 0) [] text status)
-    ⊎ (HasProofTokens proof × IsTokensReply before s (tokens_in proof) text status)
+    ((rule : Rule) × BreaksTokens rule proof.bytes × IsAskReply (ask.Text rule 0) [] text status)
+    ⊎ (HasProofTokens proof.bytes × IsTokensReply proof before s text status)
 
 -- The proof of the `$p`, or what is known of it, is at fault: the lines of the steps before the
 -- fault, the refusal, and what explains it: the first line, with the place, and the facts.
@@ -438,8 +468,9 @@ IsKnownReply files before s text status =
 abbrev pub IsLoneAnswer : LoneQuestion → List PlainFile → (before : List PlainStatement)
     → PlainStatement → List ℕ → ℕ → Type 0
 IsLoneAnswer Known files before s text status = IsKnownReply files before s text status
-IsLoneAnswer (Try proof) files before s text status =
-    IsTryReply proof.now (sentences before) (sentence_of s) text status
+IsLoneAnswer (Try name proof) files before s text status =
+    IsTryReply (record { name = name.now; bytes = proof.now }) (sentences before) (sentence_of s)
+    text status
 
 -- the reply to a question about the theorem with a label alone
 abbrev pub IsLoneReply : LoneQuestion → List PlainFile → (label : List ℕ) → List ℕ → ℕ → Type 0
@@ -453,6 +484,7 @@ IsLoneReply asked files label text status =
 -- a file that the command asks for by its number is one of those that are handed in
 abbrev pub AsksHanded : List PlainFile → Command → Type 0
 AsksHanded files (File form number) = number < length files
+AsksHanded files (Shorter number duplicates) = number < length files
 AsksHanded files command = Unit {0}
 
 -- the reply to the question what each theorem rests on, in the profile: where the files are refused,
@@ -465,12 +497,24 @@ IsAllAxiomsReply profile files text status =
     × (lines : List ReportLine) × AreReportLines statements lines
     × (text ≡ lines_text lines)))
 
+-- the reply to the question which proofs become shorter, in the profile: where the files are refused,
+-- the text of the refusal, else a line for each such proof that is found, and the sums; and the status
+-- of the verdict
+abbrev pub IsShorterReply : Profile → List PlainFile → List ℕ → ℕ → Type 0
+IsShorterReply profile files text status =
+    (verdict : Verdict) × HasVerdict profile files verdict × (status ≡ status_of verdict)
+    × ((IsRefusal verdict × (text ≡ text_of files verdict))
+    ⊎ ((statements : List PlainStatement) × AreAccepted profile files statements
+    × (lines : List ShorterLine) × AreShorterLines profile files statements lines
+    × (text ≡ shorter_text statements lines)))
+
 -- the reply to a question about the whole database, in the profile
 abbrev pub IsWholeReply : WholeQuestion → Profile → List PlainFile → List ℕ → ℕ → Type 0
 IsWholeReply Check profile files text status = IsReply profile files text status
 IsWholeReply Faults profile files text status = IsFaultsReply profile files text status
 IsWholeReply Why profile files text status = IsWhyReply profile files text status
 IsWholeReply AllAxioms profile files text status = IsAllAxiomsReply profile files text status
+IsWholeReply AllShorter profile files text status = IsShorterReply profile files text status
 
 -- This is the text and the status of the reply to a command. Questions about a theorem, and those for
 -- a file, are answered where the lenient profile accepts the files; those about a theorem alone where
@@ -482,6 +526,8 @@ IsReplyTo files (About label asked) text status =
 IsReplyTo files (Lone label asked) text status = IsLoneReply asked files label.now text status
 IsReplyTo files (File wanted number) text status =
     IsQuestionReply files (IsAllSavedReply wanted files number) text status
+IsReplyTo files (Shorter number duplicates) text status =
+    IsQuestionReply files (IsAllShortenedReply duplicates files number) text status
 
 -- The reply's text was put after what the writer held, where that is known.
 abbrev pub Writes : List PlainFile → Command → ℕ → Option (List ℕ) → Option (List ℕ) → Type 0

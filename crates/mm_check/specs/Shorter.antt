@@ -33,11 +33,12 @@ proof_mark = codes "(Proof modification is discouraged.)"
 abbrev pub home_bytes : List PlainFile → PlainStatement → List ℕ
 home_bytes files s = unwrap_or (option_map (λ f. f.bytes) (slice_get files s.first.file)) []
 
--- the comment right before the statement says the sentence
+-- the comment right before the statement, in its file, says the sentence
 abbrev pub IsMarkedWith : (sentence : List ℕ) → List PlainFile → PlainStatement → Type 0
 IsMarkedWith sentence files s = IsSaidBefore sentence (home_bytes files s) s.first.at
 
--- the mathbox of a statement, by its number in its file; 0 where it stands in none
+-- the mathbox of a statement, by how many headings stand before it in its own file; 0 where none
+-- does
 abbrev pub mathbox_of : List PlainFile → PlainStatement → ℕ
 mathbox_of files s = mathbox_at (home_bytes files s) s.first.at
 
@@ -68,16 +69,18 @@ IsUnfounded statements n =
     IsNumberWhere statements (λ s. s.kind ≡ Axiom) n
     ⊎ IsNumberWhere statements (λ s. is_unproved s ≡ true) n
 
--- a proof that uses the assertion rests on it: it is that one, or the assertion rests on it
+-- a proof that uses an assertion rests on the one with the second number: that is the used one, or
+-- the used one rests on it
 abbrev pub RestsThrough : List PlainStatement → (used : ℕ) → ℕ → Type 0
 RestsThrough statements used n = (used ≡ n) ⊎ RestsOn (Uses statements) used n
 
--- The text is the small proof of a tree that proves the theorem with the label, and is shorter than
--- its own: it has fewer than so many bytes, and the tree takes no more steps. The theorem isn't
--- marked. Each assertion that it newly uses may be used, and it rests on no axiom, and on no
--- unproved theorem, on which the theorem doesn't rest already.
-pub record IsShorterProof (profile : Profile) (files : List PlainFile)
-    (statements : List PlainStatement) (label : List ℕ) (bytes : ℕ) (text : List ℕ) : Type 0 where
+-- The tree proves the theorem with the label, and this is its small proof. It is shorter than the
+-- theorem's own: the text has fewer than so many bytes, and the tree takes no more steps. The
+-- theorem isn't marked. Each assertion that the tree newly uses may be used, and it rests on no
+-- axiom, and on no unproved theorem, on which the theorem doesn't rest already.
+pub record IsShorterTree (profile : Profile) (files : List PlainFile)
+    (statements : List PlainStatement) (label : List ℕ) (bytes : ℕ) (t : Trees)
+    (text : List ℕ) : Type 0 where
   pub id : ℕ
   pub index : ℕ
   pub s : PlainStatement
@@ -86,7 +89,6 @@ pub record IsShorterProof (profile : Profile) (files : List PlainFile)
   pub below : Trees
   pub own : HasProofTree statements label index s root below
   pub unmarked : ¬ (IsMarkedWith proof_mark files s)
-  pub t : Trees
   pub derived : DerivesUnder profile (sentences (take index statements)) (sentence_of s) t
   pub small : IsSmallText (sentences (take index statements)) (sentence_of s) t text
   pub shorter : length text < bytes
@@ -102,6 +104,12 @@ pub record IsShorterProof (profile : Profile) (files : List PlainFile)
   pub founded : (used n : ℕ) → IsUsedNumber (sentences (take index statements)) t used
       → IsUnfounded statements n → RestsThrough statements used n
       → RestsOn (Uses statements) id n
+
+-- the text is the small proof of such a tree
+abbrev pub IsShorterProof : Profile → List PlainFile → List PlainStatement → (label : List ℕ)
+    → (bytes : ℕ) → (text : List ℕ) → Type 0
+IsShorterProof profile files statements label bytes text =
+    (t : Trees) × IsShorterTree profile files statements label bytes t text
 
 -- The text is the small proof of the theorem with the label; or a shorter one, as it is found: that
 -- each shorter one is found isn't said.

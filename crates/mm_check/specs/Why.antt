@@ -4,10 +4,11 @@ use Rattle.std.specs.Prelude.{◌≡◌, ℕ, ◌+◌, ◌-◌, ◌==◌, if◌t
 use Rattle.std.specs.Prelude.{take, length, Bool, true, false, not, Option, Some, None, codes}
 use Rattle.std.specs.Prelude.{decimal, slice_get, ◌⊎◌}
 use Rattle.std.specs.List.{flat_map, AllZip}
-use Rattle.mm_text.specs.Token.{PlainToken}
+use Rattle.mm_text.specs.Token.{PlainToken, tokens_from}
 use Rattle.mm_text.specs.Statement.{PlainStatement}
 use Rattle.mm_text.specs.Files.{PlainFile}
 use Rattle.mm_text.specs.Reading.{PlainFault, Reads}
+use Rattle.mm_code.specs.Words.{texts_of}
 use Rattle.mm_frame.specs.Sentence.{Sentence, sentence_of}
 use Rattle.mm_proof.specs.declared.fault.ProofRule.{ProofRule}
 use Rattle.mm_proof.specs.declared.profile.Profile.{Profile}
@@ -42,41 +43,59 @@ owner_text rule (Some label) = owner_words rule ++ label
 abbrev pub step_text : ℕ → List ℕ
 step_text step = if step == 0 then [] else (codes ", at step " ++ decimal step)
 
--- the line: the place in the refusal's file, the rule's code and what is wrong, in what it is, and
--- at which step
-abbrev pub head_text : List PlainFile → (at : ℕ) → PlainRefusal → List ℕ
-head_text files at r =
-    place_text files (place_of files r.file at) ++ codes ": " ++ code_of r.rule
-    ++ codes ": " ++ meaning_of r.rule ++ owner_text r.rule r.label ++ step_text r.step
+-- the line: the place of a position in one of the files, the rule's code and what is wrong, in what
+-- it is, and at which step
+abbrev pub head_at : List PlainFile → (file at : ℕ) → Rule → (label : Option (List ℕ)) → (step : ℕ)
+    → List ℕ
+head_at files file at rule label step =
+    place_text files (place_of files file at) ++ codes ": " ++ code_of rule
+    ++ codes ": " ++ meaning_of rule ++ owner_text rule label ++ step_text step
     ++ codes "\n"
+
+-- that of a refusal, in its file
+abbrev pub head_text : List PlainFile → (at : ℕ) → PlainRefusal → List ℕ
+head_text files at r = head_at files r.file at r.rule r.label r.step
 
 -- ---- places
 
--- the position of a byte of a token of the statement's proof
-abbrev pub IsPosition : PlainStatement → (token byte : ℕ) → (at : ℕ) → Type 0
-IsPosition s token byte at =
-    (t : PlainToken) × (slice_get s.proof token ≡ Some t) × (at ≡ t.at + byte)
+-- the position of a byte of one of these tokens
+abbrev pub IsPosition : List PlainToken → (token byte : ℕ) → (at : ℕ) → Type 0
+IsPosition tokens token byte at =
+    (t : PlainToken) × (slice_get tokens token ≡ Some t) × (at ≡ t.at + byte)
 
--- The position at which the moves of the statement's proof stop, where so many passed and these are
--- left: that of the first of these, or else that of the `$.`.
-abbrev pub IsStopPlace : PlainStatement → (passed : ℕ) → (left : List (Move (List ℕ))) → (at : ℕ)
-    → Type 0
-IsStopPlace s passed [] at = at ≡ s.span.1
-IsStopPlace s passed (move ∷ more) at =
-    (token : ℕ) × (byte : ℕ) × IsMovePlace (proof_of s) passed token byte
-    × IsPosition s token byte at
+-- The position at which the moves of tokens up to an end stop, where so many passed and these are
+-- left: that of the first of these, or else the end.
+abbrev pub IsStopPlace : List PlainToken → (end : ℕ) → (passed : ℕ)
+    → (left : List (Move (List ℕ))) → (at : ℕ) → Type 0
+IsStopPlace tokens end passed [] at = at ≡ end
+IsStopPlace tokens end passed (move ∷ more) at =
+    (token : ℕ) × (byte : ℕ) × IsMovePlace (texts_of tokens) passed token byte
+    × IsPosition tokens token byte at
 
--- The position of the first fault of the statement's proof: that of the byte at which a rule over
--- the whole of it is broken; or that at which the moves of the judged tokens stop.
+-- The position of the first fault of tokens up to an end, as a proof of the `$p`: that of the byte
+-- at which a rule over the whole of them is broken; or that at which the moves of the judged ones
+-- stop.
+abbrev pub IsPlaceAmong : Profile → (before : List Sentence) → Sentence → List PlainToken
+    → (end : ℕ) → ProofRule → (step : ℕ) → (at : ℕ) → Type 0
+IsPlaceAmong profile before s tokens end rule step at =
+    ((step ≡ 0) × (token : ℕ) × (byte : ℕ)
+    × IsWholePlace before s (judged_tokens (texts_of tokens)) rule token byte
+    × IsPosition tokens token byte at)
+    ⊎ ((h : TokensHalt profile before s (texts_of tokens) (Some rule))
+    × (step ≡ steps_in h.halts.earlier + 1)
+    × IsStopPlace tokens end (length h.halts.earlier) h.halts.left at)
+
+-- that of the first fault of the statement's proof, which ends at its `$.`
 abbrev pub IsFaultPlace : Profile → (before : List Sentence) → PlainStatement → ProofRule
     → (step : ℕ) → (at : ℕ) → Type 0
 IsFaultPlace profile before s rule step at =
-    ((step ≡ 0) × (token : ℕ) × (byte : ℕ)
-    × IsWholePlace before (judged_tokens (proof_of s)) rule token byte
-    × IsPosition s token byte at)
-    ⊎ ((h : TokensHalt profile before (sentence_of s) (proof_of s) (Some rule))
-    × (step ≡ steps_in h.halts.earlier + 1)
-    × IsStopPlace s (length h.halts.earlier) h.halts.left at)
+    IsPlaceAmong profile before (sentence_of s) s.proof s.span.1 rule step at
+
+-- that of the first fault of a text that is handed in, among its bytes, as a proof of the `$p`
+abbrev pub IsTextPlace : Profile → (before : List Sentence) → Sentence → (text : List ℕ)
+    → ProofRule → (step : ℕ) → (at : ℕ) → Type 0
+IsTextPlace profile before s text rule step at =
+    IsPlaceAmong profile before s (tokens_from 0 0 text) (length text) rule step at
 
 -- ---- explanations
 

@@ -18,7 +18,7 @@ use mm_frame::LabelId;
 use std::alloc::{AllocError, Global};
 
 /// A space, a mark and the label, for each of these numbers.
-fn push_marked(
+pub(crate) fn push_marked(
     out: &mut Vec<u8>,
     checked: &Checked,
     mark: &[u8],

@@ -47,7 +47,10 @@ fn answer_about(
 {
     match question {
         LoneQuestion::Known => known_reply(alloc, files, reached),
-        LoneQuestion::Try(proof) => try_reply(alloc, &reached.book, reached.id, proof),
+        LoneQuestion::Try { name, text } => {
+            let proof = File { name, bytes: text };
+            try_reply(alloc, &reached.book, reached.id, &proof)
+        }
     }
 }
 

@@ -2,7 +2,6 @@
 
 ghost use Rattle.std.specs.Prelude.{◌≡◌, ◌<◌, ◌↔◌, List, [], map, length, slice_get, Contains};
 ghost use Rattle.std.specs.Prelude.{true, false, Some, None, IsTrue, IfOk, IfErr, IfSome, ℕ};
-ghost use Rattle.std.specs.Prelude.{◌≤◌, Ok};
 ghost use Rattle.mm_check.specs.declared.ask.AskFault.TheVariants.{Memory};
 ghost use Rattle.std.specs.List.{AllByRecursion};
 
@@ -10,20 +9,21 @@ use crate::ask::AskFault;
 use crate::bits::index_of;
 use crate::comparison::is_same;
 use crate::form::Form;
-use crate::forms::{normal_text, packed_text, small_text, span_text};
+use crate::forms::{OwnProof, normal_text, own_proof, packed_text, small_text, span_text};
 use crate::kept::{Kept, is_among};
 use crate::position::{place_of, push_place};
 use crate::progress::Progress;
 use crate::report::{
     Report, Tables, axioms_among, marked_among, reach, report_in, tables_of, theorems_of,
 };
-use crate::reread::{proof_of, reread};
+use crate::reread::{proof_of, reader, reread};
 use crate::rewrite::{bytes_of, put_in};
 use crate::rule::AskRule;
+use crate::save_all::{NewFile, new_file};
 use crate::search::Search;
-use crate::shorter::{
-    Handed, Place, handed_proof, is_use, may_use, place_in, rests_on_marked, step_count,
-};
+use crate::shortening::Shortening;
+use crate::shorter_file::{Wanted, shorter_file};
+use crate::shorter_list::shorter_list;
 use crate::shown::listing_text;
 use crate::shown_uses::uses_text;
 use crate::stated::push_told;
@@ -31,7 +31,8 @@ use crate::theorem::{Theorem, theorem_of};
 use crate::users::{all_users_among, users_among};
 use mm_frame::{Book, Found, LabelId, LabelKind};
 use mm_proof::Profile;
-use mm_text::{File, says_before};
+use mm_shorten::Reach;
+use mm_text::{File, Statement, Statements};
 use std::alloc::{AllocError, Global};
 use std::marker::Model;
 
@@ -39,13 +40,13 @@ use std::marker::Model;
 /// proof that isn't incomplete is accepted.
 #[derive(Drop)]
 pub struct Checked<'a> {
-    profile: Profile,
-    files: &'a [File<'a>],
-    book: Book<'a>,
+    pub(crate) profile: Profile,
+    pub(crate) files: &'a [File<'a>],
+    pub(crate) book: Book<'a>,
     statements: usize,
     proofs: usize,
-    incomplete: Vec<LabelId>,
-    kept: Kept,
+    pub(crate) incomplete: Vec<LabelId>,
+    pub(crate) kept: Kept,
 }
 
 impl<'a> Model for Checked<'a> {
@@ -73,9 +74,6 @@ impl<'a> Model for Checked<'a> {
         c.book.statements (map (λ id. id.0) c.incomplete.items) c.kept };
 }
 
-/// Marks a theorem whose proof should stay as it is.
-const PROOF_MARK: &[u8] = b"(Proof modification is discouraged.)";
-
 impl<'a> Checked<'a> {
     ghost use Rattle.mm_text.specs.Statement.{PlainStatement};
     ghost use Rattle.mm_text.specs.Files.{plain_file};
@@ -91,20 +89,27 @@ impl<'a> Checked<'a> {
     ghost use Rattle.mm_check.specs.Mirror.Tables.{AreTables, IsOfKind, IsReportAt};
     ghost use Rattle.mm_text.specs.declared.statement.Kind.TheVariants.{Provable};
     ghost use Rattle.mm_frame.specs.Sentence.{IsAssertion};
-    ghost use Rattle.mm_proof.specs.Steps.{AreSteps, IsProofNumber};
-    ghost use Rattle.mm_frame.specs.Sentence.{Sentence};
+    ghost use Rattle.mm_proof.specs.Steps.{AreSteps};
     ghost use Rattle.mm_check.specs.Shown.{ShowsProof};
     ghost use Rattle.mm_check.specs.ShownUses.{ShowsUses};
     ghost use Rattle.mm_check.specs.Compared.{IsCompared, IsSameFault};
     ghost use Rattle.mm_check.specs.Forms.{IsNormalOf, IsNormalFault, IsPackedOf, IsSmallOf};
     ghost use Rattle.mm_check.specs.Mirror.Theorems.{AreProvedSteps, AreStepsOf};
-    ghost use Rattle.mm_check.specs.Answer.{IsKeptOf};
+    ghost use Rattle.mm_check.specs.Answer.{IsKeptOf, KeepsLabels};
     ghost use Rattle.mm_check.specs.Stated.{IsStatementFault, TellsStatement};
     ghost use Rattle.mm_check.specs.Saved.{IsSaved, FitsSaved, IsSaveFault};
     ghost use Rattle.mm_check.specs.Mirror.Rewriting.{IsHomeOf};
-    ghost use Rattle.mm_check.specs.Shorter.{IsShorterProof, IsMinimized};
-    ghost use Rattle.mm_check.specs.Mirror.Shortening.{IsPlaceAt, MarkRests, IsAllowedIn};
-    ghost use Rattle.mm_check.specs.Mirror.Shortening.{IsAllowedProof};
+    ghost use Rattle.mm_check.specs.Shorter.{IsMinimized};
+    ghost use Rattle.mm_check.specs.Mirror.Shortening.{IsOwnProof};
+    ghost use Rattle.mm_check.specs.Mirror.AllSaving.{IsWrittenSoFar};
+    ghost use Rattle.mm_check.specs.Mirror.Rereading.{IsTheoremIn, label_count};
+    ghost use Rattle.mm_check.specs.Mirror.Rewriting.{IsSpanTextOf};
+    ghost use Rattle.mm_check.specs.declared.form.Form.TheVariants.{Small};
+    ghost use Rattle.mm_check.specs.AllShorter.{IsAllShortened, IsAllShorterFault, ShorterLine};
+    ghost use Rattle.mm_check.specs.AllShorter.{AreShorterLines, shorter_text};
+    ghost use Rattle.mm_text.specs.Remaining.{IsUnread};
+    ghost use Rattle.mm_text.specs.Statement.{plain_statement};
+    ghost use Rattle.mm_frame.specs.Sentence.{sentence_in, IsLabelled};
 
     /// What the progress over the files has come to in the profile, once nothing is left.
     pub(crate) fn new(
@@ -545,143 +550,6 @@ impl<'a> Checked<'a> {
         Ok((theorem.file, bytes))
     }
 
-    /// Where the statement with a number begins.
-    fn place(&self, alloc: Global, id: LabelId) -> Result<Place<'a>, AskFault>
-        requires { id.0 < length (labelled_sentences self.now.sentences) }
-        ensures place { IfOk result (IsPlaceAt self.now.files id.0) }
-        ensures within { IfOk result (λ place. place.at ≤ length place.bytes.now) }
-        ensures memory { IfErr result (λ fault. fault ≡ Memory) }
-    {
-        let files = self.files;
-        let statement = reread(alloc, self.book.seed(), files, self.book.label(id))?;
-        let first = statement.first;
-        Ok(place_in(files, first.file, first.at as usize))
-    }
-
-    /// Whether the proof of a theorem, which begins at a place and rests on what is marked, may use
-    /// an assertion.
-    fn is_allowed(
-        &self,
-        alloc: Global,
-        home: Place<'a>,
-        theorem: LabelId,
-        marks: &[bool],
-        used: LabelId,
-    ) -> Result<bool, AskFault>
-        requires home { IsPlaceAt self.now.files theorem.0 home }
-        requires within { home.at ≤ length home.bytes.now }
-        requires marks { MarkRests self.now theorem.0 marks.now }
-        requires used { used.0 < length (labelled_sentences self.now.sentences) }
-        ensures allowed { result ≡ Ok true → IsAllowedIn self.now.files theorem.0 used.0 }
-        ensures memory { IfErr result (λ fault. fault ≡ Memory) }
-    {
-        let kept = &self.kept;
-        if is_use(kept, theorem, used) {
-            return Ok(true);
-        }
-        let founded = rests_on_marked(alloc, &self.book, kept, &self.incomplete, marks, used)?;
-        if !founded {
-            return Ok(false);
-        }
-        let place = self.place(alloc, used)?;
-        Ok(may_use(home, place))
-    }
-
-    /// Whether it may use all of these.
-    fn are_allowed(
-        &self,
-        alloc: Global,
-        home: Place<'a>,
-        theorem: LabelId,
-        marks: &[bool],
-        used: &[LabelId],
-    ) -> Result<bool, AskFault>
-        requires home { IsPlaceAt self.now.files theorem.0 home }
-        requires within { home.at ≤ length home.bytes.now }
-        requires marks { MarkRests self.now theorem.0 marks.now }
-        requires used { AllByRecursion (λ n. n < length (labelled_sentences self.now.sentences))
-            (map (λ l. l.0) used.now) }
-        ensures allowed { result ≡ Ok true → (n : ℕ) → Contains (map (λ l. l.0) used.now) n
-            → IsAllowedIn self.now.files theorem.0 n }
-        ensures memory { IfErr result (λ fault. fault ≡ Memory) }
-    {
-        for id in used {
-            let may = self.is_allowed(alloc, home, theorem, marks, *id)?;
-            if !may {
-                return Ok(false);
-            }
-        }
-        Ok(true)
-    }
-
-    /// A text as another proof of a theorem, where it is one and may be put in place of its own;
-    /// else none.
-    fn allowed_proof(
-        &self,
-        alloc: Global,
-        id: LabelId,
-        text: &[u8],
-    ) -> Result<Option<Handed>, AskFault>
-        requires { (index : ℕ) × (s : Sentence) × IsProofNumber self.now.sentences id.0 index s }
-        ensures proof { IfOk result (λ found. IfSome found (IsAllowedProof self.now id.0)) }
-        ensures memory { IfErr result (λ fault. fault ≡ Memory) }
-    {
-        let home = self.place(alloc, id)?;
-        if says_before(home.bytes, home.at, PROOF_MARK) {
-            return Ok(None);
-        }
-        let Some(handed) = handed_proof(alloc, self.profile, &self.book, id, text)? else {
-            return Ok(None);
-        };
-        let marks = reach(alloc, &self.kept, id)?;
-        let may = self.are_allowed(alloc, home, id, &marks, handed.used.ids())?;
-        if !may {
-            return Ok(None);
-        }
-        Ok(Some(handed))
-    }
-
-    /// The small text of the tree that a text makes as another proof of a theorem, where that is
-    /// shorter than the theorem's own small text; else none.
-    fn shorter(
-        &self,
-        alloc: Global,
-        theorem: &Theorem,
-        own: &[u8],
-        text: &[u8],
-    ) -> Result<Option<Vec<u8>>, AskFault>
-        requires steps { AreSteps self.now.sentences theorem.now.id.0 theorem.now.steps.moves }
-        requires proved { AreProvedSteps self.now.sentences theorem.now.id.0 theorem.now.steps }
-        requires whole { theorem.now.steps.prefix ≡ false }
-        ensures shorter { IfOk result (λ found. IfSome found (λ new. (label : List ℕ)
-            → (statements : List PlainStatement) → Reads self.now.files statements None
-            → AreStepsOf statements label theorem.now.id.0 theorem.now.steps.moves
-            → IsShorterProof self.now.profile self.now.files statements label (length own.now)
-            new.items)) }
-        ensures memory { IfErr result (λ fault. fault ≡ Memory) }
-    {
-        let Some(handed) = self.allowed_proof(alloc, theorem.id, text)? else {
-            return Ok(None);
-        };
-        let Handed { steps, used: _ } = handed;
-        let other = Theorem {
-            id: theorem.id,
-            steps,
-            file: theorem.file,
-            span: theorem.span,
-        };
-        let new = small_text(alloc, &self.book, &other)?;
-        if new.len() >= own.len() {
-            return Ok(None);
-        }
-        let count = step_count(alloc, &self.book, &other)?;
-        let most = step_count(alloc, &self.book, theorem)?;
-        if count > most {
-            return Ok(None);
-        }
-        Ok(Some(new))
-    }
-
     /// The small text of the shortest proof of the `$p` with this label that is known: of its own,
     /// or of one that the search gives, where that has fewer bytes, no more steps, and rests on no
     /// further axiom. Marks and mathboxes are heeded: an assertion isn't newly used if the comment
@@ -704,14 +572,144 @@ impl<'a> Checked<'a> {
             → Reads self.now.files statements None → IsAskFault statements label.now fault) }
     {
         let theorem = self.read_theorem(alloc, label)?;
-        let own = small_text(alloc, &self.book, &theorem)?;
-        let Some(text) = search.candidate(alloc, &self.book, theorem.id, &theorem.steps)? else {
-            return Ok(own);
-        };
-        let found = self.shorter(alloc, &theorem, &own, &text)?;
-        match found {
-            Some(new) => Ok(new),
-            None => Ok(own),
-        }
+        let shortening = Shortening::new(alloc, self)?;
+        Ok(shortening.minimized(alloc, &theorem, search)?)
+    }
+
+    /// The same, by a search in what the database has before the theorem.
+    pub(crate) fn minimized_by_library(
+        &self,
+        alloc: Global,
+        label: &[u8],
+    ) -> Result<Vec<u8>, AskFault>
+        ensures text { IfOk result (λ text. (statements : List PlainStatement)
+            → Reads self.now.files statements None
+            → IsMinimized self.now.profile self.now.files statements label.now text.items) }
+        ensures fault { IfErr result (λ fault. (statements : List PlainStatement)
+            → Reads self.now.files statements None → IsAskFault statements label.now fault) }
+    {
+        let theorem = self.read_theorem(alloc, label)?;
+        let shortening = Shortening::new(alloc, self)?;
+        let mut search = shortening.search(alloc, Reach::OneMissing);
+        Ok(shortening.minimized(alloc, &theorem, &mut search)?)
+    }
+
+    /// A reader of its files.
+    pub(crate) fn reader(&self, alloc: Global) -> Result<Statements<'a>, AskFault>
+        ensures unread { IfOk result (IsUnread self.now.files) }
+        ensures faultless { IfOk result (λ statements. statements.ending ≡ None) }
+        ensures few { IfOk result (λ statements. label_count statements.statements < 4294967295) }
+        ensures memory { IfErr result (λ fault. fault ≡ Memory) }
+    {
+        let files = self.files;
+        reader(alloc, self.book.seed(), files)
+    }
+
+    /// Whether the statement with a number is a `$p` with a complete proof.
+    pub(crate) fn is_theorem(&self, id: LabelId) -> bool
+        ensures { (statements : List PlainStatement) → Reads self.now.files statements None
+            → IsTrue result ↔ IsNumberWhere statements (λ s. is_proof s ≡ true) id.0 }
+    {
+        self.kept.index_of(id).is_some()
+    }
+
+    /// The theorem with a number, whose statement this is, as it was read again.
+    pub(crate) fn theorem_at(
+        &self,
+        alloc: Global,
+        statement: &Statement,
+        id: LabelId,
+    ) -> Result<Theorem, AskFault>
+        requires { IsTheoremIn self.now.files id.0 (plain_statement statement.now) }
+        ensures id { IfOk result (λ theorem. theorem.id.0 ≡ id.0) }
+        ensures usable { IfOk result (λ theorem.
+            AreSteps self.now.sentences theorem.id.0 theorem.steps.moves) }
+        ensures proved { IfOk result (λ theorem.
+            AreProvedSteps self.now.sentences theorem.id.0 theorem.steps) }
+        ensures whole { IfOk result (λ theorem. theorem.steps.prefix ≡ false) }
+        ensures told { IfOk result (λ theorem. (statements : List PlainStatement)
+            → Reads self.now.files statements None → self.now.sentences ≡ sentences statements) }
+        ensures read { IfOk result (λ theorem. (label : List ℕ)
+            → IsLabelled label (sentence_in statement.now)
+            → (statements : List PlainStatement) → Reads self.now.files statements None
+            → AreStepsOf statements label theorem.id.0 theorem.steps.moves) }
+        ensures home { IfOk result (λ theorem.
+            theorem.span ≡ (plain_statement statement.now).span) }
+        ensures memory { IfErr result (λ fault. fault ≡ Memory) }
+    {
+        let tokens = proof_of(alloc, statement)?;
+        theorem_of(alloc, self.profile, &self.book, id, statement, &tokens)
+    }
+
+    /// The small proof of a theorem, and its size.
+    pub(crate) fn own_proof(&self, alloc: Global, theorem: &Theorem) -> Result<OwnProof, AllocError>
+        requires steps { AreSteps self.now.sentences theorem.now.id.0 theorem.now.steps.moves }
+        requires proved { AreProvedSteps self.now.sentences theorem.now.id.0 theorem.now.steps }
+        requires whole { theorem.now.steps.prefix ≡ false }
+        ensures { IfOk result (IsOwnProof self.now.sentences theorem.now.id.0
+            theorem.now.steps.moves) }
+    {
+        own_proof(alloc, &self.book, theorem)
+    }
+
+    /// What is put in place of the old bytes of a theorem's proof in small form.
+    pub(crate) fn small_span(
+        &self,
+        alloc: Global,
+        theorem: &Theorem,
+        old: &[u8],
+    ) -> Result<Vec<u8>, AskFault>
+        requires steps { AreSteps self.now.sentences theorem.now.id.0 theorem.now.steps.moves }
+        requires proved { AreProvedSteps self.now.sentences theorem.now.id.0 theorem.now.steps }
+        requires whole { theorem.now.steps.prefix ≡ false }
+        ensures put { IfOk result (λ put. IsSpanTextOf Small self.now.sentences theorem.now.id.0
+            theorem.now.steps.moves old.now put.items) }
+        ensures memory { IfErr result (λ fault. fault ≡ Memory) }
+    {
+        span_text(alloc, &self.book, theorem, Form::Small, old)
+    }
+
+    /// One of its files, nothing of which was taken yet, to be written with small proofs.
+    pub(crate) fn new_file(&self, alloc: Global, number: usize) -> Result<NewFile<'a>, AllocError>
+        requires { number < length self.now.files }
+        ensures begun { IfOk result (IsWrittenSoFar self.now.files []) }
+        ensures number { IfOk result (λ file. file.number ≡ number) }
+        ensures form { IfOk result (λ file. file.form ≡ Small) }
+    {
+        let files = self.files;
+        new_file(alloc, files, number, Form::Small)
+    }
+
+    /// A line for each theorem whose proof becomes shorter, and their sums.
+    pub(crate) fn shorter_list(&self, alloc: Global) -> Result<Vec<u8>, AskFault>
+        requires { KeepsLabels self.now.files self.now }
+        ensures list { IfOk result (λ text. (statements : List PlainStatement)
+            → Reads self.now.files statements None
+            → (lines : List ShorterLine)
+            × AreShorterLines self.now.profile self.now.files statements lines
+            × (text.items ≡ shorter_text statements lines)) }
+        ensures memory { IfErr result (λ fault. fault ≡ Memory) }
+    {
+        let shortening = Shortening::new(alloc, self)?;
+        let mut search = shortening.search(alloc, Reach::OneMissing);
+        shorter_list(alloc, &shortening, &mut search)
+    }
+
+    /// The bytes of a file with each proof replaced that becomes shorter.
+    pub(crate) fn shorter_file(&self, alloc: Global, wanted: Wanted) -> Result<Vec<u8>, AskFault>
+        requires { wanted.number < length self.now.files }
+        ensures shortened { IfOk result (λ new. (statements : List PlainStatement)
+            → Reads self.now.files statements None
+            → IsAllShortened self.now.profile wanted.duplicates self.now.files statements
+            wanted.number new.items) }
+        ensures fits { IfOk result (λ new. FitsSaved self.now.files wanted.number new.items) }
+        ensures fault { IfErr result (λ fault. (statements : List PlainStatement)
+            → Reads self.now.files statements None
+            → IsAllShorterFault self.now.profile wanted.duplicates self.now.files statements
+            wanted.number fault) }
+    {
+        let shortening = Shortening::new(alloc, self)?;
+        let mut search = shortening.search(alloc, Reach::OneMissing);
+        shorter_file(alloc, &shortening, wanted, &mut search)
     }
 }

@@ -11,8 +11,10 @@ ghost use Rattle.mm_check.specs.declared.command.RunFault.TheVariants.{Memory};
 use crate::alone::lone_reply;
 use crate::form::Form;
 use crate::question::{
-    LoneQuestion, Question, Reply, WholeQuestion, all_saved_reply, question_reply, whole_reply,
+    LoneQuestion, Question, Reply, WholeQuestion, all_saved_reply, question_reply,
+    shorter_file_reply, whole_reply,
 };
+use crate::shorter_file::Wanted;
 use crate::status::Status;
 use mm_proof::Profile;
 use mm_text::{Counted, File, Seed};
@@ -44,6 +46,13 @@ pub enum Command<'a> {
     File {
         form: Form,
         file: usize,
+    },
+    /// For the bytes of the handed file with this number, which is below the count of files, with
+    /// each proof replaced that becomes shorter by what the library has; if `duplicates`, also by one
+    /// that uses one assertion alone besides those of syntax.
+    Shorter {
+        file: usize,
+        duplicates: bool,
     },
 }
 
@@ -84,6 +93,13 @@ pub fn reply_to(
         Command::About { label, question } => question_reply(alloc, seed, files, question, label),
         Command::Lone { label, question } => lone_reply(alloc, seed, files, label, question),
         Command::File { form, file } => all_saved_reply(alloc, seed, files, *form, *file),
+        Command::Shorter { file, duplicates } => {
+            let wanted = Wanted {
+                number: *file,
+                duplicates: *duplicates,
+            };
+            shorter_file_reply(alloc, seed, files, wanted)
+        }
     }
 }
 

@@ -440,6 +440,7 @@ fn push_at_token(
         ProofRule::P2 => push_unknown_label(out, alloc, book, id, text),
         ProofRule::P3 => push_token(out, text),
         ProofRule::P4 => push_token(out, text),
+        ProofRule::P15 => push_token(out, text),
         _ => Ok(()),
     }
 }
@@ -470,31 +471,6 @@ pub(crate) fn push_cause(
             push_whole(out, alloc, book, id, steps, rule)
         }
     }
-}
-
-/// The facts that explain the fault of the tokens as the proof of the `$p` with the number, which
-/// breaks the rule at the step.
-pub(crate) fn push_details(
-    out: &mut Vec<u8>,
-    alloc: Global,
-    profile: Profile,
-    book: &Book,
-    id: LabelId,
-    tokens: &[&[u8]],
-    fault: (ProofRule, usize),
-) -> Result<(), AllocError>
-    requires proof { (index : ℕ) × (s : Sentence) × IsProofNumber book.now.statements id.0 index s }
-    requires room { sum_by length (texts tokens.now) ≤ most_bytes }
-    requires fault { OfProof book.now.statements id.0 (λ index s.
-        IsTokensFault profile (take index book.now.statements) s (texts tokens.now)
-        fault.0 fault.1) }
-    ensures { OnOk result (OfProof book.now.statements id.0 (λ index s. (details : List Detail)
-        × AreDetails profile (take index book.now.statements) s (texts tokens.now)
-        fault.0 fault.1 details
-        × (out.new.items ≡ out.old.items ++ details_text details))) }
-{
-    let cause = cause_of(alloc, profile, book, id, tokens, fault)?;
-    push_cause(out, alloc, profile, book, id, &cause, fault.0)
 }
 
 /// What the known prefix of the tokens, which breaks no rule, leaves on the stack.

@@ -15,11 +15,13 @@ ghost use Rattle.mm_check.specs.Forms.{most_labels, IsNormalText, IsPackedText, 
 ghost use Rattle.mm_check.specs.Forms.{HasSmallProof, IsSmallBehind};
 ghost use Rattle.mm_check.specs.Saved.{IsSpanText, IsShorter, spaces, indent_of};
 ghost use Rattle.mm_check.specs.Mirror.Theorems.{AreProvedSteps};
+ghost use Rattle.mm_check.specs.Mirror.Shortening.{IsOwnProof};
 ghost use Rattle.mm_check.specs.Mirror.Rewriting.{IsSpanTextOf, IsTextFault};
 
 use crate::ask::AskFault;
 use crate::form::Form;
 use crate::rule::AskRule;
+use crate::shorter::step_count;
 use crate::theorem::Theorem;
 use mm_code::{MOST_INDENT, lay_out_compressed, lay_out_normal, lay_out_small, write_codes};
 use mm_frame::{Book, LabelId};
@@ -140,6 +142,39 @@ fn small_proof<'a>(
     let names = names_of(alloc, book, &small.labels)?;
     let letters = write_codes(alloc, &small.codes)?;
     Ok(SmallProof { names, letters })
+}
+
+/// The small proof of a theorem, and its size.
+#[derive(Drop)]
+pub(crate) struct OwnProof {
+    /// Its text, in the lines of packed proofs.
+    pub(crate) text: Vec<u8>,
+    /// How many letters it has.
+    pub(crate) letters: usize,
+    /// How many steps the fully shared proof of the same tree has.
+    pub(crate) steps: usize,
+}
+
+/// The small proof of a theorem, and its size.
+pub(crate) fn own_proof(
+    alloc: Global,
+    book: &Book,
+    theorem: &Theorem,
+) -> Result<OwnProof, AllocError>
+    requires steps { AreSteps book.now.statements theorem.now.id.0 theorem.now.steps.moves }
+    requires proved { AreProvedSteps book.now.statements theorem.now.id.0 theorem.now.steps }
+    requires whole { theorem.now.steps.prefix ≡ false }
+    ensures { IfOk result (IsOwnProof book.now.statements theorem.now.id.0
+        theorem.now.steps.moves) }
+{
+    let small = small_proof(alloc, book, theorem)?;
+    let text = lay_out_compressed(alloc, &small.names, &small.letters)?;
+    let steps = step_count(alloc, book, theorem)?;
+    Ok(OwnProof {
+        text,
+        letters: small.letters.len(),
+        steps,
+    })
 }
 
 /// The text of the small proof of a theorem, in the lines of packed proofs.

@@ -1,8 +1,10 @@
 //! What is kept of the complete proofs, for the questions that come after the check.
 
 ghost use Rattle.std.specs.Prelude.{◌≡◌, ◌<◌, ◌++◌, ◌↔◌, ℕ, [], ◌∷◌, map, length, slice_get};
-ghost use Rattle.std.specs.Prelude.{Contains, IsTrue, OnOk, Some};
-ghost use Rattle.mm_check.specs.Conclusion.{ProofUses};
+ghost use Rattle.std.specs.Prelude.{Contains, IsTrue, IfSome, OnOk, Some, None};
+ghost use Rattle.mm_check.specs.Conclusion.{ProofUses, numbers_of};
+ghost use Rattle.mm_check.specs.Rests.{AreRising};
+ghost use Rattle.mm_check.specs.Mirror.Marks.{UsedIn};
 ghost use Rattle.mm_check.specs.Mirror.Ordered.{ordered};
 
 use mm_frame::LabelId;
@@ -97,6 +99,29 @@ impl Kept {
         self.proofs[at].id
     }
 
+    /// The index of the proof of a `$p`, if it is kept.
+    pub(crate) fn index_of(&self, id: LabelId) -> Option<usize>
+        requires { AreRising (numbers_of self.now) }
+        ensures found { IfSome result (λ at. slice_get (numbers_of self.now) at ≡ Some id.0) }
+        ensures none { result ≡ None → ¬ (Contains (numbers_of self.now) id.0) }
+    {
+        let mut low = 0;
+        let mut high = self.len();
+        while low < high {
+            let middle = low + (high - low) / 2;
+            let number = self.proof(middle);
+            if number.0 == id.0 {
+                return Some(middle);
+            }
+            if number.0 < id.0 {
+                low = middle + 1;
+            } else {
+                high = middle;
+            }
+        }
+        None
+    }
+
     /// The numbers of the assertions that the proof at an index uses, in any order, each once or
     /// more.
     pub(crate) fn used(&self, at: usize) -> &[LabelId]
@@ -106,5 +131,17 @@ impl Kept {
     {
         let proof = self.proofs[at];
         &self.used[proof.start..proof.end]
+    }
+
+    /// The numbers of the assertions that the proof of a `$p` uses, in any order, each once or
+    /// more; none for a number of which no proof is kept.
+    pub(crate) fn used_by(&self, id: LabelId) -> &[LabelId]
+        requires { AreRising (numbers_of self.now) }
+        ensures { (n : ℕ) → Contains (map (λ l. l.0) result.now) n ↔ UsedIn self.now id.0 n }
+    {
+        match self.index_of(id) {
+            Some(at) => self.used(at),
+            None => &[],
+        }
     }
 }

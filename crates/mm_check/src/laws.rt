@@ -5,6 +5,9 @@ ghost use Rattle.mm_check.specs.AllSavedLaws.{SavingAllChangesNoAnswer, AllSaved
 ghost use Rattle.mm_check.specs.AllSavedLaws.{OneAllSaved, OneSaveAllAnswer};
 ghost use Rattle.mm_check.specs.AllSavedLaws.{SavingAllAgainChangesNothing, AllSmallFilesDoNotGrow};
 ghost use Rattle.mm_check.specs.AllSavedLaws.{SavingInTurnIsSavingAll, PackedFilesAreStrict};
+ghost use Rattle.mm_check.specs.AllShorterLaws.{ShorteningChangesNoVerdict};
+ghost use Rattle.mm_check.specs.AllShorterLaws.{ShortenedFilesDoNotGrow};
+ghost use Rattle.mm_check.specs.AloneLaws.{OwnProofIsTriedAlike};
 ghost use Rattle.mm_check.specs.FaultLaws.{FirstFaultIsTold, OneListOfFaults, SomeListOfFaults};
 ghost use Rattle.mm_check.specs.FormLaws.{PackedTextsTell};
 ghost use Rattle.mm_check.specs.Laws.{OneVerdict, SomeVerdict, BetweenProfiles, OneReport};
@@ -45,6 +48,13 @@ pub fn one_list_of_faults()
 /// Files that can be taken have such a list, which may be empty.
 pub fn some_list_of_faults()
     ensures { SomeListOfFaults }
+{}
+
+/// What is told of a theorem's own proof, and what is told of a text with the same tokens, agree:
+/// that it is a proof; that it is incomplete, and breaks no rule as far as it is known; or its
+/// first fault, at its step.
+pub fn own_proof_is_tried_alike()
+    ensures { OwnProofIsTriedAlike }
 {}
 
 /// What a theorem rests on is told in one way: two reports over statements that obey the rules,
@@ -153,4 +163,18 @@ pub fn packed_files_are_strict()
 pub fn small_files_do_not_grow()
     ensures one { SmallFilesDoNotGrow }
     ensures all { AllSmallFilesDoNotGrow }
+{}
+
+/// Putting shorter proofs into a file changes no verdict: with the new bytes in place of the old,
+/// the files say the same and have the same verdicts. Each proof is as it was, or stands in that
+/// file, has the strict form and spells a shorter tree of its theorem. No theorem rests on an axiom
+/// or an unproved theorem on which it didn't rest before.
+pub fn shortening_changes_no_verdict()
+    ensures { ShorteningChangesNoVerdict }
+{}
+
+/// A file into which shorter proofs are put doesn't grow: its new bytes are at most as many as
+/// before.
+pub fn shortened_files_do_not_grow()
+    ensures { ShortenedFilesDoNotGrow }
 {}

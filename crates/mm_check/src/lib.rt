@@ -10,6 +10,7 @@ mod breach;
 mod checked;
 mod collision;
 mod command;
+mod compared;
 mod comparison;
 mod details;
 mod earlier;
@@ -25,6 +26,7 @@ mod known;
 mod last;
 mod later;
 mod laws;
+mod library_search;
 mod meanings;
 mod near;
 mod nearest;
@@ -34,6 +36,7 @@ mod position;
 mod progress;
 mod question;
 mod read_to;
+mod remarks;
 mod reply;
 mod report;
 mod reread;
@@ -45,7 +48,10 @@ mod save_all;
 mod save_fault;
 mod scope;
 mod search;
+mod shortening;
 mod shorter;
+mod shorter_file;
+mod shorter_list;
 mod shown;
 mod shown_uses;
 mod size;
@@ -54,6 +60,7 @@ mod status;
 mod text;
 mod text_fault;
 mod theorem;
+mod theorems;
 mod told;
 mod tried;
 mod users;
@@ -71,9 +78,10 @@ pub use form::Form;
 pub use laws::{
     alike_files_have_one_reply, all_saved_proofs_are_strict, between_profiles, first_fault_is_told,
     one_all_saved, one_list_of_faults, one_report, one_save_all_answer, one_save_answer, one_saved,
-    one_verdict, packed_files_are_strict, packed_texts_tell, reports_tell_users,
-    saved_proof_is_strict, saving_again_changes_nothing, saving_all_again_changes_nothing,
-    saving_all_changes_no_answer, saving_changes_no_answer, saving_in_turn_is_saving_all,
+    one_verdict, own_proof_is_tried_alike, packed_files_are_strict, packed_texts_tell,
+    reports_tell_users, saved_proof_is_strict, saving_again_changes_nothing,
+    saving_all_again_changes_nothing, saving_all_changes_no_answer, saving_changes_no_answer,
+    saving_in_turn_is_saving_all, shortened_files_do_not_grow, shortening_changes_no_verdict,
     small_files_do_not_grow, some_list_of_faults, some_verdict,
 };
 pub use mm_frame::LabelId;
@@ -84,6 +92,6 @@ pub use rule::{AskRule, Rule};
 pub use save::saved;
 pub use save_all::saved_all;
 pub use save_fault::SaveFault;
-pub use search::Search;
+pub use search::{OwnSize, Search};
 pub use status::Status;
 pub use verdict::{check, check_with};

@@ -19,13 +19,14 @@ ghost use Rattle.mm_check.specs.Reply.{ask_status as ask_status_at};
 ghost use Rattle.mm_check.specs.Reply.{IsReply, IsAskReply, IsAxiomsReply, IsShowReply};
 ghost use Rattle.mm_check.specs.Reply.{IsFaultsReply, IsWhyReply, refusals_text, refusal_status};
 ghost use Rattle.mm_check.specs.Reply.{IsNormalReply, IsPackedReply, IsSavedReply, IsSameReply};
-ghost use Rattle.mm_check.specs.Reply.{IsSmallReply};
+ghost use Rattle.mm_check.specs.Reply.{IsSmallReply, IsMinimizedReply};
 ghost use Rattle.mm_check.specs.Reply.{IsAllSavedReply, IsAnswerTo, IsFormReply, IsWholeReply};
 ghost use Rattle.mm_check.specs.Reply.{same_text, same_status, text_status as text_status_at};
 ghost use Rattle.mm_check.specs.Reply.{IsQuestionReply, report_text as report_text_at};
 ghost use Rattle.mm_check.specs.Reply.{report_status as report_status_at, IsUsersReply};
 ghost use Rattle.mm_check.specs.Reply.{IsUsesReply};
 ghost use Rattle.mm_check.specs.Reply.{IsAllAxiomsReply, IsStatementReply};
+ghost use Rattle.mm_check.specs.Reply.{IsShorterReply, IsAllShortenedReply};
 ghost use Rattle.mm_proof.specs.declared.profile.Profile.{Profile};
 ghost use Rattle.mm_check.specs.Users.{AreUsers, IsAssertionFault};
 
@@ -44,6 +45,7 @@ use crate::report::Report;
 use crate::rule::{AskRule, Rule};
 use crate::save_all::saved_all;
 use crate::save_fault::SaveFault;
+use crate::shorter_file::Wanted;
 use crate::status::Status;
 use crate::verdict::{check, check_with};
 use crate::why::{Unaccepted, explained};
@@ -71,6 +73,8 @@ pub enum WholeQuestion {
     Why,
     /// What each theorem rests on.
     Axioms,
+    /// Which proofs become shorter by what the library has.
+    Shorter,
 }
 
 /// A question about the theorem with a label, or about the assertion or the statement.
@@ -94,6 +98,8 @@ pub enum Question<'a> {
     /// Of the statement with the label, whatever its kind: where it stands, its frame and what it
     /// says.
     Statement,
+    /// For the small text of its shortest proof by what the library has.
+    Minimized,
 }
 
 /// A question about the theorem with a label alone, over the statements before it, whatever their
@@ -102,8 +108,9 @@ pub enum Question<'a> {
 pub enum LoneQuestion<'a> {
     /// How it is proved, step by step, as far as that is known.
     Known,
-    /// Whether this text is a proof of it, whatever stands in the file as its proof.
-    Try(&'a [u8]),
+    /// Whether this text is a proof of it, whatever stands in the file as its proof. Its name is
+    /// that of the file that holds it: the place of a fault is told in that file.
+    Try { name: &'a [u8], text: &'a [u8] },
 }
 
 /// A line for the label of each of these numbers, after a question mark.
@@ -467,6 +474,23 @@ fn statement_answer(alloc: Global, checked: &Checked, label: &[u8]) -> Result<Re
     }
 }
 
+/// The reply of a database in which nothing is at fault to the question for a shortest proof.
+fn minimized_answer(alloc: Global, checked: &Checked, label: &[u8]) -> Result<Reply, AllocError>
+    requires { checked.now.profile ≡ Lenient }
+    ensures { IfOk result (λ reply. (statements : List PlainStatement)
+        → Reads checked.now.files statements None
+        → IsMinimizedReply checked.now.files label.now statements reply.text.items
+        (number_of reply.status)) }
+{
+    match checked.minimized_by_library(alloc, label) {
+        Ok(text) => Ok(Reply {
+            text,
+            status: Status::Done,
+        }),
+        Err(fault) => ask_reply(alloc, label, fault),
+    }
+}
+
 /// The reply of a database in which nothing is at fault to a question about a label.
 fn answer_to(
     alloc: Global,
@@ -489,6 +513,7 @@ fn answer_to(
         Question::Same(text) => same_answer(alloc, checked, label, text),
         Question::Users { all } => users_answer(alloc, checked, label, *all),
         Question::Statement => statement_answer(alloc, checked, label),
+        Question::Minimized => minimized_answer(alloc, checked, label),
     }
 }
 
@@ -682,6 +707,95 @@ fn all_axioms_reply(
     reply
 }
 
+/// The reply to the question which proofs become shorter, where this is the answer of `check`.
+fn shorter_answer(
+    alloc: Global,
+    files: &[File],
+    answer: &Result<Checked, CheckFault>,
+) -> Result<Reply, AllocError>
+    requires labels { IfOk answer.now (KeepsLabels (map plain_file files.now)) }
+    requires files { IfOk answer.now (KeepsFiles (map plain_file files.now)) }
+    ensures { IfOk result (λ reply. (profile : Profile)
+        → IfOk answer.now (λ checked. checked.profile ≡ profile)
+        → IsVerdict profile (map plain_file files.now) answer.now
+        → IsShorterReply profile (map plain_file files.now) reply.text.items
+        (number_of reply.status)) }
+{
+    match answer {
+        Ok(checked) => match checked.shorter_list(alloc) {
+            Ok(text) => Ok(Reply {
+                text,
+                status: conclusion_status(checked),
+            }),
+            Err(AskFault::Memory) => Err(AllocError),
+            // Nothing but lack of memory keeps the list from being made.
+            Err(_) => unreachable!(),
+        },
+        Err(_) => verdict_reply(alloc, files, answer),
+    }
+}
+
+/// The reply to the question which proofs become shorter, under a profile.
+fn shorter_reply(
+    alloc: Global,
+    seed: Seed,
+    profile: Profile,
+    files: &[File],
+) -> Result<Reply, AllocError>
+    ensures { IfOk result (λ reply. IsShorterReply profile (map plain_file files.now)
+        reply.text.items (number_of reply.status)) }
+{
+    let answer = check_with(alloc, seed, profile, files);
+    let reply = shorter_answer(alloc, files, &answer);
+    drop(answer);
+    reply
+}
+
+/// The reply to the question for a file with shorter proofs, where this is the answer of `check`.
+fn shorter_file_answer(
+    alloc: Global,
+    files: &[File],
+    answer: &Result<Checked, CheckFault>,
+    wanted: Wanted,
+) -> Result<Reply, AllocError>
+    requires handed { wanted.number < length files.now }
+    requires verdict { IsVerdict Lenient (map plain_file files.now) answer.now }
+    requires files { IfOk answer.now (KeepsFiles (map plain_file files.now)) }
+    requires profile { IfOk answer.now (λ checked. checked.profile ≡ Lenient) }
+    ensures { IfOk result (λ reply. IsQuestionReply (map plain_file files.now)
+        (IsAllShortenedReply wanted.duplicates (map plain_file files.now) wanted.number)
+        reply.text.items (number_of reply.status)) }
+{
+    match answer {
+        Ok(checked) => match checked.shorter_file(alloc, wanted) {
+            Ok(text) => Ok(Reply {
+                text,
+                status: Status::Done,
+            }),
+            Err(fault) => ask_reply(alloc, name_of(files, wanted.number), fault),
+        },
+        Err(_) => verdict_reply(alloc, files, answer),
+    }
+}
+
+/// The reply to the question for a file with shorter proofs.
+pub(crate) fn shorter_file_reply(
+    alloc: Global,
+    seed: Seed,
+    files: &[File],
+    wanted: Wanted,
+) -> Result<Reply, AllocError>
+    requires { wanted.number < length files.now }
+    ensures { IfOk result (λ reply. IsQuestionReply (map plain_file files.now)
+        (IsAllShortenedReply wanted.duplicates (map plain_file files.now) wanted.number)
+        reply.text.items (number_of reply.status)) }
+{
+    let answer = check(alloc, seed, files);
+    let reply = shorter_file_answer(alloc, files, &answer, wanted);
+    drop(answer);
+    reply
+}
+
 /// The reply to a question about the whole database under a profile.
 pub(crate) fn whole_reply(
     alloc: Global,
@@ -698,6 +812,7 @@ pub(crate) fn whole_reply(
         WholeQuestion::Faults => faults_reply(alloc, seed, profile, files),
         WholeQuestion::Why => why_reply(alloc, seed, profile, files),
         WholeQuestion::Axioms => all_axioms_reply(alloc, seed, profile, files),
+        WholeQuestion::Shorter => shorter_reply(alloc, seed, profile, files),
     }
 }
 

@@ -1,16 +1,19 @@
 //! What a theorem rests on.
 
 ghost use Rattle.std.specs.Prelude.{◌≡◌, ◌↔◌, ◌⊎◌, ◌<◌, ◌≤◌, ℕ, map, length, slice_index_or};
-ghost use Rattle.std.specs.Prelude.{Contains, true, false, IfOk, IsTrue, Some};
+ghost use Rattle.std.specs.Prelude.{Contains, true, false, IfOk, IsTrue, Some, List};
 ghost use Rattle.mm_frame.specs.Numbers.{labelled_sentences};
+ghost use Rattle.mm_frame.specs.Sentence.{Sentence};
+ghost use Rattle.mm_check.specs.Conclusion.{ProofUses};
 ghost use Rattle.mm_check.specs.Rests.{AreRising, AreInOrder, RestsOn};
 ghost use Rattle.mm_check.specs.Mirror.Marks.{IsMarked, UsedIn, AreBackward, IsAxiomNumber};
+ghost use Rattle.mm_check.specs.Mirror.Shortening.{AreFounded};
 ghost use Rattle.mm_check.specs.Mirror.Tables.{IsOfKind, AreTables, IsReportIn};
 ghost use Rattle.mm_frame.specs.Taken.{kind_behind};
 ghost use Rattle.mm_text.specs.declared.statement.Kind.TheVariants.{Provable};
 
 use crate::kept::Kept;
-use crate::rows::{Rows, reached, rows_of};
+use crate::rows::{Rows, reached, rests_no_further, rows_of};
 use mm_frame::{Book, LabelId, LabelKind};
 use std::alloc::{AllocError, Global};
 
@@ -212,4 +215,24 @@ pub(crate) fn report_in(
     let axioms = reached(alloc, &tables.axioms, &tables.axiom_rows, theorem)?;
     let unproved = reached(alloc, incomplete, &tables.unproved_rows, theorem)?;
     Ok(Report { axioms, unproved })
+}
+
+/// Whether a theorem rests on each axiom, and on each of the incomplete, that an assertion is or
+/// rests on.
+pub(crate) fn is_founded(
+    tables: &Tables,
+    incomplete: &[LabelId],
+    theorem: LabelId,
+    used: LabelId,
+) -> bool
+    requires axioms { AreRising (map (λ l. l.0) tables.now.axioms.items) }
+    requires incomplete { AreRising (map (λ l. l.0) incomplete.now) }
+    ensures { IsTrue result → (statements : List Sentence) → (uses : List ProofUses)
+        → AreTables statements (map (λ l. l.0) incomplete.now) uses tables.now
+        → AreFounded statements (map (λ l. l.0) incomplete.now) uses theorem.0 used.0 }
+{
+    if !rests_no_further(&tables.axioms, &tables.axiom_rows, theorem, used) {
+        return false;
+    }
+    rests_no_further(incomplete, &tables.unproved_rows, theorem, used)
 }

@@ -2,9 +2,11 @@
 
 ghost use Rattle.std.specs.Prelude.{◌≡◌, ◌↔◌, List, map, true, None, Ok, OnOk, IfOk, IfErr, IsTrue};
 ghost use Rattle.mm_text.specs.Statement.{PlainStatement, plain_statement, HasForm};
+ghost use Rattle.mm_text.specs.Token.{plain_token};
 ghost use Rattle.mm_text.specs.Files.{plain_file};
 ghost use Rattle.mm_text.specs.Reading.{Reads};
 ghost use Rattle.mm_text.specs.Remaining.{IsUnread};
+ghost use Rattle.mm_code.specs.Words.{texts_of};
 ghost use Rattle.mm_frame.specs.Sentence.{sentence_in, IsLabelled};
 ghost use Rattle.mm_check.specs.declared.ask.AskFault.TheVariants.{Memory};
 ghost use Rattle.mm_check.specs.Verdict.{CanBeRead, proof_of};
@@ -12,7 +14,7 @@ ghost use Rattle.mm_check.specs.Mirror.Judged.{TakesNext};
 ghost use Rattle.mm_check.specs.Shown.{Stands};
 
 use crate::ask::AskFault;
-use mm_text::{File, Seed, Statement, Statements, TextFault};
+use mm_text::{File, Seed, Statement, Statements, TextFault, Token};
 use std::alloc::{AllocError, Global};
 
 /// Whether a statement has a label.
@@ -26,7 +28,11 @@ pub(crate) fn has_label(statement: &Statement, label: &[u8]) -> bool
 }
 
 /// A reader of files that can be read.
-fn reader<'a>(alloc: Global, seed: Seed, files: &'a [File<'a>]) -> Result<Statements<'a>, AskFault>
+pub(crate) fn reader<'a>(
+    alloc: Global,
+    seed: Seed,
+    files: &'a [File<'a>],
+) -> Result<Statements<'a>, AskFault>
     requires { CanBeRead (map plain_file files.now) }
     ensures unread { IfOk result (IsUnread (map plain_file files.now)) }
     ensures memory { IfErr result (λ fault. fault ≡ Memory) }
@@ -40,7 +46,10 @@ fn reader<'a>(alloc: Global, seed: Seed, files: &'a [File<'a>]) -> Result<Statem
 }
 
 /// Reads the next statement of a text without a fault; `false` where there is none.
-fn next<'a>(statements: &mut Statements<'a>, into: &mut Statement<'a>) -> Result<bool, AskFault>
+pub(crate) fn next<'a>(
+    statements: &mut Statements<'a>,
+    into: &mut Statement<'a>,
+) -> Result<bool, AskFault>
     requires { statements.old.ending ≡ None }
     ensures taken { IfOk result (λ more.
         TakesNext statements.old more (plain_statement into.new) statements.new) }
@@ -106,8 +115,23 @@ pub(crate) fn reread<'a>(
     }
 }
 
-/// Reads the texts of the tokens of a statement's proof, in place of what the list held.
+/// Reads the texts of tokens, in place of what the list held.
 #[tactic(auto, using(std::proofs::lemmas::List::take_all, crate::proofs::Verdicts::JudgedProofs::texts_of))]
+pub(crate) fn read_texts<'a>(
+    texts: &mut Vec<&'a [u8]>,
+    tokens: &[Token<'a>],
+) -> Result<(), AllocError>
+    ensures { OnOk result (map (λ t. t.now) texts.new.items
+        ≡ texts_of (map plain_token tokens.now)) }
+{
+    texts.clear();
+    for token in tokens {
+        texts.push(token.text)?;
+    }
+    Ok(())
+}
+
+/// Reads the texts of the tokens of a statement's proof, in place of what the list held.
 pub(crate) fn read_proof<'a>(
     tokens: &mut Vec<&'a [u8]>,
     statement: &Statement<'a>,
@@ -115,11 +139,7 @@ pub(crate) fn read_proof<'a>(
     ensures { OnOk result (map (λ t. t.now) tokens.new.items
         ≡ proof_of (plain_statement statement.now)) }
 {
-    tokens.clear();
-    for token in &statement.proof {
-        tokens.push(token.text)?;
-    }
-    Ok(())
+    read_texts(tokens, &statement.proof)
 }
 
 /// The texts of the tokens of a statement's proof.

@@ -2,10 +2,13 @@
 
 ghost use Rattle.std.specs.Prelude.{◌≡◌, ◌↔◌, ◌⊎◌, ◌<◌, ◌≤◌, ◌+◌, ◌/◌, ◌++◌, [], ◌∷◌, ℕ, map};
 ghost use Rattle.std.specs.Prelude.{length, Contains, true, IfOk, OnOk, Some, slice_get};
-ghost use Rattle.std.specs.Prelude.{slice_index_or};
+ghost use Rattle.std.specs.Prelude.{slice_index_or, List, IsTrue};
 ghost use Rattle.mm_check.specs.Rests.{AreRising, AreInOrder, RestsOn};
 ghost use Rattle.mm_check.specs.Mirror.Bits.{has_bit as has_bit_at};
+ghost use Rattle.mm_check.specs.Conclusion.{ProofUses};
 ghost use Rattle.mm_check.specs.Mirror.Marks.{UsedIn, AreBackward};
+ghost use Rattle.mm_check.specs.Mirror.Shortening.{RestsNoFurther};
+ghost use Rattle.mm_check.specs.Mirror.Tables.{TellRests};
 
 use crate::bits::{has_bit, index_of, join, set_bit};
 use crate::kept::Kept;
@@ -164,4 +167,59 @@ pub(crate) fn reached(
         }
     }
     Ok(reached)
+}
+
+/// The word at an index; 0 where there is none.
+fn word_at(words: &[u64], at: usize) -> u64
+    ensures { result ≡ slice_index_or words.now at 0 }
+{
+    match words.get(at) {
+        Some(word) => *word,
+        None => 0,
+    }
+}
+
+/// Whether each number of a set is in the other one.
+fn is_within(row: &[u64], others: &[u64]) -> bool
+    ensures { IsTrue result → (n : ℕ) → has_bit_at row.now n ≡ true
+        → has_bit_at others.now n ≡ true }
+{
+    for at in 0..row.len() {
+        let word = row[at];
+        if word & word_at(others, at) != word {
+            return false;
+        }
+    }
+    true
+}
+
+/// Whether the index of a number is in a set, if it is one of these.
+fn is_entered(numbers: &[LabelId], row: &[u64], number: LabelId) -> bool
+    requires { AreRising (map (λ l. l.0) numbers.now) }
+    ensures { IsTrue result → (c : ℕ) → slice_get (map (λ l. l.0) numbers.now) c ≡ Some number.0
+        → has_bit_at row.now c ≡ true }
+{
+    match index_of(numbers, number) {
+        Some(at) => has_bit(row, at),
+        None => true,
+    }
+}
+
+/// Whether a theorem rests on each of these numbers that an assertion is or rests on.
+pub(crate) fn rests_no_further(
+    numbers: &[LabelId],
+    rows: &Rows,
+    theorem: LabelId,
+    used: LabelId,
+) -> bool
+    requires { AreRising (map (λ l. l.0) numbers.now) }
+    ensures { IsTrue result → (uses : List ProofUses)
+        → TellRests uses (map (λ l. l.0) numbers.now) rows.now
+        → RestsNoFurther uses (map (λ l. l.0) numbers.now) theorem.0 used.0 }
+{
+    let row = rows.row(theorem);
+    if !is_entered(numbers, row, used) {
+        return false;
+    }
+    is_within(rows.row(used), row)
 }

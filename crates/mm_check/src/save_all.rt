@@ -7,7 +7,7 @@ ghost use Rattle.mm_text.specs.Statement.{PlainStatement, plain_statement, HasFo
 ghost use Rattle.mm_text.specs.Files.{most_bytes, plain_file, total_bytes};
 ghost use Rattle.mm_frame.specs.Sentence.{sentence_in, IsLabelled};
 ghost use Rattle.mm_proof.specs.declared.profile.Profile.TheVariants.{Lenient};
-ghost use Rattle.mm_check.specs.Verdict.{AreAccepted, proof_of};
+ghost use Rattle.mm_check.specs.Verdict.{AreAccepted};
 ghost use Rattle.mm_check.specs.Saved.{FitsSaved, within_span};
 ghost use Rattle.mm_check.specs.AllSaved.{IsAllSaved, IsReplacement, IsSavingAllFault};
 ghost use Rattle.mm_check.specs.Mirror.AllSaving.{IsTheoremAmong, IsTheoremFault, replacement};
@@ -20,27 +20,26 @@ use crate::fault::{CheckFault, Stop};
 use crate::form::Form;
 use crate::forms::span_text;
 use crate::judge::Judged;
-use crate::reread::read_proof;
 use crate::rewrite::most_for;
 use crate::rule::AskRule;
 use crate::save_fault::SaveFault;
-use crate::theorem::theorem_of;
+use crate::theorem::read_theorem;
 use crate::verdict::judge_files;
 use crate::visitor::Visitor;
 use mm_frame::{Book, LabelId};
-use mm_proof::Profile;
+use mm_proof::{Profile, StepsReader};
 use mm_text::{File, Seed, Statement};
 use std::alloc::{AllocError, Global};
 
 /// A file that is written anew on the way through its database, up to a position in its bytes.
 #[derive(Drop)]
-struct NewFile<'a> {
+pub(crate) struct NewFile<'a> {
     /// Its number among the handed files.
     number: usize,
     /// The form in which its proofs are written.
     form: Form,
     /// The bytes of the file as it is.
-    source: &'a [u8],
+    pub(crate) source: &'a [u8],
     /// How many of them were taken.
     taken: usize,
     /// What stands in their place. Nothing is appended past the size limit.
@@ -52,8 +51,8 @@ struct NewFile<'a> {
     too_long: Option<&'a [u8]>,
     /// From where memory comes.
     alloc: Global,
-    /// The tokens of the proof that is written, in a list that is used again.
-    tokens: Vec<&'a [u8]>,
+    /// What reads the proofs that are written, in lists that are used again.
+    reader: StepsReader<'a>,
 }
 
 /// Puts bytes after others, unless those are more than `most` already.
@@ -68,7 +67,7 @@ fn append(most: usize, bytes: &mut Vec<u8>, part: &[u8]) -> Result<(), AllocErro
 
 /// The file with a number, nothing of which was taken yet. There is room for an eighth more bytes
 /// than it has.
-fn new_file<'a>(
+pub(crate) fn new_file<'a>(
     alloc: Global,
     files: &'a [File<'a>],
     number: usize,
@@ -91,12 +90,12 @@ fn new_file<'a>(
         most: most_for(files, number),
         too_long: None,
         alloc,
-        tokens: Vec::new(alloc),
+        reader: StepsReader::new(alloc),
     })
 }
 
 /// The label of a `$p`.
-fn label_of<'a>(statement: &Statement<'a>) -> &'a [u8]
+pub(crate) fn label_of<'a>(statement: &Statement<'a>) -> &'a [u8]
     requires formed { HasForm (plain_statement statement.now) }
     requires provable { statement.now.kind ≡ Provable }
     ensures { IsLabelled result.now (sentence_in statement.now) }
@@ -108,18 +107,17 @@ fn label_of<'a>(statement: &Statement<'a>) -> &'a [u8]
     }
 }
 
-/// What is put in place of the old bytes of a theorem's proof in a form. Its tokens are these.
+/// What is put in place of the old bytes of a theorem's proof in a form.
 fn text_of<'a>(
+    reader: &mut StepsReader<'a>,
     alloc: Global,
     form: Form,
     book: &Book<'a>,
     id: LabelId,
     statement: &Statement<'a>,
-    tokens: &[&'a [u8]],
     old: &[u8],
 ) -> Result<Vec<u8>, AskFault>
     requires theorem { IsTheoremAmong book.now.statements id.0 (plain_statement statement.now) }
-    requires tokens { map (λ t. t.now) tokens.now ≡ proof_of (plain_statement statement.now) }
     requires formed { HasForm (plain_statement statement.now) }
     ensures text { IfOk result (λ text. (bytes : List ℕ)
         (theorem : IsTheoremAmong book.now.statements id.0 (plain_statement statement.now))
@@ -129,7 +127,7 @@ fn text_of<'a>(
     ensures fault { IfErr result (IsTheoremFault form book.now.statements id.0
         (plain_statement statement.now)) }
 {
-    let theorem = theorem_of(alloc, Profile::Lenient, book, id, statement, tokens)?;
+    let theorem = read_theorem(reader, alloc, Profile::Lenient, book, id, statement)?;
     span_text(alloc, book, &theorem, form, old)
 }
 
@@ -143,7 +141,7 @@ impl<'a> NewFile<'a> {
     }
 
     /// Takes the bytes up to a span, and puts a text in place of the span.
-    fn put(&mut self, span: (u32, u32), text: &[u8]) -> Result<(), AllocError>
+    pub(crate) fn put(&mut self, span: (u32, u32), text: &[u8]) -> Result<(), AllocError>
         requires after { self.old.taken ≤ span.0 }
         requires order { span.0 ≤ span.1 }
         requires within { span.1 ≤ length self.old.source.now }
@@ -174,15 +172,14 @@ impl<'a> NewFile<'a> {
             (plain_statement statement.now) self.new ⊎ KeepsLabel book.now.statements id.0 self.old
             (plain_statement statement.now) self.new) }
     {
-        read_proof(&mut self.tokens, statement)?;
         let old = &self.source[statement.span.0 as usize..statement.span.1 as usize];
         match text_of(
+            &mut self.reader,
             self.alloc,
             self.form,
             book,
             id,
             statement,
-            &self.tokens,
             old,
         ) {
             Ok(text) => self.put(statement.span, &text),
@@ -197,7 +194,7 @@ impl<'a> NewFile<'a> {
     }
 
     /// The whole file, once all statements were judged: what wasn't taken is kept.
-    fn finish(self) -> Result<Vec<u8>, AskFault>
+    pub(crate) fn finish(self) -> Result<Vec<u8>, AskFault>
         requires { self.taken ≤ length self.source.now }
         ensures whole { IfOk result (λ new. IsWhole self.entry new.items) }
         ensures fits { IfOk result (λ new. length new.items ≤ self.entry.most) }

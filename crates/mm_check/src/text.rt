@@ -1,12 +1,13 @@
 //! A proof's text that is handed in, and its tokens.
 
-ghost use Rattle.std.specs.Prelude.{◌≡◌, ◌<◌, ◌≤◌, ◌==◌, take, length, slice_index, true};
+ghost use Rattle.std.specs.Prelude.{◌≡◌, ◌<◌, ◌≤◌, ◌==◌, map, take, length, slice_index, true};
 ghost use Rattle.std.specs.Prelude.{IfOk, IfErr};
 ghost use Rattle.std.specs.List.{list_any, list_all, sum_by};
-ghost use Rattle.mm_text.specs.Token.{is_printable, is_space as is_white_space};
+ghost use Rattle.mm_text.specs.Token.{is_printable, is_space as is_white_space, plain_token};
+ghost use Rattle.mm_text.specs.Token.{tokens_from};
 ghost use Rattle.mm_text.specs.Files.{most_bytes};
 ghost use Rattle.mm_code.specs.Layout.{texts};
-ghost use Rattle.mm_code.specs.Words.{tokens_in, LacksWhiteSpace};
+ghost use Rattle.mm_code.specs.Words.{texts_of, tokens_in, LacksWhiteSpace};
 ghost use Rattle.mm_proof.specs.Tokens.{is_incomplete};
 ghost use Rattle.mm_check.specs.Compared.{are_printable, hold_dollar, IsProofText};
 ghost use Rattle.mm_check.specs.Alone.{HasProofTokens};
@@ -14,9 +15,10 @@ ghost use Rattle.mm_check.specs.Mirror.Comparisons.{IsIllegal};
 ghost use Rattle.mm_check.specs.Mirror.Reached.{HasNoTokens};
 
 use crate::ask::AskFault;
+use crate::reread::read_texts;
 use crate::rule::{AskRule, Rule};
 use mm_proof::is_unknown;
-use mm_text::{BYTE_LIMIT, LoadRule, TextRule};
+use mm_text::{BYTE_LIMIT, LoadRule, TextRule, Token};
 use std::alloc::{AllocError, Global};
 
 /// Whether a byte is white space.
@@ -41,11 +43,14 @@ fn word_len(text: &[u8]) -> usize
     text.len()
 }
 
-/// The tokens of a text: its longest runs of bytes that aren't white space.
-fn tokens_of<'a>(alloc: Global, text: &'a [u8]) -> Result<Vec<&'a [u8]>, AllocError>
-    ensures tokens { IfOk result (λ tokens. texts tokens.items ≡ tokens_in text.now) }
-    ensures room { IfOk result (λ tokens. sum_by length (texts tokens.items)
-        ≤ length text.now) }
+/// The tokens of a text, its longest runs of bytes that aren't white space, each with the position
+/// of its first byte.
+pub(crate) fn placed_tokens<'a>(alloc: Global, text: &'a [u8]) -> Result<Vec<Token<'a>>, AllocError>
+    requires { length text.now ≤ most_bytes }
+    ensures tokens { IfOk result (λ tokens. map plain_token tokens.items
+        ≡ tokens_from 0 0 text.now) }
+    ensures room { IfOk result (λ tokens.
+        sum_by length (texts_of (map plain_token tokens.items)) ≤ length text.now) }
 {
     let mut tokens = Vec::new(alloc);
     let mut rest = text;
@@ -53,11 +58,29 @@ fn tokens_of<'a>(alloc: Global, text: &'a [u8]) -> Result<Vec<&'a [u8]>, AllocEr
         if is_space(*first) {
             rest = others;
         } else {
-            let (token, after) = rest.split_at(word_len(rest));
-            tokens.push(token)?;
+            let at = text.len() - rest.len();
+            let (word, after) = rest.split_at(word_len(rest));
+            tokens.push(Token {
+                text: word,
+                file: 0,
+                at: at as u32,
+            })?;
             rest = after;
         }
     }
+    Ok(tokens)
+}
+
+/// The texts of the tokens of a text.
+fn tokens_of<'a>(alloc: Global, text: &'a [u8]) -> Result<Vec<&'a [u8]>, AllocError>
+    requires { length text.now ≤ most_bytes }
+    ensures tokens { IfOk result (λ tokens. texts tokens.items ≡ tokens_in text.now) }
+    ensures room { IfOk result (λ tokens. sum_by length (texts tokens.items)
+        ≤ length text.now) }
+{
+    let placed = placed_tokens(alloc, text)?;
+    let mut tokens = Vec::with_capacity(alloc, placed.len())?;
+    read_texts(&mut tokens, &placed)?;
     Ok(tokens)
 }
 

@@ -6,11 +6,12 @@ ghost use Rattle.mm_text.specs.Files.{most_bytes};
 ghost use Rattle.mm_proof.specs.Parsed.{OfProof, SaySteps};
 ghost use Rattle.mm_proof.specs.Steps.{AreSteps};
 ghost use Rattle.mm_check.specs.declared.ask.AskFault.TheVariants.{Memory};
+ghost use Rattle.mm_check.specs.Verdict.{proof_of};
 ghost use Rattle.mm_check.specs.Mirror.Theorems.{IsProofOf, AreProvedSteps, SayStepsOf};
 
 use crate::ask::AskFault;
 use mm_frame::{Book, LabelId};
-use mm_proof::{Parsed, Profile, ProofFault, Steps};
+use mm_proof::{Parsed, Profile, ProofFault, Steps, StepsReader};
 use mm_text::Statement;
 use std::alloc::Global;
 
@@ -75,6 +76,66 @@ pub(crate) fn theorem_of(
     ensures memory { IfErr result (λ fault. fault ≡ Memory) }
 {
     let steps = steps_of(alloc, profile, book, id, tokens)?;
+    Ok(Theorem {
+        id,
+        steps,
+        file: statement.first.file,
+        span: statement.span,
+    })
+}
+
+/// The steps of a `$p`, whose complete proof has no fault in the profile, by a reader of one proof
+/// after the other.
+fn read_steps<'a>(
+    reader: &mut StepsReader<'a>,
+    alloc: Global,
+    profile: Profile,
+    book: &Book,
+    id: LabelId,
+    statement: &Statement<'a>,
+) -> Result<Steps, AskFault>
+    requires proof { IsProofOf profile book.now.statements id.0
+        (proof_of (plain_statement statement.now)) }
+    requires room { sum_by length (proof_of (plain_statement statement.now)) ≤ most_bytes }
+    ensures said { IfOk result (λ steps. OfProof book.now.statements id.0 (λ index s.
+        SaySteps book.now.statements index s (proof_of (plain_statement statement.now))
+        steps.moves)) }
+    ensures usable { IfOk result (λ steps. AreSteps book.now.statements id.0 steps.moves) }
+    ensures profile { IfOk result (λ steps. steps.profile ≡ profile) }
+    ensures whole { IfOk result (λ steps. steps.prefix ≡ false) }
+    ensures memory { IfErr result (λ fault. fault ≡ Memory) }
+{
+    match reader.read(alloc, profile, book, id, &statement.proof) {
+        Ok(steps) => Ok(steps),
+        Err(ProofFault::Memory) => Err(AskFault::Memory),
+        // `check` accepted the proof under this profile.
+        Err(ProofFault::Rule { .. }) => unreachable!(),
+    }
+}
+
+/// The same as `theorem_of` answers, by a reader of one proof after the other.
+pub(crate) fn read_theorem<'a>(
+    reader: &mut StepsReader<'a>,
+    alloc: Global,
+    profile: Profile,
+    book: &Book,
+    id: LabelId,
+    statement: &Statement<'a>,
+) -> Result<Theorem, AskFault>
+    requires proof { IsProofOf profile book.now.statements id.0
+        (proof_of (plain_statement statement.now)) }
+    requires room { sum_by length (proof_of (plain_statement statement.now)) ≤ most_bytes }
+    ensures id { IfOk result (λ theorem. theorem.id.0 ≡ id.0) }
+    ensures said { IfOk result (λ theorem. SayStepsOf book.now.statements theorem.id.0
+        (proof_of (plain_statement statement.now)) theorem.steps.moves) }
+    ensures usable { IfOk result (λ theorem.
+        AreSteps book.now.statements theorem.id.0 theorem.steps.moves) }
+    ensures proved { IfOk result (λ theorem.
+        AreProvedSteps book.now.statements theorem.id.0 theorem.steps) }
+    ensures whole { IfOk result (λ theorem. theorem.steps.prefix ≡ false) }
+    ensures memory { IfErr result (λ fault. fault ≡ Memory) }
+{
+    let steps = read_steps(reader, alloc, profile, book, id, statement)?;
     Ok(Theorem {
         id,
         steps,

@@ -1,28 +1,36 @@
 //! Whether a text is a proof of a theorem, whatever stands in its file as its proof.
 
-ghost use Rattle.std.specs.Prelude.{◌≡◌, ◌≤◌, ℕ, length, take, IfOk, IfErr};
+ghost use Rattle.std.specs.Prelude.{◌≡◌, ◌≤◌, ℕ, List, length, take, IfOk, IfErr};
 ghost use Rattle.std.specs.List.{sum_by};
-ghost use Rattle.mm_text.specs.Files.{most_bytes};
+ghost use Rattle.mm_text.specs.Files.{most_bytes, plain_file};
 ghost use Rattle.mm_code.specs.Layout.{texts};
+ghost use Rattle.mm_code.specs.Words.{tokens_in};
 ghost use Rattle.mm_frame.specs.Sentence.{Sentence};
 ghost use Rattle.mm_proof.specs.Answer.{OnRule};
+ghost use Rattle.mm_proof.specs.declared.fault.ProofRule.{ProofRule};
+ghost use Rattle.mm_proof.specs.declared.profile.Profile.{Profile};
 ghost use Rattle.mm_proof.specs.declared.profile.Profile.TheVariants.{Lenient};
 ghost use Rattle.mm_proof.specs.Parsed.{OfProof, SaySteps};
 ghost use Rattle.mm_proof.specs.Steps.{AreSteps, IsProofNumber};
 ghost use Rattle.mm_proof.specs.Tokens.{is_incomplete};
 ghost use Rattle.mm_check.specs.Explained.{judged_tokens};
 ghost use Rattle.mm_check.specs.Explained.{IsTokensFault};
+ghost use Rattle.mm_check.specs.Mirror.Explaining.{IsCauseOf};
 ghost use Rattle.mm_check.specs.Mirror.Reached.{AreTried};
 ghost use Rattle.mm_check.specs.Reply.{IsTokensReply, IsTriedFault, IsTriedPrefix, IsTryReply};
 ghost use Rattle.mm_check.specs.Status.{number_of};
+ghost use Rattle.mm_check.specs.Why.{IsTextPlace};
 
-use crate::details::{push_details, push_left_over};
+use crate::details::{Cause, cause_of, push_cause, push_left_over};
+use crate::fault_places::place_among;
 use crate::question::{Reply, ask_reply, refused_text, text_status};
 use crate::rule::{AskRule, Rule};
 use crate::status::Status;
-use crate::text::handed_tokens;
+use crate::text::{handed_tokens, placed_tokens};
+use crate::why::push_head_at;
 use mm_frame::{Book, LabelId};
 use mm_proof::{Flat, Parsed, Profile, ProofFault, ProofRule, Proved, Steps, verify};
+use mm_text::File;
 use std::alloc::{AllocError, Global};
 
 /// The steps that the tokens say as a proof of the `$p` with the number, or that their known prefix
@@ -100,43 +108,77 @@ fn prefix_reply(
     })
 }
 
-/// The reply where the tokens have this first fault: the fault, and the facts that explain it.
+/// The position of the first fault of the tokens of a text among its bytes, by its cause.
+fn place_in(
+    alloc: Global,
+    text: &[u8],
+    tokens: &[&[u8]],
+    cause: &Cause,
+) -> Result<usize, AllocError>
+    requires tokens { texts tokens.now ≡ tokens_in text.now }
+    requires size { length text.now ≤ most_bytes }
+    requires room { sum_by length (texts tokens.now) ≤ most_bytes }
+    requires cause { (profile : Profile) × (statements : List Sentence) × (id : ℕ) × (index : ℕ)
+        × (s : Sentence) × (rule : ProofRule) × (step : ℕ) × IsProofNumber statements id index s
+        × IsCauseOf profile statements id (texts tokens.now) rule step cause.now }
+    ensures { IfOk result (λ at. (profile : Profile) (statements : List Sentence) (id : ℕ)
+        (index : ℕ) (s : Sentence) (rule : ProofRule) (step : ℕ)
+        → IsProofNumber statements id index s
+        → IsCauseOf profile statements id (texts tokens.now) rule step cause.now
+        → IsTextPlace profile (take index statements) s text.now rule step at) }
+{
+    let placed = placed_tokens(alloc, text)?;
+    Ok(place_among(&placed, text.len(), tokens, cause))
+}
+
+/// The reply where the tokens of the text in a file have this first fault: the fault, and what
+/// explains it, with its place in that file.
 fn fault_reply(
     alloc: Global,
     book: &Book,
     id: LabelId,
+    proof: &File,
     tokens: &[&[u8]],
     fault: (ProofRule, usize),
 ) -> Result<Reply, AllocError>
     requires proof { (index : ℕ) × (s : Sentence) × IsProofNumber book.now.statements id.0 index s }
+    requires tokens { texts tokens.now ≡ tokens_in proof.now.bytes.now }
+    requires size { length proof.now.bytes.now ≤ most_bytes }
     requires room { sum_by length (texts tokens.now) ≤ most_bytes }
     requires fault { OfProof book.now.statements id.0 (λ index s.
         IsTokensFault Lenient (take index book.now.statements) s (texts tokens.now) fault.0
         fault.1) }
     ensures { IfOk result (λ reply. OfProof book.now.statements id.0 (λ index s.
-        IsTriedFault (take index book.now.statements) s (texts tokens.now) reply.text.items
+        IsTriedFault (plain_file proof.now) (take index book.now.statements) s reply.text.items
         (number_of reply.status))) }
 {
+    let profile = Profile::Lenient;
     let rule = Rule::Proof(fault.0);
+    let cause = cause_of(alloc, profile, book, id, tokens, fault)?;
+    let at = place_in(alloc, proof.bytes, tokens, &cause)?;
     let mut text = refused_text(alloc, rule, fault.1)?;
-    push_details(&mut text, alloc, Profile::Lenient, book, id, tokens, fault)?;
+    push_head_at(&mut text, &[*proof], (0, at), (rule, fault.1), None)?;
+    push_cause(&mut text, alloc, profile, book, id, &cause, fault.0)?;
     Ok(Reply {
         text,
         status: text_status(rule),
     })
 }
 
-/// The reply what the tokens are as a proof of the `$p` with the number.
+/// The reply what the tokens of the text in a file are as a proof of the `$p` with the number.
 fn tokens_reply(
     alloc: Global,
     book: &Book,
     id: LabelId,
+    proof: &File,
     tokens: &[&[u8]],
 ) -> Result<Reply, AllocError>
     requires proof { (index : ℕ) × (s : Sentence) × IsProofNumber book.now.statements id.0 index s }
+    requires tokens { texts tokens.now ≡ tokens_in proof.now.bytes.now }
+    requires size { length proof.now.bytes.now ≤ most_bytes }
     requires room { sum_by length (texts tokens.now) ≤ most_bytes }
     ensures { IfOk result (λ reply. OfProof book.now.statements id.0 (λ index s.
-        IsTokensReply (take index book.now.statements) s (texts tokens.now) reply.text.items
+        IsTokensReply (plain_file proof.now) (take index book.now.statements) s reply.text.items
         (number_of reply.status))) }
 {
     match try_tokens(alloc, book, id, tokens) {
@@ -145,25 +187,27 @@ fn tokens_reply(
             status: Status::Done,
         }),
         Ok(Proved::Incomplete) => prefix_reply(alloc, book, id, tokens),
-        Err(ProofFault::Rule { rule, step }) => fault_reply(alloc, book, id, tokens, (rule, step)),
+        Err(ProofFault::Rule { rule, step }) => {
+            fault_reply(alloc, book, id, proof, tokens, (rule, step))
+        }
         Err(ProofFault::Memory) => Err(AllocError),
     }
 }
 
-/// The reply whether a text is a proof of the `$p` with the number.
+/// The reply whether the text in a file is a proof of the `$p` with the number.
 pub(crate) fn try_reply(
     alloc: Global,
     book: &Book,
     id: LabelId,
-    proof: &[u8],
+    proof: &File,
 ) -> Result<Reply, AllocError>
     requires { (index : ℕ) × (s : Sentence) × IsProofNumber book.now.statements id.0 index s }
     ensures { IfOk result (λ reply. OfProof book.now.statements id.0 (λ index s.
-        IsTryReply proof.now (take index book.now.statements) s reply.text.items
+        IsTryReply (plain_file proof.now) (take index book.now.statements) s reply.text.items
         (number_of reply.status))) }
 {
-    match handed_tokens(alloc, proof) {
-        Ok(tokens) => tokens_reply(alloc, book, id, &tokens),
+    match handed_tokens(alloc, proof.bytes) {
+        Ok(tokens) => tokens_reply(alloc, book, id, proof, &tokens),
         // A fault of the text alone, which tells no label.
         Err(fault) => ask_reply(alloc, b"", fault),
     }

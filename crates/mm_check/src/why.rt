@@ -14,7 +14,8 @@ ghost use Rattle.mm_check.specs.Verdict.{CanBeRead, HasVerdict};
 ghost use Rattle.mm_check.specs.Answer.{plain_refusal, verdict_of_conclusion};
 ghost use Rattle.mm_check.specs.Status.{number_of};
 ghost use Rattle.mm_check.specs.Why.{owner_words as owner_words_of, owner_text, step_text};
-ghost use Rattle.mm_check.specs.Why.{head_text, IsExplanation, IsLastExplanation, is_of_proofs};
+ghost use Rattle.mm_check.specs.Why.{head_at, head_text, IsExplanation, IsLastExplanation};
+ghost use Rattle.mm_check.specs.Why.{is_of_proofs};
 ghost use Rattle.mm_check.specs.Why.{most_explained, more_text, count_text};
 ghost use Rattle.mm_check.specs.Reply.{refusal_status};
 ghost use Rattle.mm_check.specs.Explained.{details_text};
@@ -81,14 +82,14 @@ fn owner_words(rule: Rule) -> &'static [u8]
     }
 }
 
-/// Puts at the end in what a fault is, with the statement's label; nothing where no label was read.
-fn push_owner(out: &mut Vec<u8>, refusal: &Refusal) -> Result<(), AllocError>
+/// Puts at the end in what a fault is, with the statement's label; nothing where there is none.
+fn push_owner(out: &mut Vec<u8>, rule: Rule, label: Option<&[u8]>) -> Result<(), AllocError>
     ensures { OnOk result (out.new.items ≡ out.old.items
-        ++ owner_text refusal.now.rule (plain_refusal refusal.now).label) }
+        ++ owner_text rule (option_map (λ l. l.now) label.entry)) }
 {
-    match refusal.label {
+    match label {
         Some(label) => {
-            out.extend_from_slice(owner_words(refusal.rule))?;
+            out.extend_from_slice(owner_words(rule))?;
             out.extend_from_slice(label)
         }
         None => Ok(()),
@@ -106,8 +107,32 @@ fn push_step(out: &mut Vec<u8>, step: usize) -> Result<(), AllocError>
     push_decimal(out, step)
 }
 
-/// Puts the first line of an explanation at the end, with the place of a position.
+/// Puts the first line of an explanation at the end, with the place of a position in a file, and
+/// with the rule and the step of the fault.
 #[tactic(auto, using(crate::proofs::Explanations::eight_parts))]
+pub(crate) fn push_head_at(
+    out: &mut Vec<u8>,
+    files: &[File],
+    position: (usize, usize),
+    fault: (Rule, usize),
+    label: Option<&[u8]>,
+) -> Result<(), AllocError>
+    ensures { OnOk result (out.new.items ≡ out.old.items
+        ++ head_at (map plain_file files.now) position.0 position.1 fault.0
+        (option_map (λ l. l.now) label.entry) fault.1) }
+{
+    push_place(out, files, place_of(files, position.0, position.1))?;
+    out.extend_from_slice(b": ")?;
+    out.extend_from_slice(fault.0.code())?;
+    out.extend_from_slice(b": ")?;
+    out.extend_from_slice(meaning(fault.0))?;
+    push_owner(out, fault.0, label)?;
+    push_step(out, fault.1)?;
+    out.push(b'\n')?;
+    Ok(())
+}
+
+/// Puts that of a refusal at the end, with the place of a position in its file.
 pub(crate) fn push_head(
     out: &mut Vec<u8>,
     files: &[File],
@@ -117,15 +142,9 @@ pub(crate) fn push_head(
     ensures { OnOk result (out.new.items ≡ out.old.items
         ++ head_text (map plain_file files.now) at (plain_refusal refusal.now)) }
 {
-    push_place(out, files, place_of(files, refusal.file, at))?;
-    out.extend_from_slice(b": ")?;
-    out.extend_from_slice(refusal.rule.code())?;
-    out.extend_from_slice(b": ")?;
-    out.extend_from_slice(meaning(refusal.rule))?;
-    push_owner(out, refusal)?;
-    push_step(out, refusal.step)?;
-    out.push(b'\n')?;
-    Ok(())
+    let position = (refusal.file, at);
+    let fault = (refusal.rule, refusal.step);
+    push_head_at(out, files, position, fault, refusal.label)
 }
 
 /// Puts at the end how many faults of proofs aren't explained, if there are such.

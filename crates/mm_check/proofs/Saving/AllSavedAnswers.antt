@@ -1,7 +1,7 @@
 -- Of a file whose proofs are all saved one answer is due, and these proofs have the strict form.
 use Rattle.std.proofs.Common.{◌≡◌, ℕ, suc, ◌<◌, ◌≤◌, List, [], ◌∷◌, ◌++◌, take, drop, length, ◌⊎◌}
 use Rattle.std.proofs.Common.{slice_get, Contains, true, Some, None, inl, inr, refl, sym, ap, subst}
-use Rattle.std.proofs.Common.{◌∙◌, ◌-◌, arith, Bool, false, not, ◌&&◌, min}
+use Rattle.std.proofs.Common.{◌∙◌, ◌-◌, arith, Bool, false, not, ◌&&◌}
 use Rattle.std.specs.List.{AllZip, AllByRecursion}
 use Rattle.std.proofs.lemmas.Bool.{cases_lt}
 use Rattle.std.proofs.lemmas.List.Elements.{recursion_from_All, All-contains_itself}
@@ -52,7 +52,8 @@ use Rattle.mm_check.specs.declared.form.Form.TheVariants.{Packed}
 use Rattle.mm_check.proofs.Numbers.{holds_cons}
 use Rattle.mm_check.proofs.Verdicts.AlikeVerdicts.{moved}
 use Rattle.mm_check.proofs.Verdicts.StatementByStatement.{none_incomplete}
-use Rattle.mm_check.proofs.Saving.AllSavedFiles.{IsSavedAs, saved_as_at, AreAllPut, are_all_put}
+use Rattle.mm_check.proofs.Saving.AllSavedFiles.{IsSavedAs, AreAllPut, are_all_put}
+use Rattle.mm_check.proofs.Saving.OtherStatements.{along_at}
 use Rattle.mm_check.specs.declared.form.Form.TheVariants as form
 use Rattle.mm_check.specs.declared.ask.AskFault.TheVariants as ask
 
@@ -362,7 +363,8 @@ all_saved_proofs_are_strict profile f files statements same number bytes accepte
     (same_reading (with_bytes files number bytes) same put.same None None reads
     put.accepted.reads).0 in
     let there = ap (λ (ss : List PlainStatement). slice_get ss index) (sym read) ∙ theorem.there in
-    let (t, here, saved) = saved_as_at f number [] statements put.same put.each index s there in
+    let (t, here, saved) =
+    along_at (IsSavedAs f number) [] statements put.same put.each index s there in
     elim (saved.strict (theorem_there number s theorem.complete home)) [
       | inl strict ↦ inl (rw read strict)
       | inr kept ↦ inr (kept.0, t, here, kept.1)
@@ -408,7 +410,7 @@ strict_with : (P : ℕ → Type 0) (profile : Profile) (files : List PlainFile)
     → AreStrictIn (λ n. P n ⊎ (n ≡ number)) put.same
 strict_with P profile files statements number bytes news put strict index t there complete so =
     let (s, here, saved) =
-    saved_as_at Packed number [] statements put.same put.each index t there in
+    along_at (IsSavedAs Packed number) [] statements put.same put.each index t there in
     elim so [
       | inl old ↦ kept_strict P statements put.same number index s t put.alike.to.told strict here
           saved complete old (is_theorem_of number t) refl

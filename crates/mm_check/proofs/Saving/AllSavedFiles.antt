@@ -1,9 +1,8 @@
 -- Files in which the proofs of all theorems of one file are put in, from the last one to the first;
 -- doing so again changes nothing.
-use Rattle.std.proofs.Common.{◌≡◌, ℕ, zero, suc, ◌+◌, List, [], ◌∷◌, ◌++◌, map, take, length, cond}
+use Rattle.std.proofs.Common.{◌≡◌, ℕ, ◌+◌, List, [], ◌∷◌, ◌++◌, map, take, length, cond}
 use Rattle.std.proofs.Common.{slice_get, Bool, true, false, Some, None, refl, sym, ap, subst, ◌∙◌}
-use Rattle.std.proofs.Common.{append_assoc, append-nil, length-append, Contains, ◌⊎◌, inl, inr}
-use Rattle.std.proofs.Common.{arith}
+use Rattle.std.proofs.Common.{append_assoc, length-append, Contains, ◌⊎◌, inl, inr}
 use Rattle.std.specs.List.{AllZip, AllByRecursion}
 use Rattle.std.proofs.Math.Seq.{take-append_seam}
 use Rattle.std.proofs.lemmas.List.{map-append}
@@ -11,7 +10,7 @@ use Rattle.mm_text.specs.Statement.{PlainStatement}
 use Rattle.mm_text.specs.Files.{PlainFile}
 use Rattle.mm_text.specs.Reading.{Reads}
 use Rattle.mm_text.specs.Replaced.{placeless, with_span, with_bytes}
-use Rattle.mm_text.proofs.Lists.{cons_parts, get_parted, all_filtered, at_from_contains, zip_weaker}
+use Rattle.mm_text.proofs.Lists.{get_parted, all_filtered, at_from_contains, zip_weaker}
 use Rattle.mm_text.proofs.Lists.{zip_on}
 use Rattle.mm_frame.specs.Sentence.{Sentence, sentence_of}
 use Rattle.mm_frame.proofs.Rules.ObeyedRules.{one_label}
@@ -29,14 +28,15 @@ use Rattle.mm_check.proofs.Saving.FileSpans.{theorem_home, theorem_there, theore
 use Rattle.mm_check.proofs.Saving.FileSpans.{theorems_parted, theorems_passed, Slot, filled}
 use Rattle.mm_check.proofs.Saving.FileSpans.{HasSlots, slots_put_anew, theorems_zip, replaced_by}
 use Rattle.mm_check.proofs.Saving.FileSpans.{woven, IsCut, all_filled, cut_into_slots}
-use Rattle.mm_check.proofs.Saving.FileSpans.{slots_within, spans_rise}
+use Rattle.mm_check.proofs.Saving.FileSpans.{slots_within}
 use Rattle.mm_check.proofs.Verdicts.AcceptedStatements.{said_there, same_reading, one_stands}
 use Rattle.mm_check.proofs.Verdicts.StatementByStatement.{all_meant}
 use Rattle.mm_check.proofs.Saving.SavedFiles.{nowhere, IsKept, readable_anew, handed_anew}
 use Rattle.mm_check.proofs.Saving.SavedFiles.{with_bytes_again, with_bytes_own, SayAlike}
 use Rattle.mm_check.proofs.Saving.SavedFiles.{say_themselves, say_on, said_same, Carries}
 use Rattle.mm_check.proofs.Saving.SpanTexts.{span_text_again}
-use Rattle.mm_check.proofs.Saving.ReplacedSpans.{rise_behind, spans_within, within_kept}
+use Rattle.mm_check.proofs.Saving.ReplacedSpans.{same_within}
+use Rattle.mm_check.proofs.Saving.OtherStatements.{AllAlong, all_along_moved}
 use Rattle.mm_check.proofs.Saving.SavedOnce.{IsToPut, to_put, anew, are_put_anew, read_anew}
 use Rattle.mm_check.proofs.Saving.SavedOnce.{put_says_alike, HasText, text_carried, one_all_saved}
 use Rattle.std.proofs.lemmas.List.Elements.{recursion_from_All, All-contains_itself}
@@ -60,11 +60,7 @@ pub record IsSavedAs (f : Form) (number : ℕ) (prefix : List Sentence)
 
 -- each is, behind those before it
 abbrev pub AreSavedAs : Form → ℕ → List Sentence → (after later : List PlainStatement) → Type 0
-AreSavedAs f number prefix [] [] = Unit {0}
-AreSavedAs f number prefix [] (t ∷ later) = ⊥
-AreSavedAs f number prefix (s ∷ after) [] = ⊥
-AreSavedAs f number prefix (s ∷ after) (t ∷ later) =
-    IsSavedAs f number prefix s t × AreSavedAs f number (prefix ++ sentence_of t ∷ []) after later
+AreSavedAs f number prefix after later = AllAlong (IsSavedAs f number) prefix after later
 
 saved_as_moved : (f : Form) (number : ℕ) (prefix : List Sentence) (s t u : PlainStatement)
     → placeless t ≡ placeless u → IsSavedAs f number prefix s t → IsSavedAs f number prefix s u
@@ -82,36 +78,6 @@ saved_as_moved f number prefix s t u same saved =
       ];
       kept = λ is. saved.kept (theorem ∙ is) ∙ proof;
     }
-
-all_saved_as_moved : (f : Form) (number : ℕ) (prefix : List Sentence)
-    (after later last : List PlainStatement) → map placeless later ≡ map placeless last
-    → AreSavedAs f number prefix after later → AreSavedAs f number prefix after last
-all_saved_as_moved f number prefix [] [] [] same all = tt
-all_saved_as_moved f number prefix [] [] (u ∷ last) same all = absurd cc
-all_saved_as_moved f number prefix (s ∷ after) (t ∷ later) [] same all = absurd cc
-all_saved_as_moved f number prefix (s ∷ after) (t ∷ later) (u ∷ last) same all =
-    let (first, rest) = cons_parts (placeless t) (placeless u) (map placeless later)
-    (map placeless last) same in
-    let moved = all_saved_as_moved f number _ after later last rest all.1 in (
-      saved_as_moved f number prefix s t u first all.0,
-      rw (← same_sentence nowhere nowhere t u first) moved,
-    )
-all_saved_as_moved f number prefix after later last same all = absurd all
-
--- the one at an index
-pub saved_as_at : (f : Form) (number : ℕ) (prefix : List Sentence)
-    (after later : List PlainStatement) → AreSavedAs f number prefix after later → (index : ℕ)
-    (t : PlainStatement) → slice_get later index ≡ Some t
-    → (s : PlainStatement) × (slice_get after index ≡ Some s)
-    × IsSavedAs f number (prefix ++ sentences (take index later)) s t
-saved_as_at f number prefix [] [] all index t there = absurd cc
-saved_as_at f number prefix (s ∷ after) (u ∷ later) all zero t there =
-    let same : u ≡ t = cc in
-    (s, refl, rw (append-nil prefix, ← same) all.0)
-saved_as_at f number prefix (s ∷ after) (u ∷ later) all (suc index) t there =
-    let (v, here, saved) = saved_as_at f number _ after later all.1 index t there in
-    (v, here, rw append_assoc at saved)
-saved_as_at f number prefix after later all index t there = absurd all
 
 -- ---- the proofs behind some statements
 
@@ -207,24 +173,6 @@ module _ (profile : Profile) (f : Form) (files : List PlainFile) (number : ℕ) 
       (slots_put_anew p number first prefix slot (map filled back) (theorem_home number s is)
       (sym texts.0) long behind)
 
-  -- What stands in its span isn't changed by what is put behind it.
-  same_within : (before : List PlainStatement) (s : PlainStatement) (after : List PlainStatement)
-      (news : List Replacement) → Reads files (before ++ s ∷ after) None
-      → is_theorem_of number s ≡ true
-      → AllZip (IsReplacement f file.bytes (before ++ s ∷ after)) (theorems_of number after) news
-      → within_span (with_replaced file.bytes news) s.span ≡ within_span file.bytes s.span
-  same_within before s after news reads is each =
-      let st : List PlainStatement = before ++ s ∷ after in
-      let rise = rw (theorems_parted number before s after is) at
-      (spans_rise files st number file reads handed) in
-      let behind = rise_behind 0 (length file.bytes) (theorems_of number before) s
-      (theorems_of number after) rise in
-      let spans = spans_within s.span.1 (length file.bytes) (theorems_of number after) news
-      behind.1 (zip_weaker (IsReplacement f file.bytes st) (λ t new. new.span ≡ t.span)
-      (λ t new r. r.span) (theorems_of number after) news each) in
-      within_kept s.span.1 (length file.bytes) file.bytes news s.span spans behind.0 (omega arith)
-      (omega arith)
-
   -- and it is put in
   put_in : (before : List PlainStatement) (s : PlainStatement) (after : List PlainStatement)
       (new : Replacement) (news : List Replacement) → Reads files (before ++ s ∷ after) None
@@ -250,7 +198,9 @@ module _ (profile : Profile) (f : Form) (files : List PlainFile) (number : ℕ) 
       (tree r.root r.below none) (within_span bytes s.span) new.text =
       subst (λ (o : List ℕ). IsSpanText f (sentences (take r.index st)) (sentence_of s)
       (tree r.root r.below none) o new.text)
-      (sym (same_within before s after news reads is each)) r.laid in
+      (sym (same_within files number file handed before s after news reads is
+      (zip_weaker (IsReplacement f file.bytes st) (λ t new. new.span ≡ t.span) (λ t new r. r.span)
+      (theorems_of number after) news each))) r.laid in
       let p = to_put {file = record file { bytes = bytes }} r.proof laid prefix next.reads
       next.obeyed (ap (slice_get others) home ∙ handed_anew files number file bytes handed) in
       let put = are_put_anew p in
@@ -273,7 +223,8 @@ module _ (profile : Profile) (f : Form) (files : List PlainFile) (number : ℕ) 
           },
           subst (λ (u : Sentence).
               AreSavedAs f number (sentences before ++ u ∷ []) after put.later) put.proved.said
-              (all_saved_as_moved f number (sentences before ++ sentence_of s ∷ []) after next.later
+              (all_along_moved (IsSavedAs f number) (saved_as_moved f number)
+              (sentences before ++ sentence_of s ∷ []) after next.later
               put.later put.same (rw (map-append sentence_of before (s ∷ [])) at next.each)),
         );
         fill = filled_one bytes after news p r.span is next.fill;

@@ -2,17 +2,19 @@
 -- first of them and behind the last is kept.
 use Rattle.std.proofs.Common.{◌≡◌, ℕ, ◌+◌, ◌-◌, ◌≤◌, List, [], ◌∷◌, ◌++◌, take, drop, length}
 use Rattle.std.proofs.Common.{slice_range, refl, sym, ap, ◌∙◌, arith, append_assoc, append-nil}
-use Rattle.std.proofs.Common.{length-append}
+use Rattle.std.proofs.Common.{length-append, slice_get, true, Some, None}
 use Rattle.std.specs.List.{AllZip, AllByRecursion}
 use Rattle.std.proofs.Math.ListN.{drop_of_length-le}
 use Rattle.std.proofs.lemmas.List.{take-append-le, drop-append-le, take-append-drop, take-take}
 use Rattle.std.proofs.lemmas.List.{length-take-le, drop-take, length-drop}
 use Rattle.mm_text.specs.Statement.{PlainStatement}
+use Rattle.mm_text.specs.Files.{PlainFile}
+use Rattle.mm_text.specs.Reading.{Reads}
 use Rattle.mm_text.specs.Replaced.{with_span}
 use Rattle.mm_check.specs.Saved.{within_span}
-use Rattle.mm_check.specs.AllSaved.{Replacement, with_replaced}
+use Rattle.mm_check.specs.AllSaved.{Replacement, with_replaced, is_theorem_of, theorems_of}
 use Rattle.mm_check.specs.Mirror.AllSaving.{AreSpansWithin}
-use Rattle.mm_check.proofs.Saving.FileSpans.{Rise}
+use Rattle.mm_check.proofs.Saving.FileSpans.{Rise, spans_rise, theorems_parted}
 
 -- ---- one span
 
@@ -46,11 +48,11 @@ length-with_span n xs span text before start =
 
 -- ---- several spans
 
-spans_rise : (start stop : ℕ) (news : List Replacement) → AreSpansWithin start stop news
+replaced_rise : (start stop : ℕ) (news : List Replacement) → AreSpansWithin start stop news
     → start ≤ stop
-spans_rise start stop [] h = h
-spans_rise start stop (new ∷ news) h =
-    omega (arith, h.0, h.1, spans_rise new.span.1 stop news h.2)
+replaced_rise start stop [] h = h
+replaced_rise start stop (new ∷ news) h =
+    omega (arith, h.0, h.1, replaced_rise new.span.1 stop news h.2)
 
 -- what stands before the first of them is kept
 prefix_kept : (start stop : ℕ) (xs : List ℕ) (news : List Replacement)
@@ -170,6 +172,23 @@ within_kept start stop xs news span spans order before within =
     sym (take-take (span.0 + n) start ys less) ∙ ap (take (span.0 + n)) kept.1
     ∙ take-take (span.0 + n) start xs less in
     sym (drop-take span.0 n ys) ∙ ap (drop span.0) same ∙ drop-take span.0 n xs
+
+-- What stands in the span of a theorem isn't changed by what is put behind it.
+pub same_within : (files : List PlainFile) (number : ℕ) (file : PlainFile)
+    → slice_get files number ≡ Some file → (before : List PlainStatement) (s : PlainStatement)
+    (after : List PlainStatement) (news : List Replacement)
+    → Reads files (before ++ s ∷ after) None → is_theorem_of number s ≡ true
+    → AllZip (λ t new. new.span ≡ t.span) (theorems_of number after) news
+    → within_span (with_replaced file.bytes news) s.span ≡ within_span file.bytes s.span
+same_within files number file handed before s after news reads is each =
+    let rise = rw (theorems_parted number before s after is) at
+    (spans_rise files (before ++ s ∷ after) number file reads handed) in
+    let behind = rise_behind 0 (length file.bytes) (theorems_of number before) s
+    (theorems_of number after) rise in
+    let spans = spans_within s.span.1 (length file.bytes) (theorems_of number after) news
+    behind.1 each in
+    within_kept s.span.1 (length file.bytes) file.bytes news s.span spans behind.0 (omega arith)
+    (omega arith)
 
 -- ---- how long they are then
 

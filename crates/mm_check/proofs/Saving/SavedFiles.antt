@@ -4,13 +4,13 @@ use Rattle.std.proofs.Common.{◌≡◌, ℕ, List, take, slice_get, true, not, 
 use Rattle.std.proofs.Common.{subst, ◌∙◌, suc, ◌+◌, ◌-◌, ◌<◌, ◌≤◌, ◌↔◌, ◌∷◌, ◌++◌, map, drop}
 use Rattle.std.proofs.Common.{length, slice_set, slice_index_or, Option, None, Result, Ok, inl, inr}
 use Rattle.std.proofs.Common.{arith, length-append, zero, [], filter, flat_map, count_by, cond}
-use Rattle.std.proofs.Common.{Bool, false, ◌⊎◌, append_assoc}
+use Rattle.std.proofs.Common.{Bool, false, ◌⊎◌}
 use Rattle.mm_text.specs.declared.statement.Kind.TheVariants.{Axiom, Provable}
 use Rattle.mm_text.specs.Statement.{PlainStatement, is_provable}
 use Rattle.mm_frame.specs.Sentence.{Sentence, sentence_of, IsLabelled}
 use Rattle.mm_frame.specs.Numbers.{IsNumbered}
-use Rattle.mm_proof.specs.Tree.{Trees, none, tree, AnyExpression}
-use Rattle.mm_proof.specs.Proof.{IsProved, IsProvedWithin, IsWithin}
+use Rattle.mm_proof.specs.Tree.{Trees, none, tree, AnyExpression, DeriveAll}
+use Rattle.mm_proof.specs.Proof.{IsProved, IsWithin}
 use Rattle.mm_proof.specs.Used.{IsUsedNumber}
 use Rattle.mm_proof.specs.Tokens.{is_incomplete, SayMoves}
 use Rattle.mm_check.specs.Verdict.{sentences, proof_of, is_proof, is_unproved, AreAccepted, Verdict}
@@ -52,7 +52,7 @@ use Rattle.mm_check.proofs.Verdicts.AcceptedStatements.{one_stands, same_reading
 use Rattle.mm_check.proofs.Verdicts.StatementByStatement.{provable_kind, unproved_of-append}
 use Rattle.mm_check.proofs.Verdicts.StatementByStatement.{any_proof, proof_there}
 use Rattle.mm_check.proofs.Verdicts.StatementByStatement.{proof_not_unproved}
-use Rattle.std.proofs.Math.Seq.{take-append_seam, drop-append_seam}
+use Rattle.std.proofs.Math.Seq.{take-append_seam}
 use Rattle.mm_text.specs.declared.fault.LoadRule.{LoadRule}
 use Rattle.mm_text.specs.Token.{tokens_from}
 use Rattle.mm_text.proofs.Replaced.ReplacedItems.{set_there}
@@ -65,6 +65,7 @@ use Rattle.mm_proof.specs.UnderProfile.{IsProvedUnder}
 use Rattle.mm_proof.specs.declared.profile.Profile.TheVariants.{Strict, Lenient}
 use Rattle.mm_proof.specs.Profiles.{limit_of}
 use Rattle.mm_proof.proofs.PackedProofs.WrittenProofs.{IsProofBy}
+use Rattle.mm_proof.proofs.ProofVerdicts.VerdictLaws.{derive_any}
 use Rattle.mm_check.specs.SavedLaws.{SayTheSame}
 use Rattle.mm_check.proofs.Verdicts.AlikeVerdicts.{moved, obeys_alike, same_sentence, same_proof}
 use Rattle.mm_check.proofs.Verdicts.AlikeVerdicts.{same_sentences, same_proofs, same_unproved}
@@ -139,27 +140,35 @@ carries_on {statements} {others} one other = record {
       (u, found, alike_on (sentences (take index statements)) s t u alike moved);
 }
 
-index_carried : (statements others : List PlainStatement) (id index : ℕ) (s t : PlainStatement) → sentences statements ≡ sentences others → sentence_of s ≡ sentence_of t → slice_get others index ≡ Some t
+pub index_carried : (statements others : List PlainStatement) (id index : ℕ) (s t : PlainStatement) → sentences statements ≡ sentences others → sentence_of s ≡ sentence_of t → slice_get others index ≡ Some t
     → IsAt statements id index s → IsAt others id index t
 index_carried statements others id index s t told said there at = record {
   there = there;
   numbered = subst (λ (x : Sentence). IsNumbered (sentences others) id index x) said (subst (λ (ss : List Sentence). IsNumbered ss id index (sentence_of s)) told at.numbered);
 }
 
--- the tree of a proof
-pub tree_carried : (statements others : List PlainStatement) (id index : ℕ) (t : Trees) → Carries statements others → HasTree statements id index t → HasTree others id index t
-tree_carried statements others id index t carries has =
-    let (u, there, alike) = carries.at index has.s has.at.there in
+-- the tree of the proof at an index, where another of the same tree stands there
+pub tree_at : (statements others : List PlainStatement) (id index : ℕ) (t : Trees)
+    → sentences statements ≡ sentences others → (has : HasTree statements id index t)
+    → (u : PlainStatement) → slice_get others index ≡ Some u
+    → AreAlikeAt (sentences (take index statements)) has.s u → HasTree others id index t
+tree_at statements others id index t told has u there alike =
     let (q, same) = alike.tree has.complete has.proof in
     let moved : (p : IsProved (sentences (take index others)) (sentence_of u) (proof_of u)) × (t ≡ tree_of p) =
-    subst (λ (prefix : List Sentence). (p : IsProved prefix (sentence_of u) (proof_of u)) × (t ≡ tree_of p)) (prefix_told statements others index carries.told) (q, has.spelled ∙ same) in
+    subst (λ (prefix : List Sentence). (p : IsProved prefix (sentence_of u) (proof_of u)) × (t ≡ tree_of p)) (prefix_told statements others index told) (q, has.spelled ∙ same) in
     record {
       s = u;
-      at = index_carried statements others id index has.s u carries.told alike.said there has.at;
+      at = index_carried statements others id index has.s u told alike.said there has.at;
       complete = sym alike.proofs ∙ has.complete;
       proof = moved.0;
       spelled = moved.1;
     }
+
+-- the tree of a proof
+pub tree_carried : (statements others : List PlainStatement) (id index : ℕ) (t : Trees) → Carries statements others → HasTree statements id index t → HasTree others id index t
+tree_carried statements others id index t carries has =
+    let (u, there, alike) = carries.at index has.s has.at.there in
+    tree_at statements others id index t carries.told has u there alike
 
 uses_carried : (statements others : List PlainStatement) (id used : ℕ) → Carries statements others → Uses statements id used → Uses others id used
 uses_carried statements others id used carries (index, t, has, number) =
@@ -399,6 +408,36 @@ form_of_strict : (profile : Profile) (prefix : List Sentence) (s : Sentence)
 form_of_strict Strict prefix s tokens strict = strict
 form_of_strict Lenient prefix s tokens strict = tt
 
+-- with a proof of any tree that derives it, within the profile's limit
+pub derived_anew : (f : Form) (profile : Profile) (prefix : List Sentence) (s : PlainStatement)
+    (root : List ℕ) (below : Trees) (put : List ℕ) → is_proof s ≡ true
+    → DeriveAll (IsWithin (limit_of profile)) prefix (tree root below none)
+    ((sentence_of s).symbols ∷ [])
+    → ReadsAsProof prefix (sentence_of s) root below put
+    → IsProvedAnew f profile prefix s (put_anew s put) root below
+derived_anew f profile prefix s root below put complete derived ra =
+    let t : PlainStatement = put_anew s put in
+    let Fits : List (List ℕ) → Type 0 = IsWithin (limit_of profile) in
+    let tokens : proof_of t ≡ ra.tokens = texts_in s.first.file s.span.0 put ∙ ra.read in
+    let within : IsProofBy Fits prefix (sentence_of s) ra.tokens root below =
+    ra.proves Fits derived in
+    let any : IsProofBy AnyExpression prefix (sentence_of s) ra.tokens root below =
+    ra.proves AnyExpression (derive_any Fits prefix (tree root below none) _ derived) in
+    let strict : IsStrict prefix (sentence_of s) (proof_of t) = rw tokens ra.strict in
+    let here : IsProofBy AnyExpression prefix (sentence_of s) (proof_of t) root below =
+    subst (λ (ts : List (List ℕ)).
+    IsProofBy AnyExpression prefix (sentence_of s) ts root below) (sym tokens) any in
+    record {
+      said = refl;
+      home = refl;
+      complete = proof_there t (provable_proof s complete)
+          (ap is_incomplete tokens ∙ fine_complete ra.tokens ra.fine);
+      strict = inl strict;
+      under = (form_of_strict profile prefix (sentence_of s) _ strict, rw tokens within.0);
+      proof = here.0;
+      spelled = here.1;
+    }
+
 module _ (f : Form) (profile : Profile) (prefix : List Sentence) (s : PlainStatement)
     (root : List ℕ) (below : Trees) (moves : List (Move (List ℕ))) (meant : AllMeant prefix)
     (complete : is_proof s ≡ true)
@@ -411,29 +450,9 @@ module _ (f : Form) (profile : Profile) (prefix : List Sentence) (s : PlainState
   pub proved_anew : (put : List ℕ) → ReadsAsProof prefix (sentence_of s) root below put
       → IsProvedAnew f profile prefix s (put_anew s put) root below
   proved_anew put ra =
-      let t : PlainStatement = put_anew s put in
-      let Fits : List (List ℕ) → Type 0 = IsWithin (limit_of profile) in
-      let tokens : proof_of t ≡ ra.tokens = texts_in s.first.file s.span.0 put ∙ ra.read in
-      let within : IsProofBy Fits prefix (sentence_of s) ra.tokens root below =
-      ra.proves Fits (tree_derives Fits prefix (sentence_of s) (proof_of s) moves root below meant
-      old.1 told made) in
-      let any : IsProofBy AnyExpression prefix (sentence_of s) ra.tokens root below =
-      ra.proves AnyExpression (tree_derives AnyExpression prefix (sentence_of s) (proof_of s) moves
-      root below meant old_proof told made) in
-      let strict : IsStrict prefix (sentence_of s) (proof_of t) = rw tokens ra.strict in
-      let here : IsProofBy AnyExpression prefix (sentence_of s) (proof_of t) root below =
-      subst (λ (ts : List (List ℕ)).
-      IsProofBy AnyExpression prefix (sentence_of s) ts root below) (sym tokens) any in
-      record {
-        said = refl;
-        home = refl;
-        complete = proof_there t (provable_proof s complete)
-            (ap is_incomplete tokens ∙ fine_complete ra.tokens ra.fine);
-        strict = inl strict;
-        under = (form_of_strict profile prefix (sentence_of s) _ strict, rw tokens within.0);
-        proof = here.0;
-        spelled = here.1;
-      }
+      derived_anew f profile prefix s root below put complete
+      (tree_derives (IsWithin (limit_of profile)) prefix (sentence_of s) (proof_of s) moves root
+      below meant old.1 told made) ra
 
   -- where it is kept, it is what it was
   pub proved_as_before : f ≡ form.Small → IsProvedAnew f profile prefix s s root below

@@ -11,6 +11,7 @@ use Rattle.mm_text.specs.Statement.{PlainStatement}
 use Rattle.mm_text.specs.Files.{most_bytes, PlainFile}
 use Rattle.mm_text.specs.Reading.{Reads}
 use Rattle.mm_text.specs.Replaced.{placeless, with_span, with_bytes, IsProofSpan, IsMoved}
+use Rattle.mm_text.specs.Replaced.{IsProofText}
 use Rattle.mm_text.proofs.Lists.{split_at, get_parted}
 use Rattle.mm_text.proofs.Reader.WholeReadings.{readings_are_formed_in_place}
 use Rattle.mm_text.proofs.Replaced.ReplacedFiles.{replaced_proofs_are_read_holds}
@@ -23,7 +24,7 @@ use Rattle.mm_proof.specs.Tree.{Trees, none, tree, spelling, AnyExpression}
 use Rattle.mm_proof.specs.Moves.{Move, Makes}
 use Rattle.mm_proof.specs.Tokens.{SayMoves}
 use Rattle.mm_proof.specs.OneTree.{MakeTree}
-use Rattle.mm_proof.specs.Proof.{IsProvedWithin, IsWithin, IsProved}
+use Rattle.mm_proof.specs.Proof.{IsWithin, IsProved}
 use Rattle.mm_proof.specs.Strict.{IsStrict}
 use Rattle.mm_proof.specs.declared.profile.Profile.{Profile}
 use Rattle.mm_proof.specs.Profiles.{limit_of}
@@ -116,6 +117,35 @@ moved_nowhere number end other_end (u ∷ after) same = (
   moved_nowhere number end other_end after same,
 )
 
+-- A proof of a tree is put in for that of the statement.
+pub proof_put : {profile : Profile} {f : Form} {files : List PlainFile}
+    {before : List PlainStatement} {s : PlainStatement} {after : List PlainStatement}
+    {file : PlainFile} {put : List ℕ} {root : List ℕ} {below : Trees}
+    → Reads files (before ++ s ∷ after) None → AllObey profile (before ++ s ∷ after)
+    → is_proof s ≡ true → slice_get files s.first.file ≡ Some file → IsProofText put
+    → IsProvedAnew f profile (sentences before) s (put_anew s put) root below
+    → ArePutAnew profile f files before s after file put root below
+proof_put {profile = profile} {files = files} {before = before} {s = s} {after = after}
+    {file = file} {put = put} reads obeyed complete handed is_text new =
+    let t : PlainStatement = put_anew s put in
+    let read = replaced_proofs_are_read_holds files before s after file put reads
+    (provable_proof s complete) handed is_text in
+    let obeys : Obeys profile (sentences before) t = record {
+      meant = (obeyed before after s refl).meant;
+      proved = λ is. new.under;
+      known = λ unproved. absurd (cc (proof_not_unproved t new.complete));
+    } in
+    record {
+      t = t;
+      later = read.later;
+      reads = read.reads;
+      obeyed = all_obey_anew profile before s t after read.later refl read.same obeyed obeys;
+      same = read.same;
+      moved = read.moved;
+      span = refl;
+      proved = new;
+    }
+
 module _ {profile : Profile} {f : Form} {files : List PlainFile} {before : List PlainStatement}
     {s : PlainStatement} {after : List PlainStatement} {file : PlainFile} {put : List ℕ}
     (p : IsToPut profile f files before s after file put) where
@@ -136,26 +166,9 @@ module _ {profile : Profile} {f : Form} {files : List PlainFile} {before : List 
   put_new : ReadsAsProof (sentences before) (sentence_of s) p.root p.below put
       → ArePutAnew profile f files before s after file put p.root p.below
   put_new ra =
-      let t : PlainStatement = put_anew s put in
-      let new = proved_anew f profile (sentences before) s p.root p.below p.moves meant_before
-      p.complete old_under p.told p.made put ra in
-      let read = replaced_proofs_are_read_holds files before s after file put p.reads
-      (provable_proof s p.complete) p.handed ra.is_text in
-      let obeys : Obeys profile (sentences before) t = record {
-        meant = (p.obeyed before after s refl).meant;
-        proved = λ complete. new.under;
-        known = λ unproved. absurd (cc (proof_not_unproved t new.complete));
-      } in
-      record {
-        t = t;
-        later = read.later;
-        reads = read.reads;
-        obeyed = all_obey_anew profile before s t after read.later refl read.same p.obeyed obeys;
-        same = read.same;
-        moved = read.moved;
-        span = refl;
-        proved = new;
-      }
+      proof_put p.reads p.obeyed p.complete p.handed ra.is_text
+      (proved_anew f profile (sentences before) s p.root p.below p.moves meant_before
+      p.complete old_under p.told p.made put ra)
 
   -- with the bytes that stood there, the files are as they were
   put_old : KeepsBytes f (within_span file.bytes s.span) put

@@ -1,8 +1,10 @@
 -- What the code of `same` knows on its way. This file mirrors the code, and is cited by private
 -- contracts alone.
-use Rattle.std.specs.Prelude.{◌≡◌, ◌↔◌, ◌⊎◌, ℕ, ◌+◌, ◌≤◌, Bool, IsTrue, List, ◌++◌, take, length}
+use Rattle.std.specs.Prelude.{◌≡◌, ◌↔◌, ◌⊎◌, ℕ, ◌+◌, ◌-◌, ◌≤◌, Bool, IsTrue, List, ◌++◌, take}
+use Rattle.std.specs.Prelude.{length}
 use Rattle.std.specs.List.{sum_by}
-use Rattle.mm_code.specs.Words.{tokens_in}
+use Rattle.mm_text.specs.Token.{PlainToken, tokens_from}
+use Rattle.mm_code.specs.Words.{texts_of, tokens_in}
 use Rattle.mm_frame.specs.Sentence.{Sentence}
 use Rattle.mm_proof.specs.declared.fault.ProofRule.{ProofRule}
 use Rattle.mm_proof.specs.declared.profile.Profile.{Profile}
@@ -20,9 +22,9 @@ use Rattle.mm_check.specs.declared.rule.Rule.TheVariants as rules
 use Rattle.mm_check.specs.Compared.{IsProofText, BreaksText, IsTextFault}
 
 -- the tokens of the prefix of a text, where those of the rest complete them
-pub record ArePrefixTokens (text : List ℕ) (tokens : List (List ℕ)) (rest : List ℕ) : Type 0 where
-  pub whole : tokens ++ tokens_in rest ≡ tokens_in text
-  pub room : sum_by length tokens + length rest ≤ length text
+pub record ArePrefixTokens (text : List ℕ) (tokens : List PlainToken) (rest : List ℕ) : Type 0 where
+  pub whole : tokens ++ tokens_from 0 (length text - length rest) rest ≡ tokens_from 0 0 text
+  pub room : sum_by length (texts_of tokens) + length rest ≤ length text
 
 -- the fault is one of the text alone, or a refused growth
 abbrev pub IsIllegal : List ℕ → AskFault → Type 0

@@ -64,7 +64,7 @@ abbrev pub Causes : Profile → (statements : List Sentence) → (id : ℕ) → 
     → ProofRule → (step : ℕ) → Cause → Type 0
 Causes profile statements id tokens rule step (cause.Token token byte text) =
     (step ≡ 0) × OfProof statements id
-    (λ index s. IsWholePlace (take index statements) (judged_tokens tokens) rule token byte)
+    (λ index s. IsWholePlace (take index statements) s (judged_tokens tokens) rule token byte)
     × (slice_get tokens token ≡ Some text.now) × (byte ≤ length text.now)
 Causes profile statements id tokens rule step (cause.Moves steps halt) =
     (step ≢ 0) × AreJudgedSteps profile statements id tokens steps

@@ -1,7 +1,7 @@
 -- What is said of the `$p` with the number is said of the theorem.
 use Rattle.std.proofs.Common.{length, map}
 use Rattle.std.proofs.lemmas.Result.{IfOk-weaker}
-use Rattle.mm_text.specs.Files.{plain_file}
+use Rattle.mm_text.specs.Files.{PlainFile, plain_file}
 use Rattle.mm_text.specs.Statement.{plain_statement}
 use Rattle.mm_frame.specs.Sentence.{sentence_of}
 use Rattle.mm_check.specs.Reply.{IsTryReply}
@@ -22,9 +22,10 @@ returns-in-Known c = rw c.in-Known.is c.known_reply.ensures
 
 pub returns-in-Try : goal.returns-in-Try
 returns-in-Try c =
+    let proof : PlainFile =
+    record { name = c.in-Try.name.now; bytes = c.in-Try.text.now } in
     rw c.in-Try.is
     (IfOk-weaker c.try_reply.result _ _
     (λ reply told label r. of_reached (map plain_file c.args.files.now) label c.args.reached.now r
-    (λ before s. IsTryReply c.in-Try.proof.now before s reply.text.items (number_of reply.status))
-    told)
+    (λ before s. IsTryReply proof before s reply.text.items (number_of reply.status)) told)
     c.try_reply.ensures)

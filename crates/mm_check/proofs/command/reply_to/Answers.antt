@@ -9,3 +9,6 @@ returns-in-About c = rw c.in-About.is c.question_reply.ensures
 
 pub returns-in-File : goal.returns-in-File
 returns-in-File c = rw c.in-File.is c.all_saved_reply.ensures
+
+pub returns-in-Shorter : goal.returns-in-Shorter
+returns-in-Shorter c = rw c.in-Shorter.is c.shorter_file_reply.ensures

@@ -47,7 +47,8 @@ returns-then-fault-eq0 c =
         c.if-fault-eq0.true,
         (λ position s number.
             of_judged (texts tokens)
-            (λ (ts : List (List ℕ)). IsWholePlace (take position st) ts c.args.fault.0 index byte)
+            (λ (ts : List (List ℕ)). IsWholePlace (take position st) s ts c.args.fault.0 index
+            byte)
             (λ whole. c.in_ok-index.ensures.place whole position s number)
             (λ known. c.in_ok-index.ensures.known_place known position s number)),
         at,

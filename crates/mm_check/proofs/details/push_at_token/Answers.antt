@@ -47,3 +47,17 @@ returns-in-P4 c =
       one_told c.args.out.now.items c.push_token-in-P4.new.out.items fact told,
     ))
     c.push_token-in-P4.ensures
+
+pub returns-in-P15 : goal.returns-in-P15
+returns-in-P15 c =
+    let fact = token_at_fault c.args.text.now in
+    on_ok_weaker c.push_token-in-P15.result
+    (λ told index s proof. (
+      fact ∷ [],
+      subst
+          (λ (r : ProofRule). AreTokenDetails (take index c.args.book.now.statements) r
+          c.args.text.now (fact ∷ []))
+          (sym c.in-P15.is) refl,
+      one_told c.args.out.now.items c.push_token-in-P15.new.out.items fact told,
+    ))
+    c.push_token-in-P15.ensures

@@ -1,10 +1,11 @@
 -- The position of the token, and so many bytes more.
-use Rattle.std.proofs.Common.{refl}
-use Rattle.mm_text.specs.Statement.{plain_statement}
+use Rattle.std.proofs.Common.{[], refl}
+use Rattle.mm_text.specs.declared.token.Token.{Token}
 use Rattle.mm_check.proofs.FaultPlaces.{position_there}
 use Rattle.mm_check.proofs.fault_places.position_of.Goals as goal
 
 pub returns : goal.returns
 returns c =
-    position_there (plain_statement c.args.statement.now) c.args.statement.now.proof.items
-    c.args.place.0 c.args.place.1 _ c.index.result.now refl c.requires.token c.index.ensures refl
+    let none : Token =
+    record { text = record { ref_ptr = (0, 0); now = [] }; file = 0; at = 0 } in
+    position_there c.args.placed.now c.args.place.0 c.args.place.1 _ none c.requires.token refl

@@ -2,11 +2,10 @@
 use Rattle.std.proofs.Common.{length, map, refl, subst, sym, List, ℕ, arith}
 use Rattle.std.proofs.lemmas.List.{length-map}
 use Rattle.mm_code.specs.Layout.{texts}
-use Rattle.mm_text.specs.Token.{plain_token}
-use Rattle.mm_text.specs.Statement.{plain_statement}
+use Rattle.mm_code.specs.Words.{texts_of}
+use Rattle.mm_text.specs.Token.{PlainToken, plain_token}
 use Rattle.mm_proof.specs.Moves.{Move}
 use Rattle.mm_proof.specs.Places.{IsMovePlace}
-use Rattle.mm_check.specs.Verdict.{proof_of}
 use Rattle.mm_check.specs.Why.{IsStopPlace}
 use Rattle.mm_check.proofs.HaltDetails.{none_left}
 use Rattle.mm_check.proofs.FaultPlaces.{place_fits, some_said, stop_at_move, never_none}
@@ -22,10 +21,10 @@ unreachable-requires c =
 pub position_of-requires : goal.position_of-requires
 position_of-requires c =
     let place = c.in-Some.place in
-    let fits = place_fits (proof_of (plain_statement c.args.statement.now))
-    (texts c.args.tokens.now) c.args.halt.now.passed place.0 place.1 c.requires.tokens
-    c.requires.room c.in-Some.ensures.place in
-    let items = c.args.statement.now.proof.items in
+    let items = c.args.placed.now in
+    let fits = place_fits (texts_of (map plain_token items)) (texts c.args.tokens.now)
+    c.args.halt.now.passed place.0 place.1 c.requires.tokens c.requires.room
+    c.in-Some.ensures.place in
     record {
       token = omega (
         arith,
@@ -38,8 +37,8 @@ position_of-requires c =
 
 pub returns : goal.returns
 returns c = λ limit st before s prefix moves h.
-    let ps = plain_statement c.args.statement.now in
-    stop_at_move st h.there.left c.args.halt.now.at c.in_default.not-End h.place ps
+    stop_at_move st h.there.left c.args.halt.now.at c.in_default.not-End h.place
+    (map plain_token c.args.placed.now) c.args.end
     c.args.halt.now.passed (length h.there.earlier) c.in-Some.place.0 c.in-Some.place.1
     c.position_of.result h.count
     (subst (λ ts. IsMovePlace ts c.args.halt.now.passed c.in-Some.place.0 c.in-Some.place.1)
@@ -48,6 +47,7 @@ returns c = λ limit st before s prefix moves h.
 
 pub returns-in-End : goal.returns-in-End
 returns-in-End c = λ limit st before s prefix moves h.
+    let placed : List PlainToken = map plain_token c.args.placed.now in
     let none = none_left st h.there.left c.args.halt.now.at c.in-End.is h.place in
-    subst (λ (left : List (Move (List ℕ))). IsStopPlace (plain_statement c.args.statement.now)
-    (length h.there.earlier) left c.args.statement.now.span.1) (sym none) refl
+    subst (λ (left : List (Move (List ℕ))). IsStopPlace placed c.args.end
+    (length h.there.earlier) left c.args.end) (sym none) refl

@@ -21,8 +21,9 @@ returns-in-Token c =
         c.in-Token.index,
         c.in-Token.byte,
         c.in-Token.text.now,
-        subst (λ (ss : List Sentence). IsWholePlace ss (judged_tokens (proof_of p.site.s))
-            c.args.rule c.in-Token.index c.in-Token.byte) (placed_prefix p)
+        subst (λ (ss : List Sentence). IsWholePlace ss (sentence_of p.site.s)
+            (judged_tokens (proof_of p.site.s)) c.args.rule c.in-Token.index c.in-Token.byte)
+            (placed_prefix p)
             (caused.1 c.args.place.1 (sentence_of p.site.s) p.number),
         caused.2,
         facts,

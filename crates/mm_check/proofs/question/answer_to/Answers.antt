@@ -31,3 +31,6 @@ returns-in-Users c =
 
 pub returns-in-Statement : goal.returns-in-Statement
 returns-in-Statement c = rw c.in-Statement.is c.statement_answer.ensures
+
+pub returns-in-Minimized : goal.returns-in-Minimized
+returns-in-Minimized c = rw c.in-Minimized.is c.minimized_answer.ensures

@@ -14,7 +14,7 @@ unreachable-requires c =
 pub returns-in-Token : goal.returns-in-Token
 returns-in-Token c = λ profile st id index s tokens step number r.
     let caused = token_caused c.in-Token.is r in
-    some_unknown (take index st) tokens c.args.rule c.in-P2.is _ _ c.in-Token.text.now
+    some_unknown (take index st) s tokens c.args.rule c.in-P2.is _ _ c.in-Token.text.now
     (caused.1 index s number) caused.2
 
 pub returns-in_default : goal.returns-in_default

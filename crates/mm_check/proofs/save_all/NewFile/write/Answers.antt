@@ -7,7 +7,7 @@ pub returns-in-Ok : goal.returns-in-Ok
 returns-in-Ok c =
     on_ok_weaker c.put.result
     (λ puts.
-    let p = rw c.deref-in-Ok.ensures.value at puts in
+    let p = rw c.deref.ensures.value at puts in
     let same = p.same in
     inl (record {
       text = c.in-Ok.text.items;

@@ -1,0 +1,62 @@
+//! The theorems of checked files, read again one after the other.
+
+ghost use Rattle.std.specs.Prelude.{◌≡◌, [], List, IfOk, IfErr};
+ghost use Rattle.mm_text.specs.Statement.{PlainStatement};
+ghost use Rattle.mm_check.specs.declared.ask.AskFault.TheVariants.{Memory};
+
+use crate::ask::AskFault;
+use crate::checked::Checked;
+use crate::reread::next;
+use mm_frame::LabelId;
+use mm_text::{Statement, Statements};
+use std::alloc::Global;
+
+/// The statements of checked files, read again up to one of them.
+#[derive(Drop)]
+pub(crate) struct Rereading<'a> {
+    statements: Statements<'a>,
+    /// The statement that was read last.
+    pub(crate) statement: Statement<'a>,
+    /// How many labelled statements were read.
+    labelled: u32,
+}
+
+impl<'a> Rereading<'a> {
+    ghost use Rattle.mm_check.specs.Mirror.Rereading.{IsReadTo, GoesTo};
+
+    /// The files of a database, of which nothing is read yet.
+    pub(crate) fn new(alloc: Global, checked: &Checked<'a>) -> Result<Rereading<'a>, AskFault>
+        ensures begun { IfOk result (IsReadTo checked.now.files []) }
+        ensures memory { IfErr result (λ fault. fault ≡ Memory) }
+    {
+        Ok(Rereading {
+            statements: checked.reader(alloc)?,
+            statement: Statement::empty(alloc),
+            labelled: 0,
+        })
+    }
+
+    /// Reads up to the next `$p` whose proof is complete, and answers its number; none where there
+    /// is none left.
+    pub(crate) fn next_theorem(
+        &mut self,
+        checked: &Checked<'a>,
+    ) -> Result<Option<LabelId>, AskFault>
+        requires { (taken : List PlainStatement) × IsReadTo checked.now.files taken self.old }
+        ensures next { IfOk result (λ found. (taken : List PlainStatement)
+            → IsReadTo checked.now.files taken self.old
+            → GoesTo checked.now.files taken found self.new) }
+        ensures memory { IfErr result (λ fault. fault ≡ Memory) }
+    {
+        while next(&mut self.statements, &mut self.statement)? {
+            if self.statement.label.is_some() {
+                let id = LabelId(self.labelled);
+                self.labelled += 1;
+                if checked.is_theorem(id) {
+                    return Ok(Some(id));
+                }
+            }
+        }
+        Ok(None)
+    }
+}
