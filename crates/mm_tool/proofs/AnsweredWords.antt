@@ -16,7 +16,7 @@ use Rattle.mm_tool.specs.Ending.{IsHelpFault, label_of}
 use Rattle.std.specs.List.{AllZip}
 use Rattle.mm_text.proofs.Lists.{zip_length}
 use Rattle.mm_check.specs.Reply.{AsksHanded}
-use Rattle.mm_check.specs.declared.command.Command.TheVariants.{File}
+use Rattle.mm_check.specs.declared.command.Command.TheVariants.{File, Shorter}
 use Rattle.mm_tool.specs.ReadFiles.{IsReadAs}
 use Rattle.mm_tool.specs.declared.files.Comments.{Comments}
 use Rattle.mm_text.specs.Files.{PlainFile}
@@ -133,6 +133,7 @@ module _ {O : Type 0} (contents : O → Option (List ℕ)) (holds : List ℕ →
 pub asks_handed : (command : Command) (names : List (List ℕ)) (files : List PlainFile)
     → length files ≡ length names → AsksNamed command names → AsksHanded files command
 asks_handed (File form number) names files same named = rw same named
+asks_handed (Shorter number duplicates) names files same named = rw same named
 asks_handed command names files same named = tt
 
 -- Of the files that were read there are as many as names.
@@ -261,7 +262,7 @@ module _ {O : Type 0} (contents : O → Option (List ℕ)) (holds : List ℕ →
 
 -- A question about a text ends as the command over the files does, once the proof is read.
 pub text_replies : {O E : Type 0} (question : TextQuestion) (contents : O → Option (List ℕ)) (holds : List ℕ → KnownFile) (max : ℕ) (label proof : List ℕ) (names : List (List ℕ)) (command : Command)
-    (given : PlainFile) (r : Result Answer E) (old new : Counted O) → IsProofRead holds proof max given → IsTextCommand question label given.bytes command
+    (given : PlainFile) (r : Result Answer E) (old new : Counted O) → IsProofRead holds proof max given → IsTextCommand question label given command
     → IfOk r (λ answer. (text : List ℕ) × IsReplyOver holds command names max text (outcome_of answer) × TakesWhole contents text old new)
     → IfOk r (λ answer. (text : List ℕ) × IsTextReplyOver question holds label proof names max text (outcome_of answer) × TakesWhole contents text old new)
 text_replies question contents holds max label proof names command given (Ok answer) old new read asks (text, reply, taken) =
@@ -270,7 +271,7 @@ text_replies question contents holds max label proof names command given (Err e)
 
 pub text_stops : {O T : Type 0} (question : TextQuestion) (contents : O → Option (List ℕ)) (holds : List ℕ → KnownFile) (may_fail : List ℕ → Type 0) (max : ℕ) (label proof : List ℕ) (names : List (List ℕ))
     (command : Command) (given : PlainFile) (r : Result T Stop) (old new : Counted O) → IsProofRead holds proof max given
-    → IsTextCommand question label given.bytes command
+    → IsTextCommand question label given command
     → IfErr r (λ stop. StopsRun contents holds may_fail command names max stop old new)
     → IfErr r (λ stop. StopsText question contents holds may_fail label proof names max stop old new)
 text_stops question contents holds may_fail max label proof names command given (Ok v) old new read asks h = tt

@@ -30,12 +30,15 @@ use Rattle.clap.specs.declared.parser.matches.Found.{Found}
 use Rattle.clap.proofs.OnLiterals.{clap_on_literals}
 use Rattle.clap.proofs.WalkLemmas.{first_value-rows, raw_values-rows}
 use Rattle.mm_check.specs.declared.command.Command.{Command}
-use Rattle.mm_check.specs.declared.command.Command.TheVariants.{File}
+use Rattle.mm_check.specs.declared.command.Command.TheVariants.{File, Shorter}
 use Rattle.mm_check.specs.declared.form.Form.{Form}
 use Rattle.mm_tool.specs.Ending.{AsksNamed}
 use Rattle.mm_tool.specs.Words.{AsksForm, AsksRun, IsAllFault, IsGiven, name_of_form, number_among}
 use Rattle.mm_tool.specs.Words.{AreMatchesOf, Asks, Commands, IsAccepted, IsFaultOfKind, IsOfKind}
-use Rattle.mm_tool.specs.Words.{AsksAxioms, IsFilesFault, IsWordFault, command_line, first_command}
+use Rattle.mm_tool.specs.Words.{AreMinimizeFlags, AreRefusedWords, AsksAxioms, AsksMinimize}
+use Rattle.mm_tool.specs.Words.{AsksMinimized, AsksShorterFile, DoAgree, IsFilesFault}
+use Rattle.mm_tool.specs.Words.{IsNamingFault, IsWordFault, NamesFile, command_line}
+use Rattle.mm_tool.specs.Words.{first_command}
 use Rattle.mm_tool.specs.declared.words.Request.{Request}
 use Rattle.mm_tool.specs.declared.words.Request.TheVariants.{Help, Version, Run}
 use Rattle.mm_tool.specs.declared.stop.Stop.{Stop}
@@ -218,6 +221,8 @@ pub named_by_words : (words : List Text) (command : Command) (names : List Text)
     → AsksRun words command names → AsksNamed command names
 named_by_words words (File form number) names (rows, commands, file, all, found, same) =
     number_found names (unwrap_or (first_of (codes "LABEL") rows) []) number found
+named_by_words words (Shorter number duplicates) names (behind, asked, (name, is, found)) =
+    number_found names name number found
 named_by_words words command names asked = tt
 
 -- The index of a name among names is that among their texts.
@@ -283,6 +288,90 @@ files_refused rows given found parts (Usage text) all not_given files same few =
     inr (inr (inr (inl (rows, commands, rw not_given at all, rw (same ∙ files) at few))))
 files_refused rows given found parts Memory all not_given files same few = λ words commands. tt
 files_refused rows given found parts other all not_given files same few = absurd few
+
+-- ---- `minimize`
+
+-- Flags that agree, none of which is `--list` or `--all`, are none.
+no_duplicates : (all list duplicates : Bool) → DoAgree all list duplicates → list ≡ false
+    → all ≡ false → duplicates ≡ false
+no_duplicates all true duplicates agree not_list not_all = absurd (cc)
+no_duplicates true false duplicates agree not_list not_all = absurd (cc)
+no_duplicates false false duplicates (inl given) not_list not_all = absurd (cc)
+no_duplicates false false duplicates (inr none) not_list not_all = none
+
+module _ (rows : List Row) (all list duplicates : Bool) (behind : List Text)
+    (flags : AreMinimizeFlags rows all list duplicates)
+    (files : behind ≡ unwrap_or (all_of (codes "FILES") rows) []) where
+  -- The words ask by `minimize`, with these flags.
+  by_minimize : (words : List Text) → Commands words (codes "minimize") rows
+      → AsksMinimize words all list duplicates behind
+  by_minimize words commands = (rows, commands, flags, sym files)
+
+  -- They ask to list the proofs that become shorter, where `--list` is given.
+  pub list_asked : DoAgree all list duplicates → list ≡ true → (words : List Text)
+      → Commands words (codes "minimize") rows → AsksMinimize words false true false behind
+  list_asked agree given words commands =
+      let alone : (all ≡ false) × (duplicates ≡ false) = rw given at agree in
+      rw (alone.0, given, alone.1) at by_minimize words commands
+
+  -- They ask for a file with shorter proofs, where `--all` is given.
+  pub file_asked : list ≡ false → all ≡ true → (parts : List Text) (number : ℕ)
+      (names : List Text) → parts ≡ behind → NamesFile parts number names → (words : List Text)
+      → Commands words (codes "minimize") rows → AsksShorterFile words number duplicates names
+  file_asked not_list given parts number names same named words commands =
+      (behind, rw (given, not_list) at by_minimize words commands, rw same at named)
+
+  -- They ask for a shorter proof of a theorem, where neither is.
+  pub shorter_asked : DoAgree all list duplicates → list ≡ false → all ≡ false
+      → (parts : List Text) (label : Text) (names : List Text) → parts ≡ behind
+      → (parts ≡ label ∷ names) × (names ≢ []) → (words : List Text)
+      → Commands words (codes "minimize") rows → AsksMinimized words label names
+  shorter_asked agree not_list not_all parts label names same (is, some) words commands =
+      let none = no_duplicates all list duplicates agree not_list not_all in
+      let asked = by_minimize words commands in
+      (rw (not_all, not_list, none, sym same ∙ is) at asked, some)
+
+  -- Flags that don't agree are refused.
+  pub flags_refused : ¬ (DoAgree all list duplicates) → (words : List Text)
+      → Commands words (codes "minimize") rows → AreRefusedWords words
+  flags_refused differ words commands = inr (inr (inr (inr (inr (
+    all,
+    list,
+    duplicates,
+    behind,
+    by_minimize words commands,
+    inl differ,
+  )))))
+
+  -- So are words that name no file behind the label.
+  pub few_refused : list ≡ false → (parts : List Text) (stop : Stop) → parts ≡ behind
+      → IsFilesFault parts stop → (words : List Text)
+      → Commands words (codes "minimize") rows → IsWordFault words stop
+  few_refused not_list parts (Usage text) same few words commands = inr (inr (inr (inr (inr (
+    all,
+    list,
+    duplicates,
+    behind,
+    by_minimize words commands,
+    inr (inl (not_list, rw same at few)),
+  )))))
+  few_refused not_list parts Memory same few words commands = tt
+  few_refused not_list parts other same few words commands = absurd few
+
+  -- And so is the name of a file that is none of the others.
+  pub name_refused : all ≡ true → (parts : List Text) (stop : Stop) → parts ≡ behind
+      → IsNamingFault parts stop → (words : List Text)
+      → Commands words (codes "minimize") rows → IsWordFault words stop
+  name_refused given parts (Usage text) same none words commands = inr (inr (inr (inr (inr (
+    all,
+    list,
+    duplicates,
+    behind,
+    by_minimize words commands,
+    inr (inr (given, rw same at none)),
+  )))))
+  name_refused given parts Memory same none words commands = tt
+  name_refused given parts other same none words commands = absurd none
 
 -- ==== the code that words ask for, and the rule that has it
 

@@ -13,7 +13,7 @@ use Rattle.mm_text.specs.declared.counted.Counted.{Counted}
 use Rattle.mm_check.specs.Reply.{IsReplyTo}
 use Rattle.mm_check.specs.Status.{number_of}
 use Rattle.mm_check.specs.declared.command.Command.{Command}
-use Rattle.mm_check.specs.declared.command.Command.TheVariants.{Whole, About, File, Lone}
+use Rattle.mm_check.specs.declared.command.Command.TheVariants.{Whole, About, File, Lone, Shorter}
 use Rattle.mm_check.specs.declared.question.Question.TheVariants.{Same}
 use Rattle.mm_check.specs.declared.question.LoneQuestion.TheVariants as lone
 use Rattle.mm_tool.specs.declared.words.TextQuestion.{TextQuestion}
@@ -63,6 +63,7 @@ label_of (Whole profile question) = None
 label_of (About label question) = Some label.now
 label_of (Lone label question) = Some label.now
 label_of (File form number) = None
+label_of (Shorter number duplicates) = None
 
 -- This is the reply to the command over the files with these names, with the notes beside it; or the
 -- one that says that they hold too many bytes.
@@ -73,13 +74,14 @@ IsReplyOver holds command names max text outcome =
     × AreNotesBeside files (label_of command) text outcome.notes)
     ⊎ (AreTooLong holds names max × (text ≡ codes "load F3\n") × (outcome ≡ quiet 4))
 
--- the command asks this about this text and the theorem with this label
-abbrev pub IsTextCommand : TextQuestion → (label text : List ℕ) → Command → Type 0
-IsTextCommand of_text.Same label text (About asked (Same given)) =
-    (asked.now ≡ label) × (given.now ≡ text)
-IsTextCommand of_text.Try label text (Lone asked (lone.Try given)) =
-    (asked.now ≡ label) × (given.now ≡ text)
-IsTextCommand question label text other = ⊥
+-- the command asks this about the text in this file and the theorem with this label; of a text that
+-- is tried it also has the file's name
+abbrev pub IsTextCommand : TextQuestion → (label : List ℕ) → (proof : PlainFile) → Command → Type 0
+IsTextCommand of_text.Same label proof (About asked (Same given)) =
+    (asked.now ≡ label) × (given.now ≡ proof.bytes)
+IsTextCommand of_text.Try label proof (Lone asked (lone.Try name given)) =
+    (asked.now ≡ label) × (name.now ≡ proof.name) × (given.now ≡ proof.bytes)
+IsTextCommand question label proof other = ⊥
 
 -- The file with the proof was read, and holds no more bytes than it may.
 abbrev pub IsProofRead : (List ℕ → KnownFile) → (proof : Text) → ℕ → PlainFile → Type 0
@@ -94,7 +96,7 @@ IsTextReplyOver question holds label proof names max text outcome =
     (MayHold (holds proof) (λ all. max < length all) × (text ≡ codes "text F3 0\n")
     × (outcome ≡ quiet 4))
     ⊎ ((given : PlainFile) × IsProofRead holds proof max given
-    × (command : Command) × IsTextCommand question label given.bytes command
+    × (command : Command) × IsTextCommand question label given command
     × IsReplyOver holds command names max text outcome)
 
 -- This is the page of the command with the asked name; where none is asked for, the whole help.
@@ -177,6 +179,7 @@ error_line Memory = codes "mm: out of memory\n"
 -- the file about which a command asks is one of those with these names
 abbrev pub AsksNamed : Command → List Text → Type 0
 AsksNamed (File form number) names = number < length names
+AsksNamed (Shorter number duplicates) names = number < length names
 AsksNamed other names = Unit {0}
 
 -- The end is the same; where a file can't be read, the word that was taken for the label is told too.

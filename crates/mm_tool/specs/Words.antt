@@ -17,10 +17,11 @@ use Rattle.clap.specs.declared.error.kind.ErrorKind.TheVariants.{DisplayHelp, Di
 use Rattle.clap.specs.declared.error.kind.ErrorKind.TheVariants.{OutOfMemory}
 use Rattle.mm_check.specs.declared.command.Command.{Command}
 use Rattle.mm_check.specs.declared.command.Command.TheVariants.{Whole, About, File, Lone}
+use Rattle.mm_check.specs.declared.command.Command.TheVariants as commands
 use Rattle.mm_check.specs.declared.question.Question.{Question}
 use Rattle.mm_check.specs.declared.question.Question.TheVariants as question
 use Rattle.mm_check.specs.declared.question.WholeQuestion.{WholeQuestion}
-use Rattle.mm_check.specs.declared.question.WholeQuestion.TheVariants.{Check, Faults, Why, Axioms}
+use Rattle.mm_check.specs.declared.question.WholeQuestion.TheVariants.{Check, Faults, Why, Axioms, Shorter}
 use Rattle.mm_check.specs.declared.question.LoneQuestion.{LoneQuestion}
 use Rattle.mm_check.specs.declared.question.LoneQuestion.TheVariants as lone
 use Rattle.mm_check.specs.declared.form.Form.{Form}
@@ -50,7 +51,8 @@ label_rule = record (new_rule (codes "LABEL")) {
   action = Some Set;
 }
 
--- a flag: `--file`, `--all`, `--known`, `--essential`, `--uses` or `--strict`
+-- a flag: `--file`, `--all`, `--list`, `--duplicates`, `--known`, `--essential`, `--uses` or
+-- `--strict`
 abbrev pub flag_rule : Text → Rule
 flag_rule name = record (new_rule name) {
   long = Some name;
@@ -140,6 +142,19 @@ packed_line = form_line (codes "packed")
 abbrev pub small_line : App
 small_line = form_line (codes "small")
 
+-- `minimize LABEL FILES..`, `minimize --all [--duplicates] NAME FILES..`, `minimize --list FILES..`:
+-- what stands behind the command are words, at least one; with `--list` all of them name files, else
+-- the first is the label, or with `--all` the name of one of the files
+abbrev pub minimize_line : App
+minimize_line =
+    with_rule
+    (with_rule
+    (with_rule
+    (with_rule (new_app (codes "minimize")) (flag_rule (codes "all")))
+    (flag_rule (codes "list")))
+    (flag_rule (codes "duplicates")))
+    files_rule
+
 -- a question about a proof's text and the theorem with a label: the command's name, and then
 -- `LABEL PROOF FILES..`
 abbrev pub text_line : Text → App
@@ -195,15 +210,21 @@ forms_line =
     with_subcommand
     (with_subcommand (with_subcommand database_line normal_line.top) packed_line.top) small_line.top
 
+-- and the one that asks for shorter proofs
+abbrev pub shorter_line : App
+shorter_line = with_subcommand forms_line minimize_line.top
+
 -- and those that ask about a proof's text
 abbrev pub proofs_line : App
-proofs_line = with_subcommand (with_subcommand forms_line same_line.top) try_line.top
+proofs_line = with_subcommand (with_subcommand shorter_line same_line.top) try_line.top
 
 -- `mm check [--strict] FILES..`, `mm faults [--strict] FILES..`, `mm why [--strict] FILES..`,
 -- `mm axioms LABEL FILES..`, `mm axioms --all FILES..`, `mm users [--all] LABEL FILES..`,
 -- `mm statement LABEL FILES..`, `mm show [--known | --essential | --uses] LABEL FILES..`,
 -- `mm normal [--file] LABEL FILES..`, `mm packed [--file] LABEL FILES..`,
 -- `mm small [--file] LABEL FILES..`, all three with `--all NAME FILES..` too,
+-- `mm minimize LABEL FILES..`, `mm minimize --all [--duplicates] NAME FILES..`,
+-- `mm minimize --list FILES..`,
 -- `mm same LABEL PROOF FILES..`, `mm try LABEL PROOF FILES..`, `mm explain [CODE..]`,
 -- `mm help [COMMAND]`, `mm version`, `mm --version`, and everywhere `--help`
 abbrev pub command_line : App
@@ -378,6 +399,58 @@ AsksUsers words label all names =
     × IsGiven (codes "all") rows all
     × (unwrap_or (all_of (codes "FILES") rows) [] ≡ names)
 
+-- Of the flags of `minimize` these are given, if so it is said.
+abbrev pub AreMinimizeFlags : List Row → (all list duplicates : Bool) → Type 0
+AreMinimizeFlags rows all list duplicates =
+    IsGiven (codes "all") rows all × IsGiven (codes "list") rows list
+    × IsGiven (codes "duplicates") rows duplicates
+
+-- They may stand beside each other: `--list` alone, and `--duplicates` beside `--all`.
+abbrev pub DoAgree : (all list duplicates : Bool) → Type 0
+DoAgree all true duplicates = (all ≡ false) × (duplicates ≡ false)
+DoAgree all false duplicates = (all ≡ true) ⊎ (duplicates ≡ false)
+
+-- They ask by `minimize` with these flags, and these are the words behind the command.
+abbrev pub AsksMinimize : List Text → (all list duplicates : Bool) → (behind : List Text) → Type 0
+AsksMinimize words all list duplicates behind =
+    (rows : List Row) × Commands words (codes "minimize") rows
+    × AreMinimizeFlags rows all list duplicates
+    × (unwrap_or (all_of (codes "FILES") rows) [] ≡ behind)
+
+-- The first word names a file, and the others, of which there is one at least, name files: the first
+-- of these with that name has the number.
+abbrev pub NamesFile : (behind : List Text) → (number : ℕ) → List Text → Type 0
+NamesFile behind number names =
+    (name : Text) × (behind ≡ name ∷ names) × (number_among names name ≡ Some number)
+
+-- There are fewer than two words, or the first is none of the names behind it.
+abbrev pub NamesNoFile : List Text → Type 0
+NamesNoFile behind =
+    (length behind < 2)
+    ⊎ ((name : Text) × (names : List Text) × (behind ≡ name ∷ names)
+    × (number_among names name ≡ None))
+
+-- They ask for the file with this number among those with these names, with shorter proofs; with
+-- `--duplicates` also where the new proof uses one assertion alone.
+abbrev pub AsksShorterFile : List Text → (number : ℕ) → (duplicates : Bool) → List Text → Type 0
+AsksShorterFile words number duplicates names =
+    (behind : List Text) × AsksMinimize words true false duplicates behind
+    × NamesFile behind number names
+
+-- They ask for a shorter proof of the theorem with this label in the files with these names.
+abbrev pub AsksMinimized : List Text → (label : Text) → List Text → Type 0
+AsksMinimized words label names =
+    AsksMinimize words false false false (label ∷ names) × (names ≢ [])
+
+-- They ask by `minimize` amiss: with flags that don't agree; with no file behind the label; or for a
+-- file that is none of those with the names.
+abbrev pub AsksMinimizeAmiss : List Text → Type 0
+AsksMinimizeAmiss words =
+    (all list duplicates : Bool) × (behind : List Text)
+    × AsksMinimize words all list duplicates behind
+    × (¬ (DoAgree all list duplicates)
+    ⊎ (((list ≡ false) × (length behind < 2)) ⊎ ((all ≡ true) × NamesNoFile behind)))
+
 -- the command that asks this about a proof's text and a theorem
 abbrev pub name_of_text : TextQuestion → Text
 name_of_text of_text.Same = codes "same"
@@ -393,12 +466,15 @@ AsksText asked words label proof names =
     × (unwrap_or (all_of (codes "FILES") rows) [] ≡ names)
 
 -- They ask this question about the whole database in the files with these names, under this profile.
--- On which axioms each theorem rests is asked under the lenient one, as questions about a theorem are.
+-- On which axioms each theorem rests, and which proofs become shorter, is asked under the lenient
+-- one, as questions about a theorem are.
 abbrev pub AsksWhole : List Text → WholeQuestion → Profile → List Text → Type 0
 AsksWhole words Check profile names = AsksUnder (codes "check") words profile names
 AsksWhole words Faults profile names = AsksUnder (codes "faults") words profile names
 AsksWhole words Why profile names = AsksUnder (codes "why") words profile names
 AsksWhole words Axioms profile names = (profile ≡ Lenient) × AsksAllAxioms words names
+AsksWhole words Shorter profile names =
+    (profile ≡ Lenient) × AsksMinimize words false true false names
 
 -- They ask this question about the statement with this label in the files with these names: how a
 -- theorem is proved by `show` without a flag, and by a flag what the steps of its proof use, or the
@@ -414,12 +490,13 @@ AsksAbout words label (question.Form form whole) names =
 AsksAbout words label (question.Same text) names = ⊥
 AsksAbout words label (question.Users all) names = AsksUsers words label all names
 AsksAbout words label question.Statement names = AsksQuestion (codes "statement") words label names
+AsksAbout words label question.Minimized names = AsksMinimized words label names
 
 -- They ask this question about the theorem with this label alone: by `show --known` for the steps that
 -- pass. No words alone ask to try a text.
 abbrev pub AsksLone : List Text → (label : Text) → LoneQuestion → List Text → Type 0
 AsksLone words label lone.Known names = AsksShow words label true false false names
-AsksLone words label (lone.Try text) names = ⊥
+AsksLone words label (lone.Try name text) names = ⊥
 
 -- They ask to run this command over the files with these names.
 abbrev pub AsksRun : List Text → Command → List Text → Type 0
@@ -427,6 +504,8 @@ AsksRun words (Whole profile asked) names = AsksWhole words asked profile names
 AsksRun words (About label asked) names = AsksAbout words label.now asked names
 AsksRun words (Lone label asked) names = AsksLone words label.now asked names
 AsksRun words (File form number) names = AsksAll words form number names
+AsksRun words (commands.Shorter number duplicates) names =
+    AsksShorterFile words number duplicates names
 
 -- They ask for what the request says.
 abbrev pub Asks : List Text → Request → Type 0
@@ -444,12 +523,13 @@ IsFaulty words =
     (kind : ErrorKind) × IsAmong kind (fault_of command_line words) × (kind ≢ DisplayHelp)
     × (kind ≢ DisplayVersion)
 
--- They name no command that asks for a proof in another form, or compares one.
+-- They name no command that asks for a proof in another form or for a shorter one, or about a
+-- proof's text.
 abbrev pub NamesNoForm : List Text → Type 0
 NamesNoForm words =
     (rows : List Row)
     → ¬ Commands words (codes "normal") rows × ¬ Commands words (codes "packed") rows
-    × ¬ Commands words (codes "small") rows
+    × ¬ Commands words (codes "small") rows × ¬ Commands words (codes "minimize") rows
     × ¬ Commands words (codes "same") rows × ¬ Commands words (codes "try") rows
 
 -- They name no command that asks for a text of the program itself.
@@ -473,7 +553,8 @@ abbrev pub AreRefusedWords : List Text → Type 0
 AreRefusedWords words =
     IsFaulty words
     ⊎ (NamesNoCommand words
-    ⊎ (AsksAllAmiss words ⊎ (AsksAxiomsAmiss words ⊎ AsksShowAmiss words)))
+    ⊎ (AsksAllAmiss words
+    ⊎ (AsksAxiomsAmiss words ⊎ (AsksShowAmiss words ⊎ AsksMinimizeAmiss words))))
 
 -- why there is no request
 abbrev pub IsWordFault : List Text → Stop → Type 0
@@ -493,6 +574,12 @@ abbrev pub IsFilesFault : (words : List Text) → Stop → Type 0
 IsFilesFault words (stop.Usage text) = length words < 2
 IsFilesFault words stop.Memory = Unit {0}
 IsFilesFault words other = ⊥
+
+-- why no file is named among these words
+abbrev pub IsNamingFault : (words : List Text) → Stop → Type 0
+IsNamingFault words (stop.Usage text) = NamesNoFile words
+IsNamingFault words stop.Memory = Unit {0}
+IsNamingFault words other = ⊥
 
 -- a request that stands in place of matches is one for help, on this topic, or for the version,
 -- which clap's answer says by its kind

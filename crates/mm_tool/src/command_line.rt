@@ -1,15 +1,16 @@
 //! The commands of the program, for `clap`: their names, and what stands behind each.
 
 ghost use Rattle.std.specs.Prelude.{◌≡◌, IfOk, false};
-ghost use Rattle.clap.specs.Words.{app_of, rule_of};
+ghost use Rattle.clap.specs.Words.{App, Rule, app_of, rule_of, with_rule, with_subcommand};
 ghost use Rattle.clap.specs.declared.builder.command.Command.TheViews.{out-Command};
 ghost use Rattle.mm_tool.specs.Words.{axioms_line, bare_line, check_line, check_lines, code_rule};
 ghost use Rattle.mm_tool.specs.Words.{command_line, database_line, explain_line, faults_line};
 ghost use Rattle.mm_tool.specs.Words.{files_rule, flag_rule, form_line, forms_line, help_line};
-ghost use Rattle.mm_tool.specs.Words.{label_rule, normal_line, packed_line, profile_line};
-ghost use Rattle.mm_tool.specs.Words.{proof_rule, proofs_line, question_line, rests_line, same_line};
-ghost use Rattle.mm_tool.specs.Words.{show_line, small_line, statement_line, text_line, topic_rule};
-ghost use Rattle.mm_tool.specs.Words.{try_line, users_line, version_line, why_line};
+ghost use Rattle.mm_tool.specs.Words.{label_rule, minimize_line, normal_line, packed_line};
+ghost use Rattle.mm_tool.specs.Words.{profile_line, proof_rule, proofs_line, question_line};
+ghost use Rattle.mm_tool.specs.Words.{rests_line, same_line, shorter_line, show_line, small_line};
+ghost use Rattle.mm_tool.specs.Words.{statement_line, text_line, topic_rule, try_line, users_line};
+ghost use Rattle.mm_tool.specs.Words.{version_line, why_line};
 
 use clap::{Arg, ArgAction, Command};
 use std::alloc::{AllocError, Global};
@@ -36,6 +37,8 @@ pub(crate) const PACKED: &str = "packed";
 
 pub(crate) const SMALL: &str = "small";
 
+pub(crate) const MINIMIZE: &str = "minimize";
+
 pub(crate) const SAME: &str = "same";
 
 pub(crate) const TRY: &str = "try";
@@ -53,6 +56,10 @@ pub(crate) const LABEL: &str = "LABEL";
 pub(crate) const FILE: &str = "file";
 
 pub(crate) const ALL: &str = "all";
+
+pub(crate) const LIST: &str = "list";
+
+pub(crate) const DUPLICATES: &str = "duplicates";
 
 pub(crate) const KNOWN: &str = "known";
 
@@ -93,6 +100,21 @@ fn flag_argument<'a>(alloc: Global, name: &'a str) -> Arg<'a>
     ensures local { result.global ≡ false }
 {
     Arg::new(alloc, name).long(name).action(ArgAction::SetTrue)
+}
+
+/// A command with one argument more, for `clap`, where it was made.
+fn with_argument<'a>(
+    command: Result<Command<'a>, AllocError>,
+    argument: Arg<'a>,
+) -> Result<Command<'a>, AllocError>
+    ensures shape { (line : App) (rule : Rule) → argument.entry.global ≡ false
+        → IfOk command.entry (λ c. app_of c ≡ line) → rule_of argument.entry ≡ rule
+        → IfOk result (λ with. app_of with ≡ with_rule line rule) }
+    ensures local { IfOk command.entry (λ c. (out-Command c).has_globals ≡ false)
+        → argument.entry.global ≡ false
+        → IfOk result (λ with. (out-Command with).has_globals ≡ false) }
+{
+    command?.arg(argument)
 }
 
 /// The name of the file with a proof's text, for `clap`.
@@ -207,10 +229,14 @@ fn form_command<'a>(
     ensures shape { IfOk result (λ command. app_of command ≡ form_line name.entry.now) }
     ensures local { IfOk result (λ command. (out-Command command).has_globals ≡ false) }
 {
-    question_command(alloc, name, about, usage)?
-        .arg(flag_argument(alloc, FILE))?
-        .arg(flag_argument(alloc, ALL))
+    let command = question_command(alloc, name, about, usage);
+    let command = with_argument(command, flag_argument(alloc, FILE));
+    with_argument(command, flag_argument(alloc, ALL))
 }
+
+/// How `axioms` is used.
+pub(crate) const AXIOMS_USE: &str = "mm axioms LABEL FILES..
+       mm axioms --all FILES..";
 
 /// The command `axioms`, for `clap`.
 fn axioms_command<'a>(alloc: Global) -> Result<Command<'a>, AllocError>
@@ -219,7 +245,7 @@ fn axioms_command<'a>(alloc: Global) -> Result<Command<'a>, AllocError>
 {
     Command::new(alloc, AXIOMS)
         .about("lists the axioms that a theorem rests on, or each theorem")
-        .override_usage("mm axioms LABEL FILES..\n       mm axioms --all FILES..")
+        .override_usage(AXIOMS_USE)
         .arg(flag_argument(alloc, ALL))?
         .arg(files_argument(alloc))
 }
@@ -256,15 +282,15 @@ fn show_command<'a>(alloc: Global) -> Result<Command<'a>, AllocError>
     ensures shape { IfOk result (λ command. app_of command ≡ show_line) }
     ensures local { IfOk result (λ command. (out-Command command).has_globals ≡ false) }
 {
-    question_command(
+    let command = question_command(
         alloc,
         SHOW,
         "lists the steps of the proof of a theorem",
         "mm show [--known | --essential | --uses] LABEL FILES..",
-    )?
-    .arg(flag_argument(alloc, KNOWN))?
-    .arg(flag_argument(alloc, ESSENTIAL))?
-    .arg(flag_argument(alloc, USES))
+    );
+    let command = with_argument(command, flag_argument(alloc, KNOWN));
+    let command = with_argument(command, flag_argument(alloc, ESSENTIAL));
+    with_argument(command, flag_argument(alloc, USES))
 }
 
 /// The command `normal`, for `clap`.
@@ -306,6 +332,25 @@ fn small_command<'a>(alloc: Global) -> Result<Command<'a>, AllocError>
     )
 }
 
+/// How `minimize` is used.
+pub(crate) const MINIMIZE_USE: &str = "mm minimize LABEL FILES..
+       mm minimize --all [--duplicates] NAME FILES..
+       mm minimize --list FILES..";
+
+/// The command `minimize`, for `clap`.
+fn minimize_command<'a>(alloc: Global) -> Result<Command<'a>, AllocError>
+    ensures shape { IfOk result (λ command. app_of command ≡ minimize_line) }
+    ensures local { IfOk result (λ command. (out-Command command).has_globals ≡ false) }
+{
+    let command = Command::new(alloc, MINIMIZE)
+        .about("writes a shorter proof of a theorem, by what the library has")
+        .override_usage(MINIMIZE_USE);
+    let command = with_argument(Ok(command), flag_argument(alloc, ALL));
+    let command = with_argument(command, flag_argument(alloc, LIST));
+    let command = with_argument(command, flag_argument(alloc, DUPLICATES));
+    with_argument(command, files_argument(alloc))
+}
+
 /// A command that asks about a proof's text and the theorem with a label, for `clap`.
 fn text_command<'a>(
     alloc: Global,
@@ -316,12 +361,10 @@ fn text_command<'a>(
     ensures shape { IfOk result (λ command. app_of command ≡ text_line name.entry.now) }
     ensures local { IfOk result (λ command. (out-Command command).has_globals ≡ false) }
 {
-    Command::new(alloc, name)
-        .about(about)
-        .override_usage(usage)
-        .arg(label_argument(alloc))?
-        .arg(proof_argument(alloc))?
-        .arg(files_argument(alloc))
+    let command = Command::new(alloc, name).about(about).override_usage(usage);
+    let command = with_argument(Ok(command), label_argument(alloc));
+    let command = with_argument(command, proof_argument(alloc));
+    with_argument(command, files_argument(alloc))
 }
 
 /// The command `same`, for `clap`.
@@ -393,15 +436,31 @@ fn bare_command<'a>(alloc: Global) -> Result<Command<'a>, AllocError>
         .bin_name(PROGRAM)
 }
 
+/// A command with one command more below it, for `clap`, where both were made.
+fn with_command<'a>(
+    command: Result<Command<'a>, AllocError>,
+    other: Result<Command<'a>, AllocError>,
+) -> Result<Command<'a>, AllocError>
+    ensures shape { (line below : App)
+        → IfOk other.entry (λ o. (out-Command o).has_globals ≡ false)
+        → IfOk command.entry (λ c. app_of c ≡ line) → IfOk other.entry (λ o. app_of o ≡ below)
+        → IfOk result (λ with. app_of with ≡ with_subcommand line below.top) }
+    ensures local { IfOk command.entry (λ c. (out-Command c).has_globals ≡ false)
+        → IfOk other.entry (λ o. (out-Command o).has_globals ≡ false)
+        → IfOk result (λ with. (out-Command with).has_globals ≡ false) }
+{
+    command?.subcommand(other?)
+}
+
 /// The program's command line with the commands that check a database, for `clap`.
 fn check_commands<'a>(alloc: Global) -> Result<Command<'a>, AllocError>
     ensures shape { IfOk result (λ command. app_of command ≡ check_lines) }
     ensures local { IfOk result (λ command. (out-Command command).has_globals ≡ false) }
 {
-    bare_command(alloc)?
-        .subcommand(check_command(alloc)?)?
-        .subcommand(faults_command(alloc)?)?
-        .subcommand(why_command(alloc)?)
+    let command = bare_command(alloc);
+    let command = with_command(command, check_command(alloc));
+    let command = with_command(command, faults_command(alloc));
+    with_command(command, why_command(alloc))
 }
 
 /// That with the commands that ask what rests on what, for `clap`.
@@ -409,9 +468,9 @@ fn rests_command<'a>(alloc: Global) -> Result<Command<'a>, AllocError>
     ensures shape { IfOk result (λ command. app_of command ≡ rests_line) }
     ensures local { IfOk result (λ command. (out-Command command).has_globals ≡ false) }
 {
-    check_commands(alloc)?
-        .subcommand(axioms_command(alloc)?)?
-        .subcommand(users_command(alloc)?)
+    let command = check_commands(alloc);
+    let command = with_command(command, axioms_command(alloc));
+    with_command(command, users_command(alloc))
 }
 
 /// That with the commands that ask what stands there, and how it is proved, for `clap`.
@@ -419,9 +478,9 @@ fn database_command<'a>(alloc: Global) -> Result<Command<'a>, AllocError>
     ensures shape { IfOk result (λ command. app_of command ≡ database_line) }
     ensures local { IfOk result (λ command. (out-Command command).has_globals ≡ false) }
 {
-    rests_command(alloc)?
-        .subcommand(statement_command(alloc)?)?
-        .subcommand(show_command(alloc)?)
+    let command = rests_command(alloc);
+    let command = with_command(command, statement_command(alloc));
+    with_command(command, show_command(alloc))
 }
 
 /// That with the commands that ask for the forms of a proof, for `clap`.
@@ -429,10 +488,19 @@ fn forms_command<'a>(alloc: Global) -> Result<Command<'a>, AllocError>
     ensures shape { IfOk result (λ command. app_of command ≡ forms_line) }
     ensures local { IfOk result (λ command. (out-Command command).has_globals ≡ false) }
 {
-    database_command(alloc)?
-        .subcommand(normal_command(alloc)?)?
-        .subcommand(packed_command(alloc)?)?
-        .subcommand(small_command(alloc)?)
+    let command = database_command(alloc);
+    let command = with_command(command, normal_command(alloc));
+    let command = with_command(command, packed_command(alloc));
+    with_command(command, small_command(alloc))
+}
+
+/// That with the command that asks for shorter proofs, for `clap`.
+fn shorter_command<'a>(alloc: Global) -> Result<Command<'a>, AllocError>
+    ensures shape { IfOk result (λ command. app_of command ≡ shorter_line) }
+    ensures local { IfOk result (λ command. (out-Command command).has_globals ≡ false) }
+{
+    let command = forms_command(alloc);
+    with_command(command, minimize_command(alloc))
 }
 
 /// That with the commands that ask about a proof's text, for `clap`.
@@ -440,17 +508,17 @@ fn proofs_command<'a>(alloc: Global) -> Result<Command<'a>, AllocError>
     ensures shape { IfOk result (λ command. app_of command ≡ proofs_line) }
     ensures local { IfOk result (λ command. (out-Command command).has_globals ≡ false) }
 {
-    forms_command(alloc)?
-        .subcommand(same_command(alloc)?)?
-        .subcommand(try_command(alloc)?)
+    let command = shorter_command(alloc);
+    let command = with_command(command, same_command(alloc));
+    with_command(command, try_command(alloc))
 }
 
 /// The program's command line, for `clap`.
 pub(crate) fn whole_command<'a>(alloc: Global) -> Result<Command<'a>, AllocError>
     ensures { IfOk result (λ command. app_of command ≡ command_line) }
 {
-    proofs_command(alloc)?
-        .subcommand(explain_command(alloc)?)?
-        .subcommand(help_command(alloc)?)?
-        .subcommand(version_command(alloc))
+    let command = proofs_command(alloc);
+    let command = with_command(command, explain_command(alloc));
+    let command = with_command(command, help_command(alloc));
+    with_command(command, Ok(version_command(alloc)))
 }

@@ -289,6 +289,56 @@ Examples:
   mm small --all set.mm set.mm
 ";
 
+const MINIMIZE: &str = "Usage: mm minimize LABEL FILES..
+       mm minimize --all [--duplicates] NAME FILES..
+       mm minimize --list FILES..
+
+Checks the database, and looks for a shorter proof of the theorem with this
+label by what the library has before it: its small text has fewer bytes, it has
+no more steps, and it rests on no further axiom or unproved theorem. It is
+judged as any proof is.
+That no shorter one is found doesn't say that there is none.
+
+Marks in the comment right before a statement are heeded. A theorem marked
+`(Proof modification is discouraged.)` keeps its proof; an assertion marked
+`(New usage is discouraged.)` isn't newly used, nor is one of another mathbox.
+
+Options:
+  --all          the file NAME, which is one of FILES, with each proof replaced
+                 that becomes shorter, all else as it was; of a library as
+                 large as set.mm this takes some ten minutes
+  --duplicates   with --all also where the new proof uses one assertion alone,
+                 besides syntax, as where the theorem is an instance of it
+  --list         a line for each proof of FILES that becomes shorter; --all
+                 replaces those of NAME whose lines in it become shorter too
+
+Replies:
+  the proof, in lines; with --all the file, nothing else            status 0
+      Where no shorter one is found: that of `mm small`; with --all, the old
+      one as it stands.
+  ask A1 LABEL                                                      status 1
+      No statement has this label.
+  ask A2 LABEL                                                      status 1
+      It is the label of a hypothesis or of an axiom.
+  ask A3 LABEL                                                      status 3
+      The proof of this theorem holds a `?`.
+  no, limit or load                                                 status 1, 4
+      The database is refused: `mm help check`.
+  with --list, one on each line, in the order of the database:
+  LABEL BYTES NEW-BYTES STEPS NEW-STEPS ASSERTIONS..                status 0, 3
+      The bytes of the small proof and the steps of the packed one, before and
+      after, and what is newly used. `duplicate: ` stands before the label where
+      the new proof uses one assertion alone. Status 3 where a proof of the
+      database holds a `?`.
+  N proofs BYTES NEW-BYTES STEPS NEW-STEPS
+      The last line: how many there are, and their sums.
+
+Examples:
+  mm minimize id set.mm
+  mm minimize --list set.mm
+  mm minimize --all set.mm set.mm
+";
+
 const SAME: &str = "Usage: mm same LABEL PROOF FILES..
 
 Checks the database, and tells whether the text in the file PROOF is the same
@@ -330,8 +380,9 @@ Replies:
   proof                                                             status 0
       The text is a proof of the theorem.
   text RULE STEP                                                    status 1, 4
-      It is none: the rule that it breaks, and the step; and then the facts that
-      explain it. Status 4 for L1 and F3.
+      It is none: the rule that it breaks, and the step; and then, for rules P
+      and L1, the first line of `mm why`, with the place in PROOF, and the facts
+      that explain it. Status 4 for L1 and F3.
   text A3 0                                                         status 3
       The text holds a `?`, and what stands before it breaks no rule. What this
       leaves on the stack follows.
@@ -425,6 +476,10 @@ fn small_page() -> &'static str {
     SMALL
 }
 
+fn minimize_page() -> &'static str {
+    MINIMIZE
+}
+
 fn same_page() -> &'static str {
     SAME
 }
@@ -446,7 +501,7 @@ fn version_page() -> &'static str {
 }
 
 /// A page for each command, in the order of the command line.
-pub(crate) fn program_pages() -> [Page<'static>; 15]
+pub(crate) fn program_pages() -> [Page<'static>; 16]
     ensures { map (λ page. page.command.now) result ≡ command_names }
 {
     [
@@ -489,6 +544,10 @@ pub(crate) fn program_pages() -> [Page<'static>; 15]
         Page {
             command: "small",
             text: small_page(),
+        },
+        Page {
+            command: "minimize",
+            text: minimize_page(),
         },
         Page {
             command: "same",

@@ -164,18 +164,21 @@ pub(crate) fn run_over<'a, F: Folder, O: Write>(
     noted_reply(out, &reply, notes)
 }
 
-/// The question about this text and the theorem with a label.
-fn text_command<'c>(question: TextQuestion, label: &'c [u8], text: &'c [u8]) -> Command<'c>
-    ensures { IsTextCommand question label.now text.now result }
+/// The question about the text in this file and the theorem with a label.
+fn text_command<'c>(question: TextQuestion, label: &'c [u8], proof: File<'c>) -> Command<'c>
+    ensures { IsTextCommand question label.now (plain_file proof.entry) result }
 {
     match question {
         TextQuestion::Same => Command::About {
             label,
-            question: Question::Same(text),
+            question: Question::Same(proof.bytes),
         },
         TextQuestion::Try => Command::Lone {
             label,
-            question: LoneQuestion::Try(text),
+            question: LoneQuestion::Try {
+                name: proof.name,
+                text: proof.bytes,
+            },
         },
     }
 }
@@ -209,7 +212,11 @@ fn text_over<'a, F: Folder, O: Write>(
         Err(FileFault::TooLong) => return reply(out, TOO_LONG_PROOF, Status::Stopped),
         Err(FileFault::Memory) => return Err(Stop::Memory),
     };
-    let command = text_command(asked.question, asked.label.as_bytes(), &file.bytes);
+    let proof = File {
+        name: asked.proof.as_bytes(),
+        bytes: &file.bytes,
+    };
+    let command = text_command(asked.question, asked.label.as_bytes(), proof);
     run_over(alloc, seed, folder, &command, &asked.names, max, out)
 }
 

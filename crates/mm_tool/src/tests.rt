@@ -220,6 +220,66 @@ fn asks_by_its_words(rt: HostRuntime) {
     }
 }
 
+// With `--list` each word names a file, with `--all` the first one that of the file.
+#[test]
+fn asks_for_shorter_proofs_by_its_words(rt: HostRuntime) {
+    let minimized = Command::About {
+        label: b"th".as_slice(),
+        question: Question::Minimized,
+    };
+    let listed = Command::Whole {
+        profile: Profile::Lenient,
+        question: WholeQuestion::Shorter,
+    };
+    let file = |duplicates| Command::Shorter {
+        file: 0,
+        duplicates,
+    };
+    for (words, wanted) in [
+        (["mm", "minimize", "th", "first.mm"].as_slice(), minimized),
+        (["mm", "minimize", "--list", "first.mm"].as_slice(), listed),
+        (["mm", "minimize", "first.mm", "--list"].as_slice(), listed),
+        (
+            ["mm", "minimize", "--all", "first.mm", "first.mm"].as_slice(),
+            file(false),
+        ),
+        (
+            [
+                "mm",
+                "minimize",
+                "--duplicates",
+                "--all",
+                "first.mm",
+                "first.mm",
+            ]
+            .as_slice(),
+            file(true),
+        ),
+    ] {
+        assert!(rt; asks_to_run(rt.alloc(), words, wanted), "at {words:?}");
+    }
+}
+
+#[test]
+fn takes_flags_of_minimize_that_agree(rt: HostRuntime) {
+    for (first, second) in [("--all", "--list"), ("--list", "--duplicates")] {
+        let words = ["mm", "minimize", first, second, "first.mm", "first.mm"];
+        let (status, out, err) = outcome_of(rt.alloc(), &words);
+        assert_eq!(rt; status, 2);
+        assert!(rt; out.is_empty());
+        assert!(rt; err.starts_with(b"mm: --list stands alone, and --duplicates beside --all\n"));
+    }
+}
+
+#[test]
+fn shortens_one_of_the_files(rt: HostRuntime) {
+    let words = ["mm", "minimize", "--all", "none.mm", "first.mm"];
+    let (status, out, err) = outcome_of(rt.alloc(), &words);
+    assert_eq!(rt; status, 2);
+    assert!(rt; out.is_empty());
+    assert!(rt; err.starts_with(b"mm: none.mm is none of the files\n"));
+}
+
 // Without `--all` the one word is a label.
 #[test]
 fn asks_for_a_file_behind_the_label(rt: HostRuntime) {
@@ -263,6 +323,23 @@ fn asks_about_a_text_by_its_words(rt: HostRuntime) {
         let words = ["mm", name, "th", "proof.txt", "first.mm"];
         assert!(rt; asks_about_a_text(rt.alloc(), &words, wanted), "at {name}");
     }
+}
+
+// The place is one in the file with the text.
+#[test]
+fn tells_the_place_in_the_file_of_the_text(rt: HostRuntime) {
+    let words = ["mm", "try", "th", "four.mm", "first.mm"];
+    let (status, out, err) = outcome_of(rt.alloc(), &words);
+    assert_eq!(rt; status, 1);
+    assert!(rt;
+        out.as_slice()
+            == b"text P2 0
+four.mm:1:1: P2: no earlier statement has the label
+  token: 1234
+"
+                .as_slice()
+    );
+    assert!(rt; err.is_empty());
 }
 
 const NOTE: &[u8] = b"mm: note: four.mm was not included, so nothing in it was checked\n";

@@ -66,6 +66,15 @@ Commands:
   small --all NAME FILES..
                          checks the database, and writes the file NAME, which is one of FILES, with
                          each complete proof in that form
+  minimize LABEL FILES..
+                         checks the database, and writes a shorter proof of the theorem with this
+                         label, by what the library has before it; the small one where none is found
+  minimize --all [--duplicates] NAME FILES..
+                         checks the database, and writes the file NAME, which is one of FILES, with
+                         each proof replaced that becomes shorter so; with --duplicates also where
+                         the new proof uses one assertion alone
+  minimize --list FILES..
+                         checks the database, and lists the proofs that become shorter so
   same LABEL PROOF FILES..
                          checks the database, and tells whether the text in the file PROOF is the
                          same proof as that of the theorem with this label
@@ -157,6 +166,15 @@ Replies of normal, packed and small, on standard output:
   ask F3 LABEL, with --all ask F3 NAME
       The files would then hold more than 1,073,741,824 bytes in all. Status 4.
 
+Replies of minimize, on standard output:
+  the proof, in lines; with --all the bytes of the file, and nothing else
+      Status 0.
+  With --list, one on each line: LABEL BYTES NEW-BYTES STEPS NEW-STEPS ASSERTIONS.. of a theorem
+  whose proof becomes shorter, with the bytes of its small text, its steps where each part is made
+  once, and what it newly uses; `duplicate: ` stands before LABEL where the new proof uses one
+  assertion alone. At the end N proofs BYTES NEW-BYTES STEPS NEW-STEPS, their sums. Status 0, or 3
+  where a proof of the database holds a `?`.
+
 Replies of same, on standard output:
   same, or different
       Both proofs make the same tree, or two. Status 0, or 1.
@@ -168,8 +186,9 @@ Replies of try, on standard output:
   proof
       The text is a proof of the theorem. Status 0.
   text RULE STEP
-      It is none, as for same; or, with A3, what stands before its `?` breaks no rule. What explains
-      it, or is on the stack, follows. Status 1; 3 for A3; 4 for L1 and F3.
+      It is none, as for same; or, with A3, what stands before its `?` breaks no rule. The place in
+      PROOF with what explains it, or what is on the stack, follows. Status 1; 3 for A3; 4 for L1
+      and F3.
 
 Other replies to a LABEL: that of check, where it is no, limit or load; and
   ask A1 LABEL
@@ -202,6 +221,8 @@ Examples:
   mm packed id set.mm
   mm packed --all set.mm set.mm
   mm small --all set.mm set.mm
+  mm minimize id set.mm
+  mm minimize --list set.mm
   mm same id proof.txt set.mm
   mm try id proof.txt set.mm
   mm explain P8

@@ -1,24 +1,26 @@
 //! What the program is asked by its words: the requests that are made of what `clap` found in them.
 
-ghost use Rattle.std.specs.Prelude.{◌≡◌, ◌≢◌, ◌∷◌, [], List, map, IfOk, IfErr, IfSome, IfNone, false};
-ghost use Rattle.std.specs.Prelude.{ℕ, codes, option_map, position, unwrap_or};
+ghost use Rattle.std.specs.Prelude.{◌≡◌, ◌≢◌, ◌↔◌, ◌∷◌, [], List, map, IfOk, IfErr, IfSome, IfNone};
+ghost use Rattle.std.specs.Prelude.{IsTrue, false, ℕ, codes, option_map, position, unwrap_or};
 ghost use Rattle.std.specs.Str.{bytes_eq};
 ghost use Rattle.clap.specs.Words.{Text, all_of, app_of, first_of, found_of, kind_of, rows_of};
-ghost use Rattle.mm_check.specs.declared.command.Command.TheVariants.{File};
+ghost use Rattle.mm_check.specs.declared.command.Command.TheVariants.{File, Whole};
+ghost use Rattle.mm_check.specs.declared.question.WholeQuestion.TheVariants.{Shorter};
 ghost use Rattle.mm_tool.specs.Words.{AreMatchesOf, AreSeveral, Asks, AsksAbout, AsksQuestion};
-ghost use Rattle.mm_tool.specs.Words.{AsksRun, AsksShow, AsksUnder, AsksWhole, Commands};
-ghost use Rattle.mm_tool.specs.Words.{IsFilesFault};
+ghost use Rattle.mm_tool.specs.Words.{AreMinimizeFlags, AsksRun, AsksShow};
+ghost use Rattle.mm_tool.specs.Words.{AsksUnder, AsksWhole, Commands, DoAgree, IsFilesFault};
 ghost use Rattle.mm_tool.specs.Words.{IsAllFault, IsFaultOfKind, IsGiven, IsOfKind, IsWordFault};
-ghost use Rattle.mm_tool.specs.Words.{NamesNoForm, NamesNoText, command_line, first_command};
-ghost use Rattle.mm_tool.specs.Words.{is_strict, name_of_form, name_of_text};
-ghost use Rattle.mm_tool.specs.Words.{number_among};
+ghost use Rattle.mm_tool.specs.Words.{IsNamingFault, NamesFile, NamesNoForm, NamesNoText};
+ghost use Rattle.mm_tool.specs.Words.{command_line, first_command, is_strict, name_of_form};
+ghost use Rattle.mm_tool.specs.Words.{name_of_text, number_among};
 ghost use Rattle.mm_proof.specs.declared.profile.Profile.{Profile};
+ghost use Rattle.mm_proof.specs.declared.profile.Profile.TheVariants.{Lenient};
 ghost use Rattle.mm_tool.specs.declared.words.Request.TheVariants.{Run};
 
 use crate::command_line::{
-    ALL, AXIOMS, CHECK, CODE, COMMAND, ESSENTIAL, EXPLAIN, FAULTS, FILE, FILES, HELP, KNOWN, LABEL,
-    NORMAL, PACKED, PROOF, SAME, SHOW, SMALL, STATEMENT, STRICT, TRY, USERS, USES, VERSION, WHY,
-    whole_command,
+    ALL, AXIOMS, AXIOMS_USE, CHECK, CODE, COMMAND, DUPLICATES, ESSENTIAL, EXPLAIN, FAULTS, FILE,
+    FILES, HELP, KNOWN, LABEL, LIST, MINIMIZE, MINIMIZE_USE, NORMAL, PACKED, PROOF, SAME, SHOW,
+    SMALL, STATEMENT, STRICT, TRY, USERS, USES, VERSION, WHY, whole_command,
 };
 use crate::stop::Stop;
 use clap::error::ErrorKind;
@@ -26,16 +28,6 @@ use clap::{ArgMatches, Command, Error};
 use mm_check::{Form, LoneQuestion, Question, WholeQuestion};
 use mm_proof::Profile;
 use std::alloc::{AllocError, Global};
-
-/// What is said where no file's name follows the label, as `clap` says it of a missing argument.
-const NO_FILES: &str = "error: the following required arguments were not provided:
-  <FILES>...
-
-Usage: mm axioms LABEL FILES..
-       mm axioms --all FILES..
-
-For more information, try '--help'.
-";
 
 /// What is said where two flags of `show` are given.
 const SHOW_FLAGS: &str = "mm: --known, --essential and --uses exclude each other
@@ -262,10 +254,25 @@ fn whole_request<'a>(
     })
 }
 
-/// A label and the files' names behind it, of which there is one at least.
+/// What is said where no file's name follows the label, as `clap` says it of a missing argument.
+fn lack_of_files(alloc: Global, usage: &str) -> Result<String, AllocError> {
+    format!(in alloc;
+        "error: the following required arguments were not provided:
+  <FILES>...
+
+Usage: {usage}
+
+For more information, try '--help'.
+"
+    )
+}
+
+/// A label and the files' names behind it, of which there is one at least, where the command is used
+/// so.
 fn label_and_names<'a>(
     alloc: Global,
     words: &[&'a str],
+    usage: &str,
 ) -> Result<(&'a str, Vec<&'a str>), Stop<'a>>
     ensures parts { IfOk result (λ parts. (map (λ word. word.now) words.now
         ≡ parts.0.now ∷ map (λ name. name.now) parts.1.items)
@@ -274,7 +281,7 @@ fn label_and_names<'a>(
 {
     match words {
         [label, names @ ..] if !names.is_empty() => Ok((*label, names.to_vec(alloc)?)),
-        _ => Err(Stop::Usage(format!(in alloc; "{NO_FILES}")?)),
+        _ => Err(Stop::Usage(lack_of_files(alloc, usage)?)),
     }
 }
 
@@ -299,10 +306,105 @@ fn axioms_request<'a>(alloc: Global, matches: &ArgMatches<'a>) -> Result<Request
             names: words,
         });
     }
-    let (label, names) = label_and_names(alloc, &words)?;
+    let (label, names) = label_and_names(alloc, &words, AXIOMS_USE)?;
     let command = mm_check::Command::About {
         label: label.as_bytes(),
         question: Question::Axioms,
+    };
+    Ok(Request::Run { command, names })
+}
+
+/// Which flags of `minimize` are given.
+#[derive(Clone, Copy)]
+struct MinimizeFlags {
+    all: bool,
+    list: bool,
+    duplicates: bool,
+}
+
+/// Those in the matches of the command.
+fn minimize_flags(matches: &ArgMatches) -> MinimizeFlags
+    ensures { AreMinimizeFlags (rows_of (found_of matches.now)) result.all result.list
+        result.duplicates }
+{
+    MinimizeFlags {
+        all: is_given(matches, ALL),
+        list: is_given(matches, LIST),
+        duplicates: is_given(matches, DUPLICATES),
+    }
+}
+
+/// Whether flags of `minimize` stand beside each other: `--list` alone, and `--duplicates` beside
+/// `--all`.
+fn do_agree(flags: MinimizeFlags) -> bool
+    ensures { IsTrue result ↔ DoAgree flags.all flags.list flags.duplicates }
+{
+    match flags.list {
+        true => !flags.all && !flags.duplicates,
+        false => flags.all || !flags.duplicates,
+    }
+}
+
+/// The number of the file that the first word names, among those that the others name, and the names
+/// of these.
+fn named_file<'a>(alloc: Global, words: &[&'a str]) -> Result<(usize, Vec<&'a str>), Stop<'a>>
+    ensures named { IfOk result (λ named. NamesFile (map (λ word. word.now) words.now) named.0
+        (map (λ name. name.now) named.1.items)) }
+    ensures fault { IfErr result (IsNamingFault (map (λ word. word.now) words.now)) }
+{
+    let (name, names) = label_and_names(alloc, words, MINIMIZE_USE)?;
+    match number_of(&names, name) {
+        Some(file) => Ok((file, names)),
+        None => Err(Stop::Usage(format!(in alloc;
+            "mm: {name} is none of the files\nUsage: {MINIMIZE_USE}\n"
+        )?)),
+    }
+}
+
+/// The request to list the proofs in the files with these names that become shorter.
+fn listed_request(names: Vec<&str>) -> Request<'_>
+    ensures { result ≡ Run (Whole Lenient Shorter) names.entry }
+{
+    Request::Run {
+        command: mm_check::Command::Whole {
+            profile: Profile::Lenient,
+            question: WholeQuestion::Shorter,
+        },
+        names,
+    }
+}
+
+/// What the matches of the command `minimize` ask for.
+fn minimize_request<'a>(alloc: Global, matches: &ArgMatches<'a>) -> Result<Request<'a>, Stop<'a>>
+    ensures request { IfOk result (λ request. (words : List Text)
+        → Commands words (codes "minimize") (rows_of (found_of matches.now))
+        → Asks words request) }
+    ensures fault { IfErr result (λ stop. (words : List Text)
+        → Commands words (codes "minimize") (rows_of (found_of matches.now))
+        → IsWordFault words stop) }
+{
+    let words = values_of(alloc, matches, FILES)?;
+    let flags = minimize_flags(matches);
+    if !do_agree(flags) {
+        return Err(Stop::Usage(format!(in alloc;
+            "mm: --list stands alone, and --duplicates beside --all\nUsage: {MINIMIZE_USE}\n"
+        )?));
+    }
+    if flags.list {
+        return Ok(listed_request(words));
+    }
+    if flags.all {
+        let (file, names) = named_file(alloc, &words)?;
+        let command = mm_check::Command::Shorter {
+            file,
+            duplicates: flags.duplicates,
+        };
+        return Ok(Request::Run { command, names });
+    }
+    let (label, names) = label_and_names(alloc, &words, MINIMIZE_USE)?;
+    let command = mm_check::Command::About {
+        label: label.as_bytes(),
+        question: Question::Minimized,
     };
     Ok(Request::Run { command, names })
 }
@@ -475,6 +577,9 @@ fn form_request<'a>(
     }
     if let Some(small) = matches.subcommand_matches(SMALL) {
         return Ok(Some(proof_request(alloc, small, Form::Small)?));
+    }
+    if let Some(minimize) = matches.subcommand_matches(MINIMIZE) {
+        return Ok(Some(minimize_request(alloc, minimize)?));
     }
     if let Some(same) = matches.subcommand_matches(SAME) {
         return Ok(Some(asked_text(alloc, same, TextQuestion::Same)?));

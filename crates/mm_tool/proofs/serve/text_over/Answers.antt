@@ -1,5 +1,5 @@
 -- Once the proof is read, the question ends as the command over the files does.
-use Rattle.std.proofs.Common.{◌≤◌, Err, length, ap, arith, ◌∙◌}
+use Rattle.std.proofs.Common.{◌≤◌, Err, length, ap, arith, sym, ◌∙◌}
 use Rattle.mm_tool.proofs.AnsweredWords.{text_replies, text_stops, text_too_long}
 use Rattle.mm_tool.proofs.serve.text_over.Goals as goal
 
@@ -19,7 +19,11 @@ returns-clause-replies g c =
     text_replies c.args.asked.now.question g.O.Write.contents (g.F.Folder.holds c.args.folder.now) c.args.max
     c.args.asked.now.label.now c.args.asked.now.proof.now _
     c.text_command-command.result whole c.run_over.result _ _ (named, held, within)
-    (rw (c.as_bytes.ensures.value, c.deref.ensures.value ∙ reads.1) at c.text_command-command.ensures)
+    (rw (
+      c.as_bytes-2.ensures.value,
+      c.as_bytes.ensures.value ∙ sym named,
+      c.deref.ensures.value ∙ reads.1,
+    ) at c.text_command-command.ensures)
     (rw c.deref-2.ensures.value at c.run_over.ensures.replies)
 
 pub returns-clause-stops : goal.returns-clause-stops
@@ -31,5 +35,9 @@ returns-clause-stops g c =
     (g.F.Folder.may_fail c.args.folder.now) c.args.max
     c.args.asked.now.label.now c.args.asked.now.proof.now _
     c.text_command-command.result whole c.run_over.result _ _ (named, held, within)
-    (rw (c.as_bytes.ensures.value, c.deref.ensures.value ∙ reads.1) at c.text_command-command.ensures)
+    (rw (
+      c.as_bytes-2.ensures.value,
+      c.as_bytes.ensures.value ∙ sym named,
+      c.deref.ensures.value ∙ reads.1,
+    ) at c.text_command-command.ensures)
     (rw c.deref-2.ensures.value at c.run_over.ensures.stops)

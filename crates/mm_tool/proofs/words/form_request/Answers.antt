@@ -36,12 +36,23 @@ returns-in_err-proof_request-3-clause-fault c =
     (c.in-Some-subcommand_matches-2.ensures.found.0 refl)
     c.in-Some-subcommand_matches-2.ensures.rows))
 
-pub returns-in-Some-subcommand_matches-4-clause-request :
-    goal.returns-in-Some-subcommand_matches-4-clause-request
-returns-in-Some-subcommand_matches-4-clause-request c = λ words met.
+pub returns-in_err-minimize_request-clause-fault :
+    goal.returns-in_err-minimize_request-clause-fault
+returns-in_err-minimize_request-clause-fault c =
+    error_keeps c.from_residual-in_err-minimize_request.result c.in_err-minimize_request.field-0.0
+    (λ stop. (words : List Text) → AreMatchesOf words c.args.matches.now → IsWordFault words stop)
+    c.from_residual-in_err-minimize_request.ensures.1
+    (λ words met. c.in_err-minimize_request.ensures.fault words
+    (commands_met words c.args.matches.now _ _ met
+    (c.in-Some-subcommand_matches-3.ensures.found.0 refl)
+    c.in-Some-subcommand_matches-3.ensures.rows))
+
+pub returns-in-Some-subcommand_matches-5-clause-request :
+    goal.returns-in-Some-subcommand_matches-5-clause-request
+returns-in-Some-subcommand_matches-5-clause-request c = λ words met.
     c.in_ok-asked_text-2.ensures words (commands_met words c.args.matches.now _ _ met
-    (c.in-Some-subcommand_matches-4.ensures.found.0 refl)
-    c.in-Some-subcommand_matches-4.ensures.rows)
+    (c.in-Some-subcommand_matches-5.ensures.found.0 refl)
+    c.in-Some-subcommand_matches-5.ensures.rows)
 
 pub returns-clause-none : goal.returns-clause-none
 returns-clause-none c = λ words met rows.
@@ -56,4 +67,6 @@ returns-clause-none c = λ words met rows.
           c.in_default-subcommand_matches-3.is (c.subcommand_matches-4.ensures.found.1 named)),
       other _ rows met (λ named. none_there c.subcommand_matches-5.result
           c.in_default-subcommand_matches-4.is (c.subcommand_matches-5.ensures.found.1 named)),
+      other _ rows met (λ named. none_there c.subcommand_matches-6.result
+          c.in_default-subcommand_matches-5.is (c.subcommand_matches-6.ensures.found.1 named)),
     )

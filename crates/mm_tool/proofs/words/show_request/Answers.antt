@@ -1,5 +1,5 @@
 -- The words ask for the steps of a proof by the flags that are given, or two exclude each other.
-use Rattle.std.proofs.Common.{inr, sym, ◌∙◌}
+use Rattle.std.proofs.Common.{inl, inr, sym, ◌∙◌}
 use Rattle.clap.specs.Words.{found_of, rows_of}
 use Rattle.mm_tool.proofs.words.show_request.Goals as goal
 
@@ -13,7 +13,7 @@ returns-in-Some-clause-request c = λ words commands. c.in-Some.ensures.asked wo
 )
 
 pub returns-clause-fault : goal.returns-clause-fault
-returns-clause-fault c = λ words commands. inr (inr (inr (inr (
+returns-clause-fault c = λ words commands. inr (inr (inr (inr (inl (
   rows_of (found_of c.args.matches.now),
   _,
   _,
@@ -21,4 +21,4 @@ returns-clause-fault c = λ words commands. inr (inr (inr (inr (
   commands,
   (c.is_given-known.ensures, c.is_given-essential.ensures, c.is_given-uses.ensures),
   c.in-None.ensures.none,
-))))
+)))))
