@@ -92,7 +92,7 @@ fn called(alloc: Global, command: &Command, files: &[File]) -> Result<Answer, Fa
 /// The label that a command asks about.
 fn label_of<'a>(command: &Command<'a>) -> &'a [u8] {
     match command {
-        Command::Whole { .. } | Command::File { .. } => b"",
+        Command::Whole { .. } | Command::File { .. } | Command::Shorter { .. } => b"",
         Command::About { label, .. } | Command::Lone { label, .. } => label,
     }
 }

@@ -55,6 +55,8 @@ mod saving_all;
 #[cfg(test)]
 mod scopes;
 #[cfg(test)]
+mod shortening;
+#[cfg(test)]
 mod statements;
 #[cfg(test)]
 mod tests;

@@ -11,7 +11,10 @@ pub(crate) const TRIED: [(Command<'static>, Case); 5] = [
     (
         Lone {
             label: b"th",
-            question: Try(b"tze tze\n  tpl\n"),
+            question: Try {
+                name: b"th.txt",
+                text: b"tze tze\n  tpl\n",
+            },
         },
         Case {
             name: "a text is a proof of a theorem",
@@ -23,7 +26,10 @@ pub(crate) const TRIED: [(Command<'static>, Case); 5] = [
     (
         Lone {
             label: b"th",
-            question: Try(b"tze tze tpl"),
+            question: Try {
+                name: b"th.txt",
+                text: b"tze tze tpl",
+            },
         },
         Case {
             name: "a text is a proof of a theorem with a wrong one",
@@ -41,7 +47,10 @@ pub(crate) const TRIED: [(Command<'static>, Case); 5] = [
     (
         Lone {
             label: b"th",
-            question: Try(b"( tze tpl ) AAB"),
+            question: Try {
+                name: b"th.txt",
+                text: b"( tze tpl ) AAB",
+            },
         },
         Case {
             name: "a compressed text is a proof of a theorem with an incomplete one",
@@ -56,7 +65,10 @@ pub(crate) const TRIED: [(Command<'static>, Case); 5] = [
     (
         Lone {
             label: b"th2",
-            question: Try(b"th"),
+            question: Try {
+                name: b"th.txt",
+                text: b"th",
+            },
         },
         Case {
             name: "a text is a proof after a theorem whose proof is at fault",
@@ -75,7 +87,10 @@ pub(crate) const TRIED: [(Command<'static>, Case); 5] = [
     (
         Lone {
             label: b"th",
-            question: Try(b"tze tze tpl"),
+            question: Try {
+                name: b"th.txt",
+                text: b"tze tze tpl",
+            },
         },
         Case {
             name: "what stands after the theorem isn't read",
@@ -89,12 +104,141 @@ pub(crate) const TRIED: [(Command<'static>, Case); 5] = [
     ),
 ];
 
+/// Texts that are no proofs of a theorem, each with what explains it at its place in their file.
+pub(crate) const TRIED_FAULTS: [(Command<'static>, Case); 6] = [
+    (
+        Lone {
+            label: b"th",
+            question: Try {
+                name: b"th.txt",
+                text: b"tze\n tpl\n",
+            },
+        },
+        Case {
+            name: "a step of a text takes more than there is",
+            files: &[
+                (b"top.mm", &[Text(b"$[ h.mm $]\n")]),
+                (b"h.mm", &[Text(FIRST)]),
+            ],
+            reply: b"text P8 2
+th.txt:2:2: P8: the stack has fewer entries than the step takes, at step 2
+  step: tpl
+  entries it takes: 2, entries there are: 1
+  tt states
+    term t
+  tr states
+    term r
+  step 1 gives
+    term 0
+",
+            status: 1,
+        },
+    ),
+    (
+        Lone {
+            label: b"th",
+            question: Try {
+                name: b"d/th.txt",
+                text: b"\n\n  tze unknown tpl\n",
+            },
+        },
+        Case {
+            name: "a label of a text is unknown",
+            files: &[(b"first.mm", &[Text(FIRST)])],
+            reply: b"text P2 0
+d/th.txt:3:7: P2: no earlier statement has the label
+  token: unknown
+",
+            status: 1,
+        },
+    ),
+    (
+        Lone {
+            label: b"th",
+            question: Try {
+                name: b"th.txt",
+                text: b"( tze tpl )\n A\tA!B",
+            },
+        },
+        Case {
+            name: "a byte of a text is no letter",
+            files: &[(b"first.mm", &[Text(FIRST)])],
+            reply: b"text P4 0
+th.txt:2:5: P4: a byte of the letters isn't one of A to Z
+  token: A!B
+",
+            status: 1,
+        },
+    ),
+    (
+        Lone {
+            label: b"th",
+            question: Try {
+                name: b"th.txt",
+                text: b"tze tze tpl\n tze  \n ",
+            },
+        },
+        Case {
+            name: "an entry is left at the end of a text",
+            files: &[(b"first.mm", &[Text(FIRST)])],
+            reply: b"text P13 5
+th.txt:3:2: P13: the proof doesn't leave exactly one entry, at step 5
+  step 3 gives
+    term ( 0 + 0 )
+  step 4 gives
+    term 0
+",
+            status: 1,
+        },
+    ),
+    (
+        Lone {
+            label: b"th",
+            question: Try {
+                name: b"th.txt",
+                text: b"",
+            },
+        },
+        Case {
+            name: "an empty text",
+            files: &[(b"first.mm", &[Text(FIRST)])],
+            reply: b"text P13 1
+th.txt:1:1: P13: the proof doesn't leave exactly one entry, at step 1
+",
+            status: 1,
+        },
+    ),
+    (
+        Lone {
+            label: b"th",
+            question: Try {
+                name: b"th.txt",
+                text: b"tze\n? tpl tpl",
+            },
+        },
+        Case {
+            name: "the steps of a text before an unknown one pass",
+            files: &[(b"first.mm", &[Text(FIRST)])],
+            reply: b"text A3 0
+  step 1 gives
+    term 0
+  th states
+    term ( 0 + 0 )
+",
+            status: 3,
+        },
+    ),
+];
+
 /// Texts that may stand in no proof.
 pub(crate) const NO_TOKENS: [(Command<'static>, Case); 2] = [
     (
         Lone {
             label: b"th",
-            question: Try(b"tze \x01 $."),
+            question: Try {
+                name: b"th.txt",
+                text: b"tze \x01 $.",
+            },
         },
         Case {
             name: "a text holds a byte that none may hold",
@@ -106,7 +250,10 @@ pub(crate) const NO_TOKENS: [(Command<'static>, Case); 2] = [
     (
         Lone {
             label: b"th",
-            question: Try(b"tze ? tpl $."),
+            question: Try {
+                name: b"th.txt",
+                text: b"tze ? tpl $.",
+            },
         },
         Case {
             name: "a text holds a dollar sign",
@@ -137,7 +284,10 @@ pub(crate) const NOT_FOUND: [(Command<'static>, Case); 6] = [
     (
         Lone {
             label: b"tze",
-            question: Try(b"$"),
+            question: Try {
+                name: b"th.txt",
+                text: b"$",
+            },
         },
         Case {
             name: "an axiom alone",
@@ -179,7 +329,10 @@ pub(crate) const NOT_FOUND: [(Command<'static>, Case); 6] = [
     (
         Lone {
             label: b"th2",
-            question: Try(b"tze"),
+            question: Try {
+                name: b"th.txt",
+                text: b"tze",
+            },
         },
         Case {
             name: "the theorem breaks a rule of meaning",
@@ -194,7 +347,10 @@ pub(crate) const NOT_FOUND: [(Command<'static>, Case); 6] = [
     (
         Lone {
             label: b"th",
-            question: Try(b"tze tze tpl"),
+            question: Try {
+                name: b"th.txt",
+                text: b"tze tze tpl",
+            },
         },
         Case {
             name: "a theorem alone in files that can't be taken",

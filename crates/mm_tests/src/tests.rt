@@ -40,6 +40,7 @@ pub(crate) fn asks_handed(command: &Command, files: &[File<'_>]) -> bool
 {
     match command {
         Command::File { file, .. } => *file < files.len(),
+        Command::Shorter { file, .. } => *file < files.len(),
         _ => true,
     }
 }
@@ -494,6 +495,11 @@ fn axioms_of_refused_files(rt: HostRuntime) -> Result<(), Fail> {
 #[test]
 fn tried_texts(rt: HostRuntime) -> Result<(), Fail> {
     compare_commands(&rt, rt.alloc(), &lone::TRIED)
+}
+
+#[test]
+fn faults_of_tried_texts(rt: HostRuntime) -> Result<(), Fail> {
+    compare_commands(&rt, rt.alloc(), &lone::TRIED_FAULTS)
 }
 
 #[test]

@@ -8,7 +8,7 @@ use mm_check::WholeQuestion;
 use mm_proof::Profile::{Lenient, Strict};
 
 /// Databases with several faults, with one, and with none.
-pub(crate) const EXPLAINED: [(Command<'static>, Case); 12] = [
+pub(crate) const EXPLAINED: [(Command<'static>, Case); 13] = [
     (
         Whole {
             profile: Lenient,
@@ -331,8 +331,48 @@ f.mm:5:14: P3: a hypothesis isn't active, in the proof of p4
 f.mm:6:24: P4: a byte of the letters isn't one of A to Z, in the proof of p5
   token: aA?
 f.mm:7:25: P5: a number in the letters isn't ended, in the proof of p6
-f.mm:8:14: P15: the list or a Z isn't as the strict profile demands, in the proof of p7
+f.mm:8:20: P15: the list or a Z isn't as the strict profile demands, in the proof of p7
+  token: one
 6 faults
+",
+            status: 1,
+        },
+    ),
+    (
+        Whole {
+            profile: Strict,
+            question: WholeQuestion::Why,
+        },
+        Case {
+            name: "labels and marks that aren't of the strict form",
+            files: &[(
+                b"f.mm",
+                &[
+                    Text(b"$c a b $. $v x y $. fx $f a x $. fy $f a y $. two $a a x b $.\n"),
+                    Text(b"p1 $p a x b $= ( two fy two ) AB $.\n"),
+                    Text(b"p2 $p a x b $= ( two fy\n  fx fx ) AZB $.\n"),
+                    Text(b"p3 $p a x b $= ( two ) AZB $.\np4 $p a x b $= ( two fy ) CZ? $.\n"),
+                    Text(b"p5 $p a x b $= ( two ) AB\n  Z Z $.\n"),
+                    Text(b"p6 $p a x b b $= ( two ) ABZBC\n Z $.\n"),
+                    Text(b"p7 $p a x b $= ( two ) Z AB $.\np8 $p a x b $= ( two ) ABZ $.\n"),
+                ],
+            )],
+            reply: b"\
+f.mm:2:25: P15: the list or a Z isn't as the strict profile demands, in the proof of p1
+  token: two
+f.mm:4:3: P15: the list or a Z isn't as the strict profile demands, in the proof of p2
+  token: fx
+f.mm:5:25: P15: the list or a Z isn't as the strict profile demands, in the proof of p3
+  token: AZB
+f.mm:6:28: P15: the list or a Z isn't as the strict profile demands, in the proof of p4
+  token: CZ?
+f.mm:8:5: P15: the list or a Z isn't as the strict profile demands, in the proof of p5
+  token: Z
+f.mm:10:2: P15: the list or a Z isn't as the strict profile demands, in the proof of p6
+  token: Z
+f.mm:11:24: P15: the list or a Z isn't as the strict profile demands, in the proof of p7
+  token: Z
+7 faults
 ",
             status: 1,
         },

@@ -288,6 +288,8 @@ fn answer_to(
         }
         Question::Users { all } => users_text(alloc, checked, label, *all),
         Question::Statement => checked.statement(alloc, label),
+        // It is asked by a command alone, so this is what is told where no search finds anything.
+        Question::Minimized => checked.small(alloc, label),
     }
 }
 

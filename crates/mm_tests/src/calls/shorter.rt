@@ -1,6 +1,6 @@
 //! Shorter proofs of a theorem, whatever a search gives.
 
-use mm_check::{AskFault, AskRule, Checked, Search, check};
+use mm_check::{AskFault, AskRule, Checked, OwnSize, Search, check};
 use mm_frame::{Book, LabelId};
 use mm_proof::Steps;
 use mm_text::{File, Seed};
@@ -18,6 +18,7 @@ impl Search for Given {
         _book: &Book,
         _id: LabelId,
         _steps: &Steps,
+        _size: OwnSize,
     ) -> Result<Option<Vec<u8>>, AllocError> {
         if self.0.is_empty() {
             return Ok(None);
