@@ -40,7 +40,8 @@ def blocks(folder, size):
     write(folder, "wrong.txt", "fx fy\n")
     return [*asked(0, "check f.mm", "statement th f.mm", "show --uses th f.mm",
                    "show --essential th f.mm", "show --known th f.mm", "users th f.mm",
-                   "axioms --all f.mm", "why f.mm", "faults f.mm", "try th proof.txt f.mm"),
+                   "axioms --all f.mm", "why f.mm", "faults f.mm", "try th proof.txt f.mm",
+                   "minimize th f.mm", "minimize --list f.mm"),
             *asked(1, "try th wrong.txt f.mm", "why bad.mm", "faults bad.mm",
                    "show --known th bad.mm")]
 
@@ -59,7 +60,8 @@ def hypotheses(folder, size):
     write(folder, "wrong.mm", HEAD, axiom, theorem("o "))
     write(folder, "few.txt", "fx ", "k " * (size - 2), "big\n")
     return [*asked(0, "check f.mm", "statement big f.mm", "show --uses th f.mm",
-                   "show --essential th f.mm", "show --known th f.mm", "users big f.mm"),
+                   "show --essential th f.mm", "show --known th f.mm", "users big f.mm",
+                   "minimize th f.mm"),
             *asked(1, "why few.mm", "why wrong.mm", "show --known th wrong.mm", "faults wrong.mm",
                    "try th few.txt f.mm")]
 
@@ -143,7 +145,8 @@ def powers(folder, size):
     write(folder, "wrong.txt", f"( nil cat put no ) {letters}DC\n")
     write(folder, "open.txt", f"( nil cat put no ) {letters}?\n")
     return [*asked(0, "check f.mm", "statement th f.mm", "show --uses th f.mm",
-                   "show --essential th f.mm", "show --known th f.mm", "axioms --all f.mm"),
+                   "show --essential th f.mm", "show --known th f.mm", "axioms --all f.mm",
+                   "minimize th f.mm"),
             *asked(1, "why bad.mm", "show --known th bad.mm", "why typed.mm",
                    "try th wrong.txt f.mm"), *asked(3, "try th open.txt f.mm"),
             *asked(4, "faults over.mm", "why over.mm", "show --known th over.mm")]
@@ -165,7 +168,8 @@ def chain(folder, size):
     write(folder, "f.mm", HEAD, "ax $a |- x $. t0 $p |- x $= fx ax $.\n", theorems)
     return asked(0, "check f.mm", "axioms --all f.mm", "users ax f.mm", "users --all ax f.mm",
                  f"axioms t{size - 1} f.mm", f"statement t{size - 1} f.mm",
-                 f"show --uses t{size - 1} f.mm", f"show --known t{size - 1} f.mm")
+                 f"show --uses t{size - 1} f.mm", f"show --known t{size - 1} f.mm",
+                 f"minimize t{size - 1} f.mm")
 
 
 def star(folder, size):
@@ -199,7 +203,8 @@ def long_proof(folder, size):
     write(folder, "wrong.txt", [*steps, "cat\n"])
     write(folder, "open.txt", ["nil\n" * size, "?\n"])
     return [*asked(0, "check f.mm", "show --uses th f.mm", "show --essential th f.mm",
-                   "show --known th f.mm", "statement th f.mm", "try th proof.txt f.mm"),
+                   "show --known th f.mm", "statement th f.mm", "try th proof.txt f.mm",
+                   "minimize th f.mm"),
             *asked(1, "why bad.mm", "why left.mm", "faults left.mm", "show --known th bad.mm",
                    "try th wrong.txt f.mm"),
             *asked(3, "try th open.txt f.mm")]
@@ -222,7 +227,7 @@ def long_names(folder, size):
     write(folder, "twice.mm", head, f"{label} $a |- a $.\n")
     return [*asked(0, "check f.mm", "statement th f.mm", "show --uses th f.mm",
                    "show --essential th f.mm", "show --known th f.mm", "axioms --all f.mm",
-                   "users --all th f.mm"),
+                   "users --all th f.mm", "minimize th f.mm"),
             *asked(1, "why bad.mm", "why text.mm", "why twice.mm", "faults bad.mm")]
 
 

@@ -260,7 +260,7 @@ printf 'tze ?\n' >th.txt
 ends 3 'text A3 0\n  step 1 gives\n    term 0\n  th states\n    term ( 0 + 0 )\n' '' \
     try th th.txt first.mm
 printf 'tze tpl\n' >th.txt
-ends 1 'text P8 2\n  step: tpl\n  entries it takes: 2, entries there are: 1\n  tt states\n    term t\n  tr states\n    term r\n  step 1 gives\n    term 0\n' '' \
+ends 1 'text P8 2\nth.txt:1:5: P8: the stack has fewer entries than the step takes, at step 2\n  step: tpl\n  entries it takes: 2, entries there are: 1\n  tt states\n    term t\n  tr states\n    term r\n  step 1 gives\n    term 0\n' '' \
     try th th.txt first.mm
 ends 1 'ask A1 none\n' '' try none th.txt first.mm
 ends 0 'th tze tpl\n' '' axioms --all first.mm
@@ -333,7 +333,7 @@ for words in --help -h help '--help check' '-h nonsense'; do
     prints help.txt $words
 done
 narrow help.txt 100
-commands='check faults why axioms users statement show normal packed small same try explain help version'
+commands='check faults why axioms users statement show normal packed small minimize same try explain help version'
 for command in $commands; do
     constant=$(echo "$command" | tr a-z A-Z)
     literal pages.rt "$constant" >page.txt
@@ -420,6 +420,8 @@ misused try th first.mm
 misused show --known th
 misused show --uses th
 misused show --essential --essential th first.mm
+misused minimize --all --all first.mm first.mm
+misused minimize --list --list first.mm
 misused check --strict --strict first.mm
 misused check -first.mm
 misused help check axioms
@@ -430,6 +432,9 @@ mistaken -t 'mm axioms LABEL FILES..
        mm axioms --all FILES..' axioms -th first.mm
 mistaken --quiet 'mm packed [--file] LABEL FILES..
        mm packed --all NAME FILES..' packed --file th first.mm --quiet
+mistaken --quiet 'mm minimize LABEL FILES..
+       mm minimize --all [--duplicates] NAME FILES..
+       mm minimize --list FILES..' minimize --all first.mm first.mm --quiet
 mistaken --quiet 'mm explain [CODE]' explain --quiet
 mistaken --quiet 'mm help [COMMAND]' help --quiet
 for words in axioms 'axioms th' 'axioms --all'; do
@@ -440,6 +445,24 @@ Usage: mm axioms LABEL FILES..
        mm axioms --all FILES..
 
 For more information, try '--help'.\n" $words
+done
+minimize_use='Usage: mm minimize LABEL FILES..
+       mm minimize --all [--duplicates] NAME FILES..
+       mm minimize --list FILES..
+'
+for words in minimize 'minimize th' 'minimize --list' 'minimize --all' 'minimize --all first.mm'; do
+    ends 2 '' "error: the following required arguments were not provided:
+  <FILES>...
+
+$minimize_use
+For more information, try '--help'.\n" $words
+done
+for flags in '--all --list' '--list --duplicates' '--all --list --duplicates' --duplicates; do
+    ends 2 '' "mm: --list stands alone, and --duplicates beside --all\n$minimize_use" \
+        minimize $flags first.mm first.mm
+done
+for name in none.mm ./first.mm th; do
+    ends 2 '' "mm: $name is none of the files\n$minimize_use" minimize --all $name first.mm
 done
 begins 2 '' "error: unexpected argument '--strict' found" axioms --strict th first.mm
 explains P8 p8
@@ -488,7 +511,7 @@ taken() {
         "$2" "${3-}" "$1" "$2" 'the label comes first'
 }
 input='mm: the name of standard input is /dev/stdin\n'
-for command in axioms show normal packed 'packed --file' small; do
+for command in axioms show normal packed 'packed --file' small minimize; do
     ends 4 '' "$(taken first.mm th)" $command first.mm th
 done
 ends 4 '' "$(taken first.mm th)" axioms first.mm first.mm th none.mm
@@ -592,6 +615,42 @@ for form in normal packed small; do
     ends 1 'ask A1 --all\n' '' $form -- --all first.mm
 done
 
+# Shorter proofs: of a theorem, in a file, and a list of them. Marks are heeded.
+sed 's/^\(kk .*\$=\).*/\1\n    ( wim k add ) ABADDCABEF $./' added.mm >shorter.mm
+sed 's/\(th \$p.*\$=\).*/\1\n    ( add ) ABCD $. $}/' shorter.mm >shortest.mm
+sed 's/^kk /$( (Proof modification is discouraged.) $)\n&/' added.mm >settled.mm
+sed 's/ add [$]p/ $( (New usage is discouraged.) $)&/' added.mm >discouraged.mm
+ends 0 '      ( wim k add )\n      ABADDCABEF\n' '' minimize kk added.mm
+ends 0 '      ( wim k mp )\n      ABADDZCGDABEGCEF\n' '' minimize kk settled.mm
+ends 0 '      ( wim k mp )\n      ABADDZCGDABEGCEF\n' '' minimize kk discouraged.mm
+ends 0 '      ( add )\n      ABCD\n' '' minimize th added.mm
+ends 0 '      ( tze tpl )\n      AAB\n' '' minimize th first.mm
+duplicate='duplicate: th 35 25 9 4 add\n'
+ends 0 "kk 42 37 15 10 add\n${duplicate}2 proofs 77 62 24 14\n" '' minimize --list added.mm
+ends 0 "${duplicate}1 proofs 35 25 9 4\n" '' minimize --list settled.mm
+ends 0 '0 proofs 0 0 0 0\n' '' minimize --list discouraged.mm
+prints shorter.mm minimize --all added.mm added.mm
+prints shortest.mm minimize added.mm --all added.mm --duplicates
+prints shorter.mm minimize --all shorter.mm shorter.mm
+prints shortest.mm minimize --all --duplicates shortest.mm shortest.mm
+prints settled.mm minimize --all settled.mm settled.mm
+prints discouraged.mm minimize --all discouraged.mm discouraged.mm
+ends 0 '0 proofs 0 0 0 0\n' '' minimize --list shortest.mm
+ends 3 '0 proofs 0 0 0 0\n' '' minimize --list open.mm
+ends 0 '0 proofs 0 0 0 0\n' '' minimize --list empty.mm
+prints open.mm minimize --all open.mm open.mm
+ends 1 'ask A1 none\n' '' minimize none first.mm
+ends 1 'ask A1 --all\n' '' minimize -- --all first.mm
+ends 1 'ask A2 tze\n' '' minimize tze first.mm
+ends 3 'ask A3 q\n' '' minimize q open.mm
+for words in 'p' --list '--all twice.mm'; do
+    ends 1 'no twice.mm 2 - M2 0\n' '' minimize $words twice.mm
+done
+for words in 'th' --list '--all first.mm'; do
+    ends 4 'load F2\n' '' minimize $words first.mm first.mm
+    ends 4 '' 'mm: cannot read none.mm\n' minimize $words first.mm none.mm
+done
+
 # Zeros, one more than the files may hold, of which the file system need not keep any.
 truncate -s 1073741825 long.mm
 ends 4 'load F3\n' '' check long.mm none.mm
@@ -619,6 +678,7 @@ if [ -w /dev/full ]; then
     full 4 'mm: cannot write\n' help check
     full 4 'mm: cannot write\n' version
     full 4 'mm: cannot write\n' packed --all first.mm first.mm
+    full 4 'mm: cannot write\n' minimize --list first.mm
     mute 2 '' check
     mute 2 '' help nonsense
     mute 4 '' check none.mm
