@@ -1,8 +1,7 @@
 -- From what a file shows to its items: what stands outside and inside of `$[ .. $]`, and the files
 -- that are put in. Begin with `FilePieces` for one file, with `OpenFiles` for files in files.
--- On this room rest the contracts of `nest`, `names` and `included`, and the laws
--- `files_are_put_in_once`, `inclusions_end`, `tokens_fit_files`, `top_file_ends_last`,
--- `top_file_is_never_left_out` and `alike_files_leave_out_the_same`.
+-- On this room rest the contracts of `nest`, `names` and `included`, and the laws `inclusions_end`
+-- and `alike_files_leave_out_the_same`.
 pub mod FilePieces
 pub mod OpenFiles
 pub mod EachOnce

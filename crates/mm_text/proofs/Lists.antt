@@ -61,11 +61,6 @@ last_cut pre x before y after e = elim (two_cuts pre x [] before y after e) [
   | inr (inr within) ↦ inl (within.0, within.1)
 ]
 
--- a list in two parts, the first of them in two
-pub three_parts : {A : Type 0} (all prefix a b tail : List A) → all ≡ prefix ++ tail → prefix ≡ a ++ b
-    → all ≡ a ++ b ++ tail
-three_parts all prefix a b tail e split = e ∙ ap (λ l. l ++ tail) split
-
 -- ---- elements
 
 -- there is an element at each index within
@@ -260,6 +255,9 @@ module _ {A : Type 0} (P : A → Type 0) where
   all_there (x ∷ xs) each =
       (each 0 x refl, all_there xs (λ k y there. each (suc k) y there))
 
+  pub all_within : (xs : List A) → ((x : A) → Contains xs x → P x) → AllByRecursion P xs
+  all_within xs each = all_there xs (λ i x there. each x (contains_from_at xs x (i, there)))
+
   -- of each that passes a test
   pub all_filtered : (test : A → Bool) (xs : List A)
       → AllByRecursion P xs → AllByRecursion P (filter test xs)
@@ -429,42 +427,6 @@ zip_on R S T step (x ∷ xs) [] zs one other = absurd one
 zip_on R S T step (x ∷ xs) (y ∷ ys) (z ∷ zs) one other =
     (step x y z one.0 other.0, zip_on R S T step xs ys zs one.1 other.1)
 zip_on R S T step xs ys zs one other = absurd other
-
--- what stands beside an element, beside those before it, and beside those after it
-pub record ZipParts {A B : Type 0} (R : A → B → Type 0) (xs : List A) (before : List B) (y : B)
-    (after : List B) : Type 0 where
-  pub prefix : List A
-  pub x : A
-  pub back : List A
-  pub whole : xs ≡ prefix ++ x ∷ back
-  pub earlier : AllZip R prefix before
-  pub here : R x y
-  pub later : AllZip R back after
-
-pub zip_parts : {A B : Type 0} (R : A → B → Type 0) (xs : List A) (before : List B) (y : B)
-    (after : List B) → AllZip R xs (before ++ y ∷ after) → ZipParts R xs before y after
-zip_parts R [] [] y after zip = absurd zip
-zip_parts R [] (b ∷ before) y after zip = absurd zip
-zip_parts R (x ∷ xs) [] y after zip = record {
-  prefix = [];
-  x = x;
-  back = xs;
-  whole = refl;
-  earlier = tt;
-  here = zip.0;
-  later = zip.1;
-}
-zip_parts {A} R (x ∷ xs) (b ∷ before) y after zip =
-    let rest = zip_parts R xs before y after zip.1 in
-    record {
-      prefix = x ∷ rest.prefix;
-      x = rest.x;
-      back = rest.back;
-      whole = ap (λ (l : List A). x ∷ l) rest.whole;
-      earlier = (zip.0, rest.earlier);
-      here = rest.here;
-      later = rest.later;
-    }
 
 -- ---- results
 

@@ -1,8 +1,7 @@
 -- From items to statements: the plain reader, and that what it computes is the one reading.
 -- Begin with `OneToken` for a step of the reader, with `WholeReadings` for what holds of all of it.
 -- On this room rest the contracts of `parts` and `statements`, and the laws `one_reading`,
--- `beginnings_begin_statements`, `faults_end_longest_prefixes`, `statements_are_formed_in_place`,
--- `readings_are_balanced` and `readings_fit`.
+-- `beginnings_begin_statements` and `faults_end_longest_prefixes`.
 pub mod OneToken
 pub mod Unfinished
 pub mod SpelledStatements

@@ -1,5 +1,5 @@
--- What comments say: a text is gone through byte by byte, one comment at most stands right before a
--- position, and headings are counted part by part. The calls of `remarks.rt` rest on it.
+-- What comments say: a text is gone through byte by byte, and headings are counted part by part.
+-- The calls of `remarks.rt` rest on it.
 use Rattle.std.proofs.Common.{◌≡◌, ℕ, zero, suc, ◌+◌, ◌-◌, ◌<◌, ◌≤◌, ◌==◌, ◌||◌, ◌&&◌, List, [], ◌∷◌}
 use Rattle.std.proofs.Common.{◌++◌, length, take, drop, get_or, Bool, true, false, cond, refl, sym, ap}
 use Rattle.std.proofs.Common.{◌∙◌, arith, inl, inr, codes, add-zero, zero-add, drop-drop, eq-eqb, ne_eqb}
@@ -7,7 +7,7 @@ use Rattle.std.proofs.Common.{append_assoc}
 use Rattle.std.specs.List.{starts_with}
 use Rattle.std.specs.Prelude.{nat_eq}
 use Rattle.std.proofs.lemmas.List.{drop_more, drop_all, take_more}
-use Rattle.std.proofs.lemmas.Bool.{cases_Bool, cases_lt, both_ways, and_right, cond-true}
+use Rattle.std.proofs.lemmas.Bool.{cases_Bool, cases_lt, both_ways, cond-true}
 use Rattle.std.proofs.lemmas.Bool.{cond-false, cond_both, and_left}
 use borrow.Author.Tests.{eqb-true}
 use Rattle.mm_text.specs.Token.{is_space}
@@ -64,10 +64,6 @@ spaced-blank (suc count) text at end e within blank stops =
     ∙ ap behind_space inner
 
 -- ---- words
-
-pub starts-step : (c s : ℕ) (text word : List ℕ)
-    → starts_with nat_eq (c ∷ text) (s ∷ word) ≡ ((s == c) && starts_with nat_eq text word)
-starts-step c s text word = refl
 
 -- nothing begins with a word of at least one byte
 pub starts-nil : (word : List ℕ) → starts_with nat_eq [] word ≡ (length word == 0)
@@ -138,13 +134,6 @@ holds-nil word text at past = ap (holds word) (drop_all at text past)
 
 -- ---- the comment right before a position
 
--- a `$` isn't followed by another to make a mark
-pub mark-dollar : (b c : ℕ) → c ≡ 36 → is_mark b c ≡ false
-mark-dollar b c e = ap (is_mark b) e ∙ and_right (b == 36) false refl
-
-mark-opens : (b c : ℕ) → b ≡ 36 → c ≡ 40 → is_mark b c ≡ true
-mark-opens b c e f = ap (λ x. is_mark x c) e ∙ ap (is_mark 36) f
-
 -- behind the `$)` there is only white space
 pub comment-end : (bytes : List ℕ) (at start stop end : ℕ) → IsCommentBefore bytes at start stop
     → end ≤ at → ((k : ℕ) → end ≤ k → k < at → is_space (get_or bytes k 0) ≡ true)
@@ -161,39 +150,6 @@ comment-end bytes at start stop end h before blank ink = elim (cases_lt end (sto
     | inr le ↦ omega arith
   ]
 ]
-
--- two comments that end alike begin alike
-pub comment-start : (bytes : List ℕ) (at start other stop : ℕ) → IsCommentBefore bytes at start stop
-    → other + 2 ≤ stop → get_or bytes other 0 ≡ 36 → get_or bytes (other + 1) 0 ≡ 40 → start < other → ⊥
-comment-start bytes at start other stop h within begins opens lt =
-    elim (cases_lt other (start + 2)) [
-      | inl next ↦
-          let one : start + 1 ≡ other = omega arith in
-          let forty : get_or bytes other 0 ≡ 40 = ap (λ n. get_or bytes n 0) (sym one) ∙ h.opens in
-          omega arith
-      | inr past ↦
-          both_ways (is_mark (get_or bytes other 0) (get_or bytes (other + 1) 0))
-          (h.inner other past (omega arith)) (mark-opens _ _ begins opens)
-    ]
-
--- no other comment stands right before a position
-pub one_comment : (bytes : List ℕ) (at start stop begin end : ℕ) → IsCommentBefore bytes at start stop
-    → IsCommentBefore bytes at begin end → (start ≡ begin) × (stop ≡ end)
-one_comment bytes at start stop begin end g h =
-    let ink : (k : ℕ) → k + 1 ≡ end + 2 → is_space (get_or bytes k 0) ≡ false =
-    λ k e. let one : k ≡ end + 1 = omega arith in ap (λ n. is_space (get_or bytes n 0)) one ∙ ap is_space h.closes in
-    let ends : stop + 2 ≡ end + 2 = comment-end bytes at start stop (end + 2) g h.before h.blank ink in
-    let same : stop ≡ end = omega arith in
-    let inside = h.inside in
-    let within = g.inside in
-    let begins : start ≡ begin = elim (cases_lt start begin) [
-      | inl lt ↦ absurd (comment-start bytes at start begin stop g (omega arith) h.begins h.opens lt)
-      | inr ge ↦ elim (cases_lt begin start) [
-        | inl lt ↦ absurd (comment-start bytes at begin start end h (omega arith) g.begins g.opens lt)
-        | inr le ↦ omega arith
-      ]
-    ] in
-    (begins, same)
 
 -- ---- headings
 

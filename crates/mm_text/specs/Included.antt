@@ -1,7 +1,7 @@
 -- The handed files that nothing includes: no item of the files is of them, neither a token nor the
 -- end (the Metamath book, section 4.1.2). The items go on past faults of statements, of the ends of
 -- files and of proofs, and end at the first fault of X1 to X5, X7 and X9.
-use Rattle.std.specs.Prelude.{◌≡◌, ℕ, ◌==◌, List, ◌∷◌, length, Bool, false, not, filter}
+use Rattle.std.specs.Prelude.{◌≡◌, ℕ, ◌==◌, List, length, Bool, not, filter}
 use Rattle.std.specs.List.{AllZip, list_any, range_with_len}
 use Rattle.mm_text.specs.Files.{PlainFile}
 use Rattle.mm_text.specs.Items.{Item, Plain, Wrong, Inclusion, End, items}
@@ -21,11 +21,6 @@ is_left_out files n = not (list_any (λ item. file_of item == n) (items files))
 -- the numbers of the files that are left out, in rising order
 abbrev pub left_out : List PlainFile → List ℕ
 left_out files = filter (is_left_out files) (range_with_len 0 (length files))
-
--- the first file, the top file, is read in any case
-abbrev pub TopFileIsNeverLeftOut : Type 0
-TopFileIsNeverLeftOut =
-    (top : PlainFile) (others : List PlainFile) → is_left_out (top ∷ others) 0 ≡ false
 
 -- of files with the same names that show the same, the same are left out
 abbrev pub AlikeFilesLeaveOutTheSame : Type 0

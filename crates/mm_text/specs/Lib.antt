@@ -1,7 +1,6 @@
 pub mod Device
 pub mod Files
 pub mod Items
-pub mod ItemLaws
 pub mod Reading
 pub mod Remarks
 pub mod RuleCodes
@@ -16,3 +15,4 @@ pub mod Alike
 pub mod Included
 pub mod Mirror
 pub mod Replaced
+pub mod Seed

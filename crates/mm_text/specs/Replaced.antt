@@ -7,6 +7,7 @@ use Rattle.mm_text.specs.declared.statement.Kind.TheVariants.{Provable}
 use Rattle.mm_text.specs.Token.{PlainToken, is_space, is_printable, tokens_from, HoldsNoDollar}
 use Rattle.mm_text.specs.Statement.{PlainStatement}
 use Rattle.mm_text.specs.Files.{PlainFile}
+use Rattle.mm_text.specs.Items.{Clear, without_comments}
 use Rattle.mm_text.specs.Reading.{PlainFault, Reads}
 use Rattle.mm_text.specs.Alike.{statement_on}
 
@@ -69,7 +70,9 @@ pub record AreReadBut (others : List PlainFile) (before : List PlainStatement)
   pub moved : AllZip (λ u v. u.kind ≡ Provable
       → IsMoved s.first.file s.span.1 (s.span.0 + length text) u v) after later
 
--- the bytes of the statement's proof stand among these, where its span says
+-- The bytes of the statement's proof stand among these, where its span says: the tokens in them,
+-- outside comments, are those of its proof, each at its position in the file, and no comment is
+-- left open there.
 pub record IsProofSpan (s : PlainStatement) (bytes : List ℕ) : Type 0 where
   pub prefix : List ℕ
   pub within : List ℕ
@@ -77,9 +80,11 @@ pub record IsProofSpan (s : PlainStatement) (bytes : List ℕ) : Type 0 where
   pub whole : bytes ≡ prefix ++ (within ++ back)
   pub start : s.span.0 ≡ length prefix
   pub stop : s.span.1 ≡ length prefix + length within
+  pub tokens : without_comments None (tokens_from s.first.file s.span.0 within)
+      ≡ map Clear s.proof
 
--- in the reading of files, also one that a fault ends, the span of each `$p` stands in the file of
--- its first token
+-- in the reading of files, also one that a fault ends, the proof of each `$p` stands in the file of
+-- its first token, where its span says
 abbrev pub ProofsStandInSpans : Type 0
 ProofsStandInSpans =
     (files : List PlainFile) (before : List PlainStatement) (s : PlainStatement)

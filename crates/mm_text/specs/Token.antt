@@ -1,6 +1,6 @@
 -- Tokens of a file (the Metamath book, sections 4.1.1 and 4.1.2).
-use Rattle.std.specs.Prelude.{◌≡◌, ℕ, ◌+◌, ◌<◌, ◌≤◌, ◌==◌, ◌||◌, ◌&&◌, nat_le, List, [], ◌∷◌}
-use Rattle.std.specs.Prelude.{length, Bool, true, false, if◌then◌else◌, slice_index}
+use Rattle.std.specs.Prelude.{◌≡◌, ℕ, ◌+◌, ◌==◌, ◌||◌, ◌&&◌, nat_le, List, [], ◌∷◌}
+use Rattle.std.specs.Prelude.{Bool, true, false, if◌then◌else◌}
 use Rattle.std.specs.List.{list_any, list_all}
 use Rattle.mm_text.specs.declared.token.Token.{Token}
 
@@ -56,12 +56,3 @@ tokens_from file at [] = []
 tokens_from file at (b ∷ bytes) =
     if is_space b then tokens_from file (at + 1) bytes
     else with_byte file at b (tokens_from file (at + 1) bytes)
-
--- the bytes from one position up to another are a token: a longest run of bytes that aren't white
--- space
-pub record IsToken (bytes : List ℕ) (start stop : ℕ) : Type 0 where
-  pub some : start < stop
-  pub within : stop ≤ length bytes
-  pub run : (k : ℕ) → start ≤ k → k < stop → is_space (slice_index bytes k) ≡ false
-  pub left : (k : ℕ) → k + 1 ≡ start → is_space (slice_index bytes k) ≡ true
-  pub right : stop < length bytes → is_space (slice_index bytes stop) ≡ true

@@ -12,7 +12,9 @@ ghost use Rattle.mm_text.specs.Mirror.Position.{TakesWordAt, TakesShown, shown_a
 ghost use Rattle.mm_text.specs.Files.{most_bytes};
 
 use crate::fault::TextRule;
-use crate::scan::{is_quiet, is_space, legal_end, skip_space, token_end, token_start};
+use crate::scan::{
+    is_quiet, is_space, legal_end, short_word_end, skip_space, token_end, token_start,
+};
 use crate::token::Token;
 
 /// The position up to which a file was read.
@@ -345,11 +347,17 @@ pub fn take_word<'a>(position: &mut Position<'a>) -> Option<Token<'a>>
     if start == position.bytes.len() {
         return None;
     }
+    if let Some(end) = short_word_end(position.bytes, start) {
+        if end < position.legal {
+            // The next look for a token then begins where nearly always one does.
+            position.at = end + 1;
+            return Some(make_token(position.bytes, position.file, start, end));
+        }
+    }
     let (end, has_dollar) = token_end(position.bytes, start);
     if has_dollar || position.legal < end {
         return None;
     }
-    // The next look for a token then begins where nearly always one does.
     position.at = after_blank(position.bytes, end, position.legal);
     Some(make_token(position.bytes, position.file, start, end))
 }

@@ -1,6 +1,6 @@
 //! Which of the handed files no inclusion names, so that they are left out.
 
-ghost use Rattle.std.specs.Prelude.{◌≡◌, ◌≤◌, length, map, [], IfOk};
+ghost use Rattle.std.specs.Prelude.{◌≡◌, ◌≤◌, length, map, [], IfOk, IsOk};
 ghost use Rattle.mm_text.specs.declared.fault.LoadRule.{LoadRule};
 ghost use Rattle.mm_text.specs.Files.{plain_file, BreaksLoad};
 ghost use Rattle.mm_text.specs.Included.{left_out};
@@ -64,6 +64,8 @@ pub fn left_out(alloc: Global, seed: Seed, files: &[File]) -> Result<Vec<usize>,
         → IfOk result (λ numbers. numbers.items ≡ left_out (map plain_file files.now)) }
     ensures broken { (rule : LoadRule) → BreaksLoad (map plain_file files.now) rule
         → IfOk result (λ numbers. numbers.items ≡ []) }
+    // Of a file alone, and of none, nothing is kept: so no lack of memory is told.
+    ensures lone { length files.now ≤ 1 → IsOk result }
 {
     if files.len() <= 1 {
         return Ok(Vec::new(alloc));

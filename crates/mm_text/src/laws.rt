@@ -2,23 +2,11 @@
 //! that does nothing: what it ensures is proved, and there is no need to call it.
 
 ghost use Rattle.mm_text.specs.Alike.{AlikeFilesAreReadAlike};
-ghost use Rattle.mm_text.specs.Included.{AlikeFilesLeaveOutTheSame, TopFileIsNeverLeftOut};
-ghost use Rattle.mm_text.specs.ItemLaws.{FilesArePutInOnce, InclusionsEnd, TokensFitFiles};
-ghost use Rattle.mm_text.specs.ItemLaws.{TopFileEndsLast};
+ghost use Rattle.mm_text.specs.Included.{AlikeFilesLeaveOutTheSame};
 ghost use Rattle.mm_text.specs.Laws.{BeginningsBeginStatements, EachHasOneReading};
-ghost use Rattle.mm_text.specs.Laws.{FaultsEndLongestPrefixes, ReadingsAreBalanced};
-ghost use Rattle.mm_text.specs.Laws.{ReadingsAreFormedInPlace, ReadingsFit, TokensAreLongestRuns};
+ghost use Rattle.mm_text.specs.Laws.{FaultsEndLongestPrefixes, InclusionsEnd};
 ghost use Rattle.mm_text.specs.Replaced.{ProofSpansFollow, ProofsStandInSpans};
 ghost use Rattle.mm_text.specs.Replaced.{ReplacedProofsAreRead};
-
-/// The tokens of a file are its longest runs of bytes that aren't white space (the Metamath book,
-/// section 4.1.1): each token is the slice of the file at its position and such a run, each such
-/// run is one of the tokens, and they come in the order of their positions, no position twice.
-/// White space is the space, the tab, the line feed, the form feed and the carriage return.
-#[tactic(auto, using(crate::proofs::Tokens::LongestRuns::longest_runs))]
-pub fn tokens_are_longest_runs()
-    ensures { TokensAreLongestRuns }
-{}
 
 /// Any files have exactly one reading (the Metamath book, sections 4.1 and 4.2): there are
 /// statements and an ending, or none, that the grammar allows as their reading, and whatever else
@@ -43,50 +31,11 @@ pub fn faults_end_longest_prefixes()
     ensures { FaultsEndLongestPrefixes }
 {}
 
-/// Each statement of a reading is one that the grammar knows, with as many symbols as its kind
-/// asks for and with a label exactly if its kind has one (the Metamath book, section 4.2), and
-/// each of its tokens holds a byte and is the slice of its file at the token's position.
-#[tactic(auto, using(crate::proofs::Reader::WholeReadings::readings_are_formed_in_place))]
-pub fn statements_are_formed_in_place()
-    ensures { ReadingsAreFormedInPlace }
-{}
-
-/// The tokens among the files' items hold no more bytes in all than the files.
-#[tactic(auto, using(crate::proofs::Inclusions::EachOnce::tokens_fit))]
-pub fn tokens_fit_files()
-    ensures { TokensFitFiles }
-{}
-
-/// Each file is put in at most once: its end is met at most once, and so is each of its tokens.
-pub fn files_are_put_in_once()
-    ensures { FilesArePutInOnce }
-{}
-
 /// The definition of the items puts in so many files as there are beside the top file. That more
 /// could be put in would change nothing, so this bound keeps no file out.
 #[tactic(auto, using(crate::proofs::Inclusions::EachOnce::inclusions_end))]
 pub fn inclusions_end()
     ensures { InclusionsEnd }
-{}
-
-/// Nothing of any file comes after the top file's end.
-#[tactic(auto, using(crate::proofs::Inclusions::ItemOrder::top_file_ends_last))]
-pub fn top_file_ends_last()
-    ensures { TopFileEndsLast }
-{}
-
-/// In a reading no `$}` lacks its `${` (the Metamath book, section 4.2.8): in each prefix of its
-/// statements there are at most as many `$}` as `${`.
-#[tactic(auto, using(crate::proofs::Reader::WholeReadings::readings_are_balanced))]
-pub fn readings_are_balanced()
-    ensures { ReadingsAreBalanced }
-{}
-
-/// The tokens of a reading's statements have no more bytes than the files: no byte of a file is
-/// read twice. Counted of a statement are its first token, its symbols and its proof.
-#[tactic(auto, using(crate::proofs::Reader::WholeReadings::readings_fit))]
-pub fn readings_fit()
-    ensures { ReadingsFit }
 {}
 
 /// What comments say has no effect (the Metamath book, section 4.1.2): files with the same names
@@ -98,12 +47,6 @@ pub fn alike_files_are_read_alike()
     ensures { AlikeFilesAreReadAlike }
 {}
 
-/// The first file is read in any case: whatever it holds, it isn't left out.
-#[tactic(auto, using(crate::proofs::Inclusions::FilesLeftOut::top_file_is_never_left_out))]
-pub fn top_file_is_never_left_out()
-    ensures { TopFileIsNeverLeftOut }
-{}
-
 /// What comments say includes no file: of files with the same names that show the same outside
 /// comments the same are left out.
 #[tactic(auto, using(crate::proofs::Inclusions::FilesLeftOut::alike_files_leave_out_the_same))]
@@ -112,7 +55,8 @@ pub fn alike_files_leave_out_the_same()
 {}
 
 /// In the reading of files, also one that a fault ends, the bytes of a proof stand in the file of
-/// its statement's first token, where the statement's span says.
+/// its statement's first token, where the statement's span says: the tokens in them, outside
+/// comments, are exactly those of the proof, each at its position in the file.
 #[tactic(auto, using(crate::proofs::Replaced::ProofSpans::proofs_stand_in_spans_holds))]
 pub fn proofs_stand_in_spans()
     ensures { ProofsStandInSpans }

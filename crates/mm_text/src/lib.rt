@@ -32,10 +32,8 @@ pub use handed::BYTE_LIMIT;
 pub use included::left_out;
 pub use laws::{
     alike_files_are_read_alike, alike_files_leave_out_the_same, beginnings_begin_statements,
-    faults_end_longest_prefixes, files_are_put_in_once, inclusions_end, one_reading,
-    proof_spans_follow, proofs_stand_in_spans, readings_are_balanced, readings_fit,
-    replaced_proofs_are_read, statements_are_formed_in_place, tokens_are_longest_runs,
-    tokens_fit_files, top_file_ends_last, top_file_is_never_left_out,
+    faults_end_longest_prefixes, inclusions_end, one_reading, proof_spans_follow,
+    proofs_stand_in_spans, replaced_proofs_are_read,
 };
 pub use load::{HollowBytes, LoadFault, read_all, read_hollow};
 pub use remarks::{headings_between, mathbox_at, says_before};

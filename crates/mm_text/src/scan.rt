@@ -1,13 +1,14 @@
 //! Where tokens begin and end in the bytes of a file.
 
 ghost use Rattle.std.specs.Prelude.{◌≡◌, ℕ, ◌<◌, ◌≤◌, ◌+◌, ◌∷◌, ◌⊎◌, true, false, length, drop};
-ghost use Rattle.std.specs.Prelude.{slice_index, slice_range};
+ghost use Rattle.std.specs.Prelude.{slice_index, slice_range, IfSome};
 ghost use Rattle.std.specs.List.{list_all};
 ghost use Rattle.mm_text.specs.Token.{is_space, tokens_from};
 ghost use Rattle.mm_text.specs.Items.{holds_dollar};
 ghost use Rattle.mm_text.specs.Mirror.Position.{is_legal, is_quiet, IsLegalPrefix, IsLegalUpTo};
+ghost use Rattle.mm_text.specs.Mirror.Position.{IsWordTo};
 
-use crate::sought::{Low, first_sought};
+use crate::sought::{Low, Sought, first_sought};
 
 /// Whether a byte is white space.
 pub fn is_space(byte: u8) -> bool
@@ -95,6 +96,25 @@ pub fn token_end(bytes: &[u8], start: usize) -> (usize, bool)
             return (end, true);
         }
         from = at + 1;
+    }
+}
+
+/// The end of the word that begins at a position, where one test tells it: a word without `$`, of
+/// fewer bytes than are looked at at once, that white space comes after. Nearly all words are such.
+#[inline(always)]
+pub fn short_word_end(bytes: &[u8], start: usize) -> Option<usize>
+    requires within { start < length bytes.now }
+    requires begins { is_space (slice_index bytes.now start) ≡ false }
+    ensures { IfSome result (IsWordTo bytes.now start) }
+{
+    if bytes.len() - start < Low::lanes() {
+        return None;
+    }
+    let run = Low::passed_run(bytes, start);
+    if run < Low::lanes() && is_space(bytes[start + run]) {
+        Some(start + run)
+    } else {
+        None
     }
 }
 

@@ -1,5 +1,8 @@
 //! Where the hashes of names begin.
 
+ghost use Rattle.std.specs.Prelude.{◌≡◌};
+ghost use Rattle.mm_text.specs.Seed.{known_number, seed_of};
+
 use std::hash::{BuildHasher, FoldHasher, Hasher};
 
 /// Where the hashes of names begin. Names that have one hash are found in turn, one after the
@@ -11,14 +14,18 @@ pub struct Seed {
 
 impl Seed {
     /// The seed with a number, such as one from the system's random source.
-    pub fn new(number: u64) -> Seed {
+    pub fn new(number: u64) -> Seed
+        ensures { result ≡ seed_of number }
+    {
         let mut begun = FoldHasher::default();
         begun.write_u64(number);
         Seed { begun }
     }
 
-    /// The seed that everybody knows, for files of people who are trusted.
-    pub fn known() -> Seed {
+    /// The seed that everybody knows, that of 0, for files of people who are trusted.
+    pub fn known() -> Seed
+        ensures { result ≡ seed_of known_number }
+    {
         Seed::new(0)
     }
 }

@@ -1,6 +1,6 @@
 -- Each file is put in at most once: what is counted of all items is at most what is counted of each
--- file once. So its end and each of its tokens are met at most once, and as many files as there are
--- can be put in: that more could be changes nothing.
+-- file once. So each of its tokens is met at most once, and as many files as there are can be put
+-- in: that more could be changes nothing.
 use Rattle.std.proofs.Common.{add-zero, ◌≡◌, ℕ, zero, suc, ◌+◌, ◌≤◌, List, [], ◌∷◌, ◌++◌, length}
 use Rattle.std.proofs.Common.{Bool, true, false, cond, refl, ap, Some, replicate, arith, None}
 use Rattle.std.proofs.Common.{Option, ◌<◌, ◌==◌, ◌&&◌, sym, ◌∙◌, subst, eqb-true, count_by, not}
@@ -14,7 +14,7 @@ use Rattle.mm_text.specs.Items.{Item, Wrong, Piece, Met, Named, pieces_of, put_b
 use Rattle.mm_text.specs.Items.{items, Plain, Inclusion, End, Shown, Clear, Broken}
 use Rattle.mm_text.specs.Items.{without_comments, Spot, Outside, pieces, plain_tokens, file_number}
 use Rattle.mm_text.specs.Items.{with_inclusions}
-use Rattle.mm_text.specs.ItemLaws.{ends_of, FilesArePutInOnce, InclusionsEnd}
+use Rattle.mm_text.specs.Laws.{InclusionsEnd}
 use Rattle.mm_text.proofs.Tokens.StepByStep.{put_before_by, put_in_by, tokens_by, shown_by}
 use Rattle.mm_text.proofs.Tokens.StepByStep.{pieces_by}
 use Rattle.mm_text.proofs.Inclusions.FilePieces.{named_related}
@@ -163,7 +163,7 @@ pub tokens_fit : (files : List PlainFile) → sum_by (λ t. length t.text) (plai
 tokens_fit files =
     omega (arith, weigh_plain bytes_of (items files), items_weight (weight_of bytes_of (λ n. 0)) (no_fault_weight bytes_of (λ n. 0)) files, bytes_once 0 files)
 
--- ==== each file is put in at most once: its end and each of its tokens are met at most once
+-- ==== each file is put in at most once: each of its tokens is met at most once
 
 -- what is counted in one file alone, and there at most once, is counted at most once in all
 module _ (w : Item → ℕ) (file : ℕ) (bound : (k : ℕ) (f : PlainFile) → weigh_pieces w (pieces_of k f) ≤ cond (k == file) 1 0) where
@@ -181,32 +181,6 @@ module _ (w : Item → ℕ) (file : ℕ) (bound : (k : ℕ) (f : PlainFile) → 
       cond_both (k == file) _ _ (λ (n : ℕ). here ≤ n → here + each_once w (k + 1) files ≤ 1)
       (λ e le. let same : k ≡ file = eqb-true k file e in
       omega (arith, later_none (k + 1) files (omega arith))) (λ _ le. omega arith) (bound k f)
-
--- ---- ends
-
-abbrev end_weight : ℕ → ℕ → ℕ
-end_weight file n = cond (n == file) 1 0
-
-no_tokens : (tokens : List PlainToken) → weigh_tokens (λ t. 0) tokens ≡ 0
-no_tokens [] = refl
-no_tokens (t ∷ tokens) = omega (arith, no_tokens tokens)
-
-weigh_ends : (file : ℕ) (its : List Item) → weigh (weight_of (λ t. 0) (end_weight file)) its ≡ ends_of file its
-weigh_ends file [] = refl
-weigh_ends file (End n ∷ rest) = ap (λ m. cond (n == file) 1 0 + m) (weigh_ends file rest)
-weigh_ends file (item ∷ rest) = omega (arith, weigh_ends file rest)
-
-one_end : (file : ℕ) (files : List PlainFile) → ends_of file (items files) ≤ 1
-one_end file files =
-    let w = weight_of (λ t. 0) (end_weight file) in
-    omega (
-      arith,
-      weigh_ends file (items files),
-      items_weight w (no_fault_weight (λ t. 0) (end_weight file)) files,
-      at_most_once w file (λ k f. omega (arith, file_weight (λ t. 0) (end_weight file) k f, no_tokens (tokens_from k 0 f.bytes))) 0 files,
-    )
-
--- ---- tokens
 
 -- tokens of a file, each at a later position than those before it
 abbrev pub Rises : ℕ → ℕ → List PlainToken → Type 0
@@ -249,7 +223,8 @@ one_token file at k n (t ∷ tokens) r =
     rw home (omega (arith, after_none file at k (t.at + 1) tokens (omega arith) r.2)))
     (λ _. omega arith)
 
-one_position : (file at : ℕ) (files : List PlainFile) → count_by (λ t. t.file == file && t.at == at) (plain_tokens (items files)) ≤ 1
+pub one_position : (file at : ℕ) (files : List PlainFile)
+    → count_by (λ t. t.file == file && t.at == at) (plain_tokens (items files)) ≤ 1
 one_position file at files =
     let w = weight_of (token_weight file at) (λ n. 0) in
     omega (
@@ -258,9 +233,6 @@ one_position file at files =
       items_weight w (no_fault_weight (token_weight file at) (λ n. 0)) files,
       at_most_once w file (λ k f. omega (arith, file_weight (token_weight file at) (λ n. 0) k f, one_token file at k 0 (tokens_from k 0 f.bytes) (tokens_rise k 0 f.bytes))) 0 files,
     )
-
-pub files_are_put_in_once : FilesArePutInOnce
-files_are_put_in_once files file = (one_end file files, λ at. one_position file at files)
 
 -- ==== so many files as there are can be put in: that more could be changes nothing
 

@@ -18,7 +18,7 @@ use Rattle.mm_text.specs.Items.{put_in, items}
 use Rattle.mm_text.specs.LineNumbers.{feeds_in}
 use Rattle.mm_text.specs.Alike.{item_on, AreAlike}
 use Rattle.mm_text.specs.Included.{file_of, is_left_out, left_out, AlikeFilesLeaveOutTheSame}
-use Rattle.mm_text.specs.Included.{TopFileIsNeverLeftOut}
+use Rattle.mm_text.specs.Included.{}
 use Rattle.mm_text.specs.Mirror.Included.{AreOfFiles, met_with, unmet}
 use Rattle.mm_text.proofs.Lists.{all_weaker}
 use Rattle.mm_text.proofs.Inclusions.ItemTokens.{StandsIn, tokens_in_place, ItemOf, all_items_of}
@@ -121,7 +121,8 @@ put_in_start files left named n (Met item ∷ rest) h = let first = eq-eqb (file
 put_in_start files left named n (Named name ∷ rest) h = absurd h
 
 -- the first item is of the top file
-pub top_file_is_never_left_out : TopFileIsNeverLeftOut
+top_file_is_never_left_out : (top : PlainFile) (others : List PlainFile)
+    → is_left_out (top ∷ others) 0 ≡ false
 top_file_is_never_left_out top others =
     ap not
     (put_in_start (top ∷ others) (length others) (true ∷ replicate (length others) false) 0

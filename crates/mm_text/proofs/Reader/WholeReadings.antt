@@ -17,15 +17,15 @@ use Rattle.mm_text.specs.Items.{without_comments, Spot, Outside, Piece, Met, pie
 use Rattle.mm_text.specs.Items.{put_before, put_in}
 use Rattle.mm_text.specs.Reading.{PlainFault, ReadsAs, Reads, IsSliceOf, IsInPlace}
 use Rattle.mm_text.specs.Files.{PlainFile, total_bytes, most_bytes, HasTwins, BreaksLoad}
-use Rattle.mm_text.specs.Laws.{ReadingsAreFormedInPlace, ReadingsAreBalanced, ReadingsFit}
-use Rattle.mm_text.specs.Laws.{AreFormedInPlace, EachHasOneReading}
+use Rattle.mm_text.specs.Laws.{EachHasOneReading}
+use Rattle.mm_text.specs.Blocks.{AreBalanced}
 use Rattle.mm_text.specs.declared.fault.LoadRule.{LoadRule}
 use Rattle.mm_text.specs.declared.fault.LoadRule.TheVariants.{F1, F2, F3}
 use Rattle.mm_text.specs.declared.statements.State.{State}
 use Rattle.mm_text.specs.declared.statements.State.TheVariants.{Reading}
 use Rattle.mm_text.specs.Mirror.Reader.{PlainReading, PlainScope, Between, outermost, reading_of}
 use Rattle.mm_text.specs.Remaining.{IsUnread}
-use Rattle.mm_text.specs.Mirror.ReaderState.{remaining_in, AreFew}
+use Rattle.mm_text.specs.Mirror.ReaderState.{remaining_in, AreFew, AreFormedInPlace}
 use Rattle.mm_text.proofs.Reader.ComputedReadings.{plain_tokens-append, ComesToStop, AreSettled}
 use Rattle.mm_text.proofs.Reader.ComputedReadings.{items_read}
 use Rattle.mm_text.proofs.Lists.{all_prefix, all_back}
@@ -141,7 +141,9 @@ head_label Axiom head label h e = labelled_label Axiom head label h e
 head_label Provable head label h e = labelled_label Provable head label h e
 head_label kind head label h e = e ∙ ap label_in h.tokens ∙ cond-false (is_label h.keyword.text) _ _ (ap is_label h.sign)
 
-pub readings_are_formed_in_place : ReadingsAreFormedInPlace
+pub readings_are_formed_in_place : (files : List PlainFile) (statements : List PlainStatement)
+    (ending : Option PlainFault) → Reads files statements ending
+    → AreFormedInPlace files statements
 readings_are_formed_in_place files statements ending r =
     let prefix = reading_prefix (items files) statements ending r in
     record {
@@ -155,11 +157,16 @@ readings_are_formed_in_place files statements ending r =
           (items files) statements prefix (items_in_place files);
     }
 
-pub readings_are_balanced : ReadingsAreBalanced
+-- no `$}` of a reading lacks its `${`
+pub readings_are_balanced : (files : List PlainFile) (statements : List PlainStatement)
+    (ending : Option PlainFault) → Reads files statements ending → AreBalanced statements
 readings_are_balanced files statements None v = v.balanced
 readings_are_balanced files statements (Some fault) r = r.5.balanced
 
-pub readings_fit : ReadingsFit
+-- no byte of a file is read twice
+pub readings_fit : (files : List PlainFile) (statements : List PlainStatement)
+    (ending : Option PlainFault) → Reads files statements ending
+    → sum_by bytes_in statements ≤ total_bytes files
 readings_fit files statements ending r =
     let prefix = reading_prefix (items files) statements ending r in
     omega (arith, statements_bytes prefix.finished statements prefix.spelled, ap text_bytes prefix.whole, bytes-append prefix.finished prefix.rest, tokens_fit files)

@@ -75,19 +75,35 @@ ends_home files statements before after f s p k =
 one_feed : IsSpaced (10 ∷ [])
 one_feed = record { inner = []; last = 10; whole = refl; begins = refl; ends = refl }
 
--- tokens that follow each other, shown in a file, stand apart in its bytes
-apart : (number : ℕ) (bytes : List ℕ) (passed : List Shown) (tokens : List PlainToken) (equals : PlainToken) (proof : List PlainToken) (stop : PlainToken) (rest : List Shown) → passed ≡ map Clear tokens
-    → without_comments None (tokens_from number 0 bytes) ≡ passed ++ Clear equals ∷ (map Clear (proof ++ stop ∷ []) ++ rest)
-    → (before : List PlainToken) × (after : List PlainToken) × ReplacedBetween number bytes (10 ∷ []) before equals stop after
+-- tokens that follow each other, shown in a file, stand apart in its bytes, and what stands there
+-- shows those between
+apart : (number : ℕ) (bytes : List ℕ) (passed : List Shown) (tokens : List PlainToken)
+    (equals : PlainToken) (proof : List PlainToken) (stop : PlainToken) (rest : List Shown)
+    → passed ≡ map Clear tokens
+    → without_comments None (tokens_from number 0 bytes)
+    ≡ passed ++ Clear equals ∷ (map Clear (proof ++ stop ∷ []) ++ rest)
+    → (before between after : List PlainToken)
+    × ReplacedBetween number bytes (10 ∷ []) before equals between stop after
+    × (without_comments None between ≡ map Clear proof)
 apart number bytes passed tokens equals proof stop rest clear whole =
-    let shown : without_comments None (tokens_from number 0 bytes) ≡ map Clear tokens ++ Clear equals ∷ (map Clear (proof ++ stop ∷ []) ++ rest) =
-    whole ∙ ap (λ (l : List Shown). l ++ Clear equals ∷ (map Clear (proof ++ stop ∷ []) ++ rest)) clear in
-    let one = clear_shown None (tokens_from number 0 bytes) tokens equals (map Clear (proof ++ stop ∷ []) ++ rest) shown in
+    let behind : List Shown = map Clear (proof ++ stop ∷ []) ++ rest in
+    let shown : without_comments None (tokens_from number 0 bytes)
+    ≡ map Clear tokens ++ Clear equals ∷ behind =
+    whole ∙ ap (λ (l : List Shown). l ++ Clear equals ∷ behind) clear in
+    let one = clear_shown None (tokens_from number 0 bytes) tokens equals behind shown in
     let split : without_comments None one.after ≡ map Clear proof ++ Clear stop ∷ rest =
-    sym one.later ∙ ap (λ (l : List Shown). l ++ rest) (map-append Clear proof (stop ∷ [])) ∙ append_assoc (map Clear proof) (Clear stop ∷ []) rest in
+    sym one.later ∙ ap (λ (l : List Shown). l ++ rest) (map-append Clear proof (stop ∷ []))
+    ∙ append_assoc (map Clear proof) (Clear stop ∷ []) rest in
     let two = clear_shown None one.after proof stop rest split in
-    let all : tokens_from number 0 bytes ≡ one.before ++ equals ∷ (two.before ++ stop ∷ two.after) = one.whole ∙ ap (λ (l : List PlainToken). one.before ++ equals ∷ l) two.whole in
-    (one.before, two.after, replaced_between number bytes (10 ∷ []) one.before equals two.before stop two.after all one_feed)
+    let all : tokens_from number 0 bytes ≡ one.before ++ equals ∷ (two.before ++ stop ∷ two.after) =
+    one.whole ∙ ap (λ (l : List PlainToken). one.before ++ equals ∷ l) two.whole in (
+      one.before,
+      two.before,
+      two.after,
+      replaced_between number bytes (10 ∷ []) one.before equals two.before stop two.after all
+          one_feed,
+      two.alone,
+    )
 
 pub proofs_stand_in_spans_holds : ProofsStandInSpans
 proofs_stand_in_spans_holds files before s after ending file reads p there =
@@ -100,15 +116,21 @@ proofs_stand_in_spans_holds files before s after ending file reads p there =
     sym (home files _ behind st) ∙ (ends_home files all before after f s a.parts a.ends).0 in
     let same_file : st.position.file ≡ file = cc (st.position.there, number, there) in
     let r = st.position.reached in
-    let (earlier, later, b) = apart st.number st.position.file.bytes st.passed r.tokens a.ends.equals s.proof a.ends.stop st.rest r.clear st.position.whole in
+    let (earlier, between, later, b, clear) = apart st.number st.position.file.bytes st.passed
+    r.tokens a.ends.equals s.proof a.ends.stop st.rest r.clear st.position.whole in
     let two = ap (λ (l : List ℕ). a.ends.equals.at + length l) a.ends.sign in
+    let start : s.span.0 ≡ length b.prefix =
+    ap (λ (x : ℕ × ℕ). x.0) a.ends.span ∙ sym two ∙ b.start in
     record {
       prefix = b.prefix;
       within = b.within;
       back = b.back;
       whole = ap (λ (f : PlainFile). f.bytes) (sym same_file) ∙ b.whole;
-      start = ap (λ (x : ℕ × ℕ). x.0) a.ends.span ∙ sym two ∙ b.start;
+      start = start;
       stop = ap (λ (x : ℕ × ℕ). x.1) a.ends.span ∙ b.stop;
+      tokens =
+          (λ i. without_comments None (tokens_from (sym number i) (start i) b.within))
+          ∙ ap (without_comments None) b.stood ∙ clear;
     }
 
 -- ==== in one file the proof of a later `$p` stands behind that of an earlier one

@@ -16,7 +16,7 @@ use Rattle.mm_text.specs.Replaced.{IsProofToken, IsProofText, with_span}
 use Rattle.mm_text.proofs.Reader.ComputedReadings.{plain_tokens-append}
 use Rattle.mm_text.proofs.Inclusions.EachOnce.{weigh_pieces, weigh_pieces-append, weight_of}
 use Rattle.mm_text.proofs.Inclusions.EachOnce.{file_weight, token_weight, one_token, tokens_rise}
-use Rattle.mm_text.proofs.Inclusions.EachOnce.{files_are_put_in_once}
+use Rattle.mm_text.proofs.Inclusions.EachOnce.{one_position}
 use Rattle.mm_text.proofs.Alike.AlikeItems.{AtHome, SameItem, shown_at_home}
 use Rattle.mm_text.proofs.Inclusions.FilePieces.{StandsInFile, run_stands}
 use Rattle.mm_text.proofs.Replaced.ReplacedItems.{further, met, replaced_pieces, Alter, with_file}
@@ -78,7 +78,7 @@ item_cut files t = cut_once (items files) (Plain t) two
     two x y z e =
         let f : PlainToken → Bool = λ u. u.file == t.file && u.at == t.at in
         let v : PlainToken → ℕ = λ u. cond (f u) 1 0 in
-        let once : count_by f (plain_tokens (items files)) ≤ 1 = (files_are_put_in_once files t.file).1 t.at in
+        let once : count_by f (plain_tokens (items files)) ≤ 1 = one_position t.file t.at files in
         let told : plain_tokens (items files) ≡ (plain_tokens x ++ t ∷ plain_tokens y) ++ t ∷ plain_tokens z =
         rw (e, plain_tokens-append, plain_tokens-append) refl in
         let many = ap (count_by f) told in

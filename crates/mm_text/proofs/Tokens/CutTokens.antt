@@ -68,13 +68,14 @@ tokens_moved line file at to bytes moves =
 
 -- ---- a token among the others
 
--- where the bytes of a token stand among those of a file: behind some, and before white space or
--- the file's end; what other bytes after it make of the tokens
+-- where the bytes of a token stand among those of a file: behind those of the tokens before it, and
+-- before white space or the file's end; what other bytes after it make of the tokens
 pub record StandsAt (file at : ℕ) (bytes : List ℕ) (before : List PlainToken) (t : PlainToken) (after : List PlainToken) : Type 0 where
   pub prefix : List ℕ
   pub rest : List ℕ
   pub whole : bytes ≡ prefix ++ (t.text ++ rest)
   pub position : t.at ≡ at + length prefix
+  pub ahead : tokens_from file at prefix ≡ before
   pub spaced : BeginsWithSpace rest
   pub alone : (more : List ℕ) → BeginsWithSpace more → tokens_from file t.at (t.text ++ more) ≡ t ∷ tokens_from file (t.at + length t.text) more
   pub later : after ≡ tokens_from file (t.at + length t.text) rest
@@ -102,6 +103,7 @@ first_stands file at (b ∷ bytes) t after is = elim (cases_Bool (is_space b)) [
         rest = s.rest;
         whole = ap (λ (l : List ℕ). b ∷ l) s.whole;
         position = omega (arith, s.position);
+        ahead = tokens_from-space file at b s.prefix e ∙ s.ahead;
         spaced = s.spaced;
         alone = s.alone;
         later = s.later;
@@ -122,6 +124,7 @@ first_stands file at (b ∷ bytes) t after is = elim (cases_Bool (is_space b)) [
         rest = rest;
         whole = whole;
         position = sym (add-zero at);
+        ahead = tokens_from-nil file at;
         spaced = spaced;
         alone = known;
         later = parts.1;
@@ -144,6 +147,10 @@ stands_at file at bytes (u ∷ before) t after is =
       rest = s.rest;
       whole = f.whole ∙ ap (λ (l : List ℕ). f.prefix ++ (u.text ++ l)) s.whole ∙ sym (regroup s.rest);
       position = omega (arith, s.position, f.position, long);
+      ahead =
+          f.others s.prefix
+          (front_spaced s.prefix (t.text ++ s.rest) (subst BeginsWithSpace s.whole f.spaced))
+          ∙ ap (λ (l : List PlainToken). u ∷ l) s.ahead;
       spaced = s.spaced;
       alone = s.alone;
       later = s.later;
@@ -156,6 +163,10 @@ stands_at file at bytes (u ∷ before) t after is =
     between : (text rest more : List ℕ) → BeginsWithSpace (text ++ rest) → BeginsWithSpace more → BeginsWithSpace (text ++ more)
     between [] rest more h m = m
     between (b ∷ text) rest more h m = h
+
+    front_spaced : (text rest : List ℕ) → BeginsWithSpace (text ++ rest) → BeginsWithSpace text
+    front_spaced [] rest h = tt
+    front_spaced (b ∷ text) rest h = h
 
 -- ---- other bytes between two tokens
 
@@ -180,20 +191,23 @@ spaced_first file at bytes rest s =
     ∙ ap (λ (n : ℕ). tokens_from file at s.inner ++ tokens_from file n rest) (omega (arith, long))
     ∙ ap (λ (l : List PlainToken). l ++ tokens_from file (at + length bytes) rest) (sym alone)
 
--- the bytes of a file with others between two of its tokens
-pub record ReplacedBetween (file : ℕ) (bytes text : List ℕ) (before : List PlainToken) (first : PlainToken) (last : PlainToken) (after : List PlainToken) : Type 0 where
+-- the bytes of a file with others between two of its tokens, and the tokens that stood there
+pub record ReplacedBetween (file : ℕ) (bytes text : List ℕ) (before : List PlainToken)
+    (first : PlainToken) (between : List PlainToken) (last : PlainToken)
+    (after : List PlainToken) : Type 0 where
   pub prefix : List ℕ
   pub within : List ℕ
   pub back : List ℕ
   pub whole : bytes ≡ prefix ++ (within ++ back)
   pub start : first.at + length first.text ≡ length prefix
   pub stop : last.at ≡ length prefix + length within
+  pub stood : tokens_from file (length prefix) within ≡ between
   pub tokens : (line : ℕ → ℕ → ℕ) → Moves line file last.at (length prefix + length text)
       → tokens_from file 0 (prefix ++ (text ++ back)) ≡ before ++ first ∷ (tokens_from file (length prefix) text ++ map (token_on line) (last ∷ after))
 
 pub replaced_between : (file : ℕ) (bytes text : List ℕ) (before : List PlainToken) (first : PlainToken) (between : List PlainToken) (last : PlainToken) (after : List PlainToken)
     → tokens_from file 0 bytes ≡ before ++ first ∷ (between ++ last ∷ after) → IsSpaced text
-    → ReplacedBetween file bytes text before first last after
+    → ReplacedBetween file bytes text before first between last after
 replaced_between file bytes text before first between last after is spaced =
     let f = stands_at file 0 bytes before first (between ++ last ∷ after) is in
     let from : ℕ = first.at + length first.text in
@@ -210,6 +224,7 @@ replaced_between file bytes text before first between last after is spaced =
       whole = f.whole ∙ ap (λ (b : List ℕ). f.prefix ++ (first.text ++ b)) l.whole ∙ sym (append_assoc f.prefix first.text (l.prefix ++ back));
       start = start;
       stop = l.position ∙ ap (λ n. n + length l.prefix) start;
+      stood = ap (λ (n : ℕ). tokens_from file n l.prefix) (sym start) ∙ l.ahead;
       tokens = λ line moves.
           ap (tokens_from file 0) (append_assoc f.prefix first.text (text ++ back))
           ∙ f.others (text ++ back) (spaced_prefix text back spaced)
@@ -225,13 +240,14 @@ replaced_between file bytes text before first between last after is spaced =
 
 -- ==== what is shown of tokens, from a token on that is shown
 
--- The token is shown after so much, and is the last of these tokens before others; whatever tokens
--- come after it, the same is shown before.
+-- The token is shown after so much, and is the last of these tokens before others; what is shown
+-- before it is so of the tokens before it alone, and whatever tokens come after it.
 pub record ShownAt (begin : Option PlainToken) (tokens : List PlainToken) (passed : List Shown) (t : PlainToken) (rest : List Shown) : Type 0 where
   pub before : List PlainToken
   pub after : List PlainToken
   pub whole : tokens ≡ before ++ t ∷ after
   pub later : rest ≡ without_comments None after
+  pub alone : without_comments begin before ≡ passed
   pub others : (more : List PlainToken) → without_comments begin (before ++ t ∷ more) ≡ passed ++ Clear t ∷ without_comments None more
 
 -- one token more before
@@ -242,6 +258,7 @@ skipped begin next u tokens passed t rest step s = record {
   after = s.after;
   whole = ap (λ (l : List PlainToken). u ∷ l) s.whole;
   later = s.later;
+  alone = step s.before ∙ s.alone;
   others = λ more. step (s.before ++ t ∷ more) ∙ s.others more;
 }
 
@@ -259,7 +276,14 @@ first_shown None (u ∷ tokens) t rest e = elim (cases_Bool (list_all is_printab
       | inr c ↦
           let told = sym (outside-clear u tokens p o c) ∙ e in
           let same : u ≡ t = cc in
-          subst (λ (v : PlainToken). ShownAt None (u ∷ tokens) [] v rest) same (record { before = []; after = tokens; whole = refl; later = cc; others = λ others. outside-clear u others p o c })
+          subst (λ (v : PlainToken). ShownAt None (u ∷ tokens) [] v rest) same (record {
+            before = [];
+            after = tokens;
+            whole = refl;
+            later = cc;
+            alone = outside-end;
+            others = λ others. outside-clear u others p o c;
+          })
     ]
   ]
 ]
@@ -289,5 +313,6 @@ clear_shown begin tokens (u ∷ run) t rest e =
       after = s.after;
       whole = f.whole ∙ ap (λ (l : List PlainToken). f.before ++ u ∷ l) s.whole ∙ sym (append_assoc f.before (u ∷ s.before) (t ∷ s.after));
       later = s.later;
+      alone = f.others s.before ∙ ap (λ (l : List Shown). Clear u ∷ l) s.alone;
       others = λ more. ap (without_comments begin) (append_assoc f.before (u ∷ s.before) (t ∷ more)) ∙ f.others (s.before ++ t ∷ more) ∙ ap (λ (l : List Shown). Clear u ∷ l) (s.others more);
     }

@@ -1,6 +1,6 @@
 -- Many bytes at once: the mask of one load, and bytes of which all may stand in a file.
 use Rattle.std.proofs.Common.{◌≡◌, ℕ, ◌+◌, ◌-◌, ◌%◌, ◌^◌, ◌<◌, ◌≤◌, Bool, true, false, not, List}
-use Rattle.std.proofs.Common.{[], ◌∷◌, map, length, get_or, replicate, Fits, w8, refl, sym, ap, ap₂}
+use Rattle.std.proofs.Common.{[], ◌∷◌, map, length, get_or, Fits, w8, refl, sym, ap, ap₂}
 use Rattle.std.proofs.Common.{◌∙◌, subst, arith, inl, inr, ◌⊎◌, ⊎_elim, drop, ◌&&◌, ◌||◌, suc}
 use Rattle.std.proofs.Common.{eq-eqb, ne_eqb, le-leb, map-id, get_or-drop, get_or-take, length-drop}
 use Rattle.std.proofs.Common.{length-take-le, slice_range, nat_le}
@@ -27,10 +27,6 @@ zip2-map h f g (x ∷ xs) = ap (λ r. h (f x) (g x) ∷ r) (zip2-map h f g xs)
 -- an operation on two vectors that were computed lane by lane from v
 pub joined : (h : ℕ → ℕ → ℕ) (f g : ℕ → ℕ) (v : List ℕ) {a b : List ℕ} → a ≡ map f v → b ≡ map g v → zip2 h a b ≡ map (λ x. h (f x) (g x)) v
 joined h f g v p q = ap₂ (zip2 h) p q ∙ zip2-map h f g v
-
-pub splat_is : (v : List ℕ) (n y : ℕ) → length v ≡ n → replicate n y ≡ map (λ _. y) v
-splat_is [] n y e = ap (λ k. replicate k y) (sym e)
-splat_is (x ∷ xs) n y e = ap (λ k. replicate k y) (sym e) ∙ ap (λ r. y ∷ r) (splat_is xs (length xs) y refl)
 
 pub itself : (v : List ℕ) → v ≡ map (λ x. x) v
 itself v = sym (map-id v)

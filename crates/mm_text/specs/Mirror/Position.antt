@@ -3,7 +3,7 @@
 use Rattle.std.specs.Prelude.{◌≡◌, ℕ, ◌+◌, ◌<◌, ◌≤◌, ◌||◌, ◌&&◌, ◌==◌, not}
 use Rattle.std.specs.Prelude.{List, [], ◌∷◌, length, drop}
 use Rattle.std.specs.Prelude.{Bool, true, false, codes, Option, Some, None, Result, Ok, Err}
-use Rattle.std.specs.Prelude.{slice_index}
+use Rattle.std.specs.Prelude.{slice_index, slice_range}
 use Rattle.mm_text.specs.declared.comments.Position.{Position}
 use Rattle.mm_text.specs.declared.comments.Comment.{Comment}
 use Rattle.mm_text.specs.declared.comments.Comment.TheVariants.{Open, Closed}
@@ -45,6 +45,17 @@ pub record IsMarkAt (bytes : List ℕ) (second at : ℕ) : Type 0 where
 pub record IsClosedAt (bytes : List ℕ) (at : ℕ) : Type 0 where
   pub mark : IsMarkAt bytes 41 at
   pub left : (k : ℕ) → k + 1 ≡ at → is_space (slice_index bytes k) ≡ true
+
+-- a word without `$` begins at one position, and the white space after it at another
+pub record IsWordTo (bytes : List ℕ) (start stop : ℕ) : Type 0 where
+  pub after : start < stop
+  pub within : stop < length bytes
+  pub token : (file : ℕ) → tokens_from file start (drop start bytes)
+      ≡ record { text = slice_range bytes start stop; file = file; at = start }
+      ∷ tokens_from file stop (drop stop bytes)
+  pub ink : (k : ℕ) → start ≤ k → k < stop → is_space (slice_index bytes k) ≡ false
+  pub dollar : holds_dollar (slice_range bytes start stop) ≡ false
+  pub space : is_space (slice_index bytes stop) ≡ true
 
 -- what holds of each position that is handed on
 pub record IsPosition (p : Position) : Type 0 where

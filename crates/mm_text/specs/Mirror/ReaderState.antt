@@ -2,17 +2,18 @@
 -- cited by private contracts and the reader's model and invariant.
 use Rattle.std.specs.Prelude.{◌≡◌, ℕ, ◌+◌, ◌≤◌, length, List, [], Bool, true, false, Some, None}
 use Rattle.std.specs.Prelude.{Result, Ok, Err, map}
+use Rattle.std.specs.List.{AllByRecursion}
 use Rattle.mm_text.specs.declared.fault.TextFault.{TextFault}
 use Rattle.mm_text.specs.declared.fault.TextFault.TheVariants.{Load, Fault, Memory}
 use Rattle.mm_text.specs.declared.statements.State.{State}
 use Rattle.mm_text.specs.declared.statements.State.TheVariants.{Reading, Ended, Failed}
 use Rattle.mm_text.specs.declared.statements.Statements.TheInside.{Inside}
-use Rattle.mm_text.specs.Statement.{PlainStatement}
+use Rattle.mm_text.specs.Statement.{PlainStatement, HasForm}
 use Rattle.mm_text.specs.Files.{most_bytes, PlainFile, plain_file}
 use Rattle.mm_text.specs.Items.{Item}
 use Rattle.mm_text.specs.Mirror.Reader.{PlainReading, PlainScope, Between, reading_of}
+use Rattle.mm_text.specs.Reading.{IsInPlace}
 use Rattle.mm_text.specs.Remaining.{Remaining}
-use Rattle.mm_text.specs.Laws.{AreFormedInPlace}
 use Rattle.mm_text.specs.Mirror.Steps.{fault_of, plain_scope, GivesStatement}
 
 -- what is left in a state, where reading on would give this
@@ -61,6 +62,13 @@ abbrev pub AreFew : State → ℕ → ℕ → Type 0
 AreFew Reading count left = count + left ≤ most_bytes
 AreFew Ended count left = Unit {0}
 AreFew (Failed fault) count left = Unit {0}
+
+-- each statement is formed by the grammar, each of its tokens holds a byte, and is the slice of its
+-- file at its position
+pub record AreFormedInPlace (files : List PlainFile)
+    (statements : List PlainStatement) : Type 0 where
+  pub formed : AllByRecursion HasForm statements
+  pub in_place : AllByRecursion (IsInPlace files) statements
 
 -- What holds of the fields of each reader: what is left to give is formed and stands in the files,
 -- and the numbers of the statements stay small.
