@@ -87,14 +87,6 @@ many_letters number letters above =
     let inside : letters < 0 + number = omega (arith, enough_within letters, above) in
     omega (arith, many number letters number 0 above (omega arith) inside)
 
-pub above_within : (number letters : ℕ) → letters < letters_for number
-    → numbers_within letters < number
-above_within number letters more =
-    elim (cases_lt (numbers_within letters) number) [
-      | inl above ↦ above
-      | inr within ↦ absurd (omega (arith, few_letters number letters within, more))
-    ]
-
 pub is_within : (number letters : ℕ) → letters_for number ≤ letters
     → number ≤ numbers_within letters
 is_within number letters less =
@@ -106,9 +98,6 @@ is_within number letters less =
 pub letters_grow : (m n : ℕ) → m ≤ n → letters_for m ≤ letters_for n
 letters_grow m n le =
     few_letters m (letters_for n) (omega (arith, le, is_within n (letters_for n) (omega arith)))
-
-pub some_letter : (number : ℕ) → 1 ≤ number → 1 ≤ letters_for number
-some_letter number some = omega (arith, many_letters number 0 (omega (arith, some)))
 
 -- ==== the letters of a spelling
 

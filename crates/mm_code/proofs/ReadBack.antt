@@ -100,10 +100,6 @@ pub tokens_in-end : (byte space : ℕ) (bytes : List ℕ) → is_space byte ≡ 
 tokens_in-end byte space bytes dark white =
     tokens_in-step byte (space ∷ bytes) ∙ rw (dark, white) refl
 
--- or the text's last byte
-pub tokens_in-last : (byte : ℕ) → is_space byte ≡ false → tokens_in (byte ∷ []) ≡ (byte ∷ []) ∷ []
-tokens_in-last byte dark = tokens_in-step byte [] ∙ rw (dark, tokens_in-nil) refl
-
 -- another byte of it
 pub tokens_in-on : (byte next : ℕ) (bytes : List ℕ) → is_space byte ≡ false
     → is_space next ≡ false

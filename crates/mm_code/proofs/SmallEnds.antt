@@ -1,6 +1,6 @@
 -- How what is laid out as in the files of real libraries begins and ends: with a line feed, the
 -- indent and the `(` of the list; and in white space.
-use Rattle.std.proofs.Common.{◌≡◌, ℕ, zero, suc, ◌-◌, ◌<◌, inl, inr, List, [], ◌∷◌, ◌++◌, true}
+use Rattle.std.proofs.Common.{◌≡◌, ℕ, zero, suc, ◌-◌, inl, inr, List, [], ◌∷◌, ◌++◌, true}
 use Rattle.std.proofs.Common.{length, map, refl, sym, ap, ◌∙◌, arith, append_assoc, replicate}
 use Rattle.std.proofs.lemmas.Bool.{cases_lt}
 use Rattle.mm_text.specs.Token.{is_space}

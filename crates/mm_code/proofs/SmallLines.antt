@@ -1,6 +1,5 @@
 -- The lines of a proof as the files of real libraries have them: there are some, and only one text
--- of them, and how many bytes they take at most. The laws `one_small_layout` and
--- `small_layout_size` rest on it, and `lay_out_small`.
+-- of them. `lay_out_small` rests on it.
 use Rattle.std.proofs.Common.{◌≡◌, ℕ, ◌+◌, ◌-◌, ◌<◌, ◌≤◌, inl, inr, List, []}
 use Rattle.std.proofs.Common.{◌∷◌, ◌++◌, length, map, refl, sym, ap, subst, ◌∙◌, arith, flat_map}
 use Rattle.std.proofs.Common.{append_assoc, append-nil, length-append, lt-ltb, le-ltb}
@@ -44,10 +43,6 @@ end_breaks indent room short = rw (le-ltb 2 room short) refl
 some_behind : (piece : LinePiece) → 1 ≤ length (behind piece)
 some_behind (token bytes) = omega arith
 some_behind (letter byte) = omega arith
-
-pub behind_bytes : (piece : LinePiece) → length (bytes_of piece) ≤ length (behind piece)
-behind_bytes (token bytes) = omega arith
-behind_bytes (letter byte) = omega arith
 
 line-push : (indent : ℕ) (line : List LinePiece) (piece : LinePiece) → 0 < length line
     → small_line indent (line ++ piece ∷ []) ≡ small_line indent line ++ behind piece
@@ -249,11 +244,6 @@ small_laid_out indent labels letters text is =
       filled = begun.filled;
       printed = ap (λ (t : List ℕ). t ++ proof_end) is ∙ begun.printed;
     }
-
-pub some_small_layout : (indent : ℕ) (labels : List (List ℕ)) (letters : List ℕ)
-    → (text : List ℕ) × SmallLaidOut indent labels letters text
-some_small_layout indent labels letters =
-    (_, small_laid_out indent labels letters _ refl)
 
 -- ==== there is one text
 

@@ -1,6 +1,5 @@
 -- What is laid out as in the files of real libraries is found again: the tokens of the text are the
--- labels between their parentheses, and then pieces of the letters. The law
--- `small_layout_reads_back` rests on it.
+-- labels between their parentheses, and then pieces of the letters.
 use Rattle.std.proofs.Common.{◌≡◌, ℕ, zero, suc, ◌-◌, ◌<◌, inl, inr, List, [], ◌∷◌, ◌++◌}
 use Rattle.std.proofs.Common.{true, false, length, map, refl, sym, ap, ◌∙◌, arith, flat_map}
 use Rattle.std.proofs.Common.{append_assoc, append-nil, replicate}

@@ -68,9 +68,8 @@ pub(crate) fn size_of_tokens(tokens: &[&[u8]]) -> usize
     size
 }
 
-/// At least the bytes of the lines of tokens of this size, as the law `layout_size` says: two lines
-/// in a row have at least 75 bytes of tokens, so all indents but one take at most a sixth of the
-/// size.
+/// At least the bytes of the lines of tokens of this size: two lines in a row have at least 75
+/// bytes of tokens, so all indents but one take at most a sixth of the size.
 fn size_of_lines(size: usize) -> usize
     ensures { result ≡ min (lines_bound size) usize.MAX }
 {

@@ -4,8 +4,8 @@
 //! of a step's hypothesis, label or tagged step, and `Z` tags a step (the Metamath book, appendix
 //! B). White space may cut the letters anywhere, so they come as tokens. This crate reads, writes
 //! and counts them, and lays out both kinds of proof in lines of a bounded width, and compressed
-//! ones also in the lines that real libraries have. Its laws speak of the tokens that `mm_text`
-//! finds in a text.
+//! ones also in the lines that real libraries have. What is laid out is read back as tokens, which
+//! `mm_text` defines.
 #![tactic(auto)]
 
 mod code;
@@ -17,10 +17,7 @@ mod small_layout;
 
 pub use code::{Code, CodeFault, CodeRule};
 pub use counting::{letter_count, letters_for};
-pub use laws::{
-    layout_reads_back, layout_size, letters_counted, one_layout, one_small_layout, one_spelling,
-    one_text, small_layout_reads_back, small_layout_size,
-};
+pub use laws::letters_counted;
 pub use layout::{lay_out_compressed, lay_out_normal};
 pub use letters::{fill_codes, read_codes, write_codes};
 pub use small_layout::{MOST_INDENT, lay_out_small};

@@ -148,8 +148,8 @@ fn add_before_end(text: &mut Vec<u8>, indent: usize, room: usize) -> Result<(), 
     Ok(())
 }
 
-/// At least the bytes of the lines of a proof, as the law `small_layout_size` says: two lines in a
-/// row have at least 80 bytes of tokens and letters with one indent.
+/// At least the bytes of the lines of a proof: two lines in a row have at least 80 bytes of tokens
+/// and letters with one indent.
 fn size_of_lines(indent: usize, labels: &[&[u8]], letters: &[u8]) -> usize
     requires { indent ≤ most_indent }
     ensures { result ≡ min usize.MAX (small_bound indent
