@@ -1,9 +1,7 @@
 -- Blocks: which are open, and which statements are active.
 -- `NumberedBlocks` first: each block has a number, a beginning, an end and a holder, and this
 -- stays so as statements are added. `ActiveStatements` and `ScopeStack` tell from these numbers
--- what is active: the clauses of `Frame::active` and `Book::depth` rest on them, and the laws
--- `active_statements`, `open_blocks` and `open_count` on `BlockLaws`.
+-- what is active: the clauses of `Frame::active` and `Book::depth` rest on them.
 pub mod NumberedBlocks
 pub mod ActiveStatements
-pub mod BlockLaws
 pub mod ScopeStack

@@ -51,6 +51,8 @@ pub struct Book<'a> {
     /// The numbers of the symbols that the statement uses which is taken: each is looked up once,
     /// and the room is used again.
     numbers: Vec<Sym>,
+    /// Guesses of the numbers of symbols: most symbols of a statement stood lately in another.
+    guesses: Guesses,
     /// The lists of which the frame of an assertion is made: their room is used again too.
     lists: FrameLists,
 }
@@ -98,6 +100,7 @@ impl<'a> Book<'a> {
             Ok(tables) => Ok(Book {
                 tables,
                 numbers: Vec::new(alloc),
+                guesses: Guesses::new(alloc),
                 lists: FrameLists::new(alloc),
             }),
             Err(refused) => Err(RuleFault::from(refused)),
@@ -121,7 +124,12 @@ impl<'a> Book<'a> {
             → FirstBroken broken self.old.statements (sentence_in statement.now) }
         ensures unchanged { OnErr result (self.new ≡ self.old) }
     {
-        match first_broken(&self.tables, statement, &mut self.numbers) {
+        match first_broken(
+            &self.tables,
+            statement,
+            &mut self.guesses,
+            &mut self.numbers,
+        ) {
             Ok(None) => {}
             Ok(Some(rule)) => return Err(RuleFault::Rule(rule)),
             Err(refused) => return Err(RuleFault::from(refused)),

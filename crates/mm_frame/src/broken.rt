@@ -13,6 +13,7 @@ ghost use Rattle.mm_frame.specs.Mirror.Told.{IsTold, StatesOnce};
 ghost use Rattle.mm_frame.specs.Mirror.Sought.{AreSought, HasNumbers};
 ghost use Rattle.mm_frame.specs.Mirror.Asked.{rules_of};
 
+use crate::guesses::Guesses;
 use crate::lookups::{
     has_other_type, is_active_variable, is_constant, is_declared, is_label, is_typed, is_variable,
 };
@@ -398,6 +399,7 @@ fn first_among(
 pub(crate) fn first_broken(
     tables: &Tables,
     statement: &Statement,
+    guesses: &mut Guesses,
     numbers: &mut Vec<Sym>,
 ) -> Result<Option<MeaningRule>, AllocError>
     requires tables { AreTables tables.now }
@@ -409,7 +411,7 @@ pub(crate) fn first_broken(
     ensures numbers { OnOk result (HasNumbers
         (statements_of tables.now) (map (λ n. n.0) numbers.new.items) (sentence_in statement.now)) }
 {
-    look_up(tables, statement, numbers)?;
+    look_up(tables, guesses, statement, numbers)?;
     let repeats = repeats(tables.alloc, tables.seed, statement)?;
     Ok(match statement.kind {
         Kind::Constants => first_among(&FOR_CONSTANTS, tables, statement, numbers, repeats),

@@ -1,4 +1,4 @@
-//! Guesses of the numbers of labels.
+//! Guesses of the numbers of names.
 
 use crate::lists::{at as at_index, write};
 use std::alloc::Global;
@@ -6,7 +6,7 @@ use std::alloc::Global;
 /// How many guesses there are.
 pub(crate) const GUESSES: usize = 4096;
 
-/// Guesses of the numbers of labels, by which a label that was looked up lately is found sooner.
+/// Guesses of the numbers of names, by which a name that was looked up lately is found sooner.
 /// None of them is relied on: what is found doesn't depend on them.
 #[derive(Drop)]
 pub struct Guesses {
@@ -15,7 +15,7 @@ pub struct Guesses {
 
 impl Guesses {
     /// Guesses that are all the first number. Where memory for them is refused there are none, and
-    /// each label is found as without them.
+    /// each name is found as without them.
     pub fn new(alloc: Global) -> Guesses {
         let mut numbers = Vec::new(alloc);
         let _ = numbers.resize(GUESSES, 0);

@@ -43,9 +43,7 @@ pub use distinct::DistinctPair;
 pub use frame::Frame;
 pub use guesses::Guesses;
 pub use hypothesis::Hypothesis;
-pub use laws::{
-    active_statements, one_frame, one_label_number, one_number, open_blocks, open_count,
-};
+pub use laws::{one_frame, one_number};
 pub use number::{LabelId, LabelKind, Sym};
 pub use part::Part;
 pub use piece::{Piece, ShortPiece};

@@ -25,6 +25,7 @@ const SPREAD: u64 = 0x9e37_79b9_7f4a_7c15;
 const INDEX_SHIFT: u32 = 52;
 
 // Two bytes from an index on, as a number.
+#[inline(always)]
 fn two_at(bytes: &[u8], at: usize) -> u16
     requires { at + 2 ≤ length bytes.now }
     ensures { result ≡ number_at w16 2 bytes.now at }
@@ -33,6 +34,7 @@ fn two_at(bytes: &[u8], at: usize) -> u16
 }
 
 // Four bytes from an index on, as a number.
+#[inline(always)]
 fn four_at(bytes: &[u8], at: usize) -> u32
     requires { at + 4 ≤ length bytes.now }
     ensures { result ≡ number_at w32 4 bytes.now at }
@@ -41,6 +43,7 @@ fn four_at(bytes: &[u8], at: usize) -> u32
 }
 
 // Eight bytes from an index on, as a number.
+#[inline(always)]
 fn eight_at(bytes: &[u8], at: usize) -> u64
     requires { at + 8 ≤ length bytes.now }
     ensures { result ≡ number_at w64 8 bytes.now at }
@@ -58,6 +61,7 @@ fn eight_at(bytes: &[u8], at: usize) -> u64
 }
 
 // The first bytes of a name and its last, as numbers.
+#[inline(always)]
 #[tactic(auto, using(crate::proofs::Names::NameTables::end_steps))]
 fn ends(bytes: &[u8]) -> (u64, u64)
     ensures { result ≡ ends_of bytes.now }

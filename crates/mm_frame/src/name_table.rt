@@ -115,11 +115,10 @@ impl<'a> Names<'a> {
         self.find_by_hash(name)
     }
 
-    /// The number of a name, if it is one of them, as `find` tells it, by the guess at its index,
-    /// or else by its hash. The guess is replaced where it is that of another name, so a name that
-    /// was looked up lately is found sooner.
+    // The number of a name, if it is one of them, by the guess at its index, or else by its hash.
+    // The guess is replaced where it is that of another name. It is a call, as `find_by_hash` is.
     #[inline(never)]
-    pub(crate) fn find_guessed(&self, guesses: &mut Guesses, name: &[u8]) -> Option<u32>
+    fn find_by_guess(&self, guesses: &mut Guesses, name: &[u8]) -> Option<u32>
         ensures { MatchOption
             result
             (¬ (Contains self.now.names name.now))
@@ -138,6 +137,21 @@ impl<'a> Names<'a> {
             guesses.set(index, number);
         }
         found
+    }
+
+    /// The number of a name, if it is one of them, as `find` tells it. Where the guesses were
+    /// handed in with this name lately, it is found sooner.
+    #[inline(always)]
+    pub(crate) fn find_guessed(&self, guesses: &mut Guesses, name: &[u8]) -> Option<u32>
+        ensures { MatchOption
+            result
+            (¬ (Contains self.now.names name.now))
+            (λ number. slice_get self.now.names number ≡ Some name.now) }
+    {
+        match name {
+            [_] => self.find(name),
+            _ => self.find_by_guess(guesses, name),
+        }
     }
 
     /// The name with a number.

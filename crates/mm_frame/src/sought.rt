@@ -6,6 +6,7 @@ ghost use Rattle.mm_frame.specs.Active.{IsConstant, IsVariable, IsActiveSymbol, 
 ghost use Rattle.mm_frame.specs.Mirror.Layout.{AreTables, statements_of};
 ghost use Rattle.mm_frame.specs.Mirror.Sought.{IsOfNumber, IsSought, AreSought, HasNumbers};
 
+use crate::guesses::Guesses;
 use crate::number::Sym;
 use crate::said::is_use;
 use crate::tables::Tables;
@@ -24,9 +25,23 @@ pub(crate) fn number_of(tables: &Tables, symbol: &[u8]) -> Sym
     }
 }
 
+// The same number, for a symbol that was perhaps looked up lately.
+#[inline(always)]
+#[tactic(auto, using(crate::proofs::Rules::SymbolLookups::sought_steps))]
+fn number_guessed(tables: &Tables, guesses: &mut Guesses, symbol: &[u8]) -> Sym
+    requires { AreTables tables.now }
+    ensures { IsSought (statements_of tables.now) symbol.now result.0 }
+{
+    match tables.symbols.find_guessed(guesses, symbol) {
+        Some(number) => Sym(number),
+        None => Sym(tables.symbols.len() as u32),
+    }
+}
+
 // Looks symbols up.
 fn look_up_each(
     tables: &Tables,
+    guesses: &mut Guesses,
     symbols: &[Token],
     numbers: &mut Vec<Sym>,
 ) -> Result<(), AllocError>
@@ -38,7 +53,7 @@ fn look_up_each(
 {
     numbers.clear();
     for token in symbols {
-        numbers.push(number_of(tables, token.text))?;
+        numbers.push(number_guessed(tables, guesses, token.text))?;
     }
     Ok(())
 }
@@ -47,6 +62,7 @@ fn look_up_each(
 #[tactic(auto, using(std::proofs::lemmas::Result::on_ok_weaker, crate::proofs::Rules::RepeatedSymbols::texts))]
 pub(crate) fn look_up(
     tables: &Tables,
+    guesses: &mut Guesses,
     statement: &Statement,
     numbers: &mut Vec<Sym>,
 ) -> Result<(), AllocError>
@@ -57,7 +73,7 @@ pub(crate) fn look_up(
         (sentence_in statement.now)) }
 {
     if is_use(statement.kind) {
-        look_up_each(tables, &statement.symbols, numbers)
+        look_up_each(tables, guesses, &statement.symbols, numbers)
     } else {
         Ok(())
     }

@@ -12,7 +12,7 @@ ghost use Rattle.mm_frame.specs.Mirror.Layout.{AreTables, statements_of};
 ghost use Rattle.mm_frame.specs.Mirror.Grows.{Grows, HaveRoom, IsSame};
 ghost use Rattle.mm_frame.specs.Mirror.Separated.{ArePaired, EntersMembers, stated_at};
 ghost use Rattle.mm_frame.specs.Mirror.ScopesOf.{CanTake};
-ghost use Rattle.mm_frame.specs.Mirror.Wide.{IsNewWide, NoneFrom};
+ghost use Rattle.mm_frame.specs.Mirror.Wide.{EndWithActive, IsNewWide, NoneFrom};
 ghost use Rattle.mm_frame.specs.Active.{IsActive};
 ghost use Rattle.mm_frame.specs.declared.answer.Taken.TheVariants.{Declared};
 
@@ -81,6 +81,8 @@ impl<'a> Tables<'a> {
     fn active_wide(&self) -> usize
         requires { AreTables self.now }
         ensures within { result ≤ length self.now.distinct.stated.wide }
+        ensures latest { EndWithActive
+            (statements_of self.now) self.now.distinct.stated.wide result }
         ensures passed { NoneFrom
             (λ w. IsActive (statements_of self.now) w.index) self.now.distinct.stated.wide result }
     {

@@ -18,6 +18,7 @@ use Rattle.mm_frame.specs.Mirror.Scopes.{AreScopes}
 use Rattle.std.proofs.lemmas.Option.{slice_get_within}
 use Rattle.mm_text.specs.declared.statement.Kind.TheVariants.{Opening, Closing}
 use Rattle.mm_text.proofs.Lists.{get_kept, get_pushed, pushed_cases, get_before, get_set_cases}
+use Rattle.mm_text.proofs.Lists.{split_at}
 
 -- ==== how many blocks the parts of a list of statements open and close, and which blocks stay open
 -- as statements are appended
@@ -118,6 +119,21 @@ openings_one e b is = ap (λ c. 0 + cond c 1 0) is ∙ omega arith
 
 pub closings_one : (e : Sentence) (b : Bool) → is_closing e.kind ≡ b → close_marks (e ∷ []) ≡ cond b 1 0
 closings_one e b is = ap (λ c. 0 + cond c 1 0) is ∙ omega arith
+
+-- where no `$}` before an open block lacks its `${`, there are fewer `$}` than `${`
+pub open_unclosed : (xs : List Sentence) (p : ℕ)
+    → close_marks (take p xs) ≤ open_marks (take p xs) → IsOpen xs p
+    → close_marks xs < open_marks xs
+open_unclosed xs p before still =
+    let rest = drop (suc p) xs in
+    let whole = split_at xs p still.opening still.there in
+    let os = ap open_marks whole ∙ openings-append (take p xs) (still.opening ∷ rest) in
+    let cs = ap close_marks whole ∙ closings-append (take p xs) (still.opening ∷ rest) in
+    let o = openings-append (still.opening ∷ []) rest in
+    let c = closings-append (still.opening ∷ []) rest in
+    let o1 = openings_one still.opening true (ap is_opening still.opened) in
+    let c1 = closings_one still.opening false (ap is_closing still.opened) in
+    omega (arith, unclosed_all xs (suc p) still.unclosed)
 
 pub length_pushed : {X : Type 0} (xs : List X) (x : X) → length (xs ++ x ∷ []) ≡ suc (length xs)
 length_pushed xs x = length-append xs (x ∷ []) ∙ (omega arith)

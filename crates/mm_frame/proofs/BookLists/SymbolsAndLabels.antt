@@ -24,6 +24,7 @@ use Rattle.mm_frame.proofs.Names.NameNumbers.{number_from_declared, with_name_ca
 use Rattle.mm_frame.specs.Mirror.Declaring.{IsDeclaration, latest_by}
 use Rattle.std.proofs.lemmas.Bool.{cases_lt}
 use Rattle.std.proofs.lemmas.List.{map-append, take-append-le}
+use Rattle.std.proofs.lemmas.List.Elements.{Contains-push}
 use Rattle.std.proofs.Math.Seq.{take-append_seam, take-length}
 use Rattle.mm_frame.specs.declared.number.LabelId.{LabelId}
 use Rattle.mm_frame.specs.declared.tables.Entry.{Entry}
@@ -141,9 +142,6 @@ contains_unpush xs x y apart in_it =
     let (i, there) = at_from_contains (xs ++ x ∷ []) y in_it in
     elim (pushed_cases xs x i y there) [ inl before ↦ contains_from_at xs y (i, before) | inr (last, same) ↦ absurd (apart same) ]
 
-contains_last : (xs : List (List ℕ)) (x : List ℕ) → Contains (xs ++ x ∷ []) x
-contains_last xs x = contains_from_at (xs ++ x ∷ []) x (length xs, get_pushed xs x)
-
 -- the names, with one symbol more of a `$c` or `$v`
 pub declaring_all : (kind : Kind) (xs : List (List ℕ)) → (kind ≡ Constants) ⊎ (kind ≡ Variables) → declared_in kind xs ≡ xs
 declaring_all kind xs which = elim which [ inl is ↦ ap (λ k. declared_in k xs) is | inr is ↦ ap (λ k. declared_in k xs) is ]
@@ -180,7 +178,7 @@ infos_known st symbols xs infos x n info are named there =
             let same_name : x ≡ y = cc in
             let old = are.each n x info named there in
             rw (← is) (rw (← same_name) (record {
-              variable = latest_new (Declares Variables x) st d (refl, contains_last xs x);
+              variable = latest_new (Declares Variables x) st d (refl, Contains-push xs x);
               floating = latest_replaced (GivesType x) st e d info.floating (λ h. absurd (no_type_first Variables xs x (inr refl) h)) (λ h. absurd (no_type_first Variables (xs ++ x ∷ []) x (inr refl) h)) old.floating;
             }))
         | inr (apart, before) ↦
@@ -277,7 +275,8 @@ latest_declared st kind symbols xs infos x which are unknown = elim which [
             (subst (Declares Variables x) (sym same) declares)
       ])
   | inr v ↦ subst LatestBy (sym v)
-      (latest_new (Declares Variables x) st (of_kind Variables (xs ++ x ∷ [])) (refl, contains_last xs x))
+      (latest_new (Declares Variables x) st (of_kind Variables (xs ++ x ∷ []))
+      (refl, Contains-push xs x))
 ]
   where
     LatestBy : Kind → Type 0

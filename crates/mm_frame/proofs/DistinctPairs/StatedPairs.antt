@@ -13,6 +13,7 @@ use Rattle.mm_frame.specs.Active.{IsActive}
 use Rattle.mm_frame.specs.Frame.{IsDistinct}
 use Rattle.mm_frame.specs.Numbers.{symbols_of, AreNumbers}
 use Rattle.mm_frame.specs.Mirror.Wide.{AreWide, HoldsPair, IsHeld, NoneFrom, IsWide, IsNewWide}
+use Rattle.mm_frame.specs.Mirror.Wide.{EndWithActive}
 use Rattle.mm_text.proofs.Lists.{get_kept, get_in_front, get_pushed, pushed_cases, get_before}
 use Rattle.mm_text.proofs.Lists.{get_after, append_cases, get_from_take, at_from_contains}
 use Rattle.mm_text.proofs.Lists.{contains_from_at}
@@ -117,6 +118,13 @@ module _ {st : List Sentence} {symbols : List (List ℕ)} {wide : List WideDisti
         ),
       )
 
+-- the same ones end so in a longer list
+ends_longer : (st : List Sentence) (wide : List WideDistinct) (w : WideDistinct) (n : ℕ)
+    → EndWithActive st wide n → EndWithActive st (wide ++ w ∷ []) n
+ends_longer st wide w n (inl none) = inl none
+ends_longer st wide w n (inr (k, v, is, there, active)) =
+    inr (k, v, is, get_kept wide (w ∷ []) k v there, active)
+
 -- one statement more leaves them, where the symbols that they hold keep their numbers
 pub wide_grow : (st : List Sentence) (e : Sentence) (symbols more : List (List ℕ))
     (wide : List WideDistinct)
@@ -136,6 +144,10 @@ wide_grow st e symbols more wide old are = record {
         sorted = is.sorted;
       };
   older = are.older;
+  latest = λ i w there.
+      let is = are.each i w there in
+      let within = slice_get_within st w.index is.d is.there in
+      rw (take-append-le w.index st (e ∷ []) (omega arith)) (are.latest i w there);
   passed = λ i k w v at_i at_k le lt.
       let (less, inactive) = are.passed i k w v at_i at_k le lt in
       let within = slice_get_within st w.index (are.each i w at_i).d (are.each i w at_i).there in
@@ -437,6 +449,14 @@ module _ (st : List Sentence) (s : Sentence) (symbols : List (List ℕ)) (member
       | inl at ↦ kept.older i v at
       | inr (last, same) ↦ let h = new.older in rw (← same) (omega arith)
     ];
+    latest = λ i v there. ends_longer _ wide w v.older (elim (pushed_cases wide w i v there) [
+      | inl at ↦ kept.latest i v at
+      | inr (last, same) ↦
+          let prefix : take w.index (st ++ s ∷ []) ≡ st =
+          ap (λ n. take n (st ++ s ∷ [])) new.index
+          ∙ take-append-le (length st) st (s ∷ []) (omega arith) ∙ take-length st in
+          rw (← same) (rw prefix new.latest)
+    ]);
     passed = λ i k v u at_i at_k le lt. elim (pushed_cases wide w i v at_i) [
       | inl at ↦
           let within = slice_get_within wide i v at in

@@ -8,7 +8,7 @@ use Rattle.std.proofs.lemmas.Option.{slice_get_within, same_Some, get_or_from_sl
 use Rattle.std.proofs.lemmas.Bool.{cases_lt, false≢true}
 use Rattle.std.proofs.lemmas.Bool.Decides.{Decides-eqb}
 use Rattle.std.proofs.lemmas.List.{append-nil, length-take-le}
-use Rattle.std.proofs.lemmas.List.Elements.{Contains-append_left}
+use Rattle.std.proofs.lemmas.List.Elements.{Contains-append_left, Contains-push_cases}
 use Rattle.mm_text.specs.declared.statement.Kind.TheVariants.{Constants, Variables}
 use Rattle.mm_text.proofs.Lists.{at_from_contains, contains_from_at, get_within, get_from_front}
 use Rattle.mm_text.proofs.Lists.{get_pushed, get_take, one_there, pushed_cases}
@@ -173,7 +173,7 @@ module _ {st : List Sentence} {variables : List (Option ℕ)} {at count : ℕ} {
     exact = λ p e lt at_p. elim (cases_lt p count) [
       | inl less ↦ (
         (λ more. Contains-append_left indices (count ∷ []) p ((found.exact p e less at_p).0 more)),
-        (λ has. (found.exact p e less at_p).1 (elim (contains_pushed p has) [
+        (λ has. (found.exact p e less at_p).1 (elim (Contains-push_cases indices count p has) [
           | inl before ↦ before
           | inr last ↦ absurd (omega (arith, last))
         ])),
@@ -186,15 +186,6 @@ module _ {st : List Sentence} {variables : List (Option ℕ)} {at count : ℕ} {
           )
     ];
   }
-    where
-      contains_pushed : (p : ℕ) → Contains (indices ++ count ∷ []) p
-          → Contains indices p ⊎ (p ≡ count)
-      contains_pushed p has =
-          let (i, at_i) = at_from_contains (indices ++ count ∷ []) p has in
-          elim (pushed_cases indices count i p at_i) [
-            | inl before ↦ inl (contains_from_at indices p (i, before))
-            | inr (last, same) ↦ inr (sym same)
-          ]
 
   -- one that doesn't
   pub none_further : ¬ (SaysMore st variables at count d)
@@ -214,15 +205,6 @@ module _ {st : List Sentence} {variables : List (Option ℕ)} {at count : ℕ} {
           )
     ];
   }
-
--- nothing was asked for
-pub nothing_further : (st : List Sentence) (variables : List (Option ℕ)) (at : ℕ)
-    → AreFoundFurther st variables at 0 []
-nothing_further st variables at = record {
-  rising = λ i j p q at_i at_j lt. absurd (cc);
-  within = λ i p at_i. absurd (cc);
-  exact = λ p e lt at_p. absurd (omega arith);
-}
 
 -- What is found says more than mandatory pairs, in database order.
 pub further_found : (st : List Sentence) (id at : ℕ) (s : Sentence) (hs : List Hypothesis)

@@ -12,7 +12,7 @@ use Rattle.mm_frame.specs.Numbers.{labelled_sentences, IsNumbered, symbols_of}
 use Rattle.mm_text.proofs.Lists.{get_kept, get_pushed, get_before, get_in_front, get_parted}
 use Rattle.mm_text.proofs.Lists.{split_at, one_there}
 use Rattle.std.proofs.lemmas.List.Filters.{length-filter_both}
-use Rattle.mm_frame.specs.Laws.{OneNumber, OneLabelNumber}
+use Rattle.mm_frame.specs.Laws.{OneNumber}
 use Rattle.mm_frame.proofs.Names.NameNumbers.{symbols_unique, symbols_grow, number_from_declared}
 use Rattle.mm_frame.proofs.Names.NameNumbers.{declared_from_number}
 
@@ -141,13 +141,4 @@ one_number_holds st more x = (
   (λ m n at_m at_n. symbols_unique st m n x at_m at_n),
   (λ y n at_x at_y. one_there (symbols_of st) n x y at_x at_y),
   (λ n there. symbols_grow st more n x there),
-)
-
-pub one_label_number_holds : OneLabelNumber
-one_label_number_holds st more p s = (
-  ((λ (there, named). (_, numbered_at st p s there named)), (λ (n, is). (is.there, is.named))),
-  (λ m n one other. sym one.number ∙ other.number),
-  (λ q n t one other. numbered_unique st n p q s t one other),
-  (λ n one. numbered_grow st more n p s one),
-  (λ n. ((λ there. numbered_from_get st n s there), (λ (q, is). numbered_get st n q s is))),
 )

@@ -9,5 +9,5 @@ loop-token-init c =
 
 pub loop-token-preserved : goal.loop-token-preserved
 loop-token-preserved c =
-    rw c.in_ok-push.ensures.items (sought_more (statements_of c.args.tables.now) c.loop-token.numbers.items c.number_of.result c.args.symbols.now c.loop-token.token-index _
-    c.loop-token-test.true c.loop-token.invariant c.number_of.ensures)
+    rw c.in_ok-push.ensures.items (sought_more (statements_of c.args.tables.now) c.loop-token.numbers.items c.number_guessed.result c.args.symbols.now c.loop-token.token-index _
+    c.loop-token-test.true c.loop-token.invariant c.number_guessed.ensures)

@@ -1,4 +1,5 @@
-use Rattle.std.proofs.Common.{◌≡◌, ◌-◌, ◌<◌, ◌≤◌, length, take, ap, sym, ◌∙◌, arith, subst}
+use Rattle.std.proofs.Common.{◌≡◌, ◌+◌, ◌-◌, ◌<◌, ◌≤◌, length, take, ap, sym, ◌∙◌, arith, subst}
+use Rattle.std.proofs.Common.{inr}
 use Rattle.std.proofs.lemmas.Option.{slice_get_within}
 use Rattle.std.proofs.Math.Seq.{take-length}
 use Rattle.mm_frame.specs.declared.scopes.TheConstants.{NEVER}
@@ -45,3 +46,25 @@ loop-preserved c =
       within = omega arith;
       none = active_next c.requires.stated.wide n w some there no c.loop.invariant.none;
     }
+
+pub returns-then-is_active-clause-latest : goal.returns-then-is_active-clause-latest
+returns-then-is_active-clause-latest c =
+    let t = c.args.self.now in
+    let st = statements_of t in
+    let w = c.index-wide-left.result in
+    let n = c.loop.left in
+    let some : n ≡ (n - 1) + 1 = omega (arith, c.if-left-eq0.false) in
+    let there = wide_at _ _ _ _ _ c.wide-wide.ensures c.if-left-eq0.false
+    c.loop.invariant.within c.index-wide-left.is in
+    let size = all_statements t in
+    let all : c.len-at.result ≡ length st = c.len-at.ensures ∙ t.log.ok.0 ∙ sym size in
+    let whole : take c.len-at.result st ≡ st = ap (λ m. take m st) all ∙ take-length st in
+    let small : length st ≤ NEVER = omega (arith, c.requires.counted, c.requires.small, size) in
+    let tell = c.is_active.ensures st c.requires.scopes small in
+    inr (
+      n - 1,
+      w,
+      some,
+      there,
+      subst (λ ys. IsActive ys w.index) whole (tell.0 c.if-is_active.true),
+    )

@@ -8,5 +8,6 @@ returns c = record {
   among = c.in_ok-numbers.ensures.among;
   sorted = c.in_ok-numbers.ensures.sorted;
   older = c.active_wide.ensures.within;
+  latest = c.active_wide.ensures.latest;
   passed = c.active_wide.ensures.passed;
 }
