@@ -35,6 +35,11 @@ in_contains xs x h =
 pub contains_in : {X : Type 0} (xs : List X) (x : X) → Contains xs x → In xs x
 contains_in xs x c = get_in xs c.0 x (slice_get-get_or xs c.0 x c.1 ∙ ap Some c.2)
 
+-- the member of a list of one
+pub only_one : {X : Type 0} (x y : X) → Contains (x ∷ []) y → x ≡ y
+only_one x y (zero, within, is) = is
+only_one x y (suc k, within, is) = absurd (let w : suc k < 1 = within in omega arith)
+
 pub in_left : {X : Type 0} (xs ys : List X) (x : X) → In xs x → In (xs ++ ys) x
 in_left [] ys x h = absurd h
 in_left (y ∷ xs) ys x h = let i = in_left xs ys x in grind arith

@@ -3,8 +3,7 @@
 -- only. `Derivations`: what trees derive their spelling does, and moves make one row of trees.
 -- `Replacements`: what the entries of hypotheses replace. `PassedMoves`: a move that breaks no
 -- rule carries passed moves on, and each prefix of passed moves has passed. `DeclaredSymbols`: the
--- symbols of the entries are declared. `ProofVerdicts` stands on them. The law `one_fit` rests on
--- it alone.
+-- symbols of the entries are declared. `ProofVerdicts` stands on them.
 pub mod OneStep
 pub mod Derivations
 pub mod Replacements

@@ -3,8 +3,8 @@
 -- `FewestLetters`: no list gives fewer letters. `SomeSmallProof`: labels can be listed by use.
 -- `UsedLabels`: how often moves use labels, and which first. `UseLoops`: what the loops of `small`
 -- know. `ListedByUse`, `SmallTrees`: what it makes of a packed proof is the small one.
--- `WrittenSmallProofs`: its tokens are a proof, in strict form. `MadeBySmall`: what else the crates
--- above ask of it. The laws on small proofs, and clauses of `compress_small`, rest on this room.
+-- `WrittenSmallProofs`: its tokens are a proof, in strict form. The laws on small proofs, and
+-- clauses of `compress_small`, rest on this room.
 pub mod UsedLabels
 pub mod OneSmallProof
 pub mod UseLoops
@@ -13,4 +13,3 @@ pub mod SomeSmallProof
 pub mod FewestLetters
 pub mod SmallTrees
 pub mod WrittenSmallProofs
-pub mod MadeBySmall

@@ -3,9 +3,11 @@
 use Rattle.std.proofs.Common.{◌≡◌, ℕ, ◌<◌, ◌+◌, ◌-◌, List, [], ◌∷◌, ◌++◌, map, take, drop, length}
 use Rattle.std.proofs.Common.{get_or, option_map, Some, refl, ap, ◌∙◌, arith, zero, suc, ◌≤◌}
 use Rattle.std.proofs.Common.{Result, Ok, Err, sym, subst, slice_get, slice_range, OnOk, OnErr}
+use Rattle.std.proofs.Common.{◌↔◌, Bool, IsTrue}
 use Rattle.std.proofs.lemmas.List.{take-map, length-map, map-append, append_assoc, drop-map}
 use Rattle.std.proofs.lemmas.List.{drop-drop, take_at, drop_at, length-drop, length-take, take_all}
-use Rattle.std.proofs.lemmas.List.{drop-take, take-take, length-append}
+use Rattle.std.proofs.lemmas.List.{drop-take, take-take, length-append, length-take-le}
+use Rattle.std.proofs.Math.Seq.{take-append-add}
 use Rattle.std.proofs.lemmas.Option.{slice_get-map, slice_get_read, slice_get-get_or}
 use Rattle.std.proofs.lemmas.Option.{get_or_from_slice_get, none-some, same_Some}
 use Rattle.mm_proof.proofs.ByNumbers.NumberedSymbols.{drop_get, no_piece, said_appended}
@@ -225,6 +227,49 @@ pub ruleset part_steps = (length-take, part-take)
 -- the first ones stay where more than them do
 pub prefix_stays : {X : Type 0} (n k : ℕ) (new old first : List X) → n ≤ k → take k new ≡ take k old → take n old ≡ take n first → take n new ≡ take n first
 prefix_stays n k new old first order same h = sym (take-take n k new order) ∙ ap (take n) same ∙ take-take n k old order ∙ h
+
+-- what stays where more is put behind it
+pub stays-before : {X : Type 0} (n k : ℕ) (old new more : List X) → n ≤ length old → n ≤ k
+    → take k new ≡ take n old ++ more → take n new ≡ take n old
+stays-before n k old new more size order put =
+    sym (take-take n k new order) ∙ ap (take n) put
+    ∙ take_at (take n old) more n (length-take-le n old size)
+
+-- of a copy that is longer than the part that was meant, the part is put
+pub part-of-copy : {X : Type 0} (used i j count : ℕ) (old new : List X) → used ≤ length old
+    → i ≤ j → j ≤ used → j - i ≤ count
+    → take (used + count) new ≡ take used old ++ slice_range old i (i + count)
+    → take (used + (j - i)) new ≡ take used old ++ slice_range (take used old) i j
+part-of-copy {X} used i j count old new size order within short put =
+    let n = j - i in
+    let prefix = take used old in
+    let long : length prefix ≡ used = length-take-le used old size in
+    let copy = slice_range old i (i + count) in
+    let cut : take (used + n) (prefix ++ copy) ≡ prefix ++ take n copy =
+    subst (λ (k : ℕ). take (k + n) (prefix ++ copy) ≡ prefix ++ take n copy) long
+    (take-append-add prefix copy n) in
+    let part : take n copy ≡ slice_range old i j =
+    take-take n (i + count - i) (drop i old) (omega (arith, short)) in
+    sym (take-take (used + n) (used + count) new (omega (arith, short))) ∙ ap (take (used + n)) put
+    ∙ cut ∙ ap (λ l. prefix ++ l) (part ∙ sym (part-take used old i j order within))
+
+-- whether a range of what stays is what is put behind it tells whether it is what is said
+pub said-there : (used end i j : ℕ) (prefix new more : List Sym) (whole : List ℕ) (told : Bool)
+    → length prefix ≡ used → i ≤ j → j ≤ used → used ≤ end
+    → take used new ≡ prefix → take end new ≡ prefix ++ more → numbers_in more ≡ whole
+    → (IsTrue told
+    ↔ (numbers_in (slice_range new i j) ≡ numbers_in (slice_range new used end)))
+    → (IsTrue told ↔ (numbers_in (slice_range prefix i j) ≡ whole))
+said-there used end i j prefix new more whole told size order within later same put said is =
+    let range : slice_range new i j ≡ slice_range prefix i j =
+    sym (part-take used new i j order within) ∙ ap (λ (l : List Sym). slice_range l i j) same in
+    let made : slice_range new used end ≡ more =
+    sym (cut-before end used new later) ∙ ap (drop used) put ∙ drop_at prefix more used size in
+    let first = ap numbers_in range in
+    let second = ap numbers_in made ∙ said in (
+      λ t. sym first ∙ is.0 t ∙ second,
+      λ e. is.1 (first ∙ e ∙ sym second),
+    )
 
 -- what is put is as long as what is used more
 pub put_within : (used end limit : ℕ) (prefix new more : List Sym) (whole : List ℕ) → length prefix ≡ used → end ≤ length new → take end new ≡ prefix ++ more → numbers_in more ≡ whole → end - used ≤ limit → length whole ≤ limit

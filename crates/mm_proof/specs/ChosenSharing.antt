@@ -6,7 +6,6 @@ use Rattle.mm_frame.specs.declared.number.LabelId.{LabelId}
 use Rattle.mm_frame.specs.Sentence.{Sentence}
 use Rattle.mm_proof.specs.Tree.{Trees}
 use Rattle.mm_proof.specs.BigSubtrees.{nodes}
-use Rattle.mm_proof.specs.Sharing.{IsSharedProof}
 use Rattle.mm_proof.specs.Packing.{AreSharedProof}
 
 -- Three or more nodes. A tag takes a letter where its tree is made, and mostly two letters where
@@ -14,12 +13,6 @@ use Rattle.mm_proof.specs.Packing.{AreSharedProof}
 -- written out again.
 abbrev pub IsWorthATag : Trees → Type 0
 IsWorthATag trees = 3 ≤ nodes trees
-
--- The listed labels and the codes are the proof of the trees that shares what is worth a tag, and
--- writes out again what isn't.
-abbrev pub IsChosen : (before : List Sentence) (s : Sentence) (trees : Trees)
-    (listed : List (List ℕ)) (codes : List Code) → Type 0
-IsChosen before s trees listed codes = IsSharedProof IsWorthATag before s trees listed codes
 
 -- The labels with these numbers and the codes are this proof of the trees, as a proof of the
 -- statement at the index.

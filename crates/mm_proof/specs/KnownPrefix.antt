@@ -1,17 +1,14 @@
 -- What is known of an incomplete proof: what stands before its first `?` (the Metamath book, section
 -- 4.4.4 and appendix B). That it is judged is this project's own.
-use Rattle.std.specs.Prelude.{◌≡◌, ℕ, List, [], ◌∷◌, ◌++◌, Bool, false, Option, Some, None}
-use Rattle.std.specs.Prelude.{slice_get, if◌then◌else◌, ◌⊎◌}
+use Rattle.std.specs.Prelude.{ℕ, List, [], ◌∷◌, ◌++◌, Bool, false, Option, Some, None}
+use Rattle.std.specs.Prelude.{slice_get, if◌then◌else◌}
 use Rattle.std.specs.List.{list_any, before_first, position_or_len}
 use Rattle.mm_text.specs.Items.{spells}
 use Rattle.mm_frame.specs.Sentence.{Sentence}
-use Rattle.mm_frame.specs.Rules.{AllMeant}
-use Rattle.mm_frame.specs.Form.{AllFormed}
-use Rattle.mm_proof.specs.declared.fault.ProofRule.{ProofRule}
 use Rattle.mm_proof.specs.Substitution.{Expression}
 use Rattle.mm_proof.specs.Moves.{Move}
 use Rattle.mm_proof.specs.Tokens.{is_question, is_unknown, opening_token, closing_token, SayMoves}
-use Rattle.mm_proof.specs.Proof.{IsWholeFault, IsWhole, IsWithin, Passed, IsMoveFault}
+use Rattle.mm_proof.specs.Proof.{IsWhole, Passed}
 
 -- the tokens before the first that holds a `?`
 abbrev pub known_tokens : List (List ℕ) → List (List ℕ)
@@ -63,36 +60,3 @@ pub record AreAllowed (Fits : Expression → Type 0) (before : List Sentence) (s
   pub moves : List (Move (List ℕ))
   pub said : SayMoves before s prefix moves
   pub pass : Pass Fits before moves
-
--- the first fault of the tokens of a prefix, the form aside: of all of them, or of a step
-abbrev pub HaveFault : (Expression → Type 0) → List Sentence → Sentence → (prefix : List (List ℕ))
-    → ProofRule → ℕ → Type 0
-HaveFault Fits before s prefix rule step =
-    ((step ≡ 0) × IsWholeFault before prefix rule)
-    ⊎ (IsWhole before prefix × (moves : List (Move (List ℕ))) × SayMoves before s prefix moves
-    × IsMoveFault Fits before moves rule step)
-
--- the known prefix of the tokens breaks no rule, the form aside
-abbrev pub IsPrefixAllowed : (Expression → Type 0) → List Sentence → Sentence → List (List ℕ)
-    → Type 0
-IsPrefixAllowed Fits before s tokens = AreAllowed Fits before s (known_prefix tokens)
-
--- the first fault of the known prefix of the tokens, the form aside
-abbrev pub IsPrefixFault : (Expression → Type 0) → List Sentence → Sentence → List (List ℕ)
-    → ProofRule → ℕ → Type 0
-IsPrefixFault Fits before s tokens rule step = HaveFault Fits before s (known_prefix tokens) rule step
-
--- After statements that are meant and in form each known prefix is allowed or has a fault, the form
--- of the proof aside; not both, and no two faults.
-abbrev pub OnePrefixVerdict : Type 0
-OnePrefixVerdict =
-    (limit : ℕ) (before : List Sentence) (s : Sentence) (tokens : List (List ℕ)) → AllMeant before
-    → AllFormed before
-    → (IsPrefixAllowed (IsWithin limit) before s tokens
-    ⊎ ((rule : ProofRule) × (step : ℕ) × IsPrefixFault (IsWithin limit) before s tokens rule step))
-    × (IsPrefixAllowed (IsWithin limit) before s tokens → (rule : ProofRule) (step : ℕ)
-    → ¬ (IsPrefixFault (IsWithin limit) before s tokens rule step))
-    × ((rule rule' : ProofRule) (step step' : ℕ)
-    → IsPrefixFault (IsWithin limit) before s tokens rule step
-    → IsPrefixFault (IsWithin limit) before s tokens rule' step'
-    → (rule ≡ rule') × (step ≡ step'))

@@ -1,26 +1,17 @@
 -- Laws of verdicts on proofs, after statements that break no rule of meaning. The proofs are those
 -- of the Metamath book, sections 4.1.4, 4.3 and 4.4.3 and appendix B; the names of rules, the limit
 -- and the laws are this project's own.
-use Rattle.std.specs.Prelude.{◌≡◌, ℕ, ◌+◌, ◌≤◌, List, [], ◌∷◌, ◌++◌, map, count_by, not}
+use Rattle.std.specs.Prelude.{◌≡◌, ℕ, List, [], ◌∷◌}
 use Rattle.std.specs.Prelude.{◌⊎◌, ◌↔◌}
 use Rattle.mm_frame.specs.Sentence.{Sentence}
 use Rattle.mm_frame.specs.Rules.{AllMeant}
-use Rattle.mm_frame.specs.Form.{AllFormed}
 use Rattle.mm_proof.specs.declared.fault.ProofRule.{ProofRule}
-use Rattle.mm_proof.specs.declared.fault.ProofRule.TheVariants.{P6, P7, L1}
-use Rattle.mm_proof.specs.Tree.{Trees, none, tree, spelling, TreesFit, DeriveAll, AnyExpression}
-use Rattle.mm_proof.specs.Moves.{Move, again, mark, is_step, steps_in, Makes}
+use Rattle.mm_proof.specs.declared.fault.ProofRule.TheVariants.{L1}
+use Rattle.mm_proof.specs.Tree.{Trees, none, tree, spelling, DeriveAll, AnyExpression}
+use Rattle.mm_proof.specs.Moves.{Move}
 use Rattle.mm_proof.specs.Tokens.{IsNormal}
-use Rattle.mm_proof.specs.Expansion.{Expands, IsWord}
+use Rattle.mm_proof.specs.Expansion.{IsWord}
 use Rattle.mm_proof.specs.Proof.{IsWithin, IsWhole, Prove, IsProvedWithin, IsProved, IsFault}
-use Rattle.mm_proof.specs.Proof.{Passed, IsMovesFault}
-
--- Trees that fit are told by their spelling: no other trees that fit have it.
-abbrev pub OneFit : Type 0
-OneFit =
-    (before : List Sentence) (t u : Trees)
-    → AllMeant before → TreesFit before t → TreesFit before u
-    → spelling t ≡ spelling u → t ≡ u
 
 -- Trees that derive expressions fit, and so are told by their spelling; and they derive the same.
 abbrev pub OneTree : Type 0
@@ -28,24 +19,6 @@ OneTree =
     (before : List Sentence) (t u : Trees) (es fs : List (List (List ℕ))) → AllMeant before
     → DeriveAll AnyExpression before t es → DeriveAll AnyExpression before u fs
     → spelling t ≡ spelling u → (t ≡ u) × (es ≡ fs)
-
--- After statements in form the tokens of each proof are a proof within the limit, or have a fault.
-abbrev pub SomeProofVerdict : Type 0
-SomeProofVerdict =
-    (limit : ℕ) (before : List Sentence) (s : Sentence) (tokens : List (List ℕ)) → AllMeant before
-    → AllFormed before
-    → IsProvedWithin (IsWithin limit) before s tokens
-    ⊎ ((rule : ProofRule) × (step : ℕ) × IsFault (IsWithin limit) before s tokens rule step)
-
--- What is proved within the limit has no fault; and what has a fault has one rule and one step.
-abbrev pub OneProofVerdict : Type 0
-OneProofVerdict =
-    (limit : ℕ) (before : List Sentence) (s : Sentence) (tokens : List (List ℕ)) → AllMeant before
-    → (IsProvedWithin (IsWithin limit) before s tokens → (rule : ProofRule) (step : ℕ)
-    → ¬ (IsFault (IsWithin limit) before s tokens rule step))
-    × ((rule rule' : ProofRule) (step step' : ℕ)
-    → IsFault (IsWithin limit) before s tokens rule step
-    → IsFault (IsWithin limit) before s tokens rule' step' → (rule ≡ rule') × (step ≡ step'))
 
 -- What is proved within the limit is proved; what is proved is so within the limit, or its fault is
 -- that a step passes the limit; and no other fault is one of what is proved.
@@ -57,25 +30,6 @@ LimitsAside =
     ⊎ ((step : ℕ) × IsFault (IsWithin limit) before s tokens L1 step))
     × (IsProved before s tokens → (rule : ProofRule) (step : ℕ)
     → IsFault (IsWithin limit) before s tokens rule step → rule ≡ L1)
-
--- Moves have one word at most.
-abbrev pub OneWord : Type 0
-OneWord =
-    (before : List Sentence) (moves : List (Move (List ℕ))) (v w : List (List ℕ)) → AllMeant before
-    → IsWord before moves v → IsWord before moves w → v ≡ w
-
--- Moves that make trees have a word, the spelling of these trees, which fit; and the words that they
--- keep are the spellings of the kept trees. Trees that fit and that the word of the moves spells are
--- the trees that the moves make, and they make no others.
-abbrev pub MadeByWord : Type 0
-MadeByWord =
-    (before : List Sentence) (moves : List (Move (List ℕ))) (trees : Trees)
-    → ((kept : List Trees) → Makes before moves none [] trees kept
-    → TreesFit before trees × Expands before moves [] [] (spelling trees) (map spelling kept))
-    × (AllMeant before → TreesFit before trees → IsWord before moves (spelling trees)
-    → (kept : List Trees) × Makes before moves none [] trees kept
-    × ((others : Trees) (more : List Trees) → Makes before moves none [] others more
-    → (others ≡ trees) × (more ≡ kept)))
 
 -- the moves have a word, which spells one tree; and this tree derives the statement's expression
 pub record ProveByWord (Fits : List (List ℕ) → Type 0) (before : List Sentence) (s : Sentence)
@@ -113,35 +67,3 @@ BySpellingFor Fits =
 
 abbrev pub BySpelling : Type 0
 BySpelling = BySpellingFor AnyExpression × ((limit : ℕ) → BySpellingFor (IsWithin limit))
-
--- P7 is the fault of moves exactly if they begin with a mark, whatever follows; and its step is 1.
-abbrev pub MarkBeforeAnyStep : Type 0
-MarkBeforeAnyStep =
-    (limit : ℕ) (before : List Sentence) (s : Sentence) (moves : List (Move (List ℕ))) (step : ℕ)
-    → IsMovesFault (IsWithin limit) before s moves P7 step
-    ↔ ((step ≡ 1) × (later : List (Move (List ℕ))) × (moves ≡ mark ∷ later))
-
--- how many of the moves are marks
-abbrev pub marks_in : List (Move (List ℕ)) → ℕ
-marks_in moves = count_by (λ m. not (is_step m)) moves
-
--- All moves before a tag passed, each step making an expression that fits, and the tag is over the
--- marks among them.
-pub record IsOverMarks (Fits : List (List ℕ) → Type 0) (before : List Sentence)
-    (moves : List (Move (List ℕ))) (step : ℕ) : Type 0 where
-  pub earlier : List (Move (List ℕ))
-  pub tag : ℕ
-  pub later : List (Move (List ℕ))
-  pub parts : moves ≡ earlier ++ again tag ∷ later
-  pub number : step ≡ steps_in earlier + 1
-  pub stack : List (List (List ℕ))
-  pub kept : List (List (List ℕ))
-  pub passed : Passed Fits before earlier stack kept
-  pub over : marks_in earlier ≤ tag
-
--- P6 is the fault of moves exactly if the first step that doesn't pass is a tag over the marks.
-abbrev pub TagOverMarks : Type 0
-TagOverMarks =
-    (limit : ℕ) (before : List Sentence) (s : Sentence) (moves : List (Move (List ℕ))) (step : ℕ)
-    → IsMovesFault (IsWithin limit) before s moves P6 step
-    ↔ IsOverMarks (IsWithin limit) before moves step

@@ -34,7 +34,6 @@ pub mod Stores
 pub mod Halted
 pub mod Uses
 pub mod Asked
-pub mod AskedLaws
 pub mod Lacking
 pub mod Places
 pub mod WholePlaces

@@ -64,10 +64,6 @@ pub record ShareThose (P : Trees → Type 0) (before : List Sentence) (trees : T
   pub marked : KeepMade P (visits before moves none [] trees kept made)
   pub referred : (tag : ℕ) → tag < length kept → Contains moves (again tag)
 
--- they share all that can be shared: the subtrees of two or more nodes
-abbrev pub ShareAll : List Sentence → Trees → List (Move (List ℕ)) → Type 0
-ShareAll before trees moves = ShareThose IsBig before trees moves
-
 -- The listed labels are those of the word that weren't seen before, by first use, each once.
 abbrev pub AreFirstUses : (seen word listed : List (List ℕ)) → Type 0
 AreFirstUses seen [] listed = listed ≡ []

@@ -8,7 +8,6 @@ use Rattle.mm_frame.specs.Form.{AllFormed}
 use Rattle.mm_proof.specs.Tree.{Trees, none, tree, TreesFit}
 use Rattle.mm_proof.specs.Moves.{Move}
 use Rattle.mm_proof.specs.Sharing.{PairSays, IsPacked}
-use Rattle.mm_proof.specs.Strict.{IsStrictList, MarkAssertions}
 use Rattle.mm_proof.specs.SmallProofs.{AreByUse, IsSmall}
 
 -- A tree has one small proof at most.
@@ -27,17 +26,6 @@ SomeSmall =
     → AllFormed before → TreesFit before (tree label below none)
     → (listed : List (List ℕ)) × (codes : List Code)
     × IsSmall before s (tree label below none) listed codes
-
--- It has the form that the strict profile demands: its list names no mandatory hypothesis and no
--- label twice, and each of its marks stands directly after a step by the label of an assertion.
-abbrev pub SmallIsStrict : Type 0
-SmallIsStrict =
-    (before : List Sentence) (s : Sentence) (label : List ℕ) (below : Trees)
-    (listed : List (List ℕ)) (codes : List Code)
-    → IsSmall before s (tree label below none) listed codes
-    → IsStrictList before s listed
-    × ((moves : List (Move (List ℕ))) → PairSays before s listed codes moves
-    → MarkAssertions before moves)
 
 -- No list makes the letters of moves fewer than the one by use: whatever labels are listed, and
 -- however the moves are said by them.

@@ -25,7 +25,7 @@ use mm_frame::{Book, Frame, Scheme, one_number};
 // The first of P10 to P12 that the step breaks, where the entries from the base on are as many as
 // the hypotheses, and begin with their type codes. It is told whether all of these are `$f`.
 fn rule_broken<S: Store>(
-    store: &S,
+    store: &mut S,
     base: usize,
     book: &Book,
     own: &Frame,
@@ -39,22 +39,24 @@ fn rule_broken<S: Store>(
         scheme.now.pieces.now scheme.now.hypotheses.now }
     requires indices { HaveIndices (variables_of scheme.now.hypotheses.now) scheme.now.pairs.now }
     requires floating { IsTrue floating → EachIsSome (variables_of scheme.now.hypotheses.now) }
-    requires entries { base + length scheme.now.hypotheses.now ≡ length (S.stack store.now) }
-    requires fits { length (S.stack store.now) < 2 ^ 64 }
+    requires entries { base + length scheme.now.hypotheses.now ≡ length (S.stack store.old) }
+    requires fits { length (S.stack store.old) < 2 ^ 64 }
     requires symbols { AreStackEntries book.now.statements (take own.now.index book.now.statements)
-        (S.stack store.now) }
-    ensures { (limit id at : ℕ) (hs : List Sentence)
+        (S.stack store.old) }
+    ensures judged { (limit id at : ℕ) (hs : List Sentence)
         → IsAppliedAssertion book.now.statements own.now.index id at
         (label_ids scheme.now.hypotheses.now) hs
         → ArePairs (record { statements = book.now.statements; index = at })
         (pairs_in scheme.now.pairs.now)
         → EachEntry hs (all_names_at book.now.statements
-        (drop base (S.stack store.now))) IsRightCode
+        (drop base (S.stack store.old))) IsRightCode
         → MatchOption
         result
         (IsMatched book.now.statements own.now.index hs (variables_of scheme.now.hypotheses.now)
-        (drop base (S.stack store.now)) (pairs_in scheme.now.pairs.now))
-        (λ rule. StopsAt limit book.now.statements own.now.index id (S.stack store.now) rule) }
+        (drop base (S.stack store.old)) (pairs_in scheme.now.pairs.now))
+        (λ rule. StopsAt limit book.now.statements own.now.index id (S.stack store.old) rule) }
+    ensures stack { S.stack store.new ≡ S.stack store.old }
+    ensures kept { S.kept store.new ≡ S.kept store.old }
 {
     one_number();
     if !are_equal(store, base, book, scheme, floating) {

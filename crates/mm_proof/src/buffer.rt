@@ -1,14 +1,16 @@
 //! A list of symbols to whose end parts of it are copied.
 
 ghost use Rattle.std.specs.Prelude.{◌≡◌, ◌+◌, ◌-◌, ◌≤◌, [], ◌∷◌, ◌++◌, length, take, drop};
-ghost use Rattle.std.specs.Prelude.{List, slice_range, OnOk, OnErr, MatchBool};
+ghost use Rattle.std.specs.Prelude.{◌↔◌, List, slice_range, IsTrue, IfSome, OnOk, OnErr};
+ghost use Rattle.std.specs.Prelude.{MatchBool};
 ghost use Rattle.std.specs.List.{AllByRecursion};
 ghost use Rattle.mm_frame.specs.declared.number.Sym.{Sym};
-ghost use Rattle.mm_proof.specs.Mirror.Buffer.{AreParts, parts_of};
+ghost use Rattle.mm_proof.specs.Mirror.Buffer.{IsPart, AreParts, parts_of};
 ghost use Rattle.mm_proof.specs.Stores.{numbers_in, all_said_by, IsWithinIndices};
 
 use crate::entry::Entry;
 use crate::said::{put_part_behind, put_pieces};
+use crate::substitution::is_same;
 use mm_frame::{ShortPiece, Sym};
 use std::alloc::{AllocError, Global};
 use std::marker::Model;
@@ -165,6 +167,31 @@ impl Buffer {
         put_part_behind(&mut self.room, self.used, start, end);
         self.used += end - start;
         Ok(())
+    }
+
+    /// Whether what the entry names is what the pieces say of the entries from the base on; none
+    /// where there is no room to put that behind the symbols.
+    #[inline(always)]
+    pub(crate) fn is_said(
+        &mut self,
+        stack: &[Entry],
+        base: usize,
+        pieces: &[ShortPiece],
+        entry: Entry,
+    ) -> Option<bool>
+        requires parts { AreParts (length self.old) stack.now }
+        requires part { IsPart (length self.old) entry }
+        requires within { AllByRecursion (IsWithinIndices (length stack.now - base)) pieces.now }
+        ensures said { IfSome result (λ is. IsTrue is
+            ↔ (numbers_in (slice_range self.old entry.start entry.end)
+            ≡ all_said_by (drop base (parts_of self.old stack.now)) pieces.now)) }
+        ensures same { self.new ≡ self.old }
+    {
+        let end = put_pieces(&mut self.room, self.used, stack, base, pieces)?;
+        Some(is_same(
+            &self.room[entry.start..entry.end],
+            &self.room[self.used..end],
+        ))
     }
 
     /// Adds what the pieces say of the entries from the base on, where there is room for it and it

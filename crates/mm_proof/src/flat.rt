@@ -243,6 +243,12 @@ impl Store for Flat {
     }
 
     #[inline(always)]
+    fn is_said_there(&mut self, base: usize, pieces: &[ShortPiece], index: usize) -> Option<bool> {
+        let entry = self.stack[index];
+        self.symbols.is_said(&self.stack, base, pieces, entry)
+    }
+
+    #[inline(always)]
     fn push(&mut self, expression: &[Sym]) -> Result<(), AllocError> {
         let start = self.symbols.len();
         append(&mut self.symbols, expression)?;

@@ -1,25 +1,12 @@
 //! Laws of verdicts on proofs. The functions do nothing: their contracts are the laws.
 
-ghost use Rattle.mm_proof.specs.Laws.{OneFit, OneTree, OneWord, MadeByWord, ByWord, BySpelling};
-ghost use Rattle.mm_proof.specs.Laws.{SomeProofVerdict, OneProofVerdict, LimitsAside};
-ghost use Rattle.mm_proof.specs.Laws.{MarkBeforeAnyStep, TagOverMarks};
-ghost use Rattle.mm_proof.specs.KnownPrefix.{OnePrefixVerdict};
+ghost use Rattle.mm_proof.specs.Laws.{OneTree, ByWord, BySpelling};
+ghost use Rattle.mm_proof.specs.Laws.{LimitsAside};
 ghost use Rattle.mm_proof.specs.UnderProfile.{OneVerdictUnder, OnePrefixVerdictUnder};
 ghost use Rattle.mm_proof.specs.SharingLaws.{OnePacked, SomePacked};
-ghost use Rattle.mm_proof.specs.SharingLaws.{StepsMakeChildren, FewestSteps, ToldByPacked};
-ghost use Rattle.mm_proof.specs.SmallLaws.{OneSmall, SmallIsStrict, NoBetterOrder};
+ghost use Rattle.mm_proof.specs.SharingLaws.{FewestSteps, ToldByPacked};
+ghost use Rattle.mm_proof.specs.SmallLaws.{OneSmall, NoBetterOrder};
 ghost use Rattle.mm_proof.specs.SmallLaws.{SmallIsNoLarger, SomeSmall};
-ghost use Rattle.mm_proof.specs.AskedLaws.{OneShared, OneMissing};
-
-/// A spelling spells one tree.
-///
-/// After statements that break no rule of meaning, trees that fit (each leaf names an active
-/// hypothesis, each node an earlier assertion, with as many trees below as it has mandatory
-/// hypotheses) and have equal spellings are equal, whether they derive anything or not.
-#[tactic(auto, using(crate::proofs::ProofSteps::Derivations::one_fit_holds))]
-pub fn one_fit()
-    ensures { OneFit }
-{}
 
 /// A proof spells one tree.
 ///
@@ -29,26 +16,6 @@ pub fn one_fit()
 #[tactic(auto, using(crate::proofs::ProofVerdicts::FirstFault::one_tree_holds))]
 pub fn one_tree()
     ensures { OneTree }
-{}
-
-/// A proof has one word at most.
-///
-/// After statements that break no rule of meaning, the labels of a proof, with the word of a tagged
-/// step in place of each tag, are determined: no labels have two endings that each spell one tree
-/// that fits.
-pub fn one_word()
-    ensures { OneWord }
-{}
-
-/// What moves make is told by their word.
-///
-/// The moves of a proof that make trees have a word, the labels that these trees spell, and each
-/// kept tree spells the word that stands in place of its tag. After statements that break no rule
-/// of meaning, trees that fit and that the word spells are those that the moves make, and they make
-/// no others. So the tree of a compressed proof is that of its labels with each tag written out
-/// (the Metamath book, section 4.4.3 and appendix B).
-pub fn made_by_word()
-    ensures { MadeByWord }
 {}
 
 /// What is proved is told by a word.
@@ -69,37 +36,6 @@ pub fn by_word()
 #[tactic(auto, using(crate::proofs::Machines::TreeWords::by_spelling_holds))]
 pub fn by_spelling()
     ensures { BySpelling }
-{}
-
-/// Each proof has a verdict.
-///
-/// After statements that are in form and break no rule of meaning, the tokens of a proof, normal or
-/// compressed, make a derivation of its statement's expression with each step's expression within
-/// the limit, or they have a fault: the rules leave no case out. So where the verdict isn't that
-/// it's proved, a rule and a step tell why. This holds for each limit.
-#[tactic(auto, using(crate::proofs::ProofVerdicts::FirstFault::some_verdict_holds))]
-pub fn some_verdict()
-    ensures { SomeProofVerdict }
-{}
-
-/// The verdict on a proof is one.
-///
-/// After statements that break no rule of meaning, tokens that make a derivation of the statement's
-/// expression, with each step's expression within the limit, have no fault; and a proof that has a
-/// fault has one rule and one step. So it can't be told to be proved and at fault, nor to be at
-/// fault in two ways. This holds for each limit.
-pub fn one_verdict()
-    ensures { OneProofVerdict }
-{}
-
-/// The known prefix of an incomplete proof has one verdict.
-///
-/// After statements that are in form and break no rule of meaning, the known prefix of a proof (the
-/// Metamath book, section 4.4.4) breaks no rule, or has a fault: the rules leave no case out, and
-/// no prefix is told to be allowed and at fault, or to be at fault in two ways. This holds for each
-/// limit.
-pub fn one_prefix_verdict()
-    ensures { OnePrefixVerdict }
 {}
 
 /// Each proof has one verdict under a profile.
@@ -130,37 +66,12 @@ pub fn limits_aside()
     ensures { LimitsAside }
 {}
 
-/// A `Z` before any step is told at once.
-///
-/// The fault of a proof's moves is `P7` exactly if they begin with a `Z`, whatever follows it; and
-/// its step is 1. This holds for each limit.
-pub fn mark_before_any_step()
-    ensures { MarkBeforeAnyStep }
-{}
-
-/// A number is over what there is.
-///
-/// The fault of a proof's moves is `P6` exactly if all moves before a tag pass and the tag is over
-/// the marks among them. Numbers of hypotheses and of listed labels are no tags, so a number is
-/// `P6` exactly where it is over these and the tags so far. This holds for each limit.
-pub fn tag_over_marks()
-    ensures { TagOverMarks }
-{}
-
 /// A tree has one fully shared proof at most.
 ///
 /// After statements that break no rule of meaning, two fully shared proofs of one tree have the
 /// same listed labels and the same codes.
 pub fn one_packed()
     ensures { OnePacked }
-{}
-
-/// What a proof of a tree has at least.
-///
-/// A compressed proof that makes a tree has one step, and one more for each child of each tree that
-/// its steps by labels make; a hypothesis has no children. Each subtree is among these trees.
-pub fn steps_make_children()
-    ensures { StepsMakeChildren }
 {}
 
 /// A fully shared proof has the fewest steps.
@@ -197,14 +108,6 @@ pub fn one_small()
     ensures { OneSmall }
 {}
 
-/// A small proof has the form that the strict profile demands.
-///
-/// Its list names no mandatory hypothesis and no label twice, and each of its marks stands directly
-/// after a step by the label of an assertion (the Metamath book, appendix B).
-pub fn small_is_strict()
-    ensures { SmallIsStrict }
-{}
-
 /// No list gives fewer letters than the one by use.
 ///
 /// After statements that break no rule of meaning, where the labels are listed by use, the codes
@@ -229,21 +132,4 @@ pub fn small_is_no_larger()
 /// hypotheses) has one, whether it derives anything or not.
 pub fn some_small()
     ensures { SomeSmall }
-{}
-
-/// The variables that stand in two expressions are told in one way.
-///
-/// The list of those that stand in both, each once, in the order of their declarations, is
-/// determined by the statements before and the expressions.
-pub fn one_shared()
-    ensures { OneShared }
-{}
-
-/// The pairs of variables that a `$d` has to state are told in one way.
-///
-/// The list of those that differ and aren't active pairs, one of each expression, each once, with
-/// the variable first that was declared first, in the order of their declarations, is determined by
-/// the statements before and the expressions.
-pub fn one_missing()
-    ensures { OneMissing }
 {}

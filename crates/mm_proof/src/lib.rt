@@ -59,11 +59,9 @@ pub use halt::{Halt, HaltAt};
 pub use halting::halt_of;
 pub use lacking::lacking_pairs;
 pub use laws::{
-    by_spelling, by_word, fewest_steps, limits_aside, made_by_word, mark_before_any_step,
-    no_better_order, one_fit, one_missing, one_packed, one_prefix_verdict,
-    one_prefix_verdict_under, one_shared, one_small, one_tree, one_verdict, one_verdict_under,
-    one_word, small_is_no_larger, small_is_strict, some_packed, some_small, some_verdict,
-    steps_make_children, tag_over_marks, told_by_packed,
+    by_spelling, by_word, fewest_steps, limits_aside, no_better_order, one_packed,
+    one_prefix_verdict_under, one_small, one_tree, one_verdict_under, small_is_no_larger,
+    some_packed, some_small, told_by_packed,
 };
 pub use lines::{Line, Name, listing};
 pub use moves::{Parsed, Steps};

@@ -159,7 +159,7 @@ fn codes_of(
     ensures exact { IfOk result (λ codes. All IsExact codes.items) }
 {
     let mut codes = Vec::with_capacity(alloc, steps.len())?;
-    let mut kept = SubtreeSet::with_room(alloc, seed, repeated.len())?;
+    let mut kept = SubtreeSet::with_room(alloc, seed, repeated.len());
     for one in steps {
         encode(&mut codes, &mut kept, labels, repeated, *one)?;
     }
@@ -239,7 +239,7 @@ fn share_steps(
     ensures once { IfOk result (λ shared. AreOnce shared.table) }
     ensures few { IfOk result (λ shared. length shared.steps.items ≤ most_bytes) }
 {
-    let mut shared = SharedSteps::with_room(alloc, book.seed(), steps.codes.len())?;
+    let mut shared = SharedSteps::with_room(alloc, book.seed(), steps.codes.len());
     match build(alloc, &mut shared, book, id, steps) {
         Ok(_) => Ok(shared),
         Err(fault) => {

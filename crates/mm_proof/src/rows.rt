@@ -106,6 +106,10 @@ impl Store for Rows {
         self.stack[index].as_slice()
     }
 
+    fn is_said_there(&mut self, _: usize, _: &[ShortPiece], _: usize) -> Option<bool> {
+        None
+    }
+
     fn push(&mut self, expression: &[Sym]) -> Result<(), AllocError> {
         let row = Vec::from_slice(self.alloc, expression)?;
         self.stack.push(row)?;

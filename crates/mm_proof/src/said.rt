@@ -13,6 +13,9 @@ ghost use Rattle.mm_proof.specs.Stores.{numbers_in, said_by, all_said_by, IsWith
 use crate::entry::{Entry, value_start};
 use mm_frame::{ShortPiece, Sym};
 
+/// So many symbols are copied at once.
+const CHUNK: usize = 16;
+
 /// Puts a copy of a part of those that are used behind them.
 pub(crate) fn put_part_behind(room: &mut [Sym], used: usize, start: usize, end: usize)
     requires order { start ≤ end }
@@ -46,9 +49,47 @@ fn put_symbol(room: &mut [Sym], used: usize, symbol: Sym) -> Option<usize>
     Some(used + 1)
 }
 
+// Puts a copy of so many symbols as are copied at once, from an index on, behind those that are
+// used. All are read before one is written, so that the two may overlap.
+#[inline(always)]
+fn put_chunk(room: &mut [Sym], used: usize, start: usize)
+    requires start { start ≤ used }
+    requires room { used + CHUNK ≤ length room.old }
+    ensures put { take (used + CHUNK) room.new
+        ≡ take used room.old ++ slice_range room.old start (start + CHUNK) }
+    ensures long { length room.new ≡ length room.old }
+{
+    let mut chunk = [Sym(0); CHUNK];
+    chunk.copy_from_slice(&room[start..start + CHUNK]);
+    let (_, behind) = room.split_at_mut(used);
+    let (into, _) = behind.split_at_mut(CHUNK);
+    into.copy_from_slice(&chunk);
+}
+
+// Does as `put_part`, whether the part is short or long. It is a call, as most parts are short.
+#[inline(never)]
+fn put_any_part(room: &mut [Sym], used: usize, start: usize, end: usize) -> Option<usize>
+    requires order { start ≤ end }
+    requires inside { end ≤ used }
+    requires used { used ≤ length room.old }
+    ensures put { IfSome result (λ next. take next room.new
+        ≡ take used room.old ++ slice_range (take used room.old) start end) }
+    ensures order { IfSome result (λ next. used ≤ next) }
+    ensures within { IfSome result (λ next. next ≤ length room.new) }
+    ensures prefix { take used room.new ≡ take used room.old }
+    ensures long { length room.new ≡ length room.old }
+{
+    if room.len() - used < end - start {
+        return None;
+    }
+    put_part_behind(room, used, start, end);
+    Some(used + (end - start))
+}
+
 // Puts a copy of a part of those that are used behind them, and answers how many are used then;
-// none where the room is too short for it. Most parts are one symbol, for which the copy of a list
-// takes longer.
+// none where the room is too short for it. Most parts are short: of such a one as many symbols are
+// copied as are copied at once, for which no length is asked. What is copied behind its end is
+// behind those that are used.
 #[inline(always)]
 fn put_part(room: &mut [Sym], used: usize, start: usize, end: usize) -> Option<usize>
     requires order { start ≤ end }
@@ -61,15 +102,11 @@ fn put_part(room: &mut [Sym], used: usize, start: usize, end: usize) -> Option<u
     ensures prefix { take used room.new ≡ take used room.old }
     ensures long { length room.new ≡ length room.old }
 {
-    if end - start == 1 {
-        let only = room[start];
-        return put_symbol(room, used, only);
+    if end - start <= CHUNK && CHUNK <= room.len() - used {
+        put_chunk(room, used, start);
+        return Some(used + (end - start));
     }
-    if room.len() - used < end - start {
-        return None;
-    }
-    put_part_behind(room, used, start, end);
-    Some(used + (end - start))
+    put_any_part(room, used, start, end)
 }
 
 // Puts what the piece says of the entries from the base on behind the symbols that are used, and

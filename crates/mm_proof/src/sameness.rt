@@ -40,7 +40,7 @@ pub fn same(
         → AreNumberedMoves book.now.statements second.now.moves others
         → IsTrue same ↔ MakeSameTree (take index book.now.statements) moves others)) }
 {
-    let mut table = Subtrees::with_room(alloc, book.seed(), first.codes.len())?;
+    let mut table = Subtrees::with_room(alloc, book.seed(), first.codes.len());
     let one = build(alloc, &mut table, book, id, first)?;
     let other = build(alloc, &mut table, book, id, second)?;
     Ok(table.are_equal(one, other))

@@ -1,6 +1,6 @@
 //! The steps of a fully shared proof, by the numbers of its subtrees.
 
-ghost use Rattle.std.specs.Prelude.{◌≡◌, [], OnOk, IfOk};
+ghost use Rattle.std.specs.Prelude.{◌≡◌, [], OnOk};
 ghost use Rattle.mm_proof.specs.Mirror.CodeSharing.{Shares, IsRepeat};
 
 use crate::builder::Builder;
@@ -64,21 +64,20 @@ pub(crate) struct SharedSteps {
 }
 
 impl SharedSteps {
-    /// No steps, whose trees' hashes begin from the seed, with room for so many.
-    pub(crate) fn with_room(
-        alloc: Global,
-        seed: Seed,
-        count: usize,
-    ) -> Result<SharedSteps, AllocError>
-        ensures table { IfOk result (λ shared. shared.table ≡ []) }
-        ensures made { IfOk result (λ shared. shared.made ≡ []) }
-        ensures steps { IfOk result (λ shared. shared.steps.items ≡ []) }
+    /// No steps, whose trees' hashes begin from the seed, with room for so many where there is
+    /// memory for it. Room that is wanting is made when it is needed.
+    pub(crate) fn with_room(alloc: Global, seed: Seed, count: usize) -> SharedSteps
+        ensures table { result.table ≡ [] }
+        ensures made { result.made ≡ [] }
+        ensures steps { result.steps.items ≡ [] }
     {
-        // The list is made first, so that a refused table has little to free.
-        let steps = Vec::with_capacity(alloc, count)?;
-        let made = SubtreeSet::with_room(alloc, seed, count)?;
-        let table = Subtrees::with_room(alloc, seed, count)?;
-        Ok(SharedSteps { table, made, steps })
+        let mut steps = Vec::new(alloc);
+        let _ = steps.reserve(count);
+        SharedSteps {
+            table: Subtrees::with_room(alloc, seed, count),
+            made: SubtreeSet::with_room(alloc, seed, count),
+            steps,
+        }
     }
 }
 

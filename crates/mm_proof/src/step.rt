@@ -1,6 +1,6 @@
 //! One step of a proof by an assertion (the Metamath book, section 4.1.4 and appendix B).
 
-ghost use Rattle.std.specs.Prelude.{◌≡◌, ◌↔◌, ◌+◌, ◌<◌, ◌^◌, List, length, drop};
+ghost use Rattle.std.specs.Prelude.{◌≡◌, ◌↔◌, ℕ, ◌+◌, ◌<◌, ◌^◌, List, length, drop};
 ghost use Rattle.std.specs.Prelude.{slice_get, Bool, Some};
 ghost use Rattle.std.specs.Prelude.{IsTrue, MatchBool, MatchOption};
 ghost use Rattle.std.specs.List.{AllByRecursion};
@@ -8,7 +8,7 @@ ghost use Rattle.mm_frame.specs.Sentence.{Sentence};
 ghost use Rattle.mm_frame.specs.FrameIndex.{IsTypingOf, HaveTypings};
 ghost use Rattle.mm_frame.specs.Pieces.{variables_of, HavePatterns};
 ghost use Rattle.mm_proof.specs.Substitution.{Substitution};
-ghost use Rattle.mm_proof.specs.Stores.{numbers_in};
+ghost use Rattle.mm_proof.specs.Stores.{numbers_in, all_said_by, IsWithinIndices};
 ghost use Rattle.mm_proof.specs.Plain.{label_ids};
 ghost use Rattle.mm_proof.specs.Mirror.CodeVerify.{AreHypothesesOf, EachIsSome};
 ghost use Rattle.mm_proof.specs.Mirror.CodeVerify.{AreBelow, names_at, all_names_at, IsRightCode};
@@ -18,7 +18,7 @@ ghost use Rattle.mm_proof.specs.Proof.{SomePair};
 
 use crate::store::Store;
 use crate::substitution::is_said;
-use mm_frame::{Book, Hypothesis, Scheme, Sym, one_number};
+use mm_frame::{Book, Hypothesis, Scheme, ShortPiece, Sym, one_number};
 
 // Whether the expression begins with the symbol.
 fn begins_with(expression: &[Sym], symbol: Sym) -> bool
@@ -72,11 +72,43 @@ pub(crate) fn typing_of<S: Store>(store: &S, base: usize, hypotheses: &[Hypothes
     Some(floating)
 }
 
+// Does as `is_said_at`, piece after piece. It is a call, since it is rare.
+#[cold]
+#[inline(never)]
+fn is_said_by_pieces<S: Store>(store: &S, base: usize, pieces: &[ShortPiece], index: usize) -> bool
+    requires index { index < length (S.stack store.now) }
+    requires within { AllByRecursion (IsWithinIndices (length (drop base (S.stack store.now))))
+        pieces.now }
+    requires fits { length (S.stack store.now) < 2 ^ 64 }
+    ensures { (e : List ℕ) → slice_get (S.stack store.now) index ≡ Some e
+        → (IsTrue result ↔ (e ≡ all_said_by (drop base (S.stack store.now)) pieces.now)) }
+{
+    is_said(store, base, pieces, store.at(index))
+}
+
+// Whether the entry at an index is what the pieces say of the entries from the base on.
+#[inline(always)]
+fn is_said_at<S: Store>(store: &mut S, base: usize, pieces: &[ShortPiece], index: usize) -> bool
+    requires index { index < length (S.stack store.old) }
+    requires within { AllByRecursion (IsWithinIndices (length (drop base (S.stack store.old))))
+        pieces.now }
+    requires fits { length (S.stack store.old) < 2 ^ 64 }
+    ensures said { (e : List ℕ) → slice_get (S.stack store.old) index ≡ Some e
+        → (IsTrue result ↔ (e ≡ all_said_by (drop base (S.stack store.old)) pieces.now)) }
+    ensures stack { S.stack store.new ≡ S.stack store.old }
+    ensures kept { S.kept store.new ≡ S.kept store.old }
+{
+    match store.is_said_there(base, pieces, index) {
+        Some(is_there) => is_there,
+        None => is_said_by_pieces(store, base, pieces, index),
+    }
+}
+
 /// Whether each `$e`, with each variable replaced, is its entry. It is told whether all hypotheses
 /// are `$f`, so that then nothing is asked.
 #[inline(always)]
 pub(crate) fn are_equal<S: Store>(
-    store: &S,
+    store: &mut S,
     base: usize,
     book: &Book,
     scheme: &Scheme,
@@ -85,20 +117,22 @@ pub(crate) fn are_equal<S: Store>(
     requires typed { HaveTypings book.now.statements scheme.now.hypotheses.now }
     requires patterns { HavePatterns book.now.statements (variables_of scheme.now.hypotheses.now)
         scheme.now.pieces.now scheme.now.hypotheses.now }
-    requires entries { base + length scheme.now.hypotheses.now ≡ length (S.stack store.now) }
-    requires fits { length (S.stack store.now) < 2 ^ 64 }
+    requires entries { base + length scheme.now.hypotheses.now ≡ length (S.stack store.old) }
+    requires fits { length (S.stack store.old) < 2 ^ 64 }
     requires floating { IsTrue floating → EachIsSome (variables_of scheme.now.hypotheses.now) }
-    requires below { AllByRecursion (AreBelow book.now.statements) (drop base (S.stack store.now)) }
-    ensures { (σ : Substitution)
+    requires below { AllByRecursion (AreBelow book.now.statements) (drop base (S.stack store.old)) }
+    ensures equal { (σ : Substitution)
         → Replaces book.now.statements σ (variables_of scheme.now.hypotheses.now)
-        (drop base (S.stack store.now))
+        (drop base (S.stack store.old))
         → (hs : List Sentence)
         → AreHypothesesOf book.now.statements (label_ids scheme.now.hypotheses.now) hs
         → MatchBool result
-        (EachEntry hs (all_names_at book.now.statements (drop base (S.stack store.now)))
+        (EachEntry hs (all_names_at book.now.statements (drop base (S.stack store.old)))
         (IsEqual σ))
-        (SomePair hs (all_names_at book.now.statements (drop base (S.stack store.now)))
+        (SomePair hs (all_names_at book.now.statements (drop base (S.stack store.old)))
         (IsUnequal σ)) }
+    ensures stack { S.stack store.new ≡ S.stack store.old }
+    ensures kept { S.kept store.new ≡ S.kept store.old }
 {
     one_number();
     if floating {
@@ -106,12 +140,7 @@ pub(crate) fn are_equal<S: Store>(
     }
     for (index, hypothesis) in scheme.hypotheses.iter().enumerate() {
         if hypothesis.typing.is_none()
-            && !is_said(
-                store,
-                base,
-                scheme.pattern(hypothesis),
-                store.at(base + index),
-            )
+            && !is_said_at(store, base, scheme.pattern(hypothesis), base + index)
         {
             return false;
         }

@@ -10,8 +10,8 @@ use std::alloc::AllocError;
 /// Each call changes one of the two at most, and none where a growth was refused.
 pub trait Store {
     ghost use Rattle.std.specs.Prelude.{◌≡◌, ℕ, ◌-◌, ◌<◌, ◌≤◌, List, [], ◌∷◌, ◌++◌, length};
-    ghost use Rattle.std.specs.Prelude.{◌^◌, take, drop, slice_get, OnOk, OnErr, Some};
-    ghost use Rattle.std.specs.Prelude.{IfOk, MatchBool};
+    ghost use Rattle.std.specs.Prelude.{◌^◌, ◌↔◌, take, drop, slice_get, OnOk, OnErr, Some};
+    ghost use Rattle.std.specs.Prelude.{IfOk, IfSome, IsTrue, MatchBool};
     ghost use Rattle.std.specs.List.{AllByRecursion};
     ghost use Rattle.mm_proof.specs.Stores.{numbers_in, all_said_by, IsWithinIndices};
 
@@ -29,6 +29,19 @@ pub trait Store {
     fn at(&self, index: usize) -> &[Sym]
         requires { index < length (stack self.now) }
         ensures { slice_get (stack self.now) index ≡ Some (numbers_in result.now) };
+
+    /// Whether the expression at an index of the stack is what the pieces say of the entries from
+    /// the base on, where the store has a way to tell it at once; none where it hasn't. `Flat`
+    /// writes what they say behind the end of its buffer, where there is room, and compares lists.
+    fn is_said_there(&mut self, base: usize, pieces: &[ShortPiece], index: usize) -> Option<bool>
+        requires index { index < length (stack self.old) }
+        requires within { AllByRecursion (IsWithinIndices (length (drop base (stack self.old))))
+            pieces.now }
+        requires fits { length (stack self.old) < 2 ^ 64 }
+        ensures said { IfSome result (λ is. (e : List ℕ) → slice_get (stack self.old) index ≡ Some e
+            → (IsTrue is ↔ (e ≡ all_said_by (drop base (stack self.old)) pieces.now))) }
+        ensures stack { stack self.new ≡ stack self.old }
+        ensures kept { kept self.new ≡ kept self.old };
 
     /// Puts an expression on the stack.
     fn push(&mut self, expression: &[Sym]) -> Result<(), AllocError>

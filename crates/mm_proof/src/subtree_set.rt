@@ -1,7 +1,7 @@
 //! Lists of subtrees without repetition, with the index of each.
 
 ghost use Rattle.std.specs.Prelude.{◌≡◌, ◌≤◌, ◌↔◌, [], length, slice_get, Some, Contains};
-ghost use Rattle.std.specs.Prelude.{OnOk, IfOk, IsTrue};
+ghost use Rattle.std.specs.Prelude.{OnOk, IsTrue};
 ghost use Rattle.mm_proof.specs.Mirror.CodeSharing.{Adds};
 
 use crate::subtrees::Subtree;
@@ -35,17 +35,14 @@ impl SubtreeSet {
         }
     }
 
-    /// No subtrees, whose hashes begin from the seed, with room for so many.
-    pub(crate) fn with_room(
-        alloc: Global,
-        seed: Seed,
-        count: usize,
-    ) -> Result<SubtreeSet, AllocError>
-        ensures { IfOk result (λ trees. trees ≡ []) }
+    /// No subtrees, whose hashes begin from the seed, with room for so many where there is memory
+    /// for it. Room that is wanting is made when it is needed.
+    pub(crate) fn with_room(alloc: Global, seed: Seed, count: usize) -> SubtreeSet
+        ensures { result ≡ [] }
     {
-        Ok(SubtreeSet {
-            set: IndexSet::with_capacity_and_hasher(alloc, count, seed)?,
-        })
+        let mut set = IndexSet::with_hasher(alloc, seed);
+        let _ = set.reserve(count);
+        SubtreeSet { set }
     }
 
     /// How many there are.

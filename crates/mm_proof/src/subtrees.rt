@@ -48,13 +48,14 @@ impl Model for Subtrees {
 }
 
 impl Subtrees {
-    /// No rows, whose hashes begin from the seed, with room for so many.
-    pub(crate) fn with_room(alloc: Global, seed: Seed, count: usize) -> Result<Subtrees, AllocError>
-        ensures { IfOk result (λ table. table ≡ []) }
+    /// No rows, whose hashes begin from the seed, with room for so many where there is memory for
+    /// it. Room that is wanting is made when it is needed.
+    pub(crate) fn with_room(alloc: Global, seed: Seed, count: usize) -> Subtrees
+        ensures { result ≡ [] }
     {
-        Ok(Subtrees {
-            rows: IndexSet::with_capacity_and_hasher(alloc, count, seed)?,
-        })
+        let mut rows = IndexSet::with_hasher(alloc, seed);
+        let _ = rows.reserve(count);
+        Subtrees { rows }
     }
 
     // The number of a row.

@@ -1,15 +1,16 @@
 -- The variables that two expressions share, and the pairs of variables that are missing, as lists,
 -- by numbers and by names.
 use Rattle.std.proofs.Common.{◌≡◌, ℕ, ◌+◌, ◌<◌, List, [], ◌∷◌, ◌++◌, length, map, take, get_or}
-use Rattle.std.proofs.Common.{suc, option_map, slice_get, Contains, Option, Some, None, Bool, true}
+use Rattle.std.proofs.Common.{option_map, slice_get, Contains, Option, Some, None, Bool, true}
 use Rattle.std.proofs.Common.{false, IsTrue}
 use Rattle.std.proofs.Common.{not}
-use Rattle.std.proofs.Common.{◌↔◌, ◌⊎◌, inl, inr, ⊎_elim, refl, sym, ap, subst, ◌∙◌, arith}
+use Rattle.std.proofs.Common.{◌↔◌, ◌⊎◌, inl, inr, ⊎_elim, refl, sym, ap, subst, ◌∙◌}
 use Rattle.std.proofs.lemmas.Bool.{false≢true}
 use Rattle.std.proofs.lemmas.Option.{same_Some, none-some, slice_get-map, slice_get_within}
 use Rattle.std.proofs.lemmas.List.{take_more, map-append}
-use Rattle.std.specs.List.{AllByRecursion}
-use Rattle.mm_text.proofs.Lists.{contains_from_at, at_from_contains}
+use Rattle.std.proofs.lemmas.List.Elements.{Contains-push, Contains-push_cases}
+use Rattle.std.proofs.lemmas.List.Elements.{Contains-append_left}
+use Rattle.mm_text.proofs.Lists.{contains_from_at, at_from_contains, all_within}
 use Rattle.mm_frame.specs.declared.number.Sym.{Sym}
 use Rattle.mm_text.specs.declared.statement.Kind.TheVariants.{Constants}
 use Rattle.mm_frame.specs.Sentence.{Sentence, Declares}
@@ -28,7 +29,7 @@ use Rattle.mm_proof.specs.Mirror.CodeAsked.{AreSharedNumbers}
 use Rattle.mm_proof.specs.Mirror.CodeRun.{DoRise}
 use Rattle.mm_proof.specs.Mirror.CodeAsked.{IsMissingPair, HasEither, AreSamePairs, number_pairs}
 use Rattle.mm_proof.specs.Mirror.CodeAsked.{AddsMissing, AreMissingNumbers}
-use Rattle.mm_proof.proofs.Members.{in_contains, contains_in, in_push, in_left, in_right}
+use Rattle.mm_proof.proofs.Members.{only_one}
 use Rattle.mm_proof.proofs.ByNumbers.NumberedSymbols.{name_is, named_is, number_of_name}
 use Rattle.mm_proof.proofs.ByNumbers.NumberedSymbols.{below_is, within_at}
 use Rattle.mm_proof.proofs.ByNumbers.SharedVariables.{has_named, number_among}
@@ -57,36 +58,21 @@ pub symbol_pushed : (old new : List Sym) (s : Sym) → new ≡ old ++ s ∷ []
     → numbers_in new ≡ numbers_in old ++ s.0 ∷ []
 symbol_pushed old new s is = ap numbers_in is ∙ map-append (λ (x : Sym). x.0) old (s ∷ [])
 
-module _ {X : Type 0} (xs : List X) (y : X) where
-  pub pushed_contains : (x : X) → Contains (xs ++ y ∷ []) x → Contains xs x ⊎ (y ≡ x)
-  pushed_contains x c =
-      ⊎_elim (λ i. inl (in_contains xs x i)) inr (in_push xs y x (contains_in (xs ++ y ∷ []) x c))
-
-  pub contains_pushed : (x : X) → Contains xs x → Contains (xs ++ y ∷ []) x
-  contains_pushed x c = in_contains (xs ++ y ∷ []) x (in_left xs (y ∷ []) x (contains_in xs x c))
-
-  pub last_pushed : Contains (xs ++ y ∷ []) y
-  last_pushed = in_contains (xs ++ y ∷ []) y (in_right xs (y ∷ []) y (inl refl))
-
-only_member : (n k : ℕ) → Contains (n ∷ []) k → n ≡ k
-only_member n k c = ⊎_elim (λ none. absurd (omega (arith, none.1))) (λ e. e)
-    (pushed_contains [] n k c)
-
 -- the elements up to an index, and the one there
 module _ (ns : List ℕ) (i : ℕ) (less : i < length ns) where
   pub taken_more : (n : ℕ) → Contains (take (i + 1) ns) n → Contains (take i ns) n
       ⊎ (get_or ns i 0 ≡ n)
   taken_more n c =
-      pushed_contains (take i ns) (get_or ns i 0) n
+      Contains-push_cases (take i ns) (get_or ns i 0) n
       (subst (λ l. Contains l n) (take_more ns i 0 less) c)
 
   pub more_taken : (n : ℕ) → Contains (take i ns) n → Contains (take (i + 1) ns) n
   more_taken n c = subst (λ l. Contains l n) (sym (take_more ns i 0 less))
-      (contains_pushed (take i ns) (get_or ns i 0) n c)
+      (Contains-append_left (take i ns) (get_or ns i 0 ∷ []) n c)
 
   pub last_taken : Contains (take (i + 1) ns) (get_or ns i 0)
   last_taken = subst (λ l. Contains l (get_or ns i 0)) (sym (take_more ns i 0 less))
-      (last_pushed (take i ns) (get_or ns i 0))
+      (Contains-push (take i ns) (get_or ns i 0))
 
 -- ==== what stands in a list whose elements were mapped
 
@@ -130,14 +116,14 @@ once_more P e old new i less puts are = elim puts [
       subst (AreOnce P (take (i + 1) e)) (sym same) (kept (λ p. there))
   | inr (inr (is, none, pushed)) ↦ subst (AreOnce P (take (i + 1) e)) (sym pushed) (record {
     each = λ n. (
-      λ c. elim (pushed_contains old last n c) [
+      λ c. elim (Contains-push_cases old last n c) [
         | inl before ↦ longer n ((are.each n).0 before)
         | inr same ↦ subst (λ m. P m × Contains (take (i + 1) e) m) same
             (is, last_taken e i less)
       ],
       λ h. elim (taken_more e i less n h.1) [
-        | inl before ↦ contains_pushed old last n ((are.each n).1 (h.0, before))
-        | inr same ↦ subst (Contains (old ++ last ∷ [])) same (last_pushed old last)
+        | inl before ↦ Contains-append_left old (last ∷ []) n ((are.each n).1 (h.0, before))
+        | inr same ↦ subst (Contains (old ++ last ∷ [])) same (Contains-push old last)
       ],
     );
     once = once_pushed old last are.once (λ at. none (contains_from_at old last at));
@@ -180,20 +166,6 @@ shared_of st e f variables those shared are picked same rising = record {
 }
 
 -- ---- by names
-
-named_at : (st : List Sentence) (ns : List ℕ) (i : ℕ) (x : List ℕ)
-    → slice_get (names_at st ns) i ≡ Some x
-    → (n : ℕ) × (slice_get ns i ≡ Some n) × (name_at st n ≡ x)
-named_at st ns i x there = mapped_at (name_at st) ns i x there
-
--- what holds of each that stands in a list
-pub all_there : {X : Type 0} (P : X → Type 0) (xs : List X) → ((x : X) → Contains xs x → P x)
-    → AllByRecursion P xs
-all_there P [] each = tt
-all_there P (x ∷ xs) each = (
-  each x (0, omega arith, refl),
-  all_there P xs (λ y c. each y (suc c.0, omega (arith, c.1), c.2)),
-)
 
 module _ (one : OneNumber) (st : List Sentence) (index : ℕ) (all : AllMeant st) where
   -- a declared symbol that is a variable of all statements is one of those before
@@ -270,7 +242,7 @@ pub adds_none : (st : List Sentence) (index m n : ℕ) (old : List (ℕ × ℕ))
 adds_none st index m n old not = record {
   kept = λ p c. c;
   only = λ p c. inl c;
-  each = λ k p c. absurd (not (subst (IsMissingPair st index m) (sym (only_member n k c)) p));
+  each = λ k p c. absurd (not (subst (IsMissingPair st index m) (sym (only_one n k c)) p));
 }
 
 -- a missing pair, which was put behind the others
@@ -279,14 +251,14 @@ pub adds_pair : (st : List Sentence) (index m n : ℕ) (old before new : List (�
     → AddsMissing st index m (n ∷ []) old new
 adds_pair st index m n old before new is same pushed =
     subst (AddsMissing st index m (n ∷ []) old) (sym pushed) (record {
-      kept = λ p c. contains_pushed before (m, n) p ((same p).1 c);
-      only = λ p c. elim (pushed_contains before (m, n) p c) [
+      kept = λ p c. Contains-append_left before ((m, n) ∷ []) p ((same p).1 c);
+      only = λ p c. elim (Contains-push_cases before (m, n) p c) [
         | inl b ↦ inl ((same p).0 b)
         | inr e ↦ inr (subst (λ (q : ℕ × ℕ). (q.0 ≡ m) × IsMissingPair st index q.0 q.1
-            × Contains (n ∷ []) q.1) e (refl, is, last_pushed [] n))
+            × Contains (n ∷ []) q.1) e (refl, is, Contains-push [] n))
       ];
       each = λ k p c. inl (subst (λ (j : ℕ). Contains (before ++ (m, n) ∷ []) (m, j))
-          (only_member n k c) (last_pushed before (m, n)));
+          (only_one n k c) (Contains-push before (m, n)));
     })
 
 -- one symbol more of the expression
@@ -301,12 +273,13 @@ adds_more st index m f old before new i less adds was = record {
       h.0,
       h.1,
       subst (Contains (take (i + 1) f))
-          (only_member (get_or f i 0) p.1 h.2) (last_taken f i less),
+          (only_one (get_or f i 0) p.1 h.2) (last_taken f i less),
     )
   ];
   each = λ n p c. elim (taken_more f i less n c) [
     | inl b ↦ more_either before new (m, n) adds.kept (was.each n p b)
-    | inr e ↦ adds.each n p (subst (Contains (get_or f i 0 ∷ [])) e (last_pushed [] (get_or f i 0)))
+    | inr e ↦
+        adds.each n p (subst (Contains (get_or f i 0 ∷ [])) e (Contains-push [] (get_or f i 0)))
   ];
 }
 
@@ -387,12 +360,12 @@ pub pairs_named : (st : List Sentence) (index : ℕ) (pairs : List (Sym × Sym))
     → AreNumbers st (map (λ p. p.0.0) pairs) (map (λ p. p.0) (name_pairs st (number_pairs pairs)))
     × AreNumbers st (map (λ p. p.1.0) pairs) (map (λ p. p.1) (name_pairs st (number_pairs pairs)))
 pairs_named st index pairs missing = (
-  firsts_named st pairs (all_there (λ n. n < length (symbols_of st)) (map (λ p. p.0.0) pairs)
+  firsts_named st pairs (all_within (λ n. n < length (symbols_of st)) (map (λ p. p.0.0) pairs)
       (λ n c.
       let p = mapped_contains (λ (p : Sym × Sym). p.0.0) pairs n c in
       let h = missing (numbers_of p.0) (contains_mapped numbers_of pairs p.0 p.1) in
       subst (λ n. n < length (symbols_of st)) p.2 (variable_below st p.0.0.0 h.first))),
-  seconds_named st pairs (all_there (λ n. n < length (symbols_of st)) (map (λ p. p.1.0) pairs)
+  seconds_named st pairs (all_within (λ n. n < length (symbols_of st)) (map (λ p. p.1.0) pairs)
       (λ n c.
       let p = mapped_contains (λ (p : Sym × Sym). p.1.0) pairs n c in
       let h = missing (numbers_of p.0) (contains_mapped numbers_of pairs p.0 p.1) in

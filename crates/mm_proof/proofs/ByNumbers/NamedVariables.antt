@@ -5,7 +5,7 @@ use Rattle.std.proofs.Common.{◌⊎◌, inl, inr, ⊎_elim, sym, ap, subst, ◌
 use Rattle.std.proofs.lemmas.Option.{same_Some, slice_get_within}
 use Rattle.std.proofs.lemmas.List.{take-append-drop}
 use Rattle.mm_text.specs.declared.statement.Kind.TheVariants.{Variables}
-use Rattle.mm_text.proofs.Lists.{contains_from_at}
+use Rattle.mm_text.proofs.Lists.{contains_from_at, all_within}
 use Rattle.mm_frame.specs.Sentence.{Sentence, Declares}
 use Rattle.mm_frame.specs.Active.{IsVariable}
 use Rattle.mm_frame.specs.Frame.{IsDistinct}
@@ -24,7 +24,7 @@ use Rattle.mm_proof.specs.Mirror.CodeAsked.{AreMissingNumbers, AreMissingInOrder
 use Rattle.mm_proof.specs.Mirror.CodeAsked.{ArePutInOrder}
 use Rattle.mm_proof.proofs.ByNumbers.NumberedSymbols.{name_is, number_of_name}
 use Rattle.mm_proof.proofs.ByNumbers.SharedVariables.{has_named, named_has, number_among}
-use Rattle.mm_proof.proofs.ByNumbers.ListedVariables.{all_there, declared_variable, has_name}
+use Rattle.mm_proof.proofs.ByNumbers.ListedVariables.{declared_variable, has_name}
 use Rattle.mm_proof.proofs.ByNumbers.ListedVariables.{has_number, mapped_at, mapped_contains}
 use Rattle.mm_proof.proofs.ByNumbers.ListedVariables.{contains_mapped, names_of, name_pairs}
 use Rattle.mm_proof.proofs.ByNumbers.ListedVariables.{named_variable, pairs_named, variable_below}
@@ -146,7 +146,7 @@ module _ (one : OneNumber) (st : List Sentence) (index : ℕ) (all : AllMeant st
       × AreShared (take index st) x y u
   shared_named = (
     names_at st shared,
-    numbers_named st shared (all_there (λ n. n < length (symbols_of st)) shared below),
+    numbers_named st shared (all_within (λ n. n < length (symbols_of st)) shared below),
     shared_names,
   )
 

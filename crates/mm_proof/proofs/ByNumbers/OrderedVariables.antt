@@ -10,7 +10,7 @@ use Rattle.std.specs.declared.cmp.Ordering.TheVariants.{Less}
 use Rattle.std.specs.List.{AllZip, swap, dedup}
 use Rattle.std.specs.List.Sorted.{IsPermutation, IsSorted, IsStrictlySortedBy}
 use Rattle.std.specs.List.Retain.{IsFiltered, DiffersFromLast}
-use Rattle.std.proofs.lemmas.Bool.{cases_eq, cases_lt, eqb-true, false≢true}
+use Rattle.std.proofs.lemmas.Bool.{cases_eq, cases_lt, eqb-true, and_parts}
 use Rattle.std.proofs.lemmas.Bool.Decides.{nat_tests}
 use Rattle.std.specs.Cmp.{IsTotalOrder, IsEquivalence}
 use Rattle.std.proofs.lemmas.Cmp.{nat_cmp_total, on_total, then_total}
@@ -193,13 +193,9 @@ numbers_equiv =
     and_equiv (on_equiv (λ (p : Sym × Sym). p.0.0) nat_eq_equiv)
     (on_equiv (λ (p : Sym × Sym). p.1.0) nat_eq_equiv)
 
-both_true : (a b : Bool) → (a && b) ≡ true → (a ≡ true) × (b ≡ true)
-both_true true b e = (refl, e)
-both_true false b e = absurd (false≢true e)
-
 same_pair : (p q : Sym × Sym) → same_numbers p q ≡ true → p ≡ q
 same_pair p q e =
-    let both = both_true (eqb p.0.0 q.0.0) (eqb p.1.0 q.1.0) e in
+    let both = and_parts (eqb p.0.0 q.0.0) (eqb p.1.0 q.1.0) e in
     let first : p.0.0 ≡ q.0.0 = eqb-true p.0.0 q.0.0 both.0 in
     let second : p.1.0 ≡ q.1.0 = eqb-true p.1.0 q.1.0 both.1 in
     λ k. (record { 0 = first k }, record { 0 = second k })

@@ -6,7 +6,6 @@ use Rattle.std.proofs.Common.{Contains, Some, Bool, true, false, not, MatchBool,
 use Rattle.std.proofs.Common.{refl}
 use Rattle.std.proofs.Common.{sym, ap, subst, ◌∙◌, arith, append_assoc, append-nil}
 use Rattle.std.proofs.lemmas.Bool.{false≢true}
-use Rattle.std.proofs.lemmas.Option.{none-some}
 use Rattle.std.proofs.lemmas.List.{length-append, length-map}
 use Rattle.mm_text.proofs.Lists.{all_push, all_at, all_back, zip_front}
 use Rattle.mm_frame.specs.Sentence.{Sentence}

@@ -1,5 +1,5 @@
 -- Where the moves of a proof stop: what is found there by numbers is so by names.
-use Rattle.std.proofs.Common.{◌≡◌, ℕ, suc, ◌+◌, ◌-◌, ◌<◌, ◌≤◌, List, [], ◌∷◌, length, take, drop}
+use Rattle.std.proofs.Common.{◌≡◌, ℕ, suc, ◌-◌, ◌<◌, ◌≤◌, List, [], ◌∷◌, length, take, drop}
 use Rattle.std.proofs.Common.{slice_get, get_or, Some, None, Option, Bool, true, false, inl, inr}
 use Rattle.std.proofs.Common.{refl, sym, ap, subst, ◌∙◌, arith, append-nil, option_map, All}
 use Rattle.std.specs.List.{AllByRecursion}
@@ -20,7 +20,7 @@ use Rattle.mm_proof.specs.declared.halt.Halt.{Halt}
 use Rattle.mm_proof.specs.declared.halt.HaltAt.{HaltAt}
 use Rattle.mm_proof.specs.declared.halt.HaltAt.TheVariants as at
 use Rattle.mm_proof.specs.Moves.{Move, name, again, mark, steps_in}
-use Rattle.mm_proof.specs.Proof.{IsWithin, FirstAtMove, Passed, IsMoveFault, IsMovesFault}
+use Rattle.mm_proof.specs.Proof.{IsWithin, FirstAtMove, Passed}
 use Rattle.mm_proof.specs.Steps.{IsNumberedMove, AreNumberedMoves, AreSteps}
 use Rattle.mm_proof.specs.Stores.{numbers_in}
 use Rattle.mm_proof.specs.Listing.{ListedStep, TellsStep}
@@ -35,7 +35,6 @@ use Rattle.mm_proof.specs.Mirror.CodeHalts.{StandsBy, IsEndRule, HaltsMoves}
 use Rattle.mm_proof.proofs.ByNumbers.NumberedLabels.{one_index}
 use Rattle.mm_proof.proofs.ProofSteps.PassedMoves.{passed_once, no_fault_within}
 use Rattle.mm_proof.proofs.ProofVerdicts.FirstFault.{steps_in-append}
-use Rattle.mm_proof.proofs.ProofVerdicts.HaltedVerdicts.{fault_told, prefix_fault_told}
 use Rattle.mm_proof.proofs.Machines.JudgedMoves.{steps_made, same_steps, its_symbols, end_broken}
 use Rattle.mm_proof.proofs.Machines.ListedLines.{one_step}
 
@@ -298,35 +297,3 @@ entry_told halt index step line maker there limit statements before s prefix mov
     let pushed = subst (λ (l : ListedStep). AreNumbers statements numbers l.expression) same
     z.2.pushed in
     (g.0.expression, g.2, pushed)
-
--- ---- what a caller asks of a halt
-
--- as many lines as there are steps that passed
-pub halted_lines : (limit : ℕ) (statements before : List Sentence) (s : Sentence) (prefix : Bool)
-    (moves : List (Move (List ℕ))) (halt : Halt)
-    → (h : HaltsProof limit statements before s prefix moves halt)
-    → length halt.lines.items ≡ steps_in h.there.earlier
-halted_lines limit statements before s prefix moves halt h =
-    sym (AllZip-long (TellsStep statements) halt.lines.items h.lines.0 h.lines.2) ∙ h.lines.1.count
-
-module _ (limit : ℕ) (statements before : List Sentence) (s : Sentence)
-    (moves : List (Move (List ℕ))) (halt : Halt) (rule : ProofRule) (step : ℕ)
-    (all : AllMeant before) where
-  -- the first fault of a proof is told, after the lines of the steps before its own
-  pub halt_is_fault : HaltsProof limit statements before s false moves halt
-      → IsMovesFault (IsWithin limit) before s moves rule step
-      → (halt.rule ≡ Some rule) × (step ≡ length halt.lines.items + 1)
-  halt_is_fault h fault =
-      let told = fault_told (IsWithin limit) before s moves halt.rule h.there rule step all fault in
-      let lines = halted_lines limit statements before s false moves halt h in
-      (told.0, told.1 ∙ ap (λ n. n + 1) (sym lines))
-
-  -- and so is that of a known prefix
-  pub halt_is_prefix_fault : HaltsProof limit statements before s true moves halt
-      → IsMoveFault (IsWithin limit) before moves rule step
-      → (halt.rule ≡ Some rule) × (step ≡ length halt.lines.items + 1)
-  halt_is_prefix_fault h fault =
-      let told =
-      prefix_fault_told (IsWithin limit) before s moves halt.rule h.there rule step all fault in
-      let lines = halted_lines limit statements before s true moves halt h in
-      (told.0, told.1 ∙ ap (λ n. n + 1) (sym lines))

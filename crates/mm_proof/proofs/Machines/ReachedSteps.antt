@@ -7,30 +7,14 @@ use Rattle.std.proofs.Common.{All, Vec}
 use Rattle.std.proofs.lemmas.Bool.{cases_eq, cases_lt, false≢true}
 use Rattle.std.proofs.lemmas.Option.{slice_get_within, slice_get-map, same_Some, slice_get_read}
 use Rattle.std.proofs.lemmas.Option.{get_or_from_slice_get}
-use Rattle.std.proofs.lemmas.List.Elements.{Contains-get_or, Contains-push}
+use Rattle.std.proofs.lemmas.List.Elements.{Contains-get_or, Contains-push, Contains-push_cases}
+use Rattle.std.proofs.lemmas.List.Elements.{Contains-append_left}
 use Rattle.std.proofs.lemmas.Grind.{get_or-set_at}
 use Rattle.std.proofs.lemmas.List.{get_or-set_other, get_or_past, length-set}
-use Rattle.mm_text.proofs.Lists.{at_from_contains, contains_from_at, get_kept, pushed_cases}
 use Rattle.mm_proof.specs.Uses.{IsReached, AreReached, rows_of}
 use Rattle.mm_proof.specs.Mirror.StepUses.{IsAmong, AreEarlier, AreSet}
 
 -- ---- flags that are set
-
--- a member of a list with one more is one of the list or the new one
-pub contains_pushed : {X : Type 0} (xs : List X) (x y : X) → Contains (xs ++ x ∷ []) y
-    → Contains xs y ⊎ (x ≡ y)
-contains_pushed xs x y is =
-    let at = at_from_contains (xs ++ x ∷ []) y is in
-    elim (pushed_cases xs x at.0 y at.1) [
-      | inl old ↦ inl (contains_from_at xs y (at.0, old))
-      | inr new ↦ inr new.1
-    ]
-
--- and those are members
-pub contains_old : {X : Type 0} (xs : List X) (x y : X) → Contains xs y → Contains (xs ++ x ∷ []) y
-contains_old xs x y is =
-    let at = at_from_contains xs y is in
-    contains_from_at (xs ++ x ∷ []) y (at.0, get_kept xs (x ∷ []) at.0 y at.1)
 
 -- no step
 pub set_none : (old : List Bool) → AreSet old old []
@@ -64,7 +48,7 @@ set_more old now used step was among = (
       | inr apart ↦ elim ((was.1 index within).0
           (sym (get_or-set_other now (step - 1) index true false apart) ∙ is)) [
             | inl old_one ↦ inl old_one
-            | inr in_used ↦ inr (contains_old used step (index + 1) in_used)
+            | inr in_used ↦ inr (Contains-append_left used (step ∷ []) (index + 1) in_used)
           ]
     ]
 
@@ -78,7 +62,7 @@ set_more old now used step was among = (
         → IsReached old index ⊎ Contains (used ++ step ∷ []) (index + 1)
         → IsReached (set now (step - 1) true) index
     from index within (inl is) = kept index ((was.1 index within).1 (inl is))
-    from index within (inr is) = elim (contains_pushed used step (index + 1) is) [
+    from index within (inr is) = elim (Contains-push_cases used step (index + 1) is) [
       | inl in_used ↦ kept index ((was.1 index within).1 (inr in_used))
       | inr same ↦ get_or-set_at now (step - 1) index true false (omega (arith, same)) here
     ]

@@ -2,14 +2,14 @@
 -- by words.
 use Rattle.std.proofs.Common.{◌≡◌, ℕ, suc, ◌+◌, ◌-◌, ◌≤◌, List, [], ◌∷◌, ◌++◌, length, drop, refl}
 use Rattle.std.proofs.Common.{sym, ap, subst, ◌∙◌, append_assoc, append-nil, arith, zero, map}
-use Rattle.std.proofs.Common.{slice_get, Some, option_map, ◌⊎◌, inl, inr, ⊎_elim, ◌↔◌, Result, Err}
+use Rattle.std.proofs.Common.{slice_get, Some, option_map, inl, inr, ◌↔◌, Result, Err}
 use Rattle.std.proofs.Common.{slice_range, IsErrAnd, IsOkUnless}
 use Rattle.std.specs.List.{AllZip, AllByRecursion}
 use Rattle.std.proofs.lemmas.Option.{same_Some, none-some, slice_get-map}
 use Rattle.std.proofs.lemmas.List.{length-append, map-append}
 use Rattle.std.proofs.Math.Seq.{take-append_seam, drop-append_seam}
 use Rattle.mm_text.proofs.Lists.{zip_push, zip_right, zip_take, zip_drop, zip_weaker, all_push}
-use Rattle.mm_text.proofs.Lists.{all_at, cons_parts}
+use Rattle.mm_text.proofs.Lists.{all_at}
 use Rattle.mm_frame.specs.declared.number.LabelId.{LabelId}
 use Rattle.mm_frame.specs.Sentence.{Sentence}
 use Rattle.mm_proof.specs.declared.words.Part.{Part}
@@ -25,7 +25,7 @@ use Rattle.mm_proof.specs.Moves.{Move, name, again, mark, MakesOne, Makes}
 use Rattle.mm_proof.specs.Expansion.{ExpandsOne, Expands, IsWord}
 use Rattle.mm_proof.specs.Tokens.{IsNormal, SayMoves}
 use Rattle.mm_proof.specs.Proof.{IsWithin, IsWhole, Prove, IsProvedWithin}
-use Rattle.mm_proof.specs.Laws.{OneWord, MadeByWord, ProveByWord, ByWord, IsSpelledWithin}
+use Rattle.mm_proof.specs.Laws.{ProveByWord, ByWord, IsSpelledWithin}
 use Rattle.mm_proof.specs.Laws.{BySpelling}
 use Rattle.mm_proof.proofs.ProofTokens.SaidMoves.{normal_or_compressed}
 use Rattle.std.proofs.lemmas.Result.{err_from_is_err_and}
@@ -233,54 +233,6 @@ made_word before moves row kept m =
     let w = made_words before moves none row [] kept tt tt m in
     ((map spelling kept, w.expands), w.fit)
 
--- ---- the word is one
-
--- two splits of one list, by which prefix is longer
-splits : {X : Type 0} (a b c d : List X) → a ++ b ≡ c ++ d → ((g : List X) × (c ≡ a ++ g) × (b ≡ g ++ d)) ⊎ ((g : List X) × (a ≡ c ++ g) × (d ≡ g ++ b))
-splits [] b c d e = inl (c, refl, e)
-splits (x ∷ a) b [] d e = inr (x ∷ a, refl, sym e)
-splits (x ∷ a) b (y ∷ c) d e =
-    let h = cons_parts x y (a ++ b) (c ++ d) e in
-    ⊎_elim (λ p. inl (p.0, ap (λ z. z ∷ c) (sym h.0) ∙ ap (λ l. x ∷ l) p.1, p.2)) (λ p. inr (p.0, ap (λ z. z ∷ a) h.0 ∙ ap (λ l. y ∷ l) p.1, p.2)) (splits a b c d h.1)
-
-no_roots : (t : Trees) → roots t ≡ 0 → t ≡ none
-no_roots none e = refl
-no_roots (tree label below right) e = absurd (omega arith)
-
--- one tree's spelling has no other tree's as a proper ending
-no_prefix : (before : List Sentence) (g : List (List ℕ)) (t u : Trees) → AllMeant before → TreesFit before t → TreesFit before u → roots t ≡ roots u → spelling t ≡ g ++ spelling u → g ≡ []
-no_prefix before g t u all f h width e =
-    let whole : Makes before (map name g ++ map name (spelling u)) none [] t [] =
-    subst (λ l. Makes before l none [] t []) (ap (map name) e ∙ map-append name g (spelling u)) (fit_makes before t none [] f) in
-    let s = makes_split before (map name g) (map name (spelling u)) none t [] [] whole in
-    let one = makes_once before (map name (spelling u)) s.0 t (beside s.0 u) s.1 [] s.1 all s.3 (fit_makes before u s.0 s.1 h) in
-    let n : roots t ≡ roots s.0 + roots u = ap roots one.0 ∙ roots-beside s.0 u in
-    sym (names_spell before g none s.0 [] s.1 s.2) ∙ ap spelling (no_roots s.0 (omega arith))
-
--- so an ending of labels spells one tree
-one_ending : (before : List Sentence) (a c : List (List ℕ)) (t u : Trees) → AllMeant before → TreesFit before t → TreesFit before u → roots t ≡ roots u → a ++ spelling t ≡ c ++ spelling u → spelling t ≡ spelling u
-one_ending before a c t u all f h width e = elim (splits a (spelling t) c (spelling u) e) [
-  | inl p ↦ p.2 ∙ ap (λ l. l ++ spelling u) (no_prefix before p.0 t u all f h width p.2)
-  | inr p ↦ sym (p.2 ∙ ap (λ l. l ++ spelling t) (no_prefix before p.0 u t all h f (sym width) p.2))
-]
-
-expands_one : (before : List Sentence) (move : Move (List ℕ)) (labels a b : List (List ℕ)) (words v w : List (List (List ℕ))) → AllMeant before
-    → ExpandsOne before move labels words a v → ExpandsOne before move labels words b w → (a ≡ b) × (v ≡ w)
-expands_one before (name label) labels a b words v w all p q = (p.0 ∙ sym q.0, p.1 ∙ sym q.1)
-expands_one before (again tag) labels a b words v w all p q =
-    (p.2 ∙ ap (λ x. labels ++ x) (same_Some p.0 q.0 (sym p.1 ∙ q.1)) ∙ sym q.2, p.3 ∙ sym q.3)
-expands_one before mark labels a b words v w all p q =
-    let same = one_ending before p.0 q.0 (tree p.1 p.2 none) (tree q.1 q.2 none) all p.3 q.3 refl (sym p.4 ∙ q.4) in
-    (p.5 ∙ sym q.5, p.6 ∙ ap (λ x. words ++ x ∷ []) same ∙ sym q.6)
-
-pub expands_once : (before : List Sentence) (moves : List (Move (List ℕ)))
-    (labels a b : List (List ℕ)) (words v w : List (List (List ℕ))) → AllMeant before
-    → Expands before moves labels words a v → Expands before moves labels words b w → (a ≡ b) × (v ≡ w)
-expands_once before [] labels a b words v w all p q = (p.0 ∙ sym q.0, p.1 ∙ sym q.1)
-expands_once before (move ∷ moves) labels a b words v w all p q =
-    let one = expands_one before move labels p.0 q.0 words p.1 q.1 all p.2 q.2 in
-    expands_once before moves q.0 a b q.1 v w all (rw (← one.0, ← one.1) p.3) q.3
-
 -- ---- what a word spells is made
 
 module _ (before : List Sentence) (labels : List (List ℕ)) where
@@ -385,18 +337,6 @@ by_word_for Fits before s moves all = (
   λ p. record { label = p.label; below = p.below; word = (made_word before moves (tree p.label p.below none) p.kept p.made).0; derived = p.derived },
   λ w. let m = made_of_word before moves (tree w.label w.below none) all (derive_fits Fits before (tree w.label w.below none) (s.symbols ∷ []) w.derived) w.word in
       record { label = w.label; below = w.below; kept = m.0; made = m.1; derived = w.derived },
-)
-
-pub one_word_holds : OneWord
-one_word_holds before moves v w all p q =
-    (expands_once before moves [] v w [] p.0 q.0 all p.1 q.1).0
-
-pub made_by_word_holds : MadeByWord
-made_by_word_holds before moves trees = (
-  λ kept m. let w = made_words before moves none trees [] kept tt tt m in (w.fit, w.expands),
-  λ all fit word.
-      let m = made_of_word before moves trees all fit word in
-      (m.0, m.1, λ others more other. makes_once before moves none others trees [] more m.0 all other m.1),
 )
 
 pub by_word_holds : ByWord

@@ -1,11 +1,12 @@
 -- The entries of an assertion's hypotheses give the replacement of its variables: what a step
 -- meets.
-use Rattle.std.proofs.Common.{◌≡◌, ℕ, zero, suc, ◌+◌, ◌-◌, ◌<◌, ◌≤◌, List, [], ◌∷◌, ◌++◌, length, take, drop}
+use Rattle.std.proofs.Common.{◌≡◌, ℕ, zero, suc, ◌+◌, ◌-◌, ◌<◌, List, [], ◌∷◌, ◌++◌, length, take}
+use Rattle.std.proofs.Common.{drop}
 use Rattle.std.proofs.Common.{slice_get, Option, Some, None, IsSome, inl, inr, refl, sym, ap, subst}
 use Rattle.std.proofs.Common.{◌∙◌, arith, ⊎_elim}
 use Rattle.std.proofs.lemmas.Option.{same_Some, none-some}
 use Rattle.std.proofs.lemmas.Bool.{cases_lt}
-use Rattle.std.proofs.lemmas.List.{take_all, take-append-drop, length-drop}
+use Rattle.std.proofs.lemmas.List.{take_all}
 use Rattle.mm_frame.specs.declared.rule.MeaningRule.TheVariants.{M12}
 use Rattle.mm_frame.specs.Sentence.{Sentence, Types}
 use Rattle.mm_frame.specs.Active.{IsActive}
@@ -165,20 +166,3 @@ meets_of before stack label index assertion hypotheses rest entries all names sp
       );
       replaced = replaced_at hypotheses entries (names_once before label index assertion hypotheses all names);
     }
-
--- Where there are enough entries, the step meets the mandatory hypotheses that its label names, with
--- the topmost ones.
-pub enough_met : (before : List Sentence) (stack : List (List (List ℕ))) (label : List ℕ)
-    (index : ℕ) (assertion : Sentence) (hypotheses : List Sentence)
-    → AllMeant before → Names before label index assertion hypotheses
-    → length hypotheses ≤ length stack
-    → (m : MeetsHypotheses before stack label) × (m.hypotheses ≡ hypotheses)
-    × (m.entries ≡ drop (length stack - length hypotheses) stack)
-enough_met before stack label index assertion hypotheses all names enough =
-    let base = length stack - length hypotheses in (
-      meets_of before stack label index assertion hypotheses (take base stack) (drop base stack)
-          all names
-          (sym (take-append-drop base stack)) (omega (arith, enough, length-drop base stack)),
-      refl {a = hypotheses},
-      refl {a = drop base stack},
-    )

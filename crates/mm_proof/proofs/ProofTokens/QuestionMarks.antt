@@ -34,7 +34,7 @@ use Rattle.mm_proof.specs.Steps.{IsProofNumber}
 use Rattle.mm_proof.specs.Parsed.{OfProof}
 use Rattle.mm_proof.specs.Verified.{TokensProve}
 use Rattle.mm_proof.proofs.Members.{contains_cases}
-use Rattle.mm_proof.proofs.ProofVerdicts.StrictForm.{only_one}
+use Rattle.mm_proof.proofs.Members.{only_one}
 
 -- ==== the tokens of the known prefix: what of the whole's tokens holds of them
 

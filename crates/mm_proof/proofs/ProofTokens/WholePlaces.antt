@@ -502,7 +502,8 @@ letter_within tokens token byte earlier letter later at =
     piece_within tokens at.labels at.letters token byte at.piece at.text at.parts at.index at.there
     at.within
 
-move_within : (tokens : List (List ℕ)) (number token byte : ℕ)
+-- a move stands within its token
+pub move_within : (tokens : List (List ℕ)) (number token byte : ℕ)
     → IsMovePlace tokens number token byte
     → (text : List ℕ) × (slice_get tokens token ≡ Some text) × (byte ≤ length text)
 move_within tokens number token byte (inl (normal, is, start, less)) =

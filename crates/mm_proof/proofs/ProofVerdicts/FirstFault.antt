@@ -22,7 +22,8 @@ use Rattle.mm_proof.specs.Proof.{IsWithin, proof_rank, BreaksWhole, Prove, IsPro
 use Rattle.mm_proof.specs.Proof.{BreaksMove, FirstAtMove, Passed, IsMoveFault, BreaksEnd}
 use Rattle.mm_proof.specs.Proof.{IsEndFault, IsMovesFault, IsFault, MeetsHypotheses, SomePair}
 use Rattle.mm_proof.specs.Proof.{SomeReplacedPair, BreaksStep}
-use Rattle.mm_proof.specs.Laws.{OneTree, OneProofVerdict, SomeProofVerdict}
+use Rattle.mm_proof.specs.Laws.{OneTree}
+use Rattle.mm_frame.specs.Form.{AllFormed}
 use Rattle.mm_proof.proofs.ProofSteps.Derivations.{derived_once, one_fit_holds, derive_fits}
 use Rattle.mm_proof.proofs.ProofSteps.PassedMoves.{passed_once, proof_passed, no_fault_within}
 use Rattle.mm_proof.proofs.ProofSteps.PassedMoves.{passed_none, passed_name, passed_again}
@@ -179,10 +180,6 @@ module _ (Fits : List (List ℕ) → Type 0) (before : List Sentence) where
 pub one_tree_holds : OneTree
 one_tree_holds before t u es fs all d g same =
     (one_fit_holds before t u all (derive_fits AnyExpression before t es d) (derive_fits AnyExpression before u fs g) same, derived_once AnyExpression AnyExpression before t u es fs all d g same)
-
-pub one_verdict_holds : OneProofVerdict
-one_verdict_holds limit before s tokens all =
-    (λ p rule step. proved_no_fault (IsWithin limit) before s tokens rule step all p, λ rule rule' step step'. one_fault (IsWithin limit) before s tokens rule rule' step step' all)
 
 -- ==== each proof has a verdict: the rules that it breaks can be found, and where it breaks none it
 -- is proved
@@ -421,7 +418,10 @@ pub within_dec : (limit : ℕ) (e : List (List ℕ)) → Dec (IsWithin limit e)
 within_dec limit e = elim (cases_lt limit (length e)) [ inl over ↦ no (λ within. absurd (omega arith)) | inr within ↦ yes within ]
 
 -- each proof is proved within the limit or has a fault
-pub some_verdict_holds : SomeProofVerdict
+pub some_verdict_holds : (limit : ℕ) (before : List Sentence) (s : Sentence)
+    (tokens : List (List ℕ)) → AllMeant before → AllFormed before
+    → IsProvedWithin (IsWithin limit) before s tokens
+    ⊎ ((rule : ProofRule) × (step : ℕ) × IsFault (IsWithin limit) before s tokens rule step)
 some_verdict_holds limit before s tokens all formed = ⊎_elim
     (λ f. inr (f.rule, 0, inl (refl, record { broken = f.broken; first = f.first })))
     (λ whole.

@@ -4,13 +4,13 @@ use Rattle.std.proofs.Common.{ℕ, List, [], ◌∷◌, ◌⊎◌, inl, inr, ⊎
 use Rattle.std.proofs.Common.{take, Result, Ok, Err, IfOk, IfErr, OnOk, IsOkUnless}
 use Rattle.mm_frame.specs.Sentence.{Sentence}
 use Rattle.mm_frame.specs.Rules.{AllMeant}
+use Rattle.mm_frame.specs.Form.{AllFormed}
 use Rattle.mm_proof.specs.declared.fault.ProofRule.{ProofRule}
 use Rattle.mm_proof.specs.Moves.{Move}
 use Rattle.mm_proof.specs.Tokens.{SayMoves}
-use Rattle.mm_proof.specs.Proof.{IsWithin, IsWhole, BreaksWhole, IsMoveFault}
-use Rattle.mm_proof.specs.KnownPrefix.{known_prefix, IsPrefixAllowed, IsPrefixFault}
-use Rattle.mm_proof.specs.KnownPrefix.{OnePrefixVerdict}
-use Rattle.mm_proof.specs.KnownPrefix.{Pass, AreAllowed, HaveFault}
+use Rattle.mm_proof.specs.Proof.{IsWithin, IsWhole, BreaksWhole, IsWholeFault, IsMoveFault}
+use Rattle.mm_proof.specs.Substitution.{Expression}
+use Rattle.mm_proof.specs.KnownPrefix.{known_prefix, Pass, AreAllowed}
 use Rattle.mm_proof.proofs.ProofSteps.PassedMoves.{proof_passed}
 use Rattle.mm_proof.proofs.ProofTokens.SaidMoves.{whole_dec, some_moves, moves_usable, moves_once}
 use Rattle.mm_proof.proofs.ProofVerdicts.FirstFault.{first_once, longer_passed, two_moves, Same}
@@ -30,9 +30,27 @@ use Rattle.mm_proof.proofs.ByNumbers.NumberedLabels.{one_index}
 
 -- ==== a known prefix has one verdict: it is allowed, or it has one first fault
 
+-- the first fault of the tokens of a prefix, the form aside: of all of them, or of a step
+abbrev pub HaveFault : (Expression → Type 0) → List Sentence → Sentence → (prefix : List (List ℕ))
+    → ProofRule → ℕ → Type 0
+HaveFault Fits before s prefix rule step =
+    ((step ≡ 0) × IsWholeFault before prefix rule)
+    ⊎ (IsWhole before prefix × (moves : List (Move (List ℕ))) × SayMoves before s prefix moves
+    × IsMoveFault Fits before moves rule step)
+
+-- the known prefix of the tokens breaks no rule, the form aside
+abbrev pub IsPrefixAllowed : (Expression → Type 0) → List Sentence → Sentence → List (List ℕ)
+    → Type 0
+IsPrefixAllowed Fits before s tokens = AreAllowed Fits before s (known_prefix tokens)
+
+-- the first fault of the known prefix of the tokens, the form aside
+abbrev pub IsPrefixFault : (Expression → Type 0) → List Sentence → Sentence → List (List ℕ)
+    → ProofRule → ℕ → Type 0
+IsPrefixFault Fits before s tokens rule step = HaveFault Fits before s (known_prefix tokens) rule step
+
 module _ (limit : ℕ) (before : List Sentence) (s : Sentence) (tokens : List (List ℕ)) where
   -- it is allowed, or has a fault
-  abbrev PrefixVerdict : Type 0
+  abbrev pub PrefixVerdict : Type 0
   PrefixVerdict =
       IsPrefixAllowed (IsWithin limit) before s tokens
       ⊎ ((rule : ProofRule) × (step : ℕ) × IsPrefixFault (IsWithin limit) before s tokens rule step)
@@ -68,18 +86,20 @@ module _ (limit : ℕ) (before : List Sentence) (s : Sentence) (tokens : List (L
       two_moves (IsWithin limit) before g.1 rule rule' step step' all
       (subst (λ m. IsMoveFault (IsWithin limit) before m rule step) (moves_once before s (known_prefix tokens) f.1 g.1 f.2 g.2) f.3) g.3
 
-pub one_prefix_verdict_holds : OnePrefixVerdict
-one_prefix_verdict_holds limit before s tokens all formed = (
-  ⊎_elim
-      (λ f. inr (f.rule, 0, inl (refl, record { broken = f.broken; first = f.first })))
-      (λ whole.
-      let said = some_moves before s (known_prefix tokens) formed whole in
-      moves_judged limit before s tokens said.0 all whole said.1
-      (moves_verdict (IsWithin limit) (within_dec limit) before s said.0 all (moves_usable before s (known_prefix tokens) said.0 formed whole said.1)))
-      (first_or_none (λ rule. BreaksWhole rule before (known_prefix tokens)) (whole_dec before (known_prefix tokens))),
-  λ a rule step f. allowed_no_fault limit before s tokens rule step all a f,
-  λ rule rule' step step'. one_prefix_fault limit before s tokens rule rule' step step' all,
-)
+-- after statements that are meant and in form
+pub some_prefix_verdict : (limit : ℕ) (before : List Sentence) (s : Sentence)
+    (tokens : List (List ℕ)) → AllMeant before → AllFormed before
+    → PrefixVerdict limit before s tokens
+some_prefix_verdict limit before s tokens all formed =
+    let prefix = known_prefix tokens in
+    ⊎_elim
+    (λ f. inr (f.rule, 0, inl (refl, record { broken = f.broken; first = f.first })))
+    (λ whole.
+    let said = some_moves before s prefix formed whole in
+    moves_judged limit before s tokens said.0 all whole said.1
+    (moves_verdict (IsWithin limit) (within_dec limit) before s said.0 all
+    (moves_usable before s prefix said.0 formed whole said.1)))
+    (first_or_none (λ rule. BreaksWhole rule before prefix) (whole_dec before prefix))
 
 -- ==== a prefix has one answer, unless memory is refused
 

@@ -15,7 +15,7 @@ use Rattle.mm_proof.specs.declared.prover.Proved.TheVariants.{Incomplete}
 use Rattle.mm_proof.specs.Answer.{OnRule, IsUnlessMemory}
 use Rattle.mm_proof.specs.Proof.{IsWithin, IsFault, IsProvedWithin, IsWhole}
 use Rattle.mm_proof.specs.Profiles.{limit_of}
-use Rattle.mm_proof.specs.KnownPrefix.{HaveFault, known_prefix}
+use Rattle.mm_proof.specs.KnownPrefix.{known_prefix}
 use Rattle.mm_proof.specs.Strict.{HasFormOf, IsStrictList, MarkAssertions, IsStrict}
 use Rattle.mm_proof.specs.UnderProfile.{IsProvedUnder, IsFaultUnder, HaveFaultUnder}
 use Rattle.mm_proof.specs.UnderProfile.{IsPrefixAllowedUnder, IsPrefixFaultUnder, OneVerdictUnder}
@@ -24,7 +24,7 @@ use Rattle.mm_proof.specs.Parsed.{OfProof}
 use Rattle.mm_proof.proofs.ProofVerdicts.FirstFault.{proved_no_fault, one_fault, Same}
 use Rattle.mm_proof.proofs.ProofVerdicts.FirstFault.{some_verdict_holds, first_symbol_dec}
 use Rattle.mm_proof.proofs.ProofVerdicts.KnownPrefixes.{allowed_no_fault, one_prefix_fault}
-use Rattle.mm_proof.proofs.ProofVerdicts.KnownPrefixes.{one_prefix_verdict_holds}
+use Rattle.mm_proof.proofs.ProofVerdicts.KnownPrefixes.{some_prefix_verdict, HaveFault}
 use Rattle.mm_proof.specs.declared.fault.ProofRule.TheVariants.{P15}
 use Rattle.mm_proof.specs.declared.profile.Profile.TheVariants.{Strict, Lenient}
 use Rattle.mm_proof.proofs.ProofVerdicts.VerdictLaws.{prove_looser}
@@ -303,7 +303,7 @@ one_verdict_under_holds profile before s tokens all formed = (
 
 pub one_prefix_verdict_under_holds : OnePrefixVerdictUnder
 one_prefix_verdict_under_holds profile before s tokens all formed = (
-  elim (one_prefix_verdict_holds (limit_of profile) before s tokens all formed).0 [
+  elim (some_prefix_verdict (limit_of profile) before s tokens all formed) [
     | inl p ↦ elim (form_dec profile before s (known_prefix tokens) formed p.whole) [ yes form ↦ inl (form, p) | no none ↦ inr (P15, 0, inl (refl, inr (p.whole, refl, none))) ]
     | inr (rule, step, inl f) ↦ inr (rule, step, inl (f.0, inl f.1))
     | inr (rule, step, inr f) ↦ elim (form_dec profile before s (known_prefix tokens) formed f.0) [

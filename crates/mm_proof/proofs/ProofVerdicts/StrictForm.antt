@@ -46,10 +46,6 @@ use Rattle.mm_proof.proofs.ProofTokens.SaidMoves.{moves_once}
 
 -- ==== labels that are new, one after the other
 
-pub only_one : (n x : ℕ) → Contains (n ∷ []) x → n ≡ x
-only_one n x (zero, within, is) = is
-only_one n x (suc k, within, is) = absurd (let w : suc k < 1 = within in omega arith)
-
 -- what is among numbers with one more behind them
 push_has : (old : List ℕ) (n x : ℕ) → Contains (old ++ n ∷ []) x ↔ (Contains old x ⊎ (n ≡ x))
 push_has old n x = (

@@ -1,4 +1,4 @@
--- A tree has one small proof at most, and this proof has the strict form.
+-- A tree has one small proof at most, and its list is one that the strict form allows.
 use Rattle.std.proofs.Common.{◌≡◌, ◌≢◌, ℕ, suc, ◌<◌, List, [], ◌∷◌, ◌++◌, slice_get}
 use Rattle.std.proofs.Common.{Some, refl, sym, subst, ◌∙◌, arith, inl, inr}
 use Rattle.std.proofs.Common.{⊎_elim}
@@ -9,22 +9,17 @@ use Rattle.mm_frame.specs.Rules.{AllMeant}
 use Rattle.mm_frame.proofs.Frames.FrameLaws.{mandatory_unique}
 use Rattle.mm_proof.specs.Tree.{Trees, none, tree}
 use Rattle.mm_proof.specs.Moves.{Move, name}
-use Rattle.mm_proof.specs.Tokens.{Says}
-use Rattle.mm_proof.specs.Sharing.{PairSays}
 use Rattle.mm_proof.specs.BigSubtrees.{IsBig}
 use Rattle.mm_proof.specs.ChosenSharing.{IsWorthATag}
 use Rattle.mm_proof.specs.SmallProofs.{IsUsedBefore, ComesBefore, AreByUse, IsByUse}
-use Rattle.mm_proof.specs.SmallLaws.{OneSmall, SmallIsStrict}
-use Rattle.mm_proof.specs.Strict.{IsStrictList, MarkAssertions}
+use Rattle.mm_proof.specs.SmallLaws.{OneSmall}
+use Rattle.mm_proof.specs.Strict.{IsStrictList}
 use Rattle.mm_proof.proofs.Members.{In, Once, indices_once, in_get}
 use Rattle.mm_proof.proofs.Members.{contains_in, in_contains, in_right}
-use Rattle.mm_proof.proofs.ProofSteps.Derivations.{zip_once}
-use Rattle.mm_proof.proofs.ProofTokens.SaidMoves.{says_once}
 use Rattle.mm_proof.proofs.FullSharing.OneSharing.{shared_once}
 use Rattle.mm_proof.proofs.FullSharing.OneSharedProof.{same_mandatory, codes_once, once_joined}
 use Rattle.mm_proof.proofs.FullSharing.OneSharedProof.{mandatory_once}
-use Rattle.mm_proof.proofs.PackedProofs.ChosenSteps.{worth_big}
-use Rattle.mm_proof.proofs.PackedProofs.WrittenProofs.{label_in, shared_marks}
+use Rattle.mm_proof.proofs.PackedProofs.WrittenProofs.{label_in}
 use Rattle.mm_proof.proofs.SmallProofs.UsedLabels.{label_told}
 
 -- ---- lists in order
@@ -160,33 +155,3 @@ by_use_list P before s trees listed codes p = record {
       (label_in p.says.hypotheses p.says.labels h label p.says.labelled
       (rw same at (contains_in hypotheses h has)) named));
 }
-
--- a pair says one list of moves
-pub pair_says_once : (before : List Sentence) (s : Sentence) (listed : List (List ℕ))
-    (codes : List Code) (moves moves' : List (Move (List ℕ))) → PairSays before s listed codes moves
-    → PairSays before s listed codes moves' → moves ≡ moves'
-pair_says_once before s listed codes moves moves' p q =
-    let labels = same_mandatory before s listed listed codes codes moves moves' p q in
-    let says = Says (q.labels ++ listed) in
-    zip_once says says codes moves moves' (says_once (q.labels ++ listed)) (rw labels at p.each)
-    q.each
-
--- where big subtrees alone are shared
-pub by_use_strict : (P : Trees → Type 0) → ((t : Trees) → P t → IsBig t) → (before : List Sentence)
-    (s : Sentence) (trees : Trees) (listed : List (List ℕ)) (codes : List Code)
-    → IsByUse P before s trees listed codes → IsStrictList before s listed
-    × ((moves : List (Move (List ℕ))) → PairSays before s listed codes moves
-    → MarkAssertions before moves)
-by_use_strict P are_big before s trees listed codes p = (
-  by_use_list P before s trees listed codes p,
-  λ moves says. subst (MarkAssertions before)
-      (pair_says_once before s listed codes p.moves moves p.says says)
-      (shared_marks before P are_big trees p.moves p.shared),
-)
-
-pub small_is_strict_holds : SmallIsStrict
-small_is_strict_holds before s label below listed codes p =
-    let trees : Trees = tree label below none in
-    ⊎_elim
-    (λ a. by_use_strict IsWorthATag worth_big before s trees listed codes a.0)
-    (λ a. by_use_strict IsBig (λ t h. h) before s trees listed codes a.0) p

@@ -1,5 +1,5 @@
 -- The tokens of a small proof of a tree are a proof of what the tree derives, in strict form.
-use Rattle.std.proofs.Common.{◌≡◌, ℕ, List, [], ◌∷◌, ◌++◌, Contains, ⊎_elim, flat_map}
+use Rattle.std.proofs.Common.{◌≡◌, ℕ, List, [], ◌∷◌, ◌++◌, Contains, ⊎_elim, flat_map, inl, inr}
 use Rattle.mm_code.specs.declared.code.Code.{Code}
 use Rattle.mm_code.specs.Letters.{Letters}
 use Rattle.mm_code.specs.Layout.{in_parentheses}
@@ -37,6 +37,12 @@ module _ (before : List Sentence) (s : Sentence) (label : List ℕ) (below : Tre
         (tree l g.0 none) g.1 in
         in_contains (spelling trees) l (sub_label trees l g.0 sub);
   }
+
+  -- a small proof lists labels of the tree alone
+  pub small_known : IsSmall before s trees listed codes → (l : List ℕ) → Contains listed l
+      → Contains (spelling trees) l
+  small_known (inl a) l c = (by_use_makes IsWorthATag a.0).known l c
+  small_known (inr a) l c = (by_use_makes IsBig a.0).known l c
 
   module _ (letters : List ℕ) (pieces : List (List ℕ)) (small : IsSmall before s trees listed codes)
       (coded : Letters letters codes) (joined : flat_map (λ piece. piece) pieces ≡ letters)

@@ -50,7 +50,8 @@ conclude-requires-clause-within g c =
     let stack = g.S.Store.stack c.args.store.now in
     let base = c.len-count.result - length xs in
     let size : length (variables_of xs) ≡ length (drop base stack) = omega (arith, length-drop base stack, c.len-count.ensures, c.if-count-scheme.false, variables_counted xs) in
-    its_within c.args.book.now.statements (variables_of xs) _ of.s c.args.scheme.now.conclusion.now size of.concluded
+    rw c.rule_broken.ensures.stack (its_within c.args.book.now.statements (variables_of xs) _ of.s
+    c.args.scheme.now.conclusion.now size of.concluded)
 
 pub returns-in-Some-rule_broken-clause-fault : goal.returns-in-Some-rule_broken-clause-fault
 returns-in-Some-rule_broken-clause-fault g c rule step is =
@@ -62,7 +63,7 @@ returns-in-Some-rule_broken-clause-fault g c rule step is =
           let hs = of.hypotheses.hypotheses in
           let called = called_of st c.args.own.now.index id c.args.scheme.now of in
           subst (λ (r : ProofRule). StopsAt c.args.limit st c.args.own.now.index id stack r) same
-          (c.in-Some-rule_broken.ensures c.args.limit id of.at hs called of.pairs
+          (c.in-Some-rule_broken.ensures.judged c.args.limit id of.at hs called of.pairs
           (c.in-Some.ensures.codes st of.typed (drop_below st _ _ stack c.requires.entries) hs
           called.known)),
     )
@@ -78,24 +79,25 @@ ready g c id of =
     let st = c.args.book.now.statements in
     let called = called_of st c.args.own.now.index id c.args.scheme.now of in
     ready_of st c.args.own.now.index id c.args.scheme.now _ of
-    (c.in-None.ensures c.args.limit id of.at of.hypotheses.hypotheses called of.pairs
+    (c.in-None.ensures.judged c.args.limit id of.at of.hypotheses.hypotheses called of.pairs
     (c.in-Some.ensures.codes st of.typed (drop_below st _ _ _ c.requires.entries)
     of.hypotheses.hypotheses called.known))
 
 pub returns-in-None-clause-carried : goal.returns-in-None-clause-carried
 returns-in-None-clause-carried g c = IfOk-weaker c.conclude.result _ _ (λ u carried id of.
     carried c.args.book.now.statements c.args.own.now.index id of.at c.requires.sound
-    (ready g c id of)) c.conclude.ensures.carried
+    (ready g c id of)) (rw c.rule_broken.ensures.stack at c.conclude.ensures.carried)
 
 pub returns-in-None-clause-entries : goal.returns-in-None-clause-entries
 returns-in-None-clause-entries g c = IfOk-weaker c.conclude.result _ _ (λ u entries.
     let (id, of) = c.requires.scheme in
     entries c.args.book.now.statements c.args.own.now.index id of.at c.requires.sound
-    (ready g c id of) c.requires.entries) c.conclude.ensures.entries
+    (ready g c id of) c.requires.entries)
+    (rw c.rule_broken.ensures.stack at c.conclude.ensures.entries)
 
 pub returns-in-None-clause-fault : goal.returns-in-None-clause-fault
 returns-in-None-clause-fault g c rule step is =
-    let told = c.conclude.ensures.fault rule step is in (
+    let told = (rw c.rule_broken.ensures.stack at c.conclude.ensures.fault) rule step is in (
       told.0,
       λ id of. told.1 c.args.book.now.statements c.args.own.now.index id of.at c.requires.sound
           (ready g c id of),

@@ -11,8 +11,8 @@ pub are_equal-requires-clause-below : goal.are_equal-requires-clause-below
 are_equal-requires-clause-below g c =
     drop_below c.args.book.now.statements _ c.args.base _ c.requires.symbols
 
-pub returns-then-not-are_equal : goal.returns-then-not-are_equal
-returns-then-not-are_equal g c limit id at hs called mandatory codes =
+pub returns-then-not-are_equal-clause-judged : goal.returns-then-not-are_equal-clause-judged
+returns-then-not-are_equal-clause-judged g c limit id at hs called mandatory codes =
     let st = c.args.book.now.statements in
     let xs = c.args.scheme.now.hypotheses.now in
     let stack = g.S.Store.stack c.args.store.now in
@@ -21,17 +21,18 @@ returns-then-not-are_equal g c limit id at hs called mandatory codes =
     omega (arith, length-drop c.args.base stack, c.requires.entries, as_many st xs hs called.known) in
     let r = replaces_by c.one_number.ensures st (variables_of xs) hs (drop c.args.base stack) typed in
     stops_P10 limit st c.args.own.now.index id at _ hs stack c.args.base c.requires.sound.0 called paired codes
-    (c.if-not-are_equal.ensures (replaced_by hs (all_names_at st (drop c.args.base stack))) r hs called.known)
+    (c.if-not-are_equal.ensures.equal (replaced_by hs (all_names_at st (drop c.args.base stack))) r
+    hs called.known)
 
-pub returns-then-are_apart_pairs : goal.returns-then-are_apart_pairs
-returns-then-are_apart_pairs g c limit id at hs called mandatory codes = record {
+pub returns-then-are_apart_pairs-clause-judged : goal.returns-then-are_apart_pairs-clause-judged
+returns-then-are_apart_pairs-clause-judged g c limit id at hs called mandatory codes = record {
   codes = codes;
-  equal = λ σ replaces. c.if-not-are_equal.ensures σ replaces hs called.known;
-  apart = c.if-are_apart_pairs.ensures;
+  equal = λ σ replaces. c.if-not-are_equal.ensures.equal σ replaces hs called.known;
+  apart = rw c.if-not-are_equal.ensures.stack at c.if-are_apart_pairs.ensures;
 }
 
-pub returns-then-has_shared_pair : goal.returns-then-has_shared_pair
-returns-then-has_shared_pair g c limit id at hs called mandatory codes =
+pub returns-then-has_shared_pair-clause-judged : goal.returns-then-has_shared_pair-clause-judged
+returns-then-has_shared_pair-clause-judged g c limit id at hs called mandatory codes =
     let st = c.args.book.now.statements in
     let xs = c.args.scheme.now.hypotheses.now in
     let stack = g.S.Store.stack c.args.store.now in
@@ -40,11 +41,13 @@ returns-then-has_shared_pair g c limit id at hs called mandatory codes =
     omega (arith, length-drop c.args.base stack, c.requires.entries, as_many st xs hs called.known) in
     let r = replaces_by c.one_number.ensures st (variables_of xs) hs (drop c.args.base stack) typed in
     stops_P11 limit c.one_number.ensures st c.args.own.now.index id at _ hs stack c.args.base (variables_of xs) (pairs_in c.args.scheme.now.pairs.now) c.requires.sound.0 called paired typed mandatory
-    codes (c.if-not-are_equal.ensures (replaced_by hs (all_names_at st (drop c.args.base stack))) r hs called.known)
-    c.if-has_shared_pair.ensures
+    codes
+    (c.if-not-are_equal.ensures.equal (replaced_by hs (all_names_at st (drop c.args.base stack))) r
+    hs called.known)
+    (rw c.if-not-are_equal.ensures.stack at c.if-has_shared_pair.ensures)
 
-pub returns : goal.returns
-returns g c limit id at hs called mandatory codes =
+pub returns-clause-judged : goal.returns-clause-judged
+returns-clause-judged g c limit id at hs called mandatory codes =
     let st = c.args.book.now.statements in
     let xs = c.args.scheme.now.hypotheses.now in
     let stack = g.S.Store.stack c.args.store.now in
@@ -53,5 +56,8 @@ returns g c limit id at hs called mandatory codes =
     omega (arith, length-drop c.args.base stack, c.requires.entries, as_many st xs hs called.known) in
     let r = replaces_by c.one_number.ensures st (variables_of xs) hs (drop c.args.base stack) typed in
     stops_P12 limit c.one_number.ensures st c.args.own.now.index id at _ hs stack c.args.base (variables_of xs) (pairs_in c.args.scheme.now.pairs.now) c.requires.sound.0 called paired typed mandatory
-    codes (c.if-not-are_equal.ensures (replaced_by hs (all_names_at st (drop c.args.base stack))) r hs called.known)
-    c.if-has_shared_pair.ensures c.if-are_apart_pairs.ensures
+    codes
+    (c.if-not-are_equal.ensures.equal (replaced_by hs (all_names_at st (drop c.args.base stack))) r
+    hs called.known)
+    (rw c.if-not-are_equal.ensures.stack at c.if-has_shared_pair.ensures)
+    (rw c.if-not-are_equal.ensures.stack at c.if-are_apart_pairs.ensures)

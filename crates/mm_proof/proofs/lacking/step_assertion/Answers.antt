@@ -81,12 +81,12 @@ returns-then-not-are_equal-clause-steps g c id of =
     let codes = c.in-Some.ensures.codes st of.typed (drop_below st _ base stack c.requires.entries)
     hs called.known in
     let r = replaces_by c.one_number.ensures st (variables_of xs) hs (drop base stack) typed in
-    stops_with c.args.limit st c.args.own.now.index id stack _ c.requires.entries P10
-    (λ e. absurd cc)
+    rw c.if-not-are_equal.ensures.stack (stops_with c.args.limit st c.args.own.now.index id stack _
+    c.requires.entries P10 (λ e. absurd cc)
     (stops_P10 c.args.limit st c.args.own.now.index id of.at (label_ids xs) hs stack base
     c.requires.sound.0 called paired codes
-    (c.if-not-are_equal.ensures (replaced_by hs (all_names_at st (drop base stack))) r hs
-    called.known))
+    (c.if-not-are_equal.ensures.equal (replaced_by hs (all_names_at st (drop base stack))) r hs
+    called.known)))
 
 pub returns-then-has_shared_pair-clause-steps : goal.returns-then-has_shared_pair-clause-steps
 returns-then-has_shared_pair-clause-steps g c id of =
@@ -109,14 +109,14 @@ returns-then-has_shared_pair-clause-steps g c id of =
     let codes = c.in-Some.ensures.codes st of.typed (drop_below st _ base stack c.requires.entries)
     hs called.known in
     let r = replaces_by c.one_number.ensures st (variables_of xs) hs (drop base stack) typed in
-    stops_with c.args.limit st c.args.own.now.index id stack _ c.requires.entries P11
-    (λ e. absurd cc)
+    rw c.if-not-are_equal.ensures.stack (stops_with c.args.limit st c.args.own.now.index id stack _
+    c.requires.entries P11 (λ e. absurd cc)
     (stops_P11 c.args.limit c.one_number.ensures st c.args.own.now.index id of.at (label_ids xs) hs
     stack base (variables_of xs) (pairs_in c.args.scheme.now.pairs.now) c.requires.sound.0 called
     paired typed of.pairs
-    codes (c.if-not-are_equal.ensures (replaced_by hs (all_names_at st (drop base stack))) r hs
-    called.known)
-    c.if-has_shared_pair.ensures)
+    codes (c.if-not-are_equal.ensures.equal (replaced_by hs (all_names_at st (drop base stack))) r
+    hs called.known)
+    (rw c.if-not-are_equal.ensures.stack at c.if-has_shared_pair.ensures)))
 
 pub conclude-requires-clause-within : goal.conclude-requires-clause-within
 conclude-requires-clause-within g c =
@@ -132,8 +132,8 @@ conclude-requires-clause-within g c =
       c.if-count-scheme.false,
       variables_counted xs,
     ) in
-    its_within c.args.book.now.statements (variables_of xs) _ of.s c.args.scheme.now.conclusion.now
-    size of.concluded
+    rw c.if-not-are_equal.ensures.stack (its_within c.args.book.now.statements (variables_of xs) _
+    of.s c.args.scheme.now.conclusion.now size of.concluded)
 
 pub returns-clause-steps : goal.returns-clause-steps
 returns-clause-steps g c = IfOk-weaker c.conclude.result _ _ (λ made said id of.
@@ -152,7 +152,8 @@ returns-clause-steps g c = IfOk-weaker c.conclude.result _ _ (λ made said id of
     concludes_with c.args.limit c.one_number.ensures st c.args.own.now.index id c.args.scheme.now of
     c.requires.sound.0 stack base count
     c.requires.entries codes
-    (c.if-not-are_equal.ensures (replaced_by hs (all_names_at st (drop base stack))) r hs
+    (c.if-not-are_equal.ensures.equal (replaced_by hs (all_names_at st (drop base stack))) r hs
     called.known)
-    c.if-has_shared_pair.ensures _ _ c.in_ok-add_of_pairs.ensures made _ said)
-    c.conclude.ensures.said
+    (rw c.if-not-are_equal.ensures.stack at c.if-has_shared_pair.ensures) _ _
+    (rw c.if-not-are_equal.ensures.stack at c.in_ok-add_of_pairs.ensures) made _ said)
+    (rw c.if-not-are_equal.ensures.stack at c.conclude.ensures.said)

@@ -3,7 +3,7 @@ use Rattle.mm_proof.proofs.PackedProofs.SubtreeNumbers.{subtrees_keep, same_tree
 use Rattle.mm_proof.proofs.sameness.same.Goals as goal
 
 pub build-requires-clause-nothing : goal.build-requires-clause-nothing
-build-requires-clause-nothing c = no_rows _ c.args.book.now.statements c.in_ok-table.ensures
+build-requires-clause-nothing c = no_rows _ c.args.book.now.statements c.with_room-table.ensures
 
 pub build-requires-2-clause-nothing : goal.build-requires-2-clause-nothing
 build-requires-2-clause-nothing c =

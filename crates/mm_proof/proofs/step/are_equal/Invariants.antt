@@ -6,8 +6,9 @@ use Rattle.mm_proof.specs.Mirror.CodeVerify.{AreHypothesesOf, IsEqual, Replaces,
 use Rattle.mm_proof.proofs.step.are_equal.Given as goal
 
 abbrev pub invariant-loop-index : goal.invariant-loop-index
-invariant-loop-index g l =
-    (σ : List ℕ → Option (List (List ℕ))) → Replaces l.fn.book.statements σ (variables_of l.scheme.hypotheses.now) (drop l.base (g.S.Store.stack l.store))
+invariant-loop-index g l = (g.S.Store.stack l.store ≡ g.S.Store.stack l.fn.store)
+    × (g.S.Store.kept l.store ≡ g.S.Store.kept l.fn.store)
+    × ((σ : List ℕ → Option (List (List ℕ))) → Replaces l.fn.book.statements σ (variables_of l.scheme.hypotheses.now) (drop l.base (g.S.Store.stack l.fn.store))
     → (hs : List Sentence) → AreHypothesesOf l.fn.book.statements (label_ids l.scheme.hypotheses.now) hs
     → (i : ℕ) (h : Sentence) (entry : List (List ℕ)) → i < l.index → slice_get hs i ≡ Some h
-    → slice_get (all_names_at l.fn.book.statements (drop l.base (g.S.Store.stack l.store))) i ≡ Some entry → IsEqual σ h entry
+    → slice_get (all_names_at l.fn.book.statements (drop l.base (g.S.Store.stack l.fn.store))) i ≡ Some entry → IsEqual σ h entry)
