@@ -49,5 +49,5 @@ pub use join::{JOIN_FOUND, JOIN_STEPS};
 pub use missing::{MOST_OPEN, MOST_WANTED, OPEN_EACH};
 pub use price::{BYTE, step_price};
 pub use rests::Rests;
-pub use search::{Reach, SEARCH_STEPS, SEARCH_STEPS_EACH, search_budget};
+pub use search::{FIRST_SEARCH_STEPS, Reach, SEARCH_STEPS, SEARCH_STEPS_EACH, search_budget};
 pub use shorten::Size;

@@ -21,6 +21,10 @@ pub const SEARCH_STEPS: u64 = 20_000_000;
 /// So many steps a search for edges may take for each conclusion of a proof.
 pub const SEARCH_STEPS_EACH: u64 = 100_000;
 
+/// Where a search for edges took no more steps than that, a second one follows, over what the first
+/// one found.
+pub const FIRST_SEARCH_STEPS: u64 = 100_000;
+
 /// What a search for edges may take for the proof whose graph this is.
 pub fn search_budget(graph: &Graph) -> Budget {
     let conclusions = graph.expressions.len() as u64;

@@ -6,7 +6,7 @@ use crate::edges::Theorem;
 use crate::goals::goals_of;
 use crate::graph::{Graph, Shared};
 use crate::price::step_price;
-use crate::search::{Reach, search_budget};
+use crate::search::{FIRST_SEARCH_STEPS, Reach, search_budget};
 use mm_proof::UsedSteps;
 use std::alloc::{AllocError, Global};
 
@@ -23,7 +23,8 @@ impl Library {
     /// The text of a small proof of a theorem: its own one, of which these are the steps with all
     /// that they use, or one that takes other ways by what the library has. It may be no smaller
     /// than the small proof that there is, whose size is handed in, and the checker is to judge it.
-    /// Nothing is answered where the steps prove nothing. The search is bounded by
+    /// Nothing is answered where the steps prove nothing. Where the search took no more than
+    /// `FIRST_SEARCH_STEPS`, a second one goes on from what it found. Each search is bounded by
     /// `search_budget`, each choice by `choice_budget`; where one of them is used up, it is the best
     /// text so far, or nothing.
     ///
@@ -53,34 +54,64 @@ impl Library {
         size: Size,
         reach: Reach,
     ) -> Result<Option<Vec<u8>>, AllocError> {
-        self.widen(alloc, theorem, shared, reach)?;
         let aim = Aim {
             root: shared.root,
             step: step_price(size.letters, size.steps),
             most_steps: size.steps as u64,
         };
-        let mut budget = choice_budget(&shared.graph);
-        choose_text(
-            alloc,
-            theorem.book,
-            theorem.frame.hypotheses(),
-            &shared.graph,
-            aim,
-            &mut budget,
-        )
+        let taken = self.widen(alloc, theorem, shared, reach)?;
+        let first = chosen_text(alloc, theorem, shared, aim)?;
+        if taken > FIRST_SEARCH_STEPS {
+            return Ok(first);
+        }
+        self.widen(alloc, theorem, shared, reach)?;
+        let second = chosen_text(alloc, theorem, shared, aim)?;
+        if length_of(&second) < length_of(&first) {
+            Ok(second)
+        } else {
+            Ok(first)
+        }
     }
 
-    // Adds the edges by the library.
+    // Adds the edges by the library, and answers how many steps the search took.
     fn widen(
         &self,
         alloc: Global,
         theorem: &Theorem,
         shared: &mut Shared,
         reach: Reach,
-    ) -> Result<(), AllocError> {
+    ) -> Result<u64, AllocError> {
         let mut budget = choice_budget(&shared.graph);
         let goals = goals_of(alloc, &shared.graph, shared.root, &mut budget)?;
         let mut budget = search_budget(&shared.graph);
-        self.add_edges(theorem, &mut shared.graph, &goals, reach, &mut budget)
+        let most = budget.left();
+        self.add_edges(theorem, &mut shared.graph, &goals, reach, &mut budget)?;
+        Ok(most - budget.left())
+    }
+}
+
+// The text of the smallest proof that is found in the graph.
+fn chosen_text(
+    alloc: Global,
+    theorem: &Theorem,
+    shared: &Shared,
+    aim: Aim,
+) -> Result<Option<Vec<u8>>, AllocError> {
+    let mut budget = choice_budget(&shared.graph);
+    choose_text(
+        alloc,
+        theorem.book,
+        theorem.frame.hypotheses(),
+        &shared.graph,
+        aim,
+        &mut budget,
+    )
+}
+
+// The length of a text; the greatest number where there is none.
+fn length_of(text: &Option<Vec<u8>>) -> usize {
+    match text {
+        Some(text) => text.len(),
+        None => usize::MAX,
     }
 }
