@@ -1,20 +1,18 @@
 -- The files read again up to a statement that breaks a rule of meaning: the statements on the way
 -- are those that were met the first time.
-use Rattle.std.proofs.Common.{◌≡◌, ℕ, zero, suc, ◌+◌, ◌<◌, ◌≤◌, List, [], ◌∷◌, ◌++◌, length, true}
-use Rattle.std.proofs.Common.{Option, refl, sym, ap, subst, ◌∙◌, arith, append_assoc}
+use Rattle.std.proofs.Common.{◌≡◌, ℕ, ◌+◌, ◌<◌, List, [], ◌∷◌, ◌++◌, length, true}
+use Rattle.std.proofs.Common.{refl, sym, ap, subst, ◌∙◌, arith, append_assoc}
 use Rattle.std.proofs.lemmas.List.{map-append, length-append}
 use Rattle.mm_text.specs.Files.{PlainFile}
 use Rattle.mm_text.specs.Reading.{Reads}
 use Rattle.mm_text.specs.Remaining.{Remaining, IsUnread}
 use Rattle.mm_text.specs.Statement.{PlainStatement}
 use Rattle.mm_frame.specs.declared.answer.Taken.{Taken}
-use Rattle.mm_frame.specs.Rules.{AllMeant, FirstBroken, IsMeant}
+use Rattle.mm_frame.specs.Rules.{AllMeant, IsMeant}
 use Rattle.mm_frame.specs.Sentence.{Sentence, sentence_of}
-use Rattle.mm_check.specs.declared.fault.Refusal.{Refusal}
-use Rattle.mm_check.specs.declared.fault.Stop.TheVariants as stop
 use Rattle.mm_check.specs.declared.progress.Progress.{Progress}
 use Rattle.mm_check.specs.Mirror.Breaches.{Site, IsMeantNext, IsPast}
-use Rattle.mm_check.specs.Mirror.Judged.{HasTaken, IsRead, RefusesMeaning, TakesNext}
+use Rattle.mm_check.specs.Mirror.Judged.{HasTaken, IsRead, TakesNext}
 use Rattle.mm_check.specs.Mirror.Reached.{TakesAs}
 use Rattle.mm_check.specs.Verdict.{CanBeRead, sentences}
 use Rattle.mm_check.proofs.Verdicts.AcceptedStatements.{same_reading}
@@ -140,14 +138,6 @@ read_none files p left unread readable taken lines = record {
   taken = taken;
   lines = lines;
 }
-
--- what is meant isn't refused
-pub not_refused : (files : List PlainFile) (before : List Sentence) (count : ℕ)
-    (left rest : Remaining) (s : PlainStatement) (refusal : Refusal) → IsMeantNext before left
-    → TakesNext left true s rest → ¬ (RefusesMeaning files before count s (stop.Refused refusal))
-not_refused files before count left rest s refusal (t, others, is, meant) next refused =
-    let same : s ≡ t = let e = next.0 in cc in
-    meant refused.0 (subst (λ (x : PlainStatement). FirstBroken refused.0 before (sentence_of x)) same refused.1).broken
 
 -- what was read by the progress, which counts so many
 pub past_counted : (files : List PlainFile) (n : ℕ) (p : Progress) (left : Remaining)

@@ -1,6 +1,6 @@
 -- The facts that explain a fault of a rule of meaning, joined from what was read again.
-use Rattle.std.proofs.Common.{◌≡◌, ◌≢◌, ℕ, ◌+◌, List, [], ◌∷◌, ◌++◌, map, length, Option, Some, None}
-use Rattle.std.proofs.Common.{option_map, refl, sym, ap, subst, ◌∙◌, arith, append-nil}
+use Rattle.std.proofs.Common.{◌≡◌, ◌≢◌, ℕ, ◌+◌, List, [], ◌∷◌, map, length, Option, Some, None}
+use Rattle.std.proofs.Common.{option_map, refl, sym, ap, subst, ◌∙◌, arith}
 use Rattle.std.specs.List.{flat_map}
 use Rattle.std.specs.Option.{option_or}
 use Rattle.mm_text.specs.declared.token.Token.{Token}
@@ -15,7 +15,7 @@ use Rattle.mm_frame.specs.Sentence.{sentence_of}
 use Rattle.mm_check.specs.declared.breach.Breach.{Breach}
 use Rattle.mm_check.specs.declared.rule.Rule.{Rule}
 use Rattle.mm_check.specs.declared.rule.Rule.TheVariants as rules
-use Rattle.mm_check.specs.Explained.{Detail, token_at_fault, detail_text, details_text, block_opened}
+use Rattle.mm_check.specs.Explained.{Detail, token_at_fault, block_opened}
 use Rattle.mm_check.specs.MeaningFacts.{AreEarlierFacts, AreMeaningFacts, token_at}
 use Rattle.mm_check.specs.Places.{token_place}
 use Rattle.mm_check.specs.MeaningFacts.{last_looked_at, last_met, looked_at, looked_at_within}
@@ -90,11 +90,6 @@ module _ {files : List PlainFile} {refusal : PlainRefusal} (stop : IsStopped fil
       }
 
 -- ---- facts on what came before
-
--- the text of one fact
-pub one_fact : (out text : List ℕ) (d : Detail) → text ≡ out ++ detail_text d
-    → text ≡ out ++ details_text (d ∷ [])
-one_fact out text d is = is ∙ ap (λ (ds : List ℕ). out ++ ds) (sym (append-nil (detail_text d)))
 
 -- what isn't of blocks is of names
 pub of_names : (files : List PlainFile) (rule : MeaningRule) (before : List PlainStatement)

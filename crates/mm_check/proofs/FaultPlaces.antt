@@ -1,8 +1,8 @@
 -- Where the tokens of a proof are at fault in their file: what stands where their moves stop, and
 -- that it has a place.
-use Rattle.std.proofs.Common.{◌≡◌, ℕ, suc, ◌+◌, ◌<◌, ◌≤◌, List, [], ◌∷◌, ◌++◌, map, take}
+use Rattle.std.proofs.Common.{◌≡◌, ℕ, ◌+◌, ◌<◌, ◌≤◌, List, [], ◌∷◌, map, take}
 use Rattle.std.proofs.Common.{length, slice_get, get_or, Option, Some, None, Bool, true, false}
-use Rattle.std.proofs.Common.{inl, inr, refl, sym, ap, subst, ◌∙◌, arith, option_map}
+use Rattle.std.proofs.Common.{inr, refl, sym, ap, subst, ◌∙◌, arith, option_map}
 use Rattle.std.specs.List.{sum_by}
 use Rattle.std.proofs.lemmas.List.{length-append}
 use Rattle.std.proofs.lemmas.List.Sums.{get_or-le-sum_by}
@@ -11,7 +11,6 @@ use Rattle.std.proofs.lemmas.Option.{get_or_from_slice_get}
 use Rattle.mm_text.specs.declared.token.Token.{Token}
 use Rattle.mm_text.specs.Token.{PlainToken, plain_token}
 use Rattle.mm_text.specs.Files.{most_bytes}
-use Rattle.mm_text.proofs.Lists.{get_within, get_after}
 use Rattle.mm_code.specs.Words.{texts_of}
 use Rattle.mm_frame.specs.Sentence.{Sentence}
 use Rattle.mm_proof.specs.declared.fault.ProofRule.{ProofRule}
@@ -22,10 +21,11 @@ use Rattle.mm_proof.specs.declared.halt.Halt.{Halt}
 use Rattle.mm_proof.specs.declared.halt.HaltAt.{HaltAt}
 use Rattle.mm_proof.specs.declared.halt.HaltAt.TheVariants as at
 use Rattle.mm_proof.specs.Moves.{Move, steps_in}
-use Rattle.mm_proof.specs.Tokens.{is_incomplete, opening_token, closing_token, SayMoves}
+use Rattle.mm_proof.specs.Tokens.{is_incomplete, SayMoves}
 use Rattle.mm_proof.specs.KnownPrefix.{known_prefix}
 use Rattle.mm_proof.specs.Places.{IsMovePlace}
 use Rattle.mm_proof.specs.Halted.{StandsAtHalt}
+use Rattle.mm_proof.proofs.ProofTokens.WholePlaces.{move_within}
 use Rattle.mm_check.specs.Explained.{judged_tokens, TokensHalt}
 use Rattle.mm_check.specs.Why.{IsPosition, IsStopPlace, IsPlaceAmong}
 use Rattle.mm_check.specs.Mirror.Explaining.{StopsIn, IsCauseOf}
@@ -36,23 +36,7 @@ use Rattle.mm_check.proofs.TokenHalts.{halt_caused, fault_caused}
 
 -- ---- a move stands within its token
 
-pub place_within : (tokens : List (List ℕ)) (number token byte : ℕ)
-    → IsMovePlace tokens number token byte
-    → (text : List ℕ) × (slice_get tokens token ≡ Some text) × (byte ≤ length text)
-place_within tokens number token byte (inl (normal, same, first, less)) =
-    let (text, there) = get_within tokens number less in
-    (text, ap (slice_get tokens) same ∙ there, omega arith)
-place_within tokens number token byte (inr (labels, letters, parts, piece, same, ends)) =
-    let behind =
-    get_after (opening_token ∷ labels) (closing_token ∷ letters) (suc piece) ends.text ends.there in
-    let index : token ≡ length (opening_token ∷ labels) + suc piece = omega arith in (
-      ends.text,
-      ap (λ (ts : List (List ℕ)). slice_get ts token) parts.whole
-          ∙ ap (slice_get (opening_token ∷ (labels ++ closing_token ∷ letters))) index ∙ behind,
-      (let less = ends.within in omega arith),
-    )
-
--- so its index is that of a token, and its byte is within all bytes
+-- its index is that of a token, and its byte is within all bytes
 pub token_fits : (tokens : List (List ℕ)) (texts : List (List ℕ)) (token byte : ℕ)
     (text : List ℕ) → texts ≡ tokens → sum_by length texts ≤ most_bytes
     → slice_get texts token ≡ Some text → byte ≤ length text
@@ -68,7 +52,7 @@ pub place_fits : (tokens : List (List ℕ)) (texts : List (List ℕ)) (number to
     → texts ≡ tokens → sum_by length texts ≤ most_bytes → IsMovePlace texts number token byte
     → (token < length tokens) × (byte ≤ most_bytes)
 place_fits tokens texts number token byte same room place =
-    let (text, there, within) = place_within texts number token byte place in
+    let (text, there, within) = move_within texts number token byte place in
     token_fits tokens texts token byte text same room there within
 
 -- ---- the position of a byte of a token

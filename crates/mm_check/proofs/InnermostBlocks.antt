@@ -1,14 +1,13 @@
 -- Where the innermost open block begins, as statements are read one by one.
-use Rattle.std.proofs.Common.{◌≡◌, ℕ, ◌+◌, ◌-◌, ◌<◌, ◌≤◌, List, [], ◌∷◌, ◌++◌, map, take, drop}
-use Rattle.std.proofs.Common.{length, true, Option, Some, None, refl, sym, ap, ◌∙◌, arith, append-nil}
-use Rattle.std.proofs.Common.{Contains, reverse, length-append, length-take}
-use Rattle.std.specs.Option.{option_to_list}
+use Rattle.std.proofs.Common.{◌≡◌, ℕ, ◌+◌, ◌-◌, List, [], ◌∷◌, ◌++◌, map, take, drop}
+use Rattle.std.proofs.Common.{length, true, refl, sym, ap, ◌∙◌, arith}
+use Rattle.std.proofs.Common.{reverse}
 use Rattle.std.proofs.lemmas.List.{reverse-append, take-map}
 use Rattle.mm_text.specs.declared.scope.OpenBlock.{OpenBlock}
 use Rattle.mm_text.specs.declared.statement.Kind.{Kind}
 use Rattle.mm_text.specs.declared.statement.Kind.TheVariants.{Opening, Closing}
 use Rattle.mm_text.specs.declared.token.Token.{Token}
-use Rattle.mm_text.specs.Blocks.{AreBalanced, AreClosed, IsInnermost, openings, closings}
+use Rattle.mm_text.specs.Blocks.{AreBalanced, AreClosed, IsInnermost}
 use Rattle.mm_text.specs.Blocks.{is_opening, is_closing}
 use Rattle.mm_text.specs.Files.{PlainFile}
 use Rattle.mm_text.specs.Mirror.Reader.{PlainScope}
@@ -21,7 +20,7 @@ use Rattle.mm_frame.specs.declared.rule.MeaningRule.TheVariants.{M1}
 use Rattle.mm_frame.specs.Active.{open_marks, close_marks}
 use Rattle.mm_frame.specs.Rules.{Breaks}
 use Rattle.mm_frame.specs.Sentence.{Sentence, sentence_of}
-use Rattle.mm_frame.proofs.Blocks.BlockLaws.{open_count_holds}
+use Rattle.mm_frame.proofs.Blocks.NumberedBlocks.{open_unclosed}
 use Rattle.mm_check.specs.Mirror.Breaches.{IsBroken, IsPast, Site, position_of, positions_after}
 use Rattle.mm_check.specs.Verdict.{sentences}
 use Rattle.mm_check.specs.Mirror.Judged.{TakesNext}
@@ -67,25 +66,6 @@ pub block_pushed : (blocks : List Token) (t : Token)
     → map position_of (reverse (blocks ++ t ∷ [])) ≡ position_of t ∷ map position_of (reverse blocks)
 block_pushed blocks t = ap (λ (ts : List Token). map position_of ts) (reverse-append blocks (t ∷ []))
 
-pub none_popped : (old new : List Token) → old ≡ new ++ [] → new ≡ take (length old - 1) old
-    → old ≡ []
-none_popped [] new is rest = refl
-none_popped (x ∷ old) new is rest =
-    absurd (let a = ap length is in let b = ap length rest in
-    let c = length-append new [] in let d = length-take (length (x ∷ old) - 1) (x ∷ old) in
-    omega arith)
-
-pub block_popped : (old new : List Token) (t : Option Token) → old ≡ new ++ option_to_list t
-    → new ≡ take (length old - 1) old
-    → map position_of (reverse new) ≡ drop 1 (map position_of (reverse old))
-block_popped old new (Some t) is rest =
-    sym (ap (λ (ts : List Token). drop 1 (map position_of ts)) (ap reverse is ∙ reverse-append new (t ∷ [])))
-block_popped old new None is rest =
-    let none = none_popped old new is rest in
-    let same : new ≡ [] = sym (append-nil new) ∙ sym is ∙ none in
-    ap (λ (ts : List Token). map position_of (reverse ts)) same
-    ∙ sym (ap (λ (ts : List Token). drop 1 (map position_of (reverse ts))) none)
-
 -- ---- the innermost
 
 innermost_of : (before : List PlainStatement) (blocks : List OpenBlock) (p : ℕ × ℕ)
@@ -122,26 +102,22 @@ none_there before balanced e =
 
 -- ---- a `$c` in a block
 
-no_member : {X : Type 0} (xs : List X) (x : X) → length xs ≡ 0 → ¬ (Contains xs x)
-no_member xs x none (i, lt, is) = absurd (omega arith)
-
 -- what breaks M1 stands in a block
 pub stands_in_block : (before : List PlainStatement) (s : Sentence) → AreBalanced before
     → Breaks M1 (sentences before) s → ¬ (AreClosed before)
 stands_in_block before s balanced (kind, index, still) closed =
-    let enough : (n : ℕ) → close_marks (take n (sentences before)) ≤ open_marks (take n (sentences before))
-    = λ n.
-    let cut : sentences (take n before) ≡ take n (sentences before) = sym (take-map sentence_of n before) in
-    let c = counted_alike is_closing (take n before) in
-    let o = counted_alike is_opening (take n before) in
-    let b = balanced n in
+    let cut : sentences (take index before) ≡ take index (sentences before) =
+    sym (take-map sentence_of index before) in
+    let c = counted_alike is_closing (take index before) in
+    let o = counted_alike is_opening (take index before) in
+    let b = balanced index in
     let e = ap close_marks cut in
     let f = ap open_marks cut in
-    omega arith in
-    let (indices, are, count) = open_count_holds (sentences before) enough in
-    let c = counted_alike is_closing before in
-    let o = counted_alike is_opening before in
-    no_member indices index (let d = closed in omega arith) ((are.each index).0 still)
+    let fewer = open_unclosed (sentences before) index (omega arith) still in
+    let all_c = counted_alike is_closing before in
+    let all_o = counted_alike is_opening before in
+    let d = closed in
+    omega arith
 
 -- a block is open before a statement of the files that breaks M1
 pub block_open : (files : List PlainFile) (count : ℕ) → IsBroken files count M1

@@ -2,7 +2,7 @@
 -- written explain it. `text_fault.rt`, `last.rt` and `why.rt` rest on it.
 use Rattle.std.proofs.Common.{◌≡◌, ℕ, ◌-◌, List, [], ◌∷◌, ◌++◌, map, filter, length, Bool, true, false}
 use Rattle.std.proofs.Common.{Option, Some, None, if◌then◌else◌, slice_get, inl, inr, refl, sym, ap}
-use Rattle.std.proofs.Common.{Result, Ok, Err, OnOk, take, option_map, IfSome, ◌⊎◌, Bor}
+use Rattle.std.proofs.Common.{Result, Ok, Err, OnOk, option_map, ◌⊎◌, Bor}
 use Rattle.std.proofs.Common.{◌∙◌, subst, arith, length-append, append_assoc, append-nil}
 use Rattle.std.proofs.lemmas.List.{map-append}
 use Rattle.std.proofs.lemmas.List.Elements.{filter-append}
@@ -13,7 +13,7 @@ use Rattle.mm_text.specs.Statement.{PlainStatement}
 use Rattle.mm_text.specs.Blocks.{is_closing}
 use Rattle.mm_text.specs.Files.{PlainFile}
 use Rattle.mm_text.specs.Reading.{PlainFault, Reads}
-use Rattle.mm_text.specs.Remaining.{IsUnread, Remaining}
+use Rattle.mm_text.specs.Remaining.{Remaining}
 use Rattle.mm_text.proofs.Lists.{get_parted, get_pushed}
 use Rattle.mm_frame.specs.Rules.{AllMeant}
 use Rattle.mm_proof.specs.declared.profile.Profile.{Profile}
@@ -22,11 +22,11 @@ use Rattle.mm_check.specs.Faults.{AreRefused, HaveFaults}
 use Rattle.mm_check.specs.Why.{is_of_proofs}
 use Rattle.mm_check.specs.declared.rule.Rule.TheVariants as rules
 use Rattle.mm_check.specs.Explained.{Detail, token_at_fault, detail_text, details_text}
-use Rattle.mm_check.specs.Near.{IsLabelIn, IsLabelOf}
+use Rattle.mm_check.specs.Near.{IsLabelOf}
 use Rattle.mm_check.specs.Places.{bytes_of}
 use Rattle.mm_check.specs.TextFacts.{AreOrigins, AreTextFacts, blocks_closed, closing_tokens}
 use Rattle.mm_check.specs.TextFacts.{files_up_to, last_of, places_begun, token_from, unclosed_in}
-use Rattle.mm_check.specs.Mirror.Last.{EndsRun, IsBegin, IsListing, IsReading, IsSearching}
+use Rattle.mm_check.specs.Mirror.Last.{EndsRun, IsBegin, IsReading, IsSearching}
 use Rattle.mm_check.specs.Mirror.Last.{ReadsOn, TellsOrigins}
 use Rattle.mm_check.proofs.NearLabels.{name_kept}
 use Rattle.mm_check.proofs.Verdicts.FaultLists.{meant_more}
@@ -276,11 +276,3 @@ module _ (all : List PlainStatement) (old new : Remaining) (found : Option (Bor 
     labels = name_kept (IsLabelOf all) label found after search.labels
         (label_met all old new found s label.now search on is) kept;
   }
-
--- what a new reader has left is the statements of the files
-pub labels_in : (files : List PlainFile) (left : Remaining) (found : Option (Bor (List ℕ)))
-    → IsUnread files left → IfSome found (λ near. IsLabelOf left.statements near.now)
-    → IfSome found (λ near. IsLabelIn files near.now)
-labels_in files left None unread labels = tt
-labels_in files left (Some near) unread labels =
-    (left.statements, left.ending, unread.reads, labels)

@@ -1,5 +1,5 @@
 -- Where a name was met last, as one token or one statement more is read.
-use Rattle.std.proofs.Common.{◌≡◌, ◌≢◌, ℕ, zero, suc, ◌+◌, ◌<◌, length, List, [], ◌∷◌, ◌++◌, map}
+use Rattle.std.proofs.Common.{◌≡◌, ℕ, suc, ◌+◌, ◌<◌, length, List, [], ◌∷◌, ◌++◌, map}
 use Rattle.std.proofs.Common.{take, drop, reverse, get_or, Bool, true, false, cond, Option, Some, None}
 use Rattle.std.proofs.Common.{option_map, refl, sym, ap, subst, ◌∙◌, arith, append-nil}
 use Rattle.std.specs.Prelude.{find}
@@ -11,16 +11,15 @@ use Rattle.std.proofs.lemmas.List.{reverse-append, map-append}
 use Rattle.std.proofs.lemmas.Option.{slice_get-get_or}
 use Rattle.mm_text.proofs.Lists.{take_next}
 use Rattle.mm_text.specs.declared.statement.Kind.{Kind}
-use Rattle.mm_text.specs.declared.statement.Kind.TheVariants.{Constants, Variables, Floating}
+use Rattle.mm_text.specs.declared.statement.Kind.TheVariants.{Floating}
 use Rattle.mm_text.specs.declared.token.Token.{Token}
 use Rattle.mm_text.specs.Files.{PlainFile}
 use Rattle.mm_text.specs.Remaining.{IsUnread, Remaining}
 use Rattle.mm_text.specs.Statement.{PlainStatement}
 use Rattle.mm_text.specs.Token.{PlainToken, plain_token}
 use Rattle.mm_frame.specs.declared.rule.MeaningRule.{MeaningRule}
-use Rattle.mm_frame.specs.declared.rule.MeaningRule.TheVariants.{M2, M3, M4, M5, M9, M12, M13}
-use Rattle.mm_check.specs.MeaningFacts.{Mention, mentions, last_met, declared_by, typed_by}
-use Rattle.mm_check.specs.MeaningFacts.{looked_at, looked_at_within}
+use Rattle.mm_check.specs.MeaningFacts.{Mention, mentions, last_met, typed_by}
+use Rattle.mm_check.specs.MeaningFacts.{looked_at}
 use Rattle.mm_check.specs.Mirror.Breaches.{HasMet, Site}
 use Rattle.mm_check.specs.Mirror.Judged.{TakesNext}
 use Rattle.mm_check.proofs.Breaches.{past_at, past_more, past_none}
@@ -53,12 +52,6 @@ met-append name a b =
     ∙ mapped_or (λ (m : Mention). m.token) (find test (reverse b)) (find test (reverse a))
 
 -- ---- one token more
-
--- the token is the one mention, if it has the name
-pub one_met : (name : List ℕ) (t : PlainToken) (r : Bool) → r ≡ bytes_eq t.text name
-    → last_met name (mentions (t ∷ [])) ≡ cond r (Some t) None
-one_met name t true is = rw (← is) refl
-one_met name t false is = rw (← is) refl
 
 pub met_more : (name : List ℕ) (tokens : List Token) (i : ℕ) (d : Token) (now last : Option Token)
     → i < length tokens
@@ -106,19 +99,6 @@ statement_more rule name earlier s now last here before =
 
 -- ---- what a rule looks at
 
--- other kinds declare nothing
-pub none_declared : (kind : Kind) (symbols : List PlainToken) → kind ≢ Constants
-    → kind ≢ Variables → declared_by kind symbols ≡ []
-none_declared Constants symbols c v = absurd (c refl)
-none_declared Variables symbols c v = absurd (v refl)
-none_declared kind symbols c v = refl
-
--- other kinds give no type code
-pub none_typed : (kind : Kind) (first : PlainToken) (symbols : List PlainToken) → kind ≢ Floating
-    → typed_by kind first symbols ≡ []
-none_typed Floating first symbols f = absurd (f refl)
-none_typed kind first symbols f = refl
-
 -- a variable is typed where the `$f` begins
 pub typed_where : (name : List ℕ) (first : PlainToken) (variables : List PlainToken)
     → last_met name (map (λ v. record { name = v.text; token = first }) variables)
@@ -161,24 +141,6 @@ typed_found name kind first items tokens found floating rest is =
     ∙ typed_where name first (drop 1 (map plain_token items))
     ∙ ap (λ (vs : List PlainToken). option_map (λ (v : PlainToken). first) (last_met name (mentions vs))) variables
     ∙ ap (option_map (λ (v : PlainToken). first)) (sym is)
-
--- the other rules look at what is declared
-pub looks_at_declared : (rule : MeaningRule) (s : PlainStatement) → rule ≢ M4 → rule ≢ M5
-    → rule ≢ M9 → rule ≢ M12 → rule ≢ M13 → looked_at rule s ≡ declared_by s.kind s.symbols
-looks_at_declared M4 s a b c d e = absurd (a refl)
-looks_at_declared M5 s a b c d e = absurd (b refl)
-looks_at_declared M9 s a b c d e = absurd (c refl)
-looks_at_declared M12 s a b c d e = absurd (d refl)
-looks_at_declared M13 s a b c d e = absurd (e refl)
-looks_at_declared rule s a b c d e = refl
-
--- the other rules look at nothing of the statement itself
-pub looks_at_none : (rule : MeaningRule) (s : PlainStatement) (index : Option ℕ) → rule ≢ M2
-    → rule ≢ M3 → rule ≢ M9 → looked_at_within rule s index ≡ []
-looks_at_none M2 s index a b c = absurd (a refl)
-looks_at_none M3 s index a b c = absurd (b refl)
-looks_at_none M9 s index a b c = absurd (c refl)
-looks_at_none rule s index a b c = refl
 
 -- ---- the files, statement by statement
 

@@ -1,8 +1,8 @@
 -- Where the mandatory hypotheses of a `$p` stand: the first tokens of labelled statements, by their
 -- numbers.
 use Rattle.std.proofs.Common.{◌≡◌, ℕ, zero, suc, ◌+◌, ◌<◌, List, [], ◌∷◌, ◌++◌, length, take}
-use Rattle.std.proofs.Common.{map, filter, slice_get, get_or, Bool, true, false, Option, Some, None}
-use Rattle.std.proofs.Common.{option_map, inl, inr, refl, sym, ap, subst, ◌∙◌, arith, append-nil}
+use Rattle.std.proofs.Common.{map, filter, slice_get, get_or, Bool, true, false, Option, Some}
+use Rattle.std.proofs.Common.{inl, inr, refl, sym, ap, subst, ◌∙◌, arith, append-nil}
 use Rattle.std.proofs.Common.{append_assoc, codes}
 use Rattle.std.specs.Prelude.{is_some}
 use Rattle.std.specs.List.{AllZip}
@@ -37,6 +37,7 @@ use Rattle.mm_check.specs.Mirror.Judged.{TakesNext}
 use Rattle.mm_check.specs.Mirror.Standing.{AddsEach, AreEarlier, HasFirsts, IsPlaced, firsts_of}
 use Rattle.mm_check.specs.Verdict.{sentences}
 use Rattle.mm_check.proofs.Breaches.{past_at, past_more, past_none}
+use Rattle.mm_check.proofs.Questions.TheoremsAgain.{said_label}
 use Rattle.mm_check.proofs.Verdicts.JudgedProofs.{prefix_of}
 
 -- ---- first tokens of labelled statements
@@ -56,11 +57,6 @@ first_of_labelled s labelled = rw labelled refl
 
 pub first_of_unlabelled : (s : PlainStatement) → is_some s.label ≡ false → firsts_of (s ∷ []) ≡ []
 first_of_unlabelled s unlabelled = rw unlabelled refl
-
-said_label : (label : Option PlainToken)
-    → is_some (option_map (λ (t : PlainToken). t.text) label) ≡ is_some label
-said_label None = refl
-said_label (Some t) = refl
 
 -- the labelled statement with a number, and its first token
 pub record FirstThere (before : List PlainStatement) (number : ℕ) (h : Sentence) : Type 0 where

@@ -46,9 +46,6 @@ use Rattle.mm_check.specs.Mirror.Explaining.{ReplacesBy, named_pairs, IsPairWith
 
 -- ---- names
 
-names_of_numbers : List Sentence → ℕ × ℕ → Symbol × Symbol
-names_of_numbers st q = (name_at st q.0, name_at st q.1)
-
 abbrev numbers_of : DistinctPair → ℕ × ℕ
 numbers_of p = (p.variables.0.0, p.variables.1.0)
 

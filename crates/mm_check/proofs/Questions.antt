@@ -6,7 +6,7 @@
 -- it. `TriedTokens` has what tokens are as its proof, `KnownSteps` the steps up to a fault.
 -- `TextTokens` has the tokens of a text that is handed in, `OwnProofs` that what is told of these
 -- and of the theorem's own proof agrees. On this room rest the contracts of the methods of
--- `Checked`, and the laws `one_report` and `own_proof_is_tried_alike`.
+-- `Checked`, and the laws `one_report`, `reports_tell_users` and `own_proof_is_tried_alike`.
 pub mod AskedTheorems
 pub mod ComparedTexts
 pub mod KnownSteps

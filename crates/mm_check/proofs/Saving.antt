@@ -1,8 +1,8 @@
 -- From the tree of a theorem to a file with its proof written anew, and to a file with all of them.
 -- Begin with `ProofTexts` for the texts, `SavedFiles` for one proof in its file, `FileSpans` for
 -- all, and `ShortenedFiles` for shorter proofs. On this room rest the contracts of `saved` and
--- `saved_all`, and the laws that begin with `saving`, `shorten`, `one_saved`, `one_all_saved`,
--- `packed_files_are_strict` and `packed_texts_tell`.
+-- `saved_all`, and the laws that begin with `saving`, `shorten`, `one_saved`, `one_all_saved` and
+-- `packed_texts_tell`.
 pub mod ProofTexts
 pub mod SpanTexts
 pub mod SavedFiles
@@ -11,8 +11,6 @@ pub mod FileSpans
 pub mod ReplacedSpans
 pub mod OtherStatements
 pub mod AllSavedFiles
-pub mod SavedOrder
-pub mod AllSavedAnswers
 pub mod WrittenFiles
 pub mod ShortenedFiles
 pub mod ShortenedProofs

@@ -14,8 +14,10 @@ use Rattle.mm_proof.specs.Tokens.{SayMoves}
 use Rattle.mm_proof.specs.OneTree.{MakeTree}
 use Rattle.mm_proof.specs.Sharing.{IsPacked}
 use Rattle.mm_proof.specs.SmallProofs.{IsSmall}
+use Rattle.mm_proof.specs.declared.fault.ExpandFault.{ExpandFault}
+use Rattle.mm_proof.specs.declared.fault.ExpandFault.TheVariants as expand
 use Rattle.mm_check.specs.declared.ask.AskFault.{AskFault}
-use Rattle.mm_check.specs.declared.ask.AskFault.TheVariants.{Rule}
+use Rattle.mm_check.specs.declared.ask.AskFault.TheVariants.{Rule, Memory}
 use Rattle.mm_check.specs.declared.rule.AskRule.TheVariants.{L2}
 use Rattle.mm_check.specs.Verdict.{proof_of, is_proof, sentences}
 use Rattle.mm_check.specs.Rests.{IsAskFault}
@@ -23,6 +25,11 @@ use Rattle.mm_check.specs.Rests.{IsAskFault}
 -- the most labels of a normal proof that is written
 abbrev pub most_labels : ℕ
 most_labels = 16777216
+
+-- the fault that a fault of expanding is answered with
+abbrev pub expand_fault : ExpandFault → AskFault
+expand_fault expand.L2 = Rule L2
+expand_fault expand.Memory = Memory
 
 -- The theorem with the label stands at this index, its proof is complete, and the moves that its
 -- tokens say make this one tree.

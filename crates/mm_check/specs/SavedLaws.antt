@@ -1,8 +1,8 @@
 -- Laws of saving: what it changes, and that it changes nothing else.
-use Rattle.std.specs.Prelude.{◌≡◌, ℕ, ◌<◌, ◌≤◌, List, take, length, slice_get, None, Some, ◌↔◌}
+use Rattle.std.specs.Prelude.{◌≡◌, ℕ, ◌≤◌, List, take, length, slice_get, None, Some, ◌↔◌}
 use Rattle.std.specs.Prelude.{◌⊎◌}
 use Rattle.mm_text.specs.Statement.{PlainStatement}
-use Rattle.mm_text.specs.Files.{PlainFile, most_bytes}
+use Rattle.mm_text.specs.Files.{PlainFile}
 use Rattle.mm_text.specs.Replaced.{with_bytes}
 use Rattle.mm_text.specs.Reading.{Reads}
 use Rattle.mm_frame.specs.Sentence.{sentence_of}
@@ -12,12 +12,10 @@ use Rattle.mm_proof.specs.Strict.{HasFormOf}
 use Rattle.mm_proof.specs.Tree.{Trees}
 use Rattle.mm_check.specs.declared.form.Form.{Form}
 use Rattle.mm_check.specs.declared.form.Form.TheVariants.{Small}
-use Rattle.mm_check.specs.declared.ask.AskFault.{AskFault}
-use Rattle.mm_check.specs.declared.ask.AskFault.TheVariants.{F3, Memory}
 use Rattle.mm_check.specs.Verdict.{Verdict, HasVerdict, AreAccepted, sentences, proof_of}
 use Rattle.mm_check.specs.Compared.{IsTheorem}
 use Rattle.mm_check.specs.Rests.{HasTree, IsReport}
-use Rattle.mm_check.specs.Saved.{IsSaved, FitsSaved, IsSaveFault, total_with}
+use Rattle.mm_check.specs.Saved.{IsSaved, FitsSaved}
 
 -- The others say the same: their statements say what those of the files say; they have the verdicts
 -- of the files; each complete proof has the same tree; and each theorem rests on the same.
@@ -68,17 +66,6 @@ OneSaved =
     → IsSaved form files statements label number bytes
     → IsSaved form files statements label other others
     → (number ≡ other) × (bytes ≡ others)
-
--- Where a theorem can be saved, there is no other fault than lack of memory, or that the files
--- would have too many bytes, and that only if they would.
-abbrev pub OneSaveAnswer : Type 0
-OneSaveAnswer =
-    (profile : Profile) (form : Form) (files : List PlainFile) (statements : List PlainStatement)
-    (label : List ℕ) (number : ℕ) (bytes : List ℕ) (fault : AskFault)
-    → AreAccepted profile files statements
-    → IsSaved form files statements label number bytes
-    → IsSaveFault form files statements label fault
-    → (fault ≡ Memory) ⊎ ((fault ≡ F3) × (most_bytes < total_with files number bytes))
 
 -- Saved again, the file is as it is: its bytes are what is saved of it, and nothing else is.
 abbrev pub SavingAgainChangesNothing : Type 0

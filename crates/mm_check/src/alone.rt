@@ -9,8 +9,9 @@ ghost use Rattle.mm_check.specs.Status.{number_of};
 
 use crate::ask::AskFault;
 use crate::known::known_reply;
-use crate::question::{LoneQuestion, Reply, ask_reply, fault_reply};
+use crate::question::LoneQuestion;
 use crate::read_to::{Reached, Unreached, read_to};
+use crate::reply::{Reply, ask_reply, fault_reply};
 use crate::tried::try_reply;
 use mm_text::{File, Seed};
 use std::alloc::{AllocError, Global};

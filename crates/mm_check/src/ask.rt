@@ -4,7 +4,7 @@ ghost use Rattle.std.specs.Prelude.{◌≡◌};
 ghost use Rattle.mm_check.specs.declared.ask.AskFault.TheVariants.{Memory};
 
 use crate::rule::{AskRule, Rule};
-use mm_proof::ProofFault;
+use mm_proof::{ExpandFault, ProofFault};
 use std::alloc::{AllocError, AllocFailed};
 use thiserror::Error;
 
@@ -40,6 +40,20 @@ impl<T: Drop> From<AllocFailed<T>> for AskFault {
 
     fn from(_e: AllocFailed<T>) -> AskFault {
         AskFault::Memory
+    }
+}
+
+// Of a proof that is expanded.
+impl From<ExpandFault> for AskFault {
+    ghost use Rattle.mm_check.specs.Forms.{expand_fault};
+
+    ghost from_gives = { λ broken fault. fault ≡ expand_fault broken };
+
+    fn from(broken: ExpandFault) -> AskFault {
+        match broken {
+            ExpandFault::L2 => AskFault::Rule(AskRule::L2),
+            ExpandFault::Memory => AskFault::Memory,
+        }
     }
 }
 

@@ -1,6 +1,6 @@
 //! A database in which nothing is at fault.
 
-ghost use Rattle.std.specs.Prelude.{◌≡◌, ◌<◌, ◌↔◌, List, [], map, length, slice_get, Contains};
+ghost use Rattle.std.specs.Prelude.{◌≡◌, ◌<◌, ◌↔◌, List, [], map, length, slice_get};
 ghost use Rattle.std.specs.Prelude.{true, false, Some, None, IsTrue, IfOk, IfErr, IfSome, ℕ};
 ghost use Rattle.mm_check.specs.declared.ask.AskFault.TheVariants.{Memory};
 ghost use Rattle.std.specs.List.{AllByRecursion};
@@ -19,11 +19,6 @@ use crate::report::{
 use crate::reread::{proof_of, reader, reread};
 use crate::rewrite::{bytes_of, put_in};
 use crate::rule::AskRule;
-use crate::save_all::{NewFile, new_file};
-use crate::search::Search;
-use crate::shortening::Shortening;
-use crate::shorter_file::{Wanted, shorter_file};
-use crate::shorter_list::shorter_list;
 use crate::shown::listing_text;
 use crate::shown_uses::uses_text;
 use crate::stated::push_told;
@@ -31,7 +26,6 @@ use crate::theorem::{Theorem, theorem_of};
 use crate::users::{all_users_among, users_among};
 use mm_frame::{Book, Found, LabelId, LabelKind};
 use mm_proof::Profile;
-use mm_shorten::Reach;
 use mm_text::{File, Statement, Statements};
 use std::alloc::{AllocError, Global};
 use std::marker::Model;
@@ -95,18 +89,14 @@ impl<'a> Checked<'a> {
     ghost use Rattle.mm_check.specs.Compared.{IsCompared, IsSameFault};
     ghost use Rattle.mm_check.specs.Forms.{IsNormalOf, IsNormalFault, IsPackedOf, IsSmallOf};
     ghost use Rattle.mm_check.specs.Mirror.Theorems.{AreProvedSteps, AreStepsOf};
-    ghost use Rattle.mm_check.specs.Answer.{IsKeptOf, KeepsLabels};
+    ghost use Rattle.mm_check.specs.Answer.{IsKeptOf};
     ghost use Rattle.mm_check.specs.Stated.{IsStatementFault, TellsStatement};
     ghost use Rattle.mm_check.specs.Saved.{IsSaved, FitsSaved, IsSaveFault};
     ghost use Rattle.mm_check.specs.Mirror.Rewriting.{IsHomeOf};
-    ghost use Rattle.mm_check.specs.Shorter.{IsMinimized};
     ghost use Rattle.mm_check.specs.Mirror.Shortening.{IsOwnProof};
-    ghost use Rattle.mm_check.specs.Mirror.AllSaving.{IsWrittenSoFar};
     ghost use Rattle.mm_check.specs.Mirror.Rereading.{IsTheoremIn, label_count};
     ghost use Rattle.mm_check.specs.Mirror.Rewriting.{IsSpanTextOf};
     ghost use Rattle.mm_check.specs.declared.form.Form.TheVariants.{Small};
-    ghost use Rattle.mm_check.specs.AllShorter.{IsAllShortened, IsAllShorterFault, ShorterLine};
-    ghost use Rattle.mm_check.specs.AllShorter.{AreShorterLines, shorter_text};
     ghost use Rattle.mm_text.specs.Remaining.{IsUnread};
     ghost use Rattle.mm_text.specs.Statement.{plain_statement};
     ghost use Rattle.mm_frame.specs.Sentence.{sentence_in, IsLabelled};
@@ -390,7 +380,7 @@ impl<'a> Checked<'a> {
 
     /// The `$p` with this label, and the steps of its proof. No proof is kept by `check`, so the
     /// files are read again up to the `$p`.
-    fn read_theorem(&self, alloc: Global, label: &[u8]) -> Result<Theorem, AskFault>
+    pub(crate) fn read_theorem(&self, alloc: Global, label: &[u8]) -> Result<Theorem, AskFault>
         ensures usable { IfOk result (λ theorem.
             AreSteps self.now.sentences theorem.id.0 theorem.steps.moves) }
         ensures proved { IfOk result (λ theorem.
@@ -550,50 +540,6 @@ impl<'a> Checked<'a> {
         Ok((theorem.file, bytes))
     }
 
-    /// The small text of the shortest proof of the `$p` with this label that is known: of its own,
-    /// or of one that the search gives, where that has fewer bytes, no more steps, and rests on no
-    /// further axiom. Marks and mathboxes are heeded: an assertion isn't newly used if the comment
-    /// right before it says `(New usage is discouraged.)`, or if it stands in another mathbox; and
-    /// the proof stays if that of the theorem says `(Proof modification is discouraged.)`.
-    ///
-    /// # Errors
-    ///
-    /// As for `axioms`.
-    pub fn minimized<S: Search>(
-        &self,
-        alloc: Global,
-        label: &[u8],
-        search: &mut S,
-    ) -> Result<Vec<u8>, AskFault>
-        ensures text { IfOk result (λ text. (statements : List PlainStatement)
-            → Reads self.now.files statements None
-            → IsMinimized self.now.profile self.now.files statements label.now text.items) }
-        ensures fault { IfErr result (λ fault. (statements : List PlainStatement)
-            → Reads self.now.files statements None → IsAskFault statements label.now fault) }
-    {
-        let theorem = self.read_theorem(alloc, label)?;
-        let shortening = Shortening::new(alloc, self)?;
-        Ok(shortening.minimized(alloc, &theorem, search)?)
-    }
-
-    /// The same, by a search in what the database has before the theorem.
-    pub(crate) fn minimized_by_library(
-        &self,
-        alloc: Global,
-        label: &[u8],
-    ) -> Result<Vec<u8>, AskFault>
-        ensures text { IfOk result (λ text. (statements : List PlainStatement)
-            → Reads self.now.files statements None
-            → IsMinimized self.now.profile self.now.files statements label.now text.items) }
-        ensures fault { IfErr result (λ fault. (statements : List PlainStatement)
-            → Reads self.now.files statements None → IsAskFault statements label.now fault) }
-    {
-        let theorem = self.read_theorem(alloc, label)?;
-        let shortening = Shortening::new(alloc, self)?;
-        let mut search = shortening.search(alloc, Reach::OneMissing);
-        Ok(shortening.minimized(alloc, &theorem, &mut search)?)
-    }
-
     /// A reader of its files.
     pub(crate) fn reader(&self, alloc: Global) -> Result<Statements<'a>, AskFault>
         ensures unread { IfOk result (IsUnread self.now.files) }
@@ -667,49 +613,5 @@ impl<'a> Checked<'a> {
         ensures memory { IfErr result (λ fault. fault ≡ Memory) }
     {
         span_text(alloc, &self.book, theorem, Form::Small, old)
-    }
-
-    /// One of its files, nothing of which was taken yet, to be written with small proofs.
-    pub(crate) fn new_file(&self, alloc: Global, number: usize) -> Result<NewFile<'a>, AllocError>
-        requires { number < length self.now.files }
-        ensures begun { IfOk result (IsWrittenSoFar self.now.files []) }
-        ensures number { IfOk result (λ file. file.number ≡ number) }
-        ensures form { IfOk result (λ file. file.form ≡ Small) }
-    {
-        let files = self.files;
-        new_file(alloc, files, number, Form::Small)
-    }
-
-    /// A line for each theorem whose proof becomes shorter, and their sums.
-    pub(crate) fn shorter_list(&self, alloc: Global) -> Result<Vec<u8>, AskFault>
-        requires { KeepsLabels self.now.files self.now }
-        ensures list { IfOk result (λ text. (statements : List PlainStatement)
-            → Reads self.now.files statements None
-            → (lines : List ShorterLine)
-            × AreShorterLines self.now.profile self.now.files statements lines
-            × (text.items ≡ shorter_text statements lines)) }
-        ensures memory { IfErr result (λ fault. fault ≡ Memory) }
-    {
-        let shortening = Shortening::new(alloc, self)?;
-        let mut search = shortening.search(alloc, Reach::OneMissing);
-        shorter_list(alloc, &shortening, &mut search)
-    }
-
-    /// The bytes of a file with each proof replaced that becomes shorter.
-    pub(crate) fn shorter_file(&self, alloc: Global, wanted: Wanted) -> Result<Vec<u8>, AskFault>
-        requires { wanted.number < length self.now.files }
-        ensures shortened { IfOk result (λ new. (statements : List PlainStatement)
-            → Reads self.now.files statements None
-            → IsAllShortened self.now.profile wanted.duplicates self.now.files statements
-            wanted.number new.items) }
-        ensures fits { IfOk result (λ new. FitsSaved self.now.files wanted.number new.items) }
-        ensures fault { IfErr result (λ fault. (statements : List PlainStatement)
-            → Reads self.now.files statements None
-            → IsAllShorterFault self.now.profile wanted.duplicates self.now.files statements
-            wanted.number fault) }
-    {
-        let shortening = Shortening::new(alloc, self)?;
-        let mut search = shortening.search(alloc, Reach::OneMissing);
-        shorter_file(alloc, &shortening, wanted, &mut search)
     }
 }

@@ -11,11 +11,13 @@ ghost use Rattle.mm_check.specs.declared.command.RunFault.TheVariants.{Memory};
 use crate::alone::lone_reply;
 use crate::form::Form;
 use crate::question::{
-    LoneQuestion, Question, Reply, WholeQuestion, all_saved_reply, question_reply,
-    shorter_file_reply, whole_reply,
+    LoneQuestion, Question, WholeQuestion, all_saved_reply, question_reply, whole_reply,
 };
+use crate::reply::Reply;
 use crate::shorter_file::Wanted;
+use crate::shorter_reply::shorter_file_reply;
 use crate::status::Status;
+use crate::watch::{Unwatched, Watch};
 use mm_proof::Profile;
 use mm_text::{Counted, File, Seed};
 use std::alloc::{AllocError, Global};
@@ -76,11 +78,14 @@ impl From<AllocError> for RunFault {
 }
 
 /// The reply to a command over the files, the first of which is the top file, before it is written.
-pub fn reply_to(
+/// Where shorter proofs are looked for in all of them, the watch is told after each theorem how far
+/// this has come.
+pub fn reply_to<W: Watch>(
     alloc: Global,
     seed: Seed,
     command: &Command,
     files: &[File],
+    watch: &mut W,
 ) -> Result<Reply, AllocError>
     requires { AsksHanded (map plain_file files.now) command.now }
     ensures { IfOk result (λ reply. IsReplyTo (map plain_file files.now) command.now
@@ -88,7 +93,7 @@ pub fn reply_to(
 {
     match command {
         Command::Whole { profile, question } => {
-            whole_reply(alloc, seed, files, *profile, *question)
+            whole_reply(alloc, seed, files, *profile, *question, watch)
         }
         Command::About { label, question } => question_reply(alloc, seed, files, question, label),
         Command::Lone { label, question } => lone_reply(alloc, seed, files, label, question),
@@ -98,7 +103,7 @@ pub fn reply_to(
                 number: *file,
                 duplicates: *duplicates,
             };
-            shorter_file_reply(alloc, seed, files, wanted)
+            shorter_file_reply(alloc, seed, files, wanted, watch)
         }
     }
 }
@@ -128,7 +133,7 @@ pub fn run<W: Write>(
     ensures counted { IsErrOf result RunFault.Device ↔ (faults_of out.new ≡ faults_of out.old + 1) }
     ensures uncounted { ¬ IsErrOf result RunFault.Device → faults_of out.new ≡ faults_of out.old }
 {
-    let reply = reply_to(alloc, seed, command, files)?;
+    let reply = reply_to(alloc, seed, command, files, &mut Unwatched)?;
     match out.write_all(&reply.text) {
         Ok(()) => Ok(reply.status),
         Err(_) => Err(RunFault::Device),

@@ -20,12 +20,11 @@ ghost use Rattle.mm_check.specs.Mirror.Rewriting.{IsSpanTextOf, IsTextFault};
 
 use crate::ask::AskFault;
 use crate::form::Form;
-use crate::rule::AskRule;
 use crate::shorter::step_count;
 use crate::theorem::Theorem;
 use mm_code::{MOST_INDENT, lay_out_compressed, lay_out_normal, lay_out_small, write_codes};
 use mm_frame::{Book, LabelId};
-use mm_proof::{ExpandFault, compress, compress_small, expand};
+use mm_proof::{compress, compress_small, expand};
 use std::alloc::{AllocError, Global};
 
 // The most labels of a normal proof that is written.
@@ -62,11 +61,7 @@ fn labels_of(alloc: Global, book: &Book, theorem: &Theorem) -> Result<Vec<LabelI
         (λ index s moves. OfSpelling (take index book.now.statements) moves (λ spelled.
         most_labels < length spelled)))) }
 {
-    match expand(alloc, book, theorem.id, &theorem.steps, MOST_LABELS) {
-        Ok(labels) => Ok(labels),
-        Err(ExpandFault::L2) => Err(AskFault::Rule(AskRule::L2)),
-        Err(ExpandFault::Memory) => Err(AskFault::Memory),
-    }
+    Ok(expand(alloc, book, theorem.id, &theorem.steps, MOST_LABELS)?)
 }
 
 /// The text of the normal proof of a theorem.

@@ -2,18 +2,16 @@
 
 ghost use Rattle.mm_check.specs.Alike.{AlikeFilesHaveOneReply};
 ghost use Rattle.mm_check.specs.AllSavedLaws.{SavingAllChangesNoAnswer, AllSavedProofsAreStrict};
-ghost use Rattle.mm_check.specs.AllSavedLaws.{OneAllSaved, OneSaveAllAnswer};
-ghost use Rattle.mm_check.specs.AllSavedLaws.{SavingAllAgainChangesNothing, AllSmallFilesDoNotGrow};
-ghost use Rattle.mm_check.specs.AllSavedLaws.{SavingInTurnIsSavingAll, PackedFilesAreStrict};
+ghost use Rattle.mm_check.specs.AllSavedLaws.{OneAllSaved, SavingAllAgainChangesNothing};
+ghost use Rattle.mm_check.specs.AllSavedLaws.{AllSmallFilesDoNotGrow};
 ghost use Rattle.mm_check.specs.AllShorterLaws.{ShorteningChangesNoVerdict};
 ghost use Rattle.mm_check.specs.AllShorterLaws.{ShortenedFilesDoNotGrow};
 ghost use Rattle.mm_check.specs.AloneLaws.{OwnProofIsTriedAlike};
-ghost use Rattle.mm_check.specs.FaultLaws.{FirstFaultIsTold, OneListOfFaults, SomeListOfFaults};
+ghost use Rattle.mm_check.specs.FaultLaws.{FirstFaultIsTold};
 ghost use Rattle.mm_check.specs.FormLaws.{PackedTextsTell};
 ghost use Rattle.mm_check.specs.Laws.{OneVerdict, SomeVerdict, BetweenProfiles, OneReport};
 ghost use Rattle.mm_check.specs.SavedLaws.{SavingChangesNoAnswer, SavedProofIsStrict, OneSaved};
-ghost use Rattle.mm_check.specs.SavedLaws.{OneSaveAnswer, SavingAgainChangesNothing};
-ghost use Rattle.mm_check.specs.SavedLaws.{SmallFilesDoNotGrow};
+ghost use Rattle.mm_check.specs.SavedLaws.{SavingAgainChangesNothing, SmallFilesDoNotGrow};
 ghost use Rattle.mm_check.specs.Users.{ReportsTellUsers};
 
 /// Files have at most one verdict: it can't be said of them both that they obey the rules and that
@@ -38,16 +36,6 @@ pub fn between_profiles()
 /// where the verdict tells none, so where it is yes, or that proofs are incomplete.
 pub fn first_fault_is_told()
     ensures { FirstFaultIsTold }
-{}
-
-/// All faults of files are one list.
-pub fn one_list_of_faults()
-    ensures { OneListOfFaults }
-{}
-
-/// Files that can be taken have such a list, which may be empty.
-pub fn some_list_of_faults()
-    ensures { SomeListOfFaults }
 {}
 
 /// What is told of a theorem's own proof, and what is told of a text with the same tokens, agree:
@@ -101,12 +89,6 @@ pub fn one_saved()
     ensures { OneSaved }
 {}
 
-/// Where the new bytes of a theorem's file are defined, no fault is told of it but lack of memory,
-/// and F3 only if the files would have too many bytes.
-pub fn one_save_answer()
-    ensures { OneSaveAnswer }
-{}
-
 /// A theorem that was saved is saved again in the same form, as the same bytes and no others.
 pub fn saving_again_changes_nothing()
     ensures { SavingAgainChangesNothing }
@@ -131,31 +113,10 @@ pub fn one_all_saved()
     ensures { OneAllSaved }
 {}
 
-/// Where all proofs of a file that was handed in are to be saved in a form, one answer is due: the
-/// bytes; or, in normal form, the label of the first theorem whose normal proof is too long; and
-/// never both. Where bytes are due, no fault is told but lack of memory, and F3 only if the files
-/// would have too many bytes.
-pub fn one_save_all_answer()
-    ensures { OneSaveAllAnswer }
-{}
-
 /// A file all of whose proofs were saved is saved again in the same form, as the same bytes and no
 /// others.
 pub fn saving_all_again_changes_nothing()
     ensures { SavingAllAgainChangesNothing }
-{}
-
-/// Saving the complete theorems of a file one after the other, in any order, each over the files
-/// with the bytes before in their place, gives the bytes that saving all of them at once gives,
-/// where each of these savings is answered.
-pub fn saving_in_turn_is_saving_all()
-    ensures { SavingInTurnIsSavingAll }
-{}
-
-/// Where every proof is complete, and each file was saved with its proofs packed, one file after
-/// the other in any order, the strict profile accepts the files.
-pub fn packed_files_are_strict()
-    ensures { PackedFilesAreStrict }
 {}
 
 /// In small form no file grows: its new bytes are at most as many as before, whether the proof of

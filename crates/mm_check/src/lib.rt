@@ -28,6 +28,7 @@ mod later;
 mod laws;
 mod library_search;
 mod meanings;
+mod minimize;
 mod near;
 mod nearest;
 mod own_hypotheses;
@@ -52,6 +53,7 @@ mod shortening;
 mod shorter;
 mod shorter_file;
 mod shorter_list;
+mod shorter_reply;
 mod shown;
 mod shown_uses;
 mod size;
@@ -66,6 +68,7 @@ mod tried;
 mod users;
 mod verdict;
 mod visitor;
+mod watch;
 mod why;
 mod words;
 
@@ -77,16 +80,16 @@ pub use faults::{AllFaults, all_faults};
 pub use form::Form;
 pub use laws::{
     alike_files_have_one_reply, all_saved_proofs_are_strict, between_profiles, first_fault_is_told,
-    one_all_saved, one_list_of_faults, one_report, one_save_all_answer, one_save_answer, one_saved,
-    one_verdict, own_proof_is_tried_alike, packed_files_are_strict, packed_texts_tell,
+    one_all_saved, one_report, one_saved, one_verdict, own_proof_is_tried_alike, packed_texts_tell,
     reports_tell_users, saved_proof_is_strict, saving_again_changes_nothing,
     saving_all_again_changes_nothing, saving_all_changes_no_answer, saving_changes_no_answer,
-    saving_in_turn_is_saving_all, shortened_files_do_not_grow, shortening_changes_no_verdict,
-    small_files_do_not_grow, some_list_of_faults, some_verdict,
+    shortened_files_do_not_grow, shortening_changes_no_verdict, small_files_do_not_grow,
+    some_verdict,
 };
 pub use mm_frame::LabelId;
 pub use nearest::nearest_label;
-pub use question::{LoneQuestion, Question, Reply, WholeQuestion};
+pub use question::{LoneQuestion, Question, WholeQuestion};
+pub use reply::Reply;
 pub use report::Report;
 pub use rule::{AskRule, Rule};
 pub use save::saved;
@@ -95,3 +98,4 @@ pub use save_fault::SaveFault;
 pub use search::{OwnSize, Search};
 pub use status::Status;
 pub use verdict::{check, check_with};
+pub use watch::{SoFar, Unwatched, Watch};

@@ -1,32 +1,25 @@
 //! Whole replies: to `check`, to `faults`, and to questions about a theorem.
 
-ghost use Rattle.std.specs.Prelude.{◌≡◌, ◌<◌, ◌++◌, [], ◌∷◌, List, map, length, OnOk, IfOk, IfErr};
-ghost use Rattle.std.specs.Prelude.{IfSome, None, Ok, Err, codes, decimal};
+ghost use Rattle.std.specs.Prelude.{◌≡◌, ◌<◌, ◌++◌, ◌∷◌, List, map, length, OnOk, IfOk, IfErr};
+ghost use Rattle.std.specs.Prelude.{None, codes};
 ghost use Rattle.std.specs.List.{AllByRecursion};
 ghost use Rattle.mm_text.specs.Statement.{PlainStatement};
 ghost use Rattle.mm_text.specs.Files.{plain_file};
 ghost use Rattle.mm_text.specs.Reading.{Reads};
 ghost use Rattle.mm_proof.specs.declared.profile.Profile.TheVariants.{Lenient};
-ghost use Rattle.mm_check.specs.Answer.{verdict_of_answer, labels_at, IsVerdict};
-ghost use Rattle.mm_check.specs.Answer.{KeepsLabels, KeepsFiles, plain_refusal};
-ghost use Rattle.mm_check.specs.Answer.{verdict_of_conclusion, verdict_of_fault};
+ghost use Rattle.mm_check.specs.Answer.{labels_at, IsVerdict, KeepsLabels, KeepsFiles};
+ghost use Rattle.mm_check.specs.Answer.{plain_refusal, verdict_of_conclusion};
 ghost use Rattle.mm_check.specs.Faults.{AreAllFaults};
-ghost use Rattle.mm_check.specs.Verdict.{AreAccepted, HasVerdict, labels_of};
+ghost use Rattle.mm_check.specs.Verdict.{HasVerdict, labels_of};
 ghost use Rattle.mm_check.specs.Status.{number_of};
-ghost use Rattle.mm_check.specs.RuleCodes.{code_of};
-ghost use Rattle.mm_check.specs.Reply.{line_with, lines_of, status_of as status_at, Tells};
-ghost use Rattle.mm_check.specs.Reply.{ask_status as ask_status_at};
-ghost use Rattle.mm_check.specs.Reply.{IsReply, IsAskReply, IsAxiomsReply, IsShowReply};
+ghost use Rattle.mm_check.specs.Reply.{lines_of, IsReply, IsAxiomsReply, IsShowReply};
 ghost use Rattle.mm_check.specs.Reply.{IsFaultsReply, IsWhyReply, refusals_text, refusal_status};
 ghost use Rattle.mm_check.specs.Reply.{IsNormalReply, IsPackedReply, IsSavedReply, IsSameReply};
-ghost use Rattle.mm_check.specs.Reply.{IsSmallReply, IsMinimizedReply};
-ghost use Rattle.mm_check.specs.Reply.{IsAllSavedReply, IsAnswerTo, IsFormReply, IsWholeReply};
-ghost use Rattle.mm_check.specs.Reply.{same_text, same_status, text_status as text_status_at};
-ghost use Rattle.mm_check.specs.Reply.{IsQuestionReply, report_text as report_text_at};
+ghost use Rattle.mm_check.specs.Reply.{IsSmallReply, IsAllSavedReply, IsAnswerTo, IsFormReply};
+ghost use Rattle.mm_check.specs.Reply.{IsWholeReply, same_text, same_status, IsQuestionReply};
+ghost use Rattle.mm_check.specs.Reply.{report_text as report_text_at};
 ghost use Rattle.mm_check.specs.Reply.{report_status as report_status_at, IsUsersReply};
-ghost use Rattle.mm_check.specs.Reply.{IsUsesReply};
-ghost use Rattle.mm_check.specs.Reply.{IsAllAxiomsReply, IsStatementReply};
-ghost use Rattle.mm_check.specs.Reply.{IsShorterReply, IsAllShortenedReply};
+ghost use Rattle.mm_check.specs.Reply.{IsUsesReply, IsAllAxiomsReply, IsStatementReply};
 ghost use Rattle.mm_proof.specs.declared.profile.Profile.{Profile};
 ghost use Rattle.mm_check.specs.Users.{AreUsers, IsAssertionFault};
 
@@ -38,29 +31,22 @@ use crate::faults::{AllFaults, all_faults};
 use crate::form::Form;
 use crate::position::name_of;
 use crate::reply::{
-    conclusion_status, fault_status, first_status, push_conclusion, push_fault, push_label,
-    push_labels, push_refusals,
+    Reply, accepted_reply, ask_reply, conclusion_status, fault_reply, first_status, push_label,
+    push_labels, push_refusals, verdict_reply,
 };
 use crate::report::Report;
 use crate::rule::{AskRule, Rule};
 use crate::save_all::saved_all;
 use crate::save_fault::SaveFault;
-use crate::shorter_file::Wanted;
+use crate::shorter_reply::{minimized_answer, shorter_reply};
 use crate::status::Status;
 use crate::verdict::{check, check_with};
+use crate::watch::Watch;
 use crate::why::{Unaccepted, explained};
-use crate::words::{push_number, push_word};
 use mm_frame::LabelId;
-use mm_proof::{Profile, ProofRule};
-use mm_text::{File, LoadRule, Seed};
+use mm_proof::Profile;
+use mm_text::{File, Seed};
 use std::alloc::{AllocError, Global};
-
-/// The text of a reply, and the status that goes with it.
-#[derive(Drop)]
-pub struct Reply {
-    pub text: Vec<u8>,
-    pub status: Status,
-}
 
 /// A question about the whole database.
 #[derive(Clone, Copy, PartialEq, Eq, Debug)]
@@ -154,78 +140,6 @@ fn report_status(report: &Report) -> Status
         Status::Done
     } else {
         Status::Incomplete
-    }
-}
-
-/// The line that says why a question about a label has no answer.
-#[tactic(auto, using(crate::proofs::ReplyTexts::three_words))]
-fn ask_text(alloc: Global, rule: Rule, label: &[u8]) -> Result<Vec<u8>, AllocError>
-    ensures { IfOk result (λ text. text.items
-        ≡ line_with (codes "ask") (code_of rule ∷ label.now ∷ [])) }
-{
-    let mut out = Vec::new(alloc);
-    out.extend_from_slice(b"ask")?;
-    push_word(&mut out, rule.code())?;
-    push_word(&mut out, label)?;
-    out.push(b'\n')?;
-    Ok(out)
-}
-
-/// The status where a question has no answer.
-fn ask_status(rule: AskRule) -> Status
-    ensures { number_of result ≡ ask_status_at rule }
-{
-    match rule {
-        AskRule::A1 | AskRule::A2 => Status::Refused,
-        AskRule::A3 => Status::Incomplete,
-        AskRule::L2 => Status::Stopped,
-    }
-}
-
-/// The line that says why a proof's text that is handed in is refused.
-#[tactic(auto, using(crate::proofs::ReplyTexts::three_words))]
-pub(crate) fn refused_text(alloc: Global, rule: Rule, step: usize) -> Result<Vec<u8>, AllocError>
-    ensures { IfOk result (λ text. text.items
-        ≡ line_with (codes "text") (code_of rule ∷ decimal step ∷ [])) }
-{
-    let mut out = Vec::new(alloc);
-    out.extend_from_slice(b"text")?;
-    push_word(&mut out, rule.code())?;
-    push_number(&mut out, step)?;
-    out.push(b'\n')?;
-    Ok(out)
-}
-
-/// The status where a proof's text that is handed in is refused.
-pub(crate) fn text_status(rule: Rule) -> Status
-    ensures { number_of result ≡ text_status_at rule }
-{
-    match rule {
-        Rule::Ask(AskRule::A3) => Status::Incomplete,
-        Rule::Proof(ProofRule::L1) | Rule::Load(LoadRule::F3) => Status::Stopped,
-        _ => Status::Refused,
-    }
-}
-
-/// The reply where a question about a label has no answer.
-pub(crate) fn ask_reply(alloc: Global, label: &[u8], fault: AskFault) -> Result<Reply, AllocError>
-    ensures { IfOk result (λ reply.
-        IsAskReply fault label.now reply.text.items (number_of reply.status)) }
-{
-    match fault {
-        AskFault::Rule(rule) => Ok(Reply {
-            text: ask_text(alloc, Rule::Ask(rule), label)?,
-            status: ask_status(rule),
-        }),
-        AskFault::F3 => Ok(Reply {
-            text: ask_text(alloc, Rule::Load(LoadRule::F3), label)?,
-            status: Status::Stopped,
-        }),
-        AskFault::Text { rule, step } => Ok(Reply {
-            text: refused_text(alloc, rule, step)?,
-            status: text_status(rule),
-        }),
-        AskFault::Memory => Err(AllocError),
     }
 }
 
@@ -474,23 +388,6 @@ fn statement_answer(alloc: Global, checked: &Checked, label: &[u8]) -> Result<Re
     }
 }
 
-/// The reply of a database in which nothing is at fault to the question for a shortest proof.
-fn minimized_answer(alloc: Global, checked: &Checked, label: &[u8]) -> Result<Reply, AllocError>
-    requires { checked.now.profile ≡ Lenient }
-    ensures { IfOk result (λ reply. (statements : List PlainStatement)
-        → Reads checked.now.files statements None
-        → IsMinimizedReply checked.now.files label.now statements reply.text.items
-        (number_of reply.status)) }
-{
-    match checked.minimized_by_library(alloc, label) {
-        Ok(text) => Ok(Reply {
-            text,
-            status: Status::Done,
-        }),
-        Err(fault) => ask_reply(alloc, label, fault),
-    }
-}
-
 /// The reply of a database in which nothing is at fault to a question about a label.
 fn answer_to(
     alloc: Global,
@@ -514,58 +411,6 @@ fn answer_to(
         Question::Users { all } => users_answer(alloc, checked, label, *all),
         Question::Statement => statement_answer(alloc, checked, label),
         Question::Minimized => minimized_answer(alloc, checked, label),
-    }
-}
-
-/// The reply of a database in which nothing is at fault: yes, or the incomplete proofs.
-fn accepted_reply(alloc: Global, files: &[File], checked: &Checked) -> Result<Reply, AllocError>
-    ensures text { IfOk result (λ reply. Tells (map plain_file files.now) (Ok checked.now)
-        reply.text.items) }
-    ensures status { IfOk result (λ reply. number_of reply.status
-        ≡ status_at (verdict_of_conclusion checked.now)) }
-{
-    let mut text = Vec::new(alloc);
-    push_conclusion(&mut text, checked)?;
-    Ok(Reply {
-        text,
-        status: conclusion_status(checked),
-    })
-}
-
-/// The reply that tells a fault.
-pub(crate) fn fault_reply(
-    alloc: Global,
-    files: &[File],
-    fault: &CheckFault,
-) -> Result<Reply, AllocError>
-    ensures text { IfOk result (λ reply. Tells (map plain_file files.now) (Err fault.now)
-        reply.text.items) }
-    ensures status { IfOk result (λ reply. IfSome (verdict_of_fault fault.now)
-        (λ verdict. number_of reply.status ≡ status_at verdict)) }
-{
-    let mut text = Vec::new(alloc);
-    push_fault(&mut text, files, fault)?;
-    Ok(Reply {
-        text,
-        status: fault_status(fault),
-    })
-}
-
-/// The reply that tells the verdict.
-pub(crate) fn verdict_reply(
-    alloc: Global,
-    files: &[File],
-    answer: &Result<Checked, CheckFault>,
-) -> Result<Reply, AllocError>
-    ensures text { IfOk result (λ reply.
-        Tells (map plain_file files.now) answer.now reply.text.items) }
-    ensures status { IfOk result (λ reply.
-        IfSome (verdict_of_answer answer.now) (λ verdict. number_of reply.status
-        ≡ status_at verdict)) }
-{
-    match answer {
-        Ok(checked) => accepted_reply(alloc, files, checked),
-        Err(fault) => fault_reply(alloc, files, fault),
     }
 }
 
@@ -707,102 +552,14 @@ fn all_axioms_reply(
     reply
 }
 
-/// The reply to the question which proofs become shorter, where this is the answer of `check`.
-fn shorter_answer(
-    alloc: Global,
-    files: &[File],
-    answer: &Result<Checked, CheckFault>,
-) -> Result<Reply, AllocError>
-    requires labels { IfOk answer.now (KeepsLabels (map plain_file files.now)) }
-    requires files { IfOk answer.now (KeepsFiles (map plain_file files.now)) }
-    ensures { IfOk result (λ reply. (profile : Profile)
-        → IfOk answer.now (λ checked. checked.profile ≡ profile)
-        → IsVerdict profile (map plain_file files.now) answer.now
-        → IsShorterReply profile (map plain_file files.now) reply.text.items
-        (number_of reply.status)) }
-{
-    match answer {
-        Ok(checked) => match checked.shorter_list(alloc) {
-            Ok(text) => Ok(Reply {
-                text,
-                status: conclusion_status(checked),
-            }),
-            Err(AskFault::Memory) => Err(AllocError),
-            // Nothing but lack of memory keeps the list from being made.
-            Err(_) => unreachable!(),
-        },
-        Err(_) => verdict_reply(alloc, files, answer),
-    }
-}
-
-/// The reply to the question which proofs become shorter, under a profile.
-fn shorter_reply(
-    alloc: Global,
-    seed: Seed,
-    profile: Profile,
-    files: &[File],
-) -> Result<Reply, AllocError>
-    ensures { IfOk result (λ reply. IsShorterReply profile (map plain_file files.now)
-        reply.text.items (number_of reply.status)) }
-{
-    let answer = check_with(alloc, seed, profile, files);
-    let reply = shorter_answer(alloc, files, &answer);
-    drop(answer);
-    reply
-}
-
-/// The reply to the question for a file with shorter proofs, where this is the answer of `check`.
-fn shorter_file_answer(
-    alloc: Global,
-    files: &[File],
-    answer: &Result<Checked, CheckFault>,
-    wanted: Wanted,
-) -> Result<Reply, AllocError>
-    requires handed { wanted.number < length files.now }
-    requires verdict { IsVerdict Lenient (map plain_file files.now) answer.now }
-    requires files { IfOk answer.now (KeepsFiles (map plain_file files.now)) }
-    requires profile { IfOk answer.now (λ checked. checked.profile ≡ Lenient) }
-    ensures { IfOk result (λ reply. IsQuestionReply (map plain_file files.now)
-        (IsAllShortenedReply wanted.duplicates (map plain_file files.now) wanted.number)
-        reply.text.items (number_of reply.status)) }
-{
-    match answer {
-        Ok(checked) => match checked.shorter_file(alloc, wanted) {
-            Ok(text) => Ok(Reply {
-                text,
-                status: Status::Done,
-            }),
-            Err(fault) => ask_reply(alloc, name_of(files, wanted.number), fault),
-        },
-        Err(_) => verdict_reply(alloc, files, answer),
-    }
-}
-
-/// The reply to the question for a file with shorter proofs.
-pub(crate) fn shorter_file_reply(
-    alloc: Global,
-    seed: Seed,
-    files: &[File],
-    wanted: Wanted,
-) -> Result<Reply, AllocError>
-    requires { wanted.number < length files.now }
-    ensures { IfOk result (λ reply. IsQuestionReply (map plain_file files.now)
-        (IsAllShortenedReply wanted.duplicates (map plain_file files.now) wanted.number)
-        reply.text.items (number_of reply.status)) }
-{
-    let answer = check(alloc, seed, files);
-    let reply = shorter_file_answer(alloc, files, &answer, wanted);
-    drop(answer);
-    reply
-}
-
 /// The reply to a question about the whole database under a profile.
-pub(crate) fn whole_reply(
+pub(crate) fn whole_reply<W: Watch>(
     alloc: Global,
     seed: Seed,
     files: &[File],
     profile: Profile,
     question: WholeQuestion,
+    watch: &mut W,
 ) -> Result<Reply, AllocError>
     ensures { IfOk result (λ reply. IsWholeReply question profile (map plain_file files.now)
         reply.text.items (number_of reply.status)) }
@@ -812,7 +569,7 @@ pub(crate) fn whole_reply(
         WholeQuestion::Faults => faults_reply(alloc, seed, profile, files),
         WholeQuestion::Why => why_reply(alloc, seed, profile, files),
         WholeQuestion::Axioms => all_axioms_reply(alloc, seed, profile, files),
-        WholeQuestion::Shorter => shorter_reply(alloc, seed, profile, files),
+        WholeQuestion::Shorter => shorter_reply(alloc, seed, profile, files, watch),
     }
 }
 

@@ -1,30 +1,39 @@
-//! The text of a reply.
+//! The text and the status of a reply.
 
-ghost use Rattle.std.specs.Prelude.{◌≡◌, ◌<◌, ◌++◌, [], ◌∷◌, map, OnOk, IfOk, IfSome, codes};
-ghost use Rattle.std.specs.Prelude.{List, MatchOption, decimal, length, unwrap_or};
+ghost use Rattle.std.specs.Prelude.{◌≡◌, ◌<◌, ◌++◌, [], ◌∷◌, map, OnOk, IfOk, IfSome, codes, List};
+ghost use Rattle.std.specs.Prelude.{MatchOption, decimal, length, unwrap_or, Ok, Err};
 ghost use Rattle.mm_check.specs.declared.fault.Refusal.{Refusal};
 ghost use Rattle.std.specs.List.{AllByRecursion};
 ghost use Rattle.mm_text.specs.Files.{plain_file};
 ghost use Rattle.mm_check.specs.Reply.{text_of as text_at, status_of as status_at};
 ghost use Rattle.mm_check.specs.Reply.{refusal_status as refusal_status_at, refusal_word};
-ghost use Rattle.mm_check.specs.Reply.{refusals_text};
-ghost use Rattle.mm_check.specs.Reply.{line_with, lines_of};
+ghost use Rattle.mm_check.specs.Reply.{refusals_text, line_with, lines_of, Tells};
+ghost use Rattle.mm_check.specs.Reply.{ask_status as ask_status_at, IsAskReply};
+ghost use Rattle.mm_check.specs.Reply.{text_status as text_status_at};
 ghost use Rattle.mm_check.specs.RuleCodes.{code_of};
 ghost use Rattle.mm_check.specs.Verdict.{Refused};
 ghost use Rattle.mm_check.specs.Answer.{plain_refusal, labels_at, verdict_of_conclusion};
-ghost use Rattle.mm_check.specs.Answer.{verdict_of_fault};
+ghost use Rattle.mm_check.specs.Answer.{verdict_of_fault, verdict_of_answer};
 ghost use Rattle.mm_check.specs.Status.{number_of};
 
+use crate::ask::AskFault;
 use crate::checked::Checked;
 use crate::fault::{CheckFault, Refusal};
 use crate::position::name_of;
-use crate::rule::Rule;
+use crate::rule::{AskRule, Rule};
 use crate::status::Status;
 use crate::words::{push_number, push_word};
 use mm_frame::LabelId;
 use mm_proof::ProofRule;
-use mm_text::File;
+use mm_text::{File, LoadRule};
 use std::alloc::{AllocError, Global};
+
+/// The text of a reply, and the status that goes with it.
+#[derive(Drop)]
+pub struct Reply {
+    pub text: Vec<u8>,
+    pub status: Status,
+}
 
 /// The word with which the line of a refusal begins.
 fn word_of(rule: Rule) -> &'static [u8]
@@ -125,7 +134,7 @@ fn push_incomplete(
 
 /// The lines of a database in which nothing is at fault.
 #[tactic(auto, using(crate::proofs::ReplyTexts::text_of_some))]
-pub(crate) fn push_conclusion(out: &mut Vec<u8>, checked: &Checked) -> Result<(), AllocError>
+fn push_conclusion(out: &mut Vec<u8>, checked: &Checked) -> Result<(), AllocError>
     ensures { OnOk result (out.new.items ≡ out.old.items
         ++ text_at [] (verdict_of_conclusion checked.now)) }
 {
@@ -192,11 +201,7 @@ pub(crate) fn first_status(refusals: &[Refusal]) -> Status
 }
 
 /// The line that tells a fault. For lack of memory there is none.
-pub(crate) fn push_fault(
-    out: &mut Vec<u8>,
-    files: &[File],
-    fault: &CheckFault,
-) -> Result<(), AllocError>
+fn push_fault(out: &mut Vec<u8>, files: &[File], fault: &CheckFault) -> Result<(), AllocError>
     ensures { OnOk result (MatchOption (verdict_of_fault fault.now) ⊥ (λ verdict. out.new.items
         ≡ out.old.items ++ text_at (map plain_file files.now) verdict)) }
 {
@@ -219,7 +224,7 @@ pub(crate) fn conclusion_status(checked: &Checked) -> Status
 }
 
 /// The status of the reply that tells a fault.
-pub(crate) fn fault_status(fault: &CheckFault) -> Status
+fn fault_status(fault: &CheckFault) -> Status
     ensures { IfSome (verdict_of_fault fault.now) (λ verdict. number_of result
         ≡ status_at verdict) }
 {
@@ -227,5 +232,133 @@ pub(crate) fn fault_status(fault: &CheckFault) -> Status
         CheckFault::Load(_) => Status::Stopped,
         CheckFault::Refused(refusal) => refusal_status(refusal.rule),
         CheckFault::Memory => Status::Stopped,
+    }
+}
+
+/// The line that says why a question about a label has no answer.
+#[tactic(auto, using(crate::proofs::ReplyTexts::three_words))]
+fn ask_text(alloc: Global, rule: Rule, label: &[u8]) -> Result<Vec<u8>, AllocError>
+    ensures { IfOk result (λ text. text.items
+        ≡ line_with (codes "ask") (code_of rule ∷ label.now ∷ [])) }
+{
+    let mut out = Vec::new(alloc);
+    out.extend_from_slice(b"ask")?;
+    push_word(&mut out, rule.code())?;
+    push_word(&mut out, label)?;
+    out.push(b'\n')?;
+    Ok(out)
+}
+
+/// The status where a question has no answer.
+fn ask_status(rule: AskRule) -> Status
+    ensures { number_of result ≡ ask_status_at rule }
+{
+    match rule {
+        AskRule::A1 | AskRule::A2 => Status::Refused,
+        AskRule::A3 => Status::Incomplete,
+        AskRule::L2 => Status::Stopped,
+    }
+}
+
+/// The line that says why a proof's text that is handed in is refused.
+#[tactic(auto, using(crate::proofs::ReplyTexts::three_words))]
+pub(crate) fn refused_text(alloc: Global, rule: Rule, step: usize) -> Result<Vec<u8>, AllocError>
+    ensures { IfOk result (λ text. text.items
+        ≡ line_with (codes "text") (code_of rule ∷ decimal step ∷ [])) }
+{
+    let mut out = Vec::new(alloc);
+    out.extend_from_slice(b"text")?;
+    push_word(&mut out, rule.code())?;
+    push_number(&mut out, step)?;
+    out.push(b'\n')?;
+    Ok(out)
+}
+
+/// The status where a proof's text that is handed in is refused.
+pub(crate) fn text_status(rule: Rule) -> Status
+    ensures { number_of result ≡ text_status_at rule }
+{
+    match rule {
+        Rule::Ask(AskRule::A3) => Status::Incomplete,
+        Rule::Proof(ProofRule::L1) | Rule::Load(LoadRule::F3) => Status::Stopped,
+        _ => Status::Refused,
+    }
+}
+
+/// The reply where a question about a label has no answer.
+pub(crate) fn ask_reply(alloc: Global, label: &[u8], fault: AskFault) -> Result<Reply, AllocError>
+    ensures { IfOk result (λ reply.
+        IsAskReply fault label.now reply.text.items (number_of reply.status)) }
+{
+    match fault {
+        AskFault::Rule(rule) => Ok(Reply {
+            text: ask_text(alloc, Rule::Ask(rule), label)?,
+            status: ask_status(rule),
+        }),
+        AskFault::F3 => Ok(Reply {
+            text: ask_text(alloc, Rule::Load(LoadRule::F3), label)?,
+            status: Status::Stopped,
+        }),
+        AskFault::Text { rule, step } => Ok(Reply {
+            text: refused_text(alloc, rule, step)?,
+            status: text_status(rule),
+        }),
+        AskFault::Memory => Err(AllocError),
+    }
+}
+
+/// The reply of a database in which nothing is at fault: yes, or the incomplete proofs.
+pub(crate) fn accepted_reply(
+    alloc: Global,
+    files: &[File],
+    checked: &Checked,
+) -> Result<Reply, AllocError>
+    ensures text { IfOk result (λ reply. Tells (map plain_file files.now) (Ok checked.now)
+        reply.text.items) }
+    ensures status { IfOk result (λ reply. number_of reply.status
+        ≡ status_at (verdict_of_conclusion checked.now)) }
+{
+    let mut text = Vec::new(alloc);
+    push_conclusion(&mut text, checked)?;
+    Ok(Reply {
+        text,
+        status: conclusion_status(checked),
+    })
+}
+
+/// The reply that tells a fault.
+pub(crate) fn fault_reply(
+    alloc: Global,
+    files: &[File],
+    fault: &CheckFault,
+) -> Result<Reply, AllocError>
+    ensures text { IfOk result (λ reply. Tells (map plain_file files.now) (Err fault.now)
+        reply.text.items) }
+    ensures status { IfOk result (λ reply. IfSome (verdict_of_fault fault.now)
+        (λ verdict. number_of reply.status ≡ status_at verdict)) }
+{
+    let mut text = Vec::new(alloc);
+    push_fault(&mut text, files, fault)?;
+    Ok(Reply {
+        text,
+        status: fault_status(fault),
+    })
+}
+
+/// The reply that tells the verdict.
+pub(crate) fn verdict_reply(
+    alloc: Global,
+    files: &[File],
+    answer: &Result<Checked, CheckFault>,
+) -> Result<Reply, AllocError>
+    ensures text { IfOk result (λ reply.
+        Tells (map plain_file files.now) answer.now reply.text.items) }
+    ensures status { IfOk result (λ reply.
+        IfSome (verdict_of_answer answer.now) (λ verdict. number_of reply.status
+        ≡ status_at verdict)) }
+{
+    match answer {
+        Ok(checked) => accepted_reply(alloc, files, checked),
+        Err(fault) => fault_reply(alloc, files, fault),
     }
 }

@@ -65,33 +65,41 @@ fn append(most: usize, bytes: &mut Vec<u8>, part: &[u8]) -> Result<(), AllocErro
     Ok(())
 }
 
-/// The file with a number, nothing of which was taken yet. There is room for an eighth more bytes
-/// than it has.
+// No bytes, with room for those of a file, and for an eighth more, where there is memory for it. Room
+// that is wanting is made when it is needed.
+fn room_for(alloc: Global, source: &[u8]) -> Vec<u8>
+    ensures { result.items ≡ [] }
+{
+    let mut bytes = Vec::new(alloc);
+    let _ = bytes.reserve(source.len().saturating_add(source.len() / 8));
+    bytes
+}
+
+/// The file with a number, nothing of which was taken yet.
 pub(crate) fn new_file<'a>(
     alloc: Global,
     files: &'a [File<'a>],
     number: usize,
     form: Form,
-) -> Result<NewFile<'a>, AllocError>
+) -> NewFile<'a>
     requires { number < length files.now }
     ensures begun { total_bytes (map plain_file files.now) ≤ most_bytes
-        → IfOk result (λ file. IsWrittenSoFar (map plain_file files.now) [] file) }
-    ensures number { IfOk result (λ file. file.number ≡ number) }
-    ensures form { IfOk result (λ file. file.form ≡ form) }
+        → IsWrittenSoFar (map plain_file files.now) [] result }
+    ensures number { result.number ≡ number }
+    ensures form { result.form ≡ form }
 {
     let source = files[number].bytes;
-    let room = source.len().saturating_add(source.len() / 8);
-    Ok(NewFile {
+    NewFile {
         number,
         form,
         source,
         taken: 0,
-        bytes: Vec::with_capacity(alloc, room)?,
+        bytes: room_for(alloc, source),
         most: most_for(files, number),
         too_long: None,
         alloc,
         reader: StepsReader::new(alloc),
-    })
+    }
 }
 
 /// The label of a `$p`.
@@ -152,6 +160,11 @@ impl<'a> NewFile<'a> {
         append(self.most, &mut self.bytes, text)?;
         self.taken = span.1 as usize;
         Ok(())
+    }
+
+    /// How many bytes what was put has less than what was taken.
+    pub(crate) fn saved(&self) -> usize {
+        self.taken.saturating_sub(self.bytes.len())
     }
 
     /// Puts the proof of a theorem of a book in place of the one that it has; or keeps the
@@ -256,10 +269,7 @@ pub fn saved_all<'a>(
         × FitsSaved (map plain_file files.now) number new.items) }
     ensures fault { IfErr result (IsSavingAllFault form (map plain_file files.now) number) }
 {
-    let mut file = match new_file(alloc, files, number, form) {
-        Ok(file) => file,
-        Err(fault) => return Err(SaveFault::Check(CheckFault::from(fault))),
-    };
+    let mut file = new_file(alloc, files, number, form);
     match judge_files(alloc, seed, Profile::Lenient, files, &mut file) {
         Ok(progress) => drop(progress),
         Err(fault) => {

@@ -1,7 +1,7 @@
 //! A file in which each proof that a search makes shorter is replaced.
 
-ghost use Rattle.std.specs.Prelude.{◌≡◌, ◌<◌, ◌≤◌, List, [], length, true, None, IfOk, IfErr};
-ghost use Rattle.std.specs.Prelude.{OnOk, IsTrue, ℕ, ◌⊎◌, false};
+ghost use Rattle.std.specs.Prelude.{◌≡◌, ◌<◌, ◌≤◌, List, [], length, true, None, IfOk, IfErr, OnOk};
+ghost use Rattle.std.specs.Prelude.{IsTrue, ℕ, ◌⊎◌, false};
 ghost use Rattle.mm_text.specs.Statement.{PlainStatement, plain_statement, HasForm};
 ghost use Rattle.mm_text.specs.Reading.{Reads};
 ghost use Rattle.mm_check.specs.declared.ask.AskFault.TheVariants.{Memory};
@@ -11,13 +11,18 @@ ghost use Rattle.mm_check.specs.Mirror.AllShortening.{IsAllShortenedIn, IsShorte
 ghost use Rattle.mm_check.specs.Mirror.AllShortening.{MayStandIn, PutsShorter};
 ghost use Rattle.mm_check.specs.Mirror.Rereading.{IsTheoremIn};
 ghost use Rattle.mm_check.specs.Mirror.Shortening.{KnowsDatabase};
+ghost use Rattle.mm_check.specs.Mirror.AllSaving.{IsWrittenSoFar};
+ghost use Rattle.mm_check.specs.declared.form.Form.TheVariants.{Small};
 
 use crate::ask::AskFault;
+use crate::checked::Checked;
 use crate::compared::shorter_proof;
-use crate::save_all::NewFile;
+use crate::form::Form;
+use crate::save_all::{NewFile, new_file};
 use crate::search::Search;
 use crate::shortening::{Shortening, Shorter};
 use crate::theorems::Rereading;
+use crate::watch::Watch;
 use mm_frame::LabelId;
 use mm_text::Statement;
 use std::alloc::Global;
@@ -97,13 +102,14 @@ fn write_theorem<'a, S: Search>(
     Ok(())
 }
 
-/// Writes each theorem of a file.
-fn write_all<'a, S: Search>(
+/// Writes each theorem of a file, and tells after each theorem how far this has come.
+fn write_all<'a, S: Search, W: Watch>(
     alloc: Global,
     shortening: &Shortening<'_, 'a>,
     wanted: Wanted,
     search: &mut S,
     file: &mut NewFile<'a>,
+    watch: &mut W,
 ) -> Result<(), AskFault>
     requires known { KnowsDatabase shortening.now }
     requires begun { IsShortenedSoFar shortening.now.checked.now wanted.duplicates [] file.old }
@@ -125,16 +131,31 @@ fn write_all<'a, S: Search>(
                 file,
             )?;
         }
+        watch.told(reading.so_far(shortening.checked, file.saved()));
     }
     Ok(())
 }
 
+impl<'a> Checked<'a> {
+    /// One of its files, nothing of which was taken yet, to be written with small proofs.
+    pub(crate) fn new_file(&self, alloc: Global, number: usize) -> NewFile<'a>
+        requires { number < length self.now.files }
+        ensures begun { IsWrittenSoFar self.now.files [] result }
+        ensures number { result.number ≡ number }
+        ensures form { result.form ≡ Small }
+    {
+        let files = self.files;
+        new_file(alloc, files, number, Form::Small)
+    }
+}
+
 /// The bytes of the file with a number, with each proof replaced that a search makes shorter.
-pub(crate) fn shorter_file<'a, S: Search>(
+pub(crate) fn shorter_file<'a, S: Search, W: Watch>(
     alloc: Global,
     shortening: &Shortening<'_, 'a>,
     wanted: Wanted,
     search: &mut S,
+    watch: &mut W,
 ) -> Result<Vec<u8>, AskFault>
     requires known { KnowsDatabase shortening.now }
     requires handed { wanted.number < length shortening.now.checked.now.files }
@@ -149,8 +170,8 @@ pub(crate) fn shorter_file<'a, S: Search>(
         → IsAllShorterFault shortening.now.checked.now.profile wanted.duplicates
         shortening.now.checked.now.files statements wanted.number fault) }
 {
-    let mut file = shortening.checked.new_file(alloc, wanted.number)?;
-    match write_all(alloc, shortening, wanted, search, &mut file) {
+    let mut file = shortening.checked.new_file(alloc, wanted.number);
+    match write_all(alloc, shortening, wanted, search, &mut file, watch) {
         Ok(()) => file.finish(),
         Err(fault) => {
             drop(file);

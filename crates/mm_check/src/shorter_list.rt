@@ -24,6 +24,7 @@ use crate::save_all::label_of;
 use crate::search::Search;
 use crate::shortening::Shortening;
 use crate::theorems::Rereading;
+use crate::watch::Watch;
 use crate::words::{push_decimal, push_number};
 use mm_frame::LabelId;
 use mm_text::Statement;
@@ -88,6 +89,11 @@ impl Sums {
             own: self.own.plus(own),
             new: self.new.plus(new),
         }
+    }
+
+    /// How many bytes the shorter proofs have less than the own ones.
+    fn saved(self) -> usize {
+        self.own.bytes.saturating_sub(self.new.bytes)
     }
 
     /// Puts the line of the sums at the end.
@@ -196,12 +202,13 @@ fn list_theorem<'a, S: Search>(
     Ok(())
 }
 
-/// Lists each theorem.
-fn list_all<'a, S: Search>(
+/// Lists each theorem, and tells after each how far this has come.
+fn list_all<'a, S: Search, W: Watch>(
     list: &mut Listing,
     alloc: Global,
     shortening: &Shortening<'_, 'a>,
     search: &mut S,
+    watch: &mut W,
 ) -> Result<(), AskFault>
     requires known { KnowsDatabase shortening.now }
     requires begun { IsListedSoFar shortening.now.checked.now [] list.old }
@@ -212,15 +219,17 @@ fn list_all<'a, S: Search>(
     let mut reading = Rereading::new(alloc, shortening.checked)?;
     while let Some(id) = reading.next_theorem(shortening.checked)? {
         list_theorem(list, alloc, shortening, &reading.statement, id, search)?;
+        watch.told(reading.so_far(shortening.checked, list.sums.saved()));
     }
     Ok(())
 }
 
 /// A line for each theorem whose proof a search makes shorter, in database order, and their sums.
-pub(crate) fn shorter_list<'a, S: Search>(
+pub(crate) fn shorter_list<'a, S: Search, W: Watch>(
     alloc: Global,
     shortening: &Shortening<'_, 'a>,
     search: &mut S,
+    watch: &mut W,
 ) -> Result<Vec<u8>, AskFault>
     requires known { KnowsDatabase shortening.now }
     requires labels { KeepsLabels shortening.now.checked.now.files shortening.now.checked.now }
@@ -241,7 +250,7 @@ pub(crate) fn shorter_list<'a, S: Search>(
             new: none,
         },
     };
-    list_all(&mut list, alloc, shortening, search)?;
+    list_all(&mut list, alloc, shortening, search, watch)?;
     let Listing { mut text, sums } = list;
     sums.push(&mut text)?;
     Ok(text)

@@ -7,6 +7,7 @@ ghost use Rattle.mm_check.specs.declared.ask.AskFault.TheVariants.{Memory};
 use crate::ask::AskFault;
 use crate::checked::Checked;
 use crate::reread::next;
+use crate::watch::SoFar;
 use mm_frame::LabelId;
 use mm_text::{Statement, Statements};
 use std::alloc::Global;
@@ -19,6 +20,8 @@ pub(crate) struct Rereading<'a> {
     pub(crate) statement: Statement<'a>,
     /// How many labelled statements were read.
     labelled: u32,
+    /// How many theorems were read.
+    theorems: usize,
 }
 
 impl<'a> Rereading<'a> {
@@ -33,6 +36,7 @@ impl<'a> Rereading<'a> {
             statements: checked.reader(alloc)?,
             statement: Statement::empty(alloc),
             labelled: 0,
+            theorems: 0,
         })
     }
 
@@ -53,10 +57,20 @@ impl<'a> Rereading<'a> {
                 let id = LabelId(self.labelled);
                 self.labelled += 1;
                 if checked.is_theorem(id) {
+                    self.theorems = self.theorems.saturating_add(1);
                     return Ok(Some(id));
                 }
             }
         }
         Ok(None)
+    }
+
+    /// How far the reading has come, where so many bytes were saved.
+    pub(crate) fn so_far(&self, checked: &Checked, bytes: usize) -> SoFar {
+        SoFar {
+            theorems: self.theorems,
+            of: checked.proofs(),
+            bytes,
+        }
     }
 }

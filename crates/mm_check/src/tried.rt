@@ -23,7 +23,7 @@ ghost use Rattle.mm_check.specs.Why.{IsTextPlace};
 
 use crate::details::{Cause, cause_of, push_cause, push_left_over};
 use crate::fault_places::place_among;
-use crate::question::{Reply, ask_reply, refused_text, text_status};
+use crate::reply::{Reply, ask_reply, refused_text, text_status};
 use crate::rule::{AskRule, Rule};
 use crate::status::Status;
 use crate::text::{handed_tokens, placed_tokens};

@@ -14,6 +14,7 @@ use Rattle.mm_frame.specs.Sentence.{Sentence}
 use Rattle.mm_frame.specs.Taken.{kind_behind}
 use Rattle.mm_frame.proofs.Names.LabelNumbers.{numbered_get, numbered_some, numbered_within}
 use Rattle.mm_text.proofs.Lists.{at_from_contains, contains_from_at}
+use Rattle.mm_text.proofs.Lists.{all_within}
 use Rattle.mm_proof.specs.Plain.{ids_in}
 use Rattle.mm_check.specs.Rests.{AreRising, AreInOrder}
 use Rattle.mm_check.specs.Mirror.Bits.{has_bit}
@@ -51,7 +52,7 @@ use Rattle.mm_check.specs.Verdict.{labels_of}
 use Rattle.mm_check.specs.Mirror.Tables.{line_of_report, AreLinesOf}
 use Rattle.mm_check.proofs.Questions.RestsOn.{among_more}
 use Rattle.mm_check.proofs.Numbers.{label_at, count_labelled}
-use Rattle.mm_check.proofs.Questions.AskedTheorems.{numbered_as, proof_or_not, report_by, all_within}
+use Rattle.mm_check.proofs.Questions.AskedTheorems.{numbered_as, proof_or_not, report_by}
 use Rattle.mm_check.proofs.Verdicts.AcceptedStatements.{within_limit}
 
 -- ==== the numbers of a kind
@@ -138,7 +139,7 @@ few_labels profile files statements accepted =
     let long : length (sentences statements) ≡ length statements = length-map statements sentence_of in
     omega arith
 
-some_label : (o : Option (List ℕ)) → is_some o ≡ true → (l : List ℕ) × (o ≡ Some l)
+pub some_label : (o : Option (List ℕ)) → is_some o ≡ true → (l : List ℕ) × (o ≡ Some l)
 some_label (Some l) h = (l, refl)
 some_label None h = absurd cc
 

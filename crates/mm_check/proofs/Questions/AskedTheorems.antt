@@ -15,7 +15,7 @@ use Rattle.mm_frame.specs.Taken.{kind_behind}
 use Rattle.mm_frame.specs.Sentence.{Sentence, IsHypothesis, sentence_of, IsLabelled}
 use Rattle.mm_frame.specs.Rules.{AllMeant}
 use Rattle.mm_frame.specs.Numbers.{labelled_sentences, IsNumbered}
-use Rattle.mm_text.proofs.Lists.{at_from_contains, contains_from_at, all_there, all_at, zip_length}
+use Rattle.mm_text.proofs.Lists.{at_from_contains, contains_from_at, all_at, zip_length}
 use Rattle.mm_frame.proofs.Names.LabelNumbers.{numbered_get, numbered_some, numbered_unique}
 use Rattle.mm_frame.proofs.Names.LabelNumbers.{numbered_within}
 use Rattle.mm_frame.proofs.Rules.ObeyedRules.{allmeant_prefix}
@@ -268,10 +268,6 @@ report_of statements c label id marks axioms unproved kept all named marked are_
     (report_by statements c label id (IsMarked marks) axioms unproved kept all named marked are_axioms are_unproved).0
 
 -- ---- ranges of numbers
-
-pub all_within : {X : Type 0} (P : X → Type 0) (xs : List X) → ((x : X) → Contains xs x → P x)
-    → AllByRecursion P xs
-all_within P xs h = all_there P xs (λ i x at. h x (contains_from_at xs x (i, at)))
 
 pub all_among : (P : ℕ → Type 0) (ids : List ℕ) (n : ℕ) → AllByRecursion P ids → Contains ids n → P n
 all_among P ids n all h = let at = at_from_contains ids n h in all_at P ids at.0 n all at.1

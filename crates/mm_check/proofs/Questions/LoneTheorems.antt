@@ -1,6 +1,6 @@
 -- The way to the theorem with a label: statement after statement, none of which has the label.
-use Rattle.std.proofs.Common.{◌≡◌, ℕ, List, [], ◌∷◌, ◌++◌, length, true, false, Option, Some}
-use Rattle.std.proofs.Common.{None, inl, inr, refl, sym, ap, subst, ◌∙◌, arith, append_assoc}
+use Rattle.std.proofs.Common.{◌≡◌, ℕ, List, [], ◌∷◌, ◌++◌, length, true, Option, Some}
+use Rattle.std.proofs.Common.{inl, inr, refl, sym, ap, subst, ◌∙◌, arith, append_assoc}
 use Rattle.std.proofs.Common.{take, ◌-◌, ◌<◌, ◌≤◌, ◌^◌, sum_by}
 use Rattle.std.proofs.lemmas.List.{map-append, length-append, length-map}
 use Rattle.mm_text.specs.declared.statement.Kind.{Kind}
@@ -27,9 +27,8 @@ use Rattle.mm_check.specs.declared.fault.Stop.TheVariants as stop
 use Rattle.mm_check.specs.declared.progress.Progress.{Progress}
 use Rattle.mm_check.specs.declared.read_to.Reached.{Reached}
 use Rattle.mm_check.specs.declared.read_to.Unreached.TheVariants.{Check}
-use Rattle.mm_check.specs.declared.rule.AskRule.TheVariants.{A1, A2}
 use Rattle.mm_check.specs.declared.rule.Rule.TheVariants as rules
-use Rattle.mm_check.specs.Alone.{LackLabel, IsReadPast, IsRefusedBefore, IsNoTheorem}
+use Rattle.mm_check.specs.Alone.{LackLabel, IsReadPast, IsRefusedBefore}
 use Rattle.mm_check.specs.Answer.{plain_refusal}
 use Rattle.mm_check.specs.Faults.{IsMeaningRefusal}
 use Rattle.mm_check.specs.Mirror.Judged.{HasTaken, StopsTurn, TakesNext, RefusesLoad}
@@ -137,11 +136,6 @@ module _ (files : List PlainFile) (label : List ℕ) (p : Progress) (old : Remai
     meant = way.meant;
   }
 
-  -- none is left
-  pub none_found : (s : PlainStatement) (new : Remaining) → TakesNext old false s new
-      → IsNoTheorem files label A1
-  none_found s new none = (earlier, past [] None none.0 none.1)
-
   -- the files are refused
   refused_here : (refusal : Refusal) → StopsTurn files p old (stop.Refused refusal)
       → IsRefusedBefore files label (plain_refusal refusal)
@@ -165,10 +159,6 @@ module _ (files : List PlainFile) (label : List ℕ) (p : Progress) (old : Remai
 -- ---- the theorem
 
 module _ (files : List PlainFile) (label : List ℕ) (p : Progress) (taken : Taken) where
-  -- something was taken
-  pub found_some : (s : PlainStatement) → IsFound files label taken p s → 0 < p.count
-  found_some s found = omega (arith, found.has.count, length-append found.before (s ∷ []))
-
   -- it is a `$p`
   pub reached_as : (r : Reached) → IsFound files label taken p (plain_statement r.statement)
       → taken ≡ Assertion r.id → (plain_statement r.statement).kind ≡ kinds.Provable
@@ -193,19 +183,6 @@ module _ (files : List PlainFile) (label : List ℕ) (p : Progress) (taken : Tak
           provable = provable;
         };
       }
-
-  -- it is another statement
-  pub other_found : (s : PlainStatement) → IsFound files label taken p s
-      → ((id : LabelId) → taken ≡ Assertion id → s.kind ≡ kinds.Provable → ⊥)
-      → IsNoTheorem files label A2
-  other_found s found other = (
-    found.before,
-    s,
-    found.at,
-    λ provable. other (next_id (sentences found.before))
-        (subst (λ (k : Kind). TakenAs (sentences found.before) k taken) provable found.kind)
-        provable,
-  )
 
 -- ---- what is told
 

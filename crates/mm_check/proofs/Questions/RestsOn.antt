@@ -38,14 +38,6 @@ pub record IsMarkedBy (old new : List Bool) (numbers : List ℕ) : Type 0 where
   pub marked : (n : ℕ) → Contains numbers n → IsMarked new n
   pub only : (n : ℕ) → IsMarked new n → IsMarked old n ⊎ Contains numbers n
 
-pub marked_none : (old : List Bool) → IsMarkedBy old old []
-marked_none old = record {
-  same = refl;
-  kept = λ n h. h;
-  marked = λ n h. absurd (let at = at_from_contains [] n h in let there = at.1 in cc);
-  only = λ n h. inl h;
-}
-
 -- a list with the same numbers is as good
 pub marked_as : (old new : List Bool) (ns ms : List ℕ) → ((n : ℕ) → Contains ns n ↔ Contains ms n) → IsMarkedBy old new ns → IsMarkedBy old new ms
 marked_as old new ns ms same h = record {

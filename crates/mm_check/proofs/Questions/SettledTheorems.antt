@@ -15,7 +15,7 @@ use Rattle.mm_frame.proofs.Names.NameNumbers.{get_mapped}
 use Rattle.mm_text.proofs.Lists.{at_from_contains, contains_from_at, get_pushed}
 use Rattle.mm_proof.specs.Plain.{ids_in}
 use Rattle.mm_check.specs.Conclusion.{ProofUses, numbers_of}
-use Rattle.mm_check.specs.Rests.{AreRising, RestsOn}
+use Rattle.mm_check.specs.Rests.{RestsOn}
 use Rattle.mm_check.specs.Mirror.Bits.{has_bit}
 use Rattle.mm_check.specs.Mirror.Marks.{UsedIn, AreBackward}
 use Rattle.mm_check.proofs.Numbers.{holds_last, holds_cases}
@@ -194,13 +194,6 @@ rows_start uses numbers = record {
   below = λ i u within there. omega arith;
   settled = λ c x at. settled_none uses x (λ n. has_bit (slice_index_or [] n []) c) (λ n h. no_bits 0 c h);
 }
-
--- an empty row more says nothing
-pub pad_same : (rows : List (List ℕ)) (n : ℕ) → slice_index_or (rows ++ [] ∷ []) n [] ≡ slice_index_or rows n []
-pad_same [] zero = refl
-pad_same [] (suc n) = refl
-pad_same (r ∷ rows) zero = refl
-pad_same (r ∷ rows) (suc n) = pad_same rows n
 
 -- the row at the end is one more, and the others are as they were
 row_pushed : (rows : List (List ℕ)) (row : List ℕ) (n : ℕ) → n ≡ length rows → slice_index_or (rows ++ row ∷ []) n [] ≡ row

@@ -10,6 +10,7 @@ use Rattle.mm_text.specs.Statement.{PlainStatement, HasForm}
 use Rattle.mm_text.specs.Reading.{Reads}
 use Rattle.mm_text.specs.declared.statement.Kind.TheVariants.{Provable}
 use Rattle.mm_text.proofs.Lists.{all_at, all_push, at_from_contains}
+use Rattle.mm_text.proofs.Lists.{all_within}
 use Rattle.mm_frame.specs.Numbers.{labelled_sentences}
 use Rattle.mm_frame.specs.Sentence.{Sentence, sentence_of, IsLabelled}
 use Rattle.mm_check.specs.declared.compared.Compared.{Compared}
@@ -30,7 +31,7 @@ use Rattle.mm_check.specs.Mirror.Rereading.{label_count}
 use Rattle.mm_check.specs.Mirror.Shortening.{AreNewlyUsed}
 use Rattle.mm_frame.proofs.Names.NameNumbers.{get_unmapped}
 use Rattle.mm_check.proofs.Numbers.{count_labelled, in_order_same, rising_push}
-use Rattle.mm_check.proofs.Questions.AskedTheorems.{all_among, all_within}
+use Rattle.mm_check.proofs.Questions.AskedTheorems.{all_among}
 use Rattle.mm_check.proofs.Questions.ShorterProofs.{used_within}
 use Rattle.mm_check.proofs.Questions.TheoremsAgain.{labels_joined, labels_more, said_label}
 use Rattle.mm_check.proofs.Saving.SavedFiles.{provable_proof}
@@ -186,18 +187,6 @@ below_ids lines n k below among =
     let (line, there, is) = get_unmapped (λ (l : ShorterLine). l.id) lines at.0 k at.1 in
     let less = all_at (λ (l : ShorterLine). l.id < n) lines at.0 line below there in
     omega (arith, less, is)
-
-pub listed_none : (c : Conclusion) (list : Listing) → list.text.items ≡ [] → AreSums [] list.sums
-    → IsListedSoFar c [] list
-listed_none c list empty sums = record {
-  lines = [];
-  rising = λ i j a b less one other. absurd cc;
-  each = tt;
-  below = tt;
-  few = omega arith;
-  text = empty;
-  sums = sums;
-}
 
 -- other statements
 pub listed_past : (c : Conclusion) (taken more : List PlainStatement) (list : Listing)

@@ -21,6 +21,7 @@ use Rattle.mm_text.specs.Remaining.{Remaining}
 use Rattle.mm_text.specs.Remarks.{headings, is_heading, mathbox_at, IsSaidBefore}
 use Rattle.mm_text.proofs.Lists.{all_at, get_before, get_parted, get_pushed, get_set_cases}
 use Rattle.mm_text.proofs.Lists.{one_there, pushed_cases}
+use Rattle.mm_text.proofs.SaidBefore.{headings-zero}
 use Rattle.mm_frame.proofs.Names.LabelNumbers.{labelled_pass, labelled_push, numbered_fall, numbered_last}
 use Rattle.mm_frame.proofs.Names.LabelNumbers.{numbered_within}
 use Rattle.mm_frame.specs.Numbers.{labelled_sentences, IsNumbered}
@@ -50,10 +51,6 @@ headings_few (suc count) [] = omega arith
 headings_few (suc count) (b ∷ bytes) =
     one_more (is_heading (b ∷ bytes)) (headings count bytes) count (headings_few count bytes)
 
-pub headings_none : (bytes : List ℕ) → headings 0 bytes ≡ 0
-unfolding headings
-headings_none bytes = refl
-
 -- the bytes of the file with a number are those of the statements that begin in it
 pub bytes_home : (files : List PlainFile) (s : PlainStatement) (f : PlainFile)
     → slice_get files s.first.file ≡ Some f → f.bytes ≡ home_bytes files s
@@ -71,12 +68,6 @@ file_at (f ∷ files) (suc n) d file there =
     let rest = file_at files n d file there in
     let less = rest.0 in
     (omega arith, rest.1)
-
-pub file_there : (files : List File) (n : ℕ) (file : PlainFile)
-    → slice_get (map plain_file files) n ≡ Some file → n < length files
-file_there files n file there =
-    let within = slice_get_within (map plain_file files) n file there in
-    omega (arith, within, length-map files plain_file)
 
 pub within_file : (files : List File) (n at : ℕ) (d : File) (file : PlainFile)
     → slice_get (map plain_file files) n ≡ Some file → at < length file.bytes
@@ -143,7 +134,7 @@ passed_none files passed count begin = record {
       let at : p.at ≡ 0 = both.0 in
       record {
         within = omega arith;
-        mathbox = both.1 ∙ sym (ap (λ (k : ℕ). mathbox_at f.bytes k) at ∙ headings_none f.bytes);
+        mathbox = both.1 ∙ sym (ap (λ (k : ℕ). mathbox_at f.bytes k) at ∙ headings-zero f.bytes);
       };
 }
 

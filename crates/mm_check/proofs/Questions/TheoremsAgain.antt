@@ -251,18 +251,6 @@ module _ (files : List PlainFile) (taken : List PlainStatement) (old new : Rerea
       passed_one false unlabelled (omega (arith, count))
       (unlabelled_other (plain_statement new.statement) formed unlabelled)
 
--- no statement is left
-pub passed_all : (files : List PlainFile) (taken : List PlainStatement) (old new : Rereading)
-    (s : PlainStatement) → TakesNext old.statements false s new.statements
-    → HasPassed files taken old → GoesTo files taken None new
-passed_all files taken old new s end passed =
-    let all = rw end.0 at passed.read.reads in (
-      passed.between,
-      passed.none,
-      subst (λ (ss : List PlainStatement). Reads files ss None)
-          (append-nil (taken ++ passed.between)) all,
-    )
-
 -- ---- the theorem that is met
 
 module _ (files : List PlainFile) (met : List PlainStatement) (id : ℕ) (r : Rereading)

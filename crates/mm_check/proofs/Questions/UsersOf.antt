@@ -18,6 +18,7 @@ use Rattle.mm_frame.proofs.Names.NameNumbers.{get_mapped}
 use Rattle.mm_frame.proofs.Names.LabelNumbers.{numbered_within}
 use Rattle.mm_text.specs.Statement.{PlainStatement}
 use Rattle.mm_text.proofs.Lists.{take_next, get_from_take, at_from_contains, contains_from_at}
+use Rattle.mm_text.proofs.Lists.{all_within}
 use Rattle.mm_proof.specs.Plain.{ids_in}
 use Rattle.mm_check.specs.Conclusion.{ProofUses, Conclusion, numbers_of, labels_in}
 use Rattle.mm_check.specs.Answer.{IsKeptOf}
@@ -27,7 +28,7 @@ use Rattle.mm_check.specs.Verdict.{sentences}
 use Rattle.mm_check.specs.Mirror.Marks.{IsMarked, UsedIn, AreBackward}
 use Rattle.mm_check.proofs.Numbers.{holds_last, holds_cases, in_order_same, count_labelled}
 use Rattle.mm_check.proofs.Questions.RestsOn.{taken, marked_set, marked_within, among_more}
-use Rattle.mm_check.proofs.Questions.AskedTheorems.{used_is, rests_as, all_within}
+use Rattle.mm_check.proofs.Questions.AskedTheorems.{used_is, rests_as}
 use Rattle.mm_frame.specs.Sentence.{Sentence}
 
 -- ==== the users of an assertion

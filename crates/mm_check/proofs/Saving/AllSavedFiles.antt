@@ -1,5 +1,6 @@
 -- Files in which the proofs of all theorems of one file are put in, from the last one to the first;
--- doing so again changes nothing.
+-- doing so again changes nothing, these proofs have the strict form, and in small form the file is
+-- no longer.
 use Rattle.std.proofs.Common.{◌≡◌, ℕ, ◌+◌, List, [], ◌∷◌, ◌++◌, map, take, length, cond}
 use Rattle.std.proofs.Common.{slice_get, Bool, true, false, Some, None, refl, sym, ap, subst, ◌∙◌}
 use Rattle.std.proofs.Common.{append_assoc, length-append, Contains, ◌⊎◌, inl, inr}
@@ -41,6 +42,16 @@ use Rattle.mm_check.proofs.Saving.SavedOnce.{IsToPut, to_put, anew, are_put_anew
 use Rattle.mm_check.proofs.Saving.SavedOnce.{put_says_alike, HasText, text_carried, one_all_saved}
 use Rattle.std.proofs.lemmas.List.Elements.{recursion_from_All, All-contains_itself}
 use Rattle.std.proofs.lemmas.Option.{same_Some}
+use Rattle.std.proofs.Common.{◌≤◌, drop}
+use Rattle.std.proofs.Common.{◌-◌, arith}
+use Rattle.std.proofs.lemmas.List.{length-take}
+use Rattle.mm_check.specs.AllSavedLaws.{AllSavedProofsAreStrict}
+use Rattle.mm_check.specs.AllSavedLaws.{AllSmallFilesDoNotGrow}
+use Rattle.mm_check.proofs.Saving.FileSpans.{spans_rise}
+use Rattle.mm_check.proofs.Saving.ReplacedSpans.{spans_within, replaced_no_longer}
+use Rattle.mm_check.proofs.Saving.SpanTexts.{small_no_longer}
+use Rattle.mm_check.proofs.Saving.OtherStatements.{along_at}
+use Rattle.mm_check.specs.declared.form.Form.TheVariants as form
 
 -- ==== files in which the proofs of all theorems of one file are put in, from the last one to the
 -- first
@@ -513,3 +524,49 @@ saving_all_again_changes_nothing profile f files statements same number bytes ac
       λ others sw. sym (one_all_saved profile f anew put.same number bytes others
           put.accepted own (rw read at sw)),
     )
+
+-- ==== in small form the file is no longer
+
+-- no text is longer than the span of its theorem
+small_texts : (bytes : List ℕ) (statements theorems : List PlainStatement)
+    (news : List Replacement)
+    → AllZip (IsReplacement form.Small bytes statements) theorems news
+    → AllByRecursion (λ new. length new.text ≤ new.span.1 - new.span.0) news
+small_texts bytes statements [] [] each = tt
+small_texts bytes statements [] (new ∷ news) each = absurd each
+small_texts bytes statements (s ∷ theorems) [] each = absurd each
+small_texts bytes statements (s ∷ theorems) (new ∷ news) (r, each) =
+    let less = small_no_longer _ _ _ (within_span bytes s.span) new.text r.laid in
+    let long = length-take (s.span.1 - s.span.0) (drop s.span.0 bytes) in
+    let start : new.span.0 ≡ s.span.0 = ap (λ (n : ℕ × ℕ). n.0) r.span in
+    let stop : new.span.1 ≡ s.span.1 = ap (λ (n : ℕ × ℕ). n.1) r.span in
+    (omega (arith, less, long, start, stop), small_texts bytes statements theorems news each)
+
+pub all_small_no_longer : AllSmallFilesDoNotGrow
+all_small_no_longer profile files statements number bytes accepted sv =
+    let theorems : List PlainStatement = theorems_of number statements in
+    let R : PlainStatement → Replacement → Type 0 =
+    IsReplacement form.Small sv.file.bytes statements in
+    let rise = spans_rise files statements number sv.file accepted.reads sv.handed in
+    let spans = spans_within 0 (length sv.file.bytes) theorems sv.replaced rise
+    (zip_weaker R (λ s new. new.span ≡ s.span) (λ s new r. r.span) theorems sv.replaced sv.each) in
+    let less = replaced_no_longer 0 (length sv.file.bytes) sv.file.bytes sv.replaced spans
+    (omega arith) (small_texts sv.file.bytes statements theorems sv.replaced sv.each) in
+    (sv.file, sv.handed, rw sv.whole less)
+
+-- ==== the proofs that saving whole files puts in have the strict form
+
+pub all_saved_proofs_are_strict : AllSavedProofsAreStrict
+all_saved_proofs_are_strict profile f files statements same number bytes accepted sv fits reads
+    label index s theorem home =
+    let put = are_all_put profile f files statements number bytes accepted sv fits in
+    let read : same ≡ put.same =
+    (same_reading (with_bytes files number bytes) same put.same None None reads
+    put.accepted.reads).0 in
+    let there = ap (λ (ss : List PlainStatement). slice_get ss index) (sym read) ∙ theorem.there in
+    let (t, here, saved) =
+    along_at (IsSavedAs f number) [] statements put.same put.each index s there in
+    elim (saved.strict (theorem_there number s theorem.complete home)) [
+      | inl strict ↦ inl (rw read strict)
+      | inr kept ↦ inr (kept.0, t, here, kept.1)
+    ]

@@ -8,7 +8,7 @@ use Rattle.std.specs.List.{AllZip, AllByRecursion}
 use Rattle.std.proofs.lemmas.Bool.{and_parts, eqb-true}
 use Rattle.std.proofs.lemmas.List.Elements.{filter-append}
 use Rattle.mm_text.specs.Statement.{PlainStatement, is_provable}
-use Rattle.mm_text.specs.Replaced.{placeless, with_span, with_bytes, IsProofSpan, IsMoved}
+use Rattle.mm_text.specs.Replaced.{placeless, with_span, with_bytes, IsMoved}
 use Rattle.mm_proof.specs.Tokens.{is_incomplete}
 use Rattle.mm_frame.specs.Sentence.{sentence_of}
 use Rattle.mm_proof.specs.Tree.{Trees, none, tree}
@@ -91,20 +91,6 @@ theorems_zip number R S alike step (s ∷ after) (t ∷ later) zip =
     both true true same is rest = (step s t is zip.0, rest)
     both false false same is rest = rest
     both _ _ same is rest = absurd cc
-
--- what is said of each statement that is a theorem is said of each theorem
-pub each_theorem : (number : ℕ) (P : PlainStatement → Type 0) (statements : List PlainStatement)
-    → AllByRecursion (λ s. is_theorem_of number s ≡ true → P s) statements
-    → AllByRecursion P (theorems_of number statements)
-each_theorem number P [] each = tt
-each_theorem number P (s ∷ statements) (own, each) =
-    by (is_theorem_of number s) refl (each_theorem number P statements each)
-  where
-    by : (b : Bool) → is_theorem_of number s ≡ b → AllByRecursion P (theorems_of number statements)
-        → AllByRecursion P (cond b (s ∷ theorems_of number statements)
-        (theorems_of number statements))
-    by true is rest = (own is, rest)
-    by false is rest = rest
 
 -- where one is no theorem, those up to it are those before it
 pub theorems_passed : (number : ℕ) (before : List PlainStatement) (s : PlainStatement)
@@ -480,17 +466,6 @@ pub cut_into_slots : (R : PlainStatement → Replacement → Type 0)
 cut_into_slots R files statements number file news reads there zip =
     cut_at R 0 file.bytes (theorems_of number statements) news zip
     (rw zero-add (spans_rise files statements number file reads there))
-
--- those behind a proof that is replaced say what they said
-pub theorems_said : (number : ℕ) (after later : List PlainStatement)
-    → map placeless after ≡ map placeless later
-    → AllZip (λ s t. sentence_of s ≡ sentence_of t) (theorems_of number after)
-    (theorems_of number later)
-theorems_said number after later same =
-    theorems_zip number (λ s t. placeless s ≡ placeless t) (λ s t. sentence_of s ≡ sentence_of t)
-    (theorem_placeless number) (λ s t is alike. same_sentence nowhere nowhere s t alike) after later
-    (mapped_zip placeless placeless (λ s t. placeless s ≡ placeless t) (λ s t alike. alike) after
-    later same)
 
 -- and their proofs are as far behind it as they were
 pub theorems_moved : (number end other_end : ℕ) (after later : List PlainStatement)

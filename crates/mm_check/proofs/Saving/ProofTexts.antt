@@ -1,77 +1,60 @@
 -- A text in a form is a proof of its theorem; that of a packed proof tells its labels and its codes,
--- so such texts tell whether two proofs are the same (`packed_texts_tell`), and is small enough to
--- be written.
+-- so such texts tell whether two proofs are the same (`packed_texts_tell`).
 use Rattle.std.proofs.Common.{◌≡◌, ◌≢◌, ℕ, ◌+◌, ◌≤◌, ◌==◌, ◌||◌, ◌&&◌, List, [], ◌∷◌, ◌++◌, map}
 use Rattle.std.proofs.Common.{Bool, true, false, refl, sym, subst, ◌∙◌, arith, append_assoc}
-use Rattle.std.proofs.Common.{append-nil, Contains, ◌↔◌, zero, suc, take, None, inl, inr, ap, ◌<◌}
-use Rattle.std.proofs.Common.{min, length, Option, Some, option_map, unwrap_or}
+use Rattle.std.proofs.Common.{append-nil, Contains, ◌↔◌, zero, suc, take, None, inl, inr, ap}
 use Rattle.std.specs.Prelude.{nat_le}
-use Rattle.std.specs.List.{AllByRecursion, AllZip, flat_map, list_all, list_any, sum_by}
+use Rattle.std.specs.List.{AllByRecursion, AllZip, flat_map, list_all, list_any}
 use Rattle.std.proofs.lemmas.Bool.{leb-true, eqb-true, le-leb, ne_eqb, and_parts}
 use Rattle.mm_text.specs.Token.{PlainToken, is_space, is_printable, is_label_byte, IsLabel}
 use Rattle.mm_text.specs.Token.{HoldsNoDollar, tokens_from}
 use Rattle.mm_text.specs.Replaced.{IsProofToken, IsProofText}
 use Rattle.mm_text.proofs.Reader.OneToken.{label_held, label_bytes}
 use Rattle.mm_text.proofs.Lists.{all_append, all_prefix, all_back, all_weaker, contains_from_at}
-use Rattle.mm_text.proofs.Lists.{same_length}
+use Rattle.mm_text.proofs.Lists.{all_within}
 use Rattle.mm_code.specs.declared.code.Code.{Code}
 use Rattle.mm_code.specs.declared.code.Code.TheVariants.{Number, Tag}
 use Rattle.mm_code.specs.Letters.{IsLeadingDigit, leading_letter, last_letter, SaysCode}
-use Rattle.mm_code.specs.Letters.{SpellsCodes, Letters, HasSpelling, code_for, largest}
+use Rattle.mm_code.specs.Letters.{SpellsCodes, Letters}
 use Rattle.mm_code.specs.Layout.{indent, token_line, LaidOut, CompressedLaidOut, in_parentheses}
 use Rattle.mm_code.specs.Words.{texts_of, tokens_in, LacksWhiteSpace, IsOneToken}
 use Rattle.mm_code.proofs.ReadBack.{texts_in, tokens_in-space, normal_read_back}
 use Rattle.mm_code.proofs.ReadBack.{compressed_read_back}
 use Rattle.mm_proof.specs.Tokens.{is_incomplete, SayMoves, IsNormal, opening_token, closing_token}
-use Rattle.mm_proof.specs.Tokens.{IsCompressed, Says}
+use Rattle.mm_proof.specs.Tokens.{IsCompressed}
 use Rattle.mm_frame.specs.Sentence.{Sentence, SomeSentence, IsLabelled}
 use Rattle.mm_frame.specs.Form.{AllFormed}
 use Rattle.mm_frame.specs.Rules.{AllMeant}
-use Rattle.mm_frame.proofs.BookLists.ReadLabels.{label_named, those_few}
+use Rattle.mm_frame.proofs.BookLists.ReadLabels.{label_named}
 use Rattle.mm_proof.specs.Tree.{Trees, none, tree, spelling, TreesFit, DeriveAll}
-use Rattle.mm_proof.specs.Moves.{Move, Makes, name, again, mark}
+use Rattle.mm_proof.specs.Moves.{Move, Makes}
 use Rattle.mm_proof.specs.OneTree.{MakeTree, MakeSameTree}
-use Rattle.mm_proof.specs.Proof.{IsProvedWithin, IsWhole}
+use Rattle.mm_proof.specs.Proof.{IsProvedWithin}
 use Rattle.mm_proof.specs.Strict.{IsStrict}
 use Rattle.mm_proof.proofs.ProofSteps.Derivations.{makes_once}
 use Rattle.mm_proof.proofs.ProofTokens.SaidMoves.{moves_once, compressed_once}
 use Rattle.mm_proof.proofs.PackedProofs.WrittenProofs.{normal_is_strict, packed_is_strict}
 use Rattle.mm_proof.proofs.PackedProofs.WrittenProofs.{label_fits, stands_known, IsProofBy}
 use Rattle.mm_proof.proofs.PackedProofs.WrittenProofs.{spelled_proves, packed_listed, packed_proves}
-use Rattle.mm_proof.proofs.SmallProofs.MadeBySmall.{small_makes, small_known, small_keeps_few}
+use Rattle.mm_proof.proofs.SmallProofs.WrittenSmallProofs.{small_known}
 use Rattle.mm_proof.proofs.SmallProofs.WrittenSmallProofs.{small_proves, small_text_is_strict}
-use Rattle.mm_proof.proofs.SmallProofs.SomeSmallProof.{some_small_holds}
-use Rattle.mm_code.proofs.SmallLines.{some_small_layout}
-use Rattle.mm_proof.proofs.SmallProofs.OneSmallProof.{small_is_strict_holds}
 use Rattle.mm_code.proofs.SmallReadBack.{small_read_back}
 use Rattle.mm_code.proofs.SmallEnds.{small_begins, small_ends}
 use Rattle.mm_check.specs.declared.form.Form.{Form}
 use Rattle.mm_check.specs.Forms.{IsPackedText, IsSmallBehind}
 use Rattle.mm_check.specs.Saved.{IsSpanText, indent_of}
-use Rattle.mm_check.proofs.Questions.AskedTheorems.{all_within, map-take}
-use Rattle.mm_code.proofs.LaidOutLines.{one_text_of_compressed, some_compressed_layout}
-use Rattle.mm_code.proofs.OneSpelling.{one_text_only, one_reading_only, some_text}
-use Rattle.mm_proof.specs.Sharing.{AreFirstUses, PairMakes}
+use Rattle.mm_check.proofs.Questions.AskedTheorems.{map-take}
+use Rattle.mm_code.proofs.LaidOutLines.{one_text_of_compressed}
+use Rattle.mm_code.proofs.OneSpelling.{one_text_only, one_reading_only}
+use Rattle.mm_proof.specs.Sharing.{AreFirstUses}
 use Rattle.mm_proof.proofs.Machines.TreeWords.{made_word}
-use Rattle.mm_proof.proofs.FullSharing.OneSharedProof.{told_by_packed_holds, uses_apart}
-use Rattle.mm_proof.proofs.FullSharing.OneSharedProof.{some_packed_holds}
+use Rattle.mm_proof.proofs.FullSharing.OneSharedProof.{told_by_packed_holds}
 use Rattle.mm_text.proofs.Reader.WholeReadings.{readings_are_formed_in_place}
 use Rattle.mm_frame.proofs.Rules.ObeyedRules.{allformed_prefix, allmeant_prefix}
 use Rattle.mm_check.specs.Verdict.{sentences}
 use Rattle.mm_check.specs.FormLaws.{PackedTextsTell}
 use Rattle.mm_check.proofs.Verdicts.OneVerdict.{formed_sentences}
 use Rattle.mm_check.proofs.Verdicts.StatementByStatement.{all_meant}
-use Rattle.std.proofs.Math.Nat.{min-eq_left}
-use Rattle.std.proofs.lemmas.List.{length-map, length-append}
-use Rattle.std.proofs.lemmas.List.Elements.{All-from_recursion}
-use Rattle.std.proofs.lemmas.Option.{slice_get_within, slice_get-map}
-use Rattle.mm_text.specs.Files.{most_bytes}
-use Rattle.mm_frame.specs.Frame.{IsMandatoryAt}
-use Rattle.mm_proof.proofs.FullSharing.FewestSteps.{length_within}
-use Rattle.mm_proof.proofs.FullSharing.FewestKept.{few_kept}
-use Rattle.mm_proof.proofs.ProofTokens.CodeLetters.{said_moves}
-use Rattle.mm_proof.proofs.Members.{In, Once, get_in, in_contains, indices_once}
-use Rattle.mm_proof.proofs.FullSharing.OneSharing.{kept_stays}
 use Rattle.mm_check.specs.declared.form.Form.TheVariants as form
 
 -- ==== the tokens of a text that is laid out in lines are those of a proof
@@ -486,201 +469,3 @@ packed_texts profile files statements index s moves others l m a b text other ac
     let meant : AllMeant (sentences statements) = all_meant profile statements accepted.obeyed in
     told_by_texts before s moves others l m a b text other (subst AllMeant (sym prefix) (allmeant_prefix (sentences statements) index meant))
     (subst AllFormed (sym prefix) (allformed_prefix (sentences statements) index formed)) made made' p q
-
--- ==== the fully shared proof of a theorem's tree is small enough to be written: it lists no more
--- labels than there are statements, and keeps no more trees than the theorem's own proof has bytes
-
--- ---- the labels
-
--- a label, or none at all
-abbrev name_or_none : Sentence → List ℕ
-name_or_none s = unwrap_or s.label []
-
--- Listed labels are no more than the statements: each is that of one, and none stands twice.
-few_listed : (before : List Sentence) (listed : List (List ℕ)) → Once listed
-    → ((label : List ℕ) → Contains listed label → SomeSentence before (IsLabelled label))
-    → length listed ≤ length before
-few_listed before listed once named =
-    let names : List (List ℕ) = map name_or_none before in
-    let known : (label : List ℕ) → In listed label → In names label = λ label has.
-    let (index, t, there, is) = named label (in_contains listed label has) in
-    get_in names index label
-    (slice_get-map name_or_none before index ∙ ap (option_map name_or_none) there
-    ∙ ap (λ (o : Option (List ℕ)). Some (unwrap_or o [])) is) in
-    let most = length_within listed names once known in
-    omega (arith, most, length-map before name_or_none)
-
--- ---- the codes
-
-abbrev IsTagBelow : ℕ → Move (List ℕ) → Type 0
-IsTagBelow most (name label) = Unit {0}
-IsTagBelow most (again tag) = tag < most
-IsTagBelow most mark = Unit {0}
-
--- each tag is that of a kept tree
-tags_below : (before : List Sentence) (moves : List (Move (List ℕ))) (row : Trees)
-    (kept : List Trees) (row' : Trees) (kept' : List Trees)
-    → Makes before moves row kept row' kept'
-    → AllByRecursion (IsTagBelow (length kept')) moves
-tags_below before [] row kept row' kept' m = tt
-tags_below before (again tag ∷ moves) row kept row' kept' m = (
-  slice_get_within kept' tag m.2.0
-      (kept_stays before (again tag ∷ moves) row kept row' kept' m tag m.2.0 m.2.1),
-  tags_below before moves m.0 m.1 row' kept' m.3,
-)
-tags_below before (move ∷ moves) row kept row' kept' m =
-    (tt, tags_below before moves m.0 m.1 row' kept' m.3)
-
--- the number is from 1 on and within the most
-abbrev IsWithinMost : ℕ → Code → Type 0
-IsWithinMost most (Number number) = (1 ≤ number) × (number ≤ most)
-IsWithinMost most Tag = Unit {0}
-
-says_within : (labels : List (List ℕ)) (count most : ℕ) (code : Code) (move : Move (List ℕ))
-    → length labels + count ≤ most → Says labels code move → IsTagBelow count move
-    → IsWithinMost most code
-says_within labels count most (Number number) move room
-    (index, at, inl (label, there, same)) below =
-    let within : index < length labels = slice_get_within labels index label there in
-    (omega (arith, at), omega (arith, at, within, room))
-says_within labels count most (Number number) move room (index, at, inr (tag, far, same)) below =
-    let less : tag < count = subst (IsTagBelow count) same below in
-    (omega (arith, at), omega (arith, at, far, less, room))
-says_within labels count most Tag move room said below = tt
-
-lengths_within : (labels : List (List ℕ)) (count most : ℕ) (codes : List Code)
-    (moves : List (Move (List ℕ))) → length labels + count ≤ most
-    → AllZip (Says labels) codes moves → AllByRecursion (IsTagBelow count) moves
-    → AllByRecursion (IsWithinMost most) codes
-lengths_within labels count most [] [] room said below = tt
-lengths_within labels count most (code ∷ codes) (move ∷ moves) room said below = (
-  says_within labels count most code move room said.0 below.0,
-  lengths_within labels count most codes moves room said.1 below.1,
-)
-lengths_within labels count most codes moves room said below = absurd said
-
-within_spelled : (code : Code) → IsWithinMost largest code → HasSpelling code
-within_spelled (Number number) within = within.0
-within_spelled Tag within = tt
-
--- each stands for itself
-within_exact : (codes : List Code) → AllByRecursion (IsWithinMost largest) codes
-    → codes ≡ map code_for codes
-within_exact [] within = refl
-within_exact (Number number ∷ codes) within =
-    let same : number ≡ min number largest = sym (min-eq_left within.0.1) in
-    λ i. Number (same i) ∷ within_exact codes within.1 i
-within_exact (Tag ∷ codes) within =
-    ap (λ (cs : List Code). Tag ∷ cs) (within_exact codes within.1)
-
--- ---- so there is a text
-
--- The labels and the kept trees of a pair are few enough, where the statements are, and so are the
--- bytes of some proof with no fewer moves than the pair keeps trees.
-are_few : (before : List Sentence) (s : Sentence) (trees : Trees) (listed : List (List ℕ))
-    (codes : List Code) (p : PairMakes before s trees listed codes) (tokens : List (List ℕ))
-    (moves : List (Move (List ℕ))) → AllFormed before → IsWhole before tokens
-    → SayMoves before s tokens moves → length listed ≤ length before
-    → length p.kept ≤ length moves → length before ≤ most_bytes
-    → sum_by length tokens ≤ most_bytes
-    → length (p.says.labels ++ listed) + length p.kept ≤ largest
-are_few before s trees listed codes p tokens moves formed whole said listed_few kept_few few room =
-    omega (
-      arith,
-      few,
-      room,
-      listed_few,
-      kept_few,
-      length-append p.says.labels listed,
-      same_length (λ (h : Sentence). h.label) (λ (l : List ℕ). Some l) p.says.hypotheses
-          p.says.labels p.says.labelled,
-      those_few (IsMandatoryAt before s) 0 before p.says.hypotheses p.says.mandatory,
-      said_moves before s tokens moves formed whole said,
-    )
-
--- so the codes have letters
-some_letters : (before : List Sentence) (s : Sentence) (trees : Trees) (listed : List (List ℕ))
-    (codes : List Code) (p : PairMakes before s trees listed codes)
-    → length (p.says.labels ++ listed) + length p.kept ≤ largest
-    → (letters : List ℕ) × SpellsCodes letters codes × Letters letters codes
-some_letters before s trees listed codes p many =
-    let labels : List (List ℕ) = p.says.labels in
-    let within : AllByRecursion (IsWithinMost largest) codes =
-    lengths_within (labels ++ listed) (length p.kept) largest codes p.moves many p.says.each
-    (tags_below before p.moves none [] trees p.kept p.made) in
-    let spelled = all_weaker (IsWithinMost largest) HasSpelling within_spelled codes within in
-    let (letters, spells) = some_text codes (All-from_recursion HasSpelling codes spelled) in (
-      letters,
-      spells,
-      record { spelled = codes; spells = spells; are_codes = within_exact codes within },
-    )
-
--- a proof of the tree whose bytes are few
-pub record IsFewBytes (before : List Sentence) (s : Sentence) (trees : Trees) : Type 0 where
-  pub tokens : List (List ℕ)
-  pub moves : List (Move (List ℕ))
-  pub kept : List Trees
-  pub whole : IsWhole before tokens
-  pub said : SayMoves before s tokens moves
-  pub made : Makes before moves none [] trees kept
-  pub few : length before ≤ most_bytes
-  pub room : sum_by length tokens ≤ most_bytes
-
-pub some_packed_text : (before : List Sentence) (s : Sentence) (root : List ℕ) (below : Trees)
-    → AllFormed before → TreesFit before (tree root below none)
-    → IsFewBytes before s (tree root below none)
-    → (text : List ℕ) × IsPackedText before s (tree root below none) text
-some_packed_text before s root below formed fit b =
-    let trees : Trees = tree root below none in
-    let (listed, codes, p) = some_packed_holds before s root below formed fit in
-    let makes : PairMakes before s trees listed codes =
-    record { moves = p.moves; says = p.says; kept = p.shared.kept; made = p.shared.made } in
-    let listed_few = few_listed before listed
-    (uses_apart (spelling trees) p.says.labels listed p.uses).0 (λ label c.
-    let f = label_fits before trees label fit (packed_listed before s trees listed codes label p c)
-    in stands_known before label f.0 f.1) in
-    let many = are_few before s trees listed codes makes b.tokens b.moves formed b.whole b.said
-    listed_few (few_kept before trees p.moves b.moves b.kept p.shared b.made) b.few b.room in
-    let (letters, spells, coded) = some_letters before s trees listed codes makes many in
-    let (text, laid) = some_compressed_layout listed letters in (
-      text,
-      record {
-        listed = listed;
-        codes = codes;
-        letters = letters;
-        packed = p;
-        spelled = spells;
-        coded = coded;
-        laid = laid;
-      },
-    )
-
--- and so there is one in small form, behind any indent
-pub some_small_behind : (indent : ℕ) (before : List Sentence) (s : Sentence) (root : List ℕ)
-    (below : Trees) → AllMeant before → AllFormed before → TreesFit before (tree root below none)
-    → IsFewBytes before s (tree root below none)
-    → (text : List ℕ) × IsSmallBehind indent before s (tree root below none) text
-some_small_behind indent before s root below meant formed fit b =
-    let trees : Trees = tree root below none in
-    let (listed, codes, p) = some_small_holds before s root below meant formed fit in
-    let makes = small_makes before s root below listed codes p in
-    let strict = small_is_strict_holds before s root below listed codes p in
-    let listed_few = few_listed before listed (indices_once listed strict.0.once) (λ label c.
-    let f = label_fits before trees label fit (small_known before s root below listed codes p label c)
-    in stands_known before label f.0 f.1) in
-    let many = are_few before s trees listed codes makes b.tokens b.moves formed b.whole b.said
-    listed_few (small_keeps_few before s root below listed codes p b.moves b.kept b.made) b.few
-    b.room in
-    let (letters, spells, coded) = some_letters before s trees listed codes makes many in
-    let (text, laid) = some_small_layout indent listed letters in (
-      text,
-      record {
-        listed = listed;
-        codes = codes;
-        letters = letters;
-        small = p;
-        spelled = spells;
-        coded = coded;
-        laid = laid;
-      },
-    )

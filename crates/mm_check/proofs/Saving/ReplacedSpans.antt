@@ -48,12 +48,6 @@ length-with_span n xs span text before start =
 
 -- ---- several spans
 
-replaced_rise : (start stop : ℕ) (news : List Replacement) → AreSpansWithin start stop news
-    → start ≤ stop
-replaced_rise start stop [] h = h
-replaced_rise start stop (new ∷ news) h =
-    omega (arith, h.0, h.1, replaced_rise new.span.1 stop news h.2)
-
 -- what stands before the first of them is kept
 prefix_kept : (start stop : ℕ) (xs : List ℕ) (news : List Replacement)
     → AreSpansWithin start stop news → stop ≤ length xs

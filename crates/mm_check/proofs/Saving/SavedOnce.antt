@@ -1,14 +1,14 @@
 -- Saving changes nothing that is answered, saving again changes nothing, and what is saved is one.
-use Rattle.std.proofs.Common.{◌≡◌, ℕ, suc, ◌+◌, ◌≤◌, ◌<◌, List, [], ◌∷◌, ◌++◌, map, take, drop}
+use Rattle.std.proofs.Common.{◌≡◌, ℕ, suc, ◌+◌, List, [], ◌∷◌, ◌++◌, map, take, drop}
 use Rattle.std.proofs.Common.{length, slice_get, true, Some, None, inl, inr, refl, sym, ap, subst}
-use Rattle.std.proofs.Common.{◌∙◌, ◌⊎◌, arith, is_some}
+use Rattle.std.proofs.Common.{◌∙◌, ◌⊎◌, arith}
 use Rattle.std.specs.List.{AllZip}
 use Rattle.std.proofs.Math.Seq.{take-append_seam}
 use Rattle.std.proofs.lemmas.Option.{same_Some, slice_get_within}
 use Rattle.std.proofs.lemmas.List.{length-take-le}
 use Rattle.mm_text.specs.declared.statement.Kind.TheVariants.{Provable}
 use Rattle.mm_text.specs.Statement.{PlainStatement}
-use Rattle.mm_text.specs.Files.{most_bytes, PlainFile}
+use Rattle.mm_text.specs.Files.{PlainFile}
 use Rattle.mm_text.specs.Reading.{Reads}
 use Rattle.mm_text.specs.Replaced.{placeless, with_span, with_bytes, IsProofSpan, IsMoved}
 use Rattle.mm_text.specs.Replaced.{IsProofText}
@@ -18,9 +18,8 @@ use Rattle.mm_text.proofs.Replaced.ReplacedFiles.{replaced_proofs_are_read_holds
 use Rattle.mm_text.proofs.Replaced.ProofSpans.{proofs_stand_in_spans_holds}
 use Rattle.mm_frame.specs.Sentence.{Sentence, sentence_of, IsLabelled}
 use Rattle.mm_frame.specs.Rules.{AllMeant}
-use Rattle.mm_frame.specs.Numbers.{labelled_sentences}
 use Rattle.mm_frame.proofs.Rules.ObeyedRules.{allmeant_prefix, one_label}
-use Rattle.mm_proof.specs.Tree.{Trees, none, tree, spelling, AnyExpression}
+use Rattle.mm_proof.specs.Tree.{Trees, none, tree, AnyExpression}
 use Rattle.mm_proof.specs.Moves.{Move, Makes}
 use Rattle.mm_proof.specs.Tokens.{SayMoves}
 use Rattle.mm_proof.specs.OneTree.{MakeTree}
@@ -32,19 +31,18 @@ use Rattle.mm_proof.proofs.ProofSteps.Derivations.{makes_once, derive_fits, zip_
 use Rattle.mm_proof.specs.UnderProfile.{IsProvedUnder}
 use Rattle.mm_proof.proofs.ProofTokens.SaidMoves.{moves_once}
 use Rattle.mm_check.specs.declared.form.Form.{Form}
-use Rattle.mm_check.specs.declared.rule.AskRule.TheVariants.{A1, A2, A3, L2}
 use Rattle.mm_check.specs.Verdict.{AreAccepted, AllObey, Obeys, sentences, proof_of, is_proof}
-use Rattle.mm_check.specs.Rests.{IsNamed, tree_of}
+use Rattle.mm_check.specs.Rests.{tree_of}
 use Rattle.mm_check.specs.Compared.{IsTheorem}
-use Rattle.mm_check.specs.Forms.{HasProofTree, most_labels}
-use Rattle.mm_check.specs.Saved.{IsSpanText, within_span, IsSaved, FitsSaved, total_with}
+use Rattle.mm_check.specs.Forms.{HasProofTree}
+use Rattle.mm_check.specs.Saved.{IsSpanText, within_span, IsSaved, FitsSaved}
 use Rattle.mm_check.specs.SavedLaws.{SavingChangesNoAnswer, SavedProofIsStrict, OneSaved}
-use Rattle.mm_check.specs.SavedLaws.{OneSaveAnswer, SavingAgainChangesNothing, IsKeptProof}
+use Rattle.mm_check.specs.SavedLaws.{SavingAgainChangesNothing, IsKeptProof}
 use Rattle.mm_check.specs.SavedLaws.{SmallFilesDoNotGrow}
 use Rattle.mm_check.proofs.Verdicts.AlikeVerdicts.{moved}
 use Rattle.mm_check.proofs.Questions.AskedTheorems.{map-take}
 use Rattle.mm_check.proofs.Verdicts.OneVerdict.{formed_before}
-use Rattle.mm_check.proofs.Verdicts.AcceptedStatements.{same_reading, said_there, one_stands}
+use Rattle.mm_check.proofs.Verdicts.AcceptedStatements.{same_reading, said_there}
 use Rattle.mm_check.proofs.Saving.SavedFiles.{provable_proof, put_anew, IsProvedAnew, proved_anew}
 use Rattle.mm_check.proofs.Saving.SavedFiles.{proved_as_before, IsKept, with_bytes_own}
 use Rattle.mm_check.proofs.Saving.SavedFiles.{anew_alike, alike_turned, carries_of, all_obey_anew}
@@ -59,8 +57,6 @@ use Rattle.mm_check.proofs.Saving.ProofTexts.{ReadsAsProof, KeepsBytes, span_rea
 use Rattle.mm_check.proofs.Saving.ProofTexts.{tree_is}
 use Rattle.mm_check.specs.AllSaved.{Replacement, IsReplacement, theorems_of, with_replaced}
 use Rattle.mm_check.specs.AllSavedLaws.{OneAllSaved}
-use Rattle.mm_check.specs.declared.form.Form.TheVariants as form
-use Rattle.mm_check.specs.declared.ask.AskFault.TheVariants as ask
 
 -- ==== saving changes nothing that is answered, and saving again changes nothing
 
@@ -428,42 +424,6 @@ one_saved profile f files statements label number other bytes others accepted sv
     sv.proof sw.proof sv.laid (rw old at sw.laid) in
     (home, sv.whole ∙ (λ i. with_span (file i).bytes (sym same i).span (put i)) ∙ sym sw.whole)
 
--- ---- no other fault where something is saved
-
-numbered_so : (statements : List PlainStatement) (index : ℕ) (s : PlainStatement) (label : List ℕ) → slice_get statements index ≡ Some s → IsLabelled label (sentence_of s)
-    → (id : ℕ) × IsNamed statements label (λ t. Unit {0}) id
-numbered_so statements index s label there named = (
-  length (labelled_sentences (take index (sentences statements))),
-  (index, s, record { there = there; numbered = record { there = said_there statements index s there; named = ap is_some named; number = refl } }, (named, tt)),
-)
-
-pub not_over : (n : ℕ) → n ≤ most_labels → most_labels < n → ⊥
-not_over n h k = omega (arith, h, k)
-
-pub one_save_answer : OneSaveAnswer
-one_save_answer profile form.Normal files statements label number bytes (ask.Rule L2) accepted sv (index, t, root, below, has, over) =
-    let (here, (same, trees)) = one_proof_tree profile statements label sv.index index sv.s t sv.root root sv.below below accepted.obeyed sv.proof has in
-    absurd (not_over (length (spelling (tree sv.root sv.below none))) sv.laid.1.0
-    (subst (λ (u : Trees). most_labels < length (spelling u)) trees over))
-one_save_answer profile f files statements label number bytes ask.F3 accepted sv (other, others, sw, over) =
-    let once = one_saved profile f files statements label number other bytes others accepted sv sw in
-    inr (refl, subst (λ (n : ℕ). most_bytes < n) (λ i. total_with files (sym once.0 i) (sym once.1 i)) over)
-one_save_answer profile f files statements label number bytes ask.Memory accepted sv why = inl refl
-one_save_answer profile f files statements label number bytes (ask.Rule A1) accepted sv why =
-    let (id, is) = numbered_so statements sv.index sv.s label sv.proof.there sv.proof.named in
-    absurd (why id is)
-one_save_answer profile f files statements label number bytes (ask.Rule A2) accepted sv
-    (id, (index, t, at, (named, kind))) =
-    let same = one_stands statements label sv.index sv.s t (all_meant profile statements
-    accepted.obeyed) sv.proof.there sv.proof.named (index, at.there, named) in
-    absurd (kind (rw same (provable_proof sv.s sv.proof.complete)))
-one_save_answer profile f files statements label number bytes (ask.Rule A3) accepted sv
-    (id, (index, t, at, (named, unproved))) =
-    let same = one_stands statements label sv.index sv.s t (all_meant profile statements
-    accepted.obeyed) sv.proof.there sv.proof.named (index, at.there, named) in
-    absurd (cc (proof_not_unproved sv.s sv.proof.complete, same, unproved))
-one_save_answer profile f files statements label number bytes _ accepted sv why = absurd why
-
 -- ---- saving again
 
 pub saving_again : SavingAgainChangesNothing
@@ -544,33 +504,6 @@ text_carried profile f statements others label index s root below old put obeyed
         laid = rw (to, alike.said) at has.laid;
       },
     )
-
--- What is put in for a theorem is put in for it among others too, in place of the same bytes, and
--- in place of itself.
-pub same_text : (profile : Profile) (f : Form) (bytes : List ℕ)
-    (statements others : List PlainStatement) (s t : PlainStatement) (new : Replacement)
-    (label : List ℕ) (index : ℕ) (root : List ℕ) (below : Trees) (old put : List ℕ)
-    → AllObey profile statements → AllObey profile others → Carries statements others
-    → sentence_of s ≡ sentence_of t → IsReplacement f bytes statements s new
-    → HasText f others label index t root below old put
-    → (old ≡ within_span bytes s.span) ⊎ (old ≡ new.text) → new.text ≡ put
-same_text profile f bytes statements others s t new label index root below old put obeyed still
-    carries said r has stood =
-    let one : r.label ≡ label =
-    same_Some r.label label
-    (sym r.proof.named ∙ ap (λ (x : Sentence). x.label) said ∙ has.proof.named) in
-    let (u, own) = text_carried profile f statements others r.label r.index s r.root r.below
-    (within_span bytes s.span) new.text obeyed carries
-    (record { proof = r.proof; laid = r.laid }) in
-    let named : HasProofTree others label r.index u r.root r.below =
-    subst (λ (l : List ℕ). HasProofTree others l r.index u r.root r.below) one own.proof in
-    let laid : IsSpanText f (sentences (take r.index others)) (sentence_of u)
-    (tree r.root r.below none) old new.text = elim stood [
-      | inl first ↦ rw first own.laid
-      | inr anew ↦ rw anew (span_text_again f _ _ _ (within_span bytes s.span) new.text own.laid)
-    ] in
-    one_text_of profile f others label r.index index u t r.root root r.below below old new.text put
-    still named has.proof laid has.laid
 
 -- ==== what is saved of a whole file is one
 

@@ -1,10 +1,9 @@
 -- A file on its way to having shorter proofs: theorem by theorem, from the first span on.
 use Rattle.std.proofs.Common.{◌≡◌, ℕ, ◌≤◌, ◌<◌, List, [], ◌∷◌, ◌++◌, take, drop, length, slice_get}
-use Rattle.std.proofs.Common.{Bool, true, false, cond, ◌&&◌, ◌==◌, Option, Some, None, option_map}
+use Rattle.std.proofs.Common.{Bool, true, false, cond, ◌&&◌, ◌==◌, Some, None}
 use Rattle.std.proofs.Common.{◌⊎◌, inl, inr, refl, sym, ap, subst, ◌∙◌, arith, append_assoc}
 use Rattle.std.proofs.Common.{append-nil}
-use Rattle.std.specs.List.{AllZip}
-use Rattle.std.proofs.lemmas.Bool.{cases_lt, false_from_ne_true}
+use Rattle.std.proofs.lemmas.Bool.{false_from_ne_true}
 use Rattle.std.proofs.lemmas.List.Elements.{filter-append}
 use Rattle.mm_text.specs.declared.statement.Kind.TheVariants.{Provable}
 use Rattle.mm_text.specs.Statement.{PlainStatement, HasForm, plain_statement}
@@ -16,20 +15,20 @@ use Rattle.mm_text.proofs.Replaced.ProofSpans.{proofs_stand_in_spans_holds}
 use Rattle.mm_frame.specs.declared.number.LabelId.{LabelId}
 use Rattle.mm_frame.specs.Sentence.{Sentence, sentence_of}
 use Rattle.mm_proof.specs.Moves.{Move}
-use Rattle.mm_proof.specs.Tree.{Trees, none, tree}
+use Rattle.mm_proof.specs.Tree.{Trees}
 use Rattle.mm_check.specs.declared.ask.AskFault.{AskFault}
 use Rattle.mm_check.specs.declared.compared.Compared.{Compared}
 use Rattle.mm_check.specs.declared.form.Form.TheVariants.{Small}
 use Rattle.mm_check.specs.declared.save_all.NewFile.{NewFile}
 use Rattle.mm_check.specs.declared.theorems.Rereading.{Rereading}
-use Rattle.mm_check.specs.AllSaved.{IsReplacement, Replacement, is_theorem_of, theorems_of}
+use Rattle.mm_check.specs.AllSaved.{Replacement, is_theorem_of, theorems_of}
 use Rattle.mm_check.specs.AllSaved.{with_replaced}
 use Rattle.mm_check.specs.AllShorter.{IsAllShortened, IsAllShorterFault, IsShortened}
 use Rattle.mm_check.specs.Conclusion.{Conclusion}
-use Rattle.mm_check.specs.Saved.{FitsSaved, IsSpanText, total_with, within_span}
+use Rattle.mm_check.specs.Saved.{IsSpanText, total_with, within_span}
 use Rattle.mm_check.specs.Verdict.{is_proof, sentences}
-use Rattle.mm_check.specs.Mirror.AllSaving.{AreReplacedSoFar, IsFinishFault, IsLastEnd, IsSoFar}
-use Rattle.mm_check.specs.Mirror.AllSaving.{IsWhole, IsWrittenSoFar, replacement}
+use Rattle.mm_check.specs.Mirror.AllSaving.{IsFinishFault, IsLastEnd}
+use Rattle.mm_check.specs.Mirror.AllSaving.{IsWhole, replacement}
 use Rattle.mm_check.specs.Mirror.AllShortening.{IsAllShortenedIn, IsShortenedSoFar, IsShorterFor}
 use Rattle.mm_check.specs.Mirror.AllShortening.{MayStandIn, PutsShorter}
 use Rattle.mm_check.specs.Mirror.Rereading.{AreNoTheorems, GoesTo}
@@ -43,7 +42,6 @@ use Rattle.mm_check.proofs.Saving.ReplacedSpans.{all_replaced, one_more_replaced
 use Rattle.mm_check.proofs.Saving.SavedFiles.{provable_proof, within_bytes}
 use Rattle.mm_check.proofs.Saving.WrittenFiles.{label_there}
 use Rattle.mm_check.proofs.Verdicts.AcceptedStatements.{same_reading}
-use Rattle.mm_check.specs.declared.ask.AskFault.TheVariants as ask
 
 -- ==== what may stand in place of a theorem's proof
 
@@ -98,43 +96,7 @@ stands_shorter c duplicates id s both old put bytes formed complete h chosen lai
       ),
     )
 
--- its own
-pub stands_still : (c : Conclusion) (duplicates : Bool) (s : PlainStatement) (old bytes : List ℕ)
-    → old ≡ within_span bytes s.span → MayStandIn c duplicates bytes s old
-stands_still c duplicates s old bytes stands statements reads = (refl, inl stands)
-
 -- ==== the file, theorem by theorem
-
--- ---- the beginning
-
-nothing_put : (file : NewFile) (kept : Option (List ℕ)) → file.form ≡ Small → IsSoFar [] file kept
-    → AreReplacedSoFar [] file
-nothing_put file None small h = h
-nothing_put file (Some label) small (normal, first) = absurd cc
-
-none_zipped : {A B : Type 0} (R S : A → B → Type 0) (news : List B) → AllZip R [] news
-    → AllZip S [] news
-none_zipped R S [] zip = tt
-none_zipped R S (new ∷ news) zip = absurd zip
-
-pub shortened_begun : (c : Conclusion) (duplicates : Bool) (file : NewFile) → file.form ≡ Small
-    → IsWrittenSoFar c.files [] file → IsShortenedSoFar c duplicates [] file
-shortened_begun c duplicates file small w =
-    let h = nothing_put file (option_map (λ l. l.now) file.too_long) small w.so_far in
-    record {
-      own = w.own;
-      handed = w.handed;
-      source = w.source;
-      limit = w.limit;
-      within = w.within;
-      last = w.last;
-      replaced = h.replaced;
-      each = λ statements reads. none_zipped {A = PlainStatement} {B = Replacement}
-          (IsReplacement file.form file.source.now [])
-          (IsShortened c.profile duplicates c.files statements file.source.now) h.replaced h.each;
-      spans = h.spans;
-      put = h.put;
-    }
 
 -- ---- statements that are no theorems of the file
 
@@ -317,15 +279,6 @@ module _ (c : Conclusion) (duplicates : Bool) (number : ℕ) (file : NewFile)
   all_shortened bytes whole statements reads =
       whole_so statements reads bytes (whole (made_of file all.so_far) all.so_far.put)
 
-  pub shortened_fits : (bytes : List ℕ) → length bytes ≤ file.most
-      → FitsSaved c.files number bytes
-  shortened_fits bytes few =
-      subst (λ (n : ℕ). FitsSaved c.files n bytes) all.home
-      (elim (cases_lt most_bytes (total_with c.files file.number bytes)) [
-        | inl over ↦ absurd (omega (arith, few, (all.so_far.limit bytes).1 over))
-        | inr within ↦ within
-      ])
-
   -- or why there are none
   pub shortened_fault : (why : AskFault) → IsFinishFault file why
       → (statements : List PlainStatement) → Reads c.files statements None
@@ -338,9 +291,3 @@ module _ (c : Conclusion) (duplicates : Bool) (number : ℕ) (file : NewFile)
       subst (λ (n : ℕ). most_bytes < total_with c.files n bytes) all.home
       ((w.limit bytes).0 (over (made_of file w) w.put)) in
       rw is (bytes, whole_so statements reads bytes refl, too_many)
-
--- memory ran out before
-pub shortened_memory : (c : Conclusion) (duplicates : Bool) (number : ℕ) (why : AskFault)
-    → why ≡ ask.Memory → (statements : List PlainStatement) → Reads c.files statements None
-    → IsAllShorterFault c.profile duplicates c.files statements number why
-shortened_memory c duplicates number why memory statements reads = rw memory tt

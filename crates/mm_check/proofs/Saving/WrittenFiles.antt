@@ -1,7 +1,7 @@
 -- A file on its way to being written anew: statement by statement, from the first span on.
 use Rattle.std.proofs.Common.{◌≡◌, ℕ, ◌+◌, ◌-◌, ◌≤◌, List, [], ◌∷◌, ◌++◌, take, drop, length}
 use Rattle.std.proofs.Common.{slice_range, refl, sym, ap, ◌∙◌, arith, append_assoc, append-nil}
-use Rattle.std.proofs.Common.{length-append, ◌<◌, Option, Some, None, is_some, true, option_map}
+use Rattle.std.proofs.Common.{length-append, ◌<◌, Option, Some, None, true, option_map}
 use Rattle.std.proofs.Common.{inl, inr, ◌⊎◌, false, slice_get, subst}
 use Rattle.std.proofs.Math.ListN.{drop_of_length-le}
 use Rattle.std.proofs.lemmas.List.{take-append-le, drop-append-le, take-append-drop, take-take}
@@ -33,6 +33,7 @@ use Rattle.mm_check.proofs.Saving.FileSpans.{replaced_by, theorem_there, theorem
 use Rattle.mm_check.proofs.Saving.FileSpans.{theorems_passed, first_too_long}
 use Rattle.mm_check.proofs.Saving.SavedFiles.{within_bytes}
 use Rattle.mm_check.proofs.Saving.ReplacedSpans.{spans_push, one_more_replaced, all_replaced}
+use Rattle.mm_check.proofs.Questions.AllReports.{some_label}
 use Rattle.mm_check.proofs.Verdicts.JudgedProofs.{labelled_said, last_number}
 use Rattle.std.proofs.lemmas.Bool.{cases_lt, false_from_ne_true}
 use Rattle.std.proofs.lemmas.List.Elements.{filter-append}
@@ -64,10 +65,6 @@ put_twice most first then old between new one other whole h =
 -- ==== what is told of a theorem whose proof is written anew
 
 -- ---- its label
-
-some_label : (o : Option (List ℕ)) → is_some o ≡ true → (label : List ℕ) × (o ≡ Some label)
-some_label (Some label) _ = (label, refl)
-some_label None is = absurd cc
 
 pub label_there : (s : PlainStatement) → HasForm s → s.kind ≡ Provable
     → (label : List ℕ) × IsLabelled label (sentence_of s)

@@ -1,11 +1,11 @@
--- All faults of the files: the first is that of the verdict, and there is one list of them.
+-- All faults of the files: the first is that of the verdict, and each database that can be read has
+-- a list of them.
 use Rattle.std.proofs.Common.{◌≡◌, ℕ, List, [], ◌∷◌, ◌++◌, length, Option, Some, None, ◌⊎◌, inl}
-use Rattle.std.proofs.Common.{inr, refl, sym, ap, ◌∙◌, append_assoc, append-nil}
+use Rattle.std.proofs.Common.{inr, refl, ap, append_assoc, append-nil}
 use Rattle.std.specs.List.{AllByRecursion}
 use Rattle.mm_text.specs.Statement.{PlainStatement, HasForm}
 use Rattle.mm_text.specs.Files.{PlainFile}
 use Rattle.mm_text.specs.Reading.{PlainFault}
-use Rattle.mm_text.proofs.Reader.WholeReadings.{readings_are_formed_in_place, each_has_one_reading}
 use Rattle.mm_text.proofs.Lists.{all_prefix}
 use Rattle.mm_frame.specs.Sentence.{sentence_of}
 use Rattle.mm_frame.specs.Rules.{AllMeant, IsMeant}
@@ -19,12 +19,11 @@ use Rattle.mm_check.specs.Verdict.{AreAccepted, HasFault, HasVerdict, RefusesSta
 use Rattle.mm_check.specs.Verdict.{sentences, refusal_of, text_refusal}
 use Rattle.mm_check.specs.Faults.{AreRefused, HaveFaults, IsMeaningRefusal, IsProofRefusal}
 use Rattle.mm_check.specs.Faults.{refusal_in}
-use Rattle.mm_check.specs.FaultLaws.{FirstFaultIsTold, OneListOfFaults, SomeListOfFaults}
+use Rattle.mm_check.specs.FaultLaws.{FirstFaultIsTold}
 use Rattle.mm_check.proofs.Verdicts.OneVerdict.{formed_sentences, proof_obeys_or_fails}
-use Rattle.mm_check.proofs.Verdicts.OneVerdict.{accepted_or_refused, obeying_faultless}
-use Rattle.mm_check.proofs.Verdicts.OneVerdict.{one_statement_fault, one_verdict}
+use Rattle.mm_check.proofs.Verdicts.OneVerdict.{accepted_or_refused}
+use Rattle.mm_check.proofs.Verdicts.OneVerdict.{one_verdict}
 use Rattle.mm_check.proofs.Verdicts.RankedRules.{some_meaning}
-use Rattle.mm_check.proofs.Verdicts.AcceptedStatements.{same_reading}
 use Rattle.mm_check.proofs.Verdicts.StatementByStatement.{no_statement, one_more}
 use Rattle.mm_check.specs.declared.rule.Rule.TheVariants as rules
 
@@ -123,7 +122,7 @@ first_fault profile files (first ∷ others) verdict h v =
     ap refusal_in
     (one_verdict profile files (Refused first) verdict (first_told profile files first others h) v)
 
--- ## One list
+-- ## One statement more
 
 -- one more statement breaks no rule of meaning
 pub meant_more : (before : List PlainStatement) (s : PlainStatement) → AllMeant (sentences before)
@@ -137,64 +136,12 @@ formed_so_far : (before left : List PlainStatement) → AllByRecursion HasForm (
     → AllFormed (sentences before)
 formed_so_far before left formed = formed_sentences before (all_prefix HasForm before left formed)
 
-one_of_statements : (profile : Profile) (files : List PlainFile)
-    (before left : List PlainStatement) (ending : Option PlainFault)
-    (refusals others : List PlainRefusal) → AllMeant (sentences before)
-    → AllByRecursion HasForm (before ++ left)
-    → AreRefused profile files before left ending refusals
-    → AreRefused profile files before left ending others → refusals ≡ others
-one_of_statements profile files before [] None refusals others earlier formed e f = e ∙ sym f
-one_of_statements profile files before [] (Some fault) refusals others earlier formed e f = e ∙ sym f
-one_of_statements profile files before (s ∷ left) ending refusals others earlier formed (inl h) (inl k) =
-    one_of_statements profile files (before ++ s ∷ []) left ending refusals others
-    (meant_more before s earlier h.0.meant) (rw (append_assoc before (s ∷ []) left) formed) h.1 k.1
-one_of_statements profile files before (s ∷ left) ending refusals others earlier formed (inl h) (inr (inl k)) =
-    absurd (obeying_faultless profile (sentences before) s earlier
-    (formed_so_far before (s ∷ left) formed) (rules.Proof k.1.rule) k.1.step h.0
-    (proof_fault profile files before s k.0 k.1))
-one_of_statements profile files before (s ∷ left) ending refusals others earlier formed (inl h) (inr (inr k)) =
-    absurd (h.0.meant k.1.rule k.1.broken.broken)
-one_of_statements profile files before (s ∷ left) ending refusals others earlier formed (inr (inl h)) (inl k) =
-    absurd (obeying_faultless profile (sentences before) s earlier
-    (formed_so_far before (s ∷ left) formed) (rules.Proof h.1.rule) h.1.step k.0
-    (proof_fault profile files before s h.0 h.1))
-one_of_statements profile files before (s ∷ left) ending refusals others earlier formed (inr (inl h)) (inr (inl k)) =
-    let one = one_statement_fault profile (sentences before) s earlier
-    (formed_so_far before (s ∷ left) formed) (rules.Proof h.1.rule) (rules.Proof k.1.rule) h.1.step k.1.step
-    (proof_fault profile files before s h.0 h.1) (proof_fault profile files before s k.0 k.1) in
-    let first : h.0 ≡ k.0 =
-    h.1.refused ∙ (λ i. refusal_of files (length before) s (one.0 i) (one.1 i)) ∙ sym k.1.refused in
-    let rest : h.2 ≡ k.2 =
-    one_of_statements profile files (before ++ s ∷ []) left ending h.2 k.2
-    (meant_more before s earlier h.1.meant) (rw (append_assoc before (s ∷ []) left) formed) h.3 k.3 in
-    h.4 ∙ (λ i. first i ∷ rest i) ∙ sym k.4
-one_of_statements profile files before (s ∷ left) ending refusals others earlier formed (inr (inl h)) (inr (inr k)) =
-    absurd (h.1.meant k.1.rule k.1.broken.broken)
-one_of_statements profile files before (s ∷ left) ending refusals others earlier formed (inr (inr h)) (inl k) =
-    absurd (k.0.meant h.1.rule h.1.broken.broken)
-one_of_statements profile files before (s ∷ left) ending refusals others earlier formed (inr (inr h)) (inr (inl k)) =
-    absurd (k.1.meant h.1.rule h.1.broken.broken)
-one_of_statements profile files before (s ∷ left) ending refusals others earlier formed (inr (inr h)) (inr (inr k)) =
-    let one = one_statement_fault profile (sentences before) s earlier
-    (formed_so_far before (s ∷ left) formed) (rules.Meaning h.1.rule) (rules.Meaning k.1.rule) 0 0
-    (meaning_fault profile files before s h.0 h.1) (meaning_fault profile files before s k.0 k.1) in
-    let last : h.0 ≡ k.0 =
-    h.1.refused ∙ (λ i. refusal_of files (length before) s (one.0 i) 0) ∙ sym k.1.refused in
-    h.2 ∙ ap (λ (r : PlainRefusal). r ∷ []) last ∙ sym k.2
-
 -- before any statement
 pub none_meant : AllMeant (sentences [])
 none_meant [] after s e = absurd cc
 none_meant (t ∷ before) after s e = absurd cc
 
-pub one_list : OneListOfFaults
-one_list profile files refusals others h k =
-    let same = same_reading files h.statements k.statements h.ending k.ending h.reads k.reads in
-    one_of_statements profile files [] k.statements k.ending refusals others none_meant
-    (readings_are_formed_in_place files k.statements k.ending k.reads).formed
-    (rw (same.0, same.1) at h.refused) k.refused
-
--- ## Some list
+-- ## Statements that are read have a list of faults
 
 pub some_of_statements : (profile : Profile) (files : List PlainFile)
     (before left : List PlainStatement) (ending : Option PlainFault)
@@ -231,18 +178,3 @@ some_of_statements profile files before (s ∷ left) ending earlier formed =
           } in
           (last ∷ [], inr (inr (last, refused, refl)))
     ]
-
-pub some_list : SomeListOfFaults
-some_list profile files readable =
-    let one = each_has_one_reading files in
-    let some = some_of_statements profile files [] one.statements one.ending none_meant
-    (readings_are_formed_in_place files one.statements one.ending one.reads).formed in (
-      some.0,
-      record {
-        readable = readable;
-        statements = one.statements;
-        ending = one.ending;
-        reads = one.reads;
-        refused = some.1;
-      },
-    )

@@ -8,7 +8,8 @@ use Rattle.mm_check.specs.Explained.{Detail, block_opened}
 use Rattle.mm_check.specs.MeaningFacts.{AreEarlierFacts, met_as, met_facts}
 use Rattle.mm_check.specs.Places.{token_place}
 use Rattle.mm_check.specs.Mirror.Breaches.{IsBroken}
-use Rattle.mm_check.proofs.Collisions.{block_there, of_names, one_fact}
+use Rattle.mm_check.proofs.Collisions.{block_there, of_names}
+use Rattle.mm_check.proofs.HaltDetails.{one_told}
 use Rattle.mm_check.proofs.InnermostBlocks.{block_open}
 use Rattle.mm_check.proofs.collision.push_earlier.Goals as goal
 
@@ -31,7 +32,7 @@ returns-in_ok-block-in-M1 c =
           (sym c.in-M1.is)
           (block_there files site.before site.s c.args.breach.now.index t
           (c.in_ok-block-in-M1.ensures site))),
-      one_fact c.args.out.now.items c.push_block.new.out.items (block_opened (token_place files t)) text,
+      one_told c.args.out.now.items c.push_block.new.out.items (block_opened (token_place files t)) text,
     )) c.push_block.ensures
 
 pub returns-in-Some : goal.returns-in-Some
@@ -42,7 +43,7 @@ returns-in-Some c =
       met_as rule (token_place files (plain_token c.in-Some.token)) ∷ [],
       (λ site. of_names files rule site.before site.s c.args.breach.now.index _ c.in_default.not-M1
           (ap (met_facts files rule) (rw c.in-Some.is at (c.in_ok-token-in_default.ensures site)))),
-      one_fact c.args.out.now.items c.push_met.new.out.items
+      one_told c.args.out.now.items c.push_met.new.out.items
           (met_as rule (token_place files (plain_token c.in-Some.token))) text,
     )) c.push_met.ensures
 

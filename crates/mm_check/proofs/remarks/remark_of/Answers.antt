@@ -1,12 +1,14 @@
 -- The file is there, and the position in it is passed now.
 use Rattle.mm_text.specs.Statement.{plain_statement}
-use Rattle.mm_check.proofs.Questions.StatementRemarks.{file_there, remark_said, within_file}
 use Rattle.mm_check.proofs.Questions.StatementRemarks.{passed_at, passed_now, passed_there}
+use Rattle.mm_check.proofs.Questions.StatementRemarks.{remark_said, within_file}
+use Rattle.mm_check.proofs.Saving.SavedFiles.{number_within}
 use Rattle.mm_check.proofs.remarks.remark_of.Goals as goal
 
 pub bounds-files-file : goal.bounds-files-file
 bounds-files-file c =
-    file_there c.args.files.now c.args.statement.now.first.file c.requires.there.0 c.requires.there.1
+    number_within c.args.files.now c.args.statement.now.first.file c.requires.there.0
+    c.requires.there.1
 
 pub bounds-passed-file : goal.bounds-passed-file
 bounds-passed-file c =

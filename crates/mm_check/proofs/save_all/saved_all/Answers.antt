@@ -14,7 +14,7 @@ judge_files-requires c κs = (
   λ readable. record {
     lenient = refl;
     none = refl;
-    so_far = c.in-Ok.ensures.begun (within_limit (map plain_file c.args.files.now) readable);
+    so_far = c.new_file-file.ensures.begun (within_limit (map plain_file c.args.files.now) readable);
     number = refl;
     form = refl;
   },
@@ -22,30 +22,30 @@ judge_files-requires c κs = (
 
 pub returns-clause-saved : goal.returns-clause-saved
 returns-clause-saved c =
-    all_saved c.args.form (map plain_file c.args.files.now) c.args.number c.in-Ok.file
-    c.judge_files.new.visitor c.in_ok-finish-in-None.field-0.items c.in-Ok.ensures.form
-    c.in-Ok.ensures.number c.in-None.is (all_written (map plain_file c.args.files.now)
-    c.in-Ok.file c.judge_files.new.visitor _ c.in-Ok-judge_files.ensures.visited)
+    all_saved c.args.form (map plain_file c.args.files.now) c.args.number c.new_file-file.result
+    c.judge_files.new.visitor c.in_ok-finish-in-None.field-0.items c.new_file-file.ensures.form
+    c.new_file-file.ensures.number c.in-None.is (all_written (map plain_file c.args.files.now)
+    c.new_file-file.result c.judge_files.new.visitor _ c.in-Ok.ensures.visited)
     c.in_ok-finish-in-None.ensures.whole c.in_ok-finish-in-None.ensures.fits
 
 pub returns-in_err-finish-in-None-clause-fault : goal.returns-in_err-finish-in-None-clause-fault
 returns-in_err-finish-in-None-clause-fault c =
     error_keeps c.from_residual.result (fault.Ask c.in_err-finish-in-None.field-0.0) _
     c.from_residual.ensures.1
-    (finish_fault c.args.form (map plain_file c.args.files.now) c.args.number c.in-Ok.file
-    c.judge_files.new.visitor c.in_err-finish-in-None.field-0.0 c.in-Ok.ensures.form
-    c.in-Ok.ensures.number c.in-None.is (all_written (map plain_file c.args.files.now)
-    c.in-Ok.file c.judge_files.new.visitor _ c.in-Ok-judge_files.ensures.visited)
+    (finish_fault c.args.form (map plain_file c.args.files.now) c.args.number c.new_file-file.result
+    c.judge_files.new.visitor c.in_err-finish-in-None.field-0.0 c.new_file-file.ensures.form
+    c.new_file-file.ensures.number c.in-None.is (all_written (map plain_file c.args.files.now)
+    c.new_file-file.result c.judge_files.new.visitor _ c.in-Ok.ensures.visited)
     c.in_err-finish-in-None.ensures.fault)
 
-pub returns-in-Err-judge_files-clause-fault : goal.returns-in-Err-judge_files-clause-fault
-returns-in-Err-judge_files-clause-fault c =
+pub returns-in-Err-clause-fault : goal.returns-in-Err-clause-fault
+returns-in-Err-clause-fault c =
     verdict_told _ _ _ (map plain_file c.args.files.now) _ _ (λ taken listed w. w.none)
-    c.in-Err-judge_files.fault c.in-Err-judge_files.ensures.stopped
+    c.in-Err.fault c.in-Err.ensures.stopped
 
 pub returns-in-Some-clause-fault : goal.returns-in-Some-clause-fault
 returns-in-Some-clause-fault c =
-    long_fault c.args.form (map plain_file c.args.files.now) c.args.number c.in-Ok.file
-    c.judge_files.new.visitor c.in-Some.label.now c.in-Ok.ensures.form c.in-Ok.ensures.number
+    long_fault c.args.form (map plain_file c.args.files.now) c.args.number c.new_file-file.result
+    c.judge_files.new.visitor c.in-Some.label.now c.new_file-file.ensures.form c.new_file-file.ensures.number
     (ap (option_map (λ l. l.now)) c.in-Some.is) (all_written (map plain_file c.args.files.now)
-    c.in-Ok.file c.judge_files.new.visitor _ c.in-Ok-judge_files.ensures.visited)
+    c.new_file-file.result c.judge_files.new.visitor _ c.in-Ok.ensures.visited)

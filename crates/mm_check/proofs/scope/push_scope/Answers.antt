@@ -5,7 +5,7 @@ use Rattle.mm_text.specs.Files.{PlainFile, plain_file}
 use Rattle.mm_text.specs.Token.{plain_token}
 use Rattle.mm_check.specs.Explained.{stated_at, block_ended_at}
 use Rattle.mm_check.specs.Places.{token_place}
-use Rattle.mm_check.proofs.Collisions.{one_fact}
+use Rattle.mm_check.proofs.HaltDetails.{one_told}
 use Rattle.mm_check.proofs.HypothesisScopes.{unmet_facts, open_facts, closed_facts, two_facts}
 use Rattle.mm_check.proofs.scope.push_scope.Goals as goal
 
@@ -26,7 +26,7 @@ returns-in-Open c =
       first ∷ [],
       open_facts files c.args.label.now site.before _ c.in-Open.first _ c.in-Open.is
           (c.in_ok-scope_before.ensures site),
-      one_fact c.args.out.now.items c.push_stated_at.new.out.items first told,
+      one_told c.args.out.now.items c.push_stated_at.new.out.items first told,
     ))
     c.push_stated_at.ensures
 

@@ -7,6 +7,8 @@ use Rattle.mm_check.proofs.Questions.TheoremsAgain.{at_in, fewer_left}
 use Rattle.mm_check.proofs.Saving.ShortenedFiles.{next_elsewhere, next_follows, next_put}
 use Rattle.mm_check.proofs.Saving.ShortenedFiles.{next_stands, shortened_past}
 use Rattle.mm_check.proofs.shorter_file.write_all.Goals as goal
+use Rattle.mm_check.proofs.shorter_file.write_all.Goals.{else-reading-wanted}
+use Rattle.mm_check.proofs.shorter_file.write_all.Goals.{then-reading-wanted+in_ok-write_theorem}
 
 pub write_theorem-requires-clause-theorem : goal.write_theorem-requires-clause-theorem
 write_theorem-requires-clause-theorem g c =
@@ -60,33 +62,6 @@ write_theorem-requires-clause-within g c =
     c.loop-reading.file c.next_theorem.new.self c.in-Some.id goes inv.written
     (c.if-reading-wanted.true ∙ sym inv.home)).1
 
-pub loop-reading-smaller-in-Continue-branch-4 : goal.loop-reading-smaller-in-Continue-branch-4
-loop-reading-smaller-in-Continue-branch-4 g c =
-    let inv = c.loop-reading.invariant in
-    let goes : GoesTo c.args.shortening.now.checked.now.files inv.taken (Some c.in-Some.id)
-    c.next_theorem.new.self =
-    subst (λ (o : Option LabelId). GoesTo c.args.shortening.now.checked.now.files inv.taken o
-    c.next_theorem.new.self) c.in-Some.is (c.in_ok-id.ensures.next inv.taken inv.read) in
-    let less = fewer_left c.args.shortening.now.checked.now.files inv.taken goes.0 c.in-Some.id.0
-    c.loop-reading.reading c.next_theorem.new.self inv.read goes.2 in omega (arith, less)
-
-pub loop-reading-preserved-in-Continue-branch-4 : goal.loop-reading-preserved-in-Continue-branch-4
-loop-reading-preserved-in-Continue-branch-4 g c =
-    let inv = c.loop-reading.invariant in
-    let goes : GoesTo c.args.shortening.now.checked.now.files inv.taken (Some c.in-Some.id)
-    c.next_theorem.new.self =
-    subst (λ (o : Option LabelId). GoesTo c.args.shortening.now.checked.now.files inv.taken o
-    c.next_theorem.new.self) c.in-Some.is (c.in_ok-id.ensures.next inv.taken inv.read) in
-    record {
-      taken = (inv.taken ++ goes.0) ++ plain_statement c.next_theorem.new.self.statement ∷ [];
-      read = goes.2.read;
-      written = next_put c.args.shortening.now.checked.now c.args.wanted.duplicates inv.taken
-          c.loop-reading.file c.next_theorem.new.self c.in-Some.id goes inv.written
-          (c.if-reading-wanted.true ∙ sym inv.home) c.write_theorem.new.file
-          c.in_ok-write_theorem.ensures.puts;
-      home = c.in_ok-write_theorem.ensures.puts.puts.same.number ∙ inv.home;
-    }
-
 pub loop-reading-smaller : goal.loop-reading-smaller
 loop-reading-smaller g c =
     let inv = c.loop-reading.invariant in
@@ -107,11 +82,24 @@ loop-reading-preserved g c =
     record {
       taken = (inv.taken ++ goes.0) ++ plain_statement c.next_theorem.new.self.statement ∷ [];
       read = goes.2.read;
-      written = next_elsewhere c.args.shortening.now.checked.now c.args.wanted.duplicates inv.taken
-          c.loop-reading.file c.next_theorem.new.self c.in-Some.id goes inv.written
-          (λ same. let other = c.if-reading-wanted.false in let own = inv.home in
-          absurd (omega (arith, same, other, own)));
-      home = inv.home;
+      written = elim c.if-reading-wanted.branch [
+        | then-reading-wanted+in_ok-write_theorem w ↦
+            rw w.file-is (next_put c.args.shortening.now.checked.now c.args.wanted.duplicates
+            inv.taken c.loop-reading.file c.next_theorem.new.self c.in-Some.id goes inv.written
+            (w.if-reading-wanted.true ∙ sym inv.home) w.write_theorem.new.file
+            w.in_ok-write_theorem.ensures.puts)
+        | else-reading-wanted w ↦
+            rw w.file-is (next_elsewhere c.args.shortening.now.checked.now
+            c.args.wanted.duplicates inv.taken c.loop-reading.file c.next_theorem.new.self
+            c.in-Some.id goes inv.written
+            (λ same. let other = w.if-reading-wanted.false in let own = inv.home in
+            absurd (omega (arith, same, other, own))))
+      ];
+      home = elim c.if-reading-wanted.branch [
+        | then-reading-wanted+in_ok-write_theorem w ↦
+            rw w.file-is (w.in_ok-write_theorem.ensures.puts.puts.same.number ∙ inv.home)
+        | else-reading-wanted w ↦ rw w.file-is inv.home
+      ];
     }
 
 pub returns-clause-written : goal.returns-clause-written

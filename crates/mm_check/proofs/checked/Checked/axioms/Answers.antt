@@ -4,8 +4,9 @@ use Rattle.mm_check.specs.Conclusion.{Conclusion, labels_in}
 use Rattle.mm_check.specs.Answer.{IsKeptOf}
 use Rattle.mm_proof.specs.Plain.{ids_in}
 use Rattle.mm_text.proofs.Lists.{error_keeps}
+use Rattle.mm_text.proofs.Lists.{all_within}
 use Rattle.mm_check.proofs.Verdicts.AcceptedStatements.{read_statements, KeptWell}
-use Rattle.mm_check.proofs.Questions.AskedTheorems.{report_of, all_within, all_among, axiom_within}
+use Rattle.mm_check.proofs.Questions.AskedTheorems.{report_of, all_among, axiom_within}
 use Rattle.mm_check.proofs.checked.Checked.axioms.Goals as goal
 
 pub returns-in_err-theorem-clause-fault : goal.returns-in_err-theorem-clause-fault

@@ -1,6 +1,5 @@
 -- The files have no more bytes than they may.
 use Rattle.std.proofs.Common.{List, map, ◌≡◌, ◌≤◌, [], ap, subst, sym}
-use Rattle.std.proofs.lemmas.Result.{IfOk-weaker}
 use Rattle.mm_text.specs.Files.{PlainFile, plain_file, total_bytes, most_bytes}
 use Rattle.mm_check.specs.Conclusion.{Conclusion}
 use Rattle.mm_check.specs.Mirror.AllSaving.{IsWrittenSoFar}
@@ -13,8 +12,7 @@ returns-clause-begun c =
     let well = subst KeptWell c.self.view_is c.self.invariant in
     let files : map plain_file c.self.inside.files.now ≡ now.files =
     ap (λ (v : Conclusion). v.files) c.self.view_is in
-    IfOk-weaker c.new_file.result _ _
-    (λ file begun. subst (λ (fs : List PlainFile). IsWrittenSoFar fs [] file) files begun)
+    subst (λ (fs : List PlainFile). IsWrittenSoFar fs [] c.new_file.result) files
     (c.new_file.ensures.begun
     (subst (λ (fs : List PlainFile). total_bytes fs ≤ most_bytes) (sym files)
     (within_limit now.files well.origin.accepted.readable)))

@@ -2,5 +2,5 @@
 use Rattle.mm_check.proofs.checked.Checked.shorter_list.Goals as goal
 
 pub returns-clause-list : goal.returns-clause-list
-returns-clause-list c =
+returns-clause-list g c =
     rw c.in_ok-shortening.ensures.database at c.shorter_list.ensures.list

@@ -1,5 +1,6 @@
 -- Labels are few, and the `$p` are those of the statements.
 use Rattle.std.proofs.Common.{◌≡◌, ℕ, ◌<◌, List, length, sym, ap, subst, ◌∙◌}
+use Rattle.mm_text.proofs.Lists.{all_within}
 use Rattle.mm_frame.specs.Numbers.{labelled_sentences}
 use Rattle.mm_frame.specs.Sentence.{Sentence}
 use Rattle.mm_text.specs.declared.statement.Kind.TheVariants.{Provable}
@@ -7,7 +8,6 @@ use Rattle.mm_proof.specs.Plain.{ids_in}
 use Rattle.mm_check.specs.Conclusion.{Conclusion, labels_in}
 use Rattle.mm_check.specs.Answer.{IsKeptOf}
 use Rattle.mm_check.proofs.Verdicts.AcceptedStatements.{read_statements, KeptWell}
-use Rattle.mm_check.proofs.Questions.AskedTheorems.{all_within}
 use Rattle.mm_check.proofs.Questions.AllReports.{few_labels, theorems_told, of_kind_within}
 use Rattle.mm_check.specs.Rests.{AreInOrder}
 use Rattle.mm_check.specs.Mirror.Tables.{IsOfKind}

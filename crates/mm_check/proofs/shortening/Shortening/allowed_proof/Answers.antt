@@ -1,11 +1,11 @@
 -- The steps use numbers of labels.
 use Rattle.std.proofs.Common.{◌≡◌, ◌<◌, ℕ, List, length, sym, ap, subst}
 use Rattle.std.specs.List.{AllByRecursion}
+use Rattle.mm_text.proofs.Lists.{all_within}
 use Rattle.mm_frame.specs.Numbers.{labelled_sentences}
 use Rattle.mm_frame.proofs.Names.LabelNumbers.{numbered_within}
 use Rattle.mm_check.specs.Conclusion.{Conclusion}
 use Rattle.mm_check.specs.Mirror.Shortening.{AreHanded}
-use Rattle.mm_check.proofs.Questions.AskedTheorems.{all_within}
 use Rattle.mm_check.proofs.Questions.ShorterProofs.{used_within}
 use Rattle.mm_check.proofs.shortening.Shortening.allowed_proof.Goals as goal
 

@@ -1,6 +1,7 @@
 -- What is told of the steps is told of the theorem.
 use Rattle.std.proofs.Common.{◌≡◌, ◌<◌, ℕ, List, length, map, sym, ap, subst}
 use Rattle.std.specs.List.{AllByRecursion}
+use Rattle.mm_text.proofs.Lists.{all_within}
 use Rattle.mm_frame.specs.Numbers.{labelled_sentences}
 use Rattle.mm_frame.specs.Sentence.{Sentence}
 use Rattle.mm_frame.specs.declared.number.LabelId.{LabelId}
@@ -8,7 +9,6 @@ use Rattle.mm_frame.proofs.Names.LabelNumbers.{numbered_within}
 use Rattle.mm_check.specs.Conclusion.{Conclusion}
 use Rattle.mm_check.specs.Mirror.Shortening.{IsAllowedProof}
 use Rattle.mm_check.proofs.Verdicts.AcceptedStatements.{AreOf, read_statements, KeptWell}
-use Rattle.mm_check.proofs.Questions.AskedTheorems.{all_within}
 use Rattle.mm_check.proofs.Questions.ShorterProofs.{found, used_within}
 use Rattle.mm_check.proofs.shortening.Shortening.shorter.Goals as goal
 

@@ -20,6 +20,7 @@ overflow_add-self c =
       statements = c.next.new.statements;
       statement = c.next.new.into;
       labelled = c.loop-id.self.labelled;
+      theorems = c.loop-id.self.theorems;
     }) next (c.loop-id.invariant c.requires.0 c.requires.1) in omega (arith, few)
 
 pub returns-then-is_theorem-clause-next : goal.returns-then-is_theorem-clause-next

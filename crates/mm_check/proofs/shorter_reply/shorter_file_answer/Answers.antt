@@ -12,10 +12,10 @@ use Rattle.mm_check.specs.Reply.{IsAllShortenedReply}
 use Rattle.mm_check.specs.Saved.{FitsSaved}
 use Rattle.mm_check.proofs.ReplyTexts.{asked_shorter, made_both, at_ok, question_read}
 use Rattle.mm_check.proofs.ReplyTexts.{question_refused}
-use Rattle.mm_check.proofs.question.shorter_file_answer.Goals as goal
+use Rattle.mm_check.proofs.shorter_reply.shorter_file_answer.Goals as goal
 
 pub shorter_file-requires : goal.shorter_file-requires
-shorter_file-requires c =
+shorter_file-requires g c =
     let files : List PlainFile = map plain_file c.args.files.now in
     let kept : Conclusion = c.in-Ok.checked in
     let same : kept.files ≡ files =
@@ -25,7 +25,7 @@ shorter_file-requires c =
     omega (arith, count, less, length-map c.args.files.now plain_file)
 
 pub returns-in-Ok-shorter_file : goal.returns-in-Ok-shorter_file
-returns-in-Ok-shorter_file c =
+returns-in-Ok-shorter_file g c =
     let files : List PlainFile = map plain_file c.args.files.now in
     let kept : Conclusion = c.in-Ok.checked in
     let text : List ℕ = c.in-Ok-shorter_file.text.items in
@@ -48,7 +48,7 @@ returns-in-Ok-shorter_file c =
     ))
 
 pub returns-in-Err-shorter_file : goal.returns-in-Err-shorter_file
-returns-in-Err-shorter_file c =
+returns-in-Err-shorter_file g c =
     let files : List PlainFile = map plain_file c.args.files.now in
     let kept : Conclusion = c.in-Ok.checked in
     let same : kept.files ≡ files =
@@ -70,7 +70,7 @@ returns-in-Err-shorter_file c =
     c.ask_reply.ensures
 
 pub returns-in-Err : goal.returns-in-Err
-returns-in-Err c =
+returns-in-Err g c =
     let files : List PlainFile = map plain_file c.args.files.now in
     made_both c.verdict_reply.result _ _ _
     (λ reply said ends. question_refused files c.args.answer.now c.in-Err.field-0

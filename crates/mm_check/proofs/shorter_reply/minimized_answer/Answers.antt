@@ -1,7 +1,7 @@
 -- The text is that of the shortest proof known, or the fault is that of the statements.
 use Rattle.std.proofs.Common.{inl, inr, refl}
 use Rattle.std.proofs.lemmas.Result.{IfOk-weaker}
-use Rattle.mm_check.proofs.question.minimized_answer.Goals as goal
+use Rattle.mm_check.proofs.shorter_reply.minimized_answer.Goals as goal
 
 pub returns-in-Ok : goal.returns-in-Ok
 returns-in-Ok c = λ statements reads.

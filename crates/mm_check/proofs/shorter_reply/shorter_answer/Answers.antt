@@ -4,10 +4,10 @@ use Rattle.mm_text.specs.Files.{PlainFile, plain_file}
 use Rattle.mm_check.specs.Conclusion.{Conclusion}
 use Rattle.mm_check.specs.Answer.{KeepsFiles, KeepsLabels}
 use Rattle.mm_check.proofs.ReplyTexts.{made_both, at_ok, no_shorter_told, all_shorter_told}
-use Rattle.mm_check.proofs.question.shorter_answer.Goals as goal
+use Rattle.mm_check.proofs.shorter_reply.shorter_answer.Goals as goal
 
 pub shorter_list-requires : goal.shorter_list-requires
-shorter_list-requires c =
+shorter_list-requires g c =
     let files : List PlainFile = map plain_file c.args.files.now in
     let kept : Conclusion = c.in-Ok.checked in
     let same : kept.files ≡ files =
@@ -15,7 +15,7 @@ shorter_list-requires c =
     rw same (at_ok c.args.answer.now kept (KeepsLabels files) c.in-Ok.is c.requires.labels)
 
 pub returns-in-Ok-shorter_list : goal.returns-in-Ok-shorter_list
-returns-in-Ok-shorter_list c = λ profile under holds.
+returns-in-Ok-shorter_list g c = λ profile under holds.
     let files : List PlainFile = map plain_file c.args.files.now in
     let kept : Conclusion = c.in-Ok.checked in
     let same : kept.files ≡ files =
@@ -25,7 +25,7 @@ returns-in-Ok-shorter_list c = λ profile under holds.
     c.in-Ok-shorter_list.ensures.list (rw c.in-Ok.is c.conclusion_status.ensures)
 
 pub returns-in-Err : goal.returns-in-Err
-returns-in-Err c =
+returns-in-Err g c =
     made_both c.verdict_reply.result _ _ _
     (λ reply said ends profile under holds.
     no_shorter_told profile _ c.args.answer.now c.in-Err.field-0 _ _ c.in-Err.is holds said ends)
