@@ -36,7 +36,7 @@ use Rattle.mm_tool.specs.Ending.{AsksNamed}
 use Rattle.mm_tool.specs.Words.{AsksForm, AsksRun, IsAllFault, IsGiven, name_of_form, number_among}
 use Rattle.mm_tool.specs.Words.{AreMatchesOf, Asks, Commands, IsAccepted, IsFaultOfKind, IsOfKind}
 use Rattle.mm_tool.specs.Words.{AreMinimizeFlags, AreRefusedWords, AsksAxioms, AsksMinimize}
-use Rattle.mm_tool.specs.Words.{AsksMinimized, AsksShorterFile, DoAgree, IsFilesFault}
+use Rattle.mm_tool.specs.Words.{AsksShorterFile, DoAgree, IsFilesFault}
 use Rattle.mm_tool.specs.Words.{IsNamingFault, IsWordFault, NamesFile, command_line}
 use Rattle.mm_tool.specs.Words.{first_command}
 use Rattle.mm_tool.specs.declared.words.Request.{Request}
@@ -291,14 +291,6 @@ files_refused rows given found parts other all not_given files same few = absurd
 
 -- ---- `minimize`
 
--- Flags that agree, none of which is `--list` or `--all`, are none.
-no_duplicates : (all list duplicates : Bool) → DoAgree all list duplicates → list ≡ false
-    → all ≡ false → duplicates ≡ false
-no_duplicates all true duplicates agree not_list not_all = absurd (cc)
-no_duplicates true false duplicates agree not_list not_all = absurd (cc)
-no_duplicates false false duplicates (inl given) not_list not_all = absurd (cc)
-no_duplicates false false duplicates (inr none) not_list not_all = none
-
 module _ (rows : List Row) (all list duplicates : Bool) (behind : List Text)
     (flags : AreMinimizeFlags rows all list duplicates)
     (files : behind ≡ unwrap_or (all_of (codes "FILES") rows) []) where
@@ -320,16 +312,6 @@ module _ (rows : List Row) (all list duplicates : Bool) (behind : List Text)
       → Commands words (codes "minimize") rows → AsksShorterFile words number duplicates names
   file_asked not_list given parts number names same named words commands =
       (behind, rw (given, not_list) at by_minimize words commands, rw same at named)
-
-  -- They ask for a shorter proof of a theorem, where neither is.
-  pub shorter_asked : DoAgree all list duplicates → list ≡ false → all ≡ false
-      → (parts : List Text) (label : Text) (names : List Text) → parts ≡ behind
-      → (parts ≡ label ∷ names) × (names ≢ []) → (words : List Text)
-      → Commands words (codes "minimize") rows → AsksMinimized words label names
-  shorter_asked agree not_list not_all parts label names same (is, some) words commands =
-      let none = no_duplicates all list duplicates agree not_list not_all in
-      let asked = by_minimize words commands in
-      (rw (not_all, not_list, none, sym same ∙ is) at asked, some)
 
   -- Flags that don't agree are refused.
   pub flags_refused : ¬ (DoAgree all list duplicates) → (words : List Text)

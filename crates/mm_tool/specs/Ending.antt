@@ -1,7 +1,7 @@
 -- How the program ends: with an answer on standard output and its status, or with a line on
 -- standard error.
 use Rattle.std.specs.Prelude.{◌≡◌, ◌≢◌, ℕ, ◌+◌, ◌<◌, ◌≤◌, length, List, [], ◌∷◌, ◌++◌, Option}
-use Rattle.std.specs.Prelude.{Contains, codes}
+use Rattle.std.specs.Prelude.{Contains, codes, false}
 use Rattle.std.specs.Prelude.{string_bytes, ◌⊎◌, Bool, Some, None, nat_eq, option_map, if◌then◌else◌}
 use Rattle.std.specs.Borrow.{Bor}
 use Rattle.std.specs.List.{AllByRecursion, ends_with}
@@ -30,6 +30,7 @@ use Rattle.mm_tool.specs.Words.{AreRefusedWords}
 use Rattle.mm_tool.specs.declared.folder.ArgumentFault.{ArgumentFault}
 use Rattle.mm_tool.specs.declared.folder.ArgumentFault.TheVariants as argument
 use Rattle.mm_tool.specs.declared.pages.Page.{Page}
+use Rattle.mm_tool.specs.declared.progress_line.ProgressLine.{ProgressLine}
 use Rattle.mm_tool.specs.declared.texts.Texts.{Texts}
 use Rattle.mm_tool.specs.declared.stop.Stop.{Stop}
 use Rattle.mm_tool.specs.declared.stop.Stop.TheVariants.{Usage, NotText, CannotRead, CannotWrite}
@@ -54,6 +55,10 @@ BreaksOff contents text old new =
 -- It was not called.
 abbrev pub IsUntouched : {W : Type 0} → Counted W → Counted W → Type 0
 IsUntouched old new = (inner_of new ≡ inner_of old) × (faults_of new ≡ faults_of old)
+
+-- Where progress isn't shown, nothing is written of it.
+abbrev pub StaysUnshown : {P : Type 0} → ProgressLine P → ProgressLine P → Type 0
+StaysUnshown old new = old.is_shown ≡ false → new ≡ old
 
 -- ---- answers
 

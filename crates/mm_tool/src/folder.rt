@@ -8,7 +8,7 @@ ghost use Rattle.std.specs.declared.io.ErrorKind.TheVariants.{OutOfMemory};
 ghost use Rattle.mm_tool.specs.Folder.{KnownFile, MayHold, Unknown};
 ghost use Rattle.mm_tool.specs.declared.folder.ArgumentFault.TheVariants.{Memory};
 
-use mm_text::Source;
+use mm_text::{Seed, Source};
 use std::alloc::{AllocError, AllocGlobal, Global};
 use std::env::Env;
 use std::fs::OpenFile;
@@ -16,6 +16,15 @@ use std::io::Read;
 use std::rt::Files;
 use std::{env, fs, io};
 use thiserror::Error;
+
+/// What lists and tables are made with.
+#[derive(Clone, Copy)]
+pub(crate) struct Resources {
+    /// From where memory comes.
+    pub(crate) alloc: Global,
+    /// The seed of tables that hash.
+    pub(crate) seed: Seed,
+}
 
 /// Where files are opened by their names.
 pub(crate) trait Folder {

@@ -233,9 +233,9 @@ const PACKED: &str = "Usage: mm packed [--file] LABEL FILES..
        mm packed --all NAME FILES..
 
 Checks the database, and writes the packed proof of the theorem with this label:
-the one compressed proof that makes each part of it once. So it has the fewest
-steps, and proofs are the same exactly if their packed texts are; but it hasn't
-the fewest bytes: for these ask `mm small`.
+the one compressed proof that makes each part of two or more steps once. So it
+has the fewest steps, and proofs are the same exactly if their packed texts are;
+but it hasn't the fewest bytes: for these ask `mm small`.
 
 Options:
   --file   the whole file in which the theorem stands, with that proof in place
@@ -298,6 +298,7 @@ label by what the library has before it: its small text has fewer bytes, it has
 no more steps, and it rests on no further axiom or unproved theorem. It is
 judged as any proof is.
 That no shorter one is found doesn't say that there is none.
+On a terminal, --all and --list tell on standard error how far they have come.
 
 Marks in the comment right before a statement are heeded. A theorem marked
 `(Proof modification is discouraged.)` keeps its proof; an assertion marked

@@ -639,8 +639,9 @@ proof, after P5.
 Line: that where the statement begins; `mm why` tells the place in the proof.
 Usual cause: the program that wrote the proof tags hypotheses, or lists a label
 that has a number already.
-Remedy: write the proof anew by `mm packed --file`, or all proofs of a file by
-`mm packed --all`: both keep to the strict form.
+Remedy: write the proof anew by `mm packed --file`, or each complete proof of a
+file by `mm packed --all`: both keep to the strict form. An incomplete proof,
+and one whose expressions pass the lenient limit, has to be mended by hand.
 
 This file breaks it:
     $c a $. one $a a $.

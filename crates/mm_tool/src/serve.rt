@@ -1,6 +1,6 @@
 //! The program over its words and devices.
 
-ghost use Rattle.std.specs.Prelude.{◌≡◌, ◌+◌, ◌<◌, ◌≤◌, ◌++◌, ◌⊎◌, map, codes, string_bytes};
+ghost use Rattle.std.specs.Prelude.{◌≡◌, ◌↔◌, ◌+◌, ◌<◌, ◌≤◌, ◌++◌, ◌⊎◌, map, codes, string_bytes};
 ghost use Rattle.std.specs.Prelude.{IfOk, IfErr, IfSome, OnOk, OnErr};
 ghost use Rattle.mm_text.specs.Device.{faults_of, inner_of};
 ghost use Rattle.mm_text.specs.Files.{plain_file};
@@ -10,7 +10,8 @@ ghost use Rattle.mm_tool.specs.Ending.{IsReplyOver};
 ghost use Rattle.mm_tool.specs.Answer.{outcome_of, quiet};
 ghost use Rattle.mm_tool.specs.Ending.{Stops, TellsNotes};
 ghost use Rattle.mm_tool.specs.Ending.{AsksNamed, IsTextCommand, IsTextReplyOver, StopsText};
-ghost use Rattle.mm_tool.specs.Ending.{StopsRun, TakesWhole, TellsLine, error_line, stop_status};
+ghost use Rattle.mm_tool.specs.Ending.{StaysUnshown, StopsRun, TakesWhole, TellsLine, error_line};
+ghost use Rattle.mm_tool.specs.Ending.{stop_status};
 ghost use Rattle.mm_check.specs.declared.command.Command.TheVariants.{Whole};
 ghost use Rattle.mm_check.specs.declared.question.WholeQuestion.TheVariants.{Check};
 ghost use Rattle.mm_proof.specs.declared.profile.Profile.{Profile};
@@ -21,18 +22,18 @@ ghost use Rattle.mm_tool.specs.declared.stop.Stop.TheVariants.{CannotWrite};
 use crate::answer::Answer;
 use crate::explain::explanation;
 use crate::files::{Comments, FileFault, ReadFile, read_file, read_files};
-use crate::folder::{Arguments, Folder};
+use crate::folder::{Arguments, Folder, Resources};
 use crate::help::help_text;
 use crate::near::notes_beside;
+use crate::progress_line::{ProgressLine, watched_reply};
 use crate::stop::Stop;
 use crate::texts::Texts;
 use crate::unread::{asked_label, labelled, tell_unread};
 use crate::words::{AskedText, Request, TextQuestion, request_of};
 use mm_check::{
     Command, LoneQuestion, Question, Reply, Status, WholeQuestion, alike_files_have_one_reply,
-    reply_to,
 };
-use mm_text::{BYTE_LIMIT, Counted, File, Seed, alike_files_leave_out_the_same};
+use mm_text::{BYTE_LIMIT, Counted, File, alike_files_leave_out_the_same};
 use std::alloc::{AllocError, Global};
 use std::io::Write;
 
@@ -108,11 +109,11 @@ fn plain_files<'f>(alloc: Global, files: &'f [ReadFile<'_>]) -> Result<Vec<File<
     Ok(plain)
 }
 
-/// What becomes of comments as files are read for a command. Its law is about `check`, and about
-/// files that `check` takes.
+/// What becomes of comments as files are read for a command: they are left out exactly for `check`,
+/// of files that `check` takes.
 fn comments_for(command: &Command<'_>, max: usize) -> Comments
-    ensures { result ≡ LeftOut → ((profile : Profile) × (command.now ≡ Whole profile Check))
-        × (max ≤ BYTE_LIMIT) }
+    ensures { result ≡ LeftOut
+        ↔ (((profile : Profile) × (command.now ≡ Whole profile Check)) × (max ≤ BYTE_LIMIT)) }
 {
     match command {
         Command::Whole {
@@ -132,14 +133,14 @@ fn comments_for(command: &Command<'_>, max: usize) -> Comments
 /// `CannotRead` where a file can't be opened or read; `CannotWrite` where standard output failed,
 /// after a beginning of the reply; `Memory` where a growth was refused, and then nothing is
 /// written.
-pub(crate) fn run_over<'a, F: Folder, O: Write>(
-    alloc: Global,
-    seed: Seed,
+pub(crate) fn run_over<'a, F: Folder, O: Write, P: Write>(
+    resources: Resources,
     folder: &F,
     command: &Command<'_>,
     names: &[&'a str],
     max: usize,
     out: &mut Counted<O>,
+    progress: &mut ProgressLine<P>,
 ) -> Result<Answer, Stop<'a>>
     requires faults { faults_of out.old < u64.MAX }
     requires named { AsksNamed command.now (map (λ name. name.now) names.now) }
@@ -149,9 +150,11 @@ pub(crate) fn run_over<'a, F: Folder, O: Write>(
     ensures stops { IfErr result (λ stop. StopsRun O.contents (F.holds folder.now)
         (F.may_fail folder.now) command.now
         (map (λ name. name.now) names.now) max stop out.old out.new) }
+    ensures unshown { StaysUnshown progress.old progress.new }
 {
     alike_files_have_one_reply();
     alike_files_leave_out_the_same();
+    let Resources { alloc, seed } = resources;
     let files = match read_files(alloc, folder, names, max, comments_for(command, max)) {
         Ok(files) => files,
         Err(FileFault::CannotRead(name)) => return Err(Stop::CannotRead { name, label: None }),
@@ -159,7 +162,7 @@ pub(crate) fn run_over<'a, F: Folder, O: Write>(
         Err(FileFault::Memory) => return Err(Stop::Memory),
     };
     let files = plain_files(alloc, &files)?;
-    let reply = reply_to(alloc, seed, command, &files)?;
+    let reply = watched_reply(resources, command, &files, progress)?;
     let notes = notes_beside(alloc, seed, &files, command, &reply.text)?;
     noted_reply(out, &reply, notes)
 }
@@ -189,13 +192,13 @@ fn text_command<'c>(question: TextQuestion, label: &'c [u8], proof: File<'c>) ->
 /// # Errors
 ///
 /// As for `run_over`.
-fn text_over<'a, F: Folder, O: Write>(
-    alloc: Global,
-    seed: Seed,
+fn text_over<'a, F: Folder, O: Write, P: Write>(
+    resources: Resources,
     folder: &F,
     asked: &AskedText<'a>,
     max: usize,
     out: &mut Counted<O>,
+    progress: &mut ProgressLine<P>,
 ) -> Result<Answer, Stop<'a>>
     requires { faults_of out.old < u64.MAX }
     ensures replies { IfOk result (λ answer. (text : _) × IsTextReplyOver asked.now.question
@@ -205,8 +208,9 @@ fn text_over<'a, F: Folder, O: Write>(
     ensures stops { IfErr result (λ stop. StopsText asked.now.question O.contents
         (F.holds folder.now) (F.may_fail folder.now) asked.now.label.now asked.now.proof.now
         (map (λ name. name.now) asked.now.names.items) max stop out.old out.new) }
+    ensures unshown { StaysUnshown progress.old progress.new }
 {
-    let file = match read_file(alloc, folder, asked.proof, max, Comments::Kept) {
+    let file = match read_file(resources.alloc, folder, asked.proof, max, Comments::Kept) {
         Ok(file) => file,
         Err(FileFault::CannotRead(name)) => return Err(Stop::CannotRead { name, label: None }),
         Err(FileFault::TooLong) => return reply(out, TOO_LONG_PROOF, Status::Stopped),
@@ -217,17 +221,18 @@ fn text_over<'a, F: Folder, O: Write>(
         bytes: &file.bytes,
     };
     let command = text_command(asked.question, asked.label.as_bytes(), proof);
-    run_over(alloc, seed, folder, &command, &asked.names, max, out)
+    let names = &asked.names;
+    run_over(resources, folder, &command, names, max, out, progress)
 }
 
 /// Does what the words ask for, and gives back what goes with the answer that was written.
-fn answer<'a, F: Folder, O: Write>(
-    alloc: Global,
-    seed: Seed,
+fn answer<'a, F: Folder, O: Write, P: Write>(
+    resources: Resources,
     folder: &F,
     texts: &Texts<'_>,
     words: &'a [&'a str],
     out: &mut Counted<O>,
+    progress: &mut ProgressLine<P>,
 ) -> Result<Answer, Stop<'a>>
     requires { faults_of out.old < u64.MAX }
     ensures answers { IfOk result (λ answer. (text : _) × AnswersWords (F.holds folder.now)
@@ -236,7 +241,9 @@ fn answer<'a, F: Folder, O: Write>(
     ensures stops { IfErr result (λ stop. Stops O.contents (F.holds folder.now)
         (F.may_fail folder.now) texts.now BYTE_LIMIT (map (λ word. word.now) words.entry.now)
         stop out.old out.new) }
+    ensures unshown { StaysUnshown progress.old progress.new }
 {
+    let alloc = resources.alloc;
     match request_of(alloc, words)? {
         Request::Help(topic) => {
             let text = help_text(alloc, texts, topic)?;
@@ -248,13 +255,15 @@ fn answer<'a, F: Folder, O: Write>(
             reply(out, text.as_bytes(), Status::Done)
         }
         Request::Run { command, names } => {
-            match run_over(alloc, seed, folder, &command, &names, BYTE_LIMIT, out) {
+            match run_over(
+                resources, folder, &command, &names, BYTE_LIMIT, out, progress,
+            ) {
                 Ok(answer) => Ok(answer),
                 Err(stop) => Err(labelled(stop, asked_label(&command))),
             }
         }
         Request::Text(asked) => {
-            match text_over(alloc, seed, folder, &asked, BYTE_LIMIT, out) {
+            match text_over(resources, folder, &asked, BYTE_LIMIT, out, progress) {
                 Ok(answer) => Ok(answer),
                 Err(stop) => Err(labelled(stop, Some(asked.label.as_bytes()))),
             }
@@ -325,23 +334,24 @@ pub(crate) fn tell<E: Write>(stop: &Stop<'_>, err: &mut Counted<E>) -> Status
 /// - 4: a file, a device, a limit or memory stood in the way.
 ///
 /// It stops writing to either device at that one's first failed call. A failing standard error
-/// changes no status.
-pub(crate) fn serve<F: Folder, O: Write, E: Write>(
-    alloc: Global,
-    seed: Seed,
+/// changes no status. Progress is told on a device of its own, where it is shown.
+pub(crate) fn serve<F: Folder, O: Write, E: Write, P: Write>(
+    resources: Resources,
     folder: &F,
     texts: &Texts<'_>,
     words: &[&str],
     out: &mut Counted<O>,
     err: &mut Counted<E>,
+    progress: &mut ProgressLine<P>,
 ) -> u8
     requires out_faults { faults_of out.old < u64.MAX }
     requires err_faults { faults_of err.old < u64.MAX }
     ensures status { result ≤ 4 }
     ensures ends { Ends O.contents E.contents (F.holds folder.now) (F.may_fail folder.now) texts.now
         BYTE_LIMIT (map (λ word. word.now) words.entry.now) result out.old out.new err.old err.new }
+    ensures unshown { StaysUnshown progress.old progress.new }
 {
-    match answer(alloc, seed, folder, texts, words, out) {
+    match answer(resources, folder, texts, words, out, progress) {
         Ok(answer) => {
             tell_notes(err, answer.notes());
             answer.status.number()
@@ -363,14 +373,14 @@ fn texts_of(alloc: Global, words: &[String]) -> Result<Vec<&str>, AllocError>
 }
 
 /// Serves the words with which the program was started.
-pub(crate) fn start<A: Arguments, F: Folder, O: Write, E: Write>(
-    alloc: Global,
-    seed: Seed,
+pub(crate) fn start<A: Arguments, F: Folder, O: Write, E: Write, P: Write>(
+    resources: Resources,
     arguments: &A,
     folder: &F,
     texts: &Texts<'_>,
     out: &mut Counted<O>,
     err: &mut Counted<E>,
+    progress: &mut ProgressLine<P>,
 ) -> u8
     requires out_faults { faults_of out.old < u64.MAX }
     requires err_faults { faults_of err.old < u64.MAX }
@@ -380,13 +390,15 @@ pub(crate) fn start<A: Arguments, F: Folder, O: Write, E: Write>(
         BYTE_LIMIT words result out.old out.new err.old err.new)
         ⊎ EndsWithoutWords E.contents (A.may_fail arguments.now) result
         out.old out.new err.old err.new }
+    ensures unshown { StaysUnshown progress.old progress.new }
 {
+    let alloc = resources.alloc;
     let words = match arguments.words(alloc) {
         Ok(words) => words,
         Err(fault) => return tell(&Stop::from(fault), err).number(),
     };
     match texts_of(alloc, &words) {
-        Ok(words) => serve(alloc, seed, folder, texts, &words, out, err),
+        Ok(words) => serve(resources, folder, texts, &words, out, err, progress),
         Err(fault) => tell(&Stop::from(fault), err).number(),
     }
 }

@@ -3,8 +3,11 @@
 
 mod failing;
 mod folder;
+mod progress_line;
 
+use crate::folder::Resources;
 use crate::pages::Page;
+use crate::progress_line::ProgressLine;
 use crate::serve::{run_over, serve, start};
 use crate::texts::Texts;
 use crate::words::{Request, TextQuestion, request_of};
@@ -80,19 +83,32 @@ const TEXTS: Texts<'static> = Texts {
     chapters: &[],
 };
 
+/// Memory, and the seed that everybody knows.
+fn resources(alloc: Global) -> Resources {
+    Resources {
+        alloc,
+        seed: Seed::known(),
+    }
+}
+
+/// Progress that isn't shown.
+fn unshown(alloc: Global) -> ProgressLine<Vec<u8>> {
+    ProgressLine::new(Vec::new(alloc), false)
+}
+
 /// The status, and what was written to standard output and to standard error.
 fn outcome_of(alloc: Global, words: &[&str]) -> (u8, Vec<u8>, Vec<u8>) {
     let entries = ENTRIES;
     let mut out = Counted::new(Vec::new(alloc));
     let mut err = Counted::new(Vec::new(alloc));
     let status = serve(
-        alloc,
-        Seed::known(),
+        resources(alloc),
         &Shelf(&entries),
         &TEXTS,
         words,
         &mut out,
         &mut err,
+        &mut unshown(alloc),
     );
     (status, out.into_inner(), err.into_inner())
 }
@@ -450,13 +466,13 @@ fn refuses_files_that_are_too_long(rt: HostRuntime) {
     let names = ["four.mm", "four.mm", "none.mm"];
     let mut out = Counted::new(Vec::new(rt.alloc()));
     let answer = run_over(
-        rt.alloc(),
-        Seed::known(),
+        resources(rt.alloc()),
         &folder,
         &CHECK,
         &names,
         7,
         &mut out,
+        &mut unshown(rt.alloc()),
     );
     let status = answer.ok().map(|answer| answer.status);
     assert_eq!(rt; status, Some(Status::Stopped));
@@ -464,13 +480,13 @@ fn refuses_files_that_are_too_long(rt: HostRuntime) {
 
     let mut out = Counted::new(Vec::new(rt.alloc()));
     let answer = run_over(
-        rt.alloc(),
-        Seed::known(),
+        resources(rt.alloc()),
         &folder,
         &CHECK,
         &names,
         8,
         &mut out,
+        &mut unshown(rt.alloc()),
     );
     assert!(rt; answer.is_err());
     assert!(rt; out.into_inner().is_empty());
@@ -491,13 +507,13 @@ fn stops_writing(
     let mut out = failing_writer(alloc, fails_at, failure);
     let mut err = Counted::new(Vec::new(alloc));
     let status = serve(
-        alloc,
-        Seed::known(),
+        resources(alloc),
         &Shelf(&entries),
         &TEXTS,
         words,
         &mut out,
         &mut err,
+        &mut unshown(alloc),
     );
     let out = out.into_inner();
     status == 4
@@ -535,13 +551,13 @@ fn stops_telling(alloc: Global, words: &[&str], line: &[u8], fails_at: usize) ->
     let mut out = Counted::new(Vec::new(alloc));
     let mut err = failing_writer(alloc, fails_at, Failure::Error);
     let status = serve(
-        alloc,
-        Seed::known(),
+        resources(alloc),
         &Shelf(&entries),
         &TEXTS,
         words,
         &mut out,
         &mut err,
+        &mut unshown(alloc),
     );
     let err = err.into_inner();
     status == 4
@@ -577,13 +593,13 @@ fn stops_reading(alloc: Global, words: &[&str], fails_at: usize) -> bool {
     let mut out = Counted::new(Vec::new(alloc));
     let mut err = Counted::new(Vec::new(alloc));
     let status = serve(
-        alloc,
-        Seed::known(),
+        resources(alloc),
         &folder,
         &TEXTS,
         words,
         &mut out,
         &mut err,
+        &mut unshown(alloc),
     );
     status == 4
         && calls.get() == fails_at
@@ -619,13 +635,13 @@ fn tells_why_words_are_unread(rt: HostRuntime) {
         let mut out = Counted::new(Vec::new(rt.alloc()));
         let mut err = Counted::new(Vec::new(rt.alloc()));
         let status = start(
-            rt.alloc(),
-            Seed::known(),
+            resources(rt.alloc()),
             &Wordless(kind),
             &Shelf(&entries),
             &TEXTS,
             &mut out,
             &mut err,
+            &mut unshown(rt.alloc()),
         );
         assert_eq!(rt; status, wanted);
         assert!(rt; out.into_inner().is_empty());

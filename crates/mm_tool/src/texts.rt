@@ -57,7 +57,7 @@ Commands:
                          proof in place of its own
   packed [--file] LABEL FILES..
                          likewise with the one compressed proof of the theorem with this label that
-                         makes each part of it once
+                         makes each part of two or more steps once
   small [--file] LABEL FILES..
                          likewise with a compressed proof whose labels stand by how often they are
                          used; with --file only where it has fewer bytes than the one in its place
@@ -229,7 +229,7 @@ Examples:
   mm help check
 ";
 
-const VERSION: &str = "mm 0.1.0, proved with rattle-kit-13f logic dac8208d650f15bf\n";
+const VERSION: &str = "mm 0.1.0, proved with rattle-kit-13b logic dac8208d650f15bf\n";
 
 // Each long text comes from a call, so that what is proved of a caller doesn't hold its bytes.
 fn help() -> &'static str {

@@ -1,6 +1,8 @@
--- What `read_files`, `reply_to` and the writing say is what is said of the command over the files.
-use Rattle.std.proofs.Common.{List, ℕ, map, ap, ◌∙◌, subst, inl}
+-- What `read_files`, `watched_reply` and the writing say is what is said of the command over the
+-- files.
+use Rattle.std.proofs.Common.{List, ℕ, map, ap, ◌∙◌, subst, inl, inr, refl, codes}
 use Rattle.mm_text.specs.Files.{plain_file}
+use Rattle.mm_tool.specs.Answer.{quiet}
 use Rattle.mm_tool.specs.Folder.{IsFileFault, plain_read}
 use Rattle.mm_tool.specs.declared.files.FileFault.{FileFault}
 use Rattle.mm_check.specs.Reply.{IsReplyTo}
@@ -17,8 +19,22 @@ returns-in-Err-TooLong-clause-stops g c =
     stops_too_long g.O.Write.contents (g.F.Folder.holds c.args.folder.now) (g.F.Folder.may_fail c.args.folder.now) c.args.command.now _ c.args.max c.reply.result
     _ _ c.reply.ensures.stop c.reply.ensures.beginning (subst Fault c.in-Err-TooLong.field-0-is c.in-Err-TooLong.ensures.fault)
 
-pub reply_to-requires : goal.reply_to-requires
-reply_to-requires g c =
+pub returns-in-Err-TooLong-clause-replies : goal.returns-in-Err-TooLong-clause-replies
+returns-in-Err-TooLong-clause-replies g c =
+    let holds = g.F.Folder.holds c.args.folder.now in
+    let may_fail = g.F.Folder.may_fail c.args.folder.now in
+    let names : List (List ℕ) = map (λ n. n.now) c.args.names.now in
+    let Fault : FileFault → Type 0 = IsFileFault holds may_fail names c.args.max in
+    replies_written g.O.Write.contents holds may_fail c.args.command.now names c.args.max
+    c.reply.result (codes "load F3\n") (quiet 4) _ _ c.reply.ensures.outcome c.reply.ensures.all
+    (inr (
+      subst Fault c.in-Err-TooLong.field-0-is c.in-Err-TooLong.ensures.fault,
+      refl,
+      refl,
+    ))
+
+pub watched_reply-requires : goal.watched_reply-requires
+watched_reply-requires g c =
     let (wholes, held, within, reads) = c.in-Ok.ensures.read in
     let given = ap (map plain_file) c.deref-2.ensures.value ∙ c.in_ok-files.ensures
     ∙ ap (map plain_read) c.deref.ensures.value in
@@ -42,11 +58,11 @@ returns-clause-replies g c =
       held,
       within,
       reply_over c.alike_files_have_one_reply.ensures c.comments_for.result c.args.command.now
-          c.args.max c.comments_for.ensures wholes _ reads within text _
+          c.args.max c.comments_for.ensures.0 wholes _ reads within text _
           (subst (λ l. IsReplyTo l c.args.command.now text (number_of c.in_ok-reply.reply.status))
-          given c.in_ok-reply.ensures),
+          given c.in_ok-reply.ensures.reply),
       notes_over c.alike_files_leave_out_the_same.ensures c.comments_for.result
-          c.args.command.now c.args.max c.comments_for.ensures wholes _ reads within text notes
+          c.args.command.now c.args.max c.comments_for.ensures.0 wholes _ reads within text notes
           (rw (noted, c.deref-4.ensures.value) at c.in_ok-notes.ensures),
     ))
 
@@ -66,10 +82,10 @@ returns-clause-stops g c =
       held,
       within,
       reply_over c.alike_files_have_one_reply.ensures c.comments_for.result c.args.command.now
-          c.args.max c.comments_for.ensures wholes _ reads within text _
+          c.args.max c.comments_for.ensures.0 wholes _ reads within text _
           (subst (λ l. IsReplyTo l c.args.command.now text (number_of c.in_ok-reply.reply.status))
-          given c.in_ok-reply.ensures),
+          given c.in_ok-reply.ensures.reply),
       notes_over c.alike_files_leave_out_the_same.ensures c.comments_for.result
-          c.args.command.now c.args.max c.comments_for.ensures wholes _ reads within text notes
+          c.args.command.now c.args.max c.comments_for.ensures.0 wholes _ reads within text notes
           (rw (noted, c.deref-4.ensures.value) at c.in_ok-notes.ensures),
     ))

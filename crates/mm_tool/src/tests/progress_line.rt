@@ -1,0 +1,101 @@
+//! The line that tells how far a long reply has come.
+
+use super::failing::{Failure, failing_writer};
+use super::folder::{Entry, Shelf};
+use super::{TEXTS, resources};
+use crate::progress_line::ProgressLine;
+use crate::serve::serve;
+use mm_text::Counted;
+use std::alloc::Global;
+use std::io::Write;
+
+// The proof of kk gets shorter by add, and that of th is one by add alone.
+const ENTRIES: [Entry; 1] = [Entry {
+    name: "added.mm",
+    bytes: b"$c wff |- ( -> ) $.
+$v P Q R $.
+wp $f wff P $. wq $f wff Q $. wr $f wff R $.
+wim $a wff ( P -> Q ) $.
+${ min $e |- P $. maj $e |- ( P -> Q ) $. mp $a |- Q $. $}
+k $a |- ( P -> ( Q -> P ) ) $.
+${ add.1 $e |- P $. add $p |- ( Q -> P ) $= ( wim k mp ) ABADCABEF $. $}
+kk $p |- ( R -> ( P -> ( Q -> P ) ) ) $= ( wim k mp ) ABADDZCGDABEGCEF $.
+${ th.1 $e |- P $. th $p |- ( Q -> P ) $= ( wim k mp ) ABADCABEF $. $}
+",
+    breaks: false,
+}];
+
+const LIST: [&str; 4] = ["mm", "minimize", "--list", "added.mm"];
+
+const FILE: [&str; 5] = ["mm", "minimize", "--all", "added.mm", "added.mm"];
+
+/// The status, and what was written to standard output and to standard error.
+fn outcome_of<P: Write>(
+    alloc: Global,
+    words: &[&str],
+    progress: &mut ProgressLine<P>,
+) -> (u8, Vec<u8>, Vec<u8>) {
+    let entries = ENTRIES;
+    let mut out = Counted::new(Vec::new(alloc));
+    let mut err = Counted::new(Vec::new(alloc));
+    let status = serve(
+        resources(alloc),
+        &Shelf(&entries),
+        &TEXTS,
+        words,
+        &mut out,
+        &mut err,
+        progress,
+    );
+    (status, out.into_inner(), err.into_inner())
+}
+
+/// What is told of progress.
+fn told(alloc: Global, words: &[&str], is_shown: bool) -> Vec<u8> {
+    let mut progress = ProgressLine::new(Vec::new(alloc), is_shown);
+    let (_status, _out, _err) = outcome_of(alloc, words, &mut progress);
+    progress.device.into_inner()
+}
+
+#[test]
+fn is_told_where_it_is_shown(rt: HostRuntime) {
+    for (words, line) in [
+        (
+            LIST.as_slice(),
+            b"\rmm: 3 of 3 theorems, 15 bytes saved\n".as_slice(),
+        ),
+        (
+            FILE.as_slice(),
+            b"\rmm: 3 of 3 theorems, 1 bytes saved\n".as_slice(),
+        ),
+        (
+            ["mm", "minimize", "kk", "added.mm"].as_slice(),
+            b"".as_slice(),
+        ),
+        (["mm", "check", "added.mm"].as_slice(), b"".as_slice()),
+    ] {
+        let shown = told(rt.alloc(), words, true);
+        assert!(rt; shown.as_slice() == line, "at {words:?}");
+        assert!(rt; told(rt.alloc(), words, false).is_empty(), "at {words:?}");
+    }
+}
+
+// The line takes one byte a call.
+#[test]
+fn stops_where_its_device_fails(rt: HostRuntime) {
+    let line = told(rt.alloc(), &LIST, true);
+    let mut unshown = ProgressLine::new(Vec::new(rt.alloc()), false);
+    let (wanted, reply, _err) = outcome_of(rt.alloc(), &LIST, &mut unshown);
+    for fails_at in 1..=line.len() {
+        let device = failing_writer(rt.alloc(), fails_at, Failure::Error);
+        let mut progress = ProgressLine::new(device.into_inner(), true);
+        let (status, out, err) = outcome_of(rt.alloc(), &LIST, &mut progress);
+        let device = progress.device.into_inner();
+        assert_eq!(rt; status, wanted, "at {fails_at}");
+        assert!(rt;
+            out.as_slice() == reply.as_slice() && err.is_empty(),
+            "at {fails_at}"
+        );
+        assert_eq!(rt; device.calls, fails_at);
+    }
+}
