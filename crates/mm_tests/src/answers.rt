@@ -2,7 +2,7 @@
 //! with the command.
 
 use crate::tests::{contents_of, expect_reply, files_of, joined};
-use crate::{Asked, forms, sameness, saving, saving_all};
+use crate::{Asked, form_lines, forms, sameness, saving, saving_all};
 use mm_check::{
     AskFault, AskRule, Checked, Command, Form, Question, Rule, SaveFault, check, saved, saved_all,
 };
@@ -208,12 +208,12 @@ fn doublings(rt: HostRuntime) -> Result<(), Fail> {
 
 #[test]
 fn lines_of_labels(rt: HostRuntime) -> Result<(), Fail> {
-    compare(&rt, rt.alloc(), &forms::LINES_OF_LABELS)
+    compare(&rt, rt.alloc(), &form_lines::LINES_OF_LABELS)
 }
 
 #[test]
 fn lines_of_letters(rt: HostRuntime) -> Result<(), Fail> {
-    compare(&rt, rt.alloc(), &forms::LINES_OF_LETTERS)
+    compare(&rt, rt.alloc(), &form_lines::LINES_OF_LETTERS)
 }
 
 #[test]

@@ -12,10 +12,7 @@ mod schemes;
 mod taking;
 
 use crate::calls::frame::taking::{book_of, empty_book};
-use mm_frame::{
-    Book, Found, MeaningRule, RuleFault, Sym, active_statements, one_frame, one_label_number,
-    one_number, open_blocks, open_count,
-};
+use mm_frame::{Book, Found, MeaningRule, RuleFault, Sym, one_frame, one_number};
 use mm_text::File;
 use std::alloc::{AllocError, Global};
 use std::test::Fail;
@@ -84,9 +81,5 @@ fn faults_have_messages(rt: HostRuntime) -> Result<(), Fail> {
 #[test]
 fn laws_are_called() {
     one_number();
-    one_label_number();
-    open_blocks();
-    active_statements();
-    open_count();
     one_frame();
 }

@@ -1,6 +1,6 @@
 //! Which of the handed files nothing includes.
 
-use mm_text::{File, Seed, alike_files_leave_out_the_same, left_out, top_file_is_never_left_out};
+use mm_text::{File, Seed, alike_files_leave_out_the_same, left_out};
 use std::alloc::Global;
 use std::test::Fail;
 
@@ -100,6 +100,5 @@ fn lists_nothing_where_two_have_one_name(rt: HostRuntime) -> Result<(), Fail> {
 
 #[test]
 fn laws_are_called() {
-    top_file_is_never_left_out();
     alike_files_leave_out_the_same();
 }

@@ -1,7 +1,7 @@
 //! The label that is nearest to another, and a reply before it is written.
 
 use crate::tests::CHECK;
-use mm_check::{Status, nearest_label, reply_to};
+use mm_check::{Status, Unwatched, nearest_label, reply_to};
 use mm_text::{File, Seed};
 use std::test::Fail;
 
@@ -36,7 +36,7 @@ fn makes_a_reply(rt: HostRuntime) -> Result<(), Fail> {
         name: b"a.mm",
         bytes: b"$c a $.",
     }];
-    let reply = reply_to(rt.alloc(), Seed::known(), &CHECK, &files)?;
+    let reply = reply_to(rt.alloc(), Seed::known(), &CHECK, &files, &mut Unwatched)?;
     assert!(rt; reply.text.as_slice() == b"yes 1 statements 0 proofs\n".as_slice());
     assert_eq!(rt; reply.status, Status::Done);
     Ok(())

@@ -28,10 +28,9 @@ use crate::databases::{HEAD, LIMIT};
 use mm_frame::{Book, Found, LabelId, Piece, ShortPiece, Sym, Taken};
 use mm_proof::{
     Flat, Line, Name, Parsed, Profile, ProofFault, ProofRule, Rows, Steps, Store, Used, UsedSteps,
-    by_spelling, by_word, fewest_steps, limits_aside, listing, made_by_word, mark_before_any_step,
-    one_fit, one_packed, one_prefix_verdict, one_prefix_verdict_under, one_tree, one_verdict,
-    one_verdict_under, one_word, some_packed, some_verdict, steps_make_children, tag_over_marks,
-    told_by_packed, uses_of, verify,
+    by_spelling, by_word, fewest_steps, limits_aside, listing, one_packed,
+    one_prefix_verdict_under, one_tree, one_verdict_under, some_packed, told_by_packed, uses_of,
+    verify,
 };
 use mm_text::{File, Kind, Seed, Statement, Statements, Token};
 use std::alloc::{AllocError, Global};
@@ -604,38 +603,55 @@ fn expect_conclusion<S: Store + Drop>(rt: &impl Abort, mut store: S) -> Result<(
     Ok(())
 }
 
+/// An entry that is what pieces say, and one that they begin with, where a store tells it at once.
+fn expect_said<S: Store + Drop>(rt: &impl Abort, mut store: S, is_told: bool) -> Result<(), Fail>
+    requires stack { S.stack store ≡ [] }
+    requires kept { S.kept store ≡ [] }
+{
+    store.push(&[Sym(1), Sym(2), Sym(3)])?;
+    store.push(&[Sym(5), Sym(2), Sym(3)])?;
+    store.push(&[Sym(5), Sym(2), Sym(3), Sym(3)])?;
+    let Some(first) = ShortPiece::of(Piece::Symbol(Sym(5))) else {
+        // The number of the symbol is below 2,147,483,648.
+        unreachable!()
+    };
+    let Some(value) = ShortPiece::of(Piece::Value(0)) else {
+        // The index is below 2,147,483,648.
+        unreachable!()
+    };
+    let whole = store.is_said_there(0, &[first, value], 1);
+    assert_eq!(rt; whole, if is_told { Some(true) } else { None });
+    let begin = store.is_said_there(0, &[first, value], 2);
+    assert_eq!(rt; begin, if is_told { Some(false) } else { None });
+    assert_eq!(rt; store.at(0), [Sym(1), Sym(2), Sym(3)].as_slice());
+    Ok(())
+}
+
 #[test]
 fn stores(rt: HostRuntime) -> Result<(), Fail> {
     let alloc = rt.alloc();
     expect_two_lists(&rt, Flat::new(alloc))?;
     expect_two_lists(&rt, Rows::new(alloc))?;
     expect_conclusion(&rt, Flat::new(alloc))?;
-    expect_conclusion(&rt, Rows::new(alloc))
+    expect_conclusion(&rt, Rows::new(alloc))?;
+    expect_said(&rt, Flat::new(alloc), true)?;
+    expect_said(&rt, Rows::new(alloc), false)
 }
 
 #[test]
 fn laws_are_called() {
-    one_fit();
     one_tree();
-    one_word();
     by_word();
     by_spelling();
-    some_verdict();
-    one_verdict();
-    one_prefix_verdict();
     one_verdict_under();
     one_prefix_verdict_under();
     limits_aside();
-    mark_before_any_step();
-    tag_over_marks();
-    made_by_word();
 }
 
 #[test]
 fn laws_of_fully_shared_proofs_are_called() {
     one_packed();
     some_packed();
-    steps_make_children();
     fewest_steps();
     told_by_packed();
 }

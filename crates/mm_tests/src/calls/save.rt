@@ -5,10 +5,9 @@ ghost use Rattle.std.specs.Prelude.{◌≡◌, ◌≤◌, length};
 use crate::databases::FIRST;
 use crate::tests::reply_to;
 use mm_check::{
-    Command, Form, Question, Status, all_saved_proofs_are_strict, one_all_saved,
-    one_save_all_answer, one_save_answer, one_saved, packed_files_are_strict, packed_texts_tell,
-    saved, saved_all, saving_again_changes_nothing, saving_all_again_changes_nothing,
-    saving_all_changes_no_answer, saving_changes_no_answer, saving_in_turn_is_saving_all,
+    Command, Form, Question, Status, all_saved_proofs_are_strict, one_all_saved, one_saved,
+    packed_texts_tell, saved, saved_all, saving_again_changes_nothing,
+    saving_all_again_changes_nothing, saving_all_changes_no_answer, saving_changes_no_answer,
     small_files_do_not_grow,
 };
 use mm_text::{File, Seed};
@@ -210,10 +209,7 @@ fn laws_of_saving_whole_files_are_called() {
     saving_all_changes_no_answer();
     all_saved_proofs_are_strict();
     one_all_saved();
-    one_save_all_answer();
     saving_all_again_changes_nothing();
-    saving_in_turn_is_saving_all();
-    packed_files_are_strict();
 }
 
 #[test]
@@ -222,6 +218,5 @@ fn laws_of_saving_and_forms_are_called() {
     small_files_do_not_grow();
     saving_changes_no_answer();
     one_saved();
-    one_save_answer();
     saving_again_changes_nothing();
 }

@@ -1,8 +1,11 @@
 //! Shorter proofs of a theorem, whatever a search gives.
 
-use mm_check::{AskFault, AskRule, Checked, OwnSize, Search, check};
+use mm_check::{
+    AskFault, AskRule, Checked, Command, OwnSize, Search, SoFar, Watch, WholeQuestion, check,
+    reply_to,
+};
 use mm_frame::{Book, LabelId};
-use mm_proof::Steps;
+use mm_proof::{Profile, Steps};
 use mm_text::{File, Seed};
 use std::alloc::{AllocError, Global};
 use std::test::Fail;
@@ -134,5 +137,54 @@ fn asks_for_a_proved_theorem(rt: HostRuntime) -> Result<(), Fail> {
             .ok_or("told")?;
         assert_eq!(rt; fault, AskFault::Rule(rule), "of {label:?}");
     }
+    Ok(())
+}
+
+/// Counts how often it is told, and keeps what it was told last.
+#[derive(Clone, Copy)]
+struct Counting {
+    calls: usize,
+    last: Option<SoFar>,
+}
+
+impl Watch for Counting {
+    fn told(&mut self, so_far: SoFar) {
+        self.calls = self.calls.saturating_add(1);
+        self.last = Some(so_far);
+    }
+}
+
+/// What is told on the way to the reply to a question about `LONG`.
+fn watched(alloc: Global, question: WholeQuestion) -> Result<Counting, Fail> {
+    let files = [File {
+        name: b"a.mm",
+        bytes: LONG,
+    }];
+    let mut watch = Counting {
+        calls: 0,
+        last: None,
+    };
+    let command = Command::Whole {
+        profile: Profile::Lenient,
+        question,
+    };
+    reply_to(alloc, Seed::known(), &command, &files, &mut watch)?;
+    Ok(watch)
+}
+
+// The proof of `th` has 22 bytes in place of 36, and each `$p` but `inc` is a theorem.
+#[test]
+fn tells_how_far_it_has_come(rt: HostRuntime) -> Result<(), Fail> {
+    let told = watched(rt.alloc(), WholeQuestion::Shorter)?;
+    assert_eq!(rt; told.calls, 7);
+    assert_eq!(rt;
+        told.last,
+        Some(SoFar {
+            theorems: 7,
+            of: 7,
+            bytes: 14,
+        })
+    );
+    assert_eq!(rt; watched(rt.alloc(), WholeQuestion::Check)?.calls, 0);
     Ok(())
 }

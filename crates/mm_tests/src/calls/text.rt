@@ -3,7 +3,7 @@
 use mm_text::{
     File, Kind, LoadFault, LoadRule, Seed, Statement, Statements, TextFault, TextRule, Token,
     WriteFault, alike_files_are_read_alike, one_reading, proof_spans_follow, proofs_stand_in_spans,
-    replaced_proofs_are_read, tokens_are_longest_runs,
+    replaced_proofs_are_read,
 };
 use std::alloc::Global;
 use std::test::Fail;
@@ -412,7 +412,6 @@ fn faults_of_files_and_devices_have_messages(rt: HostRuntime) -> Result<(), Fail
 
 #[test]
 fn laws_are_called() {
-    tokens_are_longest_runs();
     one_reading();
     alike_files_are_read_alike();
     proofs_stand_in_spans();

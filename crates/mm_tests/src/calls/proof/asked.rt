@@ -6,7 +6,7 @@ ghost use Rattle.mm_proof.specs.Steps.{IsProofNumber};
 
 use crate::calls::proof::{Theorem, first_theorem};
 use mm_frame::{Book, Found, Sym};
-use mm_proof::{asked_by, missing_pairs, one_missing, one_shared, shared_variables};
+use mm_proof::{asked_by, missing_pairs, shared_variables};
 use mm_text::File;
 use std::alloc::Global;
 use std::test::Fail;
@@ -190,10 +190,4 @@ fn pairs_are_missing(rt: HostRuntime) -> Result<(), Fail> {
     drop(theorem);
     assert!(rt; answer?);
     Ok(())
-}
-
-#[test]
-fn laws_of_what_is_asked_are_called() {
-    one_shared();
-    one_missing();
 }

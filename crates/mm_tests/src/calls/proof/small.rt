@@ -11,8 +11,7 @@ use crate::calls::proof::forms::{accepted_steps, is_packed};
 use crate::calls::proof::{SHARED, Theorem, first_theorem, joined};
 use crate::databases::HEAD;
 use mm_proof::{
-    Packed, compress_small, no_better_order, one_small, small_is_no_larger, small_is_strict,
-    some_small,
+    Packed, compress_small, no_better_order, one_small, small_is_no_larger, some_small,
 };
 use mm_text::File;
 use std::alloc::Global;
@@ -109,7 +108,6 @@ fn a_pair_is_written_out(rt: HostRuntime) -> Result<(), Fail> {
 fn laws_of_small_proofs_are_called() {
     one_small();
     some_small();
-    small_is_strict();
     no_better_order();
     small_is_no_larger();
 }
