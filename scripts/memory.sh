@@ -10,6 +10,8 @@
 # - No room is asked for by the greatest number of a type, which is refused whatever memory there
 #   is. Three places need that, where a number passes what is stored in 32 bits: `reserve_numbered` of
 #   mm_frame's lists.rt, `push_piece` of its pattern.rt, and `make_entry_room` of mm_proof's parse.rt.
+# - Room is asked for by a product only where a refusal is passed over, by `let _ =`: else more might
+#   be asked for than is needed, and its refusal told.
 set -eu
 top=$(CDPATH='' cd -- "$(dirname -- "$0")/.." && pwd)
 cd "$top"
@@ -45,6 +47,14 @@ find crates -name out -prune -o -path crates/mm_tests -prune -o -path '*/src/*' 
         }
         return 0
     }
+    # whether a call for room has a product in it, or the name of one
+    function is_product(text,    name) {
+        if (text ~ / \* | << |_mul\(|pow\(/) { return 1 }
+        for (name in products) {
+            if (text ~ "(^|[^A-Za-z0-9_])" name "([^A-Za-z0-9_]|$)") { return 1 }
+        }
+        return 0
+    }
     # what a pattern over several lines, or a call for room, was when it began
     function end_pattern() {
         if (adds_variant(pending)) {
@@ -56,6 +66,9 @@ find crates -name out -prune -o -path crates/mm_tests -prune -o -path '*/src/*' 
         if (call != "" && is_greatest(call) && !(file ":" name in needs_it)) {
             complain(file, call_line, "asks for more room than there can be", call)
         }
+        if (call != "" && !is_hint && is_product(call)) {
+            complain(file, call_line, "asks for room by a product, and tells its refusal", call)
+        }
         call = ""
         depth = 0
     }
@@ -64,6 +77,7 @@ find crates -name out -prune -o -path crates/mm_tests -prune -o -path '*/src/*' 
         if (call == "") {
             if (!match(text, /(reserve|with_capacity)[a-z_]*(::<[^>]*>)?\(/)) { return }
             if (text ~ /fn [a-z_]*(reserve|with_capacity)/) { return }
+            is_hint = substr(text, 1, RSTART - 1) ~ /let _ = [a-z_.]*$/
             text = substr(text, RSTART)
             call_line = FNR
         }
@@ -91,21 +105,24 @@ find crates -name out -prune -o -path crates/mm_tests -prune -o -path '*/src/*' 
         name = ""
         file = FILENAME
         for (each in greatest) { delete greatest[each] }
+        for (each in products) { delete products[each] }
     }
     /^[ \t]*\/\// { next }
     /^[ \t]*(pub(\([a-z]+\))? )?(ghost )?use / { next }
     /^impl.* From<(std::alloc::)?Alloc(Error|Failed<[^>]*>)> for / { conversion = 1 }
     /^}/ { conversion = 0 }
-    match($0, /fn [a-z_0-9]+/) { name = substr($0, RSTART + 3, RLENGTH - 3) }
+    match($0, /fn [a-z_0-9]+/) {
+        name = substr($0, RSTART + 3, RLENGTH - 3)
+        for (each in products) { delete products[each] }
+    }
     /^[ \t]*(pub(\([a-z]+\))? )?(let|const|static) .*=/ && !/(reserve|with_capacity)/ {
         text = $0
         sub(/.*=/, "", text)
-        if (is_greatest(text)) {
-            text = $0
-            sub(/^[ \t]*(pub(\([a-z]+\))? )?(let|const|static) (mut )?/, "", text)
-            sub(/[^A-Za-z0-9_].*/, "", text)
-            greatest[text]
-        }
+        named = $0
+        sub(/^[ \t]*(pub(\([a-z]+\))? )?(let|const|static) (mut )?/, "", named)
+        sub(/[^A-Za-z0-9_].*/, "", named)
+        if (is_greatest(text)) { greatest[named] }
+        if (is_product(text)) { products[named] }
     }
     { gather($0) }
     {

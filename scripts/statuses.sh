@@ -69,6 +69,22 @@ prints() {
     fi
 }
 
+# watched TOLD WORDS..: the program, run with these words, writes this to standard error where that is
+# a terminal. It is written by printf's rules. Left out where no `script` makes a terminal.
+watched() {
+    printf "$1" >wanted.txt
+    shift
+    if ! script -qec true /dev/null </dev/null >got.txt 2>&1; then
+        return
+    fi
+    script -qec "'$mm' $* >/dev/null" /dev/null </dev/null >got.txt || :
+    if ! cmp -s got.txt wanted.txt; then
+        echo "statuses.sh: mm $* on a terminal" >&2
+        diff wanted.txt got.txt >&2 || :
+        failures=$((failures + 1))
+    fi
+}
+
 # explains CODE WORDS..: these words ask for the rule with this code.
 explains() {
     code=$1
@@ -599,6 +615,33 @@ printf '$c b $.\n$[ open.mm $]\ns $p a $=\n      ( r )\n      A\n$.\n' >above.mm
 prints half.mm packed --all open.mm over.mm open.mm
 prints above.mm packed --all over.mm over.mm open.mm
 prints empty.mm normal --all empty.mm empty.mm
+# A large file with a long proof, in little memory: no more room is asked for than is needed, or its
+# refusal is passed over.
+large() {
+    awk -v step="$1" 'BEGIN {
+        print "$c t b $. $v x $. fx $f t x $. ax $a t b $. id $a t x $."
+        if (step == " id") {
+            printf "th $p t b $= ax"
+        } else {
+            printf "th $p t b $=\n      ( ax id )\n      A"
+        }
+        for (i = 1; i <= 100000; i++) {
+            if (step != " id" && i % 73 == 0) { printf "\n      " }
+            printf "%s", step
+        }
+        print (step == " id" ? " $." : "\n$.")
+        for (i = 0; i < 100000; i++) { print "$( A comment of eighty bytes, as a library has thousands that say nothing here. $)" }
+    }'
+}
+large ' id' >large.mm
+large B >small.mm
+printf '( ax id ) %s\n' "$(sed -n '/^      A/,/^[$]/p' small.mm | tr -d ' \n$.')" >long.txt
+(
+    ulimit -v 262144
+    prints small.mm packed --all large.mm large.mm
+    ends 0 'same\n' '' same th long.txt large.mm
+    exit "$failures"
+) || failures=$((failures + 1))
 for form in normal packed small; do
     ends 2 '' "mm: none.mm is none of the files\nUsage: mm $form --all NAME FILES..\n" \
         $form --all none.mm first.mm
@@ -630,6 +673,10 @@ ends 0 "kk 42 37 15 10 add\n${duplicate}2 proofs 77 62 24 14\n" '' minimize --li
 ends 0 "${duplicate}1 proofs 35 25 9 4\n" '' minimize --list settled.mm
 ends 0 '0 proofs 0 0 0 0\n' '' minimize --list discouraged.mm
 prints shorter.mm minimize --all added.mm added.mm
+watched '\rmm: 3 of 3 theorems, 15 bytes saved\r\n' minimize --list added.mm
+watched '\rmm: 3 of 3 theorems, 1 bytes saved\r\n' minimize --all added.mm added.mm
+watched '' minimize kk added.mm
+watched '' small --all added.mm added.mm
 prints shortest.mm minimize added.mm --all added.mm --duplicates
 prints shorter.mm minimize --all shorter.mm shorter.mm
 prints shortest.mm minimize --all --duplicates shortest.mm shortest.mm

@@ -97,6 +97,16 @@ impl RandomSource for HostRuntime<'_> {
 /// Standard output or standard error: each write is a call of the host, and nothing is kept back.
 pub struct Device(i32);
 
+impl Device {
+    pub fn is_terminal(&self) -> bool {
+        use std::io::IsTerminal;
+        match self.0 {
+            1 => io::stdout().is_terminal(),
+            _ => io::stderr().is_terminal(),
+        }
+    }
+}
+
 #[cfg(unix)]
 impl io::Write for Device {
     fn write(&mut self, bytes: &[u8]) -> io::Result<usize> {
