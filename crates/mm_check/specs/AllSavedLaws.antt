@@ -26,8 +26,8 @@ SavingAllChangesNoAnswer =
     → (same : List PlainStatement)
     × SayTheSame profile files (with_bytes files number bytes) statements same
 
--- Each proof that stands in the file then has the strict form, whatever the profile is in which the
--- files are accepted; or it is the one that stood there, which small form keeps.
+-- Each complete proof that stands in the file then has the strict form, whatever the profile is in
+-- which the files are accepted; or it is the one that stood there, which small form keeps.
 abbrev pub AllSavedProofsAreStrict : Type 0
 AllSavedProofsAreStrict =
     (profile : Profile) (form : Form) (files : List PlainFile)

@@ -71,9 +71,9 @@ pub fn packed_texts_tell()
     ensures { PackedTextsTell }
 {}
 
-/// Saving changes nothing that is answered: with the new bytes in place of the old, the files have
-/// the same verdict, each complete proof has the same tree, and each theorem rests on the same
-/// axioms and unproved theorems.
+/// Saving changes nothing that is answered: where a profile accepts the files, then with the new
+/// bytes in place of the old they have the same verdict under it, each complete proof has the same
+/// tree, and each theorem rests on the same axioms and unproved theorems.
 pub fn saving_changes_no_answer()
     ensures { SavingChangesNoAnswer }
 {}
@@ -94,16 +94,16 @@ pub fn saving_again_changes_nothing()
     ensures { SavingAgainChangesNothing }
 {}
 
-/// Saving all proofs of a file changes nothing that is answered: with the new bytes in place of the
-/// old, the files have the same verdict, each complete proof has the same tree, and each theorem
-/// rests on the same axioms and unproved theorems.
+/// Saving all proofs of a file changes nothing that is answered: where a profile accepts the files,
+/// then with the new bytes in place of the old they have the same verdict under it, each complete
+/// proof has the same tree, and each theorem rests on the same axioms and unproved theorems.
 pub fn saving_all_changes_no_answer()
     ensures { SavingAllChangesNoAnswer }
 {}
 
-/// Each proof that stands in a file after all its proofs were saved has the strict form, whatever
-/// the profile is in which the files are accepted; or it is the one that stood there, which small
-/// form keeps.
+/// Each complete proof that stands in a file after all its complete proofs were saved has the
+/// strict form, whatever the profile is in which the files are accepted; or it is the one that
+/// stood there, which small form keeps.
 pub fn all_saved_proofs_are_strict()
     ensures { AllSavedProofsAreStrict }
 {}

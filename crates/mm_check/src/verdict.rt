@@ -296,8 +296,7 @@ fn judge_all<'a>(
 ///
 /// `Load` where the files can't be taken as a whole, else `Refused` with the first statement at
 /// fault and its rule; `Memory` where a growth was refused, and nothing is said of the files then.
-/// What stands before the first `?` of an incomplete proof is judged too (the Metamath book,
-/// section 4.4.4).
+/// The known prefix of an incomplete proof is judged too (the Metamath book, section 4.4.4).
 pub fn check_with<'a>(
     alloc: Global,
     seed: Seed,
@@ -346,8 +345,7 @@ pub fn check_with<'a>(
 ///
 /// `Load` where the files can't be taken as a whole, else `Refused` with the first statement at
 /// fault and its rule; `Memory` where a growth was refused, and nothing is said of the files then.
-/// What stands before the first `?` of an incomplete proof is judged too (the Metamath book,
-/// section 4.4.4).
+/// The known prefix of an incomplete proof is judged too (the Metamath book, section 4.4.4).
 pub fn check<'a>(
     alloc: Global,
     seed: Seed,

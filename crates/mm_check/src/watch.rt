@@ -11,7 +11,7 @@ pub struct SoFar {
     pub bytes: usize,
 }
 
-/// What is told how far a long reply has come. Nothing is asked of it, so no reply depends on it.
+/// What is told how far a long reply has come. It answers nothing.
 pub trait Watch {
     /// One theorem more was tried.
     fn told(&mut self, so_far: SoFar);

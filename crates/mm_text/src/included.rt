@@ -58,7 +58,8 @@ fn unmet(alloc: Global, met: &[bool]) -> Result<Vec<usize>, AllocError>
 ///
 /// A file is included where its name stands between a `$[` and a `$]` in a file that is read.
 /// Faults of statements and proofs are passed over. The first file is the top file, which is read
-/// in any case. Memory is wanted for what the reader keeps, a flag for each file, and the list.
+/// in any case. Of more than one file, memory is wanted for what the reader keeps, a flag for each
+/// file, and the list.
 pub fn left_out(alloc: Global, seed: Seed, files: &[File]) -> Result<Vec<usize>, AllocError>
     ensures whole { ((rule : LoadRule) → ¬ (BreaksLoad (map plain_file files.now) rule))
         → IfOk result (λ numbers. numbers.items ≡ left_out (map plain_file files.now)) }

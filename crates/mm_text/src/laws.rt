@@ -31,8 +31,8 @@ pub fn faults_end_longest_prefixes()
     ensures { FaultsEndLongestPrefixes }
 {}
 
-/// The definition of the items puts in so many files as there are beside the top file. That more
-/// could be put in would change nothing, so this bound keeps no file out.
+/// The definition of the items puts in at most as many files as there are beside the top file. That
+/// more could be put in would change nothing, so this bound keeps no file out.
 #[tactic(auto, using(crate::proofs::Inclusions::EachOnce::inclusions_end))]
 pub fn inclusions_end()
     ensures { InclusionsEnd }

@@ -52,11 +52,11 @@ BreaksOff contents text old new =
     AppendsBeginning (contents (inner_of old)) (contents (inner_of new)) text
     × (faults_of new ≡ faults_of old + 1)
 
--- It was not called.
+-- It is as it was, and no call of it failed.
 abbrev pub IsUntouched : {W : Type 0} → Counted W → Counted W → Type 0
 IsUntouched old new = (inner_of new ≡ inner_of old) × (faults_of new ≡ faults_of old)
 
--- Where progress isn't shown, nothing is written of it.
+-- Where progress isn't shown, the line and its device are as they were.
 abbrev pub StaysUnshown : {P : Type 0} → ProgressLine P → ProgressLine P → Type 0
 StaysUnshown old new = old.is_shown ≡ false → new ≡ old
 

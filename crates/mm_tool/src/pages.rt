@@ -385,8 +385,8 @@ Replies:
       and L1, the first line of `mm why`, with the place in PROOF, and the facts
       that explain it. Status 4 for L1 and F3.
   text A3 0                                                         status 3
-      The text holds a `?`, and what stands before it breaks no rule. What this
-      leaves on the stack follows.
+      The text holds a `?`, and its known part breaks no rule. What this leaves
+      on the stack follows.
   ask A1 LABEL                                                      status 1
       No statement has this label.
   ask A2 LABEL                                                      status 1

@@ -100,7 +100,7 @@ Replies of check, on standard output:
       Each statement obeys the rules of the language, and each proof derives what its statement
       says. N counts all statements, `${` and `$}` too, and M the proofs. Status 0.
   incomplete N, and then a label on each of N lines
-      Nothing is at fault, but the proofs of these statements hold a `?`. What stands before it is
+      Nothing is at fault, but the proofs of these statements hold a `?`. Their known parts are
       checked. Status 3.
   no FILE LINE LABEL RULE STEP
       The first statement at fault: the file and the line on which it begins, or for a code X or S
@@ -186,9 +186,8 @@ Replies of try, on standard output:
   proof
       The text is a proof of the theorem. Status 0.
   text RULE STEP
-      It is none, as for same; or, with A3, what stands before its `?` breaks no rule. The place in
-      PROOF with what explains it, or what is on the stack, follows. Status 1; 3 for A3; 4 for L1
-      and F3.
+      It is none, as for same; or, with A3, its known part breaks no rule. The place in PROOF with
+      what explains it, or what is on the stack, follows. Status 1; 3 for A3; 4 for L1 and F3.
 
 Other replies to a LABEL: that of check, where it is no, limit or load; and
   ask A1 LABEL
