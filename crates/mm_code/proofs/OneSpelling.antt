@@ -1,11 +1,13 @@
--- A number has one spelling at most, and a list of codes one text; and what is written spells.
-use Rattle.std.proofs.Common.{◌≡◌, ℕ, ◌+◌, ◌-◌, ◌*◌, ◌/◌, ◌%◌, ◌<◌, ◌≤◌, min}
+-- Each number from 1 on has exactly one spelling; a list of codes has one text at most, and what is
+-- written spells.
+use Rattle.std.proofs.Common.{◌≡◌, ℕ, zero, suc, ◌+◌, ◌-◌, ◌*◌, ◌/◌, ◌%◌, ◌<◌, ◌≤◌, inl, inr, min}
 use Rattle.std.proofs.Common.{List, [], ◌∷◌, ◌++◌, map, reverse, All, refl, sym, ap, ◌∙◌, arith}
 use Rattle.std.proofs.Common.{flat_map}
 use Rattle.std.specs.List.{AllByRecursion, AllZip}
-use Rattle.std.proofs.lemmas.List.{reverse-reverse}
+use Rattle.std.proofs.lemmas.List.{reverse-reverse, same_from_push}
 use Rattle.std.proofs.lemmas.List.Elements.{All-head, All-tail}
 use Rattle.std.proofs.lemmas.Grind.{reverse_onto}
+use Rattle.std.proofs.lemmas.Bool.{cases_eq}
 use Rattle.mm_text.proofs.Lists.{all_push}
 use Rattle.mm_code.specs.declared.code.Code.{Code}
 use Rattle.mm_code.specs.declared.code.Code.TheVariants.{Number, Tag}
@@ -70,6 +72,16 @@ leading-push value rest had is positive =
       is = omega (arith, leading_value-push had.digits digit, had.is);
     }
 
+some_leading : (bound value : ℕ) → value ≤ bound → HasLeading value
+some_leading zero value le = record { digits = []; ok = tt; is = omega arith }
+some_leading (suc bound) value le =
+    elim (cases_eq value 0) [
+      | inl none ↦ record { digits = []; ok = tt; is = omega arith }
+      | inr some ↦
+          let had = some_leading bound ((value - 1) / 5) (omega arith) in
+          leading-push value ((value - 1) / 5) had refl (omega arith)
+    ]
+
 pub spelling-of : (number rest : ℕ) (had : HasLeading rest) → rest ≡ (number - 1) / 20 → 1 ≤ number → IsSpelling (map leading_letter had.digits ++ last_letter ((number - 1) % 20 + 1) ∷ []) number
 spelling-of number rest had is positive = record {
   leading = had.digits;
@@ -79,6 +91,26 @@ spelling-of number rest had is positive = record {
   letters = refl;
   value = omega (arith, had.is, is);
 }
+
+pub some_spelling : (number : ℕ) → 1 ≤ number → (text : List ℕ) × IsSpelling text number
+some_spelling number positive = (_, spelling-of number ((number - 1) / 20) (some_leading ((number - 1) / 20) ((number - 1) / 20) (omega arith)) refl positive)
+
+-- ---- one number
+
+one_map : (a b : List ℕ) → map leading_letter a ≡ map leading_letter b → a ≡ b
+one_map [] [] e = refl
+one_map (x ∷ a) (y ∷ b) e =
+    let head : leading_letter x ≡ leading_letter y = cc in
+    let digit : x ≡ y = omega (arith, head) in
+    let same : a ≡ b = one_map a b (cc) in
+    cc
+one_map a b e = cc
+
+pub one_number : (text : List ℕ) (m n : ℕ) → IsSpelling text m → IsSpelling text n → m ≡ n
+one_number text m n p q =
+    let parts = same_from_push (map leading_letter p.leading) (map leading_letter q.leading) (last_letter p.last) (last_letter q.last) (sym p.letters ∙ q.letters) in
+    let leading = ap leading_value (one_map p.leading q.leading parts.0) in
+    omega (arith, p.value, q.value, leading, parts.1)
 
 -- ---- one text
 

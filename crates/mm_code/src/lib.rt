@@ -17,7 +17,7 @@ mod small_layout;
 
 pub use code::{Code, CodeFault, CodeRule};
 pub use counting::{letter_count, letters_for};
-pub use laws::letters_counted;
+pub use laws::{letters_counted, one_spelling};
 pub use layout::{lay_out_compressed, lay_out_normal};
 pub use letters::{fill_codes, read_codes, write_codes};
 pub use small_layout::{MOST_INDENT, lay_out_small};

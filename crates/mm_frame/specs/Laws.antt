@@ -1,7 +1,8 @@
--- Laws of the numbers of symbols as statements are added, and of frames.
-use Rattle.std.specs.Prelude.{◌≡◌, ◌↔◌, ℕ, List, ◌++◌, ◌⊎◌}
+-- Laws of the numbers of symbols as statements are added, of open blocks, and of frames.
+use Rattle.std.specs.Prelude.{◌≡◌, ◌↔◌, ℕ, ◌+◌, ◌<◌, ◌≤◌, List, ◌++◌, length, take}
+use Rattle.std.specs.Prelude.{slice_get, Contains, Some, ◌⊎◌}
 use Rattle.mm_frame.specs.Sentence.{Sentence}
-use Rattle.mm_frame.specs.Active.{IsConstant, IsVariable}
+use Rattle.mm_frame.specs.Active.{IsConstant, IsVariable, IsOpen, open_marks, close_marks}
 use Rattle.mm_frame.specs.Frame.{AreMandatory}
 use Rattle.mm_frame.specs.Numbers.{IsNumberOf}
 
@@ -14,6 +15,20 @@ OneNumber =
     × ((m n : ℕ) → IsNumberOf statements x m → IsNumberOf statements x n → m ≡ n)
     × ((y : List ℕ) (n : ℕ) → IsNumberOf statements x n → IsNumberOf statements y n → x ≡ y)
     × ((n : ℕ) → IsNumberOf statements x n → IsNumberOf (statements ++ more) x n)
+
+-- these are the indices of the open blocks, the outermost first
+pub record AreOpen (statements : List Sentence) (indices : List ℕ) : Type 0 where
+  pub rising : (i j p q : ℕ) → slice_get indices i ≡ Some p → slice_get indices j ≡ Some q → i < j
+      → p < q
+  pub each : (p : ℕ) → IsOpen statements p ↔ Contains indices p
+
+-- Where no `$}` lacks its `${`, as many blocks are open as there are more `${` than `$}`.
+abbrev pub OpenCount : Type 0
+OpenCount =
+    (statements : List Sentence)
+    → ((n : ℕ) → close_marks (take n statements) ≤ open_marks (take n statements))
+    → (indices : List ℕ) × AreOpen statements indices
+    × (close_marks statements + length indices ≡ open_marks statements)
 
 -- An assertion has one list of mandatory hypotheses.
 abbrev pub OneFrame : Type 0

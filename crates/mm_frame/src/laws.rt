@@ -1,6 +1,6 @@
 //! Laws of what a book holds. The functions do nothing: their contracts are the laws.
 
-ghost use Rattle.mm_frame.specs.Laws.{OneFrame, OneNumber};
+ghost use Rattle.mm_frame.specs.Laws.{OneFrame, OneNumber, OpenCount};
 
 /// A symbol's number is its own, and stays.
 ///
@@ -8,6 +8,12 @@ ghost use Rattle.mm_frame.specs.Laws.{OneFrame, OneNumber};
 /// no number is that of two symbols. A number stays what it is as statements are added.
 pub fn one_number()
     ensures { OneNumber }
+{}
+
+/// As many blocks are open as there are more `${` than `$}`, where no `$}` lacks its `${`.
+#[tactic(auto, using(crate::proofs::Blocks::OpenCounts::open_count_holds))]
+pub fn open_count()
+    ensures { OpenCount }
 {}
 
 /// An assertion has one list of mandatory hypotheses.

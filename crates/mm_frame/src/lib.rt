@@ -43,7 +43,7 @@ pub use distinct::DistinctPair;
 pub use frame::Frame;
 pub use guesses::Guesses;
 pub use hypothesis::Hypothesis;
-pub use laws::{one_frame, one_number};
+pub use laws::{one_frame, one_number, open_count};
 pub use number::{LabelId, LabelKind, Sym};
 pub use part::Part;
 pub use piece::{Piece, ShortPiece};

@@ -3,8 +3,8 @@
 -- Begin with `OneSharing`: steps that share those and make the same trees are the same.
 -- `SomeSharing`: each tree has such steps. `FewestSteps`: no proof has fewer. `SharedMoves`: the
 -- moves that do given visits. `OneSharedProof`: a tree that fits has one such proof, and is told by
--- the fully shared one. The laws `one_packed`, `some_packed`, `told_by_packed` and `fewest_steps`
--- rest on it.
+-- the fully shared one. The laws `one_packed`, `some_packed`, `told_by_packed`,
+-- `steps_make_children` and `fewest_steps` rest on it.
 pub mod OneSharing
 pub mod SomeSharing
 pub mod FewestSteps

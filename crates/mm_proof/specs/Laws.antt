@@ -1,17 +1,24 @@
 -- Laws of verdicts on proofs, after statements that break no rule of meaning. The proofs are those
 -- of the Metamath book, sections 4.1.4, 4.3 and 4.4.3 and appendix B; the names of rules, the limit
 -- and the laws are this project's own.
-use Rattle.std.specs.Prelude.{◌≡◌, ℕ, List, [], ◌∷◌}
+use Rattle.std.specs.Prelude.{◌≡◌, ℕ, List, [], ◌∷◌, map}
 use Rattle.std.specs.Prelude.{◌⊎◌, ◌↔◌}
 use Rattle.mm_frame.specs.Sentence.{Sentence}
 use Rattle.mm_frame.specs.Rules.{AllMeant}
 use Rattle.mm_proof.specs.declared.fault.ProofRule.{ProofRule}
 use Rattle.mm_proof.specs.declared.fault.ProofRule.TheVariants.{L1}
-use Rattle.mm_proof.specs.Tree.{Trees, none, tree, spelling, DeriveAll, AnyExpression}
-use Rattle.mm_proof.specs.Moves.{Move}
+use Rattle.mm_proof.specs.Tree.{Trees, none, tree, spelling, TreesFit, DeriveAll, AnyExpression}
+use Rattle.mm_proof.specs.Moves.{Move, Makes}
 use Rattle.mm_proof.specs.Tokens.{IsNormal}
-use Rattle.mm_proof.specs.Expansion.{IsWord}
+use Rattle.mm_proof.specs.Expansion.{Expands, IsWord}
 use Rattle.mm_proof.specs.Proof.{IsWithin, IsWhole, Prove, IsProvedWithin, IsProved, IsFault}
+
+-- Trees that fit are told by their spelling: no other trees that fit have it.
+abbrev pub OneFit : Type 0
+OneFit =
+    (before : List Sentence) (t u : Trees)
+    → AllMeant before → TreesFit before t → TreesFit before u
+    → spelling t ≡ spelling u → t ≡ u
 
 -- Trees that derive expressions fit, and so are told by their spelling; and they derive the same.
 abbrev pub OneTree : Type 0
@@ -30,6 +37,19 @@ LimitsAside =
     ⊎ ((step : ℕ) × IsFault (IsWithin limit) before s tokens L1 step))
     × (IsProved before s tokens → (rule : ProofRule) (step : ℕ)
     → IsFault (IsWithin limit) before s tokens rule step → rule ≡ L1)
+
+-- Moves that make trees have a word, the spelling of these trees, which fit; and the words that they
+-- keep are the spellings of the kept trees. Trees that fit and that the word of the moves spells are
+-- the trees that the moves make, and they make no others.
+abbrev pub MadeByWord : Type 0
+MadeByWord =
+    (before : List Sentence) (moves : List (Move (List ℕ))) (trees : Trees)
+    → ((kept : List Trees) → Makes before moves none [] trees kept
+    → TreesFit before trees × Expands before moves [] [] (spelling trees) (map spelling kept))
+    × (AllMeant before → TreesFit before trees → IsWord before moves (spelling trees)
+    → (kept : List Trees) × Makes before moves none [] trees kept
+    × ((others : Trees) (more : List Trees) → Makes before moves none [] others more
+    → (others ≡ trees) × (more ≡ kept)))
 
 -- the moves have a word, which spells one tree; and this tree derives the statement's expression
 pub record ProveByWord (Fits : List (List ℕ) → Type 0) (before : List Sentence) (s : Sentence)

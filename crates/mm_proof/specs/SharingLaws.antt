@@ -1,11 +1,12 @@
 -- Laws of fully shared proofs, after statements that break no rule of meaning: this project's own.
-use Rattle.std.specs.Prelude.{◌≡◌, ℕ, ◌+◌, ◌≤◌, List, sum_by, ◌↔◌}
+use Rattle.std.specs.Prelude.{◌≡◌, ℕ, ◌+◌, ◌≤◌, List, [], sum_by, Contains, ◌↔◌}
 use Rattle.mm_code.specs.declared.code.Code.{Code}
 use Rattle.mm_frame.specs.Sentence.{Sentence}
 use Rattle.mm_frame.specs.Rules.{AllMeant}
 use Rattle.mm_frame.specs.Form.{AllFormed}
 use Rattle.mm_proof.specs.Tree.{Trees, none, tree, TreesFit}
-use Rattle.mm_proof.specs.BigSubtrees.{children, AreBigSubtrees}
+use Rattle.mm_proof.specs.BigSubtrees.{children, IsSubtree, AreBigSubtrees}
+use Rattle.mm_proof.specs.Visits.{visits, trees_made}
 use Rattle.mm_proof.specs.Sharing.{steps_of, PairMakes, IsPacked}
 
 -- A tree has one fully shared proof at most.
@@ -24,6 +25,25 @@ SomePacked =
     → TreesFit before (tree label below none)
     → (listed : List (List ℕ)) × (codes : List Code)
     × IsPacked before s (tree label below none) listed codes
+
+-- the trees that the steps of a pair by labels make, in order
+abbrev pub trees_of : (before : List Sentence) (s : Sentence) (trees : Trees)
+    (listed : List (List ℕ)) (codes : List Code) → PairMakes before s trees listed codes
+    → List Trees
+trees_of before s trees listed codes p =
+    trees_made (visits before p.moves none [] trees p.kept p.made)
+
+-- A proof of a tree has one step, and one for each child of each tree that a step by a label makes;
+-- and each subtree is among these trees.
+abbrev pub StepsMakeChildren : Type 0
+StepsMakeChildren =
+    (before : List Sentence) (s : Sentence) (label : List ℕ) (below : Trees)
+    (listed : List (List ℕ)) (codes : List Code)
+    → (p : PairMakes before s (tree label below none) listed codes)
+    → (steps_of codes
+    ≡ 1 + sum_by children (trees_of before s (tree label below none) listed codes p))
+    × ((t : Trees) → IsSubtree (tree label below none) t
+    → Contains (trees_of before s (tree label below none) listed codes p) t)
 
 -- The fully shared proof of a tree has one step, and one for each child of each subtree of two or
 -- more nodes; and no proof of the tree has fewer steps.

@@ -27,3 +27,10 @@ visits before [] row kept row' kept' made = []
 visits before (move ∷ moves) row kept row' kept' made =
     visit before move row kept made.0 made.1 made.2
     ∷ visits before moves made.0 made.1 row' kept' made.3
+
+-- the trees that steps by labels make, in order
+abbrev pub trees_made : List Visit → List Trees
+trees_made [] = []
+trees_made (makes t ∷ later) = t ∷ trees_made later
+trees_made (repeats t ∷ later) = trees_made later
+trees_made (keeps t ∷ later) = trees_made later

@@ -1,12 +1,22 @@
 //! Laws of verdicts on proofs. The functions do nothing: their contracts are the laws.
 
-ghost use Rattle.mm_proof.specs.Laws.{OneTree, ByWord, BySpelling};
+ghost use Rattle.mm_proof.specs.Laws.{OneFit, OneTree, MadeByWord, ByWord, BySpelling};
 ghost use Rattle.mm_proof.specs.Laws.{LimitsAside};
 ghost use Rattle.mm_proof.specs.UnderProfile.{OneVerdictUnder, OnePrefixVerdictUnder};
 ghost use Rattle.mm_proof.specs.SharingLaws.{OnePacked, SomePacked};
-ghost use Rattle.mm_proof.specs.SharingLaws.{FewestSteps, ToldByPacked};
+ghost use Rattle.mm_proof.specs.SharingLaws.{StepsMakeChildren, FewestSteps, ToldByPacked};
 ghost use Rattle.mm_proof.specs.SmallLaws.{OneSmall, NoBetterOrder};
 ghost use Rattle.mm_proof.specs.SmallLaws.{SmallIsNoLarger, SomeSmall};
+
+/// A spelling spells one tree.
+///
+/// After statements that break no rule of meaning, trees that fit (each leaf names an active
+/// hypothesis, each node an earlier assertion, with as many trees below as it has mandatory
+/// hypotheses) and have equal spellings are equal, whether they derive anything or not.
+#[tactic(auto, using(crate::proofs::ProofSteps::Derivations::one_fit_holds))]
+pub fn one_fit()
+    ensures { OneFit }
+{}
 
 /// A proof spells one tree.
 ///
@@ -16,6 +26,17 @@ ghost use Rattle.mm_proof.specs.SmallLaws.{SmallIsNoLarger, SomeSmall};
 #[tactic(auto, using(crate::proofs::ProofVerdicts::FirstFault::one_tree_holds))]
 pub fn one_tree()
     ensures { OneTree }
+{}
+
+/// What moves make is told by their word.
+///
+/// The moves of a proof that make trees have a word, the labels that these trees spell, and each
+/// kept tree spells the word that stands in place of its tag. After statements that break no rule
+/// of meaning, trees that fit and that the word spells are those that the moves make, and they make
+/// no others. So the tree of a compressed proof is that of its labels with each tag written out
+/// (the Metamath book, section 4.4.3 and appendix B).
+pub fn made_by_word()
+    ensures { MadeByWord }
 {}
 
 /// What is proved is told by a word.
@@ -72,6 +93,14 @@ pub fn limits_aside()
 /// same listed labels and the same codes.
 pub fn one_packed()
     ensures { OnePacked }
+{}
+
+/// What a proof of a tree has at least.
+///
+/// A compressed proof that makes a tree has one step, and one more for each child of each tree that
+/// its steps by labels make; a hypothesis has no children. Each subtree is among these trees.
+pub fn steps_make_children()
+    ensures { StepsMakeChildren }
 {}
 
 /// A fully shared proof has the fewest steps.

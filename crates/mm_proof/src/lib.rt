@@ -59,9 +59,9 @@ pub use halt::{Halt, HaltAt};
 pub use halting::halt_of;
 pub use lacking::lacking_pairs;
 pub use laws::{
-    by_spelling, by_word, fewest_steps, limits_aside, no_better_order, one_packed,
-    one_prefix_verdict_under, one_small, one_tree, one_verdict_under, small_is_no_larger,
-    some_packed, some_small, told_by_packed,
+    by_spelling, by_word, fewest_steps, limits_aside, made_by_word, no_better_order, one_fit,
+    one_packed, one_prefix_verdict_under, one_small, one_tree, one_verdict_under,
+    small_is_no_larger, some_packed, some_small, steps_make_children, told_by_packed,
 };
 pub use lines::{Line, Name, listing};
 pub use moves::{Parsed, Steps};

@@ -15,19 +15,18 @@ use Rattle.mm_proof.specs.Tree.{Trees, none, tree, beside, roots}
 use Rattle.mm_proof.specs.Moves.{Move, name, again, mark, is_step, steps_in, Makes}
 use Rattle.mm_proof.specs.Tokens.{Says}
 use Rattle.mm_proof.specs.BigSubtrees.{nodes, IsBig, children, IsSubtree, AreBigSubtrees}
-use Rattle.mm_proof.specs.Visits.{Visit, makes, keeps, visits, repeats}
+use Rattle.mm_proof.specs.Visits.{Visit, makes, keeps, visits, trees_made, repeats}
 use Rattle.mm_proof.specs.Sharing.{is_number, steps_of, PairMakes}
 use Rattle.mm_proof.proofs.ProofSteps.Derivations.{roots-beside, beside-none}
 use Rattle.mm_proof.proofs.Members.{In, in_get, get_in, in_left, in_right, in_apart, in_push, Once}
 use Rattle.mm_proof.proofs.Members.{in_contains, contains_in, once_indices, indices_once}
 use Rattle.mm_proof.proofs.FullSharing.OneSharing.{AreOnes, ones_push, Tidy, Covers, covers_beside}
-use Rattle.mm_proof.proofs.FullSharing.OneSharing.{trees_made}
 use Rattle.mm_proof.proofs.FullSharing.OneSharing.{covers_apart, covers_made_one, covers_one}
 use Rattle.mm_proof.proofs.FullSharing.OneSharing.{Careful, after, after_has, after-append}
 use Rattle.mm_proof.proofs.FullSharing.OneSharing.{careful_apart, careful_join, shared_tidy}
 use Rattle.mm_proof.specs.Mirror.CodeSharing.{Sharing}
 use Rattle.mm_proof.proofs.FullSharing.SomeSharing.{covered_made, not_below}
-use Rattle.mm_proof.specs.SharingLaws.{FewestSteps}
+use Rattle.mm_proof.specs.SharingLaws.{StepsMakeChildren, FewestSteps, trees_of}
 
 -- ==== how many steps make trees, and that all their subtrees are made
 
@@ -474,13 +473,6 @@ module _ (before : List Sentence) (trees : Trees) (moves : List (Move (List ℕ)
     once = λ i j t. once_indices b.list i j t once;
   }
 
--- the trees that the steps of a pair by labels make, in order
-abbrev pub trees_of : (before : List Sentence) (s : Sentence) (trees : Trees)
-    (listed : List (List ℕ)) (codes : List Code) → PairMakes before s trees listed codes
-    → List Trees
-trees_of before s trees listed codes p =
-    trees_made (visits before p.moves none [] trees p.kept p.made)
-
 pair_steps : (before : List Sentence) (s : Sentence) (label : List ℕ) (below : Trees)
     (listed : List (List ℕ)) (codes : List Code)
     (p : PairMakes before s (tree label below none) listed codes)
@@ -488,6 +480,13 @@ pair_steps : (before : List Sentence) (s : Sentence) (label : List ℕ) (below :
     (trees_of before s (tree label below none) listed codes p)
 pair_steps before s label below listed codes p = said_steps _ codes p.moves p.says.each
     ∙ steps_count before (tree label below none) p.moves p.kept p.made
+
+pub steps_make_children_holds : StepsMakeChildren
+steps_make_children_holds before s label below listed codes p = (
+  pair_steps before s label below listed codes p,
+  λ t h. in_contains (trees_of before s (tree label below none) listed codes p) t
+      (subtree_made before (tree label below none) p.moves p.kept p.made t h),
+)
 
 pub fewest_steps_holds : FewestSteps
 fewest_steps_holds before s label below listed codes p =

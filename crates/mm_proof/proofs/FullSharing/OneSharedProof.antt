@@ -23,11 +23,11 @@ use Rattle.mm_proof.proofs.ProofTokens.SaidMoves.{mandatory_active}
 use Rattle.mm_proof.proofs.ProofSteps.Replacements.{those_order}
 use Rattle.mm_proof.proofs.Members.{In, in_contains, in_apart, Once, once_indices, indices_once}
 use Rattle.mm_proof.proofs.Members.{those_of, in_get, contains_in, in_left, in_right}
-use Rattle.mm_proof.proofs.FullSharing.OneSharing.{shared_once, trees_made}
+use Rattle.mm_proof.proofs.FullSharing.OneSharing.{shared_once}
 use Rattle.mm_frame.proofs.Rules.DecidedStatements.{contains_dec, mandatory_at_dec}
 use Rattle.std.proofs.Math.Decide.{dec_le}
 use Rattle.mm_proof.specs.BigSubtrees.{nodes, IsBig, IsSubtree}
-use Rattle.mm_proof.specs.Visits.{visits}
+use Rattle.mm_proof.specs.Visits.{visits, trees_made}
 use Rattle.mm_proof.proofs.FullSharing.FewestSteps.{made_subtrees}
 use Rattle.mm_proof.proofs.FullSharing.SharedMoves.{some_shared}
 

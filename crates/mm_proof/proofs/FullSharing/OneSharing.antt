@@ -6,7 +6,7 @@ use Rattle.std.proofs.Common.{slice_get, Some}
 use Rattle.mm_frame.specs.Sentence.{Sentence}
 use Rattle.mm_proof.specs.Tree.{Trees, none, tree, beside}
 use Rattle.mm_proof.specs.Moves.{Move, name, again, mark, Makes}
-use Rattle.mm_proof.specs.Visits.{Visit, makes, repeats, keeps, visits}
+use Rattle.mm_proof.specs.Visits.{Visit, makes, repeats, keeps, visits, trees_made}
 pub use Rattle.mm_proof.specs.Mirror.SharedSteps.{Covers, Careful, after}
 use Rattle.mm_proof.proofs.Members.{In, get_in, in_push, Once, in_get, contains_in, in_apart}
 use Rattle.mm_proof.proofs.Members.{once_indices}
@@ -14,13 +14,6 @@ use Rattle.mm_proof.specs.BigSubtrees.{StandOnce}
 use Rattle.std.proofs.lemmas.Option.{same_Some, slice_get_within}
 use Rattle.mm_text.proofs.Lists.{get_kept}
 use Rattle.mm_proof.specs.Sharing.{MakeOnce, KeepMade, ShareThose}
-
--- the trees that steps by labels make, in order
-abbrev pub trees_made : List Visit → List Trees
-trees_made [] = []
-trees_made (makes t ∷ later) = t ∷ trees_made later
-trees_made (repeats t ∷ later) = trees_made later
-trees_made (keeps t ∷ later) = trees_made later
 
 -- ==== how steps make trees: each tree is repeated, or its children are made and then itself. Steps
 -- that make no tree twice, and repeat what was made, are one list

@@ -6,10 +6,10 @@ use Rattle.std.proofs.lemmas.List.{length-append}
 use Rattle.mm_frame.proofs.Rules.DecidedStatements.{symbol_dec, dec_as, dec_both, dec_or}
 use Rattle.mm_proof.specs.Tree.{Trees, none, tree, spelling}
 use Rattle.mm_proof.specs.BigSubtrees.{nodes, IsSubtree}
-use Rattle.mm_proof.specs.Visits.{Visit, makes, repeats, keeps}
+use Rattle.mm_proof.specs.Visits.{Visit, makes, repeats, keeps, trees_made}
 use Rattle.mm_proof.proofs.Members.{In, in_apart, contains_in, in_contains, in_left, in_right}
 use Rattle.mm_proof.proofs.Members.{in_push}
-use Rattle.mm_proof.proofs.FullSharing.OneSharing.{Covers, Careful, after, after-append, trees_made}
+use Rattle.mm_proof.proofs.FullSharing.OneSharing.{Covers, Careful, after, after-append}
 use Rattle.mm_proof.proofs.FullSharing.OneSharing.{careful_join, Tidy, Marked, visit_made}
 use Rattle.mm_proof.proofs.FullSharing.OneSharing.{made_visit, careful_apart}
 use Rattle.mm_proof.specs.Sharing.{AreFirstUses}

@@ -25,7 +25,7 @@ use Rattle.mm_proof.specs.Moves.{Move, name, again, mark, MakesOne, Makes}
 use Rattle.mm_proof.specs.Expansion.{ExpandsOne, Expands, IsWord}
 use Rattle.mm_proof.specs.Tokens.{IsNormal, SayMoves}
 use Rattle.mm_proof.specs.Proof.{IsWithin, IsWhole, Prove, IsProvedWithin}
-use Rattle.mm_proof.specs.Laws.{ProveByWord, ByWord, IsSpelledWithin}
+use Rattle.mm_proof.specs.Laws.{MadeByWord, ProveByWord, ByWord, IsSpelledWithin}
 use Rattle.mm_proof.specs.Laws.{BySpelling}
 use Rattle.mm_proof.proofs.ProofTokens.SaidMoves.{normal_or_compressed}
 use Rattle.std.proofs.lemmas.Result.{err_from_is_err_and}
@@ -337,6 +337,14 @@ by_word_for Fits before s moves all = (
   λ p. record { label = p.label; below = p.below; word = (made_word before moves (tree p.label p.below none) p.kept p.made).0; derived = p.derived },
   λ w. let m = made_of_word before moves (tree w.label w.below none) all (derive_fits Fits before (tree w.label w.below none) (s.symbols ∷ []) w.derived) w.word in
       record { label = w.label; below = w.below; kept = m.0; made = m.1; derived = w.derived },
+)
+
+pub made_by_word_holds : MadeByWord
+made_by_word_holds before moves trees = (
+  λ kept m. let w = made_words before moves none trees [] kept tt tt m in (w.fit, w.expands),
+  λ all fit word.
+      let m = made_of_word before moves trees all fit word in
+      (m.0, m.1, λ others more other. makes_once before moves none others trees [] more m.0 all other m.1),
 )
 
 pub by_word_holds : ByWord

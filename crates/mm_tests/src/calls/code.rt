@@ -4,7 +4,8 @@ ghost use Rattle.std.specs.Prelude.{◌≤◌};
 
 use mm_code::{
     Code, CodeFault, CodeRule, MOST_INDENT, fill_codes, lay_out_compressed, lay_out_normal,
-    lay_out_small, letter_count, letters_for, read_codes, write_codes,
+    lay_out_small, letter_count, letters_counted, letters_for, one_spelling, read_codes,
+    write_codes,
 };
 use std::alloc::Global;
 use std::test::Fail;
@@ -332,4 +333,10 @@ fn the_widest_indent(rt: HostRuntime) -> Result<(), Fail> {
       \x20                                      A ";
     assert!(rt; is_small(rt.alloc(), MOST_INDENT, &labels, &[b'A'; 79], wanted)?);
     Ok(())
+}
+
+#[test]
+fn laws_are_called() {
+    one_spelling();
+    letters_counted();
 }

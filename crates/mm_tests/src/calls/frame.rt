@@ -12,7 +12,7 @@ mod schemes;
 mod taking;
 
 use crate::calls::frame::taking::{book_of, empty_book};
-use mm_frame::{Book, Found, MeaningRule, RuleFault, Sym, one_frame, one_number};
+use mm_frame::{Book, Found, MeaningRule, RuleFault, Sym, one_frame, one_number, open_count};
 use mm_text::File;
 use std::alloc::{AllocError, Global};
 use std::test::Fail;
@@ -82,4 +82,5 @@ fn faults_have_messages(rt: HostRuntime) -> Result<(), Fail> {
 fn laws_are_called() {
     one_number();
     one_frame();
+    open_count();
 }

@@ -28,9 +28,9 @@ use crate::databases::{HEAD, LIMIT};
 use mm_frame::{Book, Found, LabelId, Piece, ShortPiece, Sym, Taken};
 use mm_proof::{
     Flat, Line, Name, Parsed, Profile, ProofFault, ProofRule, Rows, Steps, Store, Used, UsedSteps,
-    by_spelling, by_word, fewest_steps, limits_aside, listing, one_packed,
-    one_prefix_verdict_under, one_tree, one_verdict_under, some_packed, told_by_packed, uses_of,
-    verify,
+    by_spelling, by_word, fewest_steps, limits_aside, listing, made_by_word, one_fit, one_packed,
+    one_prefix_verdict_under, one_tree, one_verdict_under, some_packed, steps_make_children,
+    told_by_packed, uses_of, verify,
 };
 use mm_text::{File, Kind, Seed, Statement, Statements, Token};
 use std::alloc::{AllocError, Global};
@@ -640,7 +640,9 @@ fn stores(rt: HostRuntime) -> Result<(), Fail> {
 
 #[test]
 fn laws_are_called() {
+    one_fit();
     one_tree();
+    made_by_word();
     by_word();
     by_spelling();
     one_verdict_under();
@@ -652,6 +654,7 @@ fn laws_are_called() {
 fn laws_of_fully_shared_proofs_are_called() {
     one_packed();
     some_packed();
+    steps_make_children();
     fewest_steps();
     told_by_packed();
 }
