@@ -80,8 +80,12 @@ impl<K: Hash + Eq, V, S: BuildHasher> IndexMap<K, V, S> {
     }
 
     fn number_of(&self, key: &K) -> Option<usize> {
+        self.find(self.hash_of(key), key)
+    }
+
+    #[inline(always)]
+    fn find(&self, hash: u32, key: &K) -> Option<usize> {
         let last = self.groups.len().checked_sub(1)?;
-        let hash = self.hash_of(key);
         let tag = tag_of(hash);
         let mut at = hash as usize & last;
         loop {
@@ -134,19 +138,33 @@ impl<K: Hash + Eq, V, S: BuildHasher> IndexMap<K, V, S> {
         Ok(())
     }
 
-    pub fn insert(&mut self, key: K, value: V) -> Result<Option<V>, AllocFailed<(K, V)>> {
-        if let Some(number) = self.number_of(&key) {
-            return Ok(Some(std::mem::replace(&mut self.values[number], value)));
+    fn spare(&self) -> usize {
+        let len = self.keys.len();
+        (self.keys.capacity() - len)
+            .min(self.values.capacity() - len)
+            .min(self.hashes.capacity() - len)
+            .min(9 * self.groups.len() - len)
+    }
+
+    #[inline(always)]
+    fn put(&mut self, key: K, value: V) -> Result<(usize, Option<V>), AllocFailed<(K, V)>> {
+        let hash = self.hash_of(&key);
+        if let Some(number) = self.find(hash, &key) {
+            return Ok((number, Some(std::mem::replace(&mut self.values[number], value))));
         }
-        if self.reserve(1).is_err() {
+        if self.spare() == 0 && self.reserve(1).is_err() {
             return Err(AllocFailed { value: (key, value) });
         }
-        let hash = self.hash_of(&key);
-        place(&mut self.groups, hash, self.keys.len());
+        let number = self.keys.len();
+        place(&mut self.groups, hash, number);
         self.hashes.push(hash);
         self.keys.push(key);
         self.values.push(value);
-        Ok(None)
+        Ok((number, None))
+    }
+
+    pub fn insert(&mut self, key: K, value: V) -> Result<Option<V>, AllocFailed<(K, V)>> {
+        Ok(self.put(key, value)?.1)
     }
 }
 
@@ -195,10 +213,9 @@ impl<K: Hash + Eq, S: BuildHasher> IndexSet<K, S> {
     }
 
     pub fn insert_full(&mut self, key: K) -> Result<(usize, bool), AllocFailed<K>> {
-        if let Some(number) = self.0.number_of(&key) {
-            return Ok((number, false));
+        match self.0.put(key, ()) {
+            Ok((number, old)) => Ok((number, old.is_none())),
+            Err(AllocFailed { value }) => Err(AllocFailed { value: value.0 }),
         }
-        self.insert(key)?;
-        Ok((self.0.len() - 1, true))
     }
 }
