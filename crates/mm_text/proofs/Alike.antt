@@ -2,5 +2,5 @@
 -- left out. Begin with `AlikeItems`, whose last lemma is the law `alike_files_are_read_alike`. On
 -- `HollowFiles` rest the contracts of `hollow`, and with them `read_hollow`.
 pub mod HollowFiles
-pub mod AlikeStatements
+pub mod AlikeReadings
 pub mod AlikeItems

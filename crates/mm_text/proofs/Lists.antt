@@ -2,9 +2,9 @@
 -- anything of this crate, and those that the crates above need too stand here.
 use Rattle.std.proofs.Common.{◌≡◌, ℕ, zero, suc, ◌+◌, ◌<◌, List, [], ◌∷◌, ◌++◌, map, length, take}
 use Rattle.std.proofs.Common.{drop, set, get_or, refl, ap, sym, subst, ◌∙◌, ◌⊎◌, inl, inr, Some}
-use Rattle.std.proofs.Common.{arith, Bool, true, false, cond, filter, Contains, zero-add, suc-add}
-use Rattle.std.proofs.Common.{Result, Ok, Err, IfErr, IsErrAnd, ◌-◌, slice_get, length-take}
-use Rattle.std.proofs.Common.{length-append, take_at, drop_at}
+use Rattle.std.proofs.Common.{None, Option, option_map, arith, Bool, true, false, cond, filter}
+use Rattle.std.proofs.Common.{Contains, zero-add, suc-add, Result, Ok, Err, IfErr, IsErrAnd}
+use Rattle.std.proofs.Common.{slice_get, length-take, length-append, take_at, drop_at}
 use Rattle.std.specs.List.{AllByRecursion, AllZip, list_any}
 use Rattle.std.proofs.lemmas.List.{length-map, get_or-map}
 use Rattle.std.proofs.lemmas.List.Elements.{All-filter, All-from_recursion, All-from_get_or}
@@ -26,6 +26,11 @@ both_choices R _ _ x y u v e h k = absurd cc
 pub choice_mapped : {A B C : Type 0} (f : A → C) (g : B → C) (c : Bool) (x y : A) (u v : B)
     → f x ≡ g u → f y ≡ g v → f (cond c x y) ≡ g (cond c u v)
 choice_mapped f g c x y u v h k = both_choices (λ a b. f a ≡ g b) c c x y u v refl h k
+
+-- nothing, where what is made of it is nothing
+pub unmapped : {A B : Type 0} (f : A → B) (o : Option A) → option_map f o ≡ None → o ≡ None
+unmapped f None e = refl
+unmapped f (Some x) e = absurd cc
 
 -- ---- lists from their parts
 
@@ -288,12 +293,6 @@ pub cons_split : {A B C : Type 0} (f : A → C) (g : B → C) (a : A) (others : 
 cons_split f g a others [] is = absurd cc
 cons_split f g a others (b ∷ bs) is = (b, bs, refl, cc, cc)
 
--- what corresponds to nothing
-pub nil_split : {A B C : Type 0} (f : A → C) (g : B → C) (ys : List B) → map f [] ≡ map g ys
-    → ys ≡ []
-nil_split f g [] is = refl
-nil_split f g (b ∷ bs) is = absurd cc
-
 -- what corresponds to two parts
 pub append_split : {A B C : Type 0} (f : A → C) (g : B → C) (others bs : List A) (ys : List B)
     → map f (others ++ bs) ≡ map g ys → (cs : List B) × (ds : List B) × (ys ≡ cs ++ ds)
@@ -308,13 +307,6 @@ append_split f g (a ∷ others) bs ys is =
 pub same_length : {A B C : Type 0} (f : A → C) (g : B → C) (xs : List A) (ys : List B)
     → map f xs ≡ map g ys → length xs ≡ length ys
 same_length f g xs ys is = sym (length-map xs f) ∙ ap length is ∙ length-map ys g
-
--- what corresponds to one element
-pub one_split : {A B C : Type 0} (f : A → C) (g : B → C) (a : A) (ys : List B)
-    → map f (a ∷ []) ≡ map g ys → (b : B) × (ys ≡ b ∷ []) × (f a ≡ g b)
-one_split f g a ys e =
-    let (b, bs, whole, same, rest) = cons_split f g a [] ys e in
-    (b, whole ∙ ap (λ l. b ∷ l) (nil_split f g bs rest), same)
 
 -- ---- two lists, index by index
 

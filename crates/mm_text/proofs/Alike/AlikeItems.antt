@@ -2,7 +2,7 @@
 -- alike.
 use Rattle.std.proofs.Common.{◌≡◌, ℕ, zero, suc, ◌+◌, List, [], ◌∷◌, length, map, replicate, Bool}
 use Rattle.std.proofs.Common.{true, false, cond, not, refl, sym, ap, ◌∙◌, codes, Option, Some, None}
-use Rattle.std.proofs.Common.{arith, inl, inr, ◌++◌, nat_lt, slice_get, slice_index_or, slice_set}
+use Rattle.std.proofs.Common.{arith, inl, inr, nat_lt, slice_get, slice_index_or, slice_set}
 use Rattle.std.proofs.Common.{unwrap_or, option_map}
 use Rattle.std.specs.List.{AllZip, AllByRecursion, prefix_len}
 use Rattle.std.proofs.lemmas.Slice.Zip.{AllZip-long}
@@ -20,11 +20,13 @@ use Rattle.mm_text.specs.Alike.{token_on, faulty_on, shown_on, item_on, shows, A
 use Rattle.mm_text.specs.Alike.{AlikeFilesAreReadAlike}
 use Rattle.mm_text.proofs.Inclusions.ItemTokens.{StandsIn, tokens_in_place, ShownIs, shown_all}
 use Rattle.mm_text.proofs.Lists.{all_weaker, both_choices, mapped_zip, zip_append, zip_left}
-use Rattle.mm_text.proofs.Lists.{zip_length, zip_mapped, zip_weaker, append_split, cons_split}
-use Rattle.mm_text.proofs.Lists.{nil_split}
+use Rattle.mm_text.proofs.Lists.{zip_length, zip_weaker}
 use Rattle.mm_text.proofs.Inclusions.FilePieces.{is_wrong, named_related, spliced_met, spliced_name}
 use Rattle.mm_text.proofs.Inclusions.FilePieces.{spliced_nil}
-use Rattle.mm_text.proofs.Alike.AlikeStatements.{text_alike, faulty_alike, viable_alike, ends_alike}
+use Rattle.mm_text.proofs.Alike.AlikeReadings.{text_alike, faulty_alike, reading_on, same_read}
+use Rattle.mm_text.specs.Mirror.Reader.{PlainReading, Between, outermost}
+use Rattle.mm_text.proofs.Reader.OneReading.{reads_reading}
+use Rattle.mm_text.proofs.Reader.WholeReadings.{files_reading, reading_reads}
 
 -- ==== files that show the same have the same items, but for the positions of their tokens
 
@@ -229,41 +231,34 @@ put_before_same files others z n ps qs w = elim (slice_get_cases files n).1 [
 
 -- files that show the same have the same items, where each position is replaced by the line feeds
 -- before it
-pub alike_items : (files others : List PlainFile) → AllZip AreAlike files others → map (item_on (feeds_in files)) (items files) ≡ map (item_on (feeds_in others)) (items others)
-alike_items [] [] z = refl
+pub alike_items : (files others : List PlainFile) → AllZip AreAlike files others
+    → AllZip (SameItem (feeds_in files) (feeds_in others)) (items files) (items others)
+alike_items [] [] z = tt
 alike_items (f ∷ files) (g ∷ others) z =
     let h = feeds_in (f ∷ files) in
     let k = feeds_in (g ∷ others) in
-    let named = true ∷ replicate (length files) false in
     let names : SameNames (f ∷ files) (g ∷ others) =
     zip_weaker AreAlike _ (λ f g alike. alike.0) (f ∷ files) (g ∷ others) z in
-    zip_mapped (item_on h) (item_on k) (items (f ∷ files)) (put_in (g ∷ others) (length files) named (pieces_of 0 g))
-    (put_in_same h k (f ∷ files) (g ∷ others) (same_number (f ∷ files) (g ∷ others) names) (put_before_same (f ∷ files) (g ∷ others) z) (length files) named (pieces_of 0 f) (pieces_of 0 g)
+    rw (AllZip-long AreAlike files others z.1)
+    (put_in_same h k (f ∷ files) (g ∷ others) (same_number (f ∷ files) (g ∷ others) names)
+    (put_before_same (f ∷ files) (g ∷ others) z) (length files)
+    (true ∷ replicate (length files) false) (pieces_of 0 f) (pieces_of 0 g)
     (file_pieces_same (f ∷ files) (g ∷ others) 0 f g refl refl z.0))
-    ∙ ap (λ (n : ℕ). map (item_on k) (put_in (g ∷ others) n (true ∷ replicate n false) (pieces_of 0 g))) (sym (AllZip-long AreAlike files others z.1))
 alike_items files others z = absurd z
 
 -- ==== files that show the same are read alike
 
 pub alike_files_are_read_alike : AlikeFilesAreReadAlike
-alike_files_are_read_alike files others alike statements None reads =
-    let (same, begun, viable, spelled, unfinished) = viable_alike (feeds_in files) (feeds_in others) (items files) (items others) statements [] (alike_items files others alike) reads in
-    let nothing = nil_split (token_on (feeds_in files)) (token_on (feeds_in others)) begun unfinished in record {
-      same = same;
-      end = None;
-      reads = rw nothing at viable;
-      spelled = spelled;
-      ended = refl;
-    }
-alike_files_are_read_alike files others alike statements (Some fault) (prefix, item, rest, unfinished, split, viable, ends) =
-    let h = feeds_in files in let k = feeds_in others in
-    let (first, back, whole, before, behind) = append_split (item_on h) (item_on k) prefix (item ∷ rest) (items others) (ap (map (item_on h)) (sym split) ∙ alike_items files others alike) in
-    let (other, after, next, one, later) = cons_split (item_on h) (item_on k) item rest back behind in
-    let (same, begun, also, spelled, begins) = viable_alike h k prefix first statements unfinished before viable in
-    let (end, ended, told) = ends_alike h k statements same unfinished begun fault spelled begins item other one ends in record {
-      same = same;
-      end = Some end;
-      reads = (first, other, after, begun, whole ∙ ap (λ l. first ++ l) next, also, ended);
-      spelled = spelled;
-      ended = ap Some told;
+alike_files_are_read_alike files others alike statements ending reads =
+    let h = feeds_in files in
+    let k = feeds_in others in
+    let same = ap (reading_on h) (sym (reads_reading (items files) statements ending reads))
+    ∙ same_read h k (items files) (items others) (alike_items files others alike) outermost
+    outermost Between Between refl refl in
+    record {
+      same = (files_reading others).statements;
+      end = (files_reading others).ending;
+      reads = reading_reads others;
+      spelled = ap (λ (r : PlainReading). r.statements) same;
+      ended = ap (λ (r : PlainReading). r.ending) same;
     }

@@ -20,7 +20,7 @@ use Rattle.mm_text.specs.Alike.{item_on, AreAlike}
 use Rattle.mm_text.specs.Included.{file_of, is_left_out, left_out, AlikeFilesLeaveOutTheSame}
 use Rattle.mm_text.specs.Included.{}
 use Rattle.mm_text.specs.Mirror.Included.{AreOfFiles, met_with, unmet}
-use Rattle.mm_text.proofs.Lists.{all_weaker}
+use Rattle.mm_text.proofs.Lists.{all_weaker, zip_mapped}
 use Rattle.mm_text.proofs.Inclusions.ItemTokens.{StandsIn, tokens_in_place, ItemOf, all_items_of}
 use Rattle.mm_text.proofs.Inclusions.FilePieces.{is_wrong, put_in-met}
 use Rattle.mm_text.proofs.Alike.AlikeItems.{AtHome, shown_at_home, alike_items}
@@ -150,6 +150,7 @@ alike_files_leave_out_the_same files others alike =
     let long : length files ≡ length others = sym (AllZip-long AreAlike files others alike) in
     let same : (n : ℕ) → is_left_out files n ≡ is_left_out others n = λ n.
     ap not (sym (any_on (feeds_in files) n (items files))
-    ∙ ap (list_any (λ i. file_of i == n)) (alike_items files others alike)
+    ∙ ap (list_any (λ i. file_of i == n)) (zip_mapped (item_on (feeds_in files))
+    (item_on (feeds_in others)) _ _ (alike_items files others alike))
     ∙ any_on (feeds_in others) n (items others)) in
     λ i. filter (λ n. same n i) (range_with_len 0 (long i))

@@ -1,25 +1,24 @@
 -- The law of replaced proofs, by the file in which the statement stands. Where tokens have moved, so
 -- have the proofs of the statements that they spell.
 use Rattle.std.proofs.Common.{◌≡◌, ◌≢◌, ℕ, ◌+◌, List, [], ◌∷◌, ◌++◌, length, map, refl, sym, ap}
-use Rattle.std.proofs.Common.{◌∙◌, subst, append_assoc, append-nil, arith, None, length-append}
-use Rattle.std.proofs.Common.{slice_set}
+use Rattle.std.proofs.Common.{◌∙◌, subst, append_assoc, append-nil, arith, None, slice_set}
+use Rattle.std.proofs.Common.{length-append}
 use Rattle.std.specs.List.{AllZip}
 use Rattle.mm_text.specs.declared.statement.Kind.{Kind}
 use Rattle.mm_text.specs.declared.statement.Kind.TheVariants.{Provable}
 use Rattle.mm_text.specs.Token.{PlainToken, tokens_from}
 use Rattle.mm_text.specs.Files.{PlainFile}
-use Rattle.mm_text.specs.Statement.{PlainStatement, IsHead, EndsInProof, IsTail, Spells, SpellsAll}
+use Rattle.mm_text.specs.Statement.{PlainStatement, EndsInProof, IsTail, Spells, SpellsAll, IsHead}
 use Rattle.mm_text.specs.Items.{plain_tokens, items}
 use Rattle.mm_text.specs.Reading.{Viable, Reads}
-use Rattle.mm_text.specs.Alike.{token_on, statement_on, item_on}
-use Rattle.mm_text.specs.Replaced.{IsMoved, with_span, with_bytes, ReplacedProofsAreRead}
-use Rattle.mm_text.proofs.Alike.AlikeStatements.{statement_alike, plain_tokens_alike}
+use Rattle.mm_text.specs.Alike.{token_on, item_on}
+use Rattle.mm_text.specs.Replaced.{placeless, IsMoved, with_span, with_bytes, ReplacedProofsAreRead}
+use Rattle.mm_text.proofs.Alike.AlikeReadings.{plain_tokens_alike}
 use Rattle.mm_text.proofs.Replaced.ReplacedItems.{further, further_here, further_elsewhere}
 use Rattle.mm_text.proofs.Replaced.ReplacedReading.{Parts, spells_append, without_rest, nowhere}
-use Rattle.mm_text.proofs.Replaced.ReplacedReading.{proof_at, read_so, spelled_once}
+use Rattle.mm_text.proofs.Replaced.ReplacedReading.{proof_at, read_so, spelled_long, parts_long}
 use Rattle.mm_text.proofs.Replaced.ProofSpans.{ends_home}
-use Rattle.mm_text.proofs.Lists.{append_split, cons_parts, nil_split, same_length, zip_mapped}
-use Rattle.mm_text.proofs.Lists.{zip_weaker}
+use Rattle.mm_text.proofs.Lists.{cons_parts, zip_mapped, zip_weaker}
 use Rattle.mm_text.proofs.Alike.AlikeItems.{SameItem}
 use Rattle.mm_text.proofs.Replaced.ReplacedProofs.{home, same_nowhere, stands, put, symbols, last}
 use Rattle.mm_text.proofs.Replaced.ReplacedProofs.{others, one, other, altered}
@@ -28,14 +27,15 @@ use Rattle.mm_text.proofs.Replaced.ReplacedProofs.{others, one, other, altered}
 
 -- ---- the `$=` and the `$.` of a statement
 
--- what corresponds behind parts that are as long as each other
-behind_alike : {A C : Type 0} (f g : A → C) (a b c d : List A) → length a ≡ length c
-    → map f (a ++ b) ≡ map g (c ++ d) → map f b ≡ map g d
-behind_alike f g [] b [] d long e = e
-behind_alike f g (x ∷ a) b (y ∷ c) d long e =
-    behind_alike f g a b c d (omega arith)
-    (cons_parts (f x) (g y) (map f (a ++ b)) (map g (c ++ d)) e).1
-behind_alike f g _ b _ d long e = absurd (omega arith)
+-- what corresponds in two parts, of which the first are as long as each other
+both_alike : {A C : Type 0} (f g : A → C) (a b c d : List A) → length a ≡ length c
+    → map f (a ++ b) ≡ map g (c ++ d) → (map f a ≡ map g c) × (map f b ≡ map g d)
+both_alike f g [] b [] d long e = (refl, e)
+both_alike f g (x ∷ a) b (y ∷ c) d long e =
+    let (first, rest) = cons_parts (f x) (g y) (map f (a ++ b)) (map g (c ++ d)) e in
+    let (parts, back) = both_alike f g a b c d (omega arith) rest in
+    (λ i. first i ∷ parts i, back)
+both_alike f g _ b _ d long e = absurd (omega arith)
 
 -- before its symbols a `$p` has two tokens
 head_long : (tokens : List PlainToken) (s : PlainStatement) (h : Spells tokens s)
@@ -44,25 +44,26 @@ head_long tokens s h p =
     let head = subst (λ (kind : Kind). IsHead kind h.head) p h.begins in
     length-append h.head s.symbols ∙ rw head.tokens refl
 
--- the signs of a statement correspond to those of one to which it corresponds
+-- the first tokens and the signs of two statements that differ in positions alone correspond where
+-- all their tokens do
 signs_alike : (h j : ℕ → ℕ → ℕ) (tokens others : List PlainToken) (s t : PlainStatement)
-    → map (token_on h) tokens ≡ map (token_on j) others → statement_on h s ≡ statement_on j t
+    → map (token_on h) tokens ≡ map (token_on j) others → placeless s ≡ placeless t
     → (a : Spells tokens s) (b : Spells others t) (k : EndsInProof s a.tail)
     (l : EndsInProof t b.tail) → s.kind ≡ Provable → t.kind ≡ Provable
-    → (token_on h k.equals ≡ token_on j l.equals) × (token_on h k.stop ≡ token_on j l.stop)
+    → (token_on h s.first ≡ token_on j t.first) × (token_on h k.equals ≡ token_on j l.equals)
+    × (token_on h k.stop ≡ token_on j l.stop)
 signs_alike h j tokens others s t e same a b k l p q =
     let f : PlainToken → PlainToken = token_on h in
     let g : PlainToken → PlainToken = token_on j in
-    let symbols : length s.symbols ≡ length t.symbols =
-    same_length f g s.symbols t.symbols (ap (λ (x : PlainStatement). x.symbols) same) in
-    let proofs : length s.proof ≡ length t.proof =
-    same_length f g s.proof t.proof (ap (λ (x : PlainStatement). x.proof) same) in
-    let tails = behind_alike f g (a.head ++ s.symbols) a.tail (b.head ++ t.symbols) b.tail
-    (cc (head_long tokens s a p, head_long others t b q, symbols))
-    (ap (map f) (sym a.whole) ∙ e ∙ ap (map g) b.whole) in
+    let (symbols, proofs) = parts_long s t same in
+    let whole = ap (map f) (sym a.whole) ∙ e ∙ ap (map g) b.whole in
+    let (stated, tails) = both_alike f g (a.head ++ s.symbols) a.tail (b.head ++ t.symbols) b.tail
+    (cc (head_long tokens s a p, head_long others t b q, symbols)) whole in
+    let heads = (λ i. map f (sym a.first.1 i ++ s.symbols)) ∙ stated
+    ∙ (λ i. map g (b.first.1 i ++ t.symbols)) in
     let signs = ap (map f) (sym k.tokens) ∙ tails ∙ ap (map g) l.tokens in
-    let stops = behind_alike f g s.proof (k.stop ∷ []) t.proof (l.stop ∷ []) proofs (cc (signs)) in
-    (cc (signs), cc (stops))
+    let stops = both_alike f g s.proof (k.stop ∷ []) t.proof (l.stop ∷ []) proofs (cc (signs)) in
+    (cc (heads), cc (signs), cc (stops.1))
 
 -- ---- where the proof stands
 
@@ -138,29 +139,28 @@ module _ (number end other_end : ℕ) where
     statements_moved : (before : List PlainStatement) (s : PlainStatement)
         (after : List PlainStatement) (p : Parts tokens before s after) (others : List PlainToken)
         → map (token_on was) p.back ≡ map (token_on now) others
-        → (later : List PlainStatement) × SpellsAll others later × AllZip MovesSo after later
-    statements_moved before s [] p others e =
-        let nothing = ap (map (token_on was)) (sym p.later) ∙ e in
-        ([], nil_split (token_on was) (token_on now) others nothing, tt)
-    statements_moved before s (u ∷ after) p others e =
+        → (later : List PlainStatement) → SpellsAll others later
+        → map placeless after ≡ map placeless later → AllZip MovesSo after later
+    statements_moved before s [] p others e [] h es = tt
+    statements_moved before s (u ∷ after) p others e (t ∷ later) h es =
         let q = next_parts before s u after p in
-        let (mine, rest, split, prefixes, rests) =
-        append_split (token_on was) (token_on now) q.own q.back others
-        (ap (map (token_on was)) (sym p.later.2) ∙ e) in
-        let (t, spelled, same) = statement_alike was now q.own mine u prefixes q.here in
-        let (later, all, moved) = statements_moved (before ++ s ∷ []) u after q rest rests in
+        let (same, more) = cons_parts (placeless u) (placeless t) _ _ es in
+        let long = spelled_long q.own h.0 u t same q.here h.3 in
+        let (prefixes, rests) = both_alike (token_on was) (token_on now) q.own q.back h.0 h.1 long
+        (ap (map (token_on was)) (sym p.later.2) ∙ e ∙ ap (map (token_on now)) h.2) in
         let own : MovesSo u t = λ is.
         let other : t.kind ≡ Provable = ap (λ (x : PlainStatement). x.kind) (sym same) ∙ is in
         let k : EndsInProof u q.here.tail =
         subst (λ (kind : Kind). IsTail u kind q.here.tail) is q.here.ends in
-        let l : EndsInProof t spelled.tail =
-        subst (λ (kind : Kind). IsTail t kind spelled.tail) other spelled.ends in
-        let (equals, stop) = signs_alike was now _ _ u t prefixes same q.here spelled k l is other in
+        let l : EndsInProof t h.3.tail =
+        subst (λ (kind : Kind). IsTail t kind h.3.tail) other h.3.ends in
+        let (first, equals, stop) =
+        signs_alike was now _ _ u t prefixes same q.here h.3 k l is other in
         let f = without_rest (items files) statements v in
         let (one, two) = ends_home files statements (before ++ s ∷ []) after f u q k in
-        moved_by_signs u t q.here.tail spelled.tail k l (ap (λ (x : PlainStatement). x.first) same)
-        equals stop one two in
-        (t ∷ later, (mine, rest, split, spelled, all), (own, moved))
+        moved_by_signs u t q.here.tail h.3.tail k l first equals stop one two in
+        (own, statements_moved (before ++ s ∷ []) u after q h.1 rests later h.4 more)
+    statements_moved before s _ p others e _ h es = absurd cc
 
 -- ==== the law of replaced proofs, by the file in which the statement stands
 
@@ -193,11 +193,6 @@ replaced_proofs_are_read_holds files before s after file text reads p there is_t
     ∙ rw (there, with_bytes) in
     let alike = ap (map (token_on h)) (sym a.left) ∙ plain_tokens_alike h j a.back rest
     (zip_mapped (item_on h) (item_on j) a.back rest same) in
-    let found = statements_moved s.first.file s.span.1 (s.span.0 + length text) files all reads
-    before s after a.parts (plain_tokens rest)
-    (subst (λ (x : ℕ × ℕ × ℕ). map (token_on (further x.0 (x.1 + length text))) a.parts.back
-    ≡ map (token_on (further x.0 x.2)) (plain_tokens rest))
-    (λ i. (number i, from i, end i)) alike) in
     record {
       later = later;
       reads = subst (λ (x : List PlainFile × PlainStatement). Reads x.0 (before ++ x.1 ∷ later) None)
@@ -209,5 +204,9 @@ replaced_proofs_are_read_holds files before s after file text reads p there is_t
             },
           )) read;
       same = placed;
-      moved = rw (spelled_once (plain_tokens rest) found.0 later found.1 spelled) at found.2;
+      moved = statements_moved s.first.file s.span.1 (s.span.0 + length text) files all reads before s
+          after a.parts (plain_tokens rest)
+          (subst (λ (x : ℕ × ℕ × ℕ). map (token_on (further x.0 (x.1 + length text))) a.parts.back
+          ≡ map (token_on (further x.0 x.2)) (plain_tokens rest))
+          (λ i. (number i, from i, end i)) alike) later spelled placed;
     }

@@ -1,19 +1,20 @@
 -- The reading of items in which a statement has another proof.
 use Rattle.std.proofs.Common.{◌≢◌, ◌≡◌, ℕ, ◌+◌, List, [], ◌∷◌, ◌++◌, map, refl, sym, ap, ◌∙◌, subst}
-use Rattle.std.proofs.Common.{codes, Option, Some, None, inl, append_assoc, append-nil}
+use Rattle.std.proofs.Common.{codes, Option, Some, None, inl, append_assoc, append-nil, length}
+use Rattle.std.proofs.Common.{length-append, arith}
 use Rattle.std.specs.List.{AllZip}
 use Rattle.std.proofs.lemmas.List.{map-append, append_cancel_left}
 use Rattle.mm_text.specs.declared.statement.Kind.{Kind}
-use Rattle.mm_text.specs.declared.statement.Kind.TheVariants.{Provable}
+use Rattle.mm_text.specs.declared.statement.Kind.TheVariants.{Provable, Opening, Closing}
 use Rattle.mm_text.specs.Token.{PlainToken}
 use Rattle.mm_text.specs.Files.{PlainFile}
 use Rattle.mm_text.specs.Statement.{PlainStatement, AreSymbols, IsTail, EndsInProof, Spells}
-use Rattle.mm_text.specs.Statement.{SpellsAll}
+use Rattle.mm_text.specs.Statement.{SpellsAll, IsHead}
 use Rattle.mm_text.specs.Items.{Item, Plain, Wrong, Inclusion, End, plain_tokens, HoldNoFault}
 use Rattle.mm_text.specs.Items.{items}
 use Rattle.mm_text.specs.Blocks.{AreBalanced}
 use Rattle.mm_text.specs.Reading.{PlainFault, Viable, IsBeginning, ReadsAs, Reads}
-use Rattle.mm_text.specs.Alike.{statement_on, token_on, item_on}
+use Rattle.mm_text.specs.Alike.{statement_on, fault_on, item_on}
 use Rattle.mm_text.specs.Mirror.Reader.{Part, Between, InProof, PlainScope, outermost, PlainReading}
 use Rattle.mm_text.specs.Mirror.Reader.{with_statement, scope_after_statement, reading_of}
 use Rattle.mm_text.proofs.Reader.ComputedReadings.{plain_tokens-append, clean_behind}
@@ -25,9 +26,11 @@ use Rattle.mm_text.proofs.Reader.OneToken.{read_more, read_whole, step_proof_tok
 use Rattle.mm_text.proofs.Reader.OpenBlocks.{scope_of, balanced_prefix}
 use Rattle.mm_text.proofs.Reader.OneReading.{with_statements, prefix_reading, reads_reading}
 use Rattle.mm_text.proofs.Reader.WholeReadings.{files_reading, reading_reads}
-use Rattle.mm_text.proofs.Alike.AlikeStatements.{viable_alike, statements_alike, plain_tokens_alike}
+use Rattle.mm_text.proofs.Alike.AlikeReadings.{reading_on, same_read, plain_tokens_alike}
+use Rattle.mm_text.specs.Replaced.{placeless}
 use Rattle.mm_text.proofs.Alike.AlikeItems.{SameItem}
-use Rattle.mm_text.proofs.Lists.{nil_append, nil_split, zip_mapped}
+use Rattle.mm_text.proofs.Lists.{cons_parts, nil_append, one_parting, same_length, unmapped}
+use Rattle.mm_text.proofs.Lists.{zip_mapped}
 use Rattle.mm_text.specs.declared.class.Keyword.TheVariants as keyword
 
 -- no position matters
@@ -67,10 +70,52 @@ spells_append a b [] ys h k = rw h k
 spells_append a b (x ∷ xs) ys h k =
     (h.0, h.1 ++ b, rw h.2 (append_assoc h.0 h.1 b), h.3, spells_append h.1 b xs ys h.4 k)
 
--- tokens spell one list of statements
-pub spelled_once : (tokens : List PlainToken) (xs ys : List PlainStatement) → SpellsAll tokens xs
-    → SpellsAll tokens ys → xs ≡ ys
-spelled_once tokens xs ys h k = cc (whole_run tokens xs h, whole_run tokens ys k)
+-- ---- statements that differ in positions alone have as many tokens
+
+pub parts_long : (s t : PlainStatement) → placeless s ≡ placeless t
+    → (length s.symbols ≡ length t.symbols) × (length s.proof ≡ length t.proof)
+parts_long s t same = (
+  same_length _ _ s.symbols t.symbols (ap (λ (x : PlainStatement). x.symbols) same),
+  same_length _ _ s.proof t.proof (ap (λ (x : PlainStatement). x.proof) same),
+)
+
+heads_long : (kind : Kind) (a b : List PlainToken) → IsHead kind a → IsHead kind b
+    → length a ≡ length b
+heads_long Provable a b h k = rw (h.tokens, k.tokens) refl
+heads_long _ a b h k = rw (h.tokens, k.tokens) refl
+
+tails_long : (s t : PlainStatement) (kind : Kind) (a b : List PlainToken)
+    → length s.proof ≡ length t.proof → IsTail s kind a → IsTail t kind b → length a ≡ length b
+tails_long s t Provable a b long h k =
+    let one = length-append s.proof (h.stop ∷ []) in
+    let other = length-append t.proof (k.stop ∷ []) in
+    rw (h.tokens, k.tokens) (omega (arith, long, one, other))
+tails_long s t Opening a b long h k = rw (h.0, k.0) refl
+tails_long s t Closing a b long h k = rw (h.0, k.0) refl
+tails_long s t _ a b long h k = rw (h.tokens, k.tokens) refl
+
+pub spelled_long : (a b : List PlainToken) (s t : PlainStatement) → placeless s ≡ placeless t
+    → Spells a s → Spells b t → length a ≡ length b
+spelled_long a b s t same h k =
+    let (symbols, proofs) = parts_long s t same in
+    let kind = ap (λ (x : PlainStatement). x.kind) same in
+    let begins = subst (λ (x : Kind). IsHead x h.head) kind h.begins in
+    let ends = subst (λ (x : Kind). IsTail s x h.tail) kind h.ends in
+    let head = heads_long t.kind h.head k.head begins k.begins in
+    let tail = tails_long s t t.kind h.tail k.tail proofs ends k.ends in
+    simp (h.whole, k.whole, length-append, head, tail, symbols)
+
+all_long : (a b : List PlainToken) (xs ys : List PlainStatement) → map placeless xs ≡ map placeless ys
+    → SpellsAll a xs → SpellsAll b ys → length a ≡ length b
+all_long a b [] [] same h k = rw (h, k) refl
+all_long a b (x ∷ xs) (y ∷ ys) same h k =
+    let (first, rest) = cons_parts (placeless x) (placeless y) _ _ same in
+    let one = spelled_long h.0 k.0 x y first h.3 k.3 in
+    let others = all_long h.1 k.1 xs ys rest h.4 k.4 in
+    simp (h.2, k.2, length-append, one, others)
+all_long a b _ _ same h k = absurd cc
+
+-- ---- tokens among items
 
 -- a token among those of items is one of them
 pub record TokenAt (its : List Item) (before : List PlainToken) (t : PlainToken) (after : List PlainToken) : Type 0 where
@@ -314,59 +359,39 @@ module _ (its : List Item) (before : List PlainStatement) (s : PlainStatement) (
       (stated ++ a.ends.equals ∷ []) (InProof proving) until_viable begun_here
       ∙ ap (with_statements before) (proof_reading (scope_of before) proving proof stop rest h sign)
 
-  -- the old proof, and other items after it
-  abbrev before_rest : List Item → List Item
-  before_rest rest = a.prefix ++ (map Plain (a.ends.equals ∷ (s.proof ++ a.ends.stop ∷ [])) ++ rest)
-
-  -- the tokens of these
-  rest_tokens : (rest : List Item)
-      → plain_tokens (before_rest rest) ≡ a.parts.prefix ++ (a.parts.own ++ plain_tokens rest)
-  rest_tokens rest =
-      let plain = all_plain (s.proof ++ a.ends.stop ∷ []) in
-      simp (plain_tokens-append, plain, a.done, a.parts.here.whole, a.ends.tokens, append_assoc)
-
-  -- what is read after the proof where the items after it are the old ones but for positions
-  abbrev Later : List Item → Type 0
-  Later rest = (others : List PlainStatement)
-      × (reading_of (scope_after_statement (scope_of before)) Between rest
-      ≡ record { statements = others; ending = None })
-      × SpellsAll (plain_tokens rest) others
-      × (map (statement_on nowhere) after ≡ map (statement_on nowhere) others)
-
-  -- with these items after it the statements read are those that their tokens spell
-  rest_read : (rest : List Item) (same others : List PlainStatement)
-      → Viable (before_rest rest) same [] → SpellsAll (plain_tokens rest) others
-      → reading_of (scope_after_statement (scope_of before)) Between rest
-      ≡ record { statements = others; ending = None }
-  rest_read rest same others v told =
-      let mixed : List Item = before_rest rest in
-      let r : PlainReading = reading_of (scope_after_statement (scope_of before)) Between rest in
+  -- what is read after the proof
+  after_read : reading_of (scope_after_statement (scope_of before)) Between a.back
+      ≡ record { statements = after; ending = None }
+  after_read =
+      let r : PlainReading = reading_of (scope_after_statement (scope_of before)) Between a.back in
       let t : PlainStatement = record s { span = (a.ends.equals.at + 2, a.ends.stop.at) } in
       let both = sym (statements_read before (with_statement t r))
-      ∙ sym (any_proof s.proof a.ends.stop rest a.ends.proof a.ends.end)
-      ∙ reads_reading mixed same None v in
-      let mine : SpellsAll (plain_tokens mixed) (before ++ s ∷ others) =
-      rw (rest_tokens rest) (spells_append a.parts.prefix (a.parts.own ++ plain_tokens rest) before
-      (s ∷ others) a.parts.earlier (a.parts.own, plain_tokens rest, refl, a.parts.here, told)) in
-      let theirs : SpellsAll (plain_tokens mixed) same = rw (v.whole, append-nil) v.spelled in
-      let once : t ∷ r.statements ≡ s ∷ others = append_cancel_left before _ _
-      (ap (λ (x : PlainReading). x.statements) both ∙ sym (spelled_once _ _ same mine theirs)) in
-      let is : r.statements ≡ others = cc (once) in
+      ∙ sym (any_proof s.proof a.ends.stop a.back a.ends.proof a.ends.end)
+      ∙ ap (reading_of outermost Between) (sym a.whole)
+      ∙ reads_reading its (before ++ s ∷ after) None v in
+      let once : t ∷ r.statements ≡ s ∷ after = append_cancel_left before _ _
+      (ap (λ (x : PlainReading). x.statements) both) in
+      let is : r.statements ≡ after = cc once in
       λ i. record { statements = is i; ending = (both i).ending }
 
-  later_read : (rest : List Item) → AllZip (SameItem nowhere nowhere) a.back rest → Later rest
-  later_read rest z =
-      let h : Item → Item = item_on nowhere in
-      let mixed : List Item = before_rest rest in
-      let same_rest : map h a.back ≡ map h rest = zip_mapped h h a.back rest z in
-      let same_all : map h its ≡ map h mixed = ap (map h) a.whole ∙ simp (map-append, same_rest) in
-      let (same, nothing, viable, spelled, unfinished) =
-      viable_alike nowhere nowhere its mixed (before ++ s ∷ after) [] same_all v in
-      let none : nothing ≡ [] = nil_split (token_on nowhere) (token_on nowhere) nothing unfinished in
-      let (others, told, alike) =
-      statements_alike nowhere nowhere (plain_tokens a.back) (plain_tokens rest) after
-      (plain_tokens_alike nowhere nowhere a.back rest same_rest) (rw a.left a.parts.later) in
-      (others, rest_read rest same others (subst (Viable mixed same) none viable) told, told, alike)
+  -- the tokens after the proof spell what is read after it
+  rest_spelled : (mixed prefix rest : List Item) (o : PlainStatement) (later : List PlainStatement)
+      → mixed ≡ prefix ++ rest → AllZip (SameItem nowhere nowhere) a.back rest
+      → map placeless after ≡ map placeless later → Viable mixed (before ++ o ∷ later) []
+      → SpellsAll (plain_tokens rest) later
+  rest_spelled mixed prefix rest o later e z same w =
+      let spelled : SpellsAll (plain_tokens mixed) (before ++ o ∷ later) =
+      rw (w.whole, append-nil) w.spelled in
+      let q = parts_of (plain_tokens mixed) before o later spelled in
+      let whole : (q.prefix ++ q.own) ++ q.back ≡ plain_tokens prefix ++ plain_tokens rest =
+      append_assoc q.prefix q.own q.back ∙ sym q.whole ∙ ap plain_tokens e
+      ∙ plain_tokens-append prefix rest in
+      let alike = plain_tokens_alike nowhere nowhere a.back rest
+      (zip_mapped (item_on nowhere) (item_on nowhere) a.back rest z) in
+      let long : length q.back ≡ length (plain_tokens rest) =
+      all_long q.back a.parts.back later after (sym same) q.later a.parts.later
+      ∙ ap (length {A = PlainToken}) (sym a.left) ∙ same_length _ _ _ _ alike in
+      rw (one_parting _ q.back _ (plain_tokens rest) whole long).1 at q.later
 
   -- files with these items read so
   pub read_so : (others : List PlainFile) (proof : List PlainToken) (stop : PlainToken)
@@ -376,11 +401,23 @@ module _ (its : List Item) (before : List PlainStatement) (s : PlainStatement) (
       → (later : List PlainStatement) × Reads others (before ++ record s { proof = proof; span = (a.ends.equals.at + 2, stop.at) } ∷ later) None
       × SpellsAll (plain_tokens rest) later
       × (map (statement_on nowhere) after ≡ map (statement_on nowhere) later)
-  read_so others proof stop rest h sign z e =
-      let (later, read, told, same) = later_read rest z in
+  read_so others proof stop rest symbols sign z e =
+      let r : PlainReading = reading_of (scope_after_statement (scope_of before)) Between rest in
       let o : PlainStatement = record s { proof = proof; span = (a.ends.equals.at + 2, stop.at) } in
-      let found : files_reading others ≡ record { statements = before ++ o ∷ later; ending = None } =
-      ap (reading_of outermost Between) e ∙ any_proof proof stop rest h sign
-      ∙ ap (λ (r : PlainReading). with_statements before (with_statement o r)) read
-      ∙ statements_read before (with_statement o (record { statements = later; ending = None })) in
-      (later, rw found at (reading_reads others), told, same)
+      let same = ap (reading_on nowhere) (sym after_read)
+      ∙ same_read nowhere nowhere a.back rest z _ _ Between Between refl refl in
+      let none : r.ending ≡ None = unmapped (fault_on nowhere) r.ending
+      (sym (ap (λ (x : PlainReading). x.ending) same)) in
+      let found : files_reading others ≡ record {
+        statements = before ++ o ∷ r.statements;
+        ending = None;
+      } =
+      ap (reading_of outermost Between) e ∙ any_proof proof stop rest symbols sign
+      ∙ statements_read before (with_statement o r)
+      ∙ (λ i. record { statements = before ++ o ∷ r.statements; ending = none i }) in
+      let read : Reads others (before ++ o ∷ r.statements) None = rw found at (reading_reads others)
+      in
+      let placed = ap (λ (x : PlainReading). x.statements) same in
+      let own : List Item = map Plain (a.ends.equals ∷ (proof ++ stop ∷ [])) in
+      let told = rest_spelled (items others) (a.prefix ++ own) rest o r.statements
+      (e ∙ sym (append_assoc a.prefix own rest)) z placed read in (r.statements, read, told, placed)
