@@ -3,8 +3,9 @@
 use Rattle.std.proofs.Common.{◌≡◌, List, [], ◌∷◌, ◌++◌, refl, sym, ap, ◌∙◌, None, ℕ, ◌+◌, ◌<◌, ◌≤◌}
 use Rattle.std.proofs.Common.{length, true, false, cond, subst, codes, Option, Some, arith}
 use Rattle.std.proofs.Common.{append_assoc, ◌⊎◌, inl, inr, ◌≢◌, append-nil, length-append, ne_eqb}
+use Rattle.std.proofs.Common.{zero, suc}
 use Rattle.std.proofs.lemmas.List.{nil_from_length}
-use Rattle.std.proofs.lemmas.Bool.{cond-true, cond-false, false_from_ne_true}
+use Rattle.std.proofs.lemmas.Bool.{cond-true, cond-false, false_from_ne_true, cases_Bool, cases_lt}
 use Rattle.mm_text.specs.declared.statement.Kind.TheVariants.{Opening, Closing, Constants}
 use Rattle.mm_text.specs.declared.statement.Kind.TheVariants.{Variables, Distinct, Floating}
 use Rattle.mm_text.specs.declared.statement.Kind.TheVariants.{Essential, Axiom, Provable}
@@ -14,6 +15,7 @@ use Rattle.mm_text.specs.Statement.{AreSymbols, FitsCount, label_in, keyword_of,
 use Rattle.mm_text.specs.Statement.{IsTail, EndsAtOnce, EndsInProof, is_provable}
 use Rattle.mm_text.specs.Mirror.Reader.{Part, Between, Step, More, Whole, Opened, Closed, Faulty}
 use Rattle.mm_text.specs.Mirror.Reader.{step, bare_statement, Labelled, InBody, InProof, is_full}
+use Rattle.mm_text.specs.Mirror.Reader.{is_keyword}
 use Rattle.mm_text.specs.Items.{spells}
 use Rattle.mm_text.specs.declared.fault.TextRule.TheVariants.{S5}
 use Rattle.mm_text.specs.declared.statement.Kind.{Kind}
@@ -23,12 +25,12 @@ use Rattle.mm_text.specs.Mirror.Steps.{is_block_sign, bare_kind, labelled_kind, 
 use Rattle.mm_text.specs.Reading.{closes_symbols, IsBeginning, IsBody}
 use Rattle.mm_text.specs.Laws.{BeginsStatement, BeginningsBeginStatements}
 use Rattle.mm_text.proofs.Reader.Unfinished.{IsPartBody, IsPartProof, Describes, has_count_from}
-use Rattle.mm_text.proofs.Reader.Unfinished.{has_count-true, started}
-use Rattle.mm_text.proofs.Lists.{cons_parts, all_append, all_prefix, nil_append}
+use Rattle.mm_text.proofs.Reader.Unfinished.{has_count-true, StepsTo, step_right, part_of_beginning}
+use Rattle.mm_text.proofs.Lists.{cons_parts, all_prefix}
 use Rattle.mm_text.proofs.Reader.OneToken.{step_opens, step_closes, start_by, start_keyword}
 use Rattle.mm_text.proofs.Reader.OneToken.{step_label, labelled_by, label_keyword, step_too_few}
 use Rattle.mm_text.proofs.Reader.OneToken.{step_whole, step_to_proof, step_symbol, step_proof_token}
-use Rattle.mm_text.proofs.Reader.OneToken.{step_ends_proof}
+use Rattle.mm_text.proofs.Reader.OneToken.{step_ends_proof, is_keyword-true}
 use Rattle.mm_text.specs.declared.class.Keyword.TheVariants as keyword
 
 -- ==== what the reader makes of tokens alone: statements and a part of one, or a fault
@@ -400,68 +402,8 @@ spells_sign kind tokens t none sign no_label begins count ends = record {
 -- ---- a beginning is finished by more tokens
 
 -- tokens that finish a statement
-abbrev symbol : PlainToken
-symbol = record { text = codes "x"; file = 0; at = 0 }
-
-abbrev equals_sign : PlainToken
-equals_sign = record { text = codes "$="; file = 0; at = 0 }
-
-abbrev full_stop : PlainToken
-full_stop = record { text = codes "$."; file = 0; at = 0 }
-
-finished_with : (tokens : List PlainToken) (kind : Kind) (symbols : List PlainToken) (b : IsBody tokens kind symbols) (extra : List PlainToken) (last : PlainToken) (tail : List PlainToken) (span : ℕ × ℕ)
-    → AreSymbols extra → FitsCount kind (length (symbols ++ extra))
-    → ((first : PlainToken) → IsTail (record { kind = kind; first = first; label = label_in b.head; symbols = symbols ++ extra; proof = []; span = span }) kind (last ∷ tail)) → BeginsStatement tokens
-finished_with tokens kind symbols b extra last tail span h count ends =
-    let st = started kind b.head b.begins in
-    record {
-      more = extra ++ last ∷ tail;
-      some = λ e. nil_append extra last tail (sym e);
-      statement = record { kind = kind; first = st.first; label = label_in b.head; symbols = symbols ++ extra; proof = []; span = span };
-      spelled = record {
-        head = b.head;
-        tail = last ∷ tail;
-        whole = sym (append_assoc tokens extra (last ∷ tail)) ∙ ap (λ (x : List PlainToken). x ++ last ∷ tail) (ap (λ (x : List PlainToken). x ++ extra) b.whole ∙ append_assoc b.head symbols extra);
-        begins = b.begins;
-        first = (st.others, st.is);
-        label = refl;
-        symbols = all_append (λ t. HoldsNoDollar t.text) symbols extra b.spelled h;
-        count = count;
-        ends = ends st.first;
-      };
-    }
-
--- a body that a `$.` ends
-stopped : (tokens : List PlainToken) (kind : Kind) (symbols : List PlainToken) (b : IsBody tokens kind symbols) (extra : List PlainToken) → AreSymbols extra → FitsCount kind (length (symbols ++ extra))
-    → ((s : PlainStatement) → EndsAtOnce s (full_stop ∷ []) → IsTail s kind (full_stop ∷ [])) → BeginsStatement tokens
-stopped tokens kind symbols b extra h count ends =
-    finished_with tokens kind symbols b extra full_stop [] (0, 0) h count
-    (λ first. ends (record { kind = kind; first = first; label = label_in b.head; symbols = symbols ++ extra; proof = []; span = (0, 0) }) (record { stop = full_stop; tokens = refl; end = refl; proof = refl; span = refl }))
-
-body_begins : (tokens : List PlainToken) (kind : Kind) (symbols : List PlainToken) (b : IsBody tokens kind symbols) → HasBody kind → BeginsStatement tokens
-body_begins tokens Floating [] b h = stopped tokens Floating [] b (symbol ∷ symbol ∷ []) (refl, (refl, tt)) refl (λ s k. k)
-body_begins tokens Floating (t ∷ []) b h = stopped tokens Floating (t ∷ []) b (symbol ∷ []) (refl, tt) refl (λ s k. k)
-body_begins tokens Floating (t ∷ u ∷ []) b h = stopped tokens Floating (t ∷ u ∷ []) b [] tt refl (λ s k. k)
-body_begins tokens Floating (t ∷ u ∷ v ∷ symbols) b h = let le = b.room refl in absurd (omega arith)
-body_begins tokens Provable symbols b h =
-    finished_with tokens Provable symbols b (symbol ∷ []) equals_sign (full_stop ∷ []) (2, 0) (refl, tt) (omega (arith, length-append symbols (symbol ∷ [])))
-    (λ first. record { equals = equals_sign; stop = full_stop; tokens = refl; sign = refl; end = refl; proof = tt; span = refl })
-body_begins tokens Distinct symbols b h = stopped tokens Distinct symbols b (symbol ∷ symbol ∷ []) (refl, (refl, tt)) (omega (arith, length-append symbols (symbol ∷ symbol ∷ []))) (λ s k. k)
-body_begins tokens Opening symbols b h = absurd h
-body_begins tokens Closing symbols b h = absurd h
-body_begins tokens kind symbols b h = stopped tokens kind symbols b (symbol ∷ []) (refl, tt) (omega (arith, length-append symbols (symbol ∷ []))) (λ s k. k)
-
--- the head of a statement, with no symbols yet, is an unfinished statement
-head_body : (kind : Kind) (head tokens : List PlainToken) → HasBody kind → IsHead kind head
-    → tokens ≡ head → IsBody tokens kind []
-head_body kind head tokens long h e = record {
-  head = head;
-  whole = e ∙ sym (append-nil head);
-  begins = h;
-  long = long;
-  spelled = tt;
-  room = λ _. omega arith;
-}
+abbrev token_of : List ℕ → PlainToken
+token_of text = record { text = text; file = 0; at = 0 }
 
 -- tokens begin a statement where they do with one more
 begins_before : (tokens : List PlainToken) (t : PlainToken) → BeginsStatement (tokens ++ t ∷ [])
@@ -473,43 +415,76 @@ begins_before tokens t b = record {
   spelled = rw (append_assoc tokens (t ∷ []) b.more) at b.spelled;
 }
 
-begins_statement : (tokens : List PlainToken) → IsBeginning tokens → BeginsStatement tokens
--- `$c x $.`
-begins_statement tokens (inl e) =
-    let keyword : PlainToken = record { text = codes "$c"; file = 0; at = 0 } in
-    let head : IsHead Constants (keyword ∷ []) =
-    record { keyword = keyword; tokens = refl; sign = refl } in
-    let whole = ap (λ (x : List PlainToken). x ++ keyword ∷ []) e in
-    begins_before tokens keyword
-    (body_begins _ Constants [] (head_body Constants (keyword ∷ []) _ tt head whole) tt)
--- a label, and `$a x $.`
-begins_statement tokens (inr (inl l)) =
-    let keyword : PlainToken = record { text = codes "$a"; file = 0; at = 0 } in
-    let head : IsHead Axiom (l.label ∷ keyword ∷ []) =
-    record { label = l.label; keyword = keyword; tokens = refl; named = l.named; sign = refl } in
-    let whole = ap (λ (x : List PlainToken). x ++ keyword ∷ []) l.whole in
-    begins_before tokens keyword
-    (body_begins _ Axiom [] (head_body Axiom (l.label ∷ keyword ∷ []) _ tt head whole) tt)
-begins_statement tokens (inr (inr (inl b))) = body_begins tokens b.0 b.1 b.2 b.2.long
-begins_statement tokens (inr (inr (inr p))) =
-    let b = p.stated in
-    let st = started Provable b.head b.begins in
-    record {
-      more = full_stop ∷ [];
-      some = λ e. cc;
-      statement = record { kind = Provable; first = st.first; label = label_in b.head; symbols = p.symbols; proof = p.proof; span = (p.equals.at + 2, 0) };
-      spelled = record {
-        head = b.head;
-        tail = p.equals ∷ p.proof ++ full_stop ∷ [];
-        whole = ap (λ (x : List PlainToken). x ++ full_stop ∷ []) (p.whole ∙ ap (λ (x : List PlainToken). x ++ p.equals ∷ p.proof) b.whole) ∙ append_assoc (b.head ++ p.symbols) (p.equals ∷ p.proof) (full_stop ∷ []);
-        begins = b.begins;
-        first = (st.others, st.is);
-        label = refl;
-        symbols = b.spelled;
-        count = p.some;
-        ends = record { equals = p.equals; stop = full_stop; tokens = refl; sign = p.sign; end = refl; proof = p.steps; span = refl };
-      };
-    }
+-- what a keyword makes of them
+by_keyword : (part : Part) (tokens : List PlainToken) (text : List ℕ) (s : Step)
+    → is_keyword text ≡ true → Describes part tokens → step part (token_of text) ≡ s
+    → StepsTo tokens (token_of text) s
+by_keyword part tokens text s key d e =
+    subst (StepsTo tokens (token_of text)) e
+    (step_right part tokens (token_of text) (inl (is_keyword-true text key)) d)
+
+proof_begins : (s : PlainStatement) (tokens : List PlainToken) → IsPartProof s tokens
+    → BeginsStatement tokens
+proof_begins s tokens d =
+    let stop = token_of (codes "$.") in
+    let (spelled, _) = by_keyword (InProof s) tokens stop.text (Whole _) refl d
+    (step_ends_proof s stop keyword.Stop refl refl) in
+    record { more = stop ∷ []; some = λ e. cc; statement = _; spelled = spelled }
+
+-- two symbols are enough
+enough : (kind : Kind) (n : ℕ) → HasBody kind → 2 ≤ n → (kind ≡ Floating → n ≤ 2) → FitsCount kind n
+enough Floating n h le room = let most = room refl in omega arith
+enough Opening n h le room = absurd h
+enough Closing n h le room = absurd h
+enough _ n h le room = omega arith
+
+full_begins : (s : PlainStatement) (tokens : List PlainToken) → IsPartBody s tokens
+    → 2 ≤ length s.symbols → BeginsStatement tokens
+full_begins s tokens d le =
+    let stop = token_of (codes "$.") in
+    let equals = token_of (codes "$=") in
+    let count = has_count_from s.kind (length s.symbols)
+    (enough s.kind (length s.symbols) d.long le d.room) in
+    elim (cases_Bool (is_provable s.kind)) [
+      | inl p ↦
+          begins_before tokens equals (proof_begins _ _
+          (by_keyword (InBody s) tokens equals.text (More (InProof _)) refl d
+          (step_to_proof s equals keyword.Equals refl (rw p refl) count p)))
+      | inr np ↦
+          let (spelled, _) = by_keyword (InBody s) tokens stop.text (Whole s) refl d
+          (step_whole s stop keyword.Stop refl (rw np refl) count np) in
+          record { more = stop ∷ []; some = λ e. cc; statement = s; spelled = spelled }
+    ]
+
+-- with so many symbols more at most
+body_begins : (more : ℕ) (s : PlainStatement) (tokens : List PlainToken) → IsPartBody s tokens
+    → 2 ≤ length s.symbols + more → BeginsStatement tokens
+body_begins zero s tokens d le = full_begins s tokens d (omega arith)
+body_begins (suc more) s tokens d le = elim (cases_lt (length s.symbols) 2) [
+  | inr enough ↦ full_begins s tokens d enough
+  | inl few ↦
+      let t = token_of (codes "x") in
+      let room = not_full s.kind (length s.symbols) (λ _. few) in
+      let longer = length-append s.symbols (t ∷ []) in
+      begins_before tokens t (body_begins more (record s { symbols = s.symbols ++ t ∷ [] }) _
+      (subst (StepsTo tokens t) (step_symbol s t refl room)
+      (step_right (InBody s) tokens t (inr refl) d)) (omega arith))
+]
+
+part_begins : (part : Part) (tokens : List PlainToken) → Describes part tokens
+    → BeginsStatement tokens
+-- `$c x x $.`
+part_begins Between tokens d =
+    let t = token_of (codes "$c") in
+    begins_before tokens t (body_begins 2 _ _ (by_keyword Between tokens t.text (More (InBody _))
+    refl d (start_keyword t keyword.Constants refl refl)) (omega arith))
+-- a label, and `$a x x $.`
+part_begins (Labelled label) tokens d =
+    let t = token_of (codes "$a") in
+    begins_before tokens t (body_begins 2 _ _ (by_keyword (Labelled label) tokens t.text
+    (More (InBody _)) refl d (label_keyword label t keyword.Axiom refl)) (omega arith))
+part_begins (InBody s) tokens d = body_begins 2 s tokens d (omega arith)
+part_begins (InProof s) tokens d = proof_begins s tokens d
 
 -- ---- a prefix of a statement is a beginning
 
@@ -537,6 +512,18 @@ cut (x ∷ xs) ys (a ∷ us) vs e = elim (cut xs ys us vs cc) [
 nil_parts : (a b : List PlainToken) → a ++ b ≡ [] → (a ≡ []) × (b ≡ [])
 nil_parts [] b e = (refl, e)
 nil_parts (t ∷ a) b e = absurd cc
+
+-- the head of a statement, with no symbols yet, is an unfinished statement
+head_body : (kind : Kind) (head tokens : List PlainToken) → HasBody kind → IsHead kind head
+    → tokens ≡ head → IsBody tokens kind []
+head_body kind head tokens long h e = record {
+  head = head;
+  whole = e ∙ sym (append-nil head);
+  begins = h;
+  long = long;
+  spelled = tt;
+  room = λ _. omega arith;
+}
 
 -- up to a part of the head
 labelled_prefix : (kind : Kind) (head tokens mid : List PlainToken) → HasBody kind → IsHead kind head → IsLabelledHead kind head → head ≡ tokens ++ mid → IsBeginning tokens
@@ -618,4 +605,7 @@ is_beginning tokens b =
     ]
 
 pub beginnings_begin_statements : BeginningsBeginStatements
-beginnings_begin_statements tokens = (begins_statement tokens, is_beginning tokens)
+beginnings_begin_statements tokens = (
+  λ b. let (part, d) = part_of_beginning tokens b in part_begins part tokens d,
+  is_beginning tokens,
+)
