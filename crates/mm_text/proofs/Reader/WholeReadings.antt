@@ -26,15 +26,14 @@ use Rattle.mm_text.specs.declared.statements.State.TheVariants.{Reading}
 use Rattle.mm_text.specs.Mirror.Reader.{PlainReading, PlainScope, Between, outermost, reading_of}
 use Rattle.mm_text.specs.Remaining.{IsUnread}
 use Rattle.mm_text.specs.Mirror.ReaderState.{remaining_in, AreFew, AreFormedInPlace}
-use Rattle.mm_text.proofs.Reader.ComputedReadings.{plain_tokens-append, ComesToStop, AreSettled}
-use Rattle.mm_text.proofs.Reader.ComputedReadings.{items_read}
+use Rattle.mm_text.proofs.Reader.OneReading.{plain_tokens-append, ComesToStop, AreSettled}
+use Rattle.mm_text.proofs.Reader.OneReading.{items_read, reads_reading}
 use Rattle.mm_text.proofs.Lists.{all_prefix, all_back}
 use Rattle.mm_text.proofs.Inclusions.ItemTokens.{HoldsByte, items_in_place, items_some}
 use Rattle.mm_text.proofs.Inclusions.ItemTokens.{items_signed}
 use Rattle.mm_text.proofs.Inclusions.EachOnce.{tokens_fit}
 use Rattle.mm_text.proofs.Inclusions.OpenFiles.{in_range, count_named, count_top}
 use Rattle.mm_text.proofs.Tokens.StepByStep.{pieces_by, put_before_by, put_in_by}
-use Rattle.mm_text.proofs.Reader.OneReading.{reads_reading}
 
 -- ==== what holds of all tokens of a reading holds of those of its statements
 

@@ -17,7 +17,7 @@ use Rattle.mm_text.proofs.Replaced.ReplacedReading.{proof_at, parts_of, spells_a
 use Rattle.mm_text.proofs.Replaced.ReplacedProofs.{home, run_home}
 use Rattle.mm_text.proofs.Tokens.CutTokens.{IsSpaced, ReplacedBetween, replaced_between}
 use Rattle.mm_text.proofs.Tokens.CutTokens.{clear_shown}
-use Rattle.mm_text.proofs.Reader.ComputedReadings.{plain_tokens-append}
+use Rattle.mm_text.proofs.Reader.OneReading.{plain_tokens-append}
 use Rattle.mm_text.proofs.Inclusions.ItemOrder.{tokens_in_order}
 
 -- ==== all tokens of a statement stand in one file

@@ -13,7 +13,7 @@ use Rattle.mm_text.specs.Items.{Item, Plain, Clear, Shown, Piece, Met, plain_tok
 use Rattle.mm_text.specs.Items.{items}
 use Rattle.mm_text.specs.Alike.{item_on}
 use Rattle.mm_text.specs.Replaced.{IsProofToken, IsProofText, with_span}
-use Rattle.mm_text.proofs.Reader.ComputedReadings.{plain_tokens-append}
+use Rattle.mm_text.proofs.Reader.OneReading.{plain_tokens-append}
 use Rattle.mm_text.proofs.Inclusions.EachOnce.{weigh_pieces, weigh_pieces-append, weight_of}
 use Rattle.mm_text.proofs.Inclusions.EachOnce.{file_weight, token_weight, one_token, tokens_rise}
 use Rattle.mm_text.proofs.Inclusions.EachOnce.{one_position}

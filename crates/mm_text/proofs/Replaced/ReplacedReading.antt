@@ -17,14 +17,14 @@ use Rattle.mm_text.specs.Reading.{PlainFault, Viable, IsBeginning, ReadsAs, Read
 use Rattle.mm_text.specs.Alike.{statement_on, fault_on, item_on}
 use Rattle.mm_text.specs.Mirror.Reader.{Part, Between, InProof, PlainScope, outermost, PlainReading}
 use Rattle.mm_text.specs.Mirror.Reader.{with_statement, scope_after_statement, reading_of}
-use Rattle.mm_text.proofs.Reader.ComputedReadings.{plain_tokens-append, clean_behind}
+use Rattle.mm_text.proofs.Reader.OneReading.{plain_tokens-append, clean_behind, with_statements}
+use Rattle.mm_text.proofs.Reader.OneReading.{prefix_reading, reads_reading}
 use Rattle.mm_text.proofs.Reader.SpelledStatements.{beginnings_begin_statements, runs_parts}
 use Rattle.mm_text.proofs.Reader.SpelledStatements.{spelled_run, whole_run, begun}
 use Rattle.mm_text.proofs.Reader.Unfinished.{Describes, IsPartProof, beginning_of_part}
 use Rattle.mm_text.proofs.Reader.Unfinished.{part_of_beginning}
 use Rattle.mm_text.proofs.Reader.OneToken.{read_more, read_whole, step_proof_token, step_ends_proof}
 use Rattle.mm_text.proofs.Reader.OpenBlocks.{scope_of, balanced_prefix}
-use Rattle.mm_text.proofs.Reader.OneReading.{with_statements, prefix_reading, reads_reading}
 use Rattle.mm_text.proofs.Reader.WholeReadings.{files_reading, reading_reads}
 use Rattle.mm_text.proofs.Alike.AlikeReadings.{reading_on, same_read, plain_tokens_alike}
 use Rattle.mm_text.specs.Replaced.{placeless}
