@@ -1,6 +1,6 @@
--- The reader and the grammar: what the reader computes of items is a reading of them, and a reading of
--- items is what it computes, so there is one. The prefix after which a fault comes is the longest
--- viable one.
+-- The reader and the grammar: what the reader computes of items is a reading of them, and a reading
+-- of items is what it computes, so there is one. The prefix after which a fault comes is the
+-- longest viable one.
 use Rattle.std.proofs.Common.{◌≡◌, List, [], ◌∷◌, ◌++◌, refl, ap, ◌≢◌, ℕ, ◌+◌, ◌==◌, sym, subst}
 use Rattle.std.proofs.Common.{◌∙◌, Option, Some, None, append_assoc, arith, ◌⊎◌, inl, inr}
 use Rattle.std.proofs.Common.{append-nil, eqb-true, length, true, false, codes, ◌≤◌, eq-eqb}
@@ -88,9 +88,12 @@ AreSettled (_ ∷ rest) = AreSettled rest
 
 -- ---- a viable prefix with one item more
 
-spells_more : (tokens more : List PlainToken) (statements : List PlainStatement) (s : PlainStatement) → SpellsAll tokens statements → Spells more s → SpellsAll (tokens ++ more) (statements ++ s ∷ [])
-spells_more tokens more [] s h k = (more, [], ap (λ (x : List PlainToken). x ++ more) h ∙ sym (append-nil more), k, refl)
-spells_more tokens more (first ∷ statements) s h k = (h.0, h.1 ++ more, ap (λ (x : List PlainToken). x ++ more) h.2 ∙ append_assoc h.0 h.1 more, h.3, spells_more h.1 more statements s h.4 k)
+-- tokens that spell statements, and then others
+pub spells_append : (a b : List PlainToken) (xs ys : List PlainStatement) → SpellsAll a xs
+    → SpellsAll b ys → SpellsAll (a ++ b) (xs ++ ys)
+spells_append a b [] ys h k = rw h k
+spells_append a b (x ∷ xs) ys h k =
+    (h.0, h.1 ++ b, rw h.2 (append_assoc h.0 h.1 b), h.3, spells_append h.1 b xs ys h.4 k)
 
 -- what is to be shown of an item that comes next
 record Follows (pre : List Item) (item : Item) : Type 0 where
@@ -181,7 +184,7 @@ token_ends pre rest statements unfinished part t s scope inner c e is h b =
     let reading = reading_of (scope_of (statements ++ s ∷ [])) Between rest in
     let v = c.viable in
     let viable = extended pre (Plain t) statements (statements ++ s ∷ []) unfinished [] (v.finished ++ (unfinished ++ t ∷ [])) v (plain_follows pre t)
-    (ap (λ (x : List PlainToken). x ++ t ∷ []) v.whole ∙ append_assoc v.finished unfinished (t ∷ []) ∙ sym (append-nil (v.finished ++ (unfinished ++ t ∷ [])))) (spells_more v.finished (unfinished ++ t ∷ []) statements s v.spelled h) (inl refl) b in
+    (ap (λ (x : List PlainToken). x ++ t ∷ []) v.whole ∙ append_assoc v.finished unfinished (t ∷ []) ∙ sym (append-nil (v.finished ++ (unfinished ++ t ∷ [])))) (spells_append v.finished (unfinished ++ t ∷ []) statements (s ∷ []) v.spelled (unfinished ++ t ∷ [], [], sym (append-nil (unfinished ++ t ∷ [])), h, refl)) (inl refl) b in
     same_reading _ statements _ _ (e ∙ ap (λ (x : PlainScope). with_statement s (reading_of x Between rest)) (sym is))
     (subst (λ (x : List PlainStatement). ReadsAs (pre ++ Plain t ∷ rest) x reading.ending) (append_assoc statements (s ∷ []) reading.statements)
     (item_before pre (Plain t) rest (statements ++ s ∷ []) reading

@@ -12,12 +12,12 @@ use Rattle.mm_text.specs.Replaced.{ProofsStandInSpans, ProofSpansFollow}
 use Rattle.mm_text.specs.declared.statement.Kind.{Kind}
 use Rattle.mm_text.specs.declared.statement.Kind.TheVariants.{Provable}
 use Rattle.mm_text.proofs.Inclusions.FilePieces.{StandsInFile, run_stands}
+use Rattle.mm_text.proofs.Reader.OneReading.{spells_append, plain_tokens-append}
 use Rattle.mm_text.proofs.Replaced.ReplacedReading.{Parts, WholePrefix, own_stands, reads_prefix}
-use Rattle.mm_text.proofs.Replaced.ReplacedReading.{proof_at, parts_of, spells_append}
+use Rattle.mm_text.proofs.Replaced.ReplacedReading.{proof_at, parts_of}
 use Rattle.mm_text.proofs.Replaced.ReplacedProofs.{home, run_home}
 use Rattle.mm_text.proofs.Tokens.CutTokens.{IsSpaced, ReplacedBetween, replaced_between}
 use Rattle.mm_text.proofs.Tokens.CutTokens.{clear_shown}
-use Rattle.mm_text.proofs.Reader.OneReading.{plain_tokens-append}
 use Rattle.mm_text.proofs.Inclusions.ItemOrder.{tokens_in_order}
 
 -- ==== all tokens of a statement stand in one file

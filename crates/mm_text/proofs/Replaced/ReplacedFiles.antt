@@ -15,8 +15,9 @@ use Rattle.mm_text.specs.Alike.{token_on, item_on}
 use Rattle.mm_text.specs.Replaced.{placeless, IsMoved, with_span, with_bytes, ReplacedProofsAreRead}
 use Rattle.mm_text.proofs.Alike.AlikeReadings.{plain_tokens_alike}
 use Rattle.mm_text.proofs.Replaced.ReplacedItems.{further, further_here, further_elsewhere}
-use Rattle.mm_text.proofs.Replaced.ReplacedReading.{Parts, spells_append, without_rest, nowhere}
-use Rattle.mm_text.proofs.Replaced.ReplacedReading.{proof_at, read_so, spelled_long, parts_long}
+use Rattle.mm_text.proofs.Reader.OneReading.{spells_append}
+use Rattle.mm_text.proofs.Replaced.ReplacedReading.{Parts, without_rest, nowhere, proof_at, read_so}
+use Rattle.mm_text.proofs.Replaced.ReplacedReading.{spelled_long, parts_long}
 use Rattle.mm_text.proofs.Replaced.ProofSpans.{ends_home}
 use Rattle.mm_text.proofs.Lists.{cons_parts, zip_mapped, zip_weaker}
 use Rattle.mm_text.proofs.Alike.AlikeItems.{SameItem}

@@ -63,13 +63,6 @@ parts_of tokens (b ∷ before) s after h =
       later = p.later;
     }
 
--- tokens that spell statements, and then others
-pub spells_append : (a b : List PlainToken) (xs ys : List PlainStatement) → SpellsAll a xs
-    → SpellsAll b ys → SpellsAll (a ++ b) (xs ++ ys)
-spells_append a b [] ys h k = rw h k
-spells_append a b (x ∷ xs) ys h k =
-    (h.0, h.1 ++ b, rw h.2 (append_assoc h.0 h.1 b), h.3, spells_append h.1 b xs ys h.4 k)
-
 -- ---- statements that differ in positions alone have as many tokens
 
 pub parts_long : (s t : PlainStatement) → placeless s ≡ placeless t
