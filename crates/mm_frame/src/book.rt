@@ -48,6 +48,8 @@ use std::marker::Model;
 #[derive(Drop)]
 pub struct Book<'a> {
     pub(crate) tables: Tables<'a>,
+    /// Where the hashes of all its tables begin.
+    seed: Seed,
     /// The numbers of the symbols that the statement uses which is taken: each is looked up once,
     /// and the room is used again.
     numbers: Vec<Sym>,
@@ -81,11 +83,15 @@ fn bytes_of(statement: &Statement) -> u64
 
 impl<'a> Model for Book<'a> {
     ghost use Rattle.mm_frame.specs.Database.{Database};
-    ghost use Rattle.mm_frame.specs.Mirror.Layout.{AreTables, database_of};
+    ghost use Rattle.mm_frame.specs.Mirror.Layout.{AreTables, statements_of};
 
     ghost Value = { Database };
 
-    ghost view = { λ b. database_of b.tables };
+    ghost view = { λ b. record {
+      statements = statements_of b.tables;
+      bytes = b.tables.bytes;
+      seed = b.seed;
+    } };
 
     ghost invariant = { λ b. AreTables b.tables };
 }
@@ -93,12 +99,14 @@ impl<'a> Model for Book<'a> {
 impl<'a> Book<'a> {
     /// A book of no statements. The hashes of what it is asked for begin from the seed.
     pub fn new(alloc: Global, seed: Seed) -> Result<Book<'a>, RuleFault>
-        ensures ok { IfOk result (λ book. book ≡ record { statements = []; bytes = 0 }) }
+        ensures ok { IfOk result (λ book. book
+            ≡ record { statements = []; bytes = 0; seed = seed }) }
         ensures memory { IfErr result (λ fault. fault ≡ Memory) }
     {
         match Tables::new(alloc, seed) {
             Ok(tables) => Ok(Book {
                 tables,
+                seed,
                 numbers: Vec::new(alloc),
                 guesses: Guesses::new(alloc),
                 lists: FrameLists::new(alloc),
@@ -118,6 +126,7 @@ impl<'a> Book<'a> {
             × (self.new ≡ record {
               statements = self.old.statements ++ sentence_in statement.now ∷ [];
               bytes = self.old.bytes + bytes_in (plain_statement statement.now);
+              seed = self.old.seed;
             })
             × TakenAs self.old.statements statement.now.kind taken) }
         ensures rule { (broken : MeaningRule) → result ≡ Err (Rule broken)
@@ -126,6 +135,7 @@ impl<'a> Book<'a> {
     {
         match first_broken(
             &self.tables,
+            self.seed,
             statement,
             &mut self.guesses,
             &mut self.numbers,
@@ -156,7 +166,7 @@ impl<'a> Book<'a> {
         requires few { vec_len statement.now.symbols < 2147483648 }
         ensures { IfOk result (BreaksAt rule self.now.statements (sentence_in statement.now)) }
     {
-        breaking_index(&self.tables, statement, rule)
+        breaking_index(&self.tables, self.seed, statement, rule)
     }
 
     /// How many blocks are open.
@@ -166,9 +176,11 @@ impl<'a> Book<'a> {
         self.tables.scopes.depth()
     }
 
-    /// The seed from which hashes begin.
-    pub fn seed(&self) -> Seed {
-        self.tables.seed
+    /// The seed with which the book was made: hashes begin from it.
+    pub fn seed(&self) -> Seed
+        ensures { result ≡ self.now.seed }
+    {
+        self.seed
     }
 
     /// How many bytes the tokens of the statements have.

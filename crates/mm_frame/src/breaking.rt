@@ -13,7 +13,7 @@ use crate::name_table::Names;
 use crate::rule::MeaningRule;
 use crate::sought::{is_active_number, number_of};
 use crate::tables::Tables;
-use mm_text::Statement;
+use mm_text::{Seed, Statement};
 use std::alloc::AllocError;
 
 // Whether an active `$c` or `$v` declares the symbol.
@@ -57,6 +57,7 @@ fn symbol_breaks(
 // The first symbol of the statement that breaks the rule.
 fn first_breaking(
     tables: &Tables,
+    seed: Seed,
     statement: &Statement,
     rule: MeaningRule,
 ) -> Result<Option<usize>, AllocError>
@@ -70,7 +71,7 @@ fn first_breaking(
         (λ index. BreaksFirst
         rule (statements_of tables.now) (sentence_in statement.now) index)) }
 {
-    let mut seen = Names::new(tables.alloc, tables.seed);
+    let mut seen = Names::new(tables.alloc, seed);
     seen.reserve(statement.symbols.len())?;
     for (index, token) in statement.symbols.iter().enumerate() {
         let repeats = seen.find(token.text).is_some();
@@ -86,6 +87,7 @@ fn first_breaking(
 /// rule that no symbol breaks: of a `$c` in a block, and of labels.
 pub(crate) fn breaking_index(
     tables: &Tables,
+    seed: Seed,
     statement: &Statement,
     rule: MeaningRule,
 ) -> Result<Option<usize>, AllocError>
@@ -97,7 +99,7 @@ pub(crate) fn breaking_index(
 {
     match rule {
         MeaningRule::M1 | MeaningRule::M5 | MeaningRule::M6 => Ok(None),
-        _ => match first_breaking(tables, statement, rule)? {
+        _ => match first_breaking(tables, seed, statement, rule)? {
             Some(index) => Ok(Some(index)),
             // Each of the other rules is broken by a symbol.
             None => unreachable!(),

@@ -398,6 +398,7 @@ fn first_among(
 /// The numbers of the symbols that the statement uses are left in `numbers`.
 pub(crate) fn first_broken(
     tables: &Tables,
+    seed: Seed,
     statement: &Statement,
     guesses: &mut Guesses,
     numbers: &mut Vec<Sym>,
@@ -412,7 +413,7 @@ pub(crate) fn first_broken(
         (statements_of tables.now) (map (λ n. n.0) numbers.new.items) (sentence_in statement.now)) }
 {
     look_up(tables, guesses, statement, numbers)?;
-    let repeats = repeats(tables.alloc, tables.seed, statement)?;
+    let repeats = repeats(tables.alloc, seed, statement)?;
     Ok(match statement.kind {
         Kind::Constants => first_among(&FOR_CONSTANTS, tables, statement, numbers, repeats),
         Kind::Variables => first_among(&FOR_VARIABLES, tables, statement, numbers, repeats),

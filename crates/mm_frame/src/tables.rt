@@ -81,8 +81,6 @@ fn first_two(list: &[Sym]) -> Option<(Sym, Sym)>
 #[derive(Drop)]
 pub struct Tables<'a> {
     pub(crate) alloc: Global,
-    /// Where hashes begin.
-    pub(crate) seed: Seed,
     /// The declared symbols and the labels, and what is known of each.
     pub(crate) symbols: Names<'a>,
     pub(crate) infos: Vec<SymbolInfo>,
@@ -113,19 +111,18 @@ impl<'a> Tables<'a> {
     ghost use Rattle.mm_frame.specs.Numbers.{AreNumbers, IsNumberOf};
     ghost use Rattle.mm_frame.specs.Active.{IsActive};
     ghost use Rattle.mm_frame.specs.FrameIndex.{IsTypingOf};
-    ghost use Rattle.mm_frame.specs.Mirror.Layout.{AreTables, statements_of, database_of};
+    ghost use Rattle.mm_frame.specs.Mirror.Layout.{AreTables, statements_of};
     ghost use Rattle.mm_frame.specs.Mirror.Layout.{IsDeclared};
     ghost use Rattle.mm_frame.specs.Mirror.Layout.{IsKnown};
 
     /// No statements.
     pub(crate) fn new(alloc: Global, seed: Seed) -> Result<Tables<'a>, AllocError>
         ensures { IfOk result (λ t. AreTables t
-            × (database_of t ≡ record { statements = []; bytes = 0 })) }
+            × (statements_of t ≡ []) × (t.bytes ≡ 0)) }
     {
         let scopes = Scopes::new(alloc)?;
         Ok(Tables {
             alloc,
-            seed,
             symbols: Names::new(alloc, seed),
             infos: Vec::new(alloc),
             labels: Names::new(alloc, seed),

@@ -81,7 +81,8 @@ impl<'a> Model for Prover<'a> {
 impl<'a> Prover<'a> {
     /// A prover with a book of no statements. The hashes of what is looked up begin from the seed.
     pub fn new(alloc: Global, seed: Seed) -> Result<Prover<'a>, RuleFault>
-        ensures ok { IfOk result (λ prover. prover.book ≡ record { statements = []; bytes = 0 }) }
+        ensures ok { IfOk result (λ prover. prover.book
+            ≡ record { statements = []; bytes = 0; seed = seed }) }
         ensures used { IfOk result (λ prover. prover.used ≡ []) }
         ensures memory { IfErr result (λ fault. fault ≡ Memory) }
     {
@@ -135,6 +136,7 @@ impl<'a> Prover<'a> {
             × (self.new.book ≡ record {
               statements = self.old.book.statements ++ sentence_in statement.now ∷ [];
               bytes = self.old.book.bytes + bytes_in (plain_statement statement.now);
+              seed = self.old.book.seed;
             })
             × TakenAs self.old.book.statements statement.now.kind taken) }
         ensures rule { (broken : MeaningRule) → result ≡ Err (Rule broken)

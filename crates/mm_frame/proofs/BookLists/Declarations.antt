@@ -48,7 +48,6 @@ use Rattle.std.proofs.lemmas.Bool.{cases_lt}
 use Rattle.indexmap.proofs.IndexTableLemmas.Probe.{pigeonhole}
 use Rattle.mm_text.specs.Files.{most_bytes}
 use Rattle.mm_frame.specs.Active.{IsConstant, IsVariable}
-use Rattle.mm_frame.specs.Database.{Database}
 use Rattle.mm_frame.specs.Mirror.ScopesOf.{HaveScopes}
 use Rattle.mm_frame.proofs.Frames.FrameLaws.{stated_other}
 
@@ -301,11 +300,10 @@ declared t d v s bytes tables meant formed which none taken e enough room =
 -- the same, where the lists before had less room
 grows_from : (t u v : Tables) (s : Sentence) (bytes : ℕ) → IsSame t u → Grows u v s bytes → Grows t v s bytes
 grows_from t u v s bytes same grows =
-    let st : statements_of u ≡ statements_of t = ap (λ (d : Database). d.statements) same.same in
     record {
       tables = grows.tables;
-      statements = grows.statements ∙ ap (λ (xs : List Sentence). xs ++ s ∷ []) st;
-      counted = grows.counted ∙ ap (λ n. n + bytes) (ap (λ (d : Database). d.bytes) same.same);
+      statements = grows.statements ∙ ap (λ (xs : List Sentence). xs ++ s ∷ []) same.statements;
+      counted = grows.counted ∙ ap (λ n. n + bytes) same.bytes;
     }
 
 -- a symbol stands where its number stands
@@ -371,7 +369,7 @@ pub declares : (t m d v : Tables) (p : PlainStatement) (start bytes : ℕ) → A
     → bytes ≡ bytes_in p → t.bytes + bytes ≤ most_bytes → TakesSymbols m d p.kind (sentence_of p).symbols → start ≡ length m.flat.items → Entered d v p.kind None start bytes → Grows t v (sentence_of p) bytes
 declares t m d v p start bytes tables lists meant form which is room taken begins entered =
     let same = same_tables t m tables lists in
-    let st : statements_of t ≡ statements_of m = sym (ap (λ (d : Database). d.statements) same.same) in
+    let st : statements_of t ≡ statements_of m = sym same.statements in
     let size = length-map p.symbols (λ (t : PlainToken). t.text) in
     let enough = bytes_enough p form in
     grows_from t m v (sentence_of p) bytes same

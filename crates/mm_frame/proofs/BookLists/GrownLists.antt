@@ -10,7 +10,7 @@ use Rattle.mm_frame.specs.Sentence.{Sentence}
 use Rattle.mm_frame.specs.Mirror.Layout.{names_by, label_by, sentence_by, sentences_by}
 use Rattle.mm_frame.specs.Mirror.Layout.{IsPartWithin, AreEntries, AreTables, statements_of}
 use Rattle.mm_frame.specs.Mirror.Layout.{AreInfos, AreLabelInfos, AreEssentials, AreFrames}
-use Rattle.mm_frame.specs.Mirror.Layout.{AreStated, database_of}
+use Rattle.mm_frame.specs.Mirror.Layout.{AreStated}
 use Rattle.std.proofs.lemmas.Option.{slice_get_within, slice_get-map}
 use Rattle.std.proofs.lemmas.List.{drop-append-le, take-append-le, length-drop, map-append}
 use Rattle.std.proofs.lemmas.List.{length-map}
@@ -186,7 +186,8 @@ same_tables t u a s =
         typed = rw (st, s.hypotheses) a.typed;
         stated = rw (st, s.symbols, s.stated) a.stated;
       };
-      same = rw (st, s.bytes) refl;
+      statements = st;
+      bytes = s.bytes;
     }
 
 -- the same lists, where what is stated was touched and is the same still
@@ -257,7 +258,7 @@ assembled t v s new a b c bytes tables meant formed app grown counted enough roo
 pub empty_tables : (t : Tables) → t.symbols.names ≡ [] → t.infos.items ≡ [] → t.labels.names ≡ [] → t.named.items ≡ [] → t.log.items ≡ [] → t.flat.items ≡ []
     → HaveScopes [] t.scopes → t.essentials.items ≡ [] → t.hypotheses.items ≡ []
     → t.distinct.stated ≡ record { pairs = []; wide = [] } → t.bytes ≡ 0 → AreTables t
-    × (database_of t ≡ record { statements = []; bytes = 0 })
+    × (statements_of t ≡ []) × (t.bytes ≡ 0)
 empty_tables t e1 e2 e3 e4 e5 e6 scopes e7 hs e8 e9 =
     let none : statements_of t ≡ [] = rw (e1, e3, e6, e5) (unfold sentences_by in refl) in (
       record {
@@ -273,5 +274,6 @@ empty_tables t e1 e2 e3 e4 e5 e6 scopes e7 hs e8 e9 =
         typed = rw hs (λ i h there. absurd (cc));
         stated = rw (none, e8) (search rules);
       },
-      rw (none, e9) refl,
+      none,
+      e9,
     )

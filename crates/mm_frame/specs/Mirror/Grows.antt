@@ -9,7 +9,7 @@ use Rattle.mm_text.specs.declared.statement.Kind.{Kind}
 use Rattle.mm_text.specs.declared.statement.Kind.TheVariants.{Closing}
 use Rattle.mm_frame.specs.declared.number.LabelId.{LabelId}
 use Rattle.mm_frame.specs.declared.tables.Entry.{Entry}
-use Rattle.mm_frame.specs.Mirror.Layout.{AreTables, statements_of, database_of}
+use Rattle.mm_frame.specs.Mirror.Layout.{AreTables, statements_of}
 
 -- the new lists hold one statement more, whose tokens have so many bytes
 pub record Grows (old new : Tables) (s : Sentence) (bytes : ℕ) : Type 0 where
@@ -20,7 +20,8 @@ pub record Grows (old new : Tables) (s : Sentence) (bytes : ℕ) : Type 0 where
 -- the new lists hold the same
 pub record IsSame (old new : Tables) : Type 0 where
   pub tables : AreTables new
-  pub same : database_of new ≡ database_of old
+  pub statements : statements_of new ≡ statements_of old
+  pub bytes : new.bytes ≡ old.bytes
 
 -- the new lists are the same, but for their room
 pub record SameLists (old new : Tables) : Type 0 where

@@ -20,7 +20,6 @@ use Rattle.mm_frame.specs.Form.{IsSound}
 use Rattle.mm_frame.specs.Numbers.{symbols_of, labelled_sentences, IsNumbered}
 use Rattle.mm_frame.specs.FrameIndex.{AreHypotheses, HaveTypings, ArePairs}
 use Rattle.mm_frame.specs.Pieces.{variables_of, AreItsPieces, HavePatterns, HaveIndices}
-use Rattle.mm_frame.specs.Database.{Database}
 use Rattle.mm_frame.specs.Mirror.Latest.{IsLatest}
 use Rattle.mm_frame.specs.Mirror.ScopesOf.{HaveScopes}
 use Rattle.mm_frame.specs.Mirror.Stated.{Stated, AllStated}
@@ -50,9 +49,6 @@ sentences_by symbols labels flat log = map (sentence_by symbols labels flat) log
 
 abbrev pub statements_of : Tables → List Sentence
 statements_of t = sentences_by t.symbols.names t.labels.names t.flat.items t.log.items
-
-abbrev pub database_of : Tables → Database
-database_of t = record { statements = statements_of t; bytes = t.bytes }
 
 -- the index of the latest statement that is so, if there is one
 abbrev pub IsLatestIn : (Sentence → Type 0) → List Sentence → Option ℕ → Type 0
