@@ -21,15 +21,21 @@ IsProvedUnder profile before s tokens =
     HasFormOf profile before s tokens
     × IsProvedWithin (IsWithin (limit_of profile)) before s tokens
 
--- The first fault of the tokens as a proof of the `$p` under the profile. The form is judged after P1
--- to P5, and before the steps.
+-- The first fault of tokens under the profile, where these are the faults of the moves that they
+-- say. The form is judged after P1 to P5, and before the steps.
+abbrev pub HaveFirstFault : (List (Move (List ℕ)) → ProofRule → ℕ → Type 0) → Profile
+    → List Sentence → Sentence → List (List ℕ) → ProofRule → ℕ → Type 0
+HaveFirstFault Faults profile before s tokens rule step =
+    ((step ≡ 0) × IsTextFault profile before s tokens rule)
+    ⊎ (IsWhole before tokens × HasFormOf profile before s tokens
+    × (moves : List (Move (List ℕ))) × SayMoves before s tokens moves × Faults moves rule step)
+
+-- the first fault of the tokens as a proof of the `$p` under the profile
 abbrev pub IsFaultUnder : Profile → List Sentence → Sentence → List (List ℕ) → ProofRule → ℕ
     → Type 0
 IsFaultUnder profile before s tokens rule step =
-    ((step ≡ 0) × IsTextFault profile before s tokens rule)
-    ⊎ (IsWhole before tokens × HasFormOf profile before s tokens
-    × (moves : List (Move (List ℕ))) × SayMoves before s tokens moves
-    × IsMovesFault (IsWithin (limit_of profile)) before s moves rule step)
+    HaveFirstFault (IsMovesFault (IsWithin (limit_of profile)) before s)
+    profile before s tokens rule step
 
 -- the tokens of a prefix break no rule under the profile
 abbrev pub AreAllowedUnder : Profile → List Sentence → Sentence → (prefix : List (List ℕ)) → Type 0
@@ -40,10 +46,8 @@ AreAllowedUnder profile before s prefix =
 abbrev pub HaveFaultUnder : Profile → List Sentence → Sentence → (prefix : List (List ℕ))
     → ProofRule → ℕ → Type 0
 HaveFaultUnder profile before s prefix rule step =
-    ((step ≡ 0) × IsTextFault profile before s prefix rule)
-    ⊎ (IsWhole before prefix × HasFormOf profile before s prefix
-    × (moves : List (Move (List ℕ))) × SayMoves before s prefix moves
-    × IsMoveFault (IsWithin (limit_of profile)) before moves rule step)
+    HaveFirstFault (IsMoveFault (IsWithin (limit_of profile)) before)
+    profile before s prefix rule step
 
 -- the known prefix of the tokens breaks no rule under the profile
 abbrev pub IsPrefixAllowedUnder : Profile → List Sentence → Sentence → List (List ℕ) → Type 0
@@ -55,6 +59,16 @@ abbrev pub IsPrefixFaultUnder : Profile → List Sentence → Sentence → List 
 IsPrefixFaultUnder profile before s tokens rule step =
     HaveFaultUnder profile before s (known_prefix tokens) rule step
 
+-- what is right has no fault
+abbrev pub HasNoFault : (Right : Type 0) → (Fault : ProofRule → ℕ → Type 0) → Type 0
+HasNoFault Right Fault = Right → (rule : ProofRule) (step : ℕ) → ¬ (Fault rule step)
+
+-- two faults are one
+abbrev pub IsOneFault : (Fault : ProofRule → ℕ → Type 0) → Type 0
+IsOneFault Fault =
+    (rule rule' : ProofRule) (step step' : ℕ) → Fault rule step → Fault rule' step'
+    → (rule ≡ rule') × (step ≡ step')
+
 -- After statements that are meant and in form each proof is proved under the profile, or has a fault;
 -- not both, and no two faults.
 abbrev pub OneVerdictUnder : Type 0
@@ -63,11 +77,8 @@ OneVerdictUnder =
     → AllMeant before → AllFormed before
     → (IsProvedUnder profile before s tokens
     ⊎ ((rule : ProofRule) × (step : ℕ) × IsFaultUnder profile before s tokens rule step))
-    × (IsProvedUnder profile before s tokens → (rule : ProofRule) (step : ℕ)
-    → ¬ (IsFaultUnder profile before s tokens rule step))
-    × ((rule rule' : ProofRule) (step step' : ℕ)
-    → IsFaultUnder profile before s tokens rule step
-    → IsFaultUnder profile before s tokens rule' step' → (rule ≡ rule') × (step ≡ step'))
+    × HasNoFault (IsProvedUnder profile before s tokens) (IsFaultUnder profile before s tokens)
+    × IsOneFault (IsFaultUnder profile before s tokens)
 
 -- The same of each known prefix.
 abbrev pub OnePrefixVerdictUnder : Type 0
@@ -76,8 +87,6 @@ OnePrefixVerdictUnder =
     → AllMeant before → AllFormed before
     → (IsPrefixAllowedUnder profile before s tokens
     ⊎ ((rule : ProofRule) × (step : ℕ) × IsPrefixFaultUnder profile before s tokens rule step))
-    × (IsPrefixAllowedUnder profile before s tokens → (rule : ProofRule) (step : ℕ)
-    → ¬ (IsPrefixFaultUnder profile before s tokens rule step))
-    × ((rule rule' : ProofRule) (step step' : ℕ)
-    → IsPrefixFaultUnder profile before s tokens rule step
-    → IsPrefixFaultUnder profile before s tokens rule' step' → (rule ≡ rule') × (step ≡ step'))
+    × HasNoFault (IsPrefixAllowedUnder profile before s tokens)
+    (IsPrefixFaultUnder profile before s tokens)
+    × IsOneFault (IsPrefixFaultUnder profile before s tokens)

@@ -4,8 +4,7 @@ use Rattle.mm_frame.specs.Sentence.{Sentence}
 use Rattle.mm_proof.specs.Tree.{tree, none}
 use Rattle.mm_proof.specs.Moves.{Move}
 use Rattle.mm_proof.specs.declared.fault.ProofRule.{ProofRule}
-use Rattle.mm_proof.specs.Proof.{IsWithin, Prove, IsProvedWithin}
-use Rattle.mm_proof.specs.Proof.{IsMovesFault, IsFault}
+use Rattle.mm_proof.specs.Proof.{IsWithin, Prove, IsProvedWithin, IsMovesFault}
 use Rattle.mm_proof.specs.Steps.{AreNumberedMoves, IsProofNumber}
 use Rattle.mm_proof.specs.Used.{AreUsedNumbers, AreUsed}
 
@@ -44,9 +43,3 @@ pub record TokensProve (limit : ℕ) (before : List Sentence) (s : Sentence) (to
     (used : List ℕ) : Type 0 where
   pub proof : IsProvedWithin (IsWithin limit) before s tokens
   pub all : AreUsedNumbers before (tree proof.proves.label proof.proves.below none) used
-
--- the first fault of the tokens, as a proof of the statement after those before it, is this rule at
--- this step
-abbrev pub TokensFail : (limit : ℕ) → List Sentence → Sentence → (tokens : List (List ℕ))
-    → ProofRule → (step : ℕ) → Type 0
-TokensFail limit before s tokens rule step = IsFault (IsWithin limit) before s tokens rule step

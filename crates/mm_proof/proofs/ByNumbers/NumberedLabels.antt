@@ -14,9 +14,13 @@ use Rattle.mm_proof.proofs.ProofSteps.OneStep.{one_label}
 use Rattle.std.specs.List.{AllByRecursion}
 use Rattle.std.proofs.lemmas.Option.{same_Some}
 use Rattle.mm_proof.specs.declared.fault.ProofRule.{ProofRule}
-use Rattle.mm_proof.specs.Proof.{IsWhole, IsWholeFault}
-use Rattle.mm_proof.specs.Verified.{OfMoves, ProvesUsingNumbers, FailsWith, TokensProve, TokensFail}
+use Rattle.mm_proof.specs.Proof.{IsWhole, IsWholeFault, IsWithin}
+use Rattle.mm_proof.specs.Verified.{OfMoves, ProvesUsingNumbers, TokensProve}
 use Rattle.mm_proof.specs.Parsed.{OfProof, SaySteps}
+use Rattle.mm_proof.specs.declared.profile.Profile.{Profile}
+use Rattle.mm_proof.specs.KnownPrefix.{Pass, AreAllowed}
+use Rattle.mm_proof.specs.Strict.{HasFormOf}
+use Rattle.mm_proof.specs.UnderProfile.{HaveFirstFault}
 
 -- ==== labels by their numbers, which rise with the indices of their statements, and moves by
 -- theirs
@@ -95,7 +99,28 @@ tokens_prove limit st id tokens steps used says proves index s proof =
     let p = proves index s said.1 proof said.3 in
     record { proof = record { whole = said.0; moves = said.1; said = said.2; proves = p.0 }; all = p.1 }
 
-pub tokens_fail : (limit : ℕ) (st : List Sentence) (id : ℕ) (tokens : List (List ℕ)) (steps : List (Move ℕ)) (rule : ProofRule) (step : ℕ) → OfProof st id (λ index s. SaySteps st index s tokens steps)
-    → OfMoves st id steps (λ index s moves. FailsWith limit st index s moves rule step) → OfProof st id (λ index s. TokensFail limit (take index st) s tokens rule step)
-tokens_fail limit st id tokens steps rule step says fails index s proof =
-    let said = says index s proof in inr (said.0, said.1, said.2, fails index s said.1 proof said.3)
+pub tokens_pass : (limit : ℕ) (st : List Sentence) (id : ℕ) (tokens : List (List ℕ))
+    (steps : List (Move ℕ)) → OfProof st id (λ index s. SaySteps st index s tokens steps)
+    → OfMoves st id steps (λ index s moves. Pass (IsWithin limit) (take index st) moves)
+    → OfProof st id (λ index s. AreAllowed (IsWithin limit) (take index st) s tokens)
+tokens_pass limit st id tokens steps says passes index s proof =
+    let said = says index s proof in
+    record {
+      whole = said.0;
+      moves = said.1;
+      said = said.2;
+      pass = passes index s said.1 proof said.3;
+    }
+
+-- their fault, from that of their moves
+pub tokens_fail : (Faults : ℕ → Sentence → List (Move (List ℕ)) → ProofRule → ℕ → Type 0)
+    (profile : Profile) (st : List Sentence) (id : ℕ) (tokens : List (List ℕ))
+    (steps : List (Move ℕ)) (rule : ProofRule) (step : ℕ)
+    → OfProof st id (λ index s. SaySteps st index s tokens steps)
+    → OfProof st id (λ index s. HasFormOf profile (take index st) s tokens)
+    → OfMoves st id steps (λ index s moves. Faults index s moves rule step)
+    → OfProof st id (λ index s.
+    HaveFirstFault (Faults index s) profile (take index st) s tokens rule step)
+tokens_fail Faults profile st id tokens steps rule step says form fails index s proof =
+    let said = says index s proof in
+    inr (said.0, form index s proof, said.1, said.2, fails index s said.1 proof said.3)

@@ -49,6 +49,7 @@ use Rattle.mm_proof.proofs.ProofSteps.Derivations.{zip_once}
 use Rattle.mm_proof.specs.declared.lines.Line.{Line}
 use Rattle.mm_proof.specs.Mirror.CodeLines.{AreLinesAt, ListsProof}
 use Rattle.mm_proof.specs.declared.fault.ProofFault.TheVariants as faults
+use Rattle.mm_proof.specs.KnownPrefix.{Pass}
 
 -- ==== the moves of a proof, one after the other
 
@@ -349,13 +350,31 @@ wrong_end limit st id own t xs stack kept count numbers rule at one n symbols ru
     (end_broken st index s stack numbers rule one expression.0 expression.1 moved.entries wrong.1)
     (wrong.0 ∙ ap (λ k. k + 1) (moved.count ∙ same_steps st xs names numbered))
 
--- a move breaks a rule
-pub wrong_move : (limit : ℕ) (st : List Sentence) (id own : ℕ) (t : Sentence) (xs : List (Move ℕ)) (rule : ProofRule) (at : ℕ) → IsNumbered st id own t
-    → ((names : List (Move (List ℕ))) → AreNumberedMoves st xs names → IsMoveFault (IsWithin limit) (take own st) names rule at)
-    → OfMoves st id xs (λ index s names. IsMovesFault (IsWithin limit) (take index st) s names rule at)
-wrong_move limit st id own t xs rule at n fault index s names proof numbered =
+-- they pass
+pub has_passed : (limit : ℕ) (st : List Sentence) (id own : ℕ) (t : Sentence) (xs : List (Move ℕ))
+    (stack kept : List (List ℕ)) (count : ℕ) → IsNumbered st id own t
+    → HasRun limit st own xs stack kept count
+    → OfMoves st id xs (λ index s names. Pass (IsWithin limit) (take index st) names)
+has_passed limit st id own t xs stack kept count n run index s names proof numbered =
     let here : own ≡ index = one_index st id own index t s n proof.numbered in
-    inl (subst (λ p. IsMoveFault (IsWithin limit) (take p st) names rule at) here (fault names numbered))
+    subst (λ p. Pass (IsWithin limit) (take p st) names) here
+    (all_names_at st stack, all_names_at st kept, run.passed names numbered)
+
+-- a move breaks a rule
+module _ (limit : ℕ) (st : List Sentence) (id own : ℕ) (t : Sentence) (xs : List (Move ℕ))
+    (rule : ProofRule) (at : ℕ) (n : IsNumbered st id own t)
+    (fault : (names : List (Move (List ℕ))) → AreNumberedMoves st xs names
+    → IsMoveFault (IsWithin limit) (take own st) names rule at) where
+  pub has_stopped :
+      OfMoves st id xs (λ index s names. IsMoveFault (IsWithin limit) (take index st) names rule at)
+  has_stopped index s names proof numbered =
+      let here : own ≡ index = one_index st id own index t s n proof.numbered in
+      subst (λ p. IsMoveFault (IsWithin limit) (take p st) names rule at) here
+      (fault names numbered)
+
+  pub wrong_move : OfMoves st id xs
+      (λ index s names. IsMovesFault (IsWithin limit) (take index st) s names rule at)
+  wrong_move index s names proof numbered = inl (has_stopped index s names proof numbered)
 
 pub on_rule_from : (e : ProofFault) (P : ProofRule → ℕ → Type 0) → ((rule : ProofRule) (step : ℕ) → e ≡ Rule rule step → P rule step) → OnRule e P
 on_rule_from (Rule rule step) P f = f rule step refl

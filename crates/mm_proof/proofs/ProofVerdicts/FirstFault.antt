@@ -3,7 +3,7 @@
 use Rattle.std.proofs.Common.{ℕ, Result, IfErr, subst, sym, ◌≡◌, ◌≢◌, ◌+◌, ◌<◌, List, [], ◌∷◌, ◌++◌}
 use Rattle.std.proofs.Common.{length, slice_get, Some, ◌⊎◌, inl, inr, ⊎_elim, refl, ap, ◌∙◌, arith}
 use Rattle.std.proofs.Common.{zero, suc, ◌-◌, take, drop, get_or, Option, None, append_assoc}
-use Rattle.std.proofs.Common.{append-nil, lt_irrefl, Ok, Err, IsErrAnd, IsOkUnless, cond}
+use Rattle.std.proofs.Common.{append-nil, lt_irrefl, Ok, Err, IsErrAnd, IsOkUnless, cond, OnOk}
 use Rattle.mm_proof.specs.declared.fault.ProofRule.{ProofRule}
 use Rattle.mm_proof.specs.declared.fault.ProofFault.{ProofFault}
 use Rattle.mm_proof.specs.declared.fault.ProofFault.TheVariants.{Rule, Memory}
@@ -18,17 +18,15 @@ use Rattle.mm_proof.specs.declared.fault.ProofRule.TheVariants.{P1, P2, P3, P4, 
 use Rattle.mm_proof.specs.declared.fault.ProofRule.TheVariants.{P10, P11, P12, P13, P14, P15, L1}
 use Rattle.mm_proof.specs.Tree.{AnyExpression, Names, ShareNoVariable, AreDistinct}
 use Rattle.mm_proof.specs.Moves.{Move, steps_in, name, again, mark, is_step}
-use Rattle.mm_proof.specs.Proof.{IsWithin, proof_rank, BreaksWhole, Prove, IsProvedWithin}
-use Rattle.mm_proof.specs.Proof.{BreaksMove, FirstAtMove, Passed, IsMoveFault, BreaksEnd}
-use Rattle.mm_proof.specs.Proof.{IsEndFault, IsMovesFault, IsFault, MeetsHypotheses, SomePair}
-use Rattle.mm_proof.specs.Proof.{SomeReplacedPair, BreaksStep}
+use Rattle.mm_proof.specs.Proof.{IsWithin, proof_rank, BreaksWhole, Prove, BreaksMove, FirstAtMove}
+use Rattle.mm_proof.specs.Proof.{Passed, IsMoveFault, BreaksEnd, IsEndFault, IsMovesFault}
+use Rattle.mm_proof.specs.Proof.{MeetsHypotheses, SomePair, SomeReplacedPair, BreaksStep, IsWhole}
 use Rattle.mm_proof.specs.Laws.{OneTree}
-use Rattle.mm_frame.specs.Form.{AllFormed}
 use Rattle.mm_proof.proofs.ProofSteps.Derivations.{derived_once, one_fit_holds, derive_fits}
 use Rattle.mm_proof.proofs.ProofSteps.PassedMoves.{passed_once, proof_passed, no_fault_within}
 use Rattle.mm_proof.proofs.ProofSteps.PassedMoves.{passed_none, passed_name, passed_again}
 use Rattle.mm_proof.proofs.ProofSteps.PassedMoves.{passed_mark, prove_at_end}
-use Rattle.mm_proof.proofs.ProofTokens.SaidMoves.{moves_once, whole_dec, some_moves, moves_usable}
+use Rattle.mm_proof.proofs.ProofTokens.SaidMoves.{moves_once}
 use Rattle.std.specs.List.{AllByRecursion}
 use Rattle.std.proofs.lemmas.List.{length-drop, take-append-drop}
 use Rattle.std.proofs.Math.Decide.{ℕ_discrete}
@@ -47,6 +45,11 @@ use Rattle.mm_proof.proofs.Members.{those_of, share_dec, apart_dec, some_pair_de
 use Rattle.mm_proof.proofs.ProofSteps.Replacements.{meets_of}
 use Rattle.std.proofs.lemmas.List.Sums.{sum_by-append}
 use Rattle.mm_proof.specs.Mirror.CodeVerify.{EachEntry, IsRightCode, IsEqual}
+use Rattle.mm_proof.specs.declared.profile.Profile.{Profile}
+use Rattle.mm_proof.specs.Tokens.{SayMoves}
+use Rattle.mm_proof.specs.KnownPrefix.{Pass}
+use Rattle.mm_proof.specs.Strict.{HasFormOf, IsTextFault}
+use Rattle.mm_proof.specs.UnderProfile.{HaveFirstFault, HasNoFault, IsOneFault}
 
 -- ==== answers that hand a fault on
 
@@ -87,6 +90,10 @@ first_once Broken r q br bq fr fq = elim (cases_order (proof_rank r) (proof_rank
 
 -- ---- what is proved has no fault
 
+-- what is right has no fault, and two faults are one
+abbrev pub Exclude : (Right : Type 0) → (Fault : ProofRule → ℕ → Type 0) → Type 0
+Exclude Right Fault = HasNoFault Right Fault × IsOneFault Fault
+
 abbrev pub Same : ProofRule → ℕ → ProofRule → ℕ → Type 0
 Same rule step rule' step' = (rule ≡ rule') × (step ≡ step')
 
@@ -107,14 +114,6 @@ module _ (Fits : List (List ℕ) → Type 0) (before : List Sentence) where
       let whole = proof_passed Fits before s moves all p in
       let one = (passed_once Fits Fits before moves f.stack (s.symbols ∷ []) f.kept whole.0 all f.passed whole.1).0 in
       ⊎_elim (λ p. p.1 (ap length one)) (λ q. q.2 one) (end_rule rule f.stack s.symbols f.broken)
-
-  pub proved_no_fault : (s : Sentence) (tokens : List (List ℕ)) (rule : ProofRule) (step : ℕ)
-      → AllMeant before → IsProvedWithin Fits before s tokens
-      → ¬ (IsFault Fits before s tokens rule step)
-  proved_no_fault s tokens rule step all p (inl w) = p.whole rule w.1.broken
-  proved_no_fault s tokens rule step all p (inr f) =
-      proof_no_fault s f.1 rule step all
-      (subst (Prove Fits before s) (moves_once before s tokens p.moves f.1 p.said f.2) p.proves) f.3
 
   -- ---- two faults are one
 
@@ -163,17 +162,72 @@ module _ (Fits : List (List ℕ) → Type 0) (before : List Sentence) where
     one_moves_fault (inr f) (inl g) = absurd (longer_passed g.earlier g.move g.later moves g.stack g.kept f.stack f.kept rule' all g.parts f.passed g.passed g.fault)
     one_moves_fault (inr f) (inr g) = two_ends f g
 
-  -- of the tokens
-  pub one_fault : (s : Sentence) (tokens : List (List ℕ)) (rule rule' : ProofRule) (step step' : ℕ)
-      → AllMeant before → IsFault Fits before s tokens rule step
-      → IsFault Fits before s tokens rule' step' → Same rule step rule' step'
-  one_fault s tokens rule rule' step step' all (inl f) (inl g) =
-      (first_once (λ r. BreaksWhole r before tokens) rule rule' f.1.broken g.1.broken f.1.first g.1.first, f.0 ∙ sym g.0)
-  one_fault s tokens rule rule' step step' all (inl f) (inr g) = absurd (g.0 rule f.1.broken)
-  one_fault s tokens rule rule' step step' all (inr f) (inl g) = absurd (f.0 rule' g.1.broken)
-  one_fault s tokens rule rule' step step' all (inr f) (inr g) =
-      one_moves_fault s g.1 rule rule' step step' all
-      (subst (λ m. IsMovesFault Fits before s m rule step) (moves_once before s tokens f.1 g.1 f.2 g.2) f.3) g.3
+  -- ---- so each row of moves has one verdict at most: as a proof, and as a prefix of one
+
+  pub proof_excludes : (s : Sentence) (moves : List (Move (List ℕ))) → AllMeant before
+      → Exclude (Prove Fits before s moves) (IsMovesFault Fits before s moves)
+  proof_excludes s moves all = (
+    λ p rule step f. proof_no_fault s moves rule step all p f,
+    λ rule rule' step step' f g. one_moves_fault s moves rule rule' step step' all f g,
+  )
+
+  pub pass_excludes : (moves : List (Move (List ℕ))) → AllMeant before
+      → Exclude (Pass Fits before moves) (IsMoveFault Fits before moves)
+  pass_excludes moves all = (
+    λ p rule step f. longer_passed f.earlier f.move f.later moves f.stack f.kept p.0 p.1 rule all
+        f.parts p.2 f.passed f.fault,
+    λ rule rule' step step' f g. two_moves moves rule rule' step step' all f g,
+  )
+
+-- ---- and so do tokens, where the moves that they say do
+
+module _ (Good : List (Move (List ℕ)) → Type 0)
+    (Faults : List (Move (List ℕ)) → ProofRule → ℕ → Type 0) (profile : Profile)
+    (before : List Sentence) (s : Sentence) (tokens : List (List ℕ)) where
+  -- they break no rule over the whole of them, have the form, and say moves that are good
+  abbrev pub AreGood : Type 0
+  AreGood =
+      IsWhole before tokens × HasFormOf profile before s tokens
+      × (moves : List (Move (List ℕ))) × SayMoves before s tokens moves × Good moves
+
+  abbrev HaveFault : ProofRule → ℕ → Type 0
+  HaveFault rule step = HaveFirstFault Faults profile before s tokens rule step
+
+  no_text_fault : (rule : ProofRule) → IsWhole before tokens → HasFormOf profile before s tokens
+      → ¬ (IsTextFault profile before s tokens rule)
+  no_text_fault rule whole form (inl f) = whole rule f.broken
+  no_text_fault rule whole form (inr f) = f.2 form
+
+  one_text_fault : (rule rule' : ProofRule) → IsTextFault profile before s tokens rule
+      → IsTextFault profile before s tokens rule' → rule ≡ rule'
+  one_text_fault rule rule' (inl f) (inl g) =
+      first_once (λ r. BreaksWhole r before tokens) rule rule' f.broken g.broken f.first g.first
+  one_text_fault rule rule' (inl f) (inr g) = absurd (g.0 rule f.broken)
+  one_text_fault rule rule' (inr f) (inl g) = absurd (f.0 rule' g.broken)
+  one_text_fault rule rule' (inr f) (inr g) = f.1 ∙ sym g.1
+
+  good_faultless : ((moves : List (Move (List ℕ))) → Exclude (Good moves) (Faults moves))
+      → AreGood → (rule : ProofRule) (step : ℕ) → ¬ (HaveFault rule step)
+  good_faultless each (whole, form, moves, said, good) rule step (inl f) =
+      no_text_fault rule whole form f.1
+  good_faultless each (whole, form, moves, said, good) rule step (inr (w, h, others, says, f)) =
+      (each moves).0 good rule step
+      (subst (λ m. Faults m rule step) (moves_once before s tokens others moves says said) f)
+
+  one_fault : ((moves : List (Move (List ℕ))) → Exclude (Good moves) (Faults moves))
+      → (rule rule' : ProofRule) (step step' : ℕ) → HaveFault rule step → HaveFault rule' step'
+      → Same rule step rule' step'
+  one_fault each rule rule' step step' (inl f) (inl g) =
+      (one_text_fault rule rule' f.1 g.1, f.0 ∙ sym g.0)
+  one_fault each rule rule' step step' (inl f) (inr g) = absurd (no_text_fault rule g.0 g.1 f.1)
+  one_fault each rule rule' step step' (inr f) (inl g) = absurd (no_text_fault rule' f.0 f.1 g.1)
+  one_fault each rule rule' step step' (inr f) (inr g) =
+      let same = moves_once before s tokens f.2 g.2 f.3 g.3 in
+      (each g.2).1 rule rule' step step' (subst (λ m. Faults m rule step) same f.4) g.4
+
+  pub tokens_exclude : ((moves : List (Move (List ℕ))) → Exclude (Good moves) (Faults moves))
+      → Exclude AreGood HaveFault
+  tokens_exclude each = (good_faultless each, one_fault each)
 
 -- ---- the laws
 
@@ -417,19 +471,6 @@ module _ (Fits : List (List ℕ) → Type 0) (each : (e : List (List ℕ)) → D
 pub within_dec : (limit : ℕ) (e : List (List ℕ)) → Dec (IsWithin limit e)
 within_dec limit e = elim (cases_lt limit (length e)) [ inl over ↦ no (λ within. absurd (omega arith)) | inr within ↦ yes within ]
 
--- each proof is proved within the limit or has a fault
-pub some_verdict_holds : (limit : ℕ) (before : List Sentence) (s : Sentence)
-    (tokens : List (List ℕ)) → AllMeant before → AllFormed before
-    → IsProvedWithin (IsWithin limit) before s tokens
-    ⊎ ((rule : ProofRule) × (step : ℕ) × IsFault (IsWithin limit) before s tokens rule step)
-some_verdict_holds limit before s tokens all formed = ⊎_elim
-    (λ f. inr (f.rule, 0, inl (refl, record { broken = f.broken; first = f.first })))
-    (λ whole.
-    let said = some_moves before s tokens formed whole in
-    ⊎_elim (λ p. inl (record { whole = whole; moves = said.0; said = said.1; proves = p })) (λ f. inr (f.0, f.1, inr (whole, said.0, said.1, f.2)))
-    (moves_verdict (IsWithin limit) (within_dec limit) before s said.0 all (moves_usable before s tokens said.0 formed whole said.1)))
-    (first_or_none (λ rule. BreaksWhole rule before tokens) (whole_dec before tokens))
-
 -- ==== the first rule that a move breaks, from what a judge of it finds one after the other
 
 -- ---- what a step meets is in order
@@ -487,21 +528,22 @@ end_fault Fits before s moves stack kept rule step passed broken number =
 pub steps_in-append : {X : Type 0} (moves more : List (Move X)) → steps_in (moves ++ more) ≡ steps_in moves + steps_in more
 steps_in-append moves more = sum_by-append (λ m. cond (is_step m) 1 0) moves more
 
--- ==== a verdict is one, so each row of moves has one answer, unless memory is refused
+-- ==== where the right and the faults exclude each other, one answer is left, unless memory is
+-- refused
 
--- what proves the statement is accepted
-pub accepts : {X : Type 0} (Fits : List (List ℕ) → Type 0) (before : List Sentence) (s : Sentence) (moves : List (Move (List ℕ))) (r : Result X ProofFault) → AllMeant before
-    → IfErr r (λ e. OnRule e (IsMovesFault Fits before s moves)) → Prove Fits before s moves → IsOkUnless r Memory
-accepts Fits before s moves (Ok x) meant f p = tt
-accepts Fits before s moves (Err Memory) meant f p = refl
-accepts Fits before s moves (Err (Rule rule step)) meant f p = absurd (proof_no_fault Fits before s moves rule step meant p f)
+module _ (Right : Type 0) (Fault : ProofRule → ℕ → Type 0) (apart : Exclude Right Fault) where
+  -- what is right is accepted
+  pub accepts : {X : Type 0} (r : Result X ProofFault) → IfErr r (λ e. OnRule e Fault) → Right
+      → IsOkUnless r Memory
+  accepts (Ok x) f right = tt
+  accepts (Err Memory) f right = refl
+  accepts (Err (Rule rule step)) f right = absurd (apart.0 right rule step f)
 
--- what has a fault is refused with it
-pub refuses : {X : Type 0} (Fits : List (List ℕ) → Type 0) (before : List Sentence) (s : Sentence) (moves : List (Move (List ℕ))) (r : Result X ProofFault) → AllMeant before
-    → ((x : X) → r ≡ Ok x → Prove Fits before s moves) → IfErr r (λ e. OnRule e (IsMovesFault Fits before s moves))
-    → (rule : ProofRule) (step : ℕ) → IsMovesFault Fits before s moves rule step → IsUnlessMemory r (Err (Rule rule step))
-refuses Fits before s moves (Ok x) meant p f rule step fault = absurd (proof_no_fault Fits before s moves rule step meant (p x refl) fault)
-refuses Fits before s moves (Err Memory) meant p f rule step fault = inr refl
-refuses {X} Fits before s moves (Err (Rule other at)) meant p f rule step fault =
-    let same = one_moves_fault Fits before s moves other rule at step meant f fault in
-    inl (rw (same.0, same.1) refl)
+  -- what has a fault is refused with it
+  pub refuses : {X : Type 0} (r : Result X ProofFault) → OnOk r Right
+      → IfErr r (λ e. OnRule e Fault) → (rule : ProofRule) (step : ℕ) → Fault rule step
+      → IsUnlessMemory r (Err (Rule rule step))
+  refuses (Ok x) right f rule step fault = absurd (apart.0 right rule step fault)
+  refuses (Err Memory) right f rule step fault = inr refl
+  refuses (Err (Rule other at)) right f rule step fault =
+      let same = apart.1 other rule at step f fault in inl (rw (same.0, same.1) refl)

@@ -1,35 +1,29 @@
 -- Each proof and each known prefix has one verdict under a profile, and what the strict one adds.
-use Rattle.std.proofs.Common.{◌≡◌, ℕ, List, take, Result, Ok, Err, inl, inr, refl, sym, ◌∙◌, arith}
-use Rattle.std.proofs.Common.{◌+◌, [], ◌∷◌, ◌++◌, length, slice_get, Contains, Some, ap, subst}
-use Rattle.std.proofs.Common.{IfOk, IfErr, IsOkUnless}
+use Rattle.std.proofs.Common.{◌≡◌, ℕ, List, take, inl, inr, refl, sym, ◌∙◌, arith, ◌+◌, [], ◌∷◌}
+use Rattle.std.proofs.Common.{◌++◌, length, slice_get, Contains, Some, ap, subst, ◌⊎◌}
 use Rattle.mm_proof.proofs.ProofTokens.SaidMoves.{compressed_once, some_moves, moves_once}
+use Rattle.mm_proof.proofs.ProofTokens.SaidMoves.{whole_dec, moves_usable}
 use Rattle.mm_frame.specs.Sentence.{Sentence, SomeSentence, IsLabelled, IsAssertion}
 use Rattle.mm_frame.specs.Rules.{AllMeant}
-use Rattle.mm_frame.proofs.Rules.ObeyedRules.{allmeant_prefix}
 use Rattle.mm_proof.specs.declared.fault.ProofRule.{ProofRule}
-use Rattle.mm_proof.specs.declared.fault.ProofFault.{ProofFault}
-use Rattle.mm_proof.specs.declared.fault.ProofFault.TheVariants.{Rule, Memory}
 use Rattle.mm_proof.specs.declared.profile.Profile.{Profile}
-use Rattle.mm_proof.specs.declared.prover.Proved.{Proved}
-use Rattle.mm_proof.specs.declared.prover.Proved.TheVariants.{Incomplete}
-use Rattle.mm_proof.specs.Answer.{OnRule, IsUnlessMemory}
-use Rattle.mm_proof.specs.Proof.{IsWithin, IsFault, IsProvedWithin, IsWhole}
+use Rattle.mm_proof.specs.Proof.{IsWithin, IsProvedWithin, IsWhole, Prove, IsMovesFault}
+use Rattle.mm_proof.specs.Proof.{IsMoveFault, BreaksWhole}
 use Rattle.mm_proof.specs.Profiles.{limit_of}
-use Rattle.mm_proof.specs.KnownPrefix.{known_prefix}
+use Rattle.mm_proof.specs.KnownPrefix.{known_prefix, Pass}
 use Rattle.mm_proof.specs.Strict.{HasFormOf, IsStrictList, MarkAssertions, IsStrict}
 use Rattle.mm_proof.specs.UnderProfile.{IsProvedUnder, IsFaultUnder, HaveFaultUnder}
-use Rattle.mm_proof.specs.UnderProfile.{IsPrefixAllowedUnder, IsPrefixFaultUnder, OneVerdictUnder}
-use Rattle.mm_proof.specs.UnderProfile.{OnePrefixVerdictUnder}
-use Rattle.mm_proof.specs.Parsed.{OfProof}
-use Rattle.mm_proof.proofs.ProofVerdicts.FirstFault.{proved_no_fault, one_fault, Same}
-use Rattle.mm_proof.proofs.ProofVerdicts.FirstFault.{some_verdict_holds, first_symbol_dec}
-use Rattle.mm_proof.proofs.ProofVerdicts.KnownPrefixes.{allowed_no_fault, one_prefix_fault}
-use Rattle.mm_proof.proofs.ProofVerdicts.KnownPrefixes.{some_prefix_verdict, HaveFault}
+use Rattle.mm_proof.specs.UnderProfile.{OneVerdictUnder, OnePrefixVerdictUnder}
+use Rattle.mm_proof.specs.UnderProfile.{HaveFirstFault, AreAllowedUnder}
+use Rattle.mm_proof.proofs.ProofVerdicts.FirstFault.{first_symbol_dec, proof_excludes}
+use Rattle.mm_proof.proofs.ProofVerdicts.FirstFault.{pass_excludes, tokens_exclude, AreGood}
+use Rattle.mm_proof.proofs.ProofVerdicts.FirstFault.{first_or_none, MovesVerdict, moves_verdict}
+use Rattle.mm_proof.proofs.ProofVerdicts.FirstFault.{within_dec, Exclude}
 use Rattle.mm_proof.specs.declared.fault.ProofRule.TheVariants.{P15}
 use Rattle.mm_proof.specs.declared.profile.Profile.TheVariants.{Strict, Lenient}
 use Rattle.mm_proof.proofs.ProofVerdicts.VerdictLaws.{prove_looser}
 use Rattle.std.proofs.lemmas.Option.{same_Some}
-use Rattle.std.specs.List.{AllZip}
+use Rattle.std.specs.List.{AllZip, AllByRecursion}
 use Rattle.std.proofs.Math.Decide.{ℕ_discrete}
 use Rattle.mm_frame.specs.Frame.{AreMandatory}
 use Rattle.mm_frame.specs.Form.{AllFormed}
@@ -43,114 +37,32 @@ use Rattle.mm_proof.specs.Moves.{Move, name, mark}
 use Rattle.mm_proof.specs.Tokens.{SayMoves}
 use Rattle.mm_proof.proofs.ProofVerdicts.StrictForm.{last_of, told_each, once_from, step_before}
 use Rattle.mm_proof.proofs.ProofVerdicts.StrictForm.{strict_normal}
+use Rattle.mm_proof.specs.Substitution.{Expression}
+use Rattle.mm_proof.specs.Steps.{IsUsableMove}
+use Rattle.mm_proof.proofs.ProofSteps.PassedMoves.{proof_passed}
 
 -- ==== the verdict under a profile is one
 
--- ---- what the lenient profile adds
-
-pub fault_under : (profile : Profile) (before : List Sentence) (s : Sentence) (tokens : List (List ℕ)) (rule : ProofRule) (step : ℕ) → HasFormOf profile before s tokens
-    → IsFault (IsWithin (limit_of profile)) before s tokens rule step → IsFaultUnder profile before s tokens rule step
-fault_under profile before s tokens rule step form (inl (z, w)) = inl (z, inl w)
-fault_under profile before s tokens rule step form (inr (w, m, said, f)) = inr (w, form, m, said, f)
-
-pub have_under : (profile : Profile) (before : List Sentence) (s : Sentence) (prefix : List (List ℕ)) (rule : ProofRule) (step : ℕ) → HasFormOf profile before s prefix
-    → HaveFault (IsWithin (limit_of profile)) before s prefix rule step → HaveFaultUnder profile before s prefix rule step
-have_under profile before s prefix rule step form (inl (z, w)) = inl (z, inl w)
-have_under profile before s prefix rule step form (inr (w, m, said, f)) = inr (w, form, m, said, f)
-
--- ---- a whole proof
-
 module _ (profile : Profile) (before : List Sentence) (s : Sentence) (tokens : List (List ℕ))
-    (rule : ProofRule) where
-  proved_none : (step : ℕ) → AllMeant before → IsProvedUnder profile before s tokens
-      → IsFaultUnder profile before s tokens rule step → ⊥
-  proved_none step all p (inl (z, inl w)) = proved_no_fault (IsWithin (limit_of profile)) before s tokens rule step all p.1 (inl (z, w))
-  proved_none step all p (inl (z, inr x)) = x.2 p.0
-  proved_none step all p (inr (w, form, m, said, f)) = proved_no_fault (IsWithin (limit_of profile)) before s tokens rule step all p.1 (inr (w, m, said, f))
+    (all : AllMeant before) where
+  abbrev Limited : Expression → Type 0
+  Limited = IsWithin (limit_of profile)
 
-  one_under : (rule' : ProofRule) (step step' : ℕ) → AllMeant before
-      → IsFaultUnder profile before s tokens rule step
-      → IsFaultUnder profile before s tokens rule' step' → Same rule step rule' step'
-  one_under rule' step step' all (inl (z, inl w)) (inl (y, inl v)) = one_fault (IsWithin (limit_of profile)) before s tokens rule rule' step step' all (inl (z, w)) (inl (y, v))
-  one_under rule' step step' all (inl (z, inl w)) (inl (y, inr x)) = absurd (x.0 rule w.broken)
-  one_under rule' step step' all (inl (z, inl w)) (inr (v, form, m, said, f)) =
-      one_fault (IsWithin (limit_of profile)) before s tokens rule rule' step step' all (inl (z, w)) (inr (v, m, said, f))
-  one_under rule' step step' all (inl (z, inr x)) (inl (y, inl v)) = absurd (x.0 rule' v.broken)
-  one_under rule' step step' all (inl (z, inr x)) (inl (y, inr u)) = (x.1 ∙ sym u.1, z ∙ sym y)
-  one_under rule' step step' all (inl (z, inr x)) (inr (v, form, m, said, f)) = absurd (x.2 form)
-  one_under rule' step step' all (inr (w, form, m, said, f)) (inl (y, inl v)) =
-      one_fault (IsWithin (limit_of profile)) before s tokens rule rule' step step' all (inr (w, m, said, f)) (inl (y, v))
-  one_under rule' step step' all (inr (w, form, m, said, f)) (inl (y, inr u)) = absurd (u.2 form)
-  one_under rule' step step' all (inr (w, form, m, said, f)) (inr (v, form', n, says, g)) =
-      one_fault (IsWithin (limit_of profile)) before s tokens rule rule' step step' all (inr (w, m, said, f)) (inr (v, n, says, g))
+  -- a whole proof
+  pub proved_excludes : Exclude (IsProvedUnder profile before s tokens)
+      (IsFaultUnder profile before s tokens)
+  proved_excludes =
+      let apart = tokens_exclude (Prove Limited before s) (IsMovesFault Limited before s) profile
+      before s tokens (λ moves. proof_excludes Limited before s moves all) in
+      (λ p. apart.0 (p.1.whole, p.0, p.1.moves, p.1.said, p.1.proves), apart.1)
 
-pub accepted_under : (profile : Profile) → {X : Type 0} (r : Result X ProofFault) (st : List Sentence) (id : ℕ) (tokens : List (List ℕ)) → AllMeant st
-    → IfErr r (λ e. OnRule e (λ rule step. OfProof st id (λ index s. IsFaultUnder profile (take index st) s tokens rule step)))
-    → OfProof st id (λ index s. IsProvedUnder profile (take index st) s tokens → IsOkUnless r Memory)
-accepted_under profile (Ok x) st id tokens all f index s proof p = tt
-accepted_under profile (Err Memory) st id tokens all f index s proof p = refl
-accepted_under profile (Err (Rule rule step)) st id tokens all f index s proof p = absurd (proved_none profile (take index st) s tokens rule step (allmeant_prefix st index all) p (f index s proof))
-
-pub refused_under : (profile : Profile) → {X : Type 0} (r : Result X ProofFault) (st : List Sentence) (id : ℕ) (tokens : List (List ℕ)) → AllMeant st
-    → ((x : X) → r ≡ Ok x → OfProof st id (λ index s. IsProvedUnder profile (take index st) s tokens))
-    → IfErr r (λ e. OnRule e (λ rule step. OfProof st id (λ index s. IsFaultUnder profile (take index st) s tokens rule step)))
-    → OfProof st id (λ index s. (rule : ProofRule) (step : ℕ) → IsFaultUnder profile (take index st) s tokens rule step → IsUnlessMemory r (Err (Rule rule step)))
-refused_under profile (Ok x) st id tokens all p f index s proof rule step fault = absurd (proved_none profile (take index st) s tokens rule step (allmeant_prefix st index all) (p x refl index s proof) fault)
-refused_under profile (Err Memory) st id tokens all p f index s proof rule step fault = inr refl
-refused_under profile (Err (Rule other at)) st id tokens all p f index s proof rule step fault =
-    let same = one_under profile (take index st) s tokens other rule at step (allmeant_prefix st index all) (f index s proof) fault in
-    inl cc
-
--- ---- a known prefix
-
-module _ (profile : Profile) (before : List Sentence) (s : Sentence) (tokens : List (List ℕ))
-    (rule : ProofRule) where
-  prefix_none : (step : ℕ) → AllMeant before → IsPrefixAllowedUnder profile before s tokens
-      → IsPrefixFaultUnder profile before s tokens rule step → ⊥
-  prefix_none step all p (inl (z, inl w)) = allowed_no_fault (limit_of profile) before s tokens rule step all p.1 (inl (z, w))
-  prefix_none step all p (inl (z, inr x)) = x.2 p.0
-  prefix_none step all p (inr (w, form, m, said, f)) = allowed_no_fault (limit_of profile) before s tokens rule step all p.1 (inr (w, m, said, f))
-
-  one_prefix_under : (rule' : ProofRule) (step step' : ℕ) → AllMeant before
-      → IsPrefixFaultUnder profile before s tokens rule step
-      → IsPrefixFaultUnder profile before s tokens rule' step' → Same rule step rule' step'
-  one_prefix_under rule' step step' all (inl (z, inl w)) (inl (y, inl v)) = one_prefix_fault (limit_of profile) before s tokens rule rule' step step' all (inl (z, w)) (inl (y, v))
-  one_prefix_under rule' step step' all (inl (z, inl w)) (inl (y, inr x)) = absurd (x.0 rule w.broken)
-  one_prefix_under rule' step step' all (inl (z, inl w)) (inr (v, form, m, said, f)) =
-      one_prefix_fault (limit_of profile) before s tokens rule rule' step step' all (inl (z, w)) (inr (v, m, said, f))
-  one_prefix_under rule' step step' all (inl (z, inr x)) (inl (y, inl v)) = absurd (x.0 rule' v.broken)
-  one_prefix_under rule' step step' all (inl (z, inr x)) (inl (y, inr u)) = (x.1 ∙ sym u.1, z ∙ sym y)
-  one_prefix_under rule' step step' all (inl (z, inr x)) (inr (v, form, m, said, f)) = absurd (x.2 form)
-  one_prefix_under rule' step step' all (inr (w, form, m, said, f)) (inl (y, inl v)) =
-      one_prefix_fault (limit_of profile) before s tokens rule rule' step step' all (inr (w, m, said, f)) (inl (y, v))
-  one_prefix_under rule' step step' all (inr (w, form, m, said, f)) (inl (y, inr u)) = absurd (u.2 form)
-  one_prefix_under rule' step step' all (inr (w, form, m, said, f)) (inr (v, form', n, says, g)) =
-      one_prefix_fault (limit_of profile) before s tokens rule rule' step step' all (inr (w, m, said, f)) (inr (v, n, says, g))
-
--- of a prefix that is allowed there is no fault but lack of memory
-prefix_only : (profile : Profile) (e : ProofFault) (st : List Sentence) (id : ℕ) (tokens : List (List ℕ)) → AllMeant st
-    → OnRule e (λ rule step. OfProof st id (λ index s. IsPrefixFaultUnder profile (take index st) s tokens rule step))
-    → OfProof st id (λ index s. IsPrefixAllowedUnder profile (take index st) s tokens → e ≡ Memory)
-prefix_only profile Memory st id tokens all f index s proof p = refl
-prefix_only profile (Rule rule step) st id tokens all f index s proof p = absurd (prefix_none profile (take index st) s tokens rule step (allmeant_prefix st index all) p (f index s proof))
-
-pub prefix_refused : (profile : Profile) → {X : Type 0} (r : Result X ProofFault) (st : List Sentence) (id : ℕ) (tokens : List (List ℕ)) → AllMeant st
-    → ((x : X) → r ≡ Ok x → OfProof st id (λ index s. IsPrefixAllowedUnder profile (take index st) s tokens))
-    → IfErr r (λ e. OnRule e (λ rule step. OfProof st id (λ index s. IsPrefixFaultUnder profile (take index st) s tokens rule step)))
-    → OfProof st id (λ index s. (rule : ProofRule) (step : ℕ) → IsPrefixFaultUnder profile (take index st) s tokens rule step → IsUnlessMemory r (Err (Rule rule step)))
-prefix_refused profile (Ok x) st id tokens all p f index s proof rule step fault = absurd (prefix_none profile (take index st) s tokens rule step (allmeant_prefix st index all) (p x refl index s proof) fault)
-prefix_refused profile (Err Memory) st id tokens all p f index s proof rule step fault = inr refl
-prefix_refused profile (Err (Rule other at)) st id tokens all p f index s proof rule step fault =
-    let same = one_prefix_under profile (take index st) s tokens other rule at step (allmeant_prefix st index all) (f index s proof) fault in
-    inl cc
-
--- the answer on a prefix that is allowed
-pub prefix_allowed : (profile : Profile) (r : Result Proved ProofFault) (P : Type 0) (st : List Sentence) (id : ℕ) (tokens : List (List ℕ)) → AllMeant st → IfOk r (λ p. (p ≡ Incomplete) × P)
-    → IfErr r (λ e. OnRule e (λ rule step. OfProof st id (λ index s. IsPrefixFaultUnder profile (take index st) s tokens rule step)))
-    → OfProof st id (λ index s. IsPrefixAllowedUnder profile (take index st) s tokens → IsUnlessMemory r (Ok Incomplete))
-prefix_allowed profile (Ok x) P st id tokens all h f index s proof p = inl cc
-prefix_allowed profile (Err e) P st id tokens all h f index s proof p =
-    let only = prefix_only profile e st id tokens all f index s proof p in inr cc
+  -- a prefix of one
+  pub allowed_excludes : Exclude (AreAllowedUnder profile before s tokens)
+      (HaveFaultUnder profile before s tokens)
+  allowed_excludes =
+      let apart = tokens_exclude (Pass Limited before) (IsMoveFault Limited before) profile before s
+      tokens (λ moves. pass_excludes Limited before moves all) in
+      (λ p. apart.0 (p.1.whole, p.0, p.1.moves, p.1.said, p.1.pass), apart.1)
 
 -- ==== a proof within the smaller limit is one within the greater, so that under the strict profile
 -- nothing but its form is at fault
@@ -175,8 +87,8 @@ module _ (before : List Sentence) (s : Sentence) (tokens : List (List ℕ)) wher
       absurd (p.1.whole rule fault.broken)
   only_form rule step all p (inl (zero_step, inr fault)) = fault.1
   only_form rule step all p (inr (whole, form, moves, said, fault)) =
-      absurd (proved_none Strict before s tokens rule step all
-      (form, within_strict p) (inr (whole, form, moves, said, fault)))
+      absurd ((proved_excludes Strict before s tokens all).0 (form, within_strict p) rule step
+      (inr (whole, form, moves, said, fault)))
 
 -- ==== whether a proof has the form that a profile demands can be decided, so each proof and each
 -- known prefix has one verdict under a profile
@@ -287,32 +199,66 @@ form_dec : (profile : Profile) (before : List Sentence) (s : Sentence) (tokens :
 form_dec Strict before s tokens formed whole = let said = some_moves before s tokens formed whole in strict_dec before s tokens said.0 said.1
 form_dec Lenient before s tokens formed whole = yes tt
 
+-- tokens are good, or have a fault, where the moves that they say are, or have one
+tokens_verdict : (Good : List (Move (List ℕ)) → Type 0)
+    (Faults : List (Move (List ℕ)) → ProofRule → ℕ → Type 0) (profile : Profile)
+    (before : List Sentence) (s : Sentence) (tokens : List (List ℕ)) → AllFormed before
+    → ((moves : List (Move (List ℕ))) → AllByRecursion (IsUsableMove before) moves
+    → Good moves ⊎ ((rule : ProofRule) × (step : ℕ) × Faults moves rule step))
+    → AreGood Good Faults profile before s tokens
+    ⊎ ((rule : ProofRule) × (step : ℕ)
+    × HaveFirstFault Faults profile before s tokens rule step)
+tokens_verdict Good Faults profile before s tokens formed each =
+    elim (first_or_none (λ rule. BreaksWhole rule before tokens) (whole_dec before tokens)) [
+      | inl f ↦ inr (f.rule, 0, inl (refl, inl (record { broken = f.broken; first = f.first })))
+      | inr whole ↦
+          let (moves, said) = some_moves before s tokens formed whole in
+          elim (form_dec profile before s tokens formed whole) [
+            | no none ↦ inr (P15, 0, inl (refl, inr (whole, refl, none)))
+            | yes form ↦
+                elim (each moves (moves_usable before s tokens moves formed whole said)) [
+                  | inl good ↦ inl (whole, form, moves, said, good)
+                  | inr (rule, step, f) ↦ inr (rule, step, inr (whole, form, moves, said, f))
+                ]
+          ]
+    ]
+
+-- that all moves of a prefix passed is said by what is proved, and by what ends wrongly
+passed_or_stopped : (Fits : Expression → Type 0) (before : List Sentence) (s : Sentence)
+    (moves : List (Move (List ℕ))) → AllMeant before → MovesVerdict Fits before s moves
+    → Pass Fits before moves
+    ⊎ ((rule : ProofRule) × (step : ℕ) × IsMoveFault Fits before moves rule step)
+passed_or_stopped Fits before s moves all (inl p) =
+    let passed = proof_passed Fits before s moves all p in inl (s.symbols ∷ [], passed.0, passed.1)
+passed_or_stopped Fits before s moves all (inr (rule, step, inl f)) = inr (rule, step, f)
+passed_or_stopped Fits before s moves all (inr (rule, step, inr e)) =
+    inl (e.stack, e.kept, e.passed)
+
 pub one_verdict_under_holds : OneVerdictUnder
 one_verdict_under_holds profile before s tokens all formed = (
-  elim (some_verdict_holds (limit_of profile) before s tokens all formed) [
-    | inl p ↦ elim (form_dec profile before s tokens formed p.whole) [ yes form ↦ inl (form, p) | no none ↦ inr (P15, 0, inl (refl, inr (p.whole, refl, none))) ]
-    | inr (rule, step, inl f) ↦ inr (rule, step, inl (f.0, inl f.1))
-    | inr (rule, step, inr f) ↦ elim (form_dec profile before s tokens formed f.0) [
-      | yes form ↦ inr (rule, step, fault_under profile before s tokens rule step form (inr f))
-      | no none ↦ inr (P15, 0, inl (refl, inr (f.0, refl, none)))
-    ]
-  ],
-  λ p rule step f. proved_none profile before s tokens rule step all p f,
-  λ rule rule' step step'. one_under profile before s tokens rule rule' step step' all,
+  elim (tokens_verdict (Prove (IsWithin (limit_of profile)) before s)
+      (IsMovesFault (IsWithin (limit_of profile)) before s) profile before s tokens formed
+      (λ moves. moves_verdict (IsWithin (limit_of profile)) (within_dec (limit_of profile)) before s
+      moves all)) [
+        | inl (whole, form, moves, said, proof) ↦
+            inl (form, record { whole = whole; moves = moves; said = said; proves = proof })
+        | inr fault ↦ inr fault
+      ],
+  (proved_excludes profile before s tokens all).0,
+  (proved_excludes profile before s tokens all).1,
 )
 
 pub one_prefix_verdict_under_holds : OnePrefixVerdictUnder
 one_prefix_verdict_under_holds profile before s tokens all formed = (
-  elim (some_prefix_verdict (limit_of profile) before s tokens all formed) [
-    | inl p ↦ elim (form_dec profile before s (known_prefix tokens) formed p.whole) [ yes form ↦ inl (form, p) | no none ↦ inr (P15, 0, inl (refl, inr (p.whole, refl, none))) ]
-    | inr (rule, step, inl f) ↦ inr (rule, step, inl (f.0, inl f.1))
-    | inr (rule, step, inr f) ↦ elim (form_dec profile before s (known_prefix tokens) formed f.0) [
-      | yes form ↦
-          let fault = have_under profile before s (known_prefix tokens) rule step form (inr f) in
-          inr (rule, step, fault)
-      | no none ↦ inr (P15, 0, inl (refl, inr (f.0, refl, none)))
-    ]
-  ],
-  λ p rule step f. prefix_none profile before s tokens rule step all p f,
-  λ rule rule' step step'. one_prefix_under profile before s tokens rule rule' step step' all,
+  elim (tokens_verdict (Pass (IsWithin (limit_of profile)) before)
+      (IsMoveFault (IsWithin (limit_of profile)) before) profile before s (known_prefix tokens)
+      formed (λ moves usable. passed_or_stopped (IsWithin (limit_of profile)) before s moves all
+      (moves_verdict (IsWithin (limit_of profile)) (within_dec (limit_of profile)) before s moves
+      all usable))) [
+        | inl (whole, form, moves, said, pass) ↦
+            inl (form, record { whole = whole; moves = moves; said = said; pass = pass })
+        | inr fault ↦ inr fault
+      ],
+  (allowed_excludes profile before s (known_prefix tokens) all).0,
+  (allowed_excludes profile before s (known_prefix tokens) all).1,
 )

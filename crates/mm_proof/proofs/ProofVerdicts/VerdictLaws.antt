@@ -14,8 +14,12 @@ use Rattle.mm_proof.proofs.ProofSteps.PassedMoves.{passed_none, passed_name, pas
 use Rattle.mm_proof.proofs.ProofSteps.PassedMoves.{passed_mark, prove_at_end, Went, went_on}
 use Rattle.mm_proof.proofs.ProofSteps.PassedMoves.{went_step, nothing_left, passed_once}
 use Rattle.mm_proof.proofs.ProofSteps.PassedMoves.{proof_passed}
-use Rattle.mm_proof.proofs.ProofVerdicts.FirstFault.{proved_no_fault, one_fault, limit_first}
-use Rattle.mm_proof.proofs.ProofVerdicts.FirstFault.{last_entry, within_dec}
+use Rattle.mm_proof.proofs.ProofVerdicts.FirstFault.{limit_first, last_entry, within_dec}
+use Rattle.mm_proof.proofs.ProofVerdicts.FirstFault.{proof_excludes, tokens_exclude, AreGood}
+use Rattle.mm_proof.proofs.ProofVerdicts.FirstFault.{Exclude}
+use Rattle.mm_proof.specs.declared.profile.Profile.TheVariants.{Lenient}
+use Rattle.mm_proof.specs.UnderProfile.{HaveFirstFault}
+use Rattle.mm_proof.specs.declared.fault.ProofRule.{ProofRule}
 
 -- what trees derive where expressions fit they derive where more of them do
 derive_looser : (Fits More : List (List ℕ) → Type 0) → ((e : List (List ℕ)) → Fits e → More e)
@@ -120,11 +124,30 @@ proved_or_over limit before s tokens all p = ⊎_elim
     (λ o. inr (o.0, inr (p.whole, p.moves, p.said, o.1)))
     (prove_or_over (IsWithin limit) (within_dec limit) before s p.moves all p.proves)
 
+-- the fault of tokens, as the profile that demands no form tells it
+as_lenient : (limit : ℕ) (before : List Sentence) (s : Sentence) (tokens : List (List ℕ))
+    (rule : ProofRule) (step : ℕ) → IsFault (IsWithin limit) before s tokens rule step
+    → HaveFirstFault (IsMovesFault (IsWithin limit) before s) Lenient before s tokens rule step
+as_lenient limit before s tokens rule step (inl (zero, whole)) = inl (zero, inl whole)
+as_lenient limit before s tokens rule step (inr (whole, moves, said, f)) =
+    inr (whole, tt, moves, said, f)
+
 pub limits_aside_holds : LimitsAside
 limits_aside_holds limit before s tokens all = (
   λ p. record { whole = p.whole; moves = p.moves; said = p.said; proves = prove_looser (IsWithin limit) AnyExpression (λ e fits. tt) before s p.moves p.proves },
   proved_or_over limit before s tokens all,
   λ p rule step f. ⊎_elim
-      (λ within. absurd (proved_no_fault (IsWithin limit) before s tokens rule step all within f))
-      (λ over. (one_fault (IsWithin limit) before s tokens rule L1 step over.0 all f over.1).0) (proved_or_over limit before s tokens all p),
+      (λ w. absurd (apart.0 (w.whole, tt, w.moves, w.said, w.proves) rule step
+      (as_lenient limit before s tokens rule step f)))
+      (λ over. (apart.1 rule L1 step over.0 (as_lenient limit before s tokens rule step f)
+      (as_lenient limit before s tokens L1 over.0 over.1)).0)
+      (proved_or_over limit before s tokens all p),
 )
+  where
+    apart : Exclude
+        (AreGood (Prove (IsWithin limit) before s) (IsMovesFault (IsWithin limit) before s) Lenient
+        before s tokens)
+        (HaveFirstFault (IsMovesFault (IsWithin limit) before s) Lenient before s tokens)
+    apart = tokens_exclude (Prove (IsWithin limit) before s)
+        (IsMovesFault (IsWithin limit) before s) Lenient before s tokens
+        (λ moves. proof_excludes (IsWithin limit) before s moves all)

@@ -1,8 +1,8 @@
-use Rattle.std.proofs.Common.{inl}
+use Rattle.std.proofs.Common.{inl, take}
 use Rattle.std.proofs.lemmas.Result.{err_from_is_err_and, on_ok_weaker}
+use Rattle.mm_proof.specs.Proof.{IsMoveFault}
 use Rattle.mm_proof.proofs.ProofVerdicts.FirstFault.{on_rule_map, rules_map}
-use Rattle.mm_proof.proofs.ProofVerdicts.ProfileVerdicts.{have_under}
-use Rattle.mm_proof.proofs.ProofVerdicts.KnownPrefixes.{tokens_pass, tokens_stop}
+use Rattle.mm_proof.proofs.ByNumbers.NumberedLabels.{tokens_pass, tokens_fail}
 use Rattle.mm_proof.proofs.prover.pass_tokens.Goals as goal
 
 pub pass-requires-clause-steps : goal.pass-requires-clause-steps
@@ -22,9 +22,9 @@ returns-clause-fault c =
     let site = c.new-site.ensures in
     let said = c.in_ok-fill_under.ensures in
     rw (← site.statements, ← site.number) (rules_map c.pass.result _ _ (λ rule step f.
-    λ index s proof. have_under c.args.profile _ s _ rule step (said.form index s proof)
-    (tokens_stop _ _ _ _ _ rule step said.steps (rw (c.deref.ensures.value, c.deref-2.ensures.value, site.limit) at f)
-    index s proof)) c.pass.ensures.fault)
+    tokens_fail (λ index s. IsMoveFault _ (take index _)) c.args.profile _ _ _ _ rule step said.steps
+    said.form (rw (c.deref.ensures.value, c.deref-2.ensures.value, site.limit) at f))
+    c.pass.ensures.fault)
 
 pub returns-in_err-fill_under-clause-fault : goal.returns-in_err-fill_under-clause-fault
 returns-in_err-fill_under-clause-fault c =

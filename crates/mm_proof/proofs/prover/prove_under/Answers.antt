@@ -1,7 +1,7 @@
-use Rattle.std.proofs.Common.{inl}
+use Rattle.std.proofs.Common.{inl, take}
 use Rattle.std.proofs.lemmas.Result.{err_from_is_err_and, on_ok_weaker}
+use Rattle.mm_proof.specs.Proof.{IsMovesFault}
 use Rattle.mm_proof.proofs.ProofVerdicts.FirstFault.{on_rule_map, rules_map}
-use Rattle.mm_proof.proofs.ProofVerdicts.ProfileVerdicts.{fault_under}
 use Rattle.mm_proof.proofs.ByNumbers.NumberedLabels.{tokens_prove, tokens_fail}
 use Rattle.mm_proof.proofs.prover.prove_under.Goals as goal
 
@@ -29,9 +29,8 @@ returns-clause-fault c =
     let site = c.new-site.ensures in
     let said = c.in_ok-fill_under.ensures in
     rw (← site.statements, ← site.number) (rules_map c.judgement.result _ _ (λ rule step f.
-    λ index s proof. fault_under c.args.profile _ s _ rule step (said.form index s proof)
-    (tokens_fail _ _ _ _ _ rule step said.steps
-    (rw (c.deref.ensures.value, c.deref-2.ensures.value, site.limit) at f) index s proof))
+    tokens_fail (λ index s. IsMovesFault _ (take index _) s) c.args.profile _ _ _ _ rule step
+    said.steps said.form (rw (c.deref.ensures.value, c.deref-2.ensures.value, site.limit) at f))
     c.judgement.ensures.fault)
 
 pub returns-in_err-fill_under-clause-fault : goal.returns-in_err-fill_under-clause-fault

@@ -1,11 +1,9 @@
-use Rattle.std.proofs.Common.{take, subst}
-use Rattle.std.proofs.lemmas.Result.{IfOk-at_ok, IfErr-at_err, IfOk-weaker}
+use Rattle.std.proofs.Common.{subst}
+use Rattle.std.proofs.lemmas.Result.{IfErr-at_err, IfOk-weaker}
 use Rattle.mm_frame.proofs.Rules.ObeyedRules.{allmeant_prefix}
-use Rattle.mm_proof.specs.Proof.{IsWithin}
-use Rattle.mm_proof.specs.Profiles.{limit_of}
 use Rattle.mm_proof.specs.Steps.{AreNumberedMoves}
 use Rattle.mm_proof.proofs.Machines.JudgedMoves.{held_moves, seen_moves, seen_limit}
-use Rattle.mm_proof.proofs.ProofVerdicts.FirstFault.{accepts, refuses, rules_map}
+use Rattle.mm_proof.proofs.ProofVerdicts.FirstFault.{proof_excludes, accepts, refuses, rules_map}
 use Rattle.mm_proof.proofs.uses.uses_of.Goals as goal
 
 pub returns-clause-used : goal.returns-clause-used
@@ -24,24 +22,22 @@ returns-clause-fault c rule step is index s moves proof numbered =
 
 pub returns-clause-accepts : goal.returns-clause-accepts
 returns-clause-accepts c index s moves proof numbered p =
-    accepts (IsWithin (limit_of c.args.steps.now.profile)) (take index c.args.book.now.statements) s
-    moves c.links_of_proof.result (allmeant_prefix c.args.book.now.statements index
-    c.links_of_proof.ensures.sound.0)
-    (rules_map c.links_of_proof.result _ _ (λ rule step h. h index s moves proof (subst (λ l.
-    AreNumberedMoves c.args.book.now.statements l moves) (held_moves _ _ _ _ _ c.deref.ensures.value
-    c.deref-2.ensures.value (seen_moves c.steps.view_is)) numbered)) (rw (seen_limit
-    c.steps.view_is) at c.links_of_proof.ensures.fault)) p
+    let held = subst (λ l. AreNumberedMoves c.args.book.now.statements l moves)
+    (held_moves _ _ _ _ _ c.deref.ensures.value c.deref-2.ensures.value
+    (seen_moves c.steps.view_is)) numbered in
+    accepts _ _ (proof_excludes _ _ s moves (allmeant_prefix _ index c.links_of_proof.ensures.sound.0))
+    c.links_of_proof.result (rules_map c.links_of_proof.result _ _
+    (λ rule step h. h index s moves proof held)
+    (rw (seen_limit c.steps.view_is) at c.links_of_proof.ensures.fault)) p
 
 pub returns-clause-refuses : goal.returns-clause-refuses
 returns-clause-refuses c index s moves proof numbered rule step fault =
-    refuses (IsWithin (limit_of c.args.steps.now.profile)) (take index c.args.book.now.statements) s
-    moves c.links_of_proof.result (allmeant_prefix c.args.book.now.statements index
-    c.links_of_proof.ensures.sound.0)
-    (λ x is. (IfOk-at_ok _ is (rw (seen_limit c.steps.view_is) at c.links_of_proof.ensures.linked)
-    index s moves proof (subst (λ l. AreNumberedMoves c.args.book.now.statements l moves)
-    (held_moves _ _ _ _ _ c.deref.ensures.value c.deref-2.ensures.value (seen_moves
-    c.steps.view_is)) numbered)).0)
-    (rules_map c.links_of_proof.result _ _ (λ r n h. h index s moves proof (subst (λ l.
-    AreNumberedMoves c.args.book.now.statements l moves) (held_moves _ _ _ _ _ c.deref.ensures.value
-    c.deref-2.ensures.value (seen_moves c.steps.view_is)) numbered)) (rw (seen_limit
-    c.steps.view_is) at c.links_of_proof.ensures.fault)) rule step fault
+    let held = subst (λ l. AreNumberedMoves c.args.book.now.statements l moves)
+    (held_moves _ _ _ _ _ c.deref.ensures.value c.deref-2.ensures.value
+    (seen_moves c.steps.view_is)) numbered in
+    refuses _ _ (proof_excludes _ _ s moves (allmeant_prefix _ index c.links_of_proof.ensures.sound.0))
+    c.links_of_proof.result (IfOk-weaker c.links_of_proof.result _ _
+    (λ x h. (h index s moves proof held).0)
+    (rw (seen_limit c.steps.view_is) at c.links_of_proof.ensures.linked))
+    (rules_map c.links_of_proof.result _ _ (λ r n h. h index s moves proof held)
+    (rw (seen_limit c.steps.view_is) at c.links_of_proof.ensures.fault)) rule step fault

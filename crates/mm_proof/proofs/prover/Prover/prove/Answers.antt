@@ -1,16 +1,24 @@
 -- What is answered of the tokens is exact, and said of the prover's book; and with an unknown step the
 -- answer is that on the known prefix.
-use Rattle.std.proofs.lemmas.Result.{IfOk-at_ok, IfErr-at_err}
-use Rattle.mm_frame.proofs.Rules.ObeyedRules.{allformed_prefix}
-use Rattle.std.proofs.Common.{◌≡◌, Ok, Err, sym, ap, ◌∙◌}
-use Rattle.mm_proof.specs.declared.fault.ProofFault.TheVariants.{Rule}
+use Rattle.std.proofs.lemmas.Result.{IfOk-at_ok, IfErr-at_err, IfOk-weaker}
+use Rattle.mm_frame.proofs.Rules.ObeyedRules.{allformed_prefix, allmeant_prefix}
+use Rattle.std.proofs.Common.{◌≡◌, Ok, Err, sym, ap, ◌∙◌, Result, inl, inr, IfOk, IsOkUnless}
+use Rattle.mm_proof.specs.declared.fault.ProofFault.TheVariants.{Rule, Memory}
 use Rattle.mm_proof.specs.declared.prover.Proved.{Proved}
-use Rattle.mm_proof.specs.declared.prover.Proved.TheVariants.{Complete}
-use Rattle.mm_proof.specs.Plain.{ids_in, token_texts}
+use Rattle.mm_proof.specs.declared.prover.Proved.TheVariants.{Incomplete}
+use Rattle.mm_proof.specs.Plain.{ids_in}
 use Rattle.mm_proof.proofs.ProofTokens.QuestionMarks.{proved_known, said_known}
-use Rattle.mm_proof.proofs.ProofVerdicts.ProfileVerdicts.{accepted_under, refused_under}
-use Rattle.mm_proof.proofs.ProofVerdicts.ProfileVerdicts.{prefix_allowed, prefix_refused}
+use Rattle.mm_proof.proofs.ProofVerdicts.FirstFault.{on_rule_map, rules_map, accepts, refuses}
+use Rattle.mm_proof.proofs.ProofVerdicts.ProfileVerdicts.{proved_excludes, allowed_excludes}
 use Rattle.mm_proof.proofs.prover.Prover.prove.Goals as goal
+use Rattle.mm_proof.specs.declared.fault.ProofFault.{ProofFault}
+use Rattle.mm_proof.specs.Answer.{IsUnlessMemory}
+
+-- an answer that is this one, if one is given
+is_told : (r : Result Proved ProofFault) (told : Proved) (P : Type 0) → IfOk r (λ p. (p ≡ told) × P)
+    → IsOkUnless r Memory → IsUnlessMemory r (Ok told)
+is_told (Ok p) told P h given = inl (ap Ok h.0)
+is_told (Err e) told P h given = inr (ap Err given)
 
 -- ---- a proof that is proved
 
@@ -27,11 +35,10 @@ returns-in-Ok-clause-form c is = rw (← c.self.view_is) c.in-Ok.ensures.form
 
 pub returns-in-Ok-clause-refuses : goal.returns-in-Ok-clause-refuses
 returns-in-Ok-clause-refuses c known = rw (← c.self.view_is) (
-    refused_under c.args.profile (Ok Complete) _ _ _ c.prove_tokens.ensures.sound.0 (λ x is.
-    λ index s proof. (
-      c.in-Ok.ensures.form index s proof,
-      (c.in-Ok.ensures.proved index s proof).proof,
-    )) tt)
+    λ index s proof rule step fault. absurd ((proved_excludes c.args.profile _ s _
+    (allmeant_prefix _ index c.prove_tokens.ensures.sound.0)).0
+    (c.in-Ok.ensures.form index s proof, (c.in-Ok.ensures.proved index s proof).proof)
+    rule step fault))
 
 pub returns-in-Ok-clause-allows_prefix : goal.returns-in-Ok-clause-allows_prefix
 returns-in-Ok-clause-allows_prefix c unknown index s proof allowed =
@@ -62,13 +69,17 @@ returns-then-is_incomplete-clause-prefix_fault c unknown rule step is =
 
 pub returns-then-is_incomplete-clause-allows_prefix : goal.returns-then-is_incomplete-clause-allows_prefix
 returns-then-is_incomplete-clause-allows_prefix c unknown = rw (← c.self.view_is) (
-    prefix_allowed c.args.profile c.allow.result _ _ _ (token_texts c.args.tokens.now)
-    c.prove_tokens.ensures.sound.0 c.allow.ensures.allowed c.allow.ensures.fault)
+    λ index s proof allowed. is_told c.allow.result Incomplete _ c.allow.ensures.allowed
+    (accepts _ _ (allowed_excludes c.args.profile _ s _
+    (allmeant_prefix _ index c.prove_tokens.ensures.sound.0)) c.allow.result
+    (rules_map c.allow.result _ _ (λ rule step h. h index s proof) c.allow.ensures.fault) allowed))
 
 pub returns-then-is_incomplete-clause-refuses_prefix : goal.returns-then-is_incomplete-clause-refuses_prefix
 returns-then-is_incomplete-clause-refuses_prefix c unknown = rw (← c.self.view_is) (
-    prefix_refused c.args.profile c.allow.result _ _ (token_texts c.args.tokens.now)
-    c.prove_tokens.ensures.sound.0 (λ x is. (IfOk-at_ok _ is c.allow.ensures.allowed).1) c.allow.ensures.fault)
+    λ index s proof. refuses _ _ (allowed_excludes c.args.profile _ s _
+    (allmeant_prefix _ index c.prove_tokens.ensures.sound.0)) c.allow.result
+    (IfOk-weaker c.allow.result _ _ (λ x h. h.1 index s proof) c.allow.ensures.allowed)
+    (rules_map c.allow.result _ _ (λ rule step h. h index s proof) c.allow.ensures.fault))
 
 -- ---- one that has a fault
 
@@ -79,13 +90,15 @@ returns-else-is_incomplete-clause-fault c known rule step is =
 
 pub returns-else-is_incomplete-clause-accepts : goal.returns-else-is_incomplete-clause-accepts
 returns-else-is_incomplete-clause-accepts c = rw (← c.self.view_is) (
-    accepted_under c.args.profile {X = Proved} (Err c.in-Err.fault) _ _ _
-    c.prove_tokens.ensures.sound.0 c.in-Err.ensures.fault)
+    λ index s proof. accepts _ _ (proved_excludes c.args.profile _ s _
+    (allmeant_prefix _ index c.prove_tokens.ensures.sound.0)) {X = Proved} (Err c.in-Err.fault)
+    (on_rule_map c.in-Err.fault _ _ (λ rule step h. h index s proof) c.in-Err.ensures.fault))
 
 pub returns-else-is_incomplete-clause-refuses : goal.returns-else-is_incomplete-clause-refuses
 returns-else-is_incomplete-clause-refuses c known = rw (← c.self.view_is) (
-    refused_under c.args.profile {X = Proved} (Err c.in-Err.fault) _ _ _
-    c.prove_tokens.ensures.sound.0 (λ x is. absurd cc) c.in-Err.ensures.fault)
+    λ index s proof. refuses _ _ (proved_excludes c.args.profile _ s _
+    (allmeant_prefix _ index c.prove_tokens.ensures.sound.0)) {X = Proved} (Err c.in-Err.fault) tt
+    (on_rule_map c.in-Err.fault _ _ (λ rule step h. h index s proof) c.in-Err.ensures.fault))
 
 pub returns-then-is_incomplete-clause-unproved : goal.returns-then-is_incomplete-clause-unproved
 returns-then-is_incomplete-clause-unproved c other =
