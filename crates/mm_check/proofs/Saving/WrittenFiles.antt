@@ -42,7 +42,7 @@ use Rattle.std.specs.List.{AllZip}
 use Rattle.mm_text.specs.Files.{PlainFile, most_bytes}
 use Rattle.mm_text.proofs.Replaced.ProofSpans.{proof_spans_follow_holds}
 use Rattle.mm_text.proofs.Replaced.ProofSpans.{proofs_stand_in_spans_holds}
-use Rattle.mm_text.proofs.Lists.{get_kept, get_parted, zip_push, zip_weaker}
+use Rattle.mm_text.proofs.Lists.{get_kept, get_parted, unmapped, zip_push, zip_weaker}
 use Rattle.mm_frame.specs.declared.number.LabelId.{LabelId}
 use Rattle.mm_proof.specs.declared.profile.Profile.{Profile}
 use Rattle.mm_check.specs.declared.form.Form.TheVariants.{Normal}
@@ -211,10 +211,6 @@ passed_so taken s file None other h = record {
   spans = h.spans;
   put = h.put;
 }
-
-unmapped : {A B : Type 0} (f : A → B) (o : Option A) → option_map f o ≡ None → o ≡ None
-unmapped f None _ = refl
-unmapped f (Some x) is = absurd cc
 
 passed_over : (files : List PlainFile) (taken : List PlainStatement) (s : PlainStatement)
     (file : NewFile) → IsWrittenSoFar files taken file

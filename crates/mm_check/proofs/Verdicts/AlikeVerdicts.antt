@@ -29,7 +29,7 @@ use Rattle.mm_check.specs.Verdict.{text_refusal}
 use Rattle.mm_check.specs.Reply.{text_of, status_of, name_of, line_with, refusal_word}
 use Rattle.mm_check.specs.RuleCodes.{code_of}
 use Rattle.mm_check.specs.Alike.{AlikeFilesHaveOneReply}
-use Rattle.mm_text.proofs.Lists.{cons_split, append_split, same_length}
+use Rattle.mm_text.proofs.Lists.{cons_split, append_split, same_length, unmapped}
 use Rattle.mm_text.specs.declared.fault.LoadRule.TheVariants as load
 use Rattle.mm_check.specs.declared.rule.Rule.TheVariants as rules
 
@@ -203,11 +203,7 @@ refuses_statement_alike profile files others ss us refusal is r =
           ∙ sym (refusal_on others (length before) t r.rule r.step),
     )
 
--- no fault corresponds to none, and a fault to a fault
-no_fault : (k : ℕ → ℕ → ℕ) (o : Option PlainFault) → None ≡ option_map (fault_on k) o → o ≡ None
-no_fault k None is = refl
-no_fault k (Some g) is = cc is
-
+-- a fault corresponds to a fault
 some_fault : (h k : ℕ → ℕ → ℕ) (f : PlainFault) (o : Option PlainFault) → Some (fault_on h f) ≡ option_map (fault_on k) o
     → (g : PlainFault) × (o ≡ Some g) × (fault_on h f ≡ fault_on k g)
 some_fault h k f None is = cc is
@@ -297,7 +293,7 @@ accepted_alike : (profile : Profile) → AlikeFilesAreReadAlike → (files other
     → (same : List PlainStatement) × AreAccepted profile others same × (map (statement_on (feeds_in files)) statements ≡ map (statement_on (feeds_in others)) same)
 accepted_alike profile law files others alike small statements accepted =
     let read : AreReadAlike files others statements None = law files others alike statements None accepted.reads in
-    let none : read.end ≡ None = no_fault (feeds_in others) read.end read.ended in (
+    let none : read.end ≡ None = unmapped (fault_on (feeds_in others)) read.end (sym read.ended) in (
       read.same,
       record {
         readable = readable_alike files others alike small accepted.readable;
