@@ -1,12 +1,11 @@
 -- A file in which each complete proof is written anew, in lines, and all else is kept. The forms
 -- of proofs are those of the Metamath book, sections 4.3 and 4.4.3 and appendix B; what is kept is
 -- this project's own.
-use Rattle.std.specs.Prelude.{◌≡◌, ℕ, ◌<◌, ◌==◌, ◌&&◌, List, [], ◌∷◌, ◌++◌, take, length, filter}
-use Rattle.std.specs.Prelude.{Bool, Some, slice_get}
+use Rattle.std.specs.Prelude.{◌≡◌, ℕ, ◌<◌, ◌==◌, ◌&&◌, List, [], ◌∷◌, ◌++◌, take, drop, length}
+use Rattle.std.specs.Prelude.{Bool, Some, slice_get, slice_range, filter}
 use Rattle.std.specs.List.{AllZip}
 use Rattle.mm_text.specs.Statement.{PlainStatement}
 use Rattle.mm_text.specs.Files.{PlainFile, most_bytes}
-use Rattle.mm_text.specs.Replaced.{with_span}
 use Rattle.mm_frame.specs.Sentence.{sentence_of}
 use Rattle.mm_proof.specs.declared.profile.Profile.TheVariants.{Lenient}
 use Rattle.mm_proof.specs.Tree.{Trees, none, tree, spelling}
@@ -47,11 +46,16 @@ pub record IsReplacement (form : Form) (bytes : List ℕ) (statements : List Pla
       (tree root below none) (within_span bytes s.span) new.text
   pub span : new.span ≡ s.span
 
--- The bytes with several spans replaced, each of which stands after those before it. The last one
--- is replaced first, so that each is replaced where it stood.
+-- The bytes from a position on with several spans replaced, each of which stands after those before
+-- it: in turn what is kept before a span and the text in its place, and then what is left.
+abbrev pub replaced_from : (at : ℕ) → List ℕ → List Replacement → List ℕ
+replaced_from at bytes [] = drop at bytes
+replaced_from at bytes (new ∷ news) =
+    slice_range bytes at new.span.0 ++ (new.text ++ replaced_from new.span.1 bytes news)
+
+-- all of the bytes with several spans replaced
 abbrev pub with_replaced : List ℕ → List Replacement → List ℕ
-with_replaced bytes [] = bytes
-with_replaced bytes (new ∷ news) = with_span (with_replaced bytes news) new.span new.text
+with_replaced bytes news = replaced_from 0 bytes news
 
 -- These are the bytes of the file with the number in which each theorem whose proof is complete has
 -- its proof in this form.

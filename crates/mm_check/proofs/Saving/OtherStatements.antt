@@ -38,6 +38,29 @@ module _ (P : List Sentence → PlainStatement → PlainStatement → Type 0) wh
       )
   all_along_moved one prefix after later last same all = absurd all
 
+  -- with each in its own place
+  pub along_self : ((prefix : List Sentence) (s : PlainStatement) → P prefix s s)
+      → (prefix : List Sentence) (statements : List PlainStatement)
+      → AllAlong P prefix statements statements
+  along_self own prefix [] = tt
+  along_self own prefix (s ∷ statements) = (own prefix s, along_self own _ statements)
+
+  -- with another in place of one of them
+  pub along_put : ((prefix : List Sentence) (s : PlainStatement) → P prefix s s)
+      → ((prefix : List Sentence) (s t u : PlainStatement)
+      → placeless t ≡ placeless u → P prefix s t → P prefix s u)
+      → (prefix : List Sentence) (before : List PlainStatement) (s t : PlainStatement)
+      (after later : List PlainStatement) → P (prefix ++ sentences before) s t
+      → map placeless after ≡ map placeless later
+      → AllAlong P prefix (before ++ s ∷ after) (before ++ t ∷ later)
+  along_put own one prefix [] s t after later put same =
+      (rw append-nil at put, all_along_moved one _ after after later same (along_self own _ after))
+  along_put own one prefix (b ∷ before) s t after later put same = (
+    own prefix b,
+    along_put own one _ before s t after later
+        (rw (append_assoc prefix (sentence_of b ∷ []) (sentences before)) put) same,
+  )
+
   -- the one at an index, and the one for which it stands
   pub along_at : (prefix : List Sentence) (after later : List PlainStatement)
       → AllAlong P prefix after later → (index : ℕ) (t : PlainStatement)

@@ -3,8 +3,8 @@
 use Rattle.std.proofs.Common.{◌≡◌, ℕ, List, take, slice_get, true, not, ◌&&◌, Some, refl, sym, ap}
 use Rattle.std.proofs.Common.{subst, ◌∙◌, suc, ◌+◌, ◌-◌, ◌<◌, ◌≤◌, ◌↔◌, ◌∷◌, ◌++◌, map, drop}
 use Rattle.std.proofs.Common.{length, slice_set, slice_index_or, Option, None, Result, Ok, inl, inr}
-use Rattle.std.proofs.Common.{arith, length-append, zero, [], filter, flat_map, count_by, cond}
-use Rattle.std.proofs.Common.{Bool, false, ◌⊎◌}
+use Rattle.std.proofs.Common.{arith, length-append, []}
+use Rattle.std.proofs.Common.{false}
 use Rattle.mm_text.specs.declared.statement.Kind.TheVariants.{Axiom, Provable}
 use Rattle.mm_text.specs.Statement.{PlainStatement, is_provable}
 use Rattle.mm_frame.specs.Sentence.{Sentence, sentence_of, IsLabelled}
@@ -12,14 +12,14 @@ use Rattle.mm_frame.specs.Numbers.{IsNumbered}
 use Rattle.mm_proof.specs.Tree.{Trees, none, tree, AnyExpression, DeriveAll}
 use Rattle.mm_proof.specs.Proof.{IsProved, IsWithin}
 use Rattle.mm_proof.specs.Used.{IsUsedNumber}
-use Rattle.mm_proof.specs.Tokens.{is_incomplete, SayMoves}
+use Rattle.mm_proof.specs.Tokens.{is_incomplete}
 use Rattle.mm_check.specs.Verdict.{sentences, proof_of, is_proof, is_unproved, AreAccepted, Verdict}
-use Rattle.mm_check.specs.Verdict.{Load, Refused, Incomplete, Yes, HasVerdict, AllObey, Obeys}
-use Rattle.mm_check.specs.Verdict.{CanBeRead, label_of, unproved_of, proofs_of}
+use Rattle.mm_check.specs.Verdict.{Load, Refused, Incomplete, Yes, HasVerdict, AllObey}
+use Rattle.mm_check.specs.Verdict.{CanBeRead, unproved_of, proofs_of}
 use Rattle.mm_check.specs.Rests.{IsAt, IsNumberWhere, AreInOrder, HasTree, Uses, RestsOn, IsReport}
 use Rattle.mm_check.specs.Rests.{tree_of, IsAskFault}
 use Rattle.mm_check.proofs.Questions.AskedTheorems.{map-take, rests_as, tree_told, normal_fault}
-use Rattle.mm_check.proofs.Questions.AskedTheorems.{ask_fault, same_tree}
+use Rattle.mm_check.proofs.Questions.AskedTheorems.{ask_fault}
 use Rattle.mm_check.proofs.Numbers.{in_order_same}
 use Rattle.std.proofs.lemmas.List.Sums.{get_or-le-sum_by, sum_by-set}
 use Rattle.std.proofs.lemmas.List.{length-map, length-set, set-set, set-get_or}
@@ -27,10 +27,10 @@ use Rattle.std.proofs.lemmas.Option.{slice_get_within, get_or_from_slice_get, sa
 use Rattle.mm_text.specs.declared.file.File.{File}
 use Rattle.mm_text.specs.Files.{most_bytes, PlainFile, plain_file, total_bytes, BreaksLoad}
 use Rattle.mm_text.specs.Reading.{Reads, IsInPlace}
-use Rattle.mm_text.specs.Replaced.{with_span, with_bytes, IsProofSpan, placeless}
+use Rattle.mm_text.specs.Replaced.{with_span, with_bytes, IsProofSpan}
 use Rattle.mm_text.proofs.Reader.WholeReadings.{readings_are_formed_in_place}
 use Rattle.mm_text.proofs.Replaced.ProofSpans.{proofs_stand_in_spans_holds}
-use Rattle.mm_text.proofs.Lists.{all_at, split_at, same_length, get_parted, zip_left, mapped_zip}
+use Rattle.mm_text.proofs.Lists.{all_at, split_at}
 use Rattle.mm_text.proofs.Lists.{get_set_cases}
 use Rattle.mm_text.proofs.Inclusions.OpenFiles.{file_there}
 use Rattle.mm_frame.specs.Rules.{AllMeant}
@@ -49,29 +49,19 @@ use Rattle.mm_check.specs.Mirror.Rewriting.{IsHomeOf, IsSpanTextOf, IsTextFault,
 use Rattle.mm_check.specs.Mirror.Rewriting.{StandIn, IsPutIn, IsPutFault}
 use Rattle.mm_check.proofs.ReplyTexts.{accepted_with}
 use Rattle.mm_check.proofs.Verdicts.AcceptedStatements.{one_stands, same_reading}
-use Rattle.mm_check.proofs.Verdicts.StatementByStatement.{provable_kind, unproved_of-append}
-use Rattle.mm_check.proofs.Verdicts.StatementByStatement.{any_proof, proof_there}
-use Rattle.mm_check.proofs.Verdicts.StatementByStatement.{proof_not_unproved}
-use Rattle.std.proofs.Math.Seq.{take-append_seam}
+use Rattle.mm_check.proofs.Verdicts.StatementByStatement.{all_meant, provable_kind}
+use Rattle.mm_frame.proofs.Rules.ObeyedRules.{allmeant_prefix}
 use Rattle.mm_text.specs.declared.fault.LoadRule.{LoadRule}
 use Rattle.mm_text.specs.Token.{tokens_from}
 use Rattle.mm_text.proofs.Replaced.ReplacedItems.{set_there}
 use Rattle.mm_code.proofs.ReadBack.{texts_in}
-use Rattle.mm_frame.proofs.Blocks.NumberedBlocks.{count_append}
-use Rattle.mm_proof.specs.Moves.{Move}
-use Rattle.mm_proof.specs.OneTree.{MakeTree}
 use Rattle.mm_proof.specs.Strict.{IsStrict, HasFormOf}
 use Rattle.mm_proof.specs.UnderProfile.{IsProvedUnder}
 use Rattle.mm_proof.specs.declared.profile.Profile.TheVariants.{Strict, Lenient}
 use Rattle.mm_proof.specs.Profiles.{limit_of}
-use Rattle.mm_proof.proofs.PackedProofs.WrittenProofs.{IsProofBy}
 use Rattle.mm_proof.proofs.ProofVerdicts.VerdictLaws.{derive_any}
-use Rattle.mm_check.specs.SavedLaws.{SayTheSame}
-use Rattle.mm_check.proofs.Verdicts.AlikeVerdicts.{moved, obeys_alike, same_sentence, same_proof}
-use Rattle.mm_check.proofs.Verdicts.AlikeVerdicts.{same_sentences, same_proofs, same_unproved}
 use Rattle.mm_check.proofs.Verdicts.OneVerdict.{accepted_or_refused}
 use Rattle.mm_check.proofs.Saving.ProofTexts.{fine_complete, ReadsAsProof}
-use Rattle.mm_check.proofs.Saving.ProofTexts.{tree_is, tree_derives}
 use Rattle.mm_check.specs.declared.form.Form.TheVariants as form
 use Rattle.mm_check.specs.declared.ask.AskFault.TheVariants as ask
 use Rattle.mm_text.specs.declared.fault.LoadRule.TheVariants as load
@@ -107,38 +97,11 @@ pub record Carries (statements others : List PlainStatement) : Type 0 where
 pub prefix_told : (statements others : List PlainStatement) (index : ℕ) → sentences statements ≡ sentences others → sentences (take index statements) ≡ sentences (take index others)
 prefix_told statements others index told = map-take index statements ∙ ap (take index) told ∙ sym (map-take index others)
 
--- to themselves
-pub carries_self : (statements : List PlainStatement) → Carries statements statements
-carries_self statements = record {
-  told = refl;
-  at = λ index s there.
-      (s, there, alike_at (sentences (take index statements)) s s refl refl);
-}
-
--- and on
-alike_on : (prefix : List Sentence) (s t u : PlainStatement) → AreAlikeAt prefix s t
-    → AreAlikeAt prefix t u → AreAlikeAt prefix s u
-alike_on prefix s t u one other = record {
-  said = one.said ∙ other.said;
-  proofs = one.proofs ∙ other.proofs;
-  unproved = one.unproved ∙ other.unproved;
-  tree = λ complete p.
-      let (q, same) = one.tree complete p in
-      let (r, alike) = other.tree (sym one.proofs ∙ complete) q in
-      (r, same ∙ alike);
-}
-
-pub carries_on : {statements others more : List PlainStatement} → Carries statements others
-    → Carries others more → Carries statements more
-carries_on {statements} {others} one other = record {
-  told = one.told ∙ other.told;
-  at = λ index s there.
-      let (t, here, alike) = one.at index s there in
-      let (u, found, further) = other.at index t here in
-      let prefix = sym (prefix_told statements others index one.told) in
-      let moved = subst (λ (ss : List Sentence). AreAlikeAt ss t u) prefix further in
-      (u, found, alike_on (sentences (take index statements)) s t u alike moved);
-}
+pub prefix_meant : (profile : Profile) (statements : List PlainStatement) (n : ℕ)
+    → AllObey profile statements → AllMeant (sentences (take n statements))
+prefix_meant profile statements n obeyed =
+    subst AllMeant (sym (map-take n statements))
+    (allmeant_prefix (sentences statements) n (all_meant profile statements obeyed))
 
 pub index_carried : (statements others : List PlainStatement) (id index : ℕ) (s t : PlainStatement) → sentences statements ≡ sentences others → sentence_of s ≡ sentence_of t → slice_get others index ≡ Some t
     → IsAt statements id index s → IsAt others id index t
@@ -387,20 +350,13 @@ nowhere file at = 0
 abbrev pub put_anew : PlainStatement → List ℕ → PlainStatement
 put_anew s text = record s { proof = tokens_from s.first.file s.span.0 text; span = (s.span.0, s.span.0 + length text) }
 
--- small form keeps the proof that was there
-abbrev pub IsKept : Form → (s t : PlainStatement) → Type 0
-IsKept f s t = (f ≡ form.Small) × (proof_of t ≡ proof_of s)
-
--- What is told of a statement with its new proof: this is one of the tree, and strict or kept.
-pub record IsProvedAnew (f : Form) (profile : Profile) (prefix : List Sentence)
-    (s t : PlainStatement) (root : List ℕ) (below : Trees) : Type 0 where
-  pub said : sentence_of s ≡ sentence_of t
-  pub home : s.first.file ≡ t.first.file
-  pub complete : is_proof t ≡ true
-  pub strict : IsStrict prefix (sentence_of t) (proof_of t) ⊎ IsKept f s t
-  pub under : IsProvedUnder profile prefix (sentence_of t) (proof_of t)
-  pub proof : IsProved prefix (sentence_of t) (proof_of t)
-  pub spelled : tree_of proof ≡ tree root below none
+-- A new proof of the statement: it's strict, the profile allows it, and its tree may stand there.
+pub record IsNewProof (profile : Profile) (May : Trees → Type 0) (prefix : List Sentence)
+    (s : Sentence) (tokens : List (List ℕ)) : Type 0 where
+  pub strict : IsStrict prefix s tokens
+  pub under : IsProvedUnder profile prefix s tokens
+  pub proof : IsProved prefix s tokens
+  pub may : May (tree_of proof)
 
 -- the strict form is the one that either profile demands
 form_of_strict : (profile : Profile) (prefix : List Sentence) (s : Sentence)
@@ -408,165 +364,30 @@ form_of_strict : (profile : Profile) (prefix : List Sentence) (s : Sentence)
 form_of_strict Strict prefix s tokens strict = strict
 form_of_strict Lenient prefix s tokens strict = tt
 
--- with a proof of any tree that derives it, within the profile's limit
-pub derived_anew : (f : Form) (profile : Profile) (prefix : List Sentence) (s : PlainStatement)
-    (root : List ℕ) (below : Trees) (put : List ℕ) → is_proof s ≡ true
+-- the text of any tree that derives what the statement says, within the profile's limit
+pub new_proof : (profile : Profile) (May : Trees → Type 0) (prefix : List Sentence)
+    (s : PlainStatement) (root : List ℕ) (below : Trees) (put : List ℕ)
+    → May (tree root below none)
     → DeriveAll (IsWithin (limit_of profile)) prefix (tree root below none)
     ((sentence_of s).symbols ∷ [])
     → ReadsAsProof prefix (sentence_of s) root below put
-    → IsProvedAnew f profile prefix s (put_anew s put) root below
-derived_anew f profile prefix s root below put complete derived ra =
-    let t : PlainStatement = put_anew s put in
+    → (is_incomplete (proof_of (put_anew s put)) ≡ false)
+    × IsNewProof profile May prefix (sentence_of s) (proof_of (put_anew s put))
+new_proof profile May prefix s root below put may derived ra =
     let Fits : List (List ℕ) → Type 0 = IsWithin (limit_of profile) in
-    let tokens : proof_of t ≡ ra.tokens = texts_in s.first.file s.span.0 put ∙ ra.read in
-    let within : IsProofBy Fits prefix (sentence_of s) ra.tokens root below =
-    ra.proves Fits derived in
-    let any : IsProofBy AnyExpression prefix (sentence_of s) ra.tokens root below =
-    ra.proves AnyExpression (derive_any Fits prefix (tree root below none) _ derived) in
-    let strict : IsStrict prefix (sentence_of s) (proof_of t) = rw tokens ra.strict in
-    let here : IsProofBy AnyExpression prefix (sentence_of s) (proof_of t) root below =
-    subst (λ (ts : List (List ℕ)).
-    IsProofBy AnyExpression prefix (sentence_of s) ts root below) (sym tokens) any in
-    record {
-      said = refl;
-      home = refl;
-      complete = proof_there t (provable_proof s complete)
-          (ap is_incomplete tokens ∙ fine_complete ra.tokens ra.fine);
-      strict = inl strict;
-      under = (form_of_strict profile prefix (sentence_of s) _ strict, rw tokens within.0);
-      proof = here.0;
-      spelled = here.1;
-    }
-
-module _ (f : Form) (profile : Profile) (prefix : List Sentence) (s : PlainStatement)
-    (root : List ℕ) (below : Trees) (moves : List (Move (List ℕ))) (meant : AllMeant prefix)
-    (complete : is_proof s ≡ true)
-    (old : IsProvedUnder profile prefix (sentence_of s) (proof_of s))
-    (told : SayMoves prefix (sentence_of s) (proof_of s) moves)
-    (made : MakeTree prefix moves root below) where
-  old_proof : IsProved prefix (sentence_of s) (proof_of s)
-  old_proof = any_proof profile prefix (sentence_of s) (proof_of s) old.1
-
-  pub proved_anew : (put : List ℕ) → ReadsAsProof prefix (sentence_of s) root below put
-      → IsProvedAnew f profile prefix s (put_anew s put) root below
-  proved_anew put ra =
-      derived_anew f profile prefix s root below put complete
-      (tree_derives (IsWithin (limit_of profile)) prefix (sentence_of s) (proof_of s) moves root
-      below meant old.1 told made) ra
-
-  -- where it is kept, it is what it was
-  pub proved_as_before : f ≡ form.Small → IsProvedAnew f profile prefix s s root below
-  proved_as_before small = record {
-    said = refl;
-    home = refl;
-    complete = complete;
-    strict = inr (small, refl);
-    under = old;
-    proof = old_proof;
-    spelled = tree_is AnyExpression prefix (sentence_of s) (proof_of s) moves root below meant
-        old_proof told made;
-  }
-
--- it is alike, one way and the other
-pub anew_alike : (f : Form) (profile : Profile) (prefix : List Sentence) (s t : PlainStatement)
-    (root : List ℕ) (below : Trees) (moves : List (Move (List ℕ))) → AllMeant prefix
-    → is_proof s ≡ true → SayMoves prefix (sentence_of s) (proof_of s) moves
-    → MakeTree prefix moves root below → IsProvedAnew f profile prefix s t root below
-    → AreAlikeAt prefix s t
-anew_alike f profile prefix s t root below moves meant complete told made new = record {
-  said = new.said;
-  proofs = complete ∙ sym new.complete;
-  unproved = proof_not_unproved s complete ∙ sym (proof_not_unproved t new.complete);
-  tree = λ c p. (
-    new.proof,
-    tree_is AnyExpression prefix (sentence_of s) (proof_of s) moves root below meant p told made
-        ∙ sym new.spelled,
-  );
-}
-
-pub alike_turned : (prefix : List Sentence) (s t : PlainStatement) → AllMeant prefix
-    → is_proof s ≡ true → IsProved prefix (sentence_of s) (proof_of s) → AreAlikeAt prefix s t
-    → AreAlikeAt prefix t s
-alike_turned prefix s t meant complete old alike =
-    let (new, same) = alike.tree complete old in
-    record {
-      said = sym alike.said;
-      proofs = sym alike.proofs;
-      unproved = sym alike.unproved;
-      tree = λ c p. (old, same_tree prefix (sentence_of t) (proof_of t) p new meant ∙ sym same);
-    }
-
--- ---- the statements, one by one
-
-abbrev pub Near : ℕ → (s t : PlainStatement) → (index : ℕ) → (x y : PlainStatement) → Type 0
-Near n s t index x y = ((sentence_of x ≡ sentence_of y) × (proof_of x ≡ proof_of y)) ⊎ ((index ≡ n) × ((x ≡ s) × (y ≡ t)))
-
-placeless_at : (after later : List PlainStatement) → map placeless after ≡ map placeless later → (index : ℕ) (x : PlainStatement) → slice_get after index ≡ Some x
-    → (y : PlainStatement) × (slice_get later index ≡ Some y) × (placeless x ≡ placeless y)
-placeless_at after later same index x e =
-    let Alike : PlainStatement → PlainStatement → Type 0 = λ s t. placeless s ≡ placeless t in
-    zip_left Alike _ _ index x (mapped_zip placeless placeless Alike (λ s t is. is) _ _ same) e
-
-pub near_at : (before : List PlainStatement) (s t : PlainStatement) (after later : List PlainStatement) → map placeless after ≡ map placeless later → (index : ℕ) (x : PlainStatement)
-    → slice_get (before ++ s ∷ after) index ≡ Some x → (y : PlainStatement) × (slice_get (before ++ t ∷ later) index ≡ Some y) × Near (length before) s t index x y
-near_at [] s t after later same zero x e = let is : s ≡ x = cc in (t, refl, inr (refl, (sym is, refl)))
-near_at [] s t after later same (suc index) x e =
-    let (y, there, is) = placeless_at after later same index x e in
-    (y, there, inl (same_sentence nowhere nowhere x y is, same_proof nowhere nowhere x y is))
-near_at (b ∷ before) s t after later same zero x e = let is : b ≡ x = cc in (b, refl, inl (ap sentence_of (sym is), ap proof_of (sym is)))
-near_at (b ∷ before) s t after later same (suc index) x e =
-    let (y, there, near) = near_at before s t after later same index x e in (y, there, further near)
-  where
-    further : {y : PlainStatement} → Near (length before) s t index x y → Near (suc (length before)) s t (suc index) x y
-    further (inl h) = inl h
-    further (inr (is, both)) = inr (ap suc is, both)
-
-pub said_alike : (before : List PlainStatement) (s t : PlainStatement) (after later : List PlainStatement) → sentence_of s ≡ sentence_of t → map placeless after ≡ map placeless later
-    → sentences (before ++ s ∷ after) ≡ sentences (before ++ t ∷ later)
-said_alike [] s t after later own same = let rest = same_sentences nowhere nowhere after later same in λ i. own i ∷ rest i
-said_alike (b ∷ before) s t after later own same = ap (λ (ss : List Sentence). sentence_of b ∷ ss) (said_alike before s t after later own same)
-
-pub carries_of : (before : List PlainStatement) (s t : PlainStatement) (after later : List PlainStatement) → map placeless after ≡ map placeless later → AreAlikeAt (sentences before) s t
-    → Carries (before ++ s ∷ after) (before ++ t ∷ later)
-carries_of before s t after later same own = record {
-  told = said_alike before s t after later own.said same;
-  at = λ index x e.
-      let (y, there, near) = near_at before s t after later same index x e in (
-        y,
-        there,
-        elim near [
-          | inl both ↦ alike_at (sentences (take index (before ++ s ∷ after))) x y both.0 both.1
-          | inr (is, both) ↦
-              let prefix : sentences before ≡ sentences (take index (before ++ s ∷ after)) =
-              rw (is, take-append_seam before (s ∷ after)) in
-              moved AreAlikeAt (sentences before) (sentences (take index (before ++ s ∷ after))) s x t y prefix (sym both.0) (sym both.1) own
-        ],
+    let tokens : proof_of (put_anew s put) ≡ ra.tokens =
+    texts_in s.first.file s.span.0 put ∙ ra.read in
+    let any = ra.proves AnyExpression (derive_any Fits prefix (tree root below none) _ derived) in
+    let new : IsNewProof profile May prefix (sentence_of s) ra.tokens = record {
+      strict = ra.strict;
+      under = (
+        form_of_strict profile prefix (sentence_of s) ra.tokens ra.strict,
+        (ra.proves Fits derived).0,
       );
-}
-
--- ---- each obeys the rules
-
-obeys_at : (profile : Profile) (before : List PlainStatement) (s t : PlainStatement) (after later : List PlainStatement) → sentence_of s ≡ sentence_of t → map placeless after ≡ map placeless later → AllObey profile (before ++ s ∷ after)
-    → Obeys profile (sentences before) t → (index : ℕ) (y : PlainStatement) → slice_get (before ++ t ∷ later) index ≡ Some y → Obeys profile (sentences (take index (before ++ t ∷ later))) y
-obeys_at profile before s t after later own same obeyed new index y there =
-    let st : List PlainStatement = before ++ s ∷ after in
-    let su : List PlainStatement = before ++ t ∷ later in
-    let (x, at, near) = near_at before t s later after (sym same) index y there in
-    let prefix : sentences (take index st) ≡ sentences (take index su) = prefix_told st su index (said_alike before s t after later own same) in
-    elim near [
-      | inl both ↦ obeys_alike profile (sentences (take index st)) (sentences (take index su)) x y prefix (sym both.0) (sym both.1) (obeyed (take index st) (drop (suc index) st) x (split_at st index x at))
-      | inr (is, both) ↦
-          let here : sentences before ≡ sentences (take index su) = ap sentences (sym (ap (λ (n : ℕ). take n su) is ∙ take-append_seam before (t ∷ later))) in
-          subst (λ (u : PlainStatement). Obeys profile (sentences (take index su)) u) (sym both.0) (subst (λ (ss : List Sentence). Obeys profile ss t) here new)
-    ]
-
-pub all_obey_anew : (profile : Profile) (before : List PlainStatement) (s t : PlainStatement) (after later : List PlainStatement) → sentence_of s ≡ sentence_of t → map placeless after ≡ map placeless later → AllObey profile (before ++ s ∷ after)
-    → Obeys profile (sentences before) t → AllObey profile (before ++ t ∷ later)
-all_obey_anew profile before s t after later own same obeyed new earlier rest y split =
-    let su : List PlainStatement = before ++ t ∷ later in
-    let there : slice_get su (length earlier) ≡ Some y = rw split (get_parted earlier rest y) in
-    let prefix : take (length earlier) su ≡ earlier = ap (take (length earlier)) split ∙ take-append_seam earlier (y ∷ rest) in
-    subst (λ (ss : List PlainStatement). Obeys profile (sentences ss) y) prefix (obeys_at profile before s t after later own same obeyed new (length earlier) y there)
+      proof = any.0;
+      may = subst May (sym any.1) may;
+    } in
+    (ap is_incomplete tokens ∙ fine_complete ra.tokens ra.fine, rw tokens new)
 
 -- ---- one file among the files
 
@@ -636,74 +457,3 @@ verdict_carried profile files others st su one other unproved long proofs (Incom
 verdict_carried profile files others st su one other unproved long proofs (Yes count done) (ss, accepted, none_left, counted, proved) =
     let same : ss ≡ st = (same_reading files ss st None None accepted.reads one.reads).0 in
     (su, other, sym unproved ∙ sym (ap unproved_of same) ∙ none_left, counted ∙ ap (λ (l : List PlainStatement). length l) same ∙ long, proved ∙ ap proofs_of same ∙ proofs)
-
-skipped : (s : PlainStatement) (after : List PlainStatement) → is_unproved s ≡ false → unproved_of (s ∷ after) ≡ unproved_of after
-skipped s after e = ap (λ (b : Bool). flat_map label_of (cond b (s ∷ filter is_unproved after) (filter is_unproved after))) e
-
-pub same_left : (before : List PlainStatement) (s t : PlainStatement) (after later : List PlainStatement) → is_unproved s ≡ false → is_unproved t ≡ false → map placeless after ≡ map placeless later
-    → unproved_of (before ++ s ∷ after) ≡ unproved_of (before ++ t ∷ later)
-same_left before s t after later e f same =
-    unproved_of-append before (s ∷ after)
-    ∙ ap (λ (ls : List (List ℕ)). unproved_of before ++ ls) (skipped s after e ∙ same_unproved nowhere nowhere after later same ∙ sym (skipped t later f))
-    ∙ sym (unproved_of-append before (t ∷ later))
-
-pub same_count : (before : List PlainStatement) (s t : PlainStatement) (after later : List PlainStatement) → is_proof s ≡ is_proof t → map placeless after ≡ map placeless later
-    → proofs_of (before ++ s ∷ after) ≡ proofs_of (before ++ t ∷ later)
-same_count before s t after later e same =
-    let one : count_by is_proof (s ∷ []) ≡ count_by is_proof (t ∷ []) = ap (λ (b : Bool). 0 + cond b 1 0) e in
-    let own : count_by is_proof (s ∷ after) ≡ count_by is_proof (t ∷ later) =
-    count_append is_proof (s ∷ []) after ∙ (λ i. one i + same_proofs nowhere nowhere after later same i) ∙ sym (count_append is_proof (t ∷ []) later) in
-    count_append is_proof before (s ∷ after) ∙ ap (λ (n : ℕ). proofs_of before + n) own ∙ sym (count_append is_proof before (t ∷ later))
-
-pub same_many : (before : List PlainStatement) (s t : PlainStatement) (after later : List PlainStatement) → map placeless after ≡ map placeless later → length (before ++ s ∷ after) ≡ length (before ++ t ∷ later)
-same_many before s t after later same =
-    length-append before (s ∷ after) ∙ ap (λ (n : ℕ). length before + suc n) (same_length placeless placeless after later same) ∙ sym (length-append before (t ∷ later))
-
--- ---- all that is answered
-
--- What is said of the statements is said of the others: of each theorem, how many statements there
--- are and how many proofs, and which theorems have none.
-pub record SayAlike (statements others : List PlainStatement) : Type 0 where
-  pub to : Carries statements others
-  pub from : Carries others statements
-  pub left : unproved_of statements ≡ unproved_of others
-  pub many : length statements ≡ length others
-  pub count : proofs_of statements ≡ proofs_of others
-
-pub say_themselves : (statements : List PlainStatement) → SayAlike statements statements
-say_themselves statements = record {
-  to = carries_self statements;
-  from = carries_self statements;
-  left = refl;
-  many = refl;
-  count = refl;
-}
-
-pub say_on : {statements others more : List PlainStatement} → SayAlike statements others
-    → SayAlike others more → SayAlike statements more
-say_on one other = record {
-  to = carries_on one.to other.to;
-  from = carries_on other.from one.from;
-  left = one.left ∙ other.left;
-  many = one.many ∙ other.many;
-  count = one.count ∙ other.count;
-}
-
-pub said_same : (profile : Profile) (files others : List PlainFile) (st su : List PlainStatement)
-    → AreAccepted profile files st → AreAccepted profile others su → SayAlike st su
-    → SayTheSame profile files others st su
-said_same profile files others st su one other alike = record {
-  accepted = other;
-  told = alike.to.told;
-  verdict = λ v. (
-    verdict_carried profile files others st su one other alike.left alike.many alike.count v,
-    verdict_carried profile others files su st other one (sym alike.left) (sym alike.many)
-        (sym alike.count) v,
-  );
-  trees = λ id index t.
-      (tree_carried st su id index t alike.to, tree_carried su st id index t alike.from);
-  rests = λ label axioms unproved. (
-    report_carried st su label axioms unproved alike.to alike.from,
-    report_carried su st label axioms unproved alike.from alike.to,
-  );
-}

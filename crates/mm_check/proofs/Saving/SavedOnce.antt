@@ -1,37 +1,31 @@
 -- Saving changes nothing that is answered, saving again changes nothing, and what is saved is one.
-use Rattle.std.proofs.Common.{◌≡◌, ℕ, suc, ◌+◌, List, [], ◌∷◌, ◌++◌, map, take, drop}
-use Rattle.std.proofs.Common.{length, slice_get, true, Some, None, inl, inr, refl, sym, ap, subst}
+use Rattle.std.proofs.Common.{◌≡◌, ℕ, suc, ◌+◌, List, [], ◌∷◌, ◌++◌, take, drop}
+use Rattle.std.proofs.Common.{length, slice_get, Some, None, inl, inr, refl, sym, ap, subst}
 use Rattle.std.proofs.Common.{◌∙◌, ◌⊎◌, arith}
 use Rattle.std.specs.List.{AllZip}
 use Rattle.std.proofs.Math.Seq.{take-append_seam}
 use Rattle.std.proofs.lemmas.Option.{same_Some, slice_get_within}
 use Rattle.std.proofs.lemmas.List.{length-take-le}
-use Rattle.mm_text.specs.declared.statement.Kind.TheVariants.{Provable}
 use Rattle.mm_text.specs.Statement.{PlainStatement}
 use Rattle.mm_text.specs.Files.{PlainFile}
 use Rattle.mm_text.specs.Reading.{Reads}
-use Rattle.mm_text.specs.Replaced.{placeless, with_span, with_bytes, IsProofSpan, IsMoved}
-use Rattle.mm_text.specs.Replaced.{IsProofText}
+use Rattle.mm_text.specs.Replaced.{with_span, with_bytes}
 use Rattle.mm_text.proofs.Lists.{split_at, get_parted}
-use Rattle.mm_text.proofs.Reader.WholeReadings.{readings_are_formed_in_place}
-use Rattle.mm_text.proofs.Replaced.ReplacedFiles.{replaced_proofs_are_read_holds}
 use Rattle.mm_text.proofs.Replaced.ProofSpans.{proofs_stand_in_spans_holds}
 use Rattle.mm_frame.specs.Sentence.{Sentence, sentence_of, IsLabelled}
 use Rattle.mm_frame.specs.Rules.{AllMeant}
-use Rattle.mm_frame.proofs.Rules.ObeyedRules.{allmeant_prefix, one_label}
+use Rattle.mm_frame.proofs.Rules.ObeyedRules.{one_label}
 use Rattle.mm_proof.specs.Tree.{Trees, none, tree, AnyExpression}
 use Rattle.mm_proof.specs.Moves.{Move, Makes}
 use Rattle.mm_proof.specs.Tokens.{SayMoves}
 use Rattle.mm_proof.specs.OneTree.{MakeTree}
-use Rattle.mm_proof.specs.Proof.{IsWithin, IsProved}
+use Rattle.mm_proof.specs.Proof.{IsProved}
 use Rattle.mm_proof.specs.Strict.{IsStrict}
 use Rattle.mm_proof.specs.declared.profile.Profile.{Profile}
-use Rattle.mm_proof.specs.Profiles.{limit_of}
-use Rattle.mm_proof.proofs.ProofSteps.Derivations.{makes_once, derive_fits, zip_once}
-use Rattle.mm_proof.specs.UnderProfile.{IsProvedUnder}
+use Rattle.mm_proof.proofs.ProofSteps.Derivations.{makes_once, zip_once}
 use Rattle.mm_proof.proofs.ProofTokens.SaidMoves.{moves_once}
 use Rattle.mm_check.specs.declared.form.Form.{Form}
-use Rattle.mm_check.specs.Verdict.{AreAccepted, AllObey, Obeys, sentences, proof_of, is_proof}
+use Rattle.mm_check.specs.Verdict.{AreAccepted, AllObey, sentences, proof_of}
 use Rattle.mm_check.specs.Rests.{tree_of}
 use Rattle.mm_check.specs.Compared.{IsTheorem}
 use Rattle.mm_check.specs.Forms.{HasProofTree}
@@ -40,342 +34,26 @@ use Rattle.mm_check.specs.SavedLaws.{SavingChangesNoAnswer, SavedProofIsStrict, 
 use Rattle.mm_check.specs.SavedLaws.{SavingAgainChangesNothing, IsKeptProof}
 use Rattle.mm_check.specs.SavedLaws.{SmallFilesDoNotGrow}
 use Rattle.mm_check.proofs.Verdicts.AlikeVerdicts.{moved}
-use Rattle.mm_check.proofs.Questions.AskedTheorems.{map-take}
-use Rattle.mm_check.proofs.Verdicts.OneVerdict.{formed_before}
 use Rattle.mm_check.proofs.Verdicts.AcceptedStatements.{same_reading, said_there}
-use Rattle.mm_check.proofs.Saving.SavedFiles.{provable_proof, put_anew, IsProvedAnew, proved_anew}
-use Rattle.mm_check.proofs.Saving.SavedFiles.{proved_as_before, IsKept, with_bytes_own}
-use Rattle.mm_check.proofs.Saving.SavedFiles.{anew_alike, alike_turned, carries_of, all_obey_anew}
-use Rattle.mm_check.proofs.Saving.SavedFiles.{readable_anew, handed_anew, same_left, same_count}
-use Rattle.mm_check.proofs.Saving.SavedFiles.{same_many, SayAlike, said_same, Carries}
-use Rattle.mm_check.proofs.Saving.SavedFiles.{prefix_told}
-use Rattle.mm_check.proofs.Saving.SpanTexts.{kept_span, kept_long, put_stands_within, put_again}
+use Rattle.mm_check.proofs.Saving.SavedFiles.{provable_proof, readable_anew, handed_anew, Carries}
+use Rattle.mm_check.proofs.Saving.SavedFiles.{prefix_meant, prefix_told}
+use Rattle.mm_check.proofs.Saving.SpanTexts.{put_stands_within, put_again}
 use Rattle.mm_check.proofs.Saving.SpanTexts.{span_text_once, span_text_again, small_no_longer}
 use Rattle.mm_check.proofs.Saving.SpanTexts.{put_no_longer}
-use Rattle.mm_check.proofs.Verdicts.StatementByStatement.{any_proof, all_meant, proof_not_unproved}
-use Rattle.mm_check.proofs.Saving.ProofTexts.{ReadsAsProof, KeepsBytes, span_reads, tree_derives}
+use Rattle.mm_check.proofs.Verdicts.StatementByStatement.{any_proof, all_meant}
 use Rattle.mm_check.proofs.Saving.ProofTexts.{tree_is}
 use Rattle.mm_check.specs.AllSaved.{Replacement, IsReplacement, theorems_of, with_replaced}
 use Rattle.mm_check.specs.AllSavedLaws.{OneAllSaved}
+use Rattle.mm_check.specs.SavedLaws.{SayTheSame}
+use Rattle.mm_check.proofs.Saving.NewProofs.{AreWrittenAs, IsAny, IsOwnTree, IsWrittenAs, carried}
+use Rattle.mm_check.proofs.Saving.NewProofs.{obeyed_along, written_more, written_moved, said_same}
+use Rattle.mm_check.proofs.Saving.NewProofs.{written_same}
+use Rattle.mm_check.proofs.Saving.OtherStatements.{along_put}
+use Rattle.mm_check.proofs.Saving.PutProofs.{ArePutAnew, are_put_anew, files_anew, formed_there}
+use Rattle.mm_check.proofs.Saving.PutProofs.{meant_there, own_to_put, stands}
+use Rattle.mm_check.specs.declared.form.Form.TheVariants as form
 
--- ==== saving changes nothing that is answered, and saving again changes nothing
-
-pub prefix_meant : (profile : Profile) (statements : List PlainStatement) (n : ℕ) → AllObey profile statements → AllMeant (sentences (take n statements))
-prefix_meant profile statements n obeyed = subst AllMeant (sym (map-take n statements)) (allmeant_prefix (sentences statements) n (all_meant profile statements obeyed))
-
--- ---- the files with the text put in
-
--- what is known of a theorem whose proof is to be written anew
-pub record IsToPut (profile : Profile) (f : Form) (files : List PlainFile)
-    (before : List PlainStatement) (s : PlainStatement) (after : List PlainStatement)
-    (file : PlainFile) (put : List ℕ) : Type 0 where
-  pub reads : Reads files (before ++ s ∷ after) None
-  pub obeyed : AllObey profile (before ++ s ∷ after)
-  pub complete : is_proof s ≡ true
-  pub root : List ℕ
-  pub below : Trees
-  pub moves : List (Move (List ℕ))
-  pub told : SayMoves (sentences before) (sentence_of s) (proof_of s) moves
-  pub made : MakeTree (sentences before) moves root below
-  pub laid : IsSpanText f (sentences before) (sentence_of s) (tree root below none)
-      (within_span file.bytes s.span) put
-  pub handed : slice_get files s.first.file ≡ Some file
-
-abbrev pub files_anew : List PlainFile → PlainStatement → PlainFile → List ℕ → List PlainFile
-files_anew files s file put = with_bytes files s.first.file (with_span file.bytes s.span put)
-
--- The files with what is put read as what obeys the profile: the statement with its new proof
--- stands in place of the other, and its span is that of what was put.
-pub record ArePutAnew (profile : Profile) (f : Form) (files : List PlainFile)
-    (before : List PlainStatement) (s : PlainStatement) (after : List PlainStatement)
-    (file : PlainFile) (put : List ℕ) (root : List ℕ) (below : Trees) : Type 0 where
-  pub t : PlainStatement
-  pub later : List PlainStatement
-  pub reads : Reads (files_anew files s file put) (before ++ t ∷ later) None
-  pub obeyed : AllObey profile (before ++ t ∷ later)
-  pub same : map placeless after ≡ map placeless later
-  pub moved : AllZip (λ u v. u.kind ≡ Provable
-      → IsMoved s.first.file s.span.1 (s.span.0 + length put) u v) after later
-  pub span : t.span ≡ (s.span.0, s.span.0 + length put)
-  pub proved : IsProvedAnew f profile (sentences before) s t root below
-
--- where bytes end where they ended, what stands behind them is where it was
-moved_nowhere : (number end other_end : ℕ) (after : List PlainStatement) → end ≡ other_end
-    → AllZip (λ u v. u.kind ≡ Provable → IsMoved number end other_end u v) after after
-moved_nowhere number end other_end [] same = tt
-moved_nowhere number end other_end (u ∷ after) same = (
-  λ provable. record {
-    home = refl;
-    elsewhere = λ other. refl;
-    start = λ home. omega (arith, same);
-    stop = λ home. omega (arith, same);
-  },
-  moved_nowhere number end other_end after same,
-)
-
--- A proof of a tree is put in for that of the statement.
-pub proof_put : {profile : Profile} {f : Form} {files : List PlainFile}
-    {before : List PlainStatement} {s : PlainStatement} {after : List PlainStatement}
-    {file : PlainFile} {put : List ℕ} {root : List ℕ} {below : Trees}
-    → Reads files (before ++ s ∷ after) None → AllObey profile (before ++ s ∷ after)
-    → is_proof s ≡ true → slice_get files s.first.file ≡ Some file → IsProofText put
-    → IsProvedAnew f profile (sentences before) s (put_anew s put) root below
-    → ArePutAnew profile f files before s after file put root below
-proof_put {profile = profile} {files = files} {before = before} {s = s} {after = after}
-    {file = file} {put = put} reads obeyed complete handed is_text new =
-    let t : PlainStatement = put_anew s put in
-    let read = replaced_proofs_are_read_holds files before s after file put reads
-    (provable_proof s complete) handed is_text in
-    let obeys : Obeys profile (sentences before) t = record {
-      meant = (obeyed before after s refl).meant;
-      proved = λ is. new.under;
-      known = λ unproved. absurd (cc (proof_not_unproved t new.complete));
-    } in
-    record {
-      t = t;
-      later = read.later;
-      reads = read.reads;
-      obeyed = all_obey_anew profile before s t after read.later refl read.same obeyed obeys;
-      same = read.same;
-      moved = read.moved;
-      span = refl;
-      proved = new;
-    }
-
-module _ {profile : Profile} {f : Form} {files : List PlainFile} {before : List PlainStatement}
-    {s : PlainStatement} {after : List PlainStatement} {file : PlainFile} {put : List ℕ}
-    (p : IsToPut profile f files before s after file put) where
-  meant_before : AllMeant (sentences before)
-  meant_before =
-      rw (take-append_seam before (s ∷ after)) at
-      (prefix_meant profile (before ++ s ∷ after) (length before) p.obeyed)
-
-  old_under : IsProvedUnder profile (sentences before) (sentence_of s) (proof_of s)
-  old_under = (p.obeyed before after s refl).proved p.complete
-
-  stands : IsProofSpan s file.bytes
-  stands =
-      proofs_stand_in_spans_holds files before s after None file p.reads
-      (provable_proof s p.complete) p.handed
-
-  -- with a new proof
-  put_new : ReadsAsProof (sentences before) (sentence_of s) p.root p.below put
-      → ArePutAnew profile f files before s after file put p.root p.below
-  put_new ra =
-      proof_put p.reads p.obeyed p.complete p.handed ra.is_text
-      (proved_anew f profile (sentences before) s p.root p.below p.moves meant_before
-      p.complete old_under p.told p.made put ra)
-
-  -- with the bytes that stood there, the files are as they were
-  put_old : KeepsBytes f (within_span file.bytes s.span) put
-      → ArePutAnew profile f files before s after file put p.root p.below
-  put_old (small, is) =
-      let same : files ≡ files_anew files s file put =
-      sym ((λ i. files_anew files s file (is i))
-      ∙ ap (with_bytes files s.first.file) (kept_span s file.bytes stands)
-      ∙ with_bytes_own files s.first.file file p.handed) in
-      let long : s.span ≡ (s.span.0, s.span.0 + length put) =
-      rw is (kept_long s file.bytes stands) in
-      record {
-        t = s;
-        later = after;
-        reads = subst (λ (fs : List PlainFile). Reads fs (before ++ s ∷ after) None) same p.reads;
-        obeyed = p.obeyed;
-        same = refl;
-        moved = moved_nowhere s.first.file s.span.1 (s.span.0 + length put) after
-            (ap (λ (n : ℕ × ℕ). n.1) long);
-        span = long;
-        proved = proved_as_before f profile (sentences before) s p.root p.below p.moves meant_before
-            p.complete old_under p.told p.made small;
-      }
-
-  pub are_put_anew : ArePutAnew profile f files before s after file put p.root p.below
-  are_put_anew =
-      let prefix : List Sentence = sentences before in
-      let Fits : List (List ℕ) → Type 0 = IsWithin (limit_of profile) in
-      let fit = derive_fits Fits prefix (tree p.root p.below none) ((sentence_of s).symbols ∷ [])
-      (tree_derives Fits prefix (sentence_of s) (proof_of s) p.moves p.root p.below meant_before
-      old_under.1 p.told p.made) in
-      let formed = formed_before (before ++ s ∷ after) before s after
-      (readings_are_formed_in_place files (before ++ s ∷ after) None p.reads).formed refl in
-      span_reads f prefix (sentence_of s) p.root p.below (within_span file.bytes s.span) put
-      meant_before formed fit p.laid put_new put_old
-
-  -- the statement with its new proof
-  abbrev pub anew : PlainStatement
-  anew = are_put_anew.t
-
-  -- the statements with the new proof
-  abbrev pub read_anew : List PlainStatement
-  read_anew = before ++ anew ∷ are_put_anew.later
-
-  -- they say alike what is answered
-  pub put_says_alike : SayAlike (before ++ s ∷ after) read_anew
-  put_says_alike =
-      let prefix : List Sentence = sentences before in
-      let new = are_put_anew.proved in
-      let old = any_proof profile prefix (sentence_of s) (proof_of s) old_under.1 in
-      let same = are_put_anew.same in
-      let later = are_put_anew.later in
-      let alike = anew_alike f profile prefix s anew p.root p.below p.moves meant_before p.complete
-      p.told p.made new in
-      record {
-        to = carries_of before s anew after later same alike;
-        from = carries_of before anew s later after (sym same)
-            (alike_turned prefix s anew meant_before p.complete old alike);
-        left = same_left before s anew after later (proof_not_unproved s p.complete)
-            (proof_not_unproved anew new.complete) same;
-        many = same_many before s anew after later same;
-        count = same_count before s anew after later (p.complete ∙ sym new.complete) same;
-      }
-
-  -- it has the label
-  named_anew : (label : List ℕ) → IsLabelled label (sentence_of s)
-      → IsLabelled label (sentence_of anew)
-  named_anew label named = subst (IsLabelled label) are_put_anew.proved.said named
-
-  -- the proof is strict then, or as it was
-  strict_anew : (label : List ℕ) → IsLabelled label (sentence_of s)
-      → IsTheorem read_anew label (length before) anew
-      × (IsStrict (sentences (take (length before) read_anew)) (sentence_of anew) (proof_of anew)
-      ⊎ IsKept f s anew)
-  strict_anew label named =
-      let new = are_put_anew.proved in (
-        record {
-          there = get_parted before are_put_anew.later anew;
-          named = named_anew label named;
-          complete = new.complete;
-        },
-        rw (take-append_seam before (anew ∷ are_put_anew.later)) new.strict,
-      )
-
-  -- what was put stands in its span
-  pub put_stands : within_span (with_span file.bytes s.span put) anew.span ≡ put
-  put_stands = put_stands_within s file.bytes stands put anew.span are_put_anew.span
-
-  -- and the files are saved as they are
-  again_saved : (label : List ℕ) → IsLabelled label (sentence_of s)
-      → IsSaved f (files_anew files s file put) read_anew label s.first.file
-      (with_span file.bytes s.span put)
-  again_saved label named =
-      let new = are_put_anew.proved in
-      let q = new.proof.proves in
-      let made : MakeTree (sentences before) new.proof.moves p.root p.below =
-      record { kept = q.kept; made = rw new.spelled at q.made } in
-      let prefix = take-append_seam before (anew ∷ are_put_anew.later) in
-      let laid = span_text_again f (sentences before) (sentence_of s) (tree p.root p.below none)
-      (within_span file.bytes s.span) put p.laid in
-      record {
-        index = length before;
-        s = anew;
-        root = p.root;
-        below = p.below;
-        proof = record {
-          there = get_parted before are_put_anew.later anew;
-          named = named_anew label named;
-          complete = new.complete;
-          moves = new.proof.moves;
-          told = rw prefix new.proof.said;
-          made = rw prefix made;
-        };
-        home = new.home;
-        file = record file { bytes = with_span file.bytes s.span put };
-        handed = subst (λ (n : ℕ). slice_get (files_anew files s file put) n
-            ≡ Some (record file { bytes = with_span file.bytes s.span put })) refl
-            (handed_anew files s.first.file file _ p.handed);
-        put = put;
-        laid = rw (prefix, ← new.said, put_stands) laid;
-        whole = sym (put_again s file.bytes stands put anew.span are_put_anew.span);
-      }
-
--- ---- what is saved is put in
-
--- what is put for the tree of a proof
-pub to_put : {profile : Profile} {f : Form} {statements : List PlainStatement} {label : List ℕ}
-    {index : ℕ} {root : List ℕ} {below : Trees} {files : List PlainFile}
-    {before : List PlainStatement} {s : PlainStatement} {after : List PlainStatement}
-    {file : PlainFile} {put : List ℕ} → HasProofTree statements label index s root below
-    → IsSpanText f (sentences (take index statements)) (sentence_of s) (tree root below none)
-    (within_span file.bytes s.span) put
-    → sentences (take index statements) ≡ sentences before
-    → Reads files (before ++ s ∷ after) None → AllObey profile (before ++ s ∷ after)
-    → slice_get files s.first.file ≡ Some file
-    → IsToPut profile f files before s after file put
-to_put {root = root} {below = below} proof laid prefix reads obeyed handed = record {
-  reads = reads;
-  obeyed = obeyed;
-  complete = proof.complete;
-  root = root;
-  below = below;
-  moves = proof.moves;
-  told = rw prefix at proof.told;
-  made = rw prefix at proof.made;
-  laid = rw prefix at laid;
-  handed = handed;
-}
-
-module _ {profile : Profile} {f : Form} {files : List PlainFile} {statements : List PlainStatement}
-    {label : List ℕ} {number : ℕ} {bytes : List ℕ} (accepted : AreAccepted profile files statements)
-    (sv : IsSaved f files statements label number bytes) where
-  -- the theorem that is saved
-  pub saved_to_put : IsToPut profile f files (take sv.index statements) sv.s
-      (drop (suc sv.index) statements) sv.file sv.put
-  saved_to_put =
-      let parted = split_at statements sv.index sv.s sv.proof.there in
-      to_put sv.proof sv.laid refl
-      (rw parted at accepted.reads) (rw parted at accepted.obeyed)
-      (ap (slice_get files) (sym sv.home) ∙ sv.handed)
-
-  -- the files with it
-  pub saved_accepted : FitsSaved files number bytes
-      → AreAccepted profile (with_bytes files number bytes) (read_anew saved_to_put)
-  saved_accepted fits =
-      let put = are_put_anew saved_to_put in
-      record {
-        readable = readable_anew files number sv.file bytes sv.handed fits accepted.readable;
-        reads = subst (λ (fs : List PlainFile). Reads fs (read_anew saved_to_put) None)
-            (λ i. with_bytes files (sym sv.home i) (sym sv.whole i)) put.reads;
-        obeyed = put.obeyed;
-      }
-
-pub saving_changes_no_answer : SavingChangesNoAnswer
-saving_changes_no_answer profile f files statements label number bytes accepted sv fits =
-    let p = saved_to_put accepted sv in (
-      read_anew p,
-      said_same profile files (with_bytes files number bytes) statements (read_anew p) accepted
-          (saved_accepted accepted sv fits)
-          (subst (λ (ss : List PlainStatement). SayAlike ss (read_anew p))
-          (sym (split_at statements sv.index sv.s sv.proof.there)) (put_says_alike p)),
-    )
-
-pub saved_proof_is_strict : SavedProofIsStrict
-saved_proof_is_strict profile f files statements same label number bytes accepted sv fits reads =
-    let p = saved_to_put accepted sv in
-    let read = (same_reading (with_bytes files number bytes) same (read_anew p) None None reads
-    (saved_accepted accepted sv fits).reads).0 in
-    let n : ℕ = length (take sv.index statements) in
-    let t : PlainStatement = anew p in
-    let here : n ≡ sv.index = length-take-le sv.index statements
-    (omega (arith, slice_get_within statements sv.index sv.s sv.proof.there)) in
-    let there : slice_get statements n ≡ Some sv.s =
-    ap (slice_get statements) here ∙ sv.proof.there in
-    let (theorem, strict) = strict_anew p label sv.proof.named in
-    let told : IsStrict (sentences (take n (read_anew p))) (sentence_of t) (proof_of t)
-    ⊎ IsKeptProof f statements n (proof_of t) = elim strict [
-      | inl is ↦ inl is
-      | inr kept ↦ inr (kept.0, sv.s, there, kept.1)
-    ] in
-    rw read (n, t, theorem, told)
-
--- ---- in small form no file grows
-
-pub small_saved_no_longer : SmallFilesDoNotGrow
-small_saved_no_longer profile files statements label number bytes accepted sv =
-    let less = small_no_longer _ _ _ (within_span sv.file.bytes sv.s.span) sv.put sv.laid in
-    let long = put_no_longer sv.s sv.file.bytes (stands (saved_to_put accepted sv)) sv.put less in
-    (sv.file, sv.handed, rw sv.whole long)
-
--- ---- what is saved is one
+-- ==== a theorem has one text
 
 one_tree_made : (prefix : List Sentence) (s : Sentence) (tokens : List (List ℕ)) (a b : List (Move (List ℕ))) (root other : List ℕ) (below under : Trees) → AllMeant prefix
     → SayMoves prefix s tokens a → SayMoves prefix s tokens b → MakeTree prefix a root below → MakeTree prefix b other under → tree root below none ≡ tree other under none
@@ -409,41 +87,6 @@ one_text_of profile f statements label index other s t root under below beneath 
     let (here, (same, trees)) = one_proof_tree profile _ _ _ _ _ _ _ _ _ _ obeyed h k in
     span_text_once f (sentences (take index statements)) (sentence_of s) root below old a b
     (prefix_meant profile statements index obeyed) one (rw (here, same, trees) at two)
-
-pub one_saved : OneSaved
-one_saved profile f files statements label number other bytes others accepted sv sw =
-    let same : sw.s ≡ sv.s =
-    (one_proof_tree profile _ _ _ _ _ _ _ _ _ _ accepted.obeyed sv.proof sw.proof).1.0 in
-    let home : number ≡ other =
-    sv.home ∙ ap (λ (s : PlainStatement). s.first.file) (sym same) ∙ sym sw.home in
-    let file : sv.file ≡ sw.file = same_Some sv.file sw.file
-    (sym sv.handed ∙ ap (slice_get files) home ∙ sw.handed) in
-    let old : within_span sw.file.bytes sw.s.span ≡ within_span sv.file.bytes sv.s.span =
-    λ i. within_span (sym file i).bytes (same i).span in
-    let put = one_text_of profile f _ _ _ _ _ _ _ _ _ _ _ sv.put sw.put accepted.obeyed
-    sv.proof sw.proof sv.laid (rw old at sw.laid) in
-    (home, sv.whole ∙ (λ i. with_span (file i).bytes (sym same i).span (put i)) ∙ sym sw.whole)
-
--- ---- saving again
-
-pub saving_again : SavingAgainChangesNothing
-saving_again profile f files statements same label number bytes accepted sv fits reads =
-    let p = saved_to_put accepted sv in
-    let still = saved_accepted accepted sv fits in
-    let su : List PlainStatement = read_anew p in
-    let anew : List PlainFile = with_bytes files number bytes in
-    let own = moved (λ (fs : List PlainFile) (n : ℕ) (b : List ℕ). IsSaved f fs su label n b)
-    (files_anew files sv.s sv.file sv.put) anew sv.s.first.file number
-    (with_span sv.file.bytes sv.s.span sv.put) bytes
-    (λ i. with_bytes files (sym sv.home i) (sym sv.whole i)) (sym sv.home) (sym sv.whole)
-    (again_saved p label sv.proof.named) in
-    let read = (same_reading anew same su None None reads still.reads).0 in (
-      rw read own,
-      λ again others sw.
-          let once = one_saved profile f anew su label number again bytes others still own
-          (rw read at sw) in
-          (sym once.0, sym once.1),
-    )
 
 -- ==== the text of a theorem's proof is the same where other proofs of the same trees stand
 
@@ -503,6 +146,191 @@ text_carried profile f statements others label index s root below old put obeyed
         };
         laid = rw (to, alike.said) at has.laid;
       },
+    )
+
+-- ==== saving changes nothing that is answered
+
+module _ {profile : Profile} {f : Form} {files : List PlainFile} {statements : List PlainStatement}
+    {label : List ℕ} {number : ℕ} {bytes : List ℕ} (accepted : AreAccepted profile files statements)
+    (sv : IsSaved f files statements label number bytes) where
+  abbrev earlier : List PlainStatement
+  earlier = take sv.index statements
+
+  abbrev behind : List PlainStatement
+  behind = drop (suc sv.index) statements
+
+  parted : statements ≡ earlier ++ sv.s ∷ behind
+  parted = split_at statements sv.index sv.s sv.proof.there
+
+  pub place : length earlier ≡ sv.index
+  place =
+      length-take-le sv.index statements
+      (omega (arith, slice_get_within statements sv.index sv.s sv.proof.there))
+
+  handed_home : slice_get files sv.s.first.file ≡ Some sv.file
+  handed_home = ap (slice_get files) (sym sv.home) ∙ sv.handed
+
+  reads_parted : Reads files (earlier ++ sv.s ∷ behind) None
+  reads_parted = rw parted at accepted.reads
+
+  -- the file with the theorem's proof in this form
+  pub saved_put : ArePutAnew files earlier sv.s behind sv.file sv.put
+      (IsWrittenAs profile (λ u. f ≡ form.Small) IsOwnTree (sentences earlier) sv.s)
+  saved_put =
+      are_put_anew profile f (λ u. f ≡ form.Small) IsOwnTree files earlier sv.s behind sv.file
+      sv.put reads_parted sv.proof.complete handed_home
+      (meant_there profile accepted earlier sv.s behind parted)
+      (formed_there profile accepted earlier sv.s behind parted)
+      (own_to_put profile accepted earlier sv.s behind parted f (f ≡ form.Small)
+      (within_span sv.file.bytes sv.s.span) sv.put (λ small. small) sv.proof refl sv.laid)
+
+  -- the statements then
+  abbrev pub read_anew : List PlainStatement
+  read_anew = earlier ++ saved_put.t ∷ saved_put.later
+
+  saved_along : AreWrittenAs profile IsAny IsOwnTree [] statements read_anew
+  saved_along =
+      subst (λ (ss : List PlainStatement). AreWrittenAs profile IsAny IsOwnTree [] ss read_anew)
+      (sym parted)
+      (along_put (IsWrittenAs profile IsAny IsOwnTree)
+      (λ prefix u. written_same profile IsAny IsOwnTree prefix u u refl refl refl tt)
+      (written_moved profile IsAny IsOwnTree) [] earlier sv.s saved_put.t behind saved_put.later
+      (written_more profile (λ u. f ≡ form.Small) IsAny IsOwnTree (sentences earlier) sv.s
+      saved_put.t (λ small. tt) saved_put.written) saved_put.same)
+
+  pub saved_accepted : FitsSaved files number bytes
+      → AreAccepted profile (with_bytes files number bytes) read_anew
+  saved_accepted fits = record {
+    readable = readable_anew files number sv.file bytes sv.handed fits accepted.readable;
+    reads = subst (λ (fs : List PlainFile). Reads fs read_anew None)
+        (λ i. with_bytes files (sym sv.home i) (sym sv.whole i)) saved_put.reads;
+    obeyed = obeyed_along profile IsAny IsOwnTree statements read_anew saved_along
+        accepted.obeyed;
+  }
+
+  pub saved_said : FitsSaved files number bytes
+      → SayTheSame profile files (with_bytes files number bytes) statements read_anew
+  saved_said fits =
+      said_same profile IsAny statements read_anew saved_along files
+      (with_bytes files number bytes) accepted (saved_accepted fits)
+
+  -- the proof is strict then, or as it was
+  strict_anew : IsTheorem read_anew label (length earlier) saved_put.t
+      × (IsStrict (sentences (take (length earlier) read_anew)) (sentence_of saved_put.t)
+      (proof_of saved_put.t)
+      ⊎ ((f ≡ form.Small) × (proof_of saved_put.t ≡ proof_of sv.s)))
+  strict_anew =
+      let w = saved_put.written in (
+        record {
+          there = get_parted earlier saved_put.later saved_put.t;
+          named = subst (IsLabelled label) w.said sv.proof.named;
+          complete = sym w.proofs ∙ sv.proof.complete;
+        },
+        rw (take-append_seam earlier (saved_put.t ∷ saved_put.later)) (elim w.proof [
+          | inl kept ↦ inr kept
+          | inr (complete, new) ↦ inl new.strict
+        ]),
+      )
+
+  -- and the files are saved as they are
+  again_saved : IsSaved f (files_anew files sv.s sv.file sv.put) read_anew label sv.s.first.file
+      (with_span sv.file.bytes sv.s.span sv.put)
+  again_saved =
+      let old : List ℕ = within_span sv.file.bytes sv.s.span in
+      let new : List ℕ = with_span sv.file.bytes sv.s.span sv.put in
+      let own : PlainFile = record sv.file { bytes = new } in
+      let stood = stands profile f (λ u. f ≡ form.Small) IsOwnTree files earlier sv.s behind sv.file
+      sv.put reads_parted sv.proof.complete handed_home in
+      let (u, has) = text_carried profile f statements read_anew label sv.index sv.s sv.root
+      sv.below old sv.put accepted.obeyed
+      (carried profile IsAny statements read_anew saved_along)
+      (record { proof = sv.proof; laid = sv.laid }) in
+      let here : slice_get read_anew sv.index ≡ Some saved_put.t =
+      subst (λ (n : ℕ). slice_get read_anew n ≡ Some saved_put.t) place
+      (get_parted earlier saved_put.later saved_put.t) in
+      let same : u ≡ saved_put.t = same_Some u saved_put.t (sym has.proof.there ∙ here) in
+      let span : u.span ≡ (sv.s.span.0, sv.s.span.0 + length sv.put) =
+      ap (λ (v : PlainStatement). v.span) same ∙ saved_put.span in
+      record {
+        index = sv.index;
+        s = u;
+        root = sv.root;
+        below = sv.below;
+        proof = has.proof;
+        home = saved_put.written.home ∙ ap (λ (v : PlainStatement). v.first.file) (sym same);
+        file = own;
+        handed = handed_anew files sv.s.first.file sv.file new handed_home;
+        put = sv.put;
+        laid = rw (put_stands_within sv.s sv.file.bytes stood sv.put u.span span)
+            (span_text_again f _ _ _ old sv.put has.laid);
+        whole = sym (put_again sv.s sv.file.bytes stood sv.put u.span span);
+      }
+
+pub saving_changes_no_answer : SavingChangesNoAnswer
+saving_changes_no_answer profile f files statements label number bytes accepted sv fits =
+    (read_anew accepted sv, saved_said accepted sv fits)
+
+pub saved_proof_is_strict : SavedProofIsStrict
+saved_proof_is_strict profile f files statements same label number bytes accepted sv fits reads =
+    let read = (same_reading (with_bytes files number bytes) same (read_anew accepted sv) None None
+    reads (saved_accepted accepted sv fits).reads).0 in
+    let n : ℕ = length (take sv.index statements) in
+    let t : PlainStatement = (saved_put accepted sv).t in
+    let there : slice_get statements n ≡ Some sv.s =
+    ap (slice_get statements) (place accepted sv) ∙ sv.proof.there in
+    let (theorem, strict) = strict_anew accepted sv in
+    let told : IsStrict (sentences (take n (read_anew accepted sv))) (sentence_of t) (proof_of t)
+    ⊎ IsKeptProof f statements n (proof_of t) = elim strict [
+      | inl is ↦ inl is
+      | inr kept ↦ inr (kept.0, sv.s, there, kept.1)
+    ] in
+    rw read (n, t, theorem, told)
+
+-- ---- in small form no file grows
+
+pub small_saved_no_longer : SmallFilesDoNotGrow
+small_saved_no_longer profile files statements label number bytes accepted sv =
+    let less = small_no_longer _ _ _ (within_span sv.file.bytes sv.s.span) sv.put sv.laid in
+    let parted = split_at statements sv.index sv.s sv.proof.there in
+    let stood = proofs_stand_in_spans_holds files (take sv.index statements) sv.s
+    (drop (suc sv.index) statements) None sv.file (rw parted at accepted.reads)
+    (provable_proof sv.s sv.proof.complete) (ap (slice_get files) (sym sv.home) ∙ sv.handed) in
+    (sv.file, sv.handed, rw sv.whole (put_no_longer sv.s sv.file.bytes stood sv.put less))
+
+-- ---- what is saved is one
+
+pub one_saved : OneSaved
+one_saved profile f files statements label number other bytes others accepted sv sw =
+    let same : sw.s ≡ sv.s =
+    (one_proof_tree profile _ _ _ _ _ _ _ _ _ _ accepted.obeyed sv.proof sw.proof).1.0 in
+    let home : number ≡ other =
+    sv.home ∙ ap (λ (s : PlainStatement). s.first.file) (sym same) ∙ sym sw.home in
+    let file : sv.file ≡ sw.file = same_Some sv.file sw.file
+    (sym sv.handed ∙ ap (slice_get files) home ∙ sw.handed) in
+    let old : within_span sw.file.bytes sw.s.span ≡ within_span sv.file.bytes sv.s.span =
+    λ i. within_span (sym file i).bytes (same i).span in
+    let put = one_text_of profile f _ _ _ _ _ _ _ _ _ _ _ sv.put sw.put accepted.obeyed
+    sv.proof sw.proof sv.laid (rw old at sw.laid) in
+    (home, sv.whole ∙ (λ i. with_span (file i).bytes (sym same i).span (put i)) ∙ sym sw.whole)
+
+-- ---- saving again
+
+pub saving_again : SavingAgainChangesNothing
+saving_again profile f files statements same label number bytes accepted sv fits reads =
+    let still = saved_accepted accepted sv fits in
+    let su : List PlainStatement = read_anew accepted sv in
+    let anew : List PlainFile = with_bytes files number bytes in
+    let own = moved (λ (fs : List PlainFile) (n : ℕ) (b : List ℕ). IsSaved f fs su label n b)
+    (files_anew files sv.s sv.file sv.put) anew sv.s.first.file number
+    (with_span sv.file.bytes sv.s.span sv.put) bytes
+    (λ i. with_bytes files (sym sv.home i) (sym sv.whole i)) (sym sv.home) (sym sv.whole)
+    (again_saved accepted sv) in
+    let read = (same_reading anew same su None None reads still.reads).0 in (
+      rw read own,
+      λ again others sw.
+          let once = one_saved profile f anew su label number again bytes others still own
+          (rw read at sw) in
+          (sym once.0, sym once.1),
     )
 
 -- ==== what is saved of a whole file is one

@@ -1,9 +1,8 @@
 -- What is answered of files in which theorems have shorter proofs: the verdict is the same, a
 -- theorem with the proof that it had has its tree, and no theorem rests on more.
-use Rattle.std.proofs.Common.{◌≡◌, ℕ, ◌+◌, ◌<◌, List, [], ◌∷◌, ◌++◌, take, length, slice_get}
-use Rattle.std.proofs.Common.{Bool, true, false, cond, Some, inl, inr, refl, sym, ap}
-use Rattle.std.proofs.Common.{subst, ◌∙◌, arith, filter, flat_map, fold, option_to_list, Contains}
-use Rattle.std.proofs.lemmas.List.{length-map}
+use Rattle.std.proofs.Common.{◌≡◌, ℕ, ◌<◌, List, [], take, length, slice_get}
+use Rattle.std.proofs.Common.{true, Some, inl, inr, sym, ap}
+use Rattle.std.proofs.Common.{subst, ◌∙◌, arith, Contains}
 use Rattle.std.proofs.lemmas.Option.{same_Some}
 use Rattle.mm_text.specs.declared.statement.Kind.TheVariants.{Axiom}
 use Rattle.mm_text.specs.Statement.{PlainStatement}
@@ -17,8 +16,7 @@ use Rattle.mm_frame.proofs.Names.LabelNumbers.{numbered_within}
 use Rattle.mm_proof.specs.declared.profile.Profile.{Profile}
 use Rattle.mm_proof.specs.Tree.{Trees}
 use Rattle.mm_proof.specs.Used.{IsUsedNumber}
-use Rattle.mm_check.specs.Verdict.{AllObey, sentences, proof_of, is_proof, is_unproved}
-use Rattle.mm_check.specs.Verdict.{label_of, unproved_of}
+use Rattle.mm_check.specs.Verdict.{AllObey, sentences, proof_of, is_unproved}
 use Rattle.mm_check.specs.Rests.{IsAt, IsNumberWhere, HasTree, Uses, RestsOn, IsReport, tree_of}
 use Rattle.mm_check.specs.Shorter.{IsUnfounded, RestsThrough}
 use Rattle.mm_check.specs.AllShorterLaws.{HasSameOrShorter, KeepsProof}
@@ -27,64 +25,26 @@ use Rattle.mm_check.proofs.Questions.AskedTheorems.{map-take, same_tree}
 use Rattle.mm_check.proofs.Questions.UsersOf.{rests_by}
 use Rattle.mm_check.proofs.Verdicts.StatementByStatement.{all_meant}
 use Rattle.mm_check.proofs.Saving.SavedFiles.{alike_at, tree_at, index_carried, prefix_told}
-use Rattle.mm_check.proofs.Saving.SavedFiles.{verdict_carried}
-use Rattle.mm_check.proofs.Saving.OtherStatements.{AllAlong, along_at, along_from}
-use Rattle.mm_check.proofs.Saving.ShortenedProofs.{IsShortenedAs, are_all_shortened}
+use Rattle.mm_check.proofs.Saving.NewProofs.{IsAny, IsWrittenAs, AreWrittenAs, told_along}
+use Rattle.mm_check.proofs.Saving.NewProofs.{verdict_along}
+use Rattle.mm_check.proofs.Saving.OtherStatements.{along_at, along_from}
+use Rattle.mm_check.proofs.Saving.ShortenedProofs.{IsShorterThere, all_shortened_put}
 use Rattle.mm_check.proofs.Saving.ShortenedRests.{rests_on_no_more}
 
 module _ (profile : Profile) (files : List PlainFile) (statements : List PlainStatement)
     (number : ℕ) where
+  abbrev May : List Sentence → PlainStatement → Trees → Type 0
+  May = IsShorterThere profile files statements number
+
   abbrev Shortened : List Sentence → PlainStatement → PlainStatement → Type 0
-  Shortened = IsShortenedAs profile files statements number
-
-  abbrev AreShortenedAs : List Sentence → (after later : List PlainStatement) → Type 0
-  AreShortenedAs prefix after later = AllAlong Shortened prefix after later
-
-  -- ==== what is said of all statements is said of those with the new proofs
-
-  said_along : (prefix : List Sentence) (after later : List PlainStatement)
-      → AreShortenedAs prefix after later → sentences after ≡ sentences later
-  said_along prefix [] [] all = refl
-  said_along prefix [] (t ∷ later) all = absurd all
-  said_along prefix (s ∷ after) [] all = absurd all
-  said_along prefix (s ∷ after) (t ∷ later) all =
-      let rest = said_along _ after later all.1 in λ i. all.0.said i ∷ rest i
-
-  counted_along : (count : ℕ) (prefix : List Sentence) (after later : List PlainStatement)
-      → AreShortenedAs prefix after later
-      → fold (λ n s. n + cond (is_proof s) 1 0) count after
-      ≡ fold (λ n s. n + cond (is_proof s) 1 0) count later
-  counted_along count prefix [] [] all = refl
-  counted_along count prefix [] (t ∷ later) all = absurd all
-  counted_along count prefix (s ∷ after) [] all = absurd all
-  counted_along count prefix (s ∷ after) (t ∷ later) all =
-      counted_along (count + cond (is_proof s) 1 0) _ after later all.1
-      ∙ ap (λ (b : Bool). fold (λ n u. n + cond (is_proof u) 1 0) (count + cond b 1 0) later)
-      all.0.proofs
-
-  left_along : (prefix : List Sentence) (after later : List PlainStatement)
-      → AreShortenedAs prefix after later → unproved_of after ≡ unproved_of later
-  left_along prefix [] [] all = refl
-  left_along prefix [] (t ∷ later) all = absurd all
-  left_along prefix (s ∷ after) [] all = absurd all
-  left_along prefix (s ∷ after) (t ∷ later) all =
-      by (is_unproved s) (ap (λ (x : Sentence). option_to_list x.label) all.0.said)
-      (left_along _ after later all.1)
-      ∙ ap (λ (b : Bool). flat_map label_of
-      (cond b (t ∷ filter is_unproved later) (filter is_unproved later))) all.0.unproved
-    where
-      by : (b : Bool) → label_of s ≡ label_of t → unproved_of after ≡ unproved_of later
-          → flat_map label_of (cond b (s ∷ filter is_unproved after) (filter is_unproved after))
-          ≡ flat_map label_of (cond b (t ∷ filter is_unproved later) (filter is_unproved later))
-      by true own rest = λ i. own i ++ rest i
-      by false own rest = rest
+  Shortened = IsWrittenAs profile IsAny May
 
   -- ==== what is said of each theorem
 
-  module _ (same : List PlainStatement) (all : AreShortenedAs [] statements same)
+  module _ (same : List PlainStatement) (all : AreWrittenAs profile IsAny May [] statements same)
       (obeyed : AllObey profile statements) where
     told : sentences statements ≡ sentences same
-    told = said_along [] statements same all
+    told = told_along profile IsAny May statements same all
 
     meant : AllMeant (sentences statements)
     meant = all_meant profile statements obeyed
@@ -104,8 +64,13 @@ module _ (profile : Profile) (files : List PlainFile) (statements : List PlainSt
         → HasSameOrShorter profile files statements number (sentences (take index same)) s t
     proof_kept index s t there here =
         let (u, found, is) = along_from Shortened [] statements same all index s there in
+        let proof : HasSameOrShorter profile files statements number (sentences (take index same)) s
+        u = elim is.proof [
+          | inl (any, kept) ↦ inl kept
+          | inr (complete, new) ↦ inr (new.may.0, new.strict, new.proof, new.may.1)
+        ] in
         subst (HasSameOrShorter profile files statements number (sentences (take index same)) s)
-        (same_Some u t (sym found ∙ here)) is.proof
+        (same_Some u t (sym found ∙ here)) proof
 
     -- a number is that of one index with the label
     number_of : (label : List ℕ) (id other index place : ℕ) (s t : PlainStatement)
@@ -133,20 +98,21 @@ module _ (profile : Profile) (files : List PlainFile) (statements : List PlainSt
         sym (prefix_told statements same index told) in
         let moved : IsUsedNumber (sentences (take index statements)) t used = rw prefix at stands in
         elim is.proof [
-          | inl kept ↦
+          | inl (any, kept) ↦
               let old : HasTree statements id index t =
               tree_at same statements id index t (sym told)
               has s there (alike_at (sentences (take index same)) has.s s (sym is.said) kept) in
               rests_by (Uses statements) id used n (index, t, old, moved) through
-          | inr (home, strict, q, (label, named, bytes, small, text, sh)) ↦
+          | inr (complete, new) ↦
+              let (label, named, bytes, small, text, sh) = new.may.1 in
               let (here, own) = number_of label sh.id id sh.index index sh.s s sh.at sh.own.named at
               named in
               let before : AllMeant (sentences (take index same)) =
               rw (prefix, map-take index statements)
               (allmeant_prefix (sentences statements) index meant) in
-              let one : t ≡ tree_of q = has.spelled
+              let one : t ≡ tree_of new.proof = has.spelled
               ∙ same_tree (sentences (take index same)) (sentence_of has.s) (proof_of has.s)
-              has.proof q before in
+              has.proof new.proof before in
               let there : IsUsedNumber (sentences (take sh.index statements)) t used =
               rw here moved in
               rw own at (sh.founded used n
@@ -213,26 +179,15 @@ module _ (profile : Profile) (files : List PlainFile) (statements : List PlainSt
 
 pub shortening_changes_no_verdict : ShorteningChangesNoVerdict
 shortening_changes_no_verdict profile duplicates files statements number bytes accepted sv =
-    let put = are_all_shortened profile duplicates files statements number bytes accepted sv in
-    let same : List PlainStatement = put.same in
-    let others : List PlainFile = with_bytes files number bytes in
-    let left = left_along profile files statements number [] statements same put.each in
-    let many = sym (length-map statements sentence_of)
-    ∙ ap (λ (ss : List Sentence). length ss) (said_along profile files statements number []
-    statements same put.each) ∙ length-map same sentence_of in
-    let count = counted_along profile files statements number 0 [] statements same put.each in (
+    let (same, still, along) = all_shortened_put accepted sv in (
       same,
       record {
-        accepted = put.accepted;
-        told = told profile files statements number same put.each accepted.obeyed;
-        verdict = λ v. (
-          verdict_carried profile files others statements same accepted put.accepted left many count
-              v,
-          verdict_carried profile others files same statements put.accepted accepted (sym left)
-              (sym many) (sym count) v,
-        );
-        proofs = proof_kept profile files statements number same put.each accepted.obeyed;
-        trees = tree_kept profile files statements number same put.each accepted.obeyed;
-        rests = fewer_told profile files statements number same put.each accepted.obeyed;
+        accepted = still;
+        told = told profile files statements number same along accepted.obeyed;
+        verdict = verdict_along profile IsAny (IsShorterThere profile files statements number)
+            statements same along files (with_bytes files number bytes) accepted still;
+        proofs = proof_kept profile files statements number same along accepted.obeyed;
+        trees = tree_kept profile files statements number same along accepted.obeyed;
+        rests = fewer_told profile files statements number same along accepted.obeyed;
       },
     )

@@ -1,7 +1,7 @@
 -- A file on its way to having shorter proofs: theorem by theorem, from the first span on.
 use Rattle.std.proofs.Common.{◌≡◌, ℕ, ◌≤◌, ◌<◌, List, [], ◌∷◌, ◌++◌, take, drop, length, slice_get}
 use Rattle.std.proofs.Common.{Bool, true, false, cond, ◌&&◌, ◌==◌, Some, None}
-use Rattle.std.proofs.Common.{◌⊎◌, inl, inr, refl, sym, ap, subst, ◌∙◌, arith, append_assoc}
+use Rattle.std.proofs.Common.{◌⊎◌, inl, inr, refl, sym, ap, subst, ◌∙◌}
 use Rattle.std.proofs.Common.{append-nil}
 use Rattle.std.proofs.lemmas.Bool.{false_from_ne_true}
 use Rattle.std.proofs.lemmas.List.Elements.{filter-append}
@@ -9,9 +9,6 @@ use Rattle.mm_text.specs.declared.statement.Kind.TheVariants.{Provable}
 use Rattle.mm_text.specs.Statement.{PlainStatement, HasForm, plain_statement}
 use Rattle.mm_text.specs.Files.{most_bytes}
 use Rattle.mm_text.specs.Reading.{Reads}
-use Rattle.mm_text.proofs.Lists.{zip_push}
-use Rattle.mm_text.proofs.Replaced.ProofSpans.{proof_spans_follow_holds}
-use Rattle.mm_text.proofs.Replaced.ProofSpans.{proofs_stand_in_spans_holds}
 use Rattle.mm_frame.specs.declared.number.LabelId.{LabelId}
 use Rattle.mm_frame.specs.Sentence.{Sentence, sentence_of}
 use Rattle.mm_proof.specs.Moves.{Move}
@@ -22,13 +19,12 @@ use Rattle.mm_check.specs.declared.form.Form.TheVariants.{Small}
 use Rattle.mm_check.specs.declared.save_all.NewFile.{NewFile}
 use Rattle.mm_check.specs.declared.theorems.Rereading.{Rereading}
 use Rattle.mm_check.specs.AllSaved.{Replacement, is_theorem_of, theorems_of}
-use Rattle.mm_check.specs.AllSaved.{with_replaced}
 use Rattle.mm_check.specs.AllShorter.{IsAllShortened, IsAllShorterFault, IsShortened}
 use Rattle.mm_check.specs.Conclusion.{Conclusion}
 use Rattle.mm_check.specs.Saved.{IsSpanText, total_with, within_span}
 use Rattle.mm_check.specs.Verdict.{is_proof, sentences}
-use Rattle.mm_check.specs.Mirror.AllSaving.{IsFinishFault, IsLastEnd}
-use Rattle.mm_check.specs.Mirror.AllSaving.{IsWhole, replacement}
+use Rattle.mm_check.specs.Mirror.AllSaving.{IsFinishFault}
+use Rattle.mm_check.specs.Mirror.AllSaving.{IsWhole}
 use Rattle.mm_check.specs.Mirror.AllShortening.{IsAllShortenedIn, IsShortenedSoFar, IsShorterFor}
 use Rattle.mm_check.specs.Mirror.AllShortening.{MayStandIn, PutsShorter}
 use Rattle.mm_check.specs.Mirror.Rereading.{AreNoTheorems, GoesTo}
@@ -36,12 +32,15 @@ use Rattle.mm_check.specs.Mirror.Rewriting.{IsSpanTextOf}
 use Rattle.mm_check.specs.Mirror.Shortening.{MakeTreeOf}
 use Rattle.mm_check.proofs.Questions.AskedTheorems.{map-take}
 use Rattle.mm_check.proofs.Questions.TheoremsAgain.{at_reads}
-use Rattle.mm_check.proofs.Saving.FileSpans.{theorem_there, theorems_parted, theorems_passed}
+use Rattle.mm_check.proofs.Saving.FileSpans.{theorem_there, theorems_passed}
 use Rattle.mm_check.proofs.Saving.FileSpans.{theorem_home}
-use Rattle.mm_check.proofs.Saving.ReplacedSpans.{all_replaced, one_more_replaced, spans_push}
-use Rattle.mm_check.proofs.Saving.SavedFiles.{provable_proof, within_bytes}
+use Rattle.mm_check.proofs.Saving.SavedFiles.{provable_proof}
 use Rattle.mm_check.proofs.Saving.WrittenFiles.{label_there}
 use Rattle.mm_check.proofs.Verdicts.AcceptedStatements.{same_reading}
+use Rattle.mm_check.specs.Mirror.AllShortening.{MayReplace}
+use Rattle.mm_check.proofs.Saving.FilesUnderWay.{follows_next, replaced_next, stands_next}
+use Rattle.mm_check.proofs.Saving.FilesUnderWay.{way_next, way_past, whole_next}
+use Rattle.mm_text.proofs.Lists.{zip_weaker}
 
 -- ==== what may stand in place of a theorem's proof
 
@@ -109,30 +108,22 @@ none_among number (s ∷ between) bare =
     ap (λ (b : Bool). cond b (s ∷ theorems_of number between) (theorems_of number between)) no
     ∙ none_among number between bare.1
 
-last_kept : (number at : ℕ) (taken more : List PlainStatement) → IsLastEnd number taken at
-    → IsLastEnd number (taken ++ more) at
-last_kept number at taken more (inl begin) = inl begin
-last_kept number at taken more (inr (before, t, between, parts, kind, same, ends)) =
-    let whole : taken ++ more ≡ before ++ t ∷ (between ++ more) =
-    ap (λ (ss : List PlainStatement). ss ++ more) parts ∙ append_assoc before (t ∷ between) more in
-    inr (before, t, between ++ more, whole, kind, same, ends)
-
 same_theorems : (c : Conclusion) (duplicates : Bool) (taken more : List PlainStatement)
     (file : NewFile)
     → theorems_of file.number (taken ++ more) ≡ theorems_of file.number taken
     → IsShortenedSoFar c duplicates taken file → IsShortenedSoFar c duplicates (taken ++ more) file
-same_theorems c duplicates taken more file same w = record {
-  own = w.own;
-  handed = w.handed;
-  source = w.source;
-  limit = w.limit;
-  within = w.within;
-  last = last_kept file.number file.taken taken more w.last;
-  replaced = w.replaced;
-  each = λ statements reads. rw same (w.each statements reads);
-  spans = w.spans;
-  put = w.put;
-}
+same_theorems c duplicates taken more file same w =
+    let h = w.so_far in
+    record {
+      way = way_past c.files taken more file w.way;
+      so_far = record {
+        replaced = h.replaced;
+        each = rw same h.each;
+        bytes = h.bytes;
+        up_to = h.up_to;
+        put = h.put;
+      };
+    }
 
 pub shortened_past : (c : Conclusion) (duplicates : Bool) (taken between : List PlainStatement)
     (file : NewFile) → AreNoTheorems between → IsShortenedSoFar c duplicates taken file
@@ -143,71 +134,6 @@ shortened_past c duplicates taken between file bare w =
     ∙ ap (λ (ss : List PlainStatement). theorems_of file.number taken ++ ss)
     (none_among file.number between bare)
     ∙ append-nil (theorems_of file.number taken)) w
-
-pub shortened_elsewhere : (c : Conclusion) (duplicates : Bool) (taken : List PlainStatement)
-    (s : PlainStatement) (file : NewFile) → ¬ (s.first.file ≡ file.number)
-    → IsShortenedSoFar c duplicates taken file
-    → IsShortenedSoFar c duplicates (taken ++ s ∷ []) file
-shortened_elsewhere c duplicates taken s file other w =
-    same_theorems c duplicates taken (s ∷ []) file
-    (theorems_passed file.number taken s (false_from_ne_true (is_theorem_of file.number s)
-    (λ is. other (theorem_home file.number s is)))) w
-
--- ---- a theorem of the file
-
-module _ (c : Conclusion) (duplicates : Bool) (taken : List PlainStatement) (s : PlainStatement)
-    (after : List PlainStatement) (file : NewFile) (reads : Reads c.files (taken ++ s ∷ after) None)
-    (complete : is_proof s ≡ true) (home : s.first.file ≡ file.number)
-    (w : IsShortenedSoFar c duplicates taken file) where
-  provable : s.kind ≡ Provable
-  provable = provable_proof s complete
-
-  -- it stands in the file
-  pub shorter_stands : (s.span.0 ≤ s.span.1) × (s.span.1 ≤ length file.source.now)
-  shorter_stands =
-      rw w.source (within_bytes s w.own.bytes
-      (proofs_stand_in_spans_holds c.files taken s after None w.own reads provable
-      (ap (slice_get c.files) home ∙ w.handed)))
-
-  -- behind what was taken
-  pub shorter_follows : file.taken ≤ s.span.0
-  shorter_follows =
-      elim w.last [
-        | inl begin ↦ omega (arith, begin)
-        | inr (before, t, between, parts, kind, same, ends) ↦
-            let follows = proof_spans_follow_holds c.files before between after t s None
-            (rw parts at reads) kind provable (same ∙ sym home) in omega (arith, follows, ends)
-      ]
-
-  -- what may stand in its place was put
-  pub shortened_on : (next : NewFile) → PutsShorter c duplicates s file next
-      → IsShortenedSoFar c duplicates (taken ++ s ∷ []) next
-  shortened_on next put =
-      let (order, within) = shorter_stands in
-      let new : Replacement = replacement s put.text in
-      let same = put.puts.same in
-      let one = one_more_replaced file.taken file.source.now w.replaced new w.spans shorter_follows
-      order within in
-      let is : is_theorem_of file.number s ≡ true = theorem_there file.number s complete home in
-      record {
-        own = w.own;
-        handed = ap (slice_get c.files) same.number ∙ w.handed;
-        source = same.source ∙ w.source;
-        limit = rw (same.number, same.most) w.limit;
-        within = omega (arith, within, put.puts.taken, ap length same.source);
-        last = inr (taken, s, [], refl, provable, home ∙ sym same.number, put.puts.taken);
-        replaced = w.replaced ++ new ∷ [];
-        each = λ statements all. rw (
-          same.number,
-          same.source,
-          theorems_parted file.number taken s [] is,
-        )
-            (zip_push (IsShortened c.profile duplicates c.files statements file.source.now) _
-            w.replaced s new (w.each statements all) (put.may statements all));
-        spans = rw put.puts.taken
-            (spans_push 0 file.taken w.replaced new w.spans shorter_follows order);
-        put = rw (same.most, same.source, put.puts.taken, one) (put.puts.put _ w.put);
-      }
 
 -- ---- the theorem that is met next
 
@@ -226,58 +152,72 @@ module _ (c : Conclusion) (duplicates : Bool) (taken : List PlainStatement) (fil
   met_reads : Reads c.files (met ++ own ∷ reading.statements.statements) None
   met_reads = at_reads c.files met id.0 reading goes.2
 
+  provable : own.kind ≡ Provable
+  provable = provable_proof own goes.2.complete
+
   pub next_stands : own.first.file ≡ file.number
       → (own.span.0 ≤ own.span.1) × (own.span.1 ≤ length file.source.now)
   next_stands home =
-      shorter_stands c duplicates met own reading.statements.statements file met_reads
-      goes.2.complete home past
+      stands_next c.files met own reading.statements.statements None file met_reads provable home
+      past.way
 
   pub next_follows : own.first.file ≡ file.number → file.taken ≤ own.span.0
   next_follows home =
-      shorter_follows c duplicates met own reading.statements.statements file met_reads
-      goes.2.complete home past
+      follows_next c.files met own reading.statements.statements None file met_reads provable home
+      past.way
 
+  -- what may stand in its place was put
   pub next_put : own.first.file ≡ file.number → (next : NewFile)
       → PutsShorter c duplicates own file next
       → IsShortenedSoFar c duplicates (met ++ own ∷ []) next
-  next_put home =
-      shortened_on c duplicates met own reading.statements.statements file met_reads
-      goes.2.complete home past
+  next_put home next put =
+      let h = past.so_far in
+      record {
+        way = way_next c.files met own reading.statements.statements None file met_reads provable
+            home past.way next put.text put.puts;
+        so_far = replaced_next (MayReplace c duplicates next.source.now) met own file next put.text
+            (theorem_there file.number own goes.2.complete home) h.replaced
+            (rw put.puts.same.source h.each) h.bytes h.up_to h.put put.puts
+            (rw put.puts.same.source put.may);
+      }
 
   pub next_elsewhere : ¬ (own.first.file ≡ file.number)
       → IsShortenedSoFar c duplicates (met ++ own ∷ []) file
-  next_elsewhere other = shortened_elsewhere c duplicates met own file other past
+  next_elsewhere other =
+      same_theorems c duplicates met (own ∷ []) file
+      (theorems_passed file.number met own (false_from_ne_true (is_theorem_of file.number own)
+      (λ is. other (theorem_home file.number own is)))) past
 
 -- ---- the end
 
--- the bytes up to the last span, and what wasn't taken
-abbrev made_of : {c : Conclusion} {duplicates : Bool} {taken : List PlainStatement} (file : NewFile)
-    → IsShortenedSoFar c duplicates taken file → List ℕ
-made_of file w = with_replaced (take file.taken file.source.now) w.replaced
-
 module _ (c : Conclusion) (duplicates : Bool) (number : ℕ) (file : NewFile)
     (all : IsAllShortenedIn c duplicates number file) where
-  -- are those of the file with shorter proofs
+  -- the bytes are those of the file with shorter proofs
   whole_so : (statements : List PlainStatement) → Reads c.files statements None → (bytes : List ℕ)
-      → bytes ≡ made_of file all.so_far ++ drop file.taken file.source.now
+      → bytes ≡ all.so_far.so_far.bytes ++ drop file.taken file.source.now
       → IsAllShortened c.profile duplicates c.files statements number bytes
   whole_so statements reads bytes is =
-      let w = all.so_far in
+      let way = all.so_far.way in
+      let h = all.so_far.so_far in
       let same = (same_reading c.files all.statements statements None None all.reads reads).0 in
+      let May : PlainStatement → Replacement → Type 0 = MayReplace c duplicates file.source.now in
+      let Shortened : PlainStatement → Replacement → Type 0 =
+      IsShortened c.profile duplicates c.files all.statements file.source.now in
       record {
-        file = w.own;
-        handed = ap (slice_get c.files) (sym all.home) ∙ w.handed;
-        replaced = w.replaced;
-        each = rw (← same, ← all.home, ← w.source) (w.each all.statements all.reads);
-        whole = is ∙ all_replaced file.taken file.source.now w.replaced w.spans w.within
-            ∙ ap (λ (own : List ℕ). with_replaced own w.replaced) w.source;
+        file = way.own;
+        handed = ap (slice_get c.files) (sym all.home) ∙ way.handed;
+        replaced = h.replaced;
+        each = rw (← all.home, ← same, ← way.source)
+            (zip_weaker May Shortened (λ s new may. may all.statements all.reads)
+            (theorems_of file.number all.statements) h.replaced h.each);
+        whole = whole_next c.files all.statements file May bytes way h is;
       }
 
   pub all_shortened : (bytes : List ℕ) → IsWhole file bytes → (statements : List PlainStatement)
       → Reads c.files statements None
       → IsAllShortened c.profile duplicates c.files statements number bytes
   all_shortened bytes whole statements reads =
-      whole_so statements reads bytes (whole (made_of file all.so_far) all.so_far.put)
+      let h = all.so_far.so_far in whole_so statements reads bytes (whole h.bytes h.put)
 
   -- or why there are none
   pub shortened_fault : (why : AskFault) → IsFinishFault file why
@@ -285,9 +225,9 @@ module _ (c : Conclusion) (duplicates : Bool) (number : ℕ) (file : NewFile)
       → IsAllShorterFault c.profile duplicates c.files statements number why
   shortened_fault why (inl memory) statements reads = rw memory tt
   shortened_fault why (inr (is, over)) statements reads =
-      let w = all.so_far in
-      let bytes : List ℕ = made_of file w ++ drop file.taken file.source.now in
+      let h = all.so_far.so_far in
+      let bytes : List ℕ = h.bytes ++ drop file.taken file.source.now in
       let too_many : most_bytes < total_with c.files number bytes =
       subst (λ (n : ℕ). most_bytes < total_with c.files n bytes) all.home
-      ((w.limit bytes).0 (over (made_of file w) w.put)) in
+      ((all.so_far.way.limit bytes).0 (over h.bytes h.put)) in
       rw is (bytes, whole_so statements reads bytes refl, too_many)

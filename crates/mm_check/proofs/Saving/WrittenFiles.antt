@@ -1,16 +1,14 @@
 -- A file on its way to being written anew: statement by statement, from the first span on.
-use Rattle.std.proofs.Common.{◌≡◌, ℕ, ◌+◌, ◌-◌, ◌≤◌, List, [], ◌∷◌, ◌++◌, take, drop, length}
-use Rattle.std.proofs.Common.{slice_range, refl, sym, ap, ◌∙◌, arith, append_assoc, append-nil}
-use Rattle.std.proofs.Common.{length-append, ◌<◌, Option, Some, None, true, option_map}
+use Rattle.std.proofs.Common.{◌≡◌, ℕ, ◌≤◌, List, [], ◌∷◌, ◌++◌, take, drop, length}
+use Rattle.std.proofs.Common.{refl, ap, ◌∙◌, arith, append_assoc, append-nil}
+use Rattle.std.proofs.Common.{◌<◌, Option, Some, None, true, option_map}
 use Rattle.std.proofs.Common.{inl, inr, ◌⊎◌, false, slice_get, subst}
-use Rattle.std.proofs.Math.ListN.{drop_of_length-le}
-use Rattle.std.proofs.lemmas.List.{take-append-le, drop-append-le, take-append-drop, take-take}
-use Rattle.std.proofs.lemmas.List.{length-take-le, drop-take, length-map, map-append}
-use Rattle.mm_text.specs.Replaced.{with_span}
-use Rattle.mm_check.specs.AllSaved.{Replacement, with_replaced, IsReplacement, is_theorem_of}
+use Rattle.std.proofs.lemmas.List.{take-append-le}
+use Rattle.std.proofs.lemmas.List.{length-map, map-append}
+use Rattle.mm_check.specs.AllSaved.{Replacement, IsReplacement, is_theorem_of}
 use Rattle.mm_check.specs.AllSaved.{theorems_of, IsAllSaved, IsFirstTooLong, IsSavingAllFault}
-use Rattle.mm_check.specs.Mirror.AllSaving.{AreSpansWithin, PutsAfter, IsTheoremAmong}
-use Rattle.mm_check.specs.Mirror.AllSaving.{IsTheoremFault, replacement, IsLastEnd, IsAllWritten}
+use Rattle.mm_check.specs.Mirror.AllSaving.{IsTheoremAmong}
+use Rattle.mm_check.specs.Mirror.AllSaving.{IsTheoremFault, replacement, IsAllWritten}
 use Rattle.mm_check.specs.Mirror.AllSaving.{PutsProof, KeepsLabel, IsWhole, IsFinishFault}
 use Rattle.mm_check.specs.Mirror.AllSaving.{AreReplacedSoFar, IsSoFar, IsWrittenSoFar, HasWritten}
 use Rattle.mm_text.specs.declared.statement.Kind.TheVariants.{Provable}
@@ -31,8 +29,6 @@ use Rattle.mm_check.proofs.Questions.AskedTheorems.{map-take, tree_told}
 use Rattle.mm_check.proofs.Verdicts.AcceptedStatements.{proof_stands, proof_fits}
 use Rattle.mm_check.proofs.Saving.FileSpans.{replaced_by, theorem_there, theorems_parted}
 use Rattle.mm_check.proofs.Saving.FileSpans.{theorems_passed, first_too_long}
-use Rattle.mm_check.proofs.Saving.SavedFiles.{within_bytes}
-use Rattle.mm_check.proofs.Saving.ReplacedSpans.{spans_push, one_more_replaced, all_replaced}
 use Rattle.mm_check.proofs.Questions.AllReports.{some_label}
 use Rattle.mm_check.proofs.Verdicts.JudgedProofs.{labelled_said, last_number}
 use Rattle.std.proofs.lemmas.Bool.{cases_lt, false_from_ne_true}
@@ -40,9 +36,7 @@ use Rattle.std.proofs.lemmas.List.Elements.{filter-append}
 use Rattle.std.proofs.lemmas.Option.{slice_get_within}
 use Rattle.std.specs.List.{AllZip}
 use Rattle.mm_text.specs.Files.{PlainFile, most_bytes}
-use Rattle.mm_text.proofs.Replaced.ProofSpans.{proof_spans_follow_holds}
-use Rattle.mm_text.proofs.Replaced.ProofSpans.{proofs_stand_in_spans_holds}
-use Rattle.mm_text.proofs.Lists.{get_kept, get_parted, unmapped, zip_push, zip_weaker}
+use Rattle.mm_text.proofs.Lists.{get_kept, get_parted, unmapped, zip_weaker}
 use Rattle.mm_frame.specs.declared.number.LabelId.{LabelId}
 use Rattle.mm_proof.specs.declared.profile.Profile.{Profile}
 use Rattle.mm_check.specs.declared.form.Form.TheVariants.{Normal}
@@ -53,14 +47,9 @@ use Rattle.mm_check.specs.Mirror.Visits.{HasVisited, IsMet}
 use Rattle.mm_check.proofs.Verdicts.StatementByStatement.{one_more}
 use Rattle.mm_check.specs.declared.form.Form.TheVariants as form
 use Rattle.mm_check.specs.declared.save_fault.SaveFault.TheVariants as fault
-
--- ==== up to a most
-
-pub put_twice : (most : ℕ) (first then old between new : List ℕ)
-    → PutsAfter most first old between → PutsAfter most then between new
-    → PutsAfter most (first ++ then) old new
-put_twice most first then old between new one other whole h =
-    rw append_assoc at (other (whole ++ first) (one whole h))
+use Rattle.mm_check.specs.Mirror.AllSaving.{IsTakenSoFar}
+use Rattle.mm_check.proofs.Saving.FilesUnderWay.{follows_next, replaced_next, stands_next}
+use Rattle.mm_check.proofs.Saving.FilesUnderWay.{way_next, way_past, whole_next}
 
 -- ==== what is told of a theorem whose proof is written anew
 
@@ -188,13 +177,6 @@ module _ (statements more : List PlainStatement) where
       first.bytes first.news split (all_kept Normal first.bytes first.before first.news first.fit)
       (first.index, first.root, first.below, (tree_kept first.proof).0, first.long)
 
-last_kept : (number at : ℕ) (taken : List PlainStatement) (s : PlainStatement)
-    → IsLastEnd number taken at → IsLastEnd number (taken ++ s ∷ []) at
-last_kept number at taken s (inl begin) = inl begin
-last_kept number at taken s (inr (before, t, between, parts, kind, same, ends)) =
-    let more = append_assoc before (t ∷ between) (s ∷ []) in
-    inr (before, t, between ++ s ∷ [], rw parts more, kind, same, ends)
-
 -- ---- one statement more
 
 -- one that isn't a theorem of the file; or there is one that is too long
@@ -208,24 +190,9 @@ passed_so taken s file None other h = record {
   each = rw (theorems_passed file.number taken s (other refl))
       (all_kept taken (s ∷ []) file.form file.source.now (theorems_of file.number taken)
       h.replaced h.each);
-  spans = h.spans;
+  bytes = h.bytes;
+  up_to = h.up_to;
   put = h.put;
-}
-
-passed_over : (files : List PlainFile) (taken : List PlainStatement) (s : PlainStatement)
-    (file : NewFile) → IsWrittenSoFar files taken file
-    → ¬ ((file.too_long ≡ None) × (is_theorem_of file.number s ≡ true))
-    → IsWrittenSoFar files (taken ++ s ∷ []) file
-passed_over files taken s file w unwanted = record {
-  own = w.own;
-  handed = w.handed;
-  source = w.source;
-  limit = w.limit;
-  within = w.within;
-  last = last_kept file.number file.taken taken s w.last;
-  so_far = passed_so taken s file (option_map (λ l. l.now) file.too_long)
-      (λ short. false_from_ne_true (is_theorem_of file.number s) (λ is.
-      unwanted (unmapped (λ l. l.now) file.too_long short, is))) w.so_far;
 }
 
 -- the same, with what it was at first
@@ -237,14 +204,20 @@ pub passed_by : (profile : Profile) (files : List PlainFile) (first file : NewFi
 passed_by profile files first file taken listed s unwanted w = record {
   lenient = w.lenient;
   none = append-nil listed ∙ w.none;
-  so_far = passed_over files taken s file w.so_far unwanted;
+  so_far = record {
+    way = way_past files taken (s ∷ []) file w.so_far.way;
+    so_far = passed_so taken s file (option_map (λ l. l.now) file.too_long)
+        (λ short. false_from_ne_true (is_theorem_of file.number s) (λ is.
+        unwanted (unmapped (λ l. l.now) file.too_long short, is))) w.so_far.so_far;
+  };
   number = w.number;
   form = w.form;
 }
 
 -- where no proof is too long, those so far are replaced
 replaced_so_far : (files : List PlainFile) (taken : List PlainStatement) (file : NewFile)
-    → IsWrittenSoFar files taken file → file.too_long ≡ None → AreReplacedSoFar taken file
+    → IsWrittenSoFar files taken file → file.too_long ≡ None
+    → AreReplacedSoFar (IsReplacement file.form file.source.now taken) taken file
 replaced_so_far files taken file w short =
     subst (λ (o : Option (List ℕ)). IsSoFar taken file o)
     (ap (option_map (λ l. l.now)) short) w.so_far
@@ -275,51 +248,32 @@ module _ {files : List PlainFile} {told : List Sentence} {id : LabelId}
     -- it stands in the file
     pub span_stands : (s.span.0 ≤ s.span.1) × (s.span.1 ≤ length file.source.now)
     span_stands =
-        rw w.source (within_bytes s w.own.bytes
-        (proofs_stand_in_spans_holds files taken s met.left.statements met.left.ending w.own
-        met.reads met.came.1.provable (ap (slice_get files) home ∙ w.handed)))
+        stands_next files taken s met.left.statements met.left.ending file met.reads
+        met.came.1.provable home w.way
 
     -- behind what was taken
     pub span_follows : file.taken ≤ s.span.0
     span_follows =
-        elim w.last [
-          | inl begin ↦ omega (arith, begin)
-          | inr (before, t, between, parts, kind, same, ends) ↦
-              let after = proof_spans_follow_holds files before between met.left.statements t s
-              met.left.ending (rw parts at met.reads) kind met.came.1.provable
-              (same ∙ sym home) in omega (arith, after, ends)
-        ]
+        follows_next files taken s met.left.statements met.left.ending file met.reads
+        met.came.1.provable home w.way
 
     -- its proof was put
     written_anew : (next : NewFile) → file.too_long ≡ None
         → HasForm s → PutsProof told id.0 file s next
         → IsWrittenSoFar files (taken ++ s ∷ []) next
     written_anew next short formed put =
-        let (order, within) = span_stands in
         let more : List PlainStatement = taken ++ s ∷ [] in
-        let old : AreReplacedSoFar taken file = replaced_so_far files taken file w short in
-        let new : Replacement = replacement s put.text in
+        let old = replaced_so_far files taken file w short in
         let same = put.puts.same in
-        let one = one_more_replaced file.taken file.source.now old.replaced new old.spans
-        span_follows order within in
-        let so_far : AreReplacedSoFar more next = record {
-          replaced = old.replaced ++ new ∷ [];
-          each = rw (same.form, same.number, same.source, theorems_parted file.number taken s [] is)
-              (zip_push (IsReplacement file.form file.source.now more) _ old.replaced s new
-              (all_kept taken (s ∷ []) file.form file.source.now _ _ old.each)
-              (put.anew (theorem_met formed)));
-          spans = rw put.puts.taken
-              (spans_push 0 file.taken old.replaced new old.spans span_follows order);
-          put = rw (same.most, same.source, put.puts.taken, one) (put.puts.put _ old.put);
-        } in
+        let May : PlainStatement → Replacement → Type 0 =
+        IsReplacement next.form next.source.now more in
+        let so_far = replaced_next May taken s file next put.text is old.replaced
+        (rw (same.form, same.source)
+        (all_kept taken (s ∷ []) file.form file.source.now _ _ old.each)) old.bytes old.up_to old.put
+        put.puts (rw (same.form, same.source) (put.anew (theorem_met formed))) in
         record {
-          own = w.own;
-          handed = ap (slice_get files) same.number ∙ w.handed;
-          source = same.source ∙ w.source;
-          limit = rw (same.number, same.most) w.limit;
-          within = omega (arith, within, put.puts.taken, ap length same.source);
-          last = inr
-              (taken, s, [], refl, met.came.1.provable, home ∙ sym same.number, put.puts.taken);
+          way = way_next files taken s met.left.statements met.left.ending file met.reads
+              met.came.1.provable home w.way next put.text put.puts;
           so_far = rw (ap (option_map (λ l. l.now)) (put.puts.long ∙ short)) so_far;
         }
 
@@ -329,7 +283,7 @@ module _ {files : List PlainFile} {told : List Sentence} {id : LabelId}
         → IsWrittenSoFar files (taken ++ s ∷ []) next
     label_kept next short formed kept =
         let more : List PlainStatement = taken ++ s ∷ [] in
-        let old : AreReplacedSoFar taken file = replaced_so_far files taken file w short in
+        let old = replaced_so_far files taken file w short in
         let same = kept.same in
         let (normal, long) = kept.long in
         let (index, root, below, proof, over) = long (theorem_met formed) in
@@ -337,14 +291,16 @@ module _ {files : List PlainFile} {told : List Sentence} {id : LabelId}
         file.source.now old.replaced (theorems_parted file.number taken s [] is)
         (simp normal at (all_kept taken (s ∷ []) file.form file.source.now _ old.replaced old.each))
         (index, root, below, proof, over) in
+        let past = way_past files taken (s ∷ []) file w.way in
         record {
-          own = w.own;
-          handed = ap (slice_get files) same.number ∙ w.handed;
-          source = same.source ∙ w.source;
-          limit = rw (same.number, same.most) w.limit;
-          within = omega (arith, w.within, kept.taken, ap length same.source);
-          last = rw (same.number, kept.taken)
-              (last_kept file.number file.taken taken s w.last);
+          way = record {
+            own = past.own;
+            handed = ap (slice_get files) same.number ∙ past.handed;
+            source = same.source ∙ past.source;
+            limit = rw (same.number, same.most) past.limit;
+            within = omega (arith, past.within, kept.taken, ap length same.source);
+            last = rw (same.number, kept.taken) past.last;
+          };
           so_far = rw kept.kept (same.form ∙ normal, rw same.number first);
         }
 
@@ -388,24 +344,18 @@ long_fault form files number first file label same home long (statements, accept
     let (normal, too_long) = rw long at all.so_far.so_far in
     rw (← (all.form ∙ same), ← (all.number ∙ home)) (normal, statements, accepted, too_long)
 
--- the bytes up to the last span, and what wasn't taken
-abbrev made_of : (statements : List PlainStatement) (file : NewFile)
-    → AreReplacedSoFar statements file → List ℕ
-made_of statements file h = with_replaced (take file.taken file.source.now) h.replaced
-
--- are those of the file with all proofs in its form
+-- the bytes are those of the file with all proofs in its form
 whole_so : (files : List PlainFile) (statements : List PlainStatement) (file : NewFile)
-    (bytes : List ℕ) (w : IsWrittenSoFar files statements file)
-    (h : AreReplacedSoFar statements file)
-    → bytes ≡ made_of statements file h ++ drop file.taken file.source.now
+    (bytes : List ℕ) (way : IsTakenSoFar files statements file)
+    (h : AreReplacedSoFar (IsReplacement file.form file.source.now statements) statements file)
+    → bytes ≡ h.bytes ++ drop file.taken file.source.now
     → IsAllSaved file.form files statements file.number bytes
-whole_so files statements file bytes w h is = record {
-  file = w.own;
-  handed = w.handed;
+whole_so files statements file bytes way h is = record {
+  file = way.own;
+  handed = way.handed;
   replaced = h.replaced;
-  each = rw w.source at h.each;
-  whole = is ∙ all_replaced file.taken file.source.now h.replaced h.spans w.within
-      ∙ ap (λ (own : List ℕ). with_replaced own h.replaced) w.source;
+  each = rw way.source at h.each;
+  whole = whole_next files statements file _ bytes way h is;
 }
 
 -- what is saved of the files with the number
@@ -421,13 +371,13 @@ pub all_saved : (form : Form) (files : List PlainFile) (number : ℕ) (first fil
 all_saved form files number first file bytes same home short (statements, accepted, all) whole
     few =
     let w = all.so_far in
-    let h : AreReplacedSoFar statements file = replaced_so_far files statements file w short in
+    let h = replaced_so_far files statements file w short in
     rw (← (all.form ∙ same), ← (all.number ∙ home)) (
       statements,
       accepted,
-      whole_so files statements file bytes w h (whole (made_of statements file h) h.put),
+      whole_so files statements file bytes w.way h (whole h.bytes h.put),
       elim (cases_lt most_bytes (total_with files file.number bytes)) [
-        | inl over ↦ absurd (omega (arith, few, (w.limit bytes).1 over))
+        | inl over ↦ absurd (omega (arith, few, (w.way.limit bytes).1 over))
         | inr within ↦ within
       ],
     )
@@ -443,8 +393,8 @@ finish_fault form files number first file why same home short (statements, accep
 finish_fault form files number first file why same home short (statements, accepted, all)
     (inr (is, over)) =
     let w = all.so_far in
-    let h : AreReplacedSoFar statements file = replaced_so_far files statements file w short in
-    let bytes : List ℕ = made_of statements file h ++ drop file.taken file.source.now in
-    let too_many = (w.limit bytes).0 (over (made_of statements file h) h.put) in
+    let h = replaced_so_far files statements file w short in
+    let bytes : List ℕ = h.bytes ++ drop file.taken file.source.now in
+    let too_many = (w.way.limit bytes).0 (over h.bytes h.put) in
     rw (← (all.form ∙ same), ← (all.number ∙ home), is)
-    (statements, accepted, (bytes, whole_so files statements file bytes w h refl, too_many))
+    (statements, accepted, (bytes, whole_so files statements file bytes w.way h refl, too_many))

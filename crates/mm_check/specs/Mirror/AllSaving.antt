@@ -1,6 +1,6 @@
 -- What the code knows on its way to a file in which each complete proof is written anew. This file
 -- mirrors the code, and is cited by private contracts alone.
-use Rattle.std.specs.Prelude.{◌≡◌, ℕ, ◌<◌, ◌≤◌, ◌↔◌, List, [], ◌∷◌, ◌++◌, take, drop, length, slice_get}
+use Rattle.std.specs.Prelude.{◌≡◌, ℕ, ◌<◌, ◌≤◌, ◌↔◌, List, [], ◌∷◌, ◌++◌, drop, length, slice_get}
 use Rattle.std.specs.Prelude.{slice_range, true, Option, Some, None, option_map, ◌⊎◌, sum_by}
 use Rattle.std.specs.List.{AllZip}
 use Rattle.mm_text.specs.declared.statement.Kind.TheVariants.{Provable}
@@ -21,8 +21,8 @@ use Rattle.mm_check.specs.Verdict.{AllObey, AreAccepted, PlainRefusal, is_proof,
 use Rattle.mm_check.specs.Verdict.{sentences}
 use Rattle.mm_check.specs.Forms.{HasProofTree, most_labels}
 use Rattle.mm_check.specs.Saved.{total_with}
-use Rattle.mm_check.specs.AllSaved.{Replacement, IsReplacement, with_replaced, theorems_of}
-use Rattle.mm_check.specs.AllSaved.{IsFirstTooLong}
+use Rattle.mm_check.specs.AllSaved.{Replacement, IsReplacement, with_replaced, replaced_from}
+use Rattle.mm_check.specs.AllSaved.{theorems_of, IsFirstTooLong}
 
 -- ---- one theorem
 
@@ -79,11 +79,13 @@ abbrev pub IsMostFor : List PlainFile → (number most : ℕ) → Type 0
 IsMostFor files number most =
     (bytes : List ℕ) → (most < length bytes) ↔ (most_bytes < total_with files number bytes)
 
--- the spans stand one after the other, from one position on up to another
-abbrev pub AreSpansWithin : (start stop : ℕ) → List Replacement → Type 0
-AreSpansWithin start stop [] = start ≤ stop
-AreSpansWithin start stop (new ∷ news) =
-    (start ≤ new.span.0) × (new.span.0 ≤ new.span.1) × AreSpansWithin new.span.1 stop news
+-- with these spans replaced, these are the bytes up to a position: what is replaced behind it comes
+-- after them
+abbrev pub AreReplacedUpTo : (at : ℕ) → (source : List ℕ) → List Replacement → (bytes : List ℕ)
+    → Type 0
+AreReplacedUpTo at source news bytes =
+    (more : List Replacement) → with_replaced source (news ++ more)
+    ≡ bytes ++ replaced_from at source more
 
 -- it is the same file, whose proofs are written in the same form
 pub record IsSameFile (old new : NewFile) : Type 0 where
@@ -141,24 +143,9 @@ IsLastEnd number taken at =
     × (taken ≡ before ++ s ∷ between) × (s.kind ≡ Provable) × (s.first.file ≡ number)
     × (at ≡ s.span.1))
 
--- in the new file stand the bytes of the old one up to the last span, with the proofs of the
--- theorems so far replaced
-pub record AreReplacedSoFar (taken : List PlainStatement) (file : NewFile) : Type 0 where
-  pub replaced : List Replacement
-  pub each : AllZip (IsReplacement file.form file.source.now taken)
-      (theorems_of file.number taken) replaced
-  pub spans : AreSpansWithin 0 file.taken replaced
-  pub put : IsUpTo file.most (with_replaced (take file.taken file.source.now) replaced)
-      file.bytes.items
-
--- what is known of the new file after these statements: where a label is kept, it is that of the
--- first theorem whose normal proof is too long
-abbrev pub IsSoFar : List PlainStatement → NewFile → Option (List ℕ) → Type 0
-IsSoFar taken file None = AreReplacedSoFar taken file
-IsSoFar taken file (Some label) = (file.form ≡ Normal) × IsFirstTooLong taken file.number label
-
--- The new file is that of one of the files, after these statements of them.
-pub record IsWrittenSoFar (files : List PlainFile) (taken : List PlainStatement)
+-- The new file is that of one of the files, and was taken as far as the proofs of these statements
+-- go.
+pub record IsTakenSoFar (files : List PlainFile) (taken : List PlainStatement)
     (file : NewFile) : Type 0 where
   pub own : PlainFile
   pub handed : slice_get files file.number ≡ Some own
@@ -166,6 +153,28 @@ pub record IsWrittenSoFar (files : List PlainFile) (taken : List PlainStatement)
   pub limit : IsMostFor files file.number file.most
   pub within : file.taken ≤ length file.source.now
   pub last : IsLastEnd file.number taken file.taken
+
+-- in the new file stand the bytes of the old one up to the last span, with the proofs of the
+-- theorems so far replaced as they may be
+pub record AreReplacedSoFar (May : PlainStatement → Replacement → Type 0)
+    (taken : List PlainStatement) (file : NewFile) : Type 0 where
+  pub replaced : List Replacement
+  pub each : AllZip May (theorems_of file.number taken) replaced
+  pub bytes : List ℕ
+  pub up_to : AreReplacedUpTo file.taken file.source.now replaced bytes
+  pub put : IsUpTo file.most bytes file.bytes.items
+
+-- what is known of the new file after these statements: where a label is kept, it is that of the
+-- first theorem whose normal proof is too long
+abbrev pub IsSoFar : List PlainStatement → NewFile → Option (List ℕ) → Type 0
+IsSoFar taken file None =
+    AreReplacedSoFar (IsReplacement file.form file.source.now taken) taken file
+IsSoFar taken file (Some label) = (file.form ≡ Normal) × IsFirstTooLong taken file.number label
+
+-- the new file is written so far, after these statements of the files
+pub record IsWrittenSoFar (files : List PlainFile) (taken : List PlainStatement)
+    (file : NewFile) : Type 0 where
+  pub way : IsTakenSoFar files taken file
   pub so_far : IsSoFar taken file (option_map (λ l. l.now) file.too_long)
 
 -- the same, with what it was at first; no proof is at fault

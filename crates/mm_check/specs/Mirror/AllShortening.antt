@@ -1,10 +1,9 @@
 -- What the code knows on its way to a file with shorter proofs, and to the list of them. This file
 -- mirrors the code, and is cited by private contracts alone.
-use Rattle.std.specs.Prelude.{◌≡◌, ℕ, ◌≤◌, ◌⊎◌, List, Bool, take, length, slice_get, Some, map}
+use Rattle.std.specs.Prelude.{◌≡◌, ℕ, ◌≤◌, ◌⊎◌, List, Bool, length, map}
 use Rattle.std.specs.Prelude.{None, ◌+◌, ◌++◌, ◌<◌, min}
-use Rattle.std.specs.List.{AllZip, AllByRecursion}
+use Rattle.std.specs.List.{AllByRecursion}
 use Rattle.mm_text.specs.Statement.{PlainStatement}
-use Rattle.mm_text.specs.Files.{PlainFile}
 use Rattle.mm_text.specs.Reading.{Reads}
 use Rattle.mm_frame.specs.Sentence.{sentence_of, IsLabelled}
 use Rattle.mm_check.specs.declared.forms.OwnProof.{OwnProof}
@@ -15,26 +14,30 @@ use Rattle.mm_check.specs.declared.shorter_list.Sums.{Sums}
 use Rattle.mm_check.specs.declared.save_all.NewFile.{NewFile}
 use Rattle.mm_check.specs.declared.shortening.Shorter.{Shorter}
 use Rattle.mm_check.specs.declared.theorem.Theorem.{Theorem}
-use Rattle.mm_check.specs.AllSaved.{Replacement, theorems_of, with_replaced}
+use Rattle.mm_check.specs.AllSaved.{Replacement}
 use Rattle.mm_check.specs.AllShorter.{IsShortened, IsShorterLine, ProofSize, ShorterLine, most_sum}
 use Rattle.mm_check.specs.AllShorter.{shorter_line_text, shorter_lines_text, sum_of}
 use Rattle.mm_check.specs.Forms.{IsSmallOf}
 use Rattle.mm_check.specs.Rests.{AreRising}
 use Rattle.mm_check.specs.Verdict.{sentences}
 use Rattle.mm_check.specs.Conclusion.{Conclusion}
-use Rattle.mm_check.specs.Mirror.AllSaving.{AreSpansWithin, IsLastEnd, IsMostFor, IsUpTo, PutsText}
-use Rattle.mm_check.specs.Mirror.AllSaving.{replacement}
+use Rattle.mm_check.specs.Mirror.AllSaving.{AreReplacedSoFar, IsTakenSoFar, PutsText, replacement}
 use Rattle.mm_check.specs.Mirror.Rereading.{label_count}
 use Rattle.mm_check.specs.Mirror.Shortening.{AreHanded, AreNewlyUsed, IsFound}
 
 -- ---- a file with shorter proofs
 
--- in a file of these bytes, the text may be put in place of the proof of the theorem
+-- in a file of these bytes, the proof of the theorem may be replaced so
+abbrev pub MayReplace : Conclusion → (duplicates : Bool) → (bytes : List ℕ) → PlainStatement
+    → Replacement → Type 0
+MayReplace c duplicates bytes s new =
+    (statements : List PlainStatement) → Reads c.files statements None
+    → IsShortened c.profile duplicates c.files statements bytes s new
+
+-- by this text
 abbrev pub MayStandIn : Conclusion → (duplicates : Bool) → (bytes : List ℕ) → PlainStatement
     → (text : List ℕ) → Type 0
-MayStandIn c duplicates bytes s text =
-    (statements : List PlainStatement) → Reads c.files statements None
-    → IsShortened c.profile duplicates c.files statements bytes s (replacement s text)
+MayStandIn c duplicates bytes s text = MayReplace c duplicates bytes s (replacement s text)
 
 -- the bytes up to the proof of the theorem were taken, and then what may stand in its place was put
 pub record PutsShorter (c : Conclusion) (duplicates : Bool) (s : PlainStatement)
@@ -46,19 +49,8 @@ pub record PutsShorter (c : Conclusion) (duplicates : Bool) (s : PlainStatement)
 -- after these statements the new file has what may stand in place of the proofs of their theorems
 pub record IsShortenedSoFar (c : Conclusion) (duplicates : Bool) (taken : List PlainStatement)
     (file : NewFile) : Type 0 where
-  pub own : PlainFile
-  pub handed : slice_get c.files file.number ≡ Some own
-  pub source : file.source.now ≡ own.bytes
-  pub limit : IsMostFor c.files file.number file.most
-  pub within : file.taken ≤ length file.source.now
-  pub last : IsLastEnd file.number taken file.taken
-  pub replaced : List Replacement
-  pub each : (statements : List PlainStatement) → Reads c.files statements None
-      → AllZip (IsShortened c.profile duplicates c.files statements file.source.now)
-      (theorems_of file.number taken) replaced
-  pub spans : AreSpansWithin 0 file.taken replaced
-  pub put : IsUpTo file.most (with_replaced (take file.taken file.source.now) replaced)
-      file.bytes.items
+  pub way : IsTakenSoFar c.files taken file
+  pub so_far : AreReplacedSoFar (MayReplace c duplicates file.source.now) taken file
 
 -- all statements of the files were read
 pub record IsAllShortenedIn (c : Conclusion) (duplicates : Bool) (number : ℕ)

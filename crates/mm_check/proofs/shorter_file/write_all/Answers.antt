@@ -1,8 +1,6 @@
 -- The next theorem is written if it stands in the file.
-use Rattle.std.proofs.Common.{◌++◌, ◌∷◌, [], Option, Some, None, sym, subst, ◌∙◌, arith}
-use Rattle.mm_frame.specs.declared.number.LabelId.{LabelId}
+use Rattle.std.proofs.Common.{◌++◌, ◌∷◌, [], sym, ◌∙◌, arith}
 use Rattle.mm_text.specs.Statement.{plain_statement}
-use Rattle.mm_check.specs.Mirror.Rereading.{GoesTo}
 use Rattle.mm_check.proofs.Questions.TheoremsAgain.{at_in, fewer_left}
 use Rattle.mm_check.proofs.Saving.ShortenedFiles.{next_elsewhere, next_follows, next_put}
 use Rattle.mm_check.proofs.Saving.ShortenedFiles.{next_stands, shortened_past}
@@ -13,29 +11,20 @@ use Rattle.mm_check.proofs.shorter_file.write_all.Goals.{then-reading-wanted+in_
 pub write_theorem-requires-clause-theorem : goal.write_theorem-requires-clause-theorem
 write_theorem-requires-clause-theorem g c =
     let inv = c.loop-reading.invariant in
-    let goes : GoesTo c.args.shortening.now.checked.now.files inv.taken (Some c.in-Some.id)
-    c.next_theorem.new.self =
-    subst (λ (o : Option LabelId). GoesTo c.args.shortening.now.checked.now.files inv.taken o
-    c.next_theorem.new.self) c.in-Some.is (c.in_ok-id.ensures.next inv.taken inv.read) in
+    let goes = rw c.in-Some.is at (c.in_ok-id.ensures.next inv.taken inv.read) in
     at_in c.args.shortening.now.checked.now.files (inv.taken ++ goes.0) c.in-Some.id.0
     c.next_theorem.new.self goes.2
 
 pub write_theorem-requires-clause-formed : goal.write_theorem-requires-clause-formed
 write_theorem-requires-clause-formed g c =
     let inv = c.loop-reading.invariant in
-    let goes : GoesTo c.args.shortening.now.checked.now.files inv.taken (Some c.in-Some.id)
-    c.next_theorem.new.self =
-    subst (λ (o : Option LabelId). GoesTo c.args.shortening.now.checked.now.files inv.taken o
-    c.next_theorem.new.self) c.in-Some.is (c.in_ok-id.ensures.next inv.taken inv.read) in
+    let goes = rw c.in-Some.is at (c.in_ok-id.ensures.next inv.taken inv.read) in
     goes.2.formed
 
 pub write_theorem-requires-clause-after : goal.write_theorem-requires-clause-after
 write_theorem-requires-clause-after g c =
     let inv = c.loop-reading.invariant in
-    let goes : GoesTo c.args.shortening.now.checked.now.files inv.taken (Some c.in-Some.id)
-    c.next_theorem.new.self =
-    subst (λ (o : Option LabelId). GoesTo c.args.shortening.now.checked.now.files inv.taken o
-    c.next_theorem.new.self) c.in-Some.is (c.in_ok-id.ensures.next inv.taken inv.read) in
+    let goes = rw c.in-Some.is at (c.in_ok-id.ensures.next inv.taken inv.read) in
     next_follows c.args.shortening.now.checked.now c.args.wanted.duplicates inv.taken
     c.loop-reading.file c.next_theorem.new.self c.in-Some.id goes inv.written
     (c.if-reading-wanted.true ∙ sym inv.home)
@@ -43,10 +32,7 @@ write_theorem-requires-clause-after g c =
 pub write_theorem-requires-clause-order : goal.write_theorem-requires-clause-order
 write_theorem-requires-clause-order g c =
     let inv = c.loop-reading.invariant in
-    let goes : GoesTo c.args.shortening.now.checked.now.files inv.taken (Some c.in-Some.id)
-    c.next_theorem.new.self =
-    subst (λ (o : Option LabelId). GoesTo c.args.shortening.now.checked.now.files inv.taken o
-    c.next_theorem.new.self) c.in-Some.is (c.in_ok-id.ensures.next inv.taken inv.read) in
+    let goes = rw c.in-Some.is at (c.in_ok-id.ensures.next inv.taken inv.read) in
     (next_stands c.args.shortening.now.checked.now c.args.wanted.duplicates inv.taken
     c.loop-reading.file c.next_theorem.new.self c.in-Some.id goes inv.written
     (c.if-reading-wanted.true ∙ sym inv.home)).0
@@ -54,10 +40,7 @@ write_theorem-requires-clause-order g c =
 pub write_theorem-requires-clause-within : goal.write_theorem-requires-clause-within
 write_theorem-requires-clause-within g c =
     let inv = c.loop-reading.invariant in
-    let goes : GoesTo c.args.shortening.now.checked.now.files inv.taken (Some c.in-Some.id)
-    c.next_theorem.new.self =
-    subst (λ (o : Option LabelId). GoesTo c.args.shortening.now.checked.now.files inv.taken o
-    c.next_theorem.new.self) c.in-Some.is (c.in_ok-id.ensures.next inv.taken inv.read) in
+    let goes = rw c.in-Some.is at (c.in_ok-id.ensures.next inv.taken inv.read) in
     (next_stands c.args.shortening.now.checked.now c.args.wanted.duplicates inv.taken
     c.loop-reading.file c.next_theorem.new.self c.in-Some.id goes inv.written
     (c.if-reading-wanted.true ∙ sym inv.home)).1
@@ -65,20 +48,14 @@ write_theorem-requires-clause-within g c =
 pub loop-reading-smaller : goal.loop-reading-smaller
 loop-reading-smaller g c =
     let inv = c.loop-reading.invariant in
-    let goes : GoesTo c.args.shortening.now.checked.now.files inv.taken (Some c.in-Some.id)
-    c.next_theorem.new.self =
-    subst (λ (o : Option LabelId). GoesTo c.args.shortening.now.checked.now.files inv.taken o
-    c.next_theorem.new.self) c.in-Some.is (c.in_ok-id.ensures.next inv.taken inv.read) in
+    let goes = rw c.in-Some.is at (c.in_ok-id.ensures.next inv.taken inv.read) in
     let less = fewer_left c.args.shortening.now.checked.now.files inv.taken goes.0 c.in-Some.id.0
     c.loop-reading.reading c.next_theorem.new.self inv.read goes.2 in omega (arith, less)
 
 pub loop-reading-preserved : goal.loop-reading-preserved
 loop-reading-preserved g c =
     let inv = c.loop-reading.invariant in
-    let goes : GoesTo c.args.shortening.now.checked.now.files inv.taken (Some c.in-Some.id)
-    c.next_theorem.new.self =
-    subst (λ (o : Option LabelId). GoesTo c.args.shortening.now.checked.now.files inv.taken o
-    c.next_theorem.new.self) c.in-Some.is (c.in_ok-id.ensures.next inv.taken inv.read) in
+    let goes = rw c.in-Some.is at (c.in_ok-id.ensures.next inv.taken inv.read) in
     record {
       taken = (inv.taken ++ goes.0) ++ plain_statement c.next_theorem.new.self.statement ∷ [];
       read = goes.2.read;
@@ -105,10 +82,7 @@ loop-reading-preserved g c =
 pub returns-clause-written : goal.returns-clause-written
 returns-clause-written g c =
     let inv = c.loop-reading.invariant in
-    let goes : GoesTo c.args.shortening.now.checked.now.files inv.taken None
-    c.next_theorem.new.self =
-    subst (λ (o : Option LabelId). GoesTo c.args.shortening.now.checked.now.files inv.taken o
-    c.next_theorem.new.self) c.in_default.is (c.in_ok-id.ensures.next inv.taken inv.read) in
+    let goes = rw c.in_default.is at (c.in_ok-id.ensures.next inv.taken inv.read) in
     record {
       statements = inv.taken ++ goes.0;
       reads = goes.2;

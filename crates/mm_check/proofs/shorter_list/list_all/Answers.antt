@@ -1,8 +1,6 @@
 -- The next theorem is listed.
-use Rattle.std.proofs.Common.{◌++◌, ◌∷◌, [], Option, Some, None, subst, arith}
-use Rattle.mm_frame.specs.declared.number.LabelId.{LabelId}
+use Rattle.std.proofs.Common.{◌++◌, ◌∷◌, [], arith}
 use Rattle.mm_text.specs.Statement.{plain_statement}
-use Rattle.mm_check.specs.Mirror.Rereading.{GoesTo}
 use Rattle.mm_check.proofs.Questions.ShorterLists.{listed_on, listed_past}
 use Rattle.mm_check.proofs.Questions.TheoremsAgain.{at_in, fewer_left}
 use Rattle.mm_check.proofs.shorter_list.list_all.Goals as goal
@@ -10,30 +8,21 @@ use Rattle.mm_check.proofs.shorter_list.list_all.Goals as goal
 pub list_theorem-requires-clause-theorem : goal.list_theorem-requires-clause-theorem
 list_theorem-requires-clause-theorem g c =
     let inv = c.loop-reading.invariant in
-    let goes : GoesTo c.args.shortening.now.checked.now.files inv.taken (Some c.in-Some.id)
-    c.next_theorem.new.self =
-    subst (λ (o : Option LabelId). GoesTo c.args.shortening.now.checked.now.files inv.taken o
-    c.next_theorem.new.self) c.in-Some.is (c.in_ok-id.ensures.next inv.taken inv.read) in
+    let goes = rw c.in-Some.is at (c.in_ok-id.ensures.next inv.taken inv.read) in
     at_in c.args.shortening.now.checked.now.files (inv.taken ++ goes.0) c.in-Some.id.0
     c.next_theorem.new.self goes.2
 
 pub loop-reading-smaller : goal.loop-reading-smaller
 loop-reading-smaller g c =
     let inv = c.loop-reading.invariant in
-    let goes : GoesTo c.args.shortening.now.checked.now.files inv.taken (Some c.in-Some.id)
-    c.next_theorem.new.self =
-    subst (λ (o : Option LabelId). GoesTo c.args.shortening.now.checked.now.files inv.taken o
-    c.next_theorem.new.self) c.in-Some.is (c.in_ok-id.ensures.next inv.taken inv.read) in
+    let goes = rw c.in-Some.is at (c.in_ok-id.ensures.next inv.taken inv.read) in
     let less = fewer_left c.args.shortening.now.checked.now.files inv.taken goes.0 c.in-Some.id.0
     c.loop-reading.reading c.next_theorem.new.self inv.read goes.2 in omega (arith, less)
 
 pub loop-reading-preserved : goal.loop-reading-preserved
 loop-reading-preserved g c =
     let inv = c.loop-reading.invariant in
-    let goes : GoesTo c.args.shortening.now.checked.now.files inv.taken (Some c.in-Some.id)
-    c.next_theorem.new.self =
-    subst (λ (o : Option LabelId). GoesTo c.args.shortening.now.checked.now.files inv.taken o
-    c.next_theorem.new.self) c.in-Some.is (c.in_ok-id.ensures.next inv.taken inv.read) in
+    let goes = rw c.in-Some.is at (c.in_ok-id.ensures.next inv.taken inv.read) in
     record {
       taken = (inv.taken ++ goes.0) ++ plain_statement c.next_theorem.new.self.statement ∷ [];
       read = goes.2.read;
@@ -47,10 +36,7 @@ loop-reading-preserved g c =
 pub returns-clause-listed : goal.returns-clause-listed
 returns-clause-listed g c =
     let inv = c.loop-reading.invariant in
-    let goes : GoesTo c.args.shortening.now.checked.now.files inv.taken None
-    c.next_theorem.new.self =
-    subst (λ (o : Option LabelId). GoesTo c.args.shortening.now.checked.now.files inv.taken o
-    c.next_theorem.new.self) c.in_default.is (c.in_ok-id.ensures.next inv.taken inv.read) in
+    let goes = rw c.in_default.is at (c.in_ok-id.ensures.next inv.taken inv.read) in
     record {
       statements = inv.taken ++ goes.0;
       reads = goes.2;

@@ -1,6 +1,6 @@
 -- The two parts come one after the other.
 use Rattle.std.proofs.Common.{ℕ, slice_range, refl}
-use Rattle.mm_check.proofs.Saving.WrittenFiles.{put_twice}
+use Rattle.mm_check.proofs.Saving.FilesUnderWay.{put_twice}
 use Rattle.mm_check.proofs.save_all.NewFile.put.Goals as goal
 
 pub returns : goal.returns

@@ -1,7 +1,5 @@
 -- The next labelled statement is a theorem if a proof of it is kept.
-use Rattle.std.proofs.Common.{Bool, true, refl, sym, subst, ◌∙◌, arith}
-use Rattle.mm_text.specs.Statement.{plain_statement}
-use Rattle.mm_check.specs.Mirror.Judged.{TakesNext}
+use Rattle.std.proofs.Common.{refl, sym, ◌∙◌, arith}
 use Rattle.mm_check.proofs.Questions.TheoremsAgain.{passed_none, passed_few, passed_to}
 use Rattle.mm_check.proofs.Questions.TheoremsAgain.{passed_labelled, passed_unlabelled}
 use Rattle.mm_check.proofs.Questions.TheoremsAgain.{plain_labelled}
@@ -12,10 +10,7 @@ loop-id-init c = λ taken read. passed_none _ taken _ read
 
 pub overflow_add-self : goal.overflow_add-self
 overflow_add-self c =
-    let next : TakesNext c.loop-id.self.statements true (plain_statement c.next.new.into)
-    c.next.new.statements =
-    subst (λ (b : Bool). TakesNext c.loop-id.self.statements b (plain_statement c.next.new.into)
-    c.next.new.statements) c.if-branch.true c.in_ok-next.ensures.taken in
+    let next = rw c.if-branch.true at c.in_ok-next.ensures.taken in
     let few = passed_few c.args.checked.now.files c.requires.0 c.loop-id.self (record {
       statements = c.next.new.statements;
       statement = c.next.new.into;
@@ -25,10 +20,7 @@ overflow_add-self c =
 
 pub returns-then-is_theorem-clause-next : goal.returns-then-is_theorem-clause-next
 returns-then-is_theorem-clause-next c = λ taken read.
-    let next : TakesNext c.loop-id.self.statements true (plain_statement c.next.new.into)
-    c.next.new.statements =
-    subst (λ (b : Bool). TakesNext c.loop-id.self.statements b (plain_statement c.next.new.into)
-    c.next.new.statements) c.if-branch.true c.in_ok-next.ensures.taken in
+    let next = rw c.if-branch.true at c.in_ok-next.ensures.taken in
     passed_to c.args.checked.now.files taken c.loop-id.self _ next (c.loop-id.invariant taken read)
     (record { 0 = c.loop-id.self.labelled })
     (c.in_ok-next.ensures.formed (rw c.if-branch.true refl))
@@ -37,10 +29,7 @@ returns-then-is_theorem-clause-next c = λ taken read.
 
 pub loop-id-preserved-else-is_theorem : goal.loop-id-preserved-else-is_theorem
 loop-id-preserved-else-is_theorem c = λ taken read.
-    let next : TakesNext c.loop-id.self.statements true (plain_statement c.next.new.into)
-    c.next.new.statements =
-    subst (λ (b : Bool). TakesNext c.loop-id.self.statements b (plain_statement c.next.new.into)
-    c.next.new.statements) c.if-branch.true c.in_ok-next.ensures.taken in
+    let next = rw c.if-branch.true at c.in_ok-next.ensures.taken in
     passed_labelled c.args.checked.now.files taken c.loop-id.self _ next
     (c.loop-id.invariant taken read) c.loop-id.self.labelled
     (plain_labelled c.next.new.into.label ∙ sym c.is_some.ensures ∙ c.if-is_some.true) refl refl
@@ -49,10 +38,7 @@ loop-id-preserved-else-is_theorem c = λ taken read.
 
 pub loop-id-preserved : goal.loop-id-preserved
 loop-id-preserved c = λ taken read.
-    let next : TakesNext c.loop-id.self.statements true (plain_statement c.next.new.into)
-    c.next.new.statements =
-    subst (λ (b : Bool). TakesNext c.loop-id.self.statements b (plain_statement c.next.new.into)
-    c.next.new.statements) c.if-branch.true c.in_ok-next.ensures.taken in
+    let next = rw c.if-branch.true at c.in_ok-next.ensures.taken in
     passed_unlabelled c.args.checked.now.files taken c.loop-id.self _ next
     (c.loop-id.invariant taken read)
     (c.in_ok-next.ensures.formed (rw c.if-branch.true refl))
