@@ -1,5 +1,5 @@
 -- The facts that explain a fault of a rule of meaning, joined from what was read again.
-use Rattle.std.proofs.Common.{◌≡◌, ◌≢◌, ℕ, ◌+◌, List, [], ◌∷◌, map, length, Option, Some, None}
+use Rattle.std.proofs.Common.{◌≡◌, ◌≢◌, ℕ, ◌+◌, List, [], ◌∷◌, length, Option}
 use Rattle.std.proofs.Common.{option_map, refl, sym, ap, subst, ◌∙◌, arith}
 use Rattle.std.specs.List.{flat_map}
 use Rattle.std.specs.Option.{option_or}
@@ -13,13 +13,12 @@ use Rattle.mm_frame.specs.declared.rule.MeaningRule.TheVariants.{M1}
 use Rattle.mm_frame.specs.Breaking.{BreaksAt}
 use Rattle.mm_frame.specs.Sentence.{sentence_of}
 use Rattle.mm_check.specs.declared.breach.Breach.{Breach}
-use Rattle.mm_check.specs.declared.rule.Rule.{Rule}
 use Rattle.mm_check.specs.declared.rule.Rule.TheVariants as rules
 use Rattle.mm_check.specs.Explained.{Detail, token_at_fault, block_opened}
 use Rattle.mm_check.specs.MeaningFacts.{AreEarlierFacts, AreMeaningFacts, token_at}
 use Rattle.mm_check.specs.Places.{token_place}
 use Rattle.mm_check.specs.MeaningFacts.{last_looked_at, last_met, looked_at, looked_at_within}
-use Rattle.mm_check.specs.MeaningFacts.{met_as, met_facts}
+use Rattle.mm_check.specs.MeaningFacts.{met_facts}
 use Rattle.mm_check.specs.Mirror.Breaches.{IsBreach, IsBroken, IsStopped, Site}
 use Rattle.mm_check.specs.Verdict.{PlainRefusal, sentences}
 use Rattle.mm_check.proofs.NamesMet.{met-append}

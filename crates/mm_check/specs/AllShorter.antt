@@ -1,7 +1,7 @@
 -- A file in which each proof that became shorter is replaced, and all else is kept; and the list of
 -- the proofs that become shorter. Proofs are those of the Metamath book, sections 4.1.4, 4.3 and
 -- 4.4.3 and appendix B; which of them are shorter, and how they are told, is this project's own.
-use Rattle.std.specs.Prelude.{◌≡◌, ◌⊎◌, ◌↔◌, ◌++◌, ◌+◌, ℕ, ◌<◌, List, [], ◌∷◌, take, length, map}
+use Rattle.std.specs.Prelude.{◌≡◌, ◌⊎◌, ◌↔◌, ◌++◌, ℕ, ◌<◌, List, [], take, length, map}
 use Rattle.std.specs.Prelude.{Bool, true, slice_get, Some, codes, decimal, false, min}
 use Rattle.std.specs.Prelude.{◌^◌, ◌-◌}
 use Rattle.std.specs.List.{AllZip, flat_map, sum_by}

@@ -2,7 +2,7 @@
 -- label, what a text is as its proof, and what its own proof is (the Metamath book, sections 4.1.4,
 -- 4.2, 4.3 and 4.4.4, appendix B). That a theorem may be asked for alone is this project's own.
 use Rattle.std.specs.Prelude.{◌≡◌, ◌≢◌, ◌⊎◌, ℕ, ◌+◌, ◌≤◌, List, [], ◌∷◌, ◌++◌, length, true}
-use Rattle.std.specs.Prelude.{false, Option, Some, None, if◌then◌else◌}
+use Rattle.std.specs.Prelude.{false, Option, Some, None}
 use Rattle.mm_text.specs.declared.statement.Kind.TheVariants.{Provable}
 use Rattle.mm_text.specs.Files.{PlainFile, most_bytes}
 use Rattle.mm_text.specs.Reading.{PlainFault, Reads}
@@ -10,10 +10,9 @@ use Rattle.mm_text.specs.Statement.{PlainStatement}
 use Rattle.mm_code.specs.Words.{tokens_in}
 use Rattle.mm_frame.specs.Rules.{AllMeant}
 use Rattle.mm_frame.specs.Sentence.{Sentence, SomeSentence, sentence_of, IsLabelled}
-use Rattle.mm_proof.specs.KnownPrefix.{known_prefix}
 use Rattle.mm_proof.specs.Listing.{ListedStep, AreListed}
 use Rattle.mm_proof.specs.Moves.{Move, steps_in}
-use Rattle.mm_proof.specs.Tokens.{is_incomplete, SayMoves}
+use Rattle.mm_proof.specs.Tokens.{SayMoves}
 use Rattle.mm_check.specs.declared.rule.AskRule.{AskRule}
 use Rattle.mm_check.specs.declared.rule.AskRule.TheVariants.{A1, A2, A3}
 use Rattle.mm_check.specs.declared.rule.Rule.{Rule}

@@ -1,6 +1,6 @@
 -- What explains a fault of a rule of meaning: the token at fault, and the earlier one with which it
 -- collides, which are this project's own.
-use Rattle.std.specs.Prelude.{◌≡◌, ℕ, List, [], ◌∷◌, ◌++◌, map, length, reverse, find, take, drop}
+use Rattle.std.specs.Prelude.{◌≡◌, ℕ, List, [], ◌∷◌, ◌++◌, map, reverse, find, take, drop}
 use Rattle.std.specs.Prelude.{Option, Some, None, option_map, unwrap_or, slice_get}
 use Rattle.std.specs.List.{flat_map}
 use Rattle.std.specs.Option.{option_to_list}

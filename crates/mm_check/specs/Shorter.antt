@@ -1,14 +1,14 @@
 -- A shorter proof of a theorem, and the text that is told in place of its own small proof. Proofs are
 -- those of the Metamath book, sections 4.1.4, 4.3 and 4.4.3 and appendix B. Which of them are shorter
 -- is this project's own; the marks and the mathboxes that they heed are conventions of the field.
-use Rattle.std.specs.Prelude.{◌≡◌, ℕ, ◌<◌, ◌≤◌, List, [], ◌∷◌, take, length, slice_get, Option}
+use Rattle.std.specs.Prelude.{◌≡◌, ℕ, ◌<◌, ◌≤◌, List, [], ◌∷◌, take, length, slice_get}
 use Rattle.std.specs.Prelude.{true, codes, option_map, unwrap_or, ◌⊎◌}
 use Rattle.mm_text.specs.declared.statement.Kind.TheVariants.{Axiom}
 use Rattle.mm_text.specs.Statement.{PlainStatement}
 use Rattle.mm_text.specs.Files.{PlainFile}
 use Rattle.mm_text.specs.Remarks.{IsSaidBefore, mathbox_at}
 use Rattle.mm_code.specs.declared.code.Code.{Code}
-use Rattle.mm_frame.specs.Sentence.{Sentence, sentence_of, IsLabelled}
+use Rattle.mm_frame.specs.Sentence.{Sentence, sentence_of}
 use Rattle.mm_proof.specs.declared.profile.Profile.{Profile}
 use Rattle.mm_proof.specs.Profiles.{limit_of}
 use Rattle.mm_proof.specs.Proof.{IsWithin}

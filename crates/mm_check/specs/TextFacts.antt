@@ -2,7 +2,7 @@
 -- the last block is closed; else where the comment, the inclusion or the statement began in which
 -- the token stands. The files up to the token tell that: they end in what isn't closed there. The
 -- facts are this project's own.
-use Rattle.std.specs.Prelude.{◌≡◌, ℕ, ◌-◌, ◌==◌, ◌&&◌, if◌then◌else◌, List, [], ◌∷◌, map, not, filter}
+use Rattle.std.specs.Prelude.{◌≡◌, ℕ, ◌-◌, ◌==◌, ◌&&◌, if◌then◌else◌, List, ◌∷◌, map, not, filter}
 use Rattle.std.specs.Prelude.{length, drop, take, slice_get, take_while, Bool, true, false, Option}
 use Rattle.std.specs.Prelude.{Some, None}
 use Rattle.std.specs.Option.{option_to_list}

@@ -1,6 +1,6 @@
 -- What the code of `minimize` knows on its way. This file mirrors the code, and is cited by private
 -- contracts alone.
-use Rattle.std.specs.Prelude.{◌≡◌, ℕ, List, Contains, false, true, slice_get, length, take, map}
+use Rattle.std.specs.Prelude.{◌≡◌, ℕ, List, Contains, false, true, slice_get, length, take}
 use Rattle.std.specs.Prelude.{◌⊎◌, ◌↔◌, ◌≤◌, None, Some}
 use Rattle.mm_text.specs.Statement.{PlainStatement}
 use Rattle.mm_text.specs.Files.{PlainFile}
@@ -12,7 +12,6 @@ use Rattle.mm_proof.specs.declared.profile.Profile.{Profile}
 use Rattle.mm_proof.specs.Moves.{Move}
 use Rattle.mm_proof.specs.OneTree.{MakeTree}
 use Rattle.mm_proof.specs.Packing.{OfTree}
-use Rattle.mm_proof.specs.Plain.{ids_in}
 use Rattle.mm_proof.specs.Profiles.{limit_of}
 use Rattle.mm_proof.specs.ReadSteps.{ReadSteps}
 use Rattle.mm_proof.specs.Steps.{AreNumberedMoves, AreSteps, IsProofNumber}

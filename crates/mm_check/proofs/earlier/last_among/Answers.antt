@@ -1,5 +1,5 @@
 -- One token more, or all of them.
-use Rattle.std.proofs.Common.{◌≡◌, List, map, take, option_map, subst, take_all}
+use Rattle.std.proofs.Common.{◌≡◌, List, map, option_map, subst, take_all}
 use Rattle.mm_text.specs.declared.token.Token.{Token}
 use Rattle.mm_text.specs.Token.{plain_token}
 use Rattle.mm_check.specs.MeaningFacts.{last_met, mentions}

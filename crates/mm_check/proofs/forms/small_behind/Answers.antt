@@ -1,5 +1,5 @@
 -- What is laid out is the small proof.
-use Rattle.std.proofs.Common.{ℕ, List, Ok, ap, subst, ◌∙◌, sym}
+use Rattle.std.proofs.Common.{ℕ, List, ap, subst, ◌∙◌}
 use Rattle.std.proofs.lemmas.Result.{IfOk-weaker}
 use Rattle.mm_code.specs.Layout.{texts}
 use Rattle.mm_code.specs.SmallLayout.{SmallLaidOut}

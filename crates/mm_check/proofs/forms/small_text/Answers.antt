@@ -1,5 +1,5 @@
 -- What is laid out is the small proof.
-use Rattle.std.proofs.Common.{ℕ, List, ap, subst, ◌∙◌, sym}
+use Rattle.std.proofs.Common.{ℕ, List, ap, subst, ◌∙◌}
 use Rattle.mm_code.specs.Layout.{texts, CompressedLaidOut}
 use Rattle.mm_check.proofs.forms.small_text.Goals as goal
 

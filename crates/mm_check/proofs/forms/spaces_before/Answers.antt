@@ -1,6 +1,6 @@
 -- A space is stepped over, and another byte ends them.
-use Rattle.std.proofs.Common.{◌≡◌, ℕ, suc, ◌+◌, List, [], ◌∷◌, length, drop, get_or, Bool, true}
-use Rattle.std.proofs.Common.{false, ◌==◌, cond, eq-eqb, refl, sym, ap, ◌∙◌, arith}
+use Rattle.std.proofs.Common.{◌≡◌, ℕ, suc, ◌+◌, List, ◌∷◌, drop, get_or, Bool, true}
+use Rattle.std.proofs.Common.{false, ◌==◌, cond, eq-eqb, ap, arith}
 use Rattle.std.proofs.Math.ListN.{drop_of_length-le}
 use Rattle.std.proofs.lemmas.Bool.{ne_eqb}
 use Rattle.std.proofs.lemmas.List.{drop_more}

@@ -1,10 +1,10 @@
 -- The first one behind the index, if there is one.
-use Rattle.std.proofs.Common.{◌≡◌, ◌++◌, List, Option, Some, None, map, drop, ap, sym, ◌∙◌, append-nil}
+use Rattle.std.proofs.Common.{◌≡◌, ◌++◌, Option, Some, None, map, drop, ap, sym, ◌∙◌, append-nil}
 use Rattle.std.specs.Prelude.{option_map}
 use Rattle.std.proofs.lemmas.List.{drop-map}
 use Rattle.std.proofs.lemmas.Result.{on_ok_weaker}
 use Rattle.mm_text.specs.declared.token.Token.{Token}
-use Rattle.mm_text.specs.Token.{PlainToken, plain_token}
+use Rattle.mm_text.specs.Token.{plain_token}
 use Rattle.mm_text.specs.Files.{plain_file}
 use Rattle.mm_check.specs.Explained.{detail_text, stated_later_at}
 use Rattle.mm_check.specs.Later.{first_stated}

@@ -1,5 +1,5 @@
 -- One more label is listed; and where none is left, they are those of the files.
-use Rattle.std.proofs.Common.{[], ◌∷◌, map, ap, ◌∙◌}
+use Rattle.std.proofs.Common.{[], ◌∷◌, map}
 use Rattle.std.specs.Prelude.{option_map}
 use Rattle.std.proofs.lemmas.List.{map-append}
 use Rattle.mm_text.specs.Token.{plain_token}

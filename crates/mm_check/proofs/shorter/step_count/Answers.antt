@@ -1,5 +1,5 @@
 -- The codes of the fully shared proof are counted.
-use Rattle.std.proofs.Common.{◌≡◌, ap, ◌∙◌}
+use Rattle.std.proofs.Common.{ap, ◌∙◌}
 use Rattle.mm_proof.specs.Sharing.{steps_of}
 use Rattle.mm_check.proofs.Questions.AskedTheorems.{steps_make}
 use Rattle.mm_check.proofs.shorter.step_count.Goals as goal

@@ -1,7 +1,7 @@
 -- Each line tells a step, and one more line is that of the next, if it is told.
 use Rattle.std.proofs.Common.{◌≡◌, ℕ, ◌+◌, ◌<◌, ◌≤◌, List, ◌++◌, length, true, false, sym, ap}
 use Rattle.std.proofs.Common.{subst}
-use Rattle.std.proofs.Common.{◌∙◌, arith, append-nil, refl, Some, take, Vec}
+use Rattle.std.proofs.Common.{◌∙◌, arith, append-nil, refl, Some, take}
 use Rattle.std.proofs.lemmas.List.{take_all, length-map}
 use Rattle.std.proofs.lemmas.Option.{slice_get_read, slice_get-get_or}
 use Rattle.mm_text.proofs.Lists.{get_within, zip_left}

@@ -1,5 +1,5 @@
 -- The lines tell the steps, and the rows what they use.
-use Rattle.std.proofs.Common.{◌≡◌, List, ℕ, length, sym, subst, ap, ◌∙◌, arith}
+use Rattle.std.proofs.Common.{◌≡◌, List, length, sym, subst, ap, arith}
 use Rattle.std.specs.List.{AllZip}
 use Rattle.std.proofs.lemmas.List.{length-map}
 use Rattle.mm_proof.specs.declared.lines.Line.{Line}

@@ -1,10 +1,9 @@
 -- The files up to the position are read.
-use Rattle.std.proofs.Common.{◌≡◌, List, map, ap, subst, ◌∙◌}
+use Rattle.std.proofs.Common.{List, map, ap, subst, ◌∙◌}
 use Rattle.std.proofs.lemmas.Result.{IfOk-weaker}
 use Rattle.mm_text.specs.Files.{PlainFile, plain_file}
 use Rattle.mm_text.specs.Reading.{Reads}
 use Rattle.mm_check.specs.TextFacts.{unclosed_in}
-use Rattle.mm_check.specs.Verdict.{CanBeRead}
 use Rattle.mm_check.proofs.CutFiles.{readable_up_to}
 use Rattle.mm_check.proofs.text_fault.begin_before.Goals as goal
 

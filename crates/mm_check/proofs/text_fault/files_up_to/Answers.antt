@@ -1,5 +1,5 @@
 -- The cut file stands in the place of the whole one, if there is one.
-use Rattle.std.proofs.Common.{◌≡◌, List, length, map, refl, ap, sym, ◌∙◌, slice_set, arith, get_or}
+use Rattle.std.proofs.Common.{◌≡◌, List, length, map, refl, ap, ◌∙◌, slice_set, arith, get_or}
 use Rattle.mm_text.specs.declared.file.File.{File}
 use Rattle.mm_text.specs.Files.{plain_file}
 use Rattle.mm_check.proofs.CutFiles.{cut_made, none_cut}

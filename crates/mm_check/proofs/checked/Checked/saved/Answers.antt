@@ -4,7 +4,7 @@ use Rattle.mm_text.specs.Statement.{PlainStatement}
 use Rattle.mm_text.specs.Files.{most_bytes, PlainFile, plain_file, total_bytes}
 use Rattle.mm_text.specs.Reading.{Reads}
 use Rattle.mm_check.specs.Conclusion.{Conclusion}
-use Rattle.mm_check.specs.Mirror.Rewriting.{HoldsSpan, StandIn, IsPutFault}
+use Rattle.mm_check.specs.Mirror.Rewriting.{HoldsSpan, IsPutFault}
 use Rattle.mm_check.proofs.Verdicts.AcceptedStatements.{within_limit, KeptWell}
 use Rattle.mm_text.proofs.Lists.{error_keeps}
 use Rattle.mm_check.proofs.Saving.SavedFiles.{holds_span, saved_of, ask_save_fault, text_save_fault}
