@@ -57,16 +57,33 @@ replaced_from at bytes (new ∷ news) =
 abbrev pub with_replaced : List ℕ → List Replacement → List ℕ
 with_replaced bytes news = replaced_from 0 bytes news
 
--- These are the bytes of the file with the number in which each theorem whose proof is complete has
--- its proof in this form.
-pub record IsAllSaved (form : Form) (files : List PlainFile) (statements : List PlainStatement)
-    (number : ℕ) (bytes : List ℕ) : Type 0 where
+-- These are the bytes of the file with the number in which the proof of each theorem is replaced as
+-- it may be in a file of its bytes.
+pub record IsRewritten (May : (bytes : List ℕ) → PlainStatement → Replacement → Type 0)
+    (files : List PlainFile) (statements : List PlainStatement) (number : ℕ)
+    (bytes : List ℕ) : Type 0 where
   pub file : PlainFile
   pub handed : slice_get files number ≡ Some file
   pub replaced : List Replacement
-  pub each : AllZip (IsReplacement form file.bytes statements) (theorems_of number statements)
-      replaced
+  pub each : AllZip (May file.bytes) (theorems_of number statements) replaced
   pub whole : bytes ≡ with_replaced file.bytes replaced
+
+-- Why such a file isn't written, where nothing is at fault: the files would have more bytes than
+-- they may, or memory ran out.
+abbrev pub IsRewriteFault : (May : (bytes : List ℕ) → PlainStatement → Replacement → Type 0)
+    → List PlainFile → List PlainStatement → (number : ℕ) → AskFault → Type 0
+IsRewriteFault May files statements number F3 =
+    (bytes : List ℕ) × IsRewritten May files statements number bytes
+    × (most_bytes < total_with files number bytes)
+IsRewriteFault May files statements number Memory = Unit {0}
+IsRewriteFault May files statements number fault = ⊥
+
+-- These are the bytes of the file with the number in which each theorem whose proof is complete has
+-- its proof in this form.
+abbrev pub IsAllSaved : Form → List PlainFile → List PlainStatement → (number : ℕ)
+    → (bytes : List ℕ) → Type 0
+IsAllSaved form files statements number bytes =
+    IsRewritten (λ own. IsReplacement form own statements) files statements number bytes
 
 -- The theorem with the label is the first one of the file whose normal proof has more labels than
 -- may be written: those before it can be replaced, whatever the bytes of the file are.
@@ -85,15 +102,11 @@ pub record IsFirstTooLong (statements : List PlainStatement) (number : ℕ)
   pub proof : HasProofTree statements label index s root below
   pub long : most_labels < length (spelling (tree root below none))
 
--- Why the file isn't written anew, where nothing is at fault: the files would have more bytes than
--- they may, or memory ran out.
+-- why the file isn't written anew, where nothing is at fault
 abbrev pub IsAllSaveFault : Form → List PlainFile → List PlainStatement → (number : ℕ) → AskFault
     → Type 0
-IsAllSaveFault form files statements number F3 =
-    (bytes : List ℕ) × IsAllSaved form files statements number bytes
-    × (most_bytes < total_with files number bytes)
-IsAllSaveFault form files statements number Memory = Unit {0}
-IsAllSaveFault form files statements number fault = ⊥
+IsAllSaveFault form files statements number fault =
+    IsRewriteFault (λ own. IsReplacement form own statements) files statements number fault
 
 -- Why saving gives nothing: the verdict over the files isn't that they are accepted, or they are,
 -- and a normal proof is too long, or the file isn't written anew; or, in either part, memory was

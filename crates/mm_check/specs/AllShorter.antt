@@ -1,25 +1,24 @@
 -- A file in which each proof that became shorter is replaced, and all else is kept; and the list of
 -- the proofs that become shorter. Proofs are those of the Metamath book, sections 4.1.4, 4.3 and
 -- 4.4.3 and appendix B; which of them are shorter, and how they are told, is this project's own.
-use Rattle.std.specs.Prelude.{◌≡◌, ◌⊎◌, ◌↔◌, ◌++◌, ℕ, ◌<◌, List, [], take, length, map}
+use Rattle.std.specs.Prelude.{◌≡◌, ◌⊎◌, ◌↔◌, ◌++◌, ℕ, List, [], take, length, map}
 use Rattle.std.specs.Prelude.{Bool, true, slice_get, Some, codes, decimal, false, min}
 use Rattle.std.specs.Prelude.{◌^◌, ◌-◌}
-use Rattle.std.specs.List.{AllZip, flat_map, sum_by}
+use Rattle.std.specs.List.{flat_map, sum_by}
 use Rattle.mm_text.specs.Statement.{PlainStatement}
-use Rattle.mm_text.specs.Files.{PlainFile, most_bytes}
+use Rattle.mm_text.specs.Files.{PlainFile}
 use Rattle.mm_frame.specs.Numbers.{IsNumbered}
 use Rattle.mm_frame.specs.Sentence.{Sentence, sentence_of, IsLabelled}
 use Rattle.mm_proof.specs.declared.profile.Profile.{Profile}
 use Rattle.mm_proof.specs.Tree.{Trees}
 use Rattle.mm_proof.specs.Used.{IsUsedNumber}
 use Rattle.mm_check.specs.declared.ask.AskFault.{AskFault}
-use Rattle.mm_check.specs.declared.ask.AskFault.TheVariants.{F3, Memory}
 use Rattle.mm_check.specs.declared.form.Form.TheVariants.{Small}
-use Rattle.mm_check.specs.AllSaved.{Replacement, theorems_of, with_replaced}
+use Rattle.mm_check.specs.AllSaved.{IsRewriteFault, IsRewritten, Replacement}
 use Rattle.mm_check.specs.Answer.{labels_at}
 use Rattle.mm_check.specs.Forms.{IsSmallOf}
 use Rattle.mm_check.specs.Rests.{AreInOrder, AreRising, Uses}
-use Rattle.mm_check.specs.Saved.{IsSpanText, total_with, within_span}
+use Rattle.mm_check.specs.Saved.{IsSpanText, within_span}
 use Rattle.mm_check.specs.Shorter.{IsShorterTree}
 use Rattle.mm_check.specs.Verdict.{labels_of, sentences}
 
@@ -72,24 +71,16 @@ IsShortened profile duplicates files statements bytes s new =
 
 -- These are the bytes of the file with the number in which theorems have shorter proofs: that each
 -- shorter proof is found isn't said.
-pub record IsAllShortened (profile : Profile) (duplicates : Bool) (files : List PlainFile)
-    (statements : List PlainStatement) (number : ℕ) (bytes : List ℕ) : Type 0 where
-  pub file : PlainFile
-  pub handed : slice_get files number ≡ Some file
-  pub replaced : List Replacement
-  pub each : AllZip (IsShortened profile duplicates files statements file.bytes)
-      (theorems_of number statements) replaced
-  pub whole : bytes ≡ with_replaced file.bytes replaced
+abbrev pub IsAllShortened : Profile → (duplicates : Bool) → List PlainFile → List PlainStatement
+    → (number : ℕ) → (bytes : List ℕ) → Type 0
+IsAllShortened profile duplicates files statements number bytes =
+    IsRewritten (IsShortened profile duplicates files statements) files statements number bytes
 
--- Why the file isn't written, where nothing is at fault: the files would have more bytes than they
--- may, or memory ran out.
+-- why the file isn't written, where nothing is at fault
 abbrev pub IsAllShorterFault : Profile → (duplicates : Bool) → List PlainFile → List PlainStatement
     → (number : ℕ) → AskFault → Type 0
-IsAllShorterFault profile duplicates files statements number F3 =
-    (bytes : List ℕ) × IsAllShortened profile duplicates files statements number bytes
-    × (most_bytes < total_with files number bytes)
-IsAllShorterFault profile duplicates files statements number Memory = Unit {0}
-IsAllShorterFault profile duplicates files statements number fault = ⊥
+IsAllShorterFault profile duplicates files statements number fault =
+    IsRewriteFault (IsShortened profile duplicates files statements) files statements number fault
 
 -- ---- the list of shorter proofs
 

@@ -68,9 +68,9 @@ module _ {profile : Profile} {f : Form} {files : List PlainFile} {statements : L
       × AreWrittenAs profile (IsKept f number) IsOwnTree [] statements same
       × (texts_of number bytes same ≡ map (λ new. new.text) sv.replaced)
   all_put =
-      are_all_put profile f (IsKept f number) IsOwnTree files statements number sv.file sv.handed
-      accepted (IsReplacement f sv.file.bytes statements) (λ s new r. r.span)
-      (λ s other is. absurd cc) all_to_put bytes sv.replaced sv.each sv.whole
+      are_all_put profile f (IsKept f number) IsOwnTree files statements number bytes
+      (λ own. IsReplacement f own statements) sv accepted (λ s new r. r.span)
+      (λ s other is. absurd cc) all_to_put
 
 pub saving_all_changes_no_answer : SavingAllChangesNoAnswer
 saving_all_changes_no_answer profile f files statements number bytes accepted sv fits =
@@ -210,8 +210,7 @@ all_small_no_longer profile files statements number bytes accepted sv = (
   sv.file,
   sv.handed,
   all_no_longer profile form.Small (IsKept form.Small number) IsOwnTree files statements number
-      sv.file sv.handed accepted (IsReplacement form.Small sv.file.bytes statements)
-      (λ s new r. r.span) bytes sv.replaced sv.each sv.whole
+      bytes (λ own. IsReplacement form.Small own statements) sv accepted (λ s new r. r.span)
       (λ s new r. small_no_longer _ _ _ (within_span sv.file.bytes s.span) new.text r.laid),
 )
 

@@ -1,7 +1,8 @@
 -- A new file on its way: statement by statement, from the first span on, each in place of what was
 -- there. The proofs of both files that are written whole stand on this.
 use Rattle.std.proofs.Common.{◌≡◌, ℕ, ◌≤◌, List, [], ◌∷◌, ◌++◌, drop, length, slice_get, true}
-use Rattle.std.proofs.Common.{slice_range, Option, inl, inr, refl, sym, ap, ◌∙◌, arith, append_assoc}
+use Rattle.std.proofs.Common.{slice_range, Option, inl, inr, refl, sym, ap, ◌∙◌, arith}
+use Rattle.std.proofs.Common.{append_assoc}
 use Rattle.std.specs.List.{AllZip}
 use Rattle.mm_text.specs.declared.statement.Kind.TheVariants.{Provable}
 use Rattle.mm_text.specs.Statement.{PlainStatement}
@@ -11,9 +12,12 @@ use Rattle.mm_text.proofs.Lists.{zip_push}
 use Rattle.mm_text.proofs.Replaced.ProofSpans.{proof_spans_follow_holds}
 use Rattle.mm_text.proofs.Replaced.ProofSpans.{proofs_stand_in_spans_holds}
 use Rattle.mm_check.specs.declared.save_all.NewFile.{NewFile}
-use Rattle.mm_check.specs.AllSaved.{Replacement, is_theorem_of, theorems_of, with_replaced}
-use Rattle.mm_check.specs.Mirror.AllSaving.{AreReplacedSoFar, AreReplacedUpTo, IsLastEnd}
-use Rattle.mm_check.specs.Mirror.AllSaving.{IsTakenSoFar, IsUpTo, PutsAfter, PutsText, replacement}
+use Rattle.mm_check.specs.declared.ask.AskFault.{AskFault}
+use Rattle.mm_check.specs.AllSaved.{IsRewriteFault, IsRewritten, Replacement, is_theorem_of}
+use Rattle.mm_check.specs.AllSaved.{theorems_of, with_replaced}
+use Rattle.mm_check.specs.Mirror.AllSaving.{AreReplacedSoFar, AreReplacedUpTo, IsFinishFault}
+use Rattle.mm_check.specs.Mirror.AllSaving.{IsLastEnd, IsTakenSoFar, IsUpTo, PutsAfter, PutsText}
+use Rattle.mm_check.specs.Mirror.AllSaving.{replacement}
 use Rattle.mm_check.proofs.Saving.FileSpans.{theorems_parted}
 use Rattle.mm_check.proofs.Saving.ReplacedSpans.{all_replaced, replaced_on}
 use Rattle.mm_check.proofs.Saving.SavedFiles.{within_bytes}
@@ -106,11 +110,26 @@ replaced_next May taken s file next text is replaced each bytes up_to put puts m
 
 -- ---- the end
 
-pub whole_next : (files : List PlainFile) (statements : List PlainStatement) (file : NewFile)
-    (May : PlainStatement → Replacement → Type 0) (bytes : List ℕ)
-    (way : IsTakenSoFar files statements file) (h : AreReplacedSoFar May statements file)
-    → bytes ≡ h.bytes ++ drop file.taken file.source.now
-    → bytes ≡ with_replaced way.own.bytes h.replaced
-whole_next files statements file May bytes way h is =
-    is ∙ all_replaced file.taken file.source.now h.replaced h.bytes h.up_to
-    ∙ ap (λ (own : List ℕ). with_replaced own h.replaced) way.source
+module _ (files : List PlainFile) (statements : List PlainStatement) (file : NewFile)
+    (May : (bytes : List ℕ) → PlainStatement → Replacement → Type 0)
+    (way : IsTakenSoFar files statements file)
+    (h : AreReplacedSoFar (May file.source.now) statements file) where
+  -- the bytes are those of the file with all replaced
+  pub rewritten : (bytes : List ℕ) → bytes ≡ h.bytes ++ drop file.taken file.source.now
+      → IsRewritten May files statements file.number bytes
+  rewritten bytes is = record {
+    file = way.own;
+    handed = way.handed;
+    replaced = h.replaced;
+    each = rw (← way.source) h.each;
+    whole = is ∙ all_replaced file.taken file.source.now h.replaced h.bytes h.up_to
+        ∙ ap (λ (own : List ℕ). with_replaced own h.replaced) way.source;
+  }
+
+  -- or why there are none
+  pub rewrite_fault : (why : AskFault) → IsFinishFault file why
+      → IsRewriteFault May files statements file.number why
+  rewrite_fault why (inl memory) = rw memory tt
+  rewrite_fault why (inr (is, over)) =
+      let bytes : List ℕ = h.bytes ++ drop file.taken file.source.now in
+      rw is (bytes, rewritten bytes refl, (way.limit bytes).0 (over h.bytes h.put))

@@ -167,7 +167,8 @@ module _ (profile : Profile) (Keep : PlainStatement → Type 0)
 
     pub obeyed_along : AllObey profile statements → AllObey profile same
     obeyed_along obeyed before after t split =
-        let there : slice_get same (length before) ≡ Some t = rw split (get_parted before after t) in
+        let there : slice_get same (length before) ≡ Some t =
+        rw split (get_parted before after t) in
         let prefix : take (length before) same ≡ before =
         ap (take (length before)) split ∙ take-append_seam before (t ∷ after) in
         subst (λ (ss : List PlainStatement). Obeys profile (sentences ss) t) prefix
@@ -189,7 +190,8 @@ module _ (profile : Profile) (Keep : PlainStatement → Type 0)
 
 -- ---- where the new proofs have the trees of the old ones
 
-module _ (profile : Profile) (Keep : PlainStatement → Type 0) (statements same : List PlainStatement)
+module _ (profile : Profile) (Keep : PlainStatement → Type 0)
+    (statements same : List PlainStatement)
     (all : AreWrittenAs profile Keep IsOwnTree [] statements same) where
   abbrev Written : List Sentence → PlainStatement → PlainStatement → Type 0
   Written = IsWrittenAs profile Keep IsOwnTree

@@ -17,7 +17,8 @@ use Rattle.mm_proof.specs.declared.profile.Profile.{Profile}
 use Rattle.mm_check.specs.declared.form.Form.{Form}
 use Rattle.mm_check.specs.Verdict.{AreAccepted, sentences}
 use Rattle.mm_check.specs.Saved.{FitsSaved, within_span}
-use Rattle.mm_check.specs.AllSaved.{is_theorem_of, theorems_of, Replacement, with_replaced}
+use Rattle.mm_check.specs.AllSaved.{is_theorem_of, theorems_of, IsRewritten, Replacement}
+use Rattle.mm_check.specs.AllSaved.{with_replaced}
 use Rattle.mm_check.proofs.Saving.FileSpans.{Rise, spans_rise, theorem_complete}
 use Rattle.mm_check.proofs.Saving.FileSpans.{theorem_home, theorem_there, theorems_moved}
 use Rattle.mm_check.proofs.Saving.FileSpans.{theorems_parted}
@@ -59,9 +60,19 @@ texts_of number bytes statements =
 
 module _ (profile : Profile) (f : Form) (Keep : PlainStatement → Type 0)
     (May : List Sentence → PlainStatement → Trees → Type 0) (files : List PlainFile)
-    (statements : List PlainStatement) (number : ℕ) (file : PlainFile)
-    (handed : slice_get files number ≡ Some file)
+    (statements : List PlainStatement) (number : ℕ) (made : List ℕ)
+    (Replaced : (own : List ℕ) → PlainStatement → Replacement → Type 0)
+    (sv : IsRewritten Replaced files statements number made)
     (accepted : AreAccepted profile files statements) where
+  abbrev file : PlainFile
+  file = sv.file
+
+  handed : slice_get files number ≡ Some file
+  handed = sv.handed
+
+  abbrev R : PlainStatement → Replacement → Type 0
+  R = Replaced file.bytes
+
   -- ---- behind some statements
 
   -- The files with these bytes read as the statements before, and others in place of those after
@@ -151,8 +162,7 @@ module _ (profile : Profile) (f : Form) (Keep : PlainStatement → Type 0)
 
   -- ---- all of them
 
-  module _ (R : PlainStatement → Replacement → Type 0)
-      (spanned : (s : PlainStatement) (new : Replacement) → R s new → new.span ≡ s.span) where
+  module _ (spanned : (s : PlainStatement) (new : Replacement) → R s new → new.span ≡ s.span) where
     rise_news : (at end : ℕ) (theorems : List PlainStatement) (news : List Replacement)
         → Rise at end (map (λ s. s.span) theorems) → AllZip R theorems news
         → RiseBehind at end news
@@ -215,17 +225,15 @@ module _ (profile : Profile) (f : Form) (Keep : PlainStatement → Type 0)
 
       -- The files with the new bytes are accepted as other statements, and the texts stand in the
       -- spans of the theorems.
-      pub are_all_put : (bytes : List ℕ) (news : List Replacement)
-          → AllZip R (theorems_of number statements) news → bytes ≡ with_replaced file.bytes news
-          → FitsSaved files number bytes
-          → (same : List PlainStatement) × AreAccepted profile (with_bytes files number bytes) same
+      pub are_all_put : FitsSaved files number made
+          → (same : List PlainStatement) × AreAccepted profile (with_bytes files number made) same
           × AreWrittenAs profile Keep May [] statements same
-          × (texts_of number bytes same ≡ map (λ new. new.text) news)
-      are_all_put bytes news each whole fits =
-          let put = rw (← whole) at (put_behind [] statements refl news each) in (
+          × (texts_of number made same ≡ map (λ new. new.text) sv.replaced)
+      are_all_put fits =
+          let put = rw (← sv.whole) at (put_behind [] statements refl sv.replaced sv.each) in (
             put.later,
             record {
-              readable = readable_anew files number file bytes handed fits accepted.readable;
+              readable = readable_anew files number file made handed fits accepted.readable;
               reads = put.reads;
               obeyed = obeyed_along profile Keep May statements put.later put.each accepted.obeyed;
             },
@@ -234,16 +242,14 @@ module _ (profile : Profile) (f : Form) (Keep : PlainStatement → Type 0)
           )
 
     -- where no text is longer than what stood there, the file is no longer
-    pub all_no_longer : (bytes : List ℕ) (news : List Replacement)
-        → AllZip R (theorems_of number statements) news → bytes ≡ with_replaced file.bytes news
-        → ((s : PlainStatement) (new : Replacement) → R s new
+    pub all_no_longer : ((s : PlainStatement) (new : Replacement) → R s new
         → length new.text ≤ length (within_span file.bytes s.span))
-        → length bytes ≤ length file.bytes
-    all_no_longer bytes news each whole few =
+        → length made ≤ length file.bytes
+    all_no_longer few =
         let theorems : List PlainStatement = theorems_of number statements in
         let Few : PlainStatement → Replacement → Type 0 =
         λ s new. (new.span ≡ s.span) × (length new.text ≤ length (within_span file.bytes s.span)) in
         let rise = spans_rise files statements number file accepted.reads handed in
-        let less = replaced_no_longer 0 file.bytes theorems news rise
-        (zip_weaker R Few (λ s new r. (spanned s new r, few s new r)) theorems news each) in
-        omega (arith, less, ap length whole)
+        let less = replaced_no_longer 0 file.bytes theorems sv.replaced rise
+        (zip_weaker R Few (λ s new r. (spanned s new r, few s new r)) theorems sv.replaced sv.each)
+        in omega (arith, less, ap length sv.whole)

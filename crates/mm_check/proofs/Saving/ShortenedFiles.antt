@@ -1,5 +1,5 @@
 -- A file on its way to having shorter proofs: theorem by theorem, from the first span on.
-use Rattle.std.proofs.Common.{◌≡◌, ℕ, ◌≤◌, ◌<◌, List, [], ◌∷◌, ◌++◌, take, drop, length, slice_get}
+use Rattle.std.proofs.Common.{◌≡◌, ℕ, ◌≤◌, List, [], ◌∷◌, ◌++◌, take, length}
 use Rattle.std.proofs.Common.{Bool, true, false, cond, ◌&&◌, ◌==◌, Some, None}
 use Rattle.std.proofs.Common.{◌⊎◌, inl, inr, refl, sym, ap, subst, ◌∙◌}
 use Rattle.std.proofs.Common.{append-nil}
@@ -7,7 +7,6 @@ use Rattle.std.proofs.lemmas.Bool.{false_from_ne_true}
 use Rattle.std.proofs.lemmas.List.Elements.{filter-append}
 use Rattle.mm_text.specs.declared.statement.Kind.TheVariants.{Provable}
 use Rattle.mm_text.specs.Statement.{PlainStatement, HasForm, plain_statement}
-use Rattle.mm_text.specs.Files.{most_bytes}
 use Rattle.mm_text.specs.Reading.{Reads}
 use Rattle.mm_frame.specs.declared.number.LabelId.{LabelId}
 use Rattle.mm_frame.specs.Sentence.{Sentence, sentence_of}
@@ -21,10 +20,9 @@ use Rattle.mm_check.specs.declared.theorems.Rereading.{Rereading}
 use Rattle.mm_check.specs.AllSaved.{Replacement, is_theorem_of, theorems_of}
 use Rattle.mm_check.specs.AllShorter.{IsAllShortened, IsAllShorterFault, IsShortened}
 use Rattle.mm_check.specs.Conclusion.{Conclusion}
-use Rattle.mm_check.specs.Saved.{IsSpanText, total_with, within_span}
+use Rattle.mm_check.specs.Saved.{IsSpanText, within_span}
 use Rattle.mm_check.specs.Verdict.{is_proof, sentences}
-use Rattle.mm_check.specs.Mirror.AllSaving.{IsFinishFault}
-use Rattle.mm_check.specs.Mirror.AllSaving.{IsWhole}
+use Rattle.mm_check.specs.Mirror.AllSaving.{AreReplacedSoFar, IsFinishFault, IsTakenSoFar, IsWhole}
 use Rattle.mm_check.specs.Mirror.AllShortening.{IsAllShortenedIn, IsShortenedSoFar, IsShorterFor}
 use Rattle.mm_check.specs.Mirror.AllShortening.{MayStandIn, PutsShorter}
 use Rattle.mm_check.specs.Mirror.Rereading.{AreNoTheorems, GoesTo}
@@ -39,7 +37,7 @@ use Rattle.mm_check.proofs.Saving.WrittenFiles.{label_there}
 use Rattle.mm_check.proofs.Verdicts.AcceptedStatements.{same_reading}
 use Rattle.mm_check.specs.Mirror.AllShortening.{MayReplace}
 use Rattle.mm_check.proofs.Saving.FilesUnderWay.{follows_next, replaced_next, stands_next}
-use Rattle.mm_check.proofs.Saving.FilesUnderWay.{way_next, way_past, whole_next}
+use Rattle.mm_check.proofs.Saving.FilesUnderWay.{rewrite_fault, rewritten, way_next, way_past}
 use Rattle.mm_text.proofs.Lists.{zip_weaker}
 
 -- ==== what may stand in place of a theorem's proof
@@ -191,43 +189,39 @@ module _ (c : Conclusion) (duplicates : Bool) (taken : List PlainStatement) (fil
 -- ---- the end
 
 module _ (c : Conclusion) (duplicates : Bool) (number : ℕ) (file : NewFile)
-    (all : IsAllShortenedIn c duplicates number file) where
-  -- the bytes are those of the file with shorter proofs
-  whole_so : (statements : List PlainStatement) → Reads c.files statements None → (bytes : List ℕ)
-      → bytes ≡ all.so_far.so_far.bytes ++ drop file.taken file.source.now
-      → IsAllShortened c.profile duplicates c.files statements number bytes
-  whole_so statements reads bytes is =
-      let way = all.so_far.way in
-      let h = all.so_far.so_far in
-      let same = (same_reading c.files all.statements statements None None all.reads reads).0 in
-      let May : PlainStatement → Replacement → Type 0 = MayReplace c duplicates file.source.now in
-      let Shortened : PlainStatement → Replacement → Type 0 =
-      IsShortened c.profile duplicates c.files all.statements file.source.now in
+    (all : IsAllShortenedIn c duplicates number file) (statements : List PlainStatement)
+    (reads : Reads c.files statements None) where
+  abbrev Shortened : (own : List ℕ) → PlainStatement → Replacement → Type 0
+  Shortened = IsShortened c.profile duplicates c.files statements
+
+  way : IsTakenSoFar c.files statements file
+  way =
+      rw (same_reading c.files all.statements statements None None all.reads reads).0 at
+      all.so_far.way
+
+  so_far : AreReplacedSoFar (Shortened file.source.now) statements file
+  so_far =
+      let h = rw (same_reading c.files all.statements statements None None all.reads reads).0 at
+      all.so_far.so_far in
       record {
-        file = way.own;
-        handed = ap (slice_get c.files) (sym all.home) ∙ way.handed;
         replaced = h.replaced;
-        each = rw (← all.home, ← same, ← way.source)
-            (zip_weaker May Shortened (λ s new may. may all.statements all.reads)
-            (theorems_of file.number all.statements) h.replaced h.each);
-        whole = whole_next c.files all.statements file May bytes way h is;
+        each = zip_weaker (MayReplace c duplicates file.source.now) (Shortened file.source.now)
+            (λ s new may. may statements reads) (theorems_of file.number statements) h.replaced
+            h.each;
+        bytes = h.bytes;
+        up_to = h.up_to;
+        put = h.put;
       }
 
-  pub all_shortened : (bytes : List ℕ) → IsWhole file bytes → (statements : List PlainStatement)
-      → Reads c.files statements None
+  -- the bytes are those of the file with shorter proofs
+  pub all_shortened : (bytes : List ℕ) → IsWhole file bytes
       → IsAllShortened c.profile duplicates c.files statements number bytes
-  all_shortened bytes whole statements reads =
-      let h = all.so_far.so_far in whole_so statements reads bytes (whole h.bytes h.put)
+  all_shortened bytes whole =
+      rw (← all.home) (rewritten c.files statements file Shortened way so_far bytes
+      (whole so_far.bytes so_far.put))
 
   -- or why there are none
   pub shortened_fault : (why : AskFault) → IsFinishFault file why
-      → (statements : List PlainStatement) → Reads c.files statements None
       → IsAllShorterFault c.profile duplicates c.files statements number why
-  shortened_fault why (inl memory) statements reads = rw memory tt
-  shortened_fault why (inr (is, over)) statements reads =
-      let h = all.so_far.so_far in
-      let bytes : List ℕ = h.bytes ++ drop file.taken file.source.now in
-      let too_many : most_bytes < total_with c.files number bytes =
-      subst (λ (n : ℕ). most_bytes < total_with c.files n bytes) all.home
-      ((all.so_far.way.limit bytes).0 (over h.bytes h.put)) in
-      rw is (bytes, whole_so statements reads bytes refl, too_many)
+  shortened_fault why fault =
+      rw (← all.home) (rewrite_fault c.files statements file Shortened way so_far why fault)

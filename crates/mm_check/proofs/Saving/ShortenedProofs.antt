@@ -86,8 +86,8 @@ module _ {profile : Profile} {duplicates : Bool} {files : List PlainFile}
   shortened_no_longer : length bytes ≤ length sv.file.bytes
   shortened_no_longer =
       all_no_longer profile form.Small IsAny (IsShorterThere profile files statements number) files
-      statements number sv.file sv.handed accepted Shortened (λ s new r. r.0) bytes sv.replaced
-      sv.each sv.whole (λ s new r. elim r.1 [
+      statements number bytes (IsShortened profile duplicates files statements) sv accepted
+      (λ s new r. r.0) (λ s new r. elim r.1 [
         | inl kept ↦ omega (arith, ap length kept)
         | inr (label, named, p) ↦
             small_no_longer _ _ _ (within_span sv.file.bytes s.span) new.text p.laid
@@ -112,9 +112,9 @@ module _ {profile : Profile} {duplicates : Bool} {files : List PlainFile}
       same
   all_shortened_put =
       let (same, still, along, stand) = are_all_put profile form.Small IsAny
-      (IsShorterThere profile files statements number) files statements number sv.file sv.handed
-      accepted Shortened (λ s new r. r.0) (λ s other. tt) shorter_to_put bytes sv.replaced sv.each
-      sv.whole shortened_fits in
+      (IsShorterThere profile files statements number) files statements number bytes
+      (IsShortened profile duplicates files statements) sv accepted (λ s new r. r.0)
+      (λ s other. tt) shorter_to_put shortened_fits in
       (same, still, along)
 
 pub all_shortened_no_longer : ShortenedFilesDoNotGrow

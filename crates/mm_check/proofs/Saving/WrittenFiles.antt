@@ -1,5 +1,5 @@
 -- A file on its way to being written anew: statement by statement, from the first span on.
-use Rattle.std.proofs.Common.{◌≡◌, ℕ, ◌≤◌, List, [], ◌∷◌, ◌++◌, take, drop, length}
+use Rattle.std.proofs.Common.{◌≡◌, ℕ, ◌≤◌, List, [], ◌∷◌, ◌++◌, take, length}
 use Rattle.std.proofs.Common.{refl, ap, ◌∙◌, arith, append_assoc, append-nil}
 use Rattle.std.proofs.Common.{◌<◌, Option, Some, None, true, option_map}
 use Rattle.std.proofs.Common.{inl, inr, ◌⊎◌, false, slice_get, subst}
@@ -47,9 +47,8 @@ use Rattle.mm_check.specs.Mirror.Visits.{HasVisited, IsMet}
 use Rattle.mm_check.proofs.Verdicts.StatementByStatement.{one_more}
 use Rattle.mm_check.specs.declared.form.Form.TheVariants as form
 use Rattle.mm_check.specs.declared.save_fault.SaveFault.TheVariants as fault
-use Rattle.mm_check.specs.Mirror.AllSaving.{IsTakenSoFar}
 use Rattle.mm_check.proofs.Saving.FilesUnderWay.{follows_next, replaced_next, stands_next}
-use Rattle.mm_check.proofs.Saving.FilesUnderWay.{way_next, way_past, whole_next}
+use Rattle.mm_check.proofs.Saving.FilesUnderWay.{rewrite_fault, rewritten, way_next, way_past}
 
 -- ==== what is told of a theorem whose proof is written anew
 
@@ -269,8 +268,8 @@ module _ {files : List PlainFile} {told : List Sentence} {id : LabelId}
         IsReplacement next.form next.source.now more in
         let so_far = replaced_next May taken s file next put.text is old.replaced
         (rw (same.form, same.source)
-        (all_kept taken (s ∷ []) file.form file.source.now _ _ old.each)) old.bytes old.up_to old.put
-        put.puts (rw (same.form, same.source) (put.anew (theorem_met formed))) in
+        (all_kept taken (s ∷ []) file.form file.source.now _ _ old.each)) old.bytes old.up_to
+        old.put put.puts (rw (same.form, same.source) (put.anew (theorem_met formed))) in
         record {
           way = way_next files taken s met.left.statements met.left.ending file met.reads
               met.came.1.provable home w.way next put.text put.puts;
@@ -344,19 +343,10 @@ long_fault form files number first file label same home long (statements, accept
     let (normal, too_long) = rw long at all.so_far.so_far in
     rw (← (all.form ∙ same), ← (all.number ∙ home)) (normal, statements, accepted, too_long)
 
--- the bytes are those of the file with all proofs in its form
-whole_so : (files : List PlainFile) (statements : List PlainStatement) (file : NewFile)
-    (bytes : List ℕ) (way : IsTakenSoFar files statements file)
-    (h : AreReplacedSoFar (IsReplacement file.form file.source.now statements) statements file)
-    → bytes ≡ h.bytes ++ drop file.taken file.source.now
-    → IsAllSaved file.form files statements file.number bytes
-whole_so files statements file bytes way h is = record {
-  file = way.own;
-  handed = way.handed;
-  replaced = h.replaced;
-  each = rw way.source at h.each;
-  whole = whole_next files statements file _ bytes way h is;
-}
+-- each theorem is replaced by its proof in the form of the file
+abbrev InForm : NewFile → List PlainStatement → (own : List ℕ) → PlainStatement → Replacement
+    → Type 0
+InForm file statements own = IsReplacement file.form own statements
 
 -- what is saved of the files with the number
 abbrev pub SavesAll : Form → List PlainFile → (number : ℕ) → (bytes : List ℕ) → Type 0
@@ -375,7 +365,7 @@ all_saved form files number first file bytes same home short (statements, accept
     rw (← (all.form ∙ same), ← (all.number ∙ home)) (
       statements,
       accepted,
-      whole_so files statements file bytes w.way h (whole h.bytes h.put),
+      rewritten files statements file (InForm file statements) w.way h bytes (whole h.bytes h.put),
       elim (cases_lt most_bytes (total_with files file.number bytes)) [
         | inl over ↦ absurd (omega (arith, few, (w.way.limit bytes).1 over))
         | inr within ↦ within
@@ -387,14 +377,10 @@ pub finish_fault : (form : Form) (files : List PlainFile) (number : ℕ) (first 
     (why : AskFault) → first.form ≡ form → first.number ≡ number → file.too_long ≡ None
     → IsAllWritten files first file → IsFinishFault file why
     → IsSavingAllFault form files number (fault.Ask why)
-finish_fault form files number first file why same home short (statements, accepted, all)
-    (inl memory) =
-    rw (← (all.form ∙ same), ← (all.number ∙ home), memory) (statements, accepted, tt)
-finish_fault form files number first file why same home short (statements, accepted, all)
-    (inr (is, over)) =
-    let w = all.so_far in
-    let h = replaced_so_far files statements file w short in
-    let bytes : List ℕ = h.bytes ++ drop file.taken file.source.now in
-    let too_many = (w.way.limit bytes).0 (over h.bytes h.put) in
-    rw (← (all.form ∙ same), ← (all.number ∙ home), is)
-    (statements, accepted, (bytes, whole_so files statements file bytes w.way h refl, too_many))
+finish_fault form files number first file why same home short (statements, accepted, all) ended =
+    rw (← (all.form ∙ same), ← (all.number ∙ home)) (
+      statements,
+      accepted,
+      rewrite_fault files statements file (InForm file statements) all.so_far.way
+          (replaced_so_far files statements file all.so_far short) why ended,
+    )
