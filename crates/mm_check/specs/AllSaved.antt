@@ -1,6 +1,6 @@
--- A file in which each complete proof is written anew, in lines, and all else is kept. The forms
--- of proofs are those of the Metamath book, sections 4.3 and 4.4.3 and appendix B; what is kept is
--- this project's own.
+-- A file in which proofs are replaced, and all else is kept; and that in which each complete proof
+-- is written anew, in lines. The forms of proofs are those of the Metamath book, sections 4.3 and
+-- 4.4.3 and appendix B; what is kept is this project's own.
 use Rattle.std.specs.Prelude.{◌≡◌, ℕ, ◌<◌, ◌==◌, ◌&&◌, List, [], ◌∷◌, ◌++◌, take, drop, length}
 use Rattle.std.specs.Prelude.{Bool, Some, slice_get, slice_range, filter}
 use Rattle.std.specs.List.{AllZip}
@@ -46,8 +46,9 @@ pub record IsReplacement (form : Form) (bytes : List ℕ) (statements : List Pla
       (tree root below none) (within_span bytes s.span) new.text
   pub span : new.span ≡ s.span
 
--- The bytes from a position on with several spans replaced, each of which stands after those before
--- it: in turn what is kept before a span and the text in its place, and then what is left.
+-- The bytes from a position on with several spans replaced: in turn what is kept up to a span and
+-- the text in its place, and then what is left. It is asked only where each span stands behind the
+-- one before it, as those of proofs do (`ProofSpansFollow`).
 abbrev pub replaced_from : (at : ℕ) → List ℕ → List Replacement → List ℕ
 replaced_from at bytes [] = drop at bytes
 replaced_from at bytes (new ∷ news) =
@@ -57,8 +58,8 @@ replaced_from at bytes (new ∷ news) =
 abbrev pub with_replaced : List ℕ → List Replacement → List ℕ
 with_replaced bytes news = replaced_from 0 bytes news
 
--- These are the bytes of the file with the number in which the proof of each theorem is replaced as
--- it may be in a file of its bytes.
+-- These are the bytes of the file with the number in which the proof of each of its theorems is
+-- replaced by what may stand there, given the bytes that the file had.
 pub record IsRewritten (May : (bytes : List ℕ) → PlainStatement → Replacement → Type 0)
     (files : List PlainFile) (statements : List PlainStatement) (number : ℕ)
     (bytes : List ℕ) : Type 0 where
@@ -79,7 +80,8 @@ IsRewriteFault May files statements number Memory = Unit {0}
 IsRewriteFault May files statements number fault = ⊥
 
 -- These are the bytes of the file with the number in which each theorem whose proof is complete has
--- its proof in this form.
+-- its proof in this form, or, in small form, the bytes that stood there, where the new ones aren't
+-- fewer.
 abbrev pub IsAllSaved : Form → List PlainFile → List PlainStatement → (number : ℕ)
     → (bytes : List ℕ) → Type 0
 IsAllSaved form files statements number bytes =
@@ -102,7 +104,7 @@ pub record IsFirstTooLong (statements : List PlainStatement) (number : ℕ)
   pub proof : HasProofTree statements label index s root below
   pub long : most_labels < length (spelling (tree root below none))
 
--- why the file isn't written anew, where nothing is at fault
+-- why the file isn't written anew, where nothing is at fault and no normal proof is too long
 abbrev pub IsAllSaveFault : Form → List PlainFile → List PlainStatement → (number : ℕ) → AskFault
     → Type 0
 IsAllSaveFault form files statements number fault =

@@ -45,8 +45,8 @@ pub record IsByOneAlone (before : List Sentence) (s : Sentence) (t : Trees) : Ty
 -- ---- a file with shorter proofs
 
 -- The text is put in place of the old bytes of the proof of the theorem with the label: the small
--- proof of a shorter tree, with their indent, where it has fewer bytes than they. The tree isn't one
--- assertion alone, unless such duplicates are replaced too.
+-- proof of a shorter tree, with their indent, where it has fewer bytes than they. The tree isn't
+-- one assertion alone, unless such duplicates are replaced too.
 pub record IsPutShorter (profile : Profile) (duplicates : Bool) (files : List PlainFile)
     (statements : List PlainStatement) (label old put : List ℕ) : Type 0 where
   pub own : List ℕ
@@ -59,8 +59,8 @@ pub record IsPutShorter (profile : Profile) (duplicates : Bool) (files : List Pl
   pub laid : IsSpanText Small (sentences (take shorter.index statements)) (sentence_of shorter.s) t
       old put
 
--- in a file of these bytes, the proof of the theorem is kept as it stands there, or a shorter one is
--- put in its place
+-- in a file of these bytes, the proof of the theorem is kept as it stands there, or a shorter one
+-- is put in its place
 abbrev pub IsShortened : Profile → (duplicates : Bool) → List PlainFile → List PlainStatement
     → (bytes : List ℕ) → PlainStatement → Replacement → Type 0
 IsShortened profile duplicates files statements bytes s new =
@@ -69,8 +69,8 @@ IsShortened profile duplicates files statements bytes s new =
     ⊎ ((label : List ℕ) × IsLabelled label (sentence_of s)
     × IsPutShorter profile duplicates files statements label (within_span bytes s.span) new.text))
 
--- These are the bytes of the file with the number in which theorems have shorter proofs: that each
--- shorter proof is found isn't said.
+-- These are the bytes of the file with the number in which some theorems, or none, have shorter
+-- proofs: that each shorter proof is found isn't said.
 abbrev pub IsAllShortened : Profile → (duplicates : Bool) → List PlainFile → List PlainStatement
     → (number : ℕ) → (bytes : List ℕ) → Type 0
 IsAllShortened profile duplicates files statements number bytes =

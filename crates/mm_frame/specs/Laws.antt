@@ -16,13 +16,14 @@ OneNumber =
     × ((y : List ℕ) (n : ℕ) → IsNumberOf statements x n → IsNumberOf statements y n → x ≡ y)
     × ((n : ℕ) → IsNumberOf statements x n → IsNumberOf (statements ++ more) x n)
 
--- these are the indices of the open blocks, the outermost first
+-- these are the indices of the `${` of the open blocks, the outermost first
 pub record AreOpen (statements : List Sentence) (indices : List ℕ) : Type 0 where
   pub rising : (i j p q : ℕ) → slice_get indices i ≡ Some p → slice_get indices j ≡ Some q → i < j
       → p < q
   pub each : (p : ℕ) → IsOpen statements p ↔ Contains indices p
 
--- Where no `$}` lacks its `${`, as many blocks are open as there are more `${` than `$}`.
+-- Where no `$}` lacks its `${`, the number of open blocks is that of the `${` less that of the
+-- `$}`.
 abbrev pub OpenCount : Type 0
 OpenCount =
     (statements : List Sentence)

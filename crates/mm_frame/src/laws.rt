@@ -10,7 +10,8 @@ pub fn one_number()
     ensures { OneNumber }
 {}
 
-/// As many blocks are open as there are more `${` than `$}`, where no `$}` lacks its `${`.
+/// Where no `$}` lacks its `${`, the number of open blocks is that of the `${` less that of the
+/// `$}`.
 #[tactic(auto, using(crate::proofs::Blocks::OpenCounts::open_count_holds))]
 pub fn open_count()
     ensures { OpenCount }

@@ -14,8 +14,8 @@ use Rattle.mm_proof.specs.Packing.{AreSharedProof}
 abbrev pub IsWorthATag : Trees → Type 0
 IsWorthATag trees = 3 ≤ nodes trees
 
--- The labels with these numbers and the codes are the proof of the trees that shares what is worth
--- a tag, and writes out again what isn't, as a proof of the statement at the index.
+-- The labels with these numbers and the codes are the proof of the trees that shares the subtrees
+-- that are worth a tag, and no others, as a proof of the statement at the index.
 abbrev pub AreChosen : List Sentence → (index : ℕ) → Sentence → Trees → List LabelId → List Code
     → Type 0
 AreChosen statements index s trees ids codes =

@@ -1,6 +1,7 @@
--- What is known of an incomplete proof, its known prefix: the tokens before the first with a `?`,
--- and of a compressed proof the list and the letters before the first `?`, or nothing (the Metamath
--- book, section 4.4.4 and appendix B). That it is judged is this project's own.
+-- What is known of an incomplete proof, its known prefix: of a normal proof the tokens before the
+-- first with a `?`; of a compressed one the list and the letters before the first `?`, or nothing
+-- where the list isn't closed before it (the Metamath book, section 4.4.4 and appendix B). That it
+-- is judged is this project's own.
 use Rattle.std.specs.Prelude.{ℕ, List, [], ◌∷◌, ◌++◌, Bool, false, Option, Some, None}
 use Rattle.std.specs.Prelude.{slice_get, if◌then◌else◌}
 use Rattle.std.specs.List.{list_any, before_first, position_or_len}

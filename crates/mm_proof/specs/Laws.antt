@@ -1,6 +1,6 @@
--- Laws of verdicts on proofs, after statements that break no rule of meaning. The proofs are those
--- of the Metamath book, sections 4.1.4, 4.3 and 4.4.3 and appendix B; the names of rules, the limit
--- and the laws are this project's own.
+-- Laws of the trees that proofs spell, and of verdicts on proofs, most of them after statements
+-- that break no rule of meaning. The proofs are those of the Metamath book, sections 4.1.4, 4.3 and
+-- 4.4.3 and appendix B; the names of rules, the limit and the laws are this project's own.
 use Rattle.std.specs.Prelude.{◌≡◌, ℕ, List, [], ◌∷◌, map}
 use Rattle.std.specs.Prelude.{◌⊎◌, ◌↔◌}
 use Rattle.mm_frame.specs.Sentence.{Sentence}
@@ -38,9 +38,9 @@ LimitsAside =
     × (IsProved before s tokens → (rule : ProofRule) (step : ℕ)
     → IsFault (IsWithin limit) before s tokens rule step → rule ≡ L1)
 
--- Moves that make trees have a word, the spelling of these trees, which fit; and the words that they
--- keep are the spellings of the kept trees. Trees that fit and that the word of the moves spells are
--- the trees that the moves make, and they make no others.
+-- Moves that make trees have a word, the spelling of these trees; the trees fit, and the words that
+-- are kept are the spellings of the kept trees. Where the word of moves spells trees that fit, the
+-- moves make these trees, and no others.
 abbrev pub MadeByWord : Type 0
 MadeByWord =
     (before : List Sentence) (moves : List (Move (List ℕ))) (trees : Trees)

@@ -1,4 +1,4 @@
--- Laws of fully shared proofs, after statements that break no rule of meaning: this project's own.
+-- Laws of fully shared proofs, and of the steps of any proof of a tree: this project's own.
 use Rattle.std.specs.Prelude.{◌≡◌, ℕ, ◌+◌, ◌≤◌, List, [], sum_by, Contains, ◌↔◌}
 use Rattle.mm_code.specs.declared.code.Code.{Code}
 use Rattle.mm_frame.specs.Sentence.{Sentence}
@@ -26,7 +26,7 @@ SomePacked =
     → (listed : List (List ℕ)) × (codes : List Code)
     × IsPacked before s (tree label below none) listed codes
 
--- the trees that the steps of a pair by labels make, in order
+-- the trees that a pair's steps by labels make, in order
 abbrev pub trees_of : (before : List Sentence) (s : Sentence) (trees : Trees)
     (listed : List (List ℕ)) (codes : List Code) → PairMakes before s trees listed codes
     → List Trees

@@ -21,8 +21,8 @@ IsProvedUnder profile before s tokens =
     HasFormOf profile before s tokens
     × IsProvedWithin (IsWithin (limit_of profile)) before s tokens
 
--- The first fault of tokens under the profile, where these are the faults of the moves that they
--- say. The form is judged after P1 to P5, and before the steps.
+-- The first fault of tokens under the profile, where `Faults` tells the first fault of the moves
+-- that they say. The form is judged after P1 to P5, and before the steps.
 abbrev pub HaveFirstFault : (List (Move (List ℕ)) → ProofRule → ℕ → Type 0) → Profile
     → List Sentence → Sentence → List (List ℕ) → ProofRule → ℕ → Type 0
 HaveFirstFault Faults profile before s tokens rule step =
@@ -42,7 +42,7 @@ abbrev pub AreAllowedUnder : Profile → List Sentence → Sentence → (prefix 
 AreAllowedUnder profile before s prefix =
     HasFormOf profile before s prefix × AreAllowed (IsWithin (limit_of profile)) before s prefix
 
--- their first fault under the profile
+-- the first fault of such tokens under the profile
 abbrev pub HaveFaultUnder : Profile → List Sentence → Sentence → (prefix : List (List ℕ))
     → ProofRule → ℕ → Type 0
 HaveFaultUnder profile before s prefix rule step =
@@ -59,18 +59,18 @@ abbrev pub IsPrefixFaultUnder : Profile → List Sentence → Sentence → List 
 IsPrefixFaultUnder profile before s tokens rule step =
     HaveFaultUnder profile before s (known_prefix tokens) rule step
 
--- what is right has no fault
+-- where this is right, there is no fault
 abbrev pub HasNoFault : (Right : Type 0) → (Fault : ProofRule → ℕ → Type 0) → Type 0
 HasNoFault Right Fault = Right → (rule : ProofRule) (step : ℕ) → ¬ (Fault rule step)
 
--- two faults are one
+-- there is one fault at most: any two have the same rule and the same step
 abbrev pub IsOneFault : (Fault : ProofRule → ℕ → Type 0) → Type 0
 IsOneFault Fault =
     (rule rule' : ProofRule) (step step' : ℕ) → Fault rule step → Fault rule' step'
     → (rule ≡ rule') × (step ≡ step')
 
--- After statements that are meant and in form each proof is proved under the profile, or has a fault;
--- not both, and no two faults.
+-- After statements that are meant and in form each proof is proved under the profile, or has a
+-- fault; not both, and no two faults.
 abbrev pub OneVerdictUnder : Type 0
 OneVerdictUnder =
     (profile : Profile) (before : List Sentence) (s : Sentence) (tokens : List (List ℕ))

@@ -1,4 +1,4 @@
--- What is said of the moves of a proof, by numbers.
+-- What is said of the moves, and of the tokens, of a proof, by numbers.
 use Rattle.std.specs.Prelude.{ℕ, List, take}
 use Rattle.mm_frame.specs.Sentence.{Sentence}
 use Rattle.mm_proof.specs.Tree.{tree, none}

@@ -1,6 +1,6 @@
 -- The handed files that nothing includes: no item of the files is of them, neither a token nor the
--- end (the Metamath book, section 4.1.2). The items go on past X6, X8 and the rules S, M and P, and
--- end at the first fault of X1 to X5, X7 and X9.
+-- end (the Metamath book, section 4.1.2). The items end at the first fault of X1 to X5, X7 and X9,
+-- and go on past every other.
 use Rattle.std.specs.Prelude.{◌≡◌, ℕ, ◌==◌, List, length, Bool, not, filter}
 use Rattle.std.specs.List.{AllZip, list_any, range_with_len}
 use Rattle.mm_text.specs.Files.{PlainFile}

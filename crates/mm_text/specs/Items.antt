@@ -133,8 +133,8 @@ put_in files (suc left) named rest =
     (λ n after. put_in files left (slice_set named n true) (put_before files n after)) rest
 
 -- The items of the handed files: those of the first, the top file, with each of the others put in
--- where it is first named. As many files as there are others can be put in; that more would change
--- nothing is a law.
+-- where it is first named. At most as many files are put in as there are others; that a greater
+-- bound would change nothing is a law.
 abbrev pub items : List PlainFile → List Item
 items [] = []
 items (top ∷ others) =

@@ -47,8 +47,8 @@ FaultsEndLongestPrefixes =
     → EndsAt statements unfinished item fault
     → IsLongestViable (items files) prefix
 
--- That more files could be put in than there are beside the top file changes nothing: by then each
--- that is named was put in.
+-- A greater bound on how many files are put in changes nothing: by then each file that is named has
+-- been put in.
 abbrev pub InclusionsEnd : Type 0
 InclusionsEnd =
     (top : PlainFile) (others : List PlainFile) (more : ℕ)

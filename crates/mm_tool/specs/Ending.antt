@@ -52,7 +52,7 @@ BreaksOff contents text old new =
     AppendsBeginning (contents (inner_of old)) (contents (inner_of new)) text
     × (faults_of new ≡ faults_of old + 1)
 
--- It is as it was, and no call of it failed.
+-- The device is as it was, and no call to it failed.
 abbrev pub IsUntouched : {W : Type 0} → Counted W → Counted W → Type 0
 IsUntouched old new = (inner_of new ≡ inner_of old) × (faults_of new ≡ faults_of old)
 
@@ -70,8 +70,8 @@ label_of (Lone label question) = Some label.now
 label_of (File form number) = None
 label_of (Shorter number duplicates) = None
 
--- This is the reply to the command over the files with these names, with the notes beside it; or the
--- one that says that they hold too many bytes.
+-- This is the reply to the command over the files with these names, with the notes beside it; or
+-- the one that says that they hold too many bytes.
 abbrev pub IsReplyOver : (List ℕ → KnownFile) → Command → List Text → ℕ → List ℕ → Outcome → Type 0
 IsReplyOver holds command names max text outcome =
     ((files : List PlainFile) × AreHeld holds names files × (total_bytes files ≤ max)
@@ -187,7 +187,8 @@ AsksNamed (File form number) names = number < length names
 AsksNamed (Shorter number duplicates) names = number < length names
 AsksNamed other names = Unit {0}
 
--- The end is the same; where a file can't be read, the word that was taken for the label is told too.
+-- The end is the same; where a file can't be read, the word that was taken for the label is told
+-- too.
 abbrev pub AddsLabel : (label : Option (Bor Text)) → Stop → Stop → Type 0
 AddsLabel label (CannotRead name before) stop = stop ≡ CannotRead name label
 AddsLabel label other stop = stop ≡ other
