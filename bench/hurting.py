@@ -118,6 +118,16 @@ def long_values(folder, size):
     return [*asked(0, "check f.mm"), *asked(1, "faults bad.mm", "why bad.mm")]
 
 
+def doubled_values(folder, size):
+    """The same, where the values are doubled again and again."""
+    twice = "two " * (size.bit_length() - 1)
+    head = f"{HEAD}two $a a x x $. ${{ $d x y $. ax $a a x y $. $}}\n"
+    theorem = f"th $p a z $= fx {twice}fy {twice}ax $.\n"
+    write(folder, "f.mm", head, "$d x y $.\n", theorem)
+    write(folder, "bad.mm", head, theorem)
+    return asked(1, "check f.mm", "check bad.mm", "faults bad.mm", "why bad.mm")
+
+
 def number(value):
     """The letters of a number of a compressed proof."""
     digits = [chr(ord("A") + (value - 1) % 20)]
@@ -267,6 +277,7 @@ CASES = [
     ("variables that lack their `$d`", lacking, 100),
     ("variables in two values that lack their `$d`", wide_values, 100),
     ("symbols in two values that are apart", long_values, 5_000),
+    ("symbols in two values that are apart, doubled", doubled_values, 65_536),
     ("symbols of an expression that doubles", powers, 262_144),
     ("long expressions that come and go", dropped, 1_000),
     ("theorems, each by the one before", chain, 50_000),

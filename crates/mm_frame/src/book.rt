@@ -115,6 +115,11 @@ impl<'a> Book<'a> {
         }
     }
 
+    /// Where the book's memory comes from.
+    pub fn allocator(&self) -> Global {
+        *self.numbers.allocator()
+    }
+
     /// Takes the next statement in, unless it breaks a rule of meaning (the Metamath book, sections
     /// 4.2.1 to 4.2.8). A refused statement leaves the book as it was.
     pub fn take(&mut self, statement: &Statement<'a>) -> Result<Taken, RuleFault>

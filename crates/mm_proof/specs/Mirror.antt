@@ -15,6 +15,7 @@ pub mod CodeRun
 pub mod CodeSharing
 pub mod CodeSmall
 pub mod CodeSteps
+pub mod CodeVariables
 pub mod CodeVerify
 pub mod CodeWhole
 pub mod Judges

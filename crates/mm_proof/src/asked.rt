@@ -17,7 +17,7 @@ ghost use Rattle.mm_proof.specs.Proof.{MeetsHypotheses};
 ghost use Rattle.mm_proof.specs.Stores.{numbers_in, entries_in, said_by, all_said_by};
 ghost use Rattle.mm_proof.specs.Stores.{IsWithinIndices};
 ghost use Rattle.mm_proof.specs.Asked.{AsksFor, AreDeclared, AreShared, AreMissing};
-ghost use Rattle.mm_proof.specs.Mirror.CodeAsked.{IsVariableNumber, PutsOnce, AreOnce};
+ghost use Rattle.mm_proof.specs.Mirror.CodeAsked.{PutsOnce, AreOnce};
 ghost use Rattle.mm_proof.specs.Mirror.CodeAsked.{asked_numbers, IsMissingPair};
 ghost use Rattle.mm_proof.specs.Mirror.CodeAsked.{number_pairs, AddsMissing, IsTurned};
 ghost use Rattle.mm_proof.specs.Mirror.CodeAsked.{AreSamePairs, IsEachHigher};
@@ -26,6 +26,7 @@ ghost use Rattle.mm_proof.specs.Mirror.CodeAsked.{AreSharedNumbers, AreMissingNu
 
 use crate::pairs::has_symbol;
 use crate::substitution::after_first;
+use crate::variables::variables_in;
 use mm_frame::{Book, Frame, LabelId, Piece, Scheme, ShortPiece, Sym, one_number};
 use std::alloc::{AllocError, Global};
 
@@ -130,31 +131,6 @@ pub fn asked_by(
     asked_in(alloc, &scheme, entries, number)
 }
 
-// Puts the symbol behind the others where it is a variable, and isn't among them.
-fn add_variable(variables: &mut Vec<Sym>, book: &Book, symbol: Sym) -> Result<(), AllocError>
-    ensures { OnOk result (PutsOnce (IsVariableNumber book.now.statements symbol.0)
-        (Contains (numbers_in variables.old.items) symbol.0)
-        (numbers_in variables.old.items) symbol.0 (numbers_in variables.new.items)) }
-{
-    if !book.is_variable(symbol) || has_symbol(variables, symbol) {
-        return Ok(());
-    }
-    variables.push(symbol)?;
-    Ok(())
-}
-
-/// The variables of the expression, each once. An expression may be long, but has few of them.
-pub(crate) fn variables_in(alloc: Global, book: &Book, e: &[Sym]) -> Result<Vec<Sym>, AllocError>
-    ensures { IfOk result (λ variables. AreOnce (IsVariableNumber book.now.statements)
-        (numbers_in e.now) (numbers_in variables.items)) }
-{
-    let mut variables = Vec::new(alloc);
-    for symbol in e {
-        add_variable(&mut variables, book, *symbol)?;
-    }
-    Ok(variables)
-}
-
 // Puts the symbol behind the others where it stands in the expression, and isn't among them.
 fn add_shared(shared: &mut Vec<Sym>, symbol: Sym, f: &[Sym]) -> Result<(), AllocError>
     ensures { OnOk result (PutsOnce (Contains (numbers_in f.now) symbol.0)
@@ -185,8 +161,9 @@ fn shared_numbers(alloc: Global, book: &Book, e: &[Sym], f: &[Sym]) -> Result<Ve
     ensures { IfOk result (λ shared. AreSharedNumbers book.now.statements (numbers_in e.now)
         (numbers_in f.now) (numbers_in shared.items)) }
 {
-    let variables = variables_in(alloc, book, e)?;
-    let mut shared = those_in(alloc, &variables, f)?;
+    let first = variables_in(alloc, book, e)?;
+    let second = variables_in(alloc, book, f)?;
+    let mut shared = those_in(alloc, &first, &second)?;
     shared.sort_unstable();
     Ok(shared)
 }

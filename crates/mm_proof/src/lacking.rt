@@ -24,7 +24,7 @@ ghost use Rattle.mm_proof.specs.Steps.{AreSteps};
 ghost use Rattle.mm_proof.specs.Verified.{OfMoves};
 ghost use Rattle.mm_proof.specs.Lacking.{AreLacking};
 
-use crate::asked::{add_missing_of, put_in_order, variables_in};
+use crate::asked::{add_missing_of, put_in_order};
 use crate::call::Call;
 use crate::call_table::CallTable;
 use crate::flat::Flat;
@@ -36,6 +36,7 @@ use crate::site::Site;
 use crate::step::{are_equal, typing_of};
 use crate::store::Store;
 use crate::substitution::value_at;
+use crate::variables::entries_of_variables;
 use mm_code::Code;
 use mm_frame::{Book, DistinctPair, Frame, LabelId, Scheme, Sym, one_number};
 use std::alloc::{AllocError, Global};
@@ -60,7 +61,6 @@ fn add_between(
 
 // Puts the missing pairs of what replaces the members of a mandatory pair among the others.
 fn add_of_pair<S: Store>(
-    alloc: Global,
     lacking: &mut Vec<(Sym, Sym)>,
     store: &S,
     base: usize,
@@ -78,12 +78,37 @@ fn add_of_pair<S: Store>(
         ((pair.variables.0.0, pair.variables.1.0) ∷ [])
         (number_pairs lacking.old.items) (number_pairs lacking.new.items)) }
 {
-    let first = variables_in(alloc, book, value_at(store, base, pair.indices.0))?;
-    let second = variables_in(alloc, book, value_at(store, base, pair.indices.1))?;
-    add_between(lacking, book, own, &first, &second)
+    let e = value_at(store, base, pair.indices.0);
+    let f = value_at(store, base, pair.indices.1);
+    add_between(lacking, book, own, e, f)
 }
 
-// Puts the missing pairs of what replaces the members of each mandatory pair among the others.
+// Puts the missing pairs of what replaces the members of each pair among the others.
+fn add_of_each<S: Store>(
+    lacking: &mut Vec<(Sym, Sym)>,
+    store: &S,
+    base: usize,
+    book: &Book,
+    own: &Frame,
+    scheme: &Scheme,
+) -> Result<(), AllocError>
+    requires book { own.now.statements ≡ book.now.statements }
+    requires indices { HaveIndices (variables_of scheme.now.hypotheses.now) scheme.now.pairs.now }
+    requires entries { base + length scheme.now.hypotheses.now ≡ length (S.stack store.now) }
+    requires fits { length (S.stack store.now) < 2 ^ 64 }
+    ensures { OnOk result (AddsLacking book.now.statements own.now.index
+        (value_of (variables_of scheme.now.hypotheses.now) (drop base (S.stack store.now)))
+        (pairs_in scheme.now.pairs.now)
+        (number_pairs lacking.old.items) (number_pairs lacking.new.items)) }
+{
+    for pair in scheme.pairs {
+        add_of_pair(lacking, store, base, book, own, *pair)?;
+    }
+    Ok(())
+}
+
+// Puts the missing pairs of what replaces the members of each mandatory pair among the others:
+// those of the different variables of the entries.
 fn add_of_pairs<S: Store>(
     alloc: Global,
     lacking: &mut Vec<(Sym, Sym)>,
@@ -102,10 +127,11 @@ fn add_of_pairs<S: Store>(
         (pairs_in scheme.now.pairs.now)
         (number_pairs lacking.old.items) (number_pairs lacking.new.items)) }
 {
-    for pair in scheme.pairs {
-        add_of_pair(alloc, lacking, store, base, book, own, *pair)?;
+    if scheme.pairs.is_empty() {
+        return Ok(());
     }
-    Ok(())
+    let entries = entries_of_variables(alloc, store, base, book)?;
+    add_of_each(lacking, &entries, 0, book, own, scheme)
 }
 
 // Makes the step by an assertion, unless it breaks a rule besides P12: whether it was made. The

@@ -47,6 +47,7 @@ mod subtree_set;
 mod subtrees;
 mod used;
 mod uses;
+mod variables;
 mod verdict;
 mod whole_places;
 mod words;

@@ -1,13 +1,15 @@
 //! The distinct pairs of a step by an assertion: P11 and P12.
 
 ghost use Rattle.std.specs.Prelude.{◌≡◌, ◌↔◌, ℕ, ◌+◌, ◌<◌, ◌^◌, List, length, drop, take};
-ghost use Rattle.std.specs.Prelude.{Contains, IsTrue, MatchBool, Option};
+ghost use Rattle.std.specs.Prelude.{Contains, IsTrue, IfSome, MatchBool, Option};
+ghost use Rattle.std.specs.List.{AllZip};
 ghost use Rattle.mm_frame.specs.Active.{IsVariable};
 ghost use Rattle.mm_frame.specs.Form.{IsSound};
 ghost use Rattle.mm_frame.specs.Numbers.{symbols_of};
 ghost use Rattle.mm_frame.specs.Pieces.{variables_of, HasIndices, HaveIndices};
 ghost use Rattle.mm_proof.specs.Tree.{ShareNoVariable, AreDistinct};
 ghost use Rattle.mm_proof.specs.Stores.{numbers_in};
+ghost use Rattle.mm_proof.specs.Mirror.CodeVariables.{HasItsVariables};
 ghost use Rattle.mm_proof.specs.Mirror.CodeVerify.{AreDeclaredSymbols, AreStackEntries, SomeValues};
 ghost use Rattle.mm_proof.specs.Mirror.CodeVerify.{EachValues};
 ghost use Rattle.mm_proof.specs.Mirror.CodeVerify.{SomePairValues, EachPairValues, pairs_in};
@@ -15,8 +17,10 @@ ghost use Rattle.mm_proof.specs.Mirror.CodeVerify.{value_of};
 ghost use Rattle.mm_proof.specs.Mirror.CodeVerify.{IsApart, IsApartFromEach, name_at};
 ghost use Rattle.mm_proof.specs.Mirror.CodeVerify.{names_at};
 
+use crate::flat::Flat;
 use crate::store::Store;
 use crate::substitution::value_at;
+use crate::variables::entries_of_variables;
 use mm_frame::{Book, DistinctPair, Frame, Scheme, Sym, one_number};
 
 /// Whether the symbol is one of these.
@@ -164,9 +168,7 @@ fn is_shared_pair<S: Store>(
     share_variable(book, own, e, f)
 }
 
-/// Whether the variables of what replaces two variables are active pairs. It is a call, as few
-/// steps have pairs, and the others then take fewer instructions.
-#[inline(never)]
+/// Whether the variables of what replaces two variables are active pairs.
 fn is_apart_pair<S: Store>(
     store: &S,
     base: usize,
@@ -196,10 +198,8 @@ fn is_apart_pair<S: Store>(
     are_apart(book, own, e, f)
 }
 
-/// Whether what replaces the members of some mandatory pair shares a variable.
-#[cold]
-#[inline(never)]
-pub(crate) fn has_shared_pair<S: Store>(
+// Whether what replaces the members of some pair shares a variable: the entries are looked through.
+fn some_pair_shares<S: Store>(
     store: &S,
     base: usize,
     book: &Book,
@@ -232,8 +232,9 @@ pub(crate) fn has_shared_pair<S: Store>(
     false
 }
 
-/// Whether the variables of what replaces the members of each mandatory pair are active pairs.
-pub(crate) fn are_apart_pairs<S: Store>(
+// Whether the variables of what replaces the members of each pair are active pairs: the entries are
+// looked through.
+fn each_pair_is_apart<S: Store>(
     store: &S,
     base: usize,
     book: &Book,
@@ -263,4 +264,139 @@ pub(crate) fn are_apart_pairs<S: Store>(
         }
     }
     true
+}
+
+// The entries of a step are looked through as they are where that takes so many comparisons at most:
+// lists of their variables take longer to make.
+const FEW: usize = 4096;
+
+// Whether it takes more comparisons to look through what replaces the members of the pairs.
+fn takes_many<S: Store>(store: &S, base: usize, scheme: &Scheme) -> bool
+    requires indices { HaveIndices (variables_of scheme.now.hypotheses.now) scheme.now.pairs.now }
+    requires entries { base + length scheme.now.hypotheses.now ≡ length (S.stack store.now) }
+    requires fits { length (S.stack store.now) < 2 ^ 64 }
+{
+    let mut comparisons: usize = 0;
+    for pair in scheme.pairs {
+        let e = value_at(store, base, pair.indices.0);
+        let f = value_at(store, base, pair.indices.1);
+        comparisons = comparisons.saturating_add(e.len().saturating_mul(f.len()));
+        if comparisons > FEW {
+            return true;
+        }
+    }
+    false
+}
+
+// The entries from the base on, of each its different variables alone, where it takes many comparisons
+// to look through the entries, and there is memory for the lists. With them a step takes as long as
+// its entries are, and as it takes to compare each two different variables of a pair.
+fn listed<S: Store>(store: &S, base: usize, book: &Book, scheme: &Scheme) -> Option<Flat>
+    requires indices { HaveIndices (variables_of scheme.now.hypotheses.now) scheme.now.pairs.now }
+    requires entries { base + length scheme.now.hypotheses.now ≡ length (S.stack store.now) }
+    requires fits { length (S.stack store.now) < 2 ^ 64 }
+    ensures { IfSome result (λ entries. AllZip (HasItsVariables book.now.statements)
+        (drop base (S.stack store.now)) (⟦<Flat as Store>⟧.stack entries)) }
+{
+    if !takes_many(store, base, scheme) {
+        return None;
+    }
+    entries_of_variables(book.allocator(), store, base, book).ok()
+}
+
+/// Whether what replaces the members of some mandatory pair shares a variable. Where there is no
+/// memory for lists of variables, it takes longer.
+#[cold]
+#[inline(never)]
+pub(crate) fn has_shared_pair<S: Store>(
+    store: &S,
+    base: usize,
+    book: &Book,
+    own: &Frame,
+    scheme: &Scheme,
+) -> bool
+    requires sound { IsSound book.now.statements }
+    requires book { own.now.statements ≡ book.now.statements }
+    requires indices { HaveIndices (variables_of scheme.now.hypotheses.now) scheme.now.pairs.now }
+    requires entries { base + length scheme.now.hypotheses.now ≡ length (S.stack store.now) }
+    requires fits { length (S.stack store.now) < 2 ^ 64 }
+    requires symbols { AreStackEntries book.now.statements (take own.now.index book.now.statements)
+        (drop base (S.stack store.now)) }
+    ensures { let before = take own.now.index book.now.statements in
+        let σ = value_of (variables_of scheme.now.hypotheses.now)
+        (drop base (S.stack store.now)) in
+        MatchBool
+        result
+        (SomePairValues σ (pairs_in scheme.now.pairs.now) (λ e f.
+        ¬ (ShareNoVariable before (names_at book.now.statements e)
+        (names_at book.now.statements f))))
+        (EachPairValues σ (pairs_in scheme.now.pairs.now) (λ e f.
+        ShareNoVariable before (names_at book.now.statements e) (names_at book.now.statements f))) }
+{
+    match listed(store, base, book, scheme) {
+        Some(entries) => some_pair_shares(&entries, 0, book, own, scheme),
+        None => some_pair_shares(store, base, book, own, scheme),
+    }
+}
+
+// Does as `are_apart_pairs`. It is a call, as few steps have pairs, and the others then take fewer
+// instructions.
+#[inline(never)]
+fn all_are_apart<S: Store>(
+    store: &S,
+    base: usize,
+    book: &Book,
+    own: &Frame,
+    scheme: &Scheme,
+) -> bool
+    requires sound { IsSound book.now.statements }
+    requires book { own.now.statements ≡ book.now.statements }
+    requires indices { HaveIndices (variables_of scheme.now.hypotheses.now) scheme.now.pairs.now }
+    requires entries { base + length scheme.now.hypotheses.now ≡ length (S.stack store.now) }
+    requires fits { length (S.stack store.now) < 2 ^ 64 }
+    requires symbols { AreStackEntries book.now.statements (take own.now.index book.now.statements)
+        (drop base (S.stack store.now)) }
+    ensures { let before = take own.now.index book.now.statements in
+        let σ = value_of (variables_of scheme.now.hypotheses.now)
+        (drop base (S.stack store.now)) in
+        MatchBool
+        result
+        (EachPairValues σ (pairs_in scheme.now.pairs.now) (λ e f.
+        AreDistinct before (names_at book.now.statements e) (names_at book.now.statements f)))
+        (SomePairValues σ (pairs_in scheme.now.pairs.now) (λ e f.
+        ¬ (AreDistinct before (names_at book.now.statements e) (names_at book.now.statements f)))) }
+{
+    match listed(store, base, book, scheme) {
+        Some(entries) => each_pair_is_apart(&entries, 0, book, own, scheme),
+        None => each_pair_is_apart(store, base, book, own, scheme),
+    }
+}
+
+/// Whether the variables of what replaces the members of each mandatory pair are active pairs. Where
+/// there is no memory for lists of variables, it takes longer.
+pub(crate) fn are_apart_pairs<S: Store>(
+    store: &S,
+    base: usize,
+    book: &Book,
+    own: &Frame,
+    scheme: &Scheme,
+) -> bool
+    requires sound { IsSound book.now.statements }
+    requires book { own.now.statements ≡ book.now.statements }
+    requires indices { HaveIndices (variables_of scheme.now.hypotheses.now) scheme.now.pairs.now }
+    requires entries { base + length scheme.now.hypotheses.now ≡ length (S.stack store.now) }
+    requires fits { length (S.stack store.now) < 2 ^ 64 }
+    requires symbols { AreStackEntries book.now.statements (take own.now.index book.now.statements)
+        (drop base (S.stack store.now)) }
+    ensures { let before = take own.now.index book.now.statements in
+        let σ = value_of (variables_of scheme.now.hypotheses.now)
+        (drop base (S.stack store.now)) in
+        MatchBool
+        result
+        (EachPairValues σ (pairs_in scheme.now.pairs.now) (λ e f.
+        AreDistinct before (names_at book.now.statements e) (names_at book.now.statements f)))
+        (SomePairValues σ (pairs_in scheme.now.pairs.now) (λ e f.
+        ¬ (AreDistinct before (names_at book.now.statements e) (names_at book.now.statements f)))) }
+{
+    scheme.pairs.is_empty() || all_are_apart(store, base, book, own, scheme)
 }

@@ -48,6 +48,14 @@ fin $a |- x $.
 $}
 ";
 
+/// Statements that make long expressions, and an assertion with distinct variables.
+pub(crate) const LONG: &[u8] = b"\
+$c a $. $v x y z $. fx $f a x $. fy $f a y $. fz $f a z $.
+two $a a x x $. cat $a a x y $.
+${ e $e a x $. cut $a a z $. $}
+${ $d x y $. dxy $a a x y $. $}
+";
+
 /// An axiom that doubles an expression: `limit.mm`.
 pub(crate) const LIMIT: &[u8] = b"\
 $c e f | $.

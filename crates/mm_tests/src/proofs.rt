@@ -2,7 +2,7 @@
 
 use crate::Case;
 use crate::Part::{Text, Times};
-use crate::databases::{DEMO, DIST, HEAD, LIMIT};
+use crate::databases::{DEMO, DIST, HEAD, LIMIT, LONG};
 
 /// Proofs after the head of the demonstration database that have one fault.
 pub(crate) const AFTER_HEAD: [Case; 10] = [
@@ -265,5 +265,79 @@ pub(crate) const WHOLE_LANGUAGE: [Case; 10] = [
         )],
         reply: b"limit limit.mm 10 th L1 21\n",
         status: 4,
+    },
+];
+
+/// Proofs after the head of long expressions: what replaces distinct variables has 262,144 symbols
+/// each, or one more, so that each symbol of the one with each of the other would take hours.
+pub(crate) const LONG_PAIRS: [Case; 4] = [
+    Case {
+        name: "each symbol of the one and each of the other are an active pair",
+        files: &[(
+            b"long.mm",
+            &[
+                Text(LONG),
+                Text(b"${ $d x y $. p $p a x $=\n"),
+                Text(b"fx "),
+                Times(b"two ", 18),
+                Text(b"fy "),
+                Times(b"two ", 18),
+                Text(b"dxy fx fx "),
+                Times(b"two ", 18),
+                Text(b"fy "),
+                Times(b"two ", 18),
+                Text(b"dxy cut $. $}\n"),
+            ],
+        )],
+        reply: b"yes 19 statements 1 proofs\n",
+        status: 0,
+    },
+    Case {
+        name: "none of these pairs is active",
+        files: &[(
+            b"long.mm",
+            &[
+                Text(LONG),
+                Text(b"p $p a x $= fx "),
+                Times(b"two ", 18),
+                Text(b"fy "),
+                Times(b"two ", 18),
+                Text(b"dxy $.\n"),
+            ],
+        )],
+        reply: b"no long.mm 5 p P12 39\n",
+        status: 1,
+    },
+    Case {
+        name: "the last symbols of each are one variable",
+        files: &[(
+            b"long.mm",
+            &[
+                Text(LONG),
+                Text(b"${ $d x y $. p $p a x $= fx "),
+                Times(b"two ", 18),
+                Text(b"fz cat fy "),
+                Times(b"two ", 18),
+                Text(b"fz cat dxy $. $}\n"),
+            ],
+        )],
+        reply: b"no long.mm 5 p P11 43\n",
+        status: 1,
+    },
+    Case {
+        name: "the first symbol of the one and the others are no active pair",
+        files: &[(
+            b"long.mm",
+            &[
+                Text(LONG),
+                Text(b"${ $d x y $. p $p a x $= fz fx "),
+                Times(b"two ", 18),
+                Text(b"cat fy "),
+                Times(b"two ", 18),
+                Text(b"dxy $. $}\n"),
+            ],
+        )],
+        reply: b"no long.mm 5 p P12 41\n",
+        status: 1,
     },
 ];

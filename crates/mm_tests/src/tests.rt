@@ -257,6 +257,11 @@ fn whole_language(rt: HostRuntime) -> Result<(), Fail> {
 }
 
 #[test]
+fn long_pairs(rt: HostRuntime) -> Result<(), Fail> {
+    compare(&rt, rt.alloc(), &proofs::LONG_PAIRS)
+}
+
+#[test]
 fn listed(rt: HostRuntime) -> Result<(), Fail> {
     compare(&rt, rt.alloc(), &incomplete::LISTED)
 }

@@ -148,19 +148,21 @@ once_more P e old new i less puts are = elim puts [
       once = are.once;
     }
 
--- the variables of the one that stand in the other are those that both share, and so they are in
--- another order
-pub shared_of : (st : List Sentence) (e f variables those shared : List ℕ)
-    → AreOnce (IsVariableNumber st) e variables → AreOnce (Contains f) variables those
+-- the variables of the one that are variables of the other are those that both share, and so they
+-- are in another order
+pub shared_of : (st : List Sentence) (e f first second those shared : List ℕ)
+    → AreOnce (IsVariableNumber st) e first → AreOnce (IsVariableNumber st) f second
+    → AreOnce (Contains second) first those
     → ((n : ℕ) → Contains shared n ↔ Contains those n) → DoRise shared
     → AreSharedNumbers st e f shared
-shared_of st e f variables those shared are picked same rising = record {
+shared_of st e f first second those shared in_e in_f picked same rising = record {
   each = λ n. (
     λ c.
         let h = (picked.each n).0 ((same n).0 c) in
-        let v = (are.each n).0 h.1 in
-        (v.0, v.1, h.0),
-    λ h. (same n).1 ((picked.each n).1 (h.2, (are.each n).1 (h.0, h.1))),
+        let v = (in_e.each n).0 h.1 in
+        (v.0, v.1, ((in_f.each n).0 h.0).1),
+    λ h. (same n).1 ((picked.each n).1
+        ((in_f.each n).1 (h.0, h.2), (in_e.each n).1 (h.0, h.1))),
   );
   rising = rising;
 }

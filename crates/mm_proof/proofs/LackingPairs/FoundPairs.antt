@@ -4,16 +4,18 @@ use Rattle.std.proofs.Common.{◌≡◌, ℕ, zero, suc, ◌+◌, ◌<◌, List,
 use Rattle.std.proofs.Common.{slice_get, Contains, Option, Some, inl, inr, ⊎_elim, refl, sym}
 use Rattle.std.proofs.Common.{ap}
 use Rattle.std.proofs.Common.{subst, ◌∙◌, arith}
+use Rattle.std.specs.List.{AllZip}
 use Rattle.std.proofs.lemmas.Bool.{cases_lt}
 use Rattle.std.proofs.lemmas.Option.{same_Some, none-some}
 use Rattle.mm_text.proofs.Lists.{get_take, get_from_take}
 use Rattle.mm_frame.specs.Sentence.{Sentence}
-use Rattle.mm_proof.specs.Mirror.CodeVerify.{SomePairValues}
-use Rattle.mm_proof.specs.Mirror.CodeAsked.{IsVariableNumber, IsMissingPair, HasEither, AddsMissing}
-use Rattle.mm_proof.specs.Mirror.CodeAsked.{AreOnce}
+use Rattle.mm_proof.specs.Mirror.CodeVerify.{SomePairValues, value_of}
+use Rattle.mm_proof.specs.Mirror.CodeVariables.{HasItsVariables}
+use Rattle.mm_proof.specs.Mirror.CodeAsked.{IsMissingPair, HasEither, AddsMissing}
 use Rattle.mm_proof.specs.Mirror.CodeLacking.{AddsBetween, AddsLacking}
 use Rattle.mm_proof.proofs.ByNumbers.ListedVariables.{taken_more, more_taken, last_taken}
 use Rattle.mm_proof.proofs.ByNumbers.ListedVariables.{more_either}
+use Rattle.mm_proof.proofs.ByNumbers.EntryVariables.{listed_value, value_listed}
 
 -- one symbol more of the first expression
 pub between_more : (st : List Sentence) (index : ℕ) (e f : List ℕ) (old before new : List (ℕ × ℕ))
@@ -32,19 +34,6 @@ between_more st index e f old before new i less adds was = record {
         subst (λ k. HasEither new (k, n)) same
         (adds.each n (subst (λ k. IsMissingPair st index k n) (sym same) p) d)
   ];
-}
-
--- those of the variables of the expressions are those of the expressions
-pub between_of : (st : List Sentence) (index : ℕ) (e f first second : List ℕ)
-    (old new : List (ℕ × ℕ))
-    → AreOnce (IsVariableNumber st) e first → AreOnce (IsVariableNumber st) f second
-    → AddsBetween st index first second old new → AddsBetween st index e f old new
-between_of st index e f first second old new in_e in_f adds = record {
-  kept = adds.kept;
-  only = λ p c. ⊎_elim inl (λ h. inr (h.0, ((in_e.each p.0).0 h.1).1, ((in_f.each p.1).0 h.2).1))
-      (adds.only p c);
-  each = λ m n p c d. adds.each m n p ((in_e.each m).1 (p.first, c))
-      ((in_f.each n).1 (p.second, d));
 }
 
 only_pair : (p q : ℕ × ℕ) (k : ℕ) → slice_get (p ∷ []) k ≡ Some q → p ≡ q
@@ -104,3 +93,27 @@ module _ (st : List Sentence) (index : ℕ) (σ : ℕ → Option (List ℕ)) whe
       last P (k, q, at, some) =
           let same : p ≡ q = only_pair p q k at in
           (i, q, get_take pairs (i + 1) i (omega arith) ∙ there ∙ ap Some same, some)
+
+-- those of the variables of each entry are those of the entries
+pub found_of_rows : (st : List Sentence) (index : ℕ) (vs : List (Option ℕ))
+    (es rows : List (List ℕ)) (pairs old new : List (ℕ × ℕ))
+    → AllZip (HasItsVariables st) es rows
+    → AddsLacking st index (value_of vs rows) pairs old new
+    → AddsLacking st index (value_of vs es) pairs old new
+found_of_rows st index vs es rows pairs old new zip adds = record {
+  kept = adds.kept;
+  only = λ p c. ⊎_elim inl (λ h. inr (h.0, listed p h.1)) (adds.only p c);
+  each = λ k p at e f at_e at_f m n missing in_e in_f.
+      let a = listed_value st vs es rows p.0 e zip at_e in
+      let b = listed_value st vs es rows p.1 f zip at_f in
+      adds.each k p at a.0 b.0 a.1 b.1 m n missing ((a.2 m).1 (missing.first, in_e))
+      ((b.2 n).1 (missing.second, in_f));
+}
+  where
+    listed : (q : ℕ × ℕ)
+        → SomePairValues (value_of vs rows) pairs (λ a b. Contains a q.0 × Contains b q.1)
+        → SomePairValues (value_of vs es) pairs (λ e f. Contains e q.0 × Contains f q.1)
+    listed q (k, p, at, (a, b, at_a, at_b, both)) =
+        let e = value_listed st vs es rows p.0 a zip at_a in
+        let f = value_listed st vs es rows p.1 b zip at_b in
+        (k, p, at, (e.0, f.0, e.1, f.1, (((e.2 q.0).0 both.0).1, ((f.2 q.1).0 both.1).1)))

@@ -43,6 +43,10 @@ impl<T> Vec<T> {
         self.0.pop()
     }
 
+    pub fn allocator(&self) -> &Global {
+        &Global
+    }
+
     pub fn capacity(&self) -> usize {
         self.0.capacity()
     }

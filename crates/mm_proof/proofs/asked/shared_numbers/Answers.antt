@@ -4,7 +4,8 @@ use Rattle.mm_proof.proofs.asked.shared_numbers.Goals as goal
 
 pub returns : goal.returns
 returns c =
-    let picked = rw c.deref.ensures.value at c.in_ok-shared.ensures in
+    let picked = rw (c.deref.ensures.value, c.deref-2.ensures.value) at c.in_ok-shared.ensures in
     let moved = c.sort_unstable.ensures.permutation in
-    shared_of _ _ _ _ _ _ c.in_ok-variables.ensures picked (same_sorted _ _ moved)
+    shared_of _ _ _ _ _ _ _ c.in_ok-first.ensures c.in_ok-second.ensures picked
+    (same_sorted _ _ moved)
     (symbols_rise _ _ picked.once moved c.sort_unstable.ensures.sorted)

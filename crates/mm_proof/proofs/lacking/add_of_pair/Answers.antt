@@ -3,7 +3,7 @@ use Rattle.std.proofs.lemmas.List.{length-drop}
 use Rattle.std.proofs.lemmas.Result.{on_ok_weaker}
 use Rattle.mm_proof.specs.Mirror.CodeVerify.{value_of}
 use Rattle.mm_proof.proofs.ByNumbers.NumberedSymbols.{value_placed}
-use Rattle.mm_proof.proofs.LackingPairs.FoundPairs.{between_of, found_of_pair}
+use Rattle.mm_proof.proofs.LackingPairs.FoundPairs.{found_of_pair}
 use Rattle.mm_proof.proofs.lacking.add_of_pair.Goals as goal
 
 pub returns : goal.returns
@@ -15,7 +15,6 @@ returns g c = on_ok_weaker c.add_between.result (λ adds variables indexed.
     let second : c.args.pair.indices.1 < length es =
     omega (arith, length-drop c.args.base stack, c.requires.second) in
     found_of_pair _ _ (value_of variables es) _ _ _ _ _ _
-    (value_placed _ variables es _ _ indexed.0 first c.value_at.ensures)
-    (value_placed _ variables es _ _ indexed.1 second c.value_at-2.ensures)
-    (between_of _ _ _ _ _ _ _ _ c.in_ok-first.ensures c.in_ok-second.ensures
-    (rw (c.deref.ensures.value, c.deref-2.ensures.value) at adds))) c.add_between.ensures
+    (value_placed _ variables es _ _ indexed.0 first c.value_at-e.ensures)
+    (value_placed _ variables es _ _ indexed.1 second c.value_at-f.ensures)
+    adds) c.add_between.ensures

@@ -1,26 +1,13 @@
-use Rattle.std.proofs.Common.{drop, arith}
-use Rattle.std.proofs.lemmas.Option.{slice_get-get_or}
+use Rattle.std.proofs.Common.{drop}
+use Rattle.std.proofs.lemmas.Result.{on_ok_weaker}
 use Rattle.mm_frame.specs.Pieces.{variables_of}
-use Rattle.mm_frame.proofs.Frames.VariableIndices.{variables_counted}
-use Rattle.mm_proof.specs.Mirror.CodeVerify.{value_of}
-use Rattle.mm_proof.proofs.ByNumbers.SharedVariables.{pair_at, no_pair}
-use Rattle.mm_proof.proofs.LackingPairs.FoundPairs.{found_more}
+use Rattle.mm_proof.specs.Mirror.CodeVerify.{pairs_in}
+use Rattle.mm_proof.proofs.LackingPairs.FoundPairs.{found_of_rows}
 use Rattle.mm_proof.proofs.lacking.add_of_pairs.Goals as goal
 
-pub add_of_pair-requires-clause-first : goal.add_of_pair-requires-clause-first
-add_of_pair-requires-clause-first g c =
-    let indexed = c.requires.indices _ _ (slice_get-get_or _ _ no_pair c.loop-pair-test.true) in
-    omega (arith, variables_counted c.args.scheme.now.hypotheses.now)
-
-pub add_of_pair-requires-clause-second : goal.add_of_pair-requires-clause-second
-add_of_pair-requires-clause-second g c =
-    let indexed = c.requires.indices _ _ (slice_get-get_or _ _ no_pair c.loop-pair-test.true) in
-    omega (arith, variables_counted c.args.scheme.now.hypotheses.now)
-
-pub loop-pair-preserved : goal.loop-pair-preserved
-loop-pair-preserved g c =
-    let indexed = c.requires.indices _ _ (slice_get-get_or _ _ no_pair c.loop-pair-test.true) in
-    found_more _ _ (value_of (variables_of c.args.scheme.now.hypotheses.now)
-    (drop c.args.base (g.S.Store.stack c.args.store.now))) _ c.loop-pair.pair-index _ _ _ _
-    (pair_at _ _ no_pair c.loop-pair-test.true)
-    (c.in_ok-add_of_pair.ensures _ indexed) c.loop-pair.invariant
+pub returns : goal.returns
+returns g c = on_ok_weaker c.add_of_each.result
+    (found_of_rows c.args.book.now.statements c.args.own.now.index
+    (variables_of c.args.scheme.now.hypotheses.now)
+    (drop c.args.base (g.S.Store.stack c.args.store.now)) _ (pairs_in c.args.scheme.now.pairs.now)
+    _ _ c.in_ok-entries.ensures) c.add_of_each.ensures

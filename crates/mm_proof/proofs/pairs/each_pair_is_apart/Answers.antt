@@ -4,7 +4,7 @@ use Rattle.mm_frame.specs.Pieces.{variables_of}
 use Rattle.mm_frame.proofs.Frames.VariableIndices.{variables_counted}
 use Rattle.mm_proof.specs.Mirror.CodeVerify.{value_of}
 use Rattle.mm_proof.proofs.ByNumbers.SharedVariables.{pair_at, pairs_more, pairs_length, no_pair}
-use Rattle.mm_proof.proofs.pairs.are_apart_pairs.Goals as goal
+use Rattle.mm_proof.proofs.pairs.each_pair_is_apart.Goals as goal
 
 pub is_apart_pair-requires-clause-first : goal.is_apart_pair-requires-clause-first
 is_apart_pair-requires-clause-first g c =

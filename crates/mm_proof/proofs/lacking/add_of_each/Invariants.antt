@@ -3,7 +3,7 @@ use Rattle.mm_frame.specs.Pieces.{variables_of}
 use Rattle.mm_proof.specs.Mirror.CodeAsked.{number_pairs}
 use Rattle.mm_proof.specs.Mirror.CodeVerify.{value_of, pairs_in}
 use Rattle.mm_proof.specs.Mirror.CodeLacking.{AddsLacking}
-use Rattle.mm_proof.proofs.lacking.add_of_pairs.Given as goal
+use Rattle.mm_proof.proofs.lacking.add_of_each.Given as goal
 
 abbrev pub invariant-loop-pair : goal.invariant-loop-pair
 invariant-loop-pair g l =
