@@ -8,14 +8,26 @@ mod library;
 mod mm_code;
 #[path = "../mm_frame/mod.rs"]
 mod mm_frame;
+#[path = "../mm_step/mod.rs"]
+mod mm_step;
 #[path = "../mm_proof/mod.rs"]
 mod mm_proof;
+#[path = "../mm_listing/mod.rs"]
+mod mm_listing;
+#[path = "../mm_places/mod.rs"]
+mod mm_places;
+#[path = "../mm_distinct/mod.rs"]
+mod mm_distinct;
+#[path = "../mm_forms/mod.rs"]
+mod mm_forms;
 #[path = "../mm_text/mod.rs"]
 mod mm_text;
 
 use crate::library::Global;
 use crate::mm_frame::{LabelId, Taken};
-use crate::mm_proof::{compress, verify, Flat, Parsed, Profile, Proved, Prover, Steps};
+use crate::mm_forms::{compress};
+use crate::mm_proof::{verify, Parsed, Proved, Prover, Steps};
+use crate::mm_step::{Flat, Profile};
 use crate::mm_text::{File, Kind, Seed, Statement, Statements, Token};
 
 /// What the calls took, and what they went over.

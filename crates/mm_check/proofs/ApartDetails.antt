@@ -13,19 +13,19 @@ use Rattle.std.proofs.lemmas.Grind.{flat_map-append}
 use Rattle.mm_text.proofs.Lists.{all_at, zip_left, zip_push, get_kept, get_pushed}
 use Rattle.mm_frame.specs.declared.distinct.DistinctPair.{DistinctPair}
 use Rattle.mm_frame.specs.declared.number.Sym.{Sym}
-use Rattle.mm_proof.specs.declared.fault.ProofRule.{ProofRule}
-use Rattle.mm_proof.specs.declared.fault.ProofRule.TheVariants.{P11, P12}
-use Rattle.mm_proof.specs.Stores.{entries_in, numbers_in}
+use Rattle.mm_step.specs.declared.fault.ProofRule.{ProofRule}
+use Rattle.mm_step.specs.declared.fault.ProofRule.TheVariants.{P11, P12}
+use Rattle.mm_step.specs.Stores.{entries_in, numbers_in}
 use Rattle.mm_proof.specs.Asked.{AreDeclared}
-use Rattle.mm_proof.proofs.ByNumbers.AskedExpressions.{rest_numbers}
-use Rattle.mm_proof.proofs.ProofSteps.DeclaredSymbols.{rest_declared}
+use Rattle.mm_proof.proofs.ProofNumbers.NamedAssertions.{rest_numbers}
+use Rattle.mm_proof.proofs.ProofNumbers.DeclaredSymbols.{rest_declared}
 use Rattle.mm_check.specs.Explained.{AreApartDetails, ArePairDetails}
 use Rattle.mm_check.specs.Mirror.Explaining.{ReplacesBy, named_pairs}
 use Rattle.mm_check.proofs.LackingDetails.{both_told}
 use denote.Ref.{Bor}
-use Rattle.mm_proof.specs.Substitution.{Symbol, Expression, Substitution}
-use Rattle.mm_proof.specs.Mirror.CodeVerify.{name_at}
-use Rattle.mm_proof.proofs.ByNumbers.NumberedSymbols.{name_is}
+use Rattle.mm_step.specs.Substitution.{Symbol, Expression, Substitution}
+use Rattle.mm_step.specs.Mirror.CodeVerify.{name_at}
+use Rattle.mm_step.proofs.ByNumbers.NumberedSymbols.{name_is}
 use Rattle.mm_check.specs.Answer.{labels_at}
 use Rattle.mm_check.specs.Explained.{Detail, pair_asked, shared_by_both, detail_text, details_text, told_of}
 use Rattle.mm_check.proofs.Numbers.{names_at}

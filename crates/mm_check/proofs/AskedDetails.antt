@@ -12,14 +12,14 @@ use Rattle.mm_text.proofs.Lists.{get_kept, get_pushed, pushed_cases}
 use Rattle.std.proofs.lemmas.List.{map-append}
 use Rattle.mm_frame.specs.Sentence.{Sentence, IsLabelled}
 use Rattle.mm_frame.specs.Numbers.{symbols_of, AreNumbers}
-use Rattle.mm_proof.specs.declared.fault.ProofRule.TheVariants.{P9, P10}
-use Rattle.mm_proof.specs.declared.halt.Halt.{Halt}
-use Rattle.mm_proof.specs.Substitution.{Expression}
-use Rattle.mm_proof.specs.Moves.{Move, name}
-use Rattle.mm_proof.specs.Proof.{MeetsHypotheses}
-use Rattle.mm_proof.specs.Halted.{HaltsProof, TellsEntry}
+use Rattle.mm_step.specs.declared.fault.ProofRule.TheVariants.{P9, P10}
+use Rattle.mm_listing.specs.declared.halt.Halt.{Halt}
+use Rattle.mm_step.specs.Substitution.{Expression}
+use Rattle.mm_step.specs.Moves.{Move, name}
+use Rattle.mm_step.specs.Proof.{MeetsHypotheses}
+use Rattle.mm_listing.specs.Halted.{HaltsProof, TellsEntry}
 use Rattle.mm_proof.specs.Asked.{AsksFor}
-use Rattle.mm_proof.proofs.ByNumbers.NumberedSymbols.{drop_get}
+use Rattle.mm_step.proofs.ByNumbers.NumberedSymbols.{drop_get}
 use Rattle.mm_check.specs.Answer.{labels_at}
 use Rattle.mm_check.specs.Explained.{Detail, detail_text, details_text, hypothesis_asks}
 use Rattle.mm_check.specs.Mirror.Explaining.{AskedSoFar}
@@ -34,14 +34,14 @@ use Rattle.mm_frame.specs.Rules.{AllMeant}
 use Rattle.mm_frame.specs.Numbers.{IsNumbered}
 use Rattle.mm_frame.specs.FrameIndex.{FrameIndex, AreHypotheses}
 use Rattle.mm_frame.proofs.Rules.ObeyedRules.{allmeant_prefix}
-use Rattle.mm_proof.specs.declared.halt.HaltAt.TheVariants as at
-use Rattle.mm_proof.specs.Mirror.CodeVerify.{AreHypothesesOf}
-use Rattle.mm_proof.specs.Stores.{entries_in, numbers_in}
-use Rattle.mm_proof.specs.Steps.{IsNumberedMove}
-use Rattle.mm_proof.proofs.ProofSteps.OneStep.{one_names}
-use Rattle.mm_proof.proofs.ByNumbers.NumberedSymbols.{as_many}
+use Rattle.mm_listing.specs.declared.halt.HaltAt.TheVariants as at
+use Rattle.mm_step.specs.Mirror.CodeVerify.{AreHypothesesOf}
+use Rattle.mm_step.specs.Stores.{entries_in, numbers_in}
+use Rattle.mm_step.specs.Steps.{IsNumberedMove}
+use Rattle.mm_step.proofs.ProofSteps.OneStep.{one_names}
+use Rattle.mm_step.proofs.ByNumbers.NumberedSymbols.{as_many}
 use denote.Ref.{Bor}
-use Rattle.mm_proof.specs.Steps.{IsProofNumber}
+use Rattle.mm_step.specs.Steps.{IsProofNumber}
 use Rattle.mm_proof.specs.Parsed.{OfProof}
 use Rattle.mm_frame.proofs.Names.LabelNumbers.{numbered_unique}
 use Rattle.mm_check.specs.Explained.{AreAsked}

@@ -13,7 +13,7 @@ use Rattle.mm_text.proofs.Lists.{get_within}
 use Rattle.mm_frame.specs.declared.number.Sym.{Sym}
 use Rattle.mm_frame.specs.Sentence.{Sentence}
 use Rattle.mm_frame.specs.Numbers.{symbols_of}
-use Rattle.mm_proof.specs.Stores.{numbers_in}
+use Rattle.mm_step.specs.Stores.{numbers_in}
 use Rattle.mm_check.specs.Answer.{labels_at}
 use Rattle.mm_frame.proofs.Names.LabelNumbers.{one_number_holds}
 use Rattle.mm_check.specs.Explained.{symbol_at, difference, expression_line, difference_line}

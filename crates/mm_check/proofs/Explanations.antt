@@ -23,10 +23,10 @@ use Rattle.mm_frame.specs.Form.{IsSound}
 use Rattle.mm_frame.specs.Found.{Finds}
 use Rattle.mm_frame.proofs.Names.LabelNumbers.{numbered_unique}
 use Rattle.mm_frame.proofs.Rules.ObeyedRules.{one_label}
-use Rattle.mm_proof.specs.declared.fault.ProofRule.{ProofRule}
-use Rattle.mm_proof.specs.declared.profile.Profile.{Profile}
+use Rattle.mm_step.specs.declared.fault.ProofRule.{ProofRule}
+use Rattle.mm_step.specs.declared.profile.Profile.{Profile}
 use Rattle.mm_proof.specs.Tokens.{is_incomplete}
-use Rattle.mm_proof.specs.Steps.{IsProofNumber}
+use Rattle.mm_step.specs.Steps.{IsProofNumber}
 use Rattle.mm_check.specs.declared.fault.Refusal.{Refusal}
 use Rattle.mm_check.specs.Verdict.{PlainRefusal, sentences, proof_of, IsProofFault}
 use Rattle.mm_check.specs.Answer.{plain_refusal}

@@ -13,19 +13,19 @@ use Rattle.mm_text.specs.Token.{PlainToken, plain_token}
 use Rattle.mm_text.specs.Files.{most_bytes}
 use Rattle.mm_code.specs.Words.{texts_of}
 use Rattle.mm_frame.specs.Sentence.{Sentence}
-use Rattle.mm_proof.specs.declared.fault.ProofRule.{ProofRule}
-use Rattle.mm_proof.specs.declared.profile.Profile.{Profile}
+use Rattle.mm_step.specs.declared.fault.ProofRule.{ProofRule}
+use Rattle.mm_step.specs.declared.profile.Profile.{Profile}
 use Rattle.mm_proof.specs.ReadSteps.{ReadSteps}
-use Rattle.mm_proof.specs.Steps.{IsProofNumber}
-use Rattle.mm_proof.specs.declared.halt.Halt.{Halt}
-use Rattle.mm_proof.specs.declared.halt.HaltAt.{HaltAt}
-use Rattle.mm_proof.specs.declared.halt.HaltAt.TheVariants as at
-use Rattle.mm_proof.specs.Moves.{Move, steps_in}
+use Rattle.mm_step.specs.Steps.{IsProofNumber}
+use Rattle.mm_listing.specs.declared.halt.Halt.{Halt}
+use Rattle.mm_listing.specs.declared.halt.HaltAt.{HaltAt}
+use Rattle.mm_listing.specs.declared.halt.HaltAt.TheVariants as at
+use Rattle.mm_step.specs.Moves.{Move, steps_in}
 use Rattle.mm_proof.specs.Tokens.{is_incomplete, SayMoves}
 use Rattle.mm_proof.specs.KnownPrefix.{known_prefix}
-use Rattle.mm_proof.specs.Places.{IsMovePlace}
-use Rattle.mm_proof.specs.Halted.{StandsAtHalt}
-use Rattle.mm_proof.proofs.ProofTokens.WholePlaces.{move_within}
+use Rattle.mm_places.specs.Places.{IsMovePlace}
+use Rattle.mm_listing.specs.Halted.{StandsAtHalt}
+use Rattle.mm_places.proofs.ProofPlaces.WholePlaces.{move_within}
 use Rattle.mm_check.specs.Explained.{judged_tokens, TokensHalt}
 use Rattle.mm_check.specs.Why.{IsPosition, IsStopPlace, IsPlaceAmong}
 use Rattle.mm_check.specs.Mirror.Explaining.{StopsIn, IsCauseOf}

@@ -7,15 +7,15 @@ use Rattle.std.proofs.lemmas.List.{take_all}
 use Rattle.std.proofs.lemmas.Option.{same_Some}
 use Rattle.mm_frame.specs.Sentence.{Sentence, IsLabelled}
 use Rattle.mm_frame.specs.Numbers.{symbols_of, AreNumbers, labelled_sentences}
-use Rattle.mm_proof.specs.declared.fault.ProofRule.{ProofRule}
-use Rattle.mm_proof.specs.declared.fault.ProofRule.TheVariants.{P8, P9, P10, P11, P12, P14, L1}
-use Rattle.mm_proof.specs.declared.halt.Halt.{Halt}
-use Rattle.mm_proof.specs.declared.halt.HaltAt.TheVariants as at
-use Rattle.mm_proof.specs.Substitution.{Expression}
-use Rattle.mm_proof.specs.Moves.{Move, name, again, mark}
-use Rattle.mm_proof.specs.Halted.{HaltsProof, TellsEntry, StandsAtHalt, StopsWith}
-use Rattle.mm_proof.specs.declared.halt.HaltAt.{HaltAt}
-use Rattle.mm_proof.specs.Proof.{IsWithin}
+use Rattle.mm_step.specs.declared.fault.ProofRule.{ProofRule}
+use Rattle.mm_step.specs.declared.fault.ProofRule.TheVariants.{P8, P9, P10, P11, P12, P14, L1}
+use Rattle.mm_listing.specs.declared.halt.Halt.{Halt}
+use Rattle.mm_listing.specs.declared.halt.HaltAt.TheVariants as at
+use Rattle.mm_step.specs.Substitution.{Expression}
+use Rattle.mm_step.specs.Moves.{Move, name, again, mark}
+use Rattle.mm_listing.specs.Halted.{HaltsProof, TellsEntry, StandsAtHalt, StopsWith}
+use Rattle.mm_listing.specs.declared.halt.HaltAt.{HaltAt}
+use Rattle.mm_step.specs.Proof.{IsWithin}
 use Rattle.mm_check.specs.Answer.{labels_at}
 use Rattle.mm_check.specs.Explained.{Detail, entry_given, detail_text, details_text, entries_given}
 use Rattle.mm_check.specs.Explained.{AreEndDetails, end_given, hypotheses_stated, hypothesis_stated}
@@ -29,17 +29,17 @@ use Rattle.mm_frame.specs.Rules.{AllMeant}
 use Rattle.mm_frame.specs.Numbers.{IsNumbered}
 use Rattle.mm_frame.specs.Frame.{AreMandatory}
 use Rattle.mm_frame.specs.FrameIndex.{AreHypotheses}
-use Rattle.mm_proof.proofs.ProofSteps.OneStep.{one_label}
+use Rattle.mm_step.proofs.ProofSteps.OneStep.{one_label}
 use Rattle.mm_text.proofs.Lists.{get_from_take}
-use Rattle.mm_proof.specs.Tree.{Trees, none, tree, Names, DeriveAll}
-use Rattle.mm_proof.specs.Moves.{Makes, steps_in, is_step}
-use Rattle.mm_proof.specs.Listing.{TellsStep}
-use Rattle.mm_proof.specs.Proof.{BreaksStep}
-use Rattle.mm_proof.proofs.ByNumbers.StepByAssertion.{label_of, names_of}
+use Rattle.mm_step.specs.Tree.{Trees, none, tree, Names, DeriveAll}
+use Rattle.mm_step.specs.Moves.{Makes, steps_in, is_step}
+use Rattle.mm_listing.specs.Listing.{TellsStep}
+use Rattle.mm_step.specs.Proof.{BreaksStep}
+use Rattle.mm_step.proofs.ByNumbers.StepByAssertion.{label_of, names_of}
 use Rattle.mm_frame.specs.declared.hypothesis.Hypothesis.{Hypothesis}
 use Rattle.mm_frame.specs.declared.number.LabelId.{LabelId}
-use Rattle.mm_proof.specs.Mirror.CodeVerify.{AreHypothesesOf}
-use Rattle.mm_proof.specs.Steps.{IsNumberedMove}
+use Rattle.mm_step.specs.Mirror.CodeVerify.{AreHypothesesOf}
+use Rattle.mm_step.specs.Steps.{IsNumberedMove}
 use Rattle.mm_check.specs.Mirror.Explaining.{HaltFacts, AddsAtHalt}
 use Rattle.mm_check.proofs.Numbers.{names_at, numbers_within}
 

@@ -21,8 +21,8 @@ use Rattle.mm_text.proofs.Lists.{get_kept, get_pushed, pushed_cases}
 use Rattle.mm_text.proofs.Reader.OpenBlocks.{balanced_more, balanced_nothing, opening_count}
 use Rattle.mm_text.proofs.Reader.OpenBlocks.{closing_count}
 use Rattle.mm_frame.specs.Sentence.{SomeSentence, sentence_of, IsLabelled}
-use Rattle.mm_proof.specs.declared.fault.ProofRule.{ProofRule}
-use Rattle.mm_proof.specs.declared.fault.ProofRule.TheVariants.{P3}
+use Rattle.mm_step.specs.declared.fault.ProofRule.{ProofRule}
+use Rattle.mm_step.specs.declared.fault.ProofRule.TheVariants.{P3}
 use Rattle.mm_check.specs.declared.scope.Scope.{Scope}
 use Rattle.mm_check.specs.declared.scope.Scope.TheVariants as scope
 use Rattle.mm_check.specs.Explained.{Detail, detail_text, details_text, stated_at, block_ended_at}

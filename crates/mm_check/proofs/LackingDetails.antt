@@ -6,7 +6,7 @@ use Rattle.std.proofs.lemmas.Grind.{flat_map-append}
 use Rattle.mm_frame.specs.Sentence.{Sentence}
 use Rattle.mm_frame.specs.Numbers.{IsNumberOf}
 use Rattle.mm_frame.specs.declared.number.Sym.{Sym}
-use Rattle.mm_proof.specs.Substitution.{Symbol}
+use Rattle.mm_step.specs.Substitution.{Symbol}
 use Rattle.mm_check.specs.Explained.{Detail, detail_text, details_text}
 use Rattle.mm_check.specs.Mirror.Explaining.{AreNamedPairs}
 

@@ -16,7 +16,7 @@ use Rattle.mm_text.specs.Reading.{PlainFault, Reads}
 use Rattle.mm_text.specs.Remaining.{Remaining}
 use Rattle.mm_text.proofs.Lists.{get_parted, get_pushed}
 use Rattle.mm_frame.specs.Rules.{AllMeant}
-use Rattle.mm_proof.specs.declared.profile.Profile.{Profile}
+use Rattle.mm_step.specs.declared.profile.Profile.{Profile}
 use Rattle.mm_check.specs.Verdict.{PlainRefusal, CanBeRead, sentences, text_refusal}
 use Rattle.mm_check.specs.Faults.{AreRefused, HaveFaults}
 use Rattle.mm_check.specs.Why.{is_of_proofs}

@@ -21,14 +21,15 @@ use Rattle.mm_text.specs.Reading.{PlainFault, Reads}
 use Rattle.mm_text.specs.Remaining.{IsUnread, Remaining}
 use Rattle.mm_text.proofs.Lists.{take_next, split_at}
 use Rattle.mm_frame.specs.Sentence.{Sentence}
-use Rattle.mm_proof.specs.declared.fault.ProofRule.{ProofRule}
-use Rattle.mm_proof.specs.declared.fault.ProofRule.TheVariants.{P2, P6, P7}
-use Rattle.mm_proof.specs.declared.profile.Profile.{Profile}
-use Rattle.mm_proof.specs.Substitution.{Expression}
-use Rattle.mm_proof.specs.Moves.{Move, name, again, mark}
-use Rattle.mm_proof.specs.Proof.{BreaksMove, IsMovesFault, IsWithin}
-use Rattle.mm_proof.specs.Profiles.{limit_of}
-use Rattle.mm_proof.specs.WholePlaces.{IsWholePlace}
+use Rattle.mm_step.specs.declared.fault.ProofRule.{ProofRule}
+use Rattle.mm_step.specs.declared.fault.ProofRule.TheVariants.{P2, P6, P7}
+use Rattle.mm_step.specs.declared.profile.Profile.{Profile}
+use Rattle.mm_step.specs.Substitution.{Expression}
+use Rattle.mm_step.specs.Moves.{Move, name, again, mark}
+use Rattle.mm_step.specs.Proof.{BreaksMove, IsWithin}
+use Rattle.mm_proof.specs.Proof.{IsMovesFault}
+use Rattle.mm_step.specs.Profiles.{limit_of}
+use Rattle.mm_places.specs.WholePlaces.{IsWholePlace}
 use Rattle.mm_check.specs.Explained.{IsTokensFault, judged_tokens}
 use Rattle.mm_check.specs.Later.{IsUnknownIn, first_stated}
 use Rattle.mm_check.specs.Mirror.Last.{IsListing, ReadsOn}

@@ -7,7 +7,7 @@ use Rattle.mm_frame.specs.Sentence.{Sentence, SomeSentence, IsLabelled}
 use Rattle.mm_frame.specs.Numbers.{labelled_sentences}
 use Rattle.mm_frame.proofs.Names.LabelNumbers.{numbered_get, numbered_some, numbered_within}
 use Rattle.mm_proof.specs.Parsed.{OfProof}
-use Rattle.mm_proof.proofs.ByNumbers.NumberedLabels.{numbers_order}
+use Rattle.mm_proof.proofs.ProofNumbers.NumberedLabels.{numbers_order}
 
 -- the name is kept, or the one before
 pub name_kept : (Holds : List ℕ → Type 0) (name : Bor (List ℕ))

@@ -12,7 +12,7 @@ use Rattle.mm_check.specs.Rests.{AreRising, AreInOrder}
 use Rattle.std.specs.Prelude.{if◌then◌else◌, nat_lt}
 use Rattle.std.proofs.lemmas.Bool.Decides.{nat_tests}
 use Rattle.mm_frame.specs.Sentence.{Sentence}
-use Rattle.mm_proof.specs.Tree.{Trees}
+use Rattle.mm_step.specs.Tree.{Trees}
 use Rattle.mm_proof.specs.Used.{AreUsedNumbers, AreUsed}
 use Rattle.mm_check.specs.Mirror.Ordered.{put, ordered}
 use Rattle.std.specs.List.{slice_range, flat_map, AllByRecursion}
@@ -20,11 +20,11 @@ use Rattle.std.proofs.lemmas.List.{map-append}
 use Rattle.mm_frame.specs.declared.number.LabelId.{LabelId}
 use Rattle.mm_frame.proofs.BookLists.GrownLists.{slice_left}
 use Rattle.mm_frame.proofs.Names.NameNumbers.{get_unmapped}
-use Rattle.mm_proof.proofs.StoreRanges.{part-new}
+use Rattle.mm_step.proofs.StoreRanges.{part-new}
 use Rattle.mm_check.specs.declared.kept.KeptProof.{KeptProof}
 use Rattle.mm_check.specs.Conclusion.{ProofUses}
 use Rattle.mm_check.specs.Mirror.Ranges.{uses_at, uses_in, AreRangesWithin}
-use Rattle.mm_proof.specs.Plain.{ids_in}
+use Rattle.mm_step.specs.Plain.{ids_in}
 use Rattle.std.specs.Option.{option_to_list}
 
 -- ==== numbers in the order of the database

@@ -18,27 +18,27 @@ use Rattle.mm_frame.specs.declared.number.Sym.{Sym}
 use Rattle.mm_frame.proofs.Names.LabelNumbers.{one_number_holds}
 use Rattle.mm_frame.proofs.Names.NameNumbers.{get_unmapped}
 use Rattle.mm_frame.proofs.Frames.VariableIndices.{variables_counted}
-use Rattle.mm_proof.specs.Substitution.{Symbol, Expression}
-use Rattle.mm_proof.specs.Moves.{name}
-use Rattle.mm_proof.specs.Steps.{IsNumberedMove}
-use Rattle.mm_proof.specs.Proof.{MeetsHypotheses}
-use Rattle.mm_proof.specs.Mirror.CodeVerify.{name_at, pairs_in, AreHypothesesOf}
-use Rattle.mm_proof.proofs.ProofSteps.OneStep.{one_label}
-use Rattle.mm_proof.proofs.ByNumbers.StepByAssertion.{label_of}
-use Rattle.mm_proof.proofs.ByNumbers.NumberedSymbols.{name_is, hypothesis_at, no_hypothesis}
+use Rattle.mm_step.specs.Substitution.{Symbol, Expression}
+use Rattle.mm_step.specs.Moves.{name}
+use Rattle.mm_step.specs.Steps.{IsNumberedMove}
+use Rattle.mm_step.specs.Proof.{MeetsHypotheses}
+use Rattle.mm_step.specs.Mirror.CodeVerify.{name_at, pairs_in, AreHypothesesOf}
+use Rattle.mm_step.proofs.ProofSteps.OneStep.{one_label}
+use Rattle.mm_step.proofs.ByNumbers.StepByAssertion.{label_of}
+use Rattle.mm_step.proofs.ByNumbers.NumberedSymbols.{name_is, hypothesis_at, no_hypothesis}
 use Rattle.std.specs.List.{AllZip}
 use Rattle.mm_frame.specs.Numbers.{AreNumbers}
 use Rattle.mm_frame.specs.FrameIndex.{AreHypotheses}
 use Rattle.mm_frame.specs.Pieces.{HaveMandatoryIndices}
 use Rattle.mm_frame.proofs.Rules.ObeyedRules.{allmeant_prefix}
-use Rattle.mm_proof.specs.declared.fault.ProofRule.{ProofRule}
-use Rattle.mm_proof.specs.declared.fault.ProofRule.TheVariants.{P11, P12}
-use Rattle.mm_proof.specs.declared.halt.Halt.{Halt}
-use Rattle.mm_proof.specs.Halted.{HaltsProof, TellsEntry}
-use Rattle.mm_proof.specs.Proof.{IsWithin}
-use Rattle.mm_proof.specs.Moves.{Move}
+use Rattle.mm_step.specs.declared.fault.ProofRule.{ProofRule}
+use Rattle.mm_step.specs.declared.fault.ProofRule.TheVariants.{P11, P12}
+use Rattle.mm_listing.specs.declared.halt.Halt.{Halt}
+use Rattle.mm_listing.specs.Halted.{HaltsProof, TellsEntry}
+use Rattle.mm_step.specs.Proof.{IsWithin}
+use Rattle.mm_step.specs.Moves.{Move}
 use Rattle.mm_proof.specs.Asked.{AreDeclared}
-use Rattle.mm_proof.proofs.ProofSteps.DeclaredSymbols.{passed_symbols}
+use Rattle.mm_proof.proofs.ProofNumbers.DeclaredSymbols.{passed_symbols}
 use Rattle.mm_check.proofs.HaltDetails.{StepLeft, broken_step}
 use Rattle.mm_check.proofs.AskedDetails.{sizes, entries_zip}
 use Rattle.mm_check.specs.Explained.{AreMandatoryPairs}

@@ -25,8 +25,8 @@ use Rattle.mm_check.specs.AllAxioms.{ReportLine, AreReportLines}
 use Rattle.mm_check.specs.Verdict.{Refused, Verdict, Load, HasVerdict, AreAccepted}
 use Rattle.mm_text.specs.Statement.{PlainStatement}
 use Rattle.mm_text.specs.Reading.{Reads}
-use Rattle.mm_proof.specs.declared.profile.Profile.{Profile}
-use Rattle.mm_proof.specs.declared.profile.Profile.TheVariants.{Lenient}
+use Rattle.mm_step.specs.declared.profile.Profile.{Profile}
+use Rattle.mm_step.specs.declared.profile.Profile.TheVariants.{Lenient}
 use Rattle.mm_check.specs.declared.fault.CheckFault.{CheckFault}
 use Rattle.mm_check.specs.declared.form.Form.{Form}
 use Rattle.mm_check.specs.declared.ask.AskFault.{AskFault}

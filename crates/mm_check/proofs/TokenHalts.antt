@@ -5,23 +5,24 @@ use Rattle.std.specs.Prelude.{if◌then◌else◌}
 use Rattle.mm_frame.specs.Sentence.{Sentence}
 use Rattle.mm_frame.specs.Rules.{AllMeant}
 use Rattle.mm_frame.specs.Form.{AllFormed}
-use Rattle.mm_proof.specs.declared.fault.ProofRule.{ProofRule}
-use Rattle.mm_proof.specs.declared.profile.Profile.{Profile}
-use Rattle.mm_proof.specs.Substitution.{Expression}
-use Rattle.mm_proof.specs.Moves.{Move, steps_in}
+use Rattle.mm_step.specs.declared.fault.ProofRule.{ProofRule}
+use Rattle.mm_step.specs.declared.profile.Profile.{Profile}
+use Rattle.mm_step.specs.Substitution.{Expression}
+use Rattle.mm_step.specs.Moves.{Move, steps_in}
 use Rattle.mm_proof.specs.Tokens.{is_incomplete, SayMoves}
-use Rattle.mm_proof.specs.Proof.{IsWithin, IsWhole, Prove, Passed, IsMoveFault, IsMovesFault}
+use Rattle.mm_step.specs.Proof.{IsWithin, Passed}
+use Rattle.mm_proof.specs.Proof.{IsWhole, Prove, IsMoveFault, IsMovesFault}
 use Rattle.mm_proof.specs.KnownPrefix.{known_prefix, Pass}
-use Rattle.mm_proof.specs.Profiles.{limit_of}
+use Rattle.mm_step.specs.Profiles.{limit_of}
 use Rattle.mm_proof.specs.Strict.{HasFormOf, IsTextFault}
 use Rattle.mm_proof.specs.UnderProfile.{IsPrefixAllowedUnder}
-use Rattle.mm_proof.specs.Halted.{Halts, StopsWith}
-use Rattle.mm_proof.proofs.ProofSteps.PassedMoves.{prove_at_end, proof_passed}
+use Rattle.mm_listing.specs.Halted.{Halts, StopsWith}
+use Rattle.mm_proof.proofs.ProofVerdicts.PassedMoves.{prove_at_end, proof_passed}
 use Rattle.mm_proof.proofs.ProofVerdicts.ProfileVerdicts.{one_verdict_under_holds, one_prefix_verdict_under_holds}
-use Rattle.mm_proof.specs.declared.halt.Halt.{Halt}
-use Rattle.mm_proof.specs.Halted.{HaltsProof}
+use Rattle.mm_listing.specs.declared.halt.Halt.{Halt}
+use Rattle.mm_listing.specs.Halted.{HaltsProof}
 use Rattle.mm_proof.specs.ReadSteps.{ReadSteps}
-use Rattle.mm_proof.specs.Steps.{IsProofNumber}
+use Rattle.mm_step.specs.Steps.{IsProofNumber}
 use Rattle.mm_proof.specs.Verified.{OfMoves}
 use Rattle.mm_check.specs.Explained.{IsTokensFault, judged_tokens, TokensHalt}
 use Rattle.mm_check.specs.Mirror.Explaining.{AreJudgedSteps, Causes, IsCauseOf, IsHaltOf}
@@ -31,7 +32,7 @@ use Rattle.mm_check.specs.declared.details.Cause.TheVariants as cause
 use Rattle.mm_frame.proofs.Rules.ObeyedRules.{allformed_prefix, allmeant_prefix}
 use Rattle.std.proofs.Common.{Bor, ◌≤◌, length, slice_get, arith}
 use Rattle.mm_proof.specs.Parsed.{OfProof}
-use Rattle.mm_proof.specs.WholePlaces.{IsWholePlace}
+use Rattle.mm_places.specs.WholePlaces.{IsWholePlace}
 
 -- ---- moves
 

@@ -3,7 +3,7 @@ use Rattle.std.specs.Prelude.{◌≤◌, ℕ, List}
 use Rattle.std.specs.List.{AllZip}
 use Rattle.mm_text.specs.Files.{PlainFile, most_bytes, total_bytes}
 use Rattle.mm_text.specs.Alike.{AreAlike}
-use Rattle.mm_proof.specs.declared.profile.Profile.{Profile}
+use Rattle.mm_step.specs.declared.profile.Profile.{Profile}
 use Rattle.mm_check.specs.Reply.{IsReply}
 
 -- files with the same names that show the same have the same reply to `check`, in each profile, as

@@ -6,11 +6,11 @@ use Rattle.mm_text.specs.Statement.{PlainStatement}
 use Rattle.mm_text.specs.Files.{PlainFile}
 use Rattle.mm_text.specs.Replaced.{with_bytes}
 use Rattle.mm_frame.specs.Sentence.{Sentence, sentence_of, IsLabelled}
-use Rattle.mm_proof.specs.declared.profile.Profile.{Profile}
-use Rattle.mm_proof.specs.declared.profile.Profile.TheVariants.{Strict}
+use Rattle.mm_step.specs.declared.profile.Profile.{Profile}
+use Rattle.mm_step.specs.declared.profile.Profile.TheVariants.{Strict}
 use Rattle.mm_proof.specs.Proof.{IsProved}
 use Rattle.mm_proof.specs.Strict.{HasFormOf}
-use Rattle.mm_proof.specs.Tree.{Trees}
+use Rattle.mm_step.specs.Tree.{Trees}
 use Rattle.mm_check.specs.AllShorter.{IsAllShortened}
 use Rattle.mm_check.specs.Forms.{IsSmallOf}
 use Rattle.mm_check.specs.Rests.{HasTree, IsReport, tree_of}

@@ -10,8 +10,8 @@ use Rattle.mm_text.specs.Statement.{PlainStatement}
 use Rattle.mm_code.specs.Words.{tokens_in}
 use Rattle.mm_frame.specs.Rules.{AllMeant}
 use Rattle.mm_frame.specs.Sentence.{Sentence, SomeSentence, sentence_of, IsLabelled}
-use Rattle.mm_proof.specs.Listing.{ListedStep, AreListed}
-use Rattle.mm_proof.specs.Moves.{Move, steps_in}
+use Rattle.mm_listing.specs.Listing.{ListedStep, AreListed}
+use Rattle.mm_step.specs.Moves.{Move, steps_in}
 use Rattle.mm_proof.specs.Tokens.{SayMoves}
 use Rattle.mm_check.specs.declared.rule.AskRule.{AskRule}
 use Rattle.mm_check.specs.declared.rule.AskRule.TheVariants.{A1, A2, A3}

@@ -4,7 +4,7 @@ use Rattle.std.specs.List.{flat_map}
 use Rattle.std.specs.Option.{option_to_list}
 use Rattle.mm_text.specs.Files.{PlainFile}
 use Rattle.mm_frame.specs.Sentence.{Sentence}
-use Rattle.mm_proof.specs.declared.profile.Profile.{Profile}
+use Rattle.mm_step.specs.declared.profile.Profile.{Profile}
 
 -- the number of a `$p` with a complete proof, and those of the assertions in its tree
 pub record ProofUses : Type 0 where

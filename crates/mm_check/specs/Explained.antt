@@ -7,21 +7,21 @@ use Rattle.std.specs.List.{flat_map, AllZip}
 use Rattle.std.specs.Str.{bytes_eq}
 use Rattle.mm_frame.specs.Sentence.{Sentence, SomeSentence, IsLabelled}
 use Rattle.mm_frame.specs.Frame.{IsMandatoryPair}
-use Rattle.mm_proof.specs.declared.fault.ProofRule.{ProofRule}
-use Rattle.mm_proof.specs.declared.fault.ProofRule.TheVariants.{P2, P3, P4, P8, P9, P10}
-use Rattle.mm_proof.specs.declared.fault.ProofRule.TheVariants.{P11, P12, P14, P15, L1}
-use Rattle.mm_proof.specs.declared.profile.Profile.{Profile}
-use Rattle.mm_proof.specs.Substitution.{Symbol, Expression, Substitution}
-use Rattle.mm_proof.specs.Tree.{Names}
-use Rattle.mm_proof.specs.Moves.{Move, name, again, mark, steps_in}
+use Rattle.mm_step.specs.declared.fault.ProofRule.{ProofRule}
+use Rattle.mm_step.specs.declared.fault.ProofRule.TheVariants.{P2, P3, P4, P8, P9, P10}
+use Rattle.mm_step.specs.declared.fault.ProofRule.TheVariants.{P11, P12, P14, P15, L1}
+use Rattle.mm_step.specs.declared.profile.Profile.{Profile}
+use Rattle.mm_step.specs.Substitution.{Symbol, Expression, Substitution}
+use Rattle.mm_step.specs.Tree.{Names}
+use Rattle.mm_step.specs.Moves.{Move, name, again, mark, steps_in}
 use Rattle.mm_proof.specs.Tokens.{is_incomplete, SayMoves}
-use Rattle.mm_proof.specs.Proof.{IsWithin, MeetsHypotheses}
+use Rattle.mm_step.specs.Proof.{IsWithin, MeetsHypotheses}
 use Rattle.mm_proof.specs.KnownPrefix.{known_prefix}
-use Rattle.mm_proof.specs.Profiles.{limit_of}
-use Rattle.mm_proof.specs.Halted.{Halts}
+use Rattle.mm_step.specs.Profiles.{limit_of}
+use Rattle.mm_listing.specs.Halted.{Halts}
 use Rattle.mm_proof.specs.Asked.{AsksFor, AreShared, AreMissing}
-use Rattle.mm_proof.specs.Lacking.{AreLacking}
-use Rattle.mm_proof.specs.WholePlaces.{IsWholePlace}
+use Rattle.mm_distinct.specs.Lacking.{AreLacking}
+use Rattle.mm_places.specs.WholePlaces.{IsWholePlace}
 use Rattle.mm_proof.specs.UnderProfile.{IsFaultUnder, IsPrefixFaultUnder}
 use Rattle.mm_check.specs.Shown.{symbols_text}
 

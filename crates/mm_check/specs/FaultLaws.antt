@@ -1,7 +1,7 @@
 -- Laws of all faults of the files.
 use Rattle.std.specs.Prelude.{◌≡◌, List, slice_get}
 use Rattle.mm_text.specs.Files.{PlainFile}
-use Rattle.mm_proof.specs.declared.profile.Profile.{Profile}
+use Rattle.mm_step.specs.declared.profile.Profile.{Profile}
 use Rattle.mm_check.specs.Verdict.{PlainRefusal, Verdict, HasVerdict}
 use Rattle.mm_check.specs.Faults.{HaveFaults, refusal_in}
 

@@ -3,10 +3,10 @@ use Rattle.std.specs.Prelude.{◌≡◌, ◌↔◌, ℕ, List, take}
 use Rattle.mm_text.specs.Statement.{PlainStatement}
 use Rattle.mm_text.specs.Files.{PlainFile}
 use Rattle.mm_frame.specs.Sentence.{Sentence}
-use Rattle.mm_proof.specs.Tree.{Trees, none, tree}
-use Rattle.mm_proof.specs.Moves.{Move}
-use Rattle.mm_proof.specs.OneTree.{MakeTree, MakeSameTree}
-use Rattle.mm_proof.specs.declared.profile.Profile.{Profile}
+use Rattle.mm_step.specs.Tree.{Trees, none, tree}
+use Rattle.mm_step.specs.Moves.{Move}
+use Rattle.mm_forms.specs.OneTree.{MakeTree, MakeSameTree}
+use Rattle.mm_step.specs.declared.profile.Profile.{Profile}
 use Rattle.mm_check.specs.Verdict.{AreAccepted, sentences}
 use Rattle.mm_check.specs.Forms.{IsPackedText}
 

@@ -8,14 +8,14 @@ use Rattle.mm_code.specs.Letters.{SpellsCodes, Letters}
 use Rattle.mm_code.specs.Layout.{LaidOut, CompressedLaidOut}
 use Rattle.mm_code.specs.SmallLayout.{SmallLaidOut}
 use Rattle.mm_frame.specs.Sentence.{Sentence, sentence_of, IsLabelled}
-use Rattle.mm_proof.specs.Tree.{Trees, none, tree, spelling}
-use Rattle.mm_proof.specs.Moves.{Move}
+use Rattle.mm_step.specs.Tree.{Trees, none, tree, spelling}
+use Rattle.mm_step.specs.Moves.{Move}
 use Rattle.mm_proof.specs.Tokens.{SayMoves}
-use Rattle.mm_proof.specs.OneTree.{MakeTree}
-use Rattle.mm_proof.specs.Sharing.{IsPacked}
-use Rattle.mm_proof.specs.SmallProofs.{IsSmall}
-use Rattle.mm_proof.specs.declared.fault.ExpandFault.{ExpandFault}
-use Rattle.mm_proof.specs.declared.fault.ExpandFault.TheVariants as expand
+use Rattle.mm_forms.specs.OneTree.{MakeTree}
+use Rattle.mm_forms.specs.Sharing.{IsPacked}
+use Rattle.mm_forms.specs.SmallProofs.{IsSmall}
+use Rattle.mm_step.specs.declared.fault.ExpandFault.{ExpandFault}
+use Rattle.mm_step.specs.declared.fault.ExpandFault.TheVariants as expand
 use Rattle.mm_check.specs.declared.ask.AskFault.{AskFault}
 use Rattle.mm_check.specs.declared.ask.AskFault.TheVariants.{Rule, Memory}
 use Rattle.mm_check.specs.declared.rule.AskRule.TheVariants.{L2}

@@ -10,9 +10,9 @@ use Rattle.mm_text.specs.Blocks.{AreBalanced, AreClosed}
 use Rattle.mm_text.specs.Files.{PlainFile}
 use Rattle.mm_frame.specs.Sentence.{Sentence, SomeSentence, sentence_of, IsLabelled}
 use Rattle.mm_frame.specs.Frame.{AreMandatory}
-use Rattle.mm_proof.specs.declared.fault.ProofRule.{ProofRule}
-use Rattle.mm_proof.specs.declared.fault.ProofRule.TheVariants.{P3, P8, P9, P10, P13, P14}
-use Rattle.mm_proof.specs.WholePlaces.{IsWholePlace}
+use Rattle.mm_step.specs.declared.fault.ProofRule.{ProofRule}
+use Rattle.mm_step.specs.declared.fault.ProofRule.TheVariants.{P3, P8, P9, P10, P13, P14}
+use Rattle.mm_places.specs.WholePlaces.{IsWholePlace}
 use Rattle.mm_check.specs.Explained.{Detail, stated_at, block_ended_at, its_hypotheses}
 use Rattle.mm_check.specs.Explained.{hypothesis_at, judged_tokens, told_of}
 use Rattle.mm_check.specs.Places.{token_place}

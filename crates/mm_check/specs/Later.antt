@@ -8,9 +8,9 @@ use Rattle.mm_text.specs.Token.{PlainToken}
 use Rattle.mm_text.specs.Statement.{PlainStatement}
 use Rattle.mm_text.specs.Files.{PlainFile}
 use Rattle.mm_frame.specs.Sentence.{Sentence}
-use Rattle.mm_proof.specs.declared.fault.ProofRule.{ProofRule}
-use Rattle.mm_proof.specs.declared.fault.ProofRule.TheVariants.{P2}
-use Rattle.mm_proof.specs.WholePlaces.{IsUnknownLabel, IsFirstLabel}
+use Rattle.mm_step.specs.declared.fault.ProofRule.{ProofRule}
+use Rattle.mm_step.specs.declared.fault.ProofRule.TheVariants.{P2}
+use Rattle.mm_places.specs.WholePlaces.{IsUnknownLabel, IsFirstLabel}
 use Rattle.mm_check.specs.Explained.{Detail, judged_tokens, stated_later_at}
 use Rattle.mm_check.specs.Places.{token_place}
 

@@ -7,7 +7,7 @@ use Rattle.mm_text.specs.declared.statement.Kind.TheVariants.{Axiom, Provable}
 use Rattle.mm_text.specs.Statement.{PlainStatement}
 use Rattle.mm_frame.specs.Sentence.{Sentence, sentence_of, IsLabelled}
 use Rattle.mm_frame.specs.Numbers.{IsNumbered}
-use Rattle.mm_proof.specs.Tree.{Trees, none, tree}
+use Rattle.mm_step.specs.Tree.{Trees, none, tree}
 use Rattle.mm_proof.specs.Proof.{IsProvedWithin, IsProved}
 use Rattle.mm_proof.specs.Used.{IsUsedNumber, AreUsed}
 use Rattle.mm_check.specs.Conclusion.{ProofUses, numbers_of}

@@ -2,7 +2,7 @@
 use Rattle.std.specs.Prelude.{ℕ, List, codes}
 use Rattle.mm_text.specs.RuleCodes.{load_code, text_code}
 use Rattle.mm_frame.specs.RuleCodes.{meaning_code}
-use Rattle.mm_proof.specs.RuleCodes.{proof_code}
+use Rattle.mm_step.specs.RuleCodes.{proof_code}
 use Rattle.mm_check.specs.declared.rule.AskRule.{AskRule}
 use Rattle.mm_check.specs.declared.rule.AskRule.TheVariants.{A1, A2, A3, L2}
 use Rattle.mm_check.specs.declared.rule.Rule.{Rule}

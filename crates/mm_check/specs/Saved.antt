@@ -9,8 +9,8 @@ use Rattle.mm_text.specs.Replaced.{with_span, with_bytes}
 use Rattle.mm_code.specs.Layout.{space, line_feed}
 use Rattle.mm_code.specs.SmallLayout.{most_indent}
 use Rattle.mm_frame.specs.Sentence.{Sentence, sentence_of}
-use Rattle.mm_proof.specs.declared.profile.Profile.TheVariants.{Lenient}
-use Rattle.mm_proof.specs.Tree.{Trees, none, tree}
+use Rattle.mm_step.specs.declared.profile.Profile.TheVariants.{Lenient}
+use Rattle.mm_step.specs.Tree.{Trees, none, tree}
 use Rattle.mm_check.specs.declared.form.Form.{Form}
 use Rattle.mm_check.specs.declared.form.Form.TheVariants.{Normal, Packed, Small}
 use Rattle.mm_check.specs.declared.ask.AskFault.{AskFault}

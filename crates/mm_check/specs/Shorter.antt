@@ -9,11 +9,12 @@ use Rattle.mm_text.specs.Files.{PlainFile}
 use Rattle.mm_text.specs.Remarks.{IsSaidBefore, mathbox_at}
 use Rattle.mm_code.specs.declared.code.Code.{Code}
 use Rattle.mm_frame.specs.Sentence.{Sentence, sentence_of}
-use Rattle.mm_proof.specs.declared.profile.Profile.{Profile}
-use Rattle.mm_proof.specs.Profiles.{limit_of}
-use Rattle.mm_proof.specs.Proof.{IsWithin}
-use Rattle.mm_proof.specs.Sharing.{IsPacked, steps_of}
-use Rattle.mm_proof.specs.Tree.{Trees, none, tree, DeriveAll}
+use Rattle.mm_step.specs.declared.profile.Profile.{Profile}
+use Rattle.mm_step.specs.Profiles.{limit_of}
+use Rattle.mm_step.specs.Proof.{IsWithin}
+use Rattle.mm_forms.specs.Sharing.{IsPacked}
+use Rattle.mm_proof.specs.Sharing.{steps_of}
+use Rattle.mm_step.specs.Tree.{Trees, none, tree, DeriveAll}
 use Rattle.mm_proof.specs.Used.{IsUsedNumber}
 use Rattle.mm_check.specs.Forms.{HasProofTree, IsSmallOf, IsSmallText}
 use Rattle.mm_check.specs.Rests.{IsAt, IsNumberWhere, RestsOn, Uses}

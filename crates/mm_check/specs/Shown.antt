@@ -4,9 +4,9 @@ use Rattle.std.specs.Prelude.{decimal}
 use Rattle.std.specs.List.{flat_map}
 use Rattle.mm_text.specs.Statement.{PlainStatement}
 use Rattle.mm_frame.specs.Sentence.{Sentence, sentence_of, IsLabelled}
-use Rattle.mm_proof.specs.Moves.{Move}
+use Rattle.mm_step.specs.Moves.{Move}
 use Rattle.mm_proof.specs.Tokens.{SayMoves}
-use Rattle.mm_proof.specs.Listing.{StepName, by_label, by_step, ListedStep, AreListed}
+use Rattle.mm_listing.specs.Listing.{StepName, by_label, by_step, ListedStep, AreListed}
 use Rattle.mm_check.specs.Verdict.{proof_of, is_proof, sentences}
 
 -- what a step is called: its label; or `@` and the number of the step after which its tag stands

@@ -5,10 +5,10 @@ use Rattle.std.specs.Prelude.{Bool, true, false, cond, decimal, replicate}
 use Rattle.std.specs.List.{flat_map}
 use Rattle.mm_text.specs.Statement.{PlainStatement}
 use Rattle.mm_frame.specs.Sentence.{Sentence, sentence_of, IsLabelled}
-use Rattle.mm_proof.specs.Moves.{Move}
+use Rattle.mm_step.specs.Moves.{Move}
 use Rattle.mm_proof.specs.Tokens.{SayMoves}
-use Rattle.mm_proof.specs.Listing.{ListedStep, AreListed}
-use Rattle.mm_proof.specs.Uses.{AreUses, IsRoot, AreReached}
+use Rattle.mm_listing.specs.Listing.{ListedStep, AreListed}
+use Rattle.mm_listing.specs.Uses.{AreUses, IsRoot, AreReached}
 use Rattle.mm_check.specs.Verdict.{proof_of, is_proof, sentences}
 use Rattle.mm_check.specs.Shown.{name_text, symbols_text}
 

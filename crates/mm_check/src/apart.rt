@@ -3,17 +3,18 @@
 ghost use Rattle.std.specs.Prelude.{◌≡◌, ◌<◌, ◌++◌, ℕ, length, drop, OnOk};
 ghost use Rattle.std.specs.Prelude.{slice_get, Some, List, map};
 ghost use Rattle.mm_frame.specs.Numbers.{symbols_of};
-ghost use Rattle.mm_proof.specs.declared.fault.ProofRule.TheVariants.{P11, P12};
-ghost use Rattle.mm_proof.specs.Stores.{numbers_in, entries_in};
-ghost use Rattle.mm_proof.specs.Substitution.{Symbol};
+ghost use Rattle.mm_step.specs.declared.fault.ProofRule.TheVariants.{P11, P12};
+ghost use Rattle.mm_step.specs.Stores.{numbers_in, entries_in};
+ghost use Rattle.mm_step.specs.Substitution.{Symbol};
 ghost use Rattle.mm_check.specs.Explained.{details_text, step_lacks};
 ghost use Rattle.mm_check.specs.Mirror.Explaining.{IsDeclaredIn, AddsApart, AreNamedPairs};
 ghost use Rattle.mm_check.specs.Mirror.Explaining.{AreEntriesIn, IsPairWithin, AddsPair, AddsPairs};
 ghost use Rattle.mm_frame.specs.declared.distinct.DistinctPair.{DistinctPair};
 
 use crate::told::{push_pair, push_shared, push_step_lacks};
+use mm_distinct::{missing_pairs, shared_variables};
 use mm_frame::{Book, DistinctPair, LabelId, Sym};
-use mm_proof::{ProofRule, missing_pairs, shared_variables};
+use mm_step::ProofRule;
 use std::alloc::{AllocError, Global};
 
 /// A mandatory pair, and what replaces its members, where these share variables; and those.

@@ -4,7 +4,7 @@ ghost use Rattle.std.specs.Prelude.{◌≡◌};
 ghost use Rattle.mm_check.specs.declared.ask.AskFault.TheVariants.{Memory};
 
 use crate::rule::{AskRule, Rule};
-use mm_proof::{ExpandFault, ProofFault};
+use mm_step::{ExpandFault, ProofFault};
 use std::alloc::{AllocError, AllocFailed};
 use thiserror::Error;
 

@@ -25,7 +25,7 @@ use crate::stated::push_told;
 use crate::theorem::{Theorem, theorem_of};
 use crate::users::{all_users_among, users_among};
 use mm_frame::{Book, Found, LabelId, LabelKind};
-use mm_proof::Profile;
+use mm_step::Profile;
 use mm_text::{File, Statement, Statements};
 use std::alloc::{AllocError, Global};
 use std::marker::Model;
@@ -83,7 +83,7 @@ impl<'a> Checked<'a> {
     ghost use Rattle.mm_check.specs.Mirror.Tables.{AreTables, IsOfKind, IsReportAt};
     ghost use Rattle.mm_text.specs.declared.statement.Kind.TheVariants.{Provable};
     ghost use Rattle.mm_frame.specs.Sentence.{IsAssertion};
-    ghost use Rattle.mm_proof.specs.Steps.{AreSteps};
+    ghost use Rattle.mm_step.specs.Steps.{AreSteps};
     ghost use Rattle.mm_check.specs.Shown.{ShowsProof};
     ghost use Rattle.mm_check.specs.ShownUses.{ShowsUses};
     ghost use Rattle.mm_check.specs.Compared.{IsCompared, IsSameFault};

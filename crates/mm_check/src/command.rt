@@ -18,7 +18,7 @@ use crate::shorter_file::Wanted;
 use crate::shorter_reply::shorter_file_reply;
 use crate::status::Status;
 use crate::watch::{Unwatched, Watch};
-use mm_proof::Profile;
+use mm_step::Profile;
 use mm_text::{Counted, File, Seed};
 use std::alloc::{AllocError, Global};
 use std::io::Write;

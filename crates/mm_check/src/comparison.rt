@@ -7,7 +7,7 @@ ghost use Rattle.mm_code.specs.Layout.{texts};
 ghost use Rattle.mm_code.specs.Words.{tokens_in};
 ghost use Rattle.mm_frame.specs.Sentence.{Sentence};
 ghost use Rattle.mm_proof.specs.Parsed.{OfProof};
-ghost use Rattle.mm_proof.specs.Steps.{AreSteps, IsProofNumber};
+ghost use Rattle.mm_step.specs.Steps.{AreSteps, IsProofNumber};
 ghost use Rattle.mm_proof.specs.Strict.{HasFormOf};
 ghost use Rattle.mm_proof.specs.Tokens.{is_incomplete};
 ghost use Rattle.mm_check.specs.Compared.{IsProofText};
@@ -18,8 +18,10 @@ ghost use Rattle.mm_check.specs.Mirror.Comparisons.{IsComparedWith};
 use crate::ask::AskFault;
 use crate::text::proof_tokens;
 use crate::theorem::Theorem;
+use mm_forms::same;
 use mm_frame::{Book, LabelId};
-use mm_proof::{Flat, Parsed, Profile, Steps, same, verify};
+use mm_proof::{Parsed, Steps, verify};
+use mm_step::{Flat, Profile};
 use std::alloc::Global;
 
 /// Whether the steps of a whole proof prove the `$p`, or their first fault.

@@ -7,16 +7,16 @@ ghost use Rattle.mm_text.specs.Files.{most_bytes};
 ghost use Rattle.mm_code.specs.Layout.{texts};
 ghost use Rattle.mm_frame.specs.Sentence.{Sentence, SomeSentence, IsLabelled};
 ghost use Rattle.mm_frame.specs.Form.{IsSound};
-ghost use Rattle.mm_proof.specs.Mirror.CodeVerify.{AreHypothesesOf};
-ghost use Rattle.mm_proof.specs.declared.fault.ProofRule.TheVariants.{P2, P8, P9, P10, P11, P12};
-ghost use Rattle.mm_proof.specs.Stores.{entries_in};
-ghost use Rattle.mm_proof.specs.Halted.{TellsEntry};
+ghost use Rattle.mm_step.specs.Mirror.CodeVerify.{AreHypothesesOf};
+ghost use Rattle.mm_step.specs.declared.fault.ProofRule.TheVariants.{P2, P8, P9, P10, P11, P12};
+ghost use Rattle.mm_step.specs.Stores.{entries_in};
+ghost use Rattle.mm_listing.specs.Halted.{TellsEntry};
 ghost use Rattle.mm_proof.specs.Parsed.{OfProof, SaySteps};
 ghost use Rattle.mm_proof.specs.Verified.{OfMoves};
-ghost use Rattle.mm_proof.specs.Substitution.{Symbol};
-ghost use Rattle.mm_proof.specs.Steps.{IsProofNumber, AreSteps, IsNumberedMove};
+ghost use Rattle.mm_step.specs.Substitution.{Symbol};
+ghost use Rattle.mm_step.specs.Steps.{IsProofNumber, AreSteps, IsNumberedMove};
 ghost use Rattle.mm_proof.specs.Tokens.{is_incomplete};
-ghost use Rattle.mm_proof.specs.Profiles.{limit_of};
+ghost use Rattle.mm_step.specs.Profiles.{limit_of};
 ghost use Rattle.mm_proof.specs.Strict.{HasFormOf, IsTextFault};
 ghost use Rattle.mm_proof.specs.UnderProfile.{IsPrefixAllowedUnder};
 ghost use Rattle.mm_check.specs.Explained.{Detail, IsTokensFault, AreDetails, AreLeftOver};
@@ -34,11 +34,12 @@ use crate::told::{
     push_asks, push_counts, push_end, push_given, push_marks, push_missing, push_most, push_near,
     push_stated, push_step, push_token,
 };
+use mm_distinct::{asked_by, lacking_pairs};
 use mm_frame::{Book, Hypothesis, LabelId, Sym};
-use mm_proof::{
-    Halt, HaltAt, Parsed, Profile, ProofFault, ProofRule, Steps, asked_by, halt_of, lacking_pairs,
-    whole_place,
-};
+use mm_listing::{Halt, HaltAt, halt_of};
+use mm_places::whole_place;
+use mm_proof::{Parsed, Steps};
+use mm_step::{Profile, ProofFault, ProofRule};
 use std::alloc::{AllocError, Global};
 
 /// What each entry of the stack is, where moves stop.

@@ -8,17 +8,18 @@ ghost use Rattle.mm_text.specs.Statement.{plain_statement};
 ghost use Rattle.mm_code.specs.Layout.{texts};
 ghost use Rattle.mm_code.specs.Words.{texts_of};
 ghost use Rattle.mm_frame.specs.Sentence.{Sentence, sentence_of};
-ghost use Rattle.mm_proof.specs.declared.fault.ProofRule.{ProofRule};
-ghost use Rattle.mm_proof.specs.declared.profile.Profile.{Profile};
-ghost use Rattle.mm_proof.specs.Halted.{HaltsProof};
-ghost use Rattle.mm_proof.specs.Moves.{Move};
-ghost use Rattle.mm_proof.specs.Steps.{IsProofNumber};
+ghost use Rattle.mm_step.specs.declared.fault.ProofRule.{ProofRule};
+ghost use Rattle.mm_step.specs.declared.profile.Profile.{Profile};
+ghost use Rattle.mm_listing.specs.Halted.{HaltsProof};
+ghost use Rattle.mm_step.specs.Moves.{Move};
+ghost use Rattle.mm_step.specs.Steps.{IsProofNumber};
 ghost use Rattle.mm_check.specs.Mirror.Explaining.{IsCauseOf, StopsIn};
 ghost use Rattle.mm_check.specs.Verdict.{proof_of};
 ghost use Rattle.mm_check.specs.Why.{IsPosition, IsStopPlace, IsPlaceAmong, IsFaultPlace};
 
 use crate::details::Cause;
-use mm_proof::{Halt, HaltAt, move_place};
+use mm_listing::{Halt, HaltAt};
+use mm_places::move_place;
 use mm_text::{Statement, Token};
 
 /// The position of a byte of one of the tokens.

@@ -15,7 +15,7 @@ use crate::rule::Rule;
 use crate::verdict::{conclude, judge_files};
 use crate::visitor::Visitor;
 use mm_frame::Book;
-use mm_proof::Profile;
+use mm_step::Profile;
 use mm_text::{File, Seed, Statement};
 use std::alloc::{AllocError, Global};
 use thiserror::Error;

@@ -4,10 +4,10 @@ ghost use Rattle.std.specs.Prelude.{◌≡◌, ◌⊎◌, ◌<◌, ◌≤◌, Li
 ghost use Rattle.std.specs.Prelude.{◌∷◌};
 ghost use Rattle.mm_code.specs.Layout.{texts};
 ghost use Rattle.mm_code.specs.SmallLayout.{most_indent};
-ghost use Rattle.mm_proof.specs.Tree.{spelling};
-ghost use Rattle.mm_proof.specs.Spelled.{AreLabelsOf, OfSpelling};
-ghost use Rattle.mm_proof.specs.Packing.{OfTree};
-ghost use Rattle.mm_proof.specs.Steps.{AreSteps};
+ghost use Rattle.mm_step.specs.Tree.{spelling};
+ghost use Rattle.mm_forms.specs.Spelled.{AreLabelsOf, OfSpelling};
+ghost use Rattle.mm_forms.specs.Packing.{OfTree};
+ghost use Rattle.mm_step.specs.Steps.{AreSteps};
 ghost use Rattle.mm_proof.specs.Verified.{OfMoves};
 ghost use Rattle.mm_check.specs.declared.ask.AskFault.TheVariants.{Rule, Memory};
 ghost use Rattle.mm_check.specs.declared.rule.AskRule.TheVariants.{L2};
@@ -23,8 +23,8 @@ use crate::form::Form;
 use crate::shorter::step_count;
 use crate::theorem::Theorem;
 use mm_code::{MOST_INDENT, lay_out_compressed, lay_out_normal, lay_out_small, write_codes};
+use mm_forms::{compress, compress_small, expand};
 use mm_frame::{Book, LabelId};
-use mm_proof::{compress, compress_small, expand};
 use std::alloc::{AllocError, Global};
 
 // The most labels of a normal proof that is written.

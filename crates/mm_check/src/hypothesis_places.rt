@@ -2,7 +2,7 @@
 
 ghost use Rattle.std.specs.Prelude.{◌≡◌, ◌++◌, ℕ, List, map, OnOk};
 ghost use Rattle.mm_text.specs.Files.{plain_file};
-ghost use Rattle.mm_proof.specs.declared.profile.Profile.{Profile};
+ghost use Rattle.mm_step.specs.declared.profile.Profile.{Profile};
 ghost use Rattle.mm_check.specs.Explained.{Detail, details_text};
 ghost use Rattle.mm_check.specs.HypothesisPlaces.{AreHypothesisPlaces, AreStopPlaces};
 ghost use Rattle.mm_check.specs.HypothesisPlaces.{AreTokenPlaces, tells_own as tells_own_of};
@@ -15,7 +15,7 @@ use crate::details::Cause;
 use crate::own_hypotheses::push_own_hypotheses;
 use crate::scope::push_scope;
 use mm_frame::{Book, LabelId};
-use mm_proof::ProofRule;
+use mm_step::ProofRule;
 use mm_text::{File, Seed};
 use std::alloc::{AllocError, Global};
 

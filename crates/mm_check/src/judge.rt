@@ -15,7 +15,8 @@ use crate::position::LineCount;
 use crate::progress::Progress;
 use crate::rule::Rule;
 use mm_frame::{LabelId, RuleFault, Taken};
-use mm_proof::{Profile, ProofFault, Proved, Prover};
+use mm_proof::{Proved, Prover};
+use mm_step::{Profile, ProofFault};
 use mm_text::{Kind, Statement};
 use std::alloc::AllocError;
 

@@ -2,7 +2,7 @@
 
 ghost use Rattle.std.specs.Prelude.{◌≡◌, false, IsTrue};
 ghost use Rattle.mm_frame.specs.Numbers.{IsAssertionNumber};
-ghost use Rattle.mm_proof.specs.Steps.{AreSteps};
+ghost use Rattle.mm_step.specs.Steps.{AreSteps};
 ghost use Rattle.mm_check.specs.Conclusion.{numbers_of};
 ghost use Rattle.mm_check.specs.Rests.{AreRising};
 
@@ -10,8 +10,10 @@ use crate::kept::Kept;
 use crate::remarks::Remark;
 use crate::search::{OwnSize, Search};
 use mm_frame::{Book, LabelId, LabelKind};
-use mm_proof::{ProofFault, Steps, UsedSteps, uses_of};
+use mm_listing::{UsedSteps, uses_of};
+use mm_proof::Steps;
 use mm_shorten::{Entry, Library, Reach, Rests, Size, Theorem};
+use mm_step::ProofFault;
 use std::alloc::{AllocError, Global};
 
 /// A search by the assertions before a theorem. It is asked for theorems in database order.

@@ -6,7 +6,7 @@ ghost use Rattle.mm_check.specs.Meanings.{ask_words, meaning_of};
 
 use crate::rule::{AskRule, Rule};
 use mm_frame::MeaningRule;
-use mm_proof::ProofRule;
+use mm_step::ProofRule;
 use mm_text::{LoadRule, TextRule};
 
 /// The words for a rule of the files as a whole.

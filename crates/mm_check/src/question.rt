@@ -6,7 +6,7 @@ ghost use Rattle.std.specs.List.{AllByRecursion};
 ghost use Rattle.mm_text.specs.Statement.{PlainStatement};
 ghost use Rattle.mm_text.specs.Files.{plain_file};
 ghost use Rattle.mm_text.specs.Reading.{Reads};
-ghost use Rattle.mm_proof.specs.declared.profile.Profile.TheVariants.{Lenient};
+ghost use Rattle.mm_step.specs.declared.profile.Profile.TheVariants.{Lenient};
 ghost use Rattle.mm_check.specs.Answer.{labels_at, IsVerdict, KeepsLabels, KeepsFiles};
 ghost use Rattle.mm_check.specs.Answer.{plain_refusal, verdict_of_conclusion};
 ghost use Rattle.mm_check.specs.Faults.{AreAllFaults};
@@ -20,7 +20,7 @@ ghost use Rattle.mm_check.specs.Reply.{IsWholeReply, same_text, same_status, IsQ
 ghost use Rattle.mm_check.specs.Reply.{report_text as report_text_at};
 ghost use Rattle.mm_check.specs.Reply.{report_status as report_status_at, IsUsersReply};
 ghost use Rattle.mm_check.specs.Reply.{IsUsesReply, IsAllAxiomsReply, IsStatementReply};
-ghost use Rattle.mm_proof.specs.declared.profile.Profile.{Profile};
+ghost use Rattle.mm_step.specs.declared.profile.Profile.{Profile};
 ghost use Rattle.mm_check.specs.Users.{AreUsers, IsAssertionFault};
 
 use crate::all_axioms::all_axioms_text;
@@ -44,7 +44,7 @@ use crate::verdict::{check, check_with};
 use crate::watch::Watch;
 use crate::why::{Unaccepted, explained};
 use mm_frame::LabelId;
-use mm_proof::Profile;
+use mm_step::Profile;
 use mm_text::{File, Seed};
 use std::alloc::{AllocError, Global};
 

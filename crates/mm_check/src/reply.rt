@@ -24,7 +24,7 @@ use crate::rule::{AskRule, Rule};
 use crate::status::Status;
 use crate::words::{push_number, push_word};
 use mm_frame::LabelId;
-use mm_proof::ProofRule;
+use mm_step::ProofRule;
 use mm_text::{File, LoadRule};
 use std::alloc::{AllocError, Global};
 

@@ -4,7 +4,7 @@ ghost use Rattle.std.specs.Prelude.{◌≡◌};
 ghost use Rattle.mm_check.specs.RuleCodes.{ask_code, code_of};
 
 use mm_frame::MeaningRule;
-use mm_proof::ProofRule;
+use mm_step::ProofRule;
 use mm_text::{LoadRule, TextRule};
 use std::fmt;
 use std::fmt::Write;

@@ -6,7 +6,7 @@ ghost use Rattle.mm_text.specs.declared.statement.Kind.TheVariants.{Provable};
 ghost use Rattle.mm_text.specs.Statement.{PlainStatement, plain_statement, HasForm};
 ghost use Rattle.mm_text.specs.Files.{most_bytes, plain_file, total_bytes};
 ghost use Rattle.mm_frame.specs.Sentence.{sentence_in, IsLabelled};
-ghost use Rattle.mm_proof.specs.declared.profile.Profile.TheVariants.{Lenient};
+ghost use Rattle.mm_step.specs.declared.profile.Profile.TheVariants.{Lenient};
 ghost use Rattle.mm_check.specs.Verdict.{AreAccepted};
 ghost use Rattle.mm_check.specs.Saved.{FitsSaved, within_span};
 ghost use Rattle.mm_check.specs.AllSaved.{IsAllSaved, IsReplacement, IsSavingAllFault};
@@ -27,7 +27,8 @@ use crate::theorem::read_theorem;
 use crate::verdict::judge_files;
 use crate::visitor::Visitor;
 use mm_frame::{Book, LabelId};
-use mm_proof::{Profile, StepsReader};
+use mm_proof::StepsReader;
+use mm_step::Profile;
 use mm_text::{File, Seed, Statement};
 use std::alloc::{AllocError, Global};
 

@@ -1,7 +1,7 @@
 //! A search for shorter proofs, of which nothing is promised.
 
 ghost use Rattle.std.specs.Prelude.{◌≡◌, false};
-ghost use Rattle.mm_proof.specs.Steps.{AreSteps};
+ghost use Rattle.mm_step.specs.Steps.{AreSteps};
 ghost use Rattle.mm_check.specs.Mirror.Theorems.{AreProvedSteps};
 
 use mm_frame::{Book, LabelId};

@@ -8,7 +8,7 @@ ghost use Rattle.mm_text.specs.Statement.{PlainStatement};
 ghost use Rattle.mm_text.specs.Reading.{Reads};
 ghost use Rattle.mm_frame.specs.Numbers.{labelled_sentences, AreNumbers};
 ghost use Rattle.mm_frame.specs.Sentence.{Sentence};
-ghost use Rattle.mm_proof.specs.Steps.{AreSteps, IsProofNumber};
+ghost use Rattle.mm_step.specs.Steps.{AreSteps, IsProofNumber};
 ghost use Rattle.mm_check.specs.declared.ask.AskFault.TheVariants.{Memory};
 ghost use Rattle.mm_check.specs.Rests.{AreRising, IsAt};
 ghost use Rattle.mm_check.specs.Shorter.{IsMinimized};
@@ -30,8 +30,8 @@ use crate::search::{OwnSize, Search};
 use crate::shorter::{Handed, handed_proof};
 use crate::theorem::Theorem;
 use mm_frame::{Book, LabelId, Sym};
-use mm_proof::Used;
 use mm_shorten::Reach;
+use mm_step::Used;
 use std::alloc::{AllocError, Global};
 
 /// A database in which nothing is at fault, and what shorter proofs of its theorems have to heed.

@@ -2,9 +2,9 @@
 
 ghost use Rattle.std.specs.Prelude.{◌≡◌, ℕ, take, false, IfOk, IfSome};
 ghost use Rattle.mm_frame.specs.Sentence.{Sentence};
-ghost use Rattle.mm_proof.specs.Packing.{OfTree};
+ghost use Rattle.mm_forms.specs.Packing.{OfTree};
 ghost use Rattle.mm_proof.specs.Sharing.{is_number, steps_of};
-ghost use Rattle.mm_proof.specs.Steps.{AreSteps, IsProofNumber};
+ghost use Rattle.mm_step.specs.Steps.{AreSteps, IsProofNumber};
 ghost use Rattle.mm_proof.specs.Verified.{OfMoves};
 ghost use Rattle.mm_check.specs.Shorter.{HasSteps};
 ghost use Rattle.mm_check.specs.Mirror.Shortening.{AreHanded};
@@ -14,8 +14,10 @@ use crate::ask::AskFault;
 use crate::text::proof_tokens;
 use crate::theorem::Theorem;
 use mm_code::Code;
+use mm_forms::compress;
 use mm_frame::{Book, LabelId};
-use mm_proof::{Flat, Parsed, Profile, ProofFault, Steps, Used, compress, verify};
+use mm_proof::{Parsed, Steps, verify};
+use mm_step::{Flat, Profile, ProofFault, Used};
 use std::alloc::{AllocError, Global};
 
 /// A proof of a `$p` that was handed in: its steps, and the assertions of its tree.

@@ -4,12 +4,12 @@ ghost use Rattle.std.specs.Prelude.{◌≡◌, ◌<◌, List, map, length, IfOk,
 ghost use Rattle.mm_text.specs.Statement.{PlainStatement};
 ghost use Rattle.mm_text.specs.Files.{plain_file};
 ghost use Rattle.mm_text.specs.Reading.{Reads};
-ghost use Rattle.mm_proof.specs.declared.profile.Profile.TheVariants.{Lenient};
+ghost use Rattle.mm_step.specs.declared.profile.Profile.TheVariants.{Lenient};
 ghost use Rattle.mm_check.specs.Answer.{IsVerdict, KeepsLabels, KeepsFiles};
 ghost use Rattle.mm_check.specs.Status.{number_of};
 ghost use Rattle.mm_check.specs.Reply.{IsMinimizedReply, IsQuestionReply, IsShorterReply};
 ghost use Rattle.mm_check.specs.Reply.{IsAllShortenedReply};
-ghost use Rattle.mm_proof.specs.declared.profile.Profile.{Profile};
+ghost use Rattle.mm_step.specs.declared.profile.Profile.{Profile};
 
 use crate::ask::AskFault;
 use crate::checked::Checked;
@@ -20,7 +20,7 @@ use crate::shorter_file::Wanted;
 use crate::status::Status;
 use crate::verdict::{check, check_with};
 use crate::watch::Watch;
-use mm_proof::Profile;
+use mm_step::Profile;
 use mm_text::{File, Seed};
 use std::alloc::{AllocError, Global};
 

@@ -4,10 +4,10 @@ ghost use Rattle.std.specs.Prelude.{◌≡◌, ◌<◌, ◌++◌, List, take, le
 ghost use Rattle.std.specs.Prelude.{false, IfErr};
 ghost use Rattle.std.specs.List.{AllZip, AllByRecursion};
 ghost use Rattle.mm_frame.specs.Numbers.{symbols_of};
-ghost use Rattle.mm_proof.specs.Stores.{numbers_in};
-ghost use Rattle.mm_proof.specs.Steps.{AreSteps};
+ghost use Rattle.mm_step.specs.Stores.{numbers_in};
+ghost use Rattle.mm_step.specs.Steps.{AreSteps};
 ghost use Rattle.mm_proof.specs.Verified.{OfMoves};
-ghost use Rattle.mm_proof.specs.Listing.{StepName, ListedStep, IsNameOf, TellsStep, AreLinesOf};
+ghost use Rattle.mm_listing.specs.Listing.{StepName, ListedStep, IsNameOf, TellsStep, AreLinesOf};
 ghost use Rattle.mm_check.specs.declared.ask.AskFault.TheVariants.{Memory};
 ghost use Rattle.mm_check.specs.Answer.{labels_at};
 ghost use Rattle.mm_check.specs.Shown.{name_text, symbols_text, step_text};
@@ -18,7 +18,8 @@ use crate::ask::AskFault;
 use crate::theorem::Theorem;
 use crate::words::{push_decimal, push_word};
 use mm_frame::{Book, Sym};
-use mm_proof::{Line, Name, ProofFault, listing};
+use mm_listing::{Line, Name, listing};
+use mm_step::ProofFault;
 use std::alloc::{AllocError, Global};
 
 /// Puts what a step is called at the end.

@@ -3,9 +3,9 @@
 ghost use Rattle.std.specs.Prelude.{◌≡◌, ◌++◌, List, ℕ, take, length, replicate, true, false};
 ghost use Rattle.std.specs.Prelude.{OnOk, IfOk, IfErr};
 ghost use Rattle.std.specs.List.{AllZip};
-ghost use Rattle.mm_proof.specs.Listing.{ListedStep, TellsStep, AreLinesOf};
-ghost use Rattle.mm_proof.specs.Steps.{AreSteps};
-ghost use Rattle.mm_proof.specs.Uses.{AreUses, IsRoot, rows_of};
+ghost use Rattle.mm_listing.specs.Listing.{ListedStep, TellsStep, AreLinesOf};
+ghost use Rattle.mm_step.specs.Steps.{AreSteps};
+ghost use Rattle.mm_listing.specs.Uses.{AreUses, IsRoot, rows_of};
 ghost use Rattle.mm_proof.specs.Verified.{OfMoves};
 ghost use Rattle.mm_check.specs.declared.ask.AskFault.TheVariants.{Memory};
 ghost use Rattle.mm_check.specs.ShownUses.{more_uses_text, used_step_text, used_steps_text};
@@ -18,7 +18,8 @@ use crate::shown::{push_name, push_symbols};
 use crate::theorem::Theorem;
 use crate::words::push_decimal;
 use mm_frame::Book;
-use mm_proof::{Line, ProofFault, UsedSteps, uses_of};
+use mm_listing::{Line, UsedSteps, uses_of};
+use mm_step::ProofFault;
 use std::alloc::{AllocError, Global};
 
 /// Puts a comma and the number at the end, for each of these steps.

@@ -4,14 +4,15 @@ ghost use Rattle.std.specs.Prelude.{◌≡◌, ◌≤◌, map, length, sum_by, f
 ghost use Rattle.mm_text.specs.Statement.{plain_statement};
 ghost use Rattle.mm_text.specs.Files.{most_bytes};
 ghost use Rattle.mm_proof.specs.Parsed.{OfProof, SaySteps};
-ghost use Rattle.mm_proof.specs.Steps.{AreSteps};
+ghost use Rattle.mm_step.specs.Steps.{AreSteps};
 ghost use Rattle.mm_check.specs.declared.ask.AskFault.TheVariants.{Memory};
 ghost use Rattle.mm_check.specs.Verdict.{proof_of};
 ghost use Rattle.mm_check.specs.Mirror.Theorems.{IsProofOf, AreProvedSteps, SayStepsOf};
 
 use crate::ask::AskFault;
 use mm_frame::{Book, LabelId};
-use mm_proof::{Parsed, Profile, ProofFault, Steps, StepsReader};
+use mm_proof::{Parsed, Steps, StepsReader};
+use mm_step::{Profile, ProofFault};
 use mm_text::Statement;
 use std::alloc::Global;
 

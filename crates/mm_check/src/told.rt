@@ -6,7 +6,7 @@ ghost use Rattle.std.specs.List.{AllByRecursion};
 ghost use Rattle.mm_text.specs.Files.{plain_file};
 ghost use Rattle.mm_text.specs.Token.{plain_token};
 ghost use Rattle.mm_frame.specs.Numbers.{symbols_of};
-ghost use Rattle.mm_proof.specs.Stores.{numbers_in};
+ghost use Rattle.mm_step.specs.Stores.{numbers_in};
 ghost use Rattle.mm_check.specs.Explained.{detail_text, expression_line, difference_line};
 ghost use Rattle.mm_check.specs.Explained.{but_given_text, pair_asked, end_given, mark_text};
 ghost use Rattle.mm_check.specs.Explained.{symbol_at as symbol_there};

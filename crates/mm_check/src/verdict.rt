@@ -5,7 +5,7 @@ ghost use Rattle.mm_text.specs.Token.{plain_token};
 ghost use Rattle.mm_text.specs.Statement.{plain_statement, HasForm};
 ghost use Rattle.mm_text.specs.Files.{plain_file};
 ghost use Rattle.mm_text.specs.Remaining.{IsUnread};
-ghost use Rattle.mm_proof.specs.declared.profile.Profile.TheVariants.{Lenient};
+ghost use Rattle.mm_step.specs.declared.profile.Profile.TheVariants.{Lenient};
 ghost use Rattle.mm_check.specs.Verdict.{ObeyTheProfile, CanBeRead, HasVerdict};
 ghost use Rattle.mm_check.specs.Verdict.{text_refusal as text_refusal_at};
 ghost use Rattle.mm_check.specs.Answer.{IsYes, IsOverLimit, IsWantOfMemory, IsVerdict};
@@ -26,7 +26,8 @@ use crate::rule::Rule;
 use crate::size::size_of;
 use crate::visitor::{Nobody, Visitor};
 use mm_frame::RuleFault;
-use mm_proof::{Profile, Prover};
+use mm_proof::Prover;
+use mm_step::Profile;
 use mm_text::{File, Seed, Statement, Statements, TextFault, TextRule, Token};
 use std::alloc::{AllocError, Global};
 

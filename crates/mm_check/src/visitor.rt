@@ -13,7 +13,7 @@ pub(crate) trait Visitor<'a> {
     ghost use Rattle.std.specs.Prelude.{List, OnOk, IfErr};
     ghost use Rattle.mm_text.specs.Statement.{PlainStatement, plain_statement, HasForm};
     ghost use Rattle.mm_text.specs.Files.{PlainFile};
-    ghost use Rattle.mm_proof.specs.declared.profile.Profile.{Profile};
+    ghost use Rattle.mm_step.specs.declared.profile.Profile.{Profile};
     ghost use Rattle.mm_check.specs.Verdict.{PlainRefusal};
     ghost use Rattle.mm_check.specs.Mirror.Visits.{IsSeenNext, Sees, StopsAt};
 

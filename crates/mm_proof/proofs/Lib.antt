@@ -1,11 +1,4 @@
 pub mod Members
-pub mod StoreRanges
-pub mod ProofSteps
-pub mod ProofTokens
 pub mod ProofVerdicts
-pub mod ByNumbers
-pub mod Machines
-pub mod FullSharing
-pub mod PackedProofs
-pub mod LackingPairs
-pub mod SmallProofs
+pub mod ProofNumbers
+pub mod ProofTokens

@@ -13,7 +13,7 @@ use Rattle.mm_frame.proofs.Rules.DecidedStatements.{dec_both, dec_if, dec_as, de
 use Rattle.mm_frame.proofs.Rules.DecidedStatements.{symbol_dec, distinct_dec, mandatory_dec}
 use Rattle.mm_frame.proofs.Rules.DecidedStatements.{active_dec, contains_dec, dec_not, dec_or}
 use Rattle.mm_frame.proofs.Rules.DecidedStatements.{variable_dec}
-use Rattle.mm_proof.specs.Tree.{ShareNoVariable, AreDistinct}
+use Rattle.mm_step.specs.Tree.{ShareNoVariable, AreDistinct}
 
 -- ==== members of lists, by recursion on the list
 
@@ -103,7 +103,7 @@ module _ (P : List ℕ → Type 0) (each : ((x : List ℕ) → Dec (P x))) where
       (λ h. ⊎_elim (λ e. inl (rw e h.2)) (λ c. inr (h.0, c, h.2)) (contains_cases y xs h.0 h.1))
       (dec_or (each y) (dec_member xs))
 
-  dec_each : (xs : List (List ℕ)) → Dec ((x : List ℕ) → Contains xs x → P x)
+  pub dec_each : (xs : List (List ℕ)) → Dec ((x : List ℕ) → Contains xs x → P x)
   dec_each [] = yes (λ x h. absurd (let less : h.0 < 0 = h.1 in omega arith))
   dec_each (y ∷ xs) = dec_as
       (λ h x c. elim (contains_cases y xs x c) [ inl e ↦ subst P e h.0 | inr k ↦ h.1 x k ])

@@ -10,8 +10,6 @@ pub mod SaidMoves
 pub mod ProofLabels
 pub mod ProofCodes
 pub mod CodeLetters
-pub mod MovePlaces
-pub mod SomePlaces
-pub mod WholePlaces
-pub mod FormPlaces
 pub mod QuestionMarks
+pub mod SpelledOver
+pub mod WrittenLabels

@@ -4,7 +4,9 @@
 -- under a profile, `StrictForm` of the form that the strict profile demands. `VerdictLaws`: what
 -- limits change. The laws `one_verdict_under`, `one_prefix_verdict_under` and `limits_aside`
 -- rest on it, and with them `verify` and `Prover::prove`.
+pub mod PassedMoves
 pub mod FirstFault
 pub mod VerdictLaws
 pub mod ProfileVerdicts
 pub mod StrictForm
+pub mod JudgedMoves

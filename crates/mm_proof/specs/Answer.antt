@@ -1,8 +1,8 @@
 -- What an answer says.
 use Rattle.std.specs.Prelude.{◌≡◌, ℕ, Result, Err, ◌⊎◌}
-use Rattle.mm_proof.specs.declared.fault.ProofRule.{ProofRule}
-use Rattle.mm_proof.specs.declared.fault.ProofFault.{ProofFault}
-use Rattle.mm_proof.specs.declared.fault.ProofFault.TheVariants.{Rule, Memory}
+use Rattle.mm_step.specs.declared.fault.ProofRule.{ProofRule}
+use Rattle.mm_step.specs.declared.fault.ProofFault.{ProofFault}
+use Rattle.mm_step.specs.declared.fault.ProofFault.TheVariants.{Rule, Memory}
 
 -- this holds of the fault's rule and step; where memory was refused nothing is said
 abbrev pub OnRule : ProofFault → (ProofRule → ℕ → Type 0) → Type 0

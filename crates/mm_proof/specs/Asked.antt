@@ -5,8 +5,8 @@ use Rattle.mm_frame.specs.Sentence.{Sentence}
 use Rattle.mm_frame.specs.Active.{IsConstant, IsVariable}
 use Rattle.mm_frame.specs.Frame.{IsDistinct}
 use Rattle.mm_frame.specs.Numbers.{IsNumberOf}
-use Rattle.mm_proof.specs.Substitution.{Symbol, Expression, instance_of}
-use Rattle.mm_proof.specs.Proof.{MeetsHypotheses}
+use Rattle.mm_step.specs.Substitution.{Symbol, Expression, instance_of}
+use Rattle.mm_step.specs.Proof.{MeetsHypotheses}
 
 -- What the mandatory hypothesis with a number, from 0 on, asks where the step by the label is made
 -- on this stack: the hypothesis under the substitution that the entries of the `$f` give.

@@ -3,8 +3,8 @@
 -- proved rests on it: laws say how they are tied to it.
 use Rattle.std.specs.Prelude.{◌≡◌, ℕ, List, [], ◌∷◌, ◌++◌, slice_get, Some}
 use Rattle.mm_frame.specs.Sentence.{Sentence}
-use Rattle.mm_proof.specs.Tree.{Trees, none, tree, spelling, TreesFit}
-use Rattle.mm_proof.specs.Moves.{Move, name, again, mark}
+use Rattle.mm_step.specs.Tree.{Trees, none, tree, spelling, TreesFit}
+use Rattle.mm_step.specs.Moves.{Move, name, again, mark}
 
 -- The move makes the second labels and kept words out of the first. A label goes to the labels'
 -- end, and so does the word of a tag; a mark keeps an ending of the labels that spells one tree

@@ -7,10 +7,11 @@ use Rattle.std.specs.Prelude.{slice_get, if◌then◌else◌}
 use Rattle.std.specs.List.{list_any, before_first, position_or_len}
 use Rattle.mm_text.specs.Items.{spells}
 use Rattle.mm_frame.specs.Sentence.{Sentence}
-use Rattle.mm_proof.specs.Substitution.{Expression}
-use Rattle.mm_proof.specs.Moves.{Move}
+use Rattle.mm_step.specs.Substitution.{Expression}
+use Rattle.mm_step.specs.Moves.{Move}
 use Rattle.mm_proof.specs.Tokens.{is_question, is_unknown, opening_token, closing_token, SayMoves}
-use Rattle.mm_proof.specs.Proof.{IsWhole, Passed}
+use Rattle.mm_proof.specs.Proof.{IsWhole}
+use Rattle.mm_step.specs.Proof.{Passed}
 
 -- the tokens before the first that holds a `?`
 abbrev pub known_tokens : List (List ℕ) → List (List ℕ)

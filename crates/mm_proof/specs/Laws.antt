@@ -5,13 +5,14 @@ use Rattle.std.specs.Prelude.{◌≡◌, ℕ, List, [], ◌∷◌, map}
 use Rattle.std.specs.Prelude.{◌⊎◌, ◌↔◌}
 use Rattle.mm_frame.specs.Sentence.{Sentence}
 use Rattle.mm_frame.specs.Rules.{AllMeant}
-use Rattle.mm_proof.specs.declared.fault.ProofRule.{ProofRule}
-use Rattle.mm_proof.specs.declared.fault.ProofRule.TheVariants.{L1}
-use Rattle.mm_proof.specs.Tree.{Trees, none, tree, spelling, TreesFit, DeriveAll, AnyExpression}
-use Rattle.mm_proof.specs.Moves.{Move, Makes}
+use Rattle.mm_step.specs.declared.fault.ProofRule.{ProofRule}
+use Rattle.mm_step.specs.declared.fault.ProofRule.TheVariants.{L1}
+use Rattle.mm_step.specs.Tree.{Trees, none, tree, spelling, TreesFit, DeriveAll, AnyExpression}
+use Rattle.mm_step.specs.Moves.{Move, Makes}
 use Rattle.mm_proof.specs.Tokens.{IsNormal}
 use Rattle.mm_proof.specs.Expansion.{Expands, IsWord}
-use Rattle.mm_proof.specs.Proof.{IsWithin, IsWhole, Prove, IsProvedWithin, IsProved, IsFault}
+use Rattle.mm_step.specs.Proof.{IsWithin}
+use Rattle.mm_proof.specs.Proof.{IsWhole, Prove, IsProvedWithin, IsProved, IsFault}
 
 -- Trees that fit are told by their spelling: no other trees that fit have it.
 abbrev pub OneFit : Type 0

@@ -1,10 +1,10 @@
 -- What is said of the tokens of a proof, by numbers.
 use Rattle.std.specs.Prelude.{ℕ, List, take}
 use Rattle.mm_frame.specs.Sentence.{Sentence}
-use Rattle.mm_proof.specs.Moves.{Move}
+use Rattle.mm_step.specs.Moves.{Move}
 use Rattle.mm_proof.specs.Tokens.{SayMoves}
 use Rattle.mm_proof.specs.Proof.{IsWhole}
-use Rattle.mm_proof.specs.Steps.{AreNumberedMoves, IsProofNumber}
+use Rattle.mm_step.specs.Steps.{AreNumberedMoves, IsProofNumber}
 
 -- of the `$p` with this number, the statement at its index, this holds
 abbrev pub OfProof : List Sentence → (id : ℕ) → (ℕ → Sentence → Type 0) → Type 0

@@ -1,7 +1,7 @@
 -- The steps of a proof, as they are read.
 use Rattle.std.specs.Prelude.{ℕ, List, Bool}
-use Rattle.mm_proof.specs.Moves.{Move}
-use Rattle.mm_proof.specs.declared.profile.Profile.{Profile}
+use Rattle.mm_step.specs.Moves.{Move}
+use Rattle.mm_step.specs.declared.profile.Profile.{Profile}
 
 -- The moves, by numbers; the profile under which they are judged; and whether they are those of the
 -- known prefix of an incomplete proof, not of a whole one.

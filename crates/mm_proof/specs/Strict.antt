@@ -3,11 +3,11 @@
 use Rattle.std.specs.Prelude.{◌≡◌, ℕ, List, [], ◌∷◌, ◌++◌, slice_get, Contains, Some, ◌⊎◌}
 use Rattle.mm_frame.specs.Sentence.{Sentence, SomeSentence, IsAssertion, IsLabelled}
 use Rattle.mm_frame.specs.Frame.{AreMandatory}
-use Rattle.mm_proof.specs.declared.profile.Profile.{Profile}
-use Rattle.mm_proof.specs.declared.profile.Profile.TheVariants.{Strict, Lenient}
-use Rattle.mm_proof.specs.declared.fault.ProofRule.{ProofRule}
-use Rattle.mm_proof.specs.declared.fault.ProofRule.TheVariants.{P15}
-use Rattle.mm_proof.specs.Moves.{Move, name, mark}
+use Rattle.mm_step.specs.declared.profile.Profile.{Profile}
+use Rattle.mm_step.specs.declared.profile.Profile.TheVariants.{Strict, Lenient}
+use Rattle.mm_step.specs.declared.fault.ProofRule.{ProofRule}
+use Rattle.mm_step.specs.declared.fault.ProofRule.TheVariants.{P15}
+use Rattle.mm_step.specs.Moves.{Move, name, mark}
 use Rattle.mm_proof.specs.Tokens.{IsCompressed, SaysCompressed}
 use Rattle.mm_proof.specs.Proof.{IsWhole, IsWholeFault}
 

@@ -8,7 +8,7 @@ use Rattle.mm_code.specs.declared.code.Code.TheVariants.{Number, Tag}
 use Rattle.mm_code.specs.Letters.{Letters}
 use Rattle.mm_frame.specs.Sentence.{Sentence}
 use Rattle.mm_frame.specs.Frame.{AreMandatory}
-use Rattle.mm_proof.specs.Moves.{Move, name, again, mark}
+use Rattle.mm_step.specs.Moves.{Move, name, again, mark}
 
 -- the byte is `?`
 abbrev pub is_question : ℕ → Bool

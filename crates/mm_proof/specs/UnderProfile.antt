@@ -6,12 +6,13 @@ use Rattle.std.specs.Prelude.{◌≡◌, ℕ, List, ◌⊎◌}
 use Rattle.mm_frame.specs.Sentence.{Sentence}
 use Rattle.mm_frame.specs.Rules.{AllMeant}
 use Rattle.mm_frame.specs.Form.{AllFormed}
-use Rattle.mm_proof.specs.declared.fault.ProofRule.{ProofRule}
-use Rattle.mm_proof.specs.declared.profile.Profile.{Profile}
-use Rattle.mm_proof.specs.Moves.{Move}
+use Rattle.mm_step.specs.declared.fault.ProofRule.{ProofRule}
+use Rattle.mm_step.specs.declared.profile.Profile.{Profile}
+use Rattle.mm_step.specs.Moves.{Move}
 use Rattle.mm_proof.specs.Tokens.{SayMoves}
-use Rattle.mm_proof.specs.Proof.{IsWithin, IsWhole, IsProvedWithin, IsMoveFault, IsMovesFault}
-use Rattle.mm_proof.specs.Profiles.{limit_of}
+use Rattle.mm_step.specs.Proof.{IsWithin}
+use Rattle.mm_proof.specs.Proof.{IsWhole, IsProvedWithin, IsMoveFault, IsMovesFault}
+use Rattle.mm_step.specs.Profiles.{limit_of}
 use Rattle.mm_proof.specs.KnownPrefix.{known_prefix, AreAllowed}
 use Rattle.mm_proof.specs.Strict.{HasFormOf, IsTextFault}
 

@@ -3,7 +3,7 @@
 use Rattle.std.specs.Prelude.{◌≡◌, ℕ, ◌<◌, List, slice_get, Contains, Some, ◌↔◌}
 use Rattle.mm_frame.specs.Sentence.{Sentence, IsAssertion, IsLabelled}
 use Rattle.mm_frame.specs.Numbers.{IsNumbered}
-use Rattle.mm_proof.specs.Tree.{Trees, spelling}
+use Rattle.mm_step.specs.Tree.{Trees, spelling}
 
 -- the number is that of an assertion whose label stands in the trees
 abbrev pub IsUsedNumber : List Sentence → Trees → ℕ → Type 0

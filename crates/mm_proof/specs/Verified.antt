@@ -1,11 +1,12 @@
 -- What is said of the moves, and of the tokens, of a proof, by numbers.
 use Rattle.std.specs.Prelude.{ℕ, List, take}
 use Rattle.mm_frame.specs.Sentence.{Sentence}
-use Rattle.mm_proof.specs.Tree.{tree, none}
-use Rattle.mm_proof.specs.Moves.{Move}
-use Rattle.mm_proof.specs.declared.fault.ProofRule.{ProofRule}
-use Rattle.mm_proof.specs.Proof.{IsWithin, Prove, IsProvedWithin, IsMovesFault}
-use Rattle.mm_proof.specs.Steps.{AreNumberedMoves, IsProofNumber}
+use Rattle.mm_step.specs.Tree.{tree, none}
+use Rattle.mm_step.specs.Moves.{Move}
+use Rattle.mm_step.specs.declared.fault.ProofRule.{ProofRule}
+use Rattle.mm_step.specs.Proof.{IsWithin}
+use Rattle.mm_proof.specs.Proof.{Prove, IsProvedWithin, IsMovesFault}
+use Rattle.mm_step.specs.Steps.{AreNumberedMoves, IsProofNumber}
 use Rattle.mm_proof.specs.Used.{AreUsedNumbers, AreUsed}
 
 -- of the `$p` with this number and its moves, by names, this holds

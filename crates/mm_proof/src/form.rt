@@ -6,25 +6,23 @@ ghost use Rattle.std.specs.List.{AllByRecursion};
 ghost use Rattle.mm_code.specs.Letters.{HasSpelling};
 ghost use Rattle.mm_frame.specs.FrameIndex.{AreHypotheses};
 ghost use Rattle.mm_proof.specs.Answer.{OnRule};
-ghost use Rattle.mm_proof.specs.declared.fault.ProofRule.TheVariants.{P15};
+ghost use Rattle.mm_step.specs.declared.fault.ProofRule.TheVariants.{P15};
 ghost use Rattle.mm_proof.specs.Tokens.{IsCompressed};
-ghost use Rattle.mm_proof.specs.Mirror.Sites.{IsSite};
-ghost use Rattle.mm_proof.specs.Steps.{AreSteps};
+ghost use Rattle.mm_step.specs.Mirror.Sites.{IsSite};
+ghost use Rattle.mm_step.specs.Steps.{AreSteps};
 ghost use Rattle.mm_proof.specs.Parsed.{OfProof, SaySteps};
 ghost use Rattle.mm_proof.specs.Strict.{IsStrict};
-ghost use Rattle.mm_proof.specs.Plain.{ids_in, label_ids, token_texts};
+ghost use Rattle.mm_step.specs.Plain.{ids_in, label_ids, token_texts};
 ghost use Rattle.mm_proof.specs.Mirror.CodeSteps.{AreFor, moves_of};
-ghost use Rattle.mm_proof.specs.Mirror.CodeRun.{MayBeMade};
+ghost use Rattle.mm_step.specs.Mirror.CodeRun.{MayBeMade};
 ghost use Rattle.mm_proof.specs.Mirror.CodeForm.{AllNew, IsFirstOld, IsAfterAssertion};
 ghost use Rattle.mm_proof.specs.Mirror.CodeForm.{AreMarksStrict, IsFirstLoose, IsLooseBy};
 
-use crate::fault::{ProofFault, ProofRule};
 use crate::label_set::LabelSet;
 use crate::prefix::begins_list;
-use crate::site::Site;
-use crate::used::is_assertion;
 use mm_code::Code;
 use mm_frame::{Book, Hypothesis, LabelId};
+use mm_step::{ProofFault, ProofRule, Site, is_assertion};
 use mm_text::{Seed, Token};
 use std::alloc::{AllocError, Global};
 
@@ -115,7 +113,7 @@ fn loose_mark(book: &Book, entries: &[LabelId], codes: &[Code]) -> Option<usize>
 
 /// What keeps a proof from the strict form.
 #[derive(Clone, Copy)]
-pub(crate) enum Loose {
+pub enum Loose {
     /// The label with this index in the list is spare: it stands there before, or it is that of a
     /// mandatory hypothesis.
     Label(usize),
@@ -126,7 +124,7 @@ pub(crate) enum Loose {
 
 /// What keeps the proof of the `$p` from the strict form first, if something does, where these are
 /// the labels of its list, if it is compressed, and its entries and codes.
-pub(crate) fn first_loose(
+pub fn first_loose(
     alloc: Global,
     site: &Site,
     tokens: &[Token],

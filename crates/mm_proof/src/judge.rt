@@ -4,23 +4,21 @@ ghost use Rattle.std.specs.Prelude.{◌≡◌, ◌≢◌, ◌≤◌, ◌<◌, �
 ghost use Rattle.std.specs.Prelude.{length, slice_get, Some, Err, IfOk, OnOk};
 ghost use Rattle.std.specs.List.{AllByRecursion};
 ghost use Rattle.mm_code.specs.Letters.{HasSpelling};
-ghost use Rattle.mm_proof.specs.Moves.{Move, name};
-ghost use Rattle.mm_proof.specs.Proof.{IsWithin, IsMoveFault};
-ghost use Rattle.mm_proof.specs.Steps.{AreNumberedMoves};
-ghost use Rattle.mm_proof.specs.Mirror.CodeSteps.{MayBeUsed, code_moves};
-ghost use Rattle.mm_proof.specs.Mirror.CodeVerify.{AreStackEntries};
-ghost use Rattle.mm_proof.specs.Mirror.CodeRun.{MayBeMade, HasRun, AreMarked, CarriesOn, StopsAt};
-ghost use Rattle.mm_proof.specs.Mirror.CodeRun.{EndsWrong};
-ghost use Rattle.mm_proof.specs.Stores.{numbers_in};
+ghost use Rattle.mm_step.specs.Moves.{Move, name};
+ghost use Rattle.mm_step.specs.Proof.{IsWithin};
+ghost use Rattle.mm_proof.specs.Proof.{IsMoveFault};
+ghost use Rattle.mm_step.specs.Steps.{AreNumberedMoves};
+ghost use Rattle.mm_step.specs.Mirror.CodeSteps.{MayBeUsed};
+ghost use Rattle.mm_proof.specs.Mirror.CodeSteps.{code_moves};
+ghost use Rattle.mm_step.specs.Mirror.CodeVerify.{AreStackEntries};
+ghost use Rattle.mm_step.specs.Mirror.CodeRun.{MayBeMade, HasRun, AreMarked, CarriesOn, StopsAt};
+ghost use Rattle.mm_step.specs.Mirror.CodeRun.{EndsWrong};
+ghost use Rattle.mm_step.specs.Stores.{numbers_in};
 
-use crate::call::step_by;
-use crate::call_table::CallTable;
-use crate::fault::{ProofFault, ProofRule};
 use crate::machine::{Machine, run};
-use crate::store::Store;
-use crate::substitution::is_same;
 use mm_code::Code;
 use mm_frame::Sym;
+use mm_step::{CallTable, ProofFault, ProofRule, Store, is_same, step_by};
 
 /// The proof breaks a rule at a step.
 pub(crate) fn fault_at_step(rule: ProofRule, step: usize) -> Result<(), ProofFault>
@@ -30,11 +28,7 @@ pub(crate) fn fault_at_step(rule: ProofRule, step: usize) -> Result<(), ProofFau
 }
 
 /// What is on the stack at the end: only the expression, or P13 or P14.
-pub(crate) fn ending<S: Store>(
-    store: &S,
-    expression: &[Sym],
-    number: usize,
-) -> Result<(), ProofFault>
+pub fn ending<S: Store>(store: &S, expression: &[Sym], number: usize) -> Result<(), ProofFault>
     ensures ok { OnOk result (S.stack store.now ≡ numbers_in expression.now ∷ []) }
     ensures fault { (rule : ProofRule) → (at : ℕ) → result ≡ Err (ProofFault.Rule rule at)
         → (at ≡ number) × EndsWrong rule (S.stack store.now) (numbers_in expression.now) }
@@ -50,7 +44,7 @@ pub(crate) fn ending<S: Store>(
 }
 
 /// The step by a tag.
-pub(crate) fn step_again<S: Store>(
+pub fn step_again<S: Store>(
     store: &mut S,
     tag: usize,
     kept: usize,
@@ -72,8 +66,8 @@ pub(crate) fn step_again<S: Store>(
 }
 
 /// A mark, where a step would have this number.
-#[tactic(auto, using(crate::proofs::Machines::JudgedMoves::last_split))]
-pub(crate) fn mark<S: Store>(store: &mut S, number: usize) -> Result<(), ProofFault>
+#[tactic(auto, using(crate::proofs::ProofVerdicts::JudgedMoves::last_split))]
+pub fn mark<S: Store>(store: &mut S, number: usize) -> Result<(), ProofFault>
     ensures ok { OnOk result
         ((rest : List (List ℕ)) × (e : List ℕ) × (S.stack store.old ≡ rest ++ e ∷ [])
         × (S.kept store.new ≡ S.kept store.old ++ e ∷ [])) }
@@ -126,23 +120,23 @@ fn step_entry<S: Store>(
 
 /// What judges moves.
 #[derive(Drop)]
-pub(crate) struct Judge<'s, 'e, 'b, 'a, S> {
+pub struct Judge<'s, 'e, 'b, 'a, S> {
     /// The store of their expressions.
-    pub(crate) store: &'s mut S,
+    pub store: &'s mut S,
     /// By the index of an entry, whether a move names it.
-    pub(crate) marks: &'s mut Vec<bool>,
+    pub marks: &'s mut Vec<bool>,
     /// Where the proof is judged, and what its entries stand for.
-    pub(crate) table: &'s CallTable<'e, 'b, 'a>,
+    pub table: &'s CallTable<'e, 'b, 'a>,
     /// How many of the moves so far are steps.
-    pub(crate) steps: usize,
+    pub steps: usize,
     /// How many are marks.
-    pub(crate) kept: usize,
+    pub kept: usize,
 }
 
 // It stops at the first move that breaks a rule.
 impl<'s, 'e, 'b, 'a, S: Store> Machine for Judge<'s, 'e, 'b, 'a, S> {
     ghost use Rattle.mm_proof.specs.Answer.{OnRule};
-    ghost use Rattle.mm_proof.specs.Mirror.CodeRun.{MayBeMade};
+    ghost use Rattle.mm_step.specs.Mirror.CodeRun.{MayBeMade};
     ghost use Rattle.mm_proof.specs.Mirror.Judges.{HasJudged, BreaksRun};
 
     type Fault = ProofFault;

@@ -11,7 +11,7 @@ use std::marker::Model;
 
 /// Labels, each once, in the order in which they came.
 #[derive(Drop)]
-pub(crate) struct LabelSet {
+pub struct LabelSet {
     set: IndexSet<u32, Seed>,
 }
 
@@ -25,7 +25,7 @@ impl Model for LabelSet {
 
 impl LabelSet {
     /// No labels, whose hashes begin from the seed. It takes no memory.
-    pub(crate) fn new(alloc: Global, seed: Seed) -> LabelSet
+    pub fn new(alloc: Global, seed: Seed) -> LabelSet
         ensures { result ≡ [] }
     {
         LabelSet {
@@ -34,14 +34,14 @@ impl LabelSet {
     }
 
     /// How many there are.
-    pub(crate) fn len(&self) -> usize
+    pub fn len(&self) -> usize
         ensures { result ≡ length self.now }
     {
         self.set.len()
     }
 
     /// The index of a label that is among them.
-    pub(crate) fn index(&self, id: LabelId) -> usize
+    pub fn index(&self, id: LabelId) -> usize
         requires { Contains self.now id.0 }
         ensures there { slice_get self.now result ≡ Some id.0 }
         ensures within { result ≤ length self.now }
@@ -54,8 +54,8 @@ impl LabelSet {
     }
 
     /// Puts the label behind the others, if it isn't among them, and answers whether it wasn't.
-    #[tactic(auto, using(crate::proofs::PackedProofs::SubtreeNumbers::insertions))]
-    pub(crate) fn add(&mut self, id: LabelId) -> Result<bool, AllocError>
+    #[tactic(auto, using(crate::proofs::ProofNumbers::Insertions::insertions))]
+    pub fn add(&mut self, id: LabelId) -> Result<bool, AllocError>
         ensures { IfOk result (λ is_new. AddsNew self.old id.0 is_new self.new) }
     {
         let is_new = self.set.insert(id.0)?;

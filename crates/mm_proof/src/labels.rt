@@ -4,16 +4,16 @@ ghost use Rattle.std.specs.Prelude.{◌≡◌, OnOk, IfErr};
 ghost use Rattle.mm_frame.specs.Sentence.{Sentence};
 ghost use Rattle.mm_frame.specs.Numbers.{IsNumbered};
 ghost use Rattle.mm_proof.specs.Answer.{OnRule};
-ghost use Rattle.mm_proof.specs.Plain.{ids_in, token_texts};
+ghost use Rattle.mm_step.specs.Plain.{ids_in, token_texts};
 ghost use Rattle.mm_proof.specs.Mirror.CodeSteps.{IsUseOf, AreFor, BreaksLabels};
 
-use crate::fault::{ProofFault, ProofRule};
 use mm_frame::{Book, Found, Frame, Guesses, LabelId};
+use mm_step::{ProofFault, ProofRule};
 use mm_text::Token;
 
 /// What a label of a proof stands for.
 #[derive(Clone, Copy)]
-pub(crate) enum Use {
+pub enum Use {
     /// No statement before the proof's own has it.
     Unknown,
     /// A hypothesis that isn't active has it.
@@ -23,13 +23,7 @@ pub(crate) enum Use {
 }
 
 // What the label stands for in the proof of the `$p` with a number.
-pub(crate) fn use_of(
-    book: &Book,
-    guesses: &mut Guesses,
-    own: &Frame,
-    id: LabelId,
-    label: &[u8],
-) -> Use
+pub fn use_of(book: &Book, guesses: &mut Guesses, own: &Frame, id: LabelId, label: &[u8]) -> Use
     requires book { own.now.statements ≡ book.now.statements }
     requires own { (s : Sentence) × IsNumbered book.now.statements id.0 own.now.index s }
     ensures { IsUseOf book.now.statements own.now.index label.now result }

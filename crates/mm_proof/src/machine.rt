@@ -2,7 +2,7 @@
 
 ghost use Rattle.std.specs.Prelude.{◌≡◌, ℕ, [], All, length, take, slice_get, Some, OnOk, IfErr};
 ghost use Rattle.mm_code.specs.Letters.{HasSpelling};
-ghost use Rattle.mm_proof.specs.Moves.{Move};
+ghost use Rattle.mm_step.specs.Moves.{Move};
 ghost use Rattle.mm_proof.specs.Mirror.CodeSteps.{code_moves};
 ghost use Rattle.mm_proof.specs.Mirror.Machines.{HasStopped};
 
@@ -10,9 +10,9 @@ use mm_code::Code;
 
 /// What takes the moves of a proof, one after the other: it judges them, lists them, or builds
 /// something out of the trees that they make.
-pub(crate) trait Machine {
+pub trait Machine {
     ghost use Rattle.std.specs.Prelude.{ℕ, List, OnOk, IfErr};
-    ghost use Rattle.mm_proof.specs.Moves.{Move, again, mark};
+    ghost use Rattle.mm_step.specs.Moves.{Move, again, mark};
     ghost use Rattle.mm_proof.specs.Mirror.Machines.{IsNext, GoesOn, StopsMove};
     ghost use Rattle.mm_proof.specs.Mirror.Machines.{IsNextStep, StepsOn, StopsStep};
 
@@ -53,7 +53,7 @@ pub(crate) trait Machine {
 /// Gives the machine the moves of all codes, one after the other, until it stops. Numbers stand for
 /// so many entries, and then for tags.
 #[inline(always)]
-pub(crate) fn run<M: Machine>(machine: &mut M, count: usize, codes: &[Code]) -> Result<(), M::Fault>
+pub fn run<M: Machine>(machine: &mut M, count: usize, codes: &[Code]) -> Result<(), M::Fault>
     requires spelled { All HasSpelling codes.now }
     requires count { count ≡ length (M.entries machine.old) }
     requires begun { M.has_run machine.old machine.old [] }

@@ -3,9 +3,9 @@
 ghost use Rattle.std.specs.Prelude.{◌≡◌, ◌≤◌, length};
 ghost use Rattle.mm_text.specs.Files.{most_bytes};
 
-use crate::profile::Profile;
 use mm_code::Code;
 use mm_frame::LabelId;
+use mm_step::Profile;
 use std::marker::Model;
 
 /// The moves of a proof, or of the known prefix of an incomplete one, read from its tokens, and the
@@ -13,10 +13,10 @@ use std::marker::Model;
 /// and those above for tags.
 #[derive(Drop)]
 pub struct Steps {
-    pub(crate) profile: Profile,
-    pub(crate) prefix: bool,
-    pub(crate) entries: Vec<LabelId>,
-    pub(crate) codes: Vec<Code>,
+    pub profile: Profile,
+    pub prefix: bool,
+    pub entries: Vec<LabelId>,
+    pub codes: Vec<Code>,
     /// As many as the tokens of a proof have bytes, at most.
     ghost few: { length codes.items ≤ most_bytes },
 }

@@ -12,54 +12,52 @@ ghost use Rattle.mm_frame.specs.Sentence.{Sentence};
 ghost use Rattle.mm_proof.specs.Answer.{OnRule};
 ghost use Rattle.mm_proof.specs.Tokens.{is_incomplete, IsIncomplete, IsNormal, IsCompressed};
 ghost use Rattle.mm_proof.specs.Tokens.{opening_token, closing_token};
-ghost use Rattle.mm_proof.specs.Moves.{name};
+ghost use Rattle.mm_step.specs.Moves.{name};
 ghost use Rattle.mm_proof.specs.Proof.{IsWholeFault};
-ghost use Rattle.mm_proof.specs.Steps.{AreSteps, IsProofNumber};
+ghost use Rattle.mm_step.specs.Steps.{AreSteps, IsProofNumber};
 ghost use Rattle.mm_proof.specs.ReadSteps.{ReadSteps};
 ghost use Rattle.mm_proof.specs.KnownPrefix.{known_prefix};
 ghost use Rattle.mm_proof.specs.Strict.{HasFormOf, IsTextFault};
 ghost use Rattle.mm_proof.specs.Parsed.{OfProof, SaySteps};
 ghost use Rattle.mm_proof.specs.Mirror.CodeSteps.{IsReading, AreFor, moves_of};
 ghost use Rattle.mm_proof.specs.Mirror.CodeSteps.{fault_behind};
-ghost use Rattle.mm_proof.specs.Plain.{ids_in, label_ids, token_texts};
+ghost use Rattle.mm_step.specs.Plain.{ids_in, label_ids, token_texts};
 ghost use Rattle.mm_code.specs.Layout.{texts};
-ghost use Rattle.mm_proof.specs.Mirror.Sites.{IsSite};
+ghost use Rattle.mm_step.specs.Mirror.Sites.{IsSite};
 
-use crate::fault::{ProofFault, ProofRule};
 use crate::form::judge_form;
 use crate::labels::fill_numbers;
 use crate::moves::{Parsed, Steps};
 use crate::prefix::{begins_list, is_byte, is_unknown, known_prefix};
-use crate::profile::Profile;
-use crate::site::Site;
 use mm_code::{Code, CodeFault, CodeRule, fill_codes};
 use mm_frame::{Book, Guesses, Hypothesis, LabelId};
+use mm_step::{Profile, ProofFault, ProofRule, Site};
 use mm_text::Token;
 use std::alloc::{AllocError, Global};
 use std::mem::replace;
 
 /// Lists that the reading of each proof fills anew.
 #[derive(Drop)]
-pub(crate) struct ParseLists<'a> {
+pub struct ParseLists<'a> {
     /// The numbers of the labels.
-    pub(crate) ids: Vec<LabelId>,
+    pub ids: Vec<LabelId>,
     /// Guesses of these numbers, which stay from one proof to the next.
     guesses: Guesses,
     /// What the first numbers stand for: the mandatory hypotheses, and then the listed labels; or
     /// the labels of a normal proof, each once.
-    pub(crate) entries: Vec<LabelId>,
+    pub entries: Vec<LabelId>,
     /// The letters, as white space cuts them.
     letters: Vec<&'a [u8]>,
     /// What they say, or a number for each label of a normal proof.
-    pub(crate) codes: Vec<Code>,
+    pub codes: Vec<Code>,
     /// By the index of an entry, whether a code names it.
-    pub(crate) marks: Vec<bool>,
+    pub marks: Vec<bool>,
     /// By the number of a label, its index among the labels of the last normal proof that has it.
     indices: Vec<u32>,
 }
 
 impl<'a> ParseLists<'a> {
-    pub(crate) fn new(alloc: Global) -> ParseLists<'a> {
+    pub fn new(alloc: Global) -> ParseLists<'a> {
         ParseLists {
             ids: Vec::new(alloc),
             guesses: Guesses::new(alloc),
@@ -84,7 +82,7 @@ impl<'a> ParseLists<'a> {
 
 /// Whether some token holds a `?`.
 #[tactic(auto, using(crate::proofs::ProofTokens::QuestionMarks::question_steps))]
-pub(crate) fn is_incomplete(tokens: &[Token]) -> bool
+pub fn is_incomplete(tokens: &[Token]) -> bool
     ensures { result ≡ is_incomplete (token_texts tokens.now) }
 {
     for token in tokens {
@@ -223,7 +221,7 @@ fn closing_index(tokens: &[Token]) -> Option<usize>
 }
 
 // The list and the letters of a compressed proof, whose tokens after the `(` are these.
-pub(crate) fn parts<'t, 'a>(rest: &'t [Token<'a>]) -> Option<(&'t [Token<'a>], &'t [Token<'a>])>
+pub fn parts<'t, 'a>(rest: &'t [Token<'a>]) -> Option<(&'t [Token<'a>], &'t [Token<'a>])>
     ensures { MatchOption
         result
         (¬ (Contains (token_texts rest.now) closing_token))
@@ -252,10 +250,7 @@ fn letter_fault(fault: CodeFault) -> ProofFault
 }
 
 /// Fills the list with the texts of the tokens.
-pub(crate) fn fill_texts<'a>(
-    pieces: &mut Vec<&'a [u8]>,
-    tokens: &[Token<'a>],
-) -> Result<(), AllocError>
+pub fn fill_texts<'a>(pieces: &mut Vec<&'a [u8]>, tokens: &[Token<'a>]) -> Result<(), AllocError>
     ensures { OnOk result (texts pieces.new.items ≡ token_texts tokens.now) }
 {
     pieces.clear();
@@ -341,7 +336,7 @@ fn fill_compressed<'a>(
 
 /// Fills the lists with what says the moves of the tokens as a proof of the `$p`, or tells the
 /// first of P1 to P5 that they break: with a `?` among them, one of P1 to P4.
-pub(crate) fn fill_steps<'a>(
+pub fn fill_steps<'a>(
     lists: &mut ParseLists<'a>,
     site: &Site,
     tokens: &[Token<'a>],
@@ -501,10 +496,7 @@ fn prefix_steps(
 }
 
 // Tokens with these texts, which stand nowhere.
-pub(crate) fn tokens_with<'a>(
-    alloc: Global,
-    pieces: &[&'a [u8]],
-) -> Result<Vec<Token<'a>>, AllocError>
+pub fn tokens_with<'a>(alloc: Global, pieces: &[&'a [u8]]) -> Result<Vec<Token<'a>>, AllocError>
     ensures { IfOk result (λ v. token_texts v.items ≡ texts pieces.now) }
 {
     let mut tokens = Vec::with_capacity(alloc, pieces.len())?;

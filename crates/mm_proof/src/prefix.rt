@@ -8,13 +8,13 @@ ghost use Rattle.mm_text.specs.Items.{spells};
 ghost use Rattle.mm_proof.specs.Tokens.{is_question, is_unknown, BeginsList};
 ghost use Rattle.mm_proof.specs.KnownPrefix.{begins_list, ends_list};
 ghost use Rattle.mm_proof.specs.KnownPrefix.{known_piece, known_prefix};
-ghost use Rattle.mm_proof.specs.Plain.{token_texts};
+ghost use Rattle.mm_step.specs.Plain.{token_texts};
 
 use mm_text::Token;
 use std::alloc::{AllocError, Global};
 
 /// Whether the token is the one byte.
-pub(crate) fn is_byte(token: &[u8], byte: u8) -> bool
+pub fn is_byte(token: &[u8], byte: u8) -> bool
     ensures same { IsTrue result ↔ (token.now ≡ byte ∷ []) }
     ensures spelled { result ≡ spells token.now (byte ∷ []) }
 {
@@ -58,7 +58,7 @@ fn known_count(tokens: &[Token]) -> usize
 }
 
 /// Whether the first token is `(`.
-pub(crate) fn begins_list(tokens: &[Token]) -> bool
+pub fn begins_list(tokens: &[Token]) -> bool
     ensures begun { result ≡ begins_list (token_texts tokens.now) }
     ensures first { IsTrue result ↔ BeginsList (token_texts tokens.now) }
 {
@@ -106,10 +106,7 @@ fn text_up_to<'a>(
 
 /// The known prefix of a proof, as the tokens of a proof.
 #[tactic(auto, using(crate::proofs::ProofTokens::QuestionMarks::known_cut))]
-pub(crate) fn known_prefix<'a>(
-    alloc: Global,
-    tokens: &[Token<'a>],
-) -> Result<Vec<Token<'a>>, AllocError>
+pub fn known_prefix<'a>(alloc: Global, tokens: &[Token<'a>]) -> Result<Vec<Token<'a>>, AllocError>
     ensures { IfOk result (λ prefix.
         token_texts prefix.items ≡ known_prefix (token_texts tokens.now)) }
 {

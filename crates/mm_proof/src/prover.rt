@@ -14,25 +14,21 @@ ghost use Rattle.mm_frame.specs.Rules.{IsMeant, FirstBroken};
 ghost use Rattle.mm_frame.specs.Taken.{TakenAs};
 ghost use Rattle.mm_proof.specs.Answer.{OnRule, IsUnlessMemory};
 ghost use Rattle.mm_proof.specs.Tokens.{IsIncomplete};
-ghost use Rattle.mm_proof.specs.Profiles.{limit_of};
+ghost use Rattle.mm_step.specs.Profiles.{limit_of};
 ghost use Rattle.mm_proof.specs.Strict.{HasFormOf};
 ghost use Rattle.mm_proof.specs.UnderProfile.{IsProvedUnder, IsFaultUnder, AreAllowedUnder};
 ghost use Rattle.mm_proof.specs.UnderProfile.{HaveFaultUnder, IsPrefixAllowedUnder};
 ghost use Rattle.mm_proof.specs.UnderProfile.{IsPrefixFaultUnder};
-ghost use Rattle.mm_proof.specs.Steps.{IsProofNumber};
+ghost use Rattle.mm_step.specs.Steps.{IsProofNumber};
 ghost use Rattle.mm_proof.specs.Parsed.{OfProof};
 ghost use Rattle.mm_proof.specs.Verified.{TokensProve};
-ghost use Rattle.mm_proof.specs.Plain.{ids_in, token_texts};
+ghost use Rattle.mm_step.specs.Plain.{ids_in, token_texts};
 
-use crate::fault::{ProofFault, ProofRule};
-use crate::flat::Flat;
 use crate::parse::{ParseLists, fill_under, is_incomplete};
 use crate::prefix::known_prefix;
-use crate::profile::Profile;
 use crate::run::{judgement, pass};
-use crate::site::Site;
-use crate::used::Named;
 use mm_frame::{Book, LabelId, RuleFault, Taken};
+use mm_step::{Flat, Named, Profile, ProofFault, ProofRule, Site};
 use mm_text::{Seed, Statement, Token};
 use std::alloc::Global;
 use std::marker::Model;
@@ -73,7 +69,7 @@ impl<'a> Model for Prover<'a> {
 
     ghost Value = { Proving };
 
-    ghost use Rattle.mm_proof.specs.Plain.{ids_in};
+    ghost use Rattle.mm_step.specs.Plain.{ids_in};
 
     ghost view = { λ p. record { book = p.book; used = ids_in p.scratch.named.ids.items } };
 }

@@ -6,15 +6,14 @@ ghost use Rattle.mm_text.specs.Files.{most_bytes};
 ghost use Rattle.mm_frame.specs.Sentence.{Sentence};
 ghost use Rattle.mm_proof.specs.Answer.{OnRule};
 ghost use Rattle.mm_proof.specs.Parsed.{OfProof, SaySteps};
-ghost use Rattle.mm_proof.specs.Plain.{token_texts};
-ghost use Rattle.mm_proof.specs.Steps.{AreSteps, IsProofNumber};
+ghost use Rattle.mm_step.specs.Plain.{token_texts};
+ghost use Rattle.mm_step.specs.Steps.{AreSteps, IsProofNumber};
 ghost use Rattle.mm_proof.specs.Strict.{HasFormOf, IsTextFault};
 
-use crate::fault::ProofFault;
 use crate::moves::Steps;
 use crate::parse::{ParseLists, read_steps};
-use crate::profile::Profile;
 use mm_frame::{Book, LabelId};
+use mm_step::{Profile, ProofFault};
 use mm_text::Token;
 use std::alloc::Global;
 use std::marker::Model;

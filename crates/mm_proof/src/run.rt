@@ -5,27 +5,25 @@ ghost use Rattle.std.specs.List.{AllZip};
 ghost use Rattle.mm_code.specs.Letters.{HasSpelling};
 ghost use Rattle.mm_proof.specs.Answer.{OnRule};
 ghost use Rattle.mm_proof.specs.KnownPrefix.{Pass};
-ghost use Rattle.mm_proof.specs.Proof.{IsWithin, Prove, IsMoveFault};
-ghost use Rattle.mm_proof.specs.Steps.{AreSteps};
-ghost use Rattle.mm_proof.specs.Plain.{ids_in};
+ghost use Rattle.mm_step.specs.Proof.{IsWithin};
+ghost use Rattle.mm_proof.specs.Proof.{Prove, IsMoveFault};
+ghost use Rattle.mm_step.specs.Steps.{AreSteps};
+ghost use Rattle.mm_step.specs.Plain.{ids_in};
 ghost use Rattle.mm_proof.specs.Mirror.CodeSteps.{code_moves, moves_of};
-ghost use Rattle.mm_proof.specs.Mirror.CodeRun.{AreMarked};
-ghost use Rattle.mm_proof.specs.Mirror.CodeApply.{MayBeCalled};
+ghost use Rattle.mm_step.specs.Mirror.CodeRun.{AreMarked};
+ghost use Rattle.mm_step.specs.Mirror.CodeApply.{MayBeCalled};
 ghost use Rattle.mm_proof.specs.Verified.{OfMoves, ProvesUsingNumbers, FailsWith};
 
-use crate::call::{Call, call_of};
-use crate::call_table::CallTable;
-use crate::fault::{ProofFault, ProofRule};
 use crate::judge::{ending, run_codes};
-use crate::site::Site;
-use crate::store::Store;
-use crate::used::{Named, fill_called, unmark};
 use mm_code::Code;
 use mm_frame::{Book, LabelId, one_number};
+use mm_step::{
+    Call, CallTable, Named, ProofFault, ProofRule, Site, Store, call_of, fill_called, unmark,
+};
 use std::alloc::{AllocError, Global};
 
 /// What each of the entries, labels that numbers stand for, stands for itself.
-pub(crate) fn calls_of<'b>(
+pub fn calls_of<'b>(
     alloc: Global,
     book: &'b Book<'_>,
     entries: &[LabelId],
@@ -75,7 +73,7 @@ fn derive_codes<S: Store>(
 
 /// Fills the list with the assertions of the tree that the codes make, in the order of the entries,
 /// or tells their first fault, where numbers stand for the entries and then for tags.
-#[tactic(auto, using(crate::proofs::Machines::JudgedMoves::proved_with))]
+#[tactic(auto, using(crate::proofs::ProofVerdicts::JudgedMoves::proved_with))]
 pub(crate) fn judgement<S: Store>(
     alloc: Global,
     store: &mut S,
@@ -111,7 +109,7 @@ pub(crate) fn judgement<S: Store>(
 }
 
 /// Whether the moves of all codes pass, or their first fault.
-pub(crate) fn pass<S: Store>(
+pub fn pass<S: Store>(
     alloc: Global,
     store: &mut S,
     marks: &mut Vec<bool>,

@@ -3,21 +3,19 @@
 ghost use Rattle.std.specs.Prelude.{◌≡◌, ℕ, [], take, Err, IfOk, IfErr, OnOk, IsOkUnless};
 ghost use Rattle.std.specs.Prelude.{true, false};
 ghost use Rattle.mm_proof.specs.Answer.{OnRule, IsUnlessMemory};
-ghost use Rattle.mm_proof.specs.Proof.{Prove, IsWithin, IsMoveFault};
-ghost use Rattle.mm_proof.specs.Profiles.{limit_of};
+ghost use Rattle.mm_proof.specs.Proof.{Prove, IsMoveFault};
+ghost use Rattle.mm_step.specs.Proof.{IsWithin};
+ghost use Rattle.mm_step.specs.Profiles.{limit_of};
 ghost use Rattle.mm_proof.specs.KnownPrefix.{Pass};
-ghost use Rattle.mm_proof.specs.Steps.{AreSteps};
+ghost use Rattle.mm_step.specs.Steps.{AreSteps};
 ghost use Rattle.mm_frame.specs.Form.{IsSound};
-ghost use Rattle.mm_proof.specs.Plain.{ids_in};
+ghost use Rattle.mm_step.specs.Plain.{ids_in};
 ghost use Rattle.mm_proof.specs.Verified.{OfMoves, ProvesUsing, FailsWith};
 
-use crate::fault::{ProofFault, ProofRule};
 use crate::moves::Steps;
 use crate::run::{judgement, pass};
-use crate::site::Site;
-use crate::store::Store;
-use crate::used::{Named, Used};
 use mm_frame::{Book, LabelId};
+use mm_step::{Named, ProofFault, ProofRule, Site, Store, Used};
 use std::alloc::Global;
 
 // Fills the list with the assertions of the tree that the moves make, each once, in database order,
@@ -59,7 +57,7 @@ fn judgement_in_order<S: Store>(
 }
 
 // The answer on the moves of a proof. The store is handed in empty.
-pub(crate) fn answer<S: Store>(
+pub fn answer<S: Store>(
     alloc: Global,
     store: &mut S,
     named: &mut Named,

@@ -2,7 +2,7 @@
 
 use crate::expressions::Expressions;
 use mm_frame::{Book, LabelId, LabelKind, Sym};
-use mm_proof::{Name, UsedSteps};
+use mm_listing::{Name, UsedSteps};
 use mm_text::Seed;
 use std::alloc::{AllocError, Global};
 

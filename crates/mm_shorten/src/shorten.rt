@@ -7,7 +7,7 @@ use crate::goals::goals_of;
 use crate::graph::{Graph, Shared};
 use crate::price::step_price;
 use crate::search::{FIRST_SEARCH_STEPS, Reach, search_budget};
-use mm_proof::UsedSteps;
+use mm_listing::UsedSteps;
 use std::alloc::{AllocError, Global};
 
 /// The size of the small proof of a theorem.

@@ -6,7 +6,7 @@ use crate::Part::Text;
 use crate::tests::{compare, compare_commands};
 use mm_check::Command::{self, About, Whole};
 use mm_check::{Form, Question, WholeQuestion};
-use mm_proof::Profile;
+use mm_step::Profile;
 use std::test::Fail;
 
 /// The examples of `docs/LANGUAGE.md`.

@@ -6,7 +6,7 @@ use crate::Part::Text;
 use crate::tests::{contents_of, expect_reply, files_of, joined};
 use mm_check::Command::{About, Shorter, Whole};
 use mm_check::{Question, WholeQuestion};
-use mm_proof::Profile;
+use mm_step::Profile;
 use std::alloc::Global;
 use std::process::Abort;
 use std::test::Fail;

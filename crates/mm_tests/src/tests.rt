@@ -11,7 +11,7 @@ use crate::{
     why_meaning, why_text,
 };
 use mm_check::{Checked, Command, Status, WholeQuestion, check, run};
-use mm_proof::Profile;
+use mm_step::Profile;
 use mm_text::{Counted, File, Seed, Statement, Statements};
 use std::alloc::Global;
 use std::process::Abort;

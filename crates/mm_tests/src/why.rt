@@ -5,7 +5,7 @@ use crate::Part::Text;
 use crate::databases::FIRST;
 use mm_check::Command::{self, Whole};
 use mm_check::WholeQuestion;
-use mm_proof::Profile::{Lenient, Strict};
+use mm_step::Profile::{Lenient, Strict};
 
 /// Databases with several faults, with one, and with none.
 pub(crate) const EXPLAINED: [(Command<'static>, Case); 13] = [

@@ -4,7 +4,7 @@ use crate::Case;
 use crate::Part::Text;
 use mm_check::Command::{self, Whole};
 use mm_check::WholeQuestion;
-use mm_proof::Profile::Lenient;
+use mm_step::Profile::Lenient;
 
 /// Databases whose faulty proofs name a hypothesis that isn't active, or have hypotheses of their
 /// own.

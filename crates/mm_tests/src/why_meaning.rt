@@ -4,7 +4,7 @@ use crate::Case;
 use crate::Part::Text;
 use mm_check::Command::{self, Whole};
 use mm_check::WholeQuestion;
-use mm_proof::Profile::{Lenient, Strict};
+use mm_step::Profile::{Lenient, Strict};
 
 /// Databases that declare a symbol where they may not.
 pub(crate) const DECLARATIONS: [(Command<'static>, Case); 11] = [

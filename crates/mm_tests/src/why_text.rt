@@ -4,7 +4,7 @@ use crate::Case;
 use crate::Part::Text;
 use mm_check::Command::{self, Whole};
 use mm_check::WholeQuestion;
-use mm_proof::Profile::Lenient;
+use mm_step::Profile::Lenient;
 
 /// Databases with a fault of the text.
 pub(crate) const TEXTS: [(Command<'static>, Case); 12] = [

@@ -21,7 +21,7 @@ use Rattle.mm_check.specs.Reply.{IsReplyTo, name_of}
 use Rattle.mm_check.specs.declared.command.Command.{Command}
 use Rattle.mm_check.specs.declared.command.Command.TheVariants.{Whole}
 use Rattle.mm_check.specs.declared.question.WholeQuestion.TheVariants.{Check}
-use Rattle.mm_proof.specs.declared.profile.Profile.{Profile}
+use Rattle.mm_step.specs.declared.profile.Profile.{Profile}
 use Rattle.mm_tool.specs.declared.files.Comments.{Comments}
 use Rattle.mm_tool.specs.declared.files.Comments.TheVariants.{Kept, LeftOut}
 use Rattle.mm_tool.specs.ReadFiles.{IsReadAs}

@@ -14,7 +14,7 @@ ghost use Rattle.mm_tool.specs.Ending.{StaysUnshown, StopsRun, TakesWhole, Tells
 ghost use Rattle.mm_tool.specs.Ending.{stop_status};
 ghost use Rattle.mm_check.specs.declared.command.Command.TheVariants.{Whole};
 ghost use Rattle.mm_check.specs.declared.question.WholeQuestion.TheVariants.{Check};
-ghost use Rattle.mm_proof.specs.declared.profile.Profile.{Profile};
+ghost use Rattle.mm_step.specs.declared.profile.Profile.{Profile};
 ghost use Rattle.mm_tool.specs.Folder.{plain_read};
 ghost use Rattle.mm_tool.specs.declared.files.Comments.TheVariants.{LeftOut};
 ghost use Rattle.mm_tool.specs.declared.stop.Stop.TheVariants.{CannotWrite};

@@ -14,7 +14,7 @@ use crate::words::{Request, TextQuestion, request_of};
 use failing::{FailingFolder, Failure, Wordless, failing_writer};
 use folder::{Entry, Shelf};
 use mm_check::{Command, LoneQuestion, Question, Status, WholeQuestion};
-use mm_proof::Profile;
+use mm_step::Profile;
 use mm_text::{Counted, Seed};
 use std::alloc::Global;
 use std::cell::Cell;

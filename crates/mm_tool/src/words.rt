@@ -13,8 +13,8 @@ ghost use Rattle.mm_tool.specs.Words.{IsAllFault, IsFaultOfKind, IsGiven, IsOfKi
 ghost use Rattle.mm_tool.specs.Words.{IsNamingFault, NamesFile, NamesNoForm, NamesNoText};
 ghost use Rattle.mm_tool.specs.Words.{command_line, first_command, is_strict, name_of_form};
 ghost use Rattle.mm_tool.specs.Words.{name_of_text, number_among};
-ghost use Rattle.mm_proof.specs.declared.profile.Profile.{Profile};
-ghost use Rattle.mm_proof.specs.declared.profile.Profile.TheVariants.{Lenient};
+ghost use Rattle.mm_step.specs.declared.profile.Profile.{Profile};
+ghost use Rattle.mm_step.specs.declared.profile.Profile.TheVariants.{Lenient};
 ghost use Rattle.mm_tool.specs.declared.words.Request.TheVariants.{Run};
 
 use crate::command_line::{
@@ -26,7 +26,7 @@ use crate::stop::Stop;
 use clap::error::ErrorKind;
 use clap::{ArgMatches, Command, Error};
 use mm_check::{Form, LoneQuestion, Question, WholeQuestion};
-use mm_proof::Profile;
+use mm_step::Profile;
 use std::alloc::{AllocError, Global};
 
 /// What is said where two flags of `show` are given.

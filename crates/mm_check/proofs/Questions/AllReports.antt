@@ -15,7 +15,7 @@ use Rattle.mm_frame.specs.Taken.{kind_behind}
 use Rattle.mm_frame.proofs.Names.LabelNumbers.{numbered_get, numbered_some, numbered_within}
 use Rattle.mm_text.proofs.Lists.{at_from_contains, contains_from_at}
 use Rattle.mm_text.proofs.Lists.{all_within}
-use Rattle.mm_proof.specs.Plain.{ids_in}
+use Rattle.mm_step.specs.Plain.{ids_in}
 use Rattle.mm_check.specs.Rests.{AreRising, AreInOrder}
 use Rattle.mm_check.specs.Mirror.Bits.{has_bit}
 use Rattle.mm_check.specs.Mirror.Tables.{IsOfKind, AreReached}
@@ -33,7 +33,7 @@ use Rattle.mm_text.proofs.Reader.WholeReadings.{readings_few}
 use Rattle.mm_frame.specs.Rules.{AllMeant}
 use Rattle.mm_frame.specs.Sentence.{sentence_of}
 use Rattle.mm_proof.specs.Tokens.{is_incomplete}
-use Rattle.mm_proof.specs.declared.profile.Profile.{Profile}
+use Rattle.mm_step.specs.declared.profile.Profile.{Profile}
 use Rattle.mm_check.specs.declared.report.Report.{Report}
 use Rattle.mm_check.specs.declared.report.Tables.{Tables}
 use Rattle.mm_check.specs.Answer.{IsKeptOf}

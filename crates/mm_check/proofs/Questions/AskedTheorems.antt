@@ -20,37 +20,39 @@ use Rattle.mm_frame.proofs.Names.LabelNumbers.{numbered_get, numbered_some, numb
 use Rattle.mm_frame.proofs.Names.LabelNumbers.{numbered_within}
 use Rattle.mm_frame.proofs.Rules.ObeyedRules.{allmeant_prefix}
 use Rattle.mm_frame.proofs.Names.NameNumbers.{get_unmapped}
-use Rattle.mm_proof.specs.Tree.{Trees, none as no_trees, spelling, none, tree}
-use Rattle.mm_proof.specs.Proof.{IsProved, IsWithin, IsProvedWithin, Prove}
+use Rattle.mm_step.specs.Tree.{Trees, none as no_trees, spelling, none, tree}
+use Rattle.mm_proof.specs.Proof.{IsProved, IsProvedWithin, Prove}
+use Rattle.mm_step.specs.Proof.{IsWithin}
 use Rattle.mm_proof.specs.Used.{IsUsedNumber}
 use Rattle.mm_proof.proofs.ProofTokens.SaidMoves.{moves_once}
-use Rattle.mm_proof.proofs.ProofSteps.Derivations.{makes_once, zip_once}
+use Rattle.mm_step.proofs.ProofSteps.Derivations.{makes_once, zip_once}
 use Rattle.mm_proof.specs.Tokens.{is_incomplete}
 use Rattle.mm_check.specs.Conclusion.{Conclusion, ProofUses, numbers_of, labels_in}
 use Rattle.mm_check.specs.Verdict.{sentences, proof_of, is_proof, is_unproved}
 use Rattle.mm_check.specs.Rests.{IsAt, IsNumberWhere, AreInOrder, tree_of, HasTree, Uses, AreUses}
 use Rattle.mm_check.specs.Rests.{RestsOn, IsNamed, IsReport, IsAskFault}
 use Rattle.mm_check.specs.Answer.{IsKeptOf}
-use Rattle.mm_proof.specs.Plain.{ids_in}
+use Rattle.mm_step.specs.Plain.{ids_in}
 use Rattle.mm_check.specs.Mirror.Marks.{IsMarked, UsedIn, AreBackward, IsAxiomNumber}
 use Rattle.mm_check.proofs.Numbers.{count_labelled, in_order_same}
 use Rattle.mm_check.proofs.Verdicts.StatementByStatement.{Spells, AreUsesOf}
 use Rattle.std.specs.Result.{IsOkUnless}
 use Rattle.std.proofs.lemmas.Option.{same_Some}
-use Rattle.mm_proof.specs.declared.profile.Profile.{Profile}
-use Rattle.mm_proof.specs.declared.fault.ProofRule.{ProofRule}
-use Rattle.mm_proof.specs.declared.fault.ExpandFault.{ExpandFault}
-use Rattle.mm_proof.specs.Profiles.{limit_of}
-use Rattle.mm_proof.specs.Moves.{Move}
-use Rattle.mm_proof.specs.OneTree.{MakeOneTree}
-use Rattle.mm_proof.specs.Spelled.{AreLabelsOf, IsNumberOfLabel}
-use Rattle.mm_proof.specs.Packing.{OfTree}
+use Rattle.mm_step.specs.declared.profile.Profile.{Profile}
+use Rattle.mm_step.specs.declared.fault.ProofRule.{ProofRule}
+use Rattle.mm_step.specs.declared.fault.ExpandFault.{ExpandFault}
+use Rattle.mm_step.specs.Profiles.{limit_of}
+use Rattle.mm_step.specs.Moves.{Move}
+use Rattle.mm_forms.specs.OneTree.{MakeOneTree}
+use Rattle.mm_forms.specs.Spelled.{AreLabelsOf, IsNumberOfLabel}
+use Rattle.mm_forms.specs.Packing.{OfTree}
 use Rattle.mm_proof.specs.Strict.{IsTextFault}
 use Rattle.mm_proof.specs.UnderProfile.{IsProvedUnder}
 use Rattle.mm_proof.specs.ReadSteps.{ReadSteps}
-use Rattle.mm_proof.specs.Steps.{IsNumberedMove}
+use Rattle.mm_step.specs.Steps.{IsNumberedMove}
 use Rattle.mm_proof.specs.Verified.{OfMoves}
-use Rattle.mm_proof.proofs.ByNumbers.NumberedLabels.{one_index, one_move}
+use Rattle.mm_step.proofs.ByNumbers.OneIndex.{one_index}
+use Rattle.mm_proof.proofs.ProofNumbers.NumberedLabels.{one_move}
 use Rattle.mm_check.specs.declared.ask.AskFault.{AskFault}
 use Rattle.mm_check.specs.declared.rule.AskRule.TheVariants.{L2}
 use Rattle.mm_check.specs.Shown.{ShowsProof}
@@ -58,7 +60,7 @@ use Rattle.mm_check.specs.Forms.{most_labels, HasProofTree, IsNormalFault}
 use Rattle.mm_check.specs.Mirror.Theorems.{IsProofOf, SayStepsOf, AreProvedSteps, AreStepsOf}
 use Rattle.mm_check.specs.Mirror.Theorems.{IsListingOf}
 use Rattle.mm_frame.specs.declared.number.LabelKind.TheVariants as label_kinds
-use Rattle.mm_proof.specs.declared.fault.ExpandFault.TheVariants as expand
+use Rattle.mm_step.specs.declared.fault.ExpandFault.TheVariants as expand
 use Rattle.mm_check.specs.declared.ask.AskFault.TheVariants as ask
 
 -- ==== from what is kept, by number, to the statements of which it is kept

@@ -11,17 +11,18 @@ use Rattle.mm_check.specs.Mirror.Comparisons.{FailsAs, IsUnproved, IsTextRefused
 use Rattle.mm_check.specs.Mirror.Comparisons.{IsComparedWith}
 use Rattle.mm_text.specs.Statement.{PlainStatement}
 use Rattle.mm_frame.specs.Sentence.{Sentence, sentence_of}
-use Rattle.mm_proof.specs.declared.fault.ProofRule.{ProofRule}
-use Rattle.mm_proof.specs.declared.fault.ProofFault.{ProofFault}
-use Rattle.mm_proof.specs.declared.profile.Profile.{Profile}
-use Rattle.mm_proof.specs.Profiles.{limit_of}
-use Rattle.mm_proof.specs.Moves.{Move}
-use Rattle.mm_proof.specs.OneTree.{MakeSameTree}
-use Rattle.mm_proof.specs.Steps.{AreNumberedMoves}
+use Rattle.mm_step.specs.declared.fault.ProofRule.{ProofRule}
+use Rattle.mm_step.specs.declared.fault.ProofFault.{ProofFault}
+use Rattle.mm_step.specs.declared.profile.Profile.{Profile}
+use Rattle.mm_step.specs.Profiles.{limit_of}
+use Rattle.mm_step.specs.Moves.{Move}
+use Rattle.mm_forms.specs.OneTree.{MakeSameTree}
+use Rattle.mm_step.specs.Steps.{AreNumberedMoves}
 use Rattle.mm_proof.specs.ReadSteps.{ReadSteps}
 use Rattle.mm_proof.specs.Parsed.{OfProof}
 use Rattle.mm_proof.specs.Verified.{OfMoves, FailsWith}
-use Rattle.mm_proof.specs.Proof.{IsWithin, Prove}
+use Rattle.mm_step.specs.Proof.{IsWithin}
+use Rattle.mm_proof.specs.Proof.{Prove}
 use Rattle.mm_proof.specs.Strict.{HasFormOf}
 use Rattle.mm_proof.specs.UnderProfile.{IsProvedUnder}
 use Rattle.mm_check.specs.declared.ask.AskFault.{AskFault}
@@ -30,7 +31,7 @@ use Rattle.mm_check.specs.Rests.{IsAskFault}
 use Rattle.mm_check.specs.Compared.{IsProofText, text_fault, IsCompared, IsSameFault}
 use Rattle.mm_check.specs.Mirror.Theorems.{SayWholeSteps, AreProvedSteps, AreStepsOf}
 use Rattle.mm_check.proofs.Questions.AskedTheorems.{map-take, of_theorem}
-use Rattle.mm_proof.specs.declared.fault.ProofFault.TheVariants as proof_faults
+use Rattle.mm_step.specs.declared.fault.ProofFault.TheVariants as proof_faults
 use Rattle.mm_check.specs.declared.ask.AskFault.TheVariants as ask
 use Rattle.mm_check.specs.declared.rule.Rule.TheVariants as rules
 

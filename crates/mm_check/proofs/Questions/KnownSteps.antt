@@ -4,24 +4,25 @@ use Rattle.std.proofs.Common.{Option, Some, None, inl, inr, refl, sym, ap, subst
 use Rattle.std.specs.List.{AllZip}
 use Rattle.mm_text.proofs.Lists.{zip_length}
 use Rattle.mm_frame.specs.Sentence.{Sentence}
-use Rattle.mm_proof.specs.declared.fault.ProofRule.{ProofRule}
-use Rattle.mm_proof.specs.declared.halt.Halt.{Halt}
-use Rattle.mm_proof.specs.declared.lines.Line.{Line}
-use Rattle.mm_proof.specs.declared.profile.Profile.{Profile}
-use Rattle.mm_proof.specs.declared.profile.Profile.TheVariants.{Lenient}
-use Rattle.mm_proof.specs.Halted.{HaltsProof, StopsWith}
+use Rattle.mm_step.specs.declared.fault.ProofRule.{ProofRule}
+use Rattle.mm_listing.specs.declared.halt.Halt.{Halt}
+use Rattle.mm_listing.specs.declared.lines.Line.{Line}
+use Rattle.mm_step.specs.declared.profile.Profile.{Profile}
+use Rattle.mm_step.specs.declared.profile.Profile.TheVariants.{Lenient}
+use Rattle.mm_listing.specs.Halted.{HaltsProof, StopsWith}
 use Rattle.mm_proof.specs.KnownPrefix.{Pass}
-use Rattle.mm_proof.specs.Listing.{AreListed, ListedStep, TellsStep}
-use Rattle.mm_proof.specs.Moves.{Move, steps_in}
+use Rattle.mm_listing.specs.Listing.{AreListed, ListedStep, TellsStep}
+use Rattle.mm_step.specs.Moves.{Move, steps_in}
 use Rattle.mm_proof.specs.Parsed.{OfProof, SaySteps}
-use Rattle.mm_proof.specs.Profiles.{limit_of}
-use Rattle.mm_proof.specs.Proof.{IsWithin, IsMoveFault, IsMovesFault, Passed, Prove}
+use Rattle.mm_step.specs.Profiles.{limit_of}
+use Rattle.mm_step.specs.Proof.{IsWithin, Passed}
+use Rattle.mm_proof.specs.Proof.{IsMoveFault, IsMovesFault, Prove}
 use Rattle.mm_proof.specs.ReadSteps.{ReadSteps}
-use Rattle.mm_proof.specs.Steps.{IsProofNumber}
-use Rattle.mm_proof.specs.Substitution.{Expression}
+use Rattle.mm_step.specs.Steps.{IsProofNumber}
+use Rattle.mm_step.specs.Substitution.{Expression}
 use Rattle.mm_proof.specs.Tokens.{is_incomplete, SayMoves}
 use Rattle.mm_proof.specs.Verified.{OfMoves}
-use Rattle.mm_proof.proofs.ProofSteps.PassedMoves.{prove_at_end}
+use Rattle.mm_proof.proofs.ProofVerdicts.PassedMoves.{prove_at_end}
 use Rattle.mm_check.specs.Alone.{AreStepsBefore}
 use Rattle.mm_check.specs.Explained.{judged_tokens}
 use Rattle.mm_check.specs.Explained.{IsTokensFault}

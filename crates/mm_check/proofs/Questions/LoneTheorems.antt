@@ -18,7 +18,7 @@ use Rattle.mm_frame.specs.Rules.{FirstBroken, IsMeant, AllMeant}
 use Rattle.mm_frame.specs.Sentence.{Sentence, sentence_of, IsLabelled}
 use Rattle.mm_frame.specs.Taken.{TakenAs, next_id}
 use Rattle.mm_proof.specs.Parsed.{OfProof}
-use Rattle.mm_proof.specs.Steps.{IsProofNumber}
+use Rattle.mm_step.specs.Steps.{IsProofNumber}
 use Rattle.mm_check.specs.declared.fault.CheckFault.{CheckFault}
 use Rattle.mm_check.specs.declared.fault.CheckFault.TheVariants as check
 use Rattle.mm_check.specs.declared.fault.Refusal.{Refusal}

@@ -7,8 +7,8 @@ use Rattle.mm_frame.specs.Sentence.{Sentence}
 use Rattle.mm_frame.proofs.Names.LabelNumbers.{numbered_get, numbered_grow}
 use Rattle.mm_frame.proofs.Names.NameNumbers.{same_somes, symbols_unique}
 use Rattle.mm_text.proofs.Lists.{get_from_take, one_there, at_from_contains}
-use Rattle.mm_proof.specs.Plain.{ids_in}
-use Rattle.mm_proof.specs.Tree.{Trees}
+use Rattle.mm_step.specs.Plain.{ids_in}
+use Rattle.mm_step.specs.Tree.{Trees}
 use Rattle.mm_proof.specs.Used.{AreUsed}
 use Rattle.mm_check.specs.AllShorter.{AreOfOneKind, IsByOneAlone, IsUsedOfKind}
 use Rattle.mm_check.specs.Rests.{AreRising}

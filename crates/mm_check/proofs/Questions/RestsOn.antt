@@ -11,7 +11,7 @@ use Rattle.std.proofs.lemmas.Option.{slice_get_within}
 use Rattle.mm_frame.proofs.Names.NameNumbers.{get_mapped}
 use Rattle.mm_frame.specs.declared.number.LabelId.{LabelId}
 use Rattle.mm_text.proofs.Lists.{take_next, get_from_take, at_from_contains, contains_from_at}
-use Rattle.mm_proof.specs.Plain.{ids_in}
+use Rattle.mm_step.specs.Plain.{ids_in}
 use Rattle.mm_check.specs.Conclusion.{ProofUses}
 use Rattle.mm_check.specs.Rests.{AreRising, AreInOrder, RestsOn, IsNumberWhere, IsNamed, Uses}
 use Rattle.mm_check.specs.Mirror.Marks.{IsMarked, UsedIn, AreBackward}

@@ -13,7 +13,7 @@ use Rattle.std.proofs.lemmas.List.Elements.{Contains-append_left}
 use Rattle.mm_frame.specs.declared.number.LabelId.{LabelId}
 use Rattle.mm_frame.proofs.Names.NameNumbers.{get_mapped}
 use Rattle.mm_text.proofs.Lists.{at_from_contains, contains_from_at, get_pushed}
-use Rattle.mm_proof.specs.Plain.{ids_in}
+use Rattle.mm_step.specs.Plain.{ids_in}
 use Rattle.mm_check.specs.Conclusion.{ProofUses, numbers_of}
 use Rattle.mm_check.specs.Rests.{RestsOn}
 use Rattle.mm_check.specs.Mirror.Bits.{has_bit}

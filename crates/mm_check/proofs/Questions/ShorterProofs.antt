@@ -10,11 +10,11 @@ use Rattle.mm_frame.specs.declared.number.LabelId.{LabelId}
 use Rattle.mm_frame.specs.Rules.{AllMeant}
 use Rattle.mm_frame.specs.Sentence.{Sentence, sentence_of}
 use Rattle.mm_frame.proofs.Names.LabelNumbers.{numbered_within}
-use Rattle.mm_proof.specs.declared.profile.Profile.{Profile}
-use Rattle.mm_proof.specs.OneTree.{MakeTree}
-use Rattle.mm_proof.specs.Plain.{ids_in}
+use Rattle.mm_step.specs.declared.profile.Profile.{Profile}
+use Rattle.mm_forms.specs.OneTree.{MakeTree}
+use Rattle.mm_step.specs.Plain.{ids_in}
 use Rattle.mm_proof.specs.ReadSteps.{ReadSteps}
-use Rattle.mm_proof.specs.Tree.{Trees, none, tree}
+use Rattle.mm_step.specs.Tree.{Trees, none, tree}
 use Rattle.mm_proof.specs.Used.{AreUsed}
 use Rattle.mm_check.specs.declared.forms.OwnProof.{OwnProof}
 use Rattle.mm_check.specs.declared.shortening.Shorter.{Shorter}

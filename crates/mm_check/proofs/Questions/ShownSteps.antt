@@ -10,16 +10,16 @@ use Rattle.std.proofs.lemmas.Option.{slice_get-get_or}
 use Rattle.mm_frame.specs.declared.number.Sym.{Sym}
 use Rattle.mm_frame.specs.Sentence.{Sentence}
 use Rattle.mm_frame.specs.Numbers.{symbols_of}
-use Rattle.mm_proof.specs.Stores.{numbers_in}
-use Rattle.mm_proof.specs.declared.lines.Line.{Line}
-use Rattle.mm_proof.specs.declared.fault.ProofRule.{ProofRule}
-use Rattle.mm_proof.specs.declared.fault.ProofFault.{ProofFault}
-use Rattle.mm_proof.specs.Listing.{ListedStep, TellsStep}
+use Rattle.mm_step.specs.Stores.{numbers_in}
+use Rattle.mm_listing.specs.declared.lines.Line.{Line}
+use Rattle.mm_step.specs.declared.fault.ProofRule.{ProofRule}
+use Rattle.mm_step.specs.declared.fault.ProofFault.{ProofFault}
+use Rattle.mm_listing.specs.Listing.{ListedStep, TellsStep}
 use Rattle.mm_check.specs.Answer.{labels_at}
 use Rattle.mm_check.specs.Shown.{name_text, symbols_text, step_text, steps_text}
 use Rattle.mm_check.proofs.Numbers.{names_at, numbers_within}
 use Rattle.mm_text.proofs.Lists.{zip_length, zip_left}
-use Rattle.mm_proof.specs.declared.fault.ProofFault.TheVariants as faults
+use Rattle.mm_step.specs.declared.fault.ProofFault.TheVariants as faults
 
 -- ---- symbols
 

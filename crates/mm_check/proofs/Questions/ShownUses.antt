@@ -7,11 +7,11 @@ use Rattle.std.proofs.lemmas.List.{take_more, replicate_more, length-replicate}
 use Rattle.std.proofs.lemmas.Grind.{flat_map-append}
 use Rattle.mm_frame.specs.Sentence.{Sentence}
 use Rattle.mm_frame.specs.Numbers.{symbols_of}
-use Rattle.mm_proof.specs.Stores.{numbers_in}
-use Rattle.mm_proof.specs.declared.lines.Line.{Line}
-use Rattle.mm_proof.specs.Moves.{Move}
+use Rattle.mm_step.specs.Stores.{numbers_in}
+use Rattle.mm_listing.specs.declared.lines.Line.{Line}
+use Rattle.mm_step.specs.Moves.{Move}
 use Rattle.mm_proof.specs.Verified.{OfMoves}
-use Rattle.mm_proof.specs.Listing.{ListedStep, TellsStep}
+use Rattle.mm_listing.specs.Listing.{ListedStep, TellsStep}
 use Rattle.mm_text.specs.Statement.{PlainStatement}
 use Rattle.mm_check.specs.Answer.{labels_at}
 use Rattle.mm_check.specs.Verdict.{sentences}

@@ -25,8 +25,8 @@ use Rattle.mm_frame.specs.Taken.{kind_behind}
 use Rattle.mm_frame.proofs.Names.LabelNumbers.{numbered_get, numbered_some}
 use Rattle.mm_frame.proofs.Names.LabelNumbers.{numbered_unique}
 use Rattle.mm_frame.proofs.Names.NameNumbers.{get_alike, get_mapped}
-use Rattle.mm_proof.specs.Mirror.CodeVerify.{name_at}
-use Rattle.mm_proof.proofs.ByNumbers.NumberedSymbols.{name_is}
+use Rattle.mm_step.specs.Mirror.CodeVerify.{name_at}
+use Rattle.mm_step.proofs.ByNumbers.NumberedSymbols.{name_is}
 use Rattle.mm_check.specs.Answer.{labels_at}
 use Rattle.mm_check.specs.Mirror.Explaining.{named_pairs}
 use Rattle.mm_check.specs.Shown.{symbols_text, Stands}

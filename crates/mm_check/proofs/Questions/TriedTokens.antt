@@ -2,17 +2,18 @@
 -- says.
 use Rattle.std.proofs.Common.{◌≡◌, ℕ, List, take, Bool, true, false, cond, inl, inr, refl}
 use Rattle.mm_frame.specs.Sentence.{Sentence}
-use Rattle.mm_proof.specs.declared.fault.ProofFault.{ProofFault}
-use Rattle.mm_proof.specs.declared.fault.ProofFault.TheVariants as proof_faults
-use Rattle.mm_proof.specs.declared.fault.ProofRule.{ProofRule}
-use Rattle.mm_proof.specs.declared.profile.Profile.TheVariants.{Lenient}
+use Rattle.mm_step.specs.declared.fault.ProofFault.{ProofFault}
+use Rattle.mm_step.specs.declared.fault.ProofFault.TheVariants as proof_faults
+use Rattle.mm_step.specs.declared.fault.ProofRule.{ProofRule}
+use Rattle.mm_step.specs.declared.profile.Profile.TheVariants.{Lenient}
 use Rattle.mm_proof.specs.Answer.{OnRule}
 use Rattle.mm_proof.specs.KnownPrefix.{known_prefix, Pass}
-use Rattle.mm_proof.specs.Moves.{Move}
+use Rattle.mm_step.specs.Moves.{Move}
 use Rattle.mm_proof.specs.Parsed.{OfProof}
-use Rattle.mm_proof.specs.Profiles.{limit_of}
-use Rattle.mm_proof.specs.Proof.{IsWhole, IsWithin, IsMoveFault, IsMovesFault, Prove}
-use Rattle.mm_proof.specs.Steps.{IsProofNumber}
+use Rattle.mm_step.specs.Profiles.{limit_of}
+use Rattle.mm_proof.specs.Proof.{IsWhole, IsMoveFault, IsMovesFault, Prove}
+use Rattle.mm_step.specs.Proof.{IsWithin}
+use Rattle.mm_step.specs.Steps.{IsProofNumber}
 use Rattle.mm_proof.specs.Strict.{IsTextFault}
 use Rattle.mm_proof.specs.Tokens.{is_incomplete, IsIncomplete, SayMoves}
 use Rattle.mm_check.specs.Explained.{IsTokensFault}

@@ -19,7 +19,7 @@ use Rattle.mm_frame.proofs.Names.LabelNumbers.{numbered_within}
 use Rattle.mm_text.specs.Statement.{PlainStatement}
 use Rattle.mm_text.proofs.Lists.{take_next, get_from_take, at_from_contains, contains_from_at}
 use Rattle.mm_text.proofs.Lists.{all_within}
-use Rattle.mm_proof.specs.Plain.{ids_in}
+use Rattle.mm_step.specs.Plain.{ids_in}
 use Rattle.mm_check.specs.Conclusion.{ProofUses, Conclusion, numbers_of, labels_in}
 use Rattle.mm_check.specs.Answer.{IsKeptOf}
 use Rattle.mm_check.specs.Rests.{AreRising, AreInOrder, RestsOn, Uses, IsNamed}

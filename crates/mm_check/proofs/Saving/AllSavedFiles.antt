@@ -14,7 +14,7 @@ use Rattle.mm_text.specs.Replaced.{with_bytes}
 use Rattle.mm_text.proofs.Lists.{get_parted, all_filtered, at_from_contains, mapped_zip}
 use Rattle.mm_frame.specs.Sentence.{Sentence, sentence_of}
 use Rattle.mm_frame.proofs.Rules.ObeyedRules.{one_label}
-use Rattle.mm_proof.specs.declared.profile.Profile.{Profile}
+use Rattle.mm_step.specs.declared.profile.Profile.{Profile}
 use Rattle.mm_check.specs.declared.form.Form.{Form}
 use Rattle.mm_check.specs.declared.form.Form.TheVariants as form
 use Rattle.mm_check.specs.Verdict.{AreAccepted, AllObey, sentences}

@@ -9,7 +9,7 @@ use Rattle.mm_text.specs.Statement.{PlainStatement, is_provable}
 use Rattle.mm_text.specs.Replaced.{placeless, IsMoved}
 use Rattle.mm_proof.specs.Tokens.{is_incomplete}
 use Rattle.mm_frame.specs.Sentence.{sentence_of}
-use Rattle.mm_proof.specs.Tree.{Trees, none, tree}
+use Rattle.mm_step.specs.Tree.{Trees, none, tree}
 use Rattle.mm_check.specs.declared.form.Form.{Form}
 use Rattle.mm_check.specs.Verdict.{sentences, is_proof}
 use Rattle.mm_check.specs.Forms.{HasProofTree}

@@ -11,10 +11,10 @@ use Rattle.mm_text.specs.Replaced.{placeless}
 use Rattle.mm_text.proofs.Lists.{get_parted, split_at}
 use Rattle.mm_frame.specs.Sentence.{Sentence, sentence_of}
 use Rattle.mm_frame.specs.Rules.{AllMeant}
-use Rattle.mm_proof.specs.declared.profile.Profile.{Profile}
+use Rattle.mm_step.specs.declared.profile.Profile.{Profile}
 use Rattle.mm_proof.specs.Proof.{IsProved}
 use Rattle.mm_proof.specs.Tokens.{is_incomplete}
-use Rattle.mm_proof.specs.Tree.{Trees}
+use Rattle.mm_step.specs.Tree.{Trees}
 use Rattle.mm_check.specs.Verdict.{AreAccepted, AllObey, Obeys, HasVerdict, Verdict, sentences}
 use Rattle.mm_check.specs.Verdict.{proof_of, is_proof, is_unproved, label_of, unproved_of}
 use Rattle.mm_check.specs.Rests.{tree_of}

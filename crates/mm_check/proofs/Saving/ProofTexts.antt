@@ -26,18 +26,20 @@ use Rattle.mm_frame.specs.Sentence.{Sentence, SomeSentence, IsLabelled}
 use Rattle.mm_frame.specs.Form.{AllFormed}
 use Rattle.mm_frame.specs.Rules.{AllMeant}
 use Rattle.mm_frame.proofs.BookLists.ReadLabels.{label_named}
-use Rattle.mm_proof.specs.Tree.{Trees, none, tree, spelling, TreesFit, DeriveAll}
-use Rattle.mm_proof.specs.Moves.{Move, Makes}
-use Rattle.mm_proof.specs.OneTree.{MakeTree, MakeSameTree}
+use Rattle.mm_step.specs.Tree.{Trees, none, tree, spelling, TreesFit, DeriveAll}
+use Rattle.mm_step.specs.Moves.{Move, Makes}
+use Rattle.mm_forms.specs.OneTree.{MakeTree, MakeSameTree}
 use Rattle.mm_proof.specs.Proof.{IsProvedWithin}
 use Rattle.mm_proof.specs.Strict.{IsStrict}
-use Rattle.mm_proof.proofs.ProofSteps.Derivations.{makes_once}
+use Rattle.mm_step.proofs.ProofSteps.Derivations.{makes_once}
 use Rattle.mm_proof.proofs.ProofTokens.SaidMoves.{moves_once, compressed_once}
-use Rattle.mm_proof.proofs.PackedProofs.WrittenProofs.{normal_is_strict, packed_is_strict}
-use Rattle.mm_proof.proofs.PackedProofs.WrittenProofs.{label_fits, stands_known, IsProofBy}
-use Rattle.mm_proof.proofs.PackedProofs.WrittenProofs.{spelled_proves, packed_listed, packed_proves}
-use Rattle.mm_proof.proofs.SmallProofs.WrittenSmallProofs.{small_known}
-use Rattle.mm_proof.proofs.SmallProofs.WrittenSmallProofs.{small_proves, small_text_is_strict}
+use Rattle.mm_proof.proofs.ProofTokens.WrittenLabels.{normal_is_strict}
+use Rattle.mm_forms.proofs.PackedProofs.WrittenProofs.{packed_is_strict}
+use Rattle.mm_proof.proofs.ProofTokens.WrittenLabels.{label_fits, stands_known, IsProofBy}
+use Rattle.mm_proof.proofs.ProofTokens.WrittenLabels.{spelled_proves}
+use Rattle.mm_forms.proofs.PackedProofs.WrittenProofs.{packed_listed, packed_proves}
+use Rattle.mm_forms.proofs.SmallProofs.WrittenSmallProofs.{small_known}
+use Rattle.mm_forms.proofs.SmallProofs.WrittenSmallProofs.{small_proves, small_text_is_strict}
 use Rattle.mm_code.proofs.SmallReadBack.{small_read_back}
 use Rattle.mm_code.proofs.SmallEnds.{small_begins, small_ends}
 use Rattle.mm_check.specs.declared.form.Form.{Form}
@@ -46,9 +48,9 @@ use Rattle.mm_check.specs.Saved.{IsSpanText, indent_of}
 use Rattle.mm_check.proofs.Questions.AskedTheorems.{map-take}
 use Rattle.mm_code.proofs.LaidOutLines.{one_text_of_compressed}
 use Rattle.mm_code.proofs.OneSpelling.{one_text_only, one_reading_only}
-use Rattle.mm_proof.specs.Sharing.{AreFirstUses}
-use Rattle.mm_proof.proofs.Machines.TreeWords.{made_word}
-use Rattle.mm_proof.proofs.FullSharing.OneSharedProof.{told_by_packed_holds}
+use Rattle.mm_forms.specs.Sharing.{AreFirstUses}
+use Rattle.mm_forms.proofs.TreeBuilding.TreeWords.{made_word}
+use Rattle.mm_forms.proofs.FullSharing.OneSharedProof.{told_by_packed_holds}
 use Rattle.mm_text.proofs.Reader.WholeReadings.{readings_are_formed_in_place}
 use Rattle.mm_frame.proofs.Rules.ObeyedRules.{allformed_prefix, allmeant_prefix}
 use Rattle.mm_check.specs.Verdict.{sentences}

@@ -12,8 +12,8 @@ use Rattle.mm_text.specs.declared.statement.Kind.TheVariants.{Provable}
 use Rattle.mm_text.specs.Replaced.{with_span, with_bytes, IsMoved}
 use Rattle.mm_text.proofs.Lists.{zip_mapped, zip_weaker}
 use Rattle.mm_frame.specs.Sentence.{Sentence, sentence_of}
-use Rattle.mm_proof.specs.Tree.{Trees}
-use Rattle.mm_proof.specs.declared.profile.Profile.{Profile}
+use Rattle.mm_step.specs.Tree.{Trees}
+use Rattle.mm_step.specs.declared.profile.Profile.{Profile}
 use Rattle.mm_check.specs.declared.form.Form.{Form}
 use Rattle.mm_check.specs.Verdict.{AreAccepted, sentences}
 use Rattle.mm_check.specs.Saved.{FitsSaved, within_span}

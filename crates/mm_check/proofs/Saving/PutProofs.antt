@@ -14,11 +14,11 @@ use Rattle.mm_text.proofs.Replaced.ProofSpans.{proofs_stand_in_spans_holds}
 use Rattle.mm_frame.specs.Sentence.{Sentence, sentence_of}
 use Rattle.mm_frame.specs.Rules.{AllMeant}
 use Rattle.mm_frame.specs.Form.{AllFormed}
-use Rattle.mm_proof.specs.Tree.{Trees, none, tree, AnyExpression, DeriveAll}
-use Rattle.mm_proof.specs.Proof.{IsWithin}
-use Rattle.mm_proof.specs.declared.profile.Profile.{Profile}
-use Rattle.mm_proof.specs.Profiles.{limit_of}
-use Rattle.mm_proof.proofs.ProofSteps.Derivations.{derive_fits}
+use Rattle.mm_step.specs.Tree.{Trees, none, tree, AnyExpression, DeriveAll}
+use Rattle.mm_step.specs.Proof.{IsWithin}
+use Rattle.mm_step.specs.declared.profile.Profile.{Profile}
+use Rattle.mm_step.specs.Profiles.{limit_of}
+use Rattle.mm_step.proofs.ProofSteps.Derivations.{derive_fits}
 use Rattle.mm_check.specs.declared.form.Form.{Form}
 use Rattle.mm_check.specs.declared.form.Form.TheVariants as form
 use Rattle.mm_check.specs.Verdict.{AreAccepted, sentences, proof_of, is_proof}

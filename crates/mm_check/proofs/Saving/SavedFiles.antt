@@ -9,8 +9,9 @@ use Rattle.mm_text.specs.declared.statement.Kind.TheVariants.{Axiom, Provable}
 use Rattle.mm_text.specs.Statement.{PlainStatement, is_provable}
 use Rattle.mm_frame.specs.Sentence.{Sentence, sentence_of, IsLabelled}
 use Rattle.mm_frame.specs.Numbers.{IsNumbered}
-use Rattle.mm_proof.specs.Tree.{Trees, none, tree, AnyExpression, DeriveAll}
-use Rattle.mm_proof.specs.Proof.{IsProved, IsWithin}
+use Rattle.mm_step.specs.Tree.{Trees, none, tree, AnyExpression, DeriveAll}
+use Rattle.mm_proof.specs.Proof.{IsProved}
+use Rattle.mm_step.specs.Proof.{IsWithin}
 use Rattle.mm_proof.specs.Used.{IsUsedNumber}
 use Rattle.mm_proof.specs.Tokens.{is_incomplete}
 use Rattle.mm_check.specs.Verdict.{sentences, proof_of, is_proof, is_unproved, AreAccepted, Verdict}
@@ -35,7 +36,7 @@ use Rattle.mm_text.proofs.Lists.{get_set_cases}
 use Rattle.mm_text.proofs.Inclusions.OpenFiles.{file_there}
 use Rattle.mm_frame.specs.Rules.{AllMeant}
 use Rattle.mm_proof.specs.ReadSteps.{ReadSteps}
-use Rattle.mm_proof.specs.declared.profile.Profile.{Profile}
+use Rattle.mm_step.specs.declared.profile.Profile.{Profile}
 use Rattle.mm_check.specs.declared.form.Form.{Form}
 use Rattle.mm_check.specs.declared.ask.AskFault.{AskFault}
 use Rattle.mm_check.specs.declared.fault.CheckFault.{CheckFault}
@@ -57,8 +58,8 @@ use Rattle.mm_text.proofs.Replaced.ReplacedItems.{set_there}
 use Rattle.mm_code.proofs.ReadBack.{texts_in}
 use Rattle.mm_proof.specs.Strict.{IsStrict, HasFormOf}
 use Rattle.mm_proof.specs.UnderProfile.{IsProvedUnder}
-use Rattle.mm_proof.specs.declared.profile.Profile.TheVariants.{Strict, Lenient}
-use Rattle.mm_proof.specs.Profiles.{limit_of}
+use Rattle.mm_step.specs.declared.profile.Profile.TheVariants.{Strict, Lenient}
+use Rattle.mm_step.specs.Profiles.{limit_of}
 use Rattle.mm_proof.proofs.ProofVerdicts.VerdictLaws.{derive_any}
 use Rattle.mm_check.proofs.Verdicts.OneVerdict.{accepted_or_refused}
 use Rattle.mm_check.proofs.Saving.ProofTexts.{fine_complete, ReadsAsProof}

@@ -15,14 +15,14 @@ use Rattle.mm_text.proofs.Replaced.ProofSpans.{proofs_stand_in_spans_holds}
 use Rattle.mm_frame.specs.Sentence.{Sentence, sentence_of, IsLabelled}
 use Rattle.mm_frame.specs.Rules.{AllMeant}
 use Rattle.mm_frame.proofs.Rules.ObeyedRules.{one_label}
-use Rattle.mm_proof.specs.Tree.{Trees, none, tree, AnyExpression}
-use Rattle.mm_proof.specs.Moves.{Move, Makes}
+use Rattle.mm_step.specs.Tree.{Trees, none, tree, AnyExpression}
+use Rattle.mm_step.specs.Moves.{Move, Makes}
 use Rattle.mm_proof.specs.Tokens.{SayMoves}
-use Rattle.mm_proof.specs.OneTree.{MakeTree}
+use Rattle.mm_forms.specs.OneTree.{MakeTree}
 use Rattle.mm_proof.specs.Proof.{IsProved}
 use Rattle.mm_proof.specs.Strict.{IsStrict}
-use Rattle.mm_proof.specs.declared.profile.Profile.{Profile}
-use Rattle.mm_proof.proofs.ProofSteps.Derivations.{makes_once, zip_once}
+use Rattle.mm_step.specs.declared.profile.Profile.{Profile}
+use Rattle.mm_step.proofs.ProofSteps.Derivations.{makes_once, zip_once}
 use Rattle.mm_proof.proofs.ProofTokens.SaidMoves.{moves_once}
 use Rattle.mm_check.specs.declared.form.Form.{Form}
 use Rattle.mm_check.specs.Verdict.{AreAccepted, AllObey, sentences, proof_of}

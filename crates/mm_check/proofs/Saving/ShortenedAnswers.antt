@@ -13,8 +13,8 @@ use Rattle.mm_frame.specs.Rules.{AllMeant}
 use Rattle.mm_frame.specs.Numbers.{labelled_sentences}
 use Rattle.mm_frame.proofs.Rules.ObeyedRules.{one_label, allmeant_prefix}
 use Rattle.mm_frame.proofs.Names.LabelNumbers.{numbered_within}
-use Rattle.mm_proof.specs.declared.profile.Profile.{Profile}
-use Rattle.mm_proof.specs.Tree.{Trees}
+use Rattle.mm_step.specs.declared.profile.Profile.{Profile}
+use Rattle.mm_step.specs.Tree.{Trees}
 use Rattle.mm_proof.specs.Used.{IsUsedNumber}
 use Rattle.mm_check.specs.Verdict.{AllObey, sentences, proof_of, is_unproved}
 use Rattle.mm_check.specs.Rests.{IsAt, IsNumberWhere, HasTree, Uses, RestsOn, IsReport, tree_of}

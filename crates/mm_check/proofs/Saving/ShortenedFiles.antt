@@ -10,8 +10,8 @@ use Rattle.mm_text.specs.Statement.{PlainStatement, HasForm, plain_statement}
 use Rattle.mm_text.specs.Reading.{Reads}
 use Rattle.mm_frame.specs.declared.number.LabelId.{LabelId}
 use Rattle.mm_frame.specs.Sentence.{Sentence, sentence_of}
-use Rattle.mm_proof.specs.Moves.{Move}
-use Rattle.mm_proof.specs.Tree.{Trees}
+use Rattle.mm_step.specs.Moves.{Move}
+use Rattle.mm_step.specs.Tree.{Trees}
 use Rattle.mm_check.specs.declared.ask.AskFault.{AskFault}
 use Rattle.mm_check.specs.declared.compared.Compared.{Compared}
 use Rattle.mm_check.specs.declared.form.Form.TheVariants.{Small}

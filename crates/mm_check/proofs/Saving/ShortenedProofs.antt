@@ -9,11 +9,11 @@ use Rattle.mm_text.specs.Replaced.{with_bytes}
 use Rattle.mm_text.proofs.Lists.{get_parted}
 use Rattle.mm_frame.specs.Sentence.{Sentence, sentence_of}
 use Rattle.mm_frame.proofs.Rules.ObeyedRules.{one_label}
-use Rattle.mm_proof.specs.declared.profile.Profile.{Profile}
-use Rattle.mm_proof.specs.Profiles.{limit_of}
-use Rattle.mm_proof.specs.Proof.{IsWithin}
-use Rattle.mm_proof.specs.Tree.{Trees, DeriveAll}
-use Rattle.mm_proof.proofs.ProofSteps.Derivations.{single_derives}
+use Rattle.mm_step.specs.declared.profile.Profile.{Profile}
+use Rattle.mm_step.specs.Profiles.{limit_of}
+use Rattle.mm_step.specs.Proof.{IsWithin}
+use Rattle.mm_step.specs.Tree.{Trees, DeriveAll}
+use Rattle.mm_step.proofs.ProofSteps.Derivations.{single_derives}
 use Rattle.mm_check.specs.declared.form.Form.TheVariants as form
 use Rattle.mm_check.specs.Verdict.{AreAccepted, sentences}
 use Rattle.mm_check.specs.Saved.{FitsSaved, IsSpanText, within_span}

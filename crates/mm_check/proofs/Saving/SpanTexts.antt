@@ -17,9 +17,9 @@ use Rattle.mm_code.proofs.SmallLines.{one_small_text}
 use Rattle.mm_code.proofs.SmallEnds.{small_begins}
 use Rattle.mm_frame.specs.Sentence.{Sentence}
 use Rattle.mm_frame.specs.Rules.{AllMeant}
-use Rattle.mm_proof.specs.Tree.{Trees, none, tree, spelling}
-use Rattle.mm_proof.proofs.FullSharing.OneSharedProof.{one_packed_holds}
-use Rattle.mm_proof.proofs.SmallProofs.OneSmallProof.{one_small_holds}
+use Rattle.mm_step.specs.Tree.{Trees, none, tree, spelling}
+use Rattle.mm_forms.proofs.FullSharing.OneSharedProof.{one_packed_holds}
+use Rattle.mm_forms.proofs.SmallProofs.OneSmallProof.{one_small_holds}
 use Rattle.mm_check.specs.declared.form.Form.{Form}
 use Rattle.mm_check.specs.Forms.{IsPackedText, IsSmallBehind}
 use Rattle.mm_check.specs.Saved.{IsSpanText, IsShorter, spaces, indent_of, within_span}

@@ -14,9 +14,9 @@ use Rattle.mm_check.specs.Mirror.AllSaving.{AreReplacedSoFar, IsSoFar, IsWritten
 use Rattle.mm_text.specs.declared.statement.Kind.TheVariants.{Provable}
 use Rattle.mm_text.specs.Statement.{PlainStatement, HasForm}
 use Rattle.mm_frame.specs.Sentence.{Sentence, sentence_of, IsLabelled}
-use Rattle.mm_proof.specs.declared.profile.Profile.TheVariants.{Lenient}
+use Rattle.mm_step.specs.declared.profile.Profile.TheVariants.{Lenient}
 use Rattle.mm_proof.specs.ReadSteps.{ReadSteps}
-use Rattle.mm_proof.specs.Tree.{spelling, Trees, none, tree}
+use Rattle.mm_step.specs.Tree.{spelling, Trees, none, tree}
 use Rattle.mm_check.specs.declared.form.Form.{Form}
 use Rattle.mm_check.specs.declared.ask.AskFault.{AskFault}
 use Rattle.mm_check.specs.Verdict.{proof_of, AreAccepted, PlainRefusal, sentences}
@@ -38,7 +38,7 @@ use Rattle.std.specs.List.{AllZip}
 use Rattle.mm_text.specs.Files.{PlainFile, most_bytes}
 use Rattle.mm_text.proofs.Lists.{get_kept, get_parted, unmapped, zip_weaker}
 use Rattle.mm_frame.specs.declared.number.LabelId.{LabelId}
-use Rattle.mm_proof.specs.declared.profile.Profile.{Profile}
+use Rattle.mm_step.specs.declared.profile.Profile.{Profile}
 use Rattle.mm_check.specs.declared.form.Form.TheVariants.{Normal}
 use Rattle.mm_check.specs.declared.judge.Judged.TheVariants.{Theorem}
 use Rattle.mm_check.specs.declared.save_all.NewFile.{NewFile}

@@ -27,16 +27,16 @@ use Rattle.mm_text.proofs.Lists.{split_at}
 use Rattle.mm_frame.specs.Rules.{AllMeant}
 use Rattle.mm_frame.proofs.Rules.ObeyedRules.{one_label}
 use Rattle.mm_frame.proofs.Names.NameNumbers.{get_mapped}
-use Rattle.mm_proof.specs.declared.profile.Profile.{Profile}
+use Rattle.mm_step.specs.declared.profile.Profile.{Profile}
 use Rattle.mm_check.specs.Conclusion.{Conclusion, labels_in}
 use Rattle.mm_check.specs.Answer.{IsKeptOf, verdict_of_fault, verdict_of_conclusion}
 use Rattle.mm_check.specs.Answer.{verdict_where_incomplete, labels_at, IsVerdict, KeepsLabels}
 use Rattle.mm_check.specs.Answer.{KeepsCounts, KeepsUses}
 use Rattle.mm_check.specs.Mirror.Marks.{IsKeptFrom, IsKeptWell}
 use Rattle.mm_check.specs.Rests.{IsAt, IsNamed}
-use Rattle.mm_proof.specs.Moves.{Move}
+use Rattle.mm_step.specs.Moves.{Move}
 use Rattle.mm_proof.specs.Tokens.{is_incomplete, SayMoves}
-use Rattle.mm_proof.specs.Steps.{IsProofNumber}
+use Rattle.mm_step.specs.Steps.{IsProofNumber}
 use Rattle.mm_check.specs.Shown.{Stands}
 use Rattle.mm_check.specs.Mirror.Theorems.{IsStillLeft, IsProofOf, SayStepsOf, AreStepsOf}
 use Rattle.mm_check.proofs.Questions.AskedTheorems.{map-take, backward}

@@ -15,10 +15,10 @@ use Rattle.mm_text.specs.Alike.{AlikeFilesAreReadAlike}
 use Rattle.mm_frame.specs.declared.rule.MeaningRule.{MeaningRule}
 use Rattle.mm_frame.specs.Sentence.{Sentence, sentence_of}
 use Rattle.mm_frame.specs.Rules.{FirstBroken, IsMeant}
-use Rattle.mm_proof.specs.declared.fault.ProofRule.{ProofRule}
+use Rattle.mm_step.specs.declared.fault.ProofRule.{ProofRule}
 use Rattle.mm_proof.specs.UnderProfile.{IsProvedUnder, IsFaultUnder, IsPrefixAllowedUnder}
 use Rattle.mm_proof.specs.UnderProfile.{IsPrefixFaultUnder}
-use Rattle.mm_proof.specs.declared.profile.Profile.{Profile}
+use Rattle.mm_step.specs.declared.profile.Profile.{Profile}
 use Rattle.mm_proof.specs.Tokens.{is_incomplete}
 use Rattle.mm_check.specs.declared.rule.Rule.{Rule}
 use Rattle.mm_check.specs.Verdict.{Verdict, Load, Refused, Incomplete, Yes, PlainRefusal}

@@ -12,7 +12,7 @@ use Rattle.mm_frame.specs.Rules.{AllMeant, IsMeant}
 use Rattle.mm_frame.specs.Form.{AllFormed}
 use Rattle.mm_frame.proofs.Rules.ObeyedRules.{allmeant_push}
 use Rattle.std.proofs.lemmas.List.{map-append}
-use Rattle.mm_proof.specs.declared.profile.Profile.{Profile}
+use Rattle.mm_step.specs.declared.profile.Profile.{Profile}
 use Rattle.mm_check.specs.declared.rule.Rule.{Rule}
 use Rattle.mm_check.specs.Verdict.{PlainRefusal, Verdict, Load, Refused, Incomplete, Yes, AllObey}
 use Rattle.mm_check.specs.Verdict.{AreAccepted, HasFault, HasVerdict, RefusesStatement, RefusesText}

@@ -11,15 +11,15 @@ use Rattle.mm_text.specs.Token.{PlainToken, plain_token, tokens_from}
 use Rattle.mm_text.specs.Statement.{PlainStatement, HasForm, HasLabel}
 use Rattle.mm_frame.specs.Sentence.{Sentence, sentence_of}
 use Rattle.mm_frame.specs.Numbers.{labelled_sentences}
-use Rattle.mm_proof.specs.declared.fault.ProofRule.{ProofRule}
-use Rattle.mm_proof.specs.declared.fault.ProofFault.{ProofFault}
+use Rattle.mm_step.specs.declared.fault.ProofRule.{ProofRule}
+use Rattle.mm_step.specs.declared.fault.ProofFault.{ProofFault}
 use Rattle.mm_proof.specs.declared.prover.Proved.{Proved}
 use Rattle.mm_proof.specs.Tokens.{is_incomplete, IsIncomplete}
-use Rattle.mm_proof.specs.Steps.{IsProofNumber}
+use Rattle.mm_step.specs.Steps.{IsProofNumber}
 use Rattle.mm_proof.specs.Parsed.{OfProof}
 use Rattle.mm_proof.specs.Verified.{TokensProve}
-use Rattle.mm_proof.specs.declared.profile.Profile.{Profile}
-use Rattle.mm_proof.specs.Profiles.{limit_of}
+use Rattle.mm_step.specs.declared.profile.Profile.{Profile}
+use Rattle.mm_step.specs.Profiles.{limit_of}
 use Rattle.mm_proof.specs.Strict.{HasFormOf}
 use Rattle.mm_proof.specs.UnderProfile.{IsFaultUnder, IsPrefixAllowedUnder, IsPrefixFaultUnder}
 use Rattle.mm_text.proofs.Lists.{one_parting, get_pushed, all_back}
@@ -38,7 +38,7 @@ use Rattle.mm_text.proofs.Reader.WholeReadings.{readings_are_formed_in_place}
 use Rattle.mm_check.specs.declared.fault.CheckFault.{CheckFault}
 use Rattle.mm_check.specs.Conclusion.{Conclusion}
 use Rattle.mm_check.specs.Answer.{IsVerdict, NamesFile}
-use Rattle.mm_proof.specs.declared.fault.ProofFault.TheVariants as faults
+use Rattle.mm_step.specs.declared.fault.ProofFault.TheVariants as faults
 use Rattle.mm_proof.specs.declared.prover.Proved.TheVariants as proved
 
 -- ==== what is said of the last statement's proof, from what the parser and the verifier say

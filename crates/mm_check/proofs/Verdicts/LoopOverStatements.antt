@@ -12,7 +12,7 @@ use Rattle.mm_text.proofs.Reader.WholeReadings.{readings_are_formed_in_place}
 use Rattle.mm_frame.specs.declared.rule.MeaningRule.{MeaningRule}
 use Rattle.mm_frame.specs.Sentence.{Sentence, sentence_of}
 use Rattle.mm_frame.specs.Rules.{FirstBroken, IsMeant}
-use Rattle.mm_proof.specs.declared.profile.Profile.{Profile}
+use Rattle.mm_step.specs.declared.profile.Profile.{Profile}
 use Rattle.mm_check.specs.declared.fault.Refusal.{Refusal}
 use Rattle.mm_check.specs.declared.judge.Judged.{Judged}
 use Rattle.mm_check.specs.declared.judge.Judged.TheVariants.{Theorem, Other, Faulty}

@@ -14,8 +14,8 @@ use Rattle.mm_frame.specs.Sentence.{sentence_of, Sentence}
 use Rattle.mm_frame.specs.Rules.{AllMeant, IsMeant, FirstBroken, rank}
 use Rattle.mm_frame.specs.Form.{IsFormedSentence, AllFormed}
 use Rattle.mm_frame.proofs.BookLists.Declarations.{formed_said}
-use Rattle.mm_proof.specs.declared.profile.Profile.{Profile}
-use Rattle.mm_proof.specs.declared.fault.ProofRule.{ProofRule}
+use Rattle.mm_step.specs.declared.profile.Profile.{Profile}
+use Rattle.mm_step.specs.declared.fault.ProofRule.{ProofRule}
 use Rattle.std.proofs.Math.Decide.{dec_le}
 use Rattle.mm_frame.proofs.Rules.DecidedStatements.{dec_both, dec_as, dec_some, symbol_dec}
 use Rattle.mm_proof.proofs.ProofVerdicts.ProfileVerdicts.{one_verdict_under_holds}
@@ -33,18 +33,19 @@ use Rattle.mm_check.proofs.Verdicts.StatementByStatement.{complete_where_none, p
 use Rattle.mm_check.proofs.Verdicts.StatementByStatement.{provable_kind, none_incomplete}
 use Rattle.std.proofs.lemmas.Bool.{cases_order}
 use Rattle.mm_frame.specs.declared.rule.MeaningRule.{MeaningRule}
-use Rattle.mm_proof.specs.Profiles.{limit_of}
-use Rattle.mm_proof.specs.Proof.{IsWithin, IsFault}
+use Rattle.mm_step.specs.Profiles.{limit_of}
+use Rattle.mm_step.specs.Proof.{IsWithin}
+use Rattle.mm_proof.specs.Proof.{IsFault}
 use Rattle.mm_proof.specs.Strict.{HasFormOf}
 use Rattle.mm_proof.specs.UnderProfile.{IsFaultUnder}
 use Rattle.mm_proof.proofs.ProofVerdicts.VerdictLaws.{limits_aside_holds}
 use Rattle.mm_proof.specs.Tokens.{is_incomplete}
 use Rattle.mm_check.proofs.Verdicts.AcceptedStatements.{same_reading}
-use Rattle.mm_proof.specs.declared.profile.Profile.TheVariants.{Strict, Lenient}
+use Rattle.mm_step.specs.declared.profile.Profile.TheVariants.{Strict, Lenient}
 use Rattle.mm_check.specs.Laws.{IsRefusedBy, BetweenProfiles}
 use Rattle.mm_text.specs.declared.fault.LoadRule.TheVariants as load
 use Rattle.mm_check.specs.declared.rule.Rule.TheVariants as rules
-use Rattle.mm_proof.specs.declared.fault.ProofRule.TheVariants as proof
+use Rattle.mm_step.specs.declared.fault.ProofRule.TheVariants as proof
 
 -- ==== files of every kind have a verdict
 

@@ -14,10 +14,11 @@ use Rattle.mm_text.proofs.Lists.{get_kept, get_pushed, pushed_cases, all_back, l
 use Rattle.mm_text.proofs.Lists.{split_at}
 use Rattle.mm_frame.proofs.Names.LabelNumbers.{numbered_grow, numbered_fall, numbered_last}
 use Rattle.mm_frame.proofs.Names.LabelNumbers.{numbered_within}
-use Rattle.mm_proof.specs.Tree.{Trees, none, tree}
-use Rattle.mm_proof.specs.Proof.{IsWithin, IsProved, IsProvedWithin}
-use Rattle.mm_proof.specs.declared.profile.Profile.{Profile}
-use Rattle.mm_proof.specs.Profiles.{limit_of}
+use Rattle.mm_step.specs.Tree.{Trees, none, tree}
+use Rattle.mm_step.specs.Proof.{IsWithin}
+use Rattle.mm_proof.specs.Proof.{IsProved, IsProvedWithin}
+use Rattle.mm_step.specs.declared.profile.Profile.{Profile}
+use Rattle.mm_step.specs.Profiles.{limit_of}
 use Rattle.mm_proof.specs.Used.{AreUsed}
 use Rattle.mm_proof.proofs.ProofVerdicts.VerdictLaws.{derive_any}
 use Rattle.mm_check.specs.Conclusion.{ProofUses, numbers_of, labels_in}

@@ -7,10 +7,10 @@ use Rattle.mm_text.specs.declared.statement.Kind.TheVariants.{Provable}
 use Rattle.mm_text.specs.Statement.{PlainStatement}
 use Rattle.mm_text.specs.Files.{PlainFile, most_bytes}
 use Rattle.mm_frame.specs.Sentence.{Sentence, sentence_of, IsLabelled}
-use Rattle.mm_proof.specs.declared.profile.Profile.TheVariants.{Lenient}
-use Rattle.mm_proof.specs.declared.profile.Profile.{Profile}
-use Rattle.mm_proof.specs.Steps.{IsProofNumber}
-use Rattle.mm_proof.specs.Tree.{Trees, none, tree, spelling}
+use Rattle.mm_step.specs.declared.profile.Profile.TheVariants.{Lenient}
+use Rattle.mm_step.specs.declared.profile.Profile.{Profile}
+use Rattle.mm_step.specs.Steps.{IsProofNumber}
+use Rattle.mm_step.specs.Tree.{Trees, none, tree, spelling}
 use Rattle.mm_check.specs.declared.form.Form.{Form}
 use Rattle.mm_check.specs.declared.form.Form.TheVariants.{Normal}
 use Rattle.mm_check.specs.declared.ask.AskFault.{AskFault}

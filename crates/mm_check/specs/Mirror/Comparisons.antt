@@ -6,11 +6,11 @@ use Rattle.std.specs.List.{sum_by}
 use Rattle.mm_text.specs.Token.{PlainToken, tokens_from}
 use Rattle.mm_code.specs.Words.{texts_of, tokens_in}
 use Rattle.mm_frame.specs.Sentence.{Sentence}
-use Rattle.mm_proof.specs.declared.fault.ProofRule.{ProofRule}
-use Rattle.mm_proof.specs.declared.profile.Profile.{Profile}
-use Rattle.mm_proof.specs.Profiles.{limit_of}
-use Rattle.mm_proof.specs.Moves.{Move}
-use Rattle.mm_proof.specs.OneTree.{MakeSameTree}
+use Rattle.mm_step.specs.declared.fault.ProofRule.{ProofRule}
+use Rattle.mm_step.specs.declared.profile.Profile.{Profile}
+use Rattle.mm_step.specs.Profiles.{limit_of}
+use Rattle.mm_step.specs.Moves.{Move}
+use Rattle.mm_forms.specs.OneTree.{MakeSameTree}
 use Rattle.mm_proof.specs.UnderProfile.{IsProvedUnder, IsFaultUnder}
 use Rattle.mm_proof.specs.Parsed.{OfProof}
 use Rattle.mm_proof.specs.ReadSteps.{ReadSteps}

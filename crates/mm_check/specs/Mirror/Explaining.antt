@@ -6,24 +6,25 @@ use Rattle.std.specs.Prelude.{Some, unwrap_or, map, drop}
 use Rattle.mm_frame.specs.Sentence.{Sentence}
 use Rattle.mm_frame.specs.Numbers.{AreNumbers, symbols_of}
 use Rattle.mm_frame.specs.declared.number.Sym.{Sym}
-use Rattle.mm_proof.specs.declared.fault.ProofRule.{ProofRule}
-use Rattle.mm_proof.specs.declared.halt.Halt.{Halt}
-use Rattle.mm_proof.specs.Substitution.{Expression, Symbol, Substitution}
-use Rattle.mm_proof.specs.Moves.{Move, name}
-use Rattle.mm_proof.specs.Steps.{IsProofNumber, AreSteps}
-use Rattle.mm_proof.specs.declared.profile.Profile.{Profile}
+use Rattle.mm_step.specs.declared.fault.ProofRule.{ProofRule}
+use Rattle.mm_listing.specs.declared.halt.Halt.{Halt}
+use Rattle.mm_step.specs.Substitution.{Expression, Symbol, Substitution}
+use Rattle.mm_step.specs.Moves.{Move, name}
+use Rattle.mm_step.specs.Steps.{IsProofNumber, AreSteps}
+use Rattle.mm_step.specs.declared.profile.Profile.{Profile}
 use Rattle.mm_proof.specs.Tokens.{is_incomplete, SayMoves}
-use Rattle.mm_proof.specs.Proof.{IsWhole, MeetsHypotheses}
+use Rattle.mm_proof.specs.Proof.{IsWhole}
+use Rattle.mm_step.specs.Proof.{MeetsHypotheses}
 use Rattle.mm_proof.specs.Asked.{AsksFor, AreDeclared}
-use Rattle.mm_proof.specs.Mirror.CodeVerify.{name_at}
+use Rattle.mm_step.specs.Mirror.CodeVerify.{name_at}
 use Rattle.mm_proof.specs.Strict.{HasFormOf}
 use Rattle.mm_proof.specs.Parsed.{OfProof, SaySteps}
 use Rattle.mm_proof.specs.ReadSteps.{ReadSteps}
 use Rattle.mm_proof.specs.Verified.{OfMoves}
-use Rattle.mm_proof.specs.WholePlaces.{IsWholePlace}
-use Rattle.mm_proof.specs.Profiles.{limit_of}
+use Rattle.mm_places.specs.WholePlaces.{IsWholePlace}
+use Rattle.mm_step.specs.Profiles.{limit_of}
 use Rattle.mm_frame.specs.Form.{IsSound}
-use Rattle.mm_proof.specs.Halted.{HaltsProof}
+use Rattle.mm_listing.specs.Halted.{HaltsProof}
 use Rattle.mm_check.specs.Explained.{Detail, details_text, AreStepDetails, AreMoveDetails}
 use Rattle.mm_check.specs.Explained.{judged_tokens, AreAsked, hypothesis_asks, AreApartDetails}
 use Rattle.mm_check.specs.Explained.{ArePairDetails, ArePairsAsked, IsTokensFault}

@@ -14,15 +14,16 @@ use Rattle.mm_frame.specs.Sentence.{Sentence, sentence_of}
 use Rattle.mm_frame.specs.declared.rule.MeaningRule.{MeaningRule}
 use Rattle.mm_frame.specs.Rules.{FirstBroken, IsMeant, AllMeant}
 use Rattle.mm_frame.specs.Numbers.{labelled_sentences}
-use Rattle.mm_proof.specs.declared.fault.ProofRule.{ProofRule}
-use Rattle.mm_proof.specs.declared.fault.ProofFault.{ProofFault}
+use Rattle.mm_step.specs.declared.fault.ProofRule.{ProofRule}
+use Rattle.mm_step.specs.declared.fault.ProofFault.{ProofFault}
 use Rattle.mm_proof.specs.declared.prover.Proved.{Proved}
 use Rattle.mm_proof.specs.declared.prover.Proved.TheVariants as proved
 use Rattle.mm_proof.specs.Answer.{OnRule}
 use Rattle.mm_proof.specs.Used.{AreUsedNumbers}
-use Rattle.mm_proof.specs.Proof.{IsProvedWithin, IsWithin}
-use Rattle.mm_proof.specs.declared.profile.Profile.{Profile}
-use Rattle.mm_proof.specs.Profiles.{limit_of}
+use Rattle.mm_proof.specs.Proof.{IsProvedWithin}
+use Rattle.mm_step.specs.Proof.{IsWithin}
+use Rattle.mm_step.specs.declared.profile.Profile.{Profile}
+use Rattle.mm_step.specs.Profiles.{limit_of}
 use Rattle.mm_proof.specs.Strict.{HasFormOf}
 use Rattle.mm_proof.specs.UnderProfile.{IsPrefixAllowedUnder}
 use Rattle.mm_proof.specs.Tokens.{is_incomplete}

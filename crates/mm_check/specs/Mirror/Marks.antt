@@ -8,7 +8,7 @@ use Rattle.mm_text.specs.Statement.{PlainStatement}
 use Rattle.mm_text.specs.Files.{PlainFile}
 use Rattle.mm_frame.specs.Sentence.{Sentence}
 use Rattle.mm_frame.specs.Numbers.{IsNumbered}
-use Rattle.mm_proof.specs.declared.profile.Profile.{Profile}
+use Rattle.mm_step.specs.declared.profile.Profile.{Profile}
 use Rattle.mm_check.specs.Conclusion.{ProofUses, numbers_of, labels_in}
 use Rattle.mm_check.specs.Verdict.{AreAccepted, sentences, is_unproved}
 use Rattle.mm_check.specs.Rests.{IsNumberWhere, AreInOrder, AreRising, AreUses}

@@ -9,7 +9,7 @@ use Rattle.mm_frame.specs.Rules.{IsMeant, AllMeant}
 use Rattle.mm_frame.specs.Sentence.{Sentence, sentence_of}
 use Rattle.mm_frame.specs.Taken.{TakenAs}
 use Rattle.mm_frame.specs.declared.answer.Taken.{Taken}
-use Rattle.mm_proof.specs.declared.profile.Profile.TheVariants.{Lenient}
+use Rattle.mm_step.specs.declared.profile.Profile.TheVariants.{Lenient}
 use Rattle.mm_proof.specs.declared.prover.Proved.{Proved}
 use Rattle.mm_proof.specs.declared.prover.Proved.TheVariants as proved
 use Rattle.mm_proof.specs.Tokens.{is_incomplete}

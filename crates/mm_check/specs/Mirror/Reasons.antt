@@ -9,7 +9,7 @@ use Rattle.mm_text.specs.Statement.{PlainStatement}
 use Rattle.mm_text.specs.Files.{PlainFile, plain_file}
 use Rattle.mm_text.specs.Reading.{PlainFault, Reads}
 use Rattle.mm_frame.specs.Sentence.{Sentence}
-use Rattle.mm_proof.specs.declared.profile.Profile.{Profile}
+use Rattle.mm_step.specs.declared.profile.Profile.{Profile}
 use Rattle.mm_check.specs.declared.fault.Refusal.{Refusal}
 use Rattle.mm_check.specs.declared.why.Reasons.{Reasons}
 use Rattle.mm_check.specs.declared.why.Unaccepted.{Unaccepted}

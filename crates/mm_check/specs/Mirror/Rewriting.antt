@@ -5,10 +5,10 @@ use Rattle.mm_text.specs.Statement.{PlainStatement}
 use Rattle.mm_text.specs.Files.{most_bytes, PlainFile}
 use Rattle.mm_text.specs.Replaced.{with_span}
 use Rattle.mm_frame.specs.Sentence.{Sentence}
-use Rattle.mm_proof.specs.Moves.{Move}
-use Rattle.mm_proof.specs.Tree.{spelling}
+use Rattle.mm_step.specs.Moves.{Move}
+use Rattle.mm_step.specs.Tree.{spelling}
 use Rattle.mm_proof.specs.Verified.{OfMoves}
-use Rattle.mm_proof.specs.Packing.{OfTree}
+use Rattle.mm_forms.specs.Packing.{OfTree}
 use Rattle.mm_check.specs.declared.form.Form.{Form}
 use Rattle.mm_check.specs.declared.form.Form.TheVariants.{Normal, Packed, Small}
 use Rattle.mm_check.specs.declared.ask.AskFault.{AskFault}

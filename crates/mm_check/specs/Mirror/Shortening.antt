@@ -8,14 +8,14 @@ use Rattle.mm_text.specs.Reading.{Reads}
 use Rattle.mm_text.specs.Remarks.{mathbox_at}
 use Rattle.mm_frame.specs.Numbers.{labelled_sentences}
 use Rattle.mm_frame.specs.Sentence.{Sentence, sentence_of}
-use Rattle.mm_proof.specs.declared.profile.Profile.{Profile}
-use Rattle.mm_proof.specs.Moves.{Move}
-use Rattle.mm_proof.specs.OneTree.{MakeTree}
-use Rattle.mm_proof.specs.Packing.{OfTree}
-use Rattle.mm_proof.specs.Profiles.{limit_of}
+use Rattle.mm_step.specs.declared.profile.Profile.{Profile}
+use Rattle.mm_step.specs.Moves.{Move}
+use Rattle.mm_forms.specs.OneTree.{MakeTree}
+use Rattle.mm_forms.specs.Packing.{OfTree}
+use Rattle.mm_step.specs.Profiles.{limit_of}
 use Rattle.mm_proof.specs.ReadSteps.{ReadSteps}
-use Rattle.mm_proof.specs.Steps.{AreNumberedMoves, AreSteps, IsProofNumber}
-use Rattle.mm_proof.specs.Tree.{Trees, none, tree}
+use Rattle.mm_step.specs.Steps.{AreNumberedMoves, AreSteps, IsProofNumber}
+use Rattle.mm_step.specs.Tree.{Trees, none, tree}
 use Rattle.mm_proof.specs.Used.{AreUsed}
 use Rattle.mm_proof.specs.Verified.{OfMoves, ProvesUsing}
 use Rattle.mm_check.specs.declared.forms.OwnProof.{OwnProof}

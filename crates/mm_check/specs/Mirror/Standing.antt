@@ -10,7 +10,7 @@ use Rattle.mm_text.specs.Statement.{PlainStatement}
 use Rattle.mm_text.specs.Token.{PlainToken, plain_token}
 use Rattle.mm_frame.specs.Numbers.{labelled_sentences}
 use Rattle.mm_frame.specs.Sentence.{Sentence, SomeSentence, sentence_of, IsLabelled}
-use Rattle.mm_proof.specs.Steps.{IsProofNumber}
+use Rattle.mm_step.specs.Steps.{IsProofNumber}
 use Rattle.mm_check.specs.declared.scope.Scope.{Scope}
 use Rattle.mm_check.specs.declared.scope.Scope.TheVariants as scope
 use Rattle.mm_check.specs.Explained.{Detail, details_text}

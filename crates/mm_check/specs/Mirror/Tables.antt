@@ -7,7 +7,7 @@ use Rattle.mm_text.specs.declared.statement.Kind.{Kind}
 use Rattle.mm_text.specs.Statement.{PlainStatement}
 use Rattle.mm_frame.specs.Sentence.{Sentence}
 use Rattle.mm_frame.specs.Numbers.{IsNumbered}
-use Rattle.mm_proof.specs.Plain.{ids_in}
+use Rattle.mm_step.specs.Plain.{ids_in}
 use Rattle.mm_check.specs.declared.report.Report.{Report}
 use Rattle.mm_check.specs.declared.report.Tables.{Tables}
 use Rattle.mm_check.specs.Conclusion.{ProofUses}

@@ -4,19 +4,20 @@ use Rattle.std.specs.Prelude.{◌≡◌, ℕ, List, take, slice_get, Bool, true,
 use Rattle.mm_text.specs.Statement.{PlainStatement}
 use Rattle.mm_text.specs.Remaining.{Remaining}
 use Rattle.mm_frame.specs.Sentence.{Sentence, sentence_of, IsLabelled}
-use Rattle.mm_proof.specs.Moves.{Move}
+use Rattle.mm_step.specs.Moves.{Move}
 use Rattle.mm_proof.specs.Tokens.{IsIncomplete, SayMoves}
-use Rattle.mm_proof.specs.Proof.{Prove, IsWithin}
-use Rattle.mm_proof.specs.declared.profile.Profile.{Profile}
-use Rattle.mm_proof.specs.Profiles.{limit_of}
-use Rattle.mm_proof.specs.Steps.{AreNumberedMoves, IsProofNumber}
+use Rattle.mm_proof.specs.Proof.{Prove}
+use Rattle.mm_step.specs.Proof.{IsWithin}
+use Rattle.mm_step.specs.declared.profile.Profile.{Profile}
+use Rattle.mm_step.specs.Profiles.{limit_of}
+use Rattle.mm_step.specs.Steps.{AreNumberedMoves, IsProofNumber}
 use Rattle.mm_proof.specs.ReadSteps.{ReadSteps}
 use Rattle.mm_proof.specs.Parsed.{OfProof, SaySteps}
 use Rattle.mm_proof.specs.UnderProfile.{IsProvedUnder}
 use Rattle.mm_proof.specs.Verified.{OfMoves}
-use Rattle.mm_proof.specs.Listing.{ListedStep, AreListed}
+use Rattle.mm_listing.specs.Listing.{ListedStep, AreListed}
 use Rattle.mm_check.specs.Verdict.{proof_of, is_proof, sentences}
-use Rattle.mm_proof.specs.Uses.{AreUses, IsRoot}
+use Rattle.mm_listing.specs.Uses.{AreUses, IsRoot}
 use Rattle.mm_check.specs.Shown.{listing_text, Stands}
 use Rattle.mm_check.specs.ShownUses.{AreTold, used_steps_text}
 

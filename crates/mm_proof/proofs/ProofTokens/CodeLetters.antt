@@ -22,14 +22,14 @@ use Rattle.mm_frame.specs.Sentence.{Sentence}
 use Rattle.mm_frame.specs.Form.{AllFormed}
 use Rattle.mm_frame.proofs.Rules.ObeyedRules.{allformed_prefix}
 use Rattle.mm_frame.proofs.BookLists.ReadLabels.{label_named}
-use Rattle.mm_proof.specs.declared.fault.ProofRule.TheVariants.{P2}
+use Rattle.mm_step.specs.declared.fault.ProofRule.TheVariants.{P2}
 use Rattle.mm_frame.specs.declared.number.LabelId.{LabelId}
-use Rattle.mm_proof.specs.Moves.{Move, name}
+use Rattle.mm_step.specs.Moves.{Move, name}
 use Rattle.mm_proof.specs.Tokens.{Says, AreLabels, SayMoves, opening_token, closing_token}
 use Rattle.mm_proof.specs.Proof.{IsWhole}
 use Rattle.mm_proof.specs.Parsed.{SaySteps}
-use Rattle.mm_proof.specs.Steps.{IsNumberedMove}
-use Rattle.mm_proof.specs.Plain.{ids_in}
+use Rattle.mm_step.specs.Steps.{IsNumberedMove}
+use Rattle.mm_step.specs.Plain.{ids_in}
 use Rattle.mm_proof.specs.Mirror.CodeSteps.{code_move, moves_of}
 use Rattle.mm_code.specs.Letters as letter
 

@@ -5,7 +5,7 @@ use Rattle.std.proofs.Common.{inr, ⊎_elim, refl, sym, ap, subst, ◌∙◌, ar
 use Rattle.std.proofs.Common.{flat_map}
 use Rattle.std.specs.List.{AllZip, AllByRecursion}
 use Rattle.std.proofs.lemmas.Option.{same_Some, slice_get_cases, slice_get-get_or, slice_get-map}
-use Rattle.std.proofs.lemmas.Option.{slice_get_past, slice_get_within}
+use Rattle.std.proofs.lemmas.Option.{slice_get_past}
 use Rattle.std.proofs.lemmas.List.{take-map, drop-map, map_more, length-map, length-take-le}
 use Rattle.std.proofs.lemmas.List.Elements.{Contains-append_right, All-from_recursion}
 use Rattle.std.proofs.lemmas.List.Elements.{recursion_from_All}
@@ -15,7 +15,7 @@ use Rattle.mm_code.specs.Letters.{Letters, LettersBreak as Breaks, HasSpelling, 
 use Rattle.mm_code.specs.declared.code.CodeRule.{CodeRule}
 use Rattle.mm_code.specs.declared.code.CodeFault.{CodeFault}
 use Rattle.mm_text.specs.declared.token.Token.{Token}
-use Rattle.mm_text.proofs.Lists.{zip_append, split_at, get_from_take, get_kept, zip_push, zip_left}
+use Rattle.mm_text.proofs.Lists.{zip_append, split_at, get_from_take, get_kept, zip_push}
 use Rattle.mm_frame.specs.Sentence.{Sentence, IsLabelled, IsHypothesis}
 use Rattle.mm_frame.specs.Active.{IsActive}
 use Rattle.mm_frame.specs.Rules.{AllMeant}
@@ -23,27 +23,28 @@ use Rattle.mm_frame.specs.Form.{AllFormed, HasItsLabel}
 use Rattle.mm_frame.specs.Frame.{AreMandatory, IsMandatoryAt}
 use Rattle.mm_frame.specs.Numbers.{labelled_sentences}
 use Rattle.mm_frame.specs.FrameIndex.{AreHypotheses}
-use Rattle.mm_proof.specs.declared.fault.ProofRule.{ProofRule}
-use Rattle.mm_proof.specs.declared.fault.ProofRule.TheVariants.{P4, P5}
-use Rattle.mm_proof.specs.Moves.{Move, name, again}
+use Rattle.mm_step.specs.declared.fault.ProofRule.{ProofRule}
+use Rattle.mm_step.specs.declared.fault.ProofRule.TheVariants.{P4, P5}
+use Rattle.mm_step.specs.Moves.{Move, name, again}
 use Rattle.mm_proof.specs.Tokens.{IsCompressed, AreLetters, opening_token, closing_token}
-use Rattle.mm_proof.specs.Proof.{proof_rank, BreaksWhole, IsWholeFault}
-use Rattle.mm_proof.specs.Steps.{IsUsable}
-use Rattle.mm_proof.specs.Plain.{token_texts, ids_in}
+use Rattle.mm_step.specs.Proof.{proof_rank}
+use Rattle.mm_proof.specs.Proof.{BreaksWhole, IsWholeFault}
+use Rattle.mm_step.specs.Steps.{IsUsable}
+use Rattle.mm_step.specs.Plain.{token_texts, ids_in}
 use Rattle.mm_proof.specs.Mirror.CodeSteps.{AreFor, NumberSays, IsReading, code_move, code_moves}
-use Rattle.mm_proof.specs.Mirror.CodeSteps.{move_by, fault_behind, MayBeUsed, entry_move}
+use Rattle.mm_proof.specs.Mirror.CodeSteps.{move_by, fault_behind, entry_move}
 use Rattle.mm_code.specs.Layout.{texts}
 use Rattle.mm_proof.specs.Answer.{OnRule}
-use Rattle.mm_proof.proofs.ProofSteps.OneStep.{those_hold}
+use Rattle.mm_frame.proofs.Frames.FrameLaws.{those_hold}
 use Rattle.mm_proof.proofs.ProofTokens.CodeLetters.{from_one}
 use Rattle.mm_proof.proofs.ProofTokens.SaidMoves.{compressed_once, letters_once}
 use Rattle.mm_proof.proofs.ProofTokens.ProofLabels.{HasLabels, labels_pass, Stands, for_stands}
 use Rattle.mm_proof.proofs.ProofTokens.ProofLabels.{codes_named, whole_of}
 use Rattle.std.proofs.lemmas.Slice.Zip.{AllZip-long}
 use Rattle.mm_frame.specs.declared.number.LabelId.{LabelId}
-use Rattle.mm_proof.specs.declared.call.Call.{Call}
+use Rattle.mm_step.specs.declared.call.Call.{Call}
 use Rattle.mm_proof.specs.Mirror.Machines.{Running, Allowing, Stopping, IsNext, HasStopped}
-use Rattle.mm_proof.specs.Mirror.CodeApply.{IsCallOf, MayBeCalled}
+use Rattle.mm_step.specs.Mirror.CodeApply.{MayBeCalled}
 use Rattle.mm_code.specs.Letters as letter
 use Rattle.mm_code.specs.declared.code.CodeRule.TheVariants as code
 use Rattle.mm_code.specs.declared.code.CodeFault.TheVariants as code_fault
@@ -298,23 +299,6 @@ pub stops_at : {M F : Type 0} (may_take : Allowing M) (stops : Stopping M F) (fi
     → (may_take first (take i (code_moves ids said)) x → stops first (take i (code_moves ids said)) x fault) → HasStopped stops first (code_moves ids said) fault
 stops_at may_take stops first ids said i d c x fault less is move allowed known =
     let there = move_there ids said i d c x less is move in record { index = i; move = x; there = there; known = known (allowed i x there) }
-
--- ---- entries
-
--- the index of an entry is that of a call
-pub call_within : (st : List Sentence) (at : ℕ) (ids : List ℕ) (calls : List Call) (index id : ℕ) → AllZip (MayBeCalled st at) ids calls → slice_get ids index ≡ Some id → index < length calls
-call_within st at ids calls index id all there =
-    let h = zip_left (MayBeCalled st at) ids calls index id all there in slice_get_within calls index h.0 h.1
-
--- what the entry there stands for, where it may be used
-pub call_there : (st : List Sentence) (at : ℕ) (ids : List ℕ) (calls : List Call) (index own id : ℕ) (label : List ℕ) (d : Call) → AllZip (MayBeCalled st at) ids calls → slice_get ids index ≡ Some own
-    → MayBeUsed st at label own → slice_get ids index ≡ Some id → IsCallOf st at id (get_or calls index d)
-call_there st at ids calls index own id label d all there used also =
-    let h = zip_left (MayBeCalled st at) ids calls index own all there in
-    let less = slice_get_within calls index h.0 h.1 in
-    let same : h.0 ≡ get_or calls index d = same_Some h.0 (get_or calls index d) (sym h.1 ∙ slice_get-get_or calls index d less) in
-    let one : own ≡ id = same_Some own id (sym there ∙ also) in
-    subst (λ k. IsCallOf st at k (get_or calls index d)) one (subst (IsCallOf st at own) same (h.2 label used))
 
 -- the code is the number of an entry, which is this label's
 abbrev pub SaysEntry : List ℕ → Code → ℕ → Type 0

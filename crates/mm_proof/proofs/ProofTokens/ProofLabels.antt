@@ -11,25 +11,27 @@ use Rattle.std.proofs.lemmas.List.Elements.{Contains-append_left}
 use Rattle.mm_text.proofs.Lists.{zip_push, get_take, get_from_take, at_from_contains, zip_right}
 use Rattle.mm_text.proofs.Lists.{zip_left, zip_weaker}
 use Rattle.mm_frame.specs.declared.number.LabelId.{LabelId}
-use Rattle.mm_proof.specs.Plain.{ids_in, token_texts}
-use Rattle.mm_proof.specs.Mirror.CodeSteps.{AreFor, IsIdle, IsUnknown, MayBeUsed, BreaksLabels}
+use Rattle.mm_step.specs.Plain.{ids_in, token_texts}
+use Rattle.mm_proof.specs.Mirror.CodeSteps.{AreFor, IsIdle, IsUnknown, BreaksLabels}
+use Rattle.mm_step.specs.Mirror.CodeSteps.{MayBeUsed}
 use Rattle.mm_proof.specs.Mirror.CodeSteps.{NumberSays, IsReading}
 use Rattle.std.proofs.lemmas.Option.{slice_get-map, slice_get-get_or}
 use Rattle.mm_frame.specs.Active.{IsActive}
 use Rattle.mm_frame.specs.Rules.{AllMeant}
-use Rattle.mm_proof.specs.declared.fault.ProofRule.{ProofRule}
-use Rattle.mm_proof.specs.declared.fault.ProofRule.TheVariants.{P1, P2, P3, P4, P5}
+use Rattle.mm_step.specs.declared.fault.ProofRule.{ProofRule}
+use Rattle.mm_step.specs.declared.fault.ProofRule.TheVariants.{P1, P2, P3, P4, P5}
 use Rattle.mm_proof.specs.Tokens.{IsNormal, AreLabels, opening_token, closing_token, Says}
-use Rattle.mm_proof.specs.Proof.{proof_rank, BreaksWhole, IsWholeFault, IsWhole}
-use Rattle.mm_proof.proofs.ProofSteps.OneStep.{one_label, one_labelled, not_both_kinds}
+use Rattle.mm_step.specs.Proof.{proof_rank}
+use Rattle.mm_proof.specs.Proof.{BreaksWhole, IsWholeFault, IsWhole}
+use Rattle.mm_step.proofs.ProofSteps.OneStep.{one_label, one_labelled, not_both_kinds}
 use Rattle.std.specs.List.{AllZip, AllByRecursion}
 use Rattle.std.proofs.lemmas.Slice.Zip.{AllZip-long}
 use Rattle.mm_code.specs.declared.code.Code.{Code}
 use Rattle.mm_code.specs.declared.code.Code.TheVariants.{Number, Tag}
 use Rattle.mm_frame.specs.Numbers.{labelled_sentences}
 use Rattle.mm_frame.proofs.Names.LabelNumbers.{numbered_get}
-use Rattle.mm_proof.specs.Moves.{Move, name, again, mark}
-use Rattle.mm_proof.specs.Steps.{IsNumberedMove, AreNumberedMoves, IsUsable, IsUsableMove}
+use Rattle.mm_step.specs.Moves.{Move, name, again, mark}
+use Rattle.mm_step.specs.Steps.{IsNumberedMove, AreNumberedMoves, IsUsable, IsUsableMove}
 
 -- ==== the labels of a proof, one after the other
 

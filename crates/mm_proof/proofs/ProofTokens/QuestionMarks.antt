@@ -10,7 +10,7 @@ use Rattle.std.proofs.lemmas.List.{length-take, length-map, get_or-map, take-map
 use Rattle.std.proofs.lemmas.List.Folds.{list_any_more, list_all_at, Any-from_list_any}
 use Rattle.std.proofs.lemmas.List.Sums.{sum_by-append, sum_by-take-le}
 use Rattle.mm_text.specs.declared.token.Token.{Token}
-use Rattle.mm_proof.specs.Plain.{token_texts}
+use Rattle.mm_step.specs.Plain.{token_texts}
 use Rattle.mm_proof.specs.Tokens.{is_question, is_unknown, opening_token, closing_token}
 use Rattle.mm_proof.specs.Tokens.{IsIncomplete, IsCompressed, AreLabels, SayMoves}
 use Rattle.mm_proof.specs.KnownPrefix.{token_of, known_piece, known_tokens, known_text}
@@ -27,10 +27,10 @@ use Rattle.mm_frame.specs.Sentence.{Sentence}
 use Rattle.mm_frame.specs.Form.{AllFormed}
 use Rattle.mm_frame.proofs.Rules.ObeyedRules.{allformed_prefix}
 use Rattle.mm_frame.proofs.BookLists.ReadLabels.{label_named}
-use Rattle.mm_proof.specs.declared.fault.ProofRule.TheVariants.{P2, P4}
-use Rattle.mm_proof.specs.Moves.{Move}
+use Rattle.mm_step.specs.declared.fault.ProofRule.TheVariants.{P2, P4}
+use Rattle.mm_step.specs.Moves.{Move}
 use Rattle.mm_proof.specs.Proof.{IsWhole}
-use Rattle.mm_proof.specs.Steps.{IsProofNumber}
+use Rattle.mm_step.specs.Steps.{IsProofNumber}
 use Rattle.mm_proof.specs.Parsed.{OfProof}
 use Rattle.mm_proof.specs.Verified.{TokensProve}
 use Rattle.mm_proof.proofs.Members.{contains_cases}

@@ -25,15 +25,15 @@ use Rattle.mm_frame.proofs.Rules.DecidedStatements.{sentence_dec, label_dec, dec
 use Rattle.mm_frame.proofs.Rules.DecidedStatements.{active_dec}
 use Rattle.mm_frame.proofs.Frames.FrameLaws.{those_unique}
 use Rattle.mm_frame.proofs.Names.NameNumbers.{same_somes}
-use Rattle.mm_proof.specs.declared.fault.ProofRule.{ProofRule}
-use Rattle.mm_proof.specs.declared.fault.ProofRule.TheVariants.{P1, P2, P3, P4, P5}
-use Rattle.mm_proof.specs.Moves.{Move, name, again, mark}
+use Rattle.mm_step.specs.declared.fault.ProofRule.{ProofRule}
+use Rattle.mm_step.specs.declared.fault.ProofRule.TheVariants.{P1, P2, P3, P4, P5}
+use Rattle.mm_step.specs.Moves.{Move, name, again, mark}
 use Rattle.mm_proof.specs.Tokens.{opening_token, closing_token, IsNormal, IsCompressed, AreLabels}
 use Rattle.mm_proof.specs.Tokens.{AreLetters, Says, SayMoves}
-use Rattle.mm_proof.specs.Steps.{IsUsable, IsUsableMove}
+use Rattle.mm_step.specs.Steps.{IsUsable, IsUsableMove}
 use Rattle.mm_proof.specs.Proof.{BreaksWhole, IsWhole}
-use Rattle.mm_proof.proofs.ProofSteps.OneStep.{those_hold}
-use Rattle.mm_proof.proofs.ProofSteps.Derivations.{zip_once}
+use Rattle.mm_frame.proofs.Frames.FrameLaws.{those_hold}
+use Rattle.mm_step.proofs.ProofSteps.Derivations.{zip_once}
 use Rattle.mm_proof.proofs.Members.{dec_member, those_of, contains_first, contains_later}
 use Rattle.mm_proof.proofs.Members.{contains_cases}
 use Rattle.mm_proof.proofs.ProofTokens.CodeLetters.{coded_or_broken, breaks_dec, from_one}

@@ -4,52 +4,54 @@ use Rattle.std.proofs.Common.{ℕ, Result, IfErr, subst, sym, ◌≡◌, ◌≢�
 use Rattle.std.proofs.Common.{length, slice_get, Some, ◌⊎◌, inl, inr, ⊎_elim, refl, ap, ◌∙◌, arith}
 use Rattle.std.proofs.Common.{zero, suc, ◌-◌, take, drop, get_or, Option, None, append_assoc}
 use Rattle.std.proofs.Common.{append-nil, lt_irrefl, Ok, Err, IsErrAnd, IsOkUnless, cond, OnOk}
-use Rattle.mm_proof.specs.declared.fault.ProofRule.{ProofRule}
-use Rattle.mm_proof.specs.declared.fault.ProofFault.{ProofFault}
-use Rattle.mm_proof.specs.declared.fault.ProofFault.TheVariants.{Rule, Memory}
+use Rattle.mm_step.specs.declared.fault.ProofRule.{ProofRule}
+use Rattle.mm_step.specs.declared.fault.ProofFault.{ProofFault}
+use Rattle.mm_step.specs.declared.fault.ProofFault.TheVariants.{Rule, Memory}
 use Rattle.mm_proof.specs.Answer.{OnRule, IsUnlessMemory}
 use Rattle.std.proofs.lemmas.Result.{IfErr-weaker, err_from_is_err_and}
 use Rattle.std.proofs.lemmas.Option.{same_Some, none-some, slice_get-get_or, slice_get_within}
 use Rattle.std.proofs.lemmas.Bool.{cases_order, cases_lt}
 use Rattle.mm_text.proofs.Lists.{two_cuts}
-use Rattle.mm_frame.specs.Sentence.{Sentence, IsHypothesis, IsLabelled}
+use Rattle.mm_frame.specs.Sentence.{Sentence}
 use Rattle.mm_frame.specs.Rules.{AllMeant}
-use Rattle.mm_proof.specs.declared.fault.ProofRule.TheVariants.{P1, P2, P3, P4, P5, P6, P7, P8, P9}
-use Rattle.mm_proof.specs.declared.fault.ProofRule.TheVariants.{P10, P11, P12, P13, P14, P15, L1}
-use Rattle.mm_proof.specs.Tree.{AnyExpression, Names, ShareNoVariable, AreDistinct}
-use Rattle.mm_proof.specs.Moves.{Move, steps_in, name, again, mark, is_step}
-use Rattle.mm_proof.specs.Proof.{IsWithin, proof_rank, BreaksWhole, Prove, BreaksMove, FirstAtMove}
-use Rattle.mm_proof.specs.Proof.{Passed, IsMoveFault, BreaksEnd, IsEndFault, IsMovesFault}
-use Rattle.mm_proof.specs.Proof.{MeetsHypotheses, SomePair, SomeReplacedPair, BreaksStep, IsWhole}
+use Rattle.mm_step.specs.declared.fault.ProofRule.TheVariants.{P1, P2, P3, P4, P5, P6, P7, P8, P9}
+use Rattle.mm_step.specs.declared.fault.ProofRule.TheVariants.{P10, P11, P12, P13, P14, P15, L1}
+use Rattle.mm_step.specs.Tree.{AnyExpression, Names, ShareNoVariable, AreDistinct}
+use Rattle.mm_step.specs.Moves.{Move, steps_in, name, again, mark, is_step}
+use Rattle.mm_step.specs.Proof.{IsWithin, proof_rank, BreaksMove, FirstAtMove}
+use Rattle.mm_proof.specs.Proof.{BreaksWhole, Prove}
+use Rattle.mm_step.specs.Proof.{Passed}
+use Rattle.mm_proof.specs.Proof.{IsMoveFault, BreaksEnd, IsEndFault, IsMovesFault}
+use Rattle.mm_step.specs.Proof.{MeetsHypotheses, SomePair, SomeReplacedPair, BreaksStep}
+use Rattle.mm_proof.specs.Proof.{IsWhole}
 use Rattle.mm_proof.specs.Laws.{OneTree}
-use Rattle.mm_proof.proofs.ProofSteps.Derivations.{derived_once, one_fit_holds, derive_fits}
-use Rattle.mm_proof.proofs.ProofSteps.PassedMoves.{passed_once, proof_passed, no_fault_within}
-use Rattle.mm_proof.proofs.ProofSteps.PassedMoves.{passed_none, passed_name, passed_again}
-use Rattle.mm_proof.proofs.ProofSteps.PassedMoves.{passed_mark, prove_at_end}
+use Rattle.mm_step.proofs.ProofSteps.Derivations.{derived_once, one_fit_holds, derive_fits}
+use Rattle.mm_proof.proofs.ProofVerdicts.PassedMoves.{passed_once, proof_passed, no_fault_within}
+use Rattle.mm_proof.proofs.ProofVerdicts.PassedMoves.{passed_none, passed_again}
+use Rattle.mm_step.proofs.ProofSteps.PassedStep.{passed_name}
+use Rattle.mm_proof.proofs.ProofVerdicts.PassedMoves.{passed_mark, prove_at_end}
 use Rattle.mm_proof.proofs.ProofTokens.SaidMoves.{moves_once}
 use Rattle.std.specs.List.{AllByRecursion}
 use Rattle.std.proofs.lemmas.List.{length-drop, take-append-drop}
 use Rattle.std.proofs.Math.Decide.{ℕ_discrete}
 use Rattle.mm_text.specs.declared.statement.Kind.TheVariants.{Floating, Essential}
-use Rattle.mm_frame.specs.Active.{IsActive}
-use Rattle.mm_frame.specs.Frame.{IsMandatoryAt, AreMandatory, IsMandatoryPair}
+use Rattle.mm_frame.specs.Frame.{IsMandatoryAt, AreMandatory}
 use Rattle.mm_frame.proofs.Rules.DecidedStatements.{dec_both, dec_as, dec_some, kind_dec}
 use Rattle.mm_frame.proofs.Rules.DecidedStatements.{symbol_dec, dec_not, unless_not}
 use Rattle.mm_frame.proofs.Rules.DecidedStatements.{mandatory_at_dec, expression_dec}
-use Rattle.mm_proof.specs.Substitution.{instance_of}
-use Rattle.mm_proof.specs.Steps.{IsUsable, IsUsableMove}
-use Rattle.mm_proof.proofs.ProofSteps.OneStep.{StepTo, hypothesis_or_assertion, meets_enough, Agree}
-use Rattle.mm_proof.proofs.ProofSteps.OneStep.{agree, same_substituted, step_breaks_none}
-use Rattle.mm_proof.proofs.ProofSteps.OneStep.{step_breaks_limit}
+use Rattle.mm_step.specs.Substitution.{instance_of}
+use Rattle.mm_step.specs.Steps.{IsUsable, IsUsableMove}
+use Rattle.mm_step.proofs.ProofSteps.OneStep.{StepTo, hypothesis_or_assertion, meets_enough, Agree}
+use Rattle.mm_step.proofs.ProofSteps.OneStep.{agree, same_substituted}
 use Rattle.mm_proof.proofs.Members.{those_of, share_dec, apart_dec, some_pair_dec}
-use Rattle.mm_proof.proofs.ProofSteps.Replacements.{meets_of}
+use Rattle.mm_step.proofs.ProofSteps.Replacements.{meets_of}
 use Rattle.std.proofs.lemmas.List.Sums.{sum_by-append}
-use Rattle.mm_proof.specs.Mirror.CodeVerify.{EachEntry, IsRightCode, IsEqual}
-use Rattle.mm_proof.specs.declared.profile.Profile.{Profile}
+use Rattle.mm_step.specs.declared.profile.Profile.{Profile}
 use Rattle.mm_proof.specs.Tokens.{SayMoves}
 use Rattle.mm_proof.specs.KnownPrefix.{Pass}
 use Rattle.mm_proof.specs.Strict.{HasFormOf, IsTextFault}
 use Rattle.mm_proof.specs.UnderProfile.{HaveFirstFault, HasNoFault, IsOneFault}
+use Rattle.mm_step.proofs.ProofSteps.FirstAtStep.{FirstAtStep, below, below_P8, limit_first, step_of_hypothesis}
 
 -- ==== answers that hand a fault on
 
@@ -128,7 +130,7 @@ module _ (Fits : List (List ℕ) → Type 0) (before : List Sentence) where
   module _ (moves : List (Move (List ℕ))) (rule rule' : ProofRule) (step step' : ℕ)
       (all : AllMeant before) (f : IsMoveFault Fits before moves rule step)
       (g : IsMoveFault Fits before moves rule' step') where
-    same_move : f.earlier ≡ g.earlier → f.move ≡ g.move → Same rule step rule' step'
+    pub same_move : f.earlier ≡ g.earlier → f.move ≡ g.move → Same rule step rule' step'
     same_move a x =
         let one = passed_once Fits Fits before g.earlier f.stack g.stack f.kept g.kept all (subst (λ l. Passed Fits before l f.stack f.kept) a f.passed) g.passed in
         let fault = rw (one.0, one.1, x) at f.fault in (
@@ -145,7 +147,7 @@ module _ (Fits : List (List ℕ) → Type 0) (before : List Sentence) where
 
   module _ (s : Sentence) (moves : List (Move (List ℕ))) (rule rule' : ProofRule) (step step' : ℕ)
       (all : AllMeant before) where
-    two_ends : IsEndFault Fits before s moves rule step → IsEndFault Fits before s moves rule' step'
+    pub two_ends : IsEndFault Fits before s moves rule step → IsEndFault Fits before s moves rule' step'
         → Same rule step rule' step'
     two_ends f g =
         let stacks : f.stack ≡ g.stack = (passed_once Fits Fits before moves f.stack g.stack f.kept g.kept all f.passed g.passed).0 in
@@ -264,21 +266,6 @@ first_below Broken each (suc n) = elim (first_below Broken each n) [
 pub first_or_none : (Broken : ProofRule → Type 0) → ((rule : ProofRule) → Dec (Broken rule)) → First Broken ⊎ ((rule : ProofRule) → ¬ (Broken rule))
 first_or_none Broken each = ⊎_elim (λ f. inl f) (λ none. inr (λ rule. none rule (slice_get_within ranked _ rule (at_rank rule)))) (first_below Broken each 17)
 
--- ---- the rules at a step by a label
-
--- the first rule that the step breaks
-abbrev pub FirstAtStep : (List (List ℕ) → Type 0) → ProofRule → List Sentence → List (List (List ℕ)) → List ℕ → Type 0
-FirstAtStep Fits rule before stack label =
-    BreaksStep Fits rule before stack label × ((other : ProofRule) → proof_rank other < proof_rank rule → ¬ (BreaksStep Fits other before stack label))
-
--- a step over the limit that breaks no rule breaks the limit first
-pub limit_first : (Fits : List (List ℕ) → Type 0) (before : List Sentence) (stack : List (List (List ℕ))) (label : List ℕ) (rest : List (List (List ℕ))) (e : List (List ℕ)) → AllMeant before
-    → ¬ (Fits e) → StepTo before stack label rest e → FirstAtStep Fits L1 before stack label
-limit_first Fits before stack label rest e all over step = (
-  step_breaks_limit Fits before stack label rest e over step,
-  λ other less. step_breaks_none Fits other before stack label rest e all (λ same. absurd (lt_irrefl (proof_rank L1) (subst (λ r. proof_rank r < proof_rank L1) same less))) step,
-)
-
 pub first_symbol_dec : (a b : Option (List ℕ)) → Dec (a ≡ b)
 first_symbol_dec None None = yes refl
 first_symbol_dec (Some a) (Some b) = dec_as (λ e. ap Some e) (λ e. same_Some a b e) (symbol_dec a b)
@@ -353,12 +340,6 @@ step_of Fits before stack label m none = inr (record {
   made = refl;
 })
 
--- the step by an active hypothesis breaks none but the limit
-pub step_of_hypothesis : (before : List Sentence) (stack : List (List (List ℕ))) (label : List ℕ) (index : ℕ) (h : Sentence) → slice_get before index ≡ Some h → IsActive before index
-    → IsLabelled label h → IsHypothesis h.kind → StepTo before stack label stack h.symbols
-step_of_hypothesis before stack label index h there active named kind =
-    inl (record { kept = refl; index = index; hypothesis = h; there = there; active = active; named = named; kind = kind; made = refl })
-
 -- what a step does: it goes on within the limit, or it breaks a rule first
 abbrev Outcome : (List (List ℕ) → Type 0) → List Sentence → List (List (List ℕ)) → List ℕ → Type 0
 Outcome Fits before stack label = ((rest : List (List (List ℕ))) × (e : List (List ℕ)) × StepTo before stack label rest e × Fits e) ⊎ ((rule : ProofRule) × FirstAtStep Fits rule before stack label)
@@ -369,11 +350,6 @@ made_outcome Fits each before stack label rest e all step = elim (each e) [
   | yes within ↦ inl (rest, e, step, within)
   | no over ↦ inr (L1, limit_first Fits before stack label rest e all over step)
 ]
-
--- below the entries that an assertion wants, P8 is the first rule broken
-pub below_P8 : (Fits : List (List ℕ) → Type 0) (before : List Sentence) (stack : List (List (List ℕ))) (label : List ℕ) (other : ProofRule) → proof_rank other < proof_rank P8 → ¬ (BreaksStep Fits other before stack label)
-below_P8 Fits before stack label P8 less = absurd (omega arith)
-below_P8 Fits before stack label rule less = grind arith
 
 module _ (Fits : List (List ℕ) → Type 0) (each : (e : List (List ℕ)) → Dec (Fits e))
     (before : List Sentence) (stack : List (List (List ℕ))) (label : List ℕ) where
@@ -470,51 +446,6 @@ module _ (Fits : List (List ℕ) → Type 0) (each : (e : List (List ℕ)) → D
 
 pub within_dec : (limit : ℕ) (e : List (List ℕ)) → Dec (IsWithin limit e)
 within_dec limit e = elim (cases_lt limit (length e)) [ inl over ↦ no (λ within. absurd (omega arith)) | inr within ↦ yes within ]
-
--- ==== the first rule that a move breaks, from what a judge of it finds one after the other
-
--- ---- what a step meets is in order
-
--- what replaces the members of each mandatory pair is so
-abbrev pub EachPair : (before : List Sentence) → (stack : List (List (List ℕ))) → (label : List ℕ) → MeetsHypotheses before stack label → (List (List ℕ) → List (List ℕ) → Type 0) → Type 0
-EachPair before stack label m P =
-    (x y : List ℕ) (e f : List (List ℕ)) → IsMandatoryPair (take m.index before) m.assertion x y → m.σ x ≡ Some e → m.σ y ≡ Some f → P e f
-
--- where a step meets its hypotheses, and what the rules before this one judge is in order, it
--- breaks none of them
-pub below : (Fits : List (List ℕ) → Type 0) (before : List Sentence) (stack : List (List (List ℕ)))
-    (label : List ℕ) (m : MeetsHypotheses before stack label) → AllMeant before → (rule : ProofRule)
-    → proof_rank rule < proof_rank L1
-    → (proof_rank P9 < proof_rank rule → EachEntry m.hypotheses m.entries IsRightCode)
-    → (proof_rank P10 < proof_rank rule → EachEntry m.hypotheses m.entries (IsEqual m.σ))
-    → (proof_rank P11 < proof_rank rule → EachPair before stack label m (ShareNoVariable before))
-    → (other : ProofRule) → proof_rank other < proof_rank rule
-    → ¬ (BreaksStep Fits other before stack label)
-below Fits before stack label m all rule last codes equal share P8 less b =
-    meets_enough Fits before stack label all m b
-below Fits before stack label m all rule last codes equal share P9 less b =
-    let a = agree before stack label all m b.0 in
-    let x = b.1 in
-    x.5.1 (codes less x.0 x.1 x.2 (rw a.hypotheses x.3) (rw a.entries x.4) x.5.0)
-below Fits before stack label m all rule last codes equal share P10 less b =
-    let a = agree before stack label all m b.0 in
-    let x = b.1 in
-    x.5.1 (equal less x.0 x.1 x.2 (rw a.hypotheses x.3) (rw a.entries x.4) x.5.0
-    ∙ same_substituted m.σ b.0.σ x.1.symbols a.replacement)
-below Fits before stack label m all rule last codes equal share P11 less b =
-    let a = agree before stack label all m b.0 in
-    let pair = rw (← a.index, ← a.assertion) at b.5 in
-    b.8 (share less b.1 b.2 b.3 b.4 pair (a.replacement b.1 ∙ b.6) (a.replacement b.2 ∙ b.7))
-below Fits before stack label m all rule last codes equal share P12 less b = absurd (omega arith)
-below Fits before stack label m all rule last codes equal share L1 less b = absurd (omega arith)
-below Fits before stack label m all rule last codes equal share other less b = b
-
--- ---- the rules that stand alone
-
--- what such a step makes is over the limit
-pub first_L1 : (Fits : List (List ℕ) → Type 0) (before : List Sentence) (stack kept : List (List (List ℕ))) (label : List ℕ) (rest : List (List (List ℕ))) (e : List (List ℕ)) → AllMeant before
-    → ¬ (Fits e) → StepTo before stack label rest e → FirstAtMove Fits L1 before stack kept (name label)
-first_L1 Fits before stack kept label rest e all over step = let f = limit_first Fits before stack label rest e all over step in record { broken = f.0; first = f.1 }
 
 -- ---- the faults
 

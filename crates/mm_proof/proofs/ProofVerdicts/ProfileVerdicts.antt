@@ -5,11 +5,12 @@ use Rattle.mm_proof.proofs.ProofTokens.SaidMoves.{compressed_once, some_moves, m
 use Rattle.mm_proof.proofs.ProofTokens.SaidMoves.{whole_dec, moves_usable}
 use Rattle.mm_frame.specs.Sentence.{Sentence, SomeSentence, IsLabelled, IsAssertion}
 use Rattle.mm_frame.specs.Rules.{AllMeant}
-use Rattle.mm_proof.specs.declared.fault.ProofRule.{ProofRule}
-use Rattle.mm_proof.specs.declared.profile.Profile.{Profile}
-use Rattle.mm_proof.specs.Proof.{IsWithin, IsProvedWithin, IsWhole, Prove, IsMovesFault}
+use Rattle.mm_step.specs.declared.fault.ProofRule.{ProofRule}
+use Rattle.mm_step.specs.declared.profile.Profile.{Profile}
+use Rattle.mm_step.specs.Proof.{IsWithin}
+use Rattle.mm_proof.specs.Proof.{IsProvedWithin, IsWhole, Prove, IsMovesFault}
 use Rattle.mm_proof.specs.Proof.{IsMoveFault, BreaksWhole}
-use Rattle.mm_proof.specs.Profiles.{limit_of}
+use Rattle.mm_step.specs.Profiles.{limit_of}
 use Rattle.mm_proof.specs.KnownPrefix.{known_prefix, Pass}
 use Rattle.mm_proof.specs.Strict.{HasFormOf, IsStrictList, MarkAssertions, IsStrict}
 use Rattle.mm_proof.specs.UnderProfile.{IsProvedUnder, IsFaultUnder, HaveFaultUnder}
@@ -19,8 +20,8 @@ use Rattle.mm_proof.proofs.ProofVerdicts.FirstFault.{first_symbol_dec, proof_exc
 use Rattle.mm_proof.proofs.ProofVerdicts.FirstFault.{pass_excludes, tokens_exclude, AreGood}
 use Rattle.mm_proof.proofs.ProofVerdicts.FirstFault.{first_or_none, MovesVerdict, moves_verdict}
 use Rattle.mm_proof.proofs.ProofVerdicts.FirstFault.{within_dec, Exclude}
-use Rattle.mm_proof.specs.declared.fault.ProofRule.TheVariants.{P15}
-use Rattle.mm_proof.specs.declared.profile.Profile.TheVariants.{Strict, Lenient}
+use Rattle.mm_step.specs.declared.fault.ProofRule.TheVariants.{P15}
+use Rattle.mm_step.specs.declared.profile.Profile.TheVariants.{Strict, Lenient}
 use Rattle.mm_proof.proofs.ProofVerdicts.VerdictLaws.{prove_looser}
 use Rattle.std.proofs.lemmas.Option.{same_Some}
 use Rattle.std.specs.List.{AllZip, AllByRecursion}
@@ -33,13 +34,13 @@ use Rattle.mm_text.proofs.Lists.{at_from_contains, contains_from_at}
 use Rattle.mm_frame.proofs.Rules.DecidedStatements.{dec_both, dec_as, dec_some, kind_dec}
 use Rattle.mm_frame.proofs.Rules.DecidedStatements.{contains_dec, dec_not, dec_or}
 use Rattle.mm_frame.proofs.Frames.FrameLaws.{mandatory_unique}
-use Rattle.mm_proof.specs.Moves.{Move, name, mark}
+use Rattle.mm_step.specs.Moves.{Move, name, mark}
 use Rattle.mm_proof.specs.Tokens.{SayMoves}
 use Rattle.mm_proof.proofs.ProofVerdicts.StrictForm.{last_of, told_each, once_from, step_before}
 use Rattle.mm_proof.proofs.ProofVerdicts.StrictForm.{strict_normal}
-use Rattle.mm_proof.specs.Substitution.{Expression}
-use Rattle.mm_proof.specs.Steps.{IsUsableMove}
-use Rattle.mm_proof.proofs.ProofSteps.PassedMoves.{proof_passed}
+use Rattle.mm_step.specs.Substitution.{Expression}
+use Rattle.mm_step.specs.Steps.{IsUsableMove}
+use Rattle.mm_proof.proofs.ProofVerdicts.PassedMoves.{proof_passed}
 
 -- ==== the verdict under a profile is one
 

@@ -13,9 +13,10 @@ use Rattle.mm_frame.specs.declared.number.LabelId.{LabelId}
 use Rattle.mm_frame.specs.Sentence.{Sentence, SomeSentence, IsLabelled, IsHypothesis, IsAssertion}
 use Rattle.mm_code.specs.declared.code.Code.{Code}
 use Rattle.mm_code.specs.declared.code.Code.TheVariants.{Number, Tag}
-use Rattle.mm_proof.specs.Moves.{name, mark, Move, again}
-use Rattle.mm_proof.specs.Plain.{ids_in}
-use Rattle.mm_proof.specs.Mirror.CodeSteps.{code_move, code_moves, move_by, AreFor, MayBeUsed}
+use Rattle.mm_step.specs.Moves.{name, mark, Move, again}
+use Rattle.mm_step.specs.Plain.{ids_in}
+use Rattle.mm_proof.specs.Mirror.CodeSteps.{code_move, code_moves, move_by, AreFor}
+use Rattle.mm_step.specs.Mirror.CodeSteps.{MayBeUsed}
 use Rattle.mm_proof.proofs.ProofTokens.ProofCodes.{code_there}
 use Rattle.mm_proof.specs.Mirror.CodeSharing.{AddsNew}
 use Rattle.mm_proof.specs.Mirror.CodeForm.{IsOld, AllNew, IsFirstOld, IsAfterAssertion}
@@ -23,7 +24,8 @@ use Rattle.mm_proof.specs.Mirror.CodeForm.{AreMarksStrict, IsFirstLoose, IsLoose
 use Rattle.mm_proof.specs.declared.form.Loose.{Loose}
 use Rattle.mm_proof.specs.declared.form.Loose.TheVariants as loose
 use Rattle.mm_proof.specs.WholePlaces.{IsSpareLabel, IsLooseMark}
-use Rattle.mm_proof.proofs.ByNumbers.UsedAssertions.{entry_at, named_by}
+use Rattle.mm_step.proofs.ByNumbers.CalledAssertions.{entry_at}
+use Rattle.mm_proof.proofs.ProofNumbers.UsedAssertions.{named_by}
 use Rattle.std.specs.List.{AllByRecursion, AllZip}
 use Rattle.mm_text.proofs.Lists.{zip_left, zip_right, all_at, split_at, get_before, get_parted}
 use Rattle.mm_text.proofs.Lists.{get_take, get_from_take, at_from_contains, contains_from_at}
@@ -35,13 +37,13 @@ use Rattle.mm_frame.specs.Numbers.{labelled_sentences, IsNumbered}
 use Rattle.mm_frame.proofs.Frames.FrameLaws.{mandatory_unique}
 use Rattle.mm_frame.proofs.Names.LabelNumbers.{numbered_get, numbered_from_get, numbered_unique}
 use Rattle.mm_proof.specs.Tokens.{IsCompressed, BeginsList, opening_token}
-use Rattle.mm_proof.specs.Steps.{IsNumberedMove, AreNumberedMoves, AreSteps, IsUsable, IsUsableMove}
-use Rattle.mm_proof.specs.Steps.{IsProofNumber}
-use Rattle.mm_proof.proofs.Machines.JudgedMoves.{usable_names}
+use Rattle.mm_step.specs.Steps.{IsNumberedMove, AreNumberedMoves, AreSteps, IsUsable, IsUsableMove}
+use Rattle.mm_step.specs.Steps.{IsProofNumber}
+use Rattle.mm_proof.proofs.ProofVerdicts.JudgedMoves.{usable_names}
 use Rattle.mm_proof.specs.Parsed.{OfProof, SaySteps}
 use Rattle.mm_proof.specs.Strict.{IsStrictList, EndWithAssertion, MarkAssertions, IsStrict}
-use Rattle.mm_proof.proofs.ProofSteps.OneStep.{one_label, one_labelled, not_both_kinds}
-use Rattle.mm_proof.proofs.ByNumbers.NumberedLabels.{one_index}
+use Rattle.mm_step.proofs.ProofSteps.OneStep.{one_label, one_labelled, not_both_kinds}
+use Rattle.mm_step.proofs.ByNumbers.OneIndex.{one_index}
 use Rattle.mm_proof.proofs.ProofTokens.SaidMoves.{moves_once}
 
 -- ==== labels that are new, one after the other

@@ -4,22 +4,25 @@ use Rattle.std.proofs.Common.{subst, ◌∙◌, append_assoc, append-nil}
 use Rattle.mm_text.proofs.Lists.{zip_left}
 use Rattle.mm_frame.specs.Sentence.{Sentence}
 use Rattle.mm_frame.specs.Rules.{AllMeant}
-use Rattle.mm_proof.specs.declared.fault.ProofRule.TheVariants.{L1}
-use Rattle.mm_proof.specs.Tree.{Trees, none, tree, DeriveAll, AnyExpression}
-use Rattle.mm_proof.specs.Moves.{Move, name, again, mark, steps_in, Makes}
-use Rattle.mm_proof.specs.Proof.{IsWithin, Prove, IsProvedWithin, IsProved, FirstAtMove, Passed}
+use Rattle.mm_step.specs.declared.fault.ProofRule.TheVariants.{L1}
+use Rattle.mm_step.specs.Tree.{Trees, none, tree, DeriveAll, AnyExpression}
+use Rattle.mm_step.specs.Moves.{Move, name, again, mark, steps_in, Makes}
+use Rattle.mm_step.specs.Proof.{IsWithin, FirstAtMove, Passed}
+use Rattle.mm_proof.specs.Proof.{Prove, IsProvedWithin, IsProved}
 use Rattle.mm_proof.specs.Proof.{IsMovesFault, IsFault}
 use Rattle.mm_proof.specs.Laws.{LimitsAside}
-use Rattle.mm_proof.proofs.ProofSteps.PassedMoves.{passed_none, passed_name, passed_again}
-use Rattle.mm_proof.proofs.ProofSteps.PassedMoves.{passed_mark, prove_at_end, Went, went_on}
-use Rattle.mm_proof.proofs.ProofSteps.PassedMoves.{went_step, nothing_left, passed_once}
-use Rattle.mm_proof.proofs.ProofSteps.PassedMoves.{proof_passed}
-use Rattle.mm_proof.proofs.ProofVerdicts.FirstFault.{limit_first, last_entry, within_dec}
+use Rattle.mm_proof.proofs.ProofVerdicts.PassedMoves.{passed_none, passed_again}
+use Rattle.mm_step.proofs.ProofSteps.PassedStep.{passed_name}
+use Rattle.mm_proof.proofs.ProofVerdicts.PassedMoves.{passed_mark, prove_at_end, Went, went_on}
+use Rattle.mm_proof.proofs.ProofVerdicts.PassedMoves.{went_step, nothing_left, passed_once}
+use Rattle.mm_proof.proofs.ProofVerdicts.PassedMoves.{proof_passed}
+use Rattle.mm_step.proofs.ProofSteps.FirstAtStep.{limit_first}
+use Rattle.mm_proof.proofs.ProofVerdicts.FirstFault.{last_entry, within_dec}
 use Rattle.mm_proof.proofs.ProofVerdicts.FirstFault.{proof_excludes, tokens_exclude, AreGood}
 use Rattle.mm_proof.proofs.ProofVerdicts.FirstFault.{Exclude}
-use Rattle.mm_proof.specs.declared.profile.Profile.TheVariants.{Lenient}
+use Rattle.mm_step.specs.declared.profile.Profile.TheVariants.{Lenient}
 use Rattle.mm_proof.specs.UnderProfile.{HaveFirstFault}
-use Rattle.mm_proof.specs.declared.fault.ProofRule.{ProofRule}
+use Rattle.mm_step.specs.declared.fault.ProofRule.{ProofRule}
 
 -- what trees derive where expressions fit they derive where more of them do
 derive_looser : (Fits More : List (List ℕ) → Type 0) → ((e : List (List ℕ)) → Fits e → More e)

@@ -2,7 +2,7 @@
 use Rattle.std.specs.Prelude.{◌≡◌, ℕ, ◌+◌, ◌<◌, List, take, slice_get, Contains, Some, ◌⊎◌}
 use Rattle.mm_frame.specs.Sentence.{Sentence}
 use Rattle.mm_frame.specs.Numbers.{IsAssertionNumber}
-use Rattle.mm_proof.specs.Moves.{Move, name, mark}
+use Rattle.mm_step.specs.Moves.{Move, name, mark}
 use Rattle.mm_proof.specs.Tokens.{IsCompressed, SaysCompressed}
 use Rattle.mm_proof.specs.WholePlaces.{IsSpareLabel, IsLooseMark}
 use Rattle.mm_proof.specs.declared.form.Loose.{Loose}

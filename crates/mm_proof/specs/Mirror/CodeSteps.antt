@@ -1,38 +1,27 @@
 -- What the code of the moves knows on its way: it mirrors the code.
-use Rattle.std.specs.Prelude.{◌≡◌, ℕ, ◌+◌, ◌<◌, List, length, map, take, slice_get, Contains, Some}
+use Rattle.std.specs.Prelude.{◌≡◌, ℕ, ◌+◌, List, length, map, take, slice_get, Contains, Some}
 use Rattle.std.specs.Prelude.{◌-◌, ◌⊎◌, Option, None}
 use Rattle.std.specs.List.{AllZip, AllByRecursion}
-use Rattle.mm_frame.specs.Sentence.{Sentence, SomeSentence, IsLabelled, IsHypothesis, IsAssertion}
+use Rattle.mm_frame.specs.Sentence.{Sentence, SomeSentence, IsLabelled, IsHypothesis}
 use Rattle.mm_frame.specs.Active.{IsActive}
-use Rattle.mm_frame.specs.Numbers.{IsNumbered}
 use Rattle.mm_frame.specs.declared.number.LabelId.{LabelId}
 use Rattle.mm_code.specs.declared.code.Code.{Code}
 use Rattle.mm_code.specs.declared.code.Code.TheVariants as codes
 use Rattle.mm_code.specs.declared.code.CodeFault.{CodeFault}
 use Rattle.mm_code.specs.declared.code.CodeFault.TheVariants as code_faults
 use Rattle.mm_code.specs.declared.code.CodeRule.TheVariants as code_rules
-use Rattle.mm_proof.specs.declared.fault.ProofFault.{ProofFault}
-use Rattle.mm_proof.specs.declared.fault.ProofFault.TheVariants as faults
-use Rattle.mm_proof.specs.Moves.{Move, name, again, mark}
-use Rattle.mm_proof.specs.Plain.{ids_in}
+use Rattle.mm_step.specs.declared.fault.ProofFault.{ProofFault}
+use Rattle.mm_step.specs.declared.fault.ProofFault.TheVariants as faults
+use Rattle.mm_step.specs.Moves.{Move, name, again, mark}
+use Rattle.mm_step.specs.Plain.{ids_in}
 use Rattle.mm_proof.specs.Tokens.{SayMoves}
 use Rattle.mm_proof.specs.Proof.{IsWhole}
-use Rattle.mm_proof.specs.Steps.{AreNumberedMoves, IsUsableMove}
-use Rattle.mm_proof.specs.declared.fault.ProofRule.{ProofRule}
-use Rattle.mm_proof.specs.declared.fault.ProofRule.TheVariants as rules
+use Rattle.mm_step.specs.Steps.{AreNumberedMoves, IsUsableMove}
+use Rattle.mm_step.specs.declared.fault.ProofRule.{ProofRule}
+use Rattle.mm_step.specs.declared.fault.ProofRule.TheVariants as rules
 use Rattle.mm_proof.specs.declared.labels.Use.{Use}
 use Rattle.mm_proof.specs.declared.labels.Use.TheVariants as uses
-
--- the statement with this number stands before an index, has the label, and is an assertion or an
--- active hypothesis
-pub record MayBeUsed (statements : List Sentence) (index : ℕ) (label : List ℕ)
-    (id : ℕ) : Type 0 where
-  pub at : ℕ
-  pub s : Sentence
-  pub numbered : IsNumbered statements id at s
-  pub named : IsLabelled label s
-  pub before : at < index
-  pub kind : (IsHypothesis s.kind × IsActive (take index statements) at) ⊎ IsAssertion s.kind
+use Rattle.mm_step.specs.Mirror.CodeSteps.{MayBeUsed}
 
 -- the label is that of a hypothesis before an index that isn't active there
 pub record IsIdle (statements : List Sentence) (index : ℕ) (label : List ℕ) : Type 0 where

@@ -1,13 +1,13 @@
 -- What a judge has made of moves, as the code keeps it: it mirrors the code.
 use Rattle.std.specs.Prelude.{◌≡◌, ℕ, ◌+◌, List, length, take}
-use Rattle.mm_proof.specs.declared.fault.ProofRule.{ProofRule}
+use Rattle.mm_step.specs.declared.fault.ProofRule.{ProofRule}
 use Rattle.mm_proof.specs.declared.judge.Judge.{Judge}
-use Rattle.mm_proof.specs.Moves.{Move}
-use Rattle.mm_proof.specs.Proof.{IsWithin, FirstAtMove}
-use Rattle.mm_proof.specs.Steps.{IsNumberedMove}
-use Rattle.mm_proof.specs.Mirror.CodeVerify.{all_names_at}
-use Rattle.mm_proof.specs.Mirror.CodeRun.{HasRun, AreMarked}
-use Rattle.mm_proof.specs.Mirror.Sites.{ProofSite}
+use Rattle.mm_step.specs.Moves.{Move}
+use Rattle.mm_step.specs.Proof.{IsWithin, FirstAtMove}
+use Rattle.mm_step.specs.Steps.{IsNumberedMove}
+use Rattle.mm_step.specs.Mirror.CodeVerify.{all_names_at}
+use Rattle.mm_step.specs.Mirror.CodeRun.{HasRun, AreMarked}
+use Rattle.mm_step.specs.Mirror.Sites.{ProofSite}
 
 -- the judge has run over the moves since the first state, in the same store and with the same
 -- entries, and those are marked that the moves name

@@ -1,7 +1,7 @@
 -- What a machine has made of moves, as the code keeps it: it mirrors the code.
 use Rattle.std.specs.Prelude.{◌≡◌, ℕ, ◌+◌, ◌<◌, ◌^◌, List, [], ◌∷◌, ◌++◌, length, take}
 use Rattle.std.specs.Prelude.{slice_get, Some}
-use Rattle.mm_proof.specs.Moves.{Move, name}
+use Rattle.mm_step.specs.Moves.{Move, name}
 
 -- what a machine is after moves, since a first state
 abbrev pub Running : Type 0 → Type 1

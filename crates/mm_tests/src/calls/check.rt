@@ -7,7 +7,7 @@ use mm_check::{
     RunFault, Status, all_faults, check, run,
 };
 use mm_frame::MeaningRule;
-use mm_proof::{Profile, ProofRule};
+use mm_step::{Profile, ProofRule};
 use mm_text::{File, LoadRule, Seed};
 use std::alloc::Global;
 use std::test::Fail;

@@ -14,7 +14,7 @@ use mm_check::{
     WholeQuestion, check, run, saved, saved_all,
 };
 use mm_code::write_codes;
-use mm_proof::Profile;
+use mm_step::Profile;
 use mm_text::{
     Counted, File, HollowBytes, LoadFault, Seed, Statement, Statements, TextFault, read_all,
     read_hollow,

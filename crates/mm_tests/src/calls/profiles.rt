@@ -5,7 +5,7 @@ use mm_check::{
     AskFault, AskRule, CheckFault, Checked, Form, Rule, between_profiles, check, check_with, saved,
     saved_proof_is_strict,
 };
-use mm_proof::{Profile, ProofRule};
+use mm_step::{Profile, ProofRule};
 use mm_text::{File, Seed};
 use std::alloc::Global;
 use std::process::Abort;

@@ -21,17 +21,19 @@ ghost use Rattle.mm_text.specs.Files.{most_bytes};
 ghost use Rattle.mm_frame.specs.declared.answer.Taken.TheVariants.{Assertion};
 ghost use Rattle.mm_frame.specs.Sentence.{Sentence, sentence_in};
 ghost use Rattle.mm_frame.specs.Taken.{TakenAs};
-ghost use Rattle.mm_proof.specs.Steps.{IsProofNumber};
+ghost use Rattle.mm_step.specs.Steps.{IsProofNumber};
 ghost use Rattle.mm_code.specs.Layout.{texts};
 
 use crate::databases::{HEAD, LIMIT};
 use mm_frame::{Book, Found, LabelId, Piece, ShortPiece, Sym, Taken};
-use mm_proof::{
-    Flat, Line, Name, Parsed, Profile, ProofFault, ProofRule, Rows, Steps, Store, Used, UsedSteps,
-    by_spelling, by_word, fewest_steps, limits_aside, listing, made_by_word, one_fit, one_packed,
+use mm_listing::{Line, Name, UsedSteps, listing, uses_of};
+use mm_proof::{Parsed, Steps, verify};
+use mm_proof_laws::{
+    by_spelling, by_word, fewest_steps, limits_aside, made_by_word, one_fit, one_packed,
     one_prefix_verdict_under, one_tree, one_verdict_under, some_packed, steps_make_children,
-    told_by_packed, uses_of, verify,
+    told_by_packed,
 };
+use mm_step::{Flat, Profile, ProofFault, ProofRule, Rows, Store, Used};
 use mm_text::{File, Kind, Seed, Statement, Statements, Token};
 use std::alloc::{AllocError, Global};
 use std::process::Abort;

@@ -5,7 +5,8 @@ use mm_check::{
     reply_to,
 };
 use mm_frame::{Book, LabelId};
-use mm_proof::{Profile, Steps};
+use mm_proof::Steps;
+use mm_step::Profile;
 use mm_text::{File, Seed};
 use std::alloc::{AllocError, Global};
 use std::test::Fail;

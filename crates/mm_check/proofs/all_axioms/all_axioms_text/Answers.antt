@@ -2,7 +2,7 @@
 use Rattle.std.proofs.Common.{ℕ, List, Contains, ap, subst}
 use Rattle.std.proofs.lemmas.Result.{IfOk-weaker}
 use Rattle.mm_frame.specs.declared.number.LabelId.{LabelId}
-use Rattle.mm_proof.specs.Plain.{ids_in}
+use Rattle.mm_step.specs.Plain.{ids_in}
 use Rattle.mm_check.specs.Mirror.Tables.{AreLinesOf}
 use Rattle.mm_check.proofs.all_axioms.all_axioms_text.Goals as goal
 

@@ -1,9 +1,9 @@
 -- What replaces the members follows the first symbols of their entries.
 use Rattle.std.proofs.Common.{[], sym, subst, append-nil, take, drop}
 use Rattle.std.proofs.lemmas.Result.{on_ok_weaker}
-use Rattle.mm_proof.specs.declared.fault.ProofRule.{ProofRule}
-use Rattle.mm_proof.specs.Mirror.CodeVerify.{name_at}
-use Rattle.mm_proof.specs.Stores.{numbers_in}
+use Rattle.mm_step.specs.declared.fault.ProofRule.{ProofRule}
+use Rattle.mm_step.specs.Mirror.CodeVerify.{name_at}
+use Rattle.mm_step.specs.Stores.{numbers_in}
 use Rattle.mm_check.specs.Explained.{AreApartDetails}
 use Rattle.mm_check.proofs.ApartDetails.{tail_of, pair_details, apart_other}
 use Rattle.mm_check.proofs.apart.push_apart_pair.Goals as goal

@@ -1,7 +1,7 @@
 -- One pair more.
 use Rattle.std.proofs.Common.{take, subst, arith}
 use Rattle.std.proofs.lemmas.List.{take_all}
-use Rattle.mm_proof.specs.Stores.{entries_in}
+use Rattle.mm_step.specs.Stores.{entries_in}
 use Rattle.mm_frame.specs.declared.distinct.DistinctPair.{DistinctPair}
 use Rattle.std.proofs.Common.{List}
 use Rattle.mm_check.specs.Mirror.Explaining.{AddsPairs}

@@ -1,6 +1,6 @@
 -- The text so far is that of the pairs so far, whatever replaces their members.
 use Rattle.std.proofs.Common.{take}
-use Rattle.mm_proof.specs.Stores.{entries_in}
+use Rattle.mm_step.specs.Stores.{entries_in}
 use Rattle.mm_check.specs.Mirror.Explaining.{AddsPairs}
 use Rattle.mm_check.proofs.apart.push_apart_pairs.Given as goal
 

@@ -3,7 +3,7 @@ use Rattle.std.proofs.Common.{ap, ◌∙◌, arith, ◌++◌, List, map}
 use Rattle.std.proofs.lemmas.List.{take_all}
 use Rattle.std.proofs.lemmas.Option.{slice_get_within}
 use Rattle.mm_frame.specs.Numbers.{symbols_of}
-use Rattle.mm_proof.specs.Substitution.{Symbol}
+use Rattle.mm_step.specs.Substitution.{Symbol}
 use Rattle.mm_check.specs.Explained.{details_text, step_lacks}
 use Rattle.mm_check.proofs.LackingDetails.{pair_there, as_many_pairs, lacking_told}
 use Rattle.mm_check.proofs.apart.push_lacked.Goals as goal

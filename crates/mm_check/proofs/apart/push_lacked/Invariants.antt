@@ -1,6 +1,6 @@
 -- The text so far is that of the pairs so far, whatever their names are.
 use Rattle.std.proofs.Common.{◌≡◌, ◌++◌, List, take, map}
-use Rattle.mm_proof.specs.Substitution.{Symbol}
+use Rattle.mm_step.specs.Substitution.{Symbol}
 use Rattle.mm_check.specs.Explained.{details_text, step_lacks}
 use Rattle.mm_check.specs.Mirror.Explaining.{AreNamedPairs}
 use Rattle.mm_check.proofs.apart.push_lacked.Given as goal

@@ -4,9 +4,9 @@ use Rattle.std.proofs.lemmas.Result.{on_ok_weaker}
 use Rattle.mm_frame.specs.Numbers.{symbols_of}
 use Rattle.mm_frame.specs.declared.number.Sym.{Sym}
 use Rattle.mm_proof.specs.Asked.{AreDeclared}
-use Rattle.mm_proof.specs.Mirror.CodeVerify.{name_at}
-use Rattle.mm_proof.specs.Stores.{numbers_in}
-use Rattle.mm_proof.specs.Substitution.{Symbol}
+use Rattle.mm_step.specs.Mirror.CodeVerify.{name_at}
+use Rattle.mm_step.specs.Stores.{numbers_in}
+use Rattle.mm_step.specs.Substitution.{Symbol}
 use Rattle.mm_check.specs.Explained.{Detail, pair_asked, step_lacks}
 use Rattle.mm_check.specs.Mirror.Explaining.{AreNamedPairs}
 use Rattle.mm_check.proofs.AskedDetails.{of_own}

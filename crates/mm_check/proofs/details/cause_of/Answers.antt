@@ -2,7 +2,7 @@
 use Rattle.std.proofs.Common.{ℕ, List, ◌<◌, take, length, sym, ap, ◌∙◌, arith}
 use Rattle.std.proofs.lemmas.List.{length-map}
 use Rattle.std.proofs.lemmas.Option.{slice_get_within, same_Some}
-use Rattle.mm_proof.specs.WholePlaces.{IsWholePlace}
+use Rattle.mm_places.specs.WholePlaces.{IsWholePlace}
 use Rattle.mm_proof.proofs.ProofTokens.ProofLabels.{text_at}
 use Rattle.mm_code.specs.Layout.{texts}
 use Rattle.mm_check.proofs.TokenHalts.{whole_before, text_fault, known_text_fault, of_judged}

@@ -1,7 +1,7 @@
 -- The entries so far are those from the base on.
 use Rattle.std.proofs.Common.{◌≡◌, ◌+◌, ℕ, List, Some, length, slice_get}
-use Rattle.mm_proof.specs.Stores.{entries_in}
-use Rattle.mm_proof.specs.Halted.{TellsEntry}
+use Rattle.mm_step.specs.Stores.{entries_in}
+use Rattle.mm_listing.specs.Halted.{TellsEntry}
 use Rattle.mm_check.proofs.details.entries_from.Given as goal
 
 abbrev pub invariant-loop-index : goal.invariant-loop-index

@@ -4,8 +4,8 @@ use Rattle.std.specs.List.{AllZip, AllByRecursion}
 use Rattle.std.proofs.lemmas.Option.{slice_get-get_or}
 use Rattle.mm_text.proofs.Lists.{zip_left}
 use Rattle.mm_frame.specs.Numbers.{symbols_of, AreNumbers}
-use Rattle.mm_proof.specs.Stores.{entries_in, numbers_in}
-use Rattle.mm_proof.proofs.ByNumbers.AskedExpressions.{assertion_number}
+use Rattle.mm_step.specs.Stores.{entries_in, numbers_in}
+use Rattle.mm_proof.proofs.ProofNumbers.NamedAssertions.{assertion_number}
 use Rattle.mm_check.proofs.Numbers.{numbers_within}
 use Rattle.mm_check.proofs.HaltDetails.{step_left, hypothesis_there}
 use Rattle.mm_check.proofs.AskedDetails.{one_asked, entries_zip, asked_meets, met_halt, sizes, get_entry, count_entries, of_own, so_far_all}

@@ -1,10 +1,10 @@
 -- What the hypotheses so far ask, however the moves stop and whatever the step meets.
 use Rattle.std.proofs.Common.{List, ℕ, Bool, take}
 use Rattle.mm_frame.specs.Sentence.{Sentence}
-use Rattle.mm_proof.specs.Moves.{Move, name}
-use Rattle.mm_proof.specs.Steps.{IsProofNumber, IsNumberedMove}
-use Rattle.mm_proof.specs.Proof.{MeetsHypotheses}
-use Rattle.mm_proof.specs.Halted.{HaltsProof}
+use Rattle.mm_step.specs.Moves.{Move, name}
+use Rattle.mm_step.specs.Steps.{IsProofNumber, IsNumberedMove}
+use Rattle.mm_step.specs.Proof.{MeetsHypotheses}
+use Rattle.mm_listing.specs.Halted.{HaltsProof}
 use Rattle.mm_check.specs.Mirror.Explaining.{AskedSoFar}
 use Rattle.mm_check.proofs.details.push_asked.Given as goal
 

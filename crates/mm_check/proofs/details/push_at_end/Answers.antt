@@ -1,7 +1,7 @@
 -- What is stated has the numbers of the statement's symbols, and one entry is left.
 use Rattle.std.proofs.lemmas.Result.{on_ok_weaker}
 use Rattle.mm_frame.specs.Numbers.{symbols_of}
-use Rattle.mm_proof.specs.Stores.{numbers_in}
+use Rattle.mm_step.specs.Stores.{numbers_in}
 use Rattle.mm_frame.proofs.Names.LabelNumbers.{numbered_get}
 use Rattle.mm_check.proofs.Numbers.{numbers_within}
 use Rattle.mm_check.proofs.HaltDetails.{entry_within, end_told, end_other, adds_as}

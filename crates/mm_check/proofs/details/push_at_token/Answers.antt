@@ -1,7 +1,7 @@
 -- The token is told where the rule is one of labels or of letters.
 use Rattle.std.proofs.Common.{[], ◌∷◌, refl, sym, subst, take}
 use Rattle.std.proofs.lemmas.Result.{on_ok_weaker}
-use Rattle.mm_proof.specs.declared.fault.ProofRule.{ProofRule}
+use Rattle.mm_step.specs.declared.fault.ProofRule.{ProofRule}
 use Rattle.mm_check.specs.Explained.{token_at_fault, AreTokenDetails}
 use Rattle.mm_check.proofs.HaltDetails.{one_told}
 use Rattle.mm_check.proofs.details.push_at_token.Goals as goal

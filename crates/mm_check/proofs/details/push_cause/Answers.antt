@@ -2,8 +2,8 @@
 use Rattle.std.proofs.Common.{Some, ◌++◌, take, inl, inr, refl, subst}
 use Rattle.std.proofs.lemmas.Result.{on_ok_weaker}
 use Rattle.mm_proof.specs.Tokens.{is_incomplete}
-use Rattle.mm_proof.specs.declared.profile.Profile.{Profile}
-use Rattle.mm_proof.specs.Profiles.{limit_of}
+use Rattle.mm_step.specs.declared.profile.Profile.{Profile}
+use Rattle.mm_step.specs.Profiles.{limit_of}
 use Rattle.mm_check.specs.Explained.{AreWholeDetails}
 use Rattle.mm_check.proofs.LackingDetails.{both_told}
 use Rattle.mm_check.proofs.TokenHalts.{tokens_halt, token_caused, moves_caused, halt_caused}

@@ -1,8 +1,8 @@
 -- The text so far is that of the entries so far, however the moves stop.
 use Rattle.std.proofs.Common.{◌≡◌, ◌++◌, List, ℕ, Bool, take}
 use Rattle.mm_frame.specs.Sentence.{Sentence}
-use Rattle.mm_proof.specs.Moves.{Move}
-use Rattle.mm_proof.specs.Halted.{HaltsProof}
+use Rattle.mm_step.specs.Moves.{Move}
+use Rattle.mm_listing.specs.Halted.{HaltsProof}
 use Rattle.mm_check.specs.Explained.{details_text, entries_given}
 use Rattle.mm_check.proofs.details.push_entries.Given as goal
 

@@ -1,8 +1,8 @@
 -- What stands where the moves stop tells which of them are left.
 use Rattle.std.proofs.Common.{[], ◌∷◌, ◌++◌, ◌+◌, ◌≡◌, refl, sym, subst, ◌∙◌, ap, List, ℕ, append-nil, arith, take, length, vec_len, rules, ◌-◌}
 use Rattle.std.proofs.lemmas.Result.{on_ok_weaker}
-use Rattle.mm_proof.specs.Moves.{Move}
-use Rattle.mm_proof.specs.Profiles.{limit_of}
+use Rattle.mm_step.specs.Moves.{Move}
+use Rattle.mm_step.specs.Profiles.{limit_of}
 use Rattle.mm_check.specs.Explained.{AreHaltDetails, mark_asked, detail_text}
 use Rattle.mm_check.proofs.HaltDetails.{none_left, tag_left, mark_left, kept_count, one_told}
 use Rattle.mm_check.proofs.details.push_halt.Goals as goal

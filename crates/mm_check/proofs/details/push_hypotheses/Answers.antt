@@ -2,8 +2,8 @@
 use Rattle.std.proofs.Common.{ap, ◌∙◌, arith, ◌++◌}
 use Rattle.std.proofs.lemmas.List.{take_all}
 use Rattle.mm_frame.specs.Numbers.{symbols_of}
-use Rattle.mm_proof.specs.Stores.{numbers_in}
-use Rattle.mm_proof.proofs.ByNumbers.NumberedSymbols.{as_many}
+use Rattle.mm_step.specs.Stores.{numbers_in}
+use Rattle.mm_step.proofs.ByNumbers.NumberedSymbols.{as_many}
 use Rattle.mm_check.specs.Explained.{details_text, hypotheses_stated}
 use Rattle.mm_check.proofs.Numbers.{numbers_within}
 use Rattle.mm_check.proofs.HaltDetails.{hypothesis_there, hypothesis_told}

@@ -1,7 +1,7 @@
 -- The text so far is that of the hypotheses so far, whatever they state.
 use Rattle.std.proofs.Common.{◌≡◌, ◌++◌, List, take, map}
 use Rattle.mm_frame.specs.Sentence.{Sentence}
-use Rattle.mm_proof.specs.Mirror.CodeVerify.{AreHypothesesOf}
+use Rattle.mm_step.specs.Mirror.CodeVerify.{AreHypothesesOf}
 use Rattle.mm_check.specs.Explained.{details_text, hypotheses_stated}
 use Rattle.mm_check.proofs.details.push_hypotheses.Given as goal
 

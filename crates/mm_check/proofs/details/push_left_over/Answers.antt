@@ -4,11 +4,11 @@ use Rattle.std.proofs.lemmas.Result.{on_ok_weaker}
 use Rattle.mm_code.specs.Layout.{texts}
 use Rattle.mm_frame.specs.Numbers.{symbols_of}
 use Rattle.mm_frame.proofs.Rules.ObeyedRules.{allformed_prefix, allmeant_prefix}
-use Rattle.mm_proof.specs.Profiles.{limit_of}
+use Rattle.mm_step.specs.Profiles.{limit_of}
 use Rattle.mm_check.specs.Explained.{entries_given, hypothesis_stated}
 use Rattle.mm_check.proofs.HaltDetails.{left_told}
 use Rattle.mm_frame.proofs.Names.LabelNumbers.{numbered_get}
-use Rattle.mm_proof.specs.Stores.{numbers_in}
+use Rattle.mm_step.specs.Stores.{numbers_in}
 use Rattle.mm_proof.specs.Tokens.{is_incomplete}
 use Rattle.mm_check.proofs.Numbers.{numbers_within}
 use Rattle.mm_check.proofs.TokenHalts.{allowed_whole, found_halt, found_none, tokens_halt}

@@ -1,6 +1,6 @@
 -- The text so far is that of the pairs so far, whatever their names are.
 use Rattle.std.proofs.Common.{◌≡◌, ◌++◌, List, take}
-use Rattle.mm_proof.specs.Substitution.{Symbol}
+use Rattle.mm_step.specs.Substitution.{Symbol}
 use Rattle.mm_check.specs.Explained.{details_text, pairs_lacking}
 use Rattle.mm_check.specs.Mirror.Explaining.{AreNamedPairs}
 use Rattle.mm_check.proofs.details.push_pairs.Given as goal

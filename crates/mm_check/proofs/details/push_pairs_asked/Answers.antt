@@ -3,8 +3,8 @@ use Rattle.std.proofs.Common.{◌≡◌, ◌+◌, ◌-◌, ℕ, length, take, ar
 use Rattle.std.specs.List.{AllZip}
 use Rattle.std.proofs.lemmas.Result.{on_ok_weaker}
 use Rattle.mm_frame.specs.Numbers.{AreNumbers}
-use Rattle.mm_proof.specs.Stores.{entries_in}
-use Rattle.mm_proof.proofs.ByNumbers.AskedExpressions.{assertion_number}
+use Rattle.mm_step.specs.Stores.{entries_in}
+use Rattle.mm_proof.proofs.ProofNumbers.NamedAssertions.{assertion_number}
 use Rattle.mm_check.specs.Mirror.Explaining.{named_pairs, IsPairWithin}
 use Rattle.std.specs.List.{flat_map}
 use Rattle.mm_check.proofs.HaltDetails.{step_left}

@@ -1,8 +1,8 @@
 -- Behind the label the facts of the rule are told.
 use Rattle.std.proofs.Common.{[], ◌∷◌, ◌++◌, refl, sym, subst, ◌∙◌, ap, ℕ, append-nil, take}
 use Rattle.std.proofs.lemmas.Result.{on_ok_weaker}
-use Rattle.mm_proof.specs.declared.fault.ProofRule.{ProofRule}
-use Rattle.mm_proof.specs.Profiles.{limit_of}
+use Rattle.mm_step.specs.declared.fault.ProofRule.{ProofRule}
+use Rattle.mm_step.specs.Profiles.{limit_of}
 use Rattle.mm_check.specs.Explained.{most_symbols, detail_text, AreStepDetails}
 use Rattle.mm_check.specs.Mirror.Explaining.{AddsAtHalt, StepFacts, ApartFacts}
 use Rattle.mm_check.proofs.HaltDetails.{step_left, step_other, one_told}

@@ -2,9 +2,9 @@
 use Rattle.std.proofs.Common.{◌∷◌, ◌++◌, ◌≡◌, refl, sym, subst, ◌∙◌, ap, take, length, map, vec_len, rules}
 use Rattle.std.proofs.lemmas.Result.{on_ok_weaker}
 use Rattle.mm_frame.specs.FrameIndex.{FrameIndex, AreHypotheses}
-use Rattle.mm_proof.specs.declared.fault.ProofRule.TheVariants.{P8}
-use Rattle.mm_proof.proofs.ByNumbers.AskedExpressions.{assertion_number}
-use Rattle.mm_proof.proofs.ByNumbers.NumberedSymbols.{as_many}
+use Rattle.mm_step.specs.declared.fault.ProofRule.TheVariants.{P8}
+use Rattle.mm_proof.proofs.ProofNumbers.NamedAssertions.{assertion_number}
+use Rattle.mm_step.proofs.ByNumbers.NumberedSymbols.{as_many}
 use Rattle.mm_check.specs.Explained.{entry_counts, hypotheses_stated, entries_given}
 use Rattle.mm_check.proofs.HaltDetails.{step_left, broken_step, frame_names, too_few}
 use Rattle.mm_check.proofs.details.push_too_few.Goals as goal

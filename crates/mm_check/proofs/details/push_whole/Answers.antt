@@ -2,8 +2,8 @@
 use Rattle.std.proofs.Common.{refl, sym, subst, take, List}
 use Rattle.std.proofs.lemmas.Result.{on_ok_weaker}
 use Rattle.mm_frame.specs.declared.number.Sym.{Sym}
-use Rattle.mm_proof.specs.declared.fault.ProofRule.{ProofRule}
-use Rattle.mm_proof.specs.Profiles.{limit_of}
+use Rattle.mm_step.specs.declared.fault.ProofRule.{ProofRule}
+use Rattle.mm_step.specs.Profiles.{limit_of}
 use Rattle.mm_check.specs.Explained.{AreWholeDetails, pairs_lacking}
 use Rattle.mm_check.specs.Mirror.Explaining.{AreNamedPairs}
 use Rattle.mm_check.proofs.details.push_whole.Goals as goal

@@ -2,12 +2,12 @@
 use Rattle.std.proofs.Common.{inl, take, List, ℕ, map, subst, arith}
 use Rattle.std.proofs.lemmas.List.{length-map}
 use Rattle.mm_text.specs.Token.{plain_token}
-use Rattle.mm_proof.specs.WholePlaces.{IsWholePlace}
+use Rattle.mm_places.specs.WholePlaces.{IsWholePlace}
 use Rattle.mm_check.specs.Explained.{judged_tokens}
 use Rattle.mm_code.specs.Layout.{texts}
 use Rattle.mm_code.specs.Words.{texts_of}
 use Rattle.mm_proof.specs.Tokens.{is_incomplete}
-use Rattle.mm_proof.specs.Profiles.{limit_of}
+use Rattle.mm_step.specs.Profiles.{limit_of}
 use Rattle.mm_check.proofs.TokenHalts.{token_caused, halt_caused, stops_in}
 use Rattle.mm_check.proofs.FaultPlaces.{place_caused, token_fits}
 use Rattle.mm_check.proofs.fault_places.place_among.Goals as goal

@@ -4,8 +4,8 @@ use Rattle.std.proofs.lemmas.List.{length-map}
 use Rattle.mm_code.specs.Layout.{texts}
 use Rattle.mm_code.specs.Words.{texts_of}
 use Rattle.mm_text.specs.Token.{PlainToken, plain_token}
-use Rattle.mm_proof.specs.Moves.{Move}
-use Rattle.mm_proof.specs.Places.{IsMovePlace}
+use Rattle.mm_step.specs.Moves.{Move}
+use Rattle.mm_places.specs.Places.{IsMovePlace}
 use Rattle.mm_check.specs.Why.{IsStopPlace}
 use Rattle.mm_check.proofs.HaltDetails.{none_left}
 use Rattle.mm_check.proofs.FaultPlaces.{place_fits, some_said, stop_at_move, never_none}

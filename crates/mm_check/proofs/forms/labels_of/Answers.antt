@@ -1,9 +1,9 @@
 -- What is given is within the most labels, and what is refused is over them.
 use Rattle.std.proofs.Common.{◌≡◌, ◌⊎◌, [], ◌∷◌, ◌++◌, Result, Err, length, inl, inr, refl}
 use Rattle.mm_text.proofs.Lists.{error_keeps}
-use Rattle.mm_proof.specs.Tree.{spelling}
-use Rattle.mm_proof.specs.declared.fault.ExpandFault.{ExpandFault}
-use Rattle.mm_proof.specs.declared.fault.ExpandFault.TheVariants as expand
+use Rattle.mm_step.specs.Tree.{spelling}
+use Rattle.mm_step.specs.declared.fault.ExpandFault.{ExpandFault}
+use Rattle.mm_step.specs.declared.fault.ExpandFault.TheVariants as expand
 use Rattle.mm_check.specs.declared.ask.AskFault.TheVariants.{Rule, Memory}
 use Rattle.mm_check.specs.declared.rule.AskRule.TheVariants.{L2}
 use Rattle.mm_check.specs.Forms.{expand_fault, most_labels}

@@ -1,7 +1,7 @@
 -- The names so far are the labels so far.
 use Rattle.std.proofs.Common.{◌≡◌, ℕ, List, take}
 use Rattle.mm_code.specs.Layout.{texts}
-use Rattle.mm_proof.specs.Spelled.{AreLabelsOf}
+use Rattle.mm_forms.specs.Spelled.{AreLabelsOf}
 use Rattle.mm_check.proofs.forms.names_of.Given as goal
 
 abbrev pub invariant-loop-id : goal.invariant-loop-id

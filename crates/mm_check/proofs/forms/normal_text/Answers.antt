@@ -2,8 +2,8 @@
 use Rattle.std.proofs.Common.{◌≡◌, ℕ, List, [], ◌∷◌, ◌++◌, sym, ap, subst, ◌∙◌}
 use Rattle.mm_frame.specs.declared.number.LabelId.{LabelId}
 use Rattle.mm_code.specs.Layout.{texts, LaidOut}
-use Rattle.mm_proof.specs.Tree.{spelling}
-use Rattle.mm_proof.specs.Spelled.{AreLabelsOf}
+use Rattle.mm_step.specs.Tree.{spelling}
+use Rattle.mm_forms.specs.Spelled.{AreLabelsOf}
 use Rattle.mm_check.proofs.forms.normal_text.Goals as goal
 
 pub returns-clause-text : goal.returns-clause-text

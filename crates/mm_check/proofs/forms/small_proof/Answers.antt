@@ -4,7 +4,7 @@ use Rattle.mm_frame.specs.declared.number.LabelId.{LabelId}
 use Rattle.mm_code.specs.declared.code.Code.{Code}
 use Rattle.mm_code.specs.Letters.{SpellsCodes, Letters}
 use Rattle.mm_code.specs.Layout.{texts}
-use Rattle.mm_proof.specs.Spelled.{AreLabelsOf}
+use Rattle.mm_forms.specs.Spelled.{AreLabelsOf}
 use Rattle.mm_check.proofs.Questions.AskedTheorems.{steps_make}
 use Rattle.mm_check.proofs.forms.small_proof.Goals as goal
 

@@ -1,6 +1,6 @@
 -- What is put is that of the form.
 use Rattle.std.proofs.Common.{ℕ, List, ◌∷◌, take, ap, subst, ◌∙◌}
-use Rattle.mm_proof.specs.Tree.{none, tree}
+use Rattle.mm_step.specs.Tree.{none, tree}
 use Rattle.mm_check.specs.Forms.{IsSmallBehind}
 use Rattle.mm_check.proofs.forms.span_text.Goals as goal
 

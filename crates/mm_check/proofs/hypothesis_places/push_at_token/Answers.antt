@@ -2,7 +2,7 @@
 use Rattle.std.proofs.Common.{[], List, map, sym, subst, append-nil}
 use Rattle.std.proofs.lemmas.Result.{on_ok_weaker}
 use Rattle.mm_text.specs.Files.{PlainFile, plain_file}
-use Rattle.mm_proof.specs.declared.fault.ProofRule.{ProofRule}
+use Rattle.mm_step.specs.declared.fault.ProofRule.{ProofRule}
 use Rattle.mm_check.specs.HypothesisPlaces.{AreTokenPlaces}
 use Rattle.mm_check.proofs.HypothesisScopes.{other_places}
 use Rattle.mm_check.proofs.hypothesis_places.push_at_token.Goals as goal

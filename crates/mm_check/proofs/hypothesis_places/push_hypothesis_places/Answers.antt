@@ -2,7 +2,7 @@
 use Rattle.std.proofs.Common.{List, inl, inr, subst}
 use Rattle.std.proofs.lemmas.Result.{on_ok_weaker}
 use Rattle.mm_frame.specs.Sentence.{Sentence, sentence_of}
-use Rattle.mm_proof.specs.WholePlaces.{IsWholePlace}
+use Rattle.mm_places.specs.WholePlaces.{IsWholePlace}
 use Rattle.mm_check.specs.Explained.{judged_tokens}
 use Rattle.mm_check.specs.Verdict.{proof_of}
 use Rattle.mm_check.proofs.OwnHypotheses.{placed_prefix}

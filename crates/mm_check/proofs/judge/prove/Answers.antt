@@ -2,7 +2,7 @@
 use Rattle.std.proofs.Common.{◌≡◌, ◌++◌, ◌∷◌, [], List, refl, subst, ap, ◌∙◌}
 use Rattle.mm_text.specs.Statement.{PlainStatement, plain_statement}
 use Rattle.mm_frame.specs.Sentence.{Sentence, sentence_of}
-use Rattle.mm_proof.specs.declared.fault.ProofFault.TheVariants.{Rule}
+use Rattle.mm_step.specs.declared.fault.ProofFault.TheVariants.{Rule}
 use Rattle.mm_check.specs.declared.rule.Rule.TheVariants as rules
 use Rattle.mm_check.proofs.Verdicts.JudgedProofs.{same_refusal}
 use Rattle.mm_check.specs.Mirror.Judged.{Fails}

@@ -4,7 +4,7 @@ use Rattle.mm_code.specs.Layout.{texts}
 use Rattle.mm_text.specs.Files.{plain_file, PlainFile}
 use Rattle.mm_text.specs.Statement.{plain_statement, PlainStatement}
 use Rattle.mm_frame.specs.Sentence.{Sentence, sentence_of}
-use Rattle.mm_proof.specs.declared.profile.Profile.TheVariants.{Lenient}
+use Rattle.mm_step.specs.declared.profile.Profile.TheVariants.{Lenient}
 use Rattle.mm_check.specs.declared.rule.Rule.TheVariants as rules
 use Rattle.mm_check.specs.Alone.{AreStepsBefore}
 use Rattle.mm_check.specs.Answer.{plain_refusal}

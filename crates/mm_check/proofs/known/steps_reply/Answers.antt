@@ -6,8 +6,8 @@ use Rattle.std.proofs.lemmas.Result.{IfOk-weaker}
 use Rattle.mm_code.specs.Layout.{texts}
 use Rattle.mm_text.specs.Files.{plain_file}
 use Rattle.mm_frame.specs.Sentence.{Sentence}
-use Rattle.mm_proof.specs.declared.lines.Line.{Line}
-use Rattle.mm_proof.specs.Listing.{TellsStep}
+use Rattle.mm_listing.specs.declared.lines.Line.{Line}
+use Rattle.mm_listing.specs.Listing.{TellsStep}
 use Rattle.mm_check.specs.Mirror.Reached.{AreTried}
 use Rattle.mm_proof.specs.declared.prover.Proved.TheVariants.{Complete}
 use Rattle.mm_check.specs.Reply.{IsKnownPrefix}

@@ -2,7 +2,7 @@
 use Rattle.std.proofs.Common.{List, ◌∙◌, map, take_all, subst, arith}
 use Rattle.mm_text.specs.Files.{PlainFile, plain_file}
 use Rattle.mm_frame.specs.Sentence.{Sentence}
-use Rattle.mm_proof.proofs.ByNumbers.NumberedSymbols.{as_many}
+use Rattle.mm_step.proofs.ByNumbers.NumberedSymbols.{as_many}
 use Rattle.mm_check.specs.Mirror.Standing.{AddsEach}
 use Rattle.mm_check.specs.Verdict.{sentences}
 use Rattle.mm_check.proofs.OwnHypotheses.{told_at, first_within, one_told, put_there}

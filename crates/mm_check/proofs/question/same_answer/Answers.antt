@@ -1,7 +1,7 @@
 -- The proofs are compared, or the fault is that of the statements or of the text.
 use Rattle.std.proofs.Common.{inl, inr, subst}
 use Rattle.std.proofs.lemmas.Result.{IfOk-weaker}
-use Rattle.mm_proof.specs.declared.profile.Profile.{Profile}
+use Rattle.mm_step.specs.declared.profile.Profile.{Profile}
 use Rattle.mm_check.specs.Compared.{IsCompared}
 use Rattle.mm_check.proofs.question.same_answer.Goals as goal
 

@@ -2,7 +2,7 @@
 use Rattle.std.proofs.Common.{◌≡◌, ◌≤◌, ◌+◌, ◌/◌, ℕ, List, map, length, sym, ap, subst, ◌∙◌, arith}
 use Rattle.std.proofs.lemmas.List.{length-map}
 use Rattle.mm_frame.specs.declared.number.LabelId.{LabelId}
-use Rattle.mm_proof.specs.Plain.{ids_in}
+use Rattle.mm_step.specs.Plain.{ids_in}
 use Rattle.mm_text.proofs.Lists.{get_within}
 use Rattle.mm_check.specs.Conclusion.{ProofUses}
 use Rattle.mm_check.proofs.Questions.SettledTheorems.{rows_start, rows_more, rows_ended, reaches_as}

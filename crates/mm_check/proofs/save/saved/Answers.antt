@@ -2,7 +2,7 @@
 use Rattle.std.proofs.Common.{List, None, sym, subst}
 use Rattle.mm_text.specs.Files.{PlainFile}
 use Rattle.mm_text.specs.Reading.{Reads}
-use Rattle.mm_proof.specs.declared.profile.Profile.TheVariants.{Lenient}
+use Rattle.mm_step.specs.declared.profile.Profile.TheVariants.{Lenient}
 use Rattle.mm_check.specs.Saved.{IsSaved, FitsSaved, IsSaveFault}
 use Rattle.mm_check.proofs.Saving.SavedFiles.{accepted_of}
 use Rattle.mm_check.proofs.save.saved.Goals as goal

@@ -6,7 +6,7 @@ use Rattle.mm_frame.specs.Numbers.{labelled_sentences}
 use Rattle.mm_frame.specs.declared.number.LabelId.{LabelId}
 use Rattle.mm_frame.proofs.Names.NameNumbers.{get_mapped}
 use Rattle.mm_text.proofs.Lists.{all_at}
-use Rattle.mm_proof.specs.Plain.{ids_in}
+use Rattle.mm_step.specs.Plain.{ids_in}
 use Rattle.mm_check.specs.Mirror.Shortening.{HaveOneCode}
 use Rattle.mm_check.proofs.Questions.LoneUses.{IsOneSoFar, one_first, one_passed, one_second, one_all}
 use Rattle.mm_check.proofs.shortening.is_by_one_alone.Goals as goal

@@ -3,8 +3,8 @@ use Rattle.std.proofs.Common.{◌≡◌, ℕ, List, map, inr, refl, length, ap, 
 use Rattle.std.proofs.lemmas.List.{length-map}
 use Rattle.std.proofs.lemmas.Result.{IfOk-weaker}
 use Rattle.mm_text.specs.Files.{PlainFile, plain_file}
-use Rattle.mm_proof.specs.declared.profile.Profile.{Profile}
-use Rattle.mm_proof.specs.declared.profile.Profile.TheVariants.{Lenient}
+use Rattle.mm_step.specs.declared.profile.Profile.{Profile}
+use Rattle.mm_step.specs.declared.profile.Profile.TheVariants.{Lenient}
 use Rattle.mm_check.specs.AllShorter.{IsAllShortened, IsAllShorterFault}
 use Rattle.mm_check.specs.Conclusion.{Conclusion}
 use Rattle.mm_check.specs.Answer.{KeepsFiles}

@@ -1,8 +1,8 @@
 -- The lines tell the steps of the listing.
 use Rattle.std.proofs.Common.{List, subst, sym}
 use Rattle.std.specs.List.{AllZip}
-use Rattle.mm_proof.specs.declared.lines.Line.{Line}
-use Rattle.mm_proof.specs.Listing.{TellsStep}
+use Rattle.mm_listing.specs.declared.lines.Line.{Line}
+use Rattle.mm_listing.specs.Listing.{TellsStep}
 use Rattle.mm_check.proofs.shown.listing_text.Goals as goal
 
 pub text_of-requires : goal.text_of-requires

@@ -1,7 +1,7 @@
 -- The text so far is that of the symbols so far.
 use Rattle.std.proofs.Common.{◌≡◌, ◌++◌, take}
 use Rattle.mm_frame.specs.Numbers.{symbols_of}
-use Rattle.mm_proof.specs.Stores.{numbers_in}
+use Rattle.mm_step.specs.Stores.{numbers_in}
 use Rattle.mm_check.specs.Answer.{labels_at}
 use Rattle.mm_check.specs.Shown.{symbols_text}
 use Rattle.mm_check.proofs.shown.push_symbols.Given as goal

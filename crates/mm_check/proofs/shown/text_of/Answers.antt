@@ -2,8 +2,8 @@
 use Rattle.std.proofs.Common.{◌≡◌, ℕ, ◌+◌, ◌≤◌, List, ◌++◌, length, sym, ap, subst, ◌∙◌, arith}
 use Rattle.std.proofs.lemmas.List.{take_all}
 use Rattle.mm_frame.specs.Sentence.{Sentence}
-use Rattle.mm_proof.specs.declared.lines.Line.{Line}
-use Rattle.mm_proof.specs.Listing.{ListedStep, TellsStep}
+use Rattle.mm_listing.specs.declared.lines.Line.{Line}
+use Rattle.mm_listing.specs.Listing.{ListedStep, TellsStep}
 use Rattle.mm_check.specs.Shown.{step_text, steps_text}
 use Rattle.mm_check.proofs.Questions.ShownSteps.{told_at, as_many, one_more_line}
 use Rattle.mm_check.proofs.shown.text_of.Goals as goal

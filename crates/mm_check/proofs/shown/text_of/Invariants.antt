@@ -1,7 +1,7 @@
 -- The text so far is that of the steps so far, whatever steps the lines tell.
 use Rattle.std.proofs.Common.{◌≡◌, List, take}
 use Rattle.std.specs.List.{AllZip}
-use Rattle.mm_proof.specs.Listing.{ListedStep, TellsStep}
+use Rattle.mm_listing.specs.Listing.{ListedStep, TellsStep}
 use Rattle.mm_check.specs.Shown.{steps_text}
 use Rattle.mm_check.proofs.shown.text_of.Given as goal
 

@@ -6,10 +6,10 @@ use Rattle.std.proofs.lemmas.List.{take_all, length-map}
 use Rattle.std.proofs.lemmas.Option.{slice_get_read, slice_get-get_or}
 use Rattle.mm_text.proofs.Lists.{get_within, zip_left}
 use Rattle.mm_frame.specs.Sentence.{Sentence}
-use Rattle.mm_proof.specs.declared.lines.Line.{Line}
-use Rattle.mm_proof.specs.Listing.{ListedStep, TellsStep}
-use Rattle.mm_proof.specs.Uses.{rows_of}
-use Rattle.mm_proof.proofs.Machines.ReachedSteps.{row_there}
+use Rattle.mm_listing.specs.declared.lines.Line.{Line}
+use Rattle.mm_listing.specs.Listing.{ListedStep, TellsStep}
+use Rattle.mm_listing.specs.Uses.{rows_of}
+use Rattle.mm_listing.proofs.Machines.ReachedSteps.{row_there}
 use Rattle.mm_check.specs.ShownUses.{used_step_text, used_steps_text}
 use Rattle.mm_check.proofs.Questions.ShownSteps.{told_at, as_many}
 use Rattle.mm_check.proofs.Questions.ShownUses.{one_more_told}

@@ -1,8 +1,8 @@
 -- The text so far is that of the steps so far, whatever steps the lines tell.
 use Rattle.std.proofs.Common.{◌≡◌, List, take}
 use Rattle.std.specs.List.{AllZip}
-use Rattle.mm_proof.specs.Listing.{ListedStep, TellsStep}
-use Rattle.mm_proof.specs.Uses.{rows_of}
+use Rattle.mm_listing.specs.Listing.{ListedStep, TellsStep}
+use Rattle.mm_listing.specs.Uses.{rows_of}
 use Rattle.mm_check.specs.ShownUses.{used_steps_text}
 use Rattle.mm_check.proofs.shown_uses.text_of.Given as goal
 

@@ -2,9 +2,9 @@
 use Rattle.std.proofs.Common.{◌≡◌, List, length, sym, subst, ap, arith}
 use Rattle.std.specs.List.{AllZip}
 use Rattle.std.proofs.lemmas.List.{length-map}
-use Rattle.mm_proof.specs.declared.lines.Line.{Line}
-use Rattle.mm_proof.specs.Listing.{TellsStep}
-use Rattle.mm_proof.specs.Uses.{rows_of}
+use Rattle.mm_listing.specs.declared.lines.Line.{Line}
+use Rattle.mm_listing.specs.Listing.{TellsStep}
+use Rattle.mm_listing.specs.Uses.{rows_of}
 use Rattle.mm_check.proofs.Questions.ShownSteps.{as_many}
 use Rattle.mm_check.proofs.Questions.ShownUses.{told_long}
 use Rattle.mm_check.proofs.shown_uses.uses_text.Goals as goal

@@ -1,7 +1,7 @@
 -- The symbols are those of the `$d`.
 use Rattle.mm_text.proofs.Lists.{get_within}
 use Rattle.mm_frame.specs.Numbers.{symbols_of}
-use Rattle.mm_proof.specs.Stores.{numbers_in}
+use Rattle.mm_step.specs.Stores.{numbers_in}
 use Rattle.mm_check.proofs.Numbers.{numbers_within}
 use Rattle.mm_check.proofs.Questions.ToldStatements.{further_told}
 use Rattle.mm_check.proofs.stated.push_further.Goals as goal

@@ -3,7 +3,7 @@ use Rattle.std.proofs.Common.{ap, sym, ◌∙◌}
 use Rattle.mm_text.specs.Statement.{keyword_of}
 use Rattle.mm_text.proofs.Lists.{get_within}
 use Rattle.mm_frame.specs.Numbers.{labelled_sentences, symbols_of}
-use Rattle.mm_proof.specs.Stores.{numbers_in}
+use Rattle.mm_step.specs.Stores.{numbers_in}
 use Rattle.mm_check.proofs.Numbers.{numbers_within}
 use Rattle.mm_check.proofs.Questions.ToldStatements.{statement_told}
 use Rattle.mm_check.proofs.stated.push_statement.Goals as goal

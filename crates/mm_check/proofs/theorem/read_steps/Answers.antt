@@ -1,6 +1,6 @@
 -- The proof breaks no rule over the whole of it.
 use Rattle.std.proofs.Common.{Err, ap, ◌∙◌}
-use Rattle.mm_proof.specs.Plain.{token_texts}
+use Rattle.mm_step.specs.Plain.{token_texts}
 use Rattle.mm_check.proofs.Questions.AskedTheorems.{no_text_fault}
 use Rattle.mm_check.proofs.Verdicts.JudgedProofs.{texts_of}
 use Rattle.mm_check.proofs.theorem.read_steps.Goals as goal

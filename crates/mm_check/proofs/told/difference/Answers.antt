@@ -1,6 +1,6 @@
 -- The first symbols are the same; where one ends and the other doesn't, they differ.
 use Rattle.std.proofs.Common.{◌≡◌, ◌<◌, ◌≤◌, length, arith}
-use Rattle.mm_proof.specs.Stores.{numbers_in}
+use Rattle.mm_step.specs.Stores.{numbers_in}
 use Rattle.mm_check.proofs.DetailTexts.{one_same, count_numbers, all_same, where_apart}
 use Rattle.mm_check.proofs.told.difference.Goals as goal
 

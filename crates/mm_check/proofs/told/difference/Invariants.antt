@@ -1,6 +1,6 @@
 -- The symbols so far are the same.
 use Rattle.std.proofs.Common.{◌≡◌, ◌<◌, ℕ, slice_get}
-use Rattle.mm_proof.specs.Stores.{numbers_in}
+use Rattle.mm_step.specs.Stores.{numbers_in}
 use Rattle.mm_check.proofs.told.difference.Given as goal
 
 abbrev pub invariant-loop-index : goal.invariant-loop-index

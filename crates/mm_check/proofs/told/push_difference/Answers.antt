@@ -2,7 +2,7 @@
 use Rattle.std.proofs.Common.{◌+◌, codes, decimal}
 use Rattle.std.proofs.lemmas.Result.{on_ok_weaker}
 use Rattle.mm_frame.specs.Numbers.{symbols_of}
-use Rattle.mm_proof.specs.Stores.{numbers_in}
+use Rattle.mm_step.specs.Stores.{numbers_in}
 use Rattle.mm_check.specs.Answer.{labels_at}
 use Rattle.mm_check.specs.Explained.{symbol_at}
 use Rattle.mm_check.proofs.DetailTexts.{three_groups}

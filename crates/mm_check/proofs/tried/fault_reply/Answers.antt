@@ -4,7 +4,7 @@ use Rattle.std.proofs.Common.{◌∷◌, ◌++◌, None, ap, subst, take, ◌∙
 use Rattle.mm_text.specs.Files.{PlainFile, plain_file}
 use Rattle.mm_code.specs.Layout.{texts}
 use Rattle.mm_frame.specs.Sentence.{Sentence}
-use Rattle.mm_proof.specs.declared.profile.Profile.TheVariants.{Lenient}
+use Rattle.mm_step.specs.declared.profile.Profile.TheVariants.{Lenient}
 use Rattle.mm_check.specs.declared.rule.Rule.TheVariants as rules
 use Rattle.mm_check.specs.Explained.{AreDetails, IsTokensFault, details_text}
 use Rattle.mm_check.specs.Why.{head_at}

@@ -1,9 +1,9 @@
 -- The labels of the list are judged by their numbers, and then the marks.
 use Rattle.std.proofs.Common.{ap}
-use Rattle.mm_proof.specs.Mirror.Sites.{ProofSite}
-use Rattle.mm_proof.specs.Plain.{ids_in, token_texts}
+use Rattle.mm_step.specs.Mirror.Sites.{ProofSite}
+use Rattle.mm_step.specs.Plain.{ids_in, token_texts}
 use Rattle.mm_proof.specs.Mirror.CodeSteps.{moves_of}
-use Rattle.mm_proof.proofs.Machines.JudgedMoves.{steps_made}
+use Rattle.mm_proof.proofs.ProofVerdicts.JudgedMoves.{steps_made}
 use Rattle.mm_proof.proofs.ProofVerdicts.StrictForm.{strict_all, loose_label, loose_mark}
 use Rattle.mm_proof.proofs.form.first_loose.Goals as goal
 

@@ -1,4 +1,4 @@
-use Rattle.mm_proof.specs.Plain.{ids_in}
+use Rattle.mm_step.specs.Plain.{ids_in}
 use Rattle.mm_proof.proofs.ProofVerdicts.StrictForm.{new_none, new_one, new_all, old_here}
 use Rattle.mm_proof.proofs.form.first_old.Goals as goal
 

@@ -1,4 +1,4 @@
-use Rattle.mm_proof.specs.Plain.{ids_in}
+use Rattle.mm_step.specs.Plain.{ids_in}
 use Rattle.mm_proof.proofs.ProofVerdicts.StrictForm.{NewSoFar}
 use Rattle.mm_proof.proofs.form.first_old.Given as goal
 

@@ -1,8 +1,8 @@
 use Rattle.std.proofs.Common.{ℕ, List, take, Contains, ◌↔◌, refl, ap, subst, ◌∙◌}
 use Rattle.std.proofs.lemmas.List.{take_all}
 use Rattle.mm_frame.specs.declared.hypothesis.Hypothesis.{Hypothesis}
-use Rattle.mm_proof.specs.Plain.{label_ids}
-use Rattle.mm_proof.proofs.PackedProofs.PackingLoops.{one_more, label_ids-more}
+use Rattle.mm_step.specs.Plain.{label_ids}
+use Rattle.mm_proof.proofs.ProofNumbers.MoreLabels.{one_more, label_ids-more}
 use Rattle.mm_proof.proofs.ProofVerdicts.StrictForm.{set_more}
 use Rattle.mm_proof.proofs.form.hypothesis_set.Goals as goal
 

@@ -1,5 +1,5 @@
 use Rattle.std.proofs.Common.{ℕ, take, Contains, ◌↔◌}
-use Rattle.mm_proof.specs.Plain.{label_ids}
+use Rattle.mm_step.specs.Plain.{label_ids}
 use Rattle.mm_proof.proofs.form.hypothesis_set.Given as goal
 
 abbrev pub invariant-loop-hypothesis : goal.invariant-loop-hypothesis

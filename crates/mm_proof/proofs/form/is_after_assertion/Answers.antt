@@ -5,13 +5,13 @@ use Rattle.std.proofs.lemmas.Option.{none-some, slice_get_past}
 use Rattle.std.proofs.lemmas.List.{length-map}
 use Rattle.mm_text.proofs.Lists.{all_at}
 use Rattle.mm_frame.specs.declared.number.LabelId.{LabelId}
-use Rattle.mm_proof.specs.Moves.{name}
-use Rattle.mm_proof.specs.Plain.{ids_in}
+use Rattle.mm_step.specs.Moves.{name}
+use Rattle.mm_step.specs.Plain.{ids_in}
 use Rattle.mm_proof.specs.Mirror.CodeSteps.{code_move, moves_of}
-use Rattle.mm_proof.specs.Mirror.CodeRun.{MayBeMade}
+use Rattle.mm_step.specs.Mirror.CodeRun.{MayBeMade}
 use Rattle.mm_proof.proofs.ProofTokens.ProofCodes.{code_there, entry_moves}
 use Rattle.mm_proof.proofs.ProofVerdicts.StrictForm.{code_before}
-use Rattle.mm_proof.proofs.ByNumbers.UsedAssertions.{entry_at}
+use Rattle.mm_step.proofs.ByNumbers.CalledAssertions.{entry_at}
 use Rattle.mm_proof.proofs.form.is_after_assertion.Goals as goal
 use Rattle.mm_proof.proofs.form.is_after_assertion.Goals.{In-Some}
 

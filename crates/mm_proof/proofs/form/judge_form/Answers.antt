@@ -1,6 +1,6 @@
 -- What keeps the proof from the strict form breaks P15.
 use Rattle.std.proofs.Common.{take, refl}
-use Rattle.mm_proof.specs.Plain.{token_texts}
+use Rattle.mm_step.specs.Plain.{token_texts}
 use Rattle.mm_proof.proofs.ProofVerdicts.StrictForm.{never_strict}
 use Rattle.mm_proof.proofs.form.judge_form.Goals as goal
 

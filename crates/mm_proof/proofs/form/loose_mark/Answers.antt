@@ -1,5 +1,5 @@
 use Rattle.mm_code.specs.declared.code.Code.TheVariants.{Tag}
-use Rattle.mm_proof.specs.Plain.{ids_in}
+use Rattle.mm_step.specs.Plain.{ids_in}
 use Rattle.mm_proof.proofs.ProofVerdicts.StrictForm.{marks_more, marks_all}
 use Rattle.mm_proof.proofs.form.loose_mark.Goals as goal
 use Rattle.mm_proof.proofs.form.loose_mark.Goals.{in-Tag+else-not-is_after_assertion, in_default}

@@ -1,5 +1,5 @@
 use Rattle.std.proofs.Common.{◌≡◌, ℕ, ◌<◌, slice_get, Some}
-use Rattle.mm_proof.specs.Moves.{mark}
+use Rattle.mm_step.specs.Moves.{mark}
 use Rattle.mm_proof.specs.Mirror.CodeSteps.{moves_of}
 use Rattle.mm_proof.specs.Mirror.CodeForm.{IsAfterAssertion}
 use Rattle.mm_proof.proofs.form.loose_mark.Given as goal

@@ -1,6 +1,6 @@
 -- The hypotheses are seen first.
 use Rattle.std.proofs.lemmas.Result.{IfOk-weaker}
-use Rattle.mm_proof.specs.Plain.{ids_in, label_ids}
+use Rattle.mm_step.specs.Plain.{ids_in, label_ids}
 use Rattle.mm_proof.proofs.ProofVerdicts.StrictForm.{old_found}
 use Rattle.mm_proof.proofs.form.spare_label.Goals as goal
 

@@ -1,6 +1,6 @@
 use Rattle.std.proofs.lemmas.Bool.{false≢true}
 use Rattle.std.proofs.Common.{◌∷◌, [], refl, sym, ap, inr, ◌∙◌, arith}
-use Rattle.mm_proof.proofs.Machines.JudgedMoves.{only_entry, same_fault}
+use Rattle.mm_proof.proofs.ProofVerdicts.JudgedMoves.{only_entry, same_fault}
 use Rattle.mm_proof.proofs.judge.ending.Goals as goal
 
 pub returns-then-not-is_same-clause-fault : goal.returns-then-not-is_same-clause-fault

@@ -1,8 +1,8 @@
 use Rattle.std.proofs.Common.{refl}
 use Rattle.mm_text.proofs.Lists.{all_at}
 use Rattle.mm_proof.specs.Mirror.CodeSteps.{code_moves}
-use Rattle.mm_proof.specs.Mirror.CodeRun.{MayBeMade}
-use Rattle.mm_proof.proofs.Machines.JudgedMoves.{refused, judged_none, stopped_fault}
+use Rattle.mm_step.specs.Mirror.CodeRun.{MayBeMade}
+use Rattle.mm_proof.proofs.ProofVerdicts.JudgedMoves.{refused, judged_none, stopped_fault}
 use Rattle.mm_proof.proofs.judge.run_codes.Goals as goal
 
 pub run-requires-clause-begun : goal.run-requires-clause-begun

@@ -1,10 +1,10 @@
 use Rattle.std.proofs.Common.{◌≡◌, ◌<◌, ℕ, Some, slice_get, get_or, length, arith}
 use Rattle.std.proofs.lemmas.Option.{slice_get_within}
 use Rattle.std.proofs.lemmas.Result.{on_ok_weaker}
-use Rattle.mm_proof.specs.Plain.{ids_in}
-use Rattle.mm_proof.specs.Mirror.CodeApply.{IsCallOf}
-use Rattle.mm_proof.proofs.ProofTokens.ProofCodes.{call_within, call_there}
-use Rattle.mm_proof.proofs.ByNumbers.UsedAssertions.{marked_more}
+use Rattle.mm_step.specs.Plain.{ids_in}
+use Rattle.mm_step.specs.Mirror.CodeApply.{IsCallOf}
+use Rattle.mm_step.proofs.ByNumbers.NumberedEntries.{call_within, call_there}
+use Rattle.mm_proof.proofs.ProofNumbers.UsedAssertions.{marked_more}
 use Rattle.mm_proof.proofs.judge.step_entry.Given.{Over}
 use Rattle.mm_proof.proofs.judge.step_entry.Goals as goal
 use Rattle.mm_proof.proofs.judge.step_entry.Goals.{After-table, After-index-table-index}

@@ -1,5 +1,5 @@
 use Rattle.std.proofs.Common.{refl, subst, Bool}
-use Rattle.mm_proof.specs.Plain.{ids_in, token_texts}
+use Rattle.mm_step.specs.Plain.{ids_in, token_texts}
 use Rattle.mm_proof.proofs.ProofTokens.ProofLabels.{IdleOr, sofar_number, sofar_idle, sofar_all}
 use Rattle.mm_proof.proofs.ProofTokens.ProofLabels.{text_among}
 use Rattle.mm_proof.proofs.labels.fill_numbers.Goals as goal

@@ -1,5 +1,5 @@
 use Rattle.std.proofs.Common.{take}
-use Rattle.mm_proof.specs.Plain.{ids_in, token_texts}
+use Rattle.mm_step.specs.Plain.{ids_in, token_texts}
 use Rattle.mm_proof.proofs.ProofTokens.ProofLabels.{SoFar}
 use Rattle.mm_proof.proofs.labels.fill_numbers.Given as goal
 

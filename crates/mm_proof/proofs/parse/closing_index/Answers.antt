@@ -1,7 +1,7 @@
 use Rattle.std.proofs.Common.{◌≡◌, subst, Contains, refl, sym, ap, ◌∙◌, Some, take}
 use Rattle.std.proofs.lemmas.Bool.{false≢true}
 use Rattle.mm_proof.specs.Tokens.{closing_token}
-use Rattle.mm_proof.specs.Plain.{token_texts}
+use Rattle.mm_step.specs.Plain.{token_texts}
 use Rattle.mm_proof.proofs.ProofTokens.ProofLabels.{none_more, prefix_all, text_at}
 use Rattle.mm_proof.proofs.parse.closing_index.Goals as goal
 

@@ -2,8 +2,8 @@ use Rattle.std.proofs.Common.{map, ap, ◌∙◌}
 use Rattle.std.proofs.lemmas.List.{map-append, take_all}
 use Rattle.std.proofs.lemmas.List.Elements.{All-from_recursion}
 use Rattle.mm_code.specs.Letters.{HasSpelling}
-use Rattle.mm_proof.specs.Moves.{name}
-use Rattle.mm_proof.specs.Plain.{ids_in}
+use Rattle.mm_step.specs.Moves.{name}
+use Rattle.mm_step.specs.Plain.{ids_in}
 use Rattle.mm_proof.proofs.ProofTokens.ProofCodes.{entries_later, says_more, entries_say}
 use Rattle.mm_proof.proofs.ProofTokens.ProofCodes.{entries_spelled}
 use Rattle.mm_proof.proofs.parse.fill_distinct.Goals as goal

@@ -1,6 +1,6 @@
 use Rattle.std.proofs.Common.{take}
 use Rattle.std.specs.List.{AllZip}
-use Rattle.mm_proof.specs.Plain.{ids_in}
+use Rattle.mm_step.specs.Plain.{ids_in}
 use Rattle.mm_proof.proofs.ProofTokens.ProofCodes.{SaysEntry}
 use Rattle.mm_proof.proofs.parse.fill_distinct.Given as goal
 

@@ -1,5 +1,5 @@
 use Rattle.std.proofs.Common.{◌≡◌, take}
-use Rattle.mm_proof.specs.Plain.{ids_in, label_ids}
+use Rattle.mm_step.specs.Plain.{ids_in, label_ids}
 use Rattle.mm_proof.proofs.parse.fill_entries.Given as goal
 
 abbrev pub invariant-loop-hypothesis : goal.invariant-loop-hypothesis

@@ -1,5 +1,5 @@
 use Rattle.std.proofs.Common.{◌≡◌, take}
-use Rattle.mm_proof.specs.Plain.{token_texts}
+use Rattle.mm_step.specs.Plain.{token_texts}
 use Rattle.mm_code.specs.Layout.{texts}
 use Rattle.mm_proof.proofs.parse.fill_texts.Given as goal
 

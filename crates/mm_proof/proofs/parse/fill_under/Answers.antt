@@ -1,8 +1,8 @@
 use Rattle.std.proofs.Common.{inl, inr}
 use Rattle.std.proofs.lemmas.Result.{err_from_is_err_and, on_ok_weaker}
 use Rattle.mm_proof.proofs.ProofVerdicts.FirstFault.{on_rule_map, rules_map}
-use Rattle.mm_proof.proofs.ByNumbers.NumberedLabels.{reading_said, reading_usable}
-use Rattle.mm_proof.proofs.ByNumbers.NumberedLabels.{whole_fault_there}
+use Rattle.mm_proof.proofs.ProofNumbers.NumberedLabels.{reading_said, reading_usable}
+use Rattle.mm_proof.proofs.ProofNumbers.NumberedLabels.{whole_fault_there}
 use Rattle.mm_proof.proofs.parse.fill_under.Goals as goal
 
 pub returns-in_err-fill_steps-clause-fault : goal.returns-in_err-fill_steps-clause-fault

@@ -1,6 +1,6 @@
 use Rattle.std.proofs.Common.{◌≡◌, take, false}
 use Rattle.mm_proof.specs.Tokens.{is_incomplete}
-use Rattle.mm_proof.specs.Plain.{token_texts}
+use Rattle.mm_step.specs.Plain.{token_texts}
 use Rattle.mm_proof.proofs.parse.is_incomplete.Given as goal
 
 abbrev pub invariant-loop-token : goal.invariant-loop-token

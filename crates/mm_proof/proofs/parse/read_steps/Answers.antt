@@ -1,7 +1,7 @@
 -- The moves are those that the lists were filled with.
 use Rattle.std.proofs.Common.{arith}
 use Rattle.std.proofs.lemmas.Result.{err_from_is_err_and}
-use Rattle.mm_proof.specs.Plain.{token_texts}
+use Rattle.mm_step.specs.Plain.{token_texts}
 use Rattle.mm_proof.proofs.ProofTokens.CodeLetters.{codes_bytes}
 use Rattle.mm_proof.proofs.parse.read_steps.Goals as goal
 

@@ -3,7 +3,7 @@ use Rattle.std.proofs.lemmas.List.{length-map, get_or-map}
 use Rattle.std.proofs.lemmas.List.Sums.{position_or_len_is}
 use borrow.Author.Count.{below_more}
 use Rattle.mm_proof.specs.Tokens.{is_unknown}
-use Rattle.mm_proof.specs.Plain.{token_texts}
+use Rattle.mm_step.specs.Plain.{token_texts}
 use Rattle.mm_proof.proofs.prefix.known_count.Goals as goal
 
 pub returns-then-is_unknown-clause-first : goal.returns-then-is_unknown-clause-first

@@ -2,7 +2,7 @@ use Rattle.std.proofs.Common.{inl, take}
 use Rattle.std.proofs.lemmas.Result.{err_from_is_err_and, on_ok_weaker}
 use Rattle.mm_proof.specs.Proof.{IsMoveFault}
 use Rattle.mm_proof.proofs.ProofVerdicts.FirstFault.{on_rule_map, rules_map}
-use Rattle.mm_proof.proofs.ByNumbers.NumberedLabels.{tokens_pass, tokens_fail}
+use Rattle.mm_proof.proofs.ProofNumbers.NumberedLabels.{tokens_pass, tokens_fail}
 use Rattle.mm_proof.proofs.prover.pass_tokens.Goals as goal
 
 pub pass-requires-clause-steps : goal.pass-requires-clause-steps

@@ -2,7 +2,7 @@ use Rattle.std.proofs.Common.{inl, take}
 use Rattle.std.proofs.lemmas.Result.{err_from_is_err_and, on_ok_weaker}
 use Rattle.mm_proof.specs.Proof.{IsMovesFault}
 use Rattle.mm_proof.proofs.ProofVerdicts.FirstFault.{on_rule_map, rules_map}
-use Rattle.mm_proof.proofs.ByNumbers.NumberedLabels.{tokens_prove, tokens_fail}
+use Rattle.mm_proof.proofs.ProofNumbers.NumberedLabels.{tokens_prove, tokens_fail}
 use Rattle.mm_proof.proofs.prover.prove_under.Goals as goal
 
 pub judgement-requires-clause-steps : goal.judgement-requires-clause-steps

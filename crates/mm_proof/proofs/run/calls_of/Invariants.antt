@@ -1,7 +1,7 @@
 use Rattle.std.proofs.Common.{ℕ, take}
 use Rattle.std.specs.List.{AllZip}
-use Rattle.mm_proof.specs.Plain.{ids_in}
-use Rattle.mm_proof.specs.Mirror.CodeApply.{MayBeCalled}
+use Rattle.mm_step.specs.Plain.{ids_in}
+use Rattle.mm_step.specs.Mirror.CodeApply.{MayBeCalled}
 use Rattle.mm_proof.proofs.run.calls_of.Given as goal
 
 abbrev pub invariant-loop-id : goal.invariant-loop-id

@@ -1,8 +1,8 @@
 use Rattle.std.proofs.Common.{Err, ap, ◌∙◌}
 use Rattle.std.proofs.lemmas.Result.{err_from_is_err_and}
-use Rattle.mm_proof.specs.Mirror.Sites.{CodeSite}
-use Rattle.mm_proof.proofs.Machines.JudgedMoves.{steps_made, proved_end, wrong_end, wrong_move}
-use Rattle.mm_proof.proofs.Machines.JudgedMoves.{on_rule_from}
+use Rattle.mm_step.specs.Mirror.Sites.{CodeSite}
+use Rattle.mm_proof.proofs.ProofVerdicts.JudgedMoves.{steps_made, proved_end, wrong_end, wrong_move}
+use Rattle.mm_proof.proofs.ProofVerdicts.JudgedMoves.{on_rule_from}
 use Rattle.mm_proof.proofs.run.derive_codes.Goals as goal
 
 pub run_codes-requires-clause-usable : goal.run_codes-requires-clause-usable

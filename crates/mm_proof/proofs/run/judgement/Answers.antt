@@ -1,8 +1,8 @@
 use Rattle.std.proofs.Common.{sym, ◌∙◌, subst}
 use Rattle.std.proofs.lemmas.List.{length-map}
-use Rattle.mm_proof.specs.Mirror.Sites.{IsSite}
+use Rattle.mm_step.specs.Mirror.Sites.{IsSite}
 use Rattle.mm_proof.proofs.ProofTokens.ProofCodes.{calls_long}
-use Rattle.mm_proof.proofs.Machines.JudgedMoves.{proved_with, steps_made}
+use Rattle.mm_proof.proofs.ProofVerdicts.JudgedMoves.{proved_with, steps_made}
 use Rattle.mm_proof.proofs.run.judgement.Goals as goal
 
 pub fill_called-requires-clause-calls : goal.fill_called-requires-clause-calls

@@ -1,7 +1,7 @@
 use Rattle.std.proofs.Common.{Err, ap, subst, ◌∙◌}
 use Rattle.std.proofs.lemmas.Result.{err_from_is_err_and}
-use Rattle.mm_proof.specs.Mirror.Sites.{IsSite}
-use Rattle.mm_proof.proofs.Machines.JudgedMoves.{steps_made, on_rule_from, has_passed, has_stopped}
+use Rattle.mm_step.specs.Mirror.Sites.{IsSite}
+use Rattle.mm_proof.proofs.ProofVerdicts.JudgedMoves.{steps_made, on_rule_from, has_passed, has_stopped}
 use Rattle.mm_proof.proofs.run.pass.Goals as goal
 
 pub run_codes-requires-clause-usable : goal.run_codes-requires-clause-usable

@@ -1,9 +1,9 @@
 use Rattle.std.proofs.Common.{ℕ, List, Result, Err, sym, subst, ◌∙◌}
 use Rattle.mm_frame.specs.declared.number.LabelId.{LabelId}
 use Rattle.mm_frame.proofs.Rules.ObeyedRules.{allmeant_prefix}
-use Rattle.mm_proof.specs.declared.fault.ProofFault.{ProofFault}
-use Rattle.mm_proof.specs.Profiles.{limit_of}
-use Rattle.mm_proof.specs.Plain.{ids_in}
+use Rattle.mm_step.specs.declared.fault.ProofFault.{ProofFault}
+use Rattle.mm_step.specs.Profiles.{limit_of}
+use Rattle.mm_step.specs.Plain.{ids_in}
 use Rattle.mm_proof.specs.Verified.{ProvesUsing}
 use Rattle.mm_proof.proofs.ProofVerdicts.FirstFault.{on_rule_map, proof_excludes, accepts, refuses}
 use Rattle.mm_proof.proofs.verdict.answer.Goals as goal

@@ -1,7 +1,7 @@
 use Rattle.std.proofs.Common.{subst}
 use Rattle.std.proofs.lemmas.Result.{err_from_is_err_and}
-use Rattle.mm_proof.specs.Steps.{AreSteps}
-use Rattle.mm_proof.proofs.Machines.JudgedMoves.{held_moves, seen_moves, seen_limit}
+use Rattle.mm_step.specs.Steps.{AreSteps}
+use Rattle.mm_proof.proofs.ProofVerdicts.JudgedMoves.{held_moves, seen_moves, seen_limit}
 use Rattle.mm_proof.proofs.verdict.answer_prefix.Goals as goal
 
 pub new-site-requires : goal.new-site-requires

@@ -1,8 +1,8 @@
 use Rattle.std.proofs.Common.{subst}
 use Rattle.std.proofs.lemmas.Result.{err_from_is_err_and}
-use Rattle.mm_proof.specs.Steps.{AreSteps}
-use Rattle.mm_proof.proofs.Machines.JudgedMoves.{held_moves, seen_moves, seen_limit}
-use Rattle.mm_proof.proofs.Machines.JudgedMoves.{proved_in_order}
+use Rattle.mm_step.specs.Steps.{AreSteps}
+use Rattle.mm_proof.proofs.ProofVerdicts.JudgedMoves.{held_moves, seen_moves, seen_limit}
+use Rattle.mm_proof.proofs.ProofVerdicts.JudgedMoves.{proved_in_order}
 use Rattle.mm_proof.proofs.verdict.judgement_in_order.Goals as goal
 
 pub judgement-requires-clause-steps : goal.judgement-requires-clause-steps

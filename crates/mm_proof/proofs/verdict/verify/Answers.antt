@@ -1,6 +1,6 @@
 use Rattle.std.proofs.Common.{◌≡◌, [], Result, Ok, Err, IfOk, OnOk}
 use Rattle.std.proofs.lemmas.Result.{on_ok_weaker}
-use Rattle.mm_proof.specs.declared.fault.ProofFault.{ProofFault}
+use Rattle.mm_step.specs.declared.fault.ProofFault.{ProofFault}
 use Rattle.mm_frame.proofs.Rules.ObeyedRules.{allmeant_prefix}
 use Rattle.mm_proof.proofs.ProofVerdicts.FirstFault.{rules_map, pass_excludes, accepts, refuses}
 use Rattle.mm_proof.proofs.verdict.verify.Goals as goal

@@ -4,8 +4,8 @@ ghost use Rattle.std.specs.Prelude.{◌≡◌, ◌≤◌, ℕ, length, take, fal
 ghost use Rattle.std.specs.List.{sum_by};
 ghost use Rattle.mm_text.specs.Files.{most_bytes};
 ghost use Rattle.mm_frame.specs.Sentence.{Sentence};
-ghost use Rattle.mm_proof.specs.OneTree.{MakeOneTree};
-ghost use Rattle.mm_proof.specs.Steps.{AreSteps, IsProofNumber};
+ghost use Rattle.mm_forms.specs.OneTree.{MakeOneTree};
+ghost use Rattle.mm_step.specs.Steps.{AreSteps, IsProofNumber};
 ghost use Rattle.mm_proof.specs.Verified.{OfMoves};
 ghost use Rattle.mm_code.specs.Layout.{texts};
 
@@ -13,8 +13,10 @@ use crate::calls::proof::{JOINED, SHARED, Theorem, first_theorem, joined};
 use crate::databases::HEAD;
 use crate::doublings::TWENTY_FOUR;
 use mm_code::Code;
+use mm_forms::{Packed, compress, expand, same};
 use mm_frame::{Book, LabelId};
-use mm_proof::{ExpandFault, Flat, Packed, Parsed, Profile, Steps, compress, expand, same, verify};
+use mm_proof::{Parsed, Steps, verify};
+use mm_step::{ExpandFault, Flat, Profile};
 use mm_text::File;
 use std::alloc::{AllocError, Global};
 use std::process::Abort;

@@ -1,6 +1,6 @@
 //! Where moves stand among the tokens of proofs.
 
-use mm_proof::move_place;
+use mm_places::move_place;
 use std::process::Abort;
 use std::test::Fail;
 

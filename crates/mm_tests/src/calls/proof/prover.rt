@@ -4,12 +4,13 @@ ghost use Rattle.std.specs.Prelude.{◌≡◌, ◌++◌, ◌∷◌, [], ℕ, IfO
 ghost use Rattle.mm_text.specs.Statement.{plain_statement, HasForm};
 ghost use Rattle.mm_frame.specs.Sentence.{Sentence, sentence_in};
 ghost use Rattle.mm_frame.specs.Taken.{TakenAs};
-ghost use Rattle.mm_proof.specs.Steps.{IsProofNumber};
+ghost use Rattle.mm_step.specs.Steps.{IsProofNumber};
 
 use crate::calls::proof::{ROOM, bytes_of, joined, read_next, reader, theorem_number};
 use crate::databases::HEAD;
 use mm_frame::{LabelId, Taken};
-use mm_proof::{Profile, ProofFault, ProofRule, Proved, Prover};
+use mm_proof::{Proved, Prover};
+use mm_step::{Profile, ProofFault, ProofRule};
 use mm_text::{File, Kind, Seed, Statement, Statements};
 use std::alloc::Global;
 use std::process::Abort;

@@ -2,7 +2,7 @@
 use Rattle.std.proofs.Common.{◌≡◌, ℕ, ◌<◌, List, length, Contains, ap, subst}
 use Rattle.mm_check.specs.Conclusion.{Conclusion, labels_in}
 use Rattle.mm_check.specs.Answer.{IsKeptOf}
-use Rattle.mm_proof.specs.Plain.{ids_in}
+use Rattle.mm_step.specs.Plain.{ids_in}
 use Rattle.mm_text.proofs.Lists.{error_keeps}
 use Rattle.mm_text.proofs.Lists.{all_within}
 use Rattle.mm_check.proofs.Verdicts.AcceptedStatements.{read_statements, KeptWell}

@@ -1,6 +1,6 @@
 -- The report is that of the tables, or the proof is incomplete.
 use Rattle.std.proofs.Common.{◌≡◌, ℕ, refl, ◌<◌, List, length, Contains, slice_get, Some, sym, ap, subst, ◌∙◌}
-use Rattle.mm_proof.specs.Plain.{ids_in}
+use Rattle.mm_step.specs.Plain.{ids_in}
 use Rattle.mm_check.specs.Conclusion.{Conclusion, labels_in}
 use Rattle.mm_check.specs.Answer.{IsKeptOf}
 use Rattle.mm_check.proofs.Verdicts.AcceptedStatements.{read_statements, KeptWell}

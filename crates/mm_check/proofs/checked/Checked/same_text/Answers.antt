@@ -1,7 +1,7 @@
 -- What is told of its steps is told of the theorem.
 use Rattle.std.proofs.Common.{ap, subst, ◌∙◌}
 use Rattle.std.proofs.lemmas.Result.{IfOk-weaker}
-use Rattle.mm_proof.specs.declared.profile.Profile.{Profile}
+use Rattle.mm_step.specs.declared.profile.Profile.{Profile}
 use Rattle.mm_check.specs.Conclusion.{Conclusion}
 use Rattle.mm_check.specs.Compared.{IsCompared, IsSameFault}
 use Rattle.mm_text.proofs.Lists.{error_keeps}

@@ -4,7 +4,7 @@ use Rattle.mm_text.proofs.Lists.{all_within}
 use Rattle.mm_frame.specs.Numbers.{labelled_sentences}
 use Rattle.mm_frame.specs.Sentence.{Sentence}
 use Rattle.mm_text.specs.declared.statement.Kind.TheVariants.{Provable}
-use Rattle.mm_proof.specs.Plain.{ids_in}
+use Rattle.mm_step.specs.Plain.{ids_in}
 use Rattle.mm_check.specs.Conclusion.{Conclusion, labels_in}
 use Rattle.mm_check.specs.Answer.{IsKeptOf}
 use Rattle.mm_check.proofs.Verdicts.AcceptedStatements.{read_statements, KeptWell}

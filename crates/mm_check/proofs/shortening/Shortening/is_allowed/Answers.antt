@@ -1,7 +1,7 @@
 -- It is used already; or it may be newly used, and the theorem rests on what it rests on.
 use Rattle.std.proofs.Common.{◌≡◌, List, sym, ap, subst}
 use Rattle.mm_frame.specs.declared.number.LabelId.{LabelId}
-use Rattle.mm_proof.specs.Plain.{ids_in}
+use Rattle.mm_step.specs.Plain.{ids_in}
 use Rattle.mm_check.specs.Rests.{AreRising}
 use Rattle.mm_check.specs.Conclusion.{Conclusion}
 use Rattle.mm_check.proofs.Verdicts.AcceptedStatements.{AreOf, read_statements, KeptWell}

@@ -1,8 +1,8 @@
 use Rattle.std.proofs.Common.{[], ◌∷◌, length, ap, refl, arith}
 use Rattle.std.proofs.lemmas.List.{length-append}
-use Rattle.mm_proof.specs.Moves.{mark}
-use Rattle.mm_proof.proofs.ByNumbers.UsedAssertions.{marked_other}
-use Rattle.mm_proof.proofs.Machines.JudgedMoves.{run_mark, judged_more}
+use Rattle.mm_step.specs.Moves.{mark}
+use Rattle.mm_proof.proofs.ProofNumbers.UsedAssertions.{marked_other}
+use Rattle.mm_proof.proofs.ProofVerdicts.JudgedMoves.{run_mark, judged_more}
 use Rattle.mm_proof.proofs.judge.JudgeMachine.mark.Goals as goal
 
 pub returns-clause-ran : goal.returns-clause-ran

@@ -1,7 +1,7 @@
 use Rattle.std.proofs.Common.{Err, length, ap, refl, sym, ◌∙◌, arith}
-use Rattle.mm_proof.specs.Moves.{name}
+use Rattle.mm_step.specs.Moves.{name}
 use Rattle.mm_proof.proofs.ProofVerdicts.FirstFault.{handed}
-use Rattle.mm_proof.proofs.Machines.JudgedMoves.{on_rule_from, run_name, stops_first, judged_more}
+use Rattle.mm_proof.proofs.ProofVerdicts.JudgedMoves.{on_rule_from, run_name, stops_first, judged_more}
 use Rattle.mm_proof.proofs.judge.JudgeMachine.step.Goals as goal
 
 pub step_entry-requires-clause-used : goal.step_entry-requires-clause-used

@@ -1,7 +1,7 @@
 use Rattle.std.proofs.Common.{length, ap, refl, ◌∙◌, sym, arith}
-use Rattle.mm_proof.specs.Moves.{again}
-use Rattle.mm_proof.proofs.ByNumbers.UsedAssertions.{marked_other}
-use Rattle.mm_proof.proofs.Machines.JudgedMoves.{run_again, judged_more}
+use Rattle.mm_step.specs.Moves.{again}
+use Rattle.mm_proof.proofs.ProofNumbers.UsedAssertions.{marked_other}
+use Rattle.mm_proof.proofs.ProofVerdicts.JudgedMoves.{run_again, judged_more}
 use Rattle.mm_proof.proofs.judge.JudgeMachine.step_again.Goals as goal
 
 pub returns-clause-ran : goal.returns-clause-ran

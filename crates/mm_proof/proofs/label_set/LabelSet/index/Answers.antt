@@ -1,6 +1,6 @@
 use Rattle.std.proofs.Common.{◌≡◌, Some, slice_get, Contains, sym, ap, subst, ◌∙◌, is_some}
 use Rattle.std.proofs.lemmas.Bool.{false≢true}
-use Rattle.mm_proof.proofs.PackedProofs.SubtreeNumbers.{any_contains, index_there, numbers_told}
+use Rattle.mm_proof.proofs.ProofNumbers.Insertions.{any_contains, index_there, numbers_told}
 use Rattle.mm_proof.proofs.label_set.LabelSet.index.Goals as goal
 
 pub returns-clause-there : goal.returns-clause-there

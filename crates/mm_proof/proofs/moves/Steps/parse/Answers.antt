@@ -1,5 +1,5 @@
 use Rattle.std.proofs.Common.{◌≡◌}
-use Rattle.mm_proof.specs.declared.fault.ProofFault.TheVariants.{Rule}
+use Rattle.mm_step.specs.declared.fault.ProofFault.TheVariants.{Rule}
 use Rattle.mm_proof.proofs.moves.Steps.parse.Goals as goal
 
 pub returns-then-is_incomplete-clause-known_fault : goal.returns-then-is_incomplete-clause-known_fault

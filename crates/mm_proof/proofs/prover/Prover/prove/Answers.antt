@@ -3,15 +3,15 @@
 use Rattle.std.proofs.lemmas.Result.{IfOk-at_ok, IfErr-at_err, IfOk-weaker}
 use Rattle.mm_frame.proofs.Rules.ObeyedRules.{allformed_prefix, allmeant_prefix}
 use Rattle.std.proofs.Common.{◌≡◌, Ok, Err, sym, ap, ◌∙◌, Result, inl, inr, IfOk, IsOkUnless}
-use Rattle.mm_proof.specs.declared.fault.ProofFault.TheVariants.{Rule, Memory}
+use Rattle.mm_step.specs.declared.fault.ProofFault.TheVariants.{Rule, Memory}
 use Rattle.mm_proof.specs.declared.prover.Proved.{Proved}
 use Rattle.mm_proof.specs.declared.prover.Proved.TheVariants.{Incomplete}
-use Rattle.mm_proof.specs.Plain.{ids_in}
+use Rattle.mm_step.specs.Plain.{ids_in}
 use Rattle.mm_proof.proofs.ProofTokens.QuestionMarks.{proved_known, said_known}
 use Rattle.mm_proof.proofs.ProofVerdicts.FirstFault.{on_rule_map, rules_map, accepts, refuses}
 use Rattle.mm_proof.proofs.ProofVerdicts.ProfileVerdicts.{proved_excludes, allowed_excludes}
 use Rattle.mm_proof.proofs.prover.Prover.prove.Goals as goal
-use Rattle.mm_proof.specs.declared.fault.ProofFault.{ProofFault}
+use Rattle.mm_step.specs.declared.fault.ProofFault.{ProofFault}
 use Rattle.mm_proof.specs.Answer.{IsUnlessMemory}
 
 -- an answer that is this one, if one is given

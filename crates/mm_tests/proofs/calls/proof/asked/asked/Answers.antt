@@ -2,7 +2,7 @@
 -- hypotheses.
 use Rattle.std.proofs.Common.{◌∙◌, arith}
 use Rattle.std.proofs.lemmas.List.{length-map}
-use Rattle.mm_proof.proofs.ByNumbers.AskedExpressions.{named_by_number, hypotheses_at}
+use Rattle.mm_proof.proofs.ProofNumbers.NamedAssertions.{named_by_number, hypotheses_at}
 use Rattle.mm_tests.proofs.calls.proof.asked.asked.Goals as goal
 
 pub asked_by-requires-clause-step : goal.asked_by-requires-clause-step

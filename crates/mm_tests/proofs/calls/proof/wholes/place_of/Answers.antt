@@ -1,6 +1,6 @@
 -- The rule that reading tells is broken over all of the tokens, or over those of the known prefix.
 use Rattle.std.proofs.Common.{Err, ap, ◌∙◌}
-use Rattle.mm_proof.specs.declared.profile.Profile.TheVariants.{Strict}
+use Rattle.mm_step.specs.declared.profile.Profile.TheVariants.{Strict}
 use Rattle.mm_tests.proofs.calls.proof.wholes.place_of.Goals as goal
 
 pub whole_place-requires-clause-fault : goal.whole_place-requires-clause-fault

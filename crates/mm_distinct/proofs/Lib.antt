@@ -1,0 +1,2 @@
+pub mod AskedByNumbers
+pub mod LackingPairs

@@ -1,0 +1,4 @@
+use Rattle.mm_distinct.proofs.asked.make_room_for_pair.Goals as goal
+
+pub returns-in_ok-reserve : goal.returns-in_ok-reserve
+returns-in_ok-reserve c = rw c.in_ok-reserve.ensures.items c.sort_once.ensures.same

@@ -1,0 +1,4 @@
+pub mod PackedProofs
+pub mod TreeBuilding
+pub mod FullSharing
+pub mod SmallProofs

@@ -1,0 +1,11 @@
+pub mod Mirror
+pub mod BigSubtrees
+pub mod Visits
+pub mod Sharing
+pub mod SharingLaws
+pub mod SmallProofs
+pub mod SmallLaws
+pub mod OneTree
+pub mod Spelled
+pub mod Packing
+pub mod ChosenSharing

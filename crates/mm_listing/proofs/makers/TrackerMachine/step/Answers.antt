@@ -1,0 +1,54 @@
+use Rattle.std.proofs.Common.{◌<◌, ◌≤◌, ◌-◌, length, refl, ◌∙◌}
+use Rattle.mm_step.specs.Moves.{name}
+use Rattle.mm_listing.proofs.Machines.StackMakers.{tracks_step, maker_stands, stopped_after}
+use Rattle.mm_listing.proofs.makers.TrackerMachine.step.Given.{Over}
+use Rattle.mm_listing.proofs.makers.TrackerMachine.step.Goals.{In-Ok}
+use Rattle.mm_listing.proofs.makers.TrackerMachine.step.Goals as goal
+
+pub step-requires : goal.step-requires
+step-requires g c =
+    let next = c.requires.next in
+    record {
+      id = c.requires.id;
+      next = record {
+        first = next.first.lister;
+        prefix = next.prefix;
+        ran = next.ran.listed;
+        allowed = next.allowed.0;
+        few = next.few;
+      };
+      there = c.requires.there;
+    }
+
+-- the step leaves something
+left : (g : Over) (c : In-Ok g)
+    → let entries = g.S.Store.stack c.step.new.self.judge.store.now in
+    (0 < length entries) × (length entries - 1 ≤ length c.args.self.now.makers.now.items)
+left g c =
+    let next = c.requires.next in
+    maker_stands g.S.Store.stack g.S.Store.kept next.first c.args.self.now next.prefix
+    next.allowed.1 next.ran _ (name c.requires.id) refl
+    (c.in-Ok.ensures.ran next.first.lister next.prefix c.requires.id c.requires.there next.allowed.0
+    next.ran.listed)
+    next.allowed.0.1
+
+pub put_maker-requires-clause-made : goal.put_maker-requires-clause-made
+put_maker-requires-clause-made g c =
+    (left g (goal.at.put_maker-requires-clause-made g c).In-Ok).0
+
+pub put_maker-requires-clause-within : goal.put_maker-requires-clause-within
+put_maker-requires-clause-within g c =
+    (left g (goal.at.put_maker-requires-clause-within g c).In-Ok).1
+
+pub returns-in_ok-put_maker-in-Ok-clause-ran : goal.returns-in_ok-put_maker-in-Ok-clause-ran
+returns-in_ok-put_maker-in-Ok-clause-ran g c first prefix id there allowed was =
+    tracks_step g.S.Store.stack g.S.Store.kept first c.args.self.now prefix allowed.1 was _
+    (name id) refl
+    (c.in-Ok.ensures.ran first.lister prefix id there allowed.0 was.listed) refl
+    c.in_ok-put_maker-in-Ok.ensures
+
+pub returns-in-Err-clause-stops : goal.returns-in-Err-clause-stops
+returns-in-Err-clause-stops g c first prefix id there allowed was =
+    rw c.stop_for.ensures (stopped_after first.lister.judge.table.now.site prefix (name id) _ _
+    (c.passed-passed.ensures ∙ was.listed.judged.all)
+    (c.in-Err.ensures.stops first.lister prefix id there allowed.0 was.listed))

@@ -1,0 +1,4 @@
+pub mod Mirror
+pub mod Listing
+pub mod Halted
+pub mod Uses

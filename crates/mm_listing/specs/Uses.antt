@@ -1,0 +1,113 @@
+-- What each step of a proof uses: the steps that gave it its hypotheses; and the steps that are
+-- reached from the last one (the Metamath book, sections 4.1.4, 4.3 and 4.4.3, appendix B). How it
+-- is told is this project's own.
+use Rattle.std.specs.Prelude.{◌≡◌, ℕ, ◌+◌, ◌-◌, ◌<◌, List, [], ◌++◌, length, map, take, slice_get}
+use Rattle.std.specs.Prelude.{Some}
+use Rattle.std.specs.Prelude.{slice_index_or, Vec, Bool, true, false, IsTrue, Contains, ◌⊎◌, ◌↔◌}
+use Rattle.std.specs.List.{AllZip}
+use Rattle.mm_text.specs.declared.statement.Kind.TheVariants.{Essential}
+use Rattle.mm_frame.specs.Sentence.{Sentence, IsHypothesis, IsLabelled}
+use Rattle.mm_frame.specs.Active.{SomeActive}
+use Rattle.mm_frame.specs.Frame.{AreThose}
+use Rattle.mm_step.specs.Substitution.{Expression}
+use Rattle.mm_step.specs.Tree.{AnyExpression, Names}
+use Rattle.mm_step.specs.Moves.{Move, name, again, mark, is_step, steps_in}
+use Rattle.mm_step.specs.Proof.{Passed}
+use Rattle.mm_listing.specs.Listing.{StandsAfter}
+use Rattle.mm_listing.specs.Halted.{AreMakers}
+
+-- Something is told of each step of the moves, in order: of the step by a move after others it is
+-- told so.
+pub record AreOfSteps {X Y : Type 0} (Told : List (Move X) → Move X → Y → Type 0)
+    (moves : List (Move X)) (all : List Y) : Type 0 where
+  pub count : length all ≡ steps_in moves
+  pub each : (index : ℕ) (move : Move X) (told : Y)
+      → slice_get moves index ≡ Some move → is_step move ≡ true
+      → slice_get all (steps_in (take index moves)) ≡ Some told
+      → Told (take index moves) move told
+
+-- ---- steps by tags
+
+-- The step by a move after these stands for the step by a label with this number, from 1 on: a step
+-- by a label for itself, and one by a tag for what the step stands for that its tag stands after.
+abbrev pub StandsFor : {X : Type 0} → (sources : List ℕ) → (earlier : List (Move X)) → Move X
+    → (source : ℕ) → Type 0
+StandsFor sources earlier (name label) source = source ≡ steps_in earlier + 1
+StandsFor sources earlier (again tag) source =
+    (index : ℕ) × StandsAfter earlier tag (index + 1) × (slice_get sources index ≡ Some source)
+StandsFor sources earlier mark source = ⊥
+
+-- these are the steps by labels that the steps of the moves stand for
+abbrev pub AreSources : {X : Type 0} → List (Move X) → (sources : List ℕ) → Type 0
+AreSources moves sources = AreOfSteps (StandsFor sources) moves sources
+
+-- ---- what a step uses
+
+-- The steps with these numbers, all by labels, give the hypotheses to a step after the moves: those
+-- left a stack, whose last entries, one for each hypothesis, were made by steps that stand for
+-- them.
+pub record Give (before : List Sentence) (moves : List (Move (List ℕ))) (hypotheses : List Sentence)
+    (givers : List ℕ) : Type 0 where
+  pub stack : List Expression
+  pub kept : List Expression
+  pub passed : Passed AnyExpression before moves stack kept
+  pub others : List ℕ
+  pub makers : List ℕ
+  pub made : AreMakers AnyExpression before moves stack (others ++ makers)
+  pub paired : length makers ≡ length hypotheses
+  pub sources : List ℕ
+  pub resolved : AreSources moves sources
+  pub given : AllZip (λ maker giver. slice_get sources (maker - 1) ≡ Some giver) makers givers
+
+-- It is asked who gives the hypothesis at an index: of any, or of each `$e` alone.
+abbrev pub IsAsked : (essential : Bool) → (hypotheses : List Sentence) → (index : ℕ) → Type 0
+IsAsked false hypotheses index = Unit {0}
+IsAsked true hypotheses index =
+    (h : Sentence) × (slice_get hypotheses index ≡ Some h) × (h.kind ≡ Essential)
+
+-- The step by a move after these uses the steps with these numbers: those that give the hypotheses
+-- that are asked for, in order. A hypothesis has none, and a step by a tag is told to use none.
+abbrev pub IsUsing : (essential : Bool) → List Sentence → (earlier : List (Move (List ℕ)))
+    → Move (List ℕ) → (used : List ℕ) → Type 0
+IsUsing essential before earlier (name label) used =
+    ((used ≡ []) × SomeActive before (λ h. IsLabelled label h × IsHypothesis h.kind))
+    ⊎ ((index : ℕ) × (assertion : Sentence) × (hypotheses : List Sentence)
+    × Names before label index assertion hypotheses × (givers : List ℕ)
+    × Give before earlier hypotheses givers
+    × AreThose (λ i giver. IsAsked essential hypotheses i) 0 givers used)
+IsUsing essential before earlier (again tag) used = used ≡ []
+IsUsing essential before earlier mark used = ⊥
+
+-- these are the uses of the steps of the moves, a row for each
+abbrev pub AreUses : (essential : Bool) → List Sentence → List (Move (List ℕ))
+    → (rows : List (List ℕ)) → Type 0
+AreUses essential before moves rows = AreOfSteps (IsUsing essential before) moves rows
+
+-- the rows that lists hold
+abbrev pub rows_of : {Z : Type 0} → List (Vec ℕ Z) → List (List ℕ)
+rows_of lists = map (λ list. list.items) lists
+
+-- ---- what is reached from the last step
+
+-- the root: the step by a label that the last step of the moves stands for
+abbrev pub IsRoot : {X : Type 0} → List (Move X) → (root : ℕ) → Type 0
+IsRoot moves root =
+    (sources : List ℕ) × AreSources moves sources
+    × (slice_get sources (steps_in moves - 1) ≡ Some root)
+
+-- the step at an index, from 0 on, is reached
+abbrev pub IsReached : (reached : List Bool) → (index : ℕ) → Type 0
+IsReached reached index = IsTrue (slice_index_or reached index false)
+
+-- one of the steps that are reached uses the step at the index
+abbrev pub IsUsedByReached : (rows : List (List ℕ)) → (reached : List Bool) → (index : ℕ) → Type 0
+IsUsedByReached rows reached index =
+    (user : ℕ) × (used : List ℕ) × IsReached reached user × (slice_get rows user ≡ Some used)
+    × Contains used (index + 1)
+
+-- Of the steps with these uses those are reached that are the root or are used by one that is
+-- reached. A step uses earlier ones alone, so there is one such list.
+pub record AreReached (root : ℕ) (rows : List (List ℕ)) (reached : List Bool) : Type 0 where
+  pub count : length reached ≡ length rows
+  pub each : (index : ℕ) → index < length reached
+      → IsReached reached index ↔ ((index + 1 ≡ root) ⊎ IsUsedByReached rows reached index)

@@ -1,0 +1,263 @@
+//! The listing of a proof: its steps, one a line (the Metamath book, section 4.3 and appendix B).
+
+ghost use Rattle.std.specs.Prelude.{◌≡◌, ◌-◌, ◌<◌, ◌^◌, ℕ, List, [], All, length, take};
+ghost use Rattle.std.specs.Prelude.{slice_get, Some, Err, false};
+ghost use Rattle.std.specs.Prelude.{IfOk, IfErr, IsOkUnless};
+ghost use Rattle.std.specs.List.{AllByRecursion};
+ghost use Rattle.mm_code.specs.Letters.{HasSpelling};
+ghost use Rattle.mm_frame.specs.Form.{IsSound};
+ghost use Rattle.mm_step.specs.declared.fault.ProofRule.{ProofRule};
+ghost use Rattle.mm_proof.specs.Answer.{IsUnlessMemory};
+ghost use Rattle.mm_step.specs.Stores.{numbers_in};
+ghost use Rattle.mm_step.specs.Moves.{Move};
+ghost use Rattle.mm_proof.specs.Proof.{Prove, IsMovesFault};
+ghost use Rattle.mm_step.specs.Proof.{IsWithin};
+ghost use Rattle.mm_step.specs.Profiles.{limit_of};
+ghost use Rattle.mm_step.specs.Steps.{AreNumberedMoves, AreSteps};
+ghost use Rattle.mm_listing.specs.Listing.{AreLinesOf};
+ghost use Rattle.mm_proof.specs.Verified.{OfMoves};
+ghost use Rattle.mm_proof.specs.Mirror.CodeSteps.{code_moves, moves_of};
+ghost use Rattle.mm_step.specs.Mirror.CodeRun.{MayBeMade, HasRun};
+ghost use Rattle.mm_listing.specs.Mirror.CodeLines.{AreLinesAt, BreaksAt, ListsProof, FaultsProof};
+
+use mm_code::Code;
+use mm_frame::{Book, LabelId, Sym, one_number};
+use mm_proof::machine::run;
+use mm_proof::{Judge, Machine, Steps, calls_of, ending};
+use mm_step::{CallTable, Flat, Profile, ProofFault, Site, Store, unmark};
+use std::alloc::{AllocError, Global};
+
+/// What a line calls its step.
+#[derive(Clone, Copy, PartialEq, Eq, Debug)]
+pub enum Name {
+    /// The label of the hypothesis or of the assertion.
+    Label(LabelId),
+    /// The number, from 1 on, of the step that the tag stands after.
+    Step(u32),
+}
+
+/// A step of a proof.
+#[derive(Drop)]
+pub struct Line {
+    /// What the step is called.
+    pub name: Name,
+    /// The expression that it puts on the stack.
+    pub expression: Vec<Sym>,
+}
+
+// The line of the step that was made last.
+fn last_line<S: Store>(alloc: Global, judge: &Judge<S>, name: Name) -> Result<Line, AllocError>
+    requires { 0 < length (S.stack judge.now.store.now) }
+    ensures name { IfOk result (λ line. line.name ≡ name) }
+    ensures expression { let stack = S.stack judge.now.store.now in
+        IfOk result (λ line. slice_get stack (length stack - 1)
+        ≡ Some (numbers_in line.expression.items)) }
+{
+    let last = judge.store.at(judge.store.len() - 1);
+    Ok(Line {
+        name,
+        expression: Vec::from_slice(alloc, last)?,
+    })
+}
+
+/// What lists moves while it judges them: the lines of the steps so far, and for each mark the
+/// number of the step before it. Both are lent to it, as the store is to the judge, since nothing
+/// is known of what was lent to a struct that owns memory.
+#[derive(Drop)]
+pub(crate) struct Lister<'s, 'e, 'b, 'a, S> {
+    pub(crate) alloc: Global,
+    pub(crate) judge: Judge<'s, 'e, 'b, 'a, S>,
+    pub(crate) lines: &'s mut Vec<Line>,
+    pub tags: &'s mut Vec<u32>,
+}
+
+// It stops where the judge does.
+impl<'s, 'e, 'b, 'a, S: Store> Machine for Lister<'s, 'e, 'b, 'a, S> {
+    ghost use Rattle.mm_proof.specs.Answer.{OnRule};
+    ghost use Rattle.mm_proof.specs.Mirror.Judges.{BreaksRun};
+    ghost use Rattle.mm_listing.specs.Mirror.CodeLines.{HasListed, MayBeListed};
+
+    type Fault = ProofFault;
+
+    ghost entries = { λ first. first.judge.table.now.ids };
+
+    ghost has_run = { HasListed S.stack S.kept };
+
+    ghost may_take = { λ first prefix move. MayBeListed first.judge.table.now.site prefix move };
+
+    ghost stops = { λ first prefix move fault.
+        OnRule fault (BreaksRun first.judge.table.now.site prefix move) };
+
+    fn step(&mut self, index: usize) -> Result<(), ProofFault> {
+        let table = self.judge.table;
+        let id = table.label(index);
+        self.judge.step(index)?;
+        let line = last_line(self.alloc, &self.judge, Name::Label(id))?;
+        self.lines.push(line)?;
+        Ok(())
+    }
+
+    fn step_again(&mut self, tag: usize) -> Result<(), ProofFault> {
+        self.judge.step_again(tag)?;
+        let after = self.tags[tag];
+        let line = last_line(self.alloc, &self.judge, Name::Step(after))?;
+        self.lines.push(line)?;
+        Ok(())
+    }
+
+    fn mark(&mut self) -> Result<(), ProofFault> {
+        self.judge.mark()?;
+        let number = self.lines.len() as u32;
+        self.tags.push(number)?;
+        Ok(())
+    }
+}
+
+// The lines of all steps, one after the other.
+fn lines_of<S: Store>(
+    alloc: Global,
+    store: &mut S,
+    table: &CallTable,
+    codes: &[Code],
+) -> Result<Vec<Line>, ProofFault>
+    requires spelled { All HasSpelling codes.now }
+    requires usable { let site = table.now.site in
+        AllByRecursion (MayBeMade site.statements site.index)
+        (code_moves table.now.ids codes.now) }
+    requires names { (names : List (Move (List ℕ)))
+        × AreNumberedMoves table.now.site.statements (code_moves table.now.ids codes.now) names }
+    requires room { length codes.now < 2 ^ 32 }
+    requires stack { S.stack store.old ≡ [] }
+    requires kept { S.kept store.old ≡ [] }
+    ensures run { let site = table.now.site in
+        IfOk result (λ lines. HasRun site.limit site.statements site.index
+        (code_moves table.now.ids codes.now) (S.stack store.new) (S.kept store.new)
+        (length lines.items)) }
+    ensures lines { let site = table.now.site in
+        IfOk result (λ lines. AreLinesAt site.statements site.index
+        (code_moves table.now.ids codes.now) lines.items) }
+    ensures fault { let site = table.now.site in
+        (rule : ProofRule) → (at : ℕ) → result ≡ Err (ProofFault.Rule rule at)
+        → BreaksAt site.limit site.statements site.index (code_moves table.now.ids codes.now)
+        rule at }
+{
+    let count = table.entries.len();
+    let mut marks = Vec::new(alloc);
+    unmark(&mut marks, count)?;
+    let mut lines = Vec::new(alloc);
+    let mut tags = Vec::new(alloc);
+    let judge = Judge {
+        store,
+        marks: &mut marks,
+        table,
+        steps: 0,
+        kept: 0,
+    };
+    let mut lister = Lister {
+        alloc,
+        judge,
+        lines: &mut lines,
+        tags: &mut tags,
+    };
+    run(&mut lister, count, codes)?;
+    Ok(lines)
+}
+
+// The lines of the moves, or their first fault.
+fn lines_in_frame<S: Store>(
+    alloc: Global,
+    store: &mut S,
+    table: &CallTable,
+    codes: &[Code],
+) -> Result<Vec<Line>, ProofFault>
+    requires spelled { All HasSpelling codes.now }
+    requires room { length codes.now < 2 ^ 32 }
+    requires stack { S.stack store.old ≡ [] }
+    requires kept { S.kept store.old ≡ [] }
+    requires steps { let site = table.now.site in
+        AreSteps site.statements site.number (code_moves table.now.ids codes.now) }
+    ensures listed { let site = table.now.site in
+        IfOk result (λ lines. ListsProof site.limit site.statements site.number
+        (code_moves table.now.ids codes.now) lines.items) }
+    ensures fault { let site = table.now.site in
+        IfErr result (FaultsProof site.limit site.statements site.number
+        (code_moves table.now.ids codes.now)) }
+{
+    one_number();
+    let expression = table.site.expression();
+    let lines = lines_of(alloc, store, table, codes)?;
+    ending(store, expression, lines.len() + 1)?;
+    Ok(lines)
+}
+
+// The lines of the moves, or their first fault.
+fn lines_of_proof(
+    alloc: Global,
+    book: &Book,
+    id: LabelId,
+    entries: &[LabelId],
+    codes: &[Code],
+    profile: Profile,
+) -> Result<Vec<Line>, ProofFault>
+    requires spelled { All HasSpelling codes.now }
+    requires room { length codes.now < 2 ^ 32 }
+    requires steps { AreSteps book.now.statements id.0 (moves_of entries.now codes.now) }
+    ensures listed { IfOk result (λ lines. ListsProof (limit_of profile) book.now.statements id.0
+        (moves_of entries.now codes.now) lines.items) }
+    ensures fault { IfErr result (FaultsProof (limit_of profile) book.now.statements id.0
+        (moves_of entries.now codes.now)) }
+    ensures sound { IsSound book.now.statements }
+{
+    let site = Site::new(book, id, profile);
+    let calls = calls_of(alloc, book, entries)?;
+    let table = CallTable {
+        site,
+        entries,
+        calls: &calls,
+    };
+    let mut store = Flat::new(alloc);
+    lines_in_frame(alloc, &mut store, &table, codes)
+}
+
+/// The steps of the `$p` with this number, which these moves prove, in order: what each is called,
+/// and the expression that it puts on the stack. A step by a tag is called by the number of the
+/// step that the tag stands after; where that one is by a tag too, by that one's own number.
+///
+/// # Errors
+///
+/// `Memory` where a growth was refused. Moves, not of a prefix, that don't prove the `$p` are
+/// answered with their first fault, as `verify` does.
+pub fn listing(
+    alloc: Global,
+    book: &Book,
+    id: LabelId,
+    steps: &Steps,
+) -> Result<Vec<Line>, ProofFault>
+    requires steps { AreSteps book.now.statements id.0 steps.now.moves }
+    requires whole { steps.now.prefix ≡ false }
+    // The lines are those of the steps: each with its name, and the expression that its tree
+    // derives.
+    ensures listed { IfOk result (λ lines. OfMoves book.now.statements id.0 steps.now.moves
+        (λ index s moves. AreLinesOf book.now.statements (take index book.now.statements) moves
+        lines.items)) }
+
+    // The rule and the step are those of the first fault.
+    ensures fault { (rule : ProofRule) → (step : ℕ) → result ≡ Err (ProofFault.Rule rule step)
+        → OfMoves book.now.statements id.0 steps.now.moves
+        (λ index s moves. IsMovesFault (IsWithin (limit_of steps.now.profile))
+        (take index book.now.statements) s moves rule step) }
+
+    // What is proved is listed, unless memory is refused.
+    ensures accepts { OfMoves book.now.statements id.0 steps.now.moves
+        (λ index s moves.
+        Prove (IsWithin (limit_of steps.now.profile)) (take index book.now.statements) s moves
+        → IsOkUnless result ProofFault.Memory) }
+
+    // What has a fault is answered with it, unless memory is refused.
+    ensures refuses { OfMoves book.now.statements id.0 steps.now.moves
+        (λ index s moves. (rule : ProofRule) → (step : ℕ) → IsMovesFault
+        (IsWithin (limit_of steps.now.profile)) (take index book.now.statements) s moves rule step
+        → IsUnlessMemory result (Err (ProofFault.Rule rule step))) }
+{
+    lines_of_proof(alloc, book, id, &steps.entries, &steps.codes, steps.profile)
+}

@@ -1,0 +1,436 @@
+//! What each step of a proof uses, and which steps are reached from the last one.
+
+ghost use Rattle.std.specs.Prelude.{◌≡◌, ◌-◌, ◌<◌, ◌≤◌, ◌↔◌, ◌^◌, ℕ, List, [], All, length};
+ghost use Rattle.std.specs.Prelude.{take, drop};
+ghost use Rattle.std.specs.Prelude.{slice_get, Some, Err, Bool, false, IsTrue, IfOk, IfErr, OnOk};
+ghost use Rattle.std.specs.Prelude.{IsOkUnless};
+ghost use Rattle.std.specs.List.{AllByRecursion};
+ghost use Rattle.mm_code.specs.Letters.{HasSpelling};
+ghost use Rattle.mm_frame.specs.Form.{IsSound};
+ghost use Rattle.mm_frame.specs.Frame.{AreThose};
+ghost use Rattle.mm_frame.specs.Rules.{AllMeant};
+ghost use Rattle.mm_step.specs.declared.fault.ProofRule.{ProofRule};
+ghost use Rattle.mm_proof.specs.Answer.{IsUnlessMemory};
+ghost use Rattle.mm_step.specs.Moves.{Move};
+ghost use Rattle.mm_proof.specs.Proof.{Prove, IsMovesFault};
+ghost use Rattle.mm_step.specs.Proof.{IsWithin};
+ghost use Rattle.mm_step.specs.Profiles.{limit_of};
+ghost use Rattle.mm_step.specs.Steps.{AreNumberedMoves, AreSteps};
+ghost use Rattle.mm_listing.specs.Listing.{AreLinesOf};
+ghost use Rattle.mm_proof.specs.Verified.{OfMoves};
+ghost use Rattle.mm_listing.specs.Uses.{AreUses, IsRoot, AreReached, rows_of};
+ghost use Rattle.mm_proof.specs.Mirror.CodeSteps.{code_moves, moves_of};
+ghost use Rattle.mm_step.specs.Mirror.CodeRun.{MayBeMade, HasRun};
+ghost use Rattle.mm_listing.specs.Mirror.CodeLines.{AreLinesAt, BreaksAt, FaultsProof};
+ghost use Rattle.mm_step.specs.Mirror.Sites.{IsSite};
+ghost use Rattle.mm_listing.specs.Mirror.StackMakers.{AreMakersAt};
+ghost use Rattle.mm_listing.specs.Mirror.StepUses.{sources_of, IsAskedOf, IsAmong, AreNoLater};
+ghost use Rattle.mm_listing.specs.Mirror.StepUses.{AreEarlier, AreSourcesAt, AreUsesAt, LinksProof};
+ghost use Rattle.mm_listing.specs.Mirror.StepUses.{AreSet};
+
+use crate::lines::{Line, Lister};
+use crate::makers::put_maker;
+use mm_code::Code;
+use mm_frame::{Book, LabelId, one_number};
+use mm_proof::machine::run;
+use mm_proof::{Judge, Machine, Steps, calls_of, ending};
+use mm_step::{Call, CallTable, Flat, Profile, ProofFault, Site, Store, unmark};
+use std::alloc::{AllocError, Global};
+
+/// The steps of a proof, with what each of them uses.
+#[derive(Drop)]
+pub struct UsedSteps {
+    /// The steps, in order.
+    pub lines: Vec<Line>,
+    /// For each step, the numbers, from 1 on, of the steps that gave it its hypotheses, all by
+    /// labels.
+    pub uses: Vec<Vec<usize>>,
+    /// The number of the step by a label that the last step is, or repeats.
+    pub root: usize,
+    /// Each step uses earlier ones.
+    ghost earlier: { AreEarlier (rows_of uses.items) },
+    /// The root is a step.
+    ghost rooted: { IsAmong (length uses.items) root },
+}
+
+// Whether it is asked who gives the hypothesis at an index of what a label stands for.
+fn is_asked(essential: bool, call: &Call, index: usize) -> bool
+    ensures { IsTrue result ↔ IsAskedOf essential call.now index }
+{
+    if !essential {
+        return true;
+    }
+    match call {
+        Call::Hypothesis(_) => false,
+        Call::Assertion(scheme) => match scheme.hypotheses.get(index) {
+            Some(hypothesis) => hypothesis.typing.is_none(),
+            None => false,
+        },
+    }
+}
+
+// Those that give the hypotheses that are asked for, where the steps with these numbers made the
+// entries of all of them.
+fn givers(
+    alloc: Global,
+    essential: bool,
+    call: &Call,
+    makers: &[usize],
+    sources: &[usize],
+) -> Result<Vec<usize>, AllocError>
+    requires { All (IsAmong (length sources.now)) makers.now }
+    ensures { IfOk result (λ used. AreThose (λ i giver. IsAskedOf essential call.now i) 0
+        (sources_of sources.now makers.now) used.items) }
+{
+    let mut used = Vec::new(alloc);
+    for (index, maker) in makers.iter().enumerate() {
+        if is_asked(essential, call, index) {
+            used.push(sources[*maker - 1])?;
+        }
+    }
+    Ok(used)
+}
+
+// The same, where those are the makers from an index on.
+fn last_givers(
+    alloc: Global,
+    essential: bool,
+    call: &Call,
+    makers: &[usize],
+    base: usize,
+    sources: &[usize],
+) -> Result<Vec<usize>, AllocError>
+    requires base { base ≤ length makers.now }
+    requires within { All (IsAmong (length sources.now)) (drop base makers.now) }
+    ensures { IfOk result (λ used. AreThose (λ i giver. IsAskedOf essential call.now i) 0
+        (sources_of sources.now (drop base makers.now)) used.items) }
+{
+    givers(alloc, essential, call, &makers[base..], sources)
+}
+
+// The index of the last entry of the stack.
+fn last_index<S: Store>(judge: &Judge<S>) -> usize
+    requires { 0 < length (S.stack judge.now.store.now) }
+    ensures { result ≡ length (S.stack judge.now.store.now) - 1 }
+{
+    judge.store.len() - 1
+}
+
+// The number of the step that the tag stands after.
+fn step_before<S: Store>(lister: &Lister<S>, tag: usize) -> usize
+    requires { tag < length lister.now.tags.now.items }
+    ensures { slice_get lister.now.tags.now.items tag ≡ Some result }
+{
+    lister.tags[tag] as usize
+}
+
+// What lists moves, and links each step to those that it uses.
+#[derive(Drop)]
+struct Linker<'s, 'e, 'b, 'a, S> {
+    lister: Lister<'s, 'e, 'b, 'a, S>,
+    /// Whether the givers of `$e` alone are asked for.
+    essential: bool,
+    /// For each entry of the stack, the number of the step that made it.
+    makers: &'s mut Vec<usize>,
+    /// For each step, the number of the step by a label that it is, or repeats.
+    sources: &'s mut Vec<usize>,
+    /// For each step, those that it uses.
+    uses: &'s mut Vec<Vec<usize>>,
+}
+
+// It stops where the lister does.
+impl<'s, 'e, 'b, 'a, S: Store> Machine for Linker<'s, 'e, 'b, 'a, S> {
+    ghost use Rattle.mm_proof.specs.Answer.{OnRule};
+    ghost use Rattle.mm_proof.specs.Mirror.Judges.{BreaksRun};
+    ghost use Rattle.mm_listing.specs.Mirror.StepUses.{HasLinked, MayBeLinked};
+
+    type Fault = ProofFault;
+
+    ghost entries = { λ first. first.lister.judge.table.now.ids };
+
+    ghost has_run = { HasLinked S.stack S.kept };
+
+    ghost may_take = { λ first prefix move.
+        MayBeLinked first.lister.judge.table.now.site prefix move };
+
+    ghost stops = { λ first prefix move fault.
+        OnRule fault (BreaksRun first.lister.judge.table.now.site prefix move) };
+
+    fn step(&mut self, index: usize) -> Result<(), ProofFault> {
+        let alloc = self.lister.alloc;
+        let table = self.lister.judge.table;
+        let call = table.call(index);
+        self.lister.step(index)?;
+        let base = last_index(&self.lister.judge);
+        let used = last_givers(alloc, self.essential, call, self.makers, base, self.sources)?;
+        self.uses.push(used)?;
+        self.sources.push(self.lister.judge.steps)?;
+        put_maker(&self.lister.judge, self.makers)?;
+        Ok(())
+    }
+
+    fn step_again(&mut self, tag: usize) -> Result<(), ProofFault> {
+        let alloc = self.lister.alloc;
+        self.lister.step_again(tag)?;
+        let after = step_before(&self.lister, tag);
+        let source = self.sources[after - 1];
+        self.uses.push(Vec::new(alloc))?;
+        self.sources.push(source)?;
+        put_maker(&self.lister.judge, self.makers)?;
+        Ok(())
+    }
+
+    fn mark(&mut self) -> Result<(), ProofFault> {
+        self.lister.mark()?;
+        Ok(())
+    }
+}
+
+// What moves that passed have made.
+#[derive(Drop)]
+struct Links {
+    lines: Vec<Line>,
+    makers: Vec<usize>,
+    sources: Vec<usize>,
+    uses: Vec<Vec<usize>>,
+}
+
+// The steps of all codes, one after the other.
+fn link_codes<S: Store>(
+    alloc: Global,
+    store: &mut S,
+    table: &CallTable,
+    codes: &[Code],
+    essential: bool,
+) -> Result<Links, ProofFault>
+    requires spelled { All HasSpelling codes.now }
+    requires meant { let site = table.now.site in AllMeant (take site.index site.statements) }
+    requires usable { let site = table.now.site in
+        AllByRecursion (MayBeMade site.statements site.index)
+        (code_moves table.now.ids codes.now) }
+    requires names { (names : List (Move (List ℕ)))
+        × AreNumberedMoves table.now.site.statements (code_moves table.now.ids codes.now) names }
+    requires room { length codes.now < 2 ^ 32 }
+    requires stack { S.stack store.old ≡ [] }
+    requires kept { S.kept store.old ≡ [] }
+    ensures run { let site = table.now.site in
+        IfOk result (λ links. HasRun site.limit site.statements site.index
+        (code_moves table.now.ids codes.now) (S.stack store.new) (S.kept store.new)
+        (length links.lines.items)) }
+    ensures lines { let site = table.now.site in
+        IfOk result (λ links. AreLinesAt site.statements site.index
+        (code_moves table.now.ids codes.now) links.lines.items) }
+    ensures makers { let site = table.now.site in
+        IfOk result (λ links. AreMakersAt site.limit site.statements site.index
+        (code_moves table.now.ids codes.now) (S.stack store.new) links.makers.items) }
+    ensures sources { let site = table.now.site in
+        IfOk result (λ links. AreSourcesAt site.statements (code_moves table.now.ids codes.now)
+        links.sources.items × AreNoLater links.sources.items) }
+    ensures uses { let site = table.now.site in
+        IfOk result (λ links. AreUsesAt essential site.statements site.index
+        (code_moves table.now.ids codes.now) (rows_of links.uses.items)
+        × AreEarlier (rows_of links.uses.items)) }
+    ensures fault { let site = table.now.site in
+        (rule : ProofRule) → (at : ℕ) → result ≡ Err (ProofFault.Rule rule at)
+        → BreaksAt site.limit site.statements site.index (code_moves table.now.ids codes.now)
+        rule at }
+{
+    let count = table.entries.len();
+    let mut marks = Vec::new(alloc);
+    unmark(&mut marks, count)?;
+    let mut lines = Vec::new(alloc);
+    let mut tags = Vec::new(alloc);
+    let mut makers = Vec::new(alloc);
+    let mut sources = Vec::new(alloc);
+    let mut uses = Vec::new(alloc);
+    let judge = Judge {
+        store,
+        marks: &mut marks,
+        table,
+        steps: 0,
+        kept: 0,
+    };
+    let lister = Lister {
+        alloc,
+        judge,
+        lines: &mut lines,
+        tags: &mut tags,
+    };
+    let mut linker = Linker {
+        lister,
+        essential,
+        makers: &mut makers,
+        sources: &mut sources,
+        uses: &mut uses,
+    };
+    run(&mut linker, count, codes)?;
+    Ok(Links {
+        lines,
+        makers,
+        sources,
+        uses,
+    })
+}
+
+// The steps with what each uses; there is one.
+fn used_steps(links: Links) -> UsedSteps
+    requires some { 0 < length links.sources.items }
+    requires long { length (rows_of links.uses.items) ≡ length links.sources.items }
+    requires no_later { AreNoLater links.sources.items }
+    requires earlier { AreEarlier (rows_of links.uses.items) }
+    ensures lines { result.lines.items ≡ links.lines.items }
+    ensures uses { result.uses.items ≡ links.uses.items }
+    ensures root { slice_get links.sources.items (length links.sources.items - 1)
+        ≡ Some result.root }
+{
+    let root = links.sources[links.sources.len() - 1];
+    UsedSteps {
+        lines: links.lines,
+        uses: links.uses,
+        root,
+    }
+}
+
+// The steps of the moves, or their first fault.
+fn links_in_frame<S: Store>(
+    alloc: Global,
+    store: &mut S,
+    table: &CallTable,
+    codes: &[Code],
+    essential: bool,
+) -> Result<UsedSteps, ProofFault>
+    requires spelled { All HasSpelling codes.now }
+    requires room { length codes.now < 2 ^ 32 }
+    requires stack { S.stack store.old ≡ [] }
+    requires kept { S.kept store.old ≡ [] }
+    requires steps { let site = table.now.site in
+        AreSteps site.statements site.number (code_moves table.now.ids codes.now) }
+    ensures linked { let site = table.now.site in
+        IfOk result (λ used. LinksProof site.limit essential site.statements site.number
+        (code_moves table.now.ids codes.now) used.lines.items (rows_of used.uses.items) used.root) }
+    ensures fault { let site = table.now.site in
+        IfErr result (FaultsProof site.limit site.statements site.number
+        (code_moves table.now.ids codes.now)) }
+{
+    one_number();
+    let expression = table.site.expression();
+    let links = link_codes(alloc, store, table, codes, essential)?;
+    ending(store, expression, links.lines.len() + 1)?;
+    Ok(used_steps(links))
+}
+
+// The steps of the moves, or their first fault.
+fn links_of_proof(
+    alloc: Global,
+    book: &Book,
+    id: LabelId,
+    entries: &[LabelId],
+    codes: &[Code],
+    profile: Profile,
+    essential: bool,
+) -> Result<UsedSteps, ProofFault>
+    requires spelled { All HasSpelling codes.now }
+    requires room { length codes.now < 2 ^ 32 }
+    requires steps { AreSteps book.now.statements id.0 (moves_of entries.now codes.now) }
+    ensures linked { IfOk result (λ used. LinksProof (limit_of profile) essential
+        book.now.statements id.0 (moves_of entries.now codes.now) used.lines.items
+        (rows_of used.uses.items) used.root) }
+    ensures fault { IfErr result (FaultsProof (limit_of profile) book.now.statements id.0
+        (moves_of entries.now codes.now)) }
+    ensures sound { IsSound book.now.statements }
+{
+    let site = Site::new(book, id, profile);
+    let calls = calls_of(alloc, book, entries)?;
+    let table = CallTable {
+        site,
+        entries,
+        calls: &calls,
+    };
+    let mut store = Flat::new(alloc);
+    links_in_frame(alloc, &mut store, &table, codes, essential)
+}
+
+/// The steps of the `$p` with this number, which these moves prove, as `listing` tells them; and
+/// for each the steps that gave it its mandatory hypotheses, in their order, or its `$e` alone if
+/// these are asked for. Where a step by a tag put an entry there, it is the step by a label that
+/// the tag repeats. A step by a tag has none.
+///
+/// # Errors
+///
+/// As for `listing`.
+pub fn uses_of(
+    alloc: Global,
+    book: &Book,
+    id: LabelId,
+    steps: &Steps,
+    essential: bool,
+) -> Result<UsedSteps, ProofFault>
+    requires steps { AreSteps book.now.statements id.0 steps.now.moves }
+    requires whole { steps.now.prefix ≡ false }
+    // The lines are those of the steps, and the rows what each of them uses.
+    ensures used { IfOk result (λ used. OfMoves book.now.statements id.0 steps.now.moves
+        (λ index s moves. AreLinesOf book.now.statements (take index book.now.statements) moves
+        used.lines.items
+        × AreUses essential (take index book.now.statements) moves (rows_of used.uses.items)
+        × IsRoot moves used.root)) }
+
+    // The rule and the step are those of the first fault.
+    ensures fault { (rule : ProofRule) → (step : ℕ) → result ≡ Err (ProofFault.Rule rule step)
+        → OfMoves book.now.statements id.0 steps.now.moves
+        (λ index s moves. IsMovesFault (IsWithin (limit_of steps.now.profile))
+        (take index book.now.statements) s moves rule step) }
+
+    // What is proved is listed, unless memory is refused.
+    ensures accepts { OfMoves book.now.statements id.0 steps.now.moves
+        (λ index s moves.
+        Prove (IsWithin (limit_of steps.now.profile)) (take index book.now.statements) s moves
+        → IsOkUnless result ProofFault.Memory) }
+
+    // What has a fault is answered with it, unless memory is refused.
+    ensures refuses { OfMoves book.now.statements id.0 steps.now.moves
+        (λ index s moves. (rule : ProofRule) → (step : ℕ) → IsMovesFault
+        (IsWithin (limit_of steps.now.profile)) (take index book.now.statements) s moves rule step
+        → IsUnlessMemory result (Err (ProofFault.Rule rule step))) }
+{
+    links_of_proof(
+        alloc,
+        book,
+        id,
+        &steps.entries,
+        &steps.codes,
+        steps.profile,
+        essential,
+    )
+}
+
+// Notes that the steps with these numbers are reached.
+fn reach(reached: &mut Vec<bool>, used: &[usize])
+    requires { All (IsAmong (length reached.old.items)) used.now }
+    ensures { AreSet reached.old.items reached.new.items used.now }
+{
+    for step in used {
+        reached[*step - 1] = true;
+    }
+}
+
+impl UsedSteps {
+    /// For each step, whether it is reached: the root is, and what a step that is reached uses.
+    ///
+    /// # Errors
+    ///
+    /// Where a growth was refused.
+    pub fn reached(&self, alloc: Global) -> Result<Vec<bool>, AllocError>
+        ensures { IfOk result (λ reached.
+            AreReached self.now.root (rows_of self.now.uses.items) reached.items) }
+    {
+        let mut reached = Vec::new(alloc);
+        unmark(&mut reached, self.uses.len())?;
+        reached[self.root - 1] = true;
+        for index in (0..self.uses.len()).rev() {
+            if reached[index] {
+                reach(&mut reached, &self.uses[index]);
+            }
+        }
+        Ok(reached)
+    }
+}

@@ -1,0 +1,6 @@
+-- Where a move stands, where a rule over the whole of a proof is broken, and where one isn't
+-- strict.
+pub mod MovePlaces
+pub mod SomePlaces
+pub mod WholePlaces
+pub mod FormPlaces

@@ -1,0 +1,3 @@
+pub mod Mirror
+pub mod Places
+pub mod WholePlaces

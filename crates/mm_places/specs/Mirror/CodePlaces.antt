@@ -1,0 +1,42 @@
+-- How the code that ends at a byte is sought among letters, byte after byte: it mirrors the code.
+use Rattle.std.specs.Prelude.{ℕ, ◌+◌, ◌-◌, ◌==◌, List, [], ◌∷◌, Bool, true, false, nat_lt}
+use Rattle.std.specs.Prelude.{if◌then◌else◌, Option, Some, None}
+use Rattle.mm_places.specs.declared.places.Sought.{Sought}
+use Rattle.mm_places.specs.declared.places.Sought.TheVariants.{At, Behind, Nowhere}
+
+-- a code ends at an index, where so many codes end before the one that is sought
+abbrev pub ended : (index left : ℕ) → Sought
+ended index left = if left == 0 then At index else Behind (left - 1) false
+
+-- the letter at an index, where leading digits stand before it or not
+unfoldable pub passed : (index left : ℕ) → (inside : Bool) → (byte : ℕ) → Sought
+passed index left inside byte =
+    if nat_lt byte 65 then Nowhere
+    else (if nat_lt byte 85 then ended index left
+    else (if nat_lt byte 90 then Behind left true
+    else (if byte == 90 then (if inside then Nowhere else ended index left)
+    else Nowhere)))
+
+-- what is found goes on with what is behind
+abbrev pub goes_on : Sought → (ℕ → Bool → Sought) → Sought
+goes_on (At index) more = At index
+goes_on (Behind left inside) more = more left inside
+goes_on Nowhere more = Nowhere
+
+-- the letters from an index on
+abbrev pub sought : (index left : ℕ) → (inside : Bool) → List ℕ → Sought
+sought index left inside [] = Behind left inside
+sought index left inside (byte ∷ bytes) =
+    goes_on (passed index left inside byte) (λ l i. sought (index + 1) l i bytes)
+
+-- what is found in the piece with a number goes on with the pieces behind it
+abbrev pub in_piece : (piece : ℕ) → Sought → (ℕ → Bool → Option (ℕ × ℕ)) → Option (ℕ × ℕ)
+in_piece piece (At index) more = Some (piece, index)
+in_piece piece (Behind left inside) more = more left inside
+in_piece piece Nowhere more = None
+
+-- the pieces from a number on
+abbrev pub place_in : (number left : ℕ) → (inside : Bool) → List (List ℕ) → Option (ℕ × ℕ)
+place_in number left inside [] = None
+place_in number left inside (piece ∷ pieces) =
+    in_piece number (sought 0 left inside piece) (λ l i. place_in (number + 1) l i pieces)

@@ -1,4 +1,0 @@
-use Rattle.mm_proof.proofs.flat.put_said.Goals as goal
-
-pub returns-clause-said : goal.returns-clause-said
-returns-clause-said c = rw c.if-has_put.ensures at c.append_pieces.ensures.said

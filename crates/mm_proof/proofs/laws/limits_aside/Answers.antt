@@ -1,5 +1,0 @@
-use Rattle.mm_proof.proofs.ProofVerdicts.VerdictLaws.{limits_aside_holds}
-use Rattle.mm_proof.proofs.laws.limits_aside.Goals as goal
-
-pub returns : goal.returns
-returns c = limits_aside_holds

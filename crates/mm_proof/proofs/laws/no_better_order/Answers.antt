@@ -1,5 +1,0 @@
-use Rattle.mm_proof.proofs.SmallProofs.FewestLetters.{no_better_order_holds}
-use Rattle.mm_proof.proofs.laws.no_better_order.Goals as goal
-
-pub returns : goal.returns
-returns c = no_better_order_holds

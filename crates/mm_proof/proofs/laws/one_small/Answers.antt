@@ -1,5 +1,0 @@
-use Rattle.mm_proof.proofs.SmallProofs.OneSmallProof.{one_small_holds}
-use Rattle.mm_proof.proofs.laws.one_small.Goals as goal
-
-pub returns : goal.returns
-returns c = one_small_holds

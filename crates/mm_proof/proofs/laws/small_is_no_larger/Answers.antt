@@ -1,5 +1,0 @@
-use Rattle.mm_proof.proofs.SmallProofs.FewestLetters.{small_is_no_larger_holds}
-use Rattle.mm_proof.proofs.laws.small_is_no_larger.Goals as goal
-
-pub returns : goal.returns
-returns c = small_is_no_larger_holds

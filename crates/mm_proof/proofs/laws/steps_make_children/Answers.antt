@@ -1,5 +1,0 @@
-use Rattle.mm_proof.proofs.FullSharing.FewestSteps.{steps_make_children_holds}
-use Rattle.mm_proof.proofs.laws.steps_make_children.Goals as goal
-
-pub returns : goal.returns
-returns c = steps_make_children_holds

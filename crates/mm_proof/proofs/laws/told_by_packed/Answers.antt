@@ -1,5 +1,0 @@
-use Rattle.mm_proof.proofs.FullSharing.OneSharedProof.{told_by_packed_holds}
-use Rattle.mm_proof.proofs.laws.told_by_packed.Goals as goal
-
-pub returns : goal.returns
-returns c = told_by_packed_holds

@@ -1,6 +1,0 @@
-use Rattle.std.proofs.Common.{take}
-use Rattle.mm_proof.specs.Mirror.CodeSmall.{AreLabelUses}
-use Rattle.mm_proof.proofs.small.count_uses.Given as goal
-
-abbrev pub invariant-loop-code : goal.invariant-loop-code
-invariant-loop-code l = AreLabelUses l.own (take l.code-index l.codes) l.uses

@@ -1,9 +1,0 @@
-use Rattle.std.proofs.Common.{arith}
-use Rattle.mm_proof.specs.Mirror.CodeSmall.{IsRenumbered}
-use Rattle.mm_proof.proofs.SmallProofs.UseLoops.{zip_by_index}
-use Rattle.mm_proof.proofs.small.renumber.Goals as goal
-
-pub returns : goal.returns
-returns c =
-    zip_by_index (IsRenumbered c.args.own c.args.places.now) c.args.codes.now c.loop-code.codes
-    c.loop-code.auto.codes (λ k d less. c.loop-code.invariant.done k d (omega arith))

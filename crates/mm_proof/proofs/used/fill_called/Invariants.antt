@@ -1,5 +1,0 @@
-use Rattle.mm_proof.proofs.ByNumbers.UsedAssertions.{AreFirst, IsCalledAt}
-use Rattle.mm_proof.proofs.used.fill_called.Given as goal
-
-abbrev pub invariant-loop-index : goal.invariant-loop-index
-invariant-loop-index l = AreFirst (IsCalledAt l.calls l.marks) l.entries l.index l.named.ids.items

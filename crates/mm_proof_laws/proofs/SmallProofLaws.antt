@@ -1,0 +1,3 @@
+-- Small proofs: that there is one, and that it has the fewest letters.
+pub mod SomeSmallProof
+pub mod FewestLetters

@@ -1,0 +1,3 @@
+pub mod StoreRanges
+pub mod ProofSteps
+pub mod ByNumbers

@@ -1,0 +1,10 @@
+pub mod Mirror
+pub mod Substitution
+pub mod Tree
+pub mod Moves
+pub mod Plain
+pub mod Proof
+pub mod RuleCodes
+pub mod Steps
+pub mod Profiles
+pub mod Stores

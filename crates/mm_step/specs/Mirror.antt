@@ -1,0 +1,11 @@
+-- Mirrors of the code: what its lists hold and how they change, in the words of the code. Private
+-- clauses alone speak of them, and lemmas join them to the definitions, which are the other files
+-- of specs/.
+pub mod Buffer
+pub mod CodeApply
+pub mod CodeAsked
+pub mod CodeRun
+pub mod CodeSteps
+pub mod CodeVariables
+pub mod CodeVerify
+pub mod Sites
