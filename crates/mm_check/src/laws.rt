@@ -1,6 +1,5 @@
 //! Laws of verdicts and of reports. The functions do nothing: their contracts are the laws.
 
-ghost use Rattle.mm_check.specs.Alike.{AlikeFilesHaveOneReply};
 ghost use Rattle.mm_check.specs.AllSavedLaws.{SavingAllChangesNoAnswer, AllSavedProofsAreStrict};
 ghost use Rattle.mm_check.specs.AllSavedLaws.{OneAllSaved, SavingAllAgainChangesNothing};
 ghost use Rattle.mm_check.specs.AllSavedLaws.{AllSmallFilesDoNotGrow};
@@ -55,14 +54,6 @@ pub fn one_report()
 /// so is an unproved theorem.
 pub fn reports_tell_users()
     ensures { ReportsTellUsers }
-{}
-
-/// What comments say changes no reply (the Metamath book, section 4.1.2): files with the same names
-/// that show the same outside comments (the same tokens on the same lines, and the same fault of a
-/// comment, if there is one) have the same reply to `check`, as long as neither has more bytes than
-/// files may have.
-pub fn alike_files_have_one_reply()
-    ensures { AlikeFilesHaveOneReply }
 {}
 
 /// Two proofs of a statement are the same, in that they make one tree, exactly if the texts of

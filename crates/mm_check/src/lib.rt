@@ -1,6 +1,7 @@
 //! The verdict over a database, and the replies of the program.
 #![tactic(auto)]
 
+mod alike;
 mod all_axioms;
 mod alone;
 mod apart;
@@ -72,6 +73,7 @@ mod watch;
 mod why;
 mod words;
 
+pub use alike::alike_files_have_one_reply;
 pub use ask::AskFault;
 pub use checked::Checked;
 pub use command::{Command, RunFault, reply_to, run};
@@ -79,13 +81,14 @@ pub use fault::{CheckFault, Refusal};
 pub use faults::{AllFaults, all_faults};
 pub use form::Form;
 pub use laws::{
-    alike_files_have_one_reply, all_saved_proofs_are_strict, between_profiles, first_fault_is_told,
+    all_saved_proofs_are_strict, between_profiles, first_fault_is_told,
     one_all_saved, one_report, one_saved, one_verdict, own_proof_is_tried_alike, packed_texts_tell,
     reports_tell_users, saved_proof_is_strict, saving_again_changes_nothing,
     saving_all_again_changes_nothing, saving_all_changes_no_answer, saving_changes_no_answer,
     shortened_files_do_not_grow, shortening_changes_no_verdict, small_files_do_not_grow,
     some_verdict,
 };
+pub use minimize::minimized;
 pub use mm_frame::LabelId;
 pub use nearest::nearest_label;
 pub use question::{LoneQuestion, Question, WholeQuestion};

@@ -136,17 +136,15 @@ fn write_all<'a, S: Search, W: Watch>(
     Ok(())
 }
 
-impl<'a> Checked<'a> {
-    /// One of its files, nothing of which was taken yet, to be written with small proofs.
-    pub(crate) fn new_file(&self, alloc: Global, number: usize) -> NewFile<'a>
-        requires { number < length self.now.files }
-        ensures begun { IsWrittenSoFar self.now.files [] result }
-        ensures number { result.number ≡ number }
-        ensures form { result.form ≡ Small }
-    {
-        let files = self.files;
-        new_file(alloc, files, number, Form::Small)
-    }
+/// One of its files, nothing of which was taken yet, to be written with small proofs.
+pub(crate) fn begun_file<'a>(alloc: Global, checked: &Checked<'a>, number: usize) -> NewFile<'a>
+    requires { number < length checked.now.files }
+    ensures begun { IsWrittenSoFar checked.now.files [] result }
+    ensures number { result.number ≡ number }
+    ensures form { result.form ≡ Small }
+{
+    let files = checked.files;
+    new_file(alloc, files, number, Form::Small)
 }
 
 /// The bytes of the file with a number, with each proof replaced that a search makes shorter.
@@ -170,7 +168,7 @@ pub(crate) fn shorter_file<'a, S: Search, W: Watch>(
         → IsAllShorterFault shortening.now.checked.now.profile wanted.duplicates
         shortening.now.checked.now.files statements wanted.number fault) }
 {
-    let mut file = shortening.checked.new_file(alloc, wanted.number);
+    let mut file = begun_file(alloc, shortening.checked, wanted.number);
     match write_all(alloc, shortening, wanted, search, &mut file, watch) {
         Ok(()) => file.finish(),
         Err(fault) => {

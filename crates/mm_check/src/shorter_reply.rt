@@ -14,6 +14,7 @@ ghost use Rattle.mm_step.specs.declared.profile.Profile.{Profile};
 use crate::ask::AskFault;
 use crate::checked::Checked;
 use crate::fault::CheckFault;
+use crate::minimize::{minimized_by_library, minimized_file, minimized_list};
 use crate::position::name_of;
 use crate::reply::{Reply, ask_reply, conclusion_status, verdict_reply};
 use crate::shorter_file::Wanted;
@@ -36,7 +37,7 @@ pub(crate) fn minimized_answer(
         → IsMinimizedReply checked.now.files label.now statements reply.text.items
         (number_of reply.status)) }
 {
-    match checked.minimized_by_library(alloc, label) {
+    match minimized_by_library(alloc, checked, label) {
         Ok(text) => Ok(Reply {
             text,
             status: Status::Done,
@@ -61,7 +62,7 @@ fn shorter_answer<W: Watch>(
         (number_of reply.status)) }
 {
     match answer {
-        Ok(checked) => match checked.shorter_list(alloc, watch) {
+        Ok(checked) => match minimized_list(alloc, checked, watch) {
             Ok(text) => Ok(Reply {
                 text,
                 status: conclusion_status(checked),
@@ -108,7 +109,7 @@ fn shorter_file_answer<W: Watch>(
         reply.text.items (number_of reply.status)) }
 {
     match answer {
-        Ok(checked) => match checked.shorter_file(alloc, wanted, watch) {
+        Ok(checked) => match minimized_file(alloc, checked, wanted, watch) {
             Ok(text) => Ok(Reply {
                 text,
                 status: Status::Done,

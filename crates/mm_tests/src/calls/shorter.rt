@@ -2,7 +2,7 @@
 
 use mm_check::{
     AskFault, AskRule, Checked, Command, OwnSize, Search, SoFar, Watch, WholeQuestion, check,
-    reply_to,
+    minimized, reply_to,
 };
 use mm_frame::{Book, LabelId};
 use mm_proof::Steps;
@@ -58,7 +58,7 @@ fn told(
     label: &[u8],
     given: &'static [u8],
 ) -> Result<Vec<u8>, AskFault> {
-    checked.minimized(alloc, label, &mut Given(given))
+    minimized(alloc, checked, label, &mut Given(given))
 }
 
 #[test]

@@ -14,8 +14,8 @@ use Rattle.mm_check.proofs.ReplyTexts.{asked_shorter, made_both, at_ok, question
 use Rattle.mm_check.proofs.ReplyTexts.{question_refused}
 use Rattle.mm_check.proofs.shorter_reply.shorter_file_answer.Goals as goal
 
-pub shorter_file-requires : goal.shorter_file-requires
-shorter_file-requires g c =
+pub minimized_file-requires : goal.minimized_file-requires
+minimized_file-requires g c =
     let files : List PlainFile = map plain_file c.args.files.now in
     let kept : Conclusion = c.in-Ok.checked in
     let same : kept.files ≡ files =
@@ -24,11 +24,11 @@ shorter_file-requires g c =
     let less = c.requires.handed in
     omega (arith, count, less, length-map c.args.files.now plain_file)
 
-pub returns-in-Ok-shorter_file : goal.returns-in-Ok-shorter_file
-returns-in-Ok-shorter_file g c =
+pub returns-in-Ok-minimized_file : goal.returns-in-Ok-minimized_file
+returns-in-Ok-minimized_file g c =
     let files : List PlainFile = map plain_file c.args.files.now in
     let kept : Conclusion = c.in-Ok.checked in
-    let text : List ℕ = c.in-Ok-shorter_file.text.items in
+    let text : List ℕ = c.in-Ok-minimized_file.text.items in
     let same : kept.files ≡ files =
     at_ok c.args.answer.now kept (KeepsFiles files) c.in-Ok.is c.requires.files in
     let under : kept.profile ≡ Lenient =
@@ -41,14 +41,14 @@ returns-in-Ok-shorter_file g c =
           c.args.wanted.number text) same
           (subst (λ (p : Profile). IsAllShortened p c.args.wanted.duplicates kept.files statements
           c.args.wanted.number text) under
-          (c.in-Ok-shorter_file.ensures.shortened statements reads)),
+          (c.in-Ok-minimized_file.ensures.shortened statements reads)),
       subst (λ (fs : List PlainFile). FitsSaved fs c.args.wanted.number text) same
-          c.in-Ok-shorter_file.ensures.fits,
+          c.in-Ok-minimized_file.ensures.fits,
       refl,
     ))
 
-pub returns-in-Err-shorter_file : goal.returns-in-Err-shorter_file
-returns-in-Err-shorter_file g c =
+pub returns-in-Err-minimized_file : goal.returns-in-Err-minimized_file
+returns-in-Err-minimized_file g c =
     let files : List PlainFile = map plain_file c.args.files.now in
     let kept : Conclusion = c.in-Ok.checked in
     let same : kept.files ≡ files =
@@ -60,12 +60,12 @@ returns-in-Err-shorter_file g c =
     (IsAllShortenedReply c.args.wanted.duplicates files c.args.wanted.number) _ _ c.in-Ok.is
     c.requires.verdict same
     (λ statements reads. asked_shorter c.args.wanted.duplicates files c.args.wanted.number
-    statements c.in-Err-shorter_file.fault _ _
+    statements c.in-Err-minimized_file.fault _ _
     (subst (λ (fs : List PlainFile). IsAllShorterFault Lenient c.args.wanted.duplicates fs
-    statements c.args.wanted.number c.in-Err-shorter_file.fault) same
+    statements c.args.wanted.number c.in-Err-minimized_file.fault) same
     (subst (λ (p : Profile). IsAllShorterFault p c.args.wanted.duplicates kept.files statements
-    c.args.wanted.number c.in-Err-shorter_file.fault) under
-    (c.in-Err-shorter_file.ensures.fault statements reads)))
+    c.args.wanted.number c.in-Err-minimized_file.fault) under
+    (c.in-Err-minimized_file.ensures.fault statements reads)))
     (rw c.name_of.ensures at h)))
     c.ask_reply.ensures
 

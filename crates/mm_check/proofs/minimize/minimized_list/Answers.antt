@@ -1,5 +1,5 @@
 -- The lines are those of this database.
-use Rattle.mm_check.proofs.checked.Checked.shorter_list.Goals as goal
+use Rattle.mm_check.proofs.minimize.minimized_list.Goals as goal
 
 pub returns-clause-list : goal.returns-clause-list
 returns-clause-list g c =
