@@ -11,6 +11,7 @@ ghost use Rattle.mm_check.specs.Answer.{labels_at, KeepsLabels};
 ghost use Rattle.mm_check.specs.Reply.{lines_text};
 ghost use Rattle.mm_check.specs.Mirror.Tables.{AreTables, IsOfKind, AreLinesOf, line_of_report};
 
+use crate::asked_axioms::{report_at, tables, theorems_in};
 use crate::checked::Checked;
 use crate::report::{Report, Tables};
 use crate::words::push_word;
@@ -112,7 +113,7 @@ fn lines_of(
 {
     let mut out = Vec::new(alloc);
     for theorem in theorems {
-        let told = checked.report_at(alloc, tables, *theorem)?;
+        let told = report_at(alloc, checked, tables, *theorem)?;
         push_report(&mut out, checked, checked.name(*theorem), &told)?;
     }
     Ok(out)
@@ -128,7 +129,7 @@ pub(crate) fn all_axioms_text(alloc: Global, checked: &Checked) -> Result<Vec<u8
         → (lines : List ReportLine) × AreReportLines statements lines
         × (text.items ≡ lines_text lines)) }
 {
-    let tables = checked.tables(alloc)?;
-    let theorems = checked.theorems(alloc)?;
+    let tables = tables(alloc, checked)?;
+    let theorems = theorems_in(alloc, checked)?;
     lines_of(alloc, checked, &tables, &theorems)
 }

@@ -1,21 +1,16 @@
 //! A database in which nothing is at fault.
 
 ghost use Rattle.std.specs.Prelude.{◌≡◌, ◌<◌, ◌↔◌, List, [], map, length, slice_get};
-ghost use Rattle.std.specs.Prelude.{true, false, Some, None, IsTrue, IfOk, IfErr, IfSome, ℕ};
+ghost use Rattle.std.specs.Prelude.{true, false, Some, None, IsTrue, IfOk, IfErr, ℕ};
 ghost use Rattle.mm_check.specs.declared.ask.AskFault.TheVariants.{Memory};
 ghost use Rattle.std.specs.List.{AllByRecursion};
-
 use crate::ask::AskFault;
-use crate::bits::index_of;
 use crate::comparison::is_same;
 use crate::form::Form;
 use crate::forms::{OwnProof, normal_text, own_proof, packed_text, small_text, span_text};
 use crate::kept::{Kept, is_among};
 use crate::position::{place_of, push_place};
 use crate::progress::Progress;
-use crate::report::{
-    Report, Tables, axioms_among, marked_among, reach, report_in, tables_of, theorems_of,
-};
 use crate::reread::{proof_of, reader, reread};
 use crate::rewrite::{bytes_of, put_in};
 use crate::rule::AskRule;
@@ -23,7 +18,6 @@ use crate::shown::listing_text;
 use crate::shown_uses::uses_text;
 use crate::stated::push_told;
 use crate::theorem::{Theorem, theorem_of};
-use crate::users::{all_users_among, users_among};
 use mm_frame::{Book, Found, LabelId, LabelKind};
 use mm_step::Profile;
 use mm_text::{File, Statement, Statements};
@@ -77,12 +71,8 @@ impl<'a> Checked<'a> {
     ghost use Rattle.mm_check.specs.Conclusion.{labels_in};
     ghost use Rattle.mm_check.specs.Mirror.Marks.{IsKeptWell};
     ghost use Rattle.mm_check.specs.Verdict.{is_proof, sentences};
-    ghost use Rattle.mm_check.specs.Rests.{IsNamed, IsAskFault, IsReport};
-    ghost use Rattle.mm_check.specs.Users.{IsAssertionFault, AreUsers};
-    ghost use Rattle.mm_check.specs.Rests.{AreInOrder, IsNumberWhere};
-    ghost use Rattle.mm_check.specs.Mirror.Tables.{AreTables, IsOfKind, IsReportAt};
-    ghost use Rattle.mm_text.specs.declared.statement.Kind.TheVariants.{Provable};
-    ghost use Rattle.mm_frame.specs.Sentence.{IsAssertion};
+    ghost use Rattle.mm_check.specs.Rests.{IsNamed, IsAskFault};
+    ghost use Rattle.mm_check.specs.Rests.{IsNumberWhere};
     ghost use Rattle.mm_step.specs.Steps.{AreSteps};
     ghost use Rattle.mm_check.specs.Shown.{ShowsProof};
     ghost use Rattle.mm_check.specs.ShownUses.{ShowsUses};
@@ -168,7 +158,7 @@ impl<'a> Checked<'a> {
     }
 
     /// The number of the `$p` with a complete proof that has this label.
-    fn theorem(&self, label: &[u8]) -> Result<LabelId, AskFault>
+    pub(crate) fn theorem(&self, label: &[u8]) -> Result<LabelId, AskFault>
         ensures within { IfOk result (λ id. id.0 < length (labelled_sentences self.now.sentences)) }
         ensures found { IfOk result (λ id. (statements : List PlainStatement)
             → IsKeptOf statements self.now
@@ -188,96 +178,6 @@ impl<'a> Checked<'a> {
                 _ => Err(AskFault::Rule(AskRule::A2)),
             },
         }
-    }
-
-    /// What the `$p` with this label rests on.
-    ///
-    /// It rests on the assertions in the tree that its proof spells and, with each `$p` among them
-    /// whose proof is complete, on those that this one rests on. Axioms of syntax are axioms too.
-    ///
-    /// # Errors
-    ///
-    /// `A1` where no statement has the label, `A2` where it isn't that of a `$p`, `A3` where the
-    /// proof is incomplete; `Memory` where a growth was refused.
-    pub fn axioms(&self, alloc: Global, label: &[u8]) -> Result<Report, AskFault>
-        // The lists are those of the statements of the files: the `$a`, and the incomplete `$p`,
-        // among what the theorem rests on.
-        ensures report { IfOk result (λ report. (statements : List PlainStatement)
-            → Reads self.now.files statements None → IsReport statements label.now
-            (map (λ id. id.0) report.axioms.items) (map (λ id. id.0) report.unproved.items)) }
-        ensures fault { IfErr result (λ fault. (statements : List PlainStatement)
-            → Reads self.now.files statements None → IsAskFault statements label.now fault) }
-        // Each number is that of a label.
-        ensures in_range { IfOk result (λ report.
-            AllByRecursion (λ n. n < length self.now.labels) (map (λ id. id.0) report.axioms.items)
-            × AllByRecursion (λ n. n < length self.now.labels)
-            (map (λ id. id.0) report.unproved.items)) }
-    {
-        let kept = &self.kept;
-        let theorem = self.theorem(label)?;
-        let marks = reach(alloc, kept, theorem)?;
-        let axioms = axioms_among(alloc, &self.book, &marks, theorem)?;
-        let unproved = marked_among(alloc, &self.incomplete, &marks)?;
-        Ok(Report { axioms, unproved })
-    }
-
-    /// The number of the `$a` or `$p` that has this label.
-    fn assertion(&self, label: &[u8]) -> Result<LabelId, AskFault>
-        ensures found { IfOk result (λ id. (statements : List PlainStatement)
-            → IsKeptOf statements self.now
-            → IsNamed statements label.now (λ s. IsAssertion s.kind) id.0) }
-        ensures fault { IfErr result (λ fault. (statements : List PlainStatement)
-            → IsKeptOf statements self.now → IsAssertionFault statements label.now fault) }
-        ensures sound { IsSound self.now.sentences }
-    {
-        let broken = match self.book.find(label) {
-            Found::Assertion(id) => return Ok(id),
-            Found::Hypothesis { .. } => AskRule::A2,
-            Found::None => AskRule::A1,
-        };
-        Err(AskFault::Rule(broken))
-    }
-
-    /// The `$p` with complete proofs that use the assertion with this label, in database order.
-    ///
-    /// # Errors
-    ///
-    /// `A1` where no statement has the label, `A2` where it is that of a hypothesis; `Memory` where
-    /// a growth was refused.
-    pub fn users(&self, alloc: Global, label: &[u8]) -> Result<Vec<LabelId>, AskFault>
-        ensures users { IfOk result (λ users. (statements : List PlainStatement)
-            → Reads self.now.files statements None
-            → AreUsers false statements label.now (map (λ id. id.0) users.items)) }
-        ensures fault { IfErr result (λ fault. (statements : List PlainStatement)
-            → Reads self.now.files statements None → IsAssertionFault statements label.now fault) }
-        // Each number is that of a label.
-        ensures in_range { IfOk result (λ users.
-            AllByRecursion (λ n. n < length self.now.labels) (map (λ id. id.0) users.items)) }
-    {
-        let kept = &self.kept;
-        let assertion = self.assertion(label)?;
-        Ok(users_among(alloc, kept, assertion)?)
-    }
-
-    /// The `$p` with complete proofs that rest on the assertion with this label, in database order:
-    /// their proofs use it, or a theorem that rests on it.
-    ///
-    /// # Errors
-    ///
-    /// As for `users`.
-    pub fn all_users(&self, alloc: Global, label: &[u8]) -> Result<Vec<LabelId>, AskFault>
-        ensures users { IfOk result (λ users. (statements : List PlainStatement)
-            → Reads self.now.files statements None
-            → AreUsers true statements label.now (map (λ id. id.0) users.items)) }
-        ensures fault { IfErr result (λ fault. (statements : List PlainStatement)
-            → Reads self.now.files statements None → IsAssertionFault statements label.now fault) }
-        // Each number is that of a label.
-        ensures in_range { IfOk result (λ users.
-            AllByRecursion (λ n. n < length self.now.labels) (map (λ id. id.0) users.items)) }
-    {
-        let kept = &self.kept;
-        let assertion = self.assertion(label)?;
-        Ok(all_users_among(alloc, kept, assertion)?)
     }
 
     /// The number of the statement that has this label.
@@ -326,56 +226,6 @@ impl<'a> Checked<'a> {
         out.push(b'\n')?;
         push_told(&mut out, alloc, &self.book, id)?;
         Ok(out)
-    }
-
-    /// The tables of what all theorems rest on.
-    pub(crate) fn tables(&self, alloc: Global) -> Result<Tables, AllocError>
-        ensures { IfOk result (λ tables. AreTables self.now.sentences self.now.incomplete
-            self.now.uses tables) }
-    {
-        tables_of(alloc, &self.book, &self.kept, &self.incomplete)
-    }
-
-    /// The `$p`, in database order.
-    pub(crate) fn theorems(&self, alloc: Global) -> Result<Vec<LabelId>, AllocError>
-        ensures kinds { IfOk result (λ ids.
-            AreInOrder (IsOfKind self.now.sentences Provable) (map (λ l. l.0) ids.items)) }
-        ensures told { IfOk result (λ ids. (statements : List PlainStatement)
-            → Reads self.now.files statements None
-            → AreInOrder (IsNumberWhere statements (λ s. s.kind ≡ Provable))
-            (map (λ l. l.0) ids.items)) }
-        ensures in_range { IfOk result (λ ids.
-            AllByRecursion (λ n. n < length self.now.labels) (map (λ l. l.0) ids.items)) }
-    {
-        theorems_of(alloc, &self.book)
-    }
-
-    /// What a theorem rests on, as the tables tell it; nothing where its proof is incomplete.
-    pub(crate) fn report_at(
-        &self,
-        alloc: Global,
-        tables: &Tables,
-        theorem: LabelId,
-    ) -> Result<Option<Report>, AllocError>
-        requires tables { AreTables self.now.sentences self.now.incomplete self.now.uses
-            tables.now }
-        requires theorem { IsOfKind self.now.sentences Provable theorem.0 }
-        ensures report { IfOk result (λ told. (statements : List PlainStatement)
-            → Reads self.now.files statements None → (label : List ℕ)
-            → slice_get self.now.labels theorem.0 ≡ Some label
-            → IsReportAt statements label theorem.0 told) }
-        ensures in_range { IfOk result (λ told. IfSome told (λ report.
-            AllByRecursion (λ n. n < length self.now.labels) (map (λ id. id.0) report.axioms.items)
-            × AllByRecursion (λ n. n < length self.now.labels)
-            (map (λ id. id.0) report.unproved.items))) }
-    {
-        match index_of(&self.incomplete, theorem) {
-            Some(_) => Ok(None),
-            None => {
-                let report = report_in(alloc, tables, &self.incomplete, theorem)?;
-                Ok(Some(report))
-            }
-        }
     }
 
     /// The `$p` with this label, and the steps of its proof. No proof is kept by `check`, so the

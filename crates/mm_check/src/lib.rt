@@ -6,6 +6,7 @@ mod all_axioms;
 mod alone;
 mod apart;
 mod ask;
+mod asked_axioms;
 mod bits;
 mod breach;
 mod checked;
@@ -75,6 +76,7 @@ mod words;
 
 pub use alike::alike_files_have_one_reply;
 pub use ask::AskFault;
+pub use asked_axioms::{all_users, axioms, direct_users};
 pub use checked::Checked;
 pub use command::{Command, RunFault, reply_to, run};
 pub use fault::{CheckFault, Refusal};

@@ -23,6 +23,7 @@ ghost use Rattle.mm_check.specs.Reply.{IsUsesReply, IsAllAxiomsReply, IsStatemen
 ghost use Rattle.mm_step.specs.declared.profile.Profile.{Profile};
 ghost use Rattle.mm_check.specs.Users.{AreUsers, IsAssertionFault};
 
+use crate::asked_axioms::{all_users, axioms, direct_users};
 use crate::all_axioms::all_axioms_text;
 use crate::ask::AskFault;
 use crate::checked::Checked;
@@ -149,7 +150,7 @@ fn axioms_answer(alloc: Global, checked: &Checked, label: &[u8]) -> Result<Reply
         → Reads checked.now.files statements None → checked.now.labels ≡ labels_of statements
         → IsAxiomsReply label.now statements reply.text.items (number_of reply.status)) }
 {
-    match checked.axioms(alloc, label) {
+    match axioms(alloc, checked, label) {
         Ok(report) => {
             let text = report_text(alloc, checked, &report)?;
             let status = report_status(&report);
@@ -342,9 +343,9 @@ fn users_of(
         AllByRecursion (λ n. n < length checked.now.labels) (map (λ id. id.0) users.items)) }
 {
     if all {
-        checked.all_users(alloc, label)
+        all_users(alloc, checked, label)
     } else {
-        checked.users(alloc, label)
+        direct_users(alloc, checked, label)
     }
 }
 

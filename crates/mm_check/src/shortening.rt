@@ -19,6 +19,7 @@ ghost use Rattle.mm_check.specs.Mirror.Shortening.{IsAllowedProof, IsUnmarkedIn,
 ghost use Rattle.mm_check.specs.Mirror.Shortening.{IsProvedAnew, IsFound, HaveOneCode, IsJustOne};
 ghost use Rattle.mm_check.specs.Mirror.Theorems.{AreProvedSteps, AreStepsOf};
 
+use crate::asked_axioms::{tables};
 use crate::ask::AskFault;
 use crate::checked::Checked;
 use crate::forms::{OwnProof, own_proof};
@@ -114,7 +115,7 @@ impl<'c, 'a> Shortening<'c, 'a> {
         ensures memory { IfErr result (λ fault. fault ≡ Memory) }
     {
         let remarks = remarks_of(alloc, checked.book.seed(), checked.files)?;
-        let tables = checked.tables(alloc)?;
+        let tables = tables(alloc, &checked)?;
         Ok(Shortening {
             checked,
             remarks,

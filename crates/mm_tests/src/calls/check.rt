@@ -1,5 +1,6 @@
 //! One happy path of each public call, and writers that fail in the middle of a reply.
 
+use mm_check::{axioms};
 use crate::calls::failing::failing_writer;
 use crate::tests::{CHECK, reply_to};
 use mm_check::{
@@ -175,7 +176,7 @@ fn names_incomplete_proofs(rt: HostRuntime) -> Result<(), Fail> {
 fn ask_axioms(alloc: Global, label: &[u8]) -> Result<Result<Report, AskFault>, Fail> {
     let files = file(DEEP);
     let checked = accepted(alloc, &files)?;
-    let report = checked.axioms(alloc, label);
+    let report = axioms(alloc, &checked, label);
     drop(checked);
     Ok(report)
 }

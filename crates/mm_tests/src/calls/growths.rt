@@ -5,6 +5,7 @@
 //! it leaves, and go on. With ample memory they are runs of happy paths. `scripts/failing` runs
 //! each of them with each of its requests for memory refused, one alone, in turn.
 
+use mm_check::{all_users, axioms, direct_users};
 use crate::calls::code::{CODES, LETTERS};
 use crate::calls::load::{HOLLOW, failing_reader};
 use crate::databases::{DEMO, DEMO_COMPRESSED, DEMO_SMALL};
@@ -232,7 +233,7 @@ fn growths_of_forms(rt: HostRuntime) -> Result<(), Fail> {
 
 /// How many axioms a theorem rests on, as a text of so many bytes.
 fn axioms_text(alloc: Global, checked: &Checked, label: &[u8]) -> Result<Vec<u8>, AskFault> {
-    let report = checked.axioms(alloc, label)?;
+    let report = axioms(alloc, &checked, label)?;
     let mut text = Vec::new(alloc);
     for _ in &report.axioms {
         text.push(b'a')?;
@@ -248,9 +249,9 @@ fn users_text(
     all: bool,
 ) -> Result<Vec<u8>, AskFault> {
     let users = if all {
-        checked.all_users(alloc, label)?
+        all_users(alloc, &checked, label)?
     } else {
-        checked.users(alloc, label)?
+        direct_users(alloc, &checked, label)?
     };
     let mut text = Vec::new(alloc);
     for _ in &users {

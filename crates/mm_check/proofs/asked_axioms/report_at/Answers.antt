@@ -9,17 +9,17 @@ use Rattle.mm_check.proofs.Questions.AskedTheorems.{all_among, axiom_within}
 use Rattle.mm_check.proofs.Questions.AllReports.{unproved_at, report_told, reached_within}
 use Rattle.mm_text.proofs.Lists.{contains_from_at}
 use Rattle.mm_frame.specs.Rules.{AllMeant}
-use Rattle.mm_check.proofs.checked.Checked.report_at.Goals as goal
+use Rattle.mm_check.proofs.asked_axioms.report_at.Goals as goal
 
 pub returns-in-Some-clause-report : goal.returns-in-Some-clause-report
 returns-in-Some-clause-report c = λ statements reads label there.
-    let now : Conclusion = c.args.self.now in
+    let now : Conclusion = c.args.checked.now in
     let id : ℕ = c.args.theorem.0 in
-    let well = subst KeptWell c.self.view_is c.self.invariant in
+    let well = subst KeptWell c.checked.view_is c.checked.invariant in
     let kept : IsKeptOf statements now = (read_statements now statements well.origin reads).kept in
-    let incomplete : ids_in c.self.inside.incomplete.items ≡ now.incomplete = ap (λ (v : Conclusion). v.incomplete) c.self.view_is in
-    let labels : labels_in c.self.inside.book.statements ≡ now.labels = ap (λ (v : Conclusion). v.labels) c.self.view_is in
-    let told : c.self.inside.book.statements ≡ now.sentences = ap (λ (v : Conclusion). v.sentences) c.self.view_is in
+    let incomplete : ids_in c.checked.inside.incomplete.items ≡ now.incomplete = ap (λ (v : Conclusion). v.incomplete) c.checked.view_is in
+    let labels : labels_in c.checked.inside.book.statements ≡ now.labels = ap (λ (v : Conclusion). v.labels) c.checked.view_is in
+    let told : c.checked.inside.book.statements ≡ now.sentences = ap (λ (v : Conclusion). v.sentences) c.checked.view_is in
     unproved_at statements now label id kept
     (subst (λ (ns : List ℕ). Contains ns id) (ap ids_in c.deref.ensures.value ∙ incomplete)
     (contains_from_at (ids_in c.deref.result.now) id (c.in-Some.field-0, c.in-Some.ensures.found)))
@@ -27,13 +27,13 @@ returns-in-Some-clause-report c = λ statements reads label there.
 
 pub returns-in_ok-report-in-None-clause-report : goal.returns-in_ok-report-in-None-clause-report
 returns-in_ok-report-in-None-clause-report c = λ statements reads label there.
-    let now : Conclusion = c.args.self.now in
+    let now : Conclusion = c.args.checked.now in
     let id : ℕ = c.args.theorem.0 in
-    let well = subst KeptWell c.self.view_is c.self.invariant in
+    let well = subst KeptWell c.checked.view_is c.checked.invariant in
     let kept : IsKeptOf statements now = (read_statements now statements well.origin reads).kept in
-    let incomplete : ids_in c.self.inside.incomplete.items ≡ now.incomplete = ap (λ (v : Conclusion). v.incomplete) c.self.view_is in
-    let labels : labels_in c.self.inside.book.statements ≡ now.labels = ap (λ (v : Conclusion). v.labels) c.self.view_is in
-    let told : c.self.inside.book.statements ≡ now.sentences = ap (λ (v : Conclusion). v.sentences) c.self.view_is in
+    let incomplete : ids_in c.checked.inside.incomplete.items ≡ now.incomplete = ap (λ (v : Conclusion). v.incomplete) c.checked.view_is in
+    let labels : labels_in c.checked.inside.book.statements ≡ now.labels = ap (λ (v : Conclusion). v.labels) c.checked.view_is in
+    let told : c.checked.inside.book.statements ≡ now.sentences = ap (λ (v : Conclusion). v.sentences) c.checked.view_is in
     report_told statements now label id c.args.tables.now _ kept
     (subst AllMeant (sym well.origin.sentences) (all_meant now.profile well.origin.statements well.origin.accepted.obeyed))
     c.requires.theorem
@@ -44,12 +44,12 @@ returns-in_ok-report-in-None-clause-report c = λ statements reads label there.
 
 pub returns-in_ok-report-in-None-clause-in_range : goal.returns-in_ok-report-in-None-clause-in_range
 returns-in_ok-report-in-None-clause-in_range c =
-    let now : Conclusion = c.args.self.now in
+    let now : Conclusion = c.args.checked.now in
     let id : ℕ = c.args.theorem.0 in
-    let well = subst KeptWell c.self.view_is c.self.invariant in
-    let incomplete : ids_in c.self.inside.incomplete.items ≡ now.incomplete = ap (λ (v : Conclusion). v.incomplete) c.self.view_is in
-    let labels : labels_in c.self.inside.book.statements ≡ now.labels = ap (λ (v : Conclusion). v.labels) c.self.view_is in
-    let told : c.self.inside.book.statements ≡ now.sentences = ap (λ (v : Conclusion). v.sentences) c.self.view_is in
+    let well = subst KeptWell c.checked.view_is c.checked.invariant in
+    let incomplete : ids_in c.checked.inside.incomplete.items ≡ now.incomplete = ap (λ (v : Conclusion). v.incomplete) c.checked.view_is in
+    let labels : labels_in c.checked.inside.book.statements ≡ now.labels = ap (λ (v : Conclusion). v.labels) c.checked.view_is in
+    let told : c.checked.inside.book.statements ≡ now.sentences = ap (λ (v : Conclusion). v.sentences) c.checked.view_is in
     let same : labels_in now.sentences ≡ now.labels = ap labels_in (sym told) ∙ labels in
     let found = rw (c.deref-in-None.ensures.value, incomplete) at c.in_ok-report-in-None.ensures in (
       reached_within (ids_in c.args.tables.now.axioms.items) c.args.tables.now.axiom_rows id _ (length now.labels) found.axioms

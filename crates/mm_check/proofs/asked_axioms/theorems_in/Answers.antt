@@ -11,21 +11,21 @@ use Rattle.mm_check.proofs.Verdicts.AcceptedStatements.{read_statements, KeptWel
 use Rattle.mm_check.proofs.Questions.AllReports.{few_labels, theorems_told, of_kind_within}
 use Rattle.mm_check.specs.Rests.{AreInOrder}
 use Rattle.mm_check.specs.Mirror.Tables.{IsOfKind}
-use Rattle.mm_check.proofs.checked.Checked.theorems.Goals as goal
+use Rattle.mm_check.proofs.asked_axioms.theorems_in.Goals as goal
 use Rattle.std.proofs.lemmas.Result.{IfOk-weaker}
 
 pub theorems_of-requires : goal.theorems_of-requires
 theorems_of-requires c =
-    let well = subst KeptWell c.self.view_is c.self.invariant in
-    let told : c.self.inside.book.statements ≡ c.args.self.now.sentences = ap (λ (v : Conclusion). v.sentences) c.self.view_is in
+    let well = subst KeptWell c.checked.view_is c.checked.invariant in
+    let told : c.checked.inside.book.statements ≡ c.args.checked.now.sentences = ap (λ (v : Conclusion). v.sentences) c.checked.view_is in
     subst (λ (ss : List Sentence). length (labelled_sentences ss) < 4294967295) (sym (told ∙ well.origin.sentences))
-    (few_labels c.args.self.now.profile c.args.self.now.files well.origin.statements well.origin.accepted)
+    (few_labels c.args.checked.now.profile c.args.checked.now.files well.origin.statements well.origin.accepted)
 
 pub returns-clause-told : goal.returns-clause-told
 returns-clause-told c =
-    let now : Conclusion = c.args.self.now in
-    let well = subst KeptWell c.self.view_is c.self.invariant in
-    let told : c.self.inside.book.statements ≡ now.sentences = ap (λ (v : Conclusion). v.sentences) c.self.view_is in
+    let now : Conclusion = c.args.checked.now in
+    let well = subst KeptWell c.checked.view_is c.checked.invariant in
+    let told : c.checked.inside.book.statements ≡ now.sentences = ap (λ (v : Conclusion). v.sentences) c.checked.view_is in
     IfOk-weaker c.theorems_of.result _ _
     (λ ids order statements reads.
     let kept : IsKeptOf statements now = (read_statements now statements well.origin reads).kept in
@@ -35,8 +35,8 @@ returns-clause-told c =
 
 pub returns-clause-in_range : goal.returns-clause-in_range
 returns-clause-in_range c =
-    let labels : labels_in c.self.inside.book.statements ≡ c.args.self.now.labels = ap (λ (v : Conclusion). v.labels) c.self.view_is in
+    let labels : labels_in c.checked.inside.book.statements ≡ c.args.checked.now.labels = ap (λ (v : Conclusion). v.labels) c.checked.view_is in
     IfOk-weaker c.theorems_of.result _ _
-    (λ ids order. all_within (λ n. n < length c.args.self.now.labels) (ids_in ids.items) (λ n h.
-    subst (λ (ls : List (List ℕ)). n < length ls) labels (of_kind_within c.self.inside.book.statements Provable n ((order.each n).0 h))))
+    (λ ids order. all_within (λ n. n < length c.args.checked.now.labels) (ids_in ids.items) (λ n h.
+    subst (λ (ls : List (List ℕ)). n < length ls) labels (of_kind_within c.checked.inside.book.statements Provable n ((order.each n).0 h))))
     c.theorems_of.ensures

@@ -5,11 +5,11 @@ use Rattle.mm_frame.specs.Sentence.{Sentence}
 use Rattle.mm_check.specs.Conclusion.{Conclusion}
 use Rattle.mm_check.proofs.Verdicts.AcceptedStatements.{KeptWell}
 use Rattle.mm_check.proofs.Questions.AllReports.{few_labels}
-use Rattle.mm_check.proofs.checked.Checked.tables.Goals as goal
+use Rattle.mm_check.proofs.asked_axioms.tables.Goals as goal
 
 pub tables_of-requires-clause-few : goal.tables_of-requires-clause-few
 tables_of-requires-clause-few c =
-    let well = subst KeptWell c.self.view_is c.self.invariant in
-    let told : c.self.inside.book.statements ≡ c.args.self.now.sentences = ap (λ (v : Conclusion). v.sentences) c.self.view_is in
+    let well = subst KeptWell c.checked.view_is c.checked.invariant in
+    let told : c.checked.inside.book.statements ≡ c.args.checked.now.sentences = ap (λ (v : Conclusion). v.sentences) c.checked.view_is in
     subst (λ (ss : List Sentence). length (labelled_sentences ss) < 4294967295) (sym (told ∙ well.origin.sentences))
-    (few_labels c.args.self.now.profile c.args.self.now.files well.origin.statements well.origin.accepted)
+    (few_labels c.args.checked.now.profile c.args.checked.now.files well.origin.statements well.origin.accepted)
