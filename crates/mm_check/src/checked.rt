@@ -5,23 +5,15 @@ ghost use Rattle.std.specs.Prelude.{true, false, Some, None, IsTrue, IfOk, IfErr
 ghost use Rattle.mm_check.specs.declared.ask.AskFault.TheVariants.{Memory};
 ghost use Rattle.std.specs.List.{AllByRecursion};
 use crate::ask::AskFault;
-use crate::comparison::is_same;
-use crate::form::Form;
-use crate::forms::{OwnProof, normal_text, own_proof, packed_text, small_text, span_text};
 use crate::kept::{Kept, is_among};
-use crate::position::{place_of, push_place};
 use crate::progress::Progress;
 use crate::reread::{proof_of, reader, reread};
-use crate::rewrite::{bytes_of, put_in};
 use crate::rule::AskRule;
-use crate::shown::listing_text;
-use crate::shown_uses::uses_text;
-use crate::stated::push_told;
 use crate::theorem::{Theorem, theorem_of};
 use mm_frame::{Book, Found, LabelId, LabelKind};
 use mm_step::Profile;
 use mm_text::{File, Statement, Statements};
-use std::alloc::{AllocError, Global};
+use std::alloc::{Global};
 use std::marker::Model;
 
 /// A database in which nothing is at fault: each statement obeys the rules of a profile, and each
@@ -74,19 +66,11 @@ impl<'a> Checked<'a> {
     ghost use Rattle.mm_check.specs.Rests.{IsNamed, IsAskFault};
     ghost use Rattle.mm_check.specs.Rests.{IsNumberWhere};
     ghost use Rattle.mm_step.specs.Steps.{AreSteps};
-    ghost use Rattle.mm_check.specs.Shown.{ShowsProof};
-    ghost use Rattle.mm_check.specs.ShownUses.{ShowsUses};
-    ghost use Rattle.mm_check.specs.Compared.{IsCompared, IsSameFault};
-    ghost use Rattle.mm_check.specs.Forms.{IsNormalOf, IsNormalFault, IsPackedOf, IsSmallOf};
     ghost use Rattle.mm_check.specs.Mirror.Theorems.{AreProvedSteps, AreStepsOf};
     ghost use Rattle.mm_check.specs.Answer.{IsKeptOf};
-    ghost use Rattle.mm_check.specs.Stated.{IsStatementFault, TellsStatement};
-    ghost use Rattle.mm_check.specs.Saved.{IsSaved, FitsSaved, IsSaveFault};
+    ghost use Rattle.mm_check.specs.Stated.{IsStatementFault};
     ghost use Rattle.mm_check.specs.Mirror.Rewriting.{IsHomeOf};
-    ghost use Rattle.mm_check.specs.Mirror.Shortening.{IsOwnProof};
     ghost use Rattle.mm_check.specs.Mirror.Rereading.{IsTheoremIn, label_count};
-    ghost use Rattle.mm_check.specs.Mirror.Rewriting.{IsSpanTextOf};
-    ghost use Rattle.mm_check.specs.declared.form.Form.TheVariants.{Small};
     ghost use Rattle.mm_text.specs.Remaining.{IsUnread};
     ghost use Rattle.mm_text.specs.Statement.{plain_statement};
     ghost use Rattle.mm_frame.specs.Sentence.{sentence_in, IsLabelled};
@@ -181,7 +165,7 @@ impl<'a> Checked<'a> {
     }
 
     /// The number of the statement that has this label.
-    fn labelled(&self, label: &[u8]) -> Result<LabelId, AskFault>
+    pub(crate) fn labelled(&self, label: &[u8]) -> Result<LabelId, AskFault>
         ensures within { IfOk result (λ id. id.0 < length (labelled_sentences self.now.sentences)) }
         ensures found { IfOk result (λ id. (statements : List PlainStatement)
             → IsKeptOf statements self.now
@@ -196,36 +180,6 @@ impl<'a> Checked<'a> {
             Found::None => return Err(AskFault::Rule(AskRule::A1)),
         };
         Ok(id)
-    }
-
-    /// What is told of the statement with this label: a line with the place of its first token; of
-    /// an assertion, a line for each mandatory hypothesis and each mandatory pair, and of a `$p` one
-    /// for each `$d` that says more; and a line of the statement itself.
-    ///
-    /// # Errors
-    ///
-    /// `A1` where no statement has the label; `Memory` where a growth was refused.
-    pub fn statement(&self, alloc: Global, label: &[u8]) -> Result<Vec<u8>, AskFault>
-        ensures told { IfOk result (λ text. (statements : List PlainStatement)
-            → Reads self.now.files statements None
-            → TellsStatement self.now.files statements label.now text.items) }
-        ensures fault { IfErr result (λ fault. (statements : List PlainStatement)
-            → Reads self.now.files statements None
-            → IsStatementFault statements label.now fault) }
-    {
-        let files = self.files;
-        let id = self.labelled(label)?;
-        let statement = reread(alloc, self.book.seed(), files, label)?;
-        let first = statement.first;
-        let mut out = Vec::new(alloc);
-        push_place(
-            &mut out,
-            files,
-            place_of(files, first.file, first.at as usize),
-        )?;
-        out.push(b'\n')?;
-        push_told(&mut out, alloc, &self.book, id)?;
-        Ok(out)
     }
 
     /// The `$p` with this label, and the steps of its proof. No proof is kept by `check`, so the
@@ -251,143 +205,6 @@ impl<'a> Checked<'a> {
         let statement = reread(alloc, self.book.seed(), files, label)?;
         let tokens = proof_of(alloc, &statement)?;
         theorem_of(alloc, self.profile, &self.book, id, &statement, &tokens)
-    }
-
-    /// The listing of the proof of the `$p` with this label, a line for each step in order: its
-    /// number, its name, and the symbols of the expression that it puts on the stack, with one
-    /// space between each two. The name is the label of the hypothesis or of the assertion; for a
-    /// step by a tag it is `@` and the number of the step that the tag stands after.
-    ///
-    /// # Errors
-    ///
-    /// As for `axioms`.
-    pub fn show(&self, alloc: Global, label: &[u8]) -> Result<Vec<u8>, AskFault>
-        // The text is that of the listing of its proof, among the statements of the files.
-        ensures shown { IfOk result (λ text. (statements : List PlainStatement)
-            → Reads self.now.files statements None
-            → ShowsProof statements label.now text.items) }
-        ensures fault { IfErr result (λ fault. (statements : List PlainStatement)
-            → Reads self.now.files statements None → IsAskFault statements label.now fault) }
-    {
-        let theorem = self.read_theorem(alloc, label)?;
-        listing_text(alloc, &self.book, &theorem)
-    }
-
-    /// What each step of the proof of the `$p` with this label uses, as text, in lines: the number
-    /// of a step, the numbers of the steps that gave it its mandatory hypotheses, its name, and its
-    /// expression. If `essential`, only the steps that are reached from the last one through `$e`,
-    /// and only what they use so.
-    ///
-    /// # Errors
-    ///
-    /// As for `axioms`.
-    pub fn uses(&self, alloc: Global, label: &[u8], essential: bool) -> Result<Vec<u8>, AskFault>
-        ensures shown { IfOk result (λ text. (statements : List PlainStatement)
-            → Reads self.now.files statements None
-            → ShowsUses essential statements label.now text.items) }
-        ensures fault { IfErr result (λ fault. (statements : List PlainStatement)
-            → Reads self.now.files statements None → IsAskFault statements label.now fault) }
-    {
-        let theorem = self.read_theorem(alloc, label)?;
-        uses_text(alloc, &self.book, &theorem, essential)
-    }
-
-    /// The normal proof of the `$p` with this label, laid out in lines: the labels that its proof's
-    /// tree spells.
-    ///
-    /// # Errors
-    ///
-    /// As for `axioms`; and `L2` where there are over 16,777,216 labels.
-    pub fn normal(&self, alloc: Global, label: &[u8]) -> Result<Vec<u8>, AskFault>
-        ensures text { IfOk result (λ text. (statements : List PlainStatement)
-            → Reads self.now.files statements None
-            → IsNormalOf statements label.now text.items) }
-        ensures fault { IfErr result (λ fault. (statements : List PlainStatement)
-            → Reads self.now.files statements None → IsNormalFault statements label.now fault) }
-    {
-        let theorem = self.read_theorem(alloc, label)?;
-        normal_text(alloc, &self.book, &theorem)
-    }
-
-    /// The packed proof of the `$p` with this label, laid out in lines: the one fully shared proof
-    /// of its proof's tree.
-    ///
-    /// # Errors
-    ///
-    /// As for `axioms`.
-    pub fn packed(&self, alloc: Global, label: &[u8]) -> Result<Vec<u8>, AskFault>
-        ensures text { IfOk result (λ text. (statements : List PlainStatement)
-            → Reads self.now.files statements None
-            → IsPackedOf statements label.now text.items) }
-        ensures fault { IfErr result (λ fault. (statements : List PlainStatement)
-            → Reads self.now.files statements None → IsAskFault statements label.now fault) }
-    {
-        let theorem = self.read_theorem(alloc, label)?;
-        packed_text(alloc, &self.book, &theorem)
-    }
-
-    /// The small proof of the `$p` with this label, laid out in lines as a packed one: the one
-    /// compressed proof of its proof's tree whose labels are listed by use.
-    ///
-    /// # Errors
-    ///
-    /// As for `axioms`.
-    pub fn small(&self, alloc: Global, label: &[u8]) -> Result<Vec<u8>, AskFault>
-        ensures text { IfOk result (λ text. (statements : List PlainStatement)
-            → Reads self.now.files statements None
-            → IsSmallOf statements label.now text.items) }
-        ensures fault { IfErr result (λ fault. (statements : List PlainStatement)
-            → Reads self.now.files statements None → IsAskFault statements label.now fault) }
-    {
-        let theorem = self.read_theorem(alloc, label)?;
-        small_text(alloc, &self.book, &theorem)
-    }
-
-    /// Whether a text, as a proof of the `$p` with this label, is the same proof as its own:
-    /// whether both make the same tree. It is judged under the profile that the database obeys.
-    ///
-    /// The text is cut into tokens by white space, and has no comments.
-    ///
-    /// # Errors
-    ///
-    /// As for `axioms`, before anything is said of the text; then `Text` with the first rule that
-    /// the text breaks, and its step: `F3` where it has over 1,073,741,824 bytes, `X1` where a
-    /// token holds a byte that none may hold, `X9` where one holds a `$`, `A3` where one holds a
-    /// `?`, all of them at step 0; then the rules of a proof: `P1` to `P5`; `P15` where the profile
-    /// is strict and the text hasn't the form that it demands; `P6` to `P14` and `L1`.
-    pub fn same_text(&self, alloc: Global, label: &[u8], text: &[u8]) -> Result<bool, AskFault>
-        ensures compared { IfOk result (λ same. (statements : List PlainStatement)
-            → Reads self.now.files statements None
-            → IsCompared self.now.profile statements label.now text.now same) }
-        ensures fault { IfErr result (λ fault. (statements : List PlainStatement)
-            → Reads self.now.files statements None
-            → IsSameFault self.now.profile statements label.now text.now fault) }
-    {
-        let theorem = self.read_theorem(alloc, label)?;
-        is_same(alloc, self.profile, &self.book, &theorem, text)
-    }
-
-    /// The number of the file in which the `$p` with this label stands, and the bytes of that file
-    /// with the proof written in a form.
-    pub(crate) fn saved(
-        &self,
-        alloc: Global,
-        label: &[u8],
-        form: Form,
-    ) -> Result<(usize, Vec<u8>), AskFault>
-        ensures saved { IfOk result (λ new. (statements : List PlainStatement)
-            → Reads self.now.files statements None
-            → IsSaved form self.now.files statements label.now new.0 new.1.items) }
-        ensures fits { IfOk result (λ new. FitsSaved self.now.files new.0 new.1.items) }
-        ensures fault { IfErr result (λ fault. (statements : List PlainStatement)
-            → Reads self.now.files statements None
-            → IsSaveFault form self.now.files statements label.now fault) }
-    {
-        let theorem = self.read_theorem(alloc, label)?;
-        let old = bytes_of(self.files, theorem.file, theorem.span);
-        let put = span_text(alloc, &self.book, &theorem, form, old)?;
-        let bytes = put_in(alloc, self.files, theorem.file, theorem.span, &put)?;
-        Ok((theorem.file, bytes))
     }
 
     /// A reader of its files.
@@ -435,33 +252,5 @@ impl<'a> Checked<'a> {
     {
         let tokens = proof_of(alloc, statement)?;
         theorem_of(alloc, self.profile, &self.book, id, statement, &tokens)
-    }
-
-    /// The small proof of a theorem, and its size.
-    pub(crate) fn own_proof(&self, alloc: Global, theorem: &Theorem) -> Result<OwnProof, AllocError>
-        requires steps { AreSteps self.now.sentences theorem.now.id.0 theorem.now.steps.moves }
-        requires proved { AreProvedSteps self.now.sentences theorem.now.id.0 theorem.now.steps }
-        requires whole { theorem.now.steps.prefix ≡ false }
-        ensures { IfOk result (IsOwnProof self.now.sentences theorem.now.id.0
-            theorem.now.steps.moves) }
-    {
-        own_proof(alloc, &self.book, theorem)
-    }
-
-    /// What is put in place of the old bytes of a theorem's proof in small form.
-    pub(crate) fn small_span(
-        &self,
-        alloc: Global,
-        theorem: &Theorem,
-        old: &[u8],
-    ) -> Result<Vec<u8>, AskFault>
-        requires steps { AreSteps self.now.sentences theorem.now.id.0 theorem.now.steps.moves }
-        requires proved { AreProvedSteps self.now.sentences theorem.now.id.0 theorem.now.steps }
-        requires whole { theorem.now.steps.prefix ≡ false }
-        ensures put { IfOk result (λ put. IsSpanTextOf Small self.now.sentences theorem.now.id.0
-            theorem.now.steps.moves old.now put.items) }
-        ensures memory { IfErr result (λ fault. fault ≡ Memory) }
-    {
-        span_text(alloc, &self.book, theorem, Form::Small, old)
     }
 }

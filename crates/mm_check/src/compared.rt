@@ -7,6 +7,7 @@ ghost use Rattle.mm_check.specs.Mirror.AllShortening.{IsShorterFor};
 ghost use Rattle.mm_check.specs.Mirror.Rereading.{IsTheoremIn};
 ghost use Rattle.mm_check.specs.Mirror.Shortening.{KnowsDatabase};
 
+use crate::asked_texts::{own_small_proof};
 use crate::ask::AskFault;
 use crate::forms::OwnProof;
 use crate::search::Search;
@@ -40,7 +41,7 @@ pub(crate) fn shorter_proof<'a, S: Search>(
 {
     let checked = shortening.checked;
     let theorem = checked.theorem_at(alloc, statement, id)?;
-    let own = checked.own_proof(alloc, &theorem)?;
+    let own = own_small_proof(alloc, checked, &theorem)?;
     let found = shortening.found(alloc, &theorem, &own, search)?;
     match found {
         Some(new) => Ok(Some(Compared { own, new })),

@@ -23,6 +23,7 @@ ghost use Rattle.mm_check.specs.Reply.{IsUsesReply, IsAllAxiomsReply, IsStatemen
 ghost use Rattle.mm_step.specs.declared.profile.Profile.{Profile};
 ghost use Rattle.mm_check.specs.Users.{AreUsers, IsAssertionFault};
 
+use crate::asked_texts::{is_same_proof, normal_form, packed_form, proof_listing, saved_file, small_form, statement_text, uses_listing};
 use crate::asked_axioms::{all_users, axioms, direct_users};
 use crate::all_axioms::all_axioms_text;
 use crate::ask::AskFault;
@@ -166,7 +167,7 @@ fn show_answer(alloc: Global, checked: &Checked, label: &[u8]) -> Result<Reply, 
         → Reads checked.now.files statements None
         → IsShowReply label.now statements reply.text.items (number_of reply.status)) }
 {
-    match checked.show(alloc, label) {
+    match proof_listing(alloc, checked, label) {
         Ok(text) => Ok(Reply {
             text,
             status: Status::Done,
@@ -187,7 +188,7 @@ fn uses_answer(
         → Reads checked.now.files statements None
         → IsUsesReply essential label.now statements reply.text.items (number_of reply.status)) }
 {
-    match checked.uses(alloc, label, essential) {
+    match uses_listing(alloc, checked, label, essential) {
         Ok(text) => Ok(Reply {
             text,
             status: Status::Done,
@@ -202,7 +203,7 @@ fn normal_answer(alloc: Global, checked: &Checked, label: &[u8]) -> Result<Reply
         → Reads checked.now.files statements None
         → IsNormalReply label.now statements reply.text.items (number_of reply.status)) }
 {
-    match checked.normal(alloc, label) {
+    match normal_form(alloc, checked, label) {
         Ok(text) => Ok(Reply {
             text,
             status: Status::Done,
@@ -217,7 +218,7 @@ fn packed_answer(alloc: Global, checked: &Checked, label: &[u8]) -> Result<Reply
         → Reads checked.now.files statements None
         → IsPackedReply label.now statements reply.text.items (number_of reply.status)) }
 {
-    match checked.packed(alloc, label) {
+    match packed_form(alloc, checked, label) {
         Ok(text) => Ok(Reply {
             text,
             status: Status::Done,
@@ -232,7 +233,7 @@ fn small_answer(alloc: Global, checked: &Checked, label: &[u8]) -> Result<Reply,
         → Reads checked.now.files statements None
         → IsSmallReply label.now statements reply.text.items (number_of reply.status)) }
 {
-    match checked.small(alloc, label) {
+    match small_form(alloc, checked, label) {
         Ok(text) => Ok(Reply {
             text,
             status: Status::Done,
@@ -272,7 +273,7 @@ fn same_answer(
         → Reads checked.now.files statements None
         → IsSameReply label.now proof.now statements reply.text.items (number_of reply.status)) }
 {
-    match checked.same_text(alloc, label, proof) {
+    match is_same_proof(alloc, checked, label, proof) {
         Ok(same) => {
             let text = sameness_text(alloc, same)?;
             let status = sameness_status(same);
@@ -295,7 +296,7 @@ fn saved_answer(
         → IsSavedReply form checked.now.files label.now statements reply.text.items
         (number_of reply.status)) }
 {
-    match checked.saved(alloc, label, form) {
+    match saved_file(alloc, checked, label, form) {
         Ok((_, text)) => Ok(Reply {
             text,
             status: Status::Done,
@@ -380,7 +381,7 @@ fn statement_answer(alloc: Global, checked: &Checked, label: &[u8]) -> Result<Re
         → IsStatementReply checked.now.files label.now statements reply.text.items
         (number_of reply.status)) }
 {
-    match checked.statement(alloc, label) {
+    match statement_text(alloc, checked, label) {
         Ok(text) => Ok(Reply {
             text,
             status: Status::Done,

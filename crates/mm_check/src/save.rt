@@ -7,6 +7,7 @@ ghost use Rattle.mm_step.specs.declared.profile.Profile.TheVariants.{Lenient};
 ghost use Rattle.mm_check.specs.Verdict.{AreAccepted};
 ghost use Rattle.mm_check.specs.Saved.{IsSaved, FitsSaved, IsSavingFault};
 
+use crate::asked_texts::{saved_file};
 use crate::form::Form;
 use crate::save_fault::SaveFault;
 use crate::verdict::check;
@@ -40,7 +41,7 @@ pub fn saved<'a>(
         Ok(checked) => checked,
         Err(fault) => return Err(SaveFault::Check(fault)),
     };
-    let answer = checked.saved(alloc, label, form);
+    let answer = saved_file(alloc, &checked, label, form);
     drop(checked);
     match answer {
         Ok(new) => Ok(new),

@@ -14,6 +14,7 @@ ghost use Rattle.mm_check.specs.Mirror.Shortening.{KnowsDatabase};
 ghost use Rattle.mm_check.specs.Mirror.AllSaving.{IsWrittenSoFar};
 ghost use Rattle.mm_check.specs.declared.form.Form.TheVariants.{Small};
 
+use crate::asked_texts::{small_span_text};
 use crate::ask::AskFault;
 use crate::checked::Checked;
 use crate::compared::shorter_proof;
@@ -67,7 +68,7 @@ fn text_for<'a, S: Search>(
     let found = shorter_proof(alloc, shortening, statement, id, search)?;
     match found {
         Some(both) if is_wanted(duplicates, &both.new) => {
-            shortening.checked.small_span(alloc, &both.new.theorem, old)
+            small_span_text(alloc, shortening.checked, &both.new.theorem, old)
         }
         _ => Ok(Vec::from_slice(alloc, old)?),
     }

@@ -1,23 +1,21 @@
 //! The listing of a proof, as text.
 
-ghost use Rattle.std.specs.Prelude.{◌≡◌, ◌<◌, ◌++◌, List, take, length, OnOk, IfOk};
+ghost use Rattle.std.specs.Prelude.{◌≡◌, ◌++◌, List, take, length, OnOk, IfOk};
 ghost use Rattle.std.specs.Prelude.{false, IfErr};
 ghost use Rattle.std.specs.List.{AllZip, AllByRecursion};
-ghost use Rattle.mm_frame.specs.Numbers.{symbols_of};
-ghost use Rattle.mm_step.specs.Stores.{numbers_in};
 ghost use Rattle.mm_step.specs.Steps.{AreSteps};
 ghost use Rattle.mm_proof.specs.Verified.{OfMoves};
 ghost use Rattle.mm_listing.specs.Listing.{StepName, ListedStep, IsNameOf, TellsStep, AreLinesOf};
 ghost use Rattle.mm_check.specs.declared.ask.AskFault.TheVariants.{Memory};
-ghost use Rattle.mm_check.specs.Answer.{labels_at};
-ghost use Rattle.mm_check.specs.Shown.{name_text, symbols_text, step_text};
+ghost use Rattle.mm_check.specs.Shown.{name_text, step_text};
 ghost use Rattle.mm_check.specs.Shown.{listing_text as text_of_listing};
 ghost use Rattle.mm_check.specs.Mirror.Theorems.{AreProvedSteps, IsListingOf};
 
 use crate::ask::AskFault;
 use crate::theorem::Theorem;
-use crate::words::{push_decimal, push_word};
-use mm_frame::{Book, Sym};
+use crate::symbols::push_symbols;
+use crate::words::push_decimal;
+use mm_frame::Book;
 use mm_listing::{Line, Name, listing};
 use mm_step::ProofFault;
 use std::alloc::{AllocError, Global};
@@ -34,24 +32,6 @@ pub(crate) fn push_name(out: &mut Vec<u8>, book: &Book, name: Name) -> Result<()
             push_decimal(out, number as usize)
         }
     }
-}
-
-/// Puts a space and the symbol at the end, for each of these symbols.
-#[tactic(auto, using(crate::proofs::Questions::ShownSteps::symbol_steps))]
-pub(crate) fn push_symbols(
-    out: &mut Vec<u8>,
-    book: &Book,
-    symbols: &[Sym],
-) -> Result<(), AllocError>
-    requires { AllByRecursion (λ n. n < length (symbols_of book.now.statements))
-        (numbers_in symbols.now) }
-    ensures { OnOk result (out.new.items ≡ out.old.items
-        ++ symbols_text (labels_at (symbols_of book.now.statements) (numbers_in symbols.now))) }
-{
-    for symbol in symbols {
-        push_word(out, book.name(*symbol))?;
-    }
-    Ok(())
 }
 
 /// Puts the line of the step with a number at the end.

@@ -14,7 +14,8 @@ ghost use Rattle.mm_check.specs.ShownUses.{uses_text as text_of_uses};
 ghost use Rattle.mm_check.specs.Mirror.Theorems.{AreProvedSteps, IsUsesTextOf};
 
 use crate::ask::AskFault;
-use crate::shown::{push_name, push_symbols};
+use crate::shown::push_name;
+use crate::symbols::push_symbols;
 use crate::theorem::Theorem;
 use crate::words::push_decimal;
 use mm_frame::Book;

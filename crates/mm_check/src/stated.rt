@@ -15,7 +15,7 @@ ghost use Rattle.mm_check.specs.Mirror.Explaining.{named_pairs};
 ghost use Rattle.mm_check.specs.Stated.{IsFrameText, IsTextBefore, further_line, pair_line};
 ghost use Rattle.mm_check.specs.Stated.{statement_line};
 
-use crate::shown::push_symbols;
+use crate::symbols::push_symbols;
 use crate::words::push_word;
 use mm_frame::{Book, DistinctPair, Hypothesis, LabelId, LabelKind};
 use std::alloc::{AllocError, Global};

@@ -20,7 +20,7 @@ ghost use Rattle.mm_check.specs.Answer.{labels_at};
 ghost use Rattle.mm_check.specs.Places.{place_text, token_place};
 
 use crate::position::{Place, place_of, push_place};
-use crate::shown::push_symbols;
+use crate::symbols::push_symbols;
 use crate::words::push_decimal;
 use mm_frame::{Book, MeaningRule, Sym};
 use mm_text::{File, Token};

@@ -1,6 +1,7 @@
 //! Questions about the proof of a theorem: the program's reply, and what the call answers that goes
 //! with the command.
 
+use mm_check::{is_same_proof, normal_form, packed_form, small_form};
 use crate::tests::{contents_of, expect_reply, files_of, joined};
 use crate::{Asked, form_lines, forms, sameness, saving, saving_all};
 use mm_check::{
@@ -33,16 +34,16 @@ fn answer_of(alloc: Global, checked: &Checked, command: &Command) -> Result<Answ
         Question::Form {
             form: Form::Normal,
             ..
-        } => Ok(checked.normal(alloc, label)),
+        } => Ok(normal_form(alloc, checked, label)),
         Question::Form {
             form: Form::Packed,
             ..
-        } => Ok(checked.packed(alloc, label)),
+        } => Ok(packed_form(alloc, checked, label)),
         Question::Form {
             form: Form::Small,
             ..
-        } => Ok(checked.small(alloc, label)),
-        Question::Same(text) => match checked.same_text(alloc, label, text) {
+        } => Ok(small_form(alloc, checked, label)),
+        Question::Same(text) => match is_same_proof(alloc, checked, label, text) {
             Ok(same) => Ok(Ok(sameness_line(alloc, same)?)),
             Err(fault) => Ok(Err(fault)),
         },

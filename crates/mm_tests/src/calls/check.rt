@@ -1,5 +1,6 @@
 //! One happy path of each public call, and writers that fail in the middle of a reply.
 
+use mm_check::{proof_listing};
 use mm_check::{axioms};
 use crate::calls::failing::failing_writer;
 use crate::tests::{CHECK, reply_to};
@@ -205,7 +206,7 @@ fn refuses_questions(rt: HostRuntime) -> Result<(), Fail> {
 
 /// The listing of the proof of a theorem.
 fn show(alloc: Global, checked: &Checked, label: &[u8]) -> Result<Vec<u8>, Fail> {
-    Ok(checked.show(alloc, label)?)
+    Ok(proof_listing(alloc, &checked, label)?)
 }
 
 #[test]

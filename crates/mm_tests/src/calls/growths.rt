@@ -5,6 +5,7 @@
 //! it leaves, and go on. With ample memory they are runs of happy paths. `scripts/failing` runs
 //! each of them with each of its requests for memory refused, one alone, in turn.
 
+use mm_check::{is_same_proof, normal_form, packed_form, proof_listing, small_form, statement_text, uses_listing};
 use mm_check::{all_users, axioms, direct_users};
 use crate::calls::code::{CODES, LETTERS};
 use crate::calls::load::{HOLLOW, failing_reader};
@@ -233,7 +234,7 @@ fn growths_of_forms(rt: HostRuntime) -> Result<(), Fail> {
 
 /// How many axioms a theorem rests on, as a text of so many bytes.
 fn axioms_text(alloc: Global, checked: &Checked, label: &[u8]) -> Result<Vec<u8>, AskFault> {
-    let report = axioms(alloc, &checked, label)?;
+    let report = axioms(alloc, checked, label)?;
     let mut text = Vec::new(alloc);
     for _ in &report.axioms {
         text.push(b'a')?;
@@ -249,9 +250,9 @@ fn users_text(
     all: bool,
 ) -> Result<Vec<u8>, AskFault> {
     let users = if all {
-        all_users(alloc, &checked, label)?
+        all_users(alloc, checked, label)?
     } else {
-        direct_users(alloc, &checked, label)?
+        direct_users(alloc, checked, label)?
     };
     let mut text = Vec::new(alloc);
     for _ in &users {
@@ -269,28 +270,28 @@ fn answer_to(
 ) -> Result<Vec<u8>, AskFault> {
     match question {
         Question::Axioms => axioms_text(alloc, checked, label),
-        Question::Show => checked.show(alloc, label),
-        Question::Uses { essential } => checked.uses(alloc, label, *essential),
+        Question::Show => proof_listing(alloc, checked, label),
+        Question::Uses { essential } => uses_listing(alloc, checked, label, *essential),
         Question::Form {
             form: Form::Normal,
             ..
-        } => checked.normal(alloc, label),
+        } => normal_form(alloc, checked, label),
         Question::Form {
             form: Form::Packed,
             ..
-        } => checked.packed(alloc, label),
+        } => packed_form(alloc, checked, label),
         Question::Form {
             form: Form::Small,
             ..
-        } => checked.small(alloc, label),
+        } => small_form(alloc, checked, label),
         Question::Same(text) => {
-            let is_same = checked.same_text(alloc, label, text)?;
+            let is_same = is_same_proof(alloc, checked, label, text)?;
             Ok(Vec::from_slice(alloc, if is_same { b"same" } else { b"no" })?)
         }
         Question::Users { all } => users_text(alloc, checked, label, *all),
-        Question::Statement => checked.statement(alloc, label),
+        Question::Statement => statement_text(alloc, checked, label),
         // It is asked by a command alone, so this is what is told where no search finds anything.
-        Question::Minimized => checked.small(alloc, label),
+        Question::Minimized => small_form(alloc, checked, label),
     }
 }
 

@@ -1,5 +1,6 @@
 //! `check` under both profiles, and questions of what either has accepted.
 
+use mm_check::{is_same_proof};
 use crate::databases::{DEMO, DEMO_COMPRESSED, HEAD};
 use mm_check::{
     AskFault, AskRule, CheckFault, Checked, Form, Rule, between_profiles, check, check_with, saved,
@@ -58,7 +59,7 @@ fn file(bytes: &[u8]) -> [File<'_>; 1] {
 fn told(alloc: Global, profile: Profile, files: &[File], text: &[u8]) -> Result<Told, Fail> {
     match check_with(alloc, Seed::known(), profile, files) {
         Ok(checked) => {
-            let answer = checked.same_text(alloc, b"th2", text);
+            let answer = is_same_proof(alloc, &checked, b"th2", text);
             drop(checked);
             match answer {
                 Ok(true) => Ok(None),

@@ -7,8 +7,8 @@ use Rattle.mm_check.specs.Saved.{IsSaved, FitsSaved, IsSaveFault}
 use Rattle.mm_check.proofs.Saving.SavedFiles.{accepted_of}
 use Rattle.mm_check.proofs.save.saved.Goals as goal
 
-pub returns-in-Ok-answer-clause-saved : goal.returns-in-Ok-answer-clause-saved
-returns-in-Ok-answer-clause-saved c =
+pub returns-in-Ok-answer-clause-saved_file : goal.returns-in-Ok-answer-clause-saved_file
+returns-in-Ok-answer-clause-saved_file c =
     let found = accepted_of Lenient _ c.check.result c.in-Ok.checked c.in-Ok.is c.check.ensures.verdict in
     let kept = c.in-Ok.ensures.files in
     let reads : Reads c.in-Ok.checked.files found.0 None = subst (λ (fs : List PlainFile). Reads fs found.0 None) (sym kept) found.1.reads in (

@@ -3,15 +3,15 @@ use Rattle.std.proofs.Common.{ap, ◌∙◌}
 use Rattle.std.proofs.lemmas.Result.{IfOk-weaker}
 use Rattle.mm_check.specs.Conclusion.{Conclusion}
 use Rattle.mm_check.proofs.Questions.ShownUses.{uses_shown}
-use Rattle.mm_check.proofs.checked.Checked.uses.Goals as goal
+use Rattle.mm_check.proofs.asked_texts.uses_listing.Goals as goal
 
 pub uses_text-requires-clause-proved : goal.uses_text-requires-clause-proved
 uses_text-requires-clause-proved c =
-    rw (ap (λ (v : Conclusion). v.sentences) c.self.view_is) c.in_ok-theorem.ensures.proved
+    rw (ap (λ (v : Conclusion). v.sentences) c.checked.view_is) c.in_ok-theorem.ensures.proved
 
 pub returns-clause-shown : goal.returns-clause-shown
 returns-clause-shown c =
-    let told = ap (λ (v : Conclusion). v.sentences) c.self.view_is in
+    let told = ap (λ (v : Conclusion). v.sentences) c.checked.view_is in
     IfOk-weaker c.uses_text.result _ _
     (λ text laid statements reads.
     let read = c.in_ok-theorem.ensures.read statements reads in

@@ -4,7 +4,7 @@ use Rattle.mm_frame.specs.Numbers.{symbols_of}
 use Rattle.mm_step.specs.Stores.{numbers_in}
 use Rattle.mm_check.specs.Answer.{labels_at}
 use Rattle.mm_check.specs.Shown.{symbols_text}
-use Rattle.mm_check.proofs.shown.push_symbols.Given as goal
+use Rattle.mm_check.proofs.symbols.push_symbols.Given as goal
 
 abbrev pub invariant-loop-symbol : goal.invariant-loop-symbol
 invariant-loop-symbol l =

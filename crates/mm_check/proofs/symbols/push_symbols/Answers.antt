@@ -3,7 +3,7 @@ use Rattle.std.proofs.Common.{◌<◌, ℕ, length}
 use Rattle.mm_frame.specs.declared.number.Sym.{Sym}
 use Rattle.mm_frame.specs.Numbers.{symbols_of}
 use Rattle.mm_check.proofs.Numbers.{all_at}
-use Rattle.mm_check.proofs.shown.push_symbols.Goals as goal
+use Rattle.mm_check.proofs.symbols.push_symbols.Goals as goal
 
 pub name-requires : goal.name-requires
 name-requires c =

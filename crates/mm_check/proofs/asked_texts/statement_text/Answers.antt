@@ -12,26 +12,26 @@ use Rattle.mm_text.proofs.Lists.{error_keeps}
 use Rattle.mm_check.proofs.Verdicts.AcceptedStatements.{AreOf, own_statements, read_statements}
 use Rattle.mm_check.proofs.Verdicts.AcceptedStatements.{KeptWell}
 use Rattle.mm_check.proofs.Questions.ToldStatements.{tells_statement}
-use Rattle.mm_check.proofs.checked.Checked.statement.Goals as goal
+use Rattle.mm_check.proofs.asked_texts.statement_text.Goals as goal
 
 pub returns-in_err-id-clause-fault : goal.returns-in_err-id-clause-fault
 returns-in_err-id-clause-fault c =
-    let well = subst KeptWell c.self.view_is c.self.invariant in
+    let well = subst KeptWell c.checked.view_is c.checked.invariant in
     error_keeps c.from_residual.result c.in_err-id.field-0.0 _ c.from_residual.ensures.1
     (λ statements reads. c.in_err-id.ensures.fault statements
-    (read_statements c.args.self.now statements well.origin reads).kept)
+    (read_statements c.args.checked.now statements well.origin reads).kept)
 
 pub reread-requires-clause-readable : goal.reread-requires-clause-readable
 reread-requires-clause-readable c =
-    let well = subst KeptWell c.self.view_is c.self.invariant in
-    subst CanBeRead (sym (ap (λ (v : Conclusion). v.files) c.self.view_is))
+    let well = subst KeptWell c.checked.view_is c.checked.invariant in
+    subst CanBeRead (sym (ap (λ (v : Conclusion). v.files) c.checked.view_is))
     well.origin.accepted.readable
 
 pub reread-requires-clause-stands : goal.reread-requires-clause-stands
 reread-requires-clause-stands c =
-    let now : Conclusion = c.args.self.now in
-    let well = subst KeptWell c.self.view_is c.self.invariant in
-    let files : map plain_file c.self.inside.files.now ≡ now.files = ap (λ (v : Conclusion). v.files) c.self.view_is in
+    let now : Conclusion = c.args.checked.now in
+    let well = subst KeptWell c.checked.view_is c.checked.invariant in
+    let files : map plain_file c.checked.inside.files.now ≡ now.files = ap (λ (v : Conclusion). v.files) c.checked.view_is in
     let own : AreOf now well.origin.statements = own_statements now well.origin in
     let (index, s, at, both) = c.in_ok-id.ensures.found well.origin.statements own.kept in
     (well.origin.statements, s, rw files own.accepted.reads, (index, at.there, both.0))
@@ -39,16 +39,16 @@ reread-requires-clause-stands c =
 pub push_told-requires : goal.push_told-requires
 push_told-requires c =
     subst (λ (ss : List Sentence). c.in_ok-id.id.0 < length (labelled_sentences ss))
-    (sym (ap (λ (v : Conclusion). v.sentences) c.self.view_is)) c.in_ok-id.ensures.within
+    (sym (ap (λ (v : Conclusion). v.sentences) c.checked.view_is)) c.in_ok-id.ensures.within
 
 pub returns-clause-told : goal.returns-clause-told
 returns-clause-told c = λ statements reads.
-    let now : Conclusion = c.args.self.now in
-    let well = subst KeptWell c.self.view_is c.self.invariant in
-    let files : map plain_file c.self.inside.files.now ≡ now.files = ap (λ (v : Conclusion). v.files) c.self.view_is in
-    let told : c.self.inside.book.statements ≡ now.sentences = ap (λ (v : Conclusion). v.sentences) c.self.view_is in
+    let now : Conclusion = c.args.checked.now in
+    let well = subst KeptWell c.checked.view_is c.checked.invariant in
+    let files : map plain_file c.checked.inside.files.now ≡ now.files = ap (λ (v : Conclusion). v.files) c.checked.view_is in
+    let told : c.checked.inside.book.statements ≡ now.sentences = ap (λ (v : Conclusion). v.sentences) c.checked.view_is in
     let of : AreOf now statements = read_statements now statements well.origin reads in
-    let same : c.self.inside.book.statements ≡ sentences statements = told ∙ of.kept.sentences in
+    let same : c.checked.inside.book.statements ≡ sentences statements = told ∙ of.kept.sentences in
     let t : PlainStatement = plain_statement c.in_ok-statement.statement in
     let stands = c.in_ok-statement.ensures.found statements (rw files reads) in
     let meant : AllMeant (sentences statements) = subst AllMeant of.kept.sentences c.labelled.ensures.sound.0 in
@@ -56,7 +56,7 @@ returns-clause-told c = λ statements reads.
     c.push_place.new.out.items c.push.new.self.items c.push_told.new.out.items meant
     (c.in_ok-id.ensures.found statements of.kept) stands
     (c.in_ok-push_place.ensures
-    ∙ ap (λ (o : List ℕ). o ++ place_text (map plain_file c.self.inside.files.now) c.place_of.result) c.new-out.ensures.items
-    ∙ ap (λ p. place_text (map plain_file c.self.inside.files.now) p) c.place_of.ensures
+    ∙ ap (λ (o : List ℕ). o ++ place_text (map plain_file c.checked.inside.files.now) c.place_of.result) c.new-out.ensures.items
+    ∙ ap (λ p. place_text (map plain_file c.checked.inside.files.now) p) c.place_of.ensures
     ∙ ap (λ (fs : List PlainFile). place_text fs (place_of fs t.first.file t.first.at)) files)
     c.in_ok-push.ensures.items (rw same at c.in_ok-push_told.ensures)

@@ -5,11 +5,11 @@ use Rattle.mm_check.specs.Conclusion.{Conclusion}
 use Rattle.mm_check.specs.Forms.{IsNormalText}
 use Rattle.mm_text.proofs.Lists.{error_keeps}
 use Rattle.mm_check.proofs.Questions.AskedTheorems.{told_of_tree, normal_fault, ask_fault, why}
-use Rattle.mm_check.proofs.checked.Checked.normal.Goals as goal
+use Rattle.mm_check.proofs.asked_texts.normal_form.Goals as goal
 
 pub normal_text-requires-clause-proved : goal.normal_text-requires-clause-proved
 normal_text-requires-clause-proved c =
-    rw (ap (λ (v : Conclusion). v.sentences) c.self.view_is) c.in_ok-theorem.ensures.proved
+    rw (ap (λ (v : Conclusion). v.sentences) c.checked.view_is) c.in_ok-theorem.ensures.proved
 
 pub returns-in_err-theorem-clause-fault : goal.returns-in_err-theorem-clause-fault
 returns-in_err-theorem-clause-fault c =
@@ -19,7 +19,7 @@ returns-in_err-theorem-clause-fault c =
 
 pub returns-clause-text : goal.returns-clause-text
 returns-clause-text c =
-    let told = ap (λ (v : Conclusion). v.sentences) c.self.view_is in
+    let told = ap (λ (v : Conclusion). v.sentences) c.checked.view_is in
     IfOk-weaker c.normal_text.result _ _
     (λ text laid statements reads.
     let read = c.in_ok-theorem.ensures.read statements reads in
@@ -29,7 +29,7 @@ returns-clause-text c =
 
 pub returns-clause-fault : goal.returns-clause-fault
 returns-clause-fault c =
-    let told = ap (λ (v : Conclusion). v.sentences) c.self.view_is in
+    let told = ap (λ (v : Conclusion). v.sentences) c.checked.view_is in
     why c.normal_text.result _ _
     (λ fault why statements reads.
     let read = c.in_ok-theorem.ensures.read statements reads in

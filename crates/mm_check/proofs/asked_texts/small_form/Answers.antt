@@ -4,15 +4,15 @@ use Rattle.std.proofs.lemmas.Result.{IfOk-weaker}
 use Rattle.mm_check.specs.Conclusion.{Conclusion}
 use Rattle.mm_check.specs.Forms.{IsSmallText}
 use Rattle.mm_check.proofs.Questions.AskedTheorems.{told_of_tree}
-use Rattle.mm_check.proofs.checked.Checked.small.Goals as goal
+use Rattle.mm_check.proofs.asked_texts.small_form.Goals as goal
 
 pub small_text-requires-clause-proved : goal.small_text-requires-clause-proved
 small_text-requires-clause-proved c =
-    rw (ap (λ (v : Conclusion). v.sentences) c.self.view_is) c.in_ok-theorem.ensures.proved
+    rw (ap (λ (v : Conclusion). v.sentences) c.checked.view_is) c.in_ok-theorem.ensures.proved
 
 pub returns-clause-text : goal.returns-clause-text
 returns-clause-text c =
-    let told = ap (λ (v : Conclusion). v.sentences) c.self.view_is in
+    let told = ap (λ (v : Conclusion). v.sentences) c.checked.view_is in
     IfOk-weaker c.small_text.result _ _
     (λ text laid statements reads.
     let read = c.in_ok-theorem.ensures.read statements reads in

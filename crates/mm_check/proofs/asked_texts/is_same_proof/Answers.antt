@@ -7,22 +7,22 @@ use Rattle.mm_check.specs.Compared.{IsCompared, IsSameFault}
 use Rattle.mm_text.proofs.Lists.{error_keeps}
 use Rattle.mm_check.proofs.Questions.AskedTheorems.{why}
 use Rattle.mm_check.proofs.Questions.ComparedTexts.{compared_of, same_fault, asked_fault}
-use Rattle.mm_check.proofs.checked.Checked.same_text.Goals as goal
+use Rattle.mm_check.proofs.asked_texts.is_same_proof.Goals as goal
 
 pub is_same-requires-clause-proved : goal.is_same-requires-clause-proved
 is_same-requires-clause-proved c =
-    rw (ap (λ (v : Conclusion). v.sentences) c.self.view_is) c.in_ok-theorem.ensures.proved
+    rw (ap (λ (v : Conclusion). v.sentences) c.checked.view_is) c.in_ok-theorem.ensures.proved
 
 pub returns-in_err-theorem-clause-fault : goal.returns-in_err-theorem-clause-fault
 returns-in_err-theorem-clause-fault c =
     error_keeps c.from_residual.result c.in_err-theorem.field-0.0 _ c.from_residual.ensures.1
-    (λ statements reads. asked_fault c.args.self.now.profile statements c.args.label.now
+    (λ statements reads. asked_fault c.args.checked.now.profile statements c.args.label.now
     c.args.text.now c.in_err-theorem.field-0.0 (c.in_err-theorem.ensures.fault statements reads))
 
 pub returns-clause-compared : goal.returns-clause-compared
 returns-clause-compared c =
-    let told = ap (λ (v : Conclusion). v.sentences) c.self.view_is in
-    let under = ap (λ (v : Conclusion). v.profile) c.self.view_is in
+    let told = ap (λ (v : Conclusion). v.sentences) c.checked.view_is in
+    let under = ap (λ (v : Conclusion). v.profile) c.checked.view_is in
     IfOk-weaker c.is_same.result _ _
     (λ same compared statements reads.
     let read = c.in_ok-theorem.ensures.read statements reads in
@@ -33,8 +33,8 @@ returns-clause-compared c =
 
 pub returns-clause-fault : goal.returns-clause-fault
 returns-clause-fault c =
-    let told = ap (λ (v : Conclusion). v.sentences) c.self.view_is in
-    let under = ap (λ (v : Conclusion). v.profile) c.self.view_is in
+    let told = ap (λ (v : Conclusion). v.sentences) c.checked.view_is in
+    let under = ap (λ (v : Conclusion). v.profile) c.checked.view_is in
     why c.is_same.result _ _
     (λ fault refused statements reads.
     let read = c.in_ok-theorem.ensures.read statements reads in
