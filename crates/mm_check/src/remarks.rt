@@ -14,7 +14,7 @@ ghost use Rattle.mm_check.specs.Mirror.Shortening.{AreRemarks, AreRemarksOf, IsR
 ghost use Rattle.mm_check.specs.Mirror.Shortening.{ArePassed, IsPassed};
 
 use crate::ask::AskFault;
-use crate::reread::{next, reader};
+use crate::reread::{read_on, reader};
 use mm_text::{File, Seed, Statement, Statements, headings_between, mathbox_at, says_before};
 use std::alloc::{AllocError, Global};
 
@@ -110,7 +110,7 @@ fn read_remarks<'a>(
         statements.old.statements remarks.new.items) }
     ensures memory { IfErr result (λ fault. fault ≡ Memory) }
 {
-    while next(statements, into)? {
+    while read_on(statements, into)? {
         if into.label.is_some() {
             remarks.push(remark_of(files, into, passed))?;
         }

@@ -46,7 +46,7 @@ pub(crate) fn reader<'a>(
 }
 
 /// Reads the next statement of a text without a fault; `false` where there is none.
-pub(crate) fn next<'a>(
+pub(crate) fn read_on<'a>(
     statements: &mut Statements<'a>,
     into: &mut Statement<'a>,
 ) -> Result<bool, AskFault>
@@ -77,7 +77,7 @@ fn seek<'a>(
     ensures formed { OnOk result (HasForm (plain_statement into.new)) }
     ensures memory { IfErr result (λ fault. fault ≡ Memory) }
 {
-    while next(statements, into)? {
+    while read_on(statements, into)? {
         if has_label(into, label) {
             return Ok(());
         }

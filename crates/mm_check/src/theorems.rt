@@ -6,7 +6,7 @@ ghost use Rattle.mm_check.specs.declared.ask.AskFault.TheVariants.{Memory};
 
 use crate::ask::AskFault;
 use crate::checked::Checked;
-use crate::reread::next;
+use crate::reread::read_on;
 use crate::watch::SoFar;
 use mm_frame::LabelId;
 use mm_text::{Statement, Statements};
@@ -52,7 +52,7 @@ impl<'a> Rereading<'a> {
             → GoesTo checked.now.files taken found self.new) }
         ensures memory { IfErr result (λ fault. fault ≡ Memory) }
     {
-        while next(&mut self.statements, &mut self.statement)? {
+        while read_on(&mut self.statements, &mut self.statement)? {
             if self.statement.label.is_some() {
                 let id = LabelId(self.labelled);
                 self.labelled += 1;

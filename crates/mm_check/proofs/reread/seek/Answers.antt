@@ -7,15 +7,15 @@ use Rattle.mm_check.proofs.reread.seek.Goals as goal
 
 pub returns-then-has_label-clause-found : goal.returns-then-has_label-clause-found
 returns-then-has_label-clause-found c =
-    let s : PlainStatement = plain_statement c.next.new.into in
-    let taken : TakesNext c.loop-into.statements true s c.next.new.statements =
-    subst (λ (b : Bool). TakesNext c.loop-into.statements b s c.next.new.statements) c.if-branch.true c.in_ok-next.ensures.taken in
-    sought_found c.args.label.now c.args.statements.now c.loop-into.statements c.next.new.statements s c.loop-into.invariant taken (c.has_label.ensures.0 c.if-has_label.true)
+    let s : PlainStatement = plain_statement c.read_on.new.into in
+    let taken : TakesNext c.loop-into.statements true s c.read_on.new.statements =
+    subst (λ (b : Bool). TakesNext c.loop-into.statements b s c.read_on.new.statements) c.if-branch.true c.in_ok-read_on.ensures.taken in
+    sought_found c.args.label.now c.args.statements.now c.loop-into.statements c.read_on.new.statements s c.loop-into.invariant taken (c.has_label.ensures.0 c.if-has_label.true)
 
 pub loop-into-preserved : goal.loop-into-preserved
 loop-into-preserved c =
-    let s : PlainStatement = plain_statement c.next.new.into in
-    let taken : TakesNext c.loop-into.statements true s c.next.new.statements =
-    subst (λ (b : Bool). TakesNext c.loop-into.statements b s c.next.new.statements) c.if-branch.true c.in_ok-next.ensures.taken in
-    sought_on c.args.label.now c.args.statements.now c.loop-into.statements c.next.new.statements s c.loop-into.invariant taken
+    let s : PlainStatement = plain_statement c.read_on.new.into in
+    let taken : TakesNext c.loop-into.statements true s c.read_on.new.statements =
+    subst (λ (b : Bool). TakesNext c.loop-into.statements b s c.read_on.new.statements) c.if-branch.true c.in_ok-read_on.ensures.taken in
+    sought_on c.args.label.now c.args.statements.now c.loop-into.statements c.read_on.new.statements s c.loop-into.invariant taken
     (λ named. let t = c.has_label.ensures.1 named in absurd (let f = c.if-has_label.false in cc))
